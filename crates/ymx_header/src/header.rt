@@ -1,0 +1,232 @@
+//! The five fields of a header and their twelve bytes.
+
+ghost use Rattle.std.specs.Prelude.{◌≡◌, ◌↔◌, ◌<◌, ◌≢◌, ℕ, List, length, slice_index, Err, Ok, IsOk, ◌≤◌};
+ghost use Rattle.ymx_header.specs.Headers.{spelling, header_of, IsInRange};
+ghost use Rattle.ymx_header.specs.Faults.{check_of};
+ghost use Rattle.ymx_header.specs.declared.header.Header.{Header};
+
+use crate::fault::Fault;
+use byteorder::{BigEndian, ByteOrder};
+
+/// The version of the protocol: 0, the only one.
+pub const VERSION: u8 = 0;
+
+/// Bytes of a header.
+pub const HEADER_LENGTH: usize = 12;
+
+/// Data: `length` bytes of payload follow the header.
+pub const TYPE_DATA: u8 = 0;
+/// Window Update: `length` is a number of bytes by which the receiver may write more.
+pub const TYPE_WINDOW_UPDATE: u8 = 1;
+/// Ping: `length` is an opaque value, which the answer repeats.
+pub const TYPE_PING: u8 = 2;
+/// Go Away: `length` is the code that says why.
+pub const TYPE_GO_AWAY: u8 = 3;
+
+/// SYN: the frame opens its stream; on a Ping: an answer is asked.
+pub const FLAG_SYN: u16 = 1;
+/// ACK: the frame accepts its stream; on a Ping: this is the answer.
+pub const FLAG_ACK: u16 = 2;
+/// FIN: the sender writes no more on this stream (half-close).
+pub const FLAG_FIN: u16 = 4;
+/// RST: the stream is over in both directions, or was refused.
+pub const FLAG_RST: u16 = 8;
+
+/// Go Away with no error: the sender takes no new streams.
+pub const GO_AWAY_NORMAL: u32 = 0;
+/// Go Away after a fault of the receiver of this frame.
+pub const GO_AWAY_PROTOCOL_ERROR: u32 = 1;
+/// Go Away after a fault of the sender's own.
+pub const GO_AWAY_INTERNAL_ERROR: u32 = 2;
+
+/// The header of a frame, as it stands in the first twelve bytes (framing).
+#[derive(Clone, Copy, Debug, PartialEq, Eq)]
+pub struct Header {
+    /// The version of the protocol. Only 0 is good.
+    pub version: u8,
+    /// The type: 0 Data, 1 Window Update, 2 Ping, 3 Go Away.
+    pub kind: u8,
+    /// The flags, of which the four lowest bits have a meaning.
+    pub flags: u16,
+    /// The stream; 0 is the session.
+    pub id: u32,
+    /// Payload bytes that follow, a delta in bytes, an opaque value or a code, as the type says.
+    pub length: u32,
+}
+
+impl Header {
+    ghost use Rattle.ymx_header.specs.Headers.{has_syn, has_ack, has_fin, has_rst};
+
+    /// Whether the frame opens its stream, or asks for an answer (flags).
+    pub fn has_syn(&self) -> bool
+        ensures { result ≡ has_syn self.now }
+    {
+        self.flags & FLAG_SYN != 0
+    }
+
+    /// Whether the frame accepts its stream, or is an answer (flags).
+    pub fn has_ack(&self) -> bool
+        ensures { result ≡ has_ack self.now }
+    {
+        self.flags & FLAG_ACK != 0
+    }
+
+    /// Whether the sender writes no more on this stream (flags).
+    pub fn has_fin(&self) -> bool
+        ensures { result ≡ has_fin self.now }
+    {
+        self.flags & FLAG_FIN != 0
+    }
+
+    /// Whether the stream is reset or refused (flags).
+    pub fn has_rst(&self) -> bool
+        ensures { result ≡ has_rst self.now }
+    {
+        self.flags & FLAG_RST != 0
+    }
+}
+
+/// The type of a frame (framing).
+#[derive(Clone, Copy, Debug, PartialEq, Eq)]
+pub enum Kind {
+    /// Type 0: payload of a stream.
+    Data,
+    /// Type 1: credit of a stream.
+    Window,
+    /// Type 2: a question or an answer about the connection.
+    Ping,
+    /// Type 3: the end of the session is near, or a fault was found.
+    Away,
+}
+
+/// The twelve bytes of a header, in network order (framing).
+pub fn encode(header: &Header) -> [u8; 12]
+    ensures spelled { result ≡ spelling header.now }
+    ensures reads_back { IsInRange header.now → header_of result ≡ header.now }
+{
+    let mut bytes = [0; 12];
+    bytes[0] = header.version;
+    bytes[1] = header.kind;
+    BigEndian::write_u16(&mut bytes[2..4], header.flags);
+    BigEndian::write_u32(&mut bytes[4..8], header.id);
+    BigEndian::write_u32(&mut bytes[8..12], header.length);
+    bytes
+}
+
+/// The header that twelve bytes spell (framing). Every twelve bytes spell one, and only one.
+pub fn decode(bytes: &[u8; 12]) -> Header
+    ensures fields { result ≡ header_of bytes.now }
+    ensures in_range { IsInRange result }
+    ensures spells_back { spelling result ≡ bytes.now }
+    ensures only { (h : Header) → IsInRange h → spelling h ≡ bytes.now → h ≡ result }
+{
+    Header {
+        version: bytes[0],
+        kind: bytes[1],
+        flags: BigEndian::read_u16(&bytes[2..4]),
+        id: BigEndian::read_u32(&bytes[4..8]),
+        length: BigEndian::read_u32(&bytes[8..12]),
+    }
+}
+
+/// The type of a frame. `BadVersion` (B1) exactly if the version is not 0; else `UnknownType` (B2)
+/// exactly if the type is above 3 (framing).
+pub fn check(header: &Header) -> Result<Kind, Fault>
+    ensures checked { result ≡ check_of header.now }
+    ensures bad_version { (result ≡ Err Fault.BadVersion) ↔ (header.now.version ≢ 0) }
+    ensures unknown_type { (result ≡ Err Fault.UnknownType) ↔ ((header.now.version ≡ 0) × (3 < header.now.kind)) }
+    ensures good { IsOk result ↔ ((header.now.version ≡ 0) × (header.now.kind ≤ 3)) }
+{
+    if header.version != VERSION {
+        return Err(Fault::BadVersion);
+    }
+    match header.kind {
+        TYPE_DATA => Ok(Kind::Data),
+        TYPE_WINDOW_UPDATE => Ok(Kind::Window),
+        TYPE_PING => Ok(Kind::Ping),
+        TYPE_GO_AWAY => Ok(Kind::Away),
+        _ => Err(Fault::UnknownType),
+    }
+}
+
+/// Every header is spelled by twelve bytes that no other header is spelled by, and every twelve
+/// bytes spell a header. (A law over definitions: the function itself does nothing.)
+pub fn one_header()
+    ensures to_bytes { (h : Header) → IsInRange h → (length (spelling h) ≡ 12) × (header_of (spelling h) ≡ h) }
+    ensures from_bytes { (bytes : List ℕ) → length bytes ≡ 12 → ((k : ℕ) → slice_index bytes k < 256) → spelling (header_of bytes) ≡ bytes }
+{}
+
+#[cfg(test)]
+mod tests {
+    use super::*;
+
+    /// A frame that opens stream 1, and the same header in fields.
+    const OPEN: [u8; 12] = [0, 1, 0, 1, 0, 0, 0, 1, 0, 0, 0, 0];
+
+    #[test]
+    fn reads_and_spells_headers(rt: HostRuntime) {
+        let open = Header {
+            version: 0,
+            kind: TYPE_WINDOW_UPDATE,
+            flags: FLAG_SYN,
+            id: 1,
+            length: 0,
+        };
+        assert_eq!(rt; decode(&OPEN), open);
+        assert_eq!(rt; encode(&open), OPEN);
+
+        let ping = [0, 2, 0x80, 1, 0, 0, 0, 7, 0, 0, 0, 0x2a];
+        let header = Header {
+            version: VERSION,
+            kind: TYPE_PING,
+            flags: 0x8001,
+            id: 7,
+            length: 42,
+        };
+        assert_eq!(rt; decode(&ping), header);
+        assert_eq!(rt; encode(&header), ping);
+        assert_eq!(rt; ping.len(), HEADER_LENGTH);
+        one_header();
+    }
+
+    #[test]
+    fn judges_the_version_before_the_type(rt: HostRuntime) {
+        let mut header = decode(&OPEN);
+        assert_eq!(rt; check(&header), Ok(Kind::Window));
+        for (kind, want) in [
+            (TYPE_DATA, Kind::Data),
+            (TYPE_PING, Kind::Ping),
+            (TYPE_GO_AWAY, Kind::Away),
+        ] {
+            header.kind = kind;
+            assert_eq!(rt; check(&header), Ok(want));
+        }
+        header.kind = 4;
+        assert_eq!(rt; check(&header), Err(Fault::UnknownType));
+        header.version = 1;
+        assert_eq!(rt; check(&header), Err(Fault::BadVersion));
+    }
+
+    #[test]
+    fn reads_each_flag(rt: HostRuntime) {
+        let mut header = decode(&OPEN);
+        for (flags, want) in [
+            (FLAG_SYN, (true, false, false, false)),
+            (FLAG_ACK, (false, true, false, false)),
+            (FLAG_FIN, (false, false, true, false)),
+            (FLAG_RST, (false, false, false, true)),
+            // bits with no meaning change nothing
+            (0x8001, (true, false, false, false)),
+            (0xfff0, (false, false, false, false)),
+        ] {
+            header.flags = flags;
+            let got = (
+                header.has_syn(),
+                header.has_ack(),
+                header.has_fin(),
+                header.has_rst(),
+            );
+            assert_eq!(rt; got, want, "flags {flags}");
+        }
+    }
+}

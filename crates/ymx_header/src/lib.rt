@@ -1,0 +1,13 @@
+//! The header of a yamux frame: twelve bytes and the five fields that they spell, the constants of
+//! the wire, and the faults that break a session. Nothing here takes memory.
+#![tactic(auto)]
+
+mod fault;
+mod header;
+
+pub use fault::Fault;
+pub use header::{
+    FLAG_ACK, FLAG_FIN, FLAG_RST, FLAG_SYN, GO_AWAY_INTERNAL_ERROR, GO_AWAY_NORMAL,
+    GO_AWAY_PROTOCOL_ERROR, HEADER_LENGTH, Header, Kind, TYPE_DATA, TYPE_GO_AWAY, TYPE_PING,
+    TYPE_WINDOW_UPDATE, VERSION, check, decode, encode, one_header,
+};
