@@ -1,0 +1,158 @@
+//! A bounded ring of bytes: what is put in at the back is taken out at the front, in the same order.
+//! A stream keeps the bytes that it has still to send in one ring, and those that wait to be read in another.
+//! Memory is taken when a ring is made and when it grows, and never while bytes move.
+#![tactic(auto)]
+
+ghost use Rattle.std.specs.Prelude.{◌≡◌, ◌+◌, ◌^◌, ◌<◌, ◌≤◌, ◌↔◌, [], ◌++◌, length, take, drop, min, IsTrue, IfOk, OnOk, OnErr};
+
+use circular_buffer::HeapCircularBuffer;
+use std::alloc::{AllocError, Global};
+use std::marker::Model;
+
+#[cfg(test)]
+mod tests;
+
+/// A queue of bytes with a fixed capacity, in one block of memory.
+///
+/// A contract sees the list of its bytes, `items`, the next to be taken first, and its `capacity` in bytes.
+/// The bytes wrap round the end of the block, so room that was taken free at the front is used again.
+/// Dropping the ring gives its memory back.
+#[derive(Drop)]
+pub struct Ring {
+    bytes: HeapCircularBuffer<u8>,
+}
+
+impl Model for Ring {
+    ghost use Rattle.ymx_ring.specs.Ring.{Contents, contents_of, FitsCapacity};
+
+    ghost Value = { Contents };
+
+    ghost view = { λ ring. contents_of ring.bytes };
+
+    ghost invariant = { λ ring. FitsCapacity (contents_of ring.bytes) };
+}
+
+impl Ring {
+    /// Makes an empty ring that can hold `capacity` bytes.
+    ///
+    /// Takes memory for all of them at once. Without that memory, and always where `capacity` is
+    /// 2^63 or more, it answers `AllocError`.
+    ///
+    /// Example: `Ring::new(alloc, 262_144)` is a ring for one yamux window, and its `room` is 262,144.
+    pub fn new(alloc: Global, capacity: usize) -> Result<Ring, AllocError>
+        ensures empty { IfOk result (λ ring. ring.items ≡ []) }
+        ensures of_capacity { IfOk result (λ ring. ring.capacity ≡ capacity) }
+    {
+        let bytes = HeapCircularBuffer::with_capacity(alloc, capacity)?;
+        Ok(Ring { bytes })
+    }
+
+    /// Puts all of `bytes` in at the back. They have to fit: at most `room` of them. Takes no memory.
+    ///
+    /// Example: `put(b"def")` to a ring of 4 bytes that holds `c` leaves `cdef`, and no room.
+    pub fn put(&mut self, bytes: &[u8])
+        requires { length self.old.items + length bytes.now ≤ self.old.capacity }
+        ensures at_back { self.new.items ≡ self.old.items ++ bytes.now }
+        ensures same_capacity { self.new.capacity ≡ self.old.capacity }
+    {
+        self.bytes.fill_from_slice(bytes);
+    }
+
+    /// Moves the first bytes out into `buffer`, as many as are there and fit, and returns their number.
+    /// The rest of `buffer` stays as it was. Takes no memory.
+    ///
+    /// Example: from a ring that holds `abc`, `take` into a buffer of 2 bytes gives `ab`, returns 2
+    /// and leaves `c`.
+    pub fn take(&mut self, buffer: &mut [u8]) -> usize
+        ensures count { result ≡ min (length buffer.old) (length self.old.items) }
+        ensures taken { buffer.new ≡ take result self.old.items ++ drop result buffer.old }
+        ensures left { self.new.items ≡ drop result self.old.items }
+        ensures same_capacity { self.new.capacity ≡ self.old.capacity }
+    {
+        self.bytes.read_into(buffer)
+    }
+
+    /// Drops all bytes. The ring keeps its memory, so all of its capacity is room again.
+    ///
+    /// Example: after `clear`, a ring of 4 bytes that held `abc` has a `room` of 4.
+    pub fn clear(&mut self)
+        ensures empty { self.new.items ≡ [] }
+        ensures same_capacity { self.new.capacity ≡ self.old.capacity }
+    {
+        self.bytes.clear();
+    }
+
+    /// Keeps the first `count` bytes, of which there have to be so many, and drops those behind them.
+    /// The ring keeps its memory.
+    ///
+    /// Example: `keep(1)` on a ring that holds `abc` leaves `a`.
+    pub fn keep(&mut self, count: usize)
+        requires { count ≤ length self.old.items }
+        ensures first { self.new.items ≡ take count self.old.items }
+        ensures same_capacity { self.new.capacity ≡ self.old.capacity }
+    {
+        self.bytes.truncate_back(count);
+    }
+
+    /// Returns how many bytes are in the ring.
+    ///
+    /// Example: 3 for a ring that holds `abc`.
+    pub fn len(&self) -> usize
+        ensures count { result ≡ length self.now.items }
+        ensures fits { result ≤ self.now.capacity }
+    {
+        self.bytes.len()
+    }
+
+    /// Returns whether there is no byte in the ring.
+    ///
+    /// Example: true for a ring just made.
+    pub fn is_empty(&self) -> bool
+        ensures { IsTrue result ↔ (self.now.items ≡ []) }
+    {
+        self.bytes.is_empty()
+    }
+
+    /// Returns how many more bytes fit: the capacity less what is in the ring.
+    ///
+    /// Example: 1 for a ring of 4 bytes that holds `abc`.
+    pub fn room(&self) -> usize
+        ensures { length self.now.items + result ≡ self.now.capacity }
+    {
+        self.capacity() - self.len()
+    }
+
+    /// Returns how many bytes the ring can hold, which is below 2^63.
+    ///
+    /// Example: 4 for a ring made by `Ring::new(alloc, 4)`, whatever it holds.
+    pub fn capacity(&self) -> usize
+        ensures value { result ≡ self.now.capacity }
+        ensures holds_all { length self.now.items ≤ result }
+        ensures below_limit { result < 2 ^ 63 }
+    {
+        self.bytes.capacity()
+    }
+
+    /// Gives the ring another capacity, in bytes, which has to hold the bytes that are there. They stay,
+    /// in order.
+    ///
+    /// Takes memory for the whole new capacity, and then gives the old memory back. Without that memory,
+    /// and always where `capacity` is 2^63 or more, it answers `AllocError`, and the ring is unchanged.
+    ///
+    /// Example: `grow(8)` on a full ring of 4 bytes leaves its bytes and a `room` of 4.
+    pub fn grow(&mut self, capacity: usize) -> Result<(), AllocError>
+        requires { length self.old.items ≤ capacity }
+        ensures kept { OnOk result (self.new.items ≡ self.old.items) }
+        ensures of_capacity { OnOk result (self.new.capacity ≡ capacity) }
+        ensures refused_unchanged { OnErr result (self.new ≡ self.old) }
+    {
+        // The buffer's own `resize` pops and pushes each byte, so the two runs of bytes are copied as blocks.
+        let alloc = *self.bytes.allocator();
+        let mut wider = HeapCircularBuffer::with_capacity(alloc, capacity)?;
+        let (front, wrapped) = self.bytes.as_slices();
+        wider.fill_from_slice(front);
+        wider.fill_from_slice(wrapped);
+        self.bytes = wider;
+        Ok(())
+    }
+}
