@@ -1,0 +1,2 @@
+pub mod Debts
+pub mod Flows

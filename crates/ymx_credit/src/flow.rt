@@ -1,0 +1,34 @@
+//! The law of flow control, over definitions alone.
+
+ghost use Rattle.std.specs.Prelude.{◌≡◌, ◌+◌, ◌≤◌, ℕ, List};
+ghost use Rattle.ymx_credit.specs.Flows.{Flow, Step, new_flow, IsBalanced, IsPossible, ArePossible, after, after_all};
+
+/// Whatever is written, arrives, is read, announced and granted, in whatever order: what the writer
+/// may write, the bytes on their way, those unread, those owed and those announced make up the
+/// window. So what is read fits the reader's debt, and what is granted the writer's credit. (A law
+/// over definitions: the function itself does nothing.)
+pub fn window_is_kept()
+    ensures start { (window left : ℕ) → left ≤ window → IsBalanced (new_flow window left) }
+    ensures step { (s : Step) (f : Flow) → IsPossible s f → IsBalanced f → IsBalanced (after s f) }
+    ensures run { (steps : List Step) (f : Flow) → ArePossible steps f → IsBalanced f → IsBalanced (after_all steps f) }
+    ensures same_window { (steps : List Step) (f : Flow) → (after_all steps f).window ≡ f.window }
+    ensures debt_fits { (n : ℕ) (f : Flow) → IsBalanced f → n ≤ f.here → f.owed + n ≤ f.window }
+    ensures credit_fits { (n : ℕ) (f : Flow) → IsBalanced f → n ≤ f.announced → f.left + n ≤ f.window }
+{}
+
+#[cfg(test)]
+mod tests {
+    use super::*;
+    use crate::{Credit, Debt};
+
+    #[test]
+    fn what_is_read_may_be_written_again(rt: HostRuntime) {
+        let mut credit = Credit::new(262_144);
+        let mut debt = Debt::new(262_144);
+        credit.spend(200_000);
+        debt.read(150_000);
+        assert_eq!(rt; credit.grant(debt.announced()), Ok(()));
+        assert_eq!(rt; (credit.left(), debt.owed()), (212_144, 0));
+        window_is_kept();
+    }
+}
