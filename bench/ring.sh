@@ -4,12 +4,12 @@ set -eu
 top=$(cd "$(dirname "$0")/.." && pwd)
 work=$(mktemp -d)
 trap 'rm -rf "$work"' EXIT
-mkdir "$work/crates"
+mkdir -p "$work/crates/ring_bench/src"
 cp -r "$top/crates/ymx_ring" "$work/crates/ymx_ring"
-cp -r "$top/bench/ring_bench" "$work/crates/ring_bench"
+cp "$top/bench/ring_bench.rattle" "$work/crates/ring_bench/src/main.rt"
 cp "$top/HANDLES" "$work/HANDLES"
 printf 'ymx_ring: circular_buffer\nring_bench: ymx_ring\n' > "$work/crates.txt"
-echo "proving and building the bench (about a minute)" >&2
+echo "proving and building the bench (a few minutes)" >&2
 cd "$work/crates/ring_bench"
 for run in 1 2 3 4 5; do
   rt run 2> "$work/log" || { cat "$work/log" >&2; exit 1; }
