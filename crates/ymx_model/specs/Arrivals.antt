@@ -1,0 +1,152 @@
+-- What a frame does on arrival: its head, and each piece of its payload (framing, flags, flow control, ping, go away).
+use Rattle.std.specs.Prelude.{ℕ, ◌+◌, ◌-◌, List, [], ◌∷◌, ◌++◌, length, Bool, true, false, not, ◌&&◌, ◌||◌, ◌==◌, nat_lt, nat_le, if◌then◌else◌, Option, None, Some, is_some, is_none}
+use Rattle.ymx_header.specs.declared.header.Header.{Header}
+use Rattle.ymx_header.specs.declared.fault.Fault.{Fault}
+use Rattle.ymx_header.specs.declared.fault.Fault.TheVariants.{BadVersion, UnknownType, BadSyn, StreamInUse, WindowExceeded, CreditOverflow, BadGoAwayCode, PeerSawProtocolError, PeerSawInternalError}
+use Rattle.ymx_header.specs.Headers.{has_syn, has_ack, has_fin, has_rst}
+use Rattle.ymx_model.specs.declared.types.Response.{Response}
+use Rattle.ymx_model.specs.declared.types.Response.TheVariants.{Pong, Reject}
+use Rattle.ymx_model.specs.Streams.{is_offered, takes}
+use Rattle.ymx_model.specs.Streams.Phase.{Offered}
+use Rattle.ymx_model.specs.Records.{End, new_end, takes_payload, gets_credit, gets_fin, gets_ack, gets_rst, gets_piece}
+use Rattle.ymx_model.specs.Pings.{answered}
+use Rattle.ymx_model.specs.GoAway.{was_said, away_comes}
+use Rattle.ymx_model.specs.Tables.{look, added, removed, most_records}
+use Rattle.ymx_model.specs.Sessions.{Session, most_offered, is_own, breaks, on_stream, drop_id, settled}
+use Rattle.ymx_model.specs.Sessions.Incoming.{Head, Payload}
+
+-- an answer is put at the back of the row
+abbrev pub answers_with : Response → Session → Session
+answers_with response s = record s { answers = s.answers ++ response ∷ [] }
+
+-- ---- ping and go away
+
+-- a ping with SYN is answered; one without it is an answer itself
+abbrev pub ping_comes : Header → Session → Session
+ping_comes h s = if has_syn h then answers_with (Pong h.length) s else record s { pings = answered h.length s.pings }
+
+abbrev pub go_away_comes : Header → Session → Session
+go_away_comes h s =
+    if nat_lt 2 h.length then breaks BadGoAwayCode s
+    else if h.length == 1 then breaks PeerSawProtocolError s
+    else if h.length == 2 then breaks PeerSawInternalError s
+    else record s { away = away_comes s.away }
+
+-- ---- streams
+
+abbrev pub is_data : Header → Bool
+is_data h = h.kind == 0
+
+-- the payload that follows, in bytes
+abbrev pub payload : Header → ℕ
+payload h = if is_data h then h.length else 0
+
+-- the credit that comes, in bytes
+abbrev pub delta : Header → ℕ
+delta h = if is_data h then 0 else h.length
+
+-- the payload follows; a stray one is dropped to its end, whatever becomes of the id
+abbrev pub expects : Header → (stray : Bool) → Session → Session
+expects h stray s = if payload h == 0 then s else record s { incoming = Payload h.id (payload h) (has_fin h) stray }
+
+-- The faults of a frame at a record that is there: payload beyond the window granted, where it would be
+-- taken, and a delta that lifts the credit too far, where it would be used.
+abbrev pub record_fault : Header → End → Option Fault
+record_fault h e =
+    if has_rst h then None
+    else if takes_payload e && nat_lt e.inn.granted (payload h) then Some WindowExceeded
+    else if takes e.phase && nat_lt 4294967295 (e.out.credit + delta h) then Some CreditOverflow
+    else None
+
+-- a reset that comes: an offered record goes at once, and one given up as soon as its frame begun is out
+abbrev pub reset_comes : ℕ → End → Session → Session
+reset_comes id e s =
+    if is_offered e.phase then record s { table = removed id s.table; offered = drop_id id s.offered }
+    else settled id (on_stream id gets_rst s)
+
+-- an end without payload comes with its head
+abbrev pub ends_now : Header → Bool
+ends_now h = has_fin h && payload h == 0
+
+-- an acknowledgement means something only on an own stream
+abbrev pub acknowledges : (own : Bool) → Header → End → End
+acknowledges own h e = if has_ack h && own then gets_ack e else e
+
+-- what a head without a reset does to a record: the acknowledgement, the credit, the end
+abbrev pub gets_head : (own : Bool) → Header → End → End
+gets_head own h e =
+    let credited = gets_credit (delta h) (acknowledges own h e) in
+    if ends_now h then gets_fin credited else credited
+
+-- the head of a frame, without a fault, for a record that is there
+abbrev pub meets : Header → End → Session → Session
+meets h e s =
+    if has_rst h then expects h true (reset_comes h.id e (on_stream h.id (acknowledges (is_own s.role h.id) h) s))
+    else expects h false (on_stream h.id (gets_head (is_own s.role h.id) h) s)
+
+abbrev pub unless_fault : Option Fault → Session → Session → Session
+unless_fault None s otherwise = otherwise
+unless_fault (Some fault) s otherwise = breaks fault s
+
+-- without a SYN: a frame that finds no record is dropped with its payload
+abbrev pub meets_some : Header → Option End → Session → Session
+meets_some h None s = expects h true s
+meets_some h (Some e) s = unless_fault (record_fault h e) s (meets h e s)
+
+-- ---- SYN
+
+-- the record that a SYN makes
+abbrev pub offer : Session → End
+offer s = new_end s.table.window Offered false false
+
+-- why a stream is refused even if there is memory: go away was said here, or a limit is reached
+abbrev pub refuses : Session → Bool
+refuses s = was_said s.away.here || nat_le most_offered (length s.offered) || nat_le most_records (length s.table.entries)
+
+-- The faults of a SYN, in their order: id 0 or an own id, an id with a record, and those of the frame
+-- as if its record were made, whether or not it is then refused.
+abbrev pub syn_fault : Header → Session → Option Fault
+syn_fault h s =
+    if h.id == 0 || is_own s.role h.id then Some BadSyn
+    else if is_some (look h.id s.table.entries) then Some StreamInUse
+    else record_fault h (offer s)
+
+-- a stream is refused by a rejection, or else offered; `lacks`: no memory is found for its record
+abbrev pub syn_comes : (lacks : Bool) → Header → Session → Session
+syn_comes lacks h s =
+    unless_fault (syn_fault h s) s (
+    if refuses s || lacks then expects h true (answers_with (Reject h.id) s)
+    else meets h (offer s) (record s { table = added h.id (offer s) s.table; offered = s.offered ++ h.id ∷ [] })
+    )
+
+-- ---- a head, a piece
+
+-- the fault of a header by itself, under the session's frame limit
+abbrev pub header_fault : Header → Session → Option Fault
+header_fault h s =
+    if not (h.version == 0) then Some BadVersion
+    else if nat_lt 3 h.kind then Some UnknownType
+    else if nat_lt s.table.window (payload h) then Some WindowExceeded
+    else None
+
+-- The head of a frame. All its faults are judged before anything is changed.
+abbrev pub head_comes : (lacks : Bool) → Header → Session → Session
+head_comes lacks h s =
+    unless_fault (header_fault h s) s (
+    if h.kind == 2 then ping_comes h s
+    else if h.kind == 3 then go_away_comes h s
+    else if has_syn h then syn_comes lacks h s
+    else meets_some h (look h.id s.table.entries) s
+    )
+
+-- a SYN that is refused for want of memory alone
+abbrev pub is_starved : Header → Session → Bool
+is_starved h s =
+    is_none (header_fault h s) && nat_lt h.kind 2 && has_syn h && is_none (syn_fault h s) && not (refuses s)
+
+-- These bytes of a payload come, of which so many bytes lacked. The end stands behind the last.
+abbrev pub piece_comes : List ℕ → (id lacks : ℕ) → (fin stray : Bool) → Session → Session
+piece_comes bytes id lacks fin stray s =
+    let more = nat_lt (length bytes) lacks in
+    let t = record s { incoming = if more then Payload id (lacks - length bytes) fin stray else Head [] } in
+    if stray then t else on_stream id (gets_piece (fin && not more) bytes) t

@@ -1,0 +1,94 @@
+//! Bytes that a contract sees as a list.
+
+ghost use Rattle.std.specs.Prelude.{◌≡◌, ◌==◌, [], length, IfOk};
+
+use std::alloc::{AllocError, Global};
+use std::marker::Model;
+
+/// Some bytes. A contract sees the list of them and nothing else: not where they lie, nor how many
+/// more would fit.
+#[derive(Debug, Drop)]
+pub struct Bytes {
+    items: Vec<u8>,
+}
+
+impl Model for Bytes {
+    ghost use Rattle.std.specs.Prelude.{List, ℕ};
+
+    ghost Value = { List ℕ };
+
+    ghost view = { λ bytes. bytes.items.items };
+}
+
+impl Bytes {
+    /// No bytes. Takes no memory.
+    pub fn new(alloc: Global) -> Bytes
+        ensures { result ≡ [] }
+    {
+        Bytes {
+            items: Vec::new(alloc),
+        }
+    }
+
+    /// A copy of these bytes.
+    pub fn from_slice(alloc: Global, bytes: &[u8]) -> Result<Bytes, AllocError>
+        ensures { IfOk result (λ copy. copy ≡ bytes.now) }
+    {
+        let items = Vec::from_slice(alloc, bytes)?;
+        Ok(Bytes { items })
+    }
+
+    /// The bytes of a vector, which are not copied.
+    pub fn from_vec(items: Vec<u8>) -> Bytes
+        ensures { result ≡ items.items }
+    {
+        Bytes { items }
+    }
+
+    /// The bytes as a vector, which are not copied.
+    pub fn into_vec(self) -> Vec<u8>
+        ensures { result.items ≡ self }
+    {
+        let Bytes { items } = self;
+        items
+    }
+
+    /// The bytes in their order.
+    pub fn as_slice(&self) -> &[u8]
+        ensures { result.now ≡ self.now }
+    {
+        self.items.as_slice()
+    }
+
+    /// How many bytes there are.
+    pub fn len(&self) -> usize
+        ensures { result ≡ length self.now }
+    {
+        self.items.len()
+    }
+
+    /// Whether there are none.
+    pub fn is_empty(&self) -> bool
+        ensures { result ≡ (length self.now == 0) }
+    {
+        self.items.is_empty()
+    }
+}
+
+#[cfg(test)]
+mod tests {
+    use super::*;
+    use std::test::Fail;
+
+    #[test]
+    fn holds_a_copy(rt: HostRuntime) -> Result<(), Fail> {
+        let hello = Bytes::from_slice(rt.alloc(), b"hello")?;
+        assert_eq!(rt; hello.as_slice(), b"hello".as_slice());
+        assert_eq!(rt; hello.len(), 5);
+        assert!(rt; !hello.is_empty());
+        let again = Bytes::from_vec(hello.into_vec());
+        assert_eq!(rt; again.as_slice(), b"hello".as_slice());
+        assert!(rt; Bytes::new(rt.alloc()).is_empty());
+        Ok(())
+    }
+}
