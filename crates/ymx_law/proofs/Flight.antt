@@ -1,0 +1,59 @@
+-- What a part adds at the back of what is under way.
+use Rattle.std.proofs.Common.{◌≡◌, ◌+◌, List, [], ◌∷◌, ◌++◌, Bool, true, false, ◌||◌, refl, append_assoc, append-nil, arith}
+use Rattle.ymx_model.specs.Parts.{Part}
+use Rattle.ymx_model.specs.Parts.Part.{Syn, Ack, Data, Credit, Fin, Rst}
+use Rattle.ymx_law.specs.Flight.{load, loads, gift, gifts, is_syn, is_ack, is_fin, is_rst, has_syn, has_ack, has_fin, has_rst, Behind, Ordered}
+
+pub loads_push : (fs : List Part) (f : Part) → loads (fs ++ f ∷ []) ≡ loads fs ++ load f
+loads_push [] f = simp append-nil
+loads_push (g ∷ fs) f = rw (loads_push fs f) (grind (arith, append_assoc))
+
+pub gifts_push : (fs : List Part) (f : Part) → gifts (fs ++ f ∷ []) ≡ gifts fs + gift f
+gifts_push [] f = omega arith
+gifts_push (g ∷ fs) f = omega (arith, gifts_push fs f)
+
+or_assoc : (a b c : Bool) → (a || (b || c)) ≡ ((a || b) || c)
+or_assoc a b c = grind arith
+
+pub or_false : (a : Bool) → (a || false) ≡ a
+or_false a = grind arith
+
+pub has_syn_push : (fs : List Part) (f : Part) → has_syn (fs ++ f ∷ []) ≡ (has_syn fs || is_syn f)
+has_syn_push [] f = simp or_false
+has_syn_push (g ∷ fs) f = rw (has_syn_push fs f) (or_assoc (is_syn g) (has_syn fs) (is_syn f))
+
+pub has_ack_push : (fs : List Part) (f : Part) → has_ack (fs ++ f ∷ []) ≡ (has_ack fs || is_ack f)
+has_ack_push [] f = simp or_false
+has_ack_push (g ∷ fs) f = rw (has_ack_push fs f) (or_assoc (is_ack g) (has_ack fs) (is_ack f))
+
+pub has_fin_push : (fs : List Part) (f : Part) → has_fin (fs ++ f ∷ []) ≡ (has_fin fs || is_fin f)
+has_fin_push [] f = simp or_false
+has_fin_push (g ∷ fs) f = rw (has_fin_push fs f) (or_assoc (is_fin g) (has_fin fs) (is_fin f))
+
+pub has_rst_push : (fs : List Part) (f : Part) → has_rst (fs ++ f ∷ []) ≡ (has_rst fs || is_rst f)
+has_rst_push [] f = simp or_false
+has_rst_push (g ∷ fs) f = rw (has_rst_push fs f) (or_assoc (is_rst g) (has_rst fs) (is_rst f))
+
+pub ruleset pushes = (loads_push, gifts_push, has_syn_push, has_ack_push, has_fin_push, has_rst_push)
+
+-- what the next part must keep
+pub record Fits (fs : List Part) (f : Part) : Type 0 where
+  pub no_rst : has_rst fs ≡ false
+  pub syn : is_syn f ≡ false
+  pub ack : has_ack fs ≡ true → is_ack f ≡ false
+  pub fin : has_fin fs ≡ true → (load f ≡ []) × (is_fin f ≡ false)
+
+fits_tail : (g f : Part) (fs : List Part) → Fits (g ∷ fs) f → Fits fs f
+fits_tail g f fs c = grind arith
+
+behind_push : (g f : Part) (fs : List Part) → Fits (g ∷ fs) f → Behind g fs → Behind g (fs ++ f ∷ [])
+behind_push (Syn d) f fs c a = tt
+behind_push (Ack d) f fs c a = grind (arith, pushes, c.ack)
+behind_push (Data b) f fs c a = tt
+behind_push (Credit d) f fs c a = tt
+behind_push Fin f fs c a = grind (arith, pushes, c.fin refl, append-nil)
+behind_push Rst f fs c a = grind (arith, c.no_rst)
+
+pub ordered_push : (fs : List Part) (f : Part) → Fits fs f → Ordered fs → Ordered (fs ++ f ∷ [])
+ordered_push [] f c o = grind (arith, c.syn)
+ordered_push (g ∷ fs) f c o = (grind (arith, pushes, c.syn, o.0), behind_push g f fs c o.1, ordered_push fs f (fits_tail g f fs c) o.2)

@@ -1,0 +1,49 @@
+-- Both sides see one stream, and a stream begins.
+use Rattle.std.proofs.Common.{◌≡◌, ℕ, ◌≤◌, List, [], length, Bool, true, false, not, inl, inr, arith}
+use Rattle.ymx_model.specs.Lanes.{first_credit}
+use Rattle.ymx_model.specs.Streams.{Stream, flip, opened_stream, stream_write}
+use Rattle.ymx_model.specs.Streams.Phase.{Unborn, Live}
+use Rattle.ymx_model.specs.Records.{End, new_end, end_write}
+use Rattle.ymx_model.specs.Parts.{Part}
+use Rattle.ymx_law.specs.Links.{Alive, Related}
+use Rattle.ymx_law.proofs.Directions.{lists}
+
+pub not_not : (b : Bool) → not (not b) ≡ b
+not_not b = grind arith
+
+pub flips : (wx wy : ℕ) (x y : End) (xy yx : List Part) (s : Stream) → Alive wx wy x y xy yx s → Alive wy wx y x yx xy (flip s)
+flips wx wy x y xy yx s c = record {
+  me = c.you;
+  you = c.me;
+  out = c.inn;
+  inn = c.out;
+  fin_out = c.fin_inn;
+  fin_inn = c.fin_out;
+  rst_out = c.rst_inn;
+  rst_inn = c.rst_out;
+  stops_x = c.stops_y;
+  stops_y = c.stops_x;
+  ordered_out = c.ordered_inn;
+  ordered_inn = c.ordered_out;
+  born_x = c.born_y;
+  born_y = rw not_not c.born_x;
+  sleeps_x = c.sleeps_y;
+  sleeps_y = c.sleeps_x;
+  acks_x = c.acks_y;
+  acks_y = rw not_not c.acks_x;
+}
+
+pub related-flip : (wx wy : ℕ) (x y : End) (xy yx : List Part) (s : Stream) → Related wx wy x y xy yx s → Related wy wx y x yx xy (flip s)
+related-flip wx wy x y xy yx s (inl c) = inl (flips wx wy x y xy yx s c)
+related-flip wx wy x y xy yx s (inr (inl c)) = inr (inr (rw not_not c))
+related-flip wx wy x y xy yx s (inr (inr c)) = inr (inl c)
+
+-- a stream begins
+pub begins : (carries : Bool) (wx wy : ℕ) → first_credit ≤ wx → first_credit ≤ wy →
+    Alive wx wy (new_end wx Live true carries) (new_end wy Unborn false false) [] [] (opened_stream wx wy)
+begins carries wx wy a b = grind (arith, lists)
+
+-- a stream begins with data
+pub begins-with : (bytes : List ℕ) (carries : Bool) (wx wy : ℕ) → first_credit ≤ wx → first_credit ≤ wy → length bytes ≤ first_credit →
+    Alive wx wy (end_write bytes (new_end wx Live true carries)) (new_end wy Unborn false false) [] [] (stream_write bytes (opened_stream wx wy))
+begins-with bytes carries wx wy a b fits = grind (arith, lists)

@@ -1,0 +1,6 @@
+-- By computing the world after each event.
+use Rattle.std.proofs.Common.{refl, inl, arith}
+use Rattle.ymx_law.proofs.a_run_can_happen.Goals as goal
+
+pub returns : goal.returns
+returns c = record { happens = ((refl, refl, refl, omega arith), (inl (refl, refl), ((refl, refl), ((refl, refl), ((refl, refl), ((refl, refl, refl), (refl, ((refl, refl), ((refl, refl), ((refl, refl), ((refl, refl), tt))))))))))) }

@@ -1,0 +1,46 @@
+-- A run that can happen: side A opens stream 1 and writes two bytes; the first comes to side B, which
+-- accepts the stream, reads the byte and resets; the reset comes to A.
+use Rattle.std.specs.Prelude.{List, [], ◌∷◌, ◌++◌, false}
+use Rattle.ymx_model.specs.Streams.Phase.{WasReset}
+use Rattle.ymx_model.specs.StreamRules.StreamCall.{Writes, Reads, Resets}
+use Rattle.ymx_model.specs.declared.types.Reply.TheVariants.{Wrote as WroteReply, Read as ReadReply, Done}
+use Rattle.ymx_model.specs.declared.types.Wrote.TheVariants.{Took}
+use Rattle.ymx_model.specs.Records.{end_write, end_read, end_reset}
+use Rattle.ymx_model.specs.Outgoing.Kind.{Open, Data as DataFrame, Reset}
+use Rattle.ymx_law.specs.Worlds.{World, new_world, Event, happens, CanHappen}
+use Rattle.ymx_law.specs.Worlds.Act.{Opens, Calls, Accepts, Sends, Comes, ComesIn}
+use Rattle.ymx_law.specs.Worlds.Event.{AtA, AtB}
+
+-- each of these events can happen, one after another
+abbrev pub AllCanHappen : List Event → World → Type 0
+AllCanHappen [] w = Unit {0}
+AllCanHappen (e ∷ es) w = CanHappen e w × AllCanHappen es (happens e w)
+
+-- the world after these events
+abbrev pub after_all : List Event → World → World
+after_all [] w = w
+after_all (e ∷ es) w = after_all es (happens e w)
+
+-- windows of 262,144 and 300,000 bytes
+abbrev pub first_world : World
+first_world = new_world 262144 300000
+
+abbrev pub opens : List Event
+opens = AtA (Opens 1 false []) ∷ []
+
+abbrev pub writes : List Event
+writes = AtA (Calls 1 (Writes (7 ∷ 8 ∷ [])) (WroteReply (Took 2)) (end_write (7 ∷ 8 ∷ []) ((after_all opens first_world).a.ends 1))) ∷ []
+
+abbrev pub goes : List Event
+goes = AtA (Sends 1 Open 100) ∷ AtA (Sends 1 DataFrame 100) ∷ AtB (Comes false) ∷ AtB (ComesIn 1) ∷ AtB (Accepts 1) ∷ []
+
+abbrev pub reads : List Event
+reads = AtB (Calls 1 (Reads 5) (ReadReply (7 ∷ [])) (end_read 1 ((after_all (opens ++ writes ++ goes) first_world).b.ends 1))) ∷ []
+
+abbrev pub resets : List Event
+resets =
+    AtB (Calls 1 Resets Done (end_reset WasReset ((after_all (opens ++ writes ++ goes ++ reads) first_world).b.ends 1)))
+    ∷ AtB (Sends 1 Reset 100) ∷ AtA (Comes false) ∷ []
+
+abbrev pub example_run : List Event
+example_run = opens ++ writes ++ goes ++ reads ++ resets

@@ -1,0 +1,11 @@
+pub mod Flight
+pub mod Directions
+pub mod Links
+pub mod Arrivals
+pub mod Answers
+pub mod OneStream
+pub mod Faults
+pub mod StreamLaws
+pub mod Worlds
+pub mod WorldLaws
+pub mod Example
