@@ -1,0 +1,3 @@
+pub mod Places
+pub mod PingTables
+pub mod FreeNumbers

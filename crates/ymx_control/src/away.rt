@@ -1,0 +1,109 @@
+//! Who has said Go Away.
+
+ghost use Rattle.std.specs.Prelude.{◌≡◌};
+ghost use Rattle.ymx_model.specs.GoAway.{not_away, away_due, was_said, says_away, away_goes, away_comes};
+
+use std::marker::Model;
+use ymx_model::GoAwayMark;
+
+/// Whether this side has said Go Away, and whether the peer has (go away). A contract sees both.
+#[derive(Clone, Copy, Debug, PartialEq, Eq)]
+pub struct Away {
+    here: GoAwayMark,
+    there: bool,
+}
+
+impl Model for Away {
+    ghost use Rattle.ymx_model.specs.GoAway.{Away as BothMarks};
+
+    ghost Value = { BothMarks };
+
+    ghost view = { λ away. record { here = away.here; there = away.there } };
+
+    ghost inverse = { λ marks. record { here = marks.here; there = marks.there } };
+}
+
+impl Away {
+    /// Neither side has said it.
+    pub fn new() -> Away
+        ensures { result ≡ not_away }
+    {
+        Away {
+            here: GoAwayMark::Unsaid,
+            there: false,
+        }
+    }
+
+    /// It is said here: its frame is due. A second time changes nothing, whether or not the frame
+    /// has gone.
+    pub fn says(&mut self)
+        ensures { self.new ≡ says_away self.old }
+    {
+        if self.here == GoAwayMark::Unsaid {
+            self.here = GoAwayMark::Due;
+        }
+    }
+
+    /// Whether its frame is due.
+    pub fn is_due(&self) -> bool
+        ensures { result ≡ away_due self.now.here }
+    {
+        self.here == GoAwayMark::Due
+    }
+
+    /// Whether it was said here. The peer's new streams are rejected from then on.
+    pub fn was_said(&self) -> bool
+        ensures { result ≡ was_said self.now.here }
+    {
+        self.here != GoAwayMark::Unsaid
+    }
+
+    /// Its frame begins.
+    pub fn goes(&mut self)
+        ensures { self.new ≡ away_goes self.old }
+    {
+        self.here = GoAwayMark::Sent;
+    }
+
+    /// The peer's comes. A second one changes nothing.
+    pub fn comes(&mut self)
+        ensures { self.new ≡ away_comes self.old }
+    {
+        self.there = true;
+    }
+
+    /// Whether the peer has said it, and so takes no more streams.
+    pub fn peer_is_away(&self) -> bool
+        ensures { result ≡ self.now.there }
+    {
+        self.there
+    }
+}
+
+#[cfg(test)]
+mod tests {
+    use super::*;
+
+    #[test]
+    fn is_said_once(rt: HostRuntime) {
+        let mut away = Away::new();
+        assert_eq!(rt; (away.is_due(), away.was_said()), (false, false));
+        away.says();
+        away.says();
+        assert_eq!(rt; (away.is_due(), away.was_said()), (true, true));
+        away.goes();
+        assert_eq!(rt; (away.is_due(), away.was_said()), (false, true));
+        away.says();
+        assert_eq!(rt; (away.is_due(), away.was_said()), (false, true));
+    }
+
+    #[test]
+    fn comes_from_the_peer(rt: HostRuntime) {
+        let mut away = Away::new();
+        assert!(rt; !away.peer_is_away());
+        away.comes();
+        away.comes();
+        assert!(rt; away.peer_is_away());
+        assert!(rt; !away.was_said());
+    }
+}

@@ -1,0 +1,284 @@
+//! The own pings of a session.
+
+ghost use Rattle.std.specs.Prelude.{◌≡◌, ◌<◌, ◌==◌, false, [], length, position, is_some, IfOk, IfSome, if◌then◌else◌};
+ghost use Rattle.ymx_model.specs.Pings.{no_pings, is_pending, has_back, is_back, staged, free_from, next_number, first_asked, pinged, answered, ping_goes, collected, most_pings};
+ghost use Rattle.ymx_control.specs.Tables.{IsSound};
+
+use std::alloc::{AllocError, Global};
+use std::marker::Model;
+use ymx_model::PingStage;
+
+/// A ping that was asked and not collected.
+#[derive(Clone, Copy, Debug, PartialEq, Eq)]
+struct Ping {
+    number: u32,
+    stage: PingStage,
+}
+
+impl Model for Ping {
+    ghost use Rattle.ymx_model.specs.Pings.{Ping as OnePing};
+
+    ghost Value = { OnePing };
+
+    ghost view = { λ ping. record { number = ping.number; stage = ping.stage } };
+
+    ghost inverse = { λ one. record { number = one.number; stage = one.stage } };
+}
+
+/// The own pings that were asked and not collected, at most 16, and the number that is tried next
+/// (ping). A contract sees both, the pings in the order in which they were asked.
+#[derive(Debug, Drop)]
+pub struct Pings {
+    next: u32,
+    pending: Vec<Ping>,
+}
+
+impl Model for Pings {
+    ghost use Rattle.std.specs.Prelude.{◌≤◌};
+    ghost use Rattle.std.specs.Vec.{vec_capacity};
+    ghost use Rattle.ymx_model.specs.Pings.{Pings as AllPings, most_pings};
+    ghost use Rattle.ymx_control.specs.Tables.{IsSound};
+
+    ghost Value = { AllPings };
+
+    ghost view = { λ pings. record { next = pings.next; pending = pings.pending.items } };
+
+    ghost invariant = { λ pings. IsSound (record { next = pings.next; pending = pings.pending.items }) × (most_pings ≤ vec_capacity pings.pending) };
+}
+
+impl Pings {
+    /// At most so many pings are pending.
+    pub const LIMIT: usize = 16;
+
+    /// No ping is pending, and the first will have the number 0. Takes the memory for all that will
+    /// ever be pending.
+    pub fn new(alloc: Global) -> Result<Pings, AllocError>
+        ensures { IfOk result (λ pings. pings ≡ no_pings) }
+    {
+        Pings::starting(alloc, 0)
+    }
+
+    /// The same, but the first ping will have the number `next`.
+    pub fn starting(alloc: Global, next: u32) -> Result<Pings, AllocError>
+        ensures { IfOk result (λ pings. pings ≡ record { next = next; pending = [] }) }
+    {
+        let pending = Vec::with_capacity(alloc, Self::LIMIT)?;
+        Ok(Pings { next, pending })
+    }
+
+    /// How many pings are pending.
+    pub fn len(&self) -> usize
+        ensures len { result ≡ length self.now.pending }
+        ensures sound { IsSound self.now }
+    {
+        self.pending.len()
+    }
+
+    /// Whether no ping is pending.
+    pub fn is_empty(&self) -> bool
+        ensures { result ≡ (length self.now.pending == 0) }
+    {
+        self.pending.is_empty()
+    }
+
+    /// Whether no further ping can be asked before one is collected.
+    pub fn is_full(&self) -> bool
+        ensures full { result ≡ (length self.now.pending == most_pings) }
+        ensures sound { IsSound self.now }
+    {
+        self.pending.len() == Self::LIMIT
+    }
+
+    /// A ping is asked: its frame is due. Its number is the next one after the last, 0 after
+    /// 4,294,967,295; one that is pending is skipped.
+    pub fn ask(&mut self) -> u32
+        requires { length self.old.pending < most_pings }
+        ensures number { result ≡ next_number self.old }
+        ensures asked { self.new ≡ pinged self.old }
+        ensures fresh { is_pending result self.old.pending ≡ false }
+    {
+        // at most 16 are pending, so one of 17 numbers in a row is not
+        let number = free_from(self.pending.as_slice(), self.next, 17);
+        let stage = PingStage::Asked;
+        self.pending.push(Ping { number, stage }).unwrap();
+        self.next = number.wrapping_add(1);
+        number
+    }
+
+    /// The answer to this ping has come, so that its frame, if not begun, is no longer due. Without
+    /// effect on a number that is not pending.
+    pub fn answered(&mut self, number: u32)
+        ensures { self.new ≡ answered number self.old }
+    {
+        self.set_stage(number, PingStage::Back);
+    }
+
+    /// The frame of this ping begins: it is no longer due.
+    pub fn sent(&mut self, number: u32)
+        ensures { self.new ≡ ping_goes number self.old }
+    {
+        self.set_stage(number, PingStage::Sent);
+    }
+
+    /// Whether the answer to this ping is back. If so, it is collected: the number is no longer
+    /// pending.
+    pub fn ponged(&mut self, number: u32) -> bool
+        ensures back { result ≡ has_back number self.old.pending }
+        ensures collected { self.new ≡ (if result then collected number self.old else self.old) }
+    {
+        match back_at(self.pending.as_slice(), number) {
+            Some(place) => {
+                self.pending.remove(place);
+                true
+            }
+            None => false,
+        }
+    }
+
+    /// The number of the ping that was asked first, of those whose frame is due.
+    pub fn next_due(&self) -> Option<u32>
+        ensures { result ≡ first_asked self.now.pending }
+    {
+        first_asked(self.pending.as_slice())
+    }
+
+    /// Whether the frame of a ping is due.
+    pub fn has_due(&self) -> bool
+        ensures { result ≡ is_some (first_asked self.now.pending) }
+    {
+        self.next_due().is_some()
+    }
+
+    /// The ping of this number is at this stage.
+    fn set_stage(&mut self, number: u32, stage: PingStage)
+        ensures { self.new ≡ record self.old { pending = staged stage number self.old.pending } }
+    {
+        if let Some(place) = place_of(self.pending.as_slice(), number) {
+            self.pending[place] = Ping { number, stage };
+        }
+    }
+}
+
+/// The place of a number among the pings.
+fn place_of(pending: &[Ping], number: u32) -> Option<usize>
+    ensures first { result ≡ position (λ p. p.number == number) pending.now }
+    ensures within { IfSome result (λ place. place < length pending.now) }
+{
+    pending.iter().position(|p| p.number == number)
+}
+
+/// Whether a number is among the pings.
+fn is_pending(pending: &[Ping], number: u32) -> bool
+    ensures { result ≡ is_pending number pending.now }
+{
+    place_of(pending, number).is_some()
+}
+
+/// The place of a ping whose answer is back.
+fn back_at(pending: &[Ping], number: u32) -> Option<usize>
+    ensures back { is_some result ≡ has_back number pending.now }
+    ensures first { IfSome result (λ place. position (λ p. p.number == number) pending.now ≡ Some place) }
+    ensures within { IfSome result (λ place. place < length pending.now) }
+{
+    let place = place_of(pending, number)?;
+    let ping = pending[place];
+    is_back(ping.stage).then_some(place)
+}
+
+/// Whether the answer is back at this stage.
+fn is_back(stage: PingStage) -> bool
+    ensures { result ≡ is_back stage }
+{
+    stage == PingStage::Back
+}
+
+/// The first of `tries` numbers from `start` on that is not pending, or the one behind these.
+fn free_from(pending: &[Ping], start: u32, tries: u32) -> u32
+    ensures { result ≡ free_from tries start pending.now }
+{
+    let mut number = start;
+    for _ in 0..tries {
+        if !is_pending(pending, number) {
+            return number;
+        }
+        number = number.wrapping_add(1);
+    }
+    number
+}
+
+/// The number of the first ping whose frame is due.
+fn first_asked(pending: &[Ping]) -> Option<u32>
+    ensures { result ≡ first_asked pending.now }
+{
+    for ping in pending {
+        if ping.stage == PingStage::Asked {
+            return Some(ping.number);
+        }
+    }
+    None
+}
+
+#[cfg(test)]
+mod tests {
+    use super::*;
+    use std::test::Fail;
+
+    #[test]
+    fn sixteen_are_pending_at_most(rt: HostRuntime) -> Result<(), Fail> {
+        let mut pings = Pings::new(rt.alloc())?;
+        assert!(rt; pings.is_empty());
+        for number in 0..16 {
+            assert!(rt; !pings.is_full());
+            assert_eq!(rt; pings.ask(), number);
+        }
+        assert!(rt; pings.is_full());
+        assert_eq!(rt; pings.len(), Pings::LIMIT);
+        pings.answered(3);
+        assert!(rt; pings.ponged(3));
+        assert!(rt; !pings.is_full());
+        assert_eq!(rt; pings.ask(), 16);
+        assert!(rt; pings.is_full());
+        Ok(())
+    }
+
+    #[test]
+    fn are_due_until_sent_or_answered(rt: HostRuntime) -> Result<(), Fail> {
+        let mut pings = Pings::new(rt.alloc())?;
+        assert_eq!(rt; pings.next_due(), None);
+        assert!(rt; !pings.is_full());
+        assert_eq!(rt; pings.ask(), 0);
+        assert!(rt; !pings.is_full());
+        assert_eq!(rt; pings.ask(), 1);
+        assert_eq!(rt; pings.next_due(), Some(0));
+        pings.sent(0);
+        assert_eq!(rt; pings.next_due(), Some(1));
+        // an answer that nobody can have given to a frame that hasn't gone out counts all the same
+        pings.answered(1);
+        assert!(rt; !pings.has_due());
+        assert!(rt; !pings.ponged(0));
+        assert!(rt; pings.ponged(1));
+        assert!(rt; !pings.ponged(1));
+        // a number that isn't pending
+        pings.answered(7);
+        assert!(rt; !pings.ponged(7));
+        assert_eq!(rt; pings.len(), 1);
+        pings.answered(0);
+        assert!(rt; pings.ponged(0));
+        assert!(rt; pings.is_empty());
+        Ok(())
+    }
+
+    #[test]
+    fn numbers_wrap_and_skip_those_pending(rt: HostRuntime) -> Result<(), Fail> {
+        let mut pings = Pings::starting(rt.alloc(), 4_294_967_295)?;
+        for number in [4_294_967_295, 0, 1] {
+            assert!(rt; !pings.is_full());
+            assert_eq!(rt; pings.ask(), number);
+        }
+        // as if all other numbers had been given since
+        pings.next = 4_294_967_295;
+        assert!(rt; !pings.is_full());
+        assert_eq!(rt; pings.ask(), 2);
+        Ok(())
+    }
+}
