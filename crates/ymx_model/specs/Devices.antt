@@ -1,5 +1,5 @@
 -- Devices that bytes come from and go to, and how they fail (this project's own).
-use Rattle.std.specs.Prelude.{ℕ, ◌≡◌, ◌+◌, ◌-◌, ◌<◌, ◌^◌, min, Bool, ◌||◌, ◌==◌, nat_lt, Result, MatchResult}
+use Rattle.std.specs.Prelude.{ℕ, ◌≡◌, ◌+◌, ◌-◌, ◌<◌, ◌^◌, min, Bool, ◌||◌, nat_le, nat_lt, Result, MatchResult}
 
 -- the greatest count of failed calls: a device that has failed so often fails at each call
 abbrev pub most_failures : ℕ
@@ -11,4 +11,4 @@ CountsFailures result old new = MatchResult result (λ _. (new ≡ old) × (old 
 
 -- a call failed in between
 abbrev pub has_failed : ℕ → ℕ → Bool
-has_failed old new = nat_lt old new || old == most_failures
+has_failed old new = nat_lt old new || nat_le most_failures old

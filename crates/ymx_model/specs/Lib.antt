@@ -1,4 +1,5 @@
 pub mod Devices
+pub mod Memories
 pub mod Lanes
 pub mod Streams
 pub mod StreamRules

@@ -5,10 +5,12 @@
 
 mod bytes;
 mod device;
+mod memory;
 mod types;
 
 pub use bytes::Bytes;
 pub use device::{DeviceFault, Inlet, Outlet};
+pub use memory::{MemoryInlet, MemoryOutlet};
 pub use types::{
     Answer, Call, CallFault, Config, Direction, Entry, Event, Fed, GoAwayMark, Got, PingStage,
     Reply, Response, Role, Side, Status, Step, Why, Wrote,
