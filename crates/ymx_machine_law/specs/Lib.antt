@@ -1,0 +1,5 @@
+pub mod LaneLaws
+pub mod Runs
+pub mod Numbers
+pub mod Others
+pub mod Examples

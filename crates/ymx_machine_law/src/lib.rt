@@ -1,0 +1,86 @@
+//! Laws of the queue machine by itself, over all runs. Its calls do nothing: each contract is a theorem.
+#![tactic(auto)]
+
+ghost use Rattle.std.specs.Prelude.{◌%◌, ◌≡◌, ◌≢◌, ◌⊎◌, ◌≤◌, ℕ, List, Option, Some, true};
+ghost use Rattle.ymx_model.specs.declared.types.Answer.{Answer};
+ghost use Rattle.ymx_model.specs.declared.types.Call.{Call};
+ghost use Rattle.ymx_model.specs.declared.types.CallFault.TheVariants.{OutOfMemory};
+ghost use Rattle.ymx_model.specs.declared.types.Reply.TheVariants.{Refused};
+ghost use Rattle.ymx_model.specs.declared.types.Reply.{Reply};
+ghost use Rattle.ymx_model.specs.declared.types.Side.TheVariants.{A, B};
+ghost use Rattle.ymx_model.specs.declared.types.Step.{Step};
+ghost use Rattle.ymx_model.specs.FreeMoves.{FreeMove, moved_by};
+ghost use Rattle.ymx_model.specs.Lanes.{first_credit};
+ghost use Rattle.ymx_model.specs.MachineRules.{Rule};
+ghost use Rattle.ymx_model.specs.MachineRuns.{IsStillMachine, MachineRun};
+ghost use Rattle.ymx_model.specs.Machines.{Machine, new_machine};
+ghost use Rattle.ymx_model.specs.Tables.{look};
+ghost use Rattle.ymx_machine_law.specs.Examples.{HasCome, away_answers, away_data_answers, away_data_steps, away_steps, ended_answers, ended_steps, exhausted_answers, exhausted_steps, forgotten_answers, forgotten_steps, full_answers, full_steps, hello_answers, hello_steps, last_start, lost_answers, lost_steps, nothing_answers, nothing_steps, pending_answers, pending_steps, pinged_answers, pinged_steps, reset_answers, reset_steps, start, vanishing_answers, vanishing_steps, wide_answers, wide_start, wide_steps, with_data_answers, with_data_steps};
+ghost use Rattle.ymx_machine_law.specs.Numbers.{HasOrder};
+ghost use Rattle.ymx_machine_law.specs.Others.{needs_memory, touched, touched_by};
+ghost use Rattle.ymx_machine_law.specs.Runs.{is_live_at_a, is_live_at_b, IsFace, ObeysAt};
+
+/// The law of a lane (flow control): in every run from a new machine, the bytes on their way, the
+/// bytes unread, the credit and what is owed of it are never more than the reader's window.
+pub fn lane_law()
+    ensures every_lane { (window_a first_a window_b first_b : ℕ) (steps : List Step) (answers : List Answer) (m : Machine) (id : ℕ) →
+        first_credit ≤ window_a → first_credit ≤ window_b →
+        MachineRun steps answers (new_machine window_a first_a window_b first_b) m →
+        ObeysAt window_a window_b (look id m.streams) }
+{}
+
+/// The face: in every run of a side with odd stream numbers and one with even ones, what one side got
+/// of a stream is a beginning of what the other wrote to it, and all of it once a read was answered
+/// with the end.
+pub fn face()
+    ensures both_directions { (window_a first_a window_b first_b : ℕ) (steps : List Step) (answers : List Answer) (m : Machine) (id : ℕ) →
+        first_credit ≤ window_a → first_credit ≤ window_b → first_a % 2 ≡ 1 → first_b % 2 ≡ 0 →
+        MachineRun steps answers (new_machine window_a first_a window_b first_b) m →
+        IsFace window_b (is_live_at_b (look id m.streams)) A B id steps answers
+        × IsFace window_a (is_live_at_a (look id m.streams)) B A id steps answers }
+{}
+
+/// Stream identifiers: in every run each number stands once, below its opener's next number and odd or
+/// even as that is, and the offered lists name the offered ends, each once.
+pub fn numbers()
+    ensures in_order { (window_a first_a window_b first_b : ℕ) (steps : List Step) (answers : List Answer) (m : Machine) →
+        first_credit ≤ window_a → first_credit ≤ window_b → first_a % 2 ≡ 1 → first_b % 2 ≡ 0 →
+        MachineRun steps answers (new_machine window_a first_a window_b first_b) m → HasOrder m }
+{}
+
+/// A call or a free move touches one stream: every other one stays as it is, and a call leaves what is
+/// the other side's own.
+pub fn others_keep()
+    ensures of_call { (c : Call) (m n : Machine) (r : Reply) (id : ℕ) → Rule c m r n → touched c m ≢ Some id →
+        look id n.streams ≡ look id m.streams }
+    ensures of_move { (v : FreeMove) (m : Machine) (id : ℕ) → touched_by v ≢ Some id →
+        look id (moved_by v m).streams ≡ look id m.streams }
+    ensures other_side { (c : Call) (m n : Machine) (r : Reply) → Rule c m r n → n.you ≡ m.you }
+{}
+
+/// A call has one answer in a state. Only where a stream would be opened or bytes taken may want of
+/// memory be answered in its place.
+pub fn one_answer()
+    ensures { (c : Call) (m n k : Machine) (r other : Reply) → Rule c m r n → Rule c m other k →
+        r ≢ Refused OutOfMemory →
+        (other ≡ r) ⊎ ((other ≡ Refused OutOfMemory) × (needs_memory r ≡ true)) }
+{}
+
+/// Worked examples: these steps have these answers.
+pub fn worked_rows()
+    ensures hello { (n : Machine) × MachineRun hello_steps hello_answers start n × IsStillMachine n }
+    ensures ended { (n : Machine) × MachineRun ended_steps ended_answers start n }
+    ensures reset { (n : Machine) × MachineRun reset_steps reset_answers start n }
+    ensures away { (n : Machine) × MachineRun away_steps away_answers start n }
+    ensures vanishing { (n : Machine) × MachineRun vanishing_steps vanishing_answers start n × HasCome 1 n }
+    ensures with_data { (n : Machine) × MachineRun with_data_steps with_data_answers start n }
+    ensures away_data { (n : Machine) × MachineRun away_data_steps away_data_answers start n }
+    ensures full { (n : Machine) × MachineRun full_steps full_answers start n }
+    ensures wide { (n : Machine) × MachineRun wide_steps wide_answers wide_start n }
+    ensures pending { (n : Machine) × MachineRun pending_steps pending_answers start n }
+    ensures lost { (n : Machine) × MachineRun lost_steps lost_answers start n }
+    ensures exhausted { (n : Machine) × MachineRun exhausted_steps exhausted_answers last_start n }
+    ensures pinged { (n : Machine) × MachineRun pinged_steps pinged_answers start n }
+    ensures forgotten { (n : Machine) × MachineRun forgotten_steps forgotten_answers start n }
+    ensures nothing { (n : Machine) × MachineRun nothing_steps nothing_answers start n }
+{}
