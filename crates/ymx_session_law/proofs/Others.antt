@@ -1,0 +1,96 @@
+-- What concerns one stream leaves every other record as it was.
+use Rattle.std.proofs.Common.{ℕ, List, [], ◌∷◌, ◌++◌, length, Bool, true, false, not, ◌&&◌, ◌||◌, ◌==◌, nat_lt, if◌then◌else◌, Option, None, Some, refl, ◌∙◌}
+use Rattle.ymx_header.specs.declared.header.Header.{Header}
+use Rattle.ymx_header.specs.Headers.{has_syn, has_rst, has_fin}
+use Rattle.ymx_model.specs.declared.types.Response.TheVariants.{Pong, Reject}
+use Rattle.ymx_model.specs.declared.types.Call.TheVariants as call
+use Rattle.ymx_model.specs.Streams.{is_offered}
+use Rattle.ymx_model.specs.Records.{End, gets_rst, gets_piece}
+use Rattle.ymx_model.specs.Pings.{answered}
+use Rattle.ymx_model.specs.Tables.{look, added, removed}
+use Rattle.ymx_model.specs.Sessions.{Session, is_own, is_closed, is_spent, on_stream, settled, drop_id}
+use Rattle.ymx_model.specs.Sessions.Incoming.{Payload}
+use Rattle.ymx_model.specs.Calls.{Outcome, outcome, with_stream, with_record, write_outcome, read_outcome, finish_outcome, reset_outcome, forget_outcome}
+use Rattle.ymx_model.specs.Arrivals.{answers_with, ping_comes, go_away_comes, payload, expects, record_fault, reset_comes, acknowledges, gets_head, meets, meets_some, offer, refuses, syn_fault, syn_comes, header_fault, head_comes, piece_comes}
+use Rattle.ymx_session_law.specs.Refusals.{OthersSame}
+use Rattle.ymx_session_law.proofs.Splits.{split}
+use Rattle.ymx_session_law.proofs.Entries.{look-change_other, look-added_other, look-without_other}
+use Rattle.ymx_session_law.proofs.FramesKeep.{unless_fault-keeps}
+
+abbrev pub OthersIn : (id : ℕ) → Session → Outcome → Type 0
+OthersIn id s o = OthersSame id s o.next
+
+-- ---- one record changes or goes
+
+others-on : (id : ℕ) (f : End → End) (s t : Session) → OthersSame id s t → OthersSame id s (on_stream id f t)
+others-on id f s t h j n = look-change_other id j f t.table.entries n ∙ h j n
+
+others-settled : (id : ℕ) (s t : Session) → OthersSame id s t → OthersSame id s (settled id t)
+others-settled id s t h =
+    split (OthersSame id s) (is_spent t.table.window t.begun id (look id t.table.entries)) (record t { table = removed id t.table }) t
+    (λ e j n. look-without_other id j t.table.entries n ∙ h j n) (λ e. h)
+
+-- ---- calls on a stream
+
+with-others : (id : ℕ) (f : End → Outcome) (s : Session) → ((e : End) → OthersIn id s (f e)) → OthersIn id s (with_stream id f s)
+with-others id f s h = split (OthersIn id s) (is_closed s.status) _ _ (λ t j n. refl) (λ c. of (look id s.table.entries))
+  where
+    of : (o : Option End) → OthersIn id s (with_record f s o)
+    of None = λ j n. refl
+    of (Some e) = h e
+
+if-others : (id : ℕ) (b : Bool) (s t u : Session) → OthersSame id s t → OthersSame id s u → OthersSame id s (if b then t else u)
+if-others id b s t u p q = split (OthersSame id s) b t u (λ e. p) (λ e. q)
+
+pub write-others : (id : ℕ) (bytes : List ℕ) (s : Session) → OthersIn id s (outcome (call.Write id bytes) s)
+write-others id bytes s = with-others id (write_outcome id bytes s) s (λ e. if-others id _ s s _ (λ j n. refl) (others-on id _ s s (λ j n. refl)))
+
+pub read-others : (id max : ℕ) (s : Session) → OthersIn id s (outcome (call.Read id max) s)
+read-others id max s = with-others id (read_outcome id max s) s (λ e. if-others id _ s s _ (λ j n. refl) (others-on id _ s s (λ j n. refl)))
+
+pub finish-others : (id : ℕ) (s : Session) → OthersIn id s (outcome (call.Finish id) s)
+finish-others id s = with-others id (finish_outcome id s) s (λ e. if-others id _ s _ s (others-on id _ s s (λ j n. refl)) (λ j n. refl))
+
+pub reset-others : (id : ℕ) (s : Session) → OthersIn id s (outcome (call.Reset id) s)
+reset-others id s = with-others id (reset_outcome id s) s (λ e. if-others id _ s _ s (others-on id _ s s (λ j n. refl)) (λ j n. refl))
+
+pub forget-others : (id : ℕ) (s : Session) → OthersIn id s (outcome (call.Forget id) s)
+forget-others id s = with-others id (forget_outcome id s) s (λ e. if-others id _ s _ s (others-settled id s _ (others-on id _ s s (λ j n. refl))) (λ j n. refl))
+
+-- ---- frames
+
+others-expects : (id : ℕ) (h : Header) (stray : Bool) (s t : Session) → OthersSame id s t → OthersSame id s (expects h stray t)
+others-expects id h stray s t o = split (OthersSame id s) (payload h == 0) t (record t { incoming = Payload h.id (payload h) (has_fin h) stray }) (λ e. o) (λ e. o)
+
+others-meets : (h : Header) (e : End) (s t : Session) → OthersSame h.id s t → OthersSame h.id s (meets h e t)
+others-meets h e s t o =
+    split (OthersSame h.id s) (has_rst h) _ _
+    (λ r. others-expects h.id h true s _ (of (on_stream h.id (acknowledges (is_own t.role h.id) h) t) (others-on h.id (acknowledges (is_own t.role h.id) h) s t o)))
+    (λ r. others-expects h.id h false s _ (others-on h.id (gets_head (is_own t.role h.id) h) s t o))
+  where
+    of : (u : Session) → OthersSame h.id s u → OthersSame h.id s (reset_comes h.id e u)
+    of u q = split (OthersSame h.id s) (is_offered e.phase) (record u { table = removed h.id u.table; offered = drop_id h.id u.offered }) (settled h.id (on_stream h.id gets_rst u))
+        (λ r j n. look-without_other h.id j u.table.entries n ∙ q j n) (λ r. others-settled h.id s _ (others-on h.id gets_rst s u q))
+
+-- a head changes no record but that of its id
+pub head-others : (lacks : Bool) (h : Header) (s : Session) → OthersSame h.id s (head_comes lacks h s)
+head-others lacks h s =
+    let P = OthersSame h.id s in
+    let same : P s = λ j n. refl in
+    unless_fault-keeps P (header_fault h s) s _ (λ f j n. refl) (λ none.
+    split P (h.kind == 2) (ping_comes h s) _ (λ t. split P (has_syn h) (answers_with (Pong h.length) s) (record s { pings = answered h.length s.pings }) (λ e j n. refl) (λ e j n. refl)) (λ a.
+    split P (h.kind == 3) (go_away_comes h s) _ (λ t. split P (nat_lt 2 h.length) _ _ (λ e j n. refl) (λ e. split P (h.length == 1) _ _ (λ e j n. refl) (λ e. split P (h.length == 2) _ _ (λ e j n. refl) (λ e j n. refl)))) (λ b.
+    split P (has_syn h) (syn_comes lacks h s) (meets_some h (look h.id s.table.entries) s)
+    (λ t. unless_fault-keeps P (syn_fault h s) s _ (λ f j n. refl) (λ n0.
+    split P (refuses s || lacks) _ _ (λ e. others-expects h.id h true s (answers_with (Reject h.id) s) same)
+    (λ e. others-meets h (offer s) s (record s { table = added h.id (offer s) s.table; offered = s.offered ++ h.id ∷ [] }) (λ j n. look-added_other h.id j (offer s) s.table.entries n))))
+    (λ t. of (look h.id s.table.entries)))))
+  where
+    of : (o : Option End) → OthersSame h.id s (meets_some h o s)
+    of None = others-expects h.id h true s s (λ j n. refl)
+    of (Some e) = unless_fault-keeps (OthersSame h.id s) (record_fault h e) s (meets h e s) (λ f j n. refl) (λ n0. others-meets h e s s (λ j n. refl))
+
+-- nor does a piece of a payload
+pub piece-others : (bytes : List ℕ) (id lacks : ℕ) (fin stray : Bool) (s : Session) → OthersSame id s (piece_comes bytes id lacks fin stray s)
+piece-others bytes id lacks fin true s j n = refl
+piece-others bytes id lacks fin false s j n = look-change_other id j (gets_piece (fin && not (nat_lt (length bytes) lacks)) bytes) s.table.entries n

@@ -1,0 +1,6 @@
+pub mod Chunks
+pub mod Limits
+pub mod Frames
+pub mod Refusals
+pub mod Settled
+pub mod Offers

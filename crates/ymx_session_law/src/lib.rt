@@ -1,0 +1,115 @@
+//! Laws of one session by itself, over the definitions of `ymx_model`: how feeds join, what a whole
+//! frame does, which limits hold whatever comes, when something is due, what stays as it was. Each
+//! public function is a law: it does nothing, and its contract is the theorem.
+#![tactic(auto)]
+
+ghost use Rattle.std.specs.Prelude.{◌≡◌, ◌+◌, ◌^◌, ◌<◌, ◌≤◌, ◌++◌, ◌∷◌, [], ℕ, List, Bool, length, take, true, false, is_some};
+ghost use Rattle.ymx_header.specs.Headers.{spelling, header_of, IsInRange, has_rst};
+ghost use Rattle.ymx_header.specs.declared.header.Header.{Header};
+ghost use Rattle.ymx_model.specs.declared.types.Call.{Call};
+ghost use Rattle.ymx_model.specs.declared.types.Call.TheVariants as call;
+ghost use Rattle.ymx_model.specs.declared.types.Entry.{Entry};
+ghost use Rattle.ymx_model.specs.declared.types.Event.{Event};
+ghost use Rattle.ymx_model.specs.declared.types.Fed.{Fed};
+ghost use Rattle.ymx_model.specs.declared.types.Reply.{Reply};
+ghost use Rattle.ymx_model.specs.declared.types.Role.{Role};
+ghost use Rattle.ymx_model.specs.declared.types.Status.TheVariants.{Running};
+ghost use Rattle.ymx_model.specs.declared.types.GoAwayMark.TheVariants.{Unsaid};
+ghost use Rattle.ymx_model.specs.Tables.{most_records};
+ghost use Rattle.ymx_model.specs.Lanes.{first_credit};
+ghost use Rattle.ymx_model.specs.Records.{End};
+ghost use Rattle.ymx_model.specs.Outgoing.{is_due, next_kind};
+ghost use Rattle.ymx_model.specs.Sessions.{Session, new_session, is_own, is_deaf, is_running, most_offered};
+ghost use Rattle.ymx_model.specs.Sessions.Incoming.{Head, Payload};
+ghost use Rattle.ymx_model.specs.Calls.{outcome};
+ghost use Rattle.ymx_model.specs.Arrivals.{head_comes, piece_comes, payload};
+ghost use Rattle.ymx_model.specs.Feeds.{Takes, Feeds, is_stuck};
+ghost use Rattle.ymx_model.specs.Emissions.{Choice, Ready, Flows, Emits, moves_on, is_ready, freely, in_turn};
+ghost use Rattle.ymx_model.specs.Histories.{Gives, ReplaysFrom};
+ghost use Rattle.ymx_session_law.specs.Chunks.{joined_fed, FedInTwo};
+ghost use Rattle.ymx_session_law.specs.Frames.{frame_comes, starved_by};
+ghost use Rattle.ymx_session_law.specs.Limits.{IsWithin};
+ghost use Rattle.ymx_session_law.specs.Offers.{IsGoodSyn, HasCause, IsOffered, IsRejected};
+ghost use Rattle.ymx_session_law.specs.Settled.{IsSettled, NoneLingers};
+ghost use Rattle.ymx_session_law.specs.Refusals.{is_refused, OthersSame};
+
+/// What is fed in two pieces is what is fed at once (framing): the bytes taken, the streams refused
+/// for want of memory and the reason are the same, wherever the input is cut.
+pub fn fed_in_pieces()
+    ensures bytes_join { (a b : List ℕ) (s t u : Session) (m n : ℕ) → Takes a s t m → Takes b t u n → Takes (a ++ b) s u (m + n) }
+    ensures bytes_split { (a b : List ℕ) (s u : Session) (n : ℕ) → Takes (a ++ b) s u n → (t : Session) × (k : ℕ) × (m : ℕ) × (n ≡ k + m) × Takes a s t k × Takes b t u m }
+    ensures feeds_join { (a b : List ℕ) (s t u : Session) (f g : Fed) → Feeds s a f t → f.taken ≡ length a → Feeds t b g u → Feeds s (a ++ b) (joined_fed f g) u }
+    ensures feeds_split { (a b : List ℕ) (s u : Session) (fed : Fed) → length a ≤ fed.taken → Feeds s (a ++ b) fed u → FedInTwo a b s u fed }
+    ensures feed_stops_inside { (a b : List ℕ) (s u : Session) (fed : Fed) → fed.taken < length a → Feeds s (a ++ b) fed u → Feeds s a fed u }
+{}
+
+/// The bytes of a frame do what the frame does (framing), for a session that runs and takes bytes.
+pub fn frames_by_their_bytes()
+    ensures header { (lacks : Bool) (h : Header) (s : Session) → IsInRange h → s.status ≡ Running → s.incoming ≡ Head [] → is_stuck s ≡ false → Takes (spelling h) s (head_comes lacks h s) (starved_by lacks h s) }
+    ensures frame { (lacks : Bool) (h : Header) (bytes : List ℕ) (s : Session) → IsInRange h → s.status ≡ Running → s.incoming ≡ Head [] → is_stuck s ≡ false → length bytes ≡ payload h → (head_comes lacks h s).status ≡ Running → Takes (spelling h ++ bytes) s (frame_comes lacks h bytes s) (starved_by lacks h s) }
+    ensures piece { (bytes : List ℕ) (id n : ℕ) (fin stray : Bool) (s : Session) → s.status ≡ Running → s.incoming ≡ Payload id n fin stray → 0 < length bytes → length bytes ≤ n → Takes bytes s (piece_comes bytes id n fin stray s) 0 }
+    ensures header_begins { (bytes seen : List ℕ) (s : Session) → s.status ≡ Running → s.incoming ≡ Head seen → is_stuck s ≡ false → length seen + length bytes < 12 → Takes bytes s (record s { incoming = Head (seen ++ bytes) }) 0 }
+    ensures header_ends { (lacks : Bool) (bytes seen : List ℕ) (b : ℕ) (s : Session) → s.status ≡ Running → s.incoming ≡ Head seen → is_stuck s ≡ false → length seen + length (b ∷ bytes) ≡ 12 → Takes (b ∷ bytes) s (head_comes lacks (header_of (seen ++ (b ∷ bytes))) (record s { incoming = Head [] })) (starved_by lacks (header_of (seen ++ (b ∷ bytes))) s) }
+    ensures dropped { (bytes : List ℕ) (s : Session) → is_deaf s.status ≡ true → Takes bytes s s 0 }
+{}
+
+/// The limits of a session hold always, whatever its callers do and whatever bytes a peer sends
+/// (flow control; this project's own limits).
+pub fn limits_hold()
+    ensures at_first { (role : Role) (window first : ℕ) → first_credit ≤ window → window ≤ 16777216 → is_own role first ≡ true → first < 2 ^ 32 → IsWithin (new_session role window first) }
+    ensures kept { (may : Choice → Session → Bool) (s t : Session) (event : Event) (reply : Reply) → Gives may s event reply t → IsWithin s → IsWithin t }
+    ensures always { (may : Choice → Session → Bool) (at : ℕ) (entries : List Entry) (s t : Session) → ReplaysFrom may at entries s t → IsWithin s → IsWithin t }
+{}
+
+/// Something is due exactly if an emission gives a byte, in turn or in any order.
+pub fn due_is_exact()
+    ensures due_gives { (s : Session) → IsWithin s → is_ready s ≡ true → (b : ℕ) × (t : Session) × Emits in_turn s 1 (b ∷ []) t }
+    ensures given_was_due { (may : Choice → Session → Bool) (s : Session) (room b : ℕ) (bytes : List ℕ) (t : Session) → Emits may s room (b ∷ bytes) t → is_ready s ≡ true }
+    ensures none_due_gives_none { (may : Choice → Session → Bool) (s : Session) (room : ℕ) (out : List ℕ) (t : Session) → is_ready s ≡ false → Emits may s room out t → out ≡ [] }
+    ensures none_given_none_due { (s : Session) → IsWithin s → ((t : Session) (out : List ℕ) → Emits freely s 1 out t → out ≡ []) → is_ready s ≡ false }
+    ensures any_room { (room : ℕ) (s : Session) → IsWithin s → (out : List ℕ) × (t : Session) × Emits in_turn s room out t }
+    ensures any_order { (may : Choice → Session → Bool) (s : Session) (room : ℕ) (out : List ℕ) (t : Session) → Emits may s room out t → Emits freely s room out t }
+    ensures of_a_stream { (window : ℕ) (e : End) → is_due window e ≡ is_some (next_kind window e) }
+{}
+
+/// What goes out in two pieces is what goes out at once, and a block of a frame is its bytes.
+pub fn emitted_in_pieces()
+    ensures join { (may : Choice → Session → Bool) (a b : List ℕ) (s t u : Session) → Flows may a s t → Flows may b t u → Flows may (a ++ b) s u }
+    ensures cut { (may : Choice → Session → Bool) (a b : List ℕ) (s u : Session) → Flows may (a ++ b) s u → (t : Session) × Flows may a s t × Flows may b t u }
+    ensures block { (may : Choice → Session → Bool) (n : ℕ) (s t : Session) → Ready may s t → 0 < n → n ≤ length t.begun.bytes → Flows may (take n t.begun.bytes) s (moves_on n t) }
+{}
+
+/// A refusal changes nothing; a call on a stream, a frame of it, and a piece of its payload leave
+/// every other record as it was.
+pub fn nothing_else_changes()
+    ensures refused { (c : Call) (s : Session) → is_refused (outcome c s).reply ≡ true → (outcome c s).next ≡ s }
+    ensures write { (id : ℕ) (bytes : List ℕ) (s : Session) → OthersSame id s (outcome (call.Write id bytes) s).next }
+    ensures read { (id max : ℕ) (s : Session) → OthersSame id s (outcome (call.Read id max) s).next }
+    ensures finish { (id : ℕ) (s : Session) → OthersSame id s (outcome (call.Finish id) s).next }
+    ensures reset { (id : ℕ) (s : Session) → OthersSame id s (outcome (call.Reset id) s).next }
+    ensures forget { (id : ℕ) (s : Session) → OthersSame id s (outcome (call.Forget id) s).next }
+    ensures head { (lacks : Bool) (h : Header) (s : Session) → OthersSame h.id s (head_comes lacks h s) }
+    ensures piece { (bytes : List ℕ) (id lacks : ℕ) (fin stray : Bool) (s : Session) → OthersSame id s (piece_comes bytes id lacks fin stray s) }
+{}
+
+/// A stream that the peer opens is rejected where go away was said here, where 256 streams wait to be
+/// accepted, where 1,024 are there, or for want of memory; else it is offered (flags).
+pub fn streams_are_offered()
+    ensures offered { (h : Header) (s : Session) → IsGoodSyn h s → has_rst h ≡ false → s.away.here ≡ Unsaid → length s.offered < most_offered → length s.table.entries < most_records → IsOffered h s (head_comes false h s) }
+    ensures rejected { (lacks : Bool) (h : Header) (s : Session) → IsGoodSyn h s → HasCause s → IsRejected h s (head_comes lacks h s) }
+    ensures starved { (h : Header) (s : Session) → IsGoodSyn h s → IsRejected h s (head_comes true h s) }
+{}
+
+/// A stream that was given up goes as soon as its last frame is out: while a session runs and has
+/// nothing due, none is left.
+pub fn given_up_goes()
+    ensures at_first { (role : Role) (window first : ℕ) → IsSettled (new_session role window first) }
+    ensures kept { (may : Choice → Session → Bool) (s t : Session) (event : Event) (reply : Reply) → Gives may s event reply t → IsWithin s → IsSettled s → IsSettled t }
+    ensures always { (may : Choice → Session → Bool) (at : ℕ) (entries : List Entry) (s t : Session) → ReplaysFrom may at entries s t → IsWithin s → IsSettled s → IsSettled t }
+    ensures none_lingers { (s : Session) → IsSettled s → is_running s.status ≡ true → is_ready s ≡ false → NoneLingers s }
+{}
+
+/// A history goes on by one entry at its end.
+pub fn histories_go_on()
+    ensures { (may : Choice → Session → Bool) (at : ℕ) (entries : List Entry) (entry : Entry) (s t u : Session) → ReplaysFrom may at entries s t → entry.position ≡ at + length entries → Gives may t entry.event entry.reply u → ReplaysFrom may at (entries ++ entry ∷ []) s u }
+{}
