@@ -1,0 +1,64 @@
+-- Rows that move whole windows of bytes: credit, turns, the window used up.
+use Rattle.std.proofs.Common.{◌≡◌, [], ◌∷◌, ◌++◌, take, drop, false, Some, refl}
+use Rattle.ymx_header.specs.declared.fault.Fault.TheVariants.{WindowExceeded}
+use Rattle.ymx_model.specs.declared.types.Side.TheVariants.{A, B}
+use Rattle.ymx_model.specs.declared.types.Direction.TheVariants.{AB, BA}
+use Rattle.ymx_model.specs.declared.types.Step.TheVariants.{Emit, Deliver}
+use Rattle.ymx_model.specs.declared.types.Call.TheVariants.{Open, Accept, Write, Read}
+use Rattle.ymx_model.specs.declared.types.Answer.TheVariants.{Opened, Accepted, Read as GaveBytes, Emitted}
+use Rattle.ymx_model.specs.declared.types.Why.TheVariants.{All}
+use Rattle.ymx_model.specs.Emissions.{is_ready}
+use Rattle.ymx_rows.specs.Plays.{Played, play, FedDone, feed}
+use Rattle.ymx_rows.specs.Words.{start, server, a, b, x, took, wait, fed, broken, moved, after, window_frame}
+
+-- the whole credit
+abbrev pub row_5 : Played
+row_5 = play (a Open ∷ a (Write 1 (x 262145)) ∷ a (Write 1 (x 1)) ∷ []) start
+
+row_5_is : row_5.answers ≡ Opened 1 ∷ took 262144 ∷ wait ∷ []
+row_5_is = refl
+
+-- credit is due at half the window
+abbrev pub row_6_one : Played
+row_6_one = play (moved 1 ++ (b Accept ∷ (moved 1 ++ (b (Read 1 131071) ∷ [])))) row_5.world
+
+abbrev pub row_6_two : Played
+row_6_two = play (b (Read 1 1) ∷ Emit B 100 ∷ []) row_6_one.world
+
+abbrev pub row_6_three : Played
+row_6_three = play (Deliver BA 100 ∷ a (Write 1 (x 200000)) ∷ []) row_6_two.world
+
+row_6_is : (drop 4 (take 5 row_6_one.answers) ≡ Accepted (Some 1) ∷ [])
+    × (drop 9 row_6_one.answers ≡ GaveBytes (x 131071) ∷ [])
+    × (is_ready row_6_one.world.b ≡ false)
+    × (row_6_two.answers ≡ GaveBytes (x 1) ∷ Emitted 12 ∷ [])
+    × (row_6_two.world.ba.bytes ≡ 0 ∷ 1 ∷ 0 ∷ 0 ∷ 0 ∷ 0 ∷ 0 ∷ 1 ∷ 0 ∷ 2 ∷ 0 ∷ 0 ∷ [])
+    × (row_6_three.answers ≡ fed 12 ∷ took 131072 ∷ [])
+row_6_is = (refl, refl, refl, refl, refl, refl)
+
+-- two streams take turns
+abbrev pub turns : Played
+turns = play (a Open ∷ a Open ∷ a (Write 1 (x 100000)) ∷ a (Write 3 (x 10)) ∷ Emit A 24 ∷ Emit A 16396 ∷ Deliver AB 16420 ∷ Emit A 22 ∷ []) start
+
+turns_is : (turns.answers ≡ Opened 1 ∷ Opened 3 ∷ took 100000 ∷ took 10 ∷ Emitted 24 ∷ Emitted 16396 ∷ fed 16420 ∷ Emitted 22 ∷ [])
+    × (turns.world.ab.bytes ≡ 0 ∷ 0 ∷ 0 ∷ 0 ∷ 0 ∷ 0 ∷ 0 ∷ 3 ∷ 0 ∷ 0 ∷ 0 ∷ 10 ∷ x 10)
+turns_is = (refl, refl)
+
+-- stream 1 sends seven frames, the last of 1,696 bytes
+abbrev pub turns_rest : Played
+turns_rest = play (Emit A 81980 ∷ Emit A 1709 ∷ []) (record turns.world { ab = start.ab })
+
+turns_rest_is : (turns_rest.answers ≡ Emitted 81980 ∷ Emitted 1708 ∷ [])
+    × (is_ready turns_rest.world.a ≡ false)
+    × (take 12 (drop 81980 turns_rest.world.ab.bytes) ≡ 0 ∷ 0 ∷ 0 ∷ 0 ∷ 0 ∷ 0 ∷ 0 ∷ 1 ∷ 0 ∷ 0 ∷ 6 ∷ 0xa0 ∷ [])
+turns_rest_is = (refl, refl, refl)
+
+-- the window is used up
+abbrev pub full : FedDone
+full = feed (0 ∷ 0 ∷ 0 ∷ 0 ∷ 0 ∷ 0 ∷ 0 ∷ 1 ∷ 0 ∷ 4 ∷ 0 ∷ 0 ∷ x 262144) (feed (window_frame 1 1) server).state
+
+full_is : ((feed (window_frame 1 1) server).fed.why ≡ All)
+    × (full.fed ≡ record { taken = 262156; no_memory = 0; why = All })
+    × ((feed (0 ∷ 0 ∷ 0 ∷ 0 ∷ 0 ∷ 0 ∷ 0 ∷ 1 ∷ 0 ∷ 0 ∷ 0 ∷ 1 ∷ 0x78 ∷ []) full.state).fed ≡ broken 12 WindowExceeded)
+    × ((feed (0 ∷ 0 ∷ 0 ∷ 0 ∷ 0 ∷ 0 ∷ 0 ∷ 1 ∷ 0 ∷ 0 ∷ 0 ∷ 1 ∷ 0x78 ∷ []) (after Accept full.state).next).fed ≡ broken 12 WindowExceeded)
+full_is = (refl, refl, refl, refl)

@@ -1,0 +1,144 @@
+-- Rows of frames fed to one session: faults, pings, answers, the end of a payload.
+use Rattle.std.proofs.Common.{◌≡◌, [], ◌∷◌, ◌++◌, true, false, Some, refl}
+use Rattle.ymx_header.specs.declared.fault.Fault.TheVariants.{BadVersion, BadSyn, StreamInUse, CreditOverflow, BadGoAwayCode, PeerSawProtocolError, PeerSawInternalError}
+use Rattle.ymx_model.specs.declared.types.Side.TheVariants.{A, B}
+use Rattle.ymx_model.specs.declared.types.Direction.TheVariants.{AB}
+use Rattle.ymx_model.specs.declared.types.Step.TheVariants.{Emit, Deliver}
+use Rattle.ymx_model.specs.declared.types.Call.TheVariants.{Open, Accept, Write, Read, Reset, Ping, Ponged}
+use Rattle.ymx_model.specs.declared.types.Answer.TheVariants.{Opened, Done, Pinged, Emitted}
+use Rattle.ymx_model.specs.declared.types.Reply.TheVariants as reply
+use Rattle.ymx_model.specs.declared.types.Why.TheVariants.{All}
+use Rattle.ymx_model.specs.declared.types.CallFault.TheVariants as fault
+use Rattle.ymx_model.specs.Sessions.{Session}
+use Rattle.ymx_model.specs.Emissions.{is_ready}
+use Rattle.ymx_model.specs.Worlds.{new_world}
+use Rattle.ymx_rows.specs.Plays.{Played, play, emit, FedDone, feed}
+use Rattle.ymx_rows.specs.Words.{start, client, server, a, fed, broken, after, window_frame, go_away_frame, look_credit, many_pings, ping_replies, numbered, accepted_one}
+
+-- a frame of another version
+abbrev pub row_12 : FedDone
+row_12 = feed (1 ∷ 0 ∷ 0 ∷ 0 ∷ 0 ∷ 0 ∷ 0 ∷ 1 ∷ 0 ∷ 0 ∷ 0 ∷ 0 ∷ []) server
+
+row_12_is : (row_12.fed ≡ broken 12 BadVersion)
+    × ((emit 100 row_12.state).out ≡ 0 ∷ 3 ∷ 0 ∷ 0 ∷ 0 ∷ 0 ∷ 0 ∷ 0 ∷ 0 ∷ 0 ∷ 0 ∷ 1 ∷ [])
+    × ((emit 100 (emit 100 row_12.state).state).out ≡ [])
+row_12_is = (refl, refl, refl)
+
+-- a ping, its answer, and the same answer once more
+abbrev pub row_14 : Played
+row_14 = play (a Ping ∷ Emit A 100 ∷ []) start
+
+abbrev pub row_14_b : Played
+row_14_b = play (Deliver AB 100 ∷ Emit B 100 ∷ []) row_14.world
+
+abbrev pub row_14_c : FedDone
+row_14_c = feed row_14_b.world.ba.bytes row_14_b.world.a
+
+row_14_is : (row_14.answers ≡ Pinged 0 ∷ Emitted 12 ∷ [])
+    × (row_14.world.ab.bytes ≡ 0 ∷ 2 ∷ 0 ∷ 1 ∷ 0 ∷ 0 ∷ 0 ∷ 0 ∷ 0 ∷ 0 ∷ 0 ∷ 0 ∷ [])
+    × (row_14_b.answers ≡ fed 12 ∷ Emitted 12 ∷ [])
+    × (row_14_b.world.ba.bytes ≡ 0 ∷ 2 ∷ 0 ∷ 2 ∷ 0 ∷ 0 ∷ 0 ∷ 0 ∷ 0 ∷ 0 ∷ 0 ∷ 0 ∷ [])
+    × ((after (Ponged 0) row_14_c.state).reply ≡ reply.Ponged true)
+    × ((feed row_14_b.world.ba.bytes (after (Ponged 0) row_14_c.state).next).fed ≡ record { taken = 12; no_memory = 0; why = All })
+    × ((after (Ponged 0) (feed row_14_b.world.ba.bytes (after (Ponged 0) row_14_c.state).next).state).reply ≡ reply.Ponged false)
+row_14_is = (refl, refl, refl, refl, refl, refl, refl)
+
+-- the greatest credit, and one more
+abbrev pub row_20 : FedDone
+row_20 = feed (0 ∷ 1 ∷ 0 ∷ 2 ∷ 0 ∷ 0 ∷ 0 ∷ 1 ∷ 0xff ∷ 0xfb ∷ 0xff ∷ 0xff ∷ []) (after Open client).next
+
+row_20_is : (row_20.fed ≡ record { taken = 12; no_memory = 0; why = All })
+    × (look_credit 1 row_20.state ≡ 4294967295)
+    × ((feed (0 ∷ 1 ∷ 0 ∷ 0 ∷ 0 ∷ 0 ∷ 0 ∷ 1 ∷ 0 ∷ 0 ∷ 0 ∷ 1 ∷ []) row_20.state).fed ≡ broken 12 CreditOverflow)
+row_20_is = (refl, refl, refl)
+
+-- data of no stream
+abbrev pub row_21 : FedDone
+row_21 = feed (0 ∷ 0 ∷ 0 ∷ 0 ∷ 0 ∷ 0 ∷ 0 ∷ 2 ∷ 0 ∷ 0 ∷ 0 ∷ 3 ∷ 0x61 ∷ 0x62 ∷ 0x63 ∷ []) client
+
+row_21_is : (row_21.fed ≡ record { taken = 15; no_memory = 0; why = All })
+    × (is_ready row_21.state ≡ false)
+row_21_is = (refl, refl)
+
+-- Data with SYN and FIN
+abbrev pub syn_and_fin : FedDone
+syn_and_fin = feed (0 ∷ 0 ∷ 0 ∷ 5 ∷ 0 ∷ 0 ∷ 0 ∷ 1 ∷ 0 ∷ 0 ∷ 0 ∷ 2 ∷ 0x68 ∷ 0x69 ∷ []) server
+
+syn_and_fin_is : (syn_and_fin.fed ≡ record { taken = 14; no_memory = 0; why = All })
+    × ((after Accept syn_and_fin.state).reply ≡ reply.Accepted (Some 1))
+    × ((after (Read 1 9) (after Accept syn_and_fin.state).next).reply ≡ reply.Read (0x68 ∷ 0x69 ∷ []))
+    × ((after (Read 1 9) (after (Read 1 9) (after Accept syn_and_fin.state).next).next).reply ≡ reply.ReadEnd)
+syn_and_fin_is = (refl, refl, refl, refl)
+
+-- SYNs in any order of ids
+abbrev pub three_then_one : FedDone
+three_then_one = feed (window_frame 1 1) (feed (window_frame 1 3) server).state
+
+three_then_one_is : ((feed (window_frame 1 3) server).fed.why ≡ All)
+    × (three_then_one.fed.why ≡ All)
+    × ((after Accept three_then_one.state).reply ≡ reply.Accepted (Some 3))
+    × ((after Accept (after Accept three_then_one.state).next).reply ≡ reply.Accepted (Some 1))
+three_then_one_is = (refl, refl, refl, refl)
+
+-- a SYN for an id in use
+opened_twice : (feed (window_frame 1 1) (feed (window_frame 1 1) server).state).fed ≡ broken 12 StreamInUse
+opened_twice = refl
+
+-- a SYN of the own parity
+own_syn : ((feed (window_frame 1 1) client).fed ≡ broken 12 BadSyn)
+    × ((emit 100 (feed (window_frame 1 1) client).state).out ≡ go_away_frame 1)
+own_syn = (refl, refl)
+
+-- a code of Go Away that there is not
+away_three : ((feed (go_away_frame 3) server).fed ≡ broken 12 BadGoAwayCode)
+    × ((emit 100 (feed (go_away_frame 3) server).state).out ≡ go_away_frame 1)
+away_three = (refl, refl)
+
+-- the peer saw a fault
+away_one : ((feed (go_away_frame 1) server).fed ≡ broken 12 PeerSawProtocolError)
+    × ((emit 100 (feed (go_away_frame 1) server).state).out ≡ [])
+    × ((feed (go_away_frame 2) server).fed ≡ broken 12 PeerSawInternalError)
+away_one = (refl, refl, refl)
+
+-- seventeen pings
+abbrev pub sixteen_pings : Session
+sixteen_pings = many_pings 16 client
+
+abbrev pub one_back : Session
+one_back = (feed (0 ∷ 2 ∷ 0 ∷ 2 ∷ 0 ∷ 0 ∷ 0 ∷ 0 ∷ 0 ∷ 0 ∷ 0 ∷ 3 ∷ []) sixteen_pings).state
+
+sixteen_pings_is : (ping_replies 17 client ≡ numbered 16 0 ++ (reply.Refused fault.PingsPending ∷ []))
+    × ((after (Ponged 3) one_back).reply ≡ reply.Ponged true)
+    × ((after Ping (after (Ponged 3) one_back).next).reply ≡ reply.Pinged 16)
+sixteen_pings_is = (refl, refl, refl)
+
+-- a reset inside a frame
+abbrev pub reset_in_frame : Played
+reset_in_frame = play (a Open ∷ a (Write 1 (0x61 ∷ 0x62 ∷ 0x63 ∷ [])) ∷ Emit A 25 ∷ []) start
+
+abbrev pub reset_in_frame_rest : Played
+reset_in_frame_rest = play (a (Reset 1) ∷ Emit A 100 ∷ []) (record reset_in_frame.world { ab = (new_world 262144 1 262144 2).ab })
+
+reset_in_frame_is : (reset_in_frame.world.ab.bytes ≡ window_frame 1 1 ++ (0 ∷ 0 ∷ 0 ∷ 0 ∷ 0 ∷ 0 ∷ 0 ∷ 1 ∷ 0 ∷ 0 ∷ 0 ∷ 3 ∷ 0x61 ∷ []))
+    × (reset_in_frame_rest.world.ab.bytes ≡ 0x62 ∷ 0x63 ∷ window_frame 8 1)
+reset_in_frame_is = (refl, refl)
+
+-- a reset before the SYN went out
+abbrev pub open_and_reset : Played
+open_and_reset = play (a Open ∷ a (Reset 1) ∷ Emit A 100 ∷ []) start
+
+open_and_reset_is : (open_and_reset.answers ≡ Opened 1 ∷ Done ∷ Emitted 24 ∷ [])
+    × (open_and_reset.world.ab.bytes ≡ window_frame 1 1 ++ window_frame 8 1)
+open_and_reset_is = (refl, refl)
+
+-- a payload in two pieces
+abbrev pub two_bytes : Session
+two_bytes = (feed (0 ∷ 0 ∷ 0 ∷ 0 ∷ 0 ∷ 0 ∷ 0 ∷ 1 ∷ 0 ∷ 0 ∷ 0 ∷ 5 ∷ 0x68 ∷ 0x65 ∷ []) accepted_one).state
+
+two_bytes_is : ((feed (0 ∷ 0 ∷ 0 ∷ 0 ∷ 0 ∷ 0 ∷ 0 ∷ 1 ∷ 0 ∷ 0 ∷ 0 ∷ 5 ∷ 0x68 ∷ 0x65 ∷ []) accepted_one).fed ≡ record { taken = 14; no_memory = 0; why = All })
+    × ((after (Read 1 9) two_bytes).reply ≡ reply.Read (0x68 ∷ 0x65 ∷ []))
+    × ((after (Read 1 9) (after (Read 1 9) two_bytes).next).reply ≡ reply.ReadWait)
+    × ((after (Read 1 9) (feed (0x6c ∷ 0x6c ∷ 0x6f ∷ []) (after (Read 1 9) two_bytes).next).state).reply ≡ reply.Read (0x6c ∷ 0x6c ∷ 0x6f ∷ []))
+    × ((feed (0x6c ∷ 0x6c ∷ 0x6f ∷ []) (after (Reset 1) two_bytes).next).fed ≡ record { taken = 3; no_memory = 0; why = All })
+    × ((after (Read 1 9) (feed (0x6c ∷ 0x6c ∷ 0x6f ∷ []) (after (Reset 1) two_bytes).next).state).reply ≡ reply.Refused fault.Reset)
+two_bytes_is = (refl, refl, refl, refl, refl, refl)

@@ -1,0 +1,11 @@
+pub mod Emitted
+pub mod FedByBlocks
+pub mod Played
+pub mod Streams
+pub mod Frames
+pub mod Limits
+pub mod Windows
+pub mod Bulk
+pub mod Wide
+pub mod Mistakes
+pub mod Writes
