@@ -144,7 +144,7 @@ one_if false = 0
 abbrev pub record_load : (window : ℕ) → End → ℕ
 record_load window e =
     length e.out.unsent + one_if e.marks.syn + one_if e.marks.syn + one_if e.marks.ack + one_if e.marks.ack + one_if e.marks.rst
-    + one_if (credit_due window e) + one_if (fin_due e)
+    + one_if (credit_due window e && not e.marks.syn && not e.marks.ack) + one_if (fin_due e)
 
 abbrev pub session_load : Session → ℕ
 session_load s =
