@@ -181,3 +181,10 @@ forgotten_steps = step.At A call.Open ∷ step.At A (call.Finish 1) ∷ step.Emi
 
 abbrev pub forgotten_answers : List Answer
 forgotten_answers = answer.Opened 1 ∷ answer.Done ∷ answer.Emitted 24 ∷ fed_all 24 0 ∷ answer.Accepted (Some 1) ∷ answer.Done ∷ answer.Emitted 24 ∷ fed_all 24 0 ∷ answer.Done ∷ answer.Refused fault.NoStream ∷ answer.Done ∷ answer.Refused fault.Closed ∷ answer.Done ∷ []
+
+-- both sides reset a stream whose bytes are on their way, and nothing is left
+abbrev pub crossing_steps : List Step
+crossing_steps = step.At A call.Open ∷ step.Emit A 12 ∷ step.Deliver AB 12 ∷ step.At B call.Accept ∷ step.Emit B 12 ∷ step.Deliver BA 12 ∷ step.At A (call.Write 1 (0x61 ∷ 0x62 ∷ [])) ∷ step.At A (call.Finish 1) ∷ step.At B (call.Write 1 (0x63 ∷ 0x64 ∷ 0x65 ∷ [])) ∷ step.Emit A 100 ∷ step.Emit B 100 ∷ step.At A (call.Reset 1) ∷ step.At B (call.Reset 1) ∷ step.Emit A 12 ∷ step.Emit B 12 ∷ step.Deliver AB 100 ∷ step.Deliver BA 100 ∷ step.At A (call.Read 1 5) ∷ step.At B (call.Write 1 (0x66 ∷ [])) ∷ []
+
+abbrev pub crossing_answers : List Answer
+crossing_answers = answer.Opened 1 ∷ answer.Emitted 12 ∷ fed_all 12 0 ∷ answer.Accepted (Some 1) ∷ answer.Emitted 12 ∷ fed_all 12 0 ∷ answer.Wrote (Took 2) ∷ answer.Done ∷ answer.Wrote (Took 3) ∷ answer.Emitted 26 ∷ answer.Emitted 15 ∷ answer.Done ∷ answer.Done ∷ answer.Emitted 12 ∷ answer.Emitted 12 ∷ fed_all 38 0 ∷ fed_all 27 0 ∷ answer.Refused fault.Reset ∷ answer.Refused fault.Reset ∷ []

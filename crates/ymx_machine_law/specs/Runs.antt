@@ -1,4 +1,4 @@
--- Over whole runs: the starts, and what a run finished and ended (this project's own).
+-- Over whole runs: what was finished and ended, the law of a lane, the face (this project's own).
 use Rattle.std.specs.Prelude.{ℕ, ◌+◌, ◌≡◌, ◌≤◌, List, [], ◌∷◌, ◌++◌, length, Bool, true, false, ◌&&◌, ◌||◌, ◌==◌, Option, None, Some}
 use Rattle.ymx_model.specs.declared.types.Side.{Side}
 use Rattle.ymx_model.specs.declared.types.Step.{Step}

@@ -15,7 +15,7 @@ ghost use Rattle.ymx_model.specs.MachineRules.{Rule};
 ghost use Rattle.ymx_model.specs.MachineRuns.{IsStillMachine, MachineRun};
 ghost use Rattle.ymx_model.specs.Machines.{Machine, new_machine};
 ghost use Rattle.ymx_model.specs.Tables.{look};
-ghost use Rattle.ymx_machine_law.specs.Examples.{HasCome, away_answers, away_data_answers, away_data_steps, away_steps, ended_answers, ended_steps, exhausted_answers, exhausted_steps, forgotten_answers, forgotten_steps, full_answers, full_steps, hello_answers, hello_steps, last_start, lost_answers, lost_steps, nothing_answers, nothing_steps, pending_answers, pending_steps, pinged_answers, pinged_steps, reset_answers, reset_steps, start, vanishing_answers, vanishing_steps, wide_answers, wide_start, wide_steps, with_data_answers, with_data_steps};
+ghost use Rattle.ymx_machine_law.specs.Examples.{HasCome, away_answers, away_data_answers, away_data_steps, away_steps, crossing_answers, crossing_steps, ended_answers, ended_steps, exhausted_answers, exhausted_steps, forgotten_answers, forgotten_steps, full_answers, full_steps, hello_answers, hello_steps, last_start, lost_answers, lost_steps, nothing_answers, nothing_steps, pending_answers, pending_steps, pinged_answers, pinged_steps, reset_answers, reset_steps, start, vanishing_answers, vanishing_steps, wide_answers, wide_start, wide_steps, with_data_answers, with_data_steps};
 ghost use Rattle.ymx_machine_law.specs.Numbers.{HasOrder};
 ghost use Rattle.ymx_machine_law.specs.Others.{needs_memory, touched, touched_by};
 ghost use Rattle.ymx_machine_law.specs.Runs.{is_live_at_a, is_live_at_b, IsFace, ObeysAt};
@@ -82,5 +82,6 @@ pub fn worked_rows()
     ensures exhausted { (n : Machine) × MachineRun exhausted_steps exhausted_answers last_start n }
     ensures pinged { (n : Machine) × MachineRun pinged_steps pinged_answers start n }
     ensures forgotten { (n : Machine) × MachineRun forgotten_steps forgotten_answers start n }
+    ensures crossing { (n : Machine) × MachineRun crossing_steps crossing_answers start n × IsStillMachine n }
     ensures nothing { (n : Machine) × MachineRun nothing_steps nothing_answers start n }
 {}
