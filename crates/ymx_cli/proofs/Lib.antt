@@ -1,0 +1,6 @@
+pub mod Previews
+pub mod Joined
+pub mod Pushed
+pub mod Printed
+pub mod Ends
+pub mod Rounds

@@ -1,0 +1,326 @@
+//! The command line of `ymx`.
+
+ghost use Rattle.std.specs.Prelude.{◌≡◌, ◌≤◌, ◌↔◌};
+ghost use Rattle.std.specs.Io.KnownBytes.{Keeps};
+
+use crate::frames::{FramesEnd, frames};
+use crate::output::push_all;
+use clap::error::ErrorKind;
+use clap::{Arg, ArgAction, Command, Error, value_parser};
+use std::alloc::{AllocError, Global};
+use std::convert::AsStr;
+use std::io;
+use std::sync::Wait;
+use ymx_model::{Inlet, Outlet};
+
+/// The longest payload of a Data frame that is accepted where the command line says nothing.
+const DEFAULT_LIMIT: u32 = 262_144;
+
+/// What a command line asks for.
+#[derive(Clone, Copy, Debug, PartialEq, Eq)]
+enum Task {
+    Frames { limit: u32 },
+    Other,
+}
+
+/// Does what the words of a command line ask for, the first of which is the program's name. Answers
+/// the exit status: 0 if all went well, 1 at a fault, 2 for a bad command line.
+pub fn ymx_main<S: AsStr, R: Inlet, W: Outlet, E: Outlet>(
+    rt: &impl Wait,
+    alloc: Global,
+    words: &[S],
+    reader: &mut R,
+    writer: &mut W,
+    errors: &mut E,
+) -> u8
+    ensures status { result ≤ 2 }
+    // A good end says nothing on the error device.
+    ensures good { result ≡ 0 → Keeps (E.contents errors.old) (E.contents errors.new) }
+    // A bad command line does nothing.
+    ensures bad { result ≡ 2 → Keeps (R.remaining reader.old) (R.remaining reader.new) × Keeps (W.contents writer.old) (W.contents writer.new) }
+{
+    match parse(alloc, words) {
+        Ok(Task::Frames { limit }) => {
+            let end = frames(rt, alloc, reader, writer, limit);
+            finish(end, errors)
+        }
+        Ok(Task::Other) => refuse(errors, b"ymx: not built yet\n"),
+        Err(error) => explain(alloc, &error, writer, errors),
+    }
+}
+
+/// Says why the words of the command line can't be had, and answers the exit status.
+pub fn no_words<E: Outlet>(error: &io::Error, errors: &mut E) -> u8
+    ensures { 1 ≤ result }
+{
+    if error.kind() == io::ErrorKind::InvalidData {
+        let _ = push_all(errors, b"error: a word of the command line is not UTF-8\n");
+        return 2;
+    }
+    refuse(errors, b"ymx: out of memory\n")
+}
+
+/// Reads the words of a command line.
+fn parse<'a, S: AsStr>(alloc: Global, words: &'a [S]) -> Result<Task, Error> {
+    let matches = command(alloc)?.try_get_matches_from(words)?;
+    Ok(match matches.subcommand() {
+        Some(("frames", found)) => Task::Frames {
+            limit: found.get_one("limit").unwrap_or(DEFAULT_LIMIT),
+        },
+        _ => Task::Other,
+    })
+}
+
+/// The command line of the program.
+fn command<'a>(alloc: Global) -> Result<Command<'a>, AllocError> {
+    let limit = Arg::new(alloc, "limit")
+        .long("limit")
+        .value_name("BYTES")
+        .action(ArgAction::Set)
+        .value_parser(value_parser!(u32).range(262_144..=16_777_216))
+        .default_value("262144")
+        .help(
+            "The longest payload of a Data frame that is accepted, in bytes, from 262144 to 16777216",
+        );
+    let frames = Command::new(alloc, "frames")
+        .about("Print the yamux frames of standard input, a line each")
+        .after_help(FRAMES_HELP)
+        .arg(limit)?;
+    Command::new(alloc, "ymx")
+        .about("Stream multiplexing by the yamux protocol, version 0")
+        .after_help(HELP)
+        .subcommand_required(true)
+        .subcommand(frames)?
+        .subcommand(Command::new(alloc, "script").about(
+            "Run steps of two sessions joined by pipes",
+        ))?
+        .subcommand(Command::new(alloc, "local").about(
+            "Forward local connections through a session",
+        ))?
+        .subcommand(Command::new(alloc, "remote").about(
+            "Connect the streams of a session to a target",
+        ))?
+        .subcommand(Command::new(alloc, "selftest").about(
+            "Run both ends and an echo server in one process",
+        ))
+}
+
+/// What the help says at its end.
+const HELP: &str = "Example:
+  ymx frames < examples/hello.yamux
+
+The exit status is 0 if all went well, 1 at a fault, and 2 for a bad command line.";
+
+/// What the help of `frames` says at its end.
+const FRAMES_HELP: &str =
+    "A line has the type of the frame (data, window, ping or away), its flags in hexadecimal, its
+stream id, its length field and, for data, the first 16 bytes of the payload in hexadecimal:
+  data flags=0000 id=1 len=5 68656c6c6f
+
+The last line is `fault B<n> at <offset>` at a bad frame (B1: the version isn't 0, B2: the type is
+above 3, B5: the payload is longer than the limit; the offset is in bytes), or `rest <n>` where the
+input ends n bytes into a frame. The exit status is then 1.
+
+Example:
+  ymx frames --limit 1048576 < capture.yamux";
+
+/// Says why the printing of frames ended, if a device or memory failed, and answers the status.
+fn finish<E: Outlet>(end: FramesEnd, errors: &mut E) -> u8
+    ensures status { result ≤ 1 }
+    ensures good { (result ≡ 0) ↔ (end ≡ FramesEnd.Good) }
+    ensures quiet { result ≡ 0 → Keeps (E.contents errors.old) (E.contents errors.new) }
+{
+    match end {
+        FramesEnd::Good => 0,
+        FramesEnd::Fault | FramesEnd::Rest => 1,
+        FramesEnd::Reading => refuse(errors, b"ymx: reading failed\n"),
+        FramesEnd::Writing => refuse(errors, b"ymx: writing failed\n"),
+        FramesEnd::Memory => refuse(errors, b"ymx: out of memory\n"),
+    }
+}
+
+/// Says why nothing more is done, and answers the status of a fault.
+fn refuse<E: Outlet>(errors: &mut E, text: &[u8]) -> u8
+    ensures { result ≡ 1 }
+{
+    // Where the error device fails too there is nobody left to tell.
+    let _ = push_all(errors, text);
+    1
+}
+
+/// Prints what clap says of a command line: the help that was asked for, or what is wrong with it.
+fn explain<W: Outlet, E: Outlet>(alloc: Global, error: &Error, writer: &mut W, errors: &mut E) -> u8
+    ensures status { result ≤ 2 }
+    ensures good { result ≡ 0 → Keeps (E.contents errors.old) (E.contents errors.new) }
+    ensures bad { result ≡ 2 → Keeps (W.contents writer.old) (W.contents writer.new) }
+{
+    let Ok(text) = error.to_string(alloc) else {
+        return refuse(errors, b"ymx: out of memory\n");
+    };
+    if error.kind() == ErrorKind::OutOfMemory {
+        return refuse(errors, b"ymx: out of memory\n");
+    }
+    if error.use_stderr() {
+        let _ = push_all(errors, text.as_bytes());
+        return 2;
+    }
+    match push_all(writer, text.as_bytes()) {
+        Ok(()) => 0,
+        Err(_) => refuse(errors, b"ymx: writing failed\n"),
+    }
+}
+
+#[cfg(test)]
+mod tests {
+    use super::*;
+    use std::test::Fail;
+    use ymx_model::{MemoryInlet, MemoryOutlet};
+
+    /// An open and 5 bytes of data on stream 1.
+    const HELLO: &[u8] =
+        b"\x00\x01\x00\x01\x00\x00\x00\x01\x00\x00\x00\x00\x00\x00\x00\x00\x00\x00\x00\x01\x00\x00\x00\x05hello";
+
+    /// The status, what was printed, and what the error device got.
+    fn run<T: Wait + AllocGlobal>(
+        rt: &T,
+        words: &[&str],
+        input: &[u8],
+    ) -> Result<(u8, Vec<u8>, Vec<u8>), Fail> {
+        let mut reader = MemoryInlet::new(input);
+        let mut writer = MemoryOutlet::new(rt.alloc());
+        let mut errors = MemoryOutlet::new(rt.alloc());
+        let status = ymx_main(rt, rt.alloc(), words, &mut reader, &mut writer, &mut errors);
+        let printed = Vec::from_slice(rt.alloc(), writer.as_slice())?;
+        let said = Vec::from_slice(rt.alloc(), errors.as_slice())?;
+        Ok((status, printed, said))
+    }
+
+    #[test]
+    fn gives_the_status(rt: HostRuntime) -> Result<(), Fail> {
+        let lines =
+            b"window flags=0001 id=1 len=0\ndata flags=0000 id=1 len=5 68656c6c6f\n".as_slice();
+        for (input, status, printed) in [
+            (HELLO, 0, lines),
+            (b"".as_slice(), 0, b"".as_slice()),
+            (&HELLO[..11], 1, b"rest 11\n".as_slice()),
+            (
+                b"\x00\x04\0\0\0\0\0\0\0\0\0\0".as_slice(),
+                1,
+                b"fault B2 at 0\n".as_slice(),
+            ),
+        ] {
+            let got = run(&rt, &["ymx", "frames"], input)?;
+            assert_eq!(rt; got.0, status);
+            assert_eq!(rt; got.1.as_slice(), printed);
+            assert!(rt; got.2.is_empty());
+        }
+        Ok(())
+    }
+
+    #[test]
+    fn takes_a_limit(rt: HostRuntime) -> Result<(), Fail> {
+        let long = b"\x00\x00\x00\x00\x00\x00\x00\x01\x00\x04\x00\x01".as_slice();
+        let got = run(&rt, &["ymx", "frames"], long)?;
+        assert_eq!(rt; got.0, 1);
+        assert_eq!(rt; got.1.as_slice(), b"fault B5 at 0\n".as_slice());
+        let got = run(&rt, &["ymx", "frames", "--limit", "300000"], long)?;
+        assert_eq!(rt; got.0, 1);
+        assert_eq!(rt; got.1.as_slice(), b"rest 12\n".as_slice());
+        for good in ["262144", "16777216"] {
+            let got = run(&rt, &["ymx", "frames", "--limit", good], HELLO)?;
+            assert_eq!(rt; got.0, 0, "limit {good}");
+        }
+        for bad in ["262143", "16777217", "x"] {
+            let got = run(&rt, &["ymx", "frames", "--limit", bad], HELLO)?;
+            assert_eq!(rt; got.0, 2, "limit {bad}");
+            assert!(rt; got.1.is_empty());
+            assert!(rt; got.2.as_slice().starts_with(b"error: invalid value"));
+        }
+        Ok(())
+    }
+
+    #[test]
+    fn refuses_a_bad_command_line(rt: HostRuntime) -> Result<(), Fail> {
+        for words in [["ymx"].as_slice(), ["ymx", "frame"].as_slice()] {
+            let got = run(&rt, words, HELLO)?;
+            assert_eq!(rt; got.0, 2);
+            assert!(rt; got.1.is_empty());
+            assert!(rt; got.2.as_slice().starts_with(b"error: "));
+        }
+        for name in ["script", "local", "remote", "selftest"] {
+            let got = run(&rt, &["ymx", name], HELLO)?;
+            assert_eq!(rt; got.0, 1);
+            assert_eq!(rt; got.2.as_slice(), b"ymx: not built yet\n".as_slice());
+        }
+        Ok(())
+    }
+
+    #[test]
+    fn helps(rt: HostRuntime) -> Result<(), Fail> {
+        let got = run(&rt, &["ymx", "--help"], b"")?;
+        assert_eq!(rt; got.0, 0);
+        assert!(rt; got.2.is_empty());
+        assert!(rt;
+            got.1.as_slice().starts_with(
+                b"Stream multiplexing by the yamux protocol, version 0\n\nUsage: ymx <COMMAND>\n"
+            )
+        );
+        Ok(())
+    }
+
+    #[test]
+    fn tells_which_device_failed(rt: HostRuntime) -> Result<(), Fail> {
+        let words = ["ymx", "frames"].as_slice();
+        // the second read fails, after 12 bytes
+        let mut reader = MemoryInlet::new(HELLO).in_pieces(12).failing_after(1);
+        let mut writer = MemoryOutlet::new(rt.alloc());
+        let mut errors = MemoryOutlet::new(rt.alloc());
+        let status = ymx_main(
+            &rt,
+            rt.alloc(),
+            words,
+            &mut reader,
+            &mut writer,
+            &mut errors,
+        );
+        assert_eq!(rt; status, 1);
+        assert_eq!(rt;
+            writer.as_slice(),
+            b"window flags=0001 id=1 len=0\n".as_slice()
+        );
+        assert_eq!(rt; errors.as_slice(), b"ymx: reading failed\n".as_slice());
+
+        // the second write fails, after 7 bytes
+        let mut reader = MemoryInlet::new(HELLO);
+        let mut writer = MemoryOutlet::new(rt.alloc()).in_pieces(7).failing_after(1);
+        let mut errors = MemoryOutlet::new(rt.alloc());
+        let status = ymx_main(
+            &rt,
+            rt.alloc(),
+            words,
+            &mut reader,
+            &mut writer,
+            &mut errors,
+        );
+        assert_eq!(rt; status, 1);
+        assert_eq!(rt; writer.as_slice(), b"window ".as_slice());
+        assert_eq!(rt; errors.as_slice(), b"ymx: writing failed\n".as_slice());
+
+        // devices that have failed as often as can be counted
+        let mut reader = MemoryInlet::new(HELLO).having_failed(u64::MAX);
+        let mut writer = MemoryOutlet::new(rt.alloc()).having_failed(u64::MAX);
+        let mut errors = MemoryOutlet::new(rt.alloc());
+        let status = ymx_main(
+            &rt,
+            rt.alloc(),
+            words,
+            &mut reader,
+            &mut writer,
+            &mut errors,
+        );
+        assert_eq!(rt; status, 1);
+        assert_eq!(rt; errors.as_slice(), b"ymx: reading failed\n".as_slice());
+        assert!(rt; writer.end().is_err());
+        Ok(())
+    }
+}

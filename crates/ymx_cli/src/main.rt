@@ -1,0 +1,49 @@
+//! The program `ymx`: the command line over the yamux session library.
+#![tactic(auto)]
+
+mod command;
+mod frames;
+mod lines;
+mod output;
+mod printer;
+mod standard;
+
+use command::{no_words, ymx_main};
+use standard::{ReaderInlet, WriterOutlet};
+use std::alloc::Global;
+use std::process::ExitCode;
+use std::rt::Env;
+use std::{env, io};
+
+fn main(rt: HostRuntime) -> ExitCode {
+    let mut reader = ReaderInlet {
+        reader: rt.stdin(),
+        failures: 0,
+    };
+    let mut writer = WriterOutlet {
+        writer: rt.stdout(),
+        failures: 0,
+    };
+    let mut errors = WriterOutlet {
+        writer: rt.stderr(),
+        failures: 0,
+    };
+    let alloc = rt.alloc();
+    let status = match words(&rt, alloc) {
+        Ok(words) => ymx_main(
+            &rt,
+            alloc,
+            words.as_slice(),
+            &mut reader,
+            &mut writer,
+            &mut errors,
+        ),
+        Err(error) => no_words(&error, &mut errors),
+    };
+    ExitCode::from(status)
+}
+
+/// The words of the command line.
+fn words<R: Env + AllocGlobal>(rt: &R, alloc: Global) -> io::Result<Vec<String>> {
+    Ok(env::args(rt)?.collect(alloc)?)
+}

@@ -1,0 +1,109 @@
+//! Readers and writers of the standard library as devices.
+
+ghost use Rattle.std.specs.Prelude.{◌≡◌, ◌<◌, ◌≤◌, length, IfOk, OnErr};
+ghost use Rattle.std.specs.Io.{ReadsAtMost, WritesAtMost};
+ghost use Rattle.std.specs.Io.KnownBytes.{Keeps, ReadConsumes, WriteAppends};
+
+use std::io;
+use std::io::{ErrorKind, Read, Write};
+use ymx_model::{DeviceFault, Inlet, Outlet};
+
+/// How often a call that a signal interrupted is made again before it counts as failed.
+const RETRIES: u32 = 1_000_000;
+
+/// A reader as an inlet.
+#[derive(Drop)]
+pub struct ReaderInlet<R> {
+    /// The reader.
+    pub reader: R,
+    /// How many calls have failed.
+    pub failures: u64,
+}
+
+impl<R: Read> Inlet for ReaderInlet<R> {
+    ghost remaining = { λ s. R.remaining s.reader };
+
+    ghost failures = { λ s. s.failures };
+
+    fn pull(&mut self, buffer: &mut [u8]) -> Result<usize, DeviceFault> {
+        if self.failures == u64::MAX {
+            return Err(DeviceFault);
+        }
+        match read(&mut self.reader, buffer) {
+            Ok(count) => Ok(count),
+            Err(_) => {
+                self.failures += 1;
+                Err(DeviceFault)
+            }
+        }
+    }
+}
+
+/// A writer as an outlet.
+#[derive(Drop)]
+pub struct WriterOutlet<W> {
+    /// The writer.
+    pub writer: W,
+    /// How many calls have failed.
+    pub failures: u64,
+}
+
+impl<W: Write> Outlet for WriterOutlet<W> {
+    ghost contents = { λ s. W.contents s.writer };
+
+    ghost failures = { λ s. s.failures };
+
+    fn push(&mut self, bytes: &[u8]) -> Result<usize, DeviceFault> {
+        if self.failures == u64::MAX {
+            return Err(DeviceFault);
+        }
+        match write(&mut self.writer, bytes) {
+            Ok(count) if count > 0 || bytes.is_empty() => Ok(count),
+            _ => {
+                self.failures += 1;
+                Err(DeviceFault)
+            }
+        }
+    }
+
+    fn end(&mut self) -> Result<(), DeviceFault> {
+        if self.failures == u64::MAX {
+            return Err(DeviceFault);
+        }
+        match self.writer.flush() {
+            Ok(()) => Ok(()),
+            Err(_) => {
+                self.failures += 1;
+                Err(DeviceFault)
+            }
+        }
+    }
+}
+
+/// One read, made again where a signal interrupts it.
+fn read<R: Read>(reader: &mut R, buffer: &mut [u8]) -> io::Result<usize>
+    ensures bound { ReadsAtMost result buffer.new }
+    ensures bytes { ReadConsumes (R.remaining reader.old) (R.remaining reader.new) result buffer.new }
+{
+    'again: for _ in 0..RETRIES {
+        match reader.read(buffer) {
+            Err(e) if e.kind() == ErrorKind::Interrupted => {}
+            done => return done,
+        }
+    }
+    reader.read(buffer)
+}
+
+/// One write, made again where a signal interrupts it.
+fn write<W: Write>(writer: &mut W, bytes: &[u8]) -> io::Result<usize>
+    ensures bound { WritesAtMost result bytes.now }
+    ensures bytes { WriteAppends (W.contents writer.old) (W.contents writer.new) result bytes.now }
+{
+    'again: for _ in 0..RETRIES {
+        match writer.write(bytes) {
+            Err(e) if e.kind() == ErrorKind::Interrupted => {}
+            done => return done,
+        }
+    }
+    writer.write(bytes)
+}
