@@ -1,0 +1,8 @@
+-- The place of a header has as many bytes as a header.
+use Rattle.std.proofs.Common.{arith}
+use Rattle.std.proofs.lemmas.List.{length-take}
+use Rattle.ymx_half.proofs.Buffers.{length-spelling}
+use Rattle.ymx_half.proofs.frame.put_header.Goals as goal
+
+pub copy_from_slice-requires : goal.copy_from_slice-requires
+copy_from_slice-requires c = rw (c.encode.ensures.spelled, length-spelling c.args.header.now) (simp length-take (omega arith))

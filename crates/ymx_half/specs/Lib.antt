@@ -1,0 +1,6 @@
+pub mod Starts
+pub mod Windows
+pub mod Directions
+pub mod Stages
+pub mod Frames
+pub mod Ends

@@ -1,0 +1,262 @@
+//! The two directions of a stream, by the halves that hold them.
+
+ghost use Rattle.std.specs.Prelude.{◌≡◌, ◌+◌, ◌≤◌, ◌++◌, ◌&&◌, true, false, not, length, take, drop, min, IsOk, IfOk, OnErr};
+ghost use Rattle.ymx_model.specs.Records.{write, sent, given, finish, fin_goes, arrive, read, announce, end_comes, emptied};
+ghost use Rattle.ymx_model.specs.Outgoing.{is_empty};
+
+use crate::{DeadHalf, DoneHalf, EndedHalf, RecvHalf, SendHalf};
+use std::alloc::AllocError;
+use std::mem;
+
+/// The sending direction of a stream, by its half.
+#[derive(Drop)]
+pub(crate) enum Sending {
+    /// Bytes may be written.
+    Open(SendHalf),
+    /// It was finished.
+    Done(DoneHalf),
+    /// The stream was reset.
+    Dead(DeadHalf),
+}
+
+impl Sending {
+    ghost use Rattle.ymx_half.specs.Directions.{writer_of, is_silent};
+
+    /// Takes the first bytes that the credit allows, of which a dead half has none. See `SendHalf::write`.
+    pub(crate) fn write(&mut self, bytes: &[u8]) -> Result<usize, AllocError>
+        requires { (writer_of self.old).finished ≡ false }
+        ensures took_min { IfOk result (λ count. count ≡ min (length bytes.now) (writer_of self.old).credit) }
+        ensures wrote { IfOk result (λ count. writer_of self.new ≡ write (take count bytes.now) (writer_of self.old)) }
+        ensures in_room { length (writer_of self.old).unsent + min (length bytes.now) (writer_of self.old).credit ≤ 262144 → IsOk result }
+        ensures refused_unchanged { OnErr result (writer_of self.new ≡ writer_of self.old) }
+        ensures same_state { is_silent self.new ≡ is_silent self.old }
+    {
+        match self {
+            Sending::Open(half) => half.write(bytes),
+            Sending::Done(_) | Sending::Dead(_) => Ok(0),
+        }
+    }
+
+    /// The peer lets `delta` bytes more be written.
+    pub(crate) fn grant(&mut self, delta: u32)
+        requires sends { is_silent self.old ≡ false }
+        requires fits { (writer_of self.old).credit + delta ≤ 4294967295 }
+        ensures granted { writer_of self.new ≡ given delta (writer_of self.old) }
+        ensures same_state { is_silent self.new ≡ is_silent self.old }
+    {
+        match self {
+            Sending::Open(half) => half.grant(delta).unwrap(),
+            Sending::Done(half) => half.grant(delta).unwrap(),
+            Sending::Dead(_) => {}
+        }
+    }
+
+    /// Moves the next bytes of a frame out into `buffer`.
+    pub(crate) fn take(&mut self, buffer: &mut [u8]) -> usize
+        ensures count { result ≡ min (length buffer.old) (length (writer_of self.old).unsent) }
+        ensures taken { buffer.new ≡ take result (writer_of self.old).unsent ++ drop result buffer.old }
+        ensures left { writer_of self.new ≡ sent result (writer_of self.old) }
+        ensures same_state { is_silent self.new ≡ is_silent self.old }
+    {
+        match self {
+            Sending::Open(half) => half.take(buffer),
+            Sending::Done(half) => half.take(buffer),
+            Sending::Dead(_) => 0,
+        }
+    }
+
+    /// Nothing more is written. A half that is done stays so.
+    pub(crate) fn finish(&mut self)
+        requires { is_silent self.old ≡ false }
+        ensures finished { writer_of self.new ≡ finish (writer_of self.old) }
+        ensures same_state { is_silent self.new ≡ is_silent self.old }
+    {
+        *self = match mem::replace(self, Sending::Dead(DeadHalf)) {
+            Sending::Open(half) => Sending::Done(half.finish()),
+            other => other,
+        };
+    }
+
+    /// The frame with FIN has begun.
+    pub(crate) fn fin_goes(&mut self)
+        requires { (writer_of self.old).finished ≡ true }
+        ensures goes { writer_of self.new ≡ fin_goes (writer_of self.old) }
+        ensures same_state { is_silent self.new ≡ is_silent self.old }
+    {
+        if let Sending::Done(half) = self {
+            half.fin_goes();
+        }
+    }
+
+    /// The stream is reset.
+    pub(crate) fn reset(self) -> DeadHalf {
+        match self {
+            Sending::Open(half) => half.reset(),
+            Sending::Done(half) => half.reset(),
+            Sending::Dead(half) => half,
+        }
+    }
+
+    pub(crate) fn credit(&self) -> u32
+        ensures { result ≡ (writer_of self.now).credit }
+    {
+        match self {
+            Sending::Open(half) => half.credit(),
+            Sending::Done(half) => half.credit(),
+            Sending::Dead(_) => 0,
+        }
+    }
+
+    pub(crate) fn unsent_len(&self) -> usize
+        ensures { result ≡ length (writer_of self.now).unsent }
+    {
+        match self {
+            Sending::Open(half) => half.unsent_len(),
+            Sending::Done(half) => half.unsent_len(),
+            Sending::Dead(_) => 0,
+        }
+    }
+
+    pub(crate) fn has_unsent(&self) -> bool
+        ensures { result ≡ not (is_empty (writer_of self.now).unsent) }
+    {
+        self.unsent_len() > 0
+    }
+
+    pub(crate) fn is_finished(&self) -> bool
+        ensures { result ≡ (writer_of self.now).finished }
+    {
+        matches!(self, Sending::Done(_))
+    }
+
+    pub(crate) fn is_fin_due(&self) -> bool
+        ensures { result ≡ (writer_of self.now).finished && not (writer_of self.now).fin_sent }
+    {
+        match self {
+            Sending::Done(half) => !half.is_fin_sent(),
+            Sending::Open(_) | Sending::Dead(_) => false,
+        }
+    }
+}
+
+/// The receiving direction of a stream, by its half.
+#[derive(Drop)]
+pub(crate) enum Receiving {
+    /// The peer's end has not arrived.
+    Open(RecvHalf),
+    /// It has.
+    Ended(EndedHalf),
+    /// The stream was reset.
+    Dead(DeadHalf),
+}
+
+impl Receiving {
+    ghost use Rattle.ymx_half.specs.Directions.{reader_of, is_deaf};
+
+    /// These bytes come, before the end.
+    pub(crate) fn arrive(&mut self, bytes: &[u8])
+        requires receives { is_deaf self.old ≡ false }
+        requires open { (reader_of self.old).ended ≡ false }
+        requires fits { length bytes.now ≤ (reader_of self.old).granted }
+        ensures came { reader_of self.new ≡ arrive bytes.now (reader_of self.old) }
+        ensures same_state { is_deaf self.new ≡ is_deaf self.old }
+    {
+        if let Receiving::Open(half) = self {
+            half.arrive(bytes);
+        }
+    }
+
+    /// Moves the first unread bytes into `buffer`.
+    pub(crate) fn read(&mut self, buffer: &mut [u8]) -> usize
+        ensures count { result ≡ min (length buffer.old) (length (reader_of self.old).unread) }
+        ensures gave { buffer.new ≡ take result (reader_of self.old).unread ++ drop result buffer.old }
+        ensures after { reader_of self.new ≡ read result (reader_of self.old) }
+        ensures same_state { is_deaf self.new ≡ is_deaf self.old }
+    {
+        match self {
+            Receiving::Open(half) => half.read(buffer),
+            Receiving::Ended(half) => half.read(buffer),
+            Receiving::Dead(_) => 0,
+        }
+    }
+
+    /// `n` of the owed bytes are announced.
+    pub(crate) fn announce(&mut self, n: u32)
+        ensures announced { reader_of self.new ≡ announce n (reader_of self.old) }
+        ensures same_state { is_deaf self.new ≡ is_deaf self.old }
+    {
+        match self {
+            Receiving::Open(half) => half.announce(n),
+            Receiving::Ended(half) => half.announce(n),
+            Receiving::Dead(_) => {}
+        }
+    }
+
+    /// The peer's end arrives. A half that has ended stays so.
+    pub(crate) fn end(&mut self)
+        requires { is_deaf self.old ≡ false }
+        ensures ended { reader_of self.new ≡ end_comes (reader_of self.old) }
+        ensures same_state { is_deaf self.new ≡ is_deaf self.old }
+    {
+        *self = match mem::replace(self, Receiving::Dead(DeadHalf)) {
+            Receiving::Open(half) => Receiving::Ended(half.end()),
+            other => other,
+        };
+    }
+
+    /// What is unread behind the end is dropped.
+    pub(crate) fn empty(&mut self)
+        requires { (reader_of self.old).ended ≡ true }
+        ensures emptied { reader_of self.new ≡ emptied (reader_of self.old) }
+        ensures same_state { is_deaf self.new ≡ is_deaf self.old }
+    {
+        if let Receiving::Ended(half) = self {
+            half.empty();
+        }
+    }
+
+    /// The stream is reset.
+    pub(crate) fn reset(self) -> DeadHalf {
+        match self {
+            Receiving::Open(half) => half.reset(),
+            Receiving::Ended(half) => half.reset(),
+            Receiving::Dead(half) => half,
+        }
+    }
+
+    pub(crate) fn unread_len(&self) -> usize
+        ensures { result ≡ length (reader_of self.now).unread }
+    {
+        match self {
+            Receiving::Open(half) => half.unread_len(),
+            Receiving::Ended(half) => half.unread_len(),
+            Receiving::Dead(_) => 0,
+        }
+    }
+
+    pub(crate) fn granted(&self) -> u32
+        ensures { result ≡ (reader_of self.now).granted }
+    {
+        match self {
+            Receiving::Open(half) => half.granted(),
+            Receiving::Ended(half) => half.granted(),
+            Receiving::Dead(_) => 0,
+        }
+    }
+
+    pub(crate) fn owed(&self) -> u32
+        ensures { result ≡ (reader_of self.now).owed }
+    {
+        match self {
+            Receiving::Open(half) => half.owed(),
+            Receiving::Ended(half) => half.owed(),
+            Receiving::Dead(_) => 0,
+        }
+    }
+
+    pub(crate) fn has_ended(&self) -> bool
+        ensures { result ≡ (reader_of self.now).ended }
+    {
+        matches!(self, Receiving::Ended(_))
+    }
+}

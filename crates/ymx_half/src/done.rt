@@ -1,0 +1,95 @@
+//! A sending half that was finished.
+
+ghost use Rattle.std.specs.Prelude.{◌≡◌, ◌+◌, ◌<◌, ◌≤◌, ◌↔◌, ◌++◌, true, false, length, take, drop, min, IsOk, OnOk, OnErr, Err};
+ghost use Rattle.ymx_model.specs.Records.{sent, given, fin_goes};
+
+use crate::DeadHalf;
+use std::marker::Model;
+use ymx_credit::Credit;
+use ymx_header::Fault;
+use ymx_ring::Ring;
+
+/// A sending half that was finished: its unsent bytes still go out, and then its end. Nothing is
+/// written to it.
+#[derive(Drop)]
+pub struct DoneHalf {
+    credit: Credit,
+    unsent: Ring,
+    fin_sent: bool,
+}
+
+impl Model for DoneHalf {
+    ghost use Rattle.std.specs.Prelude.{true};
+    ghost use Rattle.ymx_model.specs.Records.{Writer};
+
+    ghost Value = { Writer };
+
+    ghost view = { λ half. record { credit = half.credit; unsent = half.unsent.items; finished = true; fin_sent = half.fin_sent } };
+}
+
+impl DoneHalf {
+    /// The half that is left of one with this credit and these unsent bytes.
+    pub(crate) fn new(credit: Credit, unsent: Ring) -> DoneHalf
+        ensures { result ≡ record { credit = credit; unsent = unsent.items; finished = true; fin_sent = false } }
+    {
+        DoneHalf {
+            credit,
+            unsent,
+            fin_sent: false,
+        }
+    }
+
+    /// The peer lets `delta` bytes more be written (Window Update), though none are. `CreditOverflow`
+    /// (B6) exactly if the credit would be above 4,294,967,295; nothing has changed then.
+    pub fn grant(&mut self, delta: u32) -> Result<(), Fault>
+        ensures good { IsOk result ↔ (self.old.credit + delta ≤ 4294967295) }
+        ensures overflow { (result ≡ Err Fault.CreditOverflow) ↔ (4294967295 < self.old.credit + delta) }
+        ensures granted { OnOk result (self.new ≡ given delta self.old) }
+        ensures refused_unchanged { OnErr result (self.new ≡ self.old) }
+    {
+        self.credit.grant(delta)
+    }
+
+    /// Moves the next bytes of a frame out of the half into `buffer`, as many as are there and fit, and
+    /// returns their number. The rest of `buffer` stays as it was.
+    pub fn take(&mut self, buffer: &mut [u8]) -> usize
+        ensures count { result ≡ min (length buffer.old) (length self.old.unsent) }
+        ensures taken { buffer.new ≡ take result self.old.unsent ++ drop result buffer.old }
+        ensures left { self.new ≡ sent result self.old }
+    {
+        self.unsent.take(buffer)
+    }
+
+    /// The frame with FIN has begun.
+    pub fn fin_goes(&mut self)
+        ensures { self.new ≡ fin_goes self.old }
+    {
+        self.fin_sent = true;
+    }
+
+    /// The stream is reset: the unsent bytes and the end are dropped, and the memory is given back.
+    pub fn reset(self) -> DeadHalf {
+        DeadHalf
+    }
+
+    /// How many bytes could still be written.
+    pub fn credit(&self) -> u32
+        ensures { result ≡ self.now.credit }
+    {
+        self.credit.left()
+    }
+
+    /// How many bytes belong to no frame yet.
+    pub fn unsent_len(&self) -> usize
+        ensures { result ≡ length self.now.unsent }
+    {
+        self.unsent.len()
+    }
+
+    /// Whether the frame with FIN has begun.
+    pub fn is_fin_sent(&self) -> bool
+        ensures { result ≡ self.now.fin_sent }
+    {
+        self.fin_sent
+    }
+}

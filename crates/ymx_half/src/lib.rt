@@ -1,0 +1,27 @@
+//! One stream at one end: two halves, whose types say what may be done with them, and a record of both
+//! with the marks of what is due. A write after `finish` and an arrival after the end don't compile.
+//! Memory is taken where a stream is made, and where more than 262,144 bytes are unsent.
+#![tactic(auto)]
+
+mod dead;
+mod directions;
+mod done;
+mod ended;
+mod frame;
+mod receive;
+mod send;
+mod stream;
+
+pub use dead::DeadHalf;
+pub use done::DoneHalf;
+pub use ended::EndedHalf;
+pub use frame::FrameKind;
+pub use receive::RecvHalf;
+pub use send::SendHalf;
+pub use stream::{Stage, StreamRec};
+
+/// The bytes that each end of a stream may send before it hears of any window: 262,144 (flow control).
+pub const FIRST_CREDIT: u32 = 262_144;
+
+#[cfg(test)]
+mod tests;

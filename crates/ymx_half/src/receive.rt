@@ -1,0 +1,139 @@
+//! A receiving half that is open.
+
+ghost use Rattle.std.specs.Prelude.{◌≡◌, ◌+◌, ◌*◌, ◌≤◌, ◌↔◌, ◌++◌, length, take, drop, min, IsSome, IfSome, IfOk};
+ghost use Rattle.ymx_model.specs.Records.{arrive, read, announce, end_comes};
+
+use crate::{DeadHalf, EndedHalf, FIRST_CREDIT};
+use std::alloc::{AllocError, Global};
+use std::marker::Model;
+use ymx_credit::Debt;
+use ymx_ring::Ring;
+
+/// A receiving half whose end has not arrived (flow control).
+///
+/// A contract sees the bytes that came and were not read, how many bytes the peer may still send, and
+/// how many were read and not yet announced to it. Together these are always the window, so whatever
+/// the peer may send has room.
+#[derive(Drop)]
+pub struct RecvHalf {
+    unread: Ring,
+    granted: u32,
+    debt: Debt,
+}
+
+impl Model for RecvHalf {
+    ghost use Rattle.std.specs.Prelude.{false};
+    ghost use Rattle.ymx_model.specs.Records.{Reader};
+
+    ghost Value = { Reader };
+
+    ghost use Rattle.ymx_half.specs.Windows.{reader_with, FillsWindow};
+
+    ghost view = { λ half. reader_with half.unread half.granted half.debt false };
+
+    ghost invariant = { λ half. FillsWindow half.unread half.granted half.debt };
+}
+
+impl RecvHalf {
+    ghost use Rattle.ymx_half.specs.Starts.{new_reader};
+    ghost use Rattle.ymx_half.specs.Windows.{window_of};
+
+    /// Makes the half of a new stream, with memory for the whole window, in bytes. The peer may send
+    /// 262,144 bytes at first, and what the window has beyond these is owed to it. Without the memory
+    /// it answers `AllocError`.
+    ///
+    /// Example: of a window of 1,048,576 bytes 786,432 are owed from the start.
+    pub fn new(alloc: Global, window: u32) -> Result<RecvHalf, AllocError>
+        requires { 262144 ≤ window }
+        ensures { IfOk result (λ half. half ≡ new_reader window) }
+    {
+        let unread = Ring::new(alloc, window as usize)?;
+        Ok(RecvHalf {
+            unread,
+            granted: FIRST_CREDIT,
+            debt: Debt::starting(window, window - FIRST_CREDIT),
+        })
+    }
+
+    /// These bytes come. They are no more than the peer may send, and so there is room for them.
+    pub fn arrive(&mut self, bytes: &[u8])
+        requires { length bytes.now ≤ self.old.granted }
+        ensures { self.new ≡ arrive bytes.now self.old }
+    {
+        self.unread.put(bytes);
+        self.granted -= bytes.len() as u32;
+    }
+
+    /// Moves the first unread bytes into `buffer`, as many as are there and fit, and returns their
+    /// number. They are owed to the peer from then on. The rest of `buffer` stays as it was.
+    pub fn read(&mut self, buffer: &mut [u8]) -> usize
+        ensures count { result ≡ min (length buffer.old) (length self.old.unread) }
+        ensures gave { buffer.new ≡ take result self.old.unread ++ drop result buffer.old }
+        ensures after { self.new ≡ read result self.old }
+    {
+        let count = self.unread.take(buffer);
+        self.debt.read(count as u32);
+        count
+    }
+
+    /// `n` of the owed bytes (all, if they are fewer) are announced: the peer may send them from now on.
+    ///
+    /// Example: a window of 1,048,576 bytes is announced by the frame that opens or accepts the stream,
+    /// with `n` 786,432; the peer may then send 1,048,576 bytes.
+    pub fn announce(&mut self, n: u32)
+        ensures { self.new ≡ announce n self.old }
+    {
+        let announced = n.min(self.debt.owed());
+        self.debt.announced_part(announced);
+        self.granted += announced;
+    }
+
+    /// The peer's end has arrived.
+    pub fn end(self) -> EndedHalf
+        ensures { result ≡ end_comes self }
+    {
+        let RecvHalf {
+            unread,
+            granted,
+            debt,
+        } = self;
+        EndedHalf::new(unread, granted, debt)
+    }
+
+    /// The stream is reset: the unread bytes are dropped, and their memory is given back.
+    pub fn reset(self) -> DeadHalf {
+        DeadHalf
+    }
+
+    /// How many bytes wait to be read.
+    pub fn unread_len(&self) -> usize
+        ensures { result ≡ length self.now.unread }
+    {
+        self.unread.len()
+    }
+
+    /// How many bytes the peer may still send.
+    pub fn granted(&self) -> u32
+        ensures { result ≡ self.now.granted }
+    {
+        self.granted
+    }
+
+    /// How many bytes were read and not yet announced.
+    pub fn owed(&self) -> u32
+        ensures { result ≡ self.now.owed }
+    {
+        self.debt.owed()
+    }
+
+    /// The bytes to announce now: all that are owed, once they are at least half the window; none before.
+    ///
+    /// Example: of a window of 262,144 bytes the first 131,071 read wait, and one byte more makes
+    /// 131,072 due.
+    pub fn due(&self) -> Option<u32>
+        ensures half { IsSome result ↔ (window_of self.now ≤ 2 * self.now.owed) }
+        ensures all { IfSome result (λ n. n ≡ self.now.owed) }
+    {
+        self.debt.due()
+    }
+}

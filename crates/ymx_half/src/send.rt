@@ -1,0 +1,122 @@
+//! A sending half that is open.
+
+ghost use Rattle.std.specs.Prelude.{◌≡◌, ◌+◌, ◌<◌, ◌≤◌, ◌↔◌, ◌++◌, length, take, drop, min, IsOk, IfOk, OnOk, OnErr, Err};
+ghost use Rattle.ymx_model.specs.Records.{write, sent, given, finish};
+
+use crate::{DeadHalf, DoneHalf, FIRST_CREDIT};
+use std::alloc::{AllocError, Global};
+use std::marker::Model;
+use ymx_credit::Credit;
+use ymx_header::Fault;
+use ymx_ring::Ring;
+
+/// A sending half to which bytes may still be written (flow control).
+///
+/// A contract sees the credit, which is how many bytes may still be written, and the bytes that were
+/// written and belong to no frame yet.
+#[derive(Drop)]
+pub struct SendHalf {
+    credit: Credit,
+    unsent: Ring,
+}
+
+impl Model for SendHalf {
+    ghost use Rattle.std.specs.Prelude.{◌≤◌, false};
+    ghost use Rattle.ymx_model.specs.Lanes.{first_credit};
+    ghost use Rattle.ymx_model.specs.Records.{Writer};
+
+    ghost Value = { Writer };
+
+    ghost view = { λ half. record { credit = half.credit; unsent = half.unsent.items; finished = false; fin_sent = false } };
+
+    ghost invariant = { λ half. first_credit ≤ half.unsent.capacity };
+}
+
+impl SendHalf {
+    ghost use Rattle.ymx_half.specs.Starts.{new_writer};
+
+    /// Makes the half of a new stream: 262,144 bytes may be written, and there is memory for so many
+    /// unsent ones. Without that memory it answers `AllocError`.
+    pub fn new(alloc: Global) -> Result<SendHalf, AllocError>
+        ensures { IfOk result (λ half. half ≡ new_writer) }
+    {
+        let unsent = Ring::new(alloc, FIRST_CREDIT as usize)?;
+        Ok(SendHalf {
+            credit: Credit::new(FIRST_CREDIT),
+            unsent,
+        })
+    }
+
+    /// Takes the first bytes that the credit allows, and returns their number.
+    ///
+    /// Takes memory only where more than 262,144 bytes would be unsent, which needs a peer that granted
+    /// more. Without that memory it answers `AllocError`, and nothing has changed.
+    ///
+    /// Example: of 300,000 bytes a new half takes 262,144. The next write takes none, until the peer
+    /// grants more.
+    pub fn write(&mut self, bytes: &[u8]) -> Result<usize, AllocError>
+        ensures took_min { IfOk result (λ count. count ≡ min (length bytes.now) self.old.credit) }
+        ensures wrote { IfOk result (λ count. self.new ≡ write (take count bytes.now) self.old) }
+        ensures in_room { length self.old.unsent + min (length bytes.now) self.old.credit ≤ 262144 → IsOk result }
+        ensures refused_unchanged { OnErr result (self.new ≡ self.old) }
+    {
+        let count = bytes.len().min(self.credit.left() as usize);
+        let capacity = self.unsent.capacity();
+        let needed = self.unsent.len() + count;
+        if needed > capacity {
+            // Twice as much at once, so that many small writes don't each move all unsent bytes.
+            self.unsent.grow(needed.max(2 * capacity))?;
+        }
+        self.unsent.put(&bytes[..count]);
+        self.credit.spend(count as u32);
+        Ok(count)
+    }
+
+    /// The peer lets `delta` bytes more be written (Window Update). `CreditOverflow` (B6) exactly if the
+    /// credit would be above 4,294,967,295; nothing has changed then.
+    pub fn grant(&mut self, delta: u32) -> Result<(), Fault>
+        ensures good { IsOk result ↔ (self.old.credit + delta ≤ 4294967295) }
+        ensures overflow { (result ≡ Err Fault.CreditOverflow) ↔ (4294967295 < self.old.credit + delta) }
+        ensures granted { OnOk result (self.new ≡ given delta self.old) }
+        ensures refused_unchanged { OnErr result (self.new ≡ self.old) }
+    {
+        self.credit.grant(delta)
+    }
+
+    /// Moves the next bytes of a frame out of the half into `buffer`, as many as are there and fit, and
+    /// returns their number. The rest of `buffer` stays as it was.
+    pub fn take(&mut self, buffer: &mut [u8]) -> usize
+        ensures count { result ≡ min (length buffer.old) (length self.old.unsent) }
+        ensures taken { buffer.new ≡ take result self.old.unsent ++ drop result buffer.old }
+        ensures left { self.new ≡ sent result self.old }
+    {
+        self.unsent.take(buffer)
+    }
+
+    /// Nothing more is written (half-close): the unsent bytes go out, and then the end.
+    pub fn finish(self) -> DoneHalf
+        ensures { result ≡ finish self }
+    {
+        let SendHalf { credit, unsent } = self;
+        DoneHalf::new(credit, unsent)
+    }
+
+    /// The stream is reset: the unsent bytes are dropped, and their memory is given back.
+    pub fn reset(self) -> DeadHalf {
+        DeadHalf
+    }
+
+    /// How many bytes may still be written.
+    pub fn credit(&self) -> u32
+        ensures { result ≡ self.now.credit }
+    {
+        self.credit.left()
+    }
+
+    /// How many bytes belong to no frame yet.
+    pub fn unsent_len(&self) -> usize
+        ensures { result ≡ length self.now.unsent }
+    {
+        self.unsent.len()
+    }
+}

@@ -1,0 +1,569 @@
+//! The record of a stream.
+
+ghost use Rattle.std.specs.Prelude.{◌≡◌, ◌+◌, ◌≤◌, ◌++◌, ℕ, true, false, length, take, drop, min, is_some, Some, IsOk, IfOk, OnErr};
+ghost use Rattle.std.specs.Option.{option_map};
+ghost use Rattle.ymx_header.specs.Headers.{spelling};
+ghost use Rattle.ymx_model.specs.Streams.{takes, is_offered};
+ghost use Rattle.ymx_model.specs.Streams.Phase.{Live as LivePhase, Offered as OfferedPhase};
+ghost use Rattle.ymx_model.specs.Records.{new_end, dead_writer, dead_reader, only, sent, takes_payload, end_write, end_read, end_finish, end_accept, end_reset, end_forget, gets_data, gets_piece, gets_credit, gets_fin, gets_ack, gets_rst};
+ghost use Rattle.ymx_model.specs.Outgoing.{is_due, credit_due, next_kind, sends, spelled};
+
+use crate::directions::{Receiving, Sending};
+use crate::frame::{data, put_header, window_update};
+use crate::{DeadHalf, FIRST_CREDIT, FrameKind, RecvHalf, SendHalf};
+use std::alloc::{AllocError, Global};
+use std::marker::Model;
+use std::mem;
+use ymx_header::{FLAG_ACK, FLAG_FIN, FLAG_RST, FLAG_SYN, HEADER_LENGTH, Header};
+
+/// How far a stream has come at this end.
+#[derive(Clone, Copy, Debug, PartialEq, Eq)]
+pub enum Stage {
+    /// The peer opened it, and nobody has accepted it yet.
+    Offered,
+    /// It was opened here, or accepted.
+    Live,
+    /// It was reset, here or by the peer.
+    Reset,
+    /// It was given up, and stays until what it still has to send went out.
+    Lingering,
+}
+
+impl Stage {
+    ghost use Rattle.ymx_half.specs.Stages.{phase_of};
+
+    /// Whether the stream takes what comes.
+    fn takes(self) -> bool
+        ensures { result ≡ takes (phase_of self) }
+    {
+        matches!(self, Stage::Offered | Stage::Live)
+    }
+}
+
+/// What is due of a stream besides credit, data and end, and whether it is acknowledged (flags).
+#[derive(Clone, Copy)]
+struct Marks {
+    /// The frame that opens the stream.
+    syn: bool,
+    /// It is Data.
+    carries: bool,
+    /// The frame that accepts the stream.
+    ack: bool,
+    /// The frame that resets the stream.
+    rst: bool,
+    /// A credit frame of all that is owed, however little.
+    whole: bool,
+    /// The peer has acknowledged the stream.
+    acked: bool,
+}
+
+impl Marks {
+    ghost use Rattle.ymx_half.specs.Ends.{marks_of};
+
+    /// Only these are due, whatever was.
+    fn only(self, syn: bool, rst: bool) -> Marks
+        ensures { marks_of result ≡ only syn rst (marks_of self) }
+    {
+        Marks {
+            syn,
+            carries: syn && self.carries,
+            ack: false,
+            rst,
+            whole: false,
+            acked: self.acked,
+        }
+    }
+}
+
+/// One end of a stream: how far it has come, its two halves, and what is due of it. A contract sees the
+/// record of these, and each method's contract is one function on it.
+///
+/// ```text
+///            opened                 offered
+///               |                      |
+///               |                      v
+///               |     accept      +---------+
+///               |    +------------| Offered |--- RST --> the record goes
+///               v    v            +---------+
+///             +--------+
+///             |  Live  |------------ forget ------------+
+///             +--------+                                |
+///               |    |                                  |
+///         reset |    | RST                              |
+///               v    v                                  v
+///             +--------+                          +-----------+
+///             | Reset  |--------- forget -------->| Lingering |--- nothing is due --> the record goes
+///             +--------+                          +-----------+
+///
+///   sending:     Open --- finish --> Done ---+--- reset, RST or forget --> Dead
+///                  +-------------------------+
+///
+///   receiving:   Open ---- FIN ---> Ended ---+--- reset, RST or forget --> Dead
+///                  +-------------------------+
+/// ```
+///
+/// A stream that was finished here, and whose peer has ended, keeps its halves when it is forgotten: its
+/// unsent bytes and its FIN still go out. Only in a lost session nothing does.
+///
+/// The session's window isn't kept here: the methods that need it take it, in bytes.
+#[derive(Drop)]
+pub struct StreamRec {
+    stage: Stage,
+    out: Sending,
+    inn: Receiving,
+    marks: Marks,
+}
+
+impl Model for StreamRec {
+    ghost use Rattle.ymx_model.specs.Records.{End};
+
+    ghost Value = { End };
+
+    ghost use Rattle.ymx_half.specs.Ends.{end_of, HasHalves};
+
+    ghost view = { λ stream. end_of stream.stage stream.out stream.inn stream.marks };
+
+    ghost invariant = { λ stream. HasHalves stream.stage stream.out stream.inn };
+}
+
+impl StreamRec {
+    ghost use Rattle.ymx_half.specs.Stages.{phase_of};
+    ghost use Rattle.ymx_half.specs.Frames.{kind_of, payload};
+
+    /// Makes the record of a stream that is opened here, with memory for 262,144 unsent bytes and for
+    /// all of the window, in bytes. A SYN is due, which carries data if `carries`. Without the memory it
+    /// answers `AllocError`.
+    ///
+    /// Example: at a session of 1,048,576 bytes the peer may send 262,144 at first, and hears of the
+    /// other 786,432 by the SYN. A SYN that carries data announces nothing, so a credit frame of 786,432
+    /// is due next.
+    pub fn opened(alloc: Global, window: u32, carries: bool) -> Result<StreamRec, AllocError>
+        requires { 262144 ≤ window }
+        ensures { IfOk result (λ stream. stream ≡ new_end window LivePhase true carries) }
+    {
+        let out = Sending::Open(SendHalf::new(alloc)?);
+        let inn = Receiving::Open(RecvHalf::new(alloc, window)?);
+        let marks = Marks {
+            syn: true,
+            carries,
+            ack: false,
+            rst: false,
+            whole: carries && FIRST_CREDIT < window,
+            acked: false,
+        };
+        Ok(StreamRec {
+            stage: Stage::Live,
+            out,
+            inn,
+            marks,
+        })
+    }
+
+    /// Makes the record of a stream that the peer opened, with memory as for `opened`. Nothing is due
+    /// until it is accepted. Without the memory it answers `AllocError`.
+    pub fn offered(alloc: Global, window: u32) -> Result<StreamRec, AllocError>
+        requires { 262144 ≤ window }
+        ensures { IfOk result (λ stream. stream ≡ new_end window OfferedPhase false false) }
+    {
+        let out = Sending::Open(SendHalf::new(alloc)?);
+        let inn = Receiving::Open(RecvHalf::new(alloc, window)?);
+        let marks = Marks {
+            syn: false,
+            carries: false,
+            ack: false,
+            rst: false,
+            whole: false,
+            acked: false,
+        };
+        Ok(StreamRec {
+            stage: Stage::Offered,
+            out,
+            inn,
+            marks,
+        })
+    }
+
+    // ---- queries
+
+    /// How far the stream has come.
+    pub fn stage(&self) -> Stage
+        ensures { phase_of result ≡ self.now.phase }
+    {
+        self.stage
+    }
+
+    /// Whether it was finished here, so that nothing more is written.
+    pub fn is_finished(&self) -> bool
+        ensures { result ≡ self.now.out.finished }
+    {
+        self.out.is_finished()
+    }
+
+    /// How many bytes may still be written.
+    pub fn credit(&self) -> u32
+        ensures { result ≡ self.now.out.credit }
+    {
+        self.out.credit()
+    }
+
+    /// Whether the peer's end has arrived.
+    pub fn has_ended(&self) -> bool
+        ensures { result ≡ self.now.inn.ended }
+    {
+        self.inn.has_ended()
+    }
+
+    /// How many bytes wait to be read.
+    pub fn unread_len(&self) -> usize
+        ensures { result ≡ length self.now.inn.unread }
+    {
+        self.inn.unread_len()
+    }
+
+    /// How many bytes the peer may still send.
+    pub fn granted(&self) -> u32
+        ensures { result ≡ self.now.inn.granted }
+    {
+        self.inn.granted()
+    }
+
+    /// Whether the peer has acknowledged the stream.
+    pub fn is_acknowledged(&self) -> bool
+        ensures { result ≡ self.now.marks.acked }
+    {
+        self.marks.acked
+    }
+
+    /// Whether payload that comes is used: the stream is neither reset nor given up, and the peer's end
+    /// has not arrived.
+    pub fn takes_payload(&self) -> bool
+        ensures { result ≡ takes_payload self.now }
+    {
+        self.stage.takes() && !self.inn.has_ended()
+    }
+
+    /// Whether any frame is due, at a session of this window.
+    pub fn is_due(&self, window: u32) -> bool
+        ensures { result ≡ is_due window self.now }
+    {
+        self.marks.syn
+            || self.marks.ack
+            || self.marks.rst
+            || self.credit_due(window)
+            || self.out.has_unsent()
+            || self.out.is_fin_due()
+    }
+
+    /// Whether a credit frame is due: the end has not arrived, and at least half the window is owed, or
+    /// what a SYN with data could not announce.
+    fn credit_due(&self, window: u32) -> bool
+        ensures { result ≡ credit_due window self.now }
+    {
+        let is_half_owed = u64::from(window) <= 2 * u64::from(self.inn.owed());
+        self.stage == Stage::Live && !self.inn.has_ended() && (self.marks.whole || is_half_owed)
+    }
+
+    // ---- calls
+
+    /// Takes the first bytes that the credit allows, and returns their number. A stream that was reset
+    /// has no credit.
+    ///
+    /// Takes memory only where more than 262,144 bytes would be unsent, which needs a peer that granted
+    /// more. Without that memory it answers `AllocError`, and nothing has changed.
+    ///
+    /// Example: of 300,000 bytes a new stream takes 262,144, and then none, until the peer grants more.
+    pub fn write(&mut self, bytes: &[u8]) -> Result<usize, AllocError>
+        requires { self.old.out.finished ≡ false }
+        ensures took_min { IfOk result (λ count. count ≡ min (length bytes.now) self.old.out.credit) }
+        ensures wrote { IfOk result (λ count. self.new ≡ end_write (take count bytes.now) self.old) }
+        ensures in_room { length self.old.out.unsent + min (length bytes.now) self.old.out.credit ≤ 262144 → IsOk result }
+        ensures refused_unchanged { OnErr result (self.new ≡ self.old) }
+    {
+        self.out.write(bytes)
+    }
+
+    /// Moves the first unread bytes into `buffer`, as many as are there and fit, and returns their
+    /// number. They are owed to the peer from then on. The rest of `buffer` stays as it was.
+    ///
+    /// Example: of a window of 262,144 bytes the first 131,071 that are read make no credit due, and one
+    /// byte more does.
+    pub fn read(&mut self, buffer: &mut [u8]) -> usize
+        ensures count { result ≡ min (length buffer.old) (length self.old.inn.unread) }
+        ensures gave { buffer.new ≡ take result self.old.inn.unread ++ drop result buffer.old }
+        ensures after { self.new ≡ end_read result self.old }
+    {
+        self.inn.read(buffer)
+    }
+
+    /// Nothing more is written (half-close): the unsent bytes go out, and then the end.
+    pub fn finish(&mut self)
+        requires { takes self.old.phase ≡ true }
+        ensures { self.new ≡ end_finish self.old }
+    {
+        self.out.finish();
+    }
+
+    /// An offered stream is accepted. An ACK is due, unless the session is lost.
+    pub fn accept(&mut self, lost: bool)
+        requires { is_offered self.old.phase ≡ true }
+        ensures { self.new ≡ end_accept lost self.old }
+    {
+        self.stage = Stage::Live;
+        self.marks.ack = !lost;
+    }
+
+    /// Both directions are over (flags): what is unread and unsent is dropped, with its memory. An RST is
+    /// due, behind a SYN that hasn't gone out, and nothing else. The stream is then at `stage`, which is
+    /// `Reset` or `Lingering`.
+    pub fn reset(&mut self, stage: Stage)
+        requires { takes (phase_of stage) ≡ false }
+        ensures { self.new ≡ end_reset (phase_of stage) self.old }
+    {
+        self.drop_halves(stage);
+        self.marks = self.marks.only(self.marks.syn, true);
+    }
+
+    /// The stream is given up, and is `Lingering` from then on.
+    ///
+    /// In a lost session nothing is sent any more. A stream that was reset stays so. One that was finished
+    /// here, and whose peer has ended, drops what is unread, and still sends its bytes and its FIN. Any
+    /// other is reset.
+    pub fn forget(&mut self, lost: bool)
+        ensures { self.new ≡ end_forget lost self.old }
+    {
+        if lost {
+            self.drop_halves(Stage::Lingering);
+            self.marks = self.marks.only(false, false);
+            return;
+        }
+        if self.stage != Stage::Reset {
+            if self.out.is_finished() && self.inn.has_ended() {
+                self.inn.empty();
+            } else {
+                self.reset(Stage::Lingering);
+            }
+        }
+        self.stage = Stage::Lingering;
+    }
+
+    /// Both halves are over.
+    fn drop_halves(&mut self, stage: Stage)
+        requires { takes (phase_of stage) ≡ false }
+        ensures { self.new ≡ record self.old { phase = phase_of stage; out = dead_writer; inn = dead_reader } }
+    {
+        let out = mem::replace(&mut self.out, Sending::Dead(DeadHalf));
+        self.out = Sending::Dead(out.reset());
+        let inn = mem::replace(&mut self.inn, Receiving::Dead(DeadHalf));
+        self.inn = Receiving::Dead(inn.reset());
+        self.stage = stage;
+    }
+
+    // ---- frames that come
+
+    /// Payload comes (flow control). A stream that takes payload has room for all that it granted, and
+    /// may be sent so much less from then on. Any other stream drops it.
+    ///
+    /// Example: a new stream takes 262,144 bytes, and then none, until it has announced more.
+    pub fn get_data(&mut self, bytes: &[u8])
+        requires { takes_payload self.old ≡ true → length bytes.now ≤ self.old.inn.granted }
+        ensures { self.new ≡ gets_data bytes.now self.old }
+    {
+        if self.takes_payload() {
+            self.inn.arrive(bytes);
+        }
+    }
+
+    /// The peer lets `delta` bytes more be written (flow control). A stream that was reset or given up
+    /// drops it. The sum is at most 4,294,967,295 bytes: above that the session broke (B6).
+    pub fn get_credit(&mut self, delta: u32)
+        requires { takes self.old.phase ≡ true → self.old.out.credit + delta ≤ 4294967295 }
+        ensures { self.new ≡ gets_credit delta self.old }
+    {
+        if self.stage.takes() {
+            self.out.grant(delta);
+        }
+    }
+
+    /// The peer's end comes (half-close). A stream that takes payload has ended, and returns no credit
+    /// from then on. Any other ignores it.
+    pub fn get_fin(&mut self)
+        ensures { self.new ≡ gets_fin self.old }
+    {
+        if self.takes_payload() {
+            self.inn.end();
+            self.marks.whole = false;
+        }
+    }
+
+    /// A piece of a payload comes, and behind it the peer's end if `fin`.
+    pub fn get_piece(&mut self, fin: bool, bytes: &[u8])
+        requires { takes_payload self.old ≡ true → length bytes.now ≤ self.old.inn.granted }
+        ensures { self.new ≡ gets_piece fin bytes.now self.old }
+    {
+        self.get_data(bytes);
+        if fin {
+            self.get_fin();
+        }
+    }
+
+    /// The peer has acknowledged the stream (flags). A second time changes nothing.
+    pub fn get_ack(&mut self)
+        ensures { self.new ≡ gets_ack self.old }
+    {
+        self.marks.acked = true;
+    }
+
+    /// The peer has reset the stream (flags): what is unread and unsent is dropped, with its memory, and
+    /// nothing is due any more. The record of an offered stream goes instead.
+    pub fn get_rst(&mut self)
+        requires { is_offered self.old.phase ≡ false }
+        ensures { self.new ≡ gets_rst self.old }
+    {
+        let stage = match self.stage {
+            Stage::Lingering => Stage::Lingering,
+            _ => Stage::Reset,
+        };
+        self.drop_halves(stage);
+        self.marks = self.marks.only(false, false);
+    }
+
+    // ---- frames that go
+
+    /// The frame that goes next, at a session of this window: of those that are due the first in the order
+    /// open, accept, reset, credit, data, end. `None` exactly if none is due.
+    ///
+    /// Example: credit is due of a stream of 262,144 bytes once 131,072 are owed, and not once its end
+    /// has arrived.
+    pub fn next_frame(&self, window: u32) -> Option<FrameKind>
+        ensures next { option_map kind_of result ≡ next_kind window self.now }
+        ensures due { is_some result ≡ is_due window self.now }
+    {
+        if self.marks.syn {
+            Some(if self.marks.carries {
+                FrameKind::OpenWith
+            } else {
+                FrameKind::Open
+            })
+        } else if self.marks.ack {
+            Some(FrameKind::Accept)
+        } else if self.marks.rst {
+            Some(FrameKind::Reset)
+        } else if self.credit_due(window) {
+            Some(FrameKind::Credit)
+        } else if self.out.has_unsent() {
+            Some(FrameKind::Data)
+        } else if self.out.is_fin_due() {
+            Some(FrameKind::Fin)
+        } else {
+            None
+        }
+    }
+
+    /// How many bytes such a frame of this stream has, header and payload, where Data carries at most
+    /// `limit` bytes of payload.
+    ///
+    /// Example: with 20,000 bytes unsent and a limit of 16,384, Data has 16,396 bytes, and the one behind
+    /// it 3,628.
+    pub fn frame_len(&self, kind: FrameKind, limit: u32) -> usize
+        ensures { (window id : ℕ) → length (spelled (kind_of kind) window limit id self.now) ≡ result }
+    {
+        HEADER_LENGTH + self.payload_len(kind, limit) as usize
+    }
+
+    /// Begins the frame that goes next: writes all of it to the front of `buffer`, which has room for it,
+    /// and returns how many bytes it has (framing). The rest of `buffer` stays as it was.
+    ///
+    /// `id` is the stream's, `window` the session's, and `limit` as in `frame_len`. The payload moves from
+    /// the unsent bytes straight into `buffer`. A window or a credit that the frame announces is granted
+    /// from now on.
+    pub fn begin_frame(
+        &mut self,
+        kind: FrameKind,
+        window: u32,
+        limit: u32,
+        id: u32,
+        buffer: &mut [u8],
+    ) -> usize
+        requires next { next_kind window self.old ≡ Some (kind_of kind) }
+        requires fits { length (spelled (kind_of kind) window limit id self.old) ≤ length buffer.old }
+        ensures count { result ≡ length (spelled (kind_of kind) window limit id self.old) }
+        ensures written { buffer.new ≡ spelled (kind_of kind) window limit id self.old ++ drop result buffer.old }
+        ensures goes { self.new ≡ sends window limit (kind_of kind) self.old }
+    {
+        let header = self.header(kind, window, limit, id);
+        let count = self.payload_len(kind, limit) as usize;
+        put_header(&header, buffer);
+        self.mark_begun(kind, window);
+        self.put_payload(count, buffer);
+        HEADER_LENGTH + count
+    }
+
+    /// How many bytes the payload of such a frame has.
+    fn payload_len(&self, kind: FrameKind, limit: u32) -> u32
+        ensures { result ≡ length (payload kind limit self.now) }
+    {
+        match kind {
+            FrameKind::OpenWith | FrameKind::Data => self
+                .out
+                .unsent_len()
+                .min(limit as usize) as u32,
+            _ => 0,
+        }
+    }
+
+    /// The header of such a frame (framing).
+    fn header(&self, kind: FrameKind, window: u32, limit: u32, id: u32) -> Header
+        ensures { spelled (kind_of kind) window limit id self.now ≡ spelling result ++ payload kind limit self.now }
+    {
+        let delta = window.saturating_sub(FIRST_CREDIT);
+        let count = self.payload_len(kind, limit);
+        match kind {
+            FrameKind::Open => window_update(FLAG_SYN, id, delta),
+            FrameKind::OpenWith => data(FLAG_SYN, id, count),
+            FrameKind::Accept => window_update(FLAG_ACK, id, delta),
+            FrameKind::Reset => window_update(FLAG_RST, id, 0),
+            FrameKind::Credit => window_update(0, id, self.inn.owed()),
+            FrameKind::Data => data(0, id, count),
+            FrameKind::Fin => window_update(FLAG_FIN, id, 0),
+        }
+    }
+
+    /// What a frame changes but for its payload.
+    fn mark_begun(&mut self, kind: FrameKind, window: u32)
+        requires { next_kind window self.old ≡ Some (kind_of kind) }
+        ensures { self.new ≡ sends window 0 (kind_of kind) self.old }
+    {
+        match kind {
+            FrameKind::Open => {
+                self.inn.announce(window.saturating_sub(FIRST_CREDIT));
+                self.marks.syn = false;
+            }
+            FrameKind::OpenWith => {
+                self.marks.syn = false;
+                self.marks.carries = false;
+            }
+            FrameKind::Accept => {
+                self.inn.announce(window.saturating_sub(FIRST_CREDIT));
+                self.marks.ack = false;
+            }
+            FrameKind::Reset => self.marks.rst = false,
+            FrameKind::Credit => {
+                self.inn.announce(self.inn.owed());
+                self.marks.whole = false;
+            }
+            FrameKind::Data => {}
+            FrameKind::Fin => self.out.fin_goes(),
+        }
+    }
+
+    /// Moves the next `count` unsent bytes to the place behind a header.
+    fn put_payload(&mut self, count: usize, buffer: &mut [u8])
+        requires there { count ≤ length self.old.out.unsent }
+        requires fits { 12 + count ≤ length buffer.old }
+        ensures written { buffer.new ≡ take 12 buffer.old ++ take count self.old.out.unsent ++ drop (12 + count) buffer.old }
+        ensures goes { self.new ≡ record self.old { out = sent count self.old.out } }
+    {
+        self.out
+            .take(&mut buffer[HEADER_LENGTH..HEADER_LENGTH + count]);
+    }
+}

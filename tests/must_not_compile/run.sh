@@ -1,0 +1,28 @@
+#!/bin/sh
+# Tries to compile each program of this folder over the libraries of the repository. The second line of
+# a program is what the compiler has to answer: an error, or, of the program that checks this script
+# itself, that it ran. Nothing is proved here, and the repository is left alone.
+set -eu
+here=$(cd "$(dirname "$0")" && pwd)
+root=$(cd "$here/../.." && pwd)
+scratch=$(mktemp -d)
+trap 'rm -rf "$scratch"' EXIT
+
+(cd "$root" && find crates -name out -prune -o -type f -print | tar -cf - -T - crates.txt HANDLES) | tar -xf - -C "$scratch"
+mkdir -p "$scratch/crates/misuse/src"
+echo "misuse: ymx_half" >> "$scratch/crates.txt"
+
+failed=0
+for program in "$here"/*.rattle; do
+    name=$(basename "$program" .rattle)
+    want=$(sed -n '2s,^// ,,p' "$program")
+    cp "$program" "$scratch/crates/misuse/src/main.rt"
+    answer=$(cd "$scratch/crates/misuse" && rt try 2>&1 || true)
+    if printf '%s\n' "$answer" | grep -qF -- "$want"; then
+        echo "ok    $name"
+    else
+        failed=1
+        printf 'FAIL  %s\nwanted: %s\n%s\n' "$name" "$want" "$answer"
+    fi
+done
+exit $failed
