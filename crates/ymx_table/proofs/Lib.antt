@@ -1,0 +1,5 @@
+pub mod Places
+pub mod Others
+pub mod Counts
+pub mod Rounds
+pub mod Writes

@@ -1,0 +1,17 @@
+-- The kit's look-up by key, said in the table's words.
+use Rattle.std.proofs.Common.{is_some, ap, sym, ◌∙◌}
+use Rattle.ymx_model.specs.Tables.{Table, look, place}
+use Rattle.ymx_table.proofs.Places.{lookup_is, place-position}
+use Rattle.ymx_table.proofs.Table.place_of.Goals as goal
+
+pub unwrap-requires : goal.unwrap-requires
+unwrap-requires c =
+    c.get_index_of.ensures.found
+    ∙ ap is_some (lookup_is c.args.id c.self.inside.records.entries)
+    ∙ ap (λ (t : Table). is_some (look c.args.id t.entries)) c.self.view_is
+    ∙ c.requires
+
+pub returns-clause-place : goal.returns-clause-place
+returns-clause-place c =
+    place-position c.args.id c.self.inside.records.entries _ (sym c.get_index_of.ensures.index ∙ c.unwrap.ensures)
+    ∙ ap (λ (t : Table). place c.args.id t.entries) c.self.view_is

@@ -1,0 +1,169 @@
+//! The records of a session's streams by id, in the order in which they were made. A write changes one
+//! record and nothing else. How many streams have a frame due is kept, and so is the place in the order
+//! from which the next turn to send starts. Only an insertion takes memory.
+#![tactic(auto)]
+
+ghost use Rattle.std.specs.Prelude.{◌≡◌, ◌^◌, ◌<◌, ◌≤◌, ◌↔◌, length, nat_eq, is_some, All, IsTrue, IsSome, MatchBool, OnOk, OnErr, None};
+ghost use Rattle.std.specs.List.{IsDistinct};
+ghost use Rattle.std.specs.Map.{keys_of};
+ghost use Rattle.std.specs.Option.{option_copied};
+ghost use Rattle.ymx_model.specs.Tables.{look, place, new_table, most_records, added, removed};
+ghost use Rattle.ymx_table.specs.Standing.{StandsAt};
+
+mod due;
+mod law;
+mod stream;
+#[cfg(test)]
+mod tests;
+mod turn;
+
+use due::recount;
+use indexmap::IndexMap;
+pub use law::others_keep;
+use std::alloc::{AllocError, Global};
+use std::marker::Model;
+use ymx_half::StreamRec;
+
+/// How many records a table holds at most: 1,024.
+pub const MOST_RECORDS: usize = 1024;
+
+/// The records of a session by stream id. A contract sees the record `Table` of `ymx_model`: the window
+/// of the session, the records with their ids in order, and the place of the next turn.
+///
+/// At most 1,024 records are there, under as many ids. A new one goes last; where one is removed, those
+/// behind it move up.
+#[derive(Drop)]
+pub struct Table {
+    window: u32,
+    records: IndexMap<u32, StreamRec>,
+    turn: usize,
+    due: usize,
+}
+
+impl Model for Table {
+    ghost use Rattle.ymx_model.specs.Tables.{Table as Records};
+    ghost use Rattle.ymx_table.specs.Kept.{IsKept};
+
+    ghost Value = { Records };
+
+    ghost view = { λ t. record { window = t.window; entries = t.records.entries; turn = t.turn } };
+
+    ghost invariant = { λ t. IsKept (record { window = t.window; entries = t.records.entries; turn = t.turn }) t.due };
+}
+
+impl Table {
+    /// Makes an empty table for a session of this window, in bytes. It takes no memory yet.
+    pub fn new(alloc: Global, window: u32) -> Table
+        ensures { result ≡ new_table window }
+    {
+        Table {
+            window,
+            records: IndexMap::new(alloc),
+            turn: 0,
+            due: 0,
+        }
+    }
+
+    /// The window of the session, in bytes.
+    pub fn window(&self) -> u32
+        ensures { result ≡ self.now.window }
+    {
+        self.window
+    }
+
+    /// How many records there are: at most 1,024, each under an id of its own.
+    pub fn len(&self) -> usize
+        ensures count { result ≡ length self.now.entries }
+        ensures few { result ≤ most_records }
+        ensures turn_within { self.now.turn ≤ result }
+        ensures ids_distinct { IsDistinct nat_eq (keys_of self.now.entries) }
+        ensures ids_fit { All (λ id. id < 2 ^ 32) (keys_of self.now.entries) }
+    {
+        self.records.len()
+    }
+
+    /// Whether there is no record.
+    pub fn is_empty(&self) -> bool
+        ensures { IsTrue result ↔ (length self.now.entries ≡ 0) }
+    {
+        self.records.is_empty()
+    }
+
+    /// Whether 1,024 records are there, so that no other can be inserted.
+    pub fn is_full(&self) -> bool
+        ensures { MatchBool result (length self.now.entries ≡ most_records) (length self.now.entries < most_records) }
+    {
+        self.len() == MOST_RECORDS
+    }
+
+    /// Whether there is a record under this id.
+    pub fn contains(&self, id: u32) -> bool
+        ensures { result ≡ is_some (look id self.now.entries) }
+    {
+        self.records.contains_key(&id)
+    }
+
+    /// The record under this id, or `None` if there is none.
+    pub fn get(&self, id: u32) -> Option<&StreamRec>
+        ensures { option_copied result ≡ look id self.now.entries }
+    {
+        self.records.get(&id)
+    }
+
+    /// Inserts the record of a new stream behind the others. There has to be room for it, and no record
+    /// under its id.
+    ///
+    /// It takes memory. Without it it answers `AllocError`: the table is as it was, and the record is
+    /// dropped.
+    pub fn insert(&mut self, id: u32, stream: StreamRec) -> Result<(), AllocError>
+        requires absent { look id self.old.entries ≡ None }
+        requires room { length self.old.entries < most_records }
+        ensures last { OnOk result (self.new ≡ added id stream self.old) }
+        ensures refused_unchanged { OnErr result (self.new ≡ self.old) }
+    {
+        let is_due = stream.is_due(self.window);
+        self.records.insert(id, stream)?;
+        self.due = recount(self.due, false, is_due);
+        Ok(())
+    }
+
+    /// Removes the record under this id, which has to be there, and drops it. Those behind it move up,
+    /// and if the place of the next turn is behind it, that moves up with them.
+    pub fn remove(&mut self, id: u32)
+        requires { IsSome (look id self.old.entries) }
+        ensures { self.new ≡ removed id self.old }
+    {
+        let found = self.find(id);
+        self.records.shift_remove_index(found.place);
+        self.due = recount(self.due, found.was_due, false);
+        if found.place < self.turn {
+            self.turn -= 1;
+        }
+    }
+
+    /// The place of a record in the order.
+    fn place_of(&self, id: u32) -> usize
+        requires { IsSome (look id self.now.entries) }
+        ensures place { result ≡ place id self.now.entries }
+        ensures within { result < length self.now.entries }
+    {
+        self.records.get_index_of(&id).unwrap()
+    }
+
+    /// The place of a record in the order, and whether it has a frame due.
+    fn find(&self, id: u32) -> Found
+        requires { IsSome (look id self.now.entries) }
+        ensures { StandsAt id self.now result.place result.was_due }
+    {
+        let place = self.place_of(id);
+        let was_due = self.records[place].is_due(self.window);
+        Found { place, was_due }
+    }
+}
+
+/// Where a record stands, and whether a frame of its stream was due before a change.
+#[derive(Clone, Copy)]
+struct Found {
+    place: usize,
+    was_due: bool,
+}

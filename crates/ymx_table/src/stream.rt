@@ -1,0 +1,212 @@
+//! What calls and frames do to one stream. Each changes the record under one id, which has to be there,
+//! and nothing else.
+
+ghost use Rattle.std.specs.Prelude.{◌≡◌, ◌+◌, ◌≤◌, ◌++◌, length, take, drop, min, true, false, Some, IsSome, IsOk, IfOk, OnErr};
+ghost use Rattle.std.specs.Option.{ForSome};
+ghost use Rattle.ymx_model.specs.Streams.{takes, is_offered};
+ghost use Rattle.ymx_model.specs.Records.{takes_payload, end_write, end_read, end_finish, end_accept, end_reset, end_forget, gets_data, gets_piece, gets_credit, gets_fin, gets_ack, gets_rst};
+ghost use Rattle.ymx_model.specs.Outgoing.{next_kind, sends, spelled};
+ghost use Rattle.ymx_model.specs.Tables.{look, on};
+ghost use Rattle.ymx_half.specs.Stages.{phase_of};
+ghost use Rattle.ymx_half.specs.Frames.{kind_of};
+
+use crate::Table;
+use crate::due::recount;
+use std::alloc::AllocError;
+use ymx_half::{FrameKind, Stage};
+
+impl Table {
+    // ---- calls
+
+    /// Takes the first bytes that the stream's credit allows, and returns their number. The stream was
+    /// not finished here.
+    ///
+    /// Takes memory only where more than 262,144 bytes of the stream would be unsent. Without that memory
+    /// it answers `AllocError`, and nothing has changed.
+    pub fn write(&mut self, id: u32, bytes: &[u8]) -> Result<usize, AllocError>
+        requires there { IsSome (look id self.old.entries) }
+        requires open { ForSome (look id self.old.entries) (λ e. e.out.finished ≡ false) }
+        ensures took_min { IfOk result (λ count. ForSome (look id self.old.entries) (λ e. count ≡ min (length bytes.now) e.out.credit)) }
+        ensures wrote { IfOk result (λ count. self.new ≡ on id (end_write (take count bytes.now)) self.old) }
+        ensures in_room { ForSome (look id self.old.entries) (λ e. length e.out.unsent + min (length bytes.now) e.out.credit ≤ 262144 → IsOk result) }
+        ensures refused_unchanged { OnErr result (self.new ≡ self.old) }
+    {
+        let found = self.find(id);
+        let stream = &mut self.records[found.place];
+        let wrote = stream.write(bytes);
+        let is_due = stream.is_due(self.window);
+        self.due = recount(self.due, found.was_due, is_due);
+        wrote
+    }
+
+    /// Moves the stream's first unread bytes into `buffer`, as many as are there and fit, and returns their
+    /// number. The rest of `buffer` stays as it was.
+    pub fn read(&mut self, id: u32, buffer: &mut [u8]) -> usize
+        requires { IsSome (look id self.old.entries) }
+        ensures count { ForSome (look id self.old.entries) (λ e. result ≡ min (length buffer.old) (length e.inn.unread)) }
+        ensures gave { ForSome (look id self.old.entries) (λ e. buffer.new ≡ take result e.inn.unread ++ drop result buffer.old) }
+        ensures after { self.new ≡ on id (end_read result) self.old }
+    {
+        let found = self.find(id);
+        let stream = &mut self.records[found.place];
+        let count = stream.read(buffer);
+        let is_due = stream.is_due(self.window);
+        self.due = recount(self.due, found.was_due, is_due);
+        count
+    }
+
+    /// Nothing more is written to the stream (half-close). It is neither reset nor given up.
+    pub fn finish(&mut self, id: u32)
+        requires there { IsSome (look id self.old.entries) }
+        requires up { ForSome (look id self.old.entries) (λ e. takes e.phase ≡ true) }
+        ensures { self.new ≡ on id end_finish self.old }
+    {
+        let found = self.find(id);
+        let stream = &mut self.records[found.place];
+        stream.finish();
+        let is_due = stream.is_due(self.window);
+        self.due = recount(self.due, found.was_due, is_due);
+    }
+
+    /// An offered stream is accepted. Its ACK is due, unless the session is lost.
+    pub fn accept(&mut self, id: u32, lost: bool)
+        requires there { IsSome (look id self.old.entries) }
+        requires offered { ForSome (look id self.old.entries) (λ e. is_offered e.phase ≡ true) }
+        ensures { self.new ≡ on id (end_accept lost) self.old }
+    {
+        let found = self.find(id);
+        let stream = &mut self.records[found.place];
+        stream.accept(lost);
+        let is_due = stream.is_due(self.window);
+        self.due = recount(self.due, found.was_due, is_due);
+    }
+
+    /// Both directions of the stream are over, and its RST is due (flags). It is then at `stage`, which is
+    /// `Reset` or `Lingering`.
+    pub fn reset(&mut self, id: u32, stage: Stage)
+        requires there { IsSome (look id self.old.entries) }
+        requires over { takes (phase_of stage) ≡ false }
+        ensures { self.new ≡ on id (end_reset (phase_of stage)) self.old }
+    {
+        let found = self.find(id);
+        let stream = &mut self.records[found.place];
+        stream.reset(stage);
+        let is_due = stream.is_due(self.window);
+        self.due = recount(self.due, found.was_due, is_due);
+    }
+
+    /// The stream is given up, and lingers until what it still has to send went out. In a lost session that
+    /// is nothing.
+    pub fn forget(&mut self, id: u32, lost: bool)
+        requires { IsSome (look id self.old.entries) }
+        ensures { self.new ≡ on id (end_forget lost) self.old }
+    {
+        let found = self.find(id);
+        let stream = &mut self.records[found.place];
+        stream.forget(lost);
+        let is_due = stream.is_due(self.window);
+        self.due = recount(self.due, found.was_due, is_due);
+    }
+
+    // ---- frames that come
+
+    /// A piece of a payload comes, and behind it the peer's end if `fin` (flow control). A stream that takes
+    /// payload has granted so many bytes.
+    pub fn get_piece(&mut self, id: u32, fin: bool, bytes: &[u8])
+        requires there { IsSome (look id self.old.entries) }
+        requires granted { ForSome (look id self.old.entries) (λ e. takes_payload e ≡ true → length bytes.now ≤ e.inn.granted) }
+        ensures { self.new ≡ on id (gets_piece fin bytes.now) self.old }
+    {
+        let found = self.find(id);
+        let stream = &mut self.records[found.place];
+        stream.get_piece(fin, bytes);
+        let is_due = stream.is_due(self.window);
+        self.due = recount(self.due, found.was_due, is_due);
+    }
+
+    /// Payload comes (flow control). A stream that takes payload has granted so many bytes.
+    pub fn get_data(&mut self, id: u32, bytes: &[u8])
+        requires there { IsSome (look id self.old.entries) }
+        requires granted { ForSome (look id self.old.entries) (λ e. takes_payload e ≡ true → length bytes.now ≤ e.inn.granted) }
+        ensures { self.new ≡ on id (gets_data bytes.now) self.old }
+    {
+        let found = self.find(id);
+        let stream = &mut self.records[found.place];
+        stream.get_data(bytes);
+        let is_due = stream.is_due(self.window);
+        self.due = recount(self.due, found.was_due, is_due);
+    }
+
+    /// The peer's end comes (half-close).
+    pub fn get_fin(&mut self, id: u32)
+        requires { IsSome (look id self.old.entries) }
+        ensures { self.new ≡ on id gets_fin self.old }
+    {
+        let found = self.find(id);
+        let stream = &mut self.records[found.place];
+        stream.get_fin();
+        let is_due = stream.is_due(self.window);
+        self.due = recount(self.due, found.was_due, is_due);
+    }
+
+    /// The peer lets `delta` bytes more be written (flow control). The sum is at most 4,294,967,295 bytes:
+    /// above that the session broke (B6).
+    pub fn get_credit(&mut self, id: u32, delta: u32)
+        requires there { IsSome (look id self.old.entries) }
+        requires fits { ForSome (look id self.old.entries) (λ e. takes e.phase ≡ true → e.out.credit + delta ≤ 4294967295) }
+        ensures { self.new ≡ on id (gets_credit delta) self.old }
+    {
+        let found = self.find(id);
+        let stream = &mut self.records[found.place];
+        stream.get_credit(delta);
+        let is_due = stream.is_due(self.window);
+        self.due = recount(self.due, found.was_due, is_due);
+    }
+
+    /// The peer has acknowledged the stream (flags).
+    pub fn get_ack(&mut self, id: u32)
+        requires { IsSome (look id self.old.entries) }
+        ensures { self.new ≡ on id gets_ack self.old }
+    {
+        let found = self.find(id);
+        let stream = &mut self.records[found.place];
+        stream.get_ack();
+        let is_due = stream.is_due(self.window);
+        self.due = recount(self.due, found.was_due, is_due);
+    }
+
+    /// The peer has reset the stream, which is not one that is only offered: the record of such a one is
+    /// removed instead (flags).
+    pub fn get_rst(&mut self, id: u32)
+        requires there { IsSome (look id self.old.entries) }
+        requires not_offered { ForSome (look id self.old.entries) (λ e. is_offered e.phase ≡ false) }
+        ensures { self.new ≡ on id gets_rst self.old }
+    {
+        let found = self.find(id);
+        let stream = &mut self.records[found.place];
+        stream.get_rst();
+        let is_due = stream.is_due(self.window);
+        self.due = recount(self.due, found.was_due, is_due);
+    }
+
+    // ---- frames that go
+
+    /// Begins the frame of the stream that goes next: writes all of it to the front of `buffer`, which has
+    /// room for it, and returns how many bytes it has (framing). Data carries at most `limit` bytes of
+    /// payload. The rest of `buffer` stays as it was.
+    pub fn begin_frame(&mut self, id: u32, kind: FrameKind, limit: u32, buffer: &mut [u8]) -> usize
+        requires there { IsSome (look id self.old.entries) }
+        requires next { ForSome (look id self.old.entries) (λ e. next_kind self.old.window e ≡ Some (kind_of kind)) }
+        requires fits { ForSome (look id self.old.entries) (λ e. length (spelled (kind_of kind) self.old.window limit id e) ≤ length buffer.old) }
+        ensures count { ForSome (look id self.old.entries) (λ e. result ≡ length (spelled (kind_of kind) self.old.window limit id e)) }
+        ensures written { ForSome (look id self.old.entries) (λ e. buffer.new ≡ spelled (kind_of kind) self.old.window limit id e ++ drop result buffer.old) }
+        ensures goes { self.new ≡ on id (sends self.old.window limit (kind_of kind)) self.old }
+    {
+        let found = self.find(id);
+        let stream = &mut self.records[found.place];
+        let count = stream.begin_frame(kind, self.window, limit, id, buffer);
+        let is_due = stream.is_due(self.window);
+        self.due = recount(self.due, found.was_due, is_due);
+        count
+    }
+}
