@@ -1,6 +1,7 @@
 //! The records of a session's streams by id, in the order in which they were made. A write changes one
 //! record and nothing else. How many streams have a frame due is kept, and so is the place in the order
-//! from which the next turn to send starts. Only an insertion takes memory.
+//! from which the next turn to send starts. An insertion takes memory, and a write only where more than
+//! 262,144 bytes of its stream would be unsent.
 #![tactic(auto)]
 
 ghost use Rattle.std.specs.Prelude.{◌≡◌, ◌^◌, ◌<◌, ◌≤◌, ◌↔◌, length, nat_eq, is_some, All, IsTrue, IsSome, MatchBool, OnOk, OnErr, None};
