@@ -43,28 +43,28 @@ impl<'a> MemoryInlet<'a> {
     }
 
     /// The same, with at most so many bytes a call.
-    pub fn in_pieces(mut self, most: usize) -> MemoryInlet<'a>
+    pub fn in_pieces(self, most: usize) -> MemoryInlet<'a>
         requires { 0 < most }
         ensures { result ≡ record self.entry { most = most } }
     {
-        self.most = most;
-        self
+        MemoryInlet { most, ..self }
     }
 
-    /// The same, but after so many more calls one call fails. Later calls go on.
-    pub fn failing_after(mut self, calls: u64) -> MemoryInlet<'a>
-        ensures { result ≡ record self.entry { before_failure = Some calls } }
+    /// The same, but after so many more pulls one fails. Later pulls go on.
+    pub fn failing_after(self, pulls: u64) -> MemoryInlet<'a>
+        ensures { result ≡ record self.entry { before_failure = Some pulls } }
     {
-        self.before_failure = Some(calls);
-        self
+        MemoryInlet {
+            before_failure: Some(pulls),
+            ..self
+        }
     }
 
     /// The same, having failed so often already. At the greatest `u64` each call fails.
-    pub fn having_failed(mut self, times: u64) -> MemoryInlet<'a>
-        ensures { result ≡ record self.entry { failures = times } }
+    pub fn having_failed(self, failures: u64) -> MemoryInlet<'a>
+        ensures { result ≡ record self.entry { failures = failures } }
     {
-        self.failures = times;
-        self
+        MemoryInlet { failures, ..self }
     }
 }
 
@@ -126,28 +126,28 @@ impl MemoryOutlet {
     }
 
     /// The same, with at most so many bytes a call.
-    pub fn in_pieces(mut self, most: usize) -> MemoryOutlet
+    pub fn in_pieces(self, most: usize) -> MemoryOutlet
         requires { 0 < most }
         ensures { result ≡ record self { most = most } }
     {
-        self.most = most;
-        self
+        MemoryOutlet { most, ..self }
     }
 
     /// The same, but after so many more calls one call fails. Later calls go on.
-    pub fn failing_after(mut self, calls: u64) -> MemoryOutlet
+    pub fn failing_after(self, calls: u64) -> MemoryOutlet
         ensures { result ≡ record self { before_failure = Some calls } }
     {
-        self.before_failure = Some(calls);
-        self
+        MemoryOutlet {
+            before_failure: Some(calls),
+            ..self
+        }
     }
 
     /// The same, having failed so often already. At the greatest `u64` each call fails.
-    pub fn having_failed(mut self, times: u64) -> MemoryOutlet
-        ensures { result ≡ record self { failures = times } }
+    pub fn having_failed(self, failures: u64) -> MemoryOutlet
+        ensures { result ≡ record self { failures = failures } }
     {
-        self.failures = times;
-        self
+        MemoryOutlet { failures, ..self }
     }
 
     /// The bytes taken so far.
