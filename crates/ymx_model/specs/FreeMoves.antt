@@ -1,8 +1,8 @@
 -- What may arrive at this side of the queue machine, at any time (this project's own).
-use Rattle.std.specs.Prelude.{◌≡◌, ℕ, ◌+◌, List, [], ◌∷◌, ◌++◌, length, Bool, true, false, not, ◌||◌, nat_le, if◌then◌else◌, Option, Some}
+use Rattle.std.specs.Prelude.{◌≡◌, ℕ, ◌+◌, List, [], ◌∷◌, ◌++◌, length, Bool, true, false, not, ◌||◌, nat_le, if◌then◌else◌, Some}
 use Rattle.ymx_model.specs.Lanes.{is_unsaid}
 use Rattle.ymx_model.specs.Lanes.Mark.{Said, Here}
-use Rattle.ymx_model.specs.Streams.{Stream, Move, Allowed, after, is_offered}
+use Rattle.ymx_model.specs.Streams.{Stream, Move, Allowed, after}
 use Rattle.ymx_model.specs.Streams.Move.{SynOffered, SynRefused, ResetArrives, Released}
 use Rattle.ymx_model.specs.Tables.{look, change}
 use Rattle.ymx_model.specs.Sessions.{drop_id}
@@ -39,10 +39,6 @@ MayMove (SynArrives id counted) m = (hears m ≡ true) × ((s : Stream) × (look
 MayMove AwayArrives m = (hears m ≡ true) × (m.you.away ≡ Said)
 MayMove (PingThere number) m = (hears m ≡ true) × (look number m.you.pings ≡ Some Asked)
 MayMove (PingBack number) m = (hears m ≡ true) × (look number m.me.pings ≡ Some There)
-
-abbrev pub was_offered : Option Stream → Bool
-was_offered (Some s) = is_offered s.me
-was_offered _ = false
 
 abbrev pub is_reset_arriving : Move → Bool
 is_reset_arriving ResetArrives = true
