@@ -1,0 +1,53 @@
+#!/bin/sh
+# Makes each allocation of the program fail in turn. Whichever it is, the program ends as if none had
+# failed, or it says so: `ymx: out of memory`, status 1, and a beginning of the output.
+set -eu
+here=$(cd "$(dirname "$0")" && pwd)
+root=$(cd "$here/../.." && pwd)
+scratch=$(mktemp -d)
+trap 'rm -rf "$scratch"' EXIT
+
+"$root/ymx" frames < /dev/null
+"${CC:-cc}" -O2 -Wall -shared -fPIC -o "$scratch/failing_malloc.so" "$here/failing_malloc.c"
+cd "$scratch"
+echo 'ymx: out of memory' > no_memory
+{ cat "$root/examples/hello.yamux"; printf '\0\4\0\0\0\0\0\0\0\0\0\0'; } > fault
+head -c 20 "$root/examples/hello.yamux" > rest
+
+# run NUMBER WORDS..: the program, in which the allocation of this number fails
+run() {
+    number=$1
+    shift
+    rm -f failed
+    status=0
+    FAIL_AT=$number FAILED=failed LD_PRELOAD=./failing_malloc.so "$root/out/ymx" "$@" < input > out 2> err || status=$?
+}
+
+# each STATUS INPUT WORDS..: the program ends so where no allocation fails; then each fails in turn
+each() {
+    wanted=$1
+    cp "$2" input
+    shift 2
+    run 0 "$@"
+    [ "$status" = "$wanted" ] || { echo "FAIL  ymx $*: status $status"; exit 1; }
+    mv out all_out
+    mv err all_err
+    number=0 told=0
+    while number=$((number + 1)) && run $number "$@" && [ -e failed ]; do
+        if [ "$status" = 1 ] && cmp -s err no_memory && head -c "$(wc -c < out)" all_out | cmp -s - out; then
+            told=$((told + 1))
+        elif [ "$status" != "$wanted" ] || ! cmp -s out all_out || ! cmp -s err all_err; then
+            echo "FAIL  ymx $*: allocation $number: status $status: $(cat err)"
+            exit 1
+        fi
+    done
+    [ $told -gt 0 ] || { echo "FAIL  ymx $*: no run was out of memory"; exit 1; }
+    echo "ok    ymx $*: $((number - 1)) allocations, $told runs were out of memory"
+}
+
+each 0 "$root/examples/hello.yamux" frames
+each 1 fault frames
+each 1 rest frames --limit 300000
+each 0 /dev/null --help
+each 2 /dev/null frames --limit 5
+each 1 /dev/null script
