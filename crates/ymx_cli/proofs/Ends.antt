@@ -1,5 +1,5 @@
 -- How the printing of a text ends.
-use Rattle.std.proofs.Common.{◌≡◌, ℕ, zero, suc, ◌+◌, ◌-◌, ◌^◌, ◌<◌, ◌≤◌, ◌==◌, nat_lt, nat_eq, min, List, [], ◌∷◌, ◌++◌, length, take, drop, Bool, true, false, if◌then◌else◌, All, Option, None, Some, IfNone, IfSome, IsSomeAnd, MatchOption, Result, Ok, Err, IfOk, OnErr, arith, refl, sym, ◌∙◌, ap, subst, append_assoc, append-nil, length-append, decimal, inl, inr, ◌⊎◌, codes}
+use Rattle.std.proofs.Common.{◌≡◌, ℕ, ◌+◌, ◌-◌, ◌^◌, ◌==◌, nat_lt, min, List, [], ◌∷◌, ◌++◌, length, take, drop, Bool, true, false, Option, None, Some, IfNone, IfSome, IsSomeAnd, MatchOption, Result, Ok, Err, IfOk, OnErr, arith, refl, sym, ◌∙◌, ap, subst, append_assoc, append-nil, decimal, inl, inr, codes}
 use Rattle.std.proofs.lemmas.Grind.{common_steps}
 use Rattle.std.proofs.lemmas.List.{take-append-drop}
 use Rattle.ymx_cli.proofs.Pushed.{whole_end}
@@ -12,16 +12,16 @@ use Rattle.ymx_header.specs.declared.fault.Fault.{Fault}
 use Rattle.ymx_header.specs.Faults.{fault_number}
 use Rattle.ymx_cutter.specs.declared.item.Item.{Item}
 use Rattle.ymx_cutter.specs.declared.item.Item.TheVariants as item
-use Rattle.ymx_cutter.specs.Frames.{Frame, joined, payload_length, fault_of}
+use Rattle.ymx_cutter.specs.Frames.{joined, payload_length, fault_of}
 use Rattle.ymx_cutter.specs.Cuts.{Cuts, FaultStands}
-use Rattle.ymx_cutter.specs.Cutters.{Seen, Cut, Reads, begun_of, next_of, header_cut, item_of, seen_after, payload_seen, piece_cut}
+use Rattle.ymx_cutter.specs.Cutters.{Seen, Cut, Reads, begun_of, next_of, item_of, seen_after, payload_seen}
 use Rattle.ymx_cutter.specs.Cutters.Seen.{Header_bytes, Payload, Broken}
 use Rattle.ymx_cutter.proofs.Only.{one_cut, Cuts-fault}
 use Rattle.ymx_cutter.proofs.Runs.{Reads-cuts, length-begun, Reads-fault, reads_the_fault}
 use Rattle.ymx_cli.specs.declared.printer.Printer.{Printer}
 use Rattle.ymx_cli.specs.declared.frames.FramesEnd.{FramesEnd}
 use Rattle.ymx_cli.specs.declared.frames.FramesEnd.TheVariants.{Good, Fault as Faulty, Rest, Reading, Writing, Memory}
-use Rattle.ymx_cli.specs.Lines.{line, lines, fault_line, rest_line}
+use Rattle.ymx_cli.specs.Lines.{lines, fault_line, rest_line}
 use Rattle.ymx_cli.specs.Outputs.{Prints, PrintsAll, PrintsRest, PrintsFault, PrintsFront, PrintsPart, IsOwnEnd}
 use Rattle.ymx_cli.specs.Printing.{HasPrinted, IsPrinting, NoFault}
 

@@ -3,4 +3,5 @@ pub mod Joined
 pub mod Pushed
 pub mod Printed
 pub mod Ends
+pub mod OneEnd
 pub mod Rounds

@@ -1,6 +1,5 @@
 -- What a line shows of a payload that comes in pieces.
-use Rattle.std.proofs.Common.{◌≡◌, ℕ, zero, suc, ◌+◌, ◌-◌, ◌<◌, ◌≤◌, nat_lt, ◌||◌, min, List, [], ◌∷◌, ◌++◌, length, take, Bool, true, false, Result, Ok, Err, IsOk, OnOk, arith, refl, sym, ◌∙◌, ap, subst, length-append}
-use Rattle.std.proofs.lemmas.Grind.{common_steps}
+use Rattle.std.proofs.Common.{◌≡◌, ℕ, zero, suc, ◌+◌, ◌-◌, nat_lt, ◌||◌, min, List, [], ◌∷◌, ◌++◌, length, take, Bool, Result, Ok, Err, IsOk, OnOk, arith, refl, sym, ◌∙◌, ap, length-append}
 use Rattle.std.proofs.lemmas.Bool.Decides.{nat_tests}
 use Rattle.std.proofs.lemmas.List.{length-take, take_min}
 use Rattle.ymx_cli.specs.Lines.{Preview, preview}

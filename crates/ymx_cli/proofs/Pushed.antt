@@ -1,13 +1,12 @@
 -- What a device has taken of some bytes.
-use Rattle.std.proofs.Common.{◌≡◌, ℕ, ◌+◌, ◌<◌, ◌≤◌, List, [], ◌∷◌, ◌++◌, ◌-◌, length, take, drop, Option, None, Some, Result, Ok, Err, OnErr, arith, refl, sym, ◌∙◌, ap, subst, append_assoc, append-nil, IsTrue, min}
+use Rattle.std.proofs.Common.{◌≡◌, ℕ, ◌+◌, List, [], ◌++◌, ◌-◌, length, take, drop, Option, Result, Ok, Err, OnErr, arith, refl, sym, ◌∙◌, ap, subst, append_assoc, append-nil, IsTrue, min}
 use Rattle.std.specs.Io.{StartsWith}
-use Rattle.std.specs.Io.KnownBytes.{Appends, Keeps, WriteAppends}
+use Rattle.std.specs.Io.KnownBytes.{Appends, Keeps}
 use Rattle.std.proofs.KnownBytes.{Appends-nil, Appends-trans, Appends-kept}
 use Rattle.std.proofs.lemmas.List.{take-append-drop, take_all, length-drop}
-use Rattle.std.proofs.lemmas.Grind.{common_steps}
 use Rattle.std.proofs.lemmas.Bool.Decides.{nat_tests}
 use Rattle.std.proofs.Math.Seq.{take-append_seam}
-use Rattle.ymx_model.specs.Devices.{has_failed, most_failures, CountsFailures}
+use Rattle.ymx_model.specs.Devices.{has_failed, most_failures}
 
 -- Of these bytes the device has taken all but the rest, and no call has failed.
 pub record HasTaken (bytes rest : List ℕ) (before after : Option (List ℕ)) (failed fails : ℕ) : Type 0 where

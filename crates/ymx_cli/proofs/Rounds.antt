@@ -1,19 +1,19 @@
 -- Reading, printing and writing, round by round.
-use Rattle.std.proofs.Common.{◌≡◌, ℕ, ◌+◌, ◌-◌, ◌<◌, ◌≤◌, min, List, [], ◌∷◌, ◌++◌, length, take, Option, None, Some, Result, Ok, Err, OnOk, OnErr, is_err, Bool, true, false, arith, refl, sym, ◌∙◌, ap, subst, append_assoc, append-nil, inl, inr, ◌⊎◌, All}
+use Rattle.std.proofs.Common.{◌≡◌, ℕ, ◌<◌, ◌≤◌, List, [], ◌∷◌, ◌++◌, length, take, Option, None, Some, Result, Ok, Err, OnOk, OnErr, is_err, Bool, true, false, arith, refl, sym, ◌∙◌, ap, subst, inl, inr}
 use Rattle.std.proofs.lemmas.Grind.{common_steps}
 use Rattle.std.proofs.lemmas.List.Elements.{All-nil}
 use Rattle.std.proofs.lemmas.List.{length-take-le}
 use Rattle.std.proofs.Math.Seq.{take-append_seam}
 use Rattle.std.specs.Io.{StartsWith}
 use Rattle.std.specs.Io.KnownBytes.{Appends, Consumes, Keeps, IsAtEnd}
-use Rattle.std.proofs.KnownBytes.{Appends-nil, Appends-trans, Appends-kept, Consumes-nil, Consumes-trans, Consumes-kept}
-use Rattle.ymx_cutter.specs.Frames.{Frame, joined, IsFrame}
+use Rattle.std.proofs.KnownBytes.{Appends-nil, Appends-trans, Consumes-nil, Consumes-trans, Consumes-kept}
+use Rattle.ymx_cutter.specs.Frames.{IsFrame}
 use Rattle.ymx_cli.specs.declared.printer.Printer.{Printer}
 use Rattle.ymx_cli.specs.declared.frames.FramesEnd.{FramesEnd}
 use Rattle.ymx_cli.specs.declared.frames.FramesEnd.TheVariants.{Good, Fault as Faulty, Rest, Reading, Writing, Memory}
 use Rattle.ymx_cli.specs.Lines.{lines}
-use Rattle.ymx_cli.specs.Outputs.{Prints, PrintsAll, PrintsRest, PrintsFault, PrintsFront, PrintsPart, IsOwnEnd}
-use Rattle.ymx_cli.specs.Printing.{HasPrinted, IsPrinting}
+use Rattle.ymx_cli.specs.Outputs.{Prints, PrintsPart}
+use Rattle.ymx_cli.specs.Printing.{IsPrinting}
 use Rattle.ymx_cli.proofs.Ends.{Leaves, prints_now, front_part, prints_if}
 
 -- ---- before anything is read

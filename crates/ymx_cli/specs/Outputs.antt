@@ -52,3 +52,12 @@ IsOwnEnd Faulty = ⊤
 IsOwnEnd Reading = ⊥
 IsOwnEnd Writing = ⊥
 IsOwnEnd Memory = ⊤
+
+-- an end at which all was printed that the text says
+abbrev pub IsWhole : FramesEnd → Type 0
+IsWhole Good = ⊤
+IsWhole Rest = ⊤
+IsWhole Faulty = ⊤
+IsWhole Reading = ⊥
+IsWhole Writing = ⊥
+IsWhole Memory = ⊥

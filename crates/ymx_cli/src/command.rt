@@ -1,7 +1,9 @@
 //! The command line of `ymx`.
 
-ghost use Rattle.std.specs.Prelude.{◌≡◌, ◌≤◌, ◌↔◌};
-ghost use Rattle.std.specs.Io.KnownBytes.{Keeps};
+ghost use Rattle.std.specs.Prelude.{ℕ, List, ◌≡◌, ◌≤◌, ◌↔◌, ◌⊎◌};
+ghost use Rattle.std.specs.Io.KnownBytes.{Appends, Consumes, IsAtEnd, Keeps};
+ghost use Rattle.ymx_cli.specs.declared.frames.FramesEnd.{FramesEnd as End};
+ghost use Rattle.ymx_cli.specs.Outputs.{Prints};
 
 use crate::frames::{FramesEnd, frames};
 use crate::output::push_all;
@@ -36,6 +38,13 @@ pub fn ymx_main<S: AsStr, R: Inlet, W: Outlet, E: Outlet>(
     ensures status { result ≤ 2 }
     // A good end says nothing on the error device.
     ensures good { result ≡ 0 → Keeps (E.contents errors.old) (E.contents errors.new) }
+    // Frames are printed, and the status is 0 exactly at their good end; or else nothing is read.
+    ensures printed { Keeps (R.remaining reader.old) (R.remaining reader.new)
+        ⊎ ((limit : ℕ) × (end : End) × (text : List ℕ) × (output : List ℕ)
+        × Consumes (R.remaining reader.old) (R.remaining reader.new) text
+        × Appends (W.contents writer.old) (W.contents writer.new) output
+        × Prints limit text (IsAtEnd (R.remaining reader.new)) end output
+        × ((result ≡ 0) ↔ (end ≡ FramesEnd.Good))) }
     // A bad command line does nothing.
     ensures bad { result ≡ 2 → Keeps (R.remaining reader.old) (R.remaining reader.new) × Keeps (W.contents writer.old) (W.contents writer.new) }
 {

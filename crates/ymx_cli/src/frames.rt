@@ -1,9 +1,10 @@
 //! `ymx frames`: the frames of a text, a line each.
 
-ghost use Rattle.std.specs.Prelude.{ℕ, List, ◌≡◌, ◌<◌, ◌⊎◌, length, IsTrue};
+ghost use Rattle.std.specs.Prelude.{ℕ, List, ◌≡◌, ◌<◌, ◌⊎◌, length, ⊤, IsTrue};
 ghost use Rattle.std.specs.Io.KnownBytes.{Appends, Consumes, IsAtEnd};
 ghost use Rattle.ymx_model.specs.Devices.{has_failed};
-ghost use Rattle.ymx_cli.specs.Outputs.{Prints};
+ghost use Rattle.ymx_cli.specs.declared.frames.FramesEnd.{FramesEnd as End};
+ghost use Rattle.ymx_cli.specs.Outputs.{IsWhole, Prints};
 
 use crate::output::push_all;
 use crate::printer::Printer;
@@ -27,6 +28,13 @@ pub enum FramesEnd {
     /// There was no memory.
     Memory,
 }
+
+/// What is printed of an input, and whether that ends as `Good`, `Rest` or `Fault`, is settled by the
+/// input. (A law of the definitions: the function itself does nothing.)
+pub fn one_printing()
+    ensures { (limit : ℕ) (text : List ℕ) (end other : End) (output printed : List ℕ) → IsWhole end → IsWhole other →
+        Prints limit text ⊤ end output → Prints limit text ⊤ other printed → (end ≡ other) × (output ≡ printed) }
+{}
 
 /// Bytes read at once.
 const INPUT: usize = 65_536;

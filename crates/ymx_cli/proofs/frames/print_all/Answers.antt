@@ -1,4 +1,4 @@
-use Rattle.std.proofs.Common.{◌≡◌, ◌+◌, ◌<◌, ◌≤◌, [], min, arith, length, sym, ◌∙◌, ap, inr}
+use Rattle.std.proofs.Common.{◌+◌, ◌<◌, ◌≤◌, [], min, arith, length, ◌∙◌, ap, inr}
 use Rattle.std.proofs.KnownBytes.{Appends-nil, Consumes-nil}
 use Rattle.ymx_model.specs.Devices.{most_failures}
 use Rattle.ymx_cli.proofs.Pushed.{counted}

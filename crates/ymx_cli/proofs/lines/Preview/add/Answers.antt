@@ -1,4 +1,4 @@
-use Rattle.std.proofs.Common.{◌≡◌, ◌++◌, ◌≤◌, ◌+◌, length, take, arith, sym, ◌∙◌}
+use Rattle.std.proofs.Common.{◌≤◌, ◌+◌, length, take, arith, ◌∙◌}
 use Rattle.std.proofs.lemmas.List.{length-take}
 use Rattle.ymx_cli.proofs.Previews.{preview_added, was_ok}
 use Rattle.ymx_cli.proofs.lines.Preview.add.Goals as goal

@@ -1,4 +1,4 @@
-use Rattle.std.proofs.Common.{refl, ap, sym, subst}
+use Rattle.std.proofs.Common.{refl, sym, subst}
 use Rattle.ymx_cutter.specs.Cutters.{Cutting}
 use Rattle.ymx_cli.specs.Printing.{NoFault}
 use Rattle.ymx_cli.proofs.Printed.{nothing_printed}

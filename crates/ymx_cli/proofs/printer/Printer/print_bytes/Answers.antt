@@ -1,4 +1,4 @@
-use Rattle.std.proofs.Common.{refl, sym}
+use Rattle.std.proofs.Common.{refl}
 use Rattle.ymx_cli.proofs.Pushed.{on_err}
 use Rattle.ymx_cli.proofs.Ends.{gone_further, gone_through, gone_to_fault, gone_short, gone_short_of_fault, if_none, tested_empty}
 use Rattle.ymx_cli.proofs.printer.Printer.print_bytes.Goals as goal

@@ -1,4 +1,4 @@
-use Rattle.ymx_cli.proofs.Ends.{prints_all, prints_rest}
+use Rattle.ymx_cli.proofs.Ends.{prints_rest}
 use Rattle.ymx_cli.proofs.printer.Printer.print_end.Goals as goal
 
 pub returns-clause-ok : goal.returns-clause-ok

@@ -1,8 +1,8 @@
 -- A printer keeps what it printed along with what was read.
-use Rattle.std.proofs.Common.{◌≡◌, ℕ, ◌+◌, ◌++◌, List, [], take, Bool, Some, refl, sym, ◌∙◌, ap, append_assoc}
+use Rattle.std.proofs.Common.{◌≡◌, ◌++◌, [], take, Some, refl, sym, ◌∙◌, ap}
 use Rattle.ymx_cutter.specs.declared.item.Item.TheVariants as item
-use Rattle.ymx_cutter.specs.Gathered.{Gathered, gathers}
-use Rattle.ymx_cli.specs.Lines.{Preview, line_text, preview}
+use Rattle.ymx_cutter.specs.Gathered.{Gathered}
+use Rattle.ymx_cli.specs.Lines.{preview}
 use Rattle.ymx_cli.proofs.Printed.{reads_on, frame_printed, frame_begun, gathers-whole, gathers-head, gathers-last, gathers-more, line_after}
 use Rattle.ymx_cli.proofs.printer.Printer.print_item.Goals as goal
 
