@@ -11,3 +11,36 @@ pub use answers::Answers;
 pub use away::Away;
 pub use backlog::Backlog;
 pub use pings::Pings;
+
+#[cfg(test)]
+mod tests {
+    use super::*;
+    use ymx_model::Response;
+
+    /// Passes whichever allocation fails: a list that can't be made is none, and one that was made wants
+    /// no more memory until it is full.
+    #[test]
+    fn holds_under_each_refusal(rt: HostRuntime) {
+        if let Ok(mut backlog) = Backlog::new(rt.alloc()) {
+            for id in 0..256 {
+                assert!(rt; !backlog.is_full());
+                backlog.push(id);
+            }
+            assert!(rt; backlog.is_full());
+        }
+        if let Ok(mut answers) = Answers::new(rt.alloc()) {
+            for id in 0..1_024 {
+                assert!(rt; !answers.is_full());
+                answers.push(Response::Reject(id));
+            }
+            assert!(rt; answers.is_full());
+        }
+        if let Ok(mut pings) = Pings::new(rt.alloc()) {
+            for number in 0..16 {
+                assert!(rt; !pings.is_full());
+                assert_eq!(rt; pings.ask(), number);
+            }
+            assert!(rt; pings.is_full());
+        }
+    }
+}
