@@ -1,3 +1,4 @@
 pub mod Lines
 pub mod Outputs
+pub mod Messages
 pub mod Printing

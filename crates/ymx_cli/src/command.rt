@@ -3,6 +3,7 @@
 ghost use Rattle.std.specs.Prelude.{ℕ, List, ◌≡◌, ◌≤◌, ◌↔◌, ◌⊎◌};
 ghost use Rattle.std.specs.Io.KnownBytes.{Appends, Consumes, IsAtEnd, Keeps};
 ghost use Rattle.ymx_cli.specs.declared.frames.FramesEnd.{FramesEnd as End};
+ghost use Rattle.ymx_cli.specs.Messages.{Says, not_text, out_of_memory, reason};
 ghost use Rattle.ymx_cli.specs.Outputs.{Prints};
 
 use crate::frames::{FramesEnd, frames};
@@ -38,13 +39,15 @@ pub fn ymx_main<S: AsStr, R: Inlet, W: Outlet, E: Outlet>(
     ensures status { result ≤ 2 }
     // A good end says nothing on the error device.
     ensures good { result ≡ 0 → Keeps (E.contents errors.old) (E.contents errors.new) }
-    // Frames are printed, and the status is 0 exactly at their good end; or else nothing is read.
+    // Frames are printed, the status is 0 exactly at their good end, and what failed is said; or else
+    // nothing is read.
     ensures printed { Keeps (R.remaining reader.old) (R.remaining reader.new)
         ⊎ ((limit : ℕ) × (end : End) × (text : List ℕ) × (output : List ℕ)
         × Consumes (R.remaining reader.old) (R.remaining reader.new) text
         × Appends (W.contents writer.old) (W.contents writer.new) output
         × Prints limit text (IsAtEnd (R.remaining reader.new)) end output
-        × ((result ≡ 0) ↔ (end ≡ FramesEnd.Good))) }
+        × ((result ≡ 0) ↔ (end ≡ FramesEnd.Good))
+        × Says (E.contents errors.old) (E.contents errors.new) (E.failures errors.old) (E.failures errors.new) (reason end)) }
     // A bad command line does nothing.
     ensures bad { result ≡ 2 → Keeps (R.remaining reader.old) (R.remaining reader.new) × Keeps (W.contents writer.old) (W.contents writer.new) }
 {
@@ -60,10 +63,11 @@ pub fn ymx_main<S: AsStr, R: Inlet, W: Outlet, E: Outlet>(
 
 /// Says why the words of the command line can't be had, and answers the exit status.
 pub fn no_words<E: Outlet>(error: &io::Error, errors: &mut E) -> u8
-    ensures { 1 ≤ result }
+    ensures { ((result ≡ 2) × Says (E.contents errors.old) (E.contents errors.new) (E.failures errors.old) (E.failures errors.new) not_text)
+        ⊎ ((result ≡ 1) × Says (E.contents errors.old) (E.contents errors.new) (E.failures errors.old) (E.failures errors.new) out_of_memory) }
 {
     if error.kind() == io::ErrorKind::InvalidData {
-        let _ = push_all(errors, b"error: a word of the command line is not UTF-8\n");
+        say(errors, b"error: a word of the command line is not UTF-8\n");
         return 2;
     }
     refuse(errors, b"ymx: out of memory\n")
@@ -138,6 +142,7 @@ fn finish<E: Outlet>(end: FramesEnd, errors: &mut E) -> u8
     ensures status { result ≤ 1 }
     ensures good { (result ≡ 0) ↔ (end ≡ FramesEnd.Good) }
     ensures quiet { result ≡ 0 → Keeps (E.contents errors.old) (E.contents errors.new) }
+    ensures said { Says (E.contents errors.old) (E.contents errors.new) (E.failures errors.old) (E.failures errors.new) (reason end) }
 {
     match end {
         FramesEnd::Good => 0,
@@ -150,11 +155,18 @@ fn finish<E: Outlet>(end: FramesEnd, errors: &mut E) -> u8
 
 /// Says why nothing more is done, and answers the status of a fault.
 fn refuse<E: Outlet>(errors: &mut E, text: &[u8]) -> u8
-    ensures { result ≡ 1 }
+    ensures status { result ≡ 1 }
+    ensures said { Says (E.contents errors.old) (E.contents errors.new) (E.failures errors.old) (E.failures errors.new) text.now }
 {
-    // Where the error device fails too there is nobody left to tell.
-    let _ = push_all(errors, text);
+    say(errors, text);
     1
+}
+
+/// Says a text. Where the error device fails too there is nobody left to tell.
+fn say<E: Outlet>(errors: &mut E, text: &[u8])
+    ensures { Says (E.contents errors.old) (E.contents errors.new) (E.failures errors.old) (E.failures errors.new) text.now }
+{
+    let _ = push_all(errors, text);
 }
 
 /// Prints what clap says of a command line: the help that was asked for, or what is wrong with it.
@@ -170,7 +182,7 @@ fn explain<W: Outlet, E: Outlet>(alloc: Global, error: &Error, writer: &mut W, e
         return refuse(errors, b"ymx: out of memory\n");
     }
     if error.use_stderr() {
-        let _ = push_all(errors, text.as_bytes());
+        say(errors, text.as_bytes());
         return 2;
     }
     match push_all(writer, text.as_bytes()) {

@@ -63,6 +63,7 @@ impl Printer {
             (IsPrinting limit (text ++ input.now) (done ++ self.new.lines.items) self.new)
             (λ end. Prints limit (text ++ input.now) (input.now ≡ []) end (done ++ self.new.lines.items)) }
         ensures own { IfSome result IsOwnEnd }
+        ensures ends { input.now ≡ [] → IsSomeAnd result IsOwnEnd }
     {
         if input.is_empty() {
             return self.print_end().unwrap_or(Some(FramesEnd::Memory));
