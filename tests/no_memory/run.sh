@@ -1,6 +1,7 @@
 #!/bin/sh
-# Makes each allocation of the program fail in turn. Whichever it is, the program ends as if none had
-# failed, or it says so: `ymx: out of memory`, status 1, and a beginning of the output.
+# Makes each allocation fail in turn. Whichever it is, the program ends as if none had failed, or it
+# says so: `ymx: out of memory`, status 1, and a beginning of the output. And in each crate that takes
+# memory for a stream or a session a test holds: what was refused changed nothing.
 set -eu
 here=$(cd "$(dirname "$0")" && pwd)
 root=$(cd "$here/../.." && pwd)
@@ -51,3 +52,22 @@ each 1 rest frames --limit 300000
 each 0 /dev/null --help
 each 2 /dev/null frames --limit 5
 each 1 /dev/null script
+
+# holds CRATE: its test holds whichever allocation fails
+holds() {
+    (cd "$root/crates/$1" && rt test) > log 2>&1 || { tail -n 20 log; exit 1; }
+    number=0
+    while number=$((number + 1)) && rm -f failed; do
+        FAIL_AT=$number FAILED=failed LD_PRELOAD=./failing_malloc.so "$root/crates/$1/out/$1_tests" tests::holds_under_each_refusal \
+            > out 2>&1 || { echo "FAIL  $1: allocation $number: $(cat out)"; exit 1; }
+        [ -e failed ] || break
+    done
+    grep -q 'test result: ok' out || { echo "FAIL  $1: $(cat out)"; exit 1; }
+    [ $number -gt 1 ] || { echo "FAIL  $1: it takes no memory"; exit 1; }
+    echo "ok    $1: $((number - 1)) allocations"
+}
+
+holds ymx_ring
+holds ymx_control
+holds ymx_half
+holds ymx_table
