@@ -11,9 +11,11 @@ abbrev pub Says : (before after : Option (List ℕ)) → (failed fails : ℕ) �
 Says before after failed fails text =
     Appends before after text ⊎ (IsTrue (has_failed failed fails) × ((part : List ℕ) × StartsWith text part × Appends before after part))
 
+-- there was no memory
 abbrev pub out_of_memory : List ℕ
 out_of_memory = codes "ymx: out of memory\n"
 
+-- a word of the command line is no text
 abbrev pub not_text : List ℕ
 not_text = codes "error: a word of the command line is not UTF-8\n"
 
