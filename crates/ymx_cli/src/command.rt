@@ -289,59 +289,56 @@ mod tests {
         Ok(())
     }
 
-    #[test]
-    fn tells_which_device_failed(rt: HostRuntime) -> Result<(), Fail> {
-        let words = ["ymx", "frames"].as_slice();
-        // the second read fails, after 12 bytes
-        let mut reader = MemoryInlet::new(HELLO).in_pieces(12).failing_after(1);
-        let mut writer = MemoryOutlet::new(rt.alloc());
+    /// The status, what was printed, and what the error device got, of `ymx frames` over these devices.
+    fn print<T: Wait + AllocGlobal>(
+        rt: &T,
+        mut reader: MemoryInlet,
+        mut writer: MemoryOutlet,
+    ) -> (u8, MemoryOutlet, MemoryOutlet) {
         let mut errors = MemoryOutlet::new(rt.alloc());
+        let words = ["ymx", "frames"];
         let status = ymx_main(
-            &rt,
+            rt,
             rt.alloc(),
-            words,
+            words.as_slice(),
             &mut reader,
             &mut writer,
             &mut errors,
         );
+        (status, writer, errors)
+    }
+
+    /// The second read fails, after 12 bytes.
+    #[test]
+    fn tells_that_reading_failed(rt: HostRuntime) {
+        let reader = MemoryInlet::new(HELLO).in_pieces(12).failing_after(1);
+        let (status, writer, errors) = print(&rt, reader, MemoryOutlet::new(rt.alloc()));
         assert_eq!(rt; status, 1);
         assert_eq!(rt;
             writer.as_slice(),
             b"window flags=0001 id=1 len=0\n".as_slice()
         );
         assert_eq!(rt; errors.as_slice(), b"ymx: reading failed\n".as_slice());
+    }
 
-        // the second write fails, after 7 bytes
-        let mut reader = MemoryInlet::new(HELLO);
-        let mut writer = MemoryOutlet::new(rt.alloc()).in_pieces(7).failing_after(1);
-        let mut errors = MemoryOutlet::new(rt.alloc());
-        let status = ymx_main(
-            &rt,
-            rt.alloc(),
-            words,
-            &mut reader,
-            &mut writer,
-            &mut errors,
-        );
+    /// The second write fails, after 7 bytes.
+    #[test]
+    fn tells_that_writing_failed(rt: HostRuntime) {
+        let writer = MemoryOutlet::new(rt.alloc()).in_pieces(7).failing_after(1);
+        let (status, writer, errors) = print(&rt, MemoryInlet::new(HELLO), writer);
         assert_eq!(rt; status, 1);
         assert_eq!(rt; writer.as_slice(), b"window ".as_slice());
         assert_eq!(rt; errors.as_slice(), b"ymx: writing failed\n".as_slice());
+    }
 
-        // devices that have failed as often as can be counted
-        let mut reader = MemoryInlet::new(HELLO).having_failed(u64::MAX);
-        let mut writer = MemoryOutlet::new(rt.alloc()).having_failed(u64::MAX);
-        let mut errors = MemoryOutlet::new(rt.alloc());
-        let status = ymx_main(
-            &rt,
-            rt.alloc(),
-            words,
-            &mut reader,
-            &mut writer,
-            &mut errors,
-        );
+    /// Devices that have failed as often as can be counted fail at each call.
+    #[test]
+    fn fails_with_worn_out_devices(rt: HostRuntime) {
+        let reader = MemoryInlet::new(HELLO).having_failed(u64::MAX);
+        let writer = MemoryOutlet::new(rt.alloc()).having_failed(u64::MAX);
+        let (status, mut writer, errors) = print(&rt, reader, writer);
         assert_eq!(rt; status, 1);
         assert_eq!(rt; errors.as_slice(), b"ymx: reading failed\n".as_slice());
         assert!(rt; writer.end().is_err());
-        Ok(())
     }
 }
