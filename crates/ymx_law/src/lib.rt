@@ -49,8 +49,9 @@ pub fn one_stream_still()
 {}
 
 /// No payload exceeds what was granted and no credit passes the reader's window, that of SYN and ACK
-/// included; a SYN never finds a record or an own id, and no payload comes behind the end. So between two
-/// ends of this law no fault of windows or ids arises.
+/// included; a SYN never finds a record, nor comes to the side that opened the stream, and no payload
+/// comes behind the end. So between two ends of this law no window is exceeded and no credit overflows.
+/// Which ids a side may open, and how long a frame may be, is the session's: this law knows no headers.
 pub fn no_window_fault()
     ensures no_fault { NoFault }
     ensures within { WithinWindows }
@@ -59,7 +60,7 @@ pub fn no_window_fault()
 /// All streams at once: for every list of opens, calls, frames and parts of frames that go and come,
 /// ends that go, sides that are lost and directions that stop, at both sides in any order, there is a
 /// run of the machine. Its steps give the answers of the calls; each touches the stream of its event
-/// and leaves all others equal; what comes breaks no rule of windows or ids; and whenever nothing is
+/// and leaves all others equal; what comes breaks no rule of `no_window_fault`; and whenever nothing is
 /// due or under way, every stream is still. An event counts where it can happen (`CanHappen`).
 pub fn all_streams()
     ensures begins { BeginsEmpty }

@@ -66,7 +66,8 @@ pub fn one_answer()
         (other ≡ r) ⊎ ((other ≡ Refused OutOfMemory) × (needs_memory r ≡ true)) }
 {}
 
-/// Worked examples: these steps have these answers.
+/// Worked examples: these steps may have these answers. How many bytes an emission gives and a delivery
+/// takes is free in the machine, which knows no frames, so those counts say nothing here.
 pub fn worked_rows()
     ensures hello { (n : Machine) × MachineRun hello_steps hello_answers start n × IsStillMachine n }
     ensures ended { (n : Machine) × MachineRun ended_steps ended_answers start n }

@@ -54,7 +54,7 @@ pub fn frames_by_their_bytes()
 {}
 
 /// The limits of a session hold always, whatever its callers do and whatever bytes a peer sends
-/// (flow control; this project's own limits).
+/// (flow control; this project's own limits). That a server's first id isn't 0 is not among them.
 pub fn limits_hold()
     ensures at_first { (role : Role) (window first : ℕ) → first_credit ≤ window → window ≤ 16777216 → is_own role first ≡ true → first < 2 ^ 32 → IsWithin (new_session role window first) }
     ensures kept { (may : Choice → Session → Bool) (s t : Session) (event : Event) (reply : Reply) → Gives may s event reply t → IsWithin s → IsWithin t }
@@ -93,7 +93,8 @@ pub fn nothing_else_changes()
 {}
 
 /// A stream that the peer opens is rejected where go away was said here, where 256 streams wait to be
-/// accepted, where 1,024 are there, or for want of memory; else it is offered (flags).
+/// accepted, where 1,024 are there, or for want of memory; else it is offered (flags). Of a SYN that is
+/// also a reset only the rejection is said here.
 pub fn streams_are_offered()
     ensures offered { (h : Header) (s : Session) → IsGoodSyn h s → has_rst h ≡ false → s.away.here ≡ Unsaid → length s.offered < most_offered → length s.table.entries < most_records → IsOffered h s (head_comes false h s) }
     ensures rejected { (lacks : Bool) (h : Header) (s : Session) → IsGoodSyn h s → HasCause s → IsRejected h s (head_comes lacks h s) }
