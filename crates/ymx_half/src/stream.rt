@@ -364,7 +364,7 @@ impl StreamRec {
     /// may be sent so much less from then on. Any other stream drops it.
     ///
     /// Example: a new stream takes 262,144 bytes, and then none, until it has announced more.
-    pub fn get_data(&mut self, bytes: &[u8])
+    pub fn receive_data(&mut self, bytes: &[u8])
         requires { takes_payload self.old ≡ true → length bytes.now ≤ self.old.inn.granted }
         ensures { self.new ≡ gets_data bytes.now self.old }
     {
@@ -375,7 +375,7 @@ impl StreamRec {
 
     /// The peer lets `delta` bytes more be written (flow control). A stream that was reset or given up
     /// drops it. The sum is at most 4,294,967,295 bytes: above that the session broke (B6).
-    pub fn get_credit(&mut self, delta: u32)
+    pub fn receive_credit(&mut self, delta: u32)
         requires { takes self.old.phase ≡ true → self.old.out.credit + delta ≤ 4294967295 }
         ensures { self.new ≡ gets_credit delta self.old }
     {
@@ -386,7 +386,7 @@ impl StreamRec {
 
     /// The peer's end comes (half-close). A stream that takes payload has ended, and returns no credit
     /// from then on. Any other ignores it.
-    pub fn get_fin(&mut self)
+    pub fn receive_fin(&mut self)
         ensures { self.new ≡ gets_fin self.old }
     {
         if self.takes_payload() {
@@ -396,18 +396,18 @@ impl StreamRec {
     }
 
     /// A piece of a payload comes, and behind it the peer's end if `fin`.
-    pub fn get_piece(&mut self, fin: bool, bytes: &[u8])
+    pub fn receive_piece(&mut self, fin: bool, bytes: &[u8])
         requires { takes_payload self.old ≡ true → length bytes.now ≤ self.old.inn.granted }
         ensures { self.new ≡ gets_piece fin bytes.now self.old }
     {
-        self.get_data(bytes);
+        self.receive_data(bytes);
         if fin {
-            self.get_fin();
+            self.receive_fin();
         }
     }
 
     /// The peer has acknowledged the stream (flags). A second time changes nothing.
-    pub fn get_ack(&mut self)
+    pub fn receive_ack(&mut self)
         ensures { self.new ≡ gets_ack self.old }
     {
         self.marks.acked = true;
@@ -415,7 +415,7 @@ impl StreamRec {
 
     /// The peer has reset the stream (flags): what is unread and unsent is dropped, with its memory, and
     /// nothing is due any more. The record of an offered stream goes instead.
-    pub fn get_rst(&mut self)
+    pub fn receive_rst(&mut self)
         requires { is_offered self.old.phase ≡ false }
         ensures { self.new ≡ gets_rst self.old }
     {

@@ -41,7 +41,7 @@ fn sends_what_was_written(rt: HostRuntime) -> Result<(), Fail> {
         assert_eq!(rt; stream.write(&bytes)?, want);
     }
     assert!(rt; stream.credit() == 0);
-    stream.get_credit(100);
+    stream.receive_credit(100);
     assert!(rt; !stream.is_finished());
     assert_eq!(rt; stream.write(&bytes)?, 100);
     let data = [0, 0, 0, 0, 0, 0, 0, 1, 0, 0, 64, 0, 7];
@@ -95,7 +95,7 @@ fn announces_its_window_once(rt: HostRuntime) -> Result<(), Fail> {
     let open = [0, 1, 0, 1, 0, 0, 0, 1, 0, 12, 0, 0];
     assert!(rt; goes(&mut stream, window, Some(FrameKind::Open), 12, &open));
     assert_eq!(rt; (stream.granted(), stream.is_due(window)), (window, false));
-    stream.get_ack();
+    stream.receive_ack();
     assert!(rt; stream.is_acknowledged());
 
     let mut stream = StreamRec::offered(rt.alloc(), window)?;
@@ -132,9 +132,9 @@ fn returns_credit_for_what_was_read(rt: HostRuntime) -> Result<(), Fail> {
     let open = [0, 1, 0, 1, 0, 0, 0, 1, 0, 0, 0, 0];
     assert!(rt; goes(&mut stream, window, Some(FrameKind::Open), 12, &open));
     assert!(rt; bytes.len() <= stream.granted() as usize);
-    stream.get_data(&bytes);
+    stream.receive_data(&bytes);
     assert!(rt; 1 <= stream.granted());
-    stream.get_data(b"x");
+    stream.receive_data(b"x");
     assert_eq!(rt; (stream.unread_len(), stream.granted()), (131_072, 131_072));
     assert_eq!(rt;
         (stream.read(&mut bytes), stream.is_due(window)),
@@ -153,8 +153,8 @@ fn gives_all_before_the_end(rt: HostRuntime) -> Result<(), Fail> {
     let window = 524_288;
     let mut stream = StreamRec::offered(rt.alloc(), window)?;
     assert!(rt; 3 <= stream.granted());
-    stream.get_piece(true, b"end");
-    stream.get_fin();
+    stream.receive_piece(true, b"end");
+    stream.receive_fin();
     assert_eq!(rt; (stream.has_ended(), stream.takes_payload()), (true, false));
     assert!(rt; stream.stage() == Stage::Offered);
     stream.accept(true);
@@ -180,7 +180,7 @@ fn is_given_up(rt: HostRuntime) -> Result<(), Fail> {
         assert!(rt; stream.stage() == Stage::Offered);
         stream.finish();
         assert!(rt; 2 <= stream.granted());
-        stream.get_piece(ended, b"de");
+        stream.receive_piece(ended, b"de");
         stream.forget(lost);
         assert_eq!(rt;
             (stream.stage(), stream.unread_len()),
@@ -191,7 +191,7 @@ fn is_given_up(rt: HostRuntime) -> Result<(), Fail> {
             "lost {lost}, ended {ended}"
         );
         assert!(rt; stream.stage() == Stage::Lingering);
-        stream.get_rst();
+        stream.receive_rst();
         assert_eq!(rt;
             (stream.stage(), stream.is_due(window)),
             (Stage::Lingering, false)
@@ -266,7 +266,7 @@ fn full(alloc: Global, bytes: &[u8]) -> Result<StreamRec, AllocError> {
 fn holds_under_each_refusal(rt: HostRuntime) {
     if let Ok(mut stream) = full(rt.alloc(), &[7; 65_536]) {
         assert!(rt; stream.credit() == 0);
-        stream.get_credit(4);
+        stream.receive_credit(4);
         assert!(rt; !stream.is_finished());
         let left = if stream.write(b"more").is_ok() { 0 } else { 4 };
         assert_eq!(rt; stream.credit(), left);

@@ -112,79 +112,79 @@ impl Table {
 
     /// A piece of a payload comes, and behind it the peer's end if `fin` (flow control). A stream that takes
     /// payload has granted so many bytes.
-    pub fn get_piece(&mut self, id: u32, fin: bool, bytes: &[u8])
+    pub fn receive_piece(&mut self, id: u32, fin: bool, bytes: &[u8])
         requires there { IsSome (look id self.old.entries) }
         requires granted { ForSome (look id self.old.entries) (λ e. takes_payload e ≡ true → length bytes.now ≤ e.inn.granted) }
         ensures { self.new ≡ on id (gets_piece fin bytes.now) self.old }
     {
         let found = self.find(id);
         let stream = &mut self.records[found.place];
-        stream.get_piece(fin, bytes);
+        stream.receive_piece(fin, bytes);
         let is_due = stream.is_due(self.window);
         self.due = recount(self.due, found.was_due, is_due);
     }
 
     /// Payload comes (flow control). A stream that takes payload has granted so many bytes.
-    pub fn get_data(&mut self, id: u32, bytes: &[u8])
+    pub fn receive_data(&mut self, id: u32, bytes: &[u8])
         requires there { IsSome (look id self.old.entries) }
         requires granted { ForSome (look id self.old.entries) (λ e. takes_payload e ≡ true → length bytes.now ≤ e.inn.granted) }
         ensures { self.new ≡ on id (gets_data bytes.now) self.old }
     {
         let found = self.find(id);
         let stream = &mut self.records[found.place];
-        stream.get_data(bytes);
+        stream.receive_data(bytes);
         let is_due = stream.is_due(self.window);
         self.due = recount(self.due, found.was_due, is_due);
     }
 
     /// The peer's end comes (half-close).
-    pub fn get_fin(&mut self, id: u32)
+    pub fn receive_fin(&mut self, id: u32)
         requires { IsSome (look id self.old.entries) }
         ensures { self.new ≡ on id gets_fin self.old }
     {
         let found = self.find(id);
         let stream = &mut self.records[found.place];
-        stream.get_fin();
+        stream.receive_fin();
         let is_due = stream.is_due(self.window);
         self.due = recount(self.due, found.was_due, is_due);
     }
 
     /// The peer lets `delta` bytes more be written (flow control). The sum is at most 4,294,967,295 bytes:
     /// above that the session broke (B6).
-    pub fn get_credit(&mut self, id: u32, delta: u32)
+    pub fn receive_credit(&mut self, id: u32, delta: u32)
         requires there { IsSome (look id self.old.entries) }
         requires fits { ForSome (look id self.old.entries) (λ e. takes e.phase ≡ true → e.out.credit + delta ≤ 4294967295) }
         ensures { self.new ≡ on id (gets_credit delta) self.old }
     {
         let found = self.find(id);
         let stream = &mut self.records[found.place];
-        stream.get_credit(delta);
+        stream.receive_credit(delta);
         let is_due = stream.is_due(self.window);
         self.due = recount(self.due, found.was_due, is_due);
     }
 
     /// The peer has acknowledged the stream (flags).
-    pub fn get_ack(&mut self, id: u32)
+    pub fn receive_ack(&mut self, id: u32)
         requires { IsSome (look id self.old.entries) }
         ensures { self.new ≡ on id gets_ack self.old }
     {
         let found = self.find(id);
         let stream = &mut self.records[found.place];
-        stream.get_ack();
+        stream.receive_ack();
         let is_due = stream.is_due(self.window);
         self.due = recount(self.due, found.was_due, is_due);
     }
 
     /// The peer has reset the stream, which is not one that is only offered: the record of such a one is
     /// removed instead (flags).
-    pub fn get_rst(&mut self, id: u32)
+    pub fn receive_rst(&mut self, id: u32)
         requires there { IsSome (look id self.old.entries) }
         requires not_offered { ForSome (look id self.old.entries) (λ e. is_offered e.phase ≡ false) }
         ensures { self.new ≡ on id gets_rst self.old }
     {
         let found = self.find(id);
         let stream = &mut self.records[found.place];
-        stream.get_rst();
+        stream.receive_rst();
         let is_due = stream.is_due(self.window);
         self.due = recount(self.due, found.was_due, is_due);
     }

@@ -114,7 +114,7 @@ fn end(table: &mut Table, id: u32, is_reset: bool) -> bool {
     match table.get(id) {
         Some(stream) if stream.stage() == Stage::Live => {
             if is_reset {
-                table.get_rst(id);
+                table.receive_rst(id);
             } else {
                 table.finish(id);
             }
@@ -129,9 +129,9 @@ fn get(table: &mut Table, id: u32, bytes: &[u8], fin: bool) -> bool {
     match table.get(id) {
         Some(stream) if bytes.len() <= stream.granted() as usize => {
             if fin {
-                table.get_piece(id, true, bytes);
+                table.receive_piece(id, true, bytes);
             } else {
-                table.get_data(id, bytes);
+                table.receive_data(id, bytes);
             }
             true
         }
@@ -144,8 +144,8 @@ fn get(table: &mut Table, id: u32, bytes: &[u8], fin: bool) -> bool {
 fn grant(table: &mut Table, id: u32) -> bool {
     match table.get(id) {
         Some(stream) if stream.credit() < 1_000_000 => {
-            table.get_credit(id, 100);
-            table.get_ack(id);
+            table.receive_credit(id, 100);
+            table.receive_ack(id);
             true
         }
         _ => false,
@@ -230,7 +230,7 @@ fn give_up(table: &mut Table, id: u32) -> bool {
     }
     table.reset(id, Stage::Reset);
     if table.contains(id) {
-        table.get_fin(id);
+        table.receive_fin(id);
     }
     if table.contains(id) {
         table.forget(id, false);

@@ -1,7 +1,7 @@
 -- One record changes, and the number of streams with a frame due with it.
 use Rattle.ymx_model.specs.Records.{gets_fin}
 use Rattle.ymx_table.proofs.Writes.{written, kept-written}
-use Rattle.ymx_table.proofs.Table.get_fin.Goals as goal
+use Rattle.ymx_table.proofs.Table.receive_fin.Goals as goal
 
 pub invariant_of-self : goal.invariant_of-self
 invariant_of-self c =
@@ -11,4 +11,4 @@ invariant_of-self c =
 pub returns : goal.returns
 returns c =
     written _ _ c.self.view_is _ _ _ _ c.find-found.ensures c.index_mut-stream.ensures.value
-    gets_fin _ c.get_fin.ensures
+    gets_fin _ c.receive_fin.ensures
