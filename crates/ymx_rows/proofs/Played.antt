@@ -13,7 +13,7 @@ use Rattle.ymx_model.specs.Emissions.{in_turn}
 use Rattle.ymx_model.specs.Histories.{Gives}
 use Rattle.ymx_model.specs.Worlds.{World, new_world, StepOfA, Steps, Runs, is_of_a, mirror}
 use Rattle.ymx_session_law.specs.Limits.{IsWithin}
-use Rattle.ymx_session_law.proofs.HistoriesKeep.{gives-keep, new-keeps}
+use Rattle.ymx_session_law.proofs.HistoriesKeep.{gives-keep, new-keeps, odd_some}
 use Rattle.ymx_rows.specs.Plays.{Moved, emit, feed, step_of_a, play_step, play}
 use Rattle.ymx_rows.proofs.Emitted.{emits}
 use Rattle.ymx_rows.proofs.FedByBlocks.{feeds}
@@ -76,5 +76,5 @@ plays (st ∷ sts) w h = let s = stepped st w h in ((play_step st w).world, s.is
 
 -- two new sessions keep them
 pub new-within : (window_a first_a window_b first_b : ℕ) → first_credit ≤ window_a → window_a ≤ 16777216 → first_credit ≤ window_b → window_b ≤ 16777216 →
-    is_own Client first_a ≡ true → is_own Server first_b ≡ true → first_a < 2 ^ 32 → first_b < 2 ^ 32 → BothWithin (new_world window_a first_a window_b first_b)
-new-within window_a first_a window_b first_b la ha lb hb pa pb sa sb = record { a = new-keeps Client window_a first_a la ha pa sa; b = new-keeps Server window_b first_b lb hb pb sb }
+    is_own Client first_a ≡ true → is_own Server first_b ≡ true → first_a < 2 ^ 32 → 0 < first_b → first_b < 2 ^ 32 → BothWithin (new_world window_a first_a window_b first_b)
+new-within window_a first_a window_b first_b la ha lb hb pa pb sa z sb = record { a = new-keeps Client window_a first_a la ha pa (odd_some first_a pa) sa; b = new-keeps Server window_b first_b lb hb pb z sb }

@@ -25,7 +25,7 @@ ghost use Rattle.ymx_rows.specs.Words.{start, client, server, a, b, x, took, wai
 /// What is played is allowed: the answers of a world are those of a run of it, a feed is a feed, and
 /// an emission is one in turn.
 pub fn played_is_allowed()
-    ensures world { (steps : List Step) (window_a first_a window_b first_b : ℕ) → first_credit ≤ window_a → window_a ≤ 16777216 → first_credit ≤ window_b → window_b ≤ 16777216 → is_own Client first_a ≡ true → is_own Server first_b ≡ true → first_a < 2 ^ 32 → first_b < 2 ^ 32 → Runs in_turn steps (play steps (new_world window_a first_a window_b first_b)).answers (new_world window_a first_a window_b first_b) (play steps (new_world window_a first_a window_b first_b)).world }
+    ensures world { (steps : List Step) (window_a first_a window_b first_b : ℕ) → first_credit ≤ window_a → window_a ≤ 16777216 → first_credit ≤ window_b → window_b ≤ 16777216 → is_own Client first_a ≡ true → is_own Server first_b ≡ true → first_a < 2 ^ 32 → 0 < first_b → first_b < 2 ^ 32 → Runs in_turn steps (play steps (new_world window_a first_a window_b first_b)).answers (new_world window_a first_a window_b first_b) (play steps (new_world window_a first_a window_b first_b)).world }
     ensures feeding { (bytes : List ℕ) (s : Session) → IsWithin s → Feeds s bytes (feed bytes s).fed (feed bytes s).state }
     ensures emitting { (room : ℕ) (s : Session) → IsWithin s → Emits in_turn s room (emit room s).out (emit room s).state }
 {}

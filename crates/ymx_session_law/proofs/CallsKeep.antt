@@ -42,7 +42,7 @@ next_free s h = none_there (look s.next s.table.entries) (λ e l. let p = h.next
 
 incoming-opened : (i : Incoming) (role : Role) (next : ℕ) (e : End) (ps : List (ℕ × End)) → is_own role next ≡ true →
     IsIncomingWithin i role next ps → IsIncomingWithin i role (next + 2) (ps ++ (next, e) ∷ [])
-incoming-opened (Head bytes) role next e ps p h = tt
+incoming-opened (Head bytes) role next e ps p h = h
 incoming-opened (Payload j lacks fin true) role next e ps p h = h
 incoming-opened (Payload j lacks fin false) role next e ps p h = record {
   some = h.some;

@@ -1,5 +1,5 @@
 -- Every feed keeps the limits.
-use Rattle.std.proofs.Common.{◌≡◌, ℕ, ◌<◌, List, [], ◌∷◌, ◌++◌, length, take, Bool, true, false, not, ◌&&◌, ◌==◌, nat_le, refl, sym, subst, arith}
+use Rattle.std.proofs.Common.{◌≡◌, ℕ, ◌<◌, List, [], ◌∷◌, ◌++◌, length, take, Bool, true, false, not, ◌&&◌, ◌==◌, nat_le, refl, sym, subst, arith, length-append}
 use Rattle.ymx_header.specs.Headers.{header_of}
 use Rattle.ymx_model.specs.declared.types.Fed.{Fed}
 use Rattle.ymx_model.specs.Sessions.{Session, Incoming, is_deaf, is_broken, most_answers}
@@ -7,7 +7,7 @@ use Rattle.ymx_model.specs.Sessions.Incoming.{Head, Payload}
 use Rattle.ymx_model.specs.Arrivals.{head_comes}
 use Rattle.ymx_model.specs.Feeds.{Takes, Feeds, is_stuck, is_between, byte_comes, byte_in}
 use Rattle.ymx_session_law.specs.Limits.{IsWithin, IsIncomingWithin, IsPayloadWithin}
-use Rattle.ymx_session_law.proofs.Splits.{split, none_of, not_le}
+use Rattle.ymx_session_law.proofs.Splits.{split, none_of, not_le, differs}
 use Rattle.ymx_session_law.proofs.FramesKeep.{head-keeps, piece-keeps}
 
 -- a session that takes a byte of a header finds room for an answer
@@ -18,16 +18,25 @@ header_room s [] inc d free w =
     not_le most_answers (length s.answers) b
 header_room s (x ∷ seen) inc d free w = w.answers.room (rw inc refl)
 
-header-keeps : (bytes : List ℕ) (s : Session) → length s.answers < most_answers → IsWithin s → IsWithin (record s { incoming = Head bytes })
-header-keeps bytes s l w = record {
+header-keeps : (bytes : List ℕ) (s : Session) → length bytes < 12 → length s.answers < most_answers → IsWithin s → IsWithin (record s { incoming = Head bytes })
+header-keeps bytes s few l w = record {
   table = w.table;
   offered = w.offered;
   pings = w.pings;
   answers = record { count = w.answers.count; room = λ t. l };
   begun = w.begun;
-  incoming = tt;
+  incoming = few;
   next = w.next;
 }
+
+-- a header that has begun has fewer than twelve bytes
+pub header_few : (seen : List ℕ) (s : Session) → s.incoming ≡ Head seen → IsWithin s → length seen < 12
+header_few seen s inc w =
+    let p : length seen < 12 = (let P : Incoming → Type 0 = λ i. IsIncomingWithin i s.role s.next s.table.entries in subst P inc w.incoming) in p
+
+-- twelve bytes make it whole
+pub few_more : (seen : List ℕ) (b : ℕ) → length seen < 12 → (length seen == 11) ≡ false → length (seen ++ b ∷ []) < 12
+few_more seen b few f = let n = differs (length seen) 11 f in omega (arith, n, length-append seen (b ∷ []))
 
 pub payload_some : (id n : ℕ) (fin stray : Bool) (s : Session) → s.incoming ≡ Payload id n fin stray → IsWithin s → 0 < n
 payload_some id n fin true s inc w =
@@ -39,8 +48,8 @@ in-keeps : (lacks : Bool) (b : ℕ) (s : Session) (i : Incoming) → s.incoming 
 in-keeps lacks b s (Head seen) inc d free w =
     let l = header_room s seen inc d free w in
     split IsWithin (length seen == 11) (head_comes lacks (header_of (seen ++ b ∷ [])) (record s { incoming = Head [] })) (record s { incoming = Head (seen ++ b ∷ []) })
-    (λ t. head-keeps lacks (header_of (seen ++ b ∷ [])) (record s { incoming = Head [] }) refl l (header-keeps [] s l w))
-    (λ f. header-keeps (seen ++ b ∷ []) s l w)
+    (λ t. head-keeps lacks (header_of (seen ++ b ∷ [])) (record s { incoming = Head [] }) refl l (header-keeps [] s (omega arith) l w))
+    (λ f. header-keeps (seen ++ b ∷ []) s (few_more seen b (header_few seen s inc w) f) l w)
 in-keeps lacks b s (Payload id n fin stray) inc d free w =
     let some = payload_some id n fin stray s inc w in piece-keeps (b ∷ []) id n fin stray s inc (omega arith) w
 

@@ -272,7 +272,7 @@ offer-keeps id s own none offered records inc w = record {
   pings = w.pings;
   answers = w.answers;
   begun = begun-added id (offer s) s.begun.of s.table.entries w.begun;
-  incoming = rw inc tt;
+  incoming = rw inc (omega arith);
   next = next-offered id s.role s.next (offer s) s.table.entries own w.next;
 }
 
@@ -350,12 +350,12 @@ in_header_piece false id n fin stray = refl
 incoming-piece : (more : Bool) (id n : ℕ) (fin last : Bool) (bytes : List ℕ) (role : Role) (next : ℕ) (ps : List (ℕ × End)) → (more ≡ true → 0 < n - length bytes) →
     IsPayloadWithin id n role next ps → IsIncomingWithin (if more then Payload id (n - length bytes) fin false else Head []) role next (change id (gets_piece last bytes) ps)
 incoming-piece true id n fin last bytes role next ps some h = payload-piece id n last bytes role next ps (some refl) h
-incoming-piece false id n fin last bytes role next ps some h = tt
+incoming-piece false id n fin last bytes role next ps some h = omega arith
 
 incoming-stray : (more : Bool) (id n : ℕ) (fin : Bool) (role : Role) (next : ℕ) (ps : List (ℕ × End)) → (more ≡ true → 0 < n) →
     IsIncomingWithin (if more then Payload id n fin true else Head []) role next ps
 incoming-stray true id n fin role next ps some = some refl
-incoming-stray false id n fin role next ps some = tt
+incoming-stray false id n fin role next ps some = omega arith
 
 lacks_more : (n m : ℕ) → nat_lt m n ≡ true → 0 < n - m
 lacks_more n m t = let l = is_lt m n t in omega arith

@@ -1,6 +1,7 @@
 -- Every event keeps the limits, and so does every history.
-use Rattle.std.proofs.Common.{◌≡◌, ℕ, ◌+◌, ◌^◌, ◌<◌, ◌≤◌, List, [], ◌∷◌, ◌++◌, length, Bool, true, refl, sym, subst, arith}
+use Rattle.std.proofs.Common.{◌≡◌, ℕ, zero, suc, ◌+◌, ◌^◌, ◌<◌, ◌≤◌, List, [], ◌∷◌, ◌++◌, length, Bool, true, refl, sym, subst, arith}
 use Rattle.ymx_model.specs.declared.types.Role.{Role}
+use Rattle.ymx_model.specs.declared.types.Role.TheVariants.{Client}
 use Rattle.ymx_model.specs.declared.types.Event.{Event}
 use Rattle.ymx_model.specs.declared.types.Event.TheVariants as event
 use Rattle.ymx_model.specs.declared.types.Reply.{Reply}
@@ -16,15 +17,20 @@ use Rattle.ymx_session_law.proofs.CallsKeep.{call-keeps}
 use Rattle.ymx_session_law.proofs.FeedsKeep.{feeds-keep}
 use Rattle.ymx_session_law.proofs.EmissionsKeep.{flows-keep}
 
-pub new-keeps : (role : Role) (window first : ℕ) → first_credit ≤ window → window ≤ 16777216 → is_own role first ≡ true → first < 2 ^ 32 → IsWithin (new_session role window first)
-new-keeps role window first low high own small = record {
+-- an odd number isn't 0
+pub odd_some : (n : ℕ) → is_own Client n ≡ true → 0 < n
+odd_some zero e = absurd cc
+odd_some (suc n) e = omega arith
+
+pub new-keeps : (role : Role) (window first : ℕ) → first_credit ≤ window → window ≤ 16777216 → is_own role first ≡ true → 0 < first → first < 2 ^ 32 → IsWithin (new_session role window first)
+new-keeps role window first low high own some small = record {
   table = record { narrowest = low; widest = high; records = λ id e l. absurd cc; distinct = tt; count = omega arith; turn = omega arith };
   offered = record { count = omega arith; once = tt; listed = λ id. refl };
   pings = record { count = omega arith; once = tt; next = omega arith };
   answers = record { count = omega arith; room = λ t. absurd cc };
   begun = tt;
-  incoming = tt;
-  next = record { parity = own; fits = small; above = λ id e l. absurd cc; peers = λ id e l. absurd cc; unacknowledged = omega arith };
+  incoming = omega arith;
+  next = record { parity = own; some = some; fits = small; above = λ id e l. absurd cc; peers = λ id e l. absurd cc; unacknowledged = omega arith };
 }
 
 call-gives-keeps : (s t : Session) (call : Call) (reply : Reply) → CallGives s call reply t → IsWithin s → IsWithin t

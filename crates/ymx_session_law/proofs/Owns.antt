@@ -72,6 +72,7 @@ pub next-on : (id : ℕ) (f : End → End) (role : Role) (next : ℕ) (ps : List
     IsNextWithin role next ps → IsNextWithin role next (change id f ps)
 next-on id f role next ps off keeps h = record {
   parity = h.parity;
+  some = h.some;
   fits = h.fits;
   above = λ j e l. let b = look_before id j f ps e l in h.above j b.0 b.1;
   peers = λ j e l. of j e (look_before id j f ps e l);
@@ -88,6 +89,7 @@ next-on id f role next ps off keeps h = record {
 pub next-removed : (id : ℕ) (role : Role) (next : ℕ) (ps : List (ℕ × End)) → Distinct ps → IsNextWithin role next ps → IsNextWithin role next (without id ps)
 next-removed id role next ps d h = record {
   parity = h.parity;
+  some = h.some;
   fits = h.fits;
   above = λ j e l. h.above j e (look-without_before id j e ps d l).1;
   peers = λ j e l. h.peers j e (look-without_before id j e ps d l).1;
@@ -99,6 +101,7 @@ pub next-opened : (role : Role) (next : ℕ) (e : End) (ps : List (ℕ × End)) 
     count_by (is_unacknowledged role) ps < most_unacknowledged → IsNextWithin role next ps → IsNextWithin role (next + 2) (ps ++ (next, e) ∷ [])
 next-opened role next e ps own small off few h = record {
   parity = own;
+  some = omega arith;
   fits = omega arith;
   above = λ j d k o. of j d o (look-added_before next j e d ps k);
   peers = λ j d k. at j d (look-added_before next j e d ps k);
@@ -117,6 +120,7 @@ next-opened role next e ps own small off few h = record {
 pub next-offered : (id : ℕ) (role : Role) (next : ℕ) (e : End) (ps : List (ℕ × End)) → is_own role id ≡ false → IsNextWithin role next ps → IsNextWithin role next (ps ++ (id, e) ∷ [])
 next-offered id role next e ps own h = record {
   parity = h.parity;
+  some = h.some;
   fits = h.fits;
   above = λ j d k o. of j d o (look-added_before id j e d ps k);
   peers = λ j d k. at j d (look-added_before id j e d ps k);

@@ -104,7 +104,7 @@ payload-on id f j lacks role next ps keeps h = record { some = h.some; granted =
 pub incoming-on : (id : ℕ) (f : End → End) (i : Incoming) (role : Role) (next : ℕ) (ps : List (ℕ × End)) →
     ((e : End) → look id ps ≡ Some e → takes_payload (f e) ≡ true → (takes_payload e ≡ true) × (e.inn.granted ≤ (f e).inn.granted)) →
     IsIncomingWithin i role next ps → IsIncomingWithin i role next (change id f ps)
-incoming-on id f (Head bytes) role next ps keeps h = tt
+incoming-on id f (Head bytes) role next ps keeps h = h
 incoming-on id f (Payload j lacks fin true) role next ps keeps h = h
 incoming-on id f (Payload j lacks fin false) role next ps keeps h = payload-on id f j lacks role next ps keeps h
 
@@ -129,7 +129,7 @@ begun-removed id (Some j) ps n h = rw (look-without_other id j ps (differs j id 
 
 pub incoming-removed : (id : ℕ) (i : Incoming) (role : Role) (next : ℕ) (ps : List (ℕ × End)) → Distinct ps →
     IsIncomingWithin i role next ps → IsIncomingWithin i role next (without id ps)
-incoming-removed id (Head bytes) role next ps d h = tt
+incoming-removed id (Head bytes) role next ps d h = h
 incoming-removed id (Payload j lacks fin true) role next ps d h = h
 incoming-removed id (Payload j lacks fin false) role next ps d h =
     record { some = h.some; granted = λ e l. h.granted e (look-without_before id j e ps d l).1; own = h.own }

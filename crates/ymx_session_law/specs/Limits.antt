@@ -92,7 +92,7 @@ abbrev pub IsBegunWithin : (of : Option ℕ) → List (ℕ × End) → Type 0
 IsBegunWithin None entries = Unit
 IsBegunWithin (Some id) entries = is_taken_at (look id entries) ≡ true
 
--- At least one byte of a payload lacks. What lacks was granted, where it is taken; and an own stream's
+-- Of a header fewer than twelve bytes have come. At least one byte of a payload lacks. What lacks was granted, where it is taken; and an own stream's
 -- was opened before.
 pub record IsPayloadWithin (id lacks : ℕ) (role : Role) (next : ℕ) (entries : List (ℕ × End)) : Type 0 where
   pub some : 0 < lacks
@@ -100,14 +100,15 @@ pub record IsPayloadWithin (id lacks : ℕ) (role : Role) (next : ℕ) (entries 
   pub own : is_own role id ≡ true → id < next
 
 abbrev pub IsIncomingWithin : Incoming → (role : Role) → (next : ℕ) → List (ℕ × End) → Type 0
-IsIncomingWithin (Head bytes) role next entries = Unit
+IsIncomingWithin (Head bytes) role next entries = length bytes < 12
 IsIncomingWithin (Payload id lacks fin true) role next entries = 0 < lacks
 IsIncomingWithin (Payload id lacks fin false) role next entries = IsPayloadWithin id lacks role next entries
 
--- The next own id is of the own parity and above all that were opened; only the peer's streams are
+-- The next own id is of the own parity, not 0, and above all that were opened; only the peer's streams are
 -- offered; at most 256 own streams are neither acknowledged, reset nor given up.
 pub record IsNextWithin (role : Role) (next : ℕ) (entries : List (ℕ × End)) : Type 0 where
   pub parity : is_own role next ≡ true
+  pub some : 0 < next
   pub fits : next < 2 ^ 32
   pub above : (id : ℕ) (e : End) → look id entries ≡ Some e → is_own role id ≡ true → id < next
   pub peers : (id : ℕ) (e : End) → look id entries ≡ Some e → is_offered e.phase ≡ true → is_own role id ≡ false

@@ -54,9 +54,9 @@ pub fn frames_by_their_bytes()
 {}
 
 /// The limits of a session hold always, whatever its callers do and whatever bytes a peer sends
-/// (flow control; this project's own limits). That a server's first id isn't 0 is not among them.
+/// (flow control; this project's own limits).
 pub fn limits_hold()
-    ensures at_first { (role : Role) (window first : ℕ) → first_credit ≤ window → window ≤ 16777216 → is_own role first ≡ true → first < 2 ^ 32 → IsWithin (new_session role window first) }
+    ensures at_first { (role : Role) (window first : ℕ) → first_credit ≤ window → window ≤ 16777216 → is_own role first ≡ true → 0 < first → first < 2 ^ 32 → IsWithin (new_session role window first) }
     ensures kept { (may : Choice → Session → Bool) (s t : Session) (event : Event) (reply : Reply) → Gives may s event reply t → IsWithin s → IsWithin t }
     ensures always { (may : Choice → Session → Bool) (at : ℕ) (entries : List Entry) (s t : Session) → ReplaysFrom may at entries s t → IsWithin s → IsWithin t }
 {}
