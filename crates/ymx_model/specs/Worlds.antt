@@ -1,5 +1,7 @@
 -- Two sessions joined by pipes (this project's own).
-use Rattle.std.specs.Prelude.{◌≡◌, ℕ, ◌+◌, List, [], ◌∷◌, ◌++◌, length, take, drop, Bool, true, false, not, ◌&&◌, if◌then◌else◌, sum_by, count_by}
+use Rattle.std.specs.Prelude.{◌≡◌, ◌≤◌, ℕ, ◌+◌, List, [], ◌∷◌, ◌++◌, length, take, drop, Bool, true, false, not, ◌&&◌, if◌then◌else◌, sum_by, count_by, All}
+use Rattle.std.specs.List.{concat}
+use Rattle.ymx_header.specs.Headers.{header_of}
 use Rattle.ymx_model.specs.declared.types.Side.TheVariants.{A, B}
 use Rattle.ymx_model.specs.declared.types.Direction.TheVariants.{AB, BA}
 use Rattle.ymx_model.specs.declared.types.Step.{Step}
@@ -17,6 +19,7 @@ use Rattle.ymx_model.specs.Pings.{is_asked}
 use Rattle.ymx_model.specs.GoAway.{away_due}
 use Rattle.ymx_model.specs.Sessions.{Session, Incoming, new_session, is_running}
 use Rattle.ymx_model.specs.Sessions.Incoming.{Head, Payload}
+use Rattle.ymx_model.specs.Arrivals.{payload}
 use Rattle.ymx_model.specs.Calls.{feed_end}
 use Rattle.ymx_model.specs.Emissions.{Choice, is_ready}
 use Rattle.ymx_model.specs.Histories.{Gives}
@@ -173,14 +176,15 @@ abbrev pub lacking : Incoming → ℕ
 lacking (Head bytes) = 0
 lacking (Payload id lacks fin stray) = lacks
 
-abbrev pub joined : List (List ℕ) → List ℕ
-joined [] = []
-joined (f ∷ fs) = f ++ joined fs
+-- These bytes are one frame: the twelve of a header, and as many more as it says (framing).
+abbrev pub IsOneFrame : List ℕ → Type 0
+IsOneFrame bytes = (12 ≤ length bytes) × (length bytes ≡ 12 + payload (header_of bytes))
 
 -- What the receiver holds of a frame, the pipe, and the rest of the sender's frame begun, in this
--- order, are the bytes of these frames under way, behind the rest of a payload where the receiver is
--- inside one.
+-- order, are the bytes of these frames under way, each of them whole, behind the rest of a payload where
+-- the receiver is inside one.
 pub record IsUnderWay (receiver : Session) (pipe : Pipe) (sender : Session) (frames : List (List ℕ)) : Type 0 where
   pub tail : List ℕ
   pub lacks : length tail ≡ lacking receiver.incoming
-  pub text : held_bytes receiver.incoming ++ (pipe.bytes ++ sender.begun.bytes) ≡ tail ++ joined frames
+  pub each : All IsOneFrame frames
+  pub text : held_bytes receiver.incoming ++ (pipe.bytes ++ sender.begun.bytes) ≡ tail ++ concat frames
