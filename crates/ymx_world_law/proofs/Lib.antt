@@ -1,0 +1,7 @@
+pub mod Frames
+pub mod Emitted
+pub mod Fed
+pub mod Called
+pub mod OneText
+pub mod Worlds
+pub mod Quiet
