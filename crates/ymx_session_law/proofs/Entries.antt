@@ -128,3 +128,17 @@ look-without_before id j e ps d l = of id j e ps d l (same_or_not j id)
         let n : look j (without id ps) ≡ None = ap (λ k. look k (without id ps)) same ∙ look-without_same id ps d in
         let no : None ≡ Some e = sym n ∙ l in (absurd cc, absurd cc)
     of id j e ps d l (inr n) = (n, sym (look-without_other id j ps n) ∙ l)
+
+-- ---- a number that had none is added at the end
+
+pub change-added : {X : Type 0} (id : ℕ) (f : X → X) (e : X) (ps : List (ℕ × X)) → look id ps ≡ None → change id f (ps ++ (id, e) ∷ []) ≡ ps ++ (id, f e) ∷ []
+change-added id f e [] n = grind (arith, nat_tests)
+change-added id f e (p ∷ ps) n = let h = change-added id f e ps (beyond (p.0 == id) p.1 (look id ps) n) in grind (arith, nat_tests)
+
+pub without-added : {X : Type 0} (id : ℕ) (e : X) (ps : List (ℕ × X)) → look id ps ≡ None → without id (ps ++ (id, e) ∷ []) ≡ ps
+without-added id e [] n = grind (arith, nat_tests)
+without-added id e (p ∷ ps) n = let h = without-added id e ps (beyond (p.0 == id) p.1 (look id ps) n) in grind (arith, nat_tests)
+
+pub place-added : {X : Type 0} (id : ℕ) (e : X) (ps : List (ℕ × X)) → look id ps ≡ None → place id (ps ++ (id, e) ∷ []) ≡ length ps
+place-added id e [] n = grind (arith, nat_tests)
+place-added id e (p ∷ ps) n = let h = place-added id e ps (beyond (p.0 == id) p.1 (look id ps) n) in grind (arith, nat_tests)

@@ -16,6 +16,7 @@ pub mod Goes
 pub mod Ready
 pub mod Refusals
 pub mod Others
+pub mod Alone
 pub mod Frames
 pub mod Settled
 pub mod SettledFrames

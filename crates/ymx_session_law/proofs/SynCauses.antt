@@ -1,19 +1,24 @@
 -- A stream that the peer opens is rejected exactly for its causes.
-use Rattle.std.proofs.Common.{◌≡◌, ◌≢◌, inl, inr, ℕ, ◌+◌, ◌<◌, ◌≤◌, [], ◌∷◌, ◌++◌, length, Bool, true, false, ◌||◌, ◌==◌, nat_le, if◌then◌else◌, refl, sym, ◌∙◌, subst, arith, length-append}
+use Rattle.std.proofs.Common.{◌≡◌, ◌≢◌, inl, inr, ℕ, ◌<◌, ◌≤◌, List, [], ◌∷◌, ◌++◌, length, Bool, true, false, ◌||◌, ◌==◌, nat_lt, nat_le, if◌then◌else◌, None, refl, sym, ◌∙◌, subst, arith}
+use Rattle.std.specs.Prelude.{is_some}
 use Rattle.std.proofs.lemmas.Bool.Decides.{nat_tests}
 use Rattle.ymx_header.specs.declared.header.Header.{Header}
+use Rattle.ymx_header.specs.declared.fault.Fault.TheVariants.{BadSyn, StreamInUse}
 use Rattle.ymx_header.specs.Headers.{has_rst, has_fin}
 use Rattle.ymx_model.specs.declared.types.GoAwayMark.{GoAwayMark}
 use Rattle.ymx_model.specs.declared.types.GoAwayMark.TheVariants.{Unsaid, Due, Sent}
 use Rattle.ymx_model.specs.declared.types.Response.TheVariants.{Reject}
 use Rattle.ymx_model.specs.GoAway.{was_said}
-use Rattle.ymx_model.specs.Tables.{change, added, most_records}
-use Rattle.ymx_model.specs.Sessions.{Session, is_own, on_stream, most_offered}
+use Rattle.ymx_model.specs.Records.{End}
+use Rattle.ymx_model.specs.Tables.{Table, look, on, added, removed, most_records}
+use Rattle.ymx_model.specs.Sessions.{Session, is_own, on_stream, drop_id, most_offered}
 use Rattle.ymx_model.specs.Sessions.Incoming.{Payload}
-use Rattle.ymx_model.specs.Arrivals.{answers_with, payload, expects, gets_head, meets, offer, refuses, head_comes}
-use Rattle.ymx_session_law.specs.Offers.{IsGoodSyn, HasCause, IsOffered, IsRejected}
-use Rattle.ymx_session_law.proofs.Splits.{split}
-use Rattle.ymx_session_law.proofs.Entries.{length-change}
+use Rattle.ymx_model.specs.Arrivals.{answers_with, payload, expects, record_fault, acknowledges, gets_head, meets, offer, refuses, head_comes}
+use Rattle.ymx_session_law.specs.Offers.{IsGoodSyn, HasCause, IsOffered, IsRejected, LeavesNoTrace}
+use Rattle.ymx_session_law.specs.Limits.{IsWithin, is_listed}
+use Rattle.ymx_session_law.proofs.Splits.{split, none_of}
+use Rattle.ymx_session_law.proofs.Entries.{change-added, without-added, place-added}
+use Rattle.ymx_session_law.proofs.FramesKeep.{syn_chain, none_of_look}
 
 -- ---- such a head is judged as a SYN
 
@@ -65,15 +70,52 @@ few a b l = grind (arith, nat_tests)
 no_cause : (s : Session) → s.away.here ≡ Unsaid → length s.offered < most_offered → length s.table.entries < most_records → refuses s ≡ false
 no_cause s a b c = rw (a, few most_offered (length s.offered) b, few most_records (length s.table.entries) c) refl
 
+-- nobody's own id is offered, and no id that has a record
+not_own : (h : Header) (s : Session) → IsGoodSyn h s → (is_own s.role h.id ≡ false) × (look h.id s.table.entries ≡ None)
+not_own h s g =
+    let c = syn_chain (h.id == 0 || is_own s.role h.id) (is_some (look h.id s.table.entries)) BadSyn StreamInUse (record_fault h (offer s)) g.fault in
+    ((none_of (h.id == 0) (is_own s.role h.id) c.0).1, none_of_look (look h.id s.table.entries) c.1)
+
 pub offered : (h : Header) (s : Session) → IsGoodSyn h s → has_rst h ≡ false → s.away.here ≡ Unsaid → length s.offered < most_offered → length s.table.entries < most_records →
     IsOffered h s (head_comes false h s)
 offered h s g rst a b c =
     let r = no_cause s a b c in
-    let own = is_own s.role h.id in
+    let n = not_own h s g in
     let t = record s { table = added h.id (offer s) s.table; offered = s.offered ++ h.id ∷ [] } in
-    let u = on_stream h.id (gets_head own h) t in
-    let e : head_comes false h s ≡ expects h false u = good-syn false h s g ∙ rw (r, rst) refl in
-    let n : length (change h.id (gets_head own h) (s.table.entries ++ (h.id, offer s) ∷ [])) ≡ length s.table.entries + 1 = omega (arith, length-change h.id (gets_head own h) (s.table.entries ++ (h.id, offer s) ∷ []), length-append s.table.entries ((h.id, offer s) ∷ [])) in
+    let u = on_stream h.id (gets_head false h) t in
+    let e : head_comes false h s ≡ expects h false u = good-syn false h s g ∙ rw (r, rst, n.0) refl in
+    let made : u.table ≡ added h.id (gets_head false h (offer s)) s.table = rw (change-added h.id (gets_head false h) (offer s) s.table.entries n.1) refl in
     subst (IsOffered h s) (sym e)
     (split (IsOffered h s) (payload h == 0) u (record u { incoming = Payload h.id (payload h) (has_fin h) false })
-    (λ z. record { list = refl; count = n; answers = refl }) (λ z. record { list = refl; count = n; answers = refl }))
+    (λ z. record { list = refl; table = made; answers = refl }) (λ z. record { list = refl; table = made; answers = refl }))
+
+-- ---- a stream that its first frame resets
+
+drop-last : (id : ℕ) (xs : List ℕ) → is_listed id xs ≡ false → drop_id id (xs ++ id ∷ []) ≡ xs
+drop-last id [] n = grind (arith, nat_tests)
+drop-last id (x ∷ xs) n =
+    let o = none_of (x == id) (is_listed id xs) n in let h = drop-last id xs o.1 in rw (o.0, h) refl
+
+not_before : (n turn : ℕ) → turn ≤ n → nat_lt n turn ≡ false
+not_before n turn l = grind (arith, nat_tests)
+
+-- a record that was added and goes leaves the table as it was
+gone : (id : ℕ) (f : End → End) (e : End) (t : Table) → look id t.entries ≡ None → t.turn ≤ length t.entries → removed id (on id f (added id e t)) ≡ t
+gone id f e t n l =
+    rw (change-added id f e t.entries n, place-added id (f e) t.entries n, without-added id (f e) t.entries n, not_before (length t.entries) t.turn l) refl
+
+unlisted : (id : ℕ) (s : Session) → IsWithin s → look id s.table.entries ≡ None → is_listed id s.offered ≡ false
+unlisted id s w n = w.offered.listed id ∙ rw n refl
+
+pub reset_at_once : (h : Header) (s : Session) → IsGoodSyn h s → has_rst h ≡ true → s.away.here ≡ Unsaid → length s.offered < most_offered → length s.table.entries < most_records →
+    IsWithin s → LeavesNoTrace s (head_comes false h s)
+reset_at_once h s g rst a b c w =
+    let r = no_cause s a b c in
+    let n = not_own h s g in
+    let t = record s { table = removed h.id (on h.id (acknowledges false h) (added h.id (offer s) s.table)); offered = drop_id h.id (s.offered ++ h.id ∷ []) } in
+    let e : head_comes false h s ≡ expects h true t = good-syn false h s g ∙ rw (r, rst, n.0) refl in
+    let table = gone h.id (acknowledges false h) (offer s) s.table n.1 w.table.turn in
+    let list = drop-last h.id s.offered (unlisted h.id s w n.1) in
+    subst (LeavesNoTrace s) (sym e)
+    (split (LeavesNoTrace s) (payload h == 0) t (record t { incoming = Payload h.id (payload h) (has_fin h) true })
+    (λ z. record { table = table; offered = list; answers = refl }) (λ z. record { table = table; offered = list; answers = refl }))

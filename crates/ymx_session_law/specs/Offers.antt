@@ -1,12 +1,12 @@
 -- When a stream that the peer opens is offered, and when it is rejected (flags).
-use Rattle.std.specs.Prelude.{◌≡◌, ◌<◌, ◌≤◌, ◌⊎◌, ◌≢◌, ◌+◌, [], ◌∷◌, ◌++◌, length, true, None}
+use Rattle.std.specs.Prelude.{◌≡◌, ◌<◌, ◌≤◌, ◌⊎◌, ◌≢◌, [], ◌∷◌, ◌++◌, length, true, false, None}
 use Rattle.ymx_header.specs.declared.header.Header.{Header}
 use Rattle.ymx_header.specs.Headers.{has_syn}
 use Rattle.ymx_model.specs.declared.types.GoAwayMark.TheVariants.{Unsaid}
 use Rattle.ymx_model.specs.declared.types.Response.TheVariants.{Reject}
-use Rattle.ymx_model.specs.Tables.{most_records}
+use Rattle.ymx_model.specs.Tables.{most_records, added}
 use Rattle.ymx_model.specs.Sessions.{Session, most_offered}
-use Rattle.ymx_model.specs.Arrivals.{header_fault, syn_fault}
+use Rattle.ymx_model.specs.Arrivals.{header_fault, syn_fault, gets_head, offer}
 
 -- Data or a Window Update with SYN, of which nothing is wrong.
 pub record IsGoodSyn (h : Header) (s : Session) : Type 0 where
@@ -20,10 +20,11 @@ pub record IsGoodSyn (h : Header) (s : Session) : Type 0 where
 abbrev pub HasCause : Session → Type 0
 HasCause s = (s.away.here ≢ Unsaid) ⊎ (most_offered ≤ length s.offered) ⊎ (most_records ≤ length s.table.entries)
 
--- it is offered, behind those that came before
+-- it is offered, behind those that came before; its record is that of a new stream, to which the frame's
+-- credit and end have come
 pub record IsOffered (h : Header) (s t : Session) : Type 0 where
   pub list : t.offered ≡ s.offered ++ h.id ∷ []
-  pub count : length t.table.entries ≡ length s.table.entries + 1
+  pub table : t.table ≡ added h.id (gets_head false h (offer s)) s.table
   pub answers : t.answers ≡ s.answers
 
 -- it is rejected: an answer more, and no record
@@ -31,3 +32,9 @@ pub record IsRejected (h : Header) (s t : Session) : Type 0 where
   pub answers : t.answers ≡ s.answers ++ Reject h.id ∷ []
   pub table : t.table ≡ s.table
   pub offered : t.offered ≡ s.offered
+
+-- it comes and goes, since it was reset by its first frame: no record, and no answer
+pub record LeavesNoTrace (s t : Session) : Type 0 where
+  pub table : t.table ≡ s.table
+  pub offered : t.offered ≡ s.offered
+  pub answers : t.answers ≡ s.answers

@@ -12,3 +12,29 @@ is_refused _ = false
 -- every record but that of `id` is in t as it is in s
 abbrev pub OthersSame : (id : ℕ) → Session → Session → Type 0
 OthersSame id s t = (j : ℕ) → j ≢ id → look j t.table.entries ≡ look j s.table.entries
+
+-- t is s, but for its table
+abbrev pub OnlyTable : Session → Session → Type 0
+OnlyTable s t = t ≡ record s { table = t.table }
+
+-- t is s, but for its table and for what has come of a frame
+abbrev pub OnlyArrived : Session → Session → Type 0
+OnlyArrived s t = t ≡ record s { table = t.table; incoming = t.incoming }
+
+-- What Data and Window Updates leave alone: the own ids, pings, go away, and the rest of a frame begun.
+pub record KeepsOwn (s t : Session) : Type 0 where
+  pub role : t.role ≡ s.role
+  pub window : t.table.window ≡ s.table.window
+  pub next : t.next ≡ s.next
+  pub pings : t.pings ≡ s.pings
+  pub away : t.away ≡ s.away
+  pub begun : t.begun ≡ s.begun
+
+-- What Pings and Go Aways leave alone: all streams, and the rest of a frame begun.
+pub record KeepsStreams (s t : Session) : Type 0 where
+  pub role : t.role ≡ s.role
+  pub table : t.table ≡ s.table
+  pub next : t.next ≡ s.next
+  pub offered : t.offered ≡ s.offered
+  pub begun : t.begun ≡ s.begun
+  pub incoming : t.incoming ≡ s.incoming

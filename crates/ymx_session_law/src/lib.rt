@@ -29,9 +29,9 @@ ghost use Rattle.ymx_model.specs.Histories.{Gives, ReplaysFrom};
 ghost use Rattle.ymx_session_law.specs.Chunks.{joined_fed, FedInTwo};
 ghost use Rattle.ymx_session_law.specs.Frames.{frame_comes, starved_by};
 ghost use Rattle.ymx_session_law.specs.Limits.{IsWithin};
-ghost use Rattle.ymx_session_law.specs.Offers.{IsGoodSyn, HasCause, IsOffered, IsRejected};
+ghost use Rattle.ymx_session_law.specs.Offers.{IsGoodSyn, HasCause, IsOffered, IsRejected, LeavesNoTrace};
 ghost use Rattle.ymx_session_law.specs.Settled.{IsSettled, NoneLingers};
-ghost use Rattle.ymx_session_law.specs.Refusals.{is_refused, OthersSame};
+ghost use Rattle.ymx_session_law.specs.Refusals.{is_refused, OthersSame, OnlyTable, OnlyArrived, KeepsOwn, KeepsStreams};
 
 /// What is fed in two pieces is what is fed at once (framing): the bytes taken, the streams refused
 /// for want of memory and the reason are the same, wherever the input is cut.
@@ -80,7 +80,9 @@ pub fn emitted_in_pieces()
 {}
 
 /// A refusal changes nothing; a call on a stream, a frame of it, and a piece of its payload leave
-/// every other record as it was.
+/// every other record as it was. And but for the table a call on a stream changes nothing, so a reset
+/// keeps the rest of a frame begun; frames of streams leave pings and go away, and those of the session
+/// leave the streams.
 pub fn nothing_else_changes()
     ensures refused { (c : Call) (s : Session) → is_refused (outcome c s).reply ≡ true → (outcome c s).next ≡ s }
     ensures write { (id : ℕ) (bytes : List ℕ) (s : Session) → OthersSame id s (outcome (call.Write id bytes) s).next }
@@ -90,14 +92,23 @@ pub fn nothing_else_changes()
     ensures forget { (id : ℕ) (s : Session) → OthersSame id s (outcome (call.Forget id) s).next }
     ensures head { (lacks : Bool) (h : Header) (s : Session) → OthersSame h.id s (head_comes lacks h s) }
     ensures piece { (bytes : List ℕ) (id lacks : ℕ) (fin stray : Bool) (s : Session) → OthersSame id s (piece_comes bytes id lacks fin stray s) }
+    ensures write_alone { (id : ℕ) (bytes : List ℕ) (s : Session) → OnlyTable s (outcome (call.Write id bytes) s).next }
+    ensures read_alone { (id max : ℕ) (s : Session) → OnlyTable s (outcome (call.Read id max) s).next }
+    ensures finish_alone { (id : ℕ) (s : Session) → OnlyTable s (outcome (call.Finish id) s).next }
+    ensures reset_alone { (id : ℕ) (s : Session) → OnlyTable s (outcome (call.Reset id) s).next }
+    ensures forget_alone { (id : ℕ) (s : Session) → OnlyTable s (outcome (call.Forget id) s).next }
+    ensures piece_alone { (bytes : List ℕ) (id lacks : ℕ) (fin stray : Bool) (s : Session) → OnlyArrived s (piece_comes bytes id lacks fin stray s) }
+    ensures stream_frame { (lacks : Bool) (h : Header) (s : Session) → h.kind < 2 → KeepsOwn s (head_comes lacks h s) }
+    ensures session_frame { (lacks : Bool) (h : Header) (s : Session) → 2 ≤ h.kind → KeepsStreams s (head_comes lacks h s) }
 {}
 
 /// A stream that the peer opens is rejected where go away was said here, where 256 streams wait to be
-/// accepted, where 1,024 are there, or for want of memory; else it is offered (flags). Of a SYN that is
-/// also a reset only the rejection is said here.
+/// accepted, where 1,024 are there, or for want of memory; else it is offered (flags). One that its first
+/// frame resets is rejected for the same causes, and else leaves no trace.
 pub fn streams_are_offered()
     ensures offered { (h : Header) (s : Session) → IsGoodSyn h s → has_rst h ≡ false → s.away.here ≡ Unsaid → length s.offered < most_offered → length s.table.entries < most_records → IsOffered h s (head_comes false h s) }
     ensures rejected { (lacks : Bool) (h : Header) (s : Session) → IsGoodSyn h s → HasCause s → IsRejected h s (head_comes lacks h s) }
+    ensures reset_at_once { (h : Header) (s : Session) → IsGoodSyn h s → has_rst h ≡ true → s.away.here ≡ Unsaid → length s.offered < most_offered → length s.table.entries < most_records → IsWithin s → LeavesNoTrace s (head_comes false h s) }
     ensures starved { (h : Header) (s : Session) → IsGoodSyn h s → IsRejected h s (head_comes true h s) }
 {}
 

@@ -1,5 +1,6 @@
 use Rattle.ymx_session_law.proofs.Refusals.{refusals}
 use Rattle.ymx_session_law.proofs.Others.{write-others, read-others, finish-others, reset-others, forget-others, head-others, piece-others}
+use Rattle.ymx_session_law.proofs.Alone.{write-alone, read-alone, finish-alone, reset-alone, forget-alone, piece-alone, stream_frame, session_frame}
 use Rattle.ymx_session_law.proofs.nothing_else_changes.Goals as goal
 
 pub returns-clause-refused : goal.returns-clause-refused
@@ -25,3 +26,27 @@ returns-clause-head c = head-others
 
 pub returns-clause-piece : goal.returns-clause-piece
 returns-clause-piece c = piece-others
+
+pub returns-clause-write_alone : goal.returns-clause-write_alone
+returns-clause-write_alone c = write-alone
+
+pub returns-clause-read_alone : goal.returns-clause-read_alone
+returns-clause-read_alone c = read-alone
+
+pub returns-clause-finish_alone : goal.returns-clause-finish_alone
+returns-clause-finish_alone c = finish-alone
+
+pub returns-clause-reset_alone : goal.returns-clause-reset_alone
+returns-clause-reset_alone c = reset-alone
+
+pub returns-clause-forget_alone : goal.returns-clause-forget_alone
+returns-clause-forget_alone c = forget-alone
+
+pub returns-clause-piece_alone : goal.returns-clause-piece_alone
+returns-clause-piece_alone c = piece-alone
+
+pub returns-clause-stream_frame : goal.returns-clause-stream_frame
+returns-clause-stream_frame c = stream_frame
+
+pub returns-clause-session_frame : goal.returns-clause-session_frame
+returns-clause-session_frame c = session_frame

@@ -1,4 +1,4 @@
-use Rattle.ymx_session_law.proofs.SynCauses.{offered, rejected, starved}
+use Rattle.ymx_session_law.proofs.SynCauses.{offered, rejected, reset_at_once, starved}
 use Rattle.ymx_session_law.proofs.streams_are_offered.Goals as goal
 
 pub returns-clause-offered : goal.returns-clause-offered
@@ -9,3 +9,6 @@ returns-clause-rejected c = rejected
 
 pub returns-clause-starved : goal.returns-clause-starved
 returns-clause-starved c = starved
+
+pub returns-clause-reset_at_once : goal.returns-clause-reset_at_once
+returns-clause-reset_at_once c = reset_at_once
