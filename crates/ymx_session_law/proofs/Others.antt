@@ -25,7 +25,7 @@ OthersIn id s o = OthersSame id s o.next
 others-on : (id : ℕ) (f : End → End) (s t : Session) → OthersSame id s t → OthersSame id s (on_stream id f t)
 others-on id f s t h j n = look-change_other id j f t.table.entries n ∙ h j n
 
-others-settled : (id : ℕ) (s t : Session) → OthersSame id s t → OthersSame id s (settled id t)
+pub others-settled : (id : ℕ) (s t : Session) → OthersSame id s t → OthersSame id s (settled id t)
 others-settled id s t h =
     split (OthersSame id s) (is_spent t.table.window t.begun id (look id t.table.entries)) (record t { table = removed id t.table }) t
     (λ e j n. look-without_other id j t.table.entries n ∙ h j n) (λ e. h)

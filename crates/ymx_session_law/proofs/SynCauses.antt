@@ -25,7 +25,7 @@ use Rattle.ymx_session_law.proofs.FramesKeep.{syn_chain, none_of_look}
 kind_test : (h : Header) (n : ℕ) → h.kind < 2 → 2 ≤ n → (h.kind == n) ≡ false
 kind_test h n l m = grind (arith, nat_tests)
 
-good-syn : (lacks : Bool) (h : Header) (s : Session) → IsGoodSyn h s → head_comes lacks h s ≡
+pub good-syn : (lacks : Bool) (h : Header) (s : Session) → IsGoodSyn h s → head_comes lacks h s ≡
     (if refuses s || lacks then expects h true (answers_with (Reject h.id) s)
     else meets h (offer s) (record s { table = added h.id (offer s) s.table; offered = s.offered ++ h.id ∷ [] }))
 good-syn lacks h s g = rw (g.header, kind_test h 2 g.kind (omega arith), kind_test h 3 g.kind (omega arith), g.syn, g.fault) refl
@@ -46,11 +46,11 @@ said Sent n = refl
 at_least : (a b : ℕ) → a ≤ b → nat_le a b ≡ true
 at_least a b l = grind (arith, nat_tests)
 
-or_true : (b : Bool) → (b || true) ≡ true
+pub or_true : (b : Bool) → (b || true) ≡ true
 or_true true = refl
 or_true false = refl
 
-causes : (s : Session) → HasCause s → refuses s ≡ true
+pub causes : (s : Session) → HasCause s → refuses s ≡ true
 causes s (inl a) = rw (said s.away.here a) refl
 causes s (inr (inl b)) = rw (at_least most_offered (length s.offered) b, or_true (was_said s.away.here)) refl
 causes s (inr (inr c)) = rw (at_least most_records (length s.table.entries) c) (or_true (was_said s.away.here || nat_le most_offered (length s.offered)))
@@ -67,11 +67,11 @@ starved h s g = rejects h s (head_comes true h s) (good-syn true h s g ∙ rw (o
 few : (a b : ℕ) → b < a → nat_le a b ≡ false
 few a b l = grind (arith, nat_tests)
 
-no_cause : (s : Session) → s.away.here ≡ Unsaid → length s.offered < most_offered → length s.table.entries < most_records → refuses s ≡ false
+pub no_cause : (s : Session) → s.away.here ≡ Unsaid → length s.offered < most_offered → length s.table.entries < most_records → refuses s ≡ false
 no_cause s a b c = rw (a, few most_offered (length s.offered) b, few most_records (length s.table.entries) c) refl
 
 -- nobody's own id is offered, and no id that has a record
-not_own : (h : Header) (s : Session) → IsGoodSyn h s → (is_own s.role h.id ≡ false) × (look h.id s.table.entries ≡ None)
+pub not_own : (h : Header) (s : Session) → IsGoodSyn h s → (is_own s.role h.id ≡ false) × (look h.id s.table.entries ≡ None)
 not_own h s g =
     let c = syn_chain (h.id == 0 || is_own s.role h.id) (is_some (look h.id s.table.entries)) BadSyn StreamInUse (record_fault h (offer s)) g.fault in
     ((none_of (h.id == 0) (is_own s.role h.id) c.0).1, none_of_look (look h.id s.table.entries) c.1)

@@ -1,0 +1,62 @@
+-- The frames of a stream that a session sends, and what they say.
+use Rattle.std.proofs.Common.{◌≡◌, ℕ, ◌^◌, ◌<◌, ◌||◌, ◌==◌, nat_lt, Option, None, Some, refl, sym, ◌∙◌, subst, arith}
+use Rattle.std.proofs.lemmas.Grind.{common_steps}
+use Rattle.ymx_model.specs.Lanes.{first_credit}
+use Rattle.ymx_model.specs.Records.{End}
+use Rattle.ymx_model.specs.Outgoing.{Kind, next_kind, sends, spelled}
+use Rattle.ymx_model.specs.Outgoing.Kind.{Open, OpenWith, Accept, Reset, Credit, Data, Fin}
+use Rattle.ymx_model.specs.Parts.{parts_of}
+use Rattle.ymx_model.specs.Tables.{look}
+use Rattle.ymx_model.specs.Sessions.{Session, is_running}
+use Rattle.ymx_model.specs.Emissions.{begin, begin_stream, begin_kind}
+use Rattle.ymx_model.specs.Emissions.Choice.{AStream}
+use Rattle.ymx_session_law.proofs.EmissionsKeep.{none_if, if_some}
+use Rattle.ymx_session_law.proofs.Entries.{look-change_same}
+use Rattle.ymx_side_law.specs.Sides.{says_in}
+
+-- ---- what goes out
+
+pub record IsSent (id limit : ℕ) (s t : Session) : Type 0 where
+  pub end : End
+  pub kind : Kind
+  pub was : look id s.table.entries ≡ Some end
+  pub next : next_kind s.table.window end ≡ Some kind
+  pub now : look id t.table.entries ≡ Some (sends s.table.window limit kind end)
+  pub bytes : t.begun.bytes ≡ spelled kind s.table.window limit id end
+
+some-same : {X : Type 0} (x y : X) → Some x ≡ Some y → y ≡ x
+some-same x y e = cc
+
+kind-sent : (id limit : ℕ) (e : End) (k : Option Kind) (s t : Session) → look id s.table.entries ≡ Some e → next_kind s.table.window e ≡ k → begin_kind id limit e k s ≡ Some t → IsSent id limit s t
+kind-sent id limit e None s t l n b = cc
+kind-sent id limit e (Some kind) s t l n b =
+    let P : Session → Type 0 = IsSent id limit s in
+    subst P (sym (some-same _ t b)) (record {
+      end = e;
+      kind = kind;
+      was = l;
+      next = n;
+      now = look-change_same id (sends s.table.window limit kind) s.table.entries ∙ rw l refl;
+      bytes = refl;
+    })
+
+stream-sent : (id limit : ℕ) (o : Option End) (s t : Session) → look id s.table.entries ≡ o → begin_stream id limit o s ≡ Some t → IsSent id limit s t
+stream-sent id limit None s t l b = cc
+stream-sent id limit (Some e) s t l b =
+    let n = none_if (limit == 0 || nat_lt first_credit limit) (begin_kind id limit e (next_kind s.table.window e) s) t b in
+    kind-sent id limit e (next_kind s.table.window e) s t l refl n.1
+
+pub sent : (id limit : ℕ) (s t : Session) → begin (AStream id limit) s ≡ Some t → IsSent id limit s t
+sent id limit s t b =
+    let p = if_some (is_running s.status) (begin_stream id limit (look id s.table.entries) s) t b in stream-sent id limit (look id s.table.entries) s t refl p.1
+
+-- ---- what it says
+
+pub said : (k : Kind) (window limit id : ℕ) (e : End) → window < 2 ^ 32 → e.inn.owed < 2 ^ 32 → says_in (spelled k window limit id e) ≡ parts_of k window limit e
+said Open window limit id e w o = grind (arith, common_steps)
+said OpenWith window limit id e w o = refl
+said Accept window limit id e w o = grind (arith, common_steps)
+said Reset window limit id e w o = refl
+said Credit window limit id e w o = grind (arith, common_steps)
+said Data window limit id e w o = refl
+said Fin window limit id e w o = refl

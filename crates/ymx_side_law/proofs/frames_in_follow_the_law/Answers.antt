@@ -1,0 +1,17 @@
+use Rattle.ymx_side_law.proofs.frames_in_follow_the_law.Goals as goal
+use Rattle.ymx_side_law.proofs.Comes.{comes, piece-begins, offered-comes, refused-comes, unknown}
+
+pub returns-clause-comes : goal.returns-clause-comes
+returns-clause-comes c = comes
+
+pub returns-clause-piece_comes : goal.returns-clause-piece_comes
+returns-clause-piece_comes c = piece-begins
+
+pub returns-clause-offered : goal.returns-clause-offered
+returns-clause-offered c = offered-comes
+
+pub returns-clause-refused : goal.returns-clause-refused
+returns-clause-refused c = λ lacks h bytes e s g r cause inc. let k = refused-comes lacks h bytes e s g r cause inc in (k.end, k.table, k.answers)
+
+pub returns-clause-unknown : goal.returns-clause-unknown
+returns-clause-unknown c = unknown
