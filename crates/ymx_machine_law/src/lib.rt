@@ -1,7 +1,7 @@
 //! Laws of the queue machine by itself, over all runs. Its calls do nothing: each contract is a theorem.
 #![tactic(auto)]
 
-ghost use Rattle.std.specs.Prelude.{◌%◌, ◌≡◌, ◌≢◌, ◌⊎◌, ◌≤◌, ℕ, List, Option, Some, true};
+ghost use Rattle.std.specs.Prelude.{◌%◌, ◌≡◌, ◌≢◌, ◌⊎◌, ◌≤◌, ℕ, List, Some, true};
 ghost use Rattle.ymx_model.specs.declared.types.Answer.{Answer};
 ghost use Rattle.ymx_model.specs.declared.types.Call.{Call};
 ghost use Rattle.ymx_model.specs.declared.types.CallFault.TheVariants.{OutOfMemory};

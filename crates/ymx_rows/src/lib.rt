@@ -3,7 +3,7 @@
 //! what is played is what the definitions allow, a second one has the rows. (More rows are in proofs/.)
 #![tactic(auto)]
 
-ghost use Rattle.std.specs.Prelude.{◌≡◌, ◌<◌, ◌≤◌, ◌^◌, ◌++◌, ◌∷◌, [], ℕ, List, Option, None, Some, replicate, true, false};
+ghost use Rattle.std.specs.Prelude.{◌≡◌, ◌<◌, ◌≤◌, ◌^◌, ◌++◌, ◌∷◌, [], ℕ, List, Some, replicate, true, false};
 ghost use Rattle.ymx_header.specs.declared.fault.Fault.TheVariants.{BadVersion, CreditOverflow};
 ghost use Rattle.ymx_model.specs.declared.types.Role.TheVariants.{Client, Server};
 ghost use Rattle.ymx_model.specs.declared.types.Side.TheVariants.{A, B};
@@ -11,16 +11,16 @@ ghost use Rattle.ymx_model.specs.declared.types.Direction.TheVariants.{AB, BA};
 ghost use Rattle.ymx_model.specs.declared.types.Step.{Step};
 ghost use Rattle.ymx_model.specs.declared.types.Step.TheVariants.{Emit, Deliver, Stop, End};
 ghost use Rattle.ymx_model.specs.declared.types.Call.TheVariants.{Open, OpenWith, Accept, Write, Read, Finish, Reset, Ping, GoAway, Ponged};
-ghost use Rattle.ymx_model.specs.declared.types.Answer.TheVariants.{Opened, OpenedWith, Accepted, Read as GaveBytes, ReadEnd, ReadWait, Done, Refused, Emitted, Pinged, Ponged as Back};
+ghost use Rattle.ymx_model.specs.declared.types.Answer.TheVariants.{Opened, Accepted, Read as GaveBytes, ReadEnd, ReadWait, Done, Refused, Emitted, Pinged, Ponged as Back};
 ghost use Rattle.ymx_model.specs.declared.types.CallFault.TheVariants as fault;
 ghost use Rattle.ymx_model.specs.Lanes.{first_credit};
 ghost use Rattle.ymx_model.specs.Sessions.{Session, is_own};
 ghost use Rattle.ymx_model.specs.Feeds.{Feeds};
-ghost use Rattle.ymx_model.specs.Emissions.{Emits, in_turn, is_ready};
-ghost use Rattle.ymx_model.specs.Worlds.{World, Runs, new_world, is_quiet};
+ghost use Rattle.ymx_model.specs.Emissions.{Emits, in_turn};
+ghost use Rattle.ymx_model.specs.Worlds.{Runs, new_world};
 ghost use Rattle.ymx_session_law.specs.Limits.{IsWithin};
 ghost use Rattle.ymx_rows.specs.Plays.{play, feed, emit};
-ghost use Rattle.ymx_rows.specs.Words.{start, client, server, a, b, x, took, wait, fed, broken, after, window_frame, go_away_frame, hello};
+ghost use Rattle.ymx_rows.specs.Words.{start, client, server, a, b, took, fed, broken, after, window_frame, hello};
 
 /// What is played is allowed: the answers of a world are those of a run of it, a feed is a feed, and
 /// an emission is one in turn.
