@@ -1,5 +1,5 @@
 -- The table of pings after a change: at the place of its number, and sound.
-use Rattle.std.proofs.Common.{◌≡◌, ◌<◌, ◌≤◌, ◌^◌, ◌%◌, ℕ, ◌+◌, List, [], ◌∷◌, ◌++◌, length, set, get_or, Bool, true, false, cond, nat_lt, ◌==◌, None, Some, is_some, remove, position, refl, sym, ◌∙◌, arith}
+use Rattle.std.proofs.Common.{◌≡◌, ◌<◌, ◌≤◌, ◌^◌, ◌%◌, ℕ, ◌+◌, List, [], ◌∷◌, ◌++◌, length, set, get_or, Bool, true, false, cond, nat_lt, ◌==◌, Option, None, Some, IfSome, is_some, remove, position, refl, sym, ◌∙◌, arith}
 use Rattle.std.specs.List.{position_or_len}
 use Rattle.std.specs.Bool.{then_some}
 use Rattle.std.proofs.lemmas.List.{length_push}
@@ -7,7 +7,7 @@ use Rattle.std.proofs.lemmas.Grind.{common_steps}
 use Rattle.std.proofs.lemmas.Bool.Decides.{nat_tests}
 use Rattle.ymx_model.specs.declared.types.PingStage.{PingStage}
 use Rattle.ymx_model.specs.declared.types.PingStage.TheVariants.{Asked}
-use Rattle.ymx_model.specs.Pings.{Ping, Pings, is_pending, has_back, is_back, staged, without_ping, most_pings}
+use Rattle.ymx_model.specs.Pings.{Ping, Pings, is_pending, has_back, has_asked, is_back, first_asked, staged, without_ping, most_pings}
 use Rattle.ymx_control.specs.Tables.{AreDistinct, AreNumbers, IsSound}
 use Rattle.ymx_control.proofs.Places.{cond-remove, position-place, position-none}
 
@@ -142,6 +142,24 @@ has_back-some n ps i d found within =
 
 pub has_back-none : (n : ℕ) (ps : List Ping) → position (λ p. p.number == n) ps ≡ None → has_back n ps ≡ false
 has_back-none n ps absent = has_back-past n ps (position-none _ ps absent)
+
+-- ---- the ping that was asked first
+
+is_pending-asked : (n : ℕ) (ps : List Ping) → has_asked n ps ≡ true → is_pending n ps ≡ true
+is_pending-asked n [] asked = cc
+is_pending-asked n (p ∷ ps) asked = grind (arith, nat_tests, is_pending-asked n ps)
+
+has_asked-first : (n : ℕ) (ps : List Ping) → AreDistinct ps → first_asked ps ≡ Some n → has_asked n ps ≡ true
+has_asked-first n [] distinct first = cc
+has_asked-first n (p ∷ ps) distinct first = grind (arith, nat_tests, has_asked-first n ps distinct.1, is_pending-asked n ps)
+
+-- its frame is due
+pub first_asked-due : (ps : List Ping) → AreDistinct ps → IfSome (first_asked ps) (λ n. has_asked n ps ≡ true)
+first_asked-due ps distinct = of (first_asked ps) refl
+  where
+    of : (o : Option ℕ) → first_asked ps ≡ o → IfSome o (λ n. has_asked n ps ≡ true)
+    of None first = tt
+    of (Some n) first = has_asked-first n ps distinct first
 
 pub is_some-then_some : {X : Type 0} (b : Bool) (x : X) → is_some (then_some b x) ≡ b
 is_some-then_some true x = refl

@@ -1,6 +1,6 @@
 //! Who has said Go Away.
 
-ghost use Rattle.std.specs.Prelude.{◌≡◌};
+ghost use Rattle.std.specs.Prelude.{◌≡◌, true};
 ghost use Rattle.ymx_model.specs.GoAway.{not_away, away_due, was_said, says_away, away_goes, away_comes};
 
 use std::marker::Model;
@@ -58,8 +58,9 @@ impl Away {
         self.here != GoAwayMark::Unsaid
     }
 
-    /// Its frame begins.
+    /// Its frame begins, and so is no longer due. Only while it is due, as `is_due` tells.
     pub fn goes(&mut self)
+        requires { away_due self.old.here ≡ true }
         ensures { self.new ≡ away_goes self.old }
     {
         self.here = GoAwayMark::Sent;

@@ -1,7 +1,7 @@
 //! The own pings of a session.
 
-ghost use Rattle.std.specs.Prelude.{◌≡◌, ◌<◌, ◌==◌, false, [], length, position, is_some, IfOk, IfSome, if◌then◌else◌};
-ghost use Rattle.ymx_model.specs.Pings.{no_pings, is_pending, has_back, is_back, staged, free_from, next_number, first_asked, pinged, answered, ping_goes, collected, most_pings};
+ghost use Rattle.std.specs.Prelude.{◌≡◌, ◌<◌, ◌==◌, true, false, [], length, position, is_some, IfOk, IfSome, if◌then◌else◌};
+ghost use Rattle.ymx_model.specs.Pings.{no_pings, is_pending, has_back, has_asked, is_back, staged, free_from, next_number, first_asked, pinged, answered, ping_goes, collected, most_pings};
 ghost use Rattle.ymx_control.specs.Tables.{IsSound};
 
 use std::alloc::{AllocError, Global};
@@ -113,8 +113,10 @@ impl Pings {
         self.set_stage(number, PingStage::Back);
     }
 
-    /// The frame of this ping begins: it is no longer due.
+    /// The frame of this ping begins, and so is no longer due. Only of a ping whose frame is due, as
+    /// `next_due` gives: another's answer, if it is back, would be forgotten.
     pub fn sent(&mut self, number: u32)
+        requires { has_asked number self.old.pending ≡ true }
         ensures { self.new ≡ ping_goes number self.old }
     {
         self.set_stage(number, PingStage::Sent);
@@ -137,7 +139,8 @@ impl Pings {
 
     /// The number of the ping that was asked first, of those whose frame is due.
     pub fn next_due(&self) -> Option<u32>
-        ensures { result ≡ first_asked self.now.pending }
+        ensures first { result ≡ first_asked self.now.pending }
+        ensures due { IfSome result (λ number. has_asked number self.now.pending ≡ true) }
     {
         first_asked(self.pending.as_slice())
     }
