@@ -1,8 +1,9 @@
 //! The own pings of a session.
 
 ghost use Rattle.std.specs.Prelude.{◌≡◌, ◌<◌, ◌==◌, true, false, [], length, position, is_some, IfOk, IfSome, if◌then◌else◌};
-ghost use Rattle.ymx_model.specs.Pings.{no_pings, is_pending, has_back, has_asked, is_back, staged, free_from, next_number, first_asked, pinged, answered, ping_goes, collected, most_pings};
+ghost use Rattle.ymx_model.specs.Pings.{no_pings, is_pending, has_back, has_asked, is_back, staged, next_number, first_asked, pinged, answered, ping_goes, collected, most_pings};
 ghost use Rattle.ymx_control.specs.Tables.{IsSound};
+ghost use Rattle.ymx_control.specs.Numbers.{ArePendingBefore};
 
 use std::alloc::{AllocError, Global};
 use std::marker::Model;
@@ -89,16 +90,16 @@ impl Pings {
         self.pending.len() == Self::LIMIT
     }
 
-    /// A ping is asked: its frame is due. Its number is the next one after the last, 0 after
-    /// 4,294,967,295; one that is pending is skipped.
+    /// A ping is asked: its frame is due. Its number is the first that is not pending, counted up
+    /// from the one after the last ping's, with 0 after 4,294,967,295.
     pub fn ask(&mut self) -> u32
         requires { length self.old.pending < most_pings }
         ensures number { result ≡ next_number self.old }
         ensures asked { self.new ≡ pinged self.old }
+        ensures skipped { ArePendingBefore self.old.next result self.old.pending }
         ensures fresh { is_pending result self.old.pending ≡ false }
     {
-        // at most 16 are pending, so one of 17 numbers in a row is not
-        let number = free_from(self.pending.as_slice(), self.next, 17);
+        let number = next_number(self.pending.as_slice(), self.next);
         let stage = PingStage::Asked;
         self.pending.push(Ping { number, stage }).unwrap();
         self.next = number.wrapping_add(1);
@@ -195,12 +196,13 @@ fn is_back(stage: PingStage) -> bool
     stage == PingStage::Back
 }
 
-/// The first of `tries` numbers from `start` on that is not pending, or the one behind these.
-fn free_from(pending: &[Ping], start: u32, tries: u32) -> u32
-    ensures { result ≡ free_from tries start pending.now }
+/// The first number from `next` on that is not pending. At most 16 are, so that one of 17 in a row
+/// is not.
+fn next_number(pending: &[Ping], next: u32) -> u32
+    ensures { result ≡ next_number (record { next = next; pending = pending.now }) }
 {
-    let mut number = start;
-    for _ in 0..tries {
+    let mut number = next;
+    for _ in 0..=Pings::LIMIT {
         if !is_pending(pending, number) {
             return number;
         }

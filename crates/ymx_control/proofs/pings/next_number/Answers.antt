@@ -2,10 +2,10 @@
 use Rattle.std.proofs.Common.{◌≡◌, ◌+◌, ◌-◌, true, arith, ◌∙◌}
 use Rattle.ymx_model.specs.Pings.{is_pending}
 use Rattle.ymx_control.proofs.FreeNumbers.{free_from-next}
-use Rattle.ymx_control.proofs.pings.free_from.Goals as goal
+use Rattle.ymx_control.proofs.pings.next_number.Goals as goal
 
 pub loop-preserved : goal.loop-preserved
 loop-preserved c =
     let pending : is_pending c.loop.number c.args.pending.now ≡ true = cc in
-    free_from-next (c.args.tries - c.loop.counter) (c.args.tries - (c.loop.counter + 1)) c.loop.number c.args.pending.now (omega arith) pending
+    free_from-next (17 - c.loop.counter) (17 - (c.loop.counter + 1)) c.loop.number c.args.pending.now (omega arith) pending
     ∙ c.loop.invariant
