@@ -68,14 +68,14 @@ impl Answers {
         self.row.push_back(response);
     }
 
-    /// The oldest answer.
+    /// The oldest answer, which stays owed. `None` where no answer is unsent.
     pub fn first(&self) -> Option<Response>
         ensures { result ≡ slice_get self.now 0 }
     {
         self.row.front().copied()
     }
 
-    /// The oldest answer is sent.
+    /// Takes the oldest answer out: it is owed no more. `None` where no answer is unsent.
     pub fn pop(&mut self) -> Option<Response>
         ensures first { result ≡ slice_get self.old 0 }
         ensures rest { self.new ≡ drop 1 self.old }

@@ -68,14 +68,14 @@ impl Backlog {
         self.ids.push_back(id).unwrap();
     }
 
-    /// The stream that came first.
+    /// The stream that came first, which waits on. `None` where no stream waits.
     pub fn first(&self) -> Option<u32>
         ensures { result ≡ slice_get self.now 0 }
     {
         self.ids.front().copied()
     }
 
-    /// The stream that came first waits no more.
+    /// Takes the stream that came first out: it waits no more. `None` where no stream waits.
     pub fn pop(&mut self) -> Option<u32>
         ensures first { result ≡ slice_get self.old 0 }
         ensures rest { self.new ≡ drop 1 self.old }
