@@ -2,15 +2,13 @@
 //! said Go Away, and the answers that it owes the peer. Each takes all its memory when it is made.
 #![tactic(auto)]
 
-mod answers;
 mod away;
-mod backlog;
 mod pings;
+mod queues;
 
-pub use answers::Answers;
 pub use away::Away;
-pub use backlog::Backlog;
 pub use pings::Pings;
+pub use queues::{Answers, Backlog};
 
 #[cfg(test)]
 mod tests {
