@@ -9,11 +9,11 @@ use std::marker::Model;
 use ymx_model::Response;
 
 /// The ids of the streams that the peer has opened and that wait to be accepted, in the order in
-/// which they came: at most 256. A contract sees the list of them.
+/// which they came: at most 256 (this project's own). A contract sees the list of them.
 pub type Backlog = BoundedQueue<u32, 256>;
 
-/// Ping replies and rejections that have not been sent, the oldest first: at most 1,024. A contract
-/// sees the list of them.
+/// Ping replies and rejections that have not been sent, the oldest first: at most 1,024 (this
+/// project's own). A contract sees the list of them.
 pub type Answers = BoundedQueue<Response, 1_024>;
 
 /// At most `N` items, the oldest first. The memory for all of them is taken at the start. A contract
