@@ -18,7 +18,6 @@ pub fn window_is_kept()
 
 #[cfg(test)]
 mod tests {
-    use super::*;
     use crate::{Credit, Debt};
 
     #[test]
@@ -29,6 +28,5 @@ mod tests {
         debt.read(150_000);
         assert_eq!(rt; credit.grant(debt.announced()), Ok(()));
         assert_eq!(rt; (credit.left(), debt.owed()), (212_144, 0));
-        window_is_kept();
     }
 }

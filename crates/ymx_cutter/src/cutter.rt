@@ -171,7 +171,6 @@ fn after_header(limit: u32, header: Header) -> (Item, Begun)
 #[cfg(test)]
 mod tests {
     use super::*;
-    use crate::laws;
     use std::test::Fail;
     use ymx_header::{FLAG_SYN, TYPE_WINDOW_UPDATE};
 
@@ -323,10 +322,6 @@ mod tests {
             (12, Some(Item::Head(ymx_header::decode(&ping))))
         );
         assert_eq!(rt; cutter.begun(), 0);
-        laws::one_way();
-        laws::what_is_read();
-        laws::any_pieces();
-        laws::byte_by_byte();
         Ok(())
     }
 }

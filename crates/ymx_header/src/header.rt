@@ -186,7 +186,6 @@ mod tests {
         assert_eq!(rt; decode(&ping), header);
         assert_eq!(rt; encode(&header), ping);
         assert_eq!(rt; ping.len(), HEADER_LENGTH);
-        one_header();
     }
 
     #[test]
