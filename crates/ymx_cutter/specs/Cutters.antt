@@ -8,7 +8,7 @@ use Rattle.ymx_cutter.specs.declared.item.Item.TheVariants as item
 use Rattle.ymx_cutter.specs.Frames.{payload_length, joined, fault_of, IsFrame, IsBytes}
 use Rattle.ymx_cutter.specs.Gathered.{Gathered}
 
--- what has come of the frame begun: some bytes of its header, or the header and some bytes of its payload, or a header with a fault
+-- what has come of the frame begun: the bytes of its header so far; or, of its payload, how many bytes came and how many lack; or the fault of its header
 pub data Seen : Type 0 where
   Header_bytes : (bytes : List ℕ) → Seen
   Payload : (came : ℕ) (lacks : ℕ) → Seen

@@ -12,7 +12,7 @@ use std::marker::Model;
 #[cfg(test)]
 mod tests;
 
-/// A queue of bytes with a fixed capacity, in one block of memory.
+/// A queue of bytes in one block of memory. Its capacity is set when it is made, and only `grow` changes it.
 ///
 /// A contract sees the list of its bytes, `items`, the next to be taken first, and its `capacity` in bytes.
 /// The bytes wrap round the end of the block, so room that was taken free at the front is used again.
