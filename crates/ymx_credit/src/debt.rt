@@ -1,6 +1,6 @@
 //! The debt of a reader.
 
-ghost use Rattle.std.specs.Prelude.{◌≡◌, ◌+◌, ◌-◌, ◌*◌, ◌≤◌, ◌↔◌, IsSome, IfSome};
+ghost use Rattle.std.specs.Prelude.{◌≡◌, ◌+◌, ◌-◌, ◌*◌, ◌≤◌, ◌↔◌, nat_le, IsSome, IfSome};
 
 use std::marker::Model;
 
@@ -73,8 +73,7 @@ impl Debt {
         ensures half { IsSome result ↔ (self.now.window ≤ 2 * self.now.owed) }
         ensures all { IfSome result (λ n. n ≡ self.now.owed) }
     {
-        let is_due = u64::from(self.window) <= 2 * u64::from(self.owed);
-        is_due.then_some(self.owed)
+        is_half_owed(self.window, self.owed).then_some(self.owed)
     }
 
     /// All that is owed is announced: how many bytes these are. Nothing is owed then.
@@ -94,6 +93,15 @@ impl Debt {
     {
         self.owed -= n;
     }
+}
+
+/// Whether at least half of a window, in bytes, is owed: only then is it announced (flow control).
+///
+/// Example: of a window of 262,145 bytes 131,072 are less than half, and 131,073 are enough.
+pub fn is_half_owed(window: u32, owed: u32) -> bool
+    ensures { result ≡ nat_le window (2 * owed) }
+{
+    u64::from(window) <= 2 * u64::from(owed)
 }
 
 #[cfg(test)]
@@ -122,5 +130,7 @@ mod tests {
         debt.announced_part(1);
         assert_eq!(rt; debt.due(), None);
         assert_eq!(rt; (debt.owed(), debt.window()), (131_072, 262_145));
+        assert!(rt; is_half_owed(4_294_967_295, 2_147_483_648));
+        assert!(rt; !is_half_owed(4_294_967_295, 2_147_483_647));
     }
 }

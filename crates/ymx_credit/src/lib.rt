@@ -7,5 +7,5 @@ mod debt;
 mod flow;
 
 pub use credit::Credit;
-pub use debt::Debt;
+pub use debt::{Debt, is_half_owed};
 pub use flow::window_is_kept;

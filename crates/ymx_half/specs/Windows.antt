@@ -4,10 +4,6 @@ use Rattle.ymx_ring.specs.Ring.{Contents}
 use Rattle.ymx_credit.specs.Debts.{Owing}
 use Rattle.ymx_model.specs.Records.{Reader}
 
--- the bytes of the window, each of which is unread, granted or owed
-abbrev pub window_of : Reader → ℕ
-window_of r = length r.unread + r.granted + r.owed
-
 -- what a contract sees of the unread bytes, of the number of bytes granted and of the debt
 abbrev pub reader_with : Contents → ℕ → Owing → Bool → Reader
 reader_with unread granted debt ended = record { unread = unread.items; granted = granted; owed = debt.owed; ended = ended }

@@ -1,6 +1,6 @@
 //! A receiving half that is open.
 
-ghost use Rattle.std.specs.Prelude.{◌≡◌, ◌+◌, ◌*◌, ◌≤◌, ◌↔◌, ◌++◌, length, take, drop, min, IsSome, IfSome, IfOk};
+ghost use Rattle.std.specs.Prelude.{◌≡◌, ◌+◌, ◌≤◌, ◌++◌, length, take, drop, min, IfOk};
 ghost use Rattle.ymx_model.specs.Records.{arrive, read, announce, end_comes};
 
 use crate::{DeadHalf, EndedHalf, FIRST_CREDIT};
@@ -36,7 +36,6 @@ impl Model for RecvHalf {
 
 impl RecvHalf {
     ghost use Rattle.ymx_half.specs.Starts.{new_reader};
-    ghost use Rattle.ymx_half.specs.Windows.{window_of};
 
     /// Makes the half of a new stream, with memory for the whole window, in bytes. The peer may send
     /// 262,144 bytes at first, and what the window has beyond these is owed to it. Without the memory
@@ -124,16 +123,5 @@ impl RecvHalf {
         ensures { result ≡ self.now.owed }
     {
         self.debt.owed()
-    }
-
-    /// The bytes to announce now: all that are owed, once they are at least half the window; none before.
-    ///
-    /// Example: of a window of 262,144 bytes the first 131,071 read wait, and one byte more makes
-    /// 131,072 due.
-    pub fn due(&self) -> Option<u32>
-        ensures half { IsSome result ↔ (window_of self.now ≤ 2 * self.now.owed) }
-        ensures all { IfSome result (λ n. n ≡ self.now.owed) }
-    {
-        self.debt.due()
     }
 }

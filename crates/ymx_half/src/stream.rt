@@ -14,6 +14,7 @@ use crate::{DeadHalf, FIRST_CREDIT, FrameKind, RecvHalf, SendHalf};
 use std::alloc::{AllocError, Global};
 use std::marker::Model;
 use std::mem;
+use ymx_credit::is_half_owed;
 use ymx_header::{FLAG_ACK, FLAG_FIN, FLAG_RST, FLAG_SYN, HEADER_LENGTH, Header};
 
 /// How far a stream has come at this end.
@@ -259,8 +260,9 @@ impl StreamRec {
     fn credit_due(&self, window: u32) -> bool
         ensures { result ≡ credit_due window self.now }
     {
-        let is_half_owed = u64::from(window) <= 2 * u64::from(self.inn.owed());
-        self.stage == Stage::Live && !self.inn.has_ended() && (self.marks.whole || is_half_owed)
+        self.stage == Stage::Live
+            && !self.inn.has_ended()
+            && (self.marks.whole || is_half_owed(window, self.inn.owed()))
     }
 
     // ---- calls

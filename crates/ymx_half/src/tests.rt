@@ -231,8 +231,8 @@ fn a_receiving_half_by_itself(rt: HostRuntime) -> Result<(), Fail> {
     inn.arrive(b"abc");
     assert_eq!(rt; (inn.read(&mut two), two), (2, *b"ab"));
     assert_eq!(rt;
-        (inn.unread_len(), inn.granted(), inn.owed(), inn.due()),
-        (1, 262_141, 3, None)
+        (inn.unread_len(), inn.granted(), inn.owed()),
+        (1, 262_141, 3)
     );
     inn.announce(1);
     assert_eq!(rt; (inn.granted(), inn.owed()), (262_142, 2));
