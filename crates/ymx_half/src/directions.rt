@@ -1,6 +1,6 @@
 //! The two directions of a stream, by the halves that hold them.
 
-ghost use Rattle.std.specs.Prelude.{◌≡◌, ◌+◌, ◌≤◌, ◌++◌, ◌&&◌, true, false, not, length, take, drop, min, IsOk, IfOk, OnErr};
+ghost use Rattle.std.specs.Prelude.{◌≡◌, ◌+◌, ◌≤◌, ◌++◌, ◌&&◌, [], true, false, not, length, take, drop, min, IsOk, IfOk, OnErr};
 ghost use Rattle.ymx_model.specs.Records.{write, sent, given, finish, fin_goes, arrive, read, announce, end_comes, emptied};
 ghost use Rattle.ymx_model.specs.Outgoing.{is_empty};
 
@@ -77,9 +77,10 @@ impl Sending {
         };
     }
 
-    /// The frame with FIN has begun.
+    /// The frame with FIN begins, behind the last byte.
     pub(crate) fn fin_goes(&mut self)
-        requires { (writer_of self.old).finished ≡ true }
+        requires due { ((writer_of self.old).finished && not (writer_of self.old).fin_sent) ≡ true }
+        requires all_sent { (writer_of self.old).unsent ≡ [] }
         ensures goes { writer_of self.new ≡ fin_goes (writer_of self.old) }
         ensures same_state { is_silent self.new ≡ is_silent self.old }
     {

@@ -1,6 +1,6 @@
 //! A sending half that was finished.
 
-ghost use Rattle.std.specs.Prelude.{◌≡◌, ◌+◌, ◌<◌, ◌≤◌, ◌↔◌, ◌++◌, true, false, length, take, drop, min, IsOk, OnOk, OnErr, Err};
+ghost use Rattle.std.specs.Prelude.{◌≡◌, ◌+◌, ◌<◌, ◌≤◌, ◌↔◌, ◌++◌, [], true, false, length, take, drop, min, IsOk, OnOk, OnErr, Err};
 ghost use Rattle.ymx_model.specs.Records.{sent, given, fin_goes};
 
 use crate::DeadHalf;
@@ -60,8 +60,10 @@ impl DoneHalf {
         self.unsent.take(buffer)
     }
 
-    /// The frame with FIN has begun.
+    /// The frame with FIN begins (half-close): once, and behind the last byte.
     pub fn fin_goes(&mut self)
+        requires all_sent { self.old.unsent ≡ [] }
+        requires once { self.old.fin_sent ≡ false }
         ensures { self.new ≡ fin_goes self.old }
     {
         self.fin_sent = true;

@@ -212,10 +212,9 @@ fn a_sending_half_by_itself(rt: HostRuntime) -> Result<(), Fail> {
     let mut out = out.finish();
     assert_eq!(rt; out.grant(4), Ok(()));
     assert_eq!(rt; (out.take(&mut two), two), (2, *b"cd"));
-    assert_eq!(rt;
-        (out.credit(), out.unsent_len(), out.is_fin_sent()),
-        (262_143, 2, false)
-    );
+    assert_eq!(rt; (out.credit(), out.unsent_len()), (262_143, 2));
+    assert_eq!(rt; (out.take(&mut two), two), (2, *b"ef"));
+    assert!(rt; out.unsent_len() == 0 && !out.is_fin_sent());
     out.fin_goes();
     assert!(rt; out.is_fin_sent());
     assert_eq!(rt; out.reset(), DeadHalf);
