@@ -3,7 +3,7 @@
 ghost use Rattle.std.specs.Prelude.{◌≡◌, ◌+◌, ◌≤◌, ◌++◌, ℕ, true, false, length, take, drop, min, is_some, Some, IsOk, IfOk, OnErr};
 ghost use Rattle.std.specs.Option.{option_map};
 ghost use Rattle.ymx_header.specs.Headers.{spelling};
-ghost use Rattle.ymx_model.specs.Streams.{takes, is_offered};
+ghost use Rattle.ymx_model.specs.Streams.{takes, is_offered, is_lingering};
 ghost use Rattle.ymx_model.specs.Streams.Phase.{Live as LivePhase, Offered as OfferedPhase};
 ghost use Rattle.ymx_model.specs.Records.{new_end, dead_writer, dead_reader, only, sent, takes_payload, end_write, end_read, end_finish, end_accept, end_reset, end_forget, gets_data, gets_piece, gets_credit, gets_fin, gets_ack, gets_rst};
 ghost use Rattle.ymx_model.specs.Outgoing.{is_due, credit_due, next_kind, sends, spelled};
@@ -314,23 +314,25 @@ impl StreamRec {
         self.marks.ack = !lost;
     }
 
-    /// Both directions are over (flags): what is unread and unsent is dropped, with its memory. An RST is
-    /// due, behind a SYN that hasn't gone out, and nothing else. The stream is then at `stage`, which is
-    /// `Reset` or `Lingering`.
+    /// Both directions of a stream that was neither reset nor given up are over (flags): what is unread
+    /// and unsent is dropped, with its memory. An RST is due, behind a SYN that hasn't gone out, and nothing
+    /// else. The stream is then at `stage`, which is `Reset` or `Lingering`.
     pub fn reset(&mut self, stage: Stage)
-        requires { takes (phase_of stage) ≡ false }
+        requires up { takes self.old.phase ≡ true }
+        requires over { takes (phase_of stage) ≡ false }
         ensures { self.new ≡ end_reset (phase_of stage) self.old }
     {
         self.drop_halves(stage);
         self.marks = self.marks.only(self.marks.syn, true);
     }
 
-    /// The stream is given up, and is `Lingering` from then on.
+    /// The stream is given up, which it wasn't before, and is `Lingering` from then on.
     ///
     /// In a lost session nothing is sent any more. A stream that was reset stays so. One that was finished
     /// here, and whose peer has ended, drops what is unread, and still sends its bytes and its FIN. Any
     /// other is reset.
     pub fn forget(&mut self, lost: bool)
+        requires { is_lingering self.old.phase ≡ false }
         ensures { self.new ≡ end_forget lost self.old }
     {
         if lost {
