@@ -80,21 +80,25 @@ impl Marks {
 /// record of these, and each method's contract is one function on it.
 ///
 /// ```text
-///            opened                 offered
-///               |                      |
-///               |                      v
-///               |     accept      +---------+
-///               |    +------------| Offered |--- RST --> the record goes
-///               v    v            +---------+
-///             +--------+
-///             |  Live  |------------ forget ------------+
-///             +--------+                                |
-///               |    |                                  |
-///         reset |    | RST                              |
-///               v    v                                  v
-///             +--------+                          +-----------+
-///             | Reset  |--------- forget -------->| Lingering |--- nothing is due --> the record goes
-///             +--------+                          +-----------+
+///                  opened         offered
+///                     |              |
+///                     v              v
+///                 +------+ accept +---------+
+///                 | Live |<-------| Offered |--- RST --> the record goes
+///                 +------+        +---------+
+///                  |   |             |   |
+///                  |   | reset       |   |
+///           forget |   | RST   reset |   | forget
+///                  |   v             v   |
+///                  |  +---------------+  |
+///                  |  |     Reset     |  |
+///                  |  +---------------+  |
+///                  |          |          |
+///                  |          | forget   |
+///                  v          v          v
+///               +---------------------------+
+///               |         Lingering         |--- nothing is due --> the record goes
+///               +---------------------------+
 ///
 ///   sending:     Open --- finish --> Done ---+--- reset, RST or forget --> Dead
 ///                  +-------------------------+
@@ -104,7 +108,8 @@ impl Marks {
 /// ```
 ///
 /// A stream that was finished here, and whose peer has ended, keeps its halves when it is forgotten: its
-/// unsent bytes and its FIN still go out. Only in a lost session nothing does.
+/// unsent bytes and its FIN still go out. Only in a lost session nothing does. An offered stream can be
+/// reset and forgotten too, but a session refuses both calls until it is accepted (`NoStream`).
 ///
 /// The session's window isn't kept here: the methods that need it take it, in bytes.
 #[derive(Drop)]
@@ -160,8 +165,9 @@ impl StreamRec {
         })
     }
 
-    /// Makes the record of a stream that the peer opened, with memory as for `opened`. Nothing is due
-    /// until it is accepted. Without the memory it answers `AllocError`.
+    /// Makes the record of a stream that the peer opened, with memory as for `opened`. Nothing is due of
+    /// it yet. Before it is accepted no ACK and no credit is; bytes that are written, an end and a reset
+    /// are due at once. Without the memory it answers `AllocError`.
     pub fn offered(alloc: Global, window: u32) -> Result<StreamRec, AllocError>
         requires { 262144 ≤ window }
         ensures { IfOk result (λ stream. stream ≡ new_end window OfferedPhase false false) }
