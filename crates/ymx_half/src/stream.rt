@@ -361,10 +361,8 @@ impl StreamRec {
         requires { takes (phase_of stage) ≡ false }
         ensures { self.new ≡ record self.old { phase = phase_of stage; out = dead_writer; inn = dead_reader } }
     {
-        let out = mem::replace(&mut self.out, Sending::Dead(DeadHalf));
-        self.out = Sending::Dead(out.reset());
-        let inn = mem::replace(&mut self.inn, Receiving::Dead(DeadHalf));
-        self.inn = Receiving::Dead(inn.reset());
+        mem::replace(&mut self.out, Sending::Dead(DeadHalf)).reset();
+        mem::replace(&mut self.inn, Receiving::Dead(DeadHalf)).reset();
         self.stage = stage;
     }
 
