@@ -1,9 +1,8 @@
--- How many records have something due, when one of them changes.
-use Rattle.std.proofs.Common.{◌≡◌, ℕ, ◌+◌, List, [], ◌∷◌, ◌++◌, Bool, cond, if◌then◌else◌, Some, refl, arith}
+-- How many records have something due.
+use Rattle.std.proofs.Common.{◌≡◌, ℕ, ◌+◌, List, [], ◌∷◌, Bool, cond, if◌then◌else◌, refl, sym, ap, ◌∙◌, map}
 use Rattle.std.specs.Prelude.{count_by}
-use Rattle.std.proofs.lemmas.Bool.Decides.{nat_tests}
 use Rattle.std.proofs.lemmas.List.Sums.{sum_by-cons}
-use Rattle.ymx_model.specs.Tables.{look, change, without}
+use Rattle.ymx_table.specs.Flags.{set_count}
 
 module _ {X : Type 0} (test : X → Bool) where
   -- how many records pass
@@ -22,24 +21,10 @@ module _ {X : Type 0} (test : X → Bool) where
   unfolding count
   count-cons p ps = sum_by-cons (λ q. cond (test q.1) 1 0) p ps
 
-  -- a record that is added at the end
-  pub count-added : (id : ℕ) (x : X) (ps : List (ℕ × X)) → count (ps ++ (id, x) ∷ []) ≡ count ps + (if test x then 1 else 0)
-  count-added id x [] = grind (arith, count-none, count-cons (id, x) [])
-  count-added id x (p ∷ ps) =
-      let i = count-added id x ps in grind (arith, count-cons p ps, count-cons p (ps ++ (id, x) ∷ []))
-
-  module _ (id : ℕ) where
-    -- the old record's count goes and the new record's comes
-    pub count-change : (f : X → X) (x : X) (ps : List (ℕ × X)) → look id ps ≡ Some x
-        → count (change id f ps) + (if test x then 1 else 0) ≡ count ps + (if test (f x) then 1 else 0)
-    count-change f x [] h = grind arith
-    count-change f x (p ∷ ps) h =
-        let i = count-change f x ps in
-        grind (arith, nat_tests, count-cons p ps, count-cons (p.0, f p.1) ps, count-cons p (change id f ps))
-
-    pub count-without : (x : X) (ps : List (ℕ × X)) → look id ps ≡ Some x
-        → count (without id ps) + (if test x then 1 else 0) ≡ count ps
-    count-without x [] h = grind arith
-    count-without x (p ∷ ps) h =
-        let i = count-without x ps in
-        grind (arith, nat_tests, count-cons p ps, count-cons p (without id ps))
+  -- how many of the answers are yes
+  pub set_count-map : (ps : List (ℕ × X)) → set_count (map (λ p. test p.1) ps) ≡ count ps
+  set_count-map [] = sym count-none
+  set_count-map (p ∷ ps) =
+      sum_by-cons (λ b. cond b 1 0) (test p.1) (map (λ q. test q.1) ps)
+      ∙ ap (λ n. cond (test p.1) 1 0 + n) (set_count-map ps)
+      ∙ sym (count-cons p ps)

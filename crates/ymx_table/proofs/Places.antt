@@ -1,5 +1,5 @@
 -- Where a record stands: the kit's words on a map's entries are the table's own.
-use Rattle.std.proofs.Common.{◌≡◌, ℕ, ◌<◌, ◌≤◌, List, [], ◌∷◌, ◌++◌, length, Bool, true, false, eqb, None, Some, refl, ap, arith, add-one, remove, position, slice_get}
+use Rattle.std.proofs.Common.{◌≡◌, ℕ, ◌<◌, List, [], ◌∷◌, ◌++◌, length, Bool, true, false, eqb, None, Some, refl, ap, arith, add-one, remove, position, slice_get}
 use Rattle.std.specs.Prelude.{IsSome, nat_eq}
 use Rattle.std.specs.Map.{keys_of, values_of, lookup, remove_entry}
 use Rattle.std.specs.List.{position_or_len}
@@ -27,10 +27,6 @@ module _ {X : Type 0} (id : ℕ) where
   pub place-lt : (ps : List (ℕ × X)) → IsSome (look id ps) → place id ps < length ps
   place-lt [] h = grind arith
   place-lt (p ∷ ps) h = let i = place-lt ps in grind (arith, nat_tests)
-
-  pub place_le : (ps : List (ℕ × X)) → place id ps ≤ length ps
-  place_le [] = omega arith
-  place_le (p ∷ ps) = let h = place_le ps in grind (arith, nat_tests)
 
   -- an insertion of a new key puts it last
   pub insert_entry-new : (ps : List (ℕ × X)) (x : X) → look id ps ≡ None → insert_entry nat_eq ps id x ≡ ps ++ (id, x) ∷ []

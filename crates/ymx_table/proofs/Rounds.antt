@@ -1,65 +1,23 @@
 -- The next turn: the first with something due, going round.
-use Rattle.std.proofs.Common.{◌≡◌, ℕ, suc, ◌+◌, ◌-◌, ◌<◌, List, [], ◌∷◌, ◌++◌, length, take, drop, drop-cons, add-one, zero-add, Bool, true, false, not, if◌then◌else◌, Option, None, Some, refl, sym, ap, ◌∙◌, subst, arith, slice_get, slice_range, nat_eq, get_or}
-use Rattle.std.proofs.lemmas.Grind.{common_steps}
-use Rattle.std.proofs.lemmas.List.{append-nil, take-append-drop}
+use Rattle.std.proofs.Common.{◌≡◌, ℕ, zero, suc, ◌+◌, ◌-◌, ◌<◌, inl, inr, map, List, [], ◌∷◌, ◌++◌, take, drop, zero-add, Bool, true, false, not, if◌then◌else◌, None, Some, refl, sym, ap, ◌∙◌, arith, slice_get, nat_eq, get_or}
+use Rattle.std.specs.Option.{option_map}
+use Rattle.std.proofs.lemmas.Bool.{cases_lt, both_ways}
+use Rattle.std.proofs.lemmas.List.{length-map, length-take, take-map, drop-map, get_or-drop, get_or-take, get_or_past}
 use Rattle.std.proofs.lemmas.Bool.Decides.{nat_tests}
-use Rattle.std.proofs.lemmas.Option.{slice_get_within, get_or_from_slice_get}
+use Rattle.std.proofs.lemmas.Option.{slice_get-map, get_or_from_slice_get, same_Some}
 use Rattle.ymx_model.specs.Records.{End}
 use Rattle.ymx_model.specs.Outgoing.{is_due}
-use Rattle.ymx_model.specs.Tables.{Table, due_ids, due_count, any_due, round}
-use Rattle.ymx_table.proofs.Counts.{count, count_is, count-none, count-cons}
-
--- a part of a list begins with its first item
-pub slice_range-step : {X : Type 0} (xs : List X) (i j : ℕ) (x : X) → i < j → slice_get xs i ≡ Some x → slice_range xs i j ≡ x ∷ slice_range xs (i + 1) j
-slice_range-step {X} xs i j x lt at =
-    let cut : drop i xs ≡ get_or xs i x ∷ drop (i + 1) xs = rw add-one (drop-cons xs i x (slice_get_within xs i x at)) in
-    let first : get_or xs i x ≡ x = get_or_from_slice_get xs i x x at in
-    let more : j - i ≡ suc (j - (i + 1)) = omega arith in
-    rw (more, cut, first) refl
-
-pub slice_range-none : {X : Type 0} (xs : List X) (i : ℕ) → slice_range xs i i ≡ []
-slice_range-none xs i = grind (arith, common_steps)
-
--- all of a list is what stands from the first place to the last
-pub slice_range-front : {X : Type 0} (xs : List X) (i : ℕ) → slice_range xs 0 i ≡ take i xs
-slice_range-front xs i = grind (arith, common_steps)
-
-pub slice_range-back : {X : Type 0} (xs : List X) (i : ℕ) → slice_range xs i (length xs) ≡ drop i xs
-slice_range-back xs i = grind (arith, common_steps)
+use Rattle.ymx_model.specs.Tables.{Table, due_ids, any_due, round}
+use Rattle.ymx_table.specs.Kept.{due_flags}
+use Rattle.ymx_table.specs.Flags.{IsFirst, IsNoneFrom}
+use Rattle.ymx_table.proofs.Counts.{count, count-none, count-cons}
 
 -- the first of two lists, one behind the other
 pub first-append_some : {X : Type 0} (xs ys : List X) (x : X) → slice_get xs 0 ≡ Some x → slice_get (xs ++ ys) 0 ≡ Some x
 first-append_some [] ys x h = cc
 first-append_some (y ∷ xs) ys x h = h
 
-pub first-append_none : {X : Type 0} (xs ys : List X) → slice_get xs 0 ≡ None → slice_get (xs ++ ys) 0 ≡ slice_get ys 0
-first-append_none [] ys h = refl
-first-append_none (y ∷ xs) ys h = cc
-
-none-round : {X : Type 0} (xs ys : List X) → xs ++ ys ≡ [] → ys ++ xs ≡ []
-none-round [] ys h = append-nil ys ∙ h
-none-round (x ∷ xs) ys h = cc
-
 module _ (window : ℕ) where
-  -- none is due where none is counted
-  pub due_ids-none : (ps : List (ℕ × End)) → count (is_due window) ps ≡ 0 → due_ids window ps ≡ []
-  due_ids-none [] h = refl
-  due_ids-none (p ∷ ps) h = by (is_due window p.1) refl (due_ids-none ps) (count-cons (is_due window) p ps)
-    where
-      by : (b : Bool) → is_due window p.1 ≡ b → (count (is_due window) ps ≡ 0 → due_ids window ps ≡ [])
-          → count (is_due window) (p ∷ ps) ≡ (if is_due window p.1 then 1 else 0) + count (is_due window) ps → due_ids window (p ∷ ps) ≡ []
-      by true e rest c = let d = rw e at c in absurd (omega arith)
-      by false e rest c = let d = rw e at c in rw e (rest (omega arith))
-
-  pub due_ids-append : (ps qs : List (ℕ × End)) → due_ids window (ps ++ qs) ≡ due_ids window ps ++ due_ids window qs
-  due_ids-append [] qs = refl
-  due_ids-append (p ∷ ps) qs = by (is_due window p.1) refl (due_ids-append ps qs)
-    where
-      by : (b : Bool) → is_due window p.1 ≡ b → due_ids window (ps ++ qs) ≡ due_ids window ps ++ due_ids window qs
-          → due_ids window ((p ∷ ps) ++ qs) ≡ due_ids window (p ∷ ps) ++ due_ids window qs
-      by true e rest = rw e (ap (λ is. p.0 ∷ is) rest)
-      by false e rest = rw e rest
-
   pub any_due-count : (ps : List (ℕ × End)) → any_due window ps ≡ not (nat_eq (count (is_due window) ps) 0)
   any_due-count [] = rw (count-none (is_due window)) refl
   any_due-count (p ∷ ps) = by (is_due window p.1) refl (any_due-count ps) (count-cons (is_due window) p ps)
@@ -73,50 +31,87 @@ module _ (window : ℕ) where
           one_more n = grind (arith, nat_tests)
       by false e rest c = let d = rw (e, zero-add) at c in rw (e, d) rest
 
-  -- the first of a part that begins with a record that has something due, or not
-  pub first-due : (es : List (ℕ × End)) (i j : ℕ) (p : ℕ × End) → i < j → slice_get es i ≡ Some p → is_due window p.1 ≡ true
-      → slice_get (due_ids window (slice_range es i j)) 0 ≡ Some p.0
-  first-due es i j p lt at due = rw (slice_range-step es i j p lt at, due) refl
+  -- the first record with something due
+  first-at : (ps : List (ℕ × End)) (at : ℕ) (p : ℕ × End) → slice_get ps at ≡ Some p → is_due window p.1 ≡ true
+      → ((k : ℕ) → k < at → get_or (map (λ q. is_due window q.1) ps) k false ≡ false) → slice_get (due_ids window ps) 0 ≡ Some p.0
+  first-at [] at p here due before = cc
+  first-at (q ∷ ps) zero p here due before =
+      let e : q ≡ p = same_Some q p here in
+      let d : is_due window q.1 ≡ true = ap (λ (r : ℕ × End). is_due window r.1) e ∙ due in
+      rw d (ap (λ (r : ℕ × End). Some r.0) e)
+  first-at (q ∷ ps) (suc at) p here due before =
+      let d : is_due window q.1 ≡ false = before 0 (omega arith) in
+      rw d (first-at ps at p here due (λ k lt. before (suc k) (omega arith)))
 
-  pub first-other : (es : List (ℕ × End)) (i j : ℕ) (p : ℕ × End) → i < j → slice_get es i ≡ Some p → is_due window p.1 ≡ false
-      → slice_get (due_ids window (slice_range es i j)) 0 ≡ slice_get (due_ids window (slice_range es (i + 1) j)) 0
-  first-other es i j p lt at due = rw (slice_range-step es i j p lt at, due) refl
+  none-at : (ps : List (ℕ × End)) → ((k : ℕ) → get_or (map (λ q. is_due window q.1) ps) k false ≡ false) → due_ids window ps ≡ []
+  none-at [] h = refl
+  none-at (p ∷ ps) h = let d : is_due window p.1 ≡ false = h 0 in rw d (none-at ps (λ k. h (suc k)))
 
--- what `next_due` answers: nothing where none is due, else the first from the place of the turn on, else the first before it
-module _ (t : Table) where
-  no-turn : count (is_due t.window) t.entries ≡ 0 → round t ≡ []
-  no-turn h =
-      none-round (due_ids t.window (take t.turn t.entries)) (due_ids t.window (drop t.turn t.entries))
-      (sym (due_ids-append t.window (take t.turn t.entries) (drop t.turn t.entries))
-      ∙ ap (due_ids t.window) (take-append-drop t.turn t.entries)
-      ∙ due_ids-none t.window t.entries h)
+slice_get-drop : {X : Type 0} (n : ℕ) (xs : List X) (k : ℕ) → slice_get (drop n xs) k ≡ slice_get xs (n + k)
+slice_get-drop zero xs k = let e : 0 + k ≡ k = omega arith in rw e refl
+slice_get-drop (suc n) [] k = refl
+slice_get-drop (suc n) (x ∷ xs) k = let e : suc (n + k) ≡ suc n + k = omega arith in rw (← e) (slice_get-drop n xs k)
 
-  pub next-none : due_count t ≡ 0 → slice_get (round t) 0 ≡ None
-  next-none h = ap (λ is. slice_get is 0) (no-turn (count_is (is_due t.window) t.entries ∙ h))
+slice_get-take : {X : Type 0} (n : ℕ) (xs : List X) (k : ℕ) → k < n → slice_get (take n xs) k ≡ slice_get xs k
+slice_get-take zero xs k h = absurd (omega arith)
+slice_get-take (suc n) [] k h = refl
+slice_get-take (suc n) (x ∷ xs) zero h = refl
+slice_get-take (suc n) (x ∷ xs) (suc k) h = slice_get-take n xs k (omega arith)
 
-  back : (i n : ℕ) → i ≡ t.turn → n ≡ length t.entries → slice_range t.entries i n ≡ drop t.turn t.entries
-  back i n e l = rw (e, l) (slice_range-back t.entries t.turn)
+-- what `next_due` answers, by the flags of the records
+module _ (t : Table) (flags : List Bool) (is : flags ≡ due_flags t) where
+  flag_behind : (k : ℕ) → get_or (map (λ q. is_due t.window q.1) (drop t.turn t.entries)) k false ≡ get_or flags (t.turn + k) false
+  flag_behind k =
+      ap (λ bs. get_or bs k false) (sym (drop-map (λ (q : ℕ × End). is_due t.window q.1) t.turn t.entries))
+      ∙ get_or-drop t.turn (due_flags t) k false ∙ ap (λ bs. get_or bs (t.turn + k) false) (sym is)
 
-  front : (i : ℕ) → i ≡ t.turn → slice_range t.entries 0 i ≡ take t.turn t.entries
-  front i e = rw e (slice_range-front t.entries t.turn)
+  flag_before : (k : ℕ) → k < t.turn → get_or (map (λ q. is_due t.window q.1) (take t.turn t.entries)) k false ≡ get_or flags k false
+  flag_before k lt =
+      ap (λ bs. get_or bs k false) (sym (take-map (λ (q : ℕ × End). is_due t.window q.1) t.turn t.entries))
+      ∙ get_or-take t.turn (due_flags t) k false lt ∙ ap (λ bs. get_or bs k false) (sym is)
 
-  pub next-behind : (i n id : ℕ) → i ≡ t.turn → n ≡ length t.entries → Some id ≡ slice_get (due_ids t.window (slice_range t.entries i n)) 0 → Some id ≡ slice_get (round t) 0
-  next-behind i n id e l h = sym (first-append_some _ _ id (sym (rw (back i n e l) at h)))
+  due_at : (at : ℕ) (p : ℕ × End) → slice_get t.entries at ≡ Some p → get_or flags at false ≡ true → is_due t.window p.1 ≡ true
+  due_at at p here set =
+      sym (get_or_from_slice_get (due_flags t) at (is_due t.window p.1) false
+      (slice_get-map (λ (q : ℕ × End). is_due t.window q.1) t.entries at ∙ ap (option_map (λ (q : ℕ × End). is_due t.window q.1)) here))
+      ∙ ap (λ bs. get_or bs at false) (sym is) ∙ set
 
-  pub next-before : (i n : ℕ) (r : Option ℕ) → i ≡ t.turn → n ≡ length t.entries → None ≡ slice_get (due_ids t.window (slice_range t.entries i n)) 0
-      → r ≡ slice_get (due_ids t.window (slice_range t.entries 0 i)) 0 → r ≡ slice_get (round t) 0
-  next-before i n r e l h g =
-      g ∙ ap (λ ps. slice_get (due_ids t.window ps) 0) (front i e)
-      ∙ sym (first-append_none _ _ (sym (rw (back i n e l) at h)))
+  -- the first from the place of the turn on
+  pub next-behind : (at : ℕ) (p : ℕ × End) → slice_get t.entries at ≡ Some p → IsFirst (λ k. get_or flags k false) t.turn at
+      → slice_get (round t) 0 ≡ Some p.0
+  next-behind at p here first =
+      let e : t.turn + (at - t.turn) ≡ at = let h = first.behind in omega arith in
+      first-append_some _ _ p.0
+      (first-at t.window (drop t.turn t.entries) (at - t.turn) p
+      (slice_get-drop t.turn t.entries (at - t.turn) ∙ ap (slice_get t.entries) e ∙ here)
+      (due_at at p here first.passes)
+      (λ k lt. flag_behind k ∙ first.none_between (t.turn + k) (omega arith) (omega arith)))
 
--- one step of the search, at the record that stands at `i`
-module _ (t u : Table) (same : t ≡ u) (i j : ℕ) (p : ℕ × End) (lt : i < j) (at : slice_get t.entries i ≡ Some p) where
-  pub turn-here : is_due t.window p.1 ≡ true → slice_get (due_ids u.window (slice_range u.entries i j)) 0 ≡ Some p.0
-  turn-here due =
-      subst (λ (v : Table). slice_get (due_ids v.window (slice_range v.entries i j)) 0 ≡ Some p.0) same (first-due t.window t.entries i j p lt at due)
+  none_behind : IsNoneFrom (λ k. get_or flags k false) t.turn → due_ids t.window (drop t.turn t.entries) ≡ []
+  none_behind none = none-at t.window (drop t.turn t.entries) (λ k. flag_behind k ∙ none (t.turn + k) (omega arith))
 
-  pub turn-behind : is_due t.window p.1 ≡ false
-      → slice_get (due_ids u.window (slice_range u.entries i j)) 0 ≡ slice_get (due_ids u.window (slice_range u.entries (i + 1) j)) 0
-  turn-behind due =
-      subst (λ (v : Table). slice_get (due_ids v.window (slice_range v.entries i j)) 0 ≡ slice_get (due_ids v.window (slice_range v.entries (i + 1) j)) 0) same
-      (first-other t.window t.entries i j p lt at due)
+  -- or else the first before it
+  pub next-before : (at : ℕ) (p : ℕ × End) → slice_get t.entries at ≡ Some p → IsNoneFrom (λ k. get_or flags k false) t.turn
+      → IsFirst (λ k. get_or flags k false) 0 at → slice_get (round t) 0 ≡ Some p.0
+  next-before at p here none first =
+      elim (cases_lt at t.turn) [
+        | inl lt ↦
+            rw (none_behind none)
+            (first-at t.window (take t.turn t.entries) at p
+            (slice_get-take t.turn t.entries at lt ∙ here)
+            (due_at at p here first.passes)
+            (λ k l. flag_before k (omega arith) ∙ first.none_between k (omega arith) l))
+        | inr ge ↦ absurd (both_ways _ (none at ge) first.passes)
+      ]
+
+  -- or none
+  pub next-none : IsNoneFrom (λ k. get_or flags k false) 0 → slice_get (round t) 0 ≡ None
+  next-none none =
+      rw (none_behind (λ k le. none k (omega arith)))
+      (ap (λ is. slice_get is 0)
+      (none-at t.window (take t.turn t.entries)
+      (λ k. elim (cases_lt k t.turn) as (λ _. get_or (map (λ q. is_due t.window q.1) (take t.turn t.entries)) k false ≡ false) [
+        | inl lt ↦ flag_before k lt ∙ none k (omega arith)
+        | inr ge ↦ get_or_past _ k false
+            (omega (arith, length-map (take t.turn t.entries) (λ (q : ℕ × End). is_due t.window q.1), length-take t.turn t.entries))
+      ])))

@@ -1,3 +1,4 @@
 pub mod Kept
 pub mod Standing
 pub mod Others
+pub mod Flags

@@ -1,24 +1,26 @@
 //! The records of a session's streams by id, in the order in which they were made. A write changes one
-//! record and nothing else. How many streams have a frame due is kept, and so is the place in the order
-//! from which the next turn to send starts. An insertion takes memory, and a write only where more than
-//! 262,144 bytes of its stream would be unsent.
+//! record and nothing else. Which streams have a frame due is kept, and so is the place in the order from
+//! which the next turn to send starts. An insertion takes memory, and a write only where more than 262,144
+//! bytes of its stream would be unsent.
 #![tactic(auto)]
 
 ghost use Rattle.std.specs.Prelude.{◌≡◌, ◌^◌, ◌<◌, ◌≤◌, ◌↔◌, length, nat_eq, is_some, All, IsTrue, IsSome, MatchBool, OnOk, OnErr, None};
 ghost use Rattle.std.specs.List.{IsDistinct};
 ghost use Rattle.std.specs.Map.{keys_of};
 ghost use Rattle.std.specs.Option.{option_copied};
-ghost use Rattle.ymx_model.specs.Tables.{look, place, new_table, most_records, added, removed};
+ghost use Rattle.ymx_model.specs.Tables.{look, new_table, most_records, added, removed};
 ghost use Rattle.ymx_table.specs.Standing.{StandsAt};
 
 mod due;
+mod due_places;
+mod flags;
 mod law;
 mod stream;
 #[cfg(test)]
 mod tests;
 mod turn;
 
-use due::recount;
+use due_places::DuePlaces;
 use indexmap::IndexMap;
 pub use law::others_keep;
 use std::alloc::{AllocError, Global};
@@ -38,7 +40,7 @@ pub struct Table {
     window: u32,
     records: IndexMap<u32, StreamRec>,
     turn: usize,
-    due: usize,
+    due: DuePlaces,
 }
 
 impl Model for Table {
@@ -61,7 +63,7 @@ impl Table {
             window,
             records: IndexMap::new(alloc),
             turn: 0,
-            due: 0,
+            due: DuePlaces::new(),
         }
     }
 
@@ -124,7 +126,7 @@ impl Table {
     {
         let is_due = stream.is_due(self.window);
         self.records.insert(id, stream)?;
-        self.due = recount(self.due, false, is_due);
+        self.due.push(is_due);
         Ok(())
     }
 
@@ -134,10 +136,10 @@ impl Table {
         requires { IsSome (look id self.old.entries) }
         ensures { self.new ≡ removed id self.old }
     {
-        let found = self.find(id);
-        self.records.shift_remove_index(found.place);
-        self.due = recount(self.due, found.was_due, false);
-        if found.place < self.turn {
+        let place = self.place_of(id);
+        self.records.shift_remove_index(place);
+        self.due.remove(place);
+        if place < self.turn {
             self.turn -= 1;
         }
     }
@@ -145,26 +147,8 @@ impl Table {
     /// The place of a record in the order.
     fn place_of(&self, id: u32) -> usize
         requires { IsSome (look id self.now.entries) }
-        ensures place { result ≡ place id self.now.entries }
-        ensures within { result < length self.now.entries }
+        ensures { StandsAt id self.now result }
     {
         self.records.get_index_of(&id).unwrap()
     }
-
-    /// The place of a record in the order, and whether it has a frame due.
-    fn find(&self, id: u32) -> Found
-        requires { IsSome (look id self.now.entries) }
-        ensures { StandsAt id self.now result.place result.was_due }
-    {
-        let place = self.place_of(id);
-        let was_due = self.records[place].is_due(self.window);
-        Found { place, was_due }
-    }
-}
-
-/// Where a record stands, and whether a frame of its stream was due before a change.
-#[derive(Clone, Copy)]
-struct Found {
-    place: usize,
-    was_due: bool,
 }

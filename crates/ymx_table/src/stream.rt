@@ -11,7 +11,6 @@ ghost use Rattle.ymx_half.specs.Stages.{phase_of};
 ghost use Rattle.ymx_half.specs.Frames.{kind_of};
 
 use crate::Table;
-use crate::due::recount;
 use std::alloc::AllocError;
 use ymx_half::{FrameKind, Stage};
 
@@ -31,11 +30,11 @@ impl Table {
         ensures in_room { ForSome (look id self.old.entries) (λ e. length e.out.unsent + min (length bytes.now) e.out.credit ≤ 262144 → IsOk result) }
         ensures refused_unchanged { OnErr result (self.new ≡ self.old) }
     {
-        let found = self.find(id);
-        let stream = &mut self.records[found.place];
+        let place = self.place_of(id);
+        let stream = &mut self.records[place];
         let wrote = stream.write(bytes);
         let is_due = stream.is_due(self.window);
-        self.due = recount(self.due, found.was_due, is_due);
+        self.due.set(place, is_due);
         wrote
     }
 
@@ -47,11 +46,11 @@ impl Table {
         ensures gave { ForSome (look id self.old.entries) (λ e. buffer.new ≡ take result e.inn.unread ++ drop result buffer.old) }
         ensures after { self.new ≡ on id (end_read result) self.old }
     {
-        let found = self.find(id);
-        let stream = &mut self.records[found.place];
+        let place = self.place_of(id);
+        let stream = &mut self.records[place];
         let count = stream.read(buffer);
         let is_due = stream.is_due(self.window);
-        self.due = recount(self.due, found.was_due, is_due);
+        self.due.set(place, is_due);
         count
     }
 
@@ -61,11 +60,11 @@ impl Table {
         requires up { ForSome (look id self.old.entries) (λ e. takes e.phase ≡ true) }
         ensures { self.new ≡ on id end_finish self.old }
     {
-        let found = self.find(id);
-        let stream = &mut self.records[found.place];
+        let place = self.place_of(id);
+        let stream = &mut self.records[place];
         stream.finish();
         let is_due = stream.is_due(self.window);
-        self.due = recount(self.due, found.was_due, is_due);
+        self.due.set(place, is_due);
     }
 
     /// An offered stream is accepted. Its ACK is due, unless the session is lost.
@@ -74,11 +73,11 @@ impl Table {
         requires offered { ForSome (look id self.old.entries) (λ e. is_offered e.phase ≡ true) }
         ensures { self.new ≡ on id (end_accept lost) self.old }
     {
-        let found = self.find(id);
-        let stream = &mut self.records[found.place];
+        let place = self.place_of(id);
+        let stream = &mut self.records[place];
         stream.accept(lost);
         let is_due = stream.is_due(self.window);
-        self.due = recount(self.due, found.was_due, is_due);
+        self.due.set(place, is_due);
     }
 
     /// Both directions of the stream are over, and its RST is due (flags). It is then at `stage`, which is
@@ -88,11 +87,11 @@ impl Table {
         requires over { takes (phase_of stage) ≡ false }
         ensures { self.new ≡ on id (end_reset (phase_of stage)) self.old }
     {
-        let found = self.find(id);
-        let stream = &mut self.records[found.place];
+        let place = self.place_of(id);
+        let stream = &mut self.records[place];
         stream.reset(stage);
         let is_due = stream.is_due(self.window);
-        self.due = recount(self.due, found.was_due, is_due);
+        self.due.set(place, is_due);
     }
 
     /// The stream is given up, and lingers until what it still has to send went out. In a lost session that
@@ -101,11 +100,11 @@ impl Table {
         requires { IsSome (look id self.old.entries) }
         ensures { self.new ≡ on id (end_forget lost) self.old }
     {
-        let found = self.find(id);
-        let stream = &mut self.records[found.place];
+        let place = self.place_of(id);
+        let stream = &mut self.records[place];
         stream.forget(lost);
         let is_due = stream.is_due(self.window);
-        self.due = recount(self.due, found.was_due, is_due);
+        self.due.set(place, is_due);
     }
 
     // ---- frames that come
@@ -117,11 +116,11 @@ impl Table {
         requires granted { ForSome (look id self.old.entries) (λ e. takes_payload e ≡ true → length bytes.now ≤ e.inn.granted) }
         ensures { self.new ≡ on id (gets_piece fin bytes.now) self.old }
     {
-        let found = self.find(id);
-        let stream = &mut self.records[found.place];
+        let place = self.place_of(id);
+        let stream = &mut self.records[place];
         stream.receive_piece(fin, bytes);
         let is_due = stream.is_due(self.window);
-        self.due = recount(self.due, found.was_due, is_due);
+        self.due.set(place, is_due);
     }
 
     /// Payload comes (flow control). A stream that takes payload has granted so many bytes.
@@ -130,11 +129,11 @@ impl Table {
         requires granted { ForSome (look id self.old.entries) (λ e. takes_payload e ≡ true → length bytes.now ≤ e.inn.granted) }
         ensures { self.new ≡ on id (gets_data bytes.now) self.old }
     {
-        let found = self.find(id);
-        let stream = &mut self.records[found.place];
+        let place = self.place_of(id);
+        let stream = &mut self.records[place];
         stream.receive_data(bytes);
         let is_due = stream.is_due(self.window);
-        self.due = recount(self.due, found.was_due, is_due);
+        self.due.set(place, is_due);
     }
 
     /// The peer's end comes (half-close).
@@ -142,11 +141,11 @@ impl Table {
         requires { IsSome (look id self.old.entries) }
         ensures { self.new ≡ on id gets_fin self.old }
     {
-        let found = self.find(id);
-        let stream = &mut self.records[found.place];
+        let place = self.place_of(id);
+        let stream = &mut self.records[place];
         stream.receive_fin();
         let is_due = stream.is_due(self.window);
-        self.due = recount(self.due, found.was_due, is_due);
+        self.due.set(place, is_due);
     }
 
     /// The peer lets `delta` bytes more be written (flow control). The sum is at most 4,294,967,295 bytes:
@@ -156,11 +155,11 @@ impl Table {
         requires fits { ForSome (look id self.old.entries) (λ e. takes e.phase ≡ true → e.out.credit + delta ≤ 4294967295) }
         ensures { self.new ≡ on id (gets_credit delta) self.old }
     {
-        let found = self.find(id);
-        let stream = &mut self.records[found.place];
+        let place = self.place_of(id);
+        let stream = &mut self.records[place];
         stream.receive_credit(delta);
         let is_due = stream.is_due(self.window);
-        self.due = recount(self.due, found.was_due, is_due);
+        self.due.set(place, is_due);
     }
 
     /// The peer has acknowledged the stream (flags).
@@ -168,11 +167,11 @@ impl Table {
         requires { IsSome (look id self.old.entries) }
         ensures { self.new ≡ on id gets_ack self.old }
     {
-        let found = self.find(id);
-        let stream = &mut self.records[found.place];
+        let place = self.place_of(id);
+        let stream = &mut self.records[place];
         stream.receive_ack();
         let is_due = stream.is_due(self.window);
-        self.due = recount(self.due, found.was_due, is_due);
+        self.due.set(place, is_due);
     }
 
     /// The peer has reset the stream, which is not one that is only offered: the record of such a one is
@@ -182,11 +181,11 @@ impl Table {
         requires not_offered { ForSome (look id self.old.entries) (λ e. is_offered e.phase ≡ false) }
         ensures { self.new ≡ on id gets_rst self.old }
     {
-        let found = self.find(id);
-        let stream = &mut self.records[found.place];
+        let place = self.place_of(id);
+        let stream = &mut self.records[place];
         stream.receive_rst();
         let is_due = stream.is_due(self.window);
-        self.due = recount(self.due, found.was_due, is_due);
+        self.due.set(place, is_due);
     }
 
     // ---- frames that go
@@ -202,11 +201,11 @@ impl Table {
         ensures written { ForSome (look id self.old.entries) (λ e. buffer.new ≡ spelled (kind_of kind) self.old.window limit id e ++ drop result buffer.old) }
         ensures goes { self.new ≡ on id (sends self.old.window limit (kind_of kind)) self.old }
     {
-        let found = self.find(id);
-        let stream = &mut self.records[found.place];
+        let place = self.place_of(id);
+        let stream = &mut self.records[place];
         let count = stream.begin_frame(kind, self.window, limit, id, buffer);
         let is_due = stream.is_due(self.window);
-        self.due = recount(self.due, found.was_due, is_due);
+        self.due.set(place, is_due);
         count
     }
 }

@@ -6,7 +6,7 @@ use Rattle.ymx_table.proofs.Table.insert.Goals as goal
 pub invariant_of-self-2 : goal.invariant_of-self-2
 invariant_of-self-2 c =
     kept-added _ _ c.self.view_is c.args.id c.args.stream c.requires.absent _ c.in_ok-insert.ensures.entries
-    _ _ _ c.self.invariant c.requires.room (omega arith) c.is_due-is_due.ensures c.recount-self-inside.ensures
+    _ _ _ c.self.invariant c.requires.room (omega arith) c.is_due-is_due.ensures c.push.ensures
 
 pub returns-clause-last : goal.returns-clause-last
 returns-clause-last c = added-is _ _ c.self.view_is c.args.id c.args.stream c.requires.absent _ c.in_ok-insert.ensures.entries

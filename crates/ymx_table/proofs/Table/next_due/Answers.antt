@@ -1,19 +1,23 @@
--- Nothing, or the first from the place of the turn on, or the first before it.
-use Rattle.std.proofs.Common.{ap, sym, ◌∙◌, length}
-use Rattle.ymx_model.specs.Tables.{Table, due_count}
+-- The first from the place of the turn on, or the first before it, or none.
+use Rattle.std.proofs.Common.{ap, sym, ◌∙◌, slice_get}
+use Rattle.std.specs.Option.{option_map}
+use Rattle.std.specs.Map.Iter.{deref_pair}
+use Rattle.ymx_model.specs.Tables.{Table, round}
 use Rattle.ymx_table.proofs.Rounds.{next-none, next-behind, next-before}
 use Rattle.ymx_table.proofs.Table.next_due.Goals as goal
+use Rattle.ymx_table.proofs.Table.next_due.Goals.{in-Some, in-None+in_ok-place-in-None}
 
-pub returns-then-self-eq0 : goal.returns-then-self-eq0
-returns-then-self-eq0 c =
-    sym (next-none c.args.self.now (ap due_count (sym c.self.view_is) ∙ sym c.self.invariant.counted ∙ c.if-self-eq0.true))
+pub returns-in_err-place-in-None : goal.returns-in_err-place-in-None
+returns-in_err-place-in-None c =
+    c.from_residual.ensures ∙ sym (next-none _ _ c.self.invariant.flagged c.in_err-place-in-None.ensures)
+    ∙ ap (λ (t : Table). slice_get (round t) 0) c.self.view_is
 
-pub returns-in-Some : goal.returns-in-Some
-returns-in-Some c =
-    next-behind c.args.self.now _ _ _ (ap (λ (t : Table). t.turn) c.self.view_is)
-    (c.len.ensures.len ∙ ap (λ (t : Table). length t.entries) c.self.view_is) c.in-Some.ensures
-
-pub returns-in-None : goal.returns-in-None
-returns-in-None c =
-    next-before c.args.self.now _ _ _ (ap (λ (t : Table). t.turn) c.self.view_is)
-    (c.len.ensures.len ∙ ap (λ (t : Table). length t.entries) c.self.view_is) c.in-None.ensures c.first_due-in-None.ensures
+pub returns : goal.returns
+returns c =
+    let here = sym c.get_index.ensures.entry ∙ ap (option_map deref_pair) c.unwrap.ensures in
+    (elim c.match-first_from.branch [
+      | in-Some w ↦ sym (next-behind _ _ c.self.invariant.flagged _ _ here (rw w.place-is w.in-Some.ensures))
+      | in-None+in_ok-place-in-None w ↦
+          sym (next-before _ _ c.self.invariant.flagged _ _ here w.in-None.ensures (rw w.place-is w.in_ok-place-in-None.ensures))
+    ])
+    ∙ ap (λ (t : Table). slice_get (round t) 0) c.self.view_is
