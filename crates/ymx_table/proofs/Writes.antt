@@ -65,6 +65,8 @@ module _ (t u : Table) (same : t ≡ u) (id at : ℕ) (before : End) (s : Stands
   pub kept-written : (flags flags' : List Bool) (is : Bool) (after : End) → IsKept t flags → is ≡ is_due t.window after
       → flags' ≡ set flags at is → IsKept (record t { entries = set_value_at t.entries at after }) flags'
   kept-written flags flags' is after k i d = record {
+    narrowest = k.narrowest;
+    widest = k.widest;
     flagged =
         d ∙ ap (λ b. set flags at b) i ∙ ap (λ bs. set bs at (is_due t.window after)) k.flagged
         ∙ sym (map-set_value_at (λ p. is_due t.window p.1) (is_due t.window) (λ j e. refl) t.entries at after);
@@ -96,6 +98,8 @@ module _ (t u : Table) (same : t ≡ u) (id at : ℕ) (s : StandsAt id u at) (th
 
   pub kept-removed : (flags flags' : List Bool) → IsKept t flags → flags' ≡ remove flags at → IsKept (record t { entries = es; turn = turn }) flags'
   kept-removed flags flags' k d = record {
+    narrowest = k.narrowest;
+    widest = k.widest;
     flagged =
         d ∙ ap (λ bs. remove bs at) k.flagged ∙ sym (map-remove (λ p. is_due t.window p.1) t.entries at)
         ∙ sym (ap (map (λ p. is_due t.window p.1)) gone);
@@ -124,6 +128,8 @@ module _ (t u : Table) (same : t ≡ u) (id : ℕ) (x : End) (absent : look id u
   pub kept-added : (flags flags' : List Bool) (is : Bool) → IsKept t flags → length u.entries < most_records → id < 2 ^ 32 → is ≡ is_due t.window x
       → flags' ≡ flags ++ is ∷ [] → IsKept (record t { entries = es }) flags'
   kept-added flags flags' is k few fits i d = rw entries-added (record {
+    narrowest = k.narrowest;
+    widest = k.widest;
     flagged =
         d ∙ ap (λ b. flags ++ b ∷ []) i ∙ ap (λ bs. bs ++ is_due t.window x ∷ []) k.flagged
         ∙ sym (map-append (λ p. is_due t.window p.1) t.entries ((id, x) ∷ []));

@@ -1,6 +1,7 @@
 -- What is true of every table (this project's own).
 use Rattle.std.specs.Prelude.{◌≡◌, ◌<◌, ◌≤◌, ◌^◌, Bool, List, length, map, All}
 use Rattle.std.specs.Map.{keys_of}
+use Rattle.ymx_model.specs.Lanes.{first_credit}
 use Rattle.ymx_model.specs.Outgoing.{is_due}
 use Rattle.ymx_model.specs.Tables.{Table, most_records}
 
@@ -8,9 +9,12 @@ use Rattle.ymx_model.specs.Tables.{Table, most_records}
 abbrev pub due_flags : Table → List Bool
 due_flags t = map (λ p. is_due t.window p.1) t.entries
 
--- `due` says which streams have a frame due; the records are few enough; the next turn starts at one
--- of them, or just behind the last; and each stream id is one of the protocol (32 bits)
+-- The window is one that a session may have; `due` says which streams have a frame due; the records are
+-- few enough; the next turn starts at one of them, or just behind the last; and each stream id is one of
+-- the protocol (32 bits).
 pub record IsKept (t : Table) (due : List Bool) : Type 0 where
+  pub narrowest : first_credit ≤ t.window
+  pub widest : t.window ≤ 16777216
   pub flagged : due ≡ due_flags t
   pub few : length t.entries ≤ most_records
   pub turn_within : t.turn ≤ length t.entries

@@ -8,6 +8,8 @@ ghost use Rattle.std.specs.Prelude.{◌≡◌, ◌^◌, ◌<◌, ◌≤◌, ◌�
 ghost use Rattle.std.specs.List.{IsDistinct};
 ghost use Rattle.std.specs.Map.{keys_of};
 ghost use Rattle.std.specs.Option.{option_copied};
+ghost use Rattle.ymx_half.specs.Windows.{window_of};
+ghost use Rattle.ymx_model.specs.Lanes.{first_credit};
 ghost use Rattle.ymx_model.specs.Tables.{look, new_table, most_records, added, removed};
 ghost use Rattle.ymx_table.specs.Standing.{StandsAt};
 
@@ -55,8 +57,11 @@ impl Model for Table {
 }
 
 impl Table {
-    /// Makes an empty table for a session of this window, in bytes. It takes no memory yet.
+    /// Makes an empty table for a session of this window, in bytes: from 262,144 to 16,777,216. It takes no
+    /// memory yet.
     pub fn new(alloc: Global, window: u32) -> Table
+        requires narrowest { first_credit ≤ window }
+        requires widest { window ≤ 16777216 }
         ensures { result ≡ new_table window }
     {
         Table {
@@ -67,9 +72,11 @@ impl Table {
         }
     }
 
-    /// The window of the session, in bytes.
+    /// The window of the session, in bytes: from 262,144 to 16,777,216.
     pub fn window(&self) -> u32
-        ensures { result ≡ self.now.window }
+        ensures value { result ≡ self.now.window }
+        ensures narrowest { first_credit ≤ result }
+        ensures widest { result ≤ 16777216 }
     {
         self.window
     }
@@ -114,13 +121,15 @@ impl Table {
     }
 
     /// Inserts the record of a new stream behind the others. There has to be room for it, and no record
-    /// under its id.
+    /// under its id. It was made for the session's window: what is unread of it, granted and owed makes up
+    /// that window.
     ///
     /// It takes memory. Without it it answers `AllocError`: the table is as it was, and the record is
     /// dropped.
     pub fn insert(&mut self, id: u32, stream: StreamRec) -> Result<(), AllocError>
         requires absent { look id self.old.entries ≡ None }
         requires room { length self.old.entries < most_records }
+        requires of_window { window_of stream.inn ≡ self.old.window }
         ensures last { OnOk result (self.new ≡ added id stream self.old) }
         ensures refused_unchanged { OnErr result (self.new ≡ self.old) }
     {

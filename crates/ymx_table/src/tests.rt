@@ -15,7 +15,7 @@ fn open(alloc: Global, table: &mut Table, id: u32) -> Result<bool, AllocError> {
     if table.is_full() || table.contains(id) {
         return Ok(false);
     }
-    table.insert(id, StreamRec::opened(alloc, WINDOW, false)?)?;
+    table.insert(id, StreamRec::opened(alloc, table.window(), false)?)?;
     Ok(true)
 }
 
@@ -158,7 +158,7 @@ fn pair(alloc: Global, buffer: &mut [u8]) -> Result<Option<Table>, AllocError> {
     if table.is_full() || table.contains(2) {
         return Ok(None);
     }
-    table.insert(2, StreamRec::offered(alloc, WINDOW)?)?;
+    table.insert(2, StreamRec::offered(alloc, table.window())?)?;
     let is_due_once = table.due_count() == 1 && accept(&mut table, 2);
     let is_due_twice = table.due_count() == 2 && grant(&mut table, 1);
     let is_open = send(&mut table, buffer) == Some((1, FrameKind::Open, 12));
