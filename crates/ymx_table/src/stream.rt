@@ -3,7 +3,7 @@
 
 ghost use Rattle.std.specs.Prelude.{◌≡◌, ◌+◌, ◌≤◌, ◌++◌, length, take, drop, min, true, false, Some, IsSome, IsOk, IfOk, OnErr};
 ghost use Rattle.std.specs.Option.{ForSome};
-ghost use Rattle.ymx_model.specs.Streams.{takes, is_offered};
+ghost use Rattle.ymx_model.specs.Streams.{takes, is_offered, is_lingering};
 ghost use Rattle.ymx_model.specs.Records.{takes_payload, end_write, end_read, end_finish, end_accept, end_reset, end_forget, gets_data, gets_piece, gets_credit, gets_fin, gets_ack, gets_rst};
 ghost use Rattle.ymx_model.specs.Outgoing.{next_kind, sends, spelled};
 ghost use Rattle.ymx_model.specs.Tables.{look, on};
@@ -81,9 +81,10 @@ impl Table {
     }
 
     /// Both directions of the stream are over, and its RST is due (flags). It is then at `stage`, which is
-    /// `Reset` or `Lingering`.
+    /// `Reset` or `Lingering`. Before, it is neither reset nor given up.
     pub fn reset(&mut self, id: u32, stage: Stage)
         requires there { IsSome (look id self.old.entries) }
+        requires up { ForSome (look id self.old.entries) (λ e. takes e.phase ≡ true) }
         requires over { takes (phase_of stage) ≡ false }
         ensures { self.new ≡ on id (end_reset (phase_of stage)) self.old }
     {
@@ -95,9 +96,10 @@ impl Table {
     }
 
     /// The stream is given up, and lingers until what it still has to send went out. In a lost session that
-    /// is nothing.
+    /// is nothing. It wasn't given up before.
     pub fn forget(&mut self, id: u32, lost: bool)
-        requires { IsSome (look id self.old.entries) }
+        requires there { IsSome (look id self.old.entries) }
+        requires held { ForSome (look id self.old.entries) (λ e. is_lingering e.phase ≡ false) }
         ensures { self.new ≡ on id (end_forget lost) self.old }
     {
         let place = self.place_of(id);

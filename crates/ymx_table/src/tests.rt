@@ -223,17 +223,18 @@ fn streams_end(rt: HostRuntime) -> Result<(), Fail> {
     Ok(())
 }
 
-/// The stream is reset, its end comes, which it ignores, and it is given up.
+/// The stream, which is open, is reset, its end comes, which it ignores, and it is given up.
 fn give_up(table: &mut Table, id: u32) -> bool {
-    if !table.contains(id) {
-        return false;
+    match table.get(id) {
+        Some(stream) if stream.stage() == Stage::Live => table.reset(id, Stage::Reset),
+        _ => return false,
     }
-    table.reset(id, Stage::Reset);
     if table.contains(id) {
         table.receive_fin(id);
     }
-    if table.contains(id) {
-        table.forget(id, false);
+    match table.get(id) {
+        Some(stream) if stream.stage() == Stage::Reset => table.forget(id, false),
+        _ => return false,
     }
     table
         .get(id)
