@@ -278,6 +278,40 @@ fn a_full_table_goes_round(rt: HostRuntime) -> Result<(), Fail> {
     Ok(())
 }
 
+/// Whether the turn is this stream's, whichever of these was served last.
+fn is_next_behind_each(table: &mut Table, busy: u32, served: &[u32]) -> bool {
+    for id in served {
+        if !table.contains(*id) {
+            return false;
+        }
+        table.served(*id);
+        if table.next_due() != Some(busy) {
+            return false;
+        }
+    }
+    true
+}
+
+/// Whether the one busy stream is found, and nothing once its frame went.
+fn is_found(table: &mut Table, buffer: &mut [u8], busy: u32) -> Result<bool, AllocError> {
+    let is_written = write(table, busy, b"x")? == Some(1);
+    let is_next = is_next_behind_each(table, busy, &[1, 125, 127, 129, 131, 2045, 2047]);
+    let is_sent = send(table, buffer) == Some((busy, FrameKind::Data, 13));
+    Ok(is_written && is_next && is_sent && table.next_due().is_none())
+}
+
+/// The one busy stream is found wherever it stands among 1,024, and whatever place is next.
+#[test]
+fn one_busy_stream_is_found(rt: HostRuntime) -> Result<(), Fail> {
+    let mut table = opened(rt.alloc(), 1024)?;
+    let mut frame = vec![in rt.alloc(); 0; FRAME]?;
+    assert!(rt; are_served(&mut table, &mut frame, 1, 2049, 0));
+    for busy in [1, 127, 129, 131, 1023, 2047] {
+        assert!(rt; is_found(&mut table, &mut frame, busy)?, "{busy}");
+    }
+    Ok(())
+}
+
 /// A record that is removed at the very place of the next turn leaves the turn to the one behind it.
 #[test]
 fn the_turn_passes_on(rt: HostRuntime) -> Result<(), Fail> {
