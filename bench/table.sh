@@ -1,6 +1,6 @@
 #!/bin/sh
-# Times looking up and changing one record of 10 and of 1,000. Needs `rt`; proves and builds in a
-# temporary folder, which takes some minutes.
+# Times looking up and changing one record of 10 and of 1,000, and a turn of the one busy stream among as
+# many. Needs `rt`; proves and builds in a temporary folder, which takes some minutes.
 set -eu
 top=$(cd "$(dirname "$0")/.." && pwd)
 work=$(mktemp -d)
