@@ -1,4 +1,1 @@
-pub mod Lines
-pub mod Outputs
 pub mod Messages
-pub mod Printing

@@ -3,8 +3,8 @@ use Rattle.std.specs.Prelude.{ℕ, List, [], Option, IsTrue, ◌⊎◌, codes}
 use Rattle.std.specs.Io.{StartsWith}
 use Rattle.std.specs.Io.KnownBytes.{Appends}
 use Rattle.ymx_model.specs.Devices.{has_failed}
-use Rattle.ymx_cli.specs.declared.frames.FramesEnd.{FramesEnd}
-use Rattle.ymx_cli.specs.declared.frames.FramesEnd.TheVariants.{Good, Fault as Faulty, Rest, Reading, Writing, Memory}
+use Rattle.ymx_frames.specs.declared.print.FramesEnd.{FramesEnd}
+use Rattle.ymx_frames.specs.declared.print.FramesEnd.TheVariants.{Good, Fault as Faulty, Rest, Reading, Writing, Memory}
 
 -- A text was said: all of it, or a beginning where the device failed. The device: its bytes and its failed calls, before and after.
 abbrev pub Says : (before after : Option (List ℕ)) → (failed fails : ℕ) → List ℕ → Type 0

@@ -2,18 +2,17 @@
 
 ghost use Rattle.std.specs.Prelude.{ℕ, List, ◌≡◌, ◌≤◌, ◌↔◌, ◌⊎◌};
 ghost use Rattle.std.specs.Io.KnownBytes.{Appends, Consumes, IsAtEnd, Keeps};
-ghost use Rattle.ymx_cli.specs.declared.frames.FramesEnd.{FramesEnd as End};
+ghost use Rattle.ymx_frames.specs.declared.print.FramesEnd.{FramesEnd as End};
 ghost use Rattle.ymx_cli.specs.Messages.{Says, not_text, out_of_memory, reason};
-ghost use Rattle.ymx_cli.specs.Outputs.{Prints};
+ghost use Rattle.ymx_frames.specs.Outputs.{Prints};
 
-use crate::frames::{FramesEnd, frames};
-use crate::output::push_all;
 use clap::error::ErrorKind;
 use clap::{Arg, ArgAction, Command, Error, value_parser};
 use std::alloc::{AllocError, Global};
 use std::convert::AsStr;
 use std::io;
 use std::sync::Wait;
+use ymx_frames::{FramesEnd, frames, push_all};
 use ymx_model::{Inlet, Outlet};
 
 /// The longest payload of a Data frame that is accepted where the command line says nothing.

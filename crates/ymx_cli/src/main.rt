@@ -2,10 +2,6 @@
 #![tactic(auto)]
 
 mod command;
-mod frames;
-mod lines;
-mod output;
-mod printer;
 mod standard;
 
 use command::{no_words, ymx_main};

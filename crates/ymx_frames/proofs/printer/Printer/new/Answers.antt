@@ -1,0 +1,15 @@
+use Rattle.std.proofs.Common.{refl, sym, subst}
+use Rattle.ymx_cutter.specs.Cutters.{Cutting}
+use Rattle.ymx_frames.specs.Printing.{NoFault}
+use Rattle.ymx_frames.proofs.Printed.{nothing_printed}
+use Rattle.ymx_frames.proofs.printer.Printer.new.Goals as goal
+
+pub returns : goal.returns
+returns c =
+    let fresh = c.in_ok-new.ensures.fresh in (
+      c.in_ok-with_capacity.ensures.items,
+      record {
+        so_far = nothing_printed c.args.limit _ fresh c.decode.ensures.fields c.new-2.ensures refl;
+        no_fault = subst (λ (x : Cutting). NoFault x.seen) (sym fresh) tt;
+      },
+    )

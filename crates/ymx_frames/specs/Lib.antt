@@ -1,0 +1,3 @@
+pub mod Lines
+pub mod Outputs
+pub mod Printing

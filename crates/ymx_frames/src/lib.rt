@@ -1,0 +1,12 @@
+//! Prints the yamux frames of an input, a line each, up to its end or its first bad frame. Kept at a
+//! time are one read of the input, the lines of that read, and of the frame begun its header and at
+//! most sixteen bytes of payload.
+#![tactic(auto)]
+
+mod lines;
+mod output;
+mod print;
+mod printer;
+
+pub use output::push_all;
+pub use print::{FramesEnd, frames, one_printing};

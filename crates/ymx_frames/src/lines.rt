@@ -1,0 +1,183 @@
+//! The lines that are printed of frames.
+
+ghost use Rattle.std.specs.Prelude.{ℕ, List, ◌≡◌, ◌++◌, [], take, OnOk, OnErr};
+ghost use Rattle.std.specs.Io.{StartsWith};
+ghost use Rattle.ymx_frames.specs.Lines.{fault_line, fields_text, flags_text, kind_word, line_text, preview, preview_text, rest_line};
+
+use arrayvec::ArrayVec;
+use itoa::{Buffer, Integer};
+use std::alloc::AllocError;
+use std::marker::Model;
+use ymx_header::{Fault, Header, TYPE_DATA, TYPE_PING, TYPE_WINDOW_UPDATE};
+
+/// How many bytes of a payload a line shows.
+const SHOWN: usize = 16;
+
+/// What a line shows of a payload that comes in pieces: its first sixteen bytes, and whether there
+/// are more.
+#[derive(Debug, Drop)]
+pub struct Preview {
+    bytes: ArrayVec<u8, SHOWN>,
+    more: bool,
+}
+
+impl Model for Preview {
+    ghost use Rattle.ymx_frames.specs.Lines.{Preview as Shown};
+
+    ghost Value = { Shown };
+
+    ghost view = { λ p. record { bytes = p.bytes.items; more = p.more } };
+}
+
+impl Preview {
+    /// Of no bytes.
+    pub fn new() -> Preview
+        ensures { result ≡ preview [] }
+    {
+        Preview {
+            bytes: ArrayVec::new(),
+            more: false,
+        }
+    }
+
+    /// The next piece of the payload has come.
+    pub fn add(&mut self, piece: &[u8])
+        ensures { (payload : List ℕ) → self.old ≡ preview payload → self.new ≡ preview (payload ++ piece.now) }
+    {
+        let room = self.bytes.remaining_capacity();
+        let fits = piece.len().min(room);
+        let _ = self.bytes.try_extend_from_slice(&piece[..fits]);
+        self.more |= room < piece.len();
+    }
+
+    /// Appends its text to a line.
+    fn write(&self, text: &mut Vec<u8>) -> Result<(), AllocError>
+        ensures ok { OnOk result (text.new.items ≡ text.old.items ++ preview_text self.now) }
+        ensures kept { StartsWith text.new.items text.old.items }
+    {
+        let shown = self.bytes.as_slice();
+        if shown.is_empty() {
+            return Ok(());
+        }
+        let mut digits = [0; 2 * SHOWN];
+        let digits = &mut digits[..2 * shown.len()];
+        let _ = hex::encode_to_slice(shown, digits);
+        text.extend_from_slice(b" ")?;
+        text.extend_from_slice(digits)?;
+        if self.more {
+            text.extend_from_slice(b"..")?;
+        }
+        Ok(())
+    }
+}
+
+/// Appends a name and a number in decimal digits.
+fn write_number<N: Integer>(text: &mut Vec<u8>, name: &[u8], number: N) -> Result<(), AllocError>
+    ensures ok { OnOk result (text.new.items ≡ text.old.items ++ (name.now ++ N.text number)) }
+    ensures kept { StartsWith text.new.items text.old.items }
+{
+    let mut buffer = Buffer::new();
+    text.extend_from_slice(name)?;
+    text.extend_from_slice(buffer.format(number).as_bytes())
+}
+
+/// Appends the type and the flags of a header.
+fn write_kind(text: &mut Vec<u8>, header: &Header) -> Result<(), AllocError>
+    ensures ok { OnOk result (text.new.items ≡ text.old.items ++ (kind_word header.now.kind ++ flags_text header.now.flags)) }
+    ensures kept { StartsWith text.new.items text.old.items }
+{
+    let word: &[u8] = match header.kind {
+        TYPE_DATA => b"data",
+        TYPE_WINDOW_UPDATE => b"window",
+        TYPE_PING => b"ping",
+        _ => b"away",
+    };
+    let mut flags = [0; 4];
+    let _ = hex::encode_to_slice(header.flags.to_be_bytes(), &mut flags);
+    text.extend_from_slice(word)?;
+    text.extend_from_slice(b" flags=")?;
+    text.extend_from_slice(&flags)
+}
+
+/// Appends the fields of a header.
+fn write_fields(text: &mut Vec<u8>, header: &Header) -> Result<(), AllocError>
+    ensures ok { OnOk result (text.new.items ≡ text.old.items ++ fields_text header.now) }
+    ensures kept { StartsWith text.new.items text.old.items }
+{
+    write_kind(text, header)?;
+    write_number(text, b" id=", header.id)?;
+    write_number(text, b" len=", header.length)
+}
+
+/// Appends the line of a frame. Where there is no memory for it nothing is appended.
+pub fn write_line(text: &mut Vec<u8>, header: &Header, preview: &Preview) -> Result<(), AllocError>
+    ensures ok { OnOk result (text.new.items ≡ text.old.items ++ line_text header.now preview.now) }
+    ensures err { OnErr result (text.new.items ≡ text.old.items) }
+{
+    let start = text.len();
+    let written = write_frame(text, header, preview);
+    whole_or_none(text, start, written)
+}
+
+/// Appends the line of a fault, whose frame begins at this place of the input. Where there is no
+/// memory for it nothing is appended.
+pub fn write_fault(text: &mut Vec<u8>, fault: Fault, offset: u64) -> Result<(), AllocError>
+    ensures ok { OnOk result (text.new.items ≡ text.old.items ++ fault_line fault offset) }
+    ensures err { OnErr result (text.new.items ≡ text.old.items) }
+{
+    let start = text.len();
+    let written = write_place(text, fault, offset);
+    whole_or_none(text, start, written)
+}
+
+/// Appends the line of a rest of so many bytes. Where there is no memory for it nothing is appended.
+pub fn write_rest(text: &mut Vec<u8>, count: usize) -> Result<(), AllocError>
+    ensures ok { OnOk result (text.new.items ≡ text.old.items ++ rest_line count) }
+    ensures err { OnErr result (text.new.items ≡ text.old.items) }
+{
+    let start = text.len();
+    let written = write_count(text, count);
+    whole_or_none(text, start, written)
+}
+
+/// Takes back what was appended behind `start` if not all of it was.
+fn whole_or_none(
+    text: &mut Vec<u8>,
+    start: usize,
+    written: Result<(), AllocError>,
+) -> Result<(), AllocError>
+    ensures same { result ≡ written }
+    ensures ok { OnOk written (text.new.items ≡ text.old.items) }
+    ensures err { OnErr written (text.new.items ≡ take start text.old.items) }
+{
+    if written.is_err() {
+        text.truncate(start);
+    }
+    written
+}
+
+fn write_frame(text: &mut Vec<u8>, header: &Header, preview: &Preview) -> Result<(), AllocError>
+    ensures ok { OnOk result (text.new.items ≡ text.old.items ++ line_text header.now preview.now) }
+    ensures kept { StartsWith text.new.items text.old.items }
+{
+    write_fields(text, header)?;
+    preview.write(text)?;
+    text.extend_from_slice(b"\n")
+}
+
+fn write_place(text: &mut Vec<u8>, fault: Fault, offset: u64) -> Result<(), AllocError>
+    ensures ok { OnOk result (text.new.items ≡ text.old.items ++ fault_line fault offset) }
+    ensures kept { StartsWith text.new.items text.old.items }
+{
+    write_number(text, b"fault B", fault.number())?;
+    write_number(text, b" at ", offset)?;
+    text.extend_from_slice(b"\n")
+}
+
+fn write_count(text: &mut Vec<u8>, count: usize) -> Result<(), AllocError>
+    ensures ok { OnOk result (text.new.items ≡ text.old.items ++ rest_line count) }
+    ensures kept { StartsWith text.new.items text.old.items }
+{
+    write_number(text, b"rest ", count)?;
+    text.extend_from_slice(b"\n")
+}
