@@ -1,15 +1,19 @@
 //! The command line of `ymx`.
 
-ghost use Rattle.std.specs.Prelude.{ℕ, List, ◌≡◌, ◌≤◌, ◌↔◌, ◌⊎◌};
-ghost use Rattle.std.specs.Io.KnownBytes.{Appends, Consumes, IsAtEnd, Keeps};
-ghost use Rattle.ymx_frames.specs.declared.print.FramesEnd.{FramesEnd as End};
-ghost use Rattle.ymx_cli.specs.Messages.{Says, not_text, out_of_memory, reason};
-ghost use Rattle.ymx_frames.specs.Outputs.{Prints};
+ghost use Rattle.std.specs.Prelude.{ℕ, List, ◌≡◌, ◌≤◌, ◌↔◌, ◌⊎◌, ◌<◌, ◌^◌, Some, codes, decimal, true, false, map, IfOk, IsTrue, MatchResult};
+ghost use Rattle.std.specs.Io.{StartsWith};
+ghost use Rattle.std.specs.Io.KnownBytes.{Appends, Keeps};
+ghost use Rattle.clap.specs.Words.{app_of, kind_of, rule_of, shape_of, subcommand_rows_of};
+ghost use Rattle.clap.specs.declared.builder.command.Command.TheViews.{out-Command as fields_of};
+ghost use Rattle.ymx_cli.specs.CommandLine.{AsksFrames, bare_shape, frames_shape, limit_rule, named_limit, ymx_app};
+ghost use Rattle.ymx_model.specs.Devices.{has_failed};
+ghost use Rattle.ymx_cli.specs.Messages.{IsMistake, PrintsFrames, Says, Shows, not_text, out_of_memory, reason, writing_failed};
 
 use clap::error::ErrorKind;
-use clap::{Arg, ArgAction, Command, Error, value_parser};
+use clap::{Arg, ArgAction, ArgMatches, Command, Error, value_parser};
 use std::alloc::{AllocError, Global};
 use std::convert::AsStr;
+use std::fmt::Display;
 use std::io;
 use std::sync::Wait;
 use ymx_frames::{FramesEnd, frames, push_all};
@@ -38,15 +42,17 @@ pub fn ymx_main<S: AsStr, R: Inlet, W: Outlet, E: Outlet>(
     ensures status { result ≤ 2 }
     // A good end says nothing on the error device.
     ensures good { result ≡ 0 → Keeps (E.contents errors.old) (E.contents errors.new) }
-    // Frames are printed, the status is 0 exactly at their good end, and what failed is said; or else
-    // nothing is read.
+    // Words that ask for frames get them with their limit, or there is no memory to read the words.
+    ensures frames { (limit : ℕ) → AsksFrames (map S.text words.now) limit →
+        PrintsFrames limit result (R.remaining reader.old) (R.remaining reader.new) (W.contents writer.old) (W.contents writer.new)
+        (Says (E.contents errors.old) (E.contents errors.new) (E.failures errors.old) (E.failures errors.new))
+        ⊎ ((result ≡ 1) × Keeps (R.remaining reader.old) (R.remaining reader.new) × Keeps (W.contents writer.old) (W.contents writer.new)
+        × Says (E.contents errors.old) (E.contents errors.new) (E.failures errors.old) (E.failures errors.new) out_of_memory) }
+    // Whatever the words, frames are printed so or nothing is read.
     ensures printed { Keeps (R.remaining reader.old) (R.remaining reader.new)
-        ⊎ ((limit : ℕ) × (end : End) × (text : List ℕ) × (output : List ℕ)
-        × Consumes (R.remaining reader.old) (R.remaining reader.new) text
-        × Appends (W.contents writer.old) (W.contents writer.new) output
-        × Prints limit text (IsAtEnd (R.remaining reader.new)) end output
-        × ((result ≡ 0) ↔ (end ≡ FramesEnd.Good))
-        × Says (E.contents errors.old) (E.contents errors.new) (E.failures errors.old) (E.failures errors.new) (reason end)) }
+        ⊎ ((limit : ℕ)
+        × PrintsFrames limit result (R.remaining reader.old) (R.remaining reader.new) (W.contents writer.old) (W.contents writer.new)
+        (Says (E.contents errors.old) (E.contents errors.new) (E.failures errors.old) (E.failures errors.new))) }
     // A bad command line does nothing.
     ensures bad { result ≡ 2 → Keeps (R.remaining reader.old) (R.remaining reader.new) × Keeps (W.contents writer.old) (W.contents writer.new) }
 {
@@ -73,19 +79,69 @@ pub fn no_words<E: Outlet>(error: &io::Error, errors: &mut E) -> u8
 }
 
 /// Reads the words of a command line.
-fn parse<'a, S: AsStr>(alloc: Global, words: &'a [S]) -> Result<Task, Error> {
+fn parse<'a, S: AsStr>(alloc: Global, words: &'a [S]) -> Result<Task, Error>
+    ensures { (limit : ℕ) → AsksFrames (map S.text words.entry.now) limit →
+        MatchResult result (λ task. task ≡ Task.Frames limit) (λ error. kind_of error ≡ ErrorKind.OutOfMemory) }
+{
     let matches = command(alloc)?.try_get_matches_from(words)?;
-    Ok(match matches.subcommand() {
+    Ok(asked(&matches))
+}
+
+/// What the matches of a command line ask for.
+fn asked(matches: &ArgMatches<'_>) -> Task
+    ensures { (limit : ℕ) → limit < 2 ^ 32 → named_limit (subcommand_rows_of matches.now) ≡ Some (codes "frames", Some (decimal limit)) →
+        result ≡ Task.Frames limit }
+{
+    match matches.subcommand() {
         Some(("frames", found)) => Task::Frames {
             limit: found.get_one("limit").unwrap_or(DEFAULT_LIMIT),
         },
         _ => Task::Other,
-    })
+    }
 }
 
 /// The command line of the program.
-fn command<'a>(alloc: Global) -> Result<Command<'a>, AllocError> {
-    let limit = Arg::new(alloc, "limit")
+fn command<'a>(alloc: Global) -> Result<Command<'a>, AllocError>
+    ensures { IfOk result (λ command. app_of command ≡ ymx_app) }
+{
+    Command::new(alloc, "ymx")
+        .about("Stream multiplexing by the yamux protocol, version 0")
+        .after_help(HELP)
+        .subcommand_required(true)
+        .subcommand(frames_command(alloc)?)?
+        .subcommand(bare(alloc, "script", "Run steps of two sessions joined by pipes"))?
+        .subcommand(bare(
+            alloc,
+            "local",
+            "Forward local connections through a session",
+        ))?
+        .subcommand(bare(
+            alloc,
+            "remote",
+            "Connect the streams of a session to a target",
+        ))?
+        .subcommand(bare(
+            alloc,
+            "selftest",
+            "Run both ends and an echo server in one process",
+        ))
+}
+
+/// The subcommand `frames`.
+fn frames_command<'a>(alloc: Global) -> Result<Command<'a>, AllocError>
+    ensures { IfOk result (λ command. (shape_of command ≡ frames_shape) × ((fields_of command).has_globals ≡ false)) }
+{
+    Command::new(alloc, "frames")
+        .about("Print the yamux frames of standard input, a line each")
+        .after_help(FRAMES_HELP)
+        .arg(limit_argument(alloc))
+}
+
+/// The argument `--limit` of `frames`.
+fn limit_argument<'a>(alloc: Global) -> Arg<'a>
+    ensures { (rule_of result ≡ limit_rule) × (result.global ≡ false) }
+{
+    Arg::new(alloc, "limit")
         .long("limit")
         .value_name("BYTES")
         .action(ArgAction::Set)
@@ -93,28 +149,14 @@ fn command<'a>(alloc: Global) -> Result<Command<'a>, AllocError> {
         .default_value("262144")
         .help(
             "The longest payload of a Data frame that is accepted, in bytes, from 262144 to 16777216",
-        );
-    let frames = Command::new(alloc, "frames")
-        .about("Print the yamux frames of standard input, a line each")
-        .after_help(FRAMES_HELP)
-        .arg(limit)?;
-    Command::new(alloc, "ymx")
-        .about("Stream multiplexing by the yamux protocol, version 0")
-        .after_help(HELP)
-        .subcommand_required(true)
-        .subcommand(frames)?
-        .subcommand(Command::new(alloc, "script").about(
-            "Run steps of two sessions joined by pipes",
-        ))?
-        .subcommand(Command::new(alloc, "local").about(
-            "Forward local connections through a session",
-        ))?
-        .subcommand(Command::new(alloc, "remote").about(
-            "Connect the streams of a session to a target",
-        ))?
-        .subcommand(Command::new(alloc, "selftest").about(
-            "Run both ends and an echo server in one process",
-        ))
+        )
+}
+
+/// A subcommand that takes nothing.
+fn bare<'a>(alloc: Global, name: &'a str, about: &'a str) -> Command<'a>
+    ensures { (shape_of result ≡ bare_shape name.entry.now) × ((fields_of result).has_globals ≡ false) }
+{
+    Command::new(alloc, name).about(about)
 }
 
 /// What the help says at its end.
@@ -168,19 +210,50 @@ fn say<E: Outlet>(errors: &mut E, text: &[u8])
     let _ = push_all(errors, text);
 }
 
-/// Prints what clap says of a command line: the help that was asked for, or what is wrong with it.
+/// Shows what clap says of a command line: the help that was asked for, or what is wrong with it.
 fn explain<W: Outlet, E: Outlet>(alloc: Global, error: &Error, writer: &mut W, errors: &mut E) -> u8
     ensures status { result ≤ 2 }
-    ensures good { result ≡ 0 → Keeps (E.contents errors.old) (E.contents errors.new) }
-    ensures bad { result ≡ 2 → Keeps (W.contents writer.old) (W.contents writer.new) }
+    ensures help { result ≡ 0 → (IsMistake (kind_of error.now) → ⊥) × Keeps (E.contents errors.old) (E.contents errors.new)
+        × ((text : List ℕ) × Appends (W.contents writer.old) (W.contents writer.new) text) }
+    ensures mistake { result ≡ 2 → IsMistake (kind_of error.now) × Keeps (W.contents writer.old) (W.contents writer.new)
+        × ((text : List ℕ) × Says (E.contents errors.old) (E.contents errors.new) (E.failures errors.old) (E.failures errors.new) text) }
+    ensures memory { kind_of error.now ≡ ErrorKind.OutOfMemory → (result ≡ 1) × Keeps (W.contents writer.old) (W.contents writer.new)
+        × Says (E.contents errors.old) (E.contents errors.new) (E.failures errors.old) (E.failures errors.new) out_of_memory }
+    ensures failed { result ≡ 1 → (Keeps (W.contents writer.old) (W.contents writer.new)
+        × Says (E.contents errors.old) (E.contents errors.new) (E.failures errors.old) (E.failures errors.new) out_of_memory)
+        ⊎ (IsTrue (has_failed (W.failures writer.old) (W.failures writer.new))
+        × Says (E.contents errors.old) (E.contents errors.new) (E.failures errors.old) (E.failures errors.new) writing_failed) }
 {
-    let Ok(text) = error.to_string(alloc) else {
-        return refuse(errors, b"ymx: out of memory\n");
-    };
     if error.kind() == ErrorKind::OutOfMemory {
         return refuse(errors, b"ymx: out of memory\n");
     }
-    if error.use_stderr() {
+    show(alloc, error, error.use_stderr(), writer, errors)
+}
+
+/// Shows the text of a message: a mistake on the error device, with status 2, and else on the writer,
+/// with status 0.
+fn show<M: Display, W: Outlet, E: Outlet>(
+    alloc: Global,
+    message: &M,
+    is_mistake: bool,
+    writer: &mut W,
+    errors: &mut E,
+) -> u8
+    ensures status { result ≤ 2 }
+    ensures help { result ≡ 0 → (is_mistake ≡ false) × Keeps (E.contents errors.old) (E.contents errors.new)
+        × Shows (M.output message.now) (Appends (W.contents writer.old) (W.contents writer.new)) }
+    ensures mistake { result ≡ 2 → (is_mistake ≡ true) × Keeps (W.contents writer.old) (W.contents writer.new)
+        × Shows (M.output message.now) (Says (E.contents errors.old) (E.contents errors.new) (E.failures errors.old) (E.failures errors.new)) }
+    ensures failed { result ≡ 1 → (Keeps (W.contents writer.old) (W.contents writer.new)
+        × Says (E.contents errors.old) (E.contents errors.new) (E.failures errors.old) (E.failures errors.new) out_of_memory)
+        ⊎ ((is_mistake ≡ false) × IsTrue (has_failed (W.failures writer.old) (W.failures writer.new))
+        × Shows (M.output message.now) (λ text. (part : List ℕ) × StartsWith text part × Appends (W.contents writer.old) (W.contents writer.new) part)
+        × Says (E.contents errors.old) (E.contents errors.new) (E.failures errors.old) (E.failures errors.new) writing_failed) }
+{
+    let Ok(text) = message.to_string(alloc) else {
+        return refuse(errors, b"ymx: out of memory\n");
+    };
+    if is_mistake {
         say(errors, text.as_bytes());
         return 2;
     }
