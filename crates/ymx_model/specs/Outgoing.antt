@@ -25,7 +25,7 @@ is_empty (b ∷ bs) = false
 abbrev pub credit_due : ℕ → End → Bool
 credit_due window e = is_live e.phase && not e.inn.ended && (e.marks.whole || nat_le window (2 * e.inn.owed))
 
--- the end is due behind the last byte
+-- the stream was finished, and its frame with FIN hasn't begun; that goes behind the last byte
 abbrev pub fin_due : End → Bool
 fin_due e = e.out.finished && not e.out.fin_sent
 

@@ -20,6 +20,11 @@ pub record Reader : Type 0 where
   pub owed : ℕ
   pub ended : Bool
 
+-- what the window of a reader holds, in bytes: what came and was not read, what the peer may still send,
+-- and what was read and not announced
+abbrev pub held : Reader → ℕ
+held r = length r.unread + r.granted + r.owed
+
 -- What is due of the stream besides credit, data and end: the SYN (plain, or carried by Data), the
 -- ACK, the RST, a credit frame with all that is owed; and whether the peer has acknowledged it.
 pub record Marks : Type 0 where

@@ -3,10 +3,10 @@ use Rattle.std.proofs.Common.{◌≡◌, ℕ, ◌+◌, ◌≤◌, List, length, 
 use Rattle.ymx_model.specs.Lanes.{first_credit}
 use Rattle.ymx_model.specs.Streams.{Phase, takes, is_offered, is_reset, is_recorded, struck}
 use Rattle.ymx_model.specs.Streams.Phase.{Unborn, Offered, Live, WasReset, Refused, Lingering, Gone}
-use Rattle.ymx_model.specs.Records.{End, Reader, new_end, end_write, end_read, end_finish, end_accept, end_reset, end_forget, takes_payload, gets_data, gets_credit, gets_fin, gets_piece, gets_ack, gets_rst, announce}
+use Rattle.ymx_model.specs.Records.{End, Reader, held, new_end, end_write, end_read, end_finish, end_accept, end_reset, end_forget, takes_payload, gets_data, gets_credit, gets_fin, gets_piece, gets_ack, gets_rst, announce}
 use Rattle.ymx_model.specs.Outgoing.{Kind, sends}
 use Rattle.ymx_model.specs.Outgoing.Kind.{Open, OpenWith, Accept, Reset, Credit, Data, Fin}
-use Rattle.ymx_session_law.specs.Limits.{IsEndWithin, IsSilent, held}
+use Rattle.ymx_session_law.specs.Limits.{IsEndWithin, IsSilent}
 use Rattle.ymx_session_law.proofs.Splits.{split}
 
 new_silent : (window : ℕ) (p : Phase) (syn carries : Bool) → (is_offered p ≡ true → syn ≡ false) → is_offered p ≡ true → IsSilent (new_end window p syn carries)

@@ -4,7 +4,7 @@ use Rattle.ymx_model.specs.declared.types.Role.{Role}
 use Rattle.ymx_model.specs.declared.types.Response.{Response}
 use Rattle.ymx_model.specs.Lanes.{first_credit}
 use Rattle.ymx_model.specs.Streams.{takes, is_offered, is_recorded}
-use Rattle.ymx_model.specs.Records.{End, Reader, takes_payload}
+use Rattle.ymx_model.specs.Records.{End, held, takes_payload}
 use Rattle.ymx_model.specs.Pings.{Ping, Pings, most_pings, is_pending}
 use Rattle.ymx_model.specs.Tables.{Table, look, most_records}
 use Rattle.ymx_model.specs.Sessions.{Session, Incoming, is_own, most_offered, most_answers, most_unacknowledged}
@@ -12,10 +12,6 @@ use Rattle.ymx_model.specs.Calls.{is_unacknowledged}
 use Rattle.ymx_model.specs.Sessions.Incoming.{Head, Payload}
 
 -- ---- records
-
--- the bytes that came and were not read, those that the peer may still send, and those read and not announced
-abbrev pub held : Reader → ℕ
-held r = length r.unread + r.granted + r.owed
 
 -- nothing of the stream is to be sent
 pub record IsSilent (e : End) : Type 0 where

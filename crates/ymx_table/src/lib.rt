@@ -8,7 +8,7 @@ ghost use Rattle.std.specs.Prelude.{◌≡◌, ◌^◌, ◌<◌, ◌≤◌, ◌�
 ghost use Rattle.std.specs.List.{IsDistinct};
 ghost use Rattle.std.specs.Map.{keys_of};
 ghost use Rattle.std.specs.Option.{option_copied};
-ghost use Rattle.ymx_half.specs.Windows.{window_of};
+ghost use Rattle.ymx_model.specs.Records.{held};
 ghost use Rattle.ymx_model.specs.Lanes.{first_credit};
 ghost use Rattle.ymx_model.specs.Tables.{look, new_table, most_records, added, removed};
 ghost use Rattle.ymx_table.specs.Standing.{StandsAt};
@@ -129,7 +129,7 @@ impl Table {
     pub fn insert(&mut self, id: u32, stream: StreamRec) -> Result<(), AllocError>
         requires absent { look id self.old.entries ≡ None }
         requires room { length self.old.entries < most_records }
-        requires of_window { window_of stream.inn ≡ self.old.window }
+        requires of_window { held stream.inn ≡ self.old.window }
         ensures last { OnOk result (self.new ≡ added id stream self.old) }
         ensures refused_unchanged { OnErr result (self.new ≡ self.old) }
     {
