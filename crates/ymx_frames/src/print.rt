@@ -44,7 +44,8 @@ const INPUT: usize = 65_536;
 const LINES: usize = 4 * INPUT;
 
 /// Prints the frames that the reader gives, a line each, and what stands behind them: the first bad
-/// frame, or the beginning of one.
+/// frame, or the beginning of one (framing). A Data frame whose payload is longer than `limit`, in
+/// bytes, is bad. It reads 64 KiB at a time, and writes all lines of a read before it reads again.
 pub fn frames<R: Inlet, W: Outlet>(
     rt: &impl Wait,
     alloc: Global,

@@ -12,6 +12,7 @@ use Rattle.ymx_model.specs.declared.types.Reply.{Reply}
 use Rattle.ymx_model.specs.declared.types.Reply.TheVariants as reply
 use Rattle.ymx_model.specs.declared.types.Event.TheVariants as event
 use Rattle.ymx_model.specs.declared.types.Role.TheVariants.{Client, Server}
+use Rattle.ymx_model.specs.Lanes.{first_credit}
 use Rattle.ymx_model.specs.StreamRules.{IfSo}
 use Rattle.ymx_model.specs.Records.{End}
 use Rattle.ymx_model.specs.Outgoing.{credit_due, fin_due, is_empty}
@@ -176,9 +177,14 @@ abbrev pub lacking : Incoming → ℕ
 lacking (Head bytes) = 0
 lacking (Payload id lacks fin stray) = lacks
 
--- These bytes are one frame: the twelve of a header, and as many more as it says (framing).
-abbrev pub IsOneFrame : List ℕ → Type 0
-IsOneFrame bytes = (12 ≤ length bytes) × (length bytes ≡ 12 + payload (header_of bytes))
+-- These bytes are one frame: the twelve of a header, of this version and of one of the four types, and
+-- as many more as it says, at most 262,144, which any session takes (framing).
+pub record IsOneFrame (bytes : List ℕ) : Type 0 where
+  pub header : 12 ≤ length bytes
+  pub whole : length bytes ≡ 12 + payload (header_of bytes)
+  pub version : (header_of bytes).version ≡ 0
+  pub kind : (header_of bytes).kind ≤ 3
+  pub short : payload (header_of bytes) ≤ first_credit
 
 -- What the receiver holds of a frame, the pipe, and the rest of the sender's frame begun, in this
 -- order, are the bytes of these frames under way, each of them whole, behind the rest of a payload where

@@ -41,17 +41,17 @@ data-one : (flags id : ℕ) (limit : ℕ) (unsent : List ℕ) → limit ≤ firs
 data-one flags id limit unsent few = data-frame flags id (take limit unsent) (grind (arith, common_steps))
 
 spelled-one : (kind : Kind) (window limit id : ℕ) (e : End) → limit ≤ first_credit → IsOneFrame (spelled kind window limit id e)
-spelled-one Open window limit id e few = short-frame 1 1 id (window - first_credit) (omega arith)
+spelled-one Open window limit id e few = short-frame 1 1 id (window - first_credit) (omega arith) (omega arith)
 spelled-one OpenWith window limit id e few = data-one 1 id limit e.out.unsent few
-spelled-one Accept window limit id e few = short-frame 1 2 id (window - first_credit) (omega arith)
-spelled-one Reset window limit id e few = short-frame 1 8 id 0 (omega arith)
-spelled-one Credit window limit id e few = short-frame 1 0 id e.inn.owed (omega arith)
+spelled-one Accept window limit id e few = short-frame 1 2 id (window - first_credit) (omega arith) (omega arith)
+spelled-one Reset window limit id e few = short-frame 1 8 id 0 (omega arith) (omega arith)
+spelled-one Credit window limit id e few = short-frame 1 0 id e.inn.owed (omega arith) (omega arith)
 spelled-one Data window limit id e few = data-one 0 id limit e.out.unsent few
-spelled-one Fin window limit id e few = short-frame 1 4 id 0 (omega arith)
+spelled-one Fin window limit id e few = short-frame 1 4 id 0 (omega arith) (omega arith)
 
 answer-one : (r : Response) → IsOneFrame (answer_frame r)
-answer-one (Pong value) = short-frame 2 2 0 value (omega arith)
-answer-one (Reject id) = short-frame 1 8 id 0 (omega arith)
+answer-one (Pong value) = short-frame 2 2 0 value (omega arith) (omega arith)
+answer-one (Reject id) = short-frame 1 8 id 0 (omega arith) (omega arith)
 
 some-same : {X : Type 0} (x y : X) → Some x ≡ Some y → y ≡ x
 some-same x y e = cc
@@ -79,16 +79,16 @@ begin-begins : (c : Choice) (s t : Session) → begin c s ≡ Some t → Begins 
 begin-begins TheAlarm s t b =
     let p = some_if (s.alarm && is_broken s.status) (begins alarm_frame (record s { alarm = false })) t b in
     let P : Session → Type 0 = Begins s in
-    subst P (sym p.1) (record { one = short-frame 3 0 0 1 (omega arith); same = record { status = refl; incoming = refl } })
+    subst P (sym p.1) (record { one = short-frame 3 0 0 1 (omega arith) (omega arith); same = record { status = refl; incoming = refl } })
 begin-begins TheGoAway s t b =
     let p = some_if (is_running s.status && away_due s.away.here) (begins go_away_frame (record s { away = away_goes s.away })) t b in
     let P : Session → Type 0 = Begins s in
-    subst P (sym p.1) (record { one = short-frame 3 0 0 0 (omega arith); same = record { status = refl; incoming = refl } })
+    subst P (sym p.1) (record { one = short-frame 3 0 0 0 (omega arith) (omega arith); same = record { status = refl; incoming = refl } })
 begin-begins TheAnswer s t b = let p = if_some (is_running s.status) (begin_answer s.answers s) t b in answer-begins s.answers s t p.1
 begin-begins (ThePing n) s t b =
     let p = some_if (is_running s.status && has_asked n s.pings.pending) (begins (ping_frame n) (record s { pings = ping_goes n s.pings })) t b in
     let P : Session → Type 0 = Begins s in
-    subst P (sym p.1) (record { one = short-frame 2 1 0 n (omega arith); same = record { status = refl; incoming = refl } })
+    subst P (sym p.1) (record { one = short-frame 2 1 0 n (omega arith) (omega arith); same = record { status = refl; incoming = refl } })
 begin-begins (AStream id limit) s t b =
     let p = if_some (is_running s.status) (begin_stream id limit (look id s.table.entries) s) t b in stream-begins id limit (look id s.table.entries) s t p.1
 

@@ -165,9 +165,9 @@ whole-left : (h : Header) (s : Session) (head rest f : List ℕ) (fs : List (Lis
     length head ≡ 12 → All IsOneFrame (f ∷ fs) → head ++ rest ≡ f ++ concat fs → Left s.incoming rest (f ∷ fs)
 whole-left h s head rest f fs is awaits l a e =
     let one = all-first f fs a in
-    let same : header_of f ≡ h = same-header head rest f (concat fs) l one.0 e ∙ sym is in
-    let long : length f ≡ 12 + payload h = one.1 ∙ ap (λ x. 12 + payload x) same in
-    of awaits (drop-length f (payload h) long) (behind head rest f (concat fs) l one.0 e)
+    let same : header_of f ≡ h = same-header head rest f (concat fs) l one.header e ∙ sym is in
+    let long : length f ≡ 12 + payload h = one.whole ∙ ap (λ x. 12 + payload x) same in
+    of awaits (drop-length f (payload h) long) (behind head rest f (concat fs) l one.header e)
   where
     of : Awaits h s → length (drop 12 f) ≡ payload h → rest ≡ drop 12 f ++ concat fs → Left s.incoming rest (f ∷ fs)
     of (inl (none, now)) n t =

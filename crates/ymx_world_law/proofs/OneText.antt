@@ -26,8 +26,8 @@ seam (x ∷ a) b (z ∷ c) d l e =
 -- a first frame is as long as its header says
 same-length : (f g a b : List ℕ) → IsOneFrame f → IsOneFrame g → f ++ a ≡ g ++ b → length f ≡ length g
 same-length f g a b p q e =
-    let same : header_of f ≡ header_of g = sym (header_of-append f a p.0) ∙ ap header_of e ∙ header_of-append g b q.0 in
-    p.1 ∙ ap (λ h. 12 + payload h) same ∙ sym q.1
+    let same : header_of f ≡ header_of g = sym (header_of-append f a p.header) ∙ ap header_of e ∙ header_of-append g b q.header in
+    p.whole ∙ ap (λ h. 12 + payload h) same ∙ sym q.whole
 
 no-frame : (f a : List ℕ) → [] ≡ f ++ a → length f ≡ 0
 no-frame f a e = let z = ap length e in omega (arith, length-append f a)
@@ -35,9 +35,9 @@ no-frame f a e = let z = ap length e in omega (arith, length-append f a)
 pub one-cut : (fs gs : List (List ℕ)) → All IsOneFrame fs → All IsOneFrame gs → concat fs ≡ concat gs → fs ≡ gs
 one-cut [] [] p q e = refl
 one-cut [] (g ∷ gs) p q e =
-    let one = all-first g gs q in let z = no-frame g (concat gs) e in absurd (omega (arith, one.0))
+    let one = all-first g gs q in let z = no-frame g (concat gs) e in absurd (omega (arith, one.header))
 one-cut (f ∷ fs) [] p q e =
-    let one = all-first f fs p in let z = no-frame f (concat fs) (sym e) in absurd (omega (arith, one.0))
+    let one = all-first f fs p in let z = no-frame f (concat fs) (sym e) in absurd (omega (arith, one.header))
 one-cut (f ∷ fs) (g ∷ gs) p q e =
     let l = same-length f g (concat fs) (concat gs) (all-first f fs p) (all-first g gs q) e in
     let s = seam f (concat fs) g (concat gs) l e in

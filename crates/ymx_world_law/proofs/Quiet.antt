@@ -18,7 +18,7 @@ use Rattle.ymx_world_law.proofs.Worlds.{running_is, running_not_closed, is_on, c
 few_none : (seen : List ℕ) (frames : List (List ℕ)) → length seen < 12 → All IsOneFrame frames → seen ≡ concat frames → seen ≡ []
 few_none seen [] few a e = e
 few_none seen (f ∷ fs) few a e =
-    let one = all-first f fs a in let l = ap length e in absurd (omega (arith, one.0, length-append f (concat fs)))
+    let one = all-first f fs a in let l = ap length e in absurd (omega (arith, one.header, length-append f (concat fs)))
 
 -- nothing is under way
 between : (i : Incoming) (rest : List ℕ) (tail : List ℕ) (frames : List (List ℕ)) → ((seen : List ℕ) → i ≡ Head seen → length seen < 12) →

@@ -3,7 +3,8 @@
 //! theorem.
 #![tactic(auto)]
 
-ghost use Rattle.std.specs.Prelude.{◌≡◌, ◌^◌, ◌<◌, ◌≤◌, [], ℕ, List, Bool, true, false, take};
+ghost use Rattle.std.specs.Prelude.{◌≡◌, ◌^◌, ◌<◌, ◌≤◌, [], ℕ, List, Bool, true, false, take, None};
+ghost use Rattle.ymx_header.specs.Headers.{header_of};
 ghost use Rattle.ymx_model.specs.declared.types.Answer.{Answer};
 ghost use Rattle.ymx_model.specs.declared.types.Fed.{Fed};
 ghost use Rattle.ymx_model.specs.declared.types.Role.TheVariants.{Client, Server};
@@ -12,16 +13,18 @@ ghost use Rattle.ymx_model.specs.declared.types.Step.{Step};
 ghost use Rattle.ymx_model.specs.Lanes.{first_credit};
 ghost use Rattle.ymx_model.specs.Sessions.{Session, is_own};
 ghost use Rattle.ymx_model.specs.Sessions.Incoming.{Head};
+ghost use Rattle.ymx_model.specs.Arrivals.{header_fault};
 ghost use Rattle.ymx_model.specs.Feeds.{Feeds};
 ghost use Rattle.ymx_model.specs.Emissions.{Choice, Emits};
-ghost use Rattle.ymx_model.specs.Worlds.{World, Pipe, Steps, Runs, IsUnderWay, new_world, is_quiet, taken_off};
+ghost use Rattle.ymx_model.specs.Worlds.{World, Pipe, Steps, Runs, IsOneFrame, IsUnderWay, new_world, is_quiet, taken_off};
 ghost use Rattle.ymx_session_law.specs.Limits.{IsWithin};
 ghost use Rattle.ymx_world_law.specs.Texts.{AreFrames, AreWithin, IsLater, IsDelivered};
 
 /// In each direction that still carries bytes, what the receiver holds of a frame, the pipe, and the rest
 /// of the sender's frame begun are whole frames one after the other, behind the rest of a payload
 /// (framing). So it is whatever the two sides do and however the bytes are cut: an emission adds frames at
-/// the end, a delivery takes some from the front. These frames are settled by the bytes.
+/// the end, a delivery takes some from the front. These frames are settled by the bytes, and no session
+/// finds a fault in the header of one by itself.
 pub fn frames_under_way()
     ensures emitted { (may : Choice → Session → Bool) (room : ℕ) (out : List ℕ) (receiver : Session) (pipe : Pipe) (sender after : Session) (frames : List (List ℕ)) →
         Emits may sender room out after → pipe.stopped ≡ false → IsUnderWay receiver pipe sender frames → IsLater receiver pipe after out frames }
@@ -34,5 +37,6 @@ pub fn frames_under_way()
         Runs may steps answers (new_world window_a first_a window_b first_b) w → AreWithin w × AreFrames w }
     ensures one_text { (receiver : Session) (pipe : Pipe) (sender : Session) (frames others : List (List ℕ)) →
         IsUnderWay receiver pipe sender frames → IsUnderWay receiver pipe sender others → frames ≡ others }
+    ensures good_headers { (bytes : List ℕ) (s : Session) → IsOneFrame bytes → IsWithin s → header_fault (header_of bytes) s ≡ None }
     ensures quiet { (w : World) → is_quiet w ≡ true → AreWithin w → AreFrames w → (w.a.incoming ≡ Head []) × (w.b.incoming ≡ Head []) }
 {}

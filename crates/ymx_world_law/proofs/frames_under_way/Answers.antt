@@ -5,6 +5,7 @@ use Rattle.ymx_session_law.proofs.HistoriesKeep.{new-keeps, odd_some}
 use Rattle.ymx_world_law.proofs.frames_under_way.Goals as goal
 use Rattle.ymx_world_law.proofs.Worlds.{emitted, delivered, step-frames, run-frames, new-frames}
 use Rattle.ymx_world_law.proofs.OneText.{one-text}
+use Rattle.ymx_world_law.proofs.Frames.{no-fault}
 use Rattle.ymx_world_law.proofs.Quiet.{quiet-between}
 
 pub returns-clause-emitted : goal.returns-clause-emitted
@@ -24,6 +25,9 @@ returns-clause-always c = λ may steps answers wa fa wb fb w la ha lb hb pa pb s
 
 pub returns-clause-one_text : goal.returns-clause-one_text
 returns-clause-one_text c = one-text
+
+pub returns-clause-good_headers : goal.returns-clause-good_headers
+returns-clause-good_headers c = no-fault
 
 pub returns-clause-quiet : goal.returns-clause-quiet
 returns-clause-quiet c = quiet-between
