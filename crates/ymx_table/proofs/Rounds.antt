@@ -1,5 +1,6 @@
 -- The next turn: the first with something due, going round.
 use Rattle.std.proofs.Common.{◌≡◌, ℕ, zero, suc, ◌+◌, ◌-◌, ◌<◌, inl, inr, map, List, [], ◌∷◌, ◌++◌, take, drop, zero-add, Bool, true, false, not, if◌then◌else◌, None, Some, refl, sym, ap, ◌∙◌, arith, slice_get, nat_eq, get_or}
+use Rattle.std.specs.Prelude.{IsSome, IfSome, Option, ◌==◌}
 use Rattle.std.specs.Option.{option_map}
 use Rattle.std.proofs.lemmas.Bool.{cases_lt, both_ways}
 use Rattle.std.proofs.lemmas.List.{length-map, length-take, take-map, drop-map, get_or-drop, get_or-take, get_or_past}
@@ -7,7 +8,7 @@ use Rattle.std.proofs.lemmas.Bool.Decides.{nat_tests}
 use Rattle.std.proofs.lemmas.Option.{slice_get-map, get_or_from_slice_get, same_Some}
 use Rattle.ymx_model.specs.Records.{End}
 use Rattle.ymx_model.specs.Outgoing.{is_due}
-use Rattle.ymx_model.specs.Tables.{Table, due_ids, any_due, round}
+use Rattle.ymx_model.specs.Tables.{Table, look, due_ids, any_due, round}
 use Rattle.ymx_table.specs.Kept.{due_flags}
 use Rattle.ymx_table.specs.Flags.{IsFirst, IsNoneFrom}
 use Rattle.ymx_table.proofs.Counts.{count, count-none, count-cons}
@@ -115,3 +116,54 @@ module _ (t : Table) (flags : List Bool) (is : flags ≡ due_flags t) where
         | inr ge ↦ get_or_past _ k false
             (omega (arith, length-map (take t.turn t.entries) (λ (q : ℕ × End). is_due t.window q.1), length-take t.turn t.entries))
       ])))
+
+-- ---- whose turn it is has a record
+
+some_first : (p : ℕ × End) (id : ℕ) (ps : List (ℕ × End)) → IsSome (look id ps) → IsSome (look id (p ∷ ps))
+some_first p id ps h = of (p.0 == id) h
+  where
+    of : (b : Bool) → IsSome (look id ps) → IsSome (if b then Some p.1 else look id ps)
+    of true h = refl
+    of false h = h
+
+some_drop : (n id : ℕ) (ps : List (ℕ × End)) → IsSome (look id (drop n ps)) → IsSome (look id ps)
+some_drop zero id ps h = h
+some_drop (suc n) id [] h = h
+some_drop (suc n) id (p ∷ ps) h = some_first p id ps (some_drop n id ps h)
+
+some_if : (p : ℕ × End) (id : ℕ) (more less : Option End) (b : Bool) → (p.0 == id) ≡ b → (IsSome less → IsSome more) →
+    IsSome (if b then Some p.1 else less) → IsSome (if p.0 == id then Some p.1 else more)
+some_if p id more less true e f h = rw e refl
+some_if p id more less false e f h = rw e (f h)
+
+some_take : (n id : ℕ) (ps : List (ℕ × End)) → IsSome (look id (take n ps)) → IsSome (look id ps)
+some_take zero id ps h = absurd cc
+some_take (suc n) id [] h = h
+some_take (suc n) id (p ∷ ps) h = some_if p id (look id ps) (look id (take n ps)) (p.0 == id) refl (some_take n id ps) h
+
+same_number : (n : ℕ) → (n == n) ≡ true
+same_number n = grind (arith, nat_tests)
+
+first_or : (p : ℕ × End) (id : ℕ) (ps : List (ℕ × End)) (ids : List ℕ) (b : Bool) → (slice_get ids 0 ≡ Some id → IsSome (look id ps)) →
+    slice_get (if b then p.0 ∷ ids else ids) 0 ≡ Some id → IsSome (look id (p ∷ ps))
+first_or p id ps ids true f e = let z : p.0 ≡ id = cc in rw (← z, same_number p.0) refl
+first_or p id ps ids false f e = some_first p id ps (f e)
+
+first_due_there : (window id : ℕ) (ps : List (ℕ × End)) → slice_get (due_ids window ps) 0 ≡ Some id → IsSome (look id ps)
+first_due_there window id [] e = absurd cc
+first_due_there window id (p ∷ ps) e = first_or p id ps (due_ids window ps) (is_due window p.1) (first_due_there window id ps) e
+
+round_there : (t : Table) (id : ℕ) → slice_get (round t) 0 ≡ Some id → IsSome (look id t.entries)
+round_there t id e = of (due_ids t.window (drop t.turn t.entries)) refl
+  where
+    of : (xs : List ℕ) → due_ids t.window (drop t.turn t.entries) ≡ xs → IsSome (look id t.entries)
+    of [] n =
+        let z : slice_get (due_ids t.window (take t.turn t.entries)) 0 ≡ Some id = rw n at e in
+        some_take t.turn id t.entries (first_due_there t.window id (take t.turn t.entries) z)
+    of (x ∷ xs) n =
+        let z : slice_get (due_ids t.window (drop t.turn t.entries)) 0 ≡ Some id = rw n (rw n at e) in
+        some_drop t.turn id t.entries (first_due_there t.window id (drop t.turn t.entries) z)
+
+pub next-there : (t : Table) (r : Option ℕ) → r ≡ slice_get (round t) 0 → IfSome r (λ id. IsSome (look id t.entries))
+next-there t None e = tt
+next-there t (Some id) e = round_there t id (sym e)

@@ -1,6 +1,6 @@
 //! Whose turn it is to send: streams with a frame due take turns in the order of the table.
 
-ghost use Rattle.std.specs.Prelude.{◌≡◌, slice_get, IsSome};
+ghost use Rattle.std.specs.Prelude.{◌≡◌, slice_get, IsSome, IfSome};
 ghost use Rattle.ymx_model.specs.Tables.{look, served, round};
 
 use crate::Table;
@@ -13,7 +13,8 @@ impl Table {
     ///
     /// Example: of the streams 1, 3 and 5, all with a frame due, 5 is next once 3 was served, and then 1.
     pub fn next_due(&self) -> Option<u32>
-        ensures { result ≡ slice_get (round self.now) 0 }
+        ensures turn { result ≡ slice_get (round self.now) 0 }
+        ensures there { IfSome result (λ id. IsSome (look id self.now.entries)) }
     {
         let place = match self.due.first_from(self.turn) {
             Some(place) => place,
