@@ -76,7 +76,7 @@ head-awaits lacks h s inc =
 
 -- ---- a head
 
-same_incoming : (s : Session) → s.incoming ≡ Head [] → record s { incoming = Head [] } ≡ s
+pub same_incoming : (s : Session) → s.incoming ≡ Head [] → record s { incoming = Head [] } ≡ s
 same_incoming s inc = grind (arith, common_steps)
 
 -- the spelling of a header, between two frames, is its head

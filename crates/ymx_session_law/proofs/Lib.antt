@@ -18,6 +18,7 @@ pub mod Refusals
 pub mod Others
 pub mod Alone
 pub mod Frames
+pub mod Only
 pub mod Settled
 pub mod SettledFrames
 pub mod SynCauses

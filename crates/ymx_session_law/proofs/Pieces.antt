@@ -53,7 +53,7 @@ piece-join a b id n fin false s l =
 deaf : (lacks : Bool) (b : ℕ) (s : Session) → s.status ≡ Running → byte_comes lacks b s ≡ byte_in lacks b s s.incoming
 deaf lacks b s st = rw st
 
-byte-piece : (lacks : Bool) (b id n : ℕ) (fin stray : Bool) (s : Session) → s.status ≡ Running → s.incoming ≡ Payload id n fin stray →
+pub byte-piece : (lacks : Bool) (b id n : ℕ) (fin stray : Bool) (s : Session) → s.status ≡ Running → s.incoming ≡ Payload id n fin stray →
     byte_comes lacks b s ≡ piece_comes (b ∷ []) id n fin stray s
 byte-piece lacks b id n fin stray s st inc = deaf lacks b s st ∙ ap (byte_in lacks b s) inc
 
@@ -63,11 +63,11 @@ free-payload id n fin stray s st inc = rw (st, inc) refl
 none-payload : (b id n : ℕ) (fin stray : Bool) (s : Session) → s.incoming ≡ Payload id n fin stray → starves false b s s.incoming ≡ 0
 none-payload b id n fin stray s inc = rw inc refl
 
-piece-status : (a : List ℕ) (id n : ℕ) (fin stray : Bool) (s : Session) → (piece_comes a id n fin stray s).status ≡ s.status
+pub piece-status : (a : List ℕ) (id n : ℕ) (fin stray : Bool) (s : Session) → (piece_comes a id n fin stray s).status ≡ s.status
 piece-status a id n fin true s = refl
 piece-status a id n fin false s = refl
 
-piece-incoming : (a : List ℕ) (id n : ℕ) (fin stray : Bool) (s : Session) → length a < n →
+pub piece-incoming : (a : List ℕ) (id n : ℕ) (fin stray : Bool) (s : Session) → length a < n →
     (piece_comes a id n fin stray s).incoming ≡ Payload id (n - length a) fin stray
 piece-incoming a id n fin true s l = rw (more a n l) refl
 piece-incoming a id n fin false s l = rw (more a n l) refl
@@ -106,13 +106,13 @@ not-between (x ∷ xs) b = refl
 keeps-head : (seen : List ℕ) (s : Session) → s.incoming ≡ Head seen → s ≡ record s { incoming = Head (seen ++ []) }
 keeps-head seen s inc = grind (arith, common_steps)
 
-byte-head : (lacks : Bool) (b : ℕ) (seen : List ℕ) (s : Session) → s.status ≡ Running → s.incoming ≡ Head seen → length seen < 11 →
+pub byte-head : (lacks : Bool) (b : ℕ) (seen : List ℕ) (s : Session) → s.status ≡ Running → s.incoming ≡ Head seen → length seen < 11 →
     byte_comes lacks b s ≡ record s { incoming = Head (seen ++ b ∷ []) }
 byte-head lacks b seen s st inc l =
     let e : (length seen == 11) ≡ false = grind (arith, nat_tests) in
     deaf lacks b s st ∙ ap (byte_in lacks b s) inc ∙ rw e refl
 
-byte-last : (lacks : Bool) (b : ℕ) (seen : List ℕ) (s : Session) → s.status ≡ Running → s.incoming ≡ Head seen → length seen ≡ 11 →
+pub byte-last : (lacks : Bool) (b : ℕ) (seen : List ℕ) (s : Session) → s.status ≡ Running → s.incoming ≡ Head seen → length seen ≡ 11 →
     byte_comes lacks b s ≡ head_comes lacks (header_of (seen ++ b ∷ [])) (record s { incoming = Head [] })
 byte-last lacks b seen s st inc l =
     let e : (length seen == 11) ≡ true = grind (arith, nat_tests) in
@@ -146,7 +146,7 @@ head-takes (b ∷ bs) seen s st inc free l =
 abbrev pub counted : Bool → List ℕ → Session → ℕ
 counted lacks bytes s = if lacks && is_starved (header_of bytes) s then 1 else 0
 
-at-last : (lacks : Bool) (b : ℕ) (seen : List ℕ) (s : Session) → s.status ≡ Running → s.incoming ≡ Head seen → length seen ≡ 11 →
+pub at-last : (lacks : Bool) (b : ℕ) (seen : List ℕ) (s : Session) → s.status ≡ Running → s.incoming ≡ Head seen → length seen ≡ 11 →
     starves lacks b s s.incoming ≡ counted lacks (seen ++ b ∷ []) s
 at-last false b seen s st inc l = ap (starves false b s) inc
 at-last true b seen s st inc l =

@@ -1,5 +1,5 @@
 -- The limits of a session, which hold always, whatever comes (flow control; this project's own limits).
-use Rattle.std.specs.Prelude.{◌≡◌, ◌<◌, ◌≤◌, ℕ, ◌+◌, ◌^◌, List, [], ◌∷◌, length, Bool, true, false, not, ◌||◌, ◌==◌, Option, None, Some, count_by}
+use Rattle.std.specs.Prelude.{◌≡◌, ◌<◌, ◌≤◌, ℕ, ◌^◌, List, [], ◌∷◌, length, Bool, true, false, not, ◌||◌, ◌==◌, Option, None, Some, count_by}
 use Rattle.ymx_model.specs.declared.types.Role.{Role}
 use Rattle.ymx_model.specs.declared.types.Response.{Response}
 use Rattle.ymx_model.specs.Lanes.{first_credit}
@@ -88,13 +88,14 @@ abbrev pub IsBegunWithin : (of : Option ℕ) → List (ℕ × End) → Type 0
 IsBegunWithin None entries = Unit
 IsBegunWithin (Some id) entries = is_taken_at (look id entries) ≡ true
 
--- Of a header fewer than twelve bytes have come. At least one byte of a payload lacks. What lacks was granted, where it is taken; and an own stream's
--- was opened before.
+-- At least one byte of a payload lacks. What lacks was granted, where it is taken; and an own stream was
+-- opened before.
 pub record IsPayloadWithin (id lacks : ℕ) (role : Role) (next : ℕ) (entries : List (ℕ × End)) : Type 0 where
   pub some : 0 < lacks
   pub granted : (e : End) → look id entries ≡ Some e → takes_payload e ≡ true → lacks ≤ e.inn.granted
   pub own : is_own role id ≡ true → id < next
 
+-- Of a header fewer than twelve bytes have come; of a payload that is dropped at least one byte lacks.
 abbrev pub IsIncomingWithin : Incoming → (role : Role) → (next : ℕ) → List (ℕ × End) → Type 0
 IsIncomingWithin (Head bytes) role next entries = length bytes < 12
 IsIncomingWithin (Payload id lacks fin true) role next entries = 0 < lacks

@@ -43,10 +43,12 @@ pub fn fed_in_pieces()
     ensures feed_stops_inside { (a b : List ℕ) (s u : Session) (fed : Fed) → fed.taken < length a → Feeds s (a ++ b) fed u → Feeds s a fed u }
 {}
 
-/// The bytes of a frame do what the frame does (framing), for a session that runs and takes bytes.
+/// The bytes of a frame do what the frame does, and nothing else (framing), for a session that runs and
+/// takes bytes; whether a SYN finds memory for its record is open at each.
 pub fn frames_by_their_bytes()
     ensures header { (lacks : Bool) (h : Header) (s : Session) → IsInRange h → s.status ≡ Running → s.incoming ≡ Head [] → is_stuck s ≡ false → Takes (spelling h) s (head_comes lacks h s) (starved_by lacks h s) }
     ensures frame { (lacks : Bool) (h : Header) (bytes : List ℕ) (s : Session) → IsInRange h → s.status ≡ Running → s.incoming ≡ Head [] → is_stuck s ≡ false → length bytes ≡ payload h → (head_comes lacks h s).status ≡ Running → Takes (spelling h ++ bytes) s (frame_comes lacks h bytes s) (starved_by lacks h s) }
+    ensures only { (h : Header) (bytes : List ℕ) (s t : Session) (n : ℕ) → IsInRange h → s.status ≡ Running → s.incoming ≡ Head [] → length bytes ≡ payload h → Takes (spelling h ++ bytes) s t n → (lacks : Bool) × ((head_comes lacks h s).status ≡ Running → (t ≡ frame_comes lacks h bytes s) × (n ≡ starved_by lacks h s)) }
     ensures piece { (bytes : List ℕ) (id n : ℕ) (fin stray : Bool) (s : Session) → s.status ≡ Running → s.incoming ≡ Payload id n fin stray → 0 < length bytes → length bytes ≤ n → Takes bytes s (piece_comes bytes id n fin stray s) 0 }
     ensures header_begins { (bytes seen : List ℕ) (s : Session) → s.status ≡ Running → s.incoming ≡ Head seen → is_stuck s ≡ false → length seen + length bytes < 12 → Takes bytes s (record s { incoming = Head (seen ++ bytes) }) 0 }
     ensures header_ends { (lacks : Bool) (bytes seen : List ℕ) (b : ℕ) (s : Session) → s.status ≡ Running → s.incoming ≡ Head seen → is_stuck s ≡ false → length seen + length (b ∷ bytes) ≡ 12 → Takes (b ∷ bytes) s (head_comes lacks (header_of (seen ++ (b ∷ bytes))) (record s { incoming = Head [] })) (starved_by lacks (header_of (seen ++ (b ∷ bytes))) s) }

@@ -337,3 +337,37 @@ goes-out n id e s l w =
         at : (j : ℕ) → (id ≡ j) ⊎ (id ≢ j) → Has s.table.window e (look id (settles (Some j) (record s { begun = nothing_begun })).table.entries)
         at j (inl same) = rw (← same) (settled-has id e (record s { begun = nothing_begun }) l w.table.distinct)
         at j (inr n) = has-some s.table.window e _ (others-settled j s (record s { begun = nothing_begun }) (λ i m. refl) id n ∙ l)
+
+-- ---- a head and the last of a payload by themselves
+
+-- the head of a payload
+head-look : (own : Bool) (h : Header) (e : End) (s : Session) → look h.id s.table.entries ≡ Some e → 0 < payload h →
+    look h.id (expects h false (on_stream h.id (gets_head own h) s)).table.entries ≡ Some (credited own h e)
+head-look own h e s l some =
+    let f : (payload h == 0) ≡ false = not_none (payload h) some in
+    let u = on_stream h.id (gets_head own h) s in
+    let there : look h.id u.table.entries ≡ Some (credited own h e) = on-look h.id (gets_head own h) e s l ∙ ap Some (head-before own h e f) in
+    split (λ x. look h.id x.table.entries ≡ Some (credited own h e)) (payload h == 0) u (record u { incoming = Payload h.id (payload h) (has_fin h) false }) (λ t. there) (λ n. there)
+  where
+    not_none : (n : ℕ) → 0 < n → (n == 0) ≡ false
+    not_none n l = grind (arith, nat_tests)
+
+pub head-alone-comes : (lacks : Bool) (h : Header) (e : End) (s : Session) → h.kind < 2 → has_syn h ≡ false → has_rst h ≡ false → (has_ack h ≡ true → is_own s.role h.id ≡ true) →
+    look h.id s.table.entries ≡ Some e → 0 < payload h → (head_comes lacks h s).status ≡ Running → look h.id (head_comes lacks h s).table.entries ≡ Some (all_come false s.table.window (opening h) e)
+head-alone-comes lacks h e s k y f o l some r =
+    let own = is_own s.role h.id in
+    let m : head_comes lacks h s ≡ expects h false (on_stream h.id (gets_head own h) s) = head-is lacks h e s k y l r ∙ rw f refl in
+    ap (λ x. look h.id x.table.entries) m ∙ head-look own h e s l some ∙ ap Some (sym (opening-comes own s.table.window h e y o))
+
+pub last-piece : (bytes : List ℕ) (id : ℕ) (fin : Bool) (e : End) (s : Session) → look id s.table.entries ≡ Some e →
+    look id (piece_comes bytes id (length bytes) fin false s).table.entries ≡ Some (gets_piece fin bytes e)
+last-piece bytes id fin e s l =
+    let last : (fin && not (nat_lt (length bytes) (length bytes))) ≡ fin = whole fin (nat_lt (length bytes) (length bytes)) (not_less (length bytes)) in
+    look-change_same id (gets_piece (fin && not (nat_lt (length bytes) (length bytes))) bytes) s.table.entries ∙ rw (l, last) refl
+  where
+    whole : (b c : Bool) → c ≡ false → (b && not c) ≡ b
+    whole true c z = rw z refl
+    whole false c z = refl
+
+    not_less : (n : ℕ) → nat_lt n n ≡ false
+    not_less n = grind (arith, nat_tests)

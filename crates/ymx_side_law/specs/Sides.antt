@@ -22,8 +22,8 @@ call_on Finishes id = call.Finish id
 call_on Resets id = call.Reset id
 call_on Forgets id = call.Forget id
 
--- What a session has of a stream whose end is e: its record; or none, once the end has gone, or was
--- given up and has nothing left to send.
+-- What a session has of a stream that had a record, and whose end is now e: its record; or none, once the
+-- end has gone, or was given up and has nothing left to send.
 abbrev pub Has : (window : ℕ) → End → Option End → Type 0
 Has window e (Some held) = held ≡ e
 Has window e None = (e.phase ≡ Gone) ⊎ ((e.phase ≡ Lingering) × (next_kind window e ≡ None))

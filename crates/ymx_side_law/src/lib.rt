@@ -15,7 +15,7 @@ ghost use Rattle.ymx_model.specs.Lanes.{first_credit};
 ghost use Rattle.ymx_model.specs.Streams.Phase.{Live, Offered};
 ghost use Rattle.ymx_model.specs.StreamRules.{StreamCall};
 ghost use Rattle.ymx_model.specs.declared.types.GoAwayMark.TheVariants.{Unsaid};
-ghost use Rattle.ymx_model.specs.Records.{End, new_end, end_write, end_accept, gets_data};
+ghost use Rattle.ymx_model.specs.Records.{End, new_end, end_write, end_accept, gets_data, gets_piece};
 ghost use Rattle.ymx_model.specs.Outgoing.{Kind, next_kind, sends, spelled};
 ghost use Rattle.ymx_model.specs.Parts.{parts_of};
 ghost use Rattle.ymx_model.specs.Tables.{look, most_records};
@@ -31,7 +31,7 @@ ghost use Rattle.ymx_law.specs.Arrivals.{refused_end};
 ghost use Rattle.ymx_session_law.specs.Offers.{IsGoodSyn, HasCause};
 ghost use Rattle.ymx_session_law.specs.Limits.{IsWithin};
 ghost use Rattle.ymx_session_law.specs.Frames.{frame_comes};
-ghost use Rattle.ymx_side_law.specs.Sides.{call_on, Has, says, says_in, all_come};
+ghost use Rattle.ymx_side_law.specs.Sides.{call_on, Has, opening, says, says_in, all_come};
 
 /// A stream that a session opens or accepts is a new end, and a call on a stream is the same call on its
 /// end: the reply is the end's own, and the record is then that end, or has gone as one that was given up
@@ -48,7 +48,8 @@ pub fn calls_follow_the_law()
 {}
 
 /// A frame of a stream that goes out is the next that is due of its end, and its bytes say the parts of
-/// which the law speaks (framing, flags); behind its last byte a record that was given up may go.
+/// which the law speaks (framing, flags). Bytes that go out leave its record, or end one that was given
+/// up and has nothing due.
 pub fn frames_out_follow_the_law()
     ensures sends { (id limit : ℕ) (s t : Session) → begin (AStream id limit) s ≡ Some t →
         (e : End) × (k : Kind) × (look id s.table.entries ≡ Some e) × (next_kind s.table.window e ≡ Some k) × (look id t.table.entries ≡ Some (sends s.table.window limit k e)) × (t.begun.bytes ≡ spelled k s.table.window limit id e) }
@@ -56,13 +57,18 @@ pub fn frames_out_follow_the_law()
     ensures goes_out { (n id : ℕ) (e : End) (s : Session) → look id s.table.entries ≡ Some e → IsWithin s → Has s.table.window e (look id (moves_on n s).table.entries) }
 {}
 
-/// A frame that comes to a record does what its parts do to the end, one after the other, and a beginning
-/// of a payload what those bytes do; a SYN makes the end that its parts make, or is refused by an answer
-/// and makes no record; any other frame without a record changes none (flags, flow control).
+/// A frame that comes to a record does what its parts do to the end, one after the other; so do the head
+/// of a payload by itself, a beginning of it, and the last bytes of it. A SYN makes the end that its parts
+/// make, or is refused by an answer and makes no record; any other frame without a record changes none
+/// (flags, flow control).
 pub fn frames_in_follow_the_law()
     ensures comes { (lacks : Bool) (h : Header) (bytes : List ℕ) (e : End) (s : Session) → h.kind < 2 → has_syn h ≡ false → (has_ack h ≡ true → is_own s.role h.id ≡ true) → s.incoming ≡ Head [] →
         look h.id s.table.entries ≡ Some e → length bytes ≡ payload h → (head_comes lacks h s).status ≡ Running → IsWithin s →
         Has s.table.window (all_come false s.table.window (says h bytes) e) (look h.id (frame_comes lacks h bytes s).table.entries) }
+    ensures head_comes { (lacks : Bool) (h : Header) (e : End) (s : Session) → h.kind < 2 → has_syn h ≡ false → has_rst h ≡ false → (has_ack h ≡ true → is_own s.role h.id ≡ true) →
+        look h.id s.table.entries ≡ Some e → 0 < payload h → (head_comes lacks h s).status ≡ Running → look h.id (head_comes lacks h s).table.entries ≡ Some (all_come false s.table.window (opening h) e) }
+    ensures last_piece_comes { (bytes : List ℕ) (id : ℕ) (fin : Bool) (e : End) (s : Session) → look id s.table.entries ≡ Some e →
+        look id (piece_comes bytes id (length bytes) fin false s).table.entries ≡ Some (gets_piece fin bytes e) }
     ensures piece_comes { (bytes : List ℕ) (id lacking : ℕ) (fin : Bool) (e : End) (s : Session) → length bytes < lacking → look id s.table.entries ≡ Some e →
         look id (piece_comes bytes id lacking fin false s).table.entries ≡ Some (gets_data bytes e) }
     ensures offered { (h : Header) (bytes : List ℕ) (e : End) (s : Session) → IsGoodSyn h s → has_rst h ≡ false → s.away.here ≡ Unsaid → length s.offered < most_offered → length s.table.entries < most_records →

@@ -24,7 +24,8 @@ ghost use Rattle.ymx_world_law.specs.Texts.{AreFrames, AreWithin, IsLater, IsDel
 /// of the sender's frame begun are whole frames one after the other, behind the rest of a payload
 /// (framing). So it is whatever the two sides do and however the bytes are cut: an emission adds frames at
 /// the end, a delivery takes some from the front. These frames are settled by the bytes, and no session
-/// finds a fault in the header of one by itself.
+/// within its limits finds a fault in the header of one by itself. In a quiet world no session is inside a
+/// frame.
 pub fn frames_under_way()
     ensures emitted { (may : Choice → Session → Bool) (room : ℕ) (out : List ℕ) (receiver : Session) (pipe : Pipe) (sender after : Session) (frames : List (List ℕ)) →
         Emits may sender room out after → pipe.stopped ≡ false → IsUnderWay receiver pipe sender frames → IsLater receiver pipe after out frames }

@@ -1,5 +1,6 @@
 use Rattle.ymx_session_law.proofs.Frames.{header-comes, frame-whole, block-takes, takes-deaf}
 use Rattle.ymx_session_law.proofs.Pieces.{head-takes, head-whole}
+use Rattle.ymx_session_law.proofs.Only.{frame-only}
 use Rattle.ymx_session_law.proofs.frames_by_their_bytes.Goals as goal
 
 pub returns-clause-header : goal.returns-clause-header
@@ -19,3 +20,6 @@ returns-clause-header_ends c = λ lacks bytes seen b s st inc free l. head-whole
 
 pub returns-clause-dropped : goal.returns-clause-dropped
 returns-clause-dropped c = takes-deaf
+
+pub returns-clause-only : goal.returns-clause-only
+returns-clause-only c = λ h bytes s t n r st inc l p. let d = frame-only h bytes s t n r st inc l p in (d.lacks, d.same)

@@ -1,5 +1,5 @@
 use Rattle.ymx_side_law.proofs.frames_in_follow_the_law.Goals as goal
-use Rattle.ymx_side_law.proofs.Comes.{comes, piece-begins, offered-comes, refused-comes, unknown}
+use Rattle.ymx_side_law.proofs.Comes.{comes, head-alone-comes, piece-begins, last-piece, offered-comes, refused-comes, unknown}
 
 pub returns-clause-comes : goal.returns-clause-comes
 returns-clause-comes c = comes
@@ -15,3 +15,9 @@ returns-clause-refused c = λ lacks h bytes e s g r cause inc. let k = refused-c
 
 pub returns-clause-unknown : goal.returns-clause-unknown
 returns-clause-unknown c = unknown
+
+pub returns-clause-head_comes : goal.returns-clause-head_comes
+returns-clause-head_comes c = head-alone-comes
+
+pub returns-clause-last_piece_comes : goal.returns-clause-last_piece_comes
+returns-clause-last_piece_comes c = last-piece
