@@ -1,5 +1,5 @@
 -- What the program says on its error device (this project's own).
-use Rattle.std.specs.Prelude.{◌≡◌, ◌≢◌, ◌≤◌, ◌↔◌, ℕ, List, [], Option, IfSome, IsTrue, ◌⊎◌, codes}
+use Rattle.std.specs.Prelude.{◌≡◌, ◌≢◌, ◌≤◌, ◌↔◌, ℕ, List, [], Bool, Option, IfSome, IsTrue, ◌⊎◌, codes}
 use Rattle.std.specs.Io.{StartsWith}
 use Rattle.std.specs.Io.KnownBytes.{Appends, Consumes, IsAtEnd}
 use Rattle.clap.specs.declared.error.kind.ErrorKind.{ErrorKind}
@@ -36,11 +36,13 @@ reason Writing = writing_failed
 reason Memory = out_of_memory
 
 -- Frames are printed with this limit, in bytes of payload: the status is 0 at their good end and else 1, and what failed is said.
--- Given are what is left of the reader's input and what the writer has, each before and after.
-abbrev pub PrintsFrames : (limit status : ℕ) → (was is had has : Option (List ℕ)) → (List ℕ → Type 0) → Type 0
-PrintsFrames limit status was is had has says =
+-- A device is blamed only if it failed. Given are what is left of the reader's input and what the writer has, each before and after,
+-- and whether the reader and the writer failed.
+abbrev pub PrintsFrames : (limit status : ℕ) → (was is had has : Option (List ℕ)) → (reader_failed writer_failed : Bool) → (List ℕ → Type 0) → Type 0
+PrintsFrames limit status was is had has reader_failed writer_failed says =
     (end : FramesEnd) × (text : List ℕ) × (output : List ℕ) × Consumes was is text × Appends had has output
-    × Prints limit text (IsAtEnd is) end output × (status ≤ 1) × ((status ≡ 0) ↔ (end ≡ Good)) × says (reason end)
+    × Prints limit text (IsAtEnd is) end output × (end ≡ Reading → IsTrue reader_failed) × (end ≡ Writing → IsTrue writer_failed)
+    × (status ≤ 1) × ((status ≡ 0) ↔ (end ≡ Good)) × says (reason end)
 
 -- clap has a mistake to tell: neither the help nor the version was asked for
 abbrev pub IsMistake : ErrorKind → Type 0

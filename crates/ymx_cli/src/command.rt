@@ -1,6 +1,8 @@
 //! The command line of `ymx`.
 
-ghost use Rattle.std.specs.Prelude.{ℕ, List, ◌≡◌, ◌≤◌, ◌↔◌, ◌⊎◌, ◌<◌, ◌^◌, Some, codes, decimal, true, false, map, IfOk, IsTrue, MatchResult};
+ghost use Rattle.std.specs.Prelude.{ℕ, List, ◌≡◌, ◌≢◌, ◌≤◌, ◌↔◌, ◌⊎◌, ◌<◌, ◌^◌, Some, codes, decimal, true, false, map, IfOk, IfSome, IsTrue, MatchResult};
+ghost use Rattle.std.specs.IoError.{error_kind};
+ghost use Rattle.std.specs.declared.io.ErrorKind.TheVariants.{InvalidData};
 ghost use Rattle.std.specs.Io.{StartsWith};
 ghost use Rattle.std.specs.Io.KnownBytes.{Appends, Keeps};
 ghost use Rattle.clap.specs.Words.{app_of, kind_of, rule_of, shape_of, subcommand_rows_of};
@@ -45,6 +47,7 @@ pub fn ymx_main<S: AsStr, R: Inlet, W: Outlet, E: Outlet>(
     // Words that ask for frames get them with their limit, or there is no memory to read the words.
     ensures frames { (limit : ℕ) → AsksFrames (map S.text words.now) limit →
         PrintsFrames limit result (R.remaining reader.old) (R.remaining reader.new) (W.contents writer.old) (W.contents writer.new)
+        (has_failed (R.failures reader.old) (R.failures reader.new)) (has_failed (W.failures writer.old) (W.failures writer.new))
         (Says (E.contents errors.old) (E.contents errors.new) (E.failures errors.old) (E.failures errors.new))
         ⊎ ((result ≡ 1) × Keeps (R.remaining reader.old) (R.remaining reader.new) × Keeps (W.contents writer.old) (W.contents writer.new)
         × Says (E.contents errors.old) (E.contents errors.new) (E.failures errors.old) (E.failures errors.new) out_of_memory) }
@@ -52,8 +55,9 @@ pub fn ymx_main<S: AsStr, R: Inlet, W: Outlet, E: Outlet>(
     ensures printed { Keeps (R.remaining reader.old) (R.remaining reader.new)
         ⊎ ((limit : ℕ)
         × PrintsFrames limit result (R.remaining reader.old) (R.remaining reader.new) (W.contents writer.old) (W.contents writer.new)
+        (has_failed (R.failures reader.old) (R.failures reader.new)) (has_failed (W.failures writer.old) (W.failures writer.new))
         (Says (E.contents errors.old) (E.contents errors.new) (E.failures errors.old) (E.failures errors.new))) }
-    // A bad command line does nothing.
+    // At status 2 nothing is read, and nothing is written to the writer.
     ensures bad { result ≡ 2 → Keeps (R.remaining reader.old) (R.remaining reader.new) × Keeps (W.contents writer.old) (W.contents writer.new) }
 {
     match parse(alloc, words) {
@@ -68,8 +72,10 @@ pub fn ymx_main<S: AsStr, R: Inlet, W: Outlet, E: Outlet>(
 
 /// Says why the words of the command line can't be had, and answers the exit status.
 pub fn no_words<E: Outlet>(error: &io::Error, errors: &mut E) -> u8
-    ensures { ((result ≡ 2) × Says (E.contents errors.old) (E.contents errors.new) (E.failures errors.old) (E.failures errors.new) not_text)
-        ⊎ ((result ≡ 1) × Says (E.contents errors.old) (E.contents errors.new) (E.failures errors.old) (E.failures errors.new) out_of_memory) }
+    ensures not_utf8 { error_kind error.now ≡ InvalidData →
+        (result ≡ 2) × Says (E.contents errors.old) (E.contents errors.new) (E.failures errors.old) (E.failures errors.new) not_text }
+    ensures other { error_kind error.now ≢ InvalidData →
+        (result ≡ 1) × Says (E.contents errors.old) (E.contents errors.new) (E.failures errors.old) (E.failures errors.new) out_of_memory }
 {
     if error.kind() == io::ErrorKind::InvalidData {
         say(errors, b"error: a word of the command line is not UTF-8\n");
@@ -89,8 +95,9 @@ fn parse<'a, S: AsStr>(alloc: Global, words: &'a [S]) -> Result<Task, Error>
 
 /// What the matches of a command line ask for.
 fn asked(matches: &ArgMatches<'_>) -> Task
-    ensures { (limit : ℕ) → limit < 2 ^ 32 → named_limit (subcommand_rows_of matches.now) ≡ Some (codes "frames", Some (decimal limit)) →
+    ensures frames { (limit : ℕ) → limit < 2 ^ 32 → named_limit (subcommand_rows_of matches.now) ≡ Some (codes "frames", Some (decimal limit)) →
         result ≡ Task.Frames limit }
+    ensures other { IfSome (named_limit (subcommand_rows_of matches.now)) (λ p. p.0 ≢ codes "frames") → result ≡ Task.Other }
 {
     match matches.subcommand() {
         Some(("frames", found)) => Task::Frames {

@@ -1,4 +1,4 @@
-//! The program `ymx`: the command line over the yamux session library.
+//! The program `ymx`: its command line and its standard devices.
 #![tactic(auto)]
 
 mod command;

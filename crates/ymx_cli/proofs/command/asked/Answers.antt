@@ -7,8 +7,8 @@ use Rattle.ymx_cli.specs.declared.command.Task.TheVariants.{Frames}
 use Rattle.ymx_cli.proofs.Read.{named_text, read_number}
 use Rattle.ymx_cli.proofs.command.asked.Goals as goal
 
-pub returns-in-Some-frames-default : goal.returns-in-Some-frames-default
-returns-in-Some-frames-default c = λ limit small named.
+pub returns-in-Some-frames-default-clause-frames : goal.returns-in-Some-frames-default-clause-frames
+returns-in-Some-frames-default-clause-frames c = λ limit small named.
     let found = found_of c.in-Some-frames-default.found.now in
     let text : one_text found (codes "limit") ≡ Some (decimal limit) =
     one_text-rows found (codes "limit") ∙ named_text (rows_of found) _ _ _ c.in-Some-frames-default.ensures.rows named in

@@ -16,5 +16,5 @@ returns g c = λ limit asks.
     let words = map g.S.AsStr.text c.args.words.now in
     let app = c.in_ok-command.ensures in
     let taken = asked_taken words limit asks in
-    c.asked.ensures limit taken.2
+    c.asked.ensures.frames limit taken.2
     (ap named_limit ((c.in_ok-matches.ensures.matches (ap is_simple app ∙ is_simple-ymx)).1 ∙ ap (λ (a : App). subcommand_of a words) app) ∙ taken.1)

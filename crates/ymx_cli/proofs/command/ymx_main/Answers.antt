@@ -7,7 +7,7 @@ returns-in-Ok-Frames-clause-frames g c = λ limit asks.
     let task = c.in-Ok-Frames.ensures limit asks in
     let same : c.in-Ok-Frames.limit ≡ limit = cc in
     let printed = c.frames-end.ensures.printed in
-    inl (c.frames-end.result, printed.0, printed.1, printed.2, printed.3, rw (← same) printed.4, c.finish.ensures.status, c.finish.ensures.good, c.finish.ensures.said)
+    inl (c.frames-end.result, printed.0, printed.1, printed.2, printed.3, rw (← same) printed.4, c.frames-end.ensures.reading, c.frames-end.ensures.writing, c.finish.ensures.status, c.finish.ensures.good, c.finish.ensures.said)
 
 pub returns-in-Ok-Other-clause-frames : goal.returns-in-Ok-Other-clause-frames
 returns-in-Ok-Other-clause-frames g c = λ limit asks.
