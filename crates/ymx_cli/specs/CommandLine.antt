@@ -1,6 +1,6 @@
 -- The command line of the program (this project's own).
 use Rattle.std.specs.Prelude.{◌≡◌, ◌≤◌, ◌⊎◌, ℕ, List, [], ◌∷◌, Option, Some, true, option_map, codes, decimal, pos}
-use Rattle.clap.specs.Words.{App, Row, Rule, Shape, Text, new_app, new_rule, one_of, with_rule, with_subcommand}
+use Rattle.clap.specs.Words.{App, IsSignedIn, Row, Rule, Shape, Text, new_app, new_rule, one_of, with_rule, with_subcommand, without_minus}
 use Rattle.clap.specs.declared.builder.action.ArgAction.TheVariants.{Set}
 use Rattle.clap.specs.declared.builder.value_parser.ValueParser.TheVariants as parser
 
@@ -46,3 +46,8 @@ ymx_app = with_subcommand (with_subcommand (with_subcommand (with_subcommand (wi
 -- of a subcommand that was met: its name, and the text of its limit
 abbrev pub named_limit : Option (Text × List Row) → Option (Text × Option Text)
 named_limit = option_map (λ p. (p.0, one_of (codes "limit") p.1))
+
+-- the limit of `frames`, where there is one, was given as the text of a number from 262144 to 16777216; clap hands it on without a minus
+abbrev pub HasGoodLimit : Option (Text × List Row) → Type 0
+HasGoodLimit met =
+    (text : Text) → named_limit met ≡ Some (codes "frames", Some text) → (given : Text) × (text ≡ without_minus given) × IsSignedIn (pos 262144) (pos 16777216) given

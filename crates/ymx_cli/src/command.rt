@@ -7,7 +7,7 @@ ghost use Rattle.std.specs.Io.{StartsWith};
 ghost use Rattle.std.specs.Io.KnownBytes.{Appends, Keeps};
 ghost use Rattle.clap.specs.Words.{app_of, kind_of, rule_of, shape_of, subcommand_rows_of};
 ghost use Rattle.clap.specs.declared.builder.command.Command.TheViews.{out-Command as fields_of};
-ghost use Rattle.ymx_cli.specs.CommandLine.{AsksFrames, bare_shape, frames_shape, limit_rule, named_limit, ymx_app};
+ghost use Rattle.ymx_cli.specs.CommandLine.{AsksFrames, HasGoodLimit, bare_shape, frames_shape, limit_rule, named_limit, ymx_app};
 ghost use Rattle.ymx_model.specs.Devices.{has_failed};
 ghost use Rattle.ymx_cli.specs.Messages.{IsMistake, PrintsFrames, Says, Shows, not_text, out_of_memory, reason, writing_failed};
 
@@ -51,9 +51,9 @@ pub fn ymx_main<S: AsStr, R: Inlet, W: Outlet, E: Outlet>(
         (Says (E.contents errors.old) (E.contents errors.new) (E.failures errors.old) (E.failures errors.new))
         ⊎ ((result ≡ 1) × Keeps (R.remaining reader.old) (R.remaining reader.new) × Keeps (W.contents writer.old) (W.contents writer.new)
         × Says (E.contents errors.old) (E.contents errors.new) (E.failures errors.old) (E.failures errors.new) out_of_memory) }
-    // Whatever the words, frames are printed so or nothing is read.
+    // Whatever the words, frames are printed so with a limit in its range, or nothing is read.
     ensures printed { Keeps (R.remaining reader.old) (R.remaining reader.new)
-        ⊎ ((limit : ℕ)
+        ⊎ ((limit : ℕ) × (262144 ≤ limit) × (limit ≤ 16777216)
         × PrintsFrames limit result (R.remaining reader.old) (R.remaining reader.new) (W.contents writer.old) (W.contents writer.new)
         (has_failed (R.failures reader.old) (R.failures reader.new)) (has_failed (W.failures writer.old) (W.failures writer.new))
         (Says (E.contents errors.old) (E.contents errors.new) (E.failures errors.old) (E.failures errors.new))) }
@@ -86,8 +86,9 @@ pub fn no_words<E: Outlet>(error: &io::Error, errors: &mut E) -> u8
 
 /// Reads the words of a command line.
 fn parse<'a, S: AsStr>(alloc: Global, words: &'a [S]) -> Result<Task, Error>
-    ensures { (limit : ℕ) → AsksFrames (map S.text words.entry.now) limit →
+    ensures frames { (limit : ℕ) → AsksFrames (map S.text words.entry.now) limit →
         MatchResult result (λ task. task ≡ Task.Frames limit) (λ error. kind_of error ≡ ErrorKind.OutOfMemory) }
+    ensures limits { IfOk result (λ task. (limit : ℕ) → task ≡ Task.Frames limit → (262144 ≤ limit) × (limit ≤ 16777216)) }
 {
     let matches = command(alloc)?.try_get_matches_from(words)?;
     Ok(asked(&matches))
@@ -98,6 +99,8 @@ fn asked(matches: &ArgMatches<'_>) -> Task
     ensures frames { (limit : ℕ) → limit < 2 ^ 32 → named_limit (subcommand_rows_of matches.now) ≡ Some (codes "frames", Some (decimal limit)) →
         result ≡ Task.Frames limit }
     ensures other { IfSome (named_limit (subcommand_rows_of matches.now)) (λ p. p.0 ≢ codes "frames") → result ≡ Task.Other }
+    ensures limits { HasGoodLimit (subcommand_rows_of matches.now) → (limit : ℕ) → result ≡ Task.Frames limit →
+        (262144 ≤ limit) × (limit ≤ 16777216) }
 {
     match matches.subcommand() {
         Some(("frames", found)) => Task::Frames {
