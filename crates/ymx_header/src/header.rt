@@ -6,38 +6,11 @@ ghost use Rattle.ymx_header.specs.Faults.{check_of};
 ghost use Rattle.ymx_header.specs.declared.header.Header.{Header};
 
 use crate::fault::Fault;
+use crate::wire::{
+    FLAG_ACK, FLAG_FIN, FLAG_RST, FLAG_SYN, HEADER_LENGTH, TYPE_DATA, TYPE_GO_AWAY, TYPE_PING,
+    TYPE_WINDOW_UPDATE, VERSION,
+};
 use byteorder::{BigEndian, ByteOrder};
-
-/// The version of the protocol: 0, the only one.
-pub const VERSION: u8 = 0;
-
-/// Bytes of a header.
-pub const HEADER_LENGTH: usize = 12;
-
-/// Data: `length` bytes of payload follow the header.
-pub const TYPE_DATA: u8 = 0;
-/// Window Update: `length` is a number of bytes by which the receiver may write more.
-pub const TYPE_WINDOW_UPDATE: u8 = 1;
-/// Ping: `length` is an opaque value, which the answer repeats.
-pub const TYPE_PING: u8 = 2;
-/// Go Away: `length` is the code that says why.
-pub const TYPE_GO_AWAY: u8 = 3;
-
-/// SYN: the frame opens its stream; on a Ping: an answer is asked.
-pub const FLAG_SYN: u16 = 1;
-/// ACK: the frame accepts its stream; on a Ping: this is the answer.
-pub const FLAG_ACK: u16 = 2;
-/// FIN: the sender writes no more on this stream (half-close).
-pub const FLAG_FIN: u16 = 4;
-/// RST: the stream is over in both directions, or was refused.
-pub const FLAG_RST: u16 = 8;
-
-/// Go Away with no error: the sender takes no new streams.
-pub const GO_AWAY_NORMAL: u32 = 0;
-/// Go Away after a fault of the receiver of this frame.
-pub const GO_AWAY_PROTOCOL_ERROR: u32 = 1;
-/// Go Away after a fault of the sender's own.
-pub const GO_AWAY_INTERNAL_ERROR: u32 = 2;
 
 /// The header of a frame, as it stands in the first twelve bytes (framing).
 #[derive(Clone, Copy, Debug, PartialEq, Eq)]
