@@ -1,6 +1,6 @@
 //! The five fields of a header and their twelve bytes.
 
-ghost use Rattle.std.specs.Prelude.{◌≡◌, ◌↔◌, ◌<◌, ◌≢◌, ℕ, List, length, slice_index, Err, Ok, IsOk, ◌≤◌};
+ghost use Rattle.std.specs.Prelude.{◌≡◌, ◌↔◌, ◌<◌, ◌≢◌, ℕ, List, length, slice_index, Err, Ok, IsOk, ◌≤◌, ◌++◌, drop};
 ghost use Rattle.ymx_header.specs.Headers.{spelling, header_of, IsInRange};
 ghost use Rattle.ymx_header.specs.Faults.{check_of};
 ghost use Rattle.ymx_header.specs.declared.header.Header.{Header};
@@ -86,6 +86,14 @@ pub fn encode(header: &Header) -> [u8; 12]
     bytes
 }
 
+/// Writes the twelve bytes of a header at the front of a buffer, whose other bytes stay (framing).
+pub fn write_header(header: &Header, buffer: &mut [u8])
+    requires { 12 ≤ length buffer.old }
+    ensures { buffer.new ≡ spelling header.now ++ drop 12 buffer.old }
+{
+    buffer[..HEADER_LENGTH].copy_from_slice(&encode(header));
+}
+
 /// The header that twelve bytes spell (framing). Every twelve bytes spell one, and only one.
 pub fn decode(bytes: &[u8; 12]) -> Header
     ensures fields { result ≡ header_of bytes.now }
@@ -159,6 +167,13 @@ mod tests {
         assert_eq!(rt; decode(&ping), header);
         assert_eq!(rt; encode(&header), ping);
         assert_eq!(rt; ping.len(), HEADER_LENGTH);
+    }
+
+    #[test]
+    fn writes_a_header_at_the_front(rt: HostRuntime) {
+        let mut buffer = [9; 14];
+        write_header(&decode(&OPEN), &mut buffer);
+        assert_eq!(rt; buffer, [0, 1, 0, 1, 0, 0, 0, 1, 0, 0, 0, 0, 9, 9]);
     }
 
     #[test]
