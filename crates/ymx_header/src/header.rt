@@ -29,6 +29,7 @@ pub struct Header {
 
 impl Header {
     ghost use Rattle.ymx_header.specs.Headers.{has_syn, has_ack, has_fin, has_rst};
+    ghost use Rattle.ymx_header.specs.Frames.{payload_length};
 
     /// Whether the frame opens its stream, or asks for an answer (flags).
     pub fn has_syn(&self) -> bool
@@ -56,6 +57,18 @@ impl Header {
         ensures { result ≡ has_rst self.now }
     {
         self.flags & FLAG_RST != 0
+    }
+
+    /// How many bytes of payload follow the header: as many as its length says if its type is Data,
+    /// and else none (framing).
+    pub fn payload_len(&self) -> u32
+        ensures { result ≡ payload_length self.now }
+    {
+        if self.kind == TYPE_DATA {
+            self.length
+        } else {
+            0
+        }
     }
 }
 
@@ -174,6 +187,15 @@ mod tests {
         let mut buffer = [9; 14];
         write_header(&decode(&OPEN), &mut buffer);
         assert_eq!(rt; buffer, [0, 1, 0, 1, 0, 0, 0, 1, 0, 0, 0, 0, 9, 9]);
+    }
+
+    #[test]
+    fn counts_the_payload_of_data_alone(rt: HostRuntime) {
+        // the length is the lowest of the last four bytes
+        for (kind, want) in [(0, 5), (1, 0), (2, 0), (3, 0)] {
+            let header = decode(&[0, kind, 0, 0, 0, 0, 0, 1, 0, 0, 0, 5]);
+            assert_eq!(rt; header.payload_len(), want, "type {kind}");
+        }
     }
 
     #[test]
