@@ -5,7 +5,7 @@ use Rattle.byteorder.specs.Endian.{big_bytes}
 use Rattle.ymx_header.specs.Headers.{spelling, header_of, IsInRange}
 use Rattle.ymx_header.specs.declared.header.Header.{Header}
 
-pub length-spelling : (h : Header) → 12 ≡ length (spelling h)
+pub length-spelling : (h : Header) → length (spelling h) ≡ 12
 length-spelling h = refl
 
 pub header_of-spelling : (h : Header) → IsInRange h → header_of (spelling h) ≡ h
