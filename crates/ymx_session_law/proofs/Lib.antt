@@ -22,3 +22,6 @@ pub mod Only
 pub mod Settled
 pub mod SettledFrames
 pub mod SynCauses
+mod Total
+mod OthersOut
+mod Ample

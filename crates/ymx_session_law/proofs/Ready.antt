@@ -1,5 +1,5 @@
 -- Something is due exactly if an emission gives a byte.
-use Rattle.std.proofs.Common.{◌≡◌, ◌≢◌, ◌⊎◌, inl, inr, ℕ, zero, suc, List, [], ◌∷◌, ◌++◌, take, drop, Bool, true, false, not, ◌&&◌, ◌||◌, ◌==◌, nat_lt, if◌then◌else◌, Option, None, Some, refl, sym, ◌∙◌, arith}
+use Rattle.std.proofs.Common.{◌≡◌, ◌≢◌, ◌⊎◌, inl, inr, ℕ, zero, suc, ◌<◌, List, [], ◌∷◌, ◌++◌, length, take, drop, Bool, true, false, not, ◌&&◌, ◌||◌, ◌==◌, nat_lt, if◌then◌else◌, Option, None, Some, refl, sym, ◌∙◌, arith}
 use Rattle.std.specs.Prelude.{is_some}
 use Rattle.std.proofs.lemmas.Grind.{common_steps}
 use Rattle.std.proofs.lemmas.Bool.Decides.{nat_tests}
@@ -328,3 +328,8 @@ none-given s w none = of (is_ready s) refl
     of true r =
         let g = due-gives s w r in
         let z : g.0 ∷ [] ≡ [] = none g.1 (g.0 ∷ []) (emits-freely in_turn s 1 (g.0 ∷ []) g.1 g.2) in cc
+
+-- where something is due an emission gives a byte, in any order
+pub always-gives : (may : Choice → Session → Bool) (s : Session) (room : ℕ) (out : List ℕ) (t : Session) → is_ready s ≡ true → 0 < room → Emits may s room out t → 0 < length out
+always-gives may s room [] t r some e = let full = e.full some in let same = e.flows in cc
+always-gives may s room (b ∷ bs) t r some e = omega arith
