@@ -9,6 +9,7 @@ pub mod Effects
 pub mod Cores
 pub mod MachineLaws
 pub mod Openers
+pub mod Orders
 pub mod MachineFaces
 pub mod RunFaces
 pub mod RowSteps

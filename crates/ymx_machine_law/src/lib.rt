@@ -1,7 +1,7 @@
 //! Laws of the queue machine by itself, over all runs. Its calls do nothing: each contract is a theorem.
 #![tactic(auto)]
 
-ghost use Rattle.std.specs.Prelude.{◌%◌, ◌≡◌, ◌≢◌, ◌⊎◌, ◌≤◌, ℕ, List, Some, true};
+ghost use Rattle.std.specs.Prelude.{◌%◌, ◌≡◌, ◌≢◌, ◌⊎◌, ◌≤◌, ℕ, List, None, Some, true};
 ghost use Rattle.ymx_model.specs.declared.types.Answer.{Answer};
 ghost use Rattle.ymx_model.specs.declared.types.Call.{Call};
 ghost use Rattle.ymx_model.specs.declared.types.CallFault.TheVariants.{OutOfMemory};
@@ -12,11 +12,11 @@ ghost use Rattle.ymx_model.specs.declared.types.Step.{Step};
 ghost use Rattle.ymx_model.specs.FreeMoves.{FreeMove, moved_by};
 ghost use Rattle.ymx_model.specs.Lanes.{first_credit};
 ghost use Rattle.ymx_model.specs.MachineRules.{Rule};
-ghost use Rattle.ymx_model.specs.MachineRuns.{IsStillMachine, MachineRun};
+ghost use Rattle.ymx_model.specs.MachineRuns.{IsStillMachine, MachineRun, MachineStep};
 ghost use Rattle.ymx_model.specs.Machines.{Machine, new_machine};
 ghost use Rattle.ymx_model.specs.Tables.{look};
 ghost use Rattle.ymx_machine_law.specs.Examples.{HasCome, away_answers, away_data_answers, away_data_steps, away_steps, crossing_answers, crossing_steps, ended_answers, ended_steps, exhausted_answers, exhausted_steps, forgotten_answers, forgotten_steps, full_answers, full_steps, hello_answers, hello_steps, last_start, lost_answers, lost_steps, nothing_answers, nothing_steps, pending_answers, pending_steps, pinged_answers, pinged_steps, reset_answers, reset_steps, start, vanishing_answers, vanishing_steps, wide_answers, wide_start, wide_steps, with_data_answers, with_data_steps};
-ghost use Rattle.ymx_machine_law.specs.Numbers.{HasOrder};
+ghost use Rattle.ymx_machine_law.specs.Numbers.{HasBothParities, HasOrder};
 ghost use Rattle.ymx_machine_law.specs.Others.{needs_memory, touched, touched_by};
 ghost use Rattle.ymx_machine_law.specs.Runs.{is_live_at_a, is_live_at_b, IsFace, ObeysAt};
 
@@ -41,11 +41,15 @@ pub fn face()
 {}
 
 /// Stream identifiers: in every run each number stands once, below its opener's next number and odd or
-/// even as that is, and the offered lists name the offered ends, each once.
+/// even as that is, and the offered lists name the offered ends, each once. Each step keeps this, and a
+/// side's next number is unused.
 pub fn numbers()
     ensures in_order { (window_a first_a window_b first_b : ℕ) (steps : List Step) (answers : List Answer) (m : Machine) →
         first_credit ≤ window_a → first_credit ≤ window_b → first_a % 2 ≡ 1 → first_b % 2 ≡ 0 →
         MachineRun steps answers (new_machine window_a first_a window_b first_b) m → HasOrder m }
+    ensures kept { (step : Step) (given : Answer) (m n : Machine) → HasBothParities m → MachineStep step given m n → HasOrder m →
+        HasOrder n × HasBothParities n }
+    ensures next_is_unused { (m : Machine) → HasBothParities m → HasOrder m → look m.me.next m.streams ≡ None }
 {}
 
 /// A call or a free move touches one stream: every other one stays as it is, and a call leaves what is
