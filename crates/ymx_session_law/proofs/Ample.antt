@@ -1,5 +1,5 @@
 -- A feed that counted no want of memory is the one with ample memory.
-use Rattle.std.proofs.Common.{◌≡◌, ℕ, zero, suc, ◌+◌, ◌<◌, ◌≤◌, List, [], ◌∷◌, ◌++◌, length, take, drop, min, Bool, true, false, not, ◌&&◌, ◌||◌, ◌==◌, nat_lt, nat_le, if◌then◌else◌, Option, None, Some, refl, sym, ◌∙◌, subst, arith}
+use Rattle.std.proofs.Common.{◌≡◌, ℕ, zero, suc, ◌<◌, List, [], ◌∷◌, ◌++◌, length, take, drop, min, Bool, true, false, not, ◌||◌, ◌==◌, nat_lt, if◌then◌else◌, Option, None, Some, refl, sym, ◌∙◌, subst, arith}
 use Rattle.std.proofs.lemmas.Bool.Decides.{nat_tests}
 use Rattle.ymx_header.specs.declared.header.Header.{Header}
 use Rattle.ymx_header.specs.declared.fault.Fault.{Fault}
@@ -11,7 +11,7 @@ use Rattle.ymx_model.specs.Tables.{look, added}
 use Rattle.ymx_model.specs.Sessions.{Session, Incoming, is_deaf}
 use Rattle.ymx_model.specs.Sessions.Incoming.{Head, Payload}
 use Rattle.ymx_model.specs.Arrivals.{head_comes, ping_comes, go_away_comes, syn_comes, meets_some, meets, expects, answers_with, offer, refuses, syn_fault, header_fault, payload, unless_fault, is_starved}
-use Rattle.ymx_model.specs.Feeds.{Takes, Feeds, FeedDone, feed, is_stuck, byte_comes, byte_in, starves}
+use Rattle.ymx_model.specs.Feeds.{Takes, Feeds, feed, is_stuck, byte_comes, byte_in, starves}
 
 unless-same : (o : Option Fault) (s t u : Session) → (o ≡ None → t ≡ u) → unless_fault o s t ≡ unless_fault o s u
 unless-same None s t u k = k refl

@@ -25,3 +25,4 @@ pub mod SynCauses
 mod Total
 mod OthersOut
 mod Ample
+pub mod FieldsFit

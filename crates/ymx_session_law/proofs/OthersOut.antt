@@ -1,14 +1,13 @@
 -- A stream that is opened or accepted, and a frame of a stream that goes out, leave every other record as it was.
-use Rattle.std.proofs.Common.{◌≡◌, ◌≢◌, ℕ, List, [], ◌∷◌, ◌++◌, length, min, take, drop, Bool, true, false, ◌||◌, ◌==◌, nat_lt, nat_le, if◌then◌else◌, Option, None, Some, count_by, refl, sym, ◌∙◌, subst}
+use Rattle.std.proofs.Common.{◌≡◌, ℕ, List, [], ◌∷◌, length, min, take, drop, Bool, true, false, ◌||◌, ◌==◌, nat_lt, nat_le, if◌then◌else◌, Option, None, Some, count_by, refl, sym, subst}
 use Rattle.ymx_model.specs.declared.types.Call.TheVariants as call
-use Rattle.ymx_model.specs.declared.types.Reply.TheVariants.{Accepted, Opened, OpenedWith, Refused}
+use Rattle.ymx_model.specs.declared.types.Reply.TheVariants.{Accepted, Opened, OpenedWith}
 use Rattle.ymx_model.specs.declared.types.CallFault.TheVariants as fault
 use Rattle.ymx_model.specs.Lanes.{first_credit}
-use Rattle.ymx_model.specs.Streams.Phase.{Live}
-use Rattle.ymx_model.specs.Records.{End, end_accept, end_write, new_end}
+use Rattle.ymx_model.specs.Records.{End, end_accept}
 use Rattle.ymx_model.specs.Outgoing.{Kind, next_kind, sends, spelled}
 use Rattle.ymx_model.specs.Tables.{look, most_records, on, served}
-use Rattle.ymx_model.specs.Sessions.{Session, Begun, nothing_begun, is_running, is_lost, is_closed, on_stream, most_unacknowledged}
+use Rattle.ymx_model.specs.Sessions.{Session, nothing_begun, is_running, is_lost, is_closed, on_stream, most_unacknowledged}
 use Rattle.ymx_model.specs.Calls.{Outcome, outcome, answers, accept_of, open_or, opened, refused, is_unacknowledged}
 use Rattle.ymx_model.specs.Emissions.{begin, begin_stream, begin_kind, moves_on, settles}
 use Rattle.ymx_model.specs.Emissions.Choice.{AStream}

@@ -1,7 +1,5 @@
 -- Every event has an answer.
-use Rattle.std.proofs.Common.{◌≡◌, ℕ, zero, suc, ◌+◌, ◌<◌, ◌≤◌, List, [], ◌∷◌, length, take, min, Bool, true, false, ◌==◌, refl, sym, ◌∙◌, arith}
-use Rattle.std.proofs.lemmas.Bool.Decides.{nat_tests}
-use Rattle.ymx_model.specs.declared.types.Call.{Call}
+use Rattle.std.proofs.Common.{◌≡◌, ℕ, suc, ◌+◌, ◌<◌, ◌≤◌, List, [], ◌∷◌, length, take, min, Bool, true, false, ◌==◌, refl, arith}
 use Rattle.ymx_model.specs.declared.types.Event.{Event}
 use Rattle.ymx_model.specs.declared.types.Event.TheVariants as event
 use Rattle.ymx_model.specs.declared.types.Fed.{Fed}
@@ -11,7 +9,7 @@ use Rattle.ymx_model.specs.Sessions.{Session}
 use Rattle.ymx_model.specs.Calls.{outcome, feed_end}
 use Rattle.ymx_model.specs.Feeds.{Feeds, Takes, is_stuck, byte_comes, starves, why_of}
 use Rattle.ymx_model.specs.Emissions.{in_turn}
-use Rattle.ymx_model.specs.Histories.{Gives, CallGives}
+use Rattle.ymx_model.specs.Histories.{Gives}
 use Rattle.ymx_model.specs.Histories.CallGives.{Outcome}
 use Rattle.ymx_session_law.specs.Limits.{IsWithin}
 use Rattle.ymx_session_law.proofs.Ready.{emission}

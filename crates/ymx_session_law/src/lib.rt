@@ -3,7 +3,7 @@
 //! public function is a law: it does nothing, and its contract is the theorem.
 #![tactic(auto)]
 
-ghost use Rattle.std.specs.Prelude.{◌≡◌, ◌+◌, ◌^◌, ◌<◌, ◌≤◌, ◌++◌, ◌∷◌, [], ℕ, List, Bool, length, take, drop, true, false, is_some, Some};
+ghost use Rattle.std.specs.Prelude.{◌≡◌, ◌+◌, ◌^◌, ◌<◌, ◌≤◌, ◌++◌, ◌∷◌, [], ℕ, List, Bool, length, take, drop, true, false, is_some, Some, All};
 ghost use Rattle.ymx_header.specs.Headers.{spelling, header_of, IsInRange, has_rst};
 ghost use Rattle.ymx_header.specs.declared.header.Header.{Header};
 ghost use Rattle.ymx_model.specs.declared.types.Call.{Call};
@@ -16,7 +16,7 @@ ghost use Rattle.ymx_model.specs.declared.types.Reply.TheVariants.{Accepted};
 ghost use Rattle.ymx_model.specs.declared.types.Role.{Role};
 ghost use Rattle.ymx_model.specs.declared.types.Status.TheVariants.{Running};
 ghost use Rattle.ymx_model.specs.declared.types.GoAwayMark.TheVariants.{Unsaid};
-ghost use Rattle.ymx_model.specs.Tables.{most_records};
+ghost use Rattle.ymx_model.specs.Tables.{look, most_records};
 ghost use Rattle.ymx_model.specs.Lanes.{first_credit};
 ghost use Rattle.ymx_model.specs.Records.{End};
 ghost use Rattle.ymx_model.specs.Outgoing.{is_due, next_kind};
@@ -28,6 +28,7 @@ ghost use Rattle.ymx_model.specs.Feeds.{Takes, Feeds, FeedDone, feed, is_stuck};
 ghost use Rattle.ymx_model.specs.Emissions.{Choice, begin, Ready, Flows, Emits, moves_on, is_ready, freely, in_turn};
 ghost use Rattle.ymx_model.specs.Emissions.Choice.{AStream};
 ghost use Rattle.ymx_model.specs.Histories.{Gives, ReplaysFrom};
+ghost use Rattle.ymx_session_law.specs.Fields.{Fits, NumbersFit, HalvesFit, FeedsBytes};
 ghost use Rattle.ymx_session_law.specs.Chunks.{joined_fed, FedInTwo};
 ghost use Rattle.ymx_session_law.specs.Frames.{frame_comes, starved_by};
 ghost use Rattle.ymx_session_law.specs.Limits.{IsWithin};
@@ -66,6 +67,16 @@ pub fn limits_hold()
     ensures at_first { (role : Role) (window first : ℕ) → first_credit ≤ window → window ≤ 16777216 → is_own role first ≡ true → 0 < first → first < 2 ^ 32 → IsWithin (new_session role window first) }
     ensures kept { (may : Choice → Session → Bool) (s t : Session) (event : Event) (reply : Reply) → Gives may s event reply t → IsWithin s → IsWithin t }
     ensures always { (may : Choice → Session → Bool) (at : ℕ) (entries : List Entry) (s t : Session) → ReplaysFrom may at entries s t → IsWithin s → IsWithin t }
+{}
+
+/// The numbers that a session keeps fit the fields of a header, 32 bits each, as long as bytes are fed
+/// (framing): its own ids and the peer's, credit, granted and owed bytes, the answers and the pings.
+pub fn numbers_fit()
+    ensures at_first { (role : Role) (window first : ℕ) → NumbersFit (new_session role window first) }
+    ensures kept { (may : Choice → Session → Bool) (s t : Session) (event : Event) (reply : Reply) → FeedsBytes event → Gives may s event reply t → IsWithin s → NumbersFit s → NumbersFit t }
+    ensures always { (may : Choice → Session → Bool) (at : ℕ) (entries : List Entry) (s t : Session) → All (λ entry. FeedsBytes entry.event) entries → ReplaysFrom may at entries s t → IsWithin s → NumbersFit s → NumbersFit t }
+    ensures records { (id : ℕ) (s : Session) (e : End) → IsWithin s → NumbersFit s → look id s.table.entries ≡ Some e → Fits id × HalvesFit e }
+    ensures offered { (s : Session) → IsWithin s → NumbersFit s → All Fits s.offered }
 {}
 
 /// Something is due exactly if an emission gives a byte, in turn or in any order.
