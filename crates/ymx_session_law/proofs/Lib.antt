@@ -26,3 +26,4 @@ mod Total
 mod OthersOut
 mod Ample
 pub mod FieldsFit
+pub mod Turns

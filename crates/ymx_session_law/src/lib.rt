@@ -96,6 +96,14 @@ pub fn every_event_answers()
     ensures { (s : Session) (event : Event) → IsWithin s → (reply : Reply) × (t : Session) × Gives in_turn s event reply t }
 {}
 
+/// Turns leave no choice: what one session emits in turn into one room is the same bytes, and it is
+/// then in the same state. No Data carries more than 16,384 bytes (framing).
+pub fn turns_leave_no_choice()
+    ensures unique { (room : ℕ) (s t u : Session) (out other : List ℕ) → Emits in_turn s room out t → Emits in_turn s room other u → (out ≡ other) × (t ≡ u) }
+    ensures frame_limit { (id limit : ℕ) (s t : Session) → begin (AStream id limit) s ≡ Some t → length t.begun.bytes ≤ 12 + limit }
+    ensures data_limit { (id limit : ℕ) (s : Session) → in_turn (AStream id limit) s ≡ true → limit ≡ 16384 }
+{}
+
 /// What goes out in two pieces is what goes out at once, and a block of a frame is its bytes.
 pub fn emitted_in_pieces()
     ensures join { (may : Choice → Session → Bool) (a b : List ℕ) (s t u : Session) → Flows may a s t → Flows may b t u → Flows may (a ++ b) s u }
