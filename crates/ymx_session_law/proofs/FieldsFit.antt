@@ -19,16 +19,14 @@ use Rattle.ymx_model.specs.declared.types.Response.TheVariants.{Pong, Reject}
 use Rattle.ymx_model.specs.declared.types.Role.{Role}
 use Rattle.ymx_model.specs.Lanes.{first_credit}
 use Rattle.ymx_model.specs.Streams.{is_offered}
-use Rattle.ymx_model.specs.Streams.Phase.{WasReset}
-use Rattle.ymx_model.specs.StreamRules.{write_reply, read_reply, finish_reply, reset_reply, forget_reply, moved, is_done}
-use Rattle.ymx_model.specs.Records.{End, end_write, end_read, end_finish, end_accept, end_reset, end_forget, gets_rst, gets_piece}
+use Rattle.ymx_model.specs.Records.{End, end_accept, gets_rst, gets_piece}
 use Rattle.ymx_model.specs.Outgoing.{Kind, next_kind, sends, spelled}
 use Rattle.ymx_model.specs.Pings.{Ping, most_pings, is_pending, has_back, has_asked, staged, without_ping, number_after, free_from, next_number, pinged, ping_goes}
 use Rattle.ymx_model.specs.GoAway.{away_due, away_goes}
 use Rattle.ymx_model.specs.Tables.{look, change, without, added, removed, on, served}
 use Rattle.ymx_model.specs.Sessions.{Session, Incoming, new_session, nothing_begun, is_running, is_lost, is_closed, is_broken, is_deaf, is_own, is_spent, on_stream, settled, drop_id}
 use Rattle.ymx_model.specs.Sessions.Incoming.{Head, Payload}
-use Rattle.ymx_model.specs.Calls.{Outcome, outcome, accept, accept_of, opened, write_outcome, read_outcome, finish_outcome, reset_outcome, forget_outcome}
+use Rattle.ymx_model.specs.Calls.{Outcome, outcome, accept, accept_of, opened}
 use Rattle.ymx_model.specs.Arrivals.{head_comes, piece_comes, ping_comes, go_away_comes, syn_comes, meets, meets_some, reset_comes, expects, answers_with, acknowledges, gets_head, payload, is_data, record_fault, header_fault, syn_fault, refuses, offer}
 use Rattle.ymx_model.specs.Feeds.{Takes, byte_comes, byte_in}
 use Rattle.ymx_model.specs.Emissions.{Choice, begin, begin_answer, begin_stream, begin_kind, begins, alarm_frame, go_away_frame, answer_frame, ping_frame, moves_on, settles, Ready, Flows}
@@ -38,7 +36,8 @@ use Rattle.ymx_model.specs.Histories.CallGives.{Outcome as HasOutcome, NoMemory}
 use Rattle.ymx_session_law.specs.Limits.{IsWithin, is_listed, is_offered_at}
 use Rattle.ymx_session_law.specs.Fields.{Fits, IsByte, IdFits, PingFits, ResponseFits, IncomingFits, PartsFit, NumbersFit, HalvesFit, FeedsBytes}
 use Rattle.ymx_session_law.proofs.Splits.{split, agrees}
-use Rattle.ymx_session_law.proofs.CallsKeep.{open_or-keeps, with-keeps}
+use Rattle.ymx_session_law.proofs.CallsKeep.{open_or-keeps}
+use Rattle.ymx_session_law.proofs.StreamCalls.{StaysAt, write-stays, read-stays, finish-stays, reset-stays, forget-stays}
 use Rattle.ymx_session_law.proofs.FramesKeep.{unless_fault-keeps}
 use Rattle.ymx_session_law.proofs.EmissionsKeep.{some_if, none_if, if_some}
 use Rattle.ymx_session_law.proofs.HistoriesKeep.{gives-keep}
@@ -77,6 +76,9 @@ removed-fits id s h = record { ids = ids-without id s.table.entries h.ids; answe
 settled-fits : (id : ℕ) (s : Session) → NumbersFit s → NumbersFit (settled id s)
 settled-fits id s h =
     split NumbersFit (is_spent s.table.window s.begun id (look id s.table.entries)) (record s { table = removed id s.table }) s (λ t. removed-fits id s h) (λ n. h)
+
+fit-stays : (id : ℕ) (s : Session) → NumbersFit s → StaysAt NumbersFit id s
+fit-stays id s h = record { now = h; changed = λ f. on_stream-fits id f s h; gone = λ f. settled-fits id (on_stream id f s) (on_stream-fits id f s h) }
 
 -- ---- the numbers of the pings
 
@@ -123,18 +125,11 @@ pub call-fits : (c : Call) (s : Session) → IsWithin s → NumbersFit s → Num
 call-fits call.Open s w h = open_or-keeps NumbersFit s _ h (λ l small few. opened-fits false [] s small h)
 call-fits (call.OpenWith bytes) s w h = open_or-keeps NumbersFit s _ h (λ l small few. opened-fits true (take first_credit bytes) s small h)
 call-fits call.Accept s w h = accept-fits s h
-call-fits (call.Write id bytes) s w h = with-keeps NumbersFit id (write_outcome id bytes s) s h (λ e l.
-    let r = write_reply (is_lost s.status) bytes e.phase e.out.finished e.out.credit in
-    split NumbersFit (moved r == 0) s (on_stream id (end_write (take (moved r) bytes)) s) (λ t. h) (λ n. on_stream-fits id (end_write (take (moved r) bytes)) s h))
-call-fits (call.Read id max) s w h = with-keeps NumbersFit id (read_outcome id max s) s h (λ e l.
-    split NumbersFit (moved (read_reply (is_lost s.status) max e.phase e.inn.unread e.inn.ended) == 0) s (on_stream id (end_read max) s) (λ t. h) (λ n. on_stream-fits id (end_read max) s h))
-call-fits (call.Finish id) s w h = with-keeps NumbersFit id (finish_outcome id s) s h (λ e l.
-    split NumbersFit (is_done (finish_reply (is_lost s.status) e.phase e.out.finished)) (on_stream id end_finish s) s (λ t. on_stream-fits id end_finish s h) (λ n. h))
-call-fits (call.Reset id) s w h = with-keeps NumbersFit id (reset_outcome id s) s h (λ e l.
-    split NumbersFit (is_done (reset_reply (is_lost s.status) e.phase)) (on_stream id (end_reset WasReset) s) s (λ t. on_stream-fits id (end_reset WasReset) s h) (λ n. h))
-call-fits (call.Forget id) s w h = with-keeps NumbersFit id (forget_outcome id s) s h (λ e l.
-    split NumbersFit (is_done (forget_reply e.phase)) (settled id (on_stream id (end_forget (is_lost s.status)) s)) s
-    (λ t. settled-fits id _ (on_stream-fits id (end_forget (is_lost s.status)) s h)) (λ n. h))
+call-fits (call.Write id bytes) s w h = write-stays NumbersFit id bytes s (fit-stays id s h)
+call-fits (call.Read id max) s w h = read-stays NumbersFit id max s (fit-stays id s h)
+call-fits (call.Finish id) s w h = finish-stays NumbersFit id s (fit-stays id s h)
+call-fits (call.Reset id) s w h = reset-stays NumbersFit id s (fit-stays id s h)
+call-fits (call.Forget id) s w h = forget-stays NumbersFit id s (fit-stays id s h)
 call-fits call.Ping s w h =
     let Q : Outcome → Type 0 = λ x. NumbersFit x.next in
     split Q (is_closed s.status) _ _ (λ t. h) (λ f. split Q (is_lost s.status) _ _ (λ t. h) (λ g.

@@ -14,6 +14,7 @@ pub mod EmissionsKeep
 pub mod HistoriesKeep
 pub mod Goes
 pub mod Ready
+pub mod StreamCalls
 pub mod Refusals
 pub mod Others
 pub mod Alone

@@ -34,7 +34,7 @@ ghost use Rattle.ymx_session_law.specs.Frames.{frame_comes, starved_by};
 ghost use Rattle.ymx_session_law.specs.Limits.{IsWithin};
 ghost use Rattle.ymx_session_law.specs.Offers.{IsGoodSyn, HasCause, IsOffered, IsRejected, LeavesNoTrace};
 ghost use Rattle.ymx_session_law.specs.Settled.{IsSettled, NoneLingers};
-ghost use Rattle.ymx_session_law.specs.Refusals.{is_refused, OthersSame, OnlyTable, OnlyArrived, KeepsOwn, KeepsStreams};
+ghost use Rattle.ymx_session_law.specs.Refusals.{is_refused, OthersSame, OnlyRecord, OnlyArrived, KeepsOwn, KeepsStreams};
 
 /// What is fed in two pieces is what is fed at once (framing): the bytes taken, the streams refused
 /// for want of memory and the reason are the same, wherever the input is cut.
@@ -112,8 +112,8 @@ pub fn emitted_in_pieces()
 {}
 
 /// A refusal changes nothing; a call on a stream, a frame of it, and a piece of its payload leave
-/// every other record as it was. And but for the table a call on a stream changes nothing, so a reset
-/// keeps the rest of a frame begun; frames of streams leave pings and go away, and those of the session
+/// every other record as it was. And but for its record a call on a stream changes nothing, nor the
+/// window nor the order of the others, so a reset keeps the rest of a frame begun; frames of streams leave pings and go away, and those of the session
 /// leave the streams.
 pub fn nothing_else_changes()
     ensures refused { (c : Call) (s : Session) → is_refused (outcome c s).reply ≡ true → (outcome c s).next ≡ s }
@@ -129,11 +129,11 @@ pub fn nothing_else_changes()
     ensures accept { (id : ℕ) (s : Session) → (outcome call.Accept s).reply ≡ Accepted (Some id) → OthersSame id s (outcome call.Accept s).next }
     ensures frame_begins { (id limit : ℕ) (s t : Session) → begin (AStream id limit) s ≡ Some t → OthersSame id s t }
     ensures frame_goes_on { (n id : ℕ) (s : Session) → s.begun.of ≡ Some id → OthersSame id s (moves_on n s) }
-    ensures write_alone { (id : ℕ) (bytes : List ℕ) (s : Session) → OnlyTable s (outcome (call.Write id bytes) s).next }
-    ensures read_alone { (id max : ℕ) (s : Session) → OnlyTable s (outcome (call.Read id max) s).next }
-    ensures finish_alone { (id : ℕ) (s : Session) → OnlyTable s (outcome (call.Finish id) s).next }
-    ensures reset_alone { (id : ℕ) (s : Session) → OnlyTable s (outcome (call.Reset id) s).next }
-    ensures forget_alone { (id : ℕ) (s : Session) → OnlyTable s (outcome (call.Forget id) s).next }
+    ensures write_alone { (id : ℕ) (bytes : List ℕ) (s : Session) → OnlyRecord id s (outcome (call.Write id bytes) s).next }
+    ensures read_alone { (id max : ℕ) (s : Session) → OnlyRecord id s (outcome (call.Read id max) s).next }
+    ensures finish_alone { (id : ℕ) (s : Session) → OnlyRecord id s (outcome (call.Finish id) s).next }
+    ensures reset_alone { (id : ℕ) (s : Session) → OnlyRecord id s (outcome (call.Reset id) s).next }
+    ensures forget_alone { (id : ℕ) (s : Session) → OnlyRecord id s (outcome (call.Forget id) s).next }
     ensures piece_alone { (bytes : List ℕ) (id lacks : ℕ) (fin stray : Bool) (s : Session) → OnlyArrived s (piece_comes bytes id lacks fin stray s) }
     ensures stream_frame { (lacks : Bool) (h : Header) (s : Session) → h.kind < 2 → KeepsOwn s (head_comes lacks h s) }
     ensures session_frame { (lacks : Bool) (h : Header) (s : Session) → 2 ≤ h.kind → KeepsStreams s (head_comes lacks h s) }
