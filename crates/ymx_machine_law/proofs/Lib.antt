@@ -9,10 +9,9 @@ pub mod Effects
 pub mod Cores
 pub mod MachineLaws
 pub mod Openers
+pub mod Orders
 pub mod MachineFaces
 pub mod RunFaces
-pub mod RowSteps
-pub mod Rows
-pub mod BigRows
-pub mod ManyOpens
+pub mod RunStates
+pub mod WorkedRuns
 pub mod Others

@@ -1,5 +1,5 @@
 -- Stream numbers, and the lists of offered streams (stream identifiers).
-use Rattle.std.specs.Prelude.{ℕ, ◌%◌, ◌<◌, ◌≡◌, List, [], ◌∷◌, Bool, true, false, ◌||◌, ◌==◌, Option, None, Some}
+use Rattle.std.specs.Prelude.{ℕ, ◌%◌, ◌<◌, ◌≡◌, ◌≢◌, List, [], ◌∷◌, Bool, true, false, ◌||◌, ◌==◌, Option, None, Some}
 use Rattle.ymx_model.specs.Streams.{Stream, is_offered}
 use Rattle.ymx_model.specs.Tables.{look}
 use Rattle.ymx_model.specs.Machines.{Machine}
@@ -48,3 +48,7 @@ pub record HasOrder (m : Machine) : Type 0 where
   pub numbered : (id : ℕ) → HasNumberAt m.me.next m.you.next id (look id m.streams)
   pub offered_me : IsOfferedList offered_here m.streams m.me.offered
   pub offered_you : IsOfferedList offered_there m.streams m.you.offered
+
+-- of the two next numbers one is odd and one is even
+abbrev pub HasBothParities : Machine → Type 0
+HasBothParities m = m.me.next % 2 ≢ m.you.next % 2

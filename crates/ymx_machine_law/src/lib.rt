@@ -1,7 +1,7 @@
 //! Laws of the queue machine by itself, over all runs. Its calls do nothing: each contract is a theorem.
 #![tactic(auto)]
 
-ghost use Rattle.std.specs.Prelude.{◌%◌, ◌≡◌, ◌≢◌, ◌⊎◌, ◌≤◌, ℕ, List, Some, true};
+ghost use Rattle.std.specs.Prelude.{◌%◌, ◌≡◌, ◌≢◌, ◌⊎◌, ◌≤◌, ℕ, List, None, Some, true};
 ghost use Rattle.ymx_model.specs.declared.types.Answer.{Answer};
 ghost use Rattle.ymx_model.specs.declared.types.Call.{Call};
 ghost use Rattle.ymx_model.specs.declared.types.CallFault.TheVariants.{OutOfMemory};
@@ -12,11 +12,11 @@ ghost use Rattle.ymx_model.specs.declared.types.Step.{Step};
 ghost use Rattle.ymx_model.specs.FreeMoves.{FreeMove, moved_by};
 ghost use Rattle.ymx_model.specs.Lanes.{first_credit};
 ghost use Rattle.ymx_model.specs.MachineRules.{Rule};
-ghost use Rattle.ymx_model.specs.MachineRuns.{IsStillMachine, MachineRun};
+ghost use Rattle.ymx_model.specs.MachineRuns.{IsStillMachine, MachineRun, MachineStep};
 ghost use Rattle.ymx_model.specs.Machines.{Machine, new_machine};
 ghost use Rattle.ymx_model.specs.Tables.{look};
-ghost use Rattle.ymx_machine_law.specs.Examples.{HasCome, away_answers, away_data_answers, away_data_steps, away_steps, crossing_answers, crossing_steps, ended_answers, ended_steps, exhausted_answers, exhausted_steps, forgotten_answers, forgotten_steps, full_answers, full_steps, hello_answers, hello_steps, last_start, lost_answers, lost_steps, nothing_answers, nothing_steps, pending_answers, pending_steps, pinged_answers, pinged_steps, reset_answers, reset_steps, start, vanishing_answers, vanishing_steps, wide_answers, wide_start, wide_steps, with_data_answers, with_data_steps};
-ghost use Rattle.ymx_machine_law.specs.Numbers.{HasOrder};
+ghost use Rattle.ymx_machine_law.specs.Examples.{HasCome, crossing_answers, crossing_steps, forgotten_answers, forgotten_steps, start, vanishing_answers, vanishing_steps};
+ghost use Rattle.ymx_machine_law.specs.Numbers.{HasBothParities, HasOrder};
 ghost use Rattle.ymx_machine_law.specs.Others.{needs_memory, touched, touched_by};
 ghost use Rattle.ymx_machine_law.specs.Runs.{is_live_at_a, is_live_at_b, IsFace, ObeysAt};
 
@@ -41,11 +41,15 @@ pub fn face()
 {}
 
 /// Stream identifiers: in every run each number stands once, below its opener's next number and odd or
-/// even as that is, and the offered lists name the offered ends, each once.
+/// even as that is, and the offered lists name the offered ends, each once. Each step keeps this, and a
+/// side's next number is unused.
 pub fn numbers()
     ensures in_order { (window_a first_a window_b first_b : ℕ) (steps : List Step) (answers : List Answer) (m : Machine) →
         first_credit ≤ window_a → first_credit ≤ window_b → first_a % 2 ≡ 1 → first_b % 2 ≡ 0 →
         MachineRun steps answers (new_machine window_a first_a window_b first_b) m → HasOrder m }
+    ensures kept { (step : Step) (given : Answer) (m n : Machine) → HasBothParities m → MachineStep step given m n → HasOrder m →
+        HasOrder n × HasBothParities n }
+    ensures next_is_unused { (m : Machine) → HasBothParities m → HasOrder m → look m.me.next m.streams ≡ None }
 {}
 
 /// A call or a free move touches one stream: every other one stays as it is, and a call leaves what is
@@ -68,21 +72,8 @@ pub fn one_answer()
 
 /// Worked examples: these steps may have these answers. How many bytes an emission gives and a delivery
 /// takes is free in the machine, which knows no frames, so those counts say nothing here.
-pub fn worked_rows()
-    ensures hello { (n : Machine) × MachineRun hello_steps hello_answers start n × IsStillMachine n }
-    ensures ended { (n : Machine) × MachineRun ended_steps ended_answers start n }
-    ensures reset { (n : Machine) × MachineRun reset_steps reset_answers start n }
-    ensures away { (n : Machine) × MachineRun away_steps away_answers start n }
-    ensures vanishing { (n : Machine) × MachineRun vanishing_steps vanishing_answers start n × HasCome 1 n }
-    ensures with_data { (n : Machine) × MachineRun with_data_steps with_data_answers start n }
-    ensures away_data { (n : Machine) × MachineRun away_data_steps away_data_answers start n }
-    ensures full { (n : Machine) × MachineRun full_steps full_answers start n }
-    ensures wide { (n : Machine) × MachineRun wide_steps wide_answers wide_start n }
-    ensures pending { (n : Machine) × MachineRun pending_steps pending_answers start n }
-    ensures lost { (n : Machine) × MachineRun lost_steps lost_answers start n }
-    ensures exhausted { (n : Machine) × MachineRun exhausted_steps exhausted_answers last_start n }
-    ensures pinged { (n : Machine) × MachineRun pinged_steps pinged_answers start n }
-    ensures forgotten { (n : Machine) × MachineRun forgotten_steps forgotten_answers start n }
-    ensures crossing { (n : Machine) × MachineRun crossing_steps crossing_answers start n × IsStillMachine n }
-    ensures nothing { (n : Machine) × MachineRun nothing_steps nothing_answers start n }
+pub fn worked_examples()
+    ensures refused_with_its_bytes { (n : Machine) × MachineRun vanishing_steps vanishing_answers start n × HasCome 1 n }
+    ensures given_up_at_once { (n : Machine) × MachineRun forgotten_steps forgotten_answers start n }
+    ensures resets_cross { (n : Machine) × MachineRun crossing_steps crossing_answers start n × IsStillMachine n }
 {}

@@ -1,4 +1,4 @@
--- Rows that move whole windows of bytes: credit, turns, the window used up.
+-- Examples that move whole windows of bytes: credit, turns, the window used up.
 use Rattle.std.proofs.Common.{◌≡◌, [], ◌∷◌, ◌++◌, take, drop, false, Some, refl}
 use Rattle.ymx_header.specs.declared.fault.Fault.TheVariants.{WindowExceeded}
 use Rattle.ymx_model.specs.declared.types.Side.TheVariants.{A, B}
@@ -12,29 +12,29 @@ use Rattle.ymx_rows.specs.Plays.{Played, play, FedDone, feed}
 use Rattle.ymx_rows.specs.Words.{start, server, a, b, x, took, wait, fed, broken, moved, after, window_frame}
 
 -- the whole credit
-abbrev pub row_5 : Played
-row_5 = play (a Open ∷ a (Write 1 (x 262145)) ∷ a (Write 1 (x 1)) ∷ []) start
+abbrev pub whole_credit : Played
+whole_credit = play (a Open ∷ a (Write 1 (x 262145)) ∷ a (Write 1 (x 1)) ∷ []) start
 
-row_5_is : row_5.answers ≡ Opened 1 ∷ took 262144 ∷ wait ∷ []
-row_5_is = refl
+whole_credit_is : whole_credit.answers ≡ Opened 1 ∷ took 262144 ∷ wait ∷ []
+whole_credit_is = refl
 
 -- credit is due at half the window
-abbrev pub row_6_one : Played
-row_6_one = play (moved 1 ++ (b Accept ∷ (moved 1 ++ (b (Read 1 131071) ∷ [])))) row_5.world
+abbrev pub below_half_the_window : Played
+below_half_the_window = play (moved 1 ++ (b Accept ∷ (moved 1 ++ (b (Read 1 131071) ∷ [])))) whole_credit.world
 
-abbrev pub row_6_two : Played
-row_6_two = play (b (Read 1 1) ∷ Emit B 100 ∷ []) row_6_one.world
+abbrev pub half_the_window : Played
+half_the_window = play (b (Read 1 1) ∷ Emit B 100 ∷ []) below_half_the_window.world
 
-abbrev pub row_6_three : Played
-row_6_three = play (Deliver BA 100 ∷ a (Write 1 (x 200000)) ∷ []) row_6_two.world
+abbrev pub credit_comes_back : Played
+credit_comes_back = play (Deliver BA 100 ∷ a (Write 1 (x 200000)) ∷ []) half_the_window.world
 
-row_6_is : (drop 4 (take 5 row_6_one.answers) ≡ Accepted (Some 1) ∷ [])
-    × (drop 9 row_6_one.answers ≡ GaveBytes (x 131071) ∷ [])
-    × (is_ready row_6_one.world.b ≡ false)
-    × (row_6_two.answers ≡ GaveBytes (x 1) ∷ Emitted 12 ∷ [])
-    × (row_6_two.world.ba.bytes ≡ 0 ∷ 1 ∷ 0 ∷ 0 ∷ 0 ∷ 0 ∷ 0 ∷ 1 ∷ 0 ∷ 2 ∷ 0 ∷ 0 ∷ [])
-    × (row_6_three.answers ≡ fed 12 ∷ took 131072 ∷ [])
-row_6_is = (refl, refl, refl, refl, refl, refl)
+half_the_window_is : (drop 4 (take 5 below_half_the_window.answers) ≡ Accepted (Some 1) ∷ [])
+    × (drop 9 below_half_the_window.answers ≡ GaveBytes (x 131071) ∷ [])
+    × (is_ready below_half_the_window.world.b ≡ false)
+    × (half_the_window.answers ≡ GaveBytes (x 1) ∷ Emitted 12 ∷ [])
+    × (half_the_window.world.ba.bytes ≡ 0 ∷ 1 ∷ 0 ∷ 0 ∷ 0 ∷ 0 ∷ 0 ∷ 1 ∷ 0 ∷ 2 ∷ 0 ∷ 0 ∷ [])
+    × (credit_comes_back.answers ≡ fed 12 ∷ took 131072 ∷ [])
+half_the_window_is = (refl, refl, refl, refl, refl, refl)
 
 -- two streams take turns
 abbrev pub turns : Played

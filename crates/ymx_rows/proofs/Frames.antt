@@ -1,4 +1,4 @@
--- Rows of frames fed to one session: faults, pings, answers, the end of a payload.
+-- Examples of frames fed to one session: faults, pings, answers, the end of a payload.
 use Rattle.std.proofs.Common.{◌≡◌, [], ◌∷◌, ◌++◌, true, false, Some, refl}
 use Rattle.ymx_header.specs.declared.fault.Fault.TheVariants.{BadVersion, BadSyn, StreamInUse, CreditOverflow, BadGoAwayCode, PeerSawProtocolError, PeerSawInternalError}
 use Rattle.ymx_model.specs.declared.types.Side.TheVariants.{A, B}
@@ -16,49 +16,49 @@ use Rattle.ymx_rows.specs.Plays.{Played, play, emit, FedDone, feed}
 use Rattle.ymx_rows.specs.Words.{start, client, server, a, fed, broken, after, window_frame, go_away_frame, look_credit, many_pings, ping_replies, numbered, accepted_one}
 
 -- a frame of another version
-abbrev pub row_12 : FedDone
-row_12 = feed (1 ∷ 0 ∷ 0 ∷ 0 ∷ 0 ∷ 0 ∷ 0 ∷ 1 ∷ 0 ∷ 0 ∷ 0 ∷ 0 ∷ []) server
+abbrev pub another_version : FedDone
+another_version = feed (1 ∷ 0 ∷ 0 ∷ 0 ∷ 0 ∷ 0 ∷ 0 ∷ 1 ∷ 0 ∷ 0 ∷ 0 ∷ 0 ∷ []) server
 
-row_12_is : (row_12.fed ≡ broken 12 BadVersion)
-    × ((emit 100 row_12.state).out ≡ 0 ∷ 3 ∷ 0 ∷ 0 ∷ 0 ∷ 0 ∷ 0 ∷ 0 ∷ 0 ∷ 0 ∷ 0 ∷ 1 ∷ [])
-    × ((emit 100 (emit 100 row_12.state).state).out ≡ [])
-row_12_is = (refl, refl, refl)
+another_version_is : (another_version.fed ≡ broken 12 BadVersion)
+    × ((emit 100 another_version.state).out ≡ 0 ∷ 3 ∷ 0 ∷ 0 ∷ 0 ∷ 0 ∷ 0 ∷ 0 ∷ 0 ∷ 0 ∷ 0 ∷ 1 ∷ [])
+    × ((emit 100 (emit 100 another_version.state).state).out ≡ [])
+another_version_is = (refl, refl, refl)
 
 -- a ping, its answer, and the same answer once more
-abbrev pub row_14 : Played
-row_14 = play (a Ping ∷ Emit A 100 ∷ []) start
+abbrev pub ping_sent : Played
+ping_sent = play (a Ping ∷ Emit A 100 ∷ []) start
 
-abbrev pub row_14_b : Played
-row_14_b = play (Deliver AB 100 ∷ Emit B 100 ∷ []) row_14.world
+abbrev pub pong_sent : Played
+pong_sent = play (Deliver AB 100 ∷ Emit B 100 ∷ []) ping_sent.world
 
-abbrev pub row_14_c : FedDone
-row_14_c = feed row_14_b.world.ba.bytes row_14_b.world.a
+abbrev pub pong_fed : FedDone
+pong_fed = feed pong_sent.world.ba.bytes pong_sent.world.a
 
-row_14_is : (row_14.answers ≡ Pinged 0 ∷ Emitted 12 ∷ [])
-    × (row_14.world.ab.bytes ≡ 0 ∷ 2 ∷ 0 ∷ 1 ∷ 0 ∷ 0 ∷ 0 ∷ 0 ∷ 0 ∷ 0 ∷ 0 ∷ 0 ∷ [])
-    × (row_14_b.answers ≡ fed 12 ∷ Emitted 12 ∷ [])
-    × (row_14_b.world.ba.bytes ≡ 0 ∷ 2 ∷ 0 ∷ 2 ∷ 0 ∷ 0 ∷ 0 ∷ 0 ∷ 0 ∷ 0 ∷ 0 ∷ 0 ∷ [])
-    × ((after (Ponged 0) row_14_c.state).reply ≡ reply.Ponged true)
-    × ((feed row_14_b.world.ba.bytes (after (Ponged 0) row_14_c.state).next).fed ≡ record { taken = 12; no_memory = 0; why = All })
-    × ((after (Ponged 0) (feed row_14_b.world.ba.bytes (after (Ponged 0) row_14_c.state).next).state).reply ≡ reply.Ponged false)
-row_14_is = (refl, refl, refl, refl, refl, refl, refl)
+ping_sent_is : (ping_sent.answers ≡ Pinged 0 ∷ Emitted 12 ∷ [])
+    × (ping_sent.world.ab.bytes ≡ 0 ∷ 2 ∷ 0 ∷ 1 ∷ 0 ∷ 0 ∷ 0 ∷ 0 ∷ 0 ∷ 0 ∷ 0 ∷ 0 ∷ [])
+    × (pong_sent.answers ≡ fed 12 ∷ Emitted 12 ∷ [])
+    × (pong_sent.world.ba.bytes ≡ 0 ∷ 2 ∷ 0 ∷ 2 ∷ 0 ∷ 0 ∷ 0 ∷ 0 ∷ 0 ∷ 0 ∷ 0 ∷ 0 ∷ [])
+    × ((after (Ponged 0) pong_fed.state).reply ≡ reply.Ponged true)
+    × ((feed pong_sent.world.ba.bytes (after (Ponged 0) pong_fed.state).next).fed ≡ record { taken = 12; no_memory = 0; why = All })
+    × ((after (Ponged 0) (feed pong_sent.world.ba.bytes (after (Ponged 0) pong_fed.state).next).state).reply ≡ reply.Ponged false)
+ping_sent_is = (refl, refl, refl, refl, refl, refl, refl)
 
 -- the greatest credit, and one more
-abbrev pub row_20 : FedDone
-row_20 = feed (0 ∷ 1 ∷ 0 ∷ 2 ∷ 0 ∷ 0 ∷ 0 ∷ 1 ∷ 0xff ∷ 0xfb ∷ 0xff ∷ 0xff ∷ []) (after Open client).next
+abbrev pub greatest_credit : FedDone
+greatest_credit = feed (0 ∷ 1 ∷ 0 ∷ 2 ∷ 0 ∷ 0 ∷ 0 ∷ 1 ∷ 0xff ∷ 0xfb ∷ 0xff ∷ 0xff ∷ []) (after Open client).next
 
-row_20_is : (row_20.fed ≡ record { taken = 12; no_memory = 0; why = All })
-    × (look_credit 1 row_20.state ≡ 4294967295)
-    × ((feed (0 ∷ 1 ∷ 0 ∷ 0 ∷ 0 ∷ 0 ∷ 0 ∷ 1 ∷ 0 ∷ 0 ∷ 0 ∷ 1 ∷ []) row_20.state).fed ≡ broken 12 CreditOverflow)
-row_20_is = (refl, refl, refl)
+greatest_credit_is : (greatest_credit.fed ≡ record { taken = 12; no_memory = 0; why = All })
+    × (look_credit 1 greatest_credit.state ≡ 4294967295)
+    × ((feed (0 ∷ 1 ∷ 0 ∷ 0 ∷ 0 ∷ 0 ∷ 0 ∷ 1 ∷ 0 ∷ 0 ∷ 0 ∷ 1 ∷ []) greatest_credit.state).fed ≡ broken 12 CreditOverflow)
+greatest_credit_is = (refl, refl, refl)
 
 -- data of no stream
-abbrev pub row_21 : FedDone
-row_21 = feed (0 ∷ 0 ∷ 0 ∷ 0 ∷ 0 ∷ 0 ∷ 0 ∷ 2 ∷ 0 ∷ 0 ∷ 0 ∷ 3 ∷ 0x61 ∷ 0x62 ∷ 0x63 ∷ []) client
+abbrev pub data_of_no_stream : FedDone
+data_of_no_stream = feed (0 ∷ 0 ∷ 0 ∷ 0 ∷ 0 ∷ 0 ∷ 0 ∷ 2 ∷ 0 ∷ 0 ∷ 0 ∷ 3 ∷ 0x61 ∷ 0x62 ∷ 0x63 ∷ []) client
 
-row_21_is : (row_21.fed ≡ record { taken = 15; no_memory = 0; why = All })
-    × (is_ready row_21.state ≡ false)
-row_21_is = (refl, refl)
+data_of_no_stream_is : (data_of_no_stream.fed ≡ record { taken = 15; no_memory = 0; why = All })
+    × (is_ready data_of_no_stream.state ≡ false)
+data_of_no_stream_is = (refl, refl)
 
 -- Data with SYN and FIN
 abbrev pub syn_and_fin : FedDone

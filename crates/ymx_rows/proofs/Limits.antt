@@ -1,4 +1,4 @@
--- Rows at the limits: streams offered and opened, records, answers.
+-- Examples at the limits: streams offered and opened, records, answers.
 use Rattle.std.proofs.Common.{◌≡◌, [], ◌∷◌, ◌++◌, length, drop, replicate, Some, refl}
 use Rattle.ymx_header.specs.declared.fault.Fault.TheVariants.{BadGoAwayCode}
 use Rattle.ymx_model.specs.declared.types.Call.TheVariants.{Open, Accept, GoAway}
@@ -10,21 +10,21 @@ use Rattle.ymx_rows.specs.Plays.{Played, play, Poured, emit, FedDone, feed}
 use Rattle.ymx_rows.specs.Words.{start, server, a, b, fed, held, broken, moved, after, go_away_frame, opened_to, pings, syns}
 
 -- 256 streams not acknowledged
-abbrev pub row_10 : Played
-row_10 = play (replicate 256 (a Open)) start
+abbrev pub unacknowledged_256 : Played
+unacknowledged_256 = play (replicate 256 (a Open)) start
 
-row_10_is : (row_10.answers ≡ opened_to 256 1)
-    × ((after Open row_10.world.a).reply ≡ reply.Refused fault.OpensPending)
-    × ((play (moved 1 ++ (b Accept ∷ (moved 1 ++ (a Open ∷ [])))) row_10.world).answers ≡ Emitted 3072 ∷ fed 3072 ∷ Emitted 0 ∷ fed 0 ∷ Accepted (Some 1) ∷ Emitted 0 ∷ fed 0 ∷ Emitted 12 ∷ fed 12 ∷ Opened 513 ∷ [])
-row_10_is = (refl, refl, refl)
+unacknowledged_256_is : (unacknowledged_256.answers ≡ opened_to 256 1)
+    × ((after Open unacknowledged_256.world.a).reply ≡ reply.Refused fault.OpensPending)
+    × ((play (moved 1 ++ (b Accept ∷ (moved 1 ++ (a Open ∷ [])))) unacknowledged_256.world).answers ≡ Emitted 3072 ∷ fed 3072 ∷ Emitted 0 ∷ fed 0 ∷ Accepted (Some 1) ∷ Emitted 0 ∷ fed 0 ∷ Emitted 12 ∷ fed 12 ∷ Opened 513 ∷ [])
+unacknowledged_256_is = (refl, refl, refl)
 
 -- 1,024 answers unsent
-abbrev pub row_18 : FedDone
-row_18 = feed (pings 1025) server
+abbrev pub unsent_1024 : FedDone
+unsent_1024 = feed (pings 1025) server
 
-row_18_is : (row_18.fed ≡ held 12288)
-    × ((feed (drop 12288 (pings 1025)) (emit 12 row_18.state).state).fed ≡ record { taken = 12; no_memory = 0; why = All })
-row_18_is = (refl, refl)
+unsent_1024_is : (unsent_1024.fed ≡ held 12288)
+    × ((feed (drop 12288 (pings 1025)) (emit 12 unsent_1024.state).state).fed ≡ record { taken = 12; no_memory = 0; why = All })
+unsent_1024_is = (refl, refl)
 
 -- the 257th stream offered is rejected
 abbrev pub offered_256 : FedDone

@@ -1,4 +1,4 @@
--- Rows that a tempting mistake would break.
+-- Examples that a tempting mistake would break.
 use Rattle.std.proofs.Common.{◌≡◌, [], ◌∷◌, ◌++◌, None, Some, refl}
 use Rattle.ymx_model.specs.declared.types.Side.TheVariants.{A}
 use Rattle.ymx_model.specs.declared.types.Step.TheVariants.{Emit}

@@ -1,4 +1,4 @@
--- Rows of windows: credit, announcements, turns, opening with data.
+-- Examples of windows: credit, announcements, turns, opening with data.
 use Rattle.std.proofs.Common.{◌≡◌, [], ◌∷◌, Some, refl}
 use Rattle.ymx_header.specs.declared.fault.Fault.TheVariants.{CreditOverflow}
 use Rattle.ymx_model.specs.declared.types.Side.TheVariants.{A, B}

@@ -1,4 +1,4 @@
--- Rows of writes too long to be computed: a write takes what the credit allows.
+-- Examples of writes too long to be computed: a write takes what the credit allows.
 use Rattle.std.proofs.Common.{◌≡◌, ℕ, ◌+◌, ◌-◌, ◌<◌, ◌≤◌, List, length, take, min, false, ◌==◌, Some, refl, sym, ap, ◌∙◌, subst, arith, length-take}
 use Rattle.std.proofs.lemmas.Bool.Decides.{nat_tests}
 use Rattle.ymx_model.specs.declared.types.Status.TheVariants.{Running}

@@ -1,4 +1,4 @@
--- The words of the rows.
+-- The words of the examples.
 use Rattle.std.specs.Prelude.{ℕ, zero, suc, ◌+◌, List, [], ◌∷◌, ◌++◌, length, replicate, Option, None, Some}
 use Rattle.byteorder.specs.Endian.{big_bytes}
 use Rattle.ymx_header.specs.declared.fault.Fault.{Fault}

@@ -1,6 +1,6 @@
-//! Worked rows of the protocol, computed from the definitions of `ymx_model`. `specs/Plays.antt` plays
+//! Worked examples of the protocol, computed from the definitions of `ymx_model`. `specs/Plays.antt` plays
 //! a session or a world by computation, with ample memory and frames in turn; a first law says that
-//! what is played is what the definitions allow, a second one has the rows. (More rows are in proofs/.)
+//! what is played is what the definitions allow, a second one has examples. (More are in proofs/.)
 #![tactic(auto)]
 
 ghost use Rattle.std.specs.Prelude.{◌≡◌, ◌<◌, ◌≤◌, ◌^◌, ◌++◌, ◌∷◌, [], ℕ, List, Some, replicate, true, false};
@@ -17,7 +17,7 @@ ghost use Rattle.ymx_model.specs.Lanes.{first_credit};
 ghost use Rattle.ymx_model.specs.Sessions.{Session, is_own};
 ghost use Rattle.ymx_model.specs.Feeds.{Feeds};
 ghost use Rattle.ymx_model.specs.Emissions.{Emits, in_turn};
-ghost use Rattle.ymx_model.specs.Worlds.{Runs, new_world};
+ghost use Rattle.ymx_model.specs.Worlds.{Runs, is_quiet, new_world};
 ghost use Rattle.ymx_session_law.specs.Limits.{IsWithin};
 ghost use Rattle.ymx_rows.specs.Plays.{play, feed, emit};
 ghost use Rattle.ymx_rows.specs.Words.{start, client, server, a, b, took, fed, broken, after, window_frame, hello};
@@ -30,10 +30,11 @@ pub fn played_is_allowed()
     ensures emitting { (room : ℕ) (s : Session) → IsWithin s → Emits in_turn s room (emit room s).out (emit room s).state }
 {}
 
-/// Rows of streams.
-pub fn worked_rows()
+/// What some steps and bytes lead to, one thing an example.
+pub fn worked_examples()
     ensures open_is_a_window_update { (play (a Open ∷ Emit A 100 ∷ []) start).world.ab.bytes ≡ window_frame 1 1 }
     ensures data_byte_by_byte { (play (a Open ∷ a (Write 1 hello) ∷ Emit A 100 ∷ (replicate 29 (Deliver AB 1) ++ (b Accept ∷ b (Read 1 10) ∷ []))) start).answers ≡ Opened 1 ∷ took 5 ∷ Emitted 29 ∷ (replicate 29 (fed 1) ++ (Accepted (Some 1) ∷ GaveBytes hello ∷ [])) }
+    ensures quiet_with_a_stream { is_quiet (play (a Open ∷ a (Write 1 hello) ∷ Emit A 100 ∷ Deliver AB 100 ∷ b Accept ∷ b (Read 1 10) ∷ Emit B 100 ∷ Deliver BA 100 ∷ []) start).world ≡ true }
     ensures half_close { (play (a Open ∷ a (Write 1 (0x61 ∷ 0x62 ∷ [])) ∷ a (Finish 1) ∷ Emit A 100 ∷ Deliver AB 100 ∷ b Accept ∷ b (Read 1 1) ∷ b (Read 1 1) ∷ b (Read 1 1) ∷ b (Read 1 1) ∷ a (Write 1 (0x63 ∷ [])) ∷ a (Finish 1) ∷ []) start).answers ≡ Opened 1 ∷ took 2 ∷ Done ∷ Emitted 38 ∷ fed 38 ∷ Accepted (Some 1) ∷ GaveBytes (0x61 ∷ []) ∷ GaveBytes (0x62 ∷ []) ∷ ReadEnd ∷ ReadEnd ∷ Refused fault.Finished ∷ Refused fault.Finished ∷ [] }
     ensures end_inside_a_header { (play (a Open ∷ a (Write 1 (0x68 ∷ 0x69 ∷ [])) ∷ Emit A 100 ∷ Deliver AB 100 ∷ b Accept ∷ a (Write 1 (0x6a ∷ [])) ∷ Emit A 11 ∷ Deliver AB 11 ∷ Stop AB ∷ End AB ∷ b (Read 1 10) ∷ b (Read 1 10) ∷ []) start).answers ≡ Opened 1 ∷ took 2 ∷ Emitted 26 ∷ fed 26 ∷ Accepted (Some 1) ∷ took 1 ∷ Emitted 11 ∷ fed 11 ∷ Done ∷ Done ∷ GaveBytes (0x68 ∷ 0x69 ∷ []) ∷ Refused fault.Lost ∷ [] }
     ensures another_version { (feed (1 ∷ 0 ∷ 0 ∷ 0 ∷ 0 ∷ 0 ∷ 0 ∷ 1 ∷ 0 ∷ 0 ∷ 0 ∷ 0 ∷ []) server).fed ≡ broken 12 BadVersion }

@@ -1,74 +1,61 @@
 -- What calls and frames leave alone besides other records.
-use Rattle.std.proofs.Common.{◌≡◌, ℕ, ◌<◌, ◌≤◌, List, [], ◌∷◌, ◌++◌, take, Bool, true, false, not, ◌||◌, ◌==◌, nat_lt, if◌then◌else◌, Option, None, Some, refl, arith}
+use Rattle.std.proofs.Common.{◌≡◌, ℕ, ◌<◌, ◌≤◌, List, [], ◌∷◌, ◌++◌, Bool, true, false, not, ◌||◌, ◌==◌, nat_lt, if◌then◌else◌, Option, None, Some, refl, arith, ◌∙◌}
 use Rattle.std.proofs.lemmas.Bool.Decides.{nat_tests}
 use Rattle.ymx_header.specs.declared.header.Header.{Header}
 use Rattle.ymx_header.specs.declared.fault.Fault.{Fault}
 use Rattle.ymx_header.specs.declared.fault.Fault.TheVariants.{BadGoAwayCode, PeerSawProtocolError, PeerSawInternalError}
 use Rattle.ymx_header.specs.Headers.{has_syn, has_rst, has_fin}
 use Rattle.ymx_model.specs.declared.types.Response.TheVariants.{Pong, Reject}
-use Rattle.ymx_model.specs.declared.types.Reply.{Reply}
 use Rattle.ymx_model.specs.declared.types.Call.TheVariants as call
 use Rattle.ymx_model.specs.Streams.{is_offered}
-use Rattle.ymx_model.specs.Streams.Phase.{WasReset}
-use Rattle.ymx_model.specs.StreamRules.{write_reply, read_reply, finish_reply, reset_reply, forget_reply, moved, is_done}
-use Rattle.ymx_model.specs.Records.{End, end_write, end_read, end_finish, end_reset, end_forget, gets_rst}
+use Rattle.ymx_model.specs.Records.{End, gets_rst}
 use Rattle.ymx_model.specs.Pings.{answered}
-use Rattle.ymx_model.specs.Tables.{look, added, removed}
-use Rattle.ymx_model.specs.Sessions.{Session, is_own, is_closed, is_lost, is_spent, on_stream, settled, breaks, drop_id}
+use Rattle.ymx_model.specs.Tables.{look, added, removed, change, without}
+use Rattle.ymx_model.specs.Sessions.{Session, is_own, is_spent, on_stream, settled, breaks, drop_id}
 use Rattle.ymx_model.specs.Sessions.Incoming.{Payload}
-use Rattle.ymx_model.specs.Calls.{Outcome, outcome, with_stream, with_record, write_outcome, read_outcome, if_done, finish_outcome, reset_outcome, forget_outcome}
+use Rattle.ymx_model.specs.Calls.{outcome}
 use Rattle.ymx_model.specs.Arrivals.{answers_with, ping_comes, go_away_comes, payload, expects, record_fault, reset_comes, acknowledges, gets_head, meets, meets_some, offer, refuses, syn_fault, syn_comes, header_fault, head_comes, piece_comes}
-use Rattle.ymx_session_law.specs.Refusals.{OnlyTable, OnlyArrived, KeepsOwn, KeepsStreams}
+use Rattle.ymx_session_law.specs.Refusals.{others, OnlyRecord, OnlyArrived, KeepsOwn, KeepsStreams}
 use Rattle.ymx_session_law.proofs.Splits.{split}
+use Rattle.ymx_session_law.proofs.StreamCalls.{StaysAt, write-stays, read-stays, finish-stays, reset-stays, forget-stays}
 use Rattle.ymx_session_law.proofs.FramesKeep.{unless_fault-keeps}
 
 -- ---- calls on a stream
 
-abbrev TableIn : Session → Outcome → Type 0
-TableIn s o = OnlyTable s o.next
+others-change : (id : ℕ) (f : End → End) (ps : List (ℕ × End)) → others id (change id f ps) ≡ others id ps
+others-change id f [] = refl
+others-change id f (p ∷ ps) = let h = others-change id f ps in grind (arith, nat_tests)
 
-with-alone : (id : ℕ) (f : End → Outcome) (s : Session) → ((e : End) → TableIn s (f e)) → TableIn s (with_stream id f s)
-with-alone id f s h = split (TableIn s) (is_closed s.status) _ _ (λ t. refl) (λ c. of (look id s.table.entries))
-  where
-    of : (o : Option End) → TableIn s (with_record f s o)
-    of None = refl
-    of (Some e) = h e
+others-without : (id : ℕ) (ps : List (ℕ × End)) → others id (without id ps) ≡ others id ps
+others-without id [] = refl
+others-without id (p ∷ ps) = let h = others-without id ps in grind (arith, nat_tests)
 
-settled-alone : (id : ℕ) (f : End → End) (s : Session) → OnlyTable s (settled id (on_stream id f s))
-settled-alone id f s =
+one-changed : (id : ℕ) (f : End → End) (s : Session) → OnlyRecord id s (on_stream id f s)
+one-changed id f s = record { only = refl; window = refl; rest = others-change id f s.table.entries }
+
+one-gone : (id : ℕ) (f : End → End) (s : Session) → OnlyRecord id s (settled id (on_stream id f s))
+one-gone id f s =
     let t = on_stream id f s in
-    split (OnlyTable s) (is_spent t.table.window t.begun id (look id t.table.entries)) (record t { table = removed id t.table }) t (λ e. refl) (λ e. refl)
+    split (OnlyRecord id s) (is_spent t.table.window t.begun id (look id t.table.entries)) (record t { table = removed id t.table }) t
+    (λ e. record { only = refl; window = refl; rest = others-without id t.table.entries ∙ others-change id f s.table.entries }) (λ e. one-changed id f s)
 
-done-alone : (r : Reply) (s t : Session) → OnlyTable s t → TableIn s (if_done r t s)
-done-alone r s t h = split (OnlyTable s) (is_done r) t s (λ e. h) (λ e. refl)
+one : (id : ℕ) (s : Session) → StaysAt (OnlyRecord id s) id s
+one id s = record { now = record { only = refl; window = refl; rest = refl }; changed = λ f. one-changed id f s; gone = λ f. one-gone id f s }
 
-pub write-alone : (id : ℕ) (bytes : List ℕ) (s : Session) → TableIn s (outcome (call.Write id bytes) s)
-write-alone id bytes s = with-alone id (write_outcome id bytes s) s of
-  where
-    of : (e : End) → TableIn s (write_outcome id bytes s e)
-    of e =
-        let r = write_reply (is_lost s.status) bytes e.phase e.out.finished e.out.credit in
-        split (OnlyTable s) (moved r == 0) s (on_stream id (end_write (take (moved r) bytes)) s) (λ t. refl) (λ f. refl)
+pub write-alone : (id : ℕ) (bytes : List ℕ) (s : Session) → OnlyRecord id s (outcome (call.Write id bytes) s).next
+write-alone id bytes s = write-stays (OnlyRecord id s) id bytes s (one id s)
 
-pub read-alone : (id max : ℕ) (s : Session) → TableIn s (outcome (call.Read id max) s)
-read-alone id max s = with-alone id (read_outcome id max s) s of
-  where
-    of : (e : End) → TableIn s (read_outcome id max s e)
-    of e =
-        let r = read_reply (is_lost s.status) max e.phase e.inn.unread e.inn.ended in
-        split (OnlyTable s) (moved r == 0) s (on_stream id (end_read max) s) (λ t. refl) (λ f. refl)
+pub read-alone : (id max : ℕ) (s : Session) → OnlyRecord id s (outcome (call.Read id max) s).next
+read-alone id max s = read-stays (OnlyRecord id s) id max s (one id s)
 
-pub finish-alone : (id : ℕ) (s : Session) → TableIn s (outcome (call.Finish id) s)
-finish-alone id s = with-alone id (finish_outcome id s) s (λ e. done-alone (finish_reply (is_lost s.status) e.phase e.out.finished) s (on_stream id end_finish s) refl)
+pub finish-alone : (id : ℕ) (s : Session) → OnlyRecord id s (outcome (call.Finish id) s).next
+finish-alone id s = finish-stays (OnlyRecord id s) id s (one id s)
 
-pub reset-alone : (id : ℕ) (s : Session) → TableIn s (outcome (call.Reset id) s)
-reset-alone id s = with-alone id (reset_outcome id s) s (λ e. done-alone (reset_reply (is_lost s.status) e.phase) s (on_stream id (end_reset WasReset) s) refl)
+pub reset-alone : (id : ℕ) (s : Session) → OnlyRecord id s (outcome (call.Reset id) s).next
+reset-alone id s = reset-stays (OnlyRecord id s) id s (one id s)
 
-pub forget-alone : (id : ℕ) (s : Session) → TableIn s (outcome (call.Forget id) s)
-forget-alone id s =
-    with-alone id (forget_outcome id s) s (λ e.
-    done-alone (forget_reply e.phase) s (settled id (on_stream id (end_forget (is_lost s.status)) s))
-    (settled-alone id (end_forget (is_lost s.status)) s))
+pub forget-alone : (id : ℕ) (s : Session) → OnlyRecord id s (outcome (call.Forget id) s).next
+forget-alone id s = forget-stays (OnlyRecord id s) id s (one id s)
 
 -- ---- a piece of a payload
 

@@ -130,3 +130,12 @@ feeds-inside a b s u fed l p = record {
   stops = λ k. p.stops (omega (arith, length-append a b));
   why = p.why ∙ ap (why_of u.status) (short_test fed.taken a b l);
 }
+
+-- and what follows it changes nothing
+pub feeds-before : (a b : List ℕ) (s u : Session) (fed : Fed) → fed.taken < length a → Feeds s a fed u → Feeds s (a ++ b) fed u
+feeds-before a b s u fed l p = record {
+  fits = omega (arith, length-append a b);
+  took = (p.took.0, (let P : List ℕ → Type 0 = λ xs. Takes xs s u p.took.0 in subst P (sym (take_short fed.taken a b l)) p.took.1), p.took.2);
+  stops = λ k. p.stops l;
+  why = p.why ∙ sym (ap (why_of u.status) (short_test fed.taken a b l));
+}

@@ -14,6 +14,7 @@ pub mod EmissionsKeep
 pub mod HistoriesKeep
 pub mod Goes
 pub mod Ready
+pub mod StreamCalls
 pub mod Refusals
 pub mod Others
 pub mod Alone
@@ -22,3 +23,8 @@ pub mod Only
 pub mod Settled
 pub mod SettledFrames
 pub mod SynCauses
+mod Total
+mod OthersOut
+mod Ample
+pub mod FieldsFit
+pub mod Turns

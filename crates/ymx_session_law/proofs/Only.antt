@@ -112,3 +112,13 @@ frame-only h bytes s t starved r st inc l p =
       lacks = first.lacks;
       same = λ run. (let d = behind-head first.lacks h bytes s t parts.two l run inc (subst P is parts.second) in (d.same, omega (arith, parts.sum, d.none, count)));
     }
+
+-- the twelve bytes of a header did what the head does, a fault among it
+pub header-only : (h : Header) (s t : Session) (starved : ℕ) → IsInRange h → s.status ≡ Running → s.incoming ≡ Head [] →
+    Takes (spelling h) s t starved → (lacks : Bool) × (t ≡ head_comes lacks h s) × (starved ≡ starved_by lacks h s)
+header-only h s t starved r st inc p =
+    let first = head-only (drop 1 (spelling h)) [] h.version s t starved st inc refl p in (
+      first.lacks,
+      first.same ∙ ap (λ x. head_comes first.lacks x (record s { incoming = Head [] })) (header_of-spelling h r) ∙ ap (head_comes first.lacks h) (same_incoming s inc),
+      first.count ∙ ap (λ x. starved_by first.lacks x s) (header_of-spelling h r),
+    )

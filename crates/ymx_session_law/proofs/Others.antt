@@ -1,5 +1,5 @@
 -- What concerns one stream leaves every other record as it was.
-use Rattle.std.proofs.Common.{ℕ, List, [], ◌∷◌, ◌++◌, length, Bool, true, false, not, ◌&&◌, ◌||◌, ◌==◌, nat_lt, if◌then◌else◌, Option, None, Some, refl, ◌∙◌}
+use Rattle.std.proofs.Common.{ℕ, List, [], ◌∷◌, ◌++◌, length, Bool, true, false, not, ◌&&◌, ◌||◌, ◌==◌, nat_lt, Option, None, Some, refl, ◌∙◌}
 use Rattle.ymx_header.specs.declared.header.Header.{Header}
 use Rattle.ymx_header.specs.Headers.{has_syn, has_rst, has_fin}
 use Rattle.ymx_model.specs.declared.types.Response.TheVariants.{Pong, Reject}
@@ -8,12 +8,13 @@ use Rattle.ymx_model.specs.Streams.{is_offered}
 use Rattle.ymx_model.specs.Records.{End, gets_rst, gets_piece}
 use Rattle.ymx_model.specs.Pings.{answered}
 use Rattle.ymx_model.specs.Tables.{look, added, removed}
-use Rattle.ymx_model.specs.Sessions.{Session, is_own, is_closed, is_spent, on_stream, settled, drop_id}
+use Rattle.ymx_model.specs.Sessions.{Session, is_own, is_spent, on_stream, settled, drop_id}
 use Rattle.ymx_model.specs.Sessions.Incoming.{Payload}
-use Rattle.ymx_model.specs.Calls.{Outcome, outcome, with_stream, with_record, write_outcome, read_outcome, finish_outcome, reset_outcome, forget_outcome}
+use Rattle.ymx_model.specs.Calls.{Outcome, outcome}
 use Rattle.ymx_model.specs.Arrivals.{answers_with, ping_comes, go_away_comes, payload, expects, record_fault, reset_comes, acknowledges, gets_head, meets, meets_some, offer, refuses, syn_fault, syn_comes, header_fault, head_comes, piece_comes}
 use Rattle.ymx_session_law.specs.Refusals.{OthersSame}
 use Rattle.ymx_session_law.proofs.Splits.{split}
+use Rattle.ymx_session_law.proofs.StreamCalls.{StaysAt, write-stays, read-stays, finish-stays, reset-stays, forget-stays}
 use Rattle.ymx_session_law.proofs.Entries.{look-change_other, look-added_other, look-without_other}
 use Rattle.ymx_session_law.proofs.FramesKeep.{unless_fault-keeps}
 
@@ -32,30 +33,27 @@ others-settled id s t h =
 
 -- ---- calls on a stream
 
-with-others : (id : ℕ) (f : End → Outcome) (s : Session) → ((e : End) → OthersIn id s (f e)) → OthersIn id s (with_stream id f s)
-with-others id f s h = split (OthersIn id s) (is_closed s.status) _ _ (λ t j n. refl) (λ c. of (look id s.table.entries))
-  where
-    of : (o : Option End) → OthersIn id s (with_record f s o)
-    of None = λ j n. refl
-    of (Some e) = h e
-
-if-others : (id : ℕ) (b : Bool) (s t u : Session) → OthersSame id s t → OthersSame id s u → OthersSame id s (if b then t else u)
-if-others id b s t u p q = split (OthersSame id s) b t u (λ e. p) (λ e. q)
+others-stay : (id : ℕ) (s : Session) → StaysAt (OthersSame id s) id s
+others-stay id s = record {
+  now = λ j n. refl;
+  changed = λ f. others-on id f s s (λ j n. refl);
+  gone = λ f. others-settled id s (on_stream id f s) (others-on id f s s (λ j n. refl));
+}
 
 pub write-others : (id : ℕ) (bytes : List ℕ) (s : Session) → OthersIn id s (outcome (call.Write id bytes) s)
-write-others id bytes s = with-others id (write_outcome id bytes s) s (λ e. if-others id _ s s _ (λ j n. refl) (others-on id _ s s (λ j n. refl)))
+write-others id bytes s = write-stays (OthersSame id s) id bytes s (others-stay id s)
 
 pub read-others : (id max : ℕ) (s : Session) → OthersIn id s (outcome (call.Read id max) s)
-read-others id max s = with-others id (read_outcome id max s) s (λ e. if-others id _ s s _ (λ j n. refl) (others-on id _ s s (λ j n. refl)))
+read-others id max s = read-stays (OthersSame id s) id max s (others-stay id s)
 
 pub finish-others : (id : ℕ) (s : Session) → OthersIn id s (outcome (call.Finish id) s)
-finish-others id s = with-others id (finish_outcome id s) s (λ e. if-others id _ s _ s (others-on id _ s s (λ j n. refl)) (λ j n. refl))
+finish-others id s = finish-stays (OthersSame id s) id s (others-stay id s)
 
 pub reset-others : (id : ℕ) (s : Session) → OthersIn id s (outcome (call.Reset id) s)
-reset-others id s = with-others id (reset_outcome id s) s (λ e. if-others id _ s _ s (others-on id _ s s (λ j n. refl)) (λ j n. refl))
+reset-others id s = reset-stays (OthersSame id s) id s (others-stay id s)
 
 pub forget-others : (id : ℕ) (s : Session) → OthersIn id s (outcome (call.Forget id) s)
-forget-others id s = with-others id (forget_outcome id s) s (λ e. if-others id _ s _ s (others-settled id s _ (others-on id _ s s (λ j n. refl))) (λ j n. refl))
+forget-others id s = forget-stays (OthersSame id s) id s (others-stay id s)
 
 -- ---- frames
 

@@ -1,5 +1,5 @@
 -- Something is due exactly if an emission gives a byte.
-use Rattle.std.proofs.Common.{◌≡◌, ◌≢◌, ◌⊎◌, inl, inr, ℕ, zero, suc, List, [], ◌∷◌, ◌++◌, take, drop, Bool, true, false, not, ◌&&◌, ◌||◌, ◌==◌, nat_lt, if◌then◌else◌, Option, None, Some, refl, sym, ◌∙◌, arith}
+use Rattle.std.proofs.Common.{◌≡◌, ◌≢◌, ◌⊎◌, inl, inr, ℕ, zero, suc, ◌<◌, List, [], ◌∷◌, ◌++◌, length, take, drop, Bool, true, false, not, ◌&&◌, ◌||◌, ◌==◌, nat_lt, if◌then◌else◌, Option, None, Some, refl, sym, ◌∙◌, arith}
 use Rattle.std.specs.Prelude.{is_some}
 use Rattle.std.proofs.lemmas.Grind.{common_steps}
 use Rattle.std.proofs.lemmas.Bool.Decides.{nat_tests}
@@ -53,7 +53,7 @@ has-some id e [] h = absurd h
 has-some id e (p ∷ ps) (inl h) = let a = h.0 in grind (arith, nat_tests)
 has-some id e (p ∷ ps) (inr h) = let i = has-some id e ps h in grind (arith, nat_tests)
 
-has-look : (id : ℕ) (e : End) (ps : List (ℕ × End)) → Distinct ps → Has id e ps → look id ps ≡ Some e
+pub has-look : (id : ℕ) (e : End) (ps : List (ℕ × End)) → Distinct ps → Has id e ps → look id ps ≡ Some e
 has-look id e [] d h = absurd h
 has-look id e (p ∷ ps) d (inl h) = let a = h.0 in let b = h.1 in grind (arith, nat_tests)
 has-look id e (p ∷ ps) d (inr h) =
@@ -328,3 +328,8 @@ none-given s w none = of (is_ready s) refl
     of true r =
         let g = due-gives s w r in
         let z : g.0 ∷ [] ≡ [] = none g.1 (g.0 ∷ []) (emits-freely in_turn s 1 (g.0 ∷ []) g.1 g.2) in cc
+
+-- where something is due an emission gives a byte, in any order
+pub always-gives : (may : Choice → Session → Bool) (s : Session) (room : ℕ) (out : List ℕ) (t : Session) → is_ready s ≡ true → 0 < room → Emits may s room out t → 0 < length out
+always-gives may s room [] t r some e = let full = e.full some in let same = e.flows in cc
+always-gives may s room (b ∷ bs) t r some e = omega arith

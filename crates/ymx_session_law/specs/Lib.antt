@@ -4,3 +4,4 @@ pub mod Frames
 pub mod Refusals
 pub mod Settled
 pub mod Offers
+pub mod Fields

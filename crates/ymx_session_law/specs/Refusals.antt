@@ -1,7 +1,8 @@
 -- What a call or a frame leaves as it was (this project's own).
-use Rattle.std.specs.Prelude.{◌≡◌, ◌≢◌, ℕ, Bool, true, false}
+use Rattle.std.specs.Prelude.{◌≡◌, ◌≢◌, ℕ, List, [], ◌∷◌, Bool, true, false, ◌==◌, if◌then◌else◌}
 use Rattle.ymx_model.specs.declared.types.Reply.{Reply}
 use Rattle.ymx_model.specs.declared.types.Reply.TheVariants.{Refused}
+use Rattle.ymx_model.specs.Records.{End}
 use Rattle.ymx_model.specs.Tables.{look}
 use Rattle.ymx_model.specs.Sessions.{Session}
 
@@ -16,6 +17,17 @@ OthersSame id s t = (j : ℕ) → j ≢ id → look j t.table.entries ≡ look j
 -- t is s, but for its table
 abbrev pub OnlyTable : Session → Session → Type 0
 OnlyTable s t = t ≡ record s { table = t.table }
+
+-- the records but that of `id`, in their order
+abbrev pub others : ℕ → List (ℕ × End) → List (ℕ × End)
+others id [] = []
+others id (p ∷ ps) = if p.0 == id then others id ps else p ∷ others id ps
+
+-- t is s, but for the record of `id`: the window stays, and the other records, in their order
+pub record OnlyRecord (id : ℕ) (s t : Session) : Type 0 where
+  pub only : OnlyTable s t
+  pub window : t.table.window ≡ s.table.window
+  pub rest : others id t.table.entries ≡ others id s.table.entries
 
 -- t is s, but for its table and for what has come of a frame
 abbrev pub OnlyArrived : Session → Session → Type 0

@@ -1,4 +1,4 @@
-use Rattle.ymx_session_law.proofs.Ready.{due-gives, given-due, none-due, none-given, emission, due-kind}
+use Rattle.ymx_session_law.proofs.Ready.{due-gives, given-due, none-due, always-gives, none-given, emission, due-kind}
 use Rattle.ymx_session_law.proofs.Goes.{emits-freely}
 use Rattle.ymx_session_law.proofs.due_is_exact.Goals as goal
 
@@ -22,3 +22,6 @@ returns-clause-any_order c = emits-freely
 
 pub returns-clause-of_a_stream : goal.returns-clause-of_a_stream
 returns-clause-of_a_stream c = due-kind
+
+pub returns-clause-due_always_gives : goal.returns-clause-due_always_gives
+returns-clause-due_always_gives c = always-gives

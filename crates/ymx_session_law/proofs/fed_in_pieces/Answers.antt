@@ -1,4 +1,5 @@
-use Rattle.ymx_session_law.proofs.Chunks.{takes-join, takes-split, feeds-join, feeds-split, feeds-inside}
+use Rattle.ymx_session_law.proofs.Chunks.{takes-join, takes-split, feeds-join, feeds-split, feeds-inside, feeds-before}
+use Rattle.ymx_session_law.proofs.Ample.{with-memory}
 use Rattle.ymx_session_law.proofs.fed_in_pieces.Goals as goal
 
 pub returns-clause-bytes_join : goal.returns-clause-bytes_join
@@ -15,3 +16,9 @@ returns-clause-feeds_split c = feeds-split
 
 pub returns-clause-feed_stops_inside : goal.returns-clause-feed_stops_inside
 returns-clause-feed_stops_inside c = feeds-inside
+
+pub returns-clause-with_memory : goal.returns-clause-with_memory
+returns-clause-with_memory c = with-memory
+
+pub returns-clause-feed_stops_before : goal.returns-clause-feed_stops_before
+returns-clause-feed_stops_before c = feeds-before

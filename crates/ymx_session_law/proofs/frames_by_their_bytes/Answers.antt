@@ -1,6 +1,6 @@
 use Rattle.ymx_session_law.proofs.Frames.{header-comes, frame-whole, block-takes, takes-deaf}
 use Rattle.ymx_session_law.proofs.Pieces.{head-takes, head-whole}
-use Rattle.ymx_session_law.proofs.Only.{frame-only}
+use Rattle.ymx_session_law.proofs.Only.{frame-only, header-only}
 use Rattle.ymx_session_law.proofs.frames_by_their_bytes.Goals as goal
 
 pub returns-clause-header : goal.returns-clause-header
@@ -23,3 +23,6 @@ returns-clause-dropped c = takes-deaf
 
 pub returns-clause-only : goal.returns-clause-only
 returns-clause-only c = λ h bytes s t n r st inc l p. let d = frame-only h bytes s t n r st inc l p in (d.lacks, d.same)
+
+pub returns-clause-only_head : goal.returns-clause-only_head
+returns-clause-only_head c = header-only

@@ -1,6 +1,7 @@
 use Rattle.ymx_session_law.proofs.Refusals.{refusals}
 use Rattle.ymx_session_law.proofs.Others.{write-others, read-others, finish-others, reset-others, forget-others, head-others, piece-others}
 use Rattle.ymx_session_law.proofs.Alone.{write-alone, read-alone, finish-alone, reset-alone, forget-alone, piece-alone, stream_frame, session_frame}
+use Rattle.ymx_session_law.proofs.OthersOut.{open-others, open_with-others, accept-others, begin-others, moves-others}
 use Rattle.ymx_session_law.proofs.nothing_else_changes.Goals as goal
 
 pub returns-clause-refused : goal.returns-clause-refused
@@ -50,3 +51,18 @@ returns-clause-stream_frame c = stream_frame
 
 pub returns-clause-session_frame : goal.returns-clause-session_frame
 returns-clause-session_frame c = session_frame
+
+pub returns-clause-open : goal.returns-clause-open
+returns-clause-open c = open-others
+
+pub returns-clause-open_with : goal.returns-clause-open_with
+returns-clause-open_with c = open_with-others
+
+pub returns-clause-accept : goal.returns-clause-accept
+returns-clause-accept c = accept-others
+
+pub returns-clause-frame_begins : goal.returns-clause-frame_begins
+returns-clause-frame_begins c = begin-others
+
+pub returns-clause-frame_goes_on : goal.returns-clause-frame_goes_on
+returns-clause-frame_goes_on c = moves-others

@@ -1,11 +1,14 @@
 use Rattle.std.proofs.Common.{refl}
-use Rattle.ymx_rows.proofs.worked_rows.Goals as goal
+use Rattle.ymx_rows.proofs.worked_examples.Goals as goal
 
 pub returns-clause-open_is_a_window_update : goal.returns-clause-open_is_a_window_update
 returns-clause-open_is_a_window_update c = refl
 
 pub returns-clause-data_byte_by_byte : goal.returns-clause-data_byte_by_byte
 returns-clause-data_byte_by_byte c = refl
+
+pub returns-clause-quiet_with_a_stream : goal.returns-clause-quiet_with_a_stream
+returns-clause-quiet_with_a_stream c = refl
 
 pub returns-clause-half_close : goal.returns-clause-half_close
 returns-clause-half_close c = refl
