@@ -4,6 +4,9 @@ use Rattle.ymx_model.specs.Parts.{Part}
 use Rattle.ymx_model.specs.Parts.Part.{Syn, Ack, Data, Credit, Fin, Rst}
 use Rattle.ymx_law.specs.Flight.{load, loads, gift, gifts, is_syn, is_ack, is_fin, is_rst, has_syn, has_ack, has_fin, has_rst, Behind, Ordered}
 
+pub no_list : {f : Part} {fs : List Part} → f ∷ fs ≡ [] → ⊥
+no_list e = cc
+
 pub loads_push : (fs : List Part) (f : Part) → loads (fs ++ f ∷ []) ≡ loads fs ++ load f
 loads_push [] f = simp append-nil
 loads_push (g ∷ fs) f = rw (loads_push fs f) (grind (arith, append_assoc))
