@@ -12,7 +12,7 @@ use Rattle.ymx_law.specs.Flight.{load, loads, gift, gifts, is_syn, is_ack, is_fi
 use Rattle.ymx_law.specs.Links.{Stops, Born, Sleeps, Acks, Direction, Alive, Heard, Related}
 use Rattle.ymx_law.proofs.Heard.{spent-next, heard-rst}
 use Rattle.ymx_law.proofs.Marks.{born-sleeps, born-sent, born-more, acks-sent, acks-more, stops-none, stops-sent, stops-more, reset-sent, reset-more}
-use Rattle.ymx_law.proofs.Flight.{pushes, loads_push, gifts_push, has_fin_push, or_false, ordered_push}
+use Rattle.ymx_law.proofs.Flight.{pushes, loads_push, gifts_push, has_push, or_false, ordered_push}
 use Rattle.ymx_law.proofs.Directions.{lists, kept-told, kept-sent, kept-announce, ends-sent, ends-goes}
 use Rattle.ymx_law.specs.Directions.{mark_if, fin_waits, to_announce, Carries, Finishes}
 
@@ -32,7 +32,7 @@ rst-born window e fs c h u = let k = c.new u in grind arith
 lane-more : (f : Part) {wx wy : ℕ} {x y : End} {xy yx : List Part} {s : Stream} → load f ≡ [] → is_fin f ≡ false → Direction wx wy x y xy yx s →
     Carries wy x.phase y.phase x.out (loads (xy ++ f ∷ [])) (gifts yx) (to_announce wy y.phase y.marks.syn y.marks.carries y.marks.ack) y.inn s.out
     × Finishes x.phase y.phase x.out (loads (xy ++ f ∷ [])) (has_fin (xy ++ f ∷ [])) y.inn s.out.fin
-lane-more f {xy = xy} e n c = rw (loads_push xy f, e, append-nil (loads xy), has_fin_push xy f, n, or_false (has_fin xy)) (c.carries, c.finishes)
+lane-more f {xy = xy} e n c = rw (loads_push xy f, e, append-nil (loads xy), has_push is_fin xy f, n, or_false (has_fin xy)) (c.carries, c.finishes)
 
 -- one that gives no credit back: what the other direction carries
 back-more : (f : Part) {wx wy : ℕ} {x y : End} {xy yx : List Part} {s : Stream} → gift f ≡ 0 → Direction wx wy x y xy yx s →
@@ -143,7 +143,7 @@ goes-data limit wx wy x y xy yx s some free c =
     let b = take limit x.out.unsent in
     let runs : has_rst (xy ++ Data b ∷ []) ≡ false = grind (arith, pushes, data-runs x.phase x.out x.marks.syn x.marks.ack x.marks.rst xy c.out.stops some) in
     let finishes : Finishes x.phase y.phase (sent limit x.out) (loads (xy ++ Data b ∷ [])) (has_fin (xy ++ Data b ∷ [])) y.inn s.out.fin =
-    rw (loads_push xy (Data b), has_fin_push xy (Data b), or_false (has_fin xy)) (ends-sent limit c.out.finishes) in
+    rw (loads_push xy (Data b), has_push is_fin xy (Data b), or_false (has_fin xy)) (ends-sent limit c.out.finishes) in
     assumption (
       rw (← loads_push xy (Data b)) at (kept-sent limit c.out.carries),
       marks-more (Data b) refl refl refl free.syn c.out,

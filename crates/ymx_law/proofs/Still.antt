@@ -12,12 +12,9 @@ use Rattle.ymx_law.specs.Links.{Alive, Heard, Related}
 use Rattle.ymx_law.specs.OneStream.{IsQuiet}
 use Rattle.ymx_law.proofs.Calls.{none-done}
 
--- what is due goes next, and what goes next is due
+-- what is due goes next
 pub due-next : (window : ℕ) (e : End) → is_due window e ≡ false → next_kind window e ≡ None
 due-next window e h = grind arith
-
-pub next-due : (window : ℕ) (e : End) → next_kind window e ≡ None → is_due window e ≡ false
-next-due window e h = grind arith
 
 due-credit : (window : ℕ) (e : End) → is_due window e ≡ false → credit_due window e ≡ false
 due-credit window e h = grind arith
@@ -50,40 +47,11 @@ alive-still wx wy x y s qx qy c =
     }
 
 heard-still : (wx wy : ℕ) (x y : End) (s : Stream) → IsQuiet wx x → IsQuiet wy y → Heard wx wy x y [] [] s → IsStill wx wy s
-heard-still wx wy x y s qx qy c =
-    let p = qx.gone in let q = qy.gone in let k = c.spent_x.down in let l = c.spent_y.down in record {
-      me_born = let m = c.me in grind arith;
-      you_born = let m = c.you in grind arith;
-      me_gone = ap is_lingering c.me ∙ p;
-      you_gone = ap is_lingering c.you ∙ q;
-      way_out = c.way_out;
-      way_inn = c.way_inn;
-      fin_out = c.fin_out;
-      fin_inn = c.fin_inn;
-      ack = c.ack;
-      rst_out = c.rst_out;
-      rst_inn = grind arith;
-      little_out = λ a b u. absurd (let m = c.me in grind arith);
-      little_inn = λ a b u. absurd (let m = c.me in grind arith);
-    }
+heard-still wx wy x y s qx qy c = let p = qx.gone in let q = qy.gone in let k = c.spent_x.down in let l = c.spent_y.down in grind arith
 
 -- the same stream, still from the other side
 still-flip : (wx wy : ℕ) (s : Stream) → IsStill wy wx (flip s) → IsStill wx wy s
-still-flip wx wy s c = record {
-  me_born = c.you_born;
-  you_born = c.me_born;
-  me_gone = c.you_gone;
-  you_gone = c.me_gone;
-  way_out = c.way_inn;
-  way_inn = c.way_out;
-  fin_out = c.fin_inn;
-  fin_inn = c.fin_out;
-  ack = c.ack;
-  rst_out = c.rst_inn;
-  rst_inn = c.rst_out;
-  little_out = λ a b u. c.little_inn b a u;
-  little_inn = λ a b u. c.little_out b a u;
-}
+still-flip wx wy s c = grind arith
 
 pub related-still : (wx wy : ℕ) (x y : End) (s : Stream) → IsQuiet wx x → IsQuiet wy y → Related wx wy x y [] [] s → IsStill wx wy s
 related-still wx wy x y s p q (inl c) = alive-still wx wy x y s p q c
