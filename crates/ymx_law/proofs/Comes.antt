@@ -10,6 +10,7 @@ use Rattle.ymx_model.specs.Parts.Part.{Syn, Ack, Data, Credit, Fin, Rst}
 use Rattle.ymx_law.specs.Flight.{loads}
 use Rattle.ymx_law.specs.Links.{Alive, Heard, Related}
 use Rattle.ymx_law.specs.Arrivals.{gets_syn, comes_to, MovesOf, Goes}
+use Rattle.ymx_law.proofs.Flight.{no_list}
 use Rattle.ymx_law.proofs.Directions.{lists}
 use Rattle.ymx_law.proofs.Heard.{said-over, said-ack, said-data, said-piece, said-credit, said-fin, said-rst}
 use Rattle.ymx_law.proofs.Arrives.{syn-only, down, taken, vanished, data-nothing, data-over, credited, credit-lapses, acknowledged, fin-taken, fin-ignored, fin-allowed, offered, refused, rst-comes, syn-finds}
@@ -44,7 +45,7 @@ credit-alive : (d : ℕ) (wx wy : ℕ) (x y : End) (xy yx : List Part) (s : Stre
     ((takes x.phase ≡ true) × Allowed (Return d) s × Alive wx wy (gets_credit d x) y xy yx (after (Return d) s))
     ⊎ ((takes x.phase ≡ false) × Alive wx wy (gets_credit d x) y xy yx s)
 credit-alive d wx wy x y xy yx s n c = elim (when (takes x.phase)) [
-  | inl t ↦ inl (t, (let m = c.me in let o = c.out in grind arith), rw t (credited d wx wy x y xy yx s t c))
+  | inl t ↦ inl (t, (let m = c.out.phase in let o = c.out.carries in grind arith), rw t (credited d wx wy x y xy yx s t c))
   | inr t ↦ inr (t, rw t (credit-lapses d wx wy x y xy yx s (down x.phase t n) c))
 ]
 
@@ -58,7 +59,7 @@ empty-left (x ∷ xs) ys e = absurd (cc)
 pub ended-empty : (bytes rest : List ℕ) (wx wy : ℕ) (x y : End) (xy yx : List Part) (s : Stream) →
     takes x.phase ≡ true → x.inn.ended ≡ true → Alive wx wy x y xy (Data (bytes ++ rest) ∷ yx) s → bytes ≡ []
 ended-empty bytes rest wx wy x y xy yx s t e c =
-    let f = c.fin_inn.ended in let o = c.fin_inn.over in
+    let f = c.inn.finishes.ended in let o = c.inn.finishes.over in
     let k : (bytes ++ rest) ++ loads yx ≡ [] = grind arith in
     empty-left bytes rest (empty-left (bytes ++ rest) (loads yx) k)
 
@@ -67,10 +68,10 @@ piece-alive : (refuse : Bool) (bytes rest : List ℕ) (wx wy : ℕ) (x y : End) 
 piece-alive refuse bytes rest wx wy x y xy yx s c = go (when (takes x.phase)) (when x.inn.ended)
   where
     me : takes s.me ≡ takes x.phase
-    me = rw c.me refl
+    me = rw c.out.phase refl
 
     allowed : Allowed (Arrive (length bytes)) s
-    allowed = let n = syn-only wx wy x y xy (Data (bytes ++ rest)) yx s refl c in let m = c.me in let w = c.inn.way in grind (arith, lists)
+    allowed = let n = syn-only wx wy x y xy (Data (bytes ++ rest)) yx s refl c in let m = c.out.phase in let w = c.inn.carries.way in grind (arith, lists)
 
     go : (takes x.phase ≡ true) ⊎ (takes x.phase ≡ false) → (x.inn.ended ≡ true) ⊎ (x.inn.ended ≡ false) →
         (t : Stream) × Goes refuse (Data bytes) s t × Alive wx wy (gets_data bytes x) y xy (Data rest ∷ yx) t
@@ -105,7 +106,7 @@ fin-alive refuse wx wy x y xy yx s c = (
     born = syn-only wx wy x y xy Fin yx s refl c
 
     open_still : takes x.phase ≡ true → x.inn.ended ≡ false
-    open_still t = let f = c.fin_inn.ended in let o = c.fin_inn.said in grind arith
+    open_still t = let f = c.inn.finishes.ended in let o = c.inn.finishes.said in grind arith
 
     go : (takes x.phase ≡ true) ⊎ (takes x.phase ≡ false) → Alive wx wy (gets_fin x) y xy yx (after EndArrives s)
     go (inl t) = alive-is wx wy _ _ y xy _ _ _ (fin-is x t (open_still t)) refl (fin-taken wx wy x y xy yx s t c)
@@ -116,13 +117,13 @@ fin-alive refuse wx wy x y xy yx s c = (
 syn-alive : (refuse : Bool) (d wx wy : ℕ) (x y : End) (xy yx : List Part) (s : Stream) → Alive wx wy x y xy (Syn d ∷ yx) s →
     (t : Stream) × Goes refuse (Syn d) s t × Alive wx wy (gets_syn refuse wx d) y xy yx t
 syn-alive true d wx wy x y xy yx s c =
-    let e = c.sleeps_x.new (syn-finds d wx wy x y xy yx s c).0 in
+    let e = c.out.sleeps.new (syn-finds d wx wy x y xy yx s c).0 in
     let r = refused d wx wy y xy yx s (subst (λ f. Alive wx wy f y xy (Syn d ∷ yx) s) e c) in
     (after SynRefused s, (SynRefused ∷ [], refl, (r.0, refl)), r.1)
 syn-alive false d wx wy x y xy yx s c =
-    let e = c.sleeps_x.new (syn-finds d wx wy x y xy yx s c).0 in
+    let e = c.out.sleeps.new (syn-finds d wx wy x y xy yx s c).0 in
     let r = offered d wx wy y xy yx s (subst (λ f. Alive wx wy f y xy (Syn d ∷ yx) s) e c) in
-    let a : Allowed (Return d) (after SynOffered s) = let o = r.1.out in grind arith in
+    let a : Allowed (Return d) (after SynOffered s) = let o = r.1.out.carries in grind arith in
     (after (Return d) (after SynOffered s), (SynOffered ∷ Return d ∷ [], refl, (r.0, (a, refl))), credited d wx wy (new_end wx Offered false false) y xy yx (after SynOffered s) refl r.1)
 
 -- ---- any part
@@ -149,9 +150,6 @@ alive-comes refuse Rst wx wy x y xy yx s c =
     let r = rst-comes wx wy x y xy yx s c in
     (after ResetArrives s, (ResetArrives ∷ [], inr refl, (r.0, refl)), inr (inl r.1))
 
-no_list : (f : Part) (fs : List Part) → f ∷ fs ≡ [] → ⊥
-no_list f fs e = cc
-
 -- at the side whose reset has arrived nothing moves
 said-comes : (refuse : Bool) (f : Part) (wx wy : ℕ) (x y : End) (xy yx : List Part) (s : Stream) →
     Heard wx wy x y (f ∷ xy) yx s → MovesOf refuse f [] × Heard wx wy x (comes_to refuse wy f y) xy yx s
@@ -165,18 +163,18 @@ said-comes refuse Rst wx wy x y xy yx s c = (inl refl, said-rst wx wy x y xy yx 
 pub part-comes : (refuse : Bool) (f : Part) (wx wy : ℕ) (x y : End) (xy yx : List Part) (s : Stream) →
     Related wx wy x y xy (f ∷ yx) s → (t : Stream) × Goes refuse f s t × Related wx wy (comes_to refuse wx f x) y xy yx t
 part-comes refuse f wx wy x y xy yx s (inl c) = alive-comes refuse f wx wy x y xy yx s c
-part-comes refuse f wx wy x y xy yx s (inr (inl c)) = absurd (no_list f yx c.gone)
+part-comes refuse f wx wy x y xy yx s (inr (inl c)) = absurd (no_list c.gone)
 part-comes refuse f wx wy x y xy yx s (inr (inr c)) = let r = said-comes refuse f wy wx y x yx xy (flip s) c in (s, ([], r.0, refl), inr (inr r.1))
 
 pub piece-comes : (bytes rest : List ℕ) (wx wy : ℕ) (x y : End) (xy yx : List Part) (s : Stream) →
     Related wx wy x y xy (Data (bytes ++ rest) ∷ yx) s → (t : Stream) × Goes false (Data bytes) s t × Related wx wy (gets_data bytes x) y xy (Data rest ∷ yx) t
 piece-comes bytes rest wx wy x y xy yx s (inl c) = let r = piece-alive false bytes rest wx wy x y xy yx s c in (r.0, r.1, inl r.2)
-piece-comes bytes rest wx wy x y xy yx s (inr (inl c)) = absurd (no_list _ yx c.gone)
+piece-comes bytes rest wx wy x y xy yx s (inr (inl c)) = absurd (no_list c.gone)
 piece-comes bytes rest wx wy x y xy yx s (inr (inr c)) = (s, ([], inl refl, refl), inr (inr (said-piece bytes (bytes ++ rest) rest wy wx y x yx xy (flip s) c)))
 
 -- a payload whose last byte has come is no longer under way
 pub payload-over : (wx wy : ℕ) (x y : End) (xy yx : List Part) (s : Stream) →
     Related wx wy x y xy (Data [] ∷ yx) s → Related wx wy x y xy yx s
 payload-over wx wy x y xy yx s (inl c) = inl (data-over wx wy x y xy yx s c)
-payload-over wx wy x y xy yx s (inr (inl c)) = absurd (no_list _ yx c.gone)
+payload-over wx wy x y xy yx s (inr (inl c)) = absurd (no_list c.gone)
 payload-over wx wy x y xy yx s (inr (inr c)) = inr (inr (let d = said-over wy wx y x yx xy (flip s) c in d))

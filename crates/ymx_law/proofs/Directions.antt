@@ -9,115 +9,115 @@ use Rattle.ymx_law.specs.Directions.{Carries, Finishes, fin_waits}
 
 pub ruleset lists = (common_steps, append_assoc, length-append, append-nil)
 
-pub kept-write : (bytes : List ℕ) (v : ℕ) (p q : Phase) (w : Writer) (fly : List ℕ) (due told : ℕ) (r : Reader) (l : Lane) →
+pub kept-write : (bytes : List ℕ) {v : ℕ} {p q : Phase} {w : Writer} {fly : List ℕ} {due told : ℕ} {r : Reader} {l : Lane} →
     is_up p ≡ true → length bytes ≤ w.credit → Carries v p q w fly due told r l → Carries v p q (write bytes w) fly due told r (lane_write bytes l)
-kept-write bytes v p q w fly due told r l u fits c = grind (arith, lists)
+kept-write bytes u fits c = grind (arith, lists)
 
-pub kept-sent : (n : ℕ) (v : ℕ) (p q : Phase) (w : Writer) (fly : List ℕ) (due told : ℕ) (r : Reader) (l : Lane) →
+pub kept-sent : (n : ℕ) {v : ℕ} {p q : Phase} {w : Writer} {fly : List ℕ} {due told : ℕ} {r : Reader} {l : Lane} →
     Carries v p q w fly due told r l → Carries v p q (sent n w) (fly ++ take n w.unsent) due told r l
-kept-sent n v p q w fly due told r l c = grind (arith, lists)
+kept-sent n c = grind (arith, lists)
 
-pub kept-arrive : (bytes : List ℕ) (v : ℕ) (p q : Phase) (w : Writer) (fly : List ℕ) (due told : ℕ) (r : Reader) (l : Lane) →
+pub kept-arrive : (bytes : List ℕ) {v : ℕ} {p q : Phase} {w : Writer} {fly : List ℕ} {due told : ℕ} {r : Reader} {l : Lane} →
     takes q ≡ true → Carries v p q w (bytes ++ fly) due told r l → Carries v p q w fly due told (arrive bytes r) (lane_arrive (length bytes) l)
-kept-arrive bytes v p q w fly due told r l t c = grind (arith, lists)
+kept-arrive bytes t c = grind (arith, lists)
 
-pub kept-vanish : (bytes : List ℕ) (v : ℕ) (p q : Phase) (w : Writer) (fly : List ℕ) (due told : ℕ) (r : Reader) (l : Lane) →
+pub kept-vanish : (bytes : List ℕ) {v : ℕ} {p q : Phase} {w : Writer} {fly : List ℕ} {due told : ℕ} {r : Reader} {l : Lane} →
     is_up q ≡ false → Carries v p q w (bytes ++ fly) due told r l → Carries v p q w fly due told r (lane_vanish (length bytes) l)
-kept-vanish bytes v p q w fly due told r l d c = grind (arith, lists)
+kept-vanish bytes d c = grind (arith, lists)
 
-pub kept-read : (n : ℕ) (v : ℕ) (p q : Phase) (w : Writer) (fly : List ℕ) (due told : ℕ) (r : Reader) (l : Lane) →
+pub kept-read : (n : ℕ) {v : ℕ} {p q : Phase} {w : Writer} {fly : List ℕ} {due told : ℕ} {r : Reader} {l : Lane} →
     takes q ≡ true → Carries v p q w fly due told r l → Carries v p q w fly due told (read n r) (lane_read n l)
-kept-read n v p q w fly due told r l t c = grind (arith, lists)
+kept-read n t c = grind (arith, lists)
 
 -- n of what was to be announced goes out
-pub kept-told : (n : ℕ) (v : ℕ) (p q : Phase) (w : Writer) (fly : List ℕ) (due more told less : ℕ) (r : Reader) (l : Lane) →
+pub kept-told : (n : ℕ) {v : ℕ} {p q : Phase} {w : Writer} {fly : List ℕ} {due more told less : ℕ} {r : Reader} {l : Lane} →
     more ≡ due + n → told ≡ n + less → Carries v p q w fly due told r l → Carries v p q w fly more less (announce n r) l
-kept-told n v p q w fly due more told less r l e f c = grind (arith, lists)
+kept-told n e f c = grind (arith, lists)
 
 -- the reader's end announces less later
-pub kept-less : (v : ℕ) (p q : Phase) (w : Writer) (fly : List ℕ) (due told less : ℕ) (r : Reader) (l : Lane) →
+pub kept-less : (less : ℕ) {v : ℕ} {p q : Phase} {w : Writer} {fly : List ℕ} {due told : ℕ} {r : Reader} {l : Lane} →
     less ≤ told → Carries v p q w fly due told r l → Carries v p q w fly due less r l
-kept-less v p q w fly due told less r l h c = grind (arith, lists)
+kept-less less h c = grind (arith, lists)
 
 -- all that is owed is announced
-pub kept-announce : (v : ℕ) (p q : Phase) (w : Writer) (fly : List ℕ) (due : ℕ) (r : Reader) (l : Lane) →
+pub kept-announce : {v : ℕ} {p q : Phase} {w : Writer} {fly : List ℕ} {due : ℕ} {r : Reader} {l : Lane} →
     is_up q ≡ true → Carries v p q w fly due 0 r l → Carries v p q w fly (due + r.owed) 0 (announce r.owed r) l
-kept-announce v p q w fly due r l u c = grind (arith, lists)
+kept-announce u c = grind (arith, lists)
 
-pub kept-given : (d : ℕ) (v : ℕ) (p q : Phase) (w : Writer) (fly : List ℕ) (due told : ℕ) (r : Reader) (l : Lane) →
+pub kept-given : (d : ℕ) {v : ℕ} {p q : Phase} {w : Writer} {fly : List ℕ} {due told : ℕ} {r : Reader} {l : Lane} →
     is_up p ≡ true → Carries v p q w fly (d + due) told r l → Carries v p q (given d w) fly due told r (lane_return d l)
-kept-given d v p q w fly due told r l u c = grind (arith, lists)
+kept-given d u c = grind (arith, lists)
 
-pub kept-dropped : (d : ℕ) (v : ℕ) (p q : Phase) (w : Writer) (fly : List ℕ) (due told : ℕ) (r : Reader) (l : Lane) →
+pub kept-dropped : (d : ℕ) {v : ℕ} {p q : Phase} {w : Writer} {fly : List ℕ} {due told : ℕ} {r : Reader} {l : Lane} →
     is_up p ≡ false → Carries v p q w fly (d + due) told r l → Carries v p q w fly due told r l
-kept-dropped d v p q w fly due told r l u c = grind (arith, lists)
+kept-dropped d u c = grind (arith, lists)
 
 -- the writer's end is over
-pub kept-stopped : (m : Mark) (v : ℕ) (p p' q : Phase) (w : Writer) (fly : List ℕ) (due told : ℕ) (r : Reader) (l : Lane) →
+pub kept-stopped : (m : Mark) (p' : Phase) {v : ℕ} {p q : Phase} {w : Writer} {fly : List ℕ} {due told : ℕ} {r : Reader} {l : Lane} →
     is_up p' ≡ false → Carries v p q w fly due told r l → Carries v p' q dead_writer fly due told r (lane_cut (length fly) m l)
-kept-stopped m v p p' q w fly due told r l u c = grind (arith, lists)
+kept-stopped m p' u c = grind (arith, lists)
 
 -- the writer's end is given up, and what it has unsent stays
-pub kept-down : (v : ℕ) (p p' q : Phase) (w : Writer) (fly : List ℕ) (due told : ℕ) (r : Reader) (l : Lane) →
+pub kept-down : (p' : Phase) {v : ℕ} {p q : Phase} {w : Writer} {fly : List ℕ} {due told : ℕ} {r : Reader} {l : Lane} →
     is_up p' ≡ false → Carries v p q w fly due told r l → Carries v p' q w fly due told r l
-kept-down v p p' q w fly due told r l u c = grind (arith, lists)
+kept-down p' u c = grind (arith, lists)
 
 -- the reader's end is over
-pub kept-emptied : (v : ℕ) (p q q' : Phase) (w : Writer) (fly : List ℕ) (due told less : ℕ) (r r' : Reader) (l : Lane) →
+pub kept-emptied : (q' : Phase) (less : ℕ) (r' : Reader) {v : ℕ} {p q : Phase} {w : Writer} {fly : List ℕ} {due told : ℕ} {r : Reader} {l : Lane} →
     is_up q' ≡ false → r'.unread ≡ [] → less ≤ told → Carries v p q w fly due told r l → Carries v p q' w fly due less r' (lane_empty l)
-kept-emptied v p q q' w fly due told less r r' l u e h c = grind (arith, lists)
+kept-emptied q' less r' u e h c = grind (arith, lists)
 
 -- the end mark
 
-pub ends-write : (bytes : List ℕ) (p q : Phase) (w : Writer) (fly : List ℕ) (f : Bool) (r : Reader) (m : Mark) →
+pub ends-write : (bytes : List ℕ) {p q : Phase} {w : Writer} {fly : List ℕ} {f : Bool} {r : Reader} {m : Mark} →
     is_up p ≡ true → w.finished ≡ false → Finishes p q w fly f r m → Finishes p q (write bytes w) fly f r m
-ends-write bytes p q w fly f r m u o c = grind (arith, lists)
+ends-write bytes u o c = grind (arith, lists)
 
-pub ends-sent : (n : ℕ) (p q : Phase) (w : Writer) (fly : List ℕ) (f : Bool) (r : Reader) (m : Mark) →
+pub ends-sent : (n : ℕ) {p q : Phase} {w : Writer} {fly : List ℕ} {f : Bool} {r : Reader} {m : Mark} →
     Finishes p q w fly f r m → Finishes p q (sent n w) (fly ++ take n w.unsent) f r m
-ends-sent n p q w fly f r m c = grind (arith, lists)
+ends-sent n c = grind (arith, lists)
 
 no_more : (xs ys : List ℕ) → xs ++ ys ≡ [] → ys ≡ []
 no_more [] ys e = e
 no_more (x ∷ xs) ys e = absurd (cc)
 
-pub ends-arrive : (bytes : List ℕ) (p q : Phase) (w : Writer) (fly : List ℕ) (f : Bool) (r : Reader) (m : Mark) →
+pub ends-arrive : (bytes : List ℕ) {p q : Phase} {w : Writer} {fly : List ℕ} {f : Bool} {r : Reader} {m : Mark} →
     Finishes p q w (bytes ++ fly) f r m → Finishes p q w fly f (arrive bytes r) m
-ends-arrive bytes p q w fly f r m c = record {
+ends-arrive bytes c = record {
   said = c.said;
   unsaid = c.unsaid;
   sent = c.sent;
   last = c.last;
-  over = λ h. (no_more bytes fly (c.over h).0, (c.over h).1);
+  over = λ h. (no_more bytes _ (c.over h).0, (c.over h).1);
   ended = c.ended;
 }
 
-pub ends-finish : (p q : Phase) (w : Writer) (fly : List ℕ) (f : Bool) (r : Reader) (m : Mark) →
+pub ends-finish : {p q : Phase} {w : Writer} {fly : List ℕ} {f : Bool} {r : Reader} {m : Mark} →
     is_up p ≡ true → w.finished ≡ false → Finishes p q w fly f r m → Finishes p q (finish w) fly f r Said
-ends-finish p q w fly f r m u o c = grind (arith, lists)
+ends-finish u o c = grind (arith, lists)
 
-pub ends-goes : (p q : Phase) (w : Writer) (fly : List ℕ) (f : Bool) (r : Reader) (m : Mark) →
+pub ends-goes : {p q : Phase} {w : Writer} {fly : List ℕ} {f : Bool} {r : Reader} {m : Mark} →
     fin_waits w ≡ true → w.unsent ≡ [] → Finishes p q w fly f r m → Finishes p q (fin_goes w) fly true r m
-ends-goes p q w fly f r m g e c = grind (arith, lists)
+ends-goes g e c = grind (arith, lists)
 
--- the FIN comes to an end that takes it
-pub ends-comes : (p q : Phase) (w : Writer) (r : Reader) (m : Mark) →
-    Finishes p q w [] true r m → Finishes p q w [] false (end_comes r) Here
-ends-comes p q w r m c = grind (arith, lists)
+-- the FIN comes, to an end that takes it or to one that is over
+pub ends-comes : (more : Bool) {p q : Phase} {w : Writer} {fly : List ℕ} {r : Reader} {m : Mark} →
+    fly ≡ [] → more ≡ false → Finishes p q w fly true r m → Finishes p q w fly more (end_comes r) Here
+ends-comes more e n c = grind (arith, lists)
 
-pub ends-ignored : (p q : Phase) (w : Writer) (r : Reader) (m : Mark) →
-    is_up q ≡ false → Finishes p q w [] true r m → Finishes p q w [] false r Here
-ends-ignored p q w r m u c = grind (arith, lists)
+pub ends-ignored : (more : Bool) {p q : Phase} {w : Writer} {fly : List ℕ} {r : Reader} {m : Mark} →
+    is_up q ≡ false → fly ≡ [] → more ≡ false → Finishes p q w fly true r m → Finishes p q w fly more r Here
+ends-ignored more u e n c = grind (arith, lists)
 
 -- the writer's end is over: an end mark whose FIN hasn't gone out is taken back
-pub ends-stopped : (p p' q : Phase) (w : Writer) (fly : List ℕ) (f : Bool) (r : Reader) (m : Mark) →
+pub ends-stopped : (p' : Phase) {p q : Phase} {w : Writer} {fly : List ℕ} {f : Bool} {r : Reader} {m : Mark} →
     is_up p' ≡ false → Finishes p q w fly f r m → Finishes p' q dead_writer fly f r (if fin_waits w then back m else m)
-ends-stopped p p' q w fly f r m u c = grind (arith, lists)
+ends-stopped p' u c = grind (arith, lists)
 
-pub ends-given_up : (p p' q : Phase) (w : Writer) (fly : List ℕ) (f : Bool) (r : Reader) (m : Mark) →
+pub ends-given_up : (p' : Phase) {p q : Phase} {w : Writer} {fly : List ℕ} {f : Bool} {r : Reader} {m : Mark} →
     is_up p' ≡ false → Finishes p q w fly f r m → Finishes p' q w fly f r m
-ends-given_up p p' q w fly f r m u c = grind arith
+ends-given_up p' u c = grind arith
 
-pub ends-down : (p q q' : Phase) (w : Writer) (fly : List ℕ) (f : Bool) (r r' : Reader) (m : Mark) →
+pub ends-down : (q' : Phase) (r' : Reader) {p q : Phase} {w : Writer} {fly : List ℕ} {f : Bool} {r : Reader} {m : Mark} →
     is_up q' ≡ false → Finishes p q w fly f r m → Finishes p q' w fly f r' m
-ends-down p q q' w fly f r r' m u c = grind arith
+ends-down q' r' u c = grind arith

@@ -8,13 +8,14 @@ use Rattle.ymx_model.specs.Parts.{Part}
 use Rattle.ymx_model.specs.Parts.Part.{Syn, Ack, Data, Credit, Fin, Rst}
 use Rattle.ymx_law.specs.Links.{Alive, Heard, Related}
 use Rattle.ymx_law.specs.Faults.{first_load, BreaksNothing}
+use Rattle.ymx_law.proofs.Flight.{no_list}
 use Rattle.ymx_law.proofs.Directions.{lists}
 use Rattle.ymx_law.proofs.Arrives.{syn-only, syn-finds}
 use Rattle.ymx_law.proofs.Comes.{ended-empty}
 
 data-granted : (b : List ℕ) (wx wy : ℕ) (x y : End) (xy yx : List Part) (s : Stream) →
     takes x.phase ≡ true → Alive wx wy x y xy (Data b ∷ yx) s → length b ≤ x.inn.granted
-data-granted b wx wy x y xy yx s t c = let i = c.inn in grind (arith, lists)
+data-granted b wx wy x y xy yx s t c = let i = c.inn.carries in grind (arith, lists)
 
 data-last : (b : List ℕ) (wx wy : ℕ) (x y : End) (xy yx : List Part) (s : Stream) →
     takes x.phase ≡ true → x.inn.ended ≡ true → Alive wx wy x y xy (Data b ∷ yx) s → b ≡ []
@@ -22,25 +23,25 @@ data-last b wx wy x y xy yx s t e c = ended-empty b [] wx wy x y xy yx s t e (rw
 
 fin-open : (wx wy : ℕ) (x y : End) (xy yx : List Part) (s : Stream) →
     takes x.phase ≡ true → Alive wx wy x y xy (Fin ∷ yx) s → takes_payload x ≡ true
-fin-open wx wy x y xy yx s t c = let f = c.fin_inn.ended in let o = c.fin_inn.said in grind arith
+fin-open wx wy x y xy yx s t c = let f = c.inn.finishes.ended in let o = c.inn.finishes.said in grind arith
 
 credit-room : (d : ℕ) (wx wy : ℕ) (x y : End) (xy yx : List Part) (s : Stream) →
     takes x.phase ≡ true → Alive wx wy x y xy (Credit d ∷ yx) s → x.out.credit + d ≤ wy
-credit-room d wx wy x y xy yx s t c = let o = c.out in grind (arith, lists)
+credit-room d wx wy x y xy yx s t c = let o = c.out.carries in grind (arith, lists)
 
 ack-room : (d : ℕ) (wx wy : ℕ) (x y : End) (xy yx : List Part) (s : Stream) →
     takes x.phase ≡ true → Alive wx wy x y xy (Ack d ∷ yx) s → x.out.credit + d ≤ wy
-ack-room d wx wy x y xy yx s t c = let o = c.out in grind (arith, lists)
+ack-room d wx wy x y xy yx s t c = let o = c.out.carries in grind (arith, lists)
 
 ack-own : (d : ℕ) (wx wy : ℕ) (x y : End) (xy yx : List Part) (s : Stream) → Alive wx wy x y xy (Ack d ∷ yx) s → s.own ≡ true
-ack-own d wx wy x y xy yx s c = let o = c.acks_x in grind (arith, lists)
+ack-own d wx wy x y xy yx s c = let o = c.inn.acks in grind (arith, lists)
 
 syn-room : (d : ℕ) (wx wy : ℕ) (x y : End) (xy yx : List Part) (s : Stream) → x.phase ≡ Unborn → Alive wx wy x y xy (Syn d ∷ yx) s → first_credit + d ≤ wy
-syn-room d wx wy x y xy yx s u c = let o = c.out in let e = c.sleeps_x.new u in grind (arith, lists)
+syn-room d wx wy x y xy yx s u c = let o = c.out.carries in let e = c.out.sleeps.new u in grind (arith, lists)
 
 syn-granted : (d : ℕ) (b : List ℕ) (wx wy : ℕ) (x y : End) (xy yx : List Part) (s : Stream) →
     x.phase ≡ Unborn → Alive wx wy x y xy (Syn d ∷ Data b ∷ yx) s → length b ≤ first_credit
-syn-granted d b wx wy x y xy yx s u c = let i = c.inn in let e = c.sleeps_x.new u in grind (arith, lists)
+syn-granted d b wx wy x y xy yx s u c = let i = c.inn.carries in let e = c.out.sleeps.new u in grind (arith, lists)
 
 syn-load : (d : ℕ) (wx wy : ℕ) (x y : End) (xy yx : List Part) (s : Stream) →
     x.phase ≡ Unborn → Alive wx wy x y xy (Syn d ∷ yx) s → length (first_load yx) ≤ first_credit
@@ -84,17 +85,14 @@ said-breaks (Credit d) wx wy x y xy yx s c = let k = down-takes x.phase c.spent_
 said-breaks Fin wx wy x y xy yx s c = let k = down-takes x.phase c.spent_y.down in (k.0, λ t. absurd (k.1 t))
 said-breaks Rst wx wy x y xy yx s c = (down-takes x.phase c.spent_y.down).0
 
-no_list : (f : Part) (fs : List Part) → f ∷ fs ≡ [] → ⊥
-no_list f fs e = cc
-
 pub related-breaks : (f : Part) (wx wy : ℕ) (x y : End) (xy yx : List Part) (s : Stream) → Related wx wy x y xy (f ∷ yx) s → BreaksNothing wy s.own f yx x
 related-breaks f wx wy x y xy yx s (inl c) = alive-breaks f wx wy x y xy yx s c
-related-breaks f wx wy x y xy yx s (inr (inl c)) = absurd (no_list f yx c.gone)
+related-breaks f wx wy x y xy yx s (inr (inl c)) = absurd (no_list c.gone)
 related-breaks f wx wy x y xy yx s (inr (inr c)) = said-breaks f wx wy x y xy yx s c
 
 -- an end never has more credit than the peer's window, and never holds more than its own
 alive-within : (wx wy : ℕ) (x y : End) (xy yx : List Part) (s : Stream) → takes x.phase ≡ true → Alive wx wy x y xy yx s → (x.out.credit ≤ wy) × (length x.inn.unread ≤ wx)
-alive-within wx wy x y xy yx s t c = let o = c.out in let i = c.inn in grind (arith, lists)
+alive-within wx wy x y xy yx s t c = let o = c.out.carries in let i = c.inn.carries in grind (arith, lists)
 
 pub related-within : (wx wy : ℕ) (x y : End) (xy yx : List Part) (s : Stream) → takes x.phase ≡ true → Related wx wy x y xy yx s → (x.out.credit ≤ wy) × (length x.inn.unread ≤ wx)
 related-within wx wy x y xy yx s t (inl c) = alive-within wx wy x y xy yx s t c

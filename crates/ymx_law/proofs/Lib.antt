@@ -1,6 +1,7 @@
 pub mod Flight
 pub mod Directions
 pub mod Links
+pub mod Marks
 pub mod Heard
 pub mod Arrives
 pub mod Comes
@@ -12,4 +13,3 @@ pub mod Still
 pub mod OneStream
 pub mod Faults
 pub mod Worlds
-pub mod Sides

@@ -12,26 +12,7 @@ pub not_not : (b : Bool) → not (not b) ≡ b
 not_not b = grind arith
 
 pub flips : (wx wy : ℕ) (x y : End) (xy yx : List Part) (s : Stream) → Alive wx wy x y xy yx s → Alive wy wx y x yx xy (flip s)
-flips wx wy x y xy yx s c = record {
-  me = c.you;
-  you = c.me;
-  out = c.inn;
-  inn = c.out;
-  fin_out = c.fin_inn;
-  fin_inn = c.fin_out;
-  rst_out = c.rst_inn;
-  rst_inn = c.rst_out;
-  stops_x = c.stops_y;
-  stops_y = c.stops_x;
-  ordered_out = c.ordered_inn;
-  ordered_inn = c.ordered_out;
-  born_x = c.born_y;
-  born_y = rw not_not c.born_x;
-  sleeps_x = c.sleeps_y;
-  sleeps_y = c.sleeps_x;
-  acks_x = c.acks_y;
-  acks_y = rw not_not c.acks_x;
-}
+flips wx wy x y xy yx s c = record { out = c.inn; inn = rw not_not c.out }
 
 pub related-flip : (wx wy : ℕ) (x y : End) (xy yx : List Part) (s : Stream) → Related wx wy x y xy yx s → Related wy wx y x yx xy (flip s)
 related-flip wx wy x y xy yx s (inl c) = inl (flips wx wy x y xy yx s c)

@@ -10,15 +10,6 @@ use Rattle.ymx_model.specs.Records.{End, end_write, gets_data}
 use Rattle.ymx_law.specs.Answers.{EndRule}
 use Rattle.ymx_law.proofs.Directions.{lists}
 
-pub gets_data-nothing : (e : End) → gets_data [] e ≡ e
-gets_data-nothing e = grind (arith, lists)
-
-pub end_write-nothing : (e : End) → end_write [] e ≡ e
-end_write-nothing e = grind (arith, lists)
-
-pub stream_write-nothing : (s : Stream) → stream_write [] s ≡ s
-stream_write-nothing s = grind (arith, lists)
-
 -- an end that no caller has answers NoStream, and so does the machine
 pub absent-end : (lost : Bool) (call : StreamCall) (e : End) → (is_live e.phase || is_reset e.phase) ≡ false → EndRule lost call e (Refused NoStream) e
 absent-end lost (Writes bytes) e h = inl (grind (arith, lists))

@@ -1,20 +1,20 @@
 -- A frame that goes out is no move of the machine.
-use Rattle.std.proofs.Common.{◌≡◌, ℕ, ◌+◌, ◌-◌, List, [], ◌++◌, take, Bool, true, false, inl, inr, Some, sym, subst, add-zero, arith}
+use Rattle.std.proofs.Common.{◌≡◌, ℕ, ◌+◌, ◌-◌, List, [], ◌∷◌, ◌++◌, take, Bool, true, false, ◌||◌, inl, inr, Some, refl, sym, subst, append-nil, add-zero, arith}
 use Rattle.ymx_model.specs.Lanes.{first_credit, Lane}
 use Rattle.ymx_model.specs.Streams.{Stream, Phase, is_live, is_up}
 use Rattle.ymx_model.specs.Streams.Phase.{Unborn}
-use Rattle.ymx_model.specs.Records.{End, Writer, Reader, announce, sent}
+use Rattle.ymx_model.specs.Records.{End, Writer, Reader, announce, sent, fin_goes}
 use Rattle.ymx_model.specs.Outgoing.{Kind, next_kind, sends, is_empty}
 use Rattle.ymx_model.specs.Outgoing.Kind.{Open, OpenWith, Accept, Reset, Credit as CreditFrame, Data as DataFrame, Fin as FinFrame}
 use Rattle.ymx_model.specs.Parts.{Part, parts_of}
-use Rattle.ymx_model.specs.Parts.Part.{Data, Credit}
-use Rattle.ymx_law.specs.Flight.{loads, gifts, has_fin, has_rst}
-use Rattle.ymx_law.specs.Links.{Alive, Heard, Related, Sleeps, Stops}
+use Rattle.ymx_model.specs.Parts.Part.{Ack, Data, Credit, Fin, Rst}
+use Rattle.ymx_law.specs.Flight.{load, loads, gift, gifts, is_syn, is_ack, is_fin, is_rst, has_fin, has_rst}
+use Rattle.ymx_law.specs.Links.{Stops, Born, Sleeps, Acks, Direction, Alive, Heard, Related}
 use Rattle.ymx_law.proofs.Heard.{spent-next, heard-rst}
-use Rattle.ymx_law.proofs.Arrives.{born-sleeps}
-use Rattle.ymx_law.proofs.Flight.{pushes, loads_push, gifts_push, has_fin_push, has_rst_push, or_false, ordered_push}
+use Rattle.ymx_law.proofs.Marks.{born-sleeps, born-sent, born-more, acks-sent, acks-more, stops-none, stops-sent, stops-more, reset-sent, reset-more}
+use Rattle.ymx_law.proofs.Flight.{pushes, loads_push, gifts_push, has_push, or_false, ordered_push}
 use Rattle.ymx_law.proofs.Directions.{lists, kept-told, kept-sent, kept-announce, ends-sent, ends-goes}
-use Rattle.ymx_law.specs.Directions.{fin_waits, to_announce, Carries}
+use Rattle.ymx_law.specs.Directions.{mark_if, fin_waits, to_announce, Carries, Finishes}
 
 -- an end with something due is born
 syn-born : (window : ℕ) (e : End) (fs : List Part) → Sleeps window e fs → e.marks.syn ≡ true → e.phase ≡ Unborn → ⊥
@@ -26,97 +26,76 @@ ack-born window e fs c h u = let k = c.new u in grind arith
 rst-born : (window : ℕ) (e : End) (fs : List Part) → Sleeps window e fs → e.marks.rst ≡ true → e.phase ≡ Unborn → ⊥
 rst-born window e fs c h u = let k = c.new u in grind arith
 
+-- ---- what a frame leaves as it was
+
+-- one with no payload and no FIN: what this direction carries
+lane-more : (f : Part) {wx wy : ℕ} {x y : End} {xy yx : List Part} {s : Stream} → load f ≡ [] → is_fin f ≡ false → Direction wx wy x y xy yx s →
+    Carries wy x.phase y.phase x.out (loads (xy ++ f ∷ [])) (gifts yx) (to_announce wy y.phase y.marks.syn y.marks.carries y.marks.ack) y.inn s.out
+    × Finishes x.phase y.phase x.out (loads (xy ++ f ∷ [])) (has_fin (xy ++ f ∷ [])) y.inn s.out.fin
+lane-more f {xy = xy} e n c = rw (loads_push xy f, e, append-nil (loads xy), has_push is_fin xy f, n, or_false (has_fin xy)) (c.carries, c.finishes)
+
+-- one that gives no credit back: what the other direction carries
+back-more : (f : Part) {wx wy : ℕ} {x y : End} {xy yx : List Part} {s : Stream} → gift f ≡ 0 → Direction wx wy x y xy yx s →
+    Carries wy x.phase y.phase x.out (loads xy) (gifts (yx ++ f ∷ [])) (to_announce wy y.phase y.marks.syn y.marks.carries y.marks.ack) y.inn s.out
+back-more f {yx = yx} e c = rw (gifts_push yx f, e, add-zero (gifts yx)) c.carries
+
+-- one that is no SYN, ACK or RST: what was said by these
+marks-more : (f : Part) {wx wy : ℕ} {x y : End} {xy yx : List Part} {s : Stream} →
+    is_syn f ≡ false → is_ack f ≡ false → is_rst f ≡ false → x.marks.syn ≡ false → Direction wx wy x y xy yx s →
+    (s.rst_out ≡ mark_if (x.marks.rst || has_rst (xy ++ f ∷ []))) × Born s.own x.phase y.phase x.marks.syn (xy ++ f ∷ []) × Acks s.own y.marks.acked x.phase x.marks.ack (xy ++ f ∷ []) s.ack
+marks-more f {x = x} {xy = xy} a b r n c = (reset-more f x.marks.rst xy r c.reset, born-more f a n c.born, acks-more f b c.acks)
+
 pub goes-open : (limit wx wy : ℕ) (x y : End) (yx : List Part) (s : Stream) →
     x.marks.syn ≡ true → x.marks.carries ≡ false → Alive wx wy x y [] yx s → Alive wx wy (sends wx limit Open x) y (parts_of Open wx limit x) yx s
-goes-open limit wx wy x y yx s l p c = record {
-  me = c.me;
-  you = c.you;
-  out = c.out;
-  inn = kept-told (wx - first_credit) wx y.phase x.phase y.out (loads yx) _ _ _ _ x.inn s.inn (grind arith) (grind arith) c.inn;
-  fin_out = c.fin_out;
-  fin_inn = grind arith;
-  rst_out = c.rst_out;
-  rst_inn = c.rst_inn;
-  stops_x = grind arith;
-  stops_y = c.stops_y;
-  ordered_out = grind arith;
-  ordered_inn = c.ordered_inn;
-  born_x = grind arith;
-  born_y = c.born_y;
-  sleeps_x = born-sleeps wx _ _ (syn-born wx x [] c.sleeps_x l);
-  sleeps_y = c.sleeps_y;
-  acks_x = c.acks_x;
-  acks_y = grind arith;
-}
+goes-open limit wx wy x y yx s l p c =
+    let stops : Stops x.phase x.out false x.marks.ack x.marks.rst (parts_of Open wx limit x) = grind arith in
+    assumption (
+      tt,
+      born-sent (wx - first_credit) [] l refl c.out.born,
+      born-sleeps wx (sends wx limit Open x) (parts_of Open wx limit x) (syn-born wx x [] c.out.sleeps l),
+      kept-told (wx - first_credit) {more = gifts (parts_of Open wx limit x)} {less = to_announce wx x.phase false x.marks.carries x.marks.ack} (grind arith) (grind arith) c.inn.carries,
+    )
 
 pub goes-open_with : (limit wx wy : ℕ) (x y : End) (yx : List Part) (s : Stream) →
     x.marks.syn ≡ true → x.marks.carries ≡ true → Alive wx wy x y [] yx s → Alive wx wy (sends wx limit OpenWith x) y (parts_of OpenWith wx limit x) yx s
-goes-open_with limit wx wy x y yx s l p c = record {
-  me = c.me;
-  you = c.you;
-  out = grind (arith, lists);
-  inn = grind (arith, lists);
-  fin_out = grind (arith, lists);
-  fin_inn = grind arith;
-  rst_out = c.rst_out;
-  rst_inn = c.rst_inn;
-  stops_x = grind (arith, lists);
-  stops_y = c.stops_y;
-  ordered_out = grind arith;
-  ordered_inn = c.ordered_inn;
-  born_x = grind arith;
-  born_y = c.born_y;
-  sleeps_x = born-sleeps wx _ _ (syn-born wx x [] c.sleeps_x l);
-  sleeps_y = c.sleeps_y;
-  acks_x = c.acks_x;
-  acks_y = grind arith;
-}
+goes-open_with limit wx wy x y yx s l p c =
+    let stops : Stops x.phase (sent limit x.out) false x.marks.ack x.marks.rst (parts_of OpenWith wx limit x) = grind (arith, lists) in
+    assumption (
+      tt,
+      rw (← append-nil (take limit x.out.unsent)) at (kept-sent limit c.out.carries),
+      rw (← append-nil (take limit x.out.unsent)) at (ends-sent limit c.out.finishes),
+      born-sent 0 (Data (take limit x.out.unsent) ∷ []) l refl c.out.born,
+      born-sleeps wx (sends wx limit OpenWith x) (parts_of OpenWith wx limit x) (syn-born wx x [] c.out.sleeps l),
+      rw (l, p) at c.inn.carries,
+    )
 
 pub goes-accept : (limit wx wy : ℕ) (x y : End) (xy yx : List Part) (s : Stream) →
     x.marks.syn ≡ false → x.marks.ack ≡ true → Alive wx wy x y xy yx s → Alive wx wy (sends wx limit Accept x) y (xy ++ parts_of Accept wx limit x) yx s
-goes-accept limit wx wy x y xy yx s n l c = record {
-  me = c.me;
-  you = c.you;
-  out = grind (arith, lists, pushes);
-  inn = kept-told (wx - first_credit) wx y.phase x.phase y.out (loads yx) (gifts xy) _ _ _ x.inn s.inn (grind (arith, pushes)) (grind arith) c.inn;
-  fin_out = grind (arith, lists, pushes);
-  fin_inn = grind arith;
-  rst_out = grind (arith, pushes);
-  rst_inn = c.rst_inn;
-  stops_x = grind (arith, pushes);
-  stops_y = c.stops_y;
-  ordered_out = ordered_push xy _ (grind arith) c.ordered_out;
-  ordered_inn = c.ordered_inn;
-  born_x = grind (arith, pushes);
-  born_y = c.born_y;
-  sleeps_x = born-sleeps wx _ _ (ack-born wx x xy c.sleeps_x l);
-  sleeps_y = c.sleeps_y;
-  acks_x = c.acks_x;
-  acks_y = grind (arith, pushes);
-}
+goes-accept limit wx wy x y xy yx s n l c =
+    let f = Ack (wx - first_credit) in
+    let stops : Stops x.phase x.out x.marks.syn false x.marks.rst (xy ++ f ∷ []) = grind (arith, pushes) in
+    assumption (
+      lane-more f refl refl c.out,
+      reset-more f x.marks.rst xy refl c.out.reset,
+      ordered_push xy f (grind arith) c.out.ordered,
+      born-more f refl n c.out.born,
+      born-sleeps wx (sends wx limit Accept x) (xy ++ f ∷ []) (ack-born wx x xy c.out.sleeps l),
+      acks-sent (wx - first_credit) l c.out.acks,
+      kept-told (wx - first_credit) {more = gifts (xy ++ f ∷ [])} {less = to_announce wx x.phase x.marks.syn x.marks.carries false} (grind (arith, pushes)) (grind arith) c.inn.carries,
+    )
 
 pub goes-reset : (limit wx wy : ℕ) (x y : End) (xy yx : List Part) (s : Stream) →
     x.marks.syn ≡ false → x.marks.rst ≡ true → Alive wx wy x y xy yx s → Alive wx wy (sends wx limit Reset x) y (xy ++ parts_of Reset wx limit x) yx s
-goes-reset limit wx wy x y xy yx s n l c = record {
-  me = c.me;
-  you = c.you;
-  out = grind (arith, lists, pushes);
-  inn = grind (arith, lists, pushes);
-  fin_out = grind (arith, lists, pushes);
-  fin_inn = c.fin_inn;
-  rst_out = grind (arith, pushes);
-  rst_inn = c.rst_inn;
-  stops_x = grind (arith, pushes);
-  stops_y = c.stops_y;
-  ordered_out = ordered_push xy _ (grind arith) c.ordered_out;
-  ordered_inn = c.ordered_inn;
-  born_x = grind (arith, pushes);
-  born_y = c.born_y;
-  sleeps_x = born-sleeps wx _ _ (rst-born wx x xy c.sleeps_x l);
-  sleeps_y = c.sleeps_y;
-  acks_x = c.acks_x;
-  acks_y = grind (arith, pushes);
-}
+goes-reset limit wx wy x y xy yx s n l c = assumption (
+  lane-more Rst refl refl c.out,
+  reset-sent xy l c.out.reset,
+  stops-sent n l c.out.stops,
+  ordered_push xy Rst (grind arith) c.out.ordered,
+  born-more Rst refl n c.out.born,
+  born-sleeps wx (sends wx limit Reset x) (xy ++ Rst ∷ []) (rst-born wx x xy c.out.sleeps l),
+  acks-more Rst refl c.out.acks,
+  back-more Rst refl c.inn,
+)
 
 -- nothing goes before credit, data and end
 pub record Free (e : End) : Type 0 where
@@ -133,34 +112,24 @@ live-late window p syn carries ack a b l = grind arith
 live-up : (p : Phase) → is_live p ≡ true → is_up p ≡ true
 live-up p l = grind arith
 
-owes-none : (v : ℕ) (p q : Phase) (w : Writer) (fly : List ℕ) (due : ℕ) (syn carries ack : Bool) (r : Reader) (l : Lane) →
+owes-none : (syn carries ack : Bool) {v : ℕ} {p q : Phase} {w : Writer} {fly : List ℕ} {due : ℕ} {r : Reader} {l : Lane} →
     syn ≡ false → ack ≡ false → is_live q ≡ true → Carries v p q w fly due (to_announce v q syn carries ack) r l →
     Carries v p q w fly (due + r.owed) (to_announce v q syn carries ack) (announce r.owed r) l
-owes-none v p q w fly due syn carries ack r l a b u c =
-    let e = live-late v q syn carries ack a b u in rw e (kept-announce v p q w fly due r l (live-up q u) (rw e at c))
+owes-none syn carries ack {v = v} {q = q} a b u c =
+    let e = live-late v q syn carries ack a b u in rw e (kept-announce (live-up q u) (rw e at c))
 
 pub goes-credit : (limit wx wy : ℕ) (x y : End) (xy yx : List Part) (s : Stream) →
     is_live x.phase ≡ true → Free x → Alive wx wy x y xy yx s → Alive wx wy (sends wx limit CreditFrame x) y (xy ++ parts_of CreditFrame wx limit x) yx s
-goes-credit limit wx wy x y xy yx s l free c = record {
-  me = c.me;
-  you = c.you;
-  out = grind (arith, lists, pushes);
-  inn = rw (gifts_push xy (Credit x.inn.owed)) (owes-none wx y.phase x.phase y.out (loads yx) (gifts xy) x.marks.syn x.marks.carries x.marks.ack x.inn s.inn free.syn free.ack l c.inn);
-  fin_out = grind (arith, lists, pushes);
-  fin_inn = grind arith;
-  rst_out = grind (arith, pushes);
-  rst_inn = c.rst_inn;
-  stops_x = grind (arith, pushes);
-  stops_y = c.stops_y;
-  ordered_out = ordered_push xy _ (grind arith) c.ordered_out;
-  ordered_inn = c.ordered_inn;
-  born_x = grind (arith, pushes);
-  born_y = c.born_y;
-  sleeps_x = born-sleeps wx _ _ (live-born x.phase l);
-  sleeps_y = c.sleeps_y;
-  acks_x = c.acks_x;
-  acks_y = grind (arith, pushes);
-}
+goes-credit limit wx wy x y xy yx s l free c =
+    let f = Credit x.inn.owed in
+    assumption (
+      lane-more f refl refl c.out,
+      marks-more f refl refl refl free.syn c.out,
+      stops-more f refl c.out.stops,
+      ordered_push xy f (grind arith) c.out.ordered,
+      born-sleeps wx (sends wx limit CreditFrame x) (xy ++ f ∷ []) (live-born x.phase l),
+      rw (← gifts_push xy f) at (owes-none x.marks.syn x.marks.carries x.marks.ack free.syn free.ack l c.inn.carries),
+    )
 
 data-born : (window : ℕ) (e : End) (fs : List Part) → Sleeps window e fs → is_empty e.out.unsent ≡ false → e.phase ≡ Unborn → ⊥
 data-born window e fs c h u = let k = c.new u in grind arith
@@ -168,57 +137,38 @@ data-born window e fs c h u = let k = c.new u in grind arith
 data-runs : (p : Phase) (w : Writer) (syn ack rst : Bool) (fs : List Part) → Stops p w syn ack rst fs → is_empty w.unsent ≡ false → has_rst fs ≡ false
 data-runs p w syn ack rst fs c some = grind arith
 
-stops-none : (p : Phase) (w : Writer) (syn ack rst : Bool) (fs : List Part) → rst ≡ false → has_rst fs ≡ false → Stops p w syn ack rst fs
-stops-none p w syn ack rst fs a b = grind arith
-
 pub goes-data : (limit wx wy : ℕ) (x y : End) (xy yx : List Part) (s : Stream) →
     is_empty x.out.unsent ≡ false → Free x → Alive wx wy x y xy yx s → Alive wx wy (sends wx limit DataFrame x) y (xy ++ parts_of DataFrame wx limit x) yx s
-goes-data limit wx wy x y xy yx s some free c = record {
-  me = c.me;
-  you = c.you;
-  out = rw (loads_push xy (Data (take limit x.out.unsent))) (kept-sent limit wy x.phase y.phase x.out (loads xy) (gifts yx) _ y.inn s.out c.out);
-  inn = rw (gifts_push, add-zero) c.inn;
-  fin_out = rw (loads_push xy (Data (take limit x.out.unsent)), has_fin_push, or_false) (ends-sent limit x.phase y.phase x.out (loads xy) (has_fin xy) y.inn s.out.fin c.fin_out);
-  fin_inn = c.fin_inn;
-  rst_out = rw (has_rst_push, or_false) c.rst_out;
-  rst_inn = c.rst_inn;
-  stops_x = stops-none x.phase (sent limit x.out) x.marks.syn x.marks.ack x.marks.rst _ free.rst (grind (arith, pushes, data-runs x.phase x.out x.marks.syn x.marks.ack x.marks.rst xy c.stops_x some));
-  stops_y = c.stops_y;
-  ordered_out = ordered_push xy _ (grind (arith, lists)) c.ordered_out;
-  ordered_inn = c.ordered_inn;
-  born_x = grind (arith, pushes, lists);
-  born_y = c.born_y;
-  sleeps_x = born-sleeps wx _ _ (data-born wx x xy c.sleeps_x some);
-  sleeps_y = c.sleeps_y;
-  acks_x = c.acks_x;
-  acks_y = grind (arith, pushes, lists);
-}
+goes-data limit wx wy x y xy yx s some free c =
+    let b = take limit x.out.unsent in
+    let runs : has_rst (xy ++ Data b ∷ []) ≡ false = grind (arith, pushes, data-runs x.phase x.out x.marks.syn x.marks.ack x.marks.rst xy c.out.stops some) in
+    let finishes : Finishes x.phase y.phase (sent limit x.out) (loads (xy ++ Data b ∷ [])) (has_fin (xy ++ Data b ∷ [])) y.inn s.out.fin =
+    rw (loads_push xy (Data b), has_push is_fin xy (Data b), or_false (has_fin xy)) (ends-sent limit c.out.finishes) in
+    assumption (
+      rw (← loads_push xy (Data b)) at (kept-sent limit c.out.carries),
+      marks-more (Data b) refl refl refl free.syn c.out,
+      stops-none x.phase (sent limit x.out) x.marks.syn x.marks.ack (xy ++ Data b ∷ []) free.rst runs,
+      ordered_push xy (Data b) (grind (arith, lists)) c.out.ordered,
+      born-sleeps wx (sends wx limit DataFrame x) (xy ++ Data b ∷ []) (data-born wx x xy c.out.sleeps some),
+      back-more (Data b) refl c.inn,
+    )
 
 fin-born : (window : ℕ) (e : End) (fs : List Part) → Sleeps window e fs → fin_waits e.out ≡ true → e.phase ≡ Unborn → ⊥
 fin-born window e fs c h u = let k = c.new u in grind arith
 
 pub goes-fin : (limit wx wy : ℕ) (x y : End) (xy yx : List Part) (s : Stream) →
     x.out.unsent ≡ [] → fin_waits x.out ≡ true → Free x → Alive wx wy x y xy yx s → Alive wx wy (sends wx limit FinFrame x) y (xy ++ parts_of FinFrame wx limit x) yx s
-goes-fin limit wx wy x y xy yx s e f free c = record {
-  me = c.me;
-  you = c.you;
-  out = grind (arith, lists, pushes);
-  inn = rw (gifts_push, add-zero) c.inn;
-  fin_out = grind (arith, lists, pushes, ends-goes);
-  fin_inn = c.fin_inn;
-  rst_out = rw (has_rst_push, or_false) c.rst_out;
-  rst_inn = c.rst_inn;
-  stops_x = grind (arith, pushes, lists);
-  stops_y = c.stops_y;
-  ordered_out = ordered_push xy _ (grind (arith, lists)) c.ordered_out;
-  ordered_inn = c.ordered_inn;
-  born_x = grind (arith, pushes, lists);
-  born_y = c.born_y;
-  sleeps_x = born-sleeps wx _ _ (fin-born wx x xy c.sleeps_x f);
-  sleeps_y = c.sleeps_y;
-  acks_x = c.acks_x;
-  acks_y = grind (arith, pushes, lists);
-}
+goes-fin limit wx wy x y xy yx s e f free c =
+    let runs : has_rst (xy ++ Fin ∷ []) ≡ false = grind (arith, pushes) in
+    let carries : Carries wy x.phase y.phase (fin_goes x.out) (loads (xy ++ Fin ∷ [])) (gifts yx) (to_announce wy y.phase y.marks.syn y.marks.carries y.marks.ack) y.inn s.out = grind (arith, lists, pushes) in
+    let finishes : Finishes x.phase y.phase (fin_goes x.out) (loads (xy ++ Fin ∷ [])) (has_fin (xy ++ Fin ∷ [])) y.inn s.out.fin = grind (arith, lists, pushes, ends-goes f e c.out.finishes) in
+    assumption (
+      marks-more Fin refl refl refl free.syn c.out,
+      stops-none x.phase (fin_goes x.out) x.marks.syn x.marks.ack (xy ++ Fin ∷ []) free.rst runs,
+      ordered_push xy Fin (grind (arith, lists)) c.out.ordered,
+      born-sleeps wx (sends wx limit FinFrame x) (xy ++ Fin ∷ []) (fin-born wx x xy c.out.sleeps f),
+      back-more Fin refl c.inn,
+    )
 
 -- ---- whatever goes next
 
@@ -246,11 +196,11 @@ next-fin window e h = grind arith
 alive-sends : (k : Kind) (limit wx wy : ℕ) (x y : End) (xy yx : List Part) (s : Stream) →
     next_kind wx x ≡ Some k → Alive wx wy x y xy yx s → Alive wx wy (sends wx limit k x) y (xy ++ parts_of k wx limit x) yx s
 alive-sends Open limit wx wy x y xy yx s h c =
-    let n = next-open wx x h in let e = c.born_x.first n.0 in
+    let n = next-open wx x h in let e = c.out.born.first n.0 in
     subst (λ l. Alive wx wy (sends wx limit Open x) y (l ++ parts_of Open wx limit x) yx s) (sym e)
     (goes-open limit wx wy x y yx s n.0 n.1 (subst (λ l. Alive wx wy x y l yx s) e c))
 alive-sends OpenWith limit wx wy x y xy yx s h c =
-    let n = next-open_with wx x h in let e = c.born_x.first n.0 in
+    let n = next-open_with wx x h in let e = c.out.born.first n.0 in
     subst (λ l. Alive wx wy (sends wx limit OpenWith x) y (l ++ parts_of OpenWith wx limit x) yx s) (sym e)
     (goes-open_with limit wx wy x y yx s n.0 n.1 (subst (λ l. Alive wx wy x y l yx s) e c))
 alive-sends Accept limit wx wy x y xy yx s h c = let n = next-accept wx x h in goes-accept limit wx wy x y xy yx s n.0 n.1 c

@@ -12,12 +12,9 @@ use Rattle.ymx_law.specs.Links.{Alive, Heard, Related}
 use Rattle.ymx_law.specs.OneStream.{IsQuiet}
 use Rattle.ymx_law.proofs.Calls.{none-done}
 
--- what is due goes next, and what goes next is due
+-- what is due goes next
 pub due-next : (window : ℕ) (e : End) → is_due window e ≡ false → next_kind window e ≡ None
 due-next window e h = grind arith
-
-pub next-due : (window : ℕ) (e : End) → next_kind window e ≡ None → is_due window e ≡ false
-next-due window e h = grind arith
 
 due-credit : (window : ℕ) (e : End) → is_due window e ≡ false → credit_due window e ≡ false
 due-credit window e h = grind arith
@@ -34,56 +31,27 @@ lane-little v p q w r l later coming a b u h c f = let e = f.ended in let o = c.
 alive-still : (wx wy : ℕ) (x y : End) (s : Stream) → IsQuiet wx x → IsQuiet wy y → Alive wx wy x y [] [] s → IsStill wx wy s
 alive-still wx wy x y s qx qy c =
     let dx = none-done wx x (due-next wx x qx.nothing) in let dy = none-done wy y (due-next wy y qy.nothing) in record {
-      me_born = let b = c.born_x in let d = c.born_y in let e = dx.syn in let f = dy.syn in let m = c.me in grind arith;
-      you_born = let b = c.born_x in let d = c.born_y in let e = dx.syn in let f = dy.syn in let m = c.you in grind arith;
-      me_gone = ap is_lingering c.me ∙ qx.gone;
-      you_gone = ap is_lingering c.you ∙ qy.gone;
-      way_out = c.out.way ∙ dx.unsent;
-      way_inn = c.inn.way ∙ dy.unsent;
-      fin_out = c.fin_out.said ∙ dx.fin;
-      fin_inn = c.fin_inn.said ∙ dy.fin;
-      ack = let a = c.acks_x in let b = c.acks_y in let e = dx.ack in let f = dy.ack in grind arith;
-      rst_out = let a = c.rst_out in let b = dx.rst in grind arith;
-      rst_inn = let a = c.rst_inn in let b = dy.rst in grind arith;
-      little_out = λ a b u. lane-little wy x.phase y.phase x.out y.inn s.out _ false (sym c.me ∙ a) (sym c.you ∙ b) u (owes-little wy y (due-credit wy y qy.nothing) (sym c.you ∙ b)) c.out c.fin_out;
-      little_inn = λ a b u. lane-little wx y.phase x.phase y.out x.inn s.inn _ false (sym c.you ∙ b) (sym c.me ∙ a) u (owes-little wx x (due-credit wx x qx.nothing) (sym c.me ∙ a)) c.inn c.fin_inn;
+      me_born = let b = c.out.born in let d = c.inn.born in let e = dx.syn in let f = dy.syn in let m = c.out.phase in grind arith;
+      you_born = let b = c.out.born in let d = c.inn.born in let e = dx.syn in let f = dy.syn in let m = c.inn.phase in grind arith;
+      me_gone = ap is_lingering c.out.phase ∙ qx.gone;
+      you_gone = ap is_lingering c.inn.phase ∙ qy.gone;
+      way_out = c.out.carries.way ∙ dx.unsent;
+      way_inn = c.inn.carries.way ∙ dy.unsent;
+      fin_out = c.out.finishes.said ∙ dx.fin;
+      fin_inn = c.inn.finishes.said ∙ dy.fin;
+      ack = let a = c.inn.acks in let b = c.out.acks in let e = dx.ack in let f = dy.ack in grind arith;
+      rst_out = let a = c.out.reset in let b = dx.rst in grind arith;
+      rst_inn = let a = c.inn.reset in let b = dy.rst in grind arith;
+      little_out = λ a b u. lane-little wy x.phase y.phase x.out y.inn s.out _ false (sym c.out.phase ∙ a) (sym c.inn.phase ∙ b) u (owes-little wy y (due-credit wy y qy.nothing) (sym c.inn.phase ∙ b)) c.out.carries c.out.finishes;
+      little_inn = λ a b u. lane-little wx y.phase x.phase y.out x.inn s.inn _ false (sym c.inn.phase ∙ b) (sym c.out.phase ∙ a) u (owes-little wx x (due-credit wx x qx.nothing) (sym c.out.phase ∙ a)) c.inn.carries c.inn.finishes;
     }
 
 heard-still : (wx wy : ℕ) (x y : End) (s : Stream) → IsQuiet wx x → IsQuiet wy y → Heard wx wy x y [] [] s → IsStill wx wy s
-heard-still wx wy x y s qx qy c =
-    let p = qx.gone in let q = qy.gone in let k = c.spent_x.down in let l = c.spent_y.down in record {
-      me_born = let m = c.me in grind arith;
-      you_born = let m = c.you in grind arith;
-      me_gone = ap is_lingering c.me ∙ p;
-      you_gone = ap is_lingering c.you ∙ q;
-      way_out = c.way_out;
-      way_inn = c.way_inn;
-      fin_out = c.fin_out;
-      fin_inn = c.fin_inn;
-      ack = c.ack;
-      rst_out = c.rst_out;
-      rst_inn = grind arith;
-      little_out = λ a b u. absurd (let m = c.me in grind arith);
-      little_inn = λ a b u. absurd (let m = c.me in grind arith);
-    }
+heard-still wx wy x y s qx qy c = let p = qx.gone in let q = qy.gone in let k = c.spent_x.down in let l = c.spent_y.down in grind arith
 
 -- the same stream, still from the other side
 still-flip : (wx wy : ℕ) (s : Stream) → IsStill wy wx (flip s) → IsStill wx wy s
-still-flip wx wy s c = record {
-  me_born = c.you_born;
-  you_born = c.me_born;
-  me_gone = c.you_gone;
-  you_gone = c.me_gone;
-  way_out = c.way_inn;
-  way_inn = c.way_out;
-  fin_out = c.fin_inn;
-  fin_inn = c.fin_out;
-  ack = c.ack;
-  rst_out = c.rst_inn;
-  rst_inn = c.rst_out;
-  little_out = λ a b u. c.little_inn b a u;
-  little_inn = λ a b u. c.little_out b a u;
-}
+still-flip wx wy s c = grind arith
 
 pub related-still : (wx wy : ℕ) (x y : End) (s : Stream) → IsQuiet wx x → IsQuiet wy y → Related wx wy x y [] [] s → IsStill wx wy s
 related-still wx wy x y s p q (inl c) = alive-still wx wy x y s p q c

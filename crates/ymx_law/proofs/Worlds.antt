@@ -112,7 +112,7 @@ never-both ox oy wx wy x y xy yx s c a b =
     late own p q f g a b = grind arith
 
     neither : (wx wy : ℕ) (x y : End) (xy yx : List Part) (s : Stream) → s.me ≡ Unborn → s.you ≡ Unborn → Related wx wy x y xy yx s → ⊥
-    neither wx wy x y xy yx s a b (inl c) = late s.own x.phase y.phase c.born_x.own_late c.born_y.own_late (sym c.me ∙ a) (sym c.you ∙ b)
+    neither wx wy x y xy yx s a b (inl c) = late s.own x.phase y.phase c.out.born.own_late c.inn.born.own_late (sym c.out.phase ∙ a) (sym c.inn.phase ∙ b)
     neither wx wy x y xy yx s a b (inr (inl c)) = let m = c.me in let d = c.spent_x.down in absurd (grind arith)
     neither wx wy x y xy yx s a b (inr (inr c)) = let m = c.me in let d = c.spent_x.down in absurd (grind arith)
 

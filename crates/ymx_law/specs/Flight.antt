@@ -1,5 +1,6 @@
 -- What the frames of one stream under way carry, and the order in which they follow each other (framing, flags).
-use Rattle.std.specs.Prelude.{ℕ, ◌+◌, ◌≡◌, List, [], ◌∷◌, ◌++◌, Bool, true, false, ◌||◌}
+use Rattle.std.specs.Prelude.{ℕ, ◌+◌, ◌≡◌, List, [], ◌∷◌, ◌++◌, Bool, true, false}
+use Rattle.std.specs.List.{list_any}
 use Rattle.ymx_model.specs.Parts.{Part}
 use Rattle.ymx_model.specs.Parts.Part.{Syn, Ack, Data, Credit, Fin, Rst}
 
@@ -51,21 +52,18 @@ abbrev pub gifts : List Part → ℕ
 gifts [] = 0
 gifts (f ∷ fs) = gift f + gifts fs
 
+-- whether one of them is a SYN, an ACK, a FIN, an RST
 abbrev pub has_syn : List Part → Bool
-has_syn [] = false
-has_syn (f ∷ fs) = is_syn f || has_syn fs
+has_syn = list_any is_syn
 
 abbrev pub has_ack : List Part → Bool
-has_ack [] = false
-has_ack (f ∷ fs) = is_ack f || has_ack fs
+has_ack = list_any is_ack
 
 abbrev pub has_fin : List Part → Bool
-has_fin [] = false
-has_fin (f ∷ fs) = is_fin f || has_fin fs
+has_fin = list_any is_fin
 
 abbrev pub has_rst : List Part → Bool
-has_rst [] = false
-has_rst (f ∷ fs) = is_rst f || has_rst fs
+has_rst = list_any is_rst
 
 -- what may come behind a part: one ACK, no payload and no FIN behind FIN, nothing behind RST
 abbrev pub Behind : Part → List Part → Type 0

@@ -1,5 +1,5 @@
 -- One stream: its two ends, the frames under way between them, and the machine's stream (flags, flow control).
-use Rattle.std.specs.Prelude.{ℕ, ◌≤◌, ◌≡◌, ◌⊎◌, List, [], Bool, true, false, not, ◌||◌, if◌then◌else◌}
+use Rattle.std.specs.Prelude.{ℕ, ◌≤◌, ◌≡◌, ◌⊎◌, List, [], Bool, true, false, ◌||◌, if◌then◌else◌}
 use Rattle.ymx_model.specs.Lanes.{Mark, is_said, total}
 use Rattle.ymx_model.specs.Lanes.Mark.{Here}
 use Rattle.ymx_model.specs.Streams.{Phase, Stream, flip, is_up, is_unborn, is_early}
@@ -27,36 +27,33 @@ pub record Sleeps (window : ℕ) (e : End) (fs : List Part) : Type 0 where
   pub new : e.phase ≡ Unborn → e ≡ new_end window Unborn false false
   pub idle : e.phase ≡ Unborn → fs ≡ []
 
--- The acknowledgement of a stream that this side opened. `q`, `ack`, `fs`: the other end's phase,
--- whether its ACK is due, what it has under way.
-pub record Acks (own acked : Bool) (q : Phase) (ack : Bool) (fs : List Part) (m : Mark) : Type 0 where
-  pub mark : own ≡ true → m ≡ (if acked then Here else mark_if (ack || has_ack fs))
-  pub once : own ≡ true → acked ≡ true → (ack || has_ack fs) ≡ false
+-- The acknowledgement, which the end that did not open the stream says. `own`: whether this end opened
+-- it; `p`, `ack`, `fs`: its phase, whether its ACK is due, what it has under way; `acked`: whether the
+-- other end has got it.
+pub record Acks (own acked : Bool) (p : Phase) (ack : Bool) (fs : List Part) (m : Mark) : Type 0 where
+  pub mark : own ≡ false → m ≡ (if acked then Here else mark_if (ack || has_ack fs))
+  pub once : own ≡ false → acked ≡ true → (ack || has_ack fs) ≡ false
   pub fresh : ack ≡ true → has_ack fs ≡ false
-  pub none : own ≡ false → (ack || has_ack fs) ≡ false
-  pub early : is_early q ≡ true → ((ack || has_ack fs) ≡ false) × (acked ≡ false)
+  pub none : own ≡ true → (ack || has_ack fs) ≡ false
+  pub early : is_early p ≡ true → ((ack || has_ack fs) ≡ false) × (acked ≡ false)
 
--- What holds until a reset has arrived. `x`: this side's end, of window `wx`; `y`: the other's, of window
--- `wy`; `xy` and `yx`: what is under way from x to y, and back; `s`: the machine's stream as this side sees it.
+-- One direction: what the end x, of window `wx`, says to the end y, of window `wy`. `xy` and `yx`: what
+-- is under way from x to y, and back; `s`: the machine's stream as the side of x sees it.
+pub record Direction (wx wy : ℕ) (x y : End) (xy yx : List Part) (s : Stream) : Type 0 where
+  pub phase : s.me ≡ x.phase
+  pub carries : Carries wy x.phase y.phase x.out (loads xy) (gifts yx) (to_announce wy y.phase y.marks.syn y.marks.carries y.marks.ack) y.inn s.out
+  pub finishes : Finishes x.phase y.phase x.out (loads xy) (has_fin xy) y.inn s.out.fin
+  pub reset : s.rst_out ≡ mark_if (x.marks.rst || has_rst xy)
+  pub stops : Stops x.phase x.out x.marks.syn x.marks.ack x.marks.rst xy
+  pub ordered : Ordered xy
+  pub born : Born s.own x.phase y.phase x.marks.syn xy
+  pub sleeps : Sleeps wx x xy
+  pub acks : Acks s.own y.marks.acked x.phase x.marks.ack xy s.ack
+
+-- What holds until a reset has arrived: both directions, each as its own side sees it.
 pub record Alive (wx wy : ℕ) (x y : End) (xy yx : List Part) (s : Stream) : Type 0 where
-  pub me : s.me ≡ x.phase
-  pub you : s.you ≡ y.phase
-  pub out : Carries wy x.phase y.phase x.out (loads xy) (gifts yx) (to_announce wy y.phase y.marks.syn y.marks.carries y.marks.ack) y.inn s.out
-  pub inn : Carries wx y.phase x.phase y.out (loads yx) (gifts xy) (to_announce wx x.phase x.marks.syn x.marks.carries x.marks.ack) x.inn s.inn
-  pub fin_out : Finishes x.phase y.phase x.out (loads xy) (has_fin xy) y.inn s.out.fin
-  pub fin_inn : Finishes y.phase x.phase y.out (loads yx) (has_fin yx) x.inn s.inn.fin
-  pub rst_out : s.rst_out ≡ mark_if (x.marks.rst || has_rst xy)
-  pub rst_inn : s.rst_inn ≡ mark_if (y.marks.rst || has_rst yx)
-  pub stops_x : Stops x.phase x.out x.marks.syn x.marks.ack x.marks.rst xy
-  pub stops_y : Stops y.phase y.out y.marks.syn y.marks.ack y.marks.rst yx
-  pub ordered_out : Ordered xy
-  pub ordered_inn : Ordered yx
-  pub born_x : Born s.own x.phase y.phase x.marks.syn xy
-  pub born_y : Born (not s.own) y.phase x.phase y.marks.syn yx
-  pub sleeps_x : Sleeps wx x xy
-  pub sleeps_y : Sleeps wy y yx
-  pub acks_x : Acks s.own x.marks.acked y.phase y.marks.ack yx s.ack
-  pub acks_y : Acks (not s.own) y.marks.acked x.phase x.marks.ack xy s.ack
+  pub out : Direction wx wy x y xy yx s
+  pub inn : Direction wy wx y x yx xy (flip s)
 
 -- an end that has nothing left to send but perhaps a reset
 pub record Spent (e : End) : Type 0 where
