@@ -1,9 +1,10 @@
 -- A text begins with one frame alone, and is frames in one way alone.
-use Rattle.std.proofs.Common.{◌≡◌, ℕ, ◌+◌, ◌≤◌, List, [], ◌∷◌, ◌++◌, length, take, drop, All, None, refl, sym, ◌∙◌, ap, arith, append_assoc}
-use Rattle.std.specs.List.{flat_map}
+use Rattle.std.proofs.Common.{◌≡◌, ℕ, ◌+◌, ◌≤◌, List, [], ◌∷◌, ◌++◌, length, take, drop, All, None, refl, sym, ◌∙◌, ap, arith, append_assoc, length-append}
+use Rattle.std.specs.List.{concat, flat_map}
 use Rattle.std.proofs.lemmas.Grind.{common_steps}
 use Rattle.std.proofs.lemmas.Bool.Decides.{nat_tests}
 use Rattle.std.proofs.lemmas.List.{take_at, drop_at, get_or_append_left}
+use Rattle.std.proofs.lemmas.List.Concat.{concat_is}
 use Rattle.std.proofs.lemmas.List.Elements.{All-head, All-tail}
 use Rattle.ymx_header.specs.declared.header.Header.{Header}
 use Rattle.ymx_header.specs.Headers.{spelling, header_of, IsInRange}
@@ -28,6 +29,10 @@ no-fault-here h limit v k l = grind (arith, nat_tests)
 -- no fault is in the header of a frame
 pub no-fault : (limit : ℕ) (bytes : List ℕ) → IsFrame limit bytes → fault_of limit (header_of bytes) ≡ None
 no-fault limit bytes f = no-fault-here (header_of bytes) limit f.version f.kind f.short
+
+-- a receiver with a wider limit takes it too
+pub wider : (limit more : ℕ) (bytes : List ℕ) → limit ≤ more → IsFrame limit bytes → IsFrame more bytes
+wider limit more bytes l f = record { header = f.header; whole = f.whole; version = f.version; kind = f.kind; short = omega (arith, f.short) }
 
 -- what a header without a fault says of its version, its type and its payload
 pub record IsGood (limit : ℕ) (h : Header) : Type 0 where
@@ -81,3 +86,14 @@ one-cut F spell IsOne code (f ∷ fs) (g ∷ gs) r s p q m n e =
     let first = code.only f g _ _ (All-head IsOne f fs p) (All-head IsOne g gs q) e' in
     let others = one-cut F spell IsOne code fs gs r s (All-tail IsOne f fs p) (All-tail IsOne g gs q) m n first.1 in
     (cons-same F f g fs gs first.0 others.0, others.1)
+
+-- ---- frames as lists of bytes
+
+no-frame : (limit : ℕ) → NoneBegins (List ℕ) (λ f. f) (IsFrame limit) []
+no-frame limit f more one e = let z = ap length e in let l = one.header in omega (arith, length-append f more)
+
+-- Bytes that are frames are frames in one way alone.
+pub one-text : (limit : ℕ) (fs gs : List (List ℕ)) → All (IsFrame limit) fs → All (IsFrame limit) gs → concat fs ≡ concat gs → fs ≡ gs
+one-text limit fs gs p q e =
+    let same : flat_map (λ f. f) fs ++ [] ≡ flat_map (λ f. f) gs ++ [] = ap (λ (t : List ℕ). t ++ []) (sym (concat_is fs) ∙ (e ∙ concat_is gs)) in
+    (one-cut (List ℕ) (λ f. f) (IsFrame limit) (record { only = same-frame limit }) fs gs [] [] p q (no-frame limit) (no-frame limit) same).0
