@@ -14,7 +14,7 @@ use Rattle.ymx_model.specs.Sessions.{Session, is_running, is_broken}
 use Rattle.ymx_model.specs.Emissions.{Choice, begin, begin_answer, begin_stream, is_some_of, Ready, Flows, Emits, moves_on, is_ready, no_answers, in_turn, is_first, data_limit}
 use Rattle.ymx_model.specs.Emissions.Choice.{TheAlarm, TheGoAway, TheAnswer, ThePing, AStream}
 use Rattle.ymx_session_law.specs.Limits.{IsWithin}
-use Rattle.ymx_session_law.proofs.Splits.{split, both_of, agrees}
+use Rattle.ymx_model.proofs.Tests.{split, both_of, agrees}
 use Rattle.ymx_session_law.proofs.EmissionsKeep.{some_if, if_some, ready-keeps, moves-keep}
 use Rattle.ymx_session_law.proofs.Goes.{flows-join, flows-take}
 use Rattle.ymx_session_law.proofs.Ready.{next_of, begin-ready, begin-has}

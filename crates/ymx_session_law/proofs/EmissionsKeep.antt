@@ -15,8 +15,8 @@ use Rattle.ymx_model.specs.Sessions.{Session, nothing_begun, is_running, is_brok
 use Rattle.ymx_model.specs.Emissions.{Choice, begin, begin_answer, begin_stream, begin_kind, begins, alarm_frame, go_away_frame, answer_frame, ping_frame, moves_on, settles, Ready, Flows}
 use Rattle.ymx_model.specs.Emissions.Choice.{TheAlarm, TheGoAway, TheAnswer, ThePing, AStream}
 use Rattle.ymx_session_law.specs.Limits.{IsEndWithin, IsSilent, IsWithin, IsAnswersWithin}
-use Rattle.ymx_session_law.proofs.Splits.{split}
-use Rattle.ymx_session_law.proofs.Entries.{look-change_same}
+use Rattle.ymx_model.proofs.Tests.{split}
+use Rattle.ymx_model.proofs.Lists.{look-change_same}
 use Rattle.ymx_session_law.proofs.Ends.{sends-within}
 use Rattle.ymx_session_law.proofs.Offers.{offered-on}
 use Rattle.ymx_session_law.proofs.Records.{table-on, table-served, incoming-on, within-settled}

@@ -20,8 +20,8 @@ use Rattle.ymx_model.specs.Sessions.{Session, Incoming, is_own, breaks, on_strea
 use Rattle.ymx_model.specs.Sessions.Incoming.{Head, Payload}
 use Rattle.ymx_model.specs.Arrivals.{answers_with, ping_comes, go_away_comes, payload, delta, expects, record_fault, reset_comes, ends_now, acknowledges, gets_head, meets, unless_fault, meets_some, offer, refuses, syn_fault, syn_comes, header_fault, head_comes, piece_comes}
 use Rattle.ymx_session_law.specs.Limits.{IsEndWithin, IsBegunWithin, IsIncomingWithin, IsPayloadWithin, IsWithin, is_taken_at, is_in_header}
-use Rattle.ymx_session_law.proofs.Splits.{split, same_or_not, both_of, none_of, not_le, not_lt, is_lt}
-use Rattle.ymx_session_law.proofs.Entries.{look_before, look-added_same, look-change_same, look-without_other}
+use Rattle.ymx_model.proofs.Tests.{split, same_or_not, both_of, none_of, not_le, not_lt, is_lt}
+use Rattle.ymx_model.proofs.Lists.{look_before, look-added_same, look-change_same, look-without_other}
 use Rattle.ymx_session_law.proofs.Ends.{new-within, credit-within, fin-within, piece-within, ack-within, rst-within}
 use Rattle.ymx_session_law.proofs.Offers.{offered-on, offered-added, offered-removed}
 use Rattle.ymx_session_law.proofs.Owns.{next-on, next-removed, next-offered}

@@ -7,12 +7,12 @@ use Rattle.ymx_model.specs.Streams.{is_offered, is_live, is_lingering, Phase}
 use Rattle.ymx_model.specs.Streams.Phase.{Unborn, Offered, Live, WasReset, Refused, Lingering, Gone}
 use Rattle.ymx_model.specs.Records.{End, takes_payload}
 use Rattle.ymx_model.specs.Outgoing.{is_due}
-use Rattle.ymx_model.specs.Tables.{Table, look, change, without, place, on, added, removed, served, most_records}
+use Rattle.ymx_model.specs.Tables.{Table, look, change, without, place, on, added, removed, served, most_records, Distinct}
 use Rattle.ymx_model.specs.Sessions.{Session, Begun, Incoming, is_of, is_spent, settled, on_stream}
 use Rattle.ymx_model.specs.Sessions.Incoming.{Head, Payload}
-use Rattle.ymx_session_law.specs.Limits.{IsEndWithin, IsTableWithin, IsBegunWithin, IsIncomingWithin, IsPayloadWithin, IsWithin, Distinct, is_offered_at}
-use Rattle.ymx_session_law.proofs.Splits.{split, differs, both_of}
-use Rattle.ymx_session_law.proofs.Entries.{look_before, length-change, distinct-change, look-added_before, distinct-added, look-without_other, look-without_before, distinct-without, length-without, length-without_there, place-within}
+use Rattle.ymx_session_law.specs.Limits.{IsEndWithin, IsTableWithin, IsBegunWithin, IsIncomingWithin, IsPayloadWithin, IsWithin, is_offered_at}
+use Rattle.ymx_model.proofs.Tests.{split, differs, both_of}
+use Rattle.ymx_model.proofs.Lists.{look_before, length-change, distinct-change, look-added_before, distinct-added, look-without_other, look-without_before, distinct-without, length-without, length-without_there, place-within}
 use Rattle.ymx_session_law.proofs.Owns.{next-on, next-removed}
 use Rattle.ymx_session_law.proofs.Offers.{offered-on, taken-change, offered-removed_other}
 

@@ -14,7 +14,7 @@ use Rattle.ymx_model.specs.Tables.{look, round, on, served}
 use Rattle.ymx_model.specs.Sessions.{Session, is_running, is_broken}
 use Rattle.ymx_model.specs.Emissions.{Choice, begin, begin_answer, begin_stream, begin_kind, Ready, Flows, Emits, moves_on, is_ready, no_answers, in_turn, is_first, is_some_of, data_limit}
 use Rattle.ymx_model.specs.Emissions.Choice.{TheAlarm, TheGoAway, TheAnswer, ThePing, AStream}
-use Rattle.ymx_session_law.proofs.Splits.{both_of, agrees}
+use Rattle.ymx_model.proofs.Tests.{both_of, agrees}
 use Rattle.ymx_session_law.proofs.EmissionsKeep.{some_if, none_if, if_some}
 use Rattle.ymx_session_law.proofs.Ready.{given-due}
 

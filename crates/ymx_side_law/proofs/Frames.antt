@@ -11,7 +11,7 @@ use Rattle.ymx_model.specs.Sessions.{Session, is_running}
 use Rattle.ymx_model.specs.Emissions.{begin, begin_stream, begin_kind}
 use Rattle.ymx_model.specs.Emissions.Choice.{AStream}
 use Rattle.ymx_session_law.proofs.EmissionsKeep.{none_if, if_some}
-use Rattle.ymx_session_law.proofs.Entries.{look-change_same}
+use Rattle.ymx_model.proofs.Lists.{look-change_same}
 use Rattle.ymx_side_law.specs.Sides.{says_in}
 
 -- ---- what goes out

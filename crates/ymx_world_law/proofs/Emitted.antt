@@ -18,7 +18,7 @@ use Rattle.ymx_model.specs.Sessions.{Session, nothing_begun, is_running, is_brok
 use Rattle.ymx_model.specs.Emissions.{Choice, begin, begin_answer, begin_stream, begin_kind, begins, alarm_frame, go_away_frame, answer_frame, ping_frame, moves_on, settles, Flows}
 use Rattle.ymx_model.specs.Emissions.Choice.{TheAlarm, TheGoAway, TheAnswer, ThePing, AStream}
 use Rattle.ymx_model.specs.Worlds.{IsOneFrame}
-use Rattle.ymx_session_law.proofs.Splits.{split, none_of, not_lt}
+use Rattle.ymx_model.proofs.Tests.{split, none_of, not_lt}
 use Rattle.ymx_session_law.proofs.EmissionsKeep.{some_if, none_if, if_some}
 use Rattle.ymx_world_law.proofs.Frames.{data-frame, short-frame}
 

@@ -1,10 +1,9 @@
--- What stands under a number after a record is changed, added or removed.
+-- Numbered lists: what stands under a number after an entry is changed, added or removed.
 use Rattle.std.proofs.Common.{◌≡◌, ◌≢◌, ◌⊎◌, inl, inr, ℕ, ◌+◌, ◌<◌, ◌≤◌, List, [], ◌∷◌, ◌++◌, length, Bool, true, false, ◌==◌, if◌then◌else◌, Option, None, Some, refl, sym, ap, ◌∙◌, arith}
 use Rattle.std.specs.Prelude.{is_some, option_map}
 use Rattle.std.proofs.lemmas.Bool.Decides.{nat_tests}
-use Rattle.ymx_model.specs.Tables.{look, change, without, place}
-use Rattle.ymx_session_law.specs.Limits.{Distinct}
-use Rattle.ymx_session_law.proofs.Splits.{split, differs, agrees, same_or_not}
+use Rattle.ymx_model.specs.Tables.{look, change, without, place, Distinct}
+use Rattle.ymx_model.proofs.Tests.{split, differs, agrees, same_or_not}
 
 -- ---- change
 
