@@ -34,7 +34,7 @@ use Rattle.ymx_model.specs.Histories.{CallGives, Gives, ReplaysFrom}
 use Rattle.ymx_model.specs.Histories.CallGives.{Outcome, NoMemory}
 use Rattle.ymx_session_law.specs.Limits.{IsWithin}
 use Rattle.ymx_session_law.specs.Settled.{IsSettled, NoneLingers}
-use Rattle.ymx_model.proofs.Tests.{split, both_of, none_of, same_or_not, or_true}
+use Rattle.ymx_model.proofs.Tests.{split, both_of, none_of, same_or_not, or_true, one_some}
 use Rattle.ymx_model.proofs.Lists.{look-change_other, look-without_before, distinct-change, distinct-added}
 use Rattle.ymx_session_law.proofs.FramesKeep.{unless_fault-keeps, none_of_look, syn_chain}
 use Rattle.ymx_session_law.proofs.FeedsKeep.{byte-keeps}
@@ -195,9 +195,6 @@ stream-settled id limit x kind s e some k = record {
         let o : s.begun.of ≡ None = k.none_begun e in
         let g : (is_lingering y.phase && not (is_due s.table.window y) && not (is_of None j)) ≡ false = rw o at h in
         rw (other_id id j n) g
-
-one_some : (x y : Session) → Some x ≡ Some y → x ≡ y
-one_some x y e = cc
 
 answer-settled : (xs : List Response) (s t : Session) → is_empty s.begun.bytes ≡ true → begin_answer xs s ≡ Some t → IsSettled s → IsSettled t
 answer-settled [] s t e b k = cc

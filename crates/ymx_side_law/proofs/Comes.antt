@@ -20,11 +20,11 @@ use Rattle.ymx_model.specs.Sessions.Incoming.{Head, Payload}
 use Rattle.ymx_model.specs.Arrivals.{answers_with, offer, refuses, is_data, payload, delta, expects, record_fault, reset_comes, acknowledges, gets_head, meets, meets_some, unless_fault, header_fault, head_comes, piece_comes}
 use Rattle.ymx_session_law.specs.Frames.{frame_comes, payload_comes}
 use Rattle.ymx_session_law.specs.Limits.{IsWithin}
-use Rattle.ymx_model.proofs.Tests.{split, agrees, both_of, same_or_not}
+use Rattle.ymx_model.proofs.Tests.{split, agrees, both_of, same_or_not, or_true}
 use Rattle.ymx_model.proofs.Lists.{look-change_same, look-added_same, look-without_same, distinct-change}
 use Rattle.ymx_session_law.specs.Offers.{IsGoodSyn, HasCause}
 use Rattle.ymx_session_law.proofs.Others.{others-settled}
-use Rattle.ymx_session_law.proofs.SynCauses.{good-syn, not_own, no_cause, causes, or_true}
+use Rattle.ymx_session_law.proofs.SynCauses.{good-syn, not_own, no_cause, causes}
 use Rattle.ymx_law.specs.Arrivals.{comes_to, gets_syn, refused_end}
 use Rattle.ymx_side_law.specs.Sides.{Has, opening, rest, says, all_come}
 use Rattle.ymx_side_law.proofs.Calls.{has-some, settled-has, on-look}
