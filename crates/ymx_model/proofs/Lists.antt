@@ -11,6 +11,10 @@ pub look-change_same : {X : Type 0} (id : ℕ) (f : X → X) (ps : List (ℕ × 
 look-change_same id f [] = refl
 look-change_same id f (p ∷ ps) = let h = look-change_same id f ps in grind (arith, nat_tests)
 
+-- what is there is changed
+pub look-change_there : {X : Type 0} (id : ℕ) (f : X → X) (ps : List (ℕ × X)) (e : X) → look id ps ≡ Some e → look id (change id f ps) ≡ Some (f e)
+look-change_there id f ps e l = look-change_same id f ps ∙ ap (option_map f) l
+
 pub look-change_other : {X : Type 0} (id j : ℕ) (f : X → X) (ps : List (ℕ × X)) → j ≢ id → look j (change id f ps) ≡ look j ps
 look-change_other id j f [] n = refl
 look-change_other id j f (p ∷ ps) n = let h = look-change_other id j f ps n in grind (arith, nat_tests)
