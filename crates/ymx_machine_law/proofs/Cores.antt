@@ -14,8 +14,9 @@ use Rattle.ymx_model.specs.Machines.{Machine, SideState, flip_entry, mirror, new
 use Rattle.ymx_model.specs.FreeMoves.{FreeMove, MayMove, moved_by, FreeMoves, Releases, is_syn, is_reset_arriving, refuses}
 use Rattle.ymx_model.specs.FreeMoves.FreeMove.{OfStream, SynArrives, AwayArrives, PingThere, PingBack}
 use Rattle.ymx_model.specs.MachineRuns.{input_ends}
-use Rattle.ymx_machine_law.proofs.StreamFacts.{when, if-so_true, if-so_false}
-use Rattle.ymx_machine_law.proofs.Maps.{same_or_not, look-change, look-change_other, look-add, look-add_other, look-add_there, flipped, look-mirror, all-pass, pass-at, all-add, all-drop, in-drop, in-add, in-added, in-rest}
+use Rattle.ymx_model.proofs.Tests.{when, same_or_not}
+use Rattle.ymx_machine_law.proofs.StreamFacts.{if-so_true, if-so_false}
+use Rattle.ymx_machine_law.proofs.Maps.{look-change, look-change_other, look-add, look-add_other, look-add_there, flipped, look-mirror, all-pass, pass-at, all-add, all-drop, in-drop, in-add, in-added, in-rest}
 use Rattle.ymx_machine_law.specs.Numbers.{is_in, AllOnce, offered_here, offered_there, IsOfferedList}
 use Rattle.ymx_machine_law.proofs.Effects.{Unmoved, Effect}
 use Rattle.ymx_machine_law.proofs.Effects.Effect.{Idles, OpensOne, AcceptsOne, TouchesOne}

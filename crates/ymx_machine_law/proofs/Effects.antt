@@ -13,13 +13,13 @@ use Rattle.ymx_model.specs.StreamRules.StreamCall.{Writes, Reads, Finishes, Rese
 use Rattle.ymx_model.specs.Tables.{look, change}
 use Rattle.ymx_model.specs.Machines.{Machine}
 use Rattle.ymx_model.specs.MachineRules.{RefusedWith, open_refusal, opened, OpenRule, AcceptRule, OnStream, PingRule, PongedRule, OpenSideRule, is_close, Rule, is_back}
+use Rattle.ymx_model.proofs.Tests.{when, is-self, is-other}
 use Rattle.ymx_machine_law.proofs.Pasts.{Past}
 use Rattle.ymx_machine_law.specs.Others.{front, touched}
 use Rattle.ymx_machine_law.proofs.LaneLaws.{lists}
 use Rattle.ymx_machine_law.proofs.LaneFaces.{wrote}
 use Rattle.ymx_machine_law.proofs.StreamFaces.{past_out, past_inn}
-use Rattle.ymx_machine_law.proofs.StreamFacts.{when, if-so_true, if-so_false}
-use Rattle.ymx_machine_law.proofs.Maps.{is-self, is-other}
+use Rattle.ymx_machine_law.proofs.StreamFacts.{if-so_true, if-so_false}
 
 -- the past of the lane that the caller writes, of the stream i
 abbrev pub tell_out : ℕ → Call → Reply → Past → Past

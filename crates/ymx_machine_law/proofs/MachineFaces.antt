@@ -10,11 +10,11 @@ use Rattle.ymx_model.specs.Tables.{look, change}
 use Rattle.ymx_model.specs.Machines.{Machine, mirror}
 use Rattle.ymx_model.specs.FreeMoves.{FreeMove, MayMove, moved_by, refuses}
 use Rattle.ymx_model.specs.FreeMoves.FreeMove.{OfStream, SynArrives, AwayArrives, PingThere, PingBack}
+use Rattle.ymx_model.proofs.Tests.{when, same_or_not}
 use Rattle.ymx_machine_law.proofs.Pasts.{Past, HasFaces}
 use Rattle.ymx_machine_law.proofs.LaneFaces.{wrote}
-use Rattle.ymx_machine_law.proofs.StreamFacts.{when}
 use Rattle.ymx_machine_law.proofs.StreamFaces.{past_out, faces-flip, faces-unflip, faces-move, faces-rule, faces-new, faces-accept}
-use Rattle.ymx_machine_law.proofs.Maps.{same_or_not, look-change, look-change_other, look-add, look-add_other, flipped, look-mirror}
+use Rattle.ymx_machine_law.proofs.Maps.{look-change, look-change_other, look-add, look-add_other, flipped, look-mirror}
 use Rattle.ymx_machine_law.proofs.Effects.{tell_out, tell_inn, Untold, Effect}
 use Rattle.ymx_machine_law.proofs.Effects.Effect.{Idles, OpensOne, AcceptsOne, TouchesOne}
 use Rattle.ymx_machine_law.proofs.Cores.{Core, core, core-unmoved, Sound, sound-effect, sound-move, sound-mirror, sound-unmirror}

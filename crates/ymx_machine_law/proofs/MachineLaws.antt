@@ -15,11 +15,12 @@ use Rattle.ymx_model.specs.Machines.{Machine, mirror, new_machine}
 use Rattle.ymx_model.specs.FreeMoves.{FreeMove, MayMove, moved_by, refuses}
 use Rattle.ymx_model.specs.FreeMoves.FreeMove.{OfStream, SynArrives, AwayArrives, PingThere, PingBack}
 use Rattle.ymx_model.specs.MachineRuns.{MachineStepOfA, MachineStep, MachineRun}
+use Rattle.ymx_model.proofs.Tests.{when, same_or_not}
 use Rattle.ymx_machine_law.specs.LaneLaws.{ObeysWindows}
 use Rattle.ymx_machine_law.specs.Runs.{ObeysAt}
-use Rattle.ymx_machine_law.proofs.StreamFacts.{when, if-so_true, if-so_false}
+use Rattle.ymx_machine_law.proofs.StreamFacts.{if-so_true, if-so_false}
 use Rattle.ymx_machine_law.proofs.StreamLaws.{laws-flip, laws-unflip, laws-move, laws-new, laws-accept, laws-rule}
-use Rattle.ymx_machine_law.proofs.Maps.{same_or_not, look-change, look-change_other, look-add, look-add_other, look-add_there, flipped, look-mirror}
+use Rattle.ymx_machine_law.proofs.Maps.{look-change, look-change_other, look-add, look-add_other, look-add_there, flipped, look-mirror}
 use Rattle.ymx_machine_law.proofs.Effects.{Effect, effect}
 use Rattle.ymx_machine_law.proofs.Effects.Effect.{Idles, OpensOne, AcceptsOne, TouchesOne}
 use Rattle.ymx_machine_law.proofs.Cores.{Core, core, core-unmoved, core-ends, kept-moves, kept-releases, Sound, sound-effect, sound-move, sound-mirror, sound-unmirror, sound-new, offered-front, offered-stream}

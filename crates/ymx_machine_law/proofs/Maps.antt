@@ -1,50 +1,28 @@
--- What stands under a number after a change.
-use Rattle.std.proofs.Common.{◌≡◌, ◌≢◌, ◌⊎◌, inl, inr, ℕ, List, [], ◌∷◌, ◌++◌, Bool, true, false, ◌==◌, map, Option, None, Some, refl, ap, subst, arith}
+-- What stands under a number after a change, as the machine's laws ask for it, and lists of numbers that pass a test.
+use Rattle.std.proofs.Common.{◌≡◌, ◌≢◌, inl, inr, ℕ, List, [], ◌∷◌, ◌++◌, Bool, true, false, ◌==◌, map, Option, None, Some, refl, subst, arith}
 use Rattle.std.proofs.lemmas.Bool.Decides.{nat_tests}
 use Rattle.ymx_model.specs.Streams.{Stream, flip}
 use Rattle.ymx_model.specs.Tables.{look, change}
 use Rattle.ymx_model.specs.Sessions.{drop_id}
 use Rattle.ymx_model.specs.Machines.{flip_entry}
 use Rattle.ymx_machine_law.specs.Numbers.{is_in, AllOnce}
-use Rattle.ymx_machine_law.proofs.StreamFacts.{when}
-
-pub same_or_not : (i j : ℕ) → (i ≡ j) ⊎ (i ≢ j)
-same_or_not i j = grind arith
-
-pub is-self : (i : ℕ) → (i == i) ≡ true
-is-self i = grind (arith, nat_tests)
-
-pub is-other : (i j : ℕ) → i ≢ j → (j == i) ≡ false
-is-other i j n = grind (arith, nat_tests)
+use Rattle.ymx_model.proofs.Tests.{when, is-self, is-other}
+use Rattle.ymx_model.proofs.Lists.{look-change_there, look-change_other as others-change, look-added_same, look-added_other, look-added_there}
 
 pub look-change : {X : Type 0} (i : ℕ) (f : X → X) (xs : List (ℕ × X)) (x : X) → look i xs ≡ Some x → look i (change i f xs) ≡ Some (f x)
-look-change i f [] x e = absurd (cc)
-look-change i f (p ∷ ps) x e = elim (when (p.0 == i)) [
-  | inl h ↦ (let k : Some p.1 ≡ Some x = rw h at e in rw (h, h) (let q : p.1 ≡ x = cc in ap (λ z. Some (f z)) q))
-  | inr h ↦ rw (h, h) (look-change i f ps x (rw h at e))
-]
+look-change i f xs x e = look-change_there i f xs x e
 
 pub look-change_other : {X : Type 0} (i j : ℕ) (f : X → X) (xs : List (ℕ × X)) → i ≢ j → look i (change j f xs) ≡ look i xs
-look-change_other i j f [] n = refl
-look-change_other i j f (p ∷ ps) n = let h = look-change_other i j f ps n in grind (arith, nat_tests)
+look-change_other i j f xs n = others-change j i f xs n
 
 pub look-add : {X : Type 0} (i : ℕ) (x : X) (xs : List (ℕ × X)) → look i xs ≡ None → look i (xs ++ (i, x) ∷ []) ≡ Some x
-look-add i x [] e = rw (is-self i) refl
-look-add i x (p ∷ ps) e = elim (when (p.0 == i)) [
-  | inl h ↦ (let k : Some p.1 ≡ None = rw h at e in absurd (cc))
-  | inr h ↦ rw h (look-add i x ps (rw h at e))
-]
+look-add i x xs e = look-added_same i x xs e
 
 pub look-add_other : {X : Type 0} (i j : ℕ) (x : X) (xs : List (ℕ × X)) → i ≢ j → look i (xs ++ (j, x) ∷ []) ≡ look i xs
-look-add_other i j x [] n = rw (is-other i j n) refl
-look-add_other i j x (p ∷ ps) n = let h = look-add_other i j x ps n in grind (arith, nat_tests)
+look-add_other i j x xs n = look-added_other j i x xs n
 
 pub look-add_there : {X : Type 0} (i j : ℕ) (x y : X) (xs : List (ℕ × X)) → look i xs ≡ Some y → look i (xs ++ (j, x) ∷ []) ≡ Some y
-look-add_there i j x y [] e = absurd (cc)
-look-add_there i j x y (p ∷ ps) e = elim (when (p.0 == i)) [
-  | inl h ↦ rw h (rw h at e)
-  | inr h ↦ rw h (look-add_there i j x y ps (rw h at e))
-]
+look-add_there i j x y xs e = look-added_there j i x y xs e
 
 abbrev pub flipped : Option Stream → Option Stream
 flipped None = None

@@ -1,6 +1,5 @@
 -- A stream's number is below its opener's next and of its kind, so no number comes again.
-use Rattle.std.proofs.Common.{◌≡◌, ◌≢◌, ◌⊎◌, inl, inr, ℕ, ◌+◌, ◌%◌, List, [], ◌∷◌, ◌++◌, Bool, true, false, not, ◌||◌, ◌==◌, map, if◌then◌else◌, Option, None, Some, refl, sym, ◌∙◌, ap, subst, arith}
-use Rattle.std.proofs.lemmas.Bool.Decides.{nat_tests}
+use Rattle.std.proofs.Common.{◌≡◌, ◌≢◌, ◌⊎◌, inl, inr, ℕ, ◌+◌, ◌%◌, List, [], ◌∷◌, ◌++◌, Bool, true, false, not, ◌||◌, map, if◌then◌else◌, Option, None, Some, refl, sym, ◌∙◌, ap, subst, arith}
 use Rattle.ymx_model.specs.declared.types.Reply.{Reply}
 use Rattle.ymx_model.specs.declared.types.Call.{Call}
 use Rattle.ymx_model.specs.Streams.{Stream, Move, after, stream_accept}
@@ -11,9 +10,11 @@ use Rattle.ymx_model.specs.Tables.{look, change}
 use Rattle.ymx_model.specs.Machines.{Machine, SideState, flip_entry, mirror}
 use Rattle.ymx_model.specs.FreeMoves.{FreeMove, MayMove, moved_by, is_reset_arriving, refuses}
 use Rattle.ymx_model.specs.FreeMoves.FreeMove.{OfStream, SynArrives, AwayArrives, PingThere, PingBack}
+use Rattle.ymx_model.proofs.Tests.{when, same_or_not}
+use Rattle.ymx_model.proofs.Lists.{distinct-change, distinct-added}
 use Rattle.ymx_machine_law.specs.Numbers.{NumbersOnce, HasNumber, HasNumberAt}
-use Rattle.ymx_machine_law.proofs.StreamFacts.{when, if-so_true, if-so_false}
-use Rattle.ymx_machine_law.proofs.Maps.{same_or_not, is-self, is-other, look-change, look-change_other, look-add, look-add_other, flipped, look-mirror}
+use Rattle.ymx_machine_law.proofs.StreamFacts.{if-so_true, if-so_false}
+use Rattle.ymx_machine_law.proofs.Maps.{look-change, look-change_other, look-add, look-add_other, flipped, look-mirror}
 use Rattle.ymx_machine_law.proofs.Effects.{Effect}
 use Rattle.ymx_machine_law.proofs.Effects.Effect.{Idles, OpensOne, AcceptsOne, TouchesOne}
 use Rattle.ymx_machine_law.proofs.Cores.{Core, core, core-unmoved, Sound}
@@ -71,27 +72,6 @@ move-own Released s = refl
 
 -- ---- each number once
 
-none-change : (i j : ℕ) (f : Stream → Stream) (xs : List (ℕ × Stream)) → look i xs ≡ None → look i (change j f xs) ≡ None
-none-change i j f [] e = refl
-none-change i j f (p ∷ ps) e = let h = none-change i j f ps in grind (arith, nat_tests)
-
-once-change : (j : ℕ) (f : Stream → Stream) (xs : List (ℕ × Stream)) → NumbersOnce xs → NumbersOnce (change j f xs)
-once-change j f [] h = tt
-once-change j f (p ∷ ps) h = elim (when (p.0 == j)) [
-  | inl e ↦ rw e (h.0, h.1)
-  | inr e ↦ rw e (none-change p.0 j f ps h.0, once-change j f ps h.1)
-]
-
-head-other : (j : ℕ) (p : ℕ × Stream) (ps : List (ℕ × Stream)) → look j (p ∷ ps) ≡ None → p.0 ≢ j
-head-other j p ps e d = let k : Some p.1 ≡ None = rw (d, is-self j) at e in absurd (cc)
-
-tail-none : (j : ℕ) (p : ℕ × Stream) (ps : List (ℕ × Stream)) → look j (p ∷ ps) ≡ None → look j ps ≡ None
-tail-none j p ps e = rw (is-other j p.0 (λ d. head-other j p ps e (sym d))) at e
-
-once-add : (j : ℕ) (s : Stream) (xs : List (ℕ × Stream)) → look j xs ≡ None → NumbersOnce xs → NumbersOnce (xs ++ (j, s) ∷ [])
-once-add j s [] e h = (refl, tt)
-once-add j s (p ∷ ps) e h = (look-add_other p.0 j s ps (head-other j p ps e) ∙ h.0, once-add j s ps (tail-none j p ps e) h.1)
-
 none-flip : (o : Option Stream) → flipped o ≡ None → o ≡ None
 none-flip None e = refl
 none-flip (Some s) e = absurd (cc)
@@ -144,14 +124,14 @@ pub numbered-effect : (mine yours : ℕ) (c : Call) (m : Machine) (r : Reply) (n
 numbered-effect mine yours c m r n (Idles h) so k = numbered-is _ _ (core-unmoved m n h.same) k
 numbered-effect mine yours c m r n (OpensOne bytes h) so k = numbered-is _ _ (ap core h.now) (record {
   parity = λ e. k.parity (sym (two-more m.me.next) ∙ e);
-  once = once-add m.me.next _ m.streams (free (core m) k) k.once;
+  once = distinct-added m.me.next _ m.streams (free (core m) k) k.once;
   at = at-add m.me.next m.you.next _ m.streams refl (free (core m) k) k.at;
 })
 numbered-effect mine yours c m r n (AcceptsOne id ids h) so k =
     let s = offered-stream (look id m.streams) (offered-front mine yours (core m) id ids h.front so) in
-    numbered-is _ _ (ap core h.now) (record { parity = k.parity; once = once-change id _ m.streams k.once; at = at-change m.me.next m.you.next id (stream_accept m.me.lost) s.0 m.streams s.1 refl k.at })
+    numbered-is _ _ (ap core h.now) (record { parity = k.parity; once = distinct-change id _ m.streams k.once; at = at-change m.me.next m.you.next id (stream_accept m.me.lost) s.0 m.streams s.1 refl k.at })
 numbered-effect mine yours c m r n (TouchesOne id sc s t h) so k =
-    numbered-is _ _ (ap core h.now) (record { parity = k.parity; once = once-change id _ m.streams k.once; at = at-change m.me.next m.you.next id (λ _. t) s m.streams h.there (rule-own m.me.lost sc s t r h.rule) k.at })
+    numbered-is _ _ (ap core h.now) (record { parity = k.parity; once = distinct-change id _ m.streams k.once; at = at-change m.me.next m.you.next id (λ _. t) s m.streams h.there (rule-own m.me.lost sc s t r h.rule) k.at })
 
 next-if : (b : Bool) (side : SideState) (ids : List ℕ) → (if b then record side { offered = ids } else side).next ≡ side.next
 next-if true side ids = refl
@@ -159,13 +139,13 @@ next-if false side ids = refl
 
 syn : (id : ℕ) (counted : Bool) (m : Machine) (s : Stream) → look id m.streams ≡ Some s →
     ((refuses m || counted) ≡ true) ⊎ ((refuses m || counted) ≡ false) → Numbered (core m) → Numbered (core (moved_by (SynArrives id counted) m))
-syn id counted m s e (inl b) k = rw b (record { parity = k.parity; once = once-change id _ m.streams k.once; at = at-change m.me.next m.you.next id (after SynRefused) s m.streams e refl k.at })
-syn id counted m s e (inr b) k = rw b (record { parity = k.parity; once = once-change id _ m.streams k.once; at = at-change m.me.next m.you.next id (after SynOffered) s m.streams e refl k.at })
+syn id counted m s e (inl b) k = rw b (record { parity = k.parity; once = distinct-change id _ m.streams k.once; at = at-change m.me.next m.you.next id (after SynRefused) s m.streams e refl k.at })
+syn id counted m s e (inr b) k = rw b (record { parity = k.parity; once = distinct-change id _ m.streams k.once; at = at-change m.me.next m.you.next id (after SynOffered) s m.streams e refl k.at })
 
 pub numbered-move : (v : FreeMove) (m : Machine) → MayMove v m → Numbered (core m) → Numbered (core (moved_by v m))
 numbered-move (OfStream id v) m a k = elim (when (is_reset_arriving v)) [
-  | inl b ↦ rw b (record { parity = k.parity; once = once-change id _ m.streams k.once; at = at-change m.me.next m.you.next id (after v) a.2.0 m.streams a.2.1 (move-own v a.2.0) k.at })
-  | inr b ↦ rw b (record { parity = k.parity; once = once-change id _ m.streams k.once; at = at-change m.me.next m.you.next id (after v) a.2.0 m.streams a.2.1 (move-own v a.2.0) k.at })
+  | inl b ↦ rw b (record { parity = k.parity; once = distinct-change id _ m.streams k.once; at = at-change m.me.next m.you.next id (after v) a.2.0 m.streams a.2.1 (move-own v a.2.0) k.at })
+  | inr b ↦ rw b (record { parity = k.parity; once = distinct-change id _ m.streams k.once; at = at-change m.me.next m.you.next id (after v) a.2.0 m.streams a.2.1 (move-own v a.2.0) k.at })
 ]
 numbered-move (SynArrives id counted) m a k = syn id counted m a.1.0 a.1.1 (when (refuses m || counted)) k
 numbered-move AwayArrives m a k = k

@@ -8,8 +8,9 @@ use Rattle.ymx_model.specs.Machines.{Machine, mirror}
 use Rattle.ymx_model.specs.FreeMoves.{FreeMove, MayMove, moved_by}
 use Rattle.ymx_model.specs.MachineRuns.{MachineStep, MachineStepOfA}
 use Rattle.ymx_model.specs.Worlds.{is_of_a}
+use Rattle.ymx_model.proofs.Tests.{when}
 use Rattle.ymx_machine_law.specs.Numbers.{HasOrder, HasBothParities}
-use Rattle.ymx_machine_law.proofs.StreamFacts.{when, if-so_true, if-so_false}
+use Rattle.ymx_machine_law.proofs.StreamFacts.{if-so_true, if-so_false}
 use Rattle.ymx_machine_law.proofs.Effects.{effect}
 use Rattle.ymx_machine_law.proofs.Cores.{Core, core, core-ends, kept-moves, kept-releases, Sound, sound-effect, sound-move, sound-mirror, sound-unmirror}
 use Rattle.ymx_machine_law.proofs.Openers.{Numbered, numbered-effect, numbered-move, numbered-mirror, numbered-unmirror, free}

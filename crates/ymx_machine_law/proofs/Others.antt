@@ -19,8 +19,9 @@ use Rattle.ymx_model.specs.Machines.{Machine}
 use Rattle.ymx_model.specs.MachineRules.{open_refusal, OpenRule, AcceptRule, OnStream, PingRule, PongedRule, OpenSideRule, Rule, is_close, is_back, free_number}
 use Rattle.ymx_model.specs.FreeMoves.{FreeMove, moved_by, refuses}
 use Rattle.ymx_model.specs.FreeMoves.FreeMove.{OfStream, SynArrives, AwayArrives, PingThere, PingBack}
+use Rattle.ymx_model.proofs.Tests.{when}
 use Rattle.ymx_machine_law.specs.Others.{touched, touched_by, needs_memory}
-use Rattle.ymx_machine_law.proofs.StreamFacts.{when, if-so_true, if-so_false}
+use Rattle.ymx_machine_law.proofs.StreamFacts.{if-so_true, if-so_false}
 use Rattle.ymx_machine_law.proofs.Maps.{look-change_other, look-add_other}
 use Rattle.ymx_machine_law.proofs.Effects.{Effect, effect}
 use Rattle.ymx_machine_law.proofs.Effects.Effect.{Idles, OpensOne, AcceptsOne, TouchesOne}

@@ -17,11 +17,12 @@ use Rattle.ymx_model.specs.Tables.{look}
 use Rattle.ymx_model.specs.Worlds.{is_of_a, answer_of}
 use Rattle.ymx_model.specs.Machines.{Machine, mirror, new_machine}
 use Rattle.ymx_model.specs.MachineRuns.{MachineStepOfA, MachineStep, MachineRun, written_by, got_by, written, got}
+use Rattle.ymx_model.proofs.Tests.{when}
 use Rattle.ymx_machine_law.proofs.Pasts.{Past, Faces, HasFace}
 use Rattle.ymx_machine_law.specs.Runs.{finished_by, ended_by, finished, ended, is_live_at_a, is_live_at_b, IsFace}
 use Rattle.ymx_machine_law.specs.Numbers.{HasOrder}
 use Rattle.ymx_machine_law.proofs.LaneFaces.{wrote, gave}
-use Rattle.ymx_machine_law.proofs.StreamFacts.{when, if-so_true, if-so_false}
+use Rattle.ymx_machine_law.proofs.StreamFacts.{if-so_true, if-so_false}
 use Rattle.ymx_machine_law.proofs.Effects.{tell_out, tell_inn, effect}
 use Rattle.ymx_machine_law.proofs.Cores.{core, core-ends, kept-moves, kept-releases, sound-new}
 use Rattle.ymx_machine_law.proofs.MachineFaces.{IsBlank, FaceAt, Faced, faced-is, faced-past, faced-effect, faced-move, faced-mirror, faced-unmirror}

@@ -11,10 +11,11 @@ use Rattle.ymx_model.specs.Streams.Move.{Arrive, EndArrives, Return, SynOffered,
 use Rattle.ymx_model.specs.Streams.Phase.{Live, Offered, WasReset, Lingering, Refused, Gone, Unborn}
 use Rattle.ymx_model.specs.StreamRules.{StreamCall, StreamRule, IfSo, ResetsTo, moved, is_done, forgets_quietly, write_reply, read_reply, forget_reply}
 use Rattle.ymx_model.specs.StreamRules.StreamCall.{Writes, Reads, Finishes, Resets, Forgets}
+use Rattle.ymx_model.proofs.Tests.{when}
 use Rattle.ymx_machine_law.proofs.Pasts.{Past, HasFaces}
 use Rattle.ymx_machine_law.proofs.LaneLaws.{lists}
 use Rattle.ymx_machine_law.proofs.LaneFaces.{wrote, gave, face-new, face-write, face-arrive, face-vanish, face-end, face-read, face-return, face-finish, face-over, face-empty, face-cut, face-struck, face-phases}
-use Rattle.ymx_machine_law.proofs.StreamFacts.{when, if-so_true, if-so_false, write-fits, write-live, read-live, read-over, finish-live, reset-live, live-up, takes-up, born-up}
+use Rattle.ymx_machine_law.proofs.StreamFacts.{if-so_true, if-so_false, write-fits, write-live, read-live, read-over, finish-live, reset-live, live-up, takes-up, born-up}
 use Rattle.ymx_machine_law.proofs.StreamLaws.{struck-down}
 
 pub faces-flip : (mine yours : ℕ) (s : Stream) (po pi : Past) → HasFaces mine yours s po pi → HasFaces yours mine (flip s) pi po

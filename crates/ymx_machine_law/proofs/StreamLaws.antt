@@ -7,9 +7,10 @@ use Rattle.ymx_model.specs.Streams.Move.{Arrive, EndArrives, Return, SynOffered,
 use Rattle.ymx_model.specs.Streams.Phase.{Live, Offered, WasReset, Lingering, Refused, Gone, Unborn}
 use Rattle.ymx_model.specs.StreamRules.{StreamCall, StreamRule, IfSo, ResetsTo, moved, is_done, forgets_quietly}
 use Rattle.ymx_model.specs.StreamRules.StreamCall.{Writes, Reads, Finishes, Resets, Forgets}
+use Rattle.ymx_model.proofs.Tests.{when}
 use Rattle.ymx_machine_law.specs.LaneLaws.{ObeysWindows}
 use Rattle.ymx_machine_law.proofs.LaneLaws.{law-new, law-write, law-arrive, law-vanish, law-read, law-return, law-fin, law-empty, law-cut, law-struck_writer, law-struck_reader, law-phases}
-use Rattle.ymx_machine_law.proofs.StreamFacts.{when, if-so_true, if-so_false, write-fits, born-up}
+use Rattle.ymx_machine_law.proofs.StreamFacts.{if-so_true, if-so_false, write-fits, born-up}
 
 pub laws-flip : (mine yours : ℕ) (s : Stream) → ObeysWindows mine yours s → ObeysWindows yours mine (flip s)
 laws-flip mine yours s c = record { out = c.inn; inn = c.out }

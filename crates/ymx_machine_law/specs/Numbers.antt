@@ -1,13 +1,12 @@
 -- Stream numbers, and the lists of offered streams (stream identifiers).
 use Rattle.std.specs.Prelude.{ℕ, ◌%◌, ◌<◌, ◌≡◌, ◌≢◌, List, [], ◌∷◌, Bool, true, false, ◌||◌, ◌==◌, Option, None, Some}
 use Rattle.ymx_model.specs.Streams.{Stream, is_offered}
-use Rattle.ymx_model.specs.Tables.{look}
+use Rattle.ymx_model.specs.Tables.{look, Distinct}
 use Rattle.ymx_model.specs.Machines.{Machine}
 
 -- each number stands once
 abbrev pub NumbersOnce : List (ℕ × Stream) → Type 0
-NumbersOnce [] = Unit {0}
-NumbersOnce (p ∷ ps) = (look p.0 ps ≡ None) × NumbersOnce ps
+NumbersOnce streams = Distinct streams
 
 -- A number is below its opener's next number, and odd or even as that is: my next number, your next
 -- number, whether this side opened it.

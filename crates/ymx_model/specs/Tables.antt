@@ -1,5 +1,5 @@
 -- The records of a session by stream id, in an order (this project's own).
-use Rattle.std.specs.Prelude.{ℕ, ◌+◌, ◌-◌, List, [], ◌∷◌, ◌++◌, drop, take, Bool, false, ◌||◌, ◌==◌, nat_lt, if◌then◌else◌, Option, None, Some, count_by}
+use Rattle.std.specs.Prelude.{◌≡◌, ℕ, ◌+◌, ◌-◌, List, [], ◌∷◌, ◌++◌, drop, take, Bool, false, ◌||◌, ◌==◌, nat_lt, if◌then◌else◌, Option, None, Some, count_by}
 use Rattle.ymx_model.specs.Records.{End}
 use Rattle.ymx_model.specs.Outgoing.{is_due}
 
@@ -36,6 +36,11 @@ without id (p ∷ ps) = if p.0 == id then ps else p ∷ without id ps
 abbrev pub place : {X : Type 0} → ℕ → List (ℕ × X) → ℕ
 place id [] = 0
 place id (p ∷ ps) = if p.0 == id then 0 else place id ps + 1
+
+-- no number stands twice
+abbrev pub Distinct : {X : Type 0} → List (ℕ × X) → Type 0
+Distinct [] = Unit
+Distinct (p ∷ ps) = (look p.0 ps ≡ None) × Distinct ps
 
 -- a record is added at the end
 abbrev pub added : ℕ → End → Table → Table

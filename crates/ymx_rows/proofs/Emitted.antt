@@ -14,7 +14,7 @@ use Rattle.ymx_model.specs.Sessions.{Session, is_running, is_broken}
 use Rattle.ymx_model.specs.Emissions.{Choice, begin, begin_answer, begin_stream, is_some_of, Ready, Flows, Emits, moves_on, is_ready, no_answers, in_turn, is_first, data_limit}
 use Rattle.ymx_model.specs.Emissions.Choice.{TheAlarm, TheGoAway, TheAnswer, ThePing, AStream}
 use Rattle.ymx_session_law.specs.Limits.{IsWithin}
-use Rattle.ymx_session_law.proofs.Splits.{split, both_of, agrees}
+use Rattle.ymx_model.proofs.Tests.{split, both_of, agrees, one_some}
 use Rattle.ymx_session_law.proofs.EmissionsKeep.{some_if, if_some, ready-keeps, moves-keep}
 use Rattle.ymx_session_law.proofs.Goes.{flows-join, flows-take}
 use Rattle.ymx_session_law.proofs.Ready.{next_of, begin-ready, begin-has}
@@ -97,9 +97,6 @@ ready-none s w none = of (is_empty s.begun.bytes) refl (is_ready s) refl
 ready-some : (s t : Session) → IsWithin s → ready s ≡ Some t → Ready in_turn s t
 ready-some s t w some = of (is_empty s.begun.bytes) refl
   where
-    one_some : (x y : Session) → Some x ≡ Some y → x ≡ y
-    one_some x y e = cc
-
     of : (e : Bool) → is_empty s.begun.bytes ≡ e → Ready in_turn s t
     of false e = let z : Some s ≡ Some t = rw e at some in inl (e, one_some t s (sym z))
     of true e =

@@ -11,7 +11,7 @@ use Rattle.ymx_model.specs.Sessions.Incoming.{Head, Payload}
 use Rattle.ymx_model.specs.Arrivals.{head_comes}
 use Rattle.ymx_model.specs.Feeds.{Takes, Feeds, is_stuck, starves, why_of}
 use Rattle.ymx_session_law.specs.Limits.{IsWithin}
-use Rattle.ymx_session_law.proofs.Splits.{split, agrees, none_of}
+use Rattle.ymx_model.proofs.Tests.{split, agrees, none_of}
 use Rattle.ymx_session_law.proofs.Chunks.{takes-join}
 use Rattle.ymx_session_law.proofs.Pieces.{head-takes, head-whole, counted}
 use Rattle.ymx_session_law.proofs.Frames.{block-takes, takes-deaf}

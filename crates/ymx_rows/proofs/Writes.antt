@@ -9,7 +9,7 @@ use Rattle.ymx_model.specs.Records.{End, end_write}
 use Rattle.ymx_model.specs.Tables.{look}
 use Rattle.ymx_model.specs.Sessions.{Session, on_stream}
 use Rattle.ymx_model.specs.Calls.{write_to}
-use Rattle.ymx_session_law.proofs.Entries.{look-change_same}
+use Rattle.ymx_model.proofs.Lists.{look-change_same}
 use Rattle.ymx_rows.proofs.Windows.{wide_fed}
 
 -- a stream that may be written to, with this credit

@@ -18,8 +18,8 @@ use Rattle.ymx_model.specs.Sessions.{Session, Incoming, is_own, is_lost, is_clos
 use Rattle.ymx_model.specs.Sessions.Incoming.{Head, Payload}
 use Rattle.ymx_model.specs.Calls.{Outcome, outcome, open_or, opened, accept, accept_of, with_stream, with_record, write_outcome, read_outcome, finish_outcome, reset_outcome, forget_outcome, is_unacknowledged}
 use Rattle.ymx_session_law.specs.Limits.{IsEndWithin, IsOfferedWithin, IsBegunWithin, IsIncomingWithin, IsPingsWithin, IsWithin, is_offered_at, is_listed}
-use Rattle.ymx_session_law.proofs.Splits.{split, both_of, not_le}
-use Rattle.ymx_session_law.proofs.Entries.{look-added_before}
+use Rattle.ymx_model.proofs.Tests.{split, both_of, not_le, one_some}
+use Rattle.ymx_model.proofs.Lists.{look-added_before}
 use Rattle.ymx_session_law.proofs.Ends.{takes_offered, new-within, write-within, read-within, finish-within, accept-within, reset-within, forget-within}
 use Rattle.ymx_session_law.proofs.Offers.{taken-added, offered-added_other, offered-accepted}
 use Rattle.ymx_session_law.proofs.Pings.{pinged-within, collected-within}
@@ -169,10 +169,7 @@ offered_forget Lingering e = refl
 offered_forget Gone e = refl
 
 same-only : (s : Session) (id : ℕ) (d : End) (e : End) → look id s.table.entries ≡ Some e → look id s.table.entries ≡ Some d → d ≡ e
-same-only s id d e l m = some_same d e (sym m ∙ l)
-  where
-    some_same : (d e : End) → Some d ≡ Some e → d ≡ e
-    some_same d e p = cc
+same-only s id d e l m = one_some d e (sym m ∙ l)
 
 -- the change of one record, whose phase is known
 pub within-at : (id : ℕ) (f : End → End) (s : Session) (e : End) → look id s.table.entries ≡ Some e →

@@ -15,8 +15,8 @@ use Rattle.ymx_model.specs.Sessions.{Session, nothing_begun, is_running, is_brok
 use Rattle.ymx_model.specs.Emissions.{Choice, begin, begin_answer, begin_stream, begin_kind, begins, alarm_frame, go_away_frame, answer_frame, ping_frame, moves_on, settles, Ready, Flows}
 use Rattle.ymx_model.specs.Emissions.Choice.{TheAlarm, TheGoAway, TheAnswer, ThePing, AStream}
 use Rattle.ymx_session_law.specs.Limits.{IsEndWithin, IsSilent, IsWithin, IsAnswersWithin}
-use Rattle.ymx_session_law.proofs.Splits.{split}
-use Rattle.ymx_session_law.proofs.Entries.{look-change_same}
+use Rattle.ymx_model.proofs.Tests.{split, one_some}
+use Rattle.ymx_model.proofs.Lists.{look-change_same}
 use Rattle.ymx_session_law.proofs.Ends.{sends-within}
 use Rattle.ymx_session_law.proofs.Offers.{offered-on}
 use Rattle.ymx_session_law.proofs.Records.{table-on, table-served, incoming-on, within-settled}
@@ -106,9 +106,6 @@ still_unacked window limit Reset e l a = (l, a)
 still_unacked window limit Credit e l a = (l, a)
 still_unacked window limit Data e l a = (l, a)
 still_unacked window limit Fin e l a = (l, a)
-
-one_some : {X : Type 0} (x y : X) → Some x ≡ Some y → x ≡ y
-one_some x y e = cc
 
 stream-begins : (id limit : ℕ) (e : End) (kind : Kind) (s : Session) → look id s.table.entries ≡ Some e → is_offered e.phase ≡ false → IsWithin s →
     IsWithin (record s { table = served id (on id (sends s.table.window limit kind) s.table); begun = record { bytes = spelled kind s.table.window limit id e; of = Some id } })

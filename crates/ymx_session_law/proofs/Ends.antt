@@ -7,7 +7,7 @@ use Rattle.ymx_model.specs.Records.{End, Reader, held, new_end, end_write, end_r
 use Rattle.ymx_model.specs.Outgoing.{Kind, sends}
 use Rattle.ymx_model.specs.Outgoing.Kind.{Open, OpenWith, Accept, Reset, Credit, Data, Fin}
 use Rattle.ymx_session_law.specs.Limits.{IsEndWithin, IsSilent}
-use Rattle.ymx_session_law.proofs.Splits.{split}
+use Rattle.ymx_model.proofs.Tests.{split}
 
 new_silent : (window : ℕ) (p : Phase) (syn carries : Bool) → (is_offered p ≡ true → syn ≡ false) → is_offered p ≡ true → IsSilent (new_end window p syn carries)
 new_silent window p syn carries q o = record { syn = q o; ack = refl; rst = refl; unsent = refl; finished = refl }

@@ -7,7 +7,7 @@ use Rattle.ymx_model.specs.Sessions.Incoming.{Head, Payload}
 use Rattle.ymx_model.specs.Arrivals.{head_comes}
 use Rattle.ymx_model.specs.Feeds.{Takes, Feeds, is_stuck, is_between, byte_comes, byte_in}
 use Rattle.ymx_session_law.specs.Limits.{IsWithin, IsIncomingWithin, IsPayloadWithin}
-use Rattle.ymx_session_law.proofs.Splits.{split, none_of, not_le, differs}
+use Rattle.ymx_model.proofs.Tests.{split, none_of, not_le, differs}
 use Rattle.ymx_session_law.proofs.FramesKeep.{head-keeps, piece-keeps}
 
 -- a session that takes a byte of a header finds room for an answer

@@ -35,7 +35,7 @@ use Rattle.ymx_model.specs.Histories.{CallGives, Gives, ReplaysFrom}
 use Rattle.ymx_model.specs.Histories.CallGives.{Outcome as HasOutcome, NoMemory}
 use Rattle.ymx_session_law.specs.Limits.{IsWithin, is_listed, is_offered_at}
 use Rattle.ymx_session_law.specs.Fields.{Fits, IsByte, IdFits, PingFits, ResponseFits, IncomingFits, PartsFit, NumbersFit, HalvesFit, FeedsBytes}
-use Rattle.ymx_session_law.proofs.Splits.{split, agrees}
+use Rattle.ymx_model.proofs.Tests.{split, agrees}
 use Rattle.ymx_session_law.proofs.CallsKeep.{open_or-keeps}
 use Rattle.ymx_session_law.proofs.StreamCalls.{StaysAt, write-stays, read-stays, finish-stays, reset-stays, forget-stays}
 use Rattle.ymx_session_law.proofs.FramesKeep.{unless_fault-keeps}

@@ -17,7 +17,7 @@ use Rattle.ymx_model.specs.Sessions.Incoming.{Head, Payload}
 use Rattle.ymx_model.specs.Arrivals.{answers_with, ping_comes, go_away_comes, payload, expects, record_fault, reset_comes, acknowledges, gets_head, meets, meets_some, offer, refuses, syn_fault, syn_comes, header_fault, head_comes, piece_comes}
 use Rattle.ymx_model.specs.Feeds.{Takes, is_stuck, byte_comes, starves}
 use Rattle.ymx_session_law.specs.Frames.{frame_comes, payload_comes, starved_by}
-use Rattle.ymx_session_law.proofs.Splits.{split, agrees}
+use Rattle.ymx_model.proofs.Tests.{split, agrees}
 use Rattle.ymx_session_law.proofs.Chunks.{takes-join}
 use Rattle.ymx_session_law.proofs.Pieces.{head-whole, piece-takes}
 use Rattle.ymx_session_law.proofs.FramesKeep.{unless_fault-keeps}

@@ -20,8 +20,8 @@ use Rattle.ymx_model.specs.Sessions.{Session, Incoming, is_own, breaks, on_strea
 use Rattle.ymx_model.specs.Sessions.Incoming.{Head, Payload}
 use Rattle.ymx_model.specs.Arrivals.{answers_with, ping_comes, go_away_comes, payload, delta, expects, record_fault, reset_comes, ends_now, acknowledges, gets_head, meets, unless_fault, meets_some, offer, refuses, syn_fault, syn_comes, header_fault, head_comes, piece_comes}
 use Rattle.ymx_session_law.specs.Limits.{IsEndWithin, IsBegunWithin, IsIncomingWithin, IsPayloadWithin, IsWithin, is_taken_at, is_in_header}
-use Rattle.ymx_session_law.proofs.Splits.{split, same_or_not, both_of, none_of, not_le, not_lt, is_lt}
-use Rattle.ymx_session_law.proofs.Entries.{look_before, look-added_same, look-change_same, look-without_other}
+use Rattle.ymx_model.proofs.Tests.{split, same_or_not, both_of, none_of, not_le, not_lt, is_lt}
+use Rattle.ymx_model.proofs.Lists.{look_before, look-added_same, look-without_other, look-change_there}
 use Rattle.ymx_session_law.proofs.Ends.{new-within, credit-within, fin-within, piece-within, ack-within, rst-within}
 use Rattle.ymx_session_law.proofs.Offers.{offered-on, offered-added, offered-removed}
 use Rattle.ymx_session_law.proofs.Owns.{next-on, next-removed, next-offered}
@@ -221,14 +221,11 @@ reset-keeps id e d s l same w =
 
 -- ---- the head of a frame
 
-is_there : (id : ℕ) (f : End → End) (e : End) (ps : List (ℕ × End)) → look id ps ≡ Some e → look id (change id f ps) ≡ Some (f e)
-is_there id f e ps l = look-change_same id f ps ∙ rw l refl
-
 meets-keeps : (h : Header) (e : End) (s : Session) → look h.id s.table.entries ≡ Some e → record_fault h e ≡ None → IsWithin s → IsWithin (meets h e s)
 meets-keeps h e s l f w =
     let own = is_own s.role h.id in
     split IsWithin (has_rst h) (expects h true (reset_comes h.id e (on_stream h.id (acknowledges own h) s))) (expects h false (on_stream h.id (gets_head own h) s))
-    (λ t. stray-keeps h _ (reset-keeps h.id e (acknowledges own h e) (on_stream h.id (acknowledges own h) s) (is_there h.id (acknowledges own h) e s.table.entries l) (same_phase own)
+    (λ t. stray-keeps h _ (reset-keeps h.id e (acknowledges own h e) (on_stream h.id (acknowledges own h) s) (look-change_there h.id (acknowledges own h) s.table.entries e l) (same_phase own)
     (within-on h.id (acknowledges own h) s (λ d m k. acknowledges-keeps s.table.window own h d) w)))
     (λ r. let n = no_fault h e r f in
     let keeps = head-keeps-record s.table.window own h e n in
@@ -243,7 +240,7 @@ meets-keeps h e s l f w =
 
     granted : (own : Bool) → NoFault h e → Keeps s.table.window (gets_head own h) e → (d : End) → look h.id (change h.id (gets_head own h) s.table.entries) ≡ Some d → takes_payload d ≡ true → payload h ≤ d.inn.granted
     granted own n keeps d m t =
-        let there = is_there h.id (gets_head own h) e s.table.entries l in
+        let there = look-change_there h.id (gets_head own h) s.table.entries e l in
         let same : Some (gets_head own h e) ≡ Some d = sym there ∙ m in
         let is : gets_head own h e ≡ d = cc in
         let u : takes_payload (gets_head own h e) ≡ true = rw is t in

@@ -1,7 +1,5 @@
-pub mod Splits
 pub mod Chunks
 pub mod Pieces
-pub mod Entries
 pub mod Ends
 pub mod Pings
 pub mod Owns

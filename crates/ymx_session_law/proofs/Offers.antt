@@ -5,11 +5,11 @@ use Rattle.std.proofs.lemmas.Grind.{common_steps}
 use Rattle.std.proofs.lemmas.Bool.Decides.{nat_tests}
 use Rattle.ymx_model.specs.Streams.{is_offered}
 use Rattle.ymx_model.specs.Records.{End}
-use Rattle.ymx_model.specs.Tables.{look, change, without}
+use Rattle.ymx_model.specs.Tables.{look, change, without, Distinct}
 use Rattle.ymx_model.specs.Sessions.{drop_id, most_offered}
-use Rattle.ymx_session_law.specs.Limits.{is_listed, Once, is_offered_at, is_taken_at, IsOfferedWithin, Distinct}
-use Rattle.ymx_session_law.proofs.Splits.{split, differs, same_or_not}
-use Rattle.ymx_session_law.proofs.Entries.{look-change_same, look-change_other, look-added_same, look-added_other, look-added_there, look-without_other, look-without_same}
+use Rattle.ymx_session_law.specs.Limits.{is_listed, Once, is_offered_at, is_taken_at, IsOfferedWithin}
+use Rattle.ymx_model.proofs.Tests.{split, differs, same_or_not}
+use Rattle.ymx_model.proofs.Lists.{look-change_same, look-change_other, look-added_same, look-added_other, look-added_there, look-without_other, look-without_same}
 
 -- ---- the list
 

@@ -13,9 +13,9 @@ use Rattle.ymx_model.specs.Sessions.Incoming.{Payload}
 use Rattle.ymx_model.specs.Calls.{Outcome, outcome}
 use Rattle.ymx_model.specs.Arrivals.{answers_with, ping_comes, go_away_comes, payload, expects, record_fault, reset_comes, acknowledges, gets_head, meets, meets_some, offer, refuses, syn_fault, syn_comes, header_fault, head_comes, piece_comes}
 use Rattle.ymx_session_law.specs.Refusals.{OthersSame}
-use Rattle.ymx_session_law.proofs.Splits.{split}
+use Rattle.ymx_model.proofs.Tests.{split}
 use Rattle.ymx_session_law.proofs.StreamCalls.{StaysAt, write-stays, read-stays, finish-stays, reset-stays, forget-stays}
-use Rattle.ymx_session_law.proofs.Entries.{look-change_other, look-added_other, look-without_other}
+use Rattle.ymx_model.proofs.Lists.{look-change_other, look-added_other, look-without_other}
 use Rattle.ymx_session_law.proofs.FramesKeep.{unless_fault-keeps}
 
 abbrev pub OthersIn : (id : ℕ) → Session → Outcome → Type 0

@@ -12,8 +12,8 @@ use Rattle.ymx_model.specs.Calls.{Outcome, outcome, answers, accept_of, open_or,
 use Rattle.ymx_model.specs.Emissions.{begin, begin_stream, begin_kind, moves_on, settles}
 use Rattle.ymx_model.specs.Emissions.Choice.{AStream}
 use Rattle.ymx_session_law.specs.Refusals.{OthersSame}
-use Rattle.ymx_session_law.proofs.Splits.{split}
-use Rattle.ymx_session_law.proofs.Entries.{look-change_other, look-added_other}
+use Rattle.ymx_model.proofs.Tests.{split}
+use Rattle.ymx_model.proofs.Lists.{look-change_other, look-added_other}
 use Rattle.ymx_session_law.proofs.EmissionsKeep.{if_some, none_if}
 use Rattle.ymx_session_law.proofs.Others.{OthersIn, others-settled}
 

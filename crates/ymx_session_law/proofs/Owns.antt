@@ -6,12 +6,12 @@ use Rattle.std.proofs.lemmas.Bool.Decides.{nat_tests}
 use Rattle.ymx_model.specs.declared.types.Role.{Role}
 use Rattle.ymx_model.specs.Streams.{is_offered, is_live}
 use Rattle.ymx_model.specs.Records.{End}
-use Rattle.ymx_model.specs.Tables.{look, change, without}
+use Rattle.ymx_model.specs.Tables.{look, change, without, Distinct}
 use Rattle.ymx_model.specs.Sessions.{is_own, most_unacknowledged}
 use Rattle.ymx_model.specs.Calls.{is_unacknowledged}
-use Rattle.ymx_session_law.specs.Limits.{IsNextWithin, Distinct}
-use Rattle.ymx_session_law.proofs.Splits.{agrees, both_of}
-use Rattle.ymx_session_law.proofs.Entries.{look_before, look-added_before, look-without_before}
+use Rattle.ymx_session_law.specs.Limits.{IsNextWithin}
+use Rattle.ymx_model.proofs.Tests.{agrees, both_of}
+use Rattle.ymx_model.proofs.Lists.{look_before, look-added_before, look-without_before}
 
 -- the count, by recursion
 abbrev pending : Role → List (ℕ × End) → ℕ

@@ -6,7 +6,7 @@ use Rattle.ymx_model.specs.declared.types.PingStage.{PingStage}
 use Rattle.ymx_model.specs.declared.types.PingStage.TheVariants.{Asked}
 use Rattle.ymx_model.specs.Pings.{Ping, Pings, most_pings, is_pending, is_asked, has_asked, staged, without_ping, number_after, free_from, next_number, pinged, collected, first_asked}
 use Rattle.ymx_session_law.specs.Limits.{OncePending, IsPingsWithin}
-use Rattle.ymx_session_law.proofs.Splits.{split, differs}
+use Rattle.ymx_model.proofs.Tests.{split, differs}
 
 -- ---- which numbers are pending
 

@@ -11,12 +11,12 @@ use Rattle.ymx_model.specs.Outgoing.{Kind, next_kind, is_due, is_empty, spelled}
 use Rattle.ymx_model.specs.Outgoing.Kind.{Open, OpenWith, Accept, Reset, Credit, Data, Fin}
 use Rattle.ymx_model.specs.Pings.{first_asked, has_asked, ping_goes}
 use Rattle.ymx_model.specs.GoAway.{away_due, away_goes}
-use Rattle.ymx_model.specs.Tables.{Table, look, any_due, due_ids, round}
+use Rattle.ymx_model.specs.Tables.{Table, look, any_due, due_ids, round, Distinct}
 use Rattle.ymx_model.specs.Sessions.{Session, is_running, is_broken}
 use Rattle.ymx_model.specs.Emissions.{Choice, begin, begin_answer, begin_stream, begin_kind, begins, alarm_frame, go_away_frame, ping_frame, Ready, Flows, Emits, moves_on, is_ready, no_answers, in_turn, is_first, data_limit, freely}
 use Rattle.ymx_model.specs.Emissions.Choice.{TheAlarm, TheGoAway, TheAnswer, ThePing, AStream}
-use Rattle.ymx_session_law.specs.Limits.{IsWithin, Distinct}
-use Rattle.ymx_session_law.proofs.Splits.{both_of, none_of}
+use Rattle.ymx_session_law.specs.Limits.{IsWithin}
+use Rattle.ymx_model.proofs.Tests.{both_of, none_of, or_true}
 use Rattle.ymx_session_law.proofs.Pings.{asked-first, asked-some}
 use Rattle.ymx_session_law.proofs.Goes.{emits-freely}
 use Rattle.ymx_session_law.proofs.EmissionsKeep.{some_if, none_if, if_some, ready-keeps, moves-keep}
@@ -24,10 +24,6 @@ use Rattle.ymx_session_law.proofs.EmissionsKeep.{some_if, none_if, if_some, read
 -- no frame is next exactly if none is due
 pub due-kind : (window : ℕ) (e : End) → is_due window e ≡ is_some (next_kind window e)
 due-kind window e = grind (arith, nat_tests)
-
-or_true : (b : Bool) → (b || true) ≡ true
-or_true true = refl
-or_true false = refl
 
 or_false : (b : Bool) → (b || false) ≡ true → b ≡ true
 or_false true e = refl

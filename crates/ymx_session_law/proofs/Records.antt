@@ -1,5 +1,5 @@
 -- A session stays within its limits when a record changes, comes or goes.
-use Rattle.std.proofs.Common.{◌≡◌, ◌≢◌, ◌⊎◌, inl, inr, ℕ, ◌+◌, ◌-◌, ◌<◌, ◌≤◌, List, [], ◌∷◌, length, Bool, true, false, not, ◌&&◌, nat_lt, if◌then◌else◌, Option, None, Some, refl, sym, ◌∙◌, arith, length-append}
+use Rattle.std.proofs.Common.{◌≡◌, ◌≢◌, ◌⊎◌, inl, inr, ℕ, ◌+◌, ◌-◌, ◌<◌, ◌≤◌, List, [], ◌∷◌, length, true, false, not, ◌&&◌, nat_lt, if◌then◌else◌, Option, None, Some, refl, sym, ◌∙◌, arith, length-append}
 use Rattle.std.specs.Prelude.{is_some}
 use Rattle.std.proofs.lemmas.Bool.Decides.{nat_tests}
 use Rattle.ymx_model.specs.declared.types.Role.{Role}
@@ -7,12 +7,12 @@ use Rattle.ymx_model.specs.Streams.{is_offered, is_live, is_lingering, Phase}
 use Rattle.ymx_model.specs.Streams.Phase.{Unborn, Offered, Live, WasReset, Refused, Lingering, Gone}
 use Rattle.ymx_model.specs.Records.{End, takes_payload}
 use Rattle.ymx_model.specs.Outgoing.{is_due}
-use Rattle.ymx_model.specs.Tables.{Table, look, change, without, place, on, added, removed, served, most_records}
+use Rattle.ymx_model.specs.Tables.{Table, look, change, without, place, on, added, removed, served, most_records, Distinct}
 use Rattle.ymx_model.specs.Sessions.{Session, Begun, Incoming, is_of, is_spent, settled, on_stream}
 use Rattle.ymx_model.specs.Sessions.Incoming.{Head, Payload}
-use Rattle.ymx_session_law.specs.Limits.{IsEndWithin, IsTableWithin, IsBegunWithin, IsIncomingWithin, IsPayloadWithin, IsWithin, Distinct, is_offered_at}
-use Rattle.ymx_session_law.proofs.Splits.{split, differs, both_of}
-use Rattle.ymx_session_law.proofs.Entries.{look_before, length-change, distinct-change, look-added_before, distinct-added, look-without_other, look-without_before, distinct-without, length-without, length-without_there, place-within}
+use Rattle.ymx_session_law.specs.Limits.{IsEndWithin, IsTableWithin, IsBegunWithin, IsIncomingWithin, IsPayloadWithin, IsWithin, is_offered_at}
+use Rattle.ymx_model.proofs.Tests.{split, differs, both_of, negated}
+use Rattle.ymx_model.proofs.Lists.{look_before, length-change, distinct-change, look-added_before, distinct-added, look-without_other, look-without_before, distinct-without, length-without, length-without_there, place-within}
 use Rattle.ymx_session_law.proofs.Owns.{next-on, next-removed}
 use Rattle.ymx_session_law.proofs.Offers.{offered-on, taken-change, offered-removed_other}
 
@@ -162,10 +162,6 @@ spent window begun id (Some e) q =
     let a = both_of (is_lingering e.phase && not (is_due window e)) (not (is_of begun.of id)) q in
     let b = both_of (is_lingering e.phase) (not (is_due window e)) a.0 in
     (refl, lingers e.phase b.0, negated (is_of begun.of id) a.1)
-  where
-    negated : (b : Bool) → not b ≡ true → b ≡ false
-    negated false e = refl
-    negated true e = sym e
 
 pub within-settled : (id : ℕ) (s : Session) → IsWithin s → IsWithin (settled id s)
 within-settled id s h =

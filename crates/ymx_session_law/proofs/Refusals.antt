@@ -13,7 +13,7 @@ use Rattle.ymx_model.specs.Tables.{most_records, look}
 use Rattle.ymx_model.specs.Sessions.{Session, is_lost, is_closed, most_unacknowledged}
 use Rattle.ymx_model.specs.Calls.{Outcome, outcome, open_or, accept_of, with_stream, with_record, write_outcome, read_outcome, finish_outcome, reset_outcome, forget_outcome, is_unacknowledged}
 use Rattle.ymx_session_law.specs.Refusals.{is_refused}
-use Rattle.ymx_session_law.proofs.Splits.{split}
+use Rattle.ymx_model.proofs.Tests.{split}
 
 -- a refusal of this outcome leaves s
 abbrev pub Leaves : Session → Outcome → Type 0

@@ -10,13 +10,13 @@ use Rattle.ymx_model.specs.StreamRules.{forget_reply, moved, is_done, unless_ref
 use Rattle.ymx_model.specs.Records.{End, end_accept, end_forget}
 use Rattle.ymx_model.specs.Outgoing.{is_due, is_empty}
 use Rattle.ymx_model.specs.Pings.{most_pings, has_back}
-use Rattle.ymx_model.specs.Tables.{look, removed}
+use Rattle.ymx_model.specs.Tables.{look, removed, Distinct}
 use Rattle.ymx_model.specs.Sessions.{Session, Begun, is_of, is_lost, is_closed, is_spent, on_stream, settled}
 use Rattle.ymx_model.specs.Calls.{Outcome, outcome, opened, accept_of, write_outcome, read_outcome, finish_outcome, reset_outcome, forget_outcome}
-use Rattle.ymx_session_law.specs.Limits.{IsWithin, Distinct}
+use Rattle.ymx_session_law.specs.Limits.{IsWithin}
 use Rattle.ymx_session_law.specs.Settled.{IsSettled}
-use Rattle.ymx_session_law.proofs.Splits.{split, same_or_not}
-use Rattle.ymx_session_law.proofs.Entries.{look_before, look-added_before, look-change_other, look-without_before, distinct-change}
+use Rattle.ymx_model.proofs.Tests.{split, same_or_not, one_some}
+use Rattle.ymx_model.proofs.Lists.{look_before, look-added_before, look-change_other, look-without_before, distinct-change}
 use Rattle.ymx_session_law.proofs.CallsKeep.{open_or-keeps, with-keeps}
 
 -- ---- one record changes
@@ -100,9 +100,6 @@ phase_moves needs lost said Gone r n = refl
 -- a change of the record that is there
 at-settled : (id : ℕ) (f : End → End) (s : Session) (e : End) → look id s.table.entries ≡ Some e → Stays s.table.window f e → IsSettled s → IsSettled (on_stream id f s)
 at-settled id f s e l keeps h = settled-on id f s (λ d m. let P : End → Type 0 = λ x. Stays s.table.window f x in subst P (one_some e d (sym l ∙ m)) keeps) h
-  where
-    one_some : (x y : End) → Some x ≡ Some y → x ≡ y
-    one_some x y p = cc
 
 call-at : (id : ℕ) (b : Bool) (f : End → End) (s : Session) (e : End) → look id s.table.entries ≡ Some e → IsSettled s → (b ≡ true → Stays s.table.window f e) → IsSettled (if b then on_stream id f s else s)
 call-at id b f s e l h keeps = split IsSettled b (on_stream id f s) s (λ t. at-settled id f s e l (keeps t) h) (λ n. h)

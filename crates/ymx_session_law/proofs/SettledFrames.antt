@@ -22,7 +22,7 @@ use Rattle.ymx_model.specs.Records.{End, takes_payload, gets_data, gets_credit, 
 use Rattle.ymx_model.specs.Outgoing.{Kind, is_due, is_empty, sends, spelled, next_kind}
 use Rattle.ymx_model.specs.Pings.{answered, has_asked, ping_goes, first_asked}
 use Rattle.ymx_model.specs.GoAway.{away_due, away_goes}
-use Rattle.ymx_model.specs.Tables.{look, change, added, removed, on, served}
+use Rattle.ymx_model.specs.Tables.{look, change, added, removed, on, served, Distinct}
 use Rattle.ymx_model.specs.Sessions.{Session, Incoming, new_session, nothing_begun, is_own, is_of, is_closed, is_deaf, is_running, is_broken, is_spent, on_stream, settled, breaks, drop_id}
 use Rattle.ymx_model.specs.Sessions.Incoming.{Head, Payload}
 use Rattle.ymx_model.specs.Calls.{input_ends}
@@ -32,10 +32,10 @@ use Rattle.ymx_model.specs.Emissions.{Choice, begin, begin_answer, begin_stream,
 use Rattle.ymx_model.specs.Emissions.Choice.{TheAlarm, TheGoAway, TheAnswer, ThePing, AStream}
 use Rattle.ymx_model.specs.Histories.{CallGives, Gives, ReplaysFrom}
 use Rattle.ymx_model.specs.Histories.CallGives.{Outcome, NoMemory}
-use Rattle.ymx_session_law.specs.Limits.{IsWithin, Distinct}
+use Rattle.ymx_session_law.specs.Limits.{IsWithin}
 use Rattle.ymx_session_law.specs.Settled.{IsSettled, NoneLingers}
-use Rattle.ymx_session_law.proofs.Splits.{split, both_of, none_of, same_or_not}
-use Rattle.ymx_session_law.proofs.Entries.{look-change_other, look-without_before, distinct-change, distinct-added}
+use Rattle.ymx_model.proofs.Tests.{split, both_of, none_of, same_or_not, or_true, one_some}
+use Rattle.ymx_model.proofs.Lists.{look-change_other, look-without_before, distinct-change, distinct-added}
 use Rattle.ymx_session_law.proofs.FramesKeep.{unless_fault-keeps, none_of_look, syn_chain}
 use Rattle.ymx_session_law.proofs.FeedsKeep.{byte-keeps}
 use Rattle.ymx_session_law.proofs.HistoriesKeep.{gives-keep}
@@ -196,9 +196,6 @@ stream-settled id limit x kind s e some k = record {
         let g : (is_lingering y.phase && not (is_due s.table.window y) && not (is_of None j)) ≡ false = rw o at h in
         rw (other_id id j n) g
 
-one_some : (x y : Session) → Some x ≡ Some y → x ≡ y
-one_some x y e = cc
-
 answer-settled : (xs : List Response) (s t : Session) → is_empty s.begun.bytes ≡ true → begin_answer xs s ≡ Some t → IsSettled s → IsSettled t
 answer-settled [] s t e b k = cc
 answer-settled (r ∷ more) s t e b k = subst IsSettled (one_some _ t b) (session-settled (answer_frame r) s (record s { answers = more }) e refl refl k)
@@ -286,10 +283,6 @@ gives-settled may s t event.FeedEnd reply g w k =
 gives-settled may s t (event.Emit room) reply g w k = flows-settled may g.0 s t g.2.flows w k
 
 -- ---- where nothing is due, no record lingers
-
-or_true : (b : Bool) → (b || true) ≡ true
-or_true true = refl
-or_true false = refl
 
 running_open : (st : Status) → is_running st ≡ true → is_closed st ≡ false
 running_open Running e = refl

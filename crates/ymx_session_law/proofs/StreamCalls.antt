@@ -6,7 +6,7 @@ use Rattle.ymx_model.specs.StreamRules.{write_reply, read_reply, finish_reply, r
 use Rattle.ymx_model.specs.Records.{End, end_write, end_read, end_finish, end_reset, end_forget}
 use Rattle.ymx_model.specs.Sessions.{Session, is_lost, on_stream, settled}
 use Rattle.ymx_model.specs.Calls.{outcome, write_outcome, read_outcome, finish_outcome, reset_outcome, forget_outcome}
-use Rattle.ymx_session_law.proofs.Splits.{split}
+use Rattle.ymx_model.proofs.Tests.{split}
 use Rattle.ymx_session_law.proofs.CallsKeep.{with-keeps}
 
 -- it holds now, after any change of the record, and after one behind which the record may go

@@ -16,8 +16,8 @@ use Rattle.ymx_model.specs.Sessions.Incoming.{Payload}
 use Rattle.ymx_model.specs.Arrivals.{answers_with, payload, expects, record_fault, acknowledges, gets_head, meets, offer, refuses, head_comes}
 use Rattle.ymx_session_law.specs.Offers.{IsGoodSyn, HasCause, IsOffered, IsRejected, LeavesNoTrace}
 use Rattle.ymx_session_law.specs.Limits.{IsWithin, is_listed}
-use Rattle.ymx_session_law.proofs.Splits.{split, none_of}
-use Rattle.ymx_session_law.proofs.Entries.{change-added, without-added, place-added}
+use Rattle.ymx_model.proofs.Tests.{split, none_of, or_true}
+use Rattle.ymx_model.proofs.Lists.{change-added, without-added, place-added}
 use Rattle.ymx_session_law.proofs.FramesKeep.{syn_chain, none_of_look}
 
 -- ---- such a head is judged as a SYN
@@ -45,10 +45,6 @@ said Sent n = refl
 
 at_least : (a b : ℕ) → a ≤ b → nat_le a b ≡ true
 at_least a b l = grind (arith, nat_tests)
-
-pub or_true : (b : Bool) → (b || true) ≡ true
-or_true true = refl
-or_true false = refl
 
 pub causes : (s : Session) → HasCause s → refuses s ≡ true
 causes s (inl a) = rw (said s.away.here a) refl

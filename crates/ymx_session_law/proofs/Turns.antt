@@ -14,7 +14,7 @@ use Rattle.ymx_model.specs.Tables.{look, round, on, served}
 use Rattle.ymx_model.specs.Sessions.{Session, is_running, is_broken}
 use Rattle.ymx_model.specs.Emissions.{Choice, begin, begin_answer, begin_stream, begin_kind, Ready, Flows, Emits, moves_on, is_ready, no_answers, in_turn, is_first, is_some_of, data_limit}
 use Rattle.ymx_model.specs.Emissions.Choice.{TheAlarm, TheGoAway, TheAnswer, ThePing, AStream}
-use Rattle.ymx_session_law.proofs.Splits.{both_of, agrees}
+use Rattle.ymx_model.proofs.Tests.{both_of, agrees, negated, one_some}
 use Rattle.ymx_session_law.proofs.EmissionsKeep.{some_if, none_if, if_some}
 use Rattle.ymx_session_law.proofs.Ready.{given-due}
 
@@ -42,10 +42,6 @@ not-broken Running e = refl
 not-broken Lost e = refl
 not-broken (Broken fault) e = sym e
 not-broken Closed e = refl
-
-negated : (b : Bool) → not b ≡ true → b ≡ false
-negated true e = sym e
-negated false e = refl
 
 none-is : (o : Option ℕ) → is_some o ≡ false → o ≡ None
 none-is None e = refl
@@ -103,9 +99,6 @@ by-turn (AStream id limit) s t e b =
     runs s p.0 ∙ (no-session-frame s (negated (away_due s.away.here) y.0) y.1
     ∙ (ap (λ o. of_pings o s) (none-is (first_asked s.pings.pending) (negated (is_some (first_asked s.pings.pending)) x.1)) ∙ (sym (first-is id (round s.table) s r.1) ∙ c)))
 
-some_same : {X : Type 0} (x y : X) → Some x ≡ Some y → x ≡ y
-some_same x y e = cc
-
 other_empty : (b : Bool) → b ≡ false → b ≡ true → ⊥
 other_empty b e f = cc
 
@@ -113,7 +106,7 @@ one-ready : (s t u : Session) → Ready in_turn s t → Ready in_turn s u → t 
 one-ready s t u (inl h) (inl k) = h.1 ∙ sym k.1
 one-ready s t u (inl h) (inr k) = absurd (other_empty _ h.0 k.0)
 one-ready s t u (inr h) (inl k) = absurd (other_empty _ k.0 h.0)
-one-ready s t u (inr (e, (c, ok, b))) (inr (f, (d, may, g))) = some_same t u (sym (by-turn c s t ok b) ∙ by-turn d s u may g)
+one-ready s t u (inr (e, (c, ok, b))) (inr (f, (d, may, g))) = one_some t u (sym (by-turn c s t ok b) ∙ by-turn d s u may g)
 
 -- ---- one emission
 

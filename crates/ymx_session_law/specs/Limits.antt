@@ -6,7 +6,7 @@ use Rattle.ymx_model.specs.Lanes.{first_credit}
 use Rattle.ymx_model.specs.Streams.{takes, is_offered, is_recorded}
 use Rattle.ymx_model.specs.Records.{End, held, takes_payload}
 use Rattle.ymx_model.specs.Pings.{Ping, Pings, most_pings, is_pending}
-use Rattle.ymx_model.specs.Tables.{Table, look, most_records}
+use Rattle.ymx_model.specs.Tables.{Table, look, most_records, Distinct}
 use Rattle.ymx_model.specs.Sessions.{Session, Incoming, is_own, most_offered, most_answers, most_unacknowledged}
 use Rattle.ymx_model.specs.Calls.{is_unacknowledged}
 use Rattle.ymx_model.specs.Sessions.Incoming.{Head, Payload}
@@ -29,11 +29,6 @@ pub record IsEndWithin (window : ℕ) (e : End) : Type 0 where
   pub all : takes e.phase ≡ true → held e.inn ≡ window
   pub credit : e.out.credit ≤ 4294967295
   pub offered : is_offered e.phase ≡ true → IsSilent e
-
--- no number has two records
-abbrev pub Distinct : {X : Type 0} → List (ℕ × X) → Type 0
-Distinct [] = Unit
-Distinct (p ∷ ps) = (look p.0 ps ≡ None) × Distinct ps
 
 -- The table: a window that may be chosen, records within their limits, no two of one id, at most 1,024,
 -- and the next turn at a place among them, or behind the last.

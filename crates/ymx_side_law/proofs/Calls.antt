@@ -13,15 +13,15 @@ use Rattle.ymx_model.specs.StreamRules.{StreamCall, write_reply, read_reply, fin
 use Rattle.ymx_model.specs.StreamRules.StreamCall.{Writes, Reads, Finishes, Resets, Forgets}
 use Rattle.ymx_model.specs.Records.{End, end_write, end_read, end_finish, end_reset, end_forget}
 use Rattle.ymx_model.specs.Outgoing.{Kind, next_kind, is_due}
-use Rattle.ymx_model.specs.Tables.{look, removed}
+use Rattle.ymx_model.specs.Tables.{look, removed, Distinct}
 use Rattle.ymx_model.specs.Sessions.{Session, is_lost, is_closed, is_of, is_spent, on_stream, settled}
 use Rattle.ymx_model.specs.Calls.{Outcome, outcome, with_stream, write_outcome, read_outcome, if_done, finish_outcome, reset_outcome, forget_outcome, takes_memory, unsent_count, write_to}
 use Rattle.ymx_model.specs.Histories.{CallGives}
 use Rattle.ymx_model.specs.Histories.CallGives.{Outcome as HasOutcome, NoMemory}
 use Rattle.ymx_law.specs.Answers.{EndRule}
-use Rattle.ymx_session_law.specs.Limits.{IsWithin, Distinct}
-use Rattle.ymx_session_law.proofs.Splits.{split, both_of}
-use Rattle.ymx_session_law.proofs.Entries.{look-change_same, look-without_same, distinct-change}
+use Rattle.ymx_session_law.specs.Limits.{IsWithin}
+use Rattle.ymx_model.proofs.Tests.{split, both_of}
+use Rattle.ymx_model.proofs.Lists.{look-change_same, look-without_same, distinct-change}
 use Rattle.ymx_session_law.proofs.Ready.{due-kind}
 use Rattle.ymx_side_law.specs.Sides.{call_on, Has}
 

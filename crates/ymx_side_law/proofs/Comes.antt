@@ -13,18 +13,18 @@ use Rattle.ymx_model.specs.Streams.Phase.{Unborn, Offered, Live, WasReset, Refus
 use Rattle.ymx_model.specs.Records.{End, gets_data, gets_credit, gets_fin, gets_ack, gets_rst, gets_piece}
 use Rattle.ymx_model.specs.Parts.{Part}
 use Rattle.ymx_model.specs.Parts.Part.{Syn, Ack, Data, Credit, Fin, Rst}
-use Rattle.ymx_model.specs.Tables.{look, added, removed, most_records}
+use Rattle.ymx_model.specs.Tables.{look, added, removed, most_records, Distinct}
 use Rattle.ymx_model.specs.Sessions.{Session, nothing_begun, most_offered, is_own, is_spent, on_stream, settled, breaks, drop_id}
 use Rattle.ymx_model.specs.Emissions.{moves_on, settles}
 use Rattle.ymx_model.specs.Sessions.Incoming.{Head, Payload}
 use Rattle.ymx_model.specs.Arrivals.{answers_with, offer, refuses, is_data, payload, delta, expects, record_fault, reset_comes, acknowledges, gets_head, meets, meets_some, unless_fault, header_fault, head_comes, piece_comes}
 use Rattle.ymx_session_law.specs.Frames.{frame_comes, payload_comes}
-use Rattle.ymx_session_law.specs.Limits.{IsWithin, Distinct}
-use Rattle.ymx_session_law.proofs.Splits.{split, agrees, both_of, same_or_not}
-use Rattle.ymx_session_law.proofs.Entries.{look-change_same, look-added_same, look-without_same, distinct-change}
+use Rattle.ymx_session_law.specs.Limits.{IsWithin}
+use Rattle.ymx_model.proofs.Tests.{split, agrees, both_of, same_or_not, or_true}
+use Rattle.ymx_model.proofs.Lists.{look-change_same, look-added_same, look-without_same, distinct-change}
 use Rattle.ymx_session_law.specs.Offers.{IsGoodSyn, HasCause}
 use Rattle.ymx_session_law.proofs.Others.{others-settled}
-use Rattle.ymx_session_law.proofs.SynCauses.{good-syn, not_own, no_cause, causes, or_true}
+use Rattle.ymx_session_law.proofs.SynCauses.{good-syn, not_own, no_cause, causes}
 use Rattle.ymx_law.specs.Arrivals.{comes_to, gets_syn, refused_end}
 use Rattle.ymx_side_law.specs.Sides.{Has, opening, rest, says, all_come}
 use Rattle.ymx_side_law.proofs.Calls.{has-some, settled-has, on-look}

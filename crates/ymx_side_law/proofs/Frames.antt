@@ -1,5 +1,5 @@
 -- The frames of a stream that a session sends, and what they say.
-use Rattle.std.proofs.Common.{◌≡◌, ℕ, ◌^◌, ◌<◌, ◌||◌, ◌==◌, nat_lt, Option, None, Some, refl, sym, ◌∙◌, subst, arith}
+use Rattle.std.proofs.Common.{◌≡◌, ℕ, ◌^◌, ◌<◌, ◌||◌, ◌==◌, nat_lt, Option, None, Some, refl, ◌∙◌, subst, arith}
 use Rattle.std.proofs.lemmas.Grind.{common_steps}
 use Rattle.ymx_model.specs.Lanes.{first_credit}
 use Rattle.ymx_model.specs.Records.{End}
@@ -11,8 +11,9 @@ use Rattle.ymx_model.specs.Sessions.{Session, is_running}
 use Rattle.ymx_model.specs.Emissions.{begin, begin_stream, begin_kind}
 use Rattle.ymx_model.specs.Emissions.Choice.{AStream}
 use Rattle.ymx_session_law.proofs.EmissionsKeep.{none_if, if_some}
-use Rattle.ymx_session_law.proofs.Entries.{look-change_same}
+use Rattle.ymx_model.proofs.Lists.{look-change_same}
 use Rattle.ymx_side_law.specs.Sides.{says_in}
+use Rattle.ymx_model.proofs.Tests.{one_some}
 
 -- ---- what goes out
 
@@ -24,14 +25,11 @@ pub record IsSent (id limit : ℕ) (s t : Session) : Type 0 where
   pub now : look id t.table.entries ≡ Some (sends s.table.window limit kind end)
   pub bytes : t.begun.bytes ≡ spelled kind s.table.window limit id end
 
-some-same : {X : Type 0} (x y : X) → Some x ≡ Some y → y ≡ x
-some-same x y e = cc
-
 kind-sent : (id limit : ℕ) (e : End) (k : Option Kind) (s t : Session) → look id s.table.entries ≡ Some e → next_kind s.table.window e ≡ k → begin_kind id limit e k s ≡ Some t → IsSent id limit s t
 kind-sent id limit e None s t l n b = cc
 kind-sent id limit e (Some kind) s t l n b =
     let P : Session → Type 0 = IsSent id limit s in
-    subst P (sym (some-same _ t b)) (record {
+    subst P (one_some _ t b) (record {
       end = e;
       kind = kind;
       was = l;

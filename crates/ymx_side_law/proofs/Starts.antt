@@ -13,8 +13,8 @@ use Rattle.ymx_model.specs.Tables.{look, most_records}
 use Rattle.ymx_model.specs.Sessions.{Session, most_unacknowledged, is_lost, is_closed}
 use Rattle.ymx_model.specs.Calls.{Outcome, outcome, answers, refused, open_or, accept_of, is_unacknowledged}
 use Rattle.ymx_session_law.specs.Limits.{IsWithin, is_listed, is_offered_at}
-use Rattle.ymx_session_law.proofs.Splits.{split}
-use Rattle.ymx_session_law.proofs.Entries.{look-change_same, look-added_same}
+use Rattle.ymx_model.proofs.Tests.{split}
+use Rattle.ymx_model.proofs.Lists.{look-change_same, look-added_same}
 use Rattle.ymx_session_law.proofs.CallsKeep.{next_free}
 
 -- an open that isn't refused has this outcome

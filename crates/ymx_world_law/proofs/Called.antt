@@ -11,7 +11,7 @@ use Rattle.ymx_model.specs.Pings.{most_pings, has_back}
 use Rattle.ymx_model.specs.Tables.{look, most_records}
 use Rattle.ymx_model.specs.Sessions.{Session, most_unacknowledged, is_lost, is_closed, on_stream, settled}
 use Rattle.ymx_model.specs.Calls.{Outcome, outcome, open_or, accept, accept_of, with_record, with_stream, write_outcome, read_outcome, if_done, finish_outcome, reset_outcome, forget_outcome, is_unacknowledged}
-use Rattle.ymx_session_law.proofs.Splits.{split}
+use Rattle.ymx_model.proofs.Tests.{split}
 use Rattle.ymx_world_law.proofs.Emitted.{settled-begun}
 
 abbrev Leaves : Session → Session → Type 0

@@ -18,7 +18,7 @@ use Rattle.ymx_model.specs.Sessions.{Session, nothing_begun, is_running, is_brok
 use Rattle.ymx_model.specs.Emissions.{Choice, begin, begin_answer, begin_stream, begin_kind, begins, alarm_frame, go_away_frame, answer_frame, ping_frame, moves_on, settles, Flows}
 use Rattle.ymx_model.specs.Emissions.Choice.{TheAlarm, TheGoAway, TheAnswer, ThePing, AStream}
 use Rattle.ymx_model.specs.Worlds.{IsOneFrame}
-use Rattle.ymx_session_law.proofs.Splits.{split, none_of, not_lt}
+use Rattle.ymx_model.proofs.Tests.{split, none_of, not_lt, one_some}
 use Rattle.ymx_session_law.proofs.EmissionsKeep.{some_if, none_if, if_some}
 use Rattle.ymx_world_law.proofs.Frames.{data-frame, short-frame}
 
@@ -53,20 +53,17 @@ answer-one : (r : Response) → IsOneFrame (answer_frame r)
 answer-one (Pong value) = short-frame 2 2 0 value (omega arith) (omega arith)
 answer-one (Reject id) = short-frame 1 8 id 0 (omega arith) (omega arith)
 
-some-same : {X : Type 0} (x y : X) → Some x ≡ Some y → y ≡ x
-some-same x y e = cc
-
 answer-begins : (xs : List Response) (s t : Session) → begin_answer xs s ≡ Some t → Begins s t
 answer-begins [] s t e = cc
 answer-begins (r ∷ more) s t e =
     let P : Session → Type 0 = Begins s in
-    subst P (sym (some-same _ t e)) (record { one = answer-one r; same = record { status = refl; incoming = refl } })
+    subst P (one_some _ t e) (record { one = answer-one r; same = record { status = refl; incoming = refl } })
 
 kind-begins : (id limit : ℕ) (e : End) (k : Option Kind) (s t : Session) → limit ≤ first_credit → begin_kind id limit e k s ≡ Some t → Begins s t
 kind-begins id limit e None s t few b = cc
 kind-begins id limit e (Some kind) s t few b =
     let P : Session → Type 0 = Begins s in
-    subst P (sym (some-same _ t b)) (record { one = spelled-one kind s.table.window limit id e few; same = record { status = refl; incoming = refl } })
+    subst P (one_some _ t b) (record { one = spelled-one kind s.table.window limit id e few; same = record { status = refl; incoming = refl } })
 
 stream-begins : (id limit : ℕ) (o : Option End) (s t : Session) → begin_stream id limit o s ≡ Some t → Begins s t
 stream-begins id limit None s t b = cc

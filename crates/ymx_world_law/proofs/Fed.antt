@@ -20,7 +20,7 @@ use Rattle.ymx_model.specs.Arrivals.{answers_with, ping_comes, go_away_comes, pa
 use Rattle.ymx_model.specs.Feeds.{Takes, byte_comes, byte_in}
 use Rattle.ymx_model.specs.Worlds.{IsOneFrame, held_bytes, lacking}
 use Rattle.ymx_session_law.specs.Limits.{IsWithin}
-use Rattle.ymx_session_law.proofs.Splits.{split, agrees}
+use Rattle.ymx_model.proofs.Tests.{split, agrees}
 use Rattle.ymx_session_law.proofs.Frames.{Awaits, head-awaits}
 use Rattle.ymx_session_law.proofs.FramesKeep.{unless_fault-keeps}
 use Rattle.ymx_session_law.proofs.FeedsKeep.{header_few, payload_some, byte-keeps}

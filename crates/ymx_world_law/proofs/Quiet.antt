@@ -7,7 +7,7 @@ use Rattle.ymx_model.specs.Sessions.Incoming.{Head, Payload}
 use Rattle.ymx_model.specs.Emissions.{is_ready}
 use Rattle.ymx_model.specs.Worlds.{World, Pipe, IsOneFrame, held_bytes, lacking, is_quiet, is_quiet_pipe}
 use Rattle.ymx_session_law.specs.Limits.{IsWithin}
-use Rattle.ymx_session_law.proofs.Splits.{both_of}
+use Rattle.ymx_model.proofs.Tests.{both_of}
 use Rattle.ymx_session_law.proofs.FeedsKeep.{header_few, payload_some}
 use Rattle.ymx_world_law.specs.Texts.{AreFrames, AreWithin, HasFrames}
 use Rattle.ymx_world_law.proofs.Emitted.{empty-bytes}

@@ -25,7 +25,7 @@ use Rattle.ymx_model.specs.Histories.{CallGives}
 use Rattle.ymx_model.specs.Histories.CallGives.{Outcome, NoMemory}
 use Rattle.ymx_model.specs.Worlds.{World, Pipe, IsUnderWay, IsOneFrame, held_bytes, pushed, taken_off, taken_of, StepOfA, Steps, Runs, is_of_a, mirror}
 use Rattle.ymx_session_law.specs.Limits.{IsWithin}
-use Rattle.ymx_session_law.proofs.Splits.{both_of}
+use Rattle.ymx_model.proofs.Tests.{both_of}
 use Rattle.ymx_session_law.proofs.HistoriesKeep.{gives-keep}
 use Rattle.ymx_world_law.specs.Texts.{carries, HasFrames, AreFrames, AreWithin, IsLater, IsDelivered}
 use Rattle.ymx_world_law.proofs.Emitted.{SameInput, flows-sent}

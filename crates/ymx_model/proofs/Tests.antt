@@ -1,5 +1,5 @@
--- A fact about an `if`, and about a number that is tested.
-use Rattle.std.proofs.Common.{◌≡◌, ◌≢◌, ◌⊎◌, ℕ, ◌<◌, ◌≤◌, Bool, true, false, ◌&&◌, ◌||◌, ◌==◌, nat_lt, nat_le, if◌then◌else◌, refl, arith}
+-- Facts about an `if`, and about tests of numbers and of Bools.
+use Rattle.std.proofs.Common.{◌≡◌, ◌≢◌, ◌⊎◌, ℕ, ◌<◌, ◌≤◌, Bool, true, false, not, ◌&&◌, ◌||◌, ◌==◌, nat_lt, nat_le, if◌then◌else◌, Some, refl, sym, arith}
 use Rattle.std.proofs.lemmas.Bool.Decides.{nat_tests}
 
 -- what holds of both branches holds of the `if`
@@ -38,3 +38,24 @@ pub both_of : (a b : Bool) → (a && b) ≡ true → (a ≡ true) × (b ≡ true
 both_of true true e = (refl, refl)
 both_of true false e = (refl, e)
 both_of false b e = (e, absurd cc)
+
+pub when : (b : Bool) → (b ≡ true) ⊎ (b ≡ false)
+when b = grind arith
+
+pub or_true : (b : Bool) → (b || true) ≡ true
+or_true true = refl
+or_true false = refl
+
+pub negated : (b : Bool) → not b ≡ true → b ≡ false
+negated true e = sym e
+negated false e = refl
+
+-- two that are there and the same are one
+pub one_some : {X : Type 0} (x y : X) → Some x ≡ Some y → x ≡ y
+one_some x y e = cc
+
+pub is-self : (i : ℕ) → (i == i) ≡ true
+is-self i = grind (arith, nat_tests)
+
+pub is-other : (i j : ℕ) → i ≢ j → (j == i) ≡ false
+is-other i j n = grind (arith, nat_tests)

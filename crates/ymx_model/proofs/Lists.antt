@@ -1,16 +1,19 @@
--- What stands under a number after a record is changed, added or removed.
+-- Numbered lists: what stands under a number after an entry is changed, added or removed.
 use Rattle.std.proofs.Common.{◌≡◌, ◌≢◌, ◌⊎◌, inl, inr, ℕ, ◌+◌, ◌<◌, ◌≤◌, List, [], ◌∷◌, ◌++◌, length, Bool, true, false, ◌==◌, if◌then◌else◌, Option, None, Some, refl, sym, ap, ◌∙◌, arith}
 use Rattle.std.specs.Prelude.{is_some, option_map}
 use Rattle.std.proofs.lemmas.Bool.Decides.{nat_tests}
-use Rattle.ymx_model.specs.Tables.{look, change, without, place}
-use Rattle.ymx_session_law.specs.Limits.{Distinct}
-use Rattle.ymx_session_law.proofs.Splits.{split, differs, agrees, same_or_not}
+use Rattle.ymx_model.specs.Tables.{look, change, without, place, Distinct}
+use Rattle.ymx_model.proofs.Tests.{split, differs, agrees, same_or_not}
 
 -- ---- change
 
 pub look-change_same : {X : Type 0} (id : ℕ) (f : X → X) (ps : List (ℕ × X)) → look id (change id f ps) ≡ option_map f (look id ps)
 look-change_same id f [] = refl
 look-change_same id f (p ∷ ps) = let h = look-change_same id f ps in grind (arith, nat_tests)
+
+-- what is there is changed
+pub look-change_there : {X : Type 0} (id : ℕ) (f : X → X) (ps : List (ℕ × X)) (e : X) → look id ps ≡ Some e → look id (change id f ps) ≡ Some (f e)
+look-change_there id f ps e l = look-change_same id f ps ∙ ap (option_map f) l
 
 pub look-change_other : {X : Type 0} (id j : ℕ) (f : X → X) (ps : List (ℕ × X)) → j ≢ id → look j (change id f ps) ≡ look j ps
 look-change_other id j f [] n = refl
