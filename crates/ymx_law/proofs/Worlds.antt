@@ -23,6 +23,7 @@ use Rattle.ymx_law.specs.Worlds.Event.{AtA, AtB}
 use Rattle.ymx_law.proofs.Links.{not_not}
 use Rattle.ymx_law.proofs.Nothing.{absent-only}
 use Rattle.ymx_law.proofs.OneStream.{one-begins, one-flip, one-calls, one-accepts, one-shows, one-sends, one-comes, one-pieces, one-releases, one-loses, one-still, one-breaks}
+use Rattle.ymx_law.proofs.Marks.{fresh-none}
 
 -- ---- lists and maps by number
 
@@ -171,9 +172,6 @@ step-accepts j w m can r = elim (found _ _ _ _ _ _ _ _ (m j) (r.streams j)) [
   )
   | inr k ↦ absurd (let e = k.1.mine in let c : (w.a.ends j).phase ≡ Offered = can in let u : (w.a.ends j).phase ≡ Unborn = ap (λ (e : End). e.phase) e in cc)
 ]
-
-fresh-none : (window : ℕ) (k : Kind) → next_kind window (new_end window Unborn false false) ≡ Some k → ⊥
-fresh-none window k h = grind arith
 
 step-sends : (j : ℕ) (k : Kind) (limit : ℕ) (w : World) (m : Machine) → Can (Sends j k limit) w → Refines w m →
     (n : Machine) × Steps (Sends j k limit) w m n × Refines (acts (Sends j k limit) w) n
