@@ -2,7 +2,7 @@
 use Rattle.std.proofs.Common.{◌≡◌, ℕ, List, [], ◌∷◌, ◌++◌, length, true, false, refl, append_assoc, zero-add, arith}
 use Rattle.ymx_model.specs.Lanes.{lane_arrive, lane_vanish, lane_return, lane_fin}
 use Rattle.ymx_model.specs.Lanes.Mark.{Here}
-use Rattle.ymx_model.specs.Streams.{Phase, Stream, Allowed, after, takes, is_up}
+use Rattle.ymx_model.specs.Streams.{Stream, Allowed, after, takes, is_up}
 use Rattle.ymx_model.specs.Streams.Phase.{Unborn, Offered}
 use Rattle.ymx_model.specs.Streams.Move.{EndArrives, SynOffered, SynRefused, AckArrives, ResetArrives}
 use Rattle.ymx_model.specs.Records.{End, new_end, arrive, given, end_comes, gets_ack, gets_rst}
@@ -13,20 +13,12 @@ use Rattle.ymx_law.specs.Links.{Alive, Heard}
 use Rattle.ymx_law.specs.Arrivals.{refused_end}
 use Rattle.ymx_law.proofs.Marks.{born-sleeps, spoke, born-offered, acks-got, acks-opener}
 use Rattle.ymx_law.proofs.Directions.{lists, kept-arrive, kept-vanish, kept-given, kept-dropped, ends-arrive, ends-comes, ends-ignored}
-
-takes-born : (p : Phase) → takes p ≡ true → p ≡ Unborn → ⊥
-takes-born p t h = grind arith
-
-takes-up : (p : Phase) → takes p ≡ true → is_up p ≡ true
-takes-up p t = grind arith
+use Rattle.ymx_law.proofs.Phases.{takes-up, takes-born}
 
 -- a part that isn't a SYN finds an end that is born
 pub syn-only : (wx wy : ℕ) (x y : End) (xy : List Part) (f : Part) (yx : List Part) (s : Stream) →
     is_syn f ≡ false → Alive wx wy x y xy (f ∷ yx) s → x.phase ≡ Unborn → ⊥
 syn-only wx wy x y xy f yx s n c u = let k = c.out.born.own_late in let b = c.inn.born.opener in let o = c.inn.born.first in let q = c.inn.ordered.0 in grind arith
-
-pub down : (p : Phase) → takes p ≡ false → (p ≡ Unborn → ⊥) → is_up p ≡ false
-down p t n = grind arith
 
 -- a piece of a payload that an end takes
 pub taken : (bytes rest : List ℕ) (wx wy : ℕ) (x y : End) (xy yx : List Part) (s : Stream) →

@@ -2,8 +2,8 @@
 use Rattle.std.proofs.Common.{◌≡◌, ℕ, ◌≤◌, List, [], length, Bool, true, false, not, ◌&&◌, ◌⊎◌, inl, inr, if◌then◌else◌, None, refl, ap, subst, arith}
 use Rattle.ymx_model.specs.Lanes.{Mark, back}
 use Rattle.ymx_model.specs.Lanes.Mark.{Said}
-use Rattle.ymx_model.specs.Streams.{Phase, Stream, flip, TakesBack, after, is_up, is_live, takes, stream_write, stream_read, stream_finish, stream_accept, stream_reset, stream_forget}
-use Rattle.ymx_model.specs.Streams.Phase.{Unborn, Offered, Live, Lingering, Gone}
+use Rattle.ymx_model.specs.Streams.{Phase, Stream, flip, TakesBack, after, is_up, is_live, stream_write, stream_read, stream_finish, stream_accept, stream_reset, stream_forget}
+use Rattle.ymx_model.specs.Streams.Phase.{Offered, Live, Lingering, Gone}
 use Rattle.ymx_model.specs.Streams.Move.{Released}
 use Rattle.ymx_model.specs.Records.{End, Reader, dead_reader, write, finish, end_write, end_read, end_finish, end_accept, end_reset}
 use Rattle.ymx_model.specs.Outgoing.{next_kind}
@@ -16,15 +16,7 @@ use Rattle.ymx_law.proofs.Heard.{heard-goes, said-goes, heard-released, said-rel
 use Rattle.ymx_law.specs.Answers.{end_released}
 use Rattle.ymx_law.proofs.Directions.{lists, kept-less, kept-write, kept-read, kept-stopped, kept-emptied, kept-down, ends-write, ends-finish, ends-stopped, ends-given_up, ends-down}
 use Rattle.ymx_law.proofs.Marks.{born-sleeps, born-down, born-other, acks-opener, acks-accepted, acks-down, acks-reset, acks-other, stops-up, stops-down, stops-reset}
-
-live-born : (p : Phase) → p ≡ Live → p ≡ Unborn → ⊥
-live-born p l h = grind arith
-
-live-up : (p : Phase) → p ≡ Live → is_up p ≡ true
-live-up p l = grind arith
-
-live-takes : (p : Phase) → p ≡ Live → takes p ≡ true
-live-takes p l = grind arith
+use Rattle.ymx_law.proofs.Phases.{down-born, live-takes, live-up, live-born}
 
 pub alive-writes : (bytes : List ℕ) (wx wy : ℕ) (x y : End) (xy yx : List Part) (s : Stream) →
     x.phase ≡ Live → x.out.finished ≡ false → length bytes ≤ x.out.credit → Alive wx wy x y xy yx s → Alive wx wy (end_write bytes x) y xy yx (stream_write bytes s)
@@ -74,9 +66,6 @@ kept_fin x s = if fin_waits x.out then back s.out.fin else s.out.fin
 
 abbrev pub kept_ack : End → Stream → Mark
 kept_ack x s = if x.marks.ack then back s.ack else s.ack
-
-down-born : (p : Phase) → is_up p ≡ false → p ≡ Unborn → ⊥
-down-born p l h = grind arith
 
 pub alive-resets : (p : Phase) (wx wy : ℕ) (x y : End) (xy yx : List Part) (s : Stream) →
     x.phase ≡ Live → is_up p ≡ false → Alive wx wy x y xy yx s →

@@ -13,10 +13,9 @@ use Rattle.ymx_law.specs.Arrivals.{gets_syn, comes_to, MovesOf, Goes}
 use Rattle.ymx_law.proofs.Flight.{no_list}
 use Rattle.ymx_law.proofs.Directions.{lists}
 use Rattle.ymx_law.proofs.Heard.{said-over, said-ack, said-data, said-piece, said-credit, said-fin, said-rst}
-use Rattle.ymx_law.proofs.Arrives.{syn-only, down, taken, vanished, data-nothing, data-over, credited, credit-lapses, acknowledged, fin-taken, fin-ignored, fin-allowed, offered, refused, rst-comes, syn-finds}
-
-when : (b : Bool) → (b ≡ true) ⊎ (b ≡ false)
-when b = grind arith
+use Rattle.ymx_law.proofs.Arrives.{syn-only, taken, vanished, data-nothing, data-over, credited, credit-lapses, acknowledged, fin-taken, fin-ignored, fin-allowed, offered, refused, rst-comes, syn-finds}
+use Rattle.ymx_law.proofs.Phases.{down}
+use Rattle.ymx_law.proofs.Links.{when}
 
 alive-is : (wx wy : ℕ) (x x' y : End) (xy yx : List Part) (s s' : Stream) → x' ≡ x → s' ≡ s → Alive wx wy x y xy yx s → Alive wx wy x' y xy yx s'
 alive-is wx wy x x' y xy yx s s' a b c = rw (a, b) c

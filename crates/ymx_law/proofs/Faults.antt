@@ -1,8 +1,8 @@
 -- What comes over a link breaks no rule of windows, ids or flags.
-use Rattle.std.proofs.Common.{◌≡◌, ℕ, ◌+◌, ◌≤◌, List, [], ◌∷◌, length, true, false, inl, inr, refl, append-nil, arith}
+use Rattle.std.proofs.Common.{◌≡◌, ℕ, ◌+◌, ◌≤◌, List, [], ◌∷◌, length, true, inl, inr, refl, append-nil, arith}
 use Rattle.ymx_model.specs.Lanes.{first_credit}
-use Rattle.ymx_model.specs.Streams.{Phase, Stream, flip, takes, is_unborn, is_up}
-use Rattle.ymx_model.specs.Streams.Phase.{Unborn, Offered, Live, WasReset, Refused, Lingering, Gone}
+use Rattle.ymx_model.specs.Streams.{Stream, flip, takes}
+use Rattle.ymx_model.specs.Streams.Phase.{Unborn}
 use Rattle.ymx_model.specs.Records.{End, takes_payload}
 use Rattle.ymx_model.specs.Parts.{Part}
 use Rattle.ymx_model.specs.Parts.Part.{Syn, Ack, Data, Credit, Fin, Rst}
@@ -12,6 +12,7 @@ use Rattle.ymx_law.proofs.Flight.{no_list}
 use Rattle.ymx_law.proofs.Directions.{lists}
 use Rattle.ymx_law.proofs.Arrives.{syn-only, syn-finds}
 use Rattle.ymx_law.proofs.Comes.{ended-empty}
+use Rattle.ymx_law.proofs.Phases.{down-takes, born}
 
 data-granted : (b : List ℕ) (wx wy : ℕ) (x y : End) (xy yx : List Part) (s : Stream) →
     takes x.phase ≡ true → Alive wx wy x y xy (Data b ∷ yx) s → length b ≤ x.inn.granted
@@ -53,15 +54,6 @@ syn-load d wx wy x y xy (Credit e ∷ yx) s u c = omega arith
 syn-load d wx wy x y xy (Fin ∷ yx) s u c = omega arith
 syn-load d wx wy x y xy (Rst ∷ yx) s u c = omega arith
 
-born : (p : Phase) → (p ≡ Unborn → ⊥) → is_unborn p ≡ false
-born Unborn n = absurd (n refl)
-born Offered n = refl
-born Live n = refl
-born WasReset n = refl
-born Refused n = refl
-born Lingering n = refl
-born Gone n = refl
-
 alive-breaks : (f : Part) (wx wy : ℕ) (x y : End) (xy yx : List Part) (s : Stream) → Alive wx wy x y xy (f ∷ yx) s → BreaksNothing wy s.own f yx x
 alive-breaks (Syn d) wx wy x y xy yx s c =
     let k = syn-finds d wx wy x y xy yx s c in (k.0, k.1, syn-room d wx wy x y xy yx s k.0 c, syn-load d wx wy x y xy yx s k.0 c)
@@ -72,10 +64,6 @@ alive-breaks (Data b) wx wy x y xy yx s c =
 alive-breaks (Credit d) wx wy x y xy yx s c = (born x.phase (syn-only wx wy x y xy (Credit d) yx s refl c), λ t. credit-room d wx wy x y xy yx s t c)
 alive-breaks Fin wx wy x y xy yx s c = (born x.phase (syn-only wx wy x y xy Fin yx s refl c), λ t. fin-open wx wy x y xy yx s t c)
 alive-breaks Rst wx wy x y xy yx s c = born x.phase (syn-only wx wy x y xy Rst yx s refl c)
-
--- an end that is over uses nothing
-down-takes : (p : Phase) → is_up p ≡ false → (is_unborn p ≡ false) × (takes p ≡ true → ⊥)
-down-takes p d = (grind arith, λ t. absurd (grind arith))
 
 said-breaks : (f : Part) (wx wy : ℕ) (x y : End) (xy yx : List Part) (s : Stream) → Heard wy wx y x (f ∷ yx) xy (flip s) → BreaksNothing wy s.own f yx x
 said-breaks (Syn d) wx wy x y xy yx s c = absurd (let e = c.no_syn in cc)

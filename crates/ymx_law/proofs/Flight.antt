@@ -4,7 +4,7 @@ use Rattle.std.specs.List.{list_any}
 use Rattle.std.proofs.lemmas.List.Folds.{list_any-append}
 use Rattle.ymx_model.specs.Parts.{Part}
 use Rattle.ymx_model.specs.Parts.Part.{Syn, Ack, Data, Credit, Fin, Rst}
-use Rattle.ymx_law.specs.Flight.{load, loads, gift, gifts, is_syn, is_ack, is_fin, is_rst, has_syn, has_ack, has_fin, has_rst, Behind, Ordered}
+use Rattle.ymx_law.specs.Flight.{load, loads, gift, gifts, is_syn, is_ack, is_fin, has_ack, has_fin, has_rst, Behind, Ordered}
 
 pub no_list : {f : Part} {fs : List Part} → f ∷ fs ≡ [] → ⊥
 no_list e = cc

@@ -1,6 +1,7 @@
 pub mod Flight
 pub mod Directions
 pub mod Links
+pub mod Phases
 pub mod Marks
 pub mod Heard
 pub mod Arrives

@@ -1,5 +1,5 @@
 -- Both sides see one stream, and a stream begins.
-use Rattle.std.proofs.Common.{◌≡◌, ℕ, ◌≤◌, List, [], length, Bool, true, false, not, inl, inr, arith}
+use Rattle.std.proofs.Common.{◌≡◌, ℕ, ◌≤◌, List, [], length, Bool, true, false, not, ◌⊎◌, inl, inr, arith}
 use Rattle.ymx_model.specs.Lanes.{first_credit}
 use Rattle.ymx_model.specs.Streams.{Stream, flip, opened_stream, stream_write}
 use Rattle.ymx_model.specs.Streams.Phase.{Unborn, Live}
@@ -10,6 +10,9 @@ use Rattle.ymx_law.proofs.Directions.{lists}
 
 pub not_not : (b : Bool) → not (not b) ≡ b
 not_not b = grind arith
+
+pub when : (b : Bool) → (b ≡ true) ⊎ (b ≡ false)
+when b = grind arith
 
 pub flips : (wx wy : ℕ) (x y : End) (xy yx : List Part) (s : Stream) → Alive wx wy x y xy yx s → Alive wy wx y x yx xy (flip s)
 flips wx wy x y xy yx s c = record { out = c.inn; inn = rw not_not c.out }

@@ -1,10 +1,11 @@
 -- What an end has said of its SYN, ACK and RST, as its frames come and go.
-use Rattle.std.proofs.Common.{◌≡◌, ℕ, List, [], ◌∷◌, ◌++◌, Bool, true, false, not, ◌||◌, if◌then◌else◌, arith}
+use Rattle.std.proofs.Common.{◌≡◌, ℕ, List, [], ◌∷◌, ◌++◌, Bool, true, false, not, ◌||◌, if◌then◌else◌, Some, subst, arith}
 use Rattle.ymx_model.specs.Lanes.{Mark, back}
 use Rattle.ymx_model.specs.Lanes.Mark.{Said, Here}
 use Rattle.ymx_model.specs.Streams.{Phase, Stream, is_up, is_unborn}
 use Rattle.ymx_model.specs.Streams.Phase.{Unborn, Offered, Live}
-use Rattle.ymx_model.specs.Records.{End, Writer, dead_writer}
+use Rattle.ymx_model.specs.Records.{End, Writer, dead_writer, new_end}
+use Rattle.ymx_model.specs.Outgoing.{Kind, next_kind}
 use Rattle.ymx_model.specs.Parts.{Part}
 use Rattle.ymx_model.specs.Parts.Part.{Syn, Ack, Credit, Rst}
 use Rattle.ymx_law.specs.Flight.{is_syn, is_ack, is_rst, has_syn, has_ack, has_rst}
@@ -21,6 +22,13 @@ born-sleeps window e fs n = record { new = λ h. absurd (n h); idle = λ h. absu
 pub spoke : {wx wy : ℕ} {x y : End} {xy yx : List Part} {f : Part} {s : Stream} (fs : List Part) →
     Direction wx wy x y (f ∷ xy) yx s → (x.marks.syn ≡ true → fs ≡ []) × (x.phase ≡ Unborn → fs ≡ [])
 spoke fs c = (λ h. absurd (no_list (c.born.first h)), λ h. absurd (no_list (c.sleeps.idle h)))
+
+pub fresh-none : (window : ℕ) (k : Kind) → next_kind window (new_end window Unborn false false) ≡ Some k → ⊥
+fresh-none window k h = grind arith
+
+-- an end that has something to send is born
+pub due-born : (k : Kind) {window : ℕ} {e : End} {fs : List Part} → next_kind window e ≡ Some k → Sleeps window e fs → e.phase ≡ Unborn → ⊥
+due-born k {window = window} h c u = fresh-none window k (subst (λ z. next_kind window z ≡ Some k) (c.new u) h)
 
 -- ---- the SYN
 

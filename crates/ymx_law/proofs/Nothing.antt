@@ -1,12 +1,12 @@
 -- What changes nothing: no bytes, and a call on a stream that no caller has.
-use Rattle.std.proofs.Common.{◌≡◌, [], Bool, false, ◌||◌, inl, arith}
-use Rattle.ymx_model.specs.Streams.{Stream, stream_write, is_live, is_reset}
+use Rattle.std.proofs.Common.{◌≡◌, Bool, false, ◌||◌, inl, arith}
+use Rattle.ymx_model.specs.Streams.{Stream, is_live, is_reset}
 use Rattle.ymx_model.specs.StreamRules.{StreamCall, StreamRule}
 use Rattle.ymx_model.specs.StreamRules.StreamCall.{Writes, Reads, Finishes, Resets, Forgets}
 use Rattle.ymx_model.specs.declared.types.Reply.{Reply}
 use Rattle.ymx_model.specs.declared.types.Reply.TheVariants.{Refused}
 use Rattle.ymx_model.specs.declared.types.CallFault.TheVariants.{NoStream}
-use Rattle.ymx_model.specs.Records.{End, end_write, gets_data}
+use Rattle.ymx_model.specs.Records.{End}
 use Rattle.ymx_law.specs.Answers.{EndRule}
 use Rattle.ymx_law.proofs.Directions.{lists}
 

@@ -14,9 +14,9 @@ use Rattle.ymx_law.specs.Links.{Related}
 use Rattle.ymx_law.specs.Arrivals.{comes_to, Goes}
 use Rattle.ymx_law.specs.Answers.{EndRule, end_released}
 use Rattle.ymx_law.specs.OneStream.{is_given_up, Stands, IsOneStream, Shows, IsQuiet}
-use Rattle.ymx_law.proofs.Links.{related-flip}
+use Rattle.ymx_law.proofs.Links.{when, related-flip}
 use Rattle.ymx_law.proofs.Nothing.{absent-only, absent-rule}
-use Rattle.ymx_law.proofs.Rules.{shows, law-call, law-forget_lost, when}
+use Rattle.ymx_law.proofs.Rules.{shows, law-call, law-forget_lost}
 use Rattle.ymx_law.proofs.Calls.{none-done, related-accepts, related-goes, related-releases}
 use Rattle.ymx_law.proofs.Sends.{related-sends}
 use Rattle.ymx_law.proofs.Faults.{related-breaks, related-within}

@@ -3,7 +3,7 @@ use Rattle.std.proofs.Common.{◌≡◌, ◌≢◌, ℕ, ◌≤◌, List, [], le
 use Rattle.std.proofs.lemmas.Grind.{common_steps}
 use Rattle.std.proofs.lemmas.Bool.Decides.{nat_tests}
 use Rattle.ymx_model.specs.Lanes.{is_unsaid, is_here}
-use Rattle.ymx_model.specs.Streams.{Phase, Stream, flip, is_live, is_reset, is_up, stream_write, stream_read, stream_finish, stream_reset, stream_forget}
+use Rattle.ymx_model.specs.Streams.{Phase, Stream, flip, is_live, is_reset, stream_write, stream_read, stream_finish, stream_reset, stream_forget}
 use Rattle.ymx_model.specs.Streams.Phase.{Live, WasReset, Lingering}
 use Rattle.ymx_model.specs.StreamRules.{StreamCall, write_reply, read_reply, finish_reply, reset_reply, forget_reply, moved, is_done, ResetsTo, forgets_quietly, IfSo, StreamRule}
 use Rattle.ymx_model.specs.StreamRules.StreamCall.{Writes, Reads, Finishes, Resets, Forgets}
@@ -14,10 +14,11 @@ use Rattle.ymx_law.specs.Flight.{loads}
 use Rattle.ymx_law.specs.Links.{Alive, Heard, Related}
 use Rattle.ymx_law.specs.Answers.{EndRule}
 use Rattle.ymx_law.specs.OneStream.{Shows}
-use Rattle.ymx_law.proofs.Links.{not_not}
+use Rattle.ymx_law.proofs.Links.{when, not_not}
 use Rattle.ymx_law.proofs.Directions.{lists}
 use Rattle.ymx_law.proofs.Heard.{heard-forgets, said-forgets}
 use Rattle.ymx_law.proofs.Calls.{alive-writes, alive-reads, alive-finishes, alive-resets, alive-given_up, resets-allowed, kept_fin, kept_ack}
+use Rattle.ymx_law.proofs.Phases.{live_not_reset, reset-down, is-live}
 
 shows-alive : (wx wy : ℕ) (x y : End) (xy yx : List Part) (s : Stream) → Alive wx wy x y xy yx s → Shows x s
 shows-alive wx wy x y xy yx s c = grind arith
@@ -118,9 +119,6 @@ law-read lost max r wx wy x x' y xy yx s c h =
 finish_done : (lost : Bool) (p : Phase) (said : Bool) → is_done (finish_reply lost p said) ≡ true → (p ≡ Live) × (said ≡ false)
 finish_done lost p said e = grind arith
 
-pub when : (b : Bool) → (b ≡ true) ⊎ (b ≡ false)
-when b = grind arith
-
 law-finish : (lost : Bool) (r : Reply) (wx wy : ℕ) (x x' y : End) (xy yx : List Part) (s : Stream) → Related wx wy x y xy yx s →
     EndRule lost Finishes x r x' → (t : Stream) × StreamRule lost Finishes s r t × Related wx wy x' y xy yx t
 law-finish lost r wx wy x x' y xy yx s c h = go (when (is_done r))
@@ -161,12 +159,6 @@ law-reset lost r wx wy x x' y xy yx s c h = go (when (is_done r))
 forget_done : (p : Phase) → is_done (forget_reply p) ≡ true → (is_live p ≡ true) ⊎ (is_reset p ≡ true)
 forget_done p e = grind arith
 
-is-live : (p : Phase) → is_live p ≡ true → p ≡ Live
-is-live p e = grind arith
-
-reset-down : (p : Phase) → is_reset p ≡ true → is_up p ≡ false
-reset-down p e = grind arith
-
 -- what is forgotten without a reset, whatever the record keeps
 given_up : (q : Reader) (wx wy : ℕ) (x y : End) (xy yx : List Part) (s : Stream) → q.unread ≡ [] → (is_live x.phase ≡ true) ⊎ (is_reset x.phase ≡ true) →
     Related wx wy x y xy yx s → Related wx wy (record x { phase = Lingering; inn = q }) y xy yx (stream_forget s)
@@ -195,9 +187,6 @@ forget-over x z o = grind arith
 -- any other
 forget-resets : (x : End) → is_reset x.phase ≡ false → (x.out.finished && x.inn.ended) ≡ false → end_forget false x ≡ end_reset Lingering x
 forget-resets x z o = grind arith
-
-live_not_reset : (p : Phase) → is_live p ≡ true → is_reset p ≡ false
-live_not_reset p l = grind arith
 
 reset-given_up : (wx wy : ℕ) (x y : End) (xy yx : List Part) (s : Stream) → is_reset x.phase ≡ true → Related wx wy x y xy yx s →
     Related wx wy (record x { phase = Lingering; inn = x.inn }) y xy yx (stream_forget s)

@@ -1,7 +1,7 @@
 -- A frame that goes out is no move of the machine.
 use Rattle.std.proofs.Common.{◌≡◌, ℕ, ◌+◌, ◌-◌, List, [], ◌∷◌, ◌++◌, take, Bool, true, false, ◌||◌, inl, inr, Some, refl, sym, subst, append-nil, add-zero, arith}
 use Rattle.ymx_model.specs.Lanes.{first_credit, Lane}
-use Rattle.ymx_model.specs.Streams.{Stream, Phase, is_live, is_up}
+use Rattle.ymx_model.specs.Streams.{Stream, Phase, is_live}
 use Rattle.ymx_model.specs.Streams.Phase.{Unborn}
 use Rattle.ymx_model.specs.Records.{End, Writer, Reader, announce, sent, fin_goes}
 use Rattle.ymx_model.specs.Outgoing.{Kind, next_kind, sends, is_empty}
@@ -9,22 +9,13 @@ use Rattle.ymx_model.specs.Outgoing.Kind.{Open, OpenWith, Accept, Reset, Credit 
 use Rattle.ymx_model.specs.Parts.{Part, parts_of}
 use Rattle.ymx_model.specs.Parts.Part.{Ack, Data, Credit, Fin, Rst}
 use Rattle.ymx_law.specs.Flight.{load, loads, gift, gifts, is_syn, is_ack, is_fin, is_rst, has_fin, has_rst}
-use Rattle.ymx_law.specs.Links.{Stops, Born, Sleeps, Acks, Direction, Alive, Heard, Related}
+use Rattle.ymx_law.specs.Links.{Stops, Born, Acks, Direction, Alive, Heard, Related}
 use Rattle.ymx_law.proofs.Heard.{spent-next, heard-rst}
-use Rattle.ymx_law.proofs.Marks.{born-sleeps, born-sent, born-more, acks-sent, acks-more, stops-none, stops-sent, stops-more, reset-sent, reset-more}
+use Rattle.ymx_law.proofs.Marks.{due-born, born-sleeps, born-sent, born-more, acks-sent, acks-more, stops-none, stops-sent, stops-more, reset-sent, reset-more}
 use Rattle.ymx_law.proofs.Flight.{pushes, loads_push, gifts_push, has_push, or_false, ordered_push}
 use Rattle.ymx_law.proofs.Directions.{lists, kept-told, kept-sent, kept-announce, ends-sent, ends-goes}
 use Rattle.ymx_law.specs.Directions.{mark_if, fin_waits, to_announce, Carries, Finishes}
-
--- an end with something due is born
-syn-born : (window : ℕ) (e : End) (fs : List Part) → Sleeps window e fs → e.marks.syn ≡ true → e.phase ≡ Unborn → ⊥
-syn-born window e fs c h u = let k = c.new u in grind arith
-
-ack-born : (window : ℕ) (e : End) (fs : List Part) → Sleeps window e fs → e.marks.ack ≡ true → e.phase ≡ Unborn → ⊥
-ack-born window e fs c h u = let k = c.new u in grind arith
-
-rst-born : (window : ℕ) (e : End) (fs : List Part) → Sleeps window e fs → e.marks.rst ≡ true → e.phase ≡ Unborn → ⊥
-rst-born window e fs c h u = let k = c.new u in grind arith
+use Rattle.ymx_law.proofs.Phases.{is-live, live-up}
 
 -- ---- what a frame leaves as it was
 
@@ -46,32 +37,32 @@ marks-more : (f : Part) {wx wy : ℕ} {x y : End} {xy yx : List Part} {s : Strea
 marks-more f {x = x} {xy = xy} a b r n c = (reset-more f x.marks.rst xy r c.reset, born-more f a n c.born, acks-more f b c.acks)
 
 pub goes-open : (limit wx wy : ℕ) (x y : End) (yx : List Part) (s : Stream) →
-    x.marks.syn ≡ true → x.marks.carries ≡ false → Alive wx wy x y [] yx s → Alive wx wy (sends wx limit Open x) y (parts_of Open wx limit x) yx s
-goes-open limit wx wy x y yx s l p c =
+    (x.phase ≡ Unborn → ⊥) → x.marks.syn ≡ true → x.marks.carries ≡ false → Alive wx wy x y [] yx s → Alive wx wy (sends wx limit Open x) y (parts_of Open wx limit x) yx s
+goes-open limit wx wy x y yx s b l p c =
     let stops : Stops x.phase x.out false x.marks.ack x.marks.rst (parts_of Open wx limit x) = grind arith in
     assumption (
       tt,
       born-sent (wx - first_credit) [] l refl c.out.born,
-      born-sleeps wx (sends wx limit Open x) (parts_of Open wx limit x) (syn-born wx x [] c.out.sleeps l),
+      born-sleeps wx (sends wx limit Open x) (parts_of Open wx limit x) b,
       kept-told (wx - first_credit) {more = gifts (parts_of Open wx limit x)} {less = to_announce wx x.phase false x.marks.carries x.marks.ack} (grind arith) (grind arith) c.inn.carries,
     )
 
 pub goes-open_with : (limit wx wy : ℕ) (x y : End) (yx : List Part) (s : Stream) →
-    x.marks.syn ≡ true → x.marks.carries ≡ true → Alive wx wy x y [] yx s → Alive wx wy (sends wx limit OpenWith x) y (parts_of OpenWith wx limit x) yx s
-goes-open_with limit wx wy x y yx s l p c =
+    (x.phase ≡ Unborn → ⊥) → x.marks.syn ≡ true → x.marks.carries ≡ true → Alive wx wy x y [] yx s → Alive wx wy (sends wx limit OpenWith x) y (parts_of OpenWith wx limit x) yx s
+goes-open_with limit wx wy x y yx s b l p c =
     let stops : Stops x.phase (sent limit x.out) false x.marks.ack x.marks.rst (parts_of OpenWith wx limit x) = grind (arith, lists) in
     assumption (
       tt,
       rw (← append-nil (take limit x.out.unsent)) at (kept-sent limit c.out.carries),
       rw (← append-nil (take limit x.out.unsent)) at (ends-sent limit c.out.finishes),
       born-sent 0 (Data (take limit x.out.unsent) ∷ []) l refl c.out.born,
-      born-sleeps wx (sends wx limit OpenWith x) (parts_of OpenWith wx limit x) (syn-born wx x [] c.out.sleeps l),
+      born-sleeps wx (sends wx limit OpenWith x) (parts_of OpenWith wx limit x) b,
       rw (l, p) at c.inn.carries,
     )
 
 pub goes-accept : (limit wx wy : ℕ) (x y : End) (xy yx : List Part) (s : Stream) →
-    x.marks.syn ≡ false → x.marks.ack ≡ true → Alive wx wy x y xy yx s → Alive wx wy (sends wx limit Accept x) y (xy ++ parts_of Accept wx limit x) yx s
-goes-accept limit wx wy x y xy yx s n l c =
+    (x.phase ≡ Unborn → ⊥) → x.marks.syn ≡ false → x.marks.ack ≡ true → Alive wx wy x y xy yx s → Alive wx wy (sends wx limit Accept x) y (xy ++ parts_of Accept wx limit x) yx s
+goes-accept limit wx wy x y xy yx s b n l c =
     let f = Ack (wx - first_credit) in
     let stops : Stops x.phase x.out x.marks.syn false x.marks.rst (xy ++ f ∷ []) = grind (arith, pushes) in
     assumption (
@@ -79,20 +70,20 @@ goes-accept limit wx wy x y xy yx s n l c =
       reset-more f x.marks.rst xy refl c.out.reset,
       ordered_push xy f (grind arith) c.out.ordered,
       born-more f refl n c.out.born,
-      born-sleeps wx (sends wx limit Accept x) (xy ++ f ∷ []) (ack-born wx x xy c.out.sleeps l),
+      born-sleeps wx (sends wx limit Accept x) (xy ++ f ∷ []) b,
       acks-sent (wx - first_credit) l c.out.acks,
       kept-told (wx - first_credit) {more = gifts (xy ++ f ∷ [])} {less = to_announce wx x.phase x.marks.syn x.marks.carries false} (grind (arith, pushes)) (grind arith) c.inn.carries,
     )
 
 pub goes-reset : (limit wx wy : ℕ) (x y : End) (xy yx : List Part) (s : Stream) →
-    x.marks.syn ≡ false → x.marks.rst ≡ true → Alive wx wy x y xy yx s → Alive wx wy (sends wx limit Reset x) y (xy ++ parts_of Reset wx limit x) yx s
-goes-reset limit wx wy x y xy yx s n l c = assumption (
+    (x.phase ≡ Unborn → ⊥) → x.marks.syn ≡ false → x.marks.rst ≡ true → Alive wx wy x y xy yx s → Alive wx wy (sends wx limit Reset x) y (xy ++ parts_of Reset wx limit x) yx s
+goes-reset limit wx wy x y xy yx s b n l c = assumption (
   lane-more Rst refl refl c.out,
   reset-sent xy l c.out.reset,
   stops-sent n l c.out.stops,
   ordered_push xy Rst (grind arith) c.out.ordered,
   born-more Rst refl n c.out.born,
-  born-sleeps wx (sends wx limit Reset x) (xy ++ Rst ∷ []) (rst-born wx x xy c.out.sleeps l),
+  born-sleeps wx (sends wx limit Reset x) (xy ++ Rst ∷ []) b,
   acks-more Rst refl c.out.acks,
   back-more Rst refl c.inn,
 )
@@ -103,43 +94,34 @@ pub record Free (e : End) : Type 0 where
   pub ack : e.marks.ack ≡ false
   pub rst : e.marks.rst ≡ false
 
-live-born : (p : Phase) → is_live p ≡ true → p ≡ Unborn → ⊥
-live-born p l h = grind arith
-
 live-late : (window : ℕ) (p : Phase) (syn carries ack : Bool) → syn ≡ false → ack ≡ false → is_live p ≡ true → to_announce window p syn carries ack ≡ 0
 live-late window p syn carries ack a b l = grind arith
-
-live-up : (p : Phase) → is_live p ≡ true → is_up p ≡ true
-live-up p l = grind arith
 
 owes-none : (syn carries ack : Bool) {v : ℕ} {p q : Phase} {w : Writer} {fly : List ℕ} {due : ℕ} {r : Reader} {l : Lane} →
     syn ≡ false → ack ≡ false → is_live q ≡ true → Carries v p q w fly due (to_announce v q syn carries ack) r l →
     Carries v p q w fly (due + r.owed) (to_announce v q syn carries ack) (announce r.owed r) l
 owes-none syn carries ack {v = v} {q = q} a b u c =
-    let e = live-late v q syn carries ack a b u in rw e (kept-announce (live-up q u) (rw e at c))
+    let e = live-late v q syn carries ack a b u in rw e (kept-announce (live-up q (is-live q u)) (rw e at c))
 
 pub goes-credit : (limit wx wy : ℕ) (x y : End) (xy yx : List Part) (s : Stream) →
-    is_live x.phase ≡ true → Free x → Alive wx wy x y xy yx s → Alive wx wy (sends wx limit CreditFrame x) y (xy ++ parts_of CreditFrame wx limit x) yx s
-goes-credit limit wx wy x y xy yx s l free c =
+    (x.phase ≡ Unborn → ⊥) → is_live x.phase ≡ true → Free x → Alive wx wy x y xy yx s → Alive wx wy (sends wx limit CreditFrame x) y (xy ++ parts_of CreditFrame wx limit x) yx s
+goes-credit limit wx wy x y xy yx s b l free c =
     let f = Credit x.inn.owed in
     assumption (
       lane-more f refl refl c.out,
       marks-more f refl refl refl free.syn c.out,
       stops-more f refl c.out.stops,
       ordered_push xy f (grind arith) c.out.ordered,
-      born-sleeps wx (sends wx limit CreditFrame x) (xy ++ f ∷ []) (live-born x.phase l),
+      born-sleeps wx (sends wx limit CreditFrame x) (xy ++ f ∷ []) b,
       rw (← gifts_push xy f) at (owes-none x.marks.syn x.marks.carries x.marks.ack free.syn free.ack l c.inn.carries),
     )
-
-data-born : (window : ℕ) (e : End) (fs : List Part) → Sleeps window e fs → is_empty e.out.unsent ≡ false → e.phase ≡ Unborn → ⊥
-data-born window e fs c h u = let k = c.new u in grind arith
 
 data-runs : (p : Phase) (w : Writer) (syn ack rst : Bool) (fs : List Part) → Stops p w syn ack rst fs → is_empty w.unsent ≡ false → has_rst fs ≡ false
 data-runs p w syn ack rst fs c some = grind arith
 
 pub goes-data : (limit wx wy : ℕ) (x y : End) (xy yx : List Part) (s : Stream) →
-    is_empty x.out.unsent ≡ false → Free x → Alive wx wy x y xy yx s → Alive wx wy (sends wx limit DataFrame x) y (xy ++ parts_of DataFrame wx limit x) yx s
-goes-data limit wx wy x y xy yx s some free c =
+    (x.phase ≡ Unborn → ⊥) → is_empty x.out.unsent ≡ false → Free x → Alive wx wy x y xy yx s → Alive wx wy (sends wx limit DataFrame x) y (xy ++ parts_of DataFrame wx limit x) yx s
+goes-data limit wx wy x y xy yx s n some free c =
     let b = take limit x.out.unsent in
     let runs : has_rst (xy ++ Data b ∷ []) ≡ false = grind (arith, pushes, data-runs x.phase x.out x.marks.syn x.marks.ack x.marks.rst xy c.out.stops some) in
     let finishes : Finishes x.phase y.phase (sent limit x.out) (loads (xy ++ Data b ∷ [])) (has_fin (xy ++ Data b ∷ [])) y.inn s.out.fin =
@@ -149,16 +131,13 @@ goes-data limit wx wy x y xy yx s some free c =
       marks-more (Data b) refl refl refl free.syn c.out,
       stops-none x.phase (sent limit x.out) x.marks.syn x.marks.ack (xy ++ Data b ∷ []) free.rst runs,
       ordered_push xy (Data b) (grind (arith, lists)) c.out.ordered,
-      born-sleeps wx (sends wx limit DataFrame x) (xy ++ Data b ∷ []) (data-born wx x xy c.out.sleeps some),
+      born-sleeps wx (sends wx limit DataFrame x) (xy ++ Data b ∷ []) n,
       back-more (Data b) refl c.inn,
     )
 
-fin-born : (window : ℕ) (e : End) (fs : List Part) → Sleeps window e fs → fin_waits e.out ≡ true → e.phase ≡ Unborn → ⊥
-fin-born window e fs c h u = let k = c.new u in grind arith
-
 pub goes-fin : (limit wx wy : ℕ) (x y : End) (xy yx : List Part) (s : Stream) →
-    x.out.unsent ≡ [] → fin_waits x.out ≡ true → Free x → Alive wx wy x y xy yx s → Alive wx wy (sends wx limit FinFrame x) y (xy ++ parts_of FinFrame wx limit x) yx s
-goes-fin limit wx wy x y xy yx s e f free c =
+    (x.phase ≡ Unborn → ⊥) → x.out.unsent ≡ [] → fin_waits x.out ≡ true → Free x → Alive wx wy x y xy yx s → Alive wx wy (sends wx limit FinFrame x) y (xy ++ parts_of FinFrame wx limit x) yx s
+goes-fin limit wx wy x y xy yx s b e f free c =
     let runs : has_rst (xy ++ Fin ∷ []) ≡ false = grind (arith, pushes) in
     let carries : Carries wy x.phase y.phase (fin_goes x.out) (loads (xy ++ Fin ∷ [])) (gifts yx) (to_announce wy y.phase y.marks.syn y.marks.carries y.marks.ack) y.inn s.out = grind (arith, lists, pushes) in
     let finishes : Finishes x.phase y.phase (fin_goes x.out) (loads (xy ++ Fin ∷ [])) (has_fin (xy ++ Fin ∷ [])) y.inn s.out.fin = grind (arith, lists, pushes, ends-goes f e c.out.finishes) in
@@ -166,7 +145,7 @@ goes-fin limit wx wy x y xy yx s e f free c =
       marks-more Fin refl refl refl free.syn c.out,
       stops-none x.phase (fin_goes x.out) x.marks.syn x.marks.ack (xy ++ Fin ∷ []) free.rst runs,
       ordered_push xy Fin (grind (arith, lists)) c.out.ordered,
-      born-sleeps wx (sends wx limit FinFrame x) (xy ++ Fin ∷ []) (fin-born wx x xy c.out.sleeps f),
+      born-sleeps wx (sends wx limit FinFrame x) (xy ++ Fin ∷ []) b,
       back-more Fin refl c.inn,
     )
 
@@ -198,16 +177,16 @@ alive-sends : (k : Kind) (limit wx wy : ℕ) (x y : End) (xy yx : List Part) (s 
 alive-sends Open limit wx wy x y xy yx s h c =
     let n = next-open wx x h in let e = c.out.born.first n.0 in
     subst (λ l. Alive wx wy (sends wx limit Open x) y (l ++ parts_of Open wx limit x) yx s) (sym e)
-    (goes-open limit wx wy x y yx s n.0 n.1 (subst (λ l. Alive wx wy x y l yx s) e c))
+    (goes-open limit wx wy x y yx s (due-born _ h c.out.sleeps) n.0 n.1 (subst (λ l. Alive wx wy x y l yx s) e c))
 alive-sends OpenWith limit wx wy x y xy yx s h c =
     let n = next-open_with wx x h in let e = c.out.born.first n.0 in
     subst (λ l. Alive wx wy (sends wx limit OpenWith x) y (l ++ parts_of OpenWith wx limit x) yx s) (sym e)
-    (goes-open_with limit wx wy x y yx s n.0 n.1 (subst (λ l. Alive wx wy x y l yx s) e c))
-alive-sends Accept limit wx wy x y xy yx s h c = let n = next-accept wx x h in goes-accept limit wx wy x y xy yx s n.0 n.1 c
-alive-sends Reset limit wx wy x y xy yx s h c = let n = next-reset wx x h in goes-reset limit wx wy x y xy yx s n.0 n.1 c
-alive-sends CreditFrame limit wx wy x y xy yx s h c = let n = next-credit wx x h in goes-credit limit wx wy x y xy yx s n.0 n.1 c
-alive-sends DataFrame limit wx wy x y xy yx s h c = let n = next-data wx x h in goes-data limit wx wy x y xy yx s n.0 n.1 c
-alive-sends FinFrame limit wx wy x y xy yx s h c = let n = next-fin wx x h in goes-fin limit wx wy x y xy yx s n.0 n.1 n.2 c
+    (goes-open_with limit wx wy x y yx s (due-born _ h c.out.sleeps) n.0 n.1 (subst (λ l. Alive wx wy x y l yx s) e c))
+alive-sends Accept limit wx wy x y xy yx s h c = let n = next-accept wx x h in goes-accept limit wx wy x y xy yx s (due-born _ h c.out.sleeps) n.0 n.1 c
+alive-sends Reset limit wx wy x y xy yx s h c = let n = next-reset wx x h in goes-reset limit wx wy x y xy yx s (due-born _ h c.out.sleeps) n.0 n.1 c
+alive-sends CreditFrame limit wx wy x y xy yx s h c = let n = next-credit wx x h in goes-credit limit wx wy x y xy yx s (due-born _ h c.out.sleeps) n.0 n.1 c
+alive-sends DataFrame limit wx wy x y xy yx s h c = let n = next-data wx x h in goes-data limit wx wy x y xy yx s (due-born _ h c.out.sleeps) n.0 n.1 c
+alive-sends FinFrame limit wx wy x y xy yx s h c = let n = next-fin wx x h in goes-fin limit wx wy x y xy yx s (due-born _ h c.out.sleeps) n.0 n.1 n.2 c
 
 pub related-sends : (k : Kind) (limit wx wy : ℕ) (x y : End) (xy yx : List Part) (s : Stream) →
     next_kind wx x ≡ Some k → Related wx wy x y xy yx s → Related wx wy (sends wx limit k x) y (xy ++ parts_of k wx limit x) yx s

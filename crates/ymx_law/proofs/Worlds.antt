@@ -1,4 +1,4 @@
--- An event of the world touches one stream, and is a step of the machine.
+-- What happens at a side touches one stream, and is a step of the machine's streams.
 use Rattle.std.proofs.Common.{◌≡◌, ◌≢◌, ℕ, ◌≤◌, List, [], ◌∷◌, ◌++◌, take, drop, Bool, true, false, not, ◌||◌, ◌==◌, ◌⊎◌, inl, inr, Option, None, Some, refl, sym, ap, subst, ◌∙◌, append-nil, arith}
 use Rattle.std.proofs.lemmas.Grind.{common_steps}
 use Rattle.std.proofs.lemmas.Bool.Decides.{nat_tests}
@@ -17,12 +17,13 @@ use Rattle.ymx_law.specs.Links.{Related}
 use Rattle.ymx_law.specs.Arrivals.{comes_to}
 use Rattle.ymx_law.specs.Answers.{end_released}
 use Rattle.ymx_law.specs.OneStream.{IsOneStream, IsQuiet}
-use Rattle.ymx_law.specs.Worlds.{of, tagged, put, World, mirror, new_world, Machine, no_streams, flip_some, mirrored, Changes, Same, IsFresh, AreOne, Refines, Act, Event, rest_of, came, came_in, acts, happens, is_payload, Can, CanHappen, Delivers, Steps, StepsAt, IsQuietWorld, StillIf, AllStill, RunsBeside, is_of, touches, touches_at, SameStream}
+use Rattle.ymx_law.specs.Worlds.{of, tagged, put, StreamWorld, stream_mirror, new_streams, Streams, no_streams, flip_some, mirrored, Changes, Same, IsFresh, AreOne, Refines, Act, Happening, rest_of, came, came_in, acts, happens, is_payload, Can, CanHappen, Delivers, StreamSteps, StreamStepsAt, IsQuietWorld, StillIf, AllStill, RunsBeside, is_of, touches, touches_at, SameStream}
 use Rattle.ymx_law.specs.Worlds.Act.{Opens, Calls, Accepts, Sends, Comes, ComesIn, Releases, Ends, Stops}
-use Rattle.ymx_law.specs.Worlds.Event.{AtA, AtB}
+use Rattle.ymx_law.specs.Worlds.Happening.{AtA, AtB}
 use Rattle.ymx_law.proofs.Links.{not_not}
 use Rattle.ymx_law.proofs.Nothing.{absent-only}
 use Rattle.ymx_law.proofs.OneStream.{one-begins, one-flip, one-calls, one-accepts, one-shows, one-sends, one-comes, one-pieces, one-releases, one-loses, one-still, one-breaks}
+use Rattle.ymx_law.proofs.Marks.{fresh-none}
 
 -- ---- lists and maps by number
 
@@ -69,7 +70,7 @@ are-is ox oy wx wy x x' y y' xy xy' yx yx' s s' a b c d e h = rw (a, b, c, d, e)
 there : (ox oy : Bool) (wx wy : ℕ) (x y : End) (xy yx : List Part) (o : Option Stream) (s : Stream) → o ≡ Some s → AreOne ox oy wx wy x y xy yx o → IsOneStream ox oy wx wy x y xy yx s
 there ox oy wx wy x y xy yx o s e l = subst (AreOne ox oy wx wy x y xy yx) e l
 
-one : (j : ℕ) (w w' : World) (m : Machine) (t : Stream) → (w'.a.window ≡ w.a.window) × (w'.b.window ≡ w.b.window) × (w'.a.over ≡ w.a.over) × (w'.b.over ≡ w.b.over) →
+one : (j : ℕ) (w w' : StreamWorld) (m : Streams) (t : Stream) → (w'.a.window ≡ w.a.window) × (w'.b.window ≡ w.b.window) × (w'.a.over ≡ w.a.over) × (w'.b.over ≡ w.b.over) →
     ((i : ℕ) → i ≢ j → (w'.a.ends i ≡ w.a.ends i) × (w'.b.ends i ≡ w.b.ends i) × (of i w'.ab ≡ of i w.ab) × (of i w'.ba ≡ of i w.ba)) →
     IsOneStream w'.a.over w'.b.over w'.a.window w'.b.window (w'.a.ends j) (w'.b.ends j) (of j w'.ab) (of j w'.ba) t → Refines w m → Refines w' (put j (Some t) m)
 one j w w' m t e apart mine r = record {
@@ -81,10 +82,10 @@ one j w w' m t e apart mine r = record {
   ];
 }
 
-changes : (j : ℕ) (s t : Stream) (m : Machine) → m j ≡ Some s → Changes j s t m (put j (Some t) m)
+changes : (j : ℕ) (s t : Stream) (m : Streams) → m j ≡ Some s → Changes j s t m (put j (Some t) m)
 changes j s t m e = record { here = e; now = put-same j (Some t) m; others = λ i n. put-other i j (Some t) m n }
 
-put-back : (i j : ℕ) (s : Stream) (m : Machine) → m j ≡ Some s → put j (Some s) m i ≡ m i
+put-back : (i j : ℕ) (s : Stream) (m : Streams) → m j ≡ Some s → put j (Some s) m i ≡ m i
 put-back i j s m e = grind (arith, nat_tests)
 
 -- a stream is there, or its number is fresh
@@ -98,7 +99,7 @@ found ox oy wx wy x y xy yx (Some s) l = inl (s, refl, l)
 over-is : (ox o oy : Bool) (wx wy : ℕ) (x y : End) (xy yx : List Part) (s : Stream) → ox ≡ o → IsOneStream ox oy wx wy x y xy yx s → IsOneStream o oy wx wy x y xy yx s
 over-is ox o oy wx wy x y xy yx s e c = subst (λ k. IsOneStream k oy wx wy x y xy yx s) e c
 
--- the end and the parts of the stream that changed, as they stand in the world
+-- the end and the parts of the stream that changed, as they stand at the sides
 stands-at : (ox oy : Bool) (wx wy : ℕ) (x x' y : End) (xy xy' yx yx' : List Part) (s : Stream) →
     x' ≡ x → xy' ≡ xy → yx' ≡ yx → IsOneStream ox oy wx wy x y xy yx s → IsOneStream ox oy wx wy x' y xy' yx' s
 stands-at ox oy wx wy x x' y xy xy' yx yx' s a b c h = rw (a, b, c) h
@@ -116,8 +117,8 @@ never-both ox oy wx wy x y xy yx s c a b =
     neither wx wy x y xy yx s a b (inr (inl c)) = let m = c.me in let d = c.spent_x.down in absurd (grind arith)
     neither wx wy x y xy yx s a b (inr (inr c)) = let m = c.me in let d = c.spent_x.down in absurd (grind arith)
 
-step-opens : (j : ℕ) (carries : Bool) (bytes : List ℕ) (w : World) (m : Machine) → Can (Opens j carries bytes) w → Refines w m →
-    (n : Machine) × Steps (Opens j carries bytes) w m n × Refines (acts (Opens j carries bytes) w) n
+step-opens : (j : ℕ) (carries : Bool) (bytes : List ℕ) (w : StreamWorld) (m : Streams) → Can (Opens j carries bytes) w → Refines w m →
+    (n : Streams) × StreamSteps (Opens j carries bytes) w m n × Refines (acts (Opens j carries bytes) w) n
 step-opens j carries bytes w m can r = elim (found _ _ _ _ _ _ _ _ (m j) (r.streams j)) [
   | inl k ↦ absurd (never-both _ _ _ _ _ _ _ _ k.0 k.2 can.1 can.2)
   | inr k ↦ (
@@ -132,8 +133,8 @@ step-opens j carries bytes w m can r = elim (found _ _ _ _ _ _ _ _ (m j) (r.stre
   )
 ]
 
--- nothing of the world that matters changes
-alike : (w w' : World) (m n : Machine) → (w'.a.window ≡ w.a.window) × (w'.b.window ≡ w.b.window) × (w'.a.over ≡ w.a.over) × (w'.b.over ≡ w.b.over) →
+-- nothing that matters changes
+alike : (w w' : StreamWorld) (m n : Streams) → (w'.a.window ≡ w.a.window) × (w'.b.window ≡ w.b.window) × (w'.a.over ≡ w.a.over) × (w'.b.over ≡ w.b.over) →
     ((i : ℕ) → (w'.a.ends i ≡ w.a.ends i) × (w'.b.ends i ≡ w.b.ends i) × (of i w'.ab ≡ of i w.ab) × (of i w'.ba ≡ of i w.ba)) → Same m n → Refines w m → Refines w' n
 alike w w' m n e h same r = record {
   a_window = rw e.0 r.a_window;
@@ -144,8 +145,8 @@ alike w w' m n e h same r = record {
 put-back_end : (i j : ℕ) (e : End) (f : ℕ → End) → e ≡ f j → put j e f i ≡ f i
 put-back_end i j e f h = grind (arith, nat_tests)
 
-step-calls : (j : ℕ) (call : StreamCall) (reply : Reply) (next : End) (w : World) (m : Machine) → Can (Calls j call reply next) w → Refines w m →
-    (n : Machine) × Steps (Calls j call reply next) w m n × Refines (acts (Calls j call reply next) w) n
+step-calls : (j : ℕ) (call : StreamCall) (reply : Reply) (next : End) (w : StreamWorld) (m : Streams) → Can (Calls j call reply next) w → Refines w m →
+    (n : Streams) × StreamSteps (Calls j call reply next) w m n × Refines (acts (Calls j call reply next) w) n
 step-calls j call reply next w m can r = elim (found _ _ _ _ _ _ _ _ (m j) (r.streams j)) [
   | inl k ↦ (let law = one-calls w.a.over call reply w.b.over w.a.window w.b.window (w.a.ends j) next (w.b.ends j) (of j w.ab) (of j w.ba) k.0 k.2 can in (
     put j (Some law.0) m,
@@ -160,7 +161,7 @@ step-calls j call reply next w m can r = elim (found _ _ _ _ _ _ _ _ (m j) (r.st
   ))
 ]
 
-step-accepts : (j : ℕ) (w : World) (m : Machine) → Can (Accepts j) w → Refines w m → (n : Machine) × Steps (Accepts j) w m n × Refines (acts (Accepts j) w) n
+step-accepts : (j : ℕ) (w : StreamWorld) (m : Streams) → Can (Accepts j) w → Refines w m → (n : Streams) × StreamSteps (Accepts j) w m n × Refines (acts (Accepts j) w) n
 step-accepts j w m can r = elim (found _ _ _ _ _ _ _ _ (m j) (r.streams j)) [
   | inl k ↦ (
     put j (Some (stream_accept w.a.over k.0)) m,
@@ -172,11 +173,8 @@ step-accepts j w m can r = elim (found _ _ _ _ _ _ _ _ (m j) (r.streams j)) [
   | inr k ↦ absurd (let e = k.1.mine in let c : (w.a.ends j).phase ≡ Offered = can in let u : (w.a.ends j).phase ≡ Unborn = ap (λ (e : End). e.phase) e in cc)
 ]
 
-fresh-none : (window : ℕ) (k : Kind) → next_kind window (new_end window Unborn false false) ≡ Some k → ⊥
-fresh-none window k h = grind arith
-
-step-sends : (j : ℕ) (k : Kind) (limit : ℕ) (w : World) (m : Machine) → Can (Sends j k limit) w → Refines w m →
-    (n : Machine) × Steps (Sends j k limit) w m n × Refines (acts (Sends j k limit) w) n
+step-sends : (j : ℕ) (k : Kind) (limit : ℕ) (w : StreamWorld) (m : Streams) → Can (Sends j k limit) w → Refines w m →
+    (n : Streams) × StreamSteps (Sends j k limit) w m n × Refines (acts (Sends j k limit) w) n
 step-sends j k limit w m can r = elim (found _ _ _ _ _ _ _ _ (m j) (r.streams j)) [
   | inl f ↦ (
     put j (Some f.0) m,
@@ -198,8 +196,8 @@ opened_is : (ox oy : Bool) (wx wy : ℕ) (x y : End) (xy yx : List Part) (f : Pa
 opened_is ox oy wx wy x y xy yx f None l = absurd (no_part f yx l.none_inn)
 opened_is ox oy wx wy x y xy yx f (Some s) l = (s, refl, l)
 
-delivers : (refuse : Bool) (ps : List (ℕ × Part)) (w : World) (m : Machine) → w.ba ≡ ps → w.a.over ≡ false → Refines w m →
-    (n : Machine) × Delivers refuse (λ f. f) ps w m n × Refines (came refuse ps w) n
+delivers : (refuse : Bool) (ps : List (ℕ × Part)) (w : StreamWorld) (m : Streams) → w.ba ≡ ps → w.a.over ≡ false → Refines w m →
+    (n : Streams) × Delivers refuse (λ f. f) ps w m n × Refines (came refuse ps w) n
 delivers refuse [] w m e o r = (m, (λ i. refl), r)
 delivers refuse (p ∷ ps) w m e o r =
     let here : of p.0 w.ba ≡ p.1 ∷ of p.0 ps = ap (of p.0) e ∙ of-head_same p.0 p.1 ps in
@@ -214,7 +212,7 @@ delivers refuse (p ∷ ps) w m e o r =
           (over-is false w.a.over w.b.over _ _ _ _ _ _ law.0 (sym o) law.2)) r,
     )
 
-step-comes : (refuse : Bool) (w : World) (m : Machine) → Can (Comes refuse) w → Refines w m → (n : Machine) × Steps (Comes refuse) w m n × Refines (acts (Comes refuse) w) n
+step-comes : (refuse : Bool) (w : StreamWorld) (m : Streams) → Can (Comes refuse) w → Refines w m → (n : Streams) × StreamSteps (Comes refuse) w m n × Refines (acts (Comes refuse) w) n
 step-comes refuse w m can r = delivers refuse w.ba w m refl can.0 r
 
 payload-is : (f : Part) → is_data f ≡ true → f ≡ Data (load f)
@@ -231,8 +229,8 @@ take-and-drop n b = grind (arith, common_steps)
 cut-is : (n : ℕ) (f : Part) → is_data f ≡ true → f ≡ Data (take n (load f) ++ drop n (load f))
 cut-is n f e = payload-is f e ∙ ap (λ (b : List ℕ). Data b) (sym (take-and-drop n (load f)))
 
-delivers_in : (k : ℕ) (ps : List (ℕ × Part)) (w : World) (m : Machine) → w.ba ≡ ps → w.a.over ≡ false → is_payload ps ≡ true → Refines w m →
-    (n : Machine) × Delivers false (λ f. Data (take k (load f))) ps w m n × Refines (came_in k ps w) n
+delivers_in : (k : ℕ) (ps : List (ℕ × Part)) (w : StreamWorld) (m : Streams) → w.ba ≡ ps → w.a.over ≡ false → is_payload ps ≡ true → Refines w m →
+    (n : Streams) × Delivers false (λ f. Data (take k (load f))) ps w m n × Refines (came_in k ps w) n
 delivers_in k [] w m e o d r = absurd (cc)
 delivers_in k (p ∷ ps) w m e o d r =
     let here : of p.0 w.ba ≡ p.1 ∷ of p.0 ps = ap (of p.0) e ∙ of-head_same p.0 p.1 ps in
@@ -248,10 +246,10 @@ delivers_in k (p ∷ ps) w m e o d r =
           (over-is false w.a.over w.b.over _ _ _ _ _ _ law.0 (sym o) law.2)) r,
     )
 
-step-comes_in : (k : ℕ) (w : World) (m : Machine) → Can (ComesIn k) w → Refines w m → (n : Machine) × Steps (ComesIn k) w m n × Refines (acts (ComesIn k) w) n
+step-comes_in : (k : ℕ) (w : StreamWorld) (m : Streams) → Can (ComesIn k) w → Refines w m → (n : Streams) × StreamSteps (ComesIn k) w m n × Refines (acts (ComesIn k) w) n
 step-comes_in k w m can r = delivers_in k w.ba w m refl can.0 can.2 r
 
-step-releases : (j : ℕ) (w : World) (m : Machine) → Can (Releases j) w → Refines w m → (n : Machine) × Steps (Releases j) w m n × Refines (acts (Releases j) w) n
+step-releases : (j : ℕ) (w : StreamWorld) (m : Streams) → Can (Releases j) w → Refines w m → (n : Streams) × StreamSteps (Releases j) w m n × Refines (acts (Releases j) w) n
 step-releases j w m can r = elim (found _ _ _ _ _ _ _ _ (m j) (r.streams j)) [
   | inl k ↦ (let law = one-releases w.a.over w.b.over w.a.window w.b.window (w.a.ends j) (w.b.ends j) (of j w.ab) (of j w.ba) k.0 can.0 can.1 k.2 in (
     put j (Some (after Released k.0)) m,
@@ -267,13 +265,13 @@ are-over over oy wx wy x y xy yx None l = l
 are-over true oy wx wy x y xy yx (Some s) l = l
 are-over false oy wx wy x y xy yx (Some s) l = one-loses oy wx wy x y xy yx s l
 
-step-ends : (w : World) (m : Machine) → Refines w m → (n : Machine) × Steps Ends w m n × Refines (acts Ends w) n
+step-ends : (w : StreamWorld) (m : Streams) → Refines w m → (n : Streams) × StreamSteps Ends w m n × Refines (acts Ends w) n
 step-ends w m r = (m, (λ i. refl), record { a_window = r.a_window; b_window = r.b_window; streams = λ i. are-over w.a.over w.b.over w.a.window w.b.window _ _ _ _ (m i) (r.streams i) })
 
-step-stops : (w : World) (m : Machine) → Refines w m → (n : Machine) × Steps Stops w m n × Refines (acts Stops w) n
+step-stops : (w : StreamWorld) (m : Streams) → Refines w m → (n : Streams) × StreamSteps Stops w m n × Refines (acts Stops w) n
 step-stops w m r = (m, (λ i. refl), record { a_window = r.a_window; b_window = r.b_window; streams = r.streams })
 
-pub step : (act : Act) (w : World) (m : Machine) → Can act w → Refines w m → (n : Machine) × Steps act w m n × Refines (acts act w) n
+pub step : (act : Act) (w : StreamWorld) (m : Streams) → Can act w → Refines w m → (n : Streams) × StreamSteps act w m n × Refines (acts act w) n
 step (Opens j carries bytes) w m can r = step-opens j carries bytes w m can r
 step (Calls j call reply next) w m can r = step-calls j call reply next w m can r
 step (Accepts j) w m can r = step-accepts j w m can r
@@ -290,24 +288,24 @@ are-flip : (ox oy : Bool) (wx wy : ℕ) (x y : End) (xy yx : List Part) (o : Opt
 are-flip ox oy wx wy x y xy yx None l = record { mine = l.yours; yours = l.mine; none_out = l.none_inn; none_inn = l.none_out }
 are-flip ox oy wx wy x y xy yx (Some s) l = one-flip ox oy wx wy x y xy yx s l
 
-pub mirrors : (w : World) (m : Machine) → Refines w m → Refines (mirror w) (mirrored m)
+pub mirrors : (w : StreamWorld) (m : Streams) → Refines w m → Refines (stream_mirror w) (mirrored m)
 mirrors w m r = record { a_window = r.b_window; b_window = r.a_window; streams = λ i. are-flip w.a.over w.b.over w.a.window w.b.window _ _ _ _ (m i) (r.streams i) }
 
 flips_back : (o : Option Stream) → flip_some (flip_some o) ≡ o
 flips_back None = refl
 flips_back (Some s) = rw not_not refl
 
-pub mirrored-back : (m : Machine) (i : ℕ) → mirrored (mirrored m) i ≡ m i
+pub mirrored-back : (m : Streams) (i : ℕ) → mirrored (mirrored m) i ≡ m i
 mirrored-back m i = flips_back (m i)
 
-changes-same : (j : ℕ) (s t : Stream) (m n k : Machine) → Same n k → Changes j s t m n → Changes j s t m k
+changes-same : (j : ℕ) (s t : Stream) (m n k : Streams) → Same n k → Changes j s t m n → Changes j s t m k
 changes-same j s t m n k e c = record { here = c.here; now = e j ∙ c.now; others = λ i d. e i ∙ c.others i d }
 
-delivers-same : (refuse : Bool) (part : Part → Part) (ps : List (ℕ × Part)) (w : World) (m n k : Machine) → Same n k → Delivers refuse part ps w m n → Delivers refuse part ps w m k
+delivers-same : (refuse : Bool) (part : Part → Part) (ps : List (ℕ × Part)) (w : StreamWorld) (m n k : Streams) → Same n k → Delivers refuse part ps w m n → Delivers refuse part ps w m k
 delivers-same refuse part [] w m n k e h = λ i. e i ∙ h i
 delivers-same refuse part (p ∷ ps) w m n k e h = (h.0, h.1, h.2, h.3, changes-same p.0 h.0 h.1 m n k e h.4)
 
-steps-same : (act : Act) (w : World) (m n k : Machine) → Same n k → Steps act w m n → Steps act w m k
+steps-same : (act : Act) (w : StreamWorld) (m n k : Streams) → Same n k → StreamSteps act w m n → StreamSteps act w m k
 steps-same (Opens j carries bytes) w m n k e h = record { none = h.none; now = e j ∙ h.now; others = λ i d. e i ∙ h.others i d }
 steps-same (Calls j call reply next) w m n k e h = elim h [
   | inl g ↦ inl (g.0, g.1, g.2, changes-same j g.0 g.1 m n k e g.3)
@@ -321,13 +319,13 @@ steps-same (Releases j) w m n k e h = (h.0, h.1, changes-same j h.0 _ m n k e h.
 steps-same Ends w m n k e h = λ i. e i ∙ h i
 steps-same Stops w m n k e h = λ i. e i ∙ h i
 
-pub step_at : (e : Event) (w : World) (m : Machine) → CanHappen e w → Refines w m → (n : Machine) × StepsAt e w m n × Refines (happens e w) n
+pub step_at : (e : Happening) (w : StreamWorld) (m : Streams) → CanHappen e w → Refines w m → (n : Streams) × StreamStepsAt e w m n × Refines (happens e w) n
 step_at (AtA act) w m can r = step act w m can r
 step_at (AtB act) w m can r =
-    let s = step act (mirror w) (mirrored m) can (mirrors w m r) in (
+    let s = step act (stream_mirror w) (mirrored m) can (mirrors w m r) in (
       mirrored s.0,
-      steps-same act (mirror w) (mirrored m) s.0 (mirrored (mirrored s.0)) (λ i. mirrored-back s.0 i) s.1,
-      mirrors (acts act (mirror w)) s.0 s.2,
+      steps-same act (stream_mirror w) (mirrored m) s.0 (mirrored (mirrored s.0)) (λ i. mirrored-back s.0 i) s.1,
+      mirrors (acts act (stream_mirror w)) s.0 s.2,
     )
 
 -- ---- still
@@ -337,18 +335,18 @@ are-still : (ox oy : Bool) (wx wy : ℕ) (x y : End) (xy yx : List Part) (o : Op
 are-still ox oy wx wy x y xy yx None a b c d p q l = tt
 are-still ox oy wx wy x y xy yx (Some s) a b c d p q l = one-still wx wy x y s p q (rw (a, b, c, d) at l)
 
-pub all-still : (w : World) (m : Machine) → IsQuietWorld w → Refines w m → AllStill w m
+pub all-still : (w : StreamWorld) (m : Streams) → IsQuietWorld w → Refines w m → AllStill w m
 all-still w m q r i = are-still w.a.over w.b.over w.a.window w.b.window (w.a.ends i) (w.b.ends i) (of i w.ab) (of i w.ba) (m i) q.a_runs q.b_runs (ap (of i) q.ab) (ap (of i) q.ba) (q.a i) (q.b i) (r.streams i)
 
--- ---- every list of events
+-- ---- every list of happenings
 
-pub runs_beside : (es : List Event) (w : World) (m : Machine) → Refines w m → RunsBeside es w m
+pub runs_beside : (es : List Happening) (w : StreamWorld) (m : Streams) → Refines w m → RunsBeside es w m
 runs_beside [] w m r = tt
 runs_beside (e ∷ es) w m r = λ can.
     let s = step_at e w m can r in
     (s.0, s.1, (λ q. all-still (happens e w) s.0 q s.2), runs_beside es (happens e w) s.0 s.2)
 
-pub new-refines : (mine yours : ℕ) → first_credit ≤ mine → first_credit ≤ yours → Refines (new_world mine yours) no_streams
+pub new-refines : (mine yours : ℕ) → first_credit ≤ mine → first_credit ≤ yours → Refines (new_streams mine yours) no_streams
 new-refines mine yours a b = record { a_window = a; b_window = b; streams = λ i. record { mine = refl; yours = refl; none_out = refl; none_inn = refl } }
 
 -- ---- all other streams
@@ -356,7 +354,7 @@ new-refines mine yours a b = record { a_window = a; b_window = b; streams = λ i
 differs : (i j : ℕ) → (i == j) ≡ false → i ≢ j
 differs i j h = grind (arith, nat_tests)
 
-came-keeps : (i : ℕ) (refuse : Bool) (ps : List (ℕ × Part)) (w : World) → w.ba ≡ ps → is_of i ps ≡ false → SameStream i w (came refuse ps w)
+came-keeps : (i : ℕ) (refuse : Bool) (ps : List (ℕ × Part)) (w : StreamWorld) → w.ba ≡ ps → is_of i ps ≡ false → SameStream i w (came refuse ps w)
 came-keeps i refuse [] w e h = record { a = refl; b = refl; ab = refl; ba = refl }
 came-keeps i refuse (p ∷ ps) w e h = record {
   a = put-other i p.0 _ w.a.ends (differs i p.0 h);
@@ -365,7 +363,7 @@ came-keeps i refuse (p ∷ ps) w e h = record {
   ba = sym (ap (of i) e ∙ of-head_other i p.0 p.1 ps (differs i p.0 h));
 }
 
-came_in-keeps : (i n : ℕ) (ps : List (ℕ × Part)) (w : World) → w.ba ≡ ps → is_of i ps ≡ false → SameStream i w (came_in n ps w)
+came_in-keeps : (i n : ℕ) (ps : List (ℕ × Part)) (w : StreamWorld) → w.ba ≡ ps → is_of i ps ≡ false → SameStream i w (came_in n ps w)
 came_in-keeps i n [] w e h = record { a = refl; b = refl; ab = refl; ba = refl }
 came_in-keeps i n (p ∷ ps) w e h =
     let d = differs i p.0 h in record {
@@ -375,7 +373,7 @@ came_in-keeps i n (p ∷ ps) w e h =
       ba = of-head_other i p.0 (rest_of n p.1) ps d ∙ sym (ap (of i) e ∙ of-head_other i p.0 p.1 ps d);
     }
 
-acts-keep : (i : ℕ) (act : Act) (w : World) → touches i act w ≡ false → SameStream i w (acts act w)
+acts-keep : (i : ℕ) (act : Act) (w : StreamWorld) → touches i act w ≡ false → SameStream i w (acts act w)
 acts-keep i (Opens j carries bytes) w h = record { a = put-other i j _ w.a.ends (differs i j h); b = refl; ab = refl; ba = refl }
 acts-keep i (Calls j call reply next) w h = record { a = put-other i j _ w.a.ends (differs i j h); b = refl; ab = refl; ba = refl }
 acts-keep i (Accepts j) w h = record { a = put-other i j _ w.a.ends (differs i j h); b = refl; ab = refl; ba = refl }
@@ -386,6 +384,6 @@ acts-keep i (Releases j) w h = record { a = put-other i j _ w.a.ends (differs i 
 acts-keep i Ends w h = record { a = refl; b = refl; ab = refl; ba = refl }
 acts-keep i Stops w h = record { a = refl; b = refl; ab = refl; ba = refl }
 
-pub others-keep : (i : ℕ) (e : Event) (w : World) → touches_at i e w ≡ false → SameStream i w (happens e w)
+pub others-keep : (i : ℕ) (e : Happening) (w : StreamWorld) → touches_at i e w ≡ false → SameStream i w (happens e w)
 others-keep i (AtA act) w h = acts-keep i act w h
-others-keep i (AtB act) w h = let k = acts-keep i act (mirror w) h in record { a = k.b; b = k.a; ab = k.ba; ba = k.ab }
+others-keep i (AtB act) w h = let k = acts-keep i act (stream_mirror w) h in record { a = k.b; b = k.a; ab = k.ba; ba = k.ab }

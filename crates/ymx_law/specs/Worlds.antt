@@ -33,28 +33,28 @@ abbrev pub put : {A : Type 0} → ℕ → A → (ℕ → A) → ℕ → A
 put j v f i = if i == j then v else f i
 
 -- A side: its window, whether it is over (lost or closed: it sends and receives nothing more), its ends by number.
-pub record Side : Type 0 where
+pub record StreamSide : Type 0 where
   pub window : ℕ
   pub over : Bool
   pub ends : ℕ → End
 
 -- Two sides; what is under way from a to b and from b to a, oldest first; whether a direction has
 -- stopped, so that it delivers nothing more.
-pub record World : Type 0 where
-  pub a : Side
-  pub b : Side
+pub record StreamWorld : Type 0 where
+  pub a : StreamSide
+  pub b : StreamSide
   pub ab : List (ℕ × Part)
   pub ba : List (ℕ × Part)
   pub ab_stopped : Bool
   pub ba_stopped : Bool
 
--- the same world from the other side
-abbrev pub mirror : World → World
-mirror w = record { a = w.b; b = w.a; ab = w.ba; ba = w.ab; ab_stopped = w.ba_stopped; ba_stopped = w.ab_stopped }
+-- the same from the other side
+abbrev pub stream_mirror : StreamWorld → StreamWorld
+stream_mirror w = record { a = w.b; b = w.a; ab = w.ba; ba = w.ab; ab_stopped = w.ba_stopped; ba_stopped = w.ab_stopped }
 
 -- no stream was opened yet: my window, your window
-abbrev pub new_world : ℕ → ℕ → World
-new_world mine yours = record {
+abbrev pub new_streams : ℕ → ℕ → StreamWorld
+new_streams mine yours = record {
   a = record { window = mine; over = false; ends = λ i. new_end mine Unborn false false };
   b = record { window = yours; over = false; ends = λ i. new_end yours Unborn false false };
   ab = [];
@@ -66,10 +66,10 @@ new_world mine yours = record {
 -- ---- the machine's streams
 
 -- the stream of a number, as side a sees it
-abbrev pub Machine : Type 0
-Machine = ℕ → Option Stream
+abbrev pub Streams : Type 0
+Streams = ℕ → Option Stream
 
-abbrev pub no_streams : Machine
+abbrev pub no_streams : Streams
 no_streams i = None
 
 abbrev pub flip_some : Option Stream → Option Stream
@@ -77,22 +77,22 @@ flip_some None = None
 flip_some (Some s) = Some (flip s)
 
 -- as the other side sees them
-abbrev pub mirrored : Machine → Machine
+abbrev pub mirrored : Streams → Streams
 mirrored m i = flip_some (m i)
 
 -- the stream j goes from s to t, and all others stay
-pub record Changes (j : ℕ) (s t : Stream) (m n : Machine) : Type 0 where
+pub record Changes (j : ℕ) (s t : Stream) (m n : Streams) : Type 0 where
   pub here : m j ≡ Some s
   pub now : n j ≡ Some t
   pub others : (i : ℕ) → i ≢ j → n i ≡ m i
 
 -- the stream j is new, and all others stay
-pub record Adds (j : ℕ) (t : Stream) (m n : Machine) : Type 0 where
+pub record Adds (j : ℕ) (t : Stream) (m n : Streams) : Type 0 where
   pub none : m j ≡ None
   pub now : n j ≡ Some t
   pub others : (i : ℕ) → i ≢ j → n i ≡ m i
 
-abbrev pub Same : Machine → Machine → Type 0
+abbrev pub Same : Streams → Streams → Type 0
 Same m n = (i : ℕ) → n i ≡ m i
 
 -- ---- what belongs together
@@ -109,7 +109,7 @@ AreOne over_x over_y wx wy x y xy yx None = IsFresh wx wy x y xy yx
 AreOne over_x over_y wx wy x y xy yx (Some s) = IsOneStream over_x over_y wx wy x y xy yx s
 
 -- each number's ends and parts under way are the machine's stream of that number
-pub record Refines (w : World) (m : Machine) : Type 0 where
+pub record Refines (w : StreamWorld) (m : Streams) : Type 0 where
   pub a_window : first_credit ≤ w.a.window
   pub b_window : first_credit ≤ w.b.window
   pub streams : (i : ℕ) → AreOne w.a.over w.b.over w.a.window w.b.window (w.a.ends i) (w.b.ends i) (of i w.ab) (of i w.ba) (m i)
@@ -135,27 +135,27 @@ pub data Act : Type 0 where
   -- the direction towards this side stops
   Stops : Act
 
-pub data Event : Type 0 where
-  AtA : (act : Act) → Event
-  AtB : (act : Act) → Event
+pub data Happening : Type 0 where
+  AtA : (act : Act) → Happening
+  AtB : (act : Act) → Happening
 
-abbrev pub put_end : ℕ → End → Side → Side
+abbrev pub put_end : ℕ → End → StreamSide → StreamSide
 put_end j e s = record s { ends = put j e s.ends }
 
 -- what is left of a payload of which n bytes came
 abbrev pub rest_of : ℕ → Part → Part
 rest_of n f = Data (drop n (load f))
 
-abbrev pub came : Bool → List (ℕ × Part) → World → World
+abbrev pub came : Bool → List (ℕ × Part) → StreamWorld → StreamWorld
 came refuse [] w = w
 came refuse (p ∷ ps) w = record w { a = put_end p.0 (comes_to refuse w.a.window p.1 (w.a.ends p.0)) w.a; ba = ps }
 
-abbrev pub came_in : ℕ → List (ℕ × Part) → World → World
+abbrev pub came_in : ℕ → List (ℕ × Part) → StreamWorld → StreamWorld
 came_in n [] w = w
 came_in n (p ∷ ps) w = record w { a = put_end p.0 (gets_data (take n (load p.1)) (w.a.ends p.0)) w.a; ba = (p.0, rest_of n p.1) ∷ ps }
 
--- the world after an act at side a
-abbrev pub acts : Act → World → World
+-- the two sides after an act at side a
+abbrev pub acts : Act → StreamWorld → StreamWorld
 acts (Opens j carries bytes) w = record w { a = put_end j (end_write bytes (new_end w.a.window Live true carries)) w.a }
 acts (Calls j call reply next) w = record w { a = put_end j next w.a }
 acts (Accepts j) w = record w { a = put_end j (end_accept w.a.over (w.a.ends j)) w.a }
@@ -169,9 +169,9 @@ acts (Releases j) w = record w { a = put_end j (end_released (w.a.ends j)) w.a }
 acts Ends w = record w { a = record w.a { over = true } }
 acts Stops w = record w { ba_stopped = true }
 
-abbrev pub happens : Event → World → World
+abbrev pub happens : Happening → StreamWorld → StreamWorld
 happens (AtA act) w = acts act w
-happens (AtB act) w = mirror (acts act (mirror w))
+happens (AtB act) w = stream_mirror (acts act (stream_mirror w))
 
 abbrev pub is_payload : List (ℕ × Part) → Bool
 is_payload [] = false
@@ -180,7 +180,7 @@ is_payload (p ∷ ps) = is_data p.1
 -- When it may happen: a stream is opened under a number that neither side has used; a call is answered
 -- by the end's own rule; an offered stream is accepted; what is due goes out, and what is under way
 -- comes, while the side isn't over and the direction hasn't stopped; an end given up goes when nothing of it is due.
-abbrev pub Can : Act → World → Type 0
+abbrev pub Can : Act → StreamWorld → Type 0
 Can (Opens j carries bytes) w =
     (w.a.over ≡ false) × ((w.a.ends j).phase ≡ Unborn) × ((w.b.ends j).phase ≡ Unborn) × (length bytes ≤ first_credit)
 Can (Calls j call reply next) w = EndRule w.a.over call (w.a.ends j) reply next
@@ -192,9 +192,9 @@ Can (Releases j) w = ((w.a.ends j).phase ≡ Lingering) × ((w.a.over ≡ true) 
 Can Ends w = Unit {0}
 Can Stops w = Unit {0}
 
-abbrev pub CanHappen : Event → World → Type 0
+abbrev pub CanHappen : Happening → StreamWorld → Type 0
 CanHappen (AtA act) w = Can act w
-CanHappen (AtB act) w = Can act (mirror w)
+CanHappen (AtB act) w = Can act (stream_mirror w)
 
 -- whether the oldest part under way is of the stream i
 abbrev pub is_of : ℕ → List (ℕ × Part) → Bool
@@ -202,7 +202,7 @@ is_of i [] = false
 is_of i (p ∷ ps) = i == p.0
 
 -- whether an act at side a is one on the stream i
-abbrev pub touches : ℕ → Act → World → Bool
+abbrev pub touches : ℕ → Act → StreamWorld → Bool
 touches i (Opens j carries bytes) w = i == j
 touches i (Calls j call reply next) w = i == j
 touches i (Accepts j) w = i == j
@@ -213,45 +213,45 @@ touches i (Releases j) w = i == j
 touches i Ends w = false
 touches i Stops w = false
 
-abbrev pub touches_at : ℕ → Event → World → Bool
+abbrev pub touches_at : ℕ → Happening → StreamWorld → Bool
 touches_at i (AtA act) w = touches i act w
-touches_at i (AtB act) w = touches i act (mirror w)
+touches_at i (AtB act) w = touches i act (stream_mirror w)
 
 -- the ends of the stream i, and what is under way of it, are the same in both worlds
-pub record SameStream (i : ℕ) (w v : World) : Type 0 where
+pub record SameStream (i : ℕ) (w v : StreamWorld) : Type 0 where
   pub a : v.a.ends i ≡ w.a.ends i
   pub b : v.b.ends i ≡ w.b.ends i
   pub ab : of i v.ab ≡ of i w.ab
   pub ba : of i v.ba ≡ of i w.ba
 
--- ---- the machine beside it
+-- ---- the machine's streams beside it
 
 -- the machine's moves where the oldest part comes, which breaks no rule
-abbrev pub Delivers : (refuse : Bool) → (arrived : Part → Part) → List (ℕ × Part) → World → Machine → Machine → Type 0
+abbrev pub Delivers : (refuse : Bool) → (arrived : Part → Part) → List (ℕ × Part) → StreamWorld → Streams → Streams → Type 0
 Delivers refuse arrived [] w m n = Same m n
 Delivers refuse arrived (p ∷ ps) w m n =
     (s : Stream) × (t : Stream) × BreaksNothing w.b.window s.own p.1 (of p.0 ps) (w.a.ends p.0) × Goes refuse (arrived p.1) s t × Changes p.0 s t m n
 
--- the machine's step of an act at side a: a call by its rule, with this answer; what goes out changes nothing; what comes makes moves
-abbrev pub Steps : Act → World → Machine → Machine → Type 0
-Steps (Opens j carries bytes) w m n = Adds j (stream_write bytes (opened_stream w.a.window w.b.window)) m n
-Steps (Calls j call reply next) w m n =
+-- the streams' step of an act at side a: a call by its rule, with this answer; what goes out changes nothing; what comes makes moves
+abbrev pub StreamSteps : Act → StreamWorld → Streams → Streams → Type 0
+StreamSteps (Opens j carries bytes) w m n = Adds j (stream_write bytes (opened_stream w.a.window w.b.window)) m n
+StreamSteps (Calls j call reply next) w m n =
     ((s : Stream) × (t : Stream) × StreamRule w.a.over call s reply t × Changes j s t m n)
     ⊎ ((m j ≡ None) × (reply ≡ Refused NoStream) × Same m n)
-Steps (Accepts j) w m n = (s : Stream) × (s.me ≡ Offered) × Changes j s (stream_accept w.a.over s) m n
-Steps (Sends j k limit) w m n = Same m n
-Steps (Comes refuse) w m n = Delivers refuse (λ f. f) w.ba w m n
-Steps (ComesIn k) w m n = Delivers false (λ f. Data (take k (load f))) w.ba w m n
-Steps (Releases j) w m n = (s : Stream) × Allowed Released s × Changes j s (after Released s) m n
-Steps Ends w m n = Same m n
-Steps Stops w m n = Same m n
+StreamSteps (Accepts j) w m n = (s : Stream) × (s.me ≡ Offered) × Changes j s (stream_accept w.a.over s) m n
+StreamSteps (Sends j k limit) w m n = Same m n
+StreamSteps (Comes refuse) w m n = Delivers refuse (λ f. f) w.ba w m n
+StreamSteps (ComesIn k) w m n = Delivers false (λ f. Data (take k (load f))) w.ba w m n
+StreamSteps (Releases j) w m n = (s : Stream) × Allowed Released s × Changes j s (after Released s) m n
+StreamSteps Ends w m n = Same m n
+StreamSteps Stops w m n = Same m n
 
-abbrev pub StepsAt : Event → World → Machine → Machine → Type 0
-StepsAt (AtA act) w m n = Steps act w m n
-StepsAt (AtB act) w m n = Steps act (mirror w) (mirrored m) (mirrored n)
+abbrev pub StreamStepsAt : Happening → StreamWorld → Streams → Streams → Type 0
+StreamStepsAt (AtA act) w m n = StreamSteps act w m n
+StreamStepsAt (AtB act) w m n = StreamSteps act (stream_mirror w) (mirrored m) (mirrored n)
 
 -- nothing is due and nothing under way, and no side is over
-pub record IsQuietWorld (w : World) : Type 0 where
+pub record IsQuietWorld (w : StreamWorld) : Type 0 where
   pub a_runs : w.a.over ≡ false
   pub b_runs : w.b.over ≡ false
   pub ab : w.ab ≡ []
@@ -263,13 +263,13 @@ abbrev pub StillIf : (wx wy : ℕ) → Option Stream → Type 0
 StillIf wx wy None = Unit {0}
 StillIf wx wy (Some s) = IsStill wx wy s
 
--- every stream of the machine is still
-abbrev pub AllStill : World → Machine → Type 0
+-- every stream is still
+abbrev pub AllStill : StreamWorld → Streams → Type 0
 AllStill w m = (i : ℕ) → StillIf w.a.window w.b.window (m i)
 
--- A run of the machine beside the world: each event that can happen is its step, and it is still
--- whenever the world is quiet.
-abbrev pub RunsBeside : List Event → World → Machine → Type 0
+-- A run of the machine's streams beside the two sides: each happening that can take place is a step of
+-- theirs, and they are still whenever the sides are quiet.
+abbrev pub RunsBeside : List Happening → StreamWorld → Streams → Type 0
 RunsBeside [] w m = Unit {0}
 RunsBeside (e ∷ es) w m = CanHappen e w →
-    (n : Machine) × StepsAt e w m n × (IsQuietWorld (happens e w) → AllStill (happens e w) n) × RunsBeside es (happens e w) n
+    (n : Streams) × StreamStepsAt e w m n × (IsQuietWorld (happens e w) → AllStill (happens e w) n) × RunsBeside es (happens e w) n

@@ -59,9 +59,9 @@ pub fn no_window_fault()
 
 /// All streams at once: for every list of opens, calls, frames and parts of frames that go and come,
 /// ends that go, sides that are lost and directions that stop, at both sides in any order, there is a
-/// run of the machine. Its steps give the answers of the calls; each touches the stream of its event
-/// and leaves all others equal; what comes breaks no rule of `no_window_fault`; and whenever nothing is
-/// due or under way, every stream is still. An event counts where it can happen (`CanHappen`).
+/// run of the machine's streams. Its steps give the answers of the calls; each touches the stream that
+/// it names and leaves all others equal; what comes breaks no rule of `no_window_fault`; and whenever
+/// nothing is due or under way, every stream is still. What can't happen (`CanHappen`) doesn't count.
 pub fn all_streams()
     ensures begins { BeginsEmpty }
     ensures steps { EachSteps }
@@ -70,7 +70,7 @@ pub fn all_streams()
     ensures others { OthersKeep }
 {}
 
-/// What the law asks of events can be met: a stream is opened, written, sent, accepted, read and reset,
+/// What the law asks of what happens can be met: a stream is opened, written, sent, accepted, read and reset,
 /// and the reset arrives.
 pub fn a_run_can_happen()
     ensures happens { AllCanHappen example_run first_world }

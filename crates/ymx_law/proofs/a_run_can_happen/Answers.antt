@@ -1,4 +1,4 @@
--- By computing the world after each event.
+-- By computing the two sides after each happening.
 use Rattle.std.proofs.Common.{refl, inl, arith}
 use Rattle.ymx_law.proofs.a_run_can_happen.Goals as goal
 
