@@ -3,10 +3,9 @@ use Rattle.std.proofs.Common.{◌≡◌, ℕ, ◌^◌, ◌<◌, ◌≤◌, List,
 use Rattle.std.proofs.lemmas.Grind.{common_steps}
 use Rattle.std.proofs.lemmas.Bool.Decides.{nat_tests}
 use Rattle.std.proofs.lemmas.List.{get_or_append_left}
-use Rattle.ymx_header.specs.declared.header.Header.{Header}
 use Rattle.ymx_header.specs.declared.fault.Fault.{Fault}
 use Rattle.ymx_header.specs.declared.fault.Fault.TheVariants.{BadVersion, UnknownType, WindowExceeded}
-use Rattle.ymx_header.specs.Headers.{header_of, spelling}
+use Rattle.ymx_header.specs.Headers.{header_of}
 use Rattle.ymx_model.specs.Lanes.{first_credit}
 use Rattle.ymx_model.specs.Outgoing.{frame}
 use Rattle.ymx_model.specs.Arrivals.{payload, header_fault}
@@ -15,9 +14,6 @@ use Rattle.ymx_model.specs.Worlds.{IsOneFrame}
 use Rattle.ymx_session_law.specs.Limits.{IsWithin}
 
 -- ---- spellings
-
-spelling-length : (h : Header) → length (spelling h) ≡ 12
-spelling-length h = refl
 
 -- a frame of Data has as many bytes of payload as its header says
 data-payload : (flags id : ℕ) (body : List ℕ) → length body < 2 ^ 32 → payload (header_of (frame 0 flags id (length body) body)) ≡ length body
