@@ -6,6 +6,7 @@ use Rattle.ymx_model.specs.Streams.{Phase, is_up, takes, is_unborn}
 use Rattle.ymx_model.specs.Streams.Phase.{Live}
 use Rattle.ymx_model.specs.StreamRules.{IfSo, moved, is_done, write_reply, read_reply, finish_reply, reset_reply}
 use Rattle.ymx_machine_law.proofs.LaneLaws.{lists}
+pub use Rattle.ymx_model.proofs.Tests.{when}
 
 pub if-so_true : (b : Bool) (P Q : Type 0) → b ≡ true → IfSo b P Q → P
 if-so_true b P Q e h = subst (λ (x : Bool). IfSo x P Q) e h
