@@ -1,5 +1,5 @@
 -- A stream's number is below its opener's next and of its kind, so no number comes again.
-use Rattle.std.proofs.Common.{◌≡◌, ◌≢◌, ◌⊎◌, inl, inr, ℕ, ◌+◌, ◌%◌, List, [], ◌∷◌, ◌++◌, Bool, true, false, not, ◌||◌, map, if◌then◌else◌, Option, None, Some, refl, sym, ◌∙◌, ap, subst, arith}
+use Rattle.std.proofs.Common.{◌≡◌, ◌≢◌, ◌⊎◌, inl, inr, ℕ, ◌+◌, ◌%◌, List, [], ◌∷◌, ◌++◌, Bool, true, false, not, ◌||◌, map, Option, None, Some, refl, sym, ◌∙◌, ap, subst, arith}
 use Rattle.ymx_model.specs.declared.types.Reply.{Reply}
 use Rattle.ymx_model.specs.declared.types.Call.{Call}
 use Rattle.ymx_model.specs.Streams.{Stream, Move, after, stream_accept}
@@ -7,7 +7,7 @@ use Rattle.ymx_model.specs.Streams.Move.{Arrive, EndArrives, Return, SynOffered,
 use Rattle.ymx_model.specs.StreamRules.{StreamCall, StreamRule, is_done, forgets_quietly}
 use Rattle.ymx_model.specs.StreamRules.StreamCall.{Writes, Reads, Finishes, Resets, Forgets}
 use Rattle.ymx_model.specs.Tables.{look, change}
-use Rattle.ymx_model.specs.Machines.{Machine, SideState, flip_entry, mirror}
+use Rattle.ymx_model.specs.Machines.{Machine, flip_entry, mirror}
 use Rattle.ymx_model.specs.FreeMoves.{FreeMove, MayMove, moved_by, is_reset_arriving, refuses}
 use Rattle.ymx_model.specs.FreeMoves.FreeMove.{OfStream, SynArrives, AwayArrives, PingThere, PingBack}
 use Rattle.ymx_model.proofs.Tests.{when, same_or_not}
@@ -132,10 +132,6 @@ numbered-effect mine yours c m r n (AcceptsOne id ids h) so k =
     numbered-is _ _ (ap core h.now) (record { parity = k.parity; once = distinct-change id _ m.streams k.once; at = at-change m.me.next m.you.next id (stream_accept m.me.lost) s.0 m.streams s.1 refl k.at })
 numbered-effect mine yours c m r n (TouchesOne id sc s t h) so k =
     numbered-is _ _ (ap core h.now) (record { parity = k.parity; once = distinct-change id _ m.streams k.once; at = at-change m.me.next m.you.next id (λ _. t) s m.streams h.there (rule-own m.me.lost sc s t r h.rule) k.at })
-
-next-if : (b : Bool) (side : SideState) (ids : List ℕ) → (if b then record side { offered = ids } else side).next ≡ side.next
-next-if true side ids = refl
-next-if false side ids = refl
 
 syn : (id : ℕ) (counted : Bool) (m : Machine) (s : Stream) → look id m.streams ≡ Some s →
     ((refuses m || counted) ≡ true) ⊎ ((refuses m || counted) ≡ false) → Numbered (core m) → Numbered (core (moved_by (SynArrives id counted) m))

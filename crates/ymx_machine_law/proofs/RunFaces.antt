@@ -16,8 +16,8 @@ use Rattle.ymx_model.specs.Streams.Phase.{Live}
 use Rattle.ymx_model.specs.Tables.{look}
 use Rattle.ymx_model.specs.Worlds.{is_of_a, answer_of}
 use Rattle.ymx_model.specs.Machines.{Machine, mirror, new_machine}
-use Rattle.ymx_model.specs.MachineRuns.{MachineStepOfA, MachineStep, MachineRun, written_by, got_by, written, got}
-use Rattle.ymx_model.proofs.Tests.{when}
+use Rattle.ymx_model.specs.MachineRuns.{MachineStepOfA, MachineStep, MachineRun, written_by, got_by, written, got, is_same_side}
+use Rattle.ymx_model.proofs.Tests.{when, or_true}
 use Rattle.ymx_machine_law.proofs.Pasts.{Past, Faces, HasFace}
 use Rattle.ymx_machine_law.specs.Runs.{finished_by, ended_by, finished, ended, is_live_at_a, is_live_at_b, IsFace}
 use Rattle.ymx_machine_law.specs.Numbers.{HasOrder}
@@ -40,10 +40,6 @@ or-false : (b : Bool) → (b || false) ≡ b
 or-false true = refl
 or-false false = refl
 
-or-true : (b : Bool) → (b || true) ≡ true
-or-true true = refl
-or-true false = refl
-
 same : (h : Past) → record { written = h.written ++ []; got = h.got ++ []; finished = h.finished || false; ended = h.ended || false } ≡ h
 same h = rw (append-nil, append-nil, or-false, or-false) refl
 
@@ -63,12 +59,12 @@ pick-gave false bs h = same h
 
 pick-finished : (b : Bool) (h : Past) →
     record { written = h.written ++ []; got = h.got ++ []; finished = h.finished || b; ended = h.ended || false } ≡ (if b then (record h { finished = true }) else h)
-pick-finished true h = rw (append-nil, append-nil, or-false, or-true) refl
+pick-finished true h = rw (append-nil, append-nil, or-false, or_true) refl
 pick-finished false h = same h
 
 pick-ended : (b : Bool) (h : Past) →
     record { written = h.written ++ []; got = h.got ++ []; finished = h.finished || false; ended = h.ended || b } ≡ (if b then (record h { ended = true }) else h)
-pick-ended true h = rw (append-nil, append-nil, or-false, or-true) refl
+pick-ended true h = rw (append-nil, append-nil, or-false, or_true) refl
 pick-ended false h = same h
 
 stays : (b : Bool) (h h' : Past) → h' ≡ h → record { written = h.written ++ []; got = h.got ++ []; finished = h.finished || false; ended = h.ended || false } ≡ (if b then h' else h)
@@ -81,90 +77,51 @@ none-wrote h = rw append-nil refl
 none-gave : (h : Past) → gave [] h ≡ h
 none-gave h = rw append-nil refl
 
-tells-out_a : (i : ℕ) (c : Call) (r : Reply) (h : Past) → grown A B i (step.At A c) (answer_of r) h ≡ tell_out i c r h
-tells-out_a i (call.Write id bytes) (reply.Wrote (Took n)) h = pick-wrote (id == i) (take n bytes) h
-tells-out_a i (call.Write id bytes) r h = stays (id == i) h _ (none-wrote h)
-tells-out_a i (call.OpenWith bytes) (reply.OpenedWith id n) h = pick-wrote (id == i) (take n bytes) h
-tells-out_a i (call.OpenWith bytes) r h = same h
-tells-out_a i (call.Finish id) reply.Done h = pick-finished (id == i) h
-tells-out_a i (call.Finish id) r h = stays (id == i) h h refl
-tells-out_a i (call.Read id max) (reply.Read bytes) h = same h
-tells-out_a i (call.Read id max) reply.ReadEnd h = same h
-tells-out_a i (call.Read id max) r h = same h
-tells-out_a i call.Open r h = same h
-tells-out_a i call.Accept r h = same h
-tells-out_a i (call.Reset id) r h = same h
-tells-out_a i (call.Forget id) r h = same h
-tells-out_a i call.Ping r h = same h
-tells-out_a i (call.Ponged k) r h = same h
-tells-out_a i call.GoAway r h = same h
-tells-out_a i call.Close r h = same h
+same-side : (a : Side) → is_same_side a a ≡ true
+same-side A = refl
+same-side B = refl
 
-tells-inn_a : (i : ℕ) (c : Call) (r : Reply) (h : Past) → grown B A i (step.At A c) (answer_of r) h ≡ tell_inn i c r h
-tells-inn_a i (call.Read id max) (reply.Read bytes) h = pick-gave (id == i) bytes h
-tells-inn_a i (call.Read id max) reply.ReadEnd h = pick-ended (id == i) h
-tells-inn_a i (call.Read id max) r h = stays (id == i) h _ (none-gave h)
-tells-inn_a i (call.Write id bytes) (reply.Wrote (Took n)) h = same h
-tells-inn_a i (call.Write id bytes) r h = same h
-tells-inn_a i (call.OpenWith bytes) (reply.OpenedWith id n) h = same h
-tells-inn_a i (call.OpenWith bytes) r h = same h
-tells-inn_a i (call.Finish id) reply.Done h = same h
-tells-inn_a i (call.Finish id) r h = same h
-tells-inn_a i call.Open r h = same h
-tells-inn_a i call.Accept r h = same h
-tells-inn_a i (call.Reset id) r h = same h
-tells-inn_a i (call.Forget id) r h = same h
-tells-inn_a i call.Ping r h = same h
-tells-inn_a i (call.Ponged k) r h = same h
-tells-inn_a i call.GoAway r h = same h
-tells-inn_a i call.Close r h = same h
-
--- the same at side B
-tells-out_b : (i : ℕ) (c : Call) (r : Reply) (h : Past) → grown B A i (step.At B c) (answer_of r) h ≡ tell_out i c r h
-tells-out_b i (call.Write id bytes) (reply.Wrote (Took n)) h = pick-wrote (id == i) (take n bytes) h
-tells-out_b i (call.Write id bytes) r h = stays (id == i) h _ (none-wrote h)
-tells-out_b i (call.OpenWith bytes) (reply.OpenedWith id n) h = pick-wrote (id == i) (take n bytes) h
-tells-out_b i (call.OpenWith bytes) r h = same h
-tells-out_b i (call.Finish id) reply.Done h = pick-finished (id == i) h
-tells-out_b i (call.Finish id) r h = stays (id == i) h h refl
-tells-out_b i (call.Read id max) (reply.Read bytes) h = same h
-tells-out_b i (call.Read id max) reply.ReadEnd h = same h
-tells-out_b i (call.Read id max) r h = same h
-tells-out_b i call.Open r h = same h
-tells-out_b i call.Accept r h = same h
-tells-out_b i (call.Reset id) r h = same h
-tells-out_b i (call.Forget id) r h = same h
-tells-out_b i call.Ping r h = same h
-tells-out_b i (call.Ponged k) r h = same h
-tells-out_b i call.GoAway r h = same h
-tells-out_b i call.Close r h = same h
-
-tells-inn_b : (i : ℕ) (c : Call) (r : Reply) (h : Past) → grown A B i (step.At B c) (answer_of r) h ≡ tell_inn i c r h
-tells-inn_b i (call.Read id max) (reply.Read bytes) h = pick-gave (id == i) bytes h
-tells-inn_b i (call.Read id max) reply.ReadEnd h = pick-ended (id == i) h
-tells-inn_b i (call.Read id max) r h = stays (id == i) h _ (none-gave h)
-tells-inn_b i (call.Write id bytes) (reply.Wrote (Took n)) h = same h
-tells-inn_b i (call.Write id bytes) r h = same h
-tells-inn_b i (call.OpenWith bytes) (reply.OpenedWith id n) h = same h
-tells-inn_b i (call.OpenWith bytes) r h = same h
-tells-inn_b i (call.Finish id) reply.Done h = same h
-tells-inn_b i (call.Finish id) r h = same h
-tells-inn_b i call.Open r h = same h
-tells-inn_b i call.Accept r h = same h
-tells-inn_b i (call.Reset id) r h = same h
-tells-inn_b i (call.Forget id) r h = same h
-tells-inn_b i call.Ping r h = same h
-tells-inn_b i (call.Ponged k) r h = same h
-tells-inn_b i call.GoAway r h = same h
-tells-inn_b i call.Close r h = same h
+other-side : (a : Side) → is_same_side (other a) a ≡ false
+other-side A = refl
+other-side B = refl
 
 tells-out : (a : Side) (i : ℕ) (c : Call) (r : Reply) (h : Past) → grown a (other a) i (step.At a c) (answer_of r) h ≡ tell_out i c r h
-tells-out A i c r h = tells-out_a i c r h
-tells-out B i c r h = tells-out_b i c r h
+tells-out a i (call.Write id bytes) (reply.Wrote (Took n)) h = rw (same-side a) (pick-wrote (id == i) (take n bytes) h)
+tells-out a i (call.Write id bytes) r h = stays (id == i) h _ (none-wrote h)
+tells-out a i (call.OpenWith bytes) (reply.OpenedWith id n) h = rw (same-side a) (pick-wrote (id == i) (take n bytes) h)
+tells-out a i (call.OpenWith bytes) r h = same h
+tells-out a i (call.Finish id) reply.Done h = rw (same-side a) (pick-finished (id == i) h)
+tells-out a i (call.Finish id) r h = stays (id == i) h h refl
+tells-out a i (call.Read id max) (reply.Read bytes) h = rw (other-side a) (same h)
+tells-out a i (call.Read id max) reply.ReadEnd h = rw (other-side a) (same h)
+tells-out a i (call.Read id max) r h = same h
+tells-out a i call.Open r h = same h
+tells-out a i call.Accept r h = same h
+tells-out a i (call.Reset id) r h = same h
+tells-out a i (call.Forget id) r h = same h
+tells-out a i call.Ping r h = same h
+tells-out a i (call.Ponged k) r h = same h
+tells-out a i call.GoAway r h = same h
+tells-out a i call.Close r h = same h
 
 tells-inn : (a : Side) (i : ℕ) (c : Call) (r : Reply) (h : Past) → grown (other a) a i (step.At a c) (answer_of r) h ≡ tell_inn i c r h
-tells-inn A i c r h = tells-inn_a i c r h
-tells-inn B i c r h = tells-inn_b i c r h
+tells-inn a i (call.Read id max) (reply.Read bytes) h = rw (same-side a) (pick-gave (id == i) bytes h)
+tells-inn a i (call.Read id max) reply.ReadEnd h = rw (same-side a) (pick-ended (id == i) h)
+tells-inn a i (call.Read id max) r h = stays (id == i) h _ (none-gave h)
+tells-inn a i (call.Write id bytes) (reply.Wrote (Took n)) h = rw (other-side a) (same h)
+tells-inn a i (call.Write id bytes) r h = same h
+tells-inn a i (call.OpenWith bytes) (reply.OpenedWith id n) h = rw (other-side a) (same h)
+tells-inn a i (call.OpenWith bytes) r h = same h
+tells-inn a i (call.Finish id) reply.Done h = rw (other-side a) (same h)
+tells-inn a i (call.Finish id) r h = same h
+tells-inn a i call.Open r h = same h
+tells-inn a i call.Accept r h = same h
+tells-inn a i (call.Reset id) r h = same h
+tells-inn a i (call.Forget id) r h = same h
+tells-inn a i call.Ping r h = same h
+tells-inn a i (call.Ponged k) r h = same h
+tells-inn a i call.GoAway r h = same h
+tells-inn a i call.Close r h = same h
 
 -- ---- a step
 

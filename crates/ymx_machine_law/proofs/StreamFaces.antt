@@ -4,7 +4,7 @@ use Rattle.std.proofs.lemmas.Bool.Decides.{nat_tests}
 use Rattle.ymx_model.specs.declared.types.Reply.{Reply}
 use Rattle.ymx_model.specs.declared.types.Reply.TheVariants as reply
 use Rattle.ymx_model.specs.declared.types.Wrote.TheVariants.{Took}
-use Rattle.ymx_model.specs.Lanes.{Mark, new_lane, first_credit, is_unsaid, is_here, back, lane_struck}
+use Rattle.ymx_model.specs.Lanes.{Mark, new_lane, first_credit, is_unsaid, is_here, lane_struck}
 use Rattle.ymx_model.specs.Lanes.Mark.{Said}
 use Rattle.ymx_model.specs.Streams.{Phase, Stream, flip, opened_stream, Move, Allowed, after, struck, is_up, takes, is_unborn, stream_write, stream_read, stream_finish, stream_accept, stream_forget, stream_reset}
 use Rattle.ymx_model.specs.Streams.Move.{Arrive, EndArrives, Return, SynOffered, SynRefused, AckArrives, ResetArrives, Released}
@@ -41,10 +41,6 @@ arrives mine yours n s po pi b (inr t) c = record {
   rst_out = c.rst_out;
   rst_inn = c.rst_inn;
 }
-
--- what a reset leaves unsaid was unsaid
-back-said : (m : Mark) → is_unsaid (back m) ≡ false → is_unsaid m ≡ false
-back-said m e = grind arith
 
 -- an end that goes another way comes up only if it was up
 faces-me : (mine yours : ℕ) (p : Phase) (m : Mark) (s : Stream) (po pi : Past) → (is_up p ≡ true → is_up s.me ≡ true) → (is_unsaid m ≡ false → is_up p ≡ false) →

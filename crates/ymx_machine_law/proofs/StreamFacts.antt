@@ -1,11 +1,12 @@
 -- What the rules of a stream's calls say.
-use Rattle.std.proofs.Common.{◌≡◌, ◌⊎◌, ℕ, ◌≤◌, List, length, take, Bool, true, false, ◌==◌, subst, arith}
+use Rattle.std.proofs.Common.{◌≡◌, ℕ, ◌≤◌, List, length, take, Bool, true, false, ◌==◌, subst, arith}
 use Rattle.std.proofs.lemmas.Bool.Decides.{nat_tests}
 use Rattle.ymx_model.specs.declared.types.Reply.TheVariants.{ReadEnd}
-use Rattle.ymx_model.specs.Streams.{Phase, is_up, takes, is_reset, is_unborn}
+use Rattle.ymx_model.specs.Streams.{Phase, is_up, takes, is_unborn}
 use Rattle.ymx_model.specs.Streams.Phase.{Live}
-use Rattle.ymx_model.specs.StreamRules.{IfSo, moved, is_done, write_reply, read_reply, finish_reply, reset_reply, forget_reply}
+use Rattle.ymx_model.specs.StreamRules.{IfSo, moved, is_done, write_reply, read_reply, finish_reply, reset_reply}
 use Rattle.ymx_machine_law.proofs.LaneLaws.{lists}
+pub use Rattle.ymx_model.proofs.Tests.{when}
 
 pub if-so_true : (b : Bool) (P Q : Type 0) → b ≡ true → IfSo b P Q → P
 if-so_true b P Q e h = subst (λ (x : Bool). IfSo x P Q) e h
@@ -37,9 +38,6 @@ finish-live lost p said e = grind arith
 
 pub reset-live : (lost : Bool) (p : Phase) → is_done (reset_reply lost p) ≡ true → p ≡ Live
 reset-live lost p e = grind arith
-
-pub forget-held : (p : Phase) → is_done (forget_reply p) ≡ true → (p ≡ Live) ⊎ (is_reset p ≡ true)
-forget-held p e = grind arith
 
 pub live-up : (p : Phase) → p ≡ Live → is_up p ≡ true
 live-up p e = grind arith

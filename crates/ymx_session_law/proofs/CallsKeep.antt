@@ -130,16 +130,6 @@ with-keeps P id f s h k =
     of None e = h
     of (Some e) l = k e l
 
--- a reply that isn't a refusal is of a stream that is live or was reset
-live_not_offered : (p : Phase) → is_live p ≡ true → is_offered p ≡ false
-live_not_offered Live e = refl
-live_not_offered Unborn e = refl
-live_not_offered Offered e = sym e
-live_not_offered WasReset e = refl
-live_not_offered Refused e = refl
-live_not_offered Lingering e = refl
-live_not_offered Gone e = refl
-
 -- where an offered stream refuses, nothing moves
 offered_moves : (needs lost said : Bool) (p : Phase) (r : Reply) → (moved (unless_refused needs lost p said r) == 0) ≡ false → is_offered p ≡ false
 offered_moves needs lost said Offered r n = n

@@ -1,3 +1,5 @@
+pub mod Splits
+pub mod Entries
 pub mod Chunks
 pub mod Pieces
 pub mod Ends

@@ -6,7 +6,7 @@ use Rattle.ymx_header.specs.Headers.{header_of}
 use Rattle.ymx_model.specs.declared.types.Status.TheVariants.{Running}
 use Rattle.ymx_model.specs.Records.{End, gets_data, gets_piece, gets_fin}
 use Rattle.ymx_model.specs.Tables.{change}
-use Rattle.ymx_model.specs.Sessions.{Session, Incoming}
+use Rattle.ymx_model.specs.Sessions.{Session}
 use Rattle.ymx_model.specs.Sessions.Incoming.{Head, Payload}
 use Rattle.ymx_model.specs.Arrivals.{head_comes, piece_comes, is_starved}
 use Rattle.ymx_model.specs.Feeds.{Takes, is_stuck, byte_comes, byte_in, starves, is_between}
@@ -176,12 +176,6 @@ head-whole lacks (c ∷ bs) seen b s st inc free l =
     )
 
 -- ---- a whole frame
-
--- what a whole frame does that is fed between two frames: its head, then its payload as one piece
-abbrev pub payload_of : List ℕ → Session → Incoming → Session
-payload_of [] s i = s
-payload_of (b ∷ bs) s (Head seen) = s
-payload_of (b ∷ bs) s (Payload id n fin stray) = piece_comes (b ∷ bs) id n fin stray s
 
 pub frame-whole : (lacks : Bool) (h0 : ℕ) (hs : List ℕ) (b : ℕ) (bs : List ℕ) (id : ℕ) (fin stray : Bool) (s : Session) →
     s.status ≡ Running → s.incoming ≡ Head [] → is_stuck s ≡ false → length (h0 ∷ hs) ≡ 12 →

@@ -6,7 +6,8 @@ use Rattle.ymx_model.specs.Lanes.{first_credit}
 use Rattle.ymx_model.specs.Streams.{takes, is_offered, is_recorded}
 use Rattle.ymx_model.specs.Records.{End, held, takes_payload}
 use Rattle.ymx_model.specs.Pings.{Ping, Pings, most_pings, is_pending}
-use Rattle.ymx_model.specs.Tables.{Table, look, most_records, Distinct}
+use Rattle.ymx_model.specs.Tables.{Table, look, most_records}
+pub use Rattle.ymx_model.specs.Tables.{Distinct}
 use Rattle.ymx_model.specs.Sessions.{Session, Incoming, is_own, most_offered, most_answers, most_unacknowledged}
 use Rattle.ymx_model.specs.Calls.{is_unacknowledged}
 use Rattle.ymx_model.specs.Sessions.Incoming.{Head, Payload}

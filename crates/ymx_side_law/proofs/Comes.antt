@@ -102,19 +102,19 @@ stray-table : (h : Header) (bytes : List ℕ) (s : Session) → s.incoming ≡ H
 stray-table h bytes s inc =
     split (λ x. (payload_comes bytes x x.incoming).table ≡ s.table) (payload h == 0) s (record s { incoming = Payload h.id (payload h) (has_fin h) true }) (λ t. rw inc refl) (λ f. refl)
 
+whole : (b c : Bool) → c ≡ false → (b && not c) ≡ b
+whole true c z = rw z refl
+whole false c z = refl
+
+not_less : (n : ℕ) → nat_lt n n ≡ false
+not_less n = grind (arith, nat_tests)
+
 -- one that is taken goes to its record, and the end behind it
 piece-look : (h : Header) (bytes : List ℕ) (e : End) (s : Session) → s.incoming ≡ Head [] → look h.id s.table.entries ≡ Some e → length bytes ≡ payload h →
     (payload h == 0) ≡ false → look h.id (payload_comes bytes (expects h false s) (expects h false s).incoming).table.entries ≡ Some (gets_piece (has_fin h) bytes e)
 piece-look h bytes e s inc l n f =
     let last : (has_fin h && not (nat_lt (length bytes) (payload h))) ≡ has_fin h = whole (has_fin h) (nat_lt (length bytes) (payload h)) (rw n (not_less (payload h))) in
     rw f (look-change_same h.id (gets_piece (has_fin h && not (nat_lt (length bytes) (payload h))) bytes) s.table.entries ∙ rw (l, last) refl)
-  where
-    whole : (b c : Bool) → c ≡ false → (b && not c) ≡ b
-    whole true c z = rw z refl
-    whole false c z = refl
-
-    not_less : (n : ℕ) → nat_lt n n ≡ false
-    not_less n = grind (arith, nat_tests)
 
 no-bytes : (bytes : List ℕ) → length bytes ≡ 0 → bytes ≡ []
 no-bytes [] e = refl
@@ -364,10 +364,3 @@ pub last-piece : (bytes : List ℕ) (id : ℕ) (fin : Bool) (e : End) (s : Sessi
 last-piece bytes id fin e s l =
     let last : (fin && not (nat_lt (length bytes) (length bytes))) ≡ fin = whole fin (nat_lt (length bytes) (length bytes)) (not_less (length bytes)) in
     look-change_same id (gets_piece (fin && not (nat_lt (length bytes) (length bytes))) bytes) s.table.entries ∙ rw (l, last) refl
-  where
-    whole : (b c : Bool) → c ≡ false → (b && not c) ≡ b
-    whole true c z = rw z refl
-    whole false c z = refl
-
-    not_less : (n : ℕ) → nat_lt n n ≡ false
-    not_less n = grind (arith, nat_tests)

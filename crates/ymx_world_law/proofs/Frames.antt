@@ -4,6 +4,9 @@ use Rattle.std.proofs.lemmas.Grind.{common_steps}
 use Rattle.std.proofs.lemmas.Bool.Decides.{nat_tests}
 use Rattle.ymx_header.specs.Headers.{header_of}
 use Rattle.ymx_header.proofs.Frames.{wider, no-fault as no-fault-under}
+use Rattle.std.proofs.lemmas.List.{get_or_append_left}
+use Rattle.ymx_header.specs.declared.fault.Fault.{Fault}
+use Rattle.ymx_header.specs.declared.fault.Fault.TheVariants.{BadVersion, UnknownType, WindowExceeded}
 use Rattle.ymx_model.specs.Lanes.{first_credit}
 use Rattle.ymx_model.specs.Outgoing.{frame}
 use Rattle.ymx_model.specs.Arrivals.{payload, header_fault}

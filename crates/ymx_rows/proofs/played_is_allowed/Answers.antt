@@ -4,11 +4,9 @@ use Rattle.ymx_rows.proofs.FedByBlocks.{feeds}
 use Rattle.ymx_rows.proofs.Emitted.{emits}
 use Rattle.ymx_rows.proofs.played_is_allowed.Goals as goal
 
-pub returns-clause-world : goal.returns-clause-world
-returns-clause-world c = λ steps wa fa wb fb la ha lb hb pa pb sa z sb. plays steps (new_world wa fa wb fb) (new-within wa fa wb fb la ha lb hb pa pb sa z sb)
-
-pub returns-clause-feeding : goal.returns-clause-feeding
-returns-clause-feeding c = feeds
-
-pub returns-clause-emitting : goal.returns-clause-emitting
-returns-clause-emitting c = emits
+pub returns : goal.returns
+returns c = record {
+  world = λ steps wa fa wb fb la ha lb hb pa pb sa z sb. plays steps (new_world wa fa wb fb) (new-within wa fa wb fb la ha lb hb pa pb sa z sb);
+  feeding = feeds;
+  emitting = emits;
+}
