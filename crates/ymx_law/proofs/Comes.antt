@@ -12,7 +12,7 @@ use Rattle.ymx_law.specs.Links.{Alive, Heard, Related}
 use Rattle.ymx_law.specs.Arrivals.{gets_syn, comes_to, MovesOf, Goes}
 use Rattle.ymx_law.proofs.Flight.{no_list}
 use Rattle.ymx_law.proofs.Directions.{lists}
-use Rattle.ymx_law.proofs.Heard.{said-over, said-ack, said-data, said-piece, said-credit, said-fin, said-rst}
+use Rattle.ymx_law.proofs.Heard.{said-over, said-ack, said-piece, said-credit, said-fin, said-rst}
 use Rattle.ymx_law.proofs.Arrives.{syn-only, taken, vanished, data-nothing, data-over, credited, credit-lapses, acknowledged, fin-taken, fin-ignored, fin-allowed, offered, refused, rst-comes, syn-finds}
 use Rattle.ymx_law.proofs.Phases.{down}
 use Rattle.ymx_law.proofs.Links.{when}
@@ -154,7 +154,7 @@ said-comes : (refuse : Bool) (f : Part) (wx wy : ℕ) (x y : End) (xy yx : List 
     Heard wx wy x y (f ∷ xy) yx s → MovesOf refuse f [] × Heard wx wy x (comes_to refuse wy f y) xy yx s
 said-comes refuse (Syn d) wx wy x y xy yx s c = absurd (let e = c.no_syn in cc)
 said-comes refuse (Ack d) wx wy x y xy yx s c = (inl refl, said-ack d wx wy x y xy yx s c)
-said-comes refuse (Data b) wx wy x y xy yx s c = (inl refl, said-data b b wx wy x y xy yx s c)
+said-comes refuse (Data b) wx wy x y xy yx s c = (inl refl, said-over wx wy x (gets_data b y) xy yx s (said-piece b b [] wx wy x y xy yx s c))
 said-comes refuse (Credit d) wx wy x y xy yx s c = (inl refl, said-credit d wx wy x y xy yx s c)
 said-comes refuse Fin wx wy x y xy yx s c = (inl refl, said-fin wx wy x y xy yx s c)
 said-comes refuse Rst wx wy x y xy yx s c = (inl refl, said-rst wx wy x y xy yx s c)

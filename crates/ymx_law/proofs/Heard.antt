@@ -27,9 +27,6 @@ spent-next window e k c h = let l = down-not_live e c.down in grind arith
 pub said-ack : (d wx wy : ℕ) (x y : End) (xy yx : List Part) (s : Stream) → Heard wx wy x y (Ack d ∷ xy) yx s → Heard wx wy x (gets_credit d (gets_ack y)) xy yx s
 said-ack d wx wy x y xy yx s c = grind (arith, lists)
 
-pub said-data : (b rest : List ℕ) (wx wy : ℕ) (x y : End) (xy yx : List Part) (s : Stream) → Heard wx wy x y (Data rest ∷ xy) yx s → Heard wx wy x (gets_data b y) xy yx s
-said-data b rest wx wy x y xy yx s c = grind (arith, lists)
-
 pub said-piece : (b rest more : List ℕ) (wx wy : ℕ) (x y : End) (xy yx : List Part) (s : Stream) → Heard wx wy x y (Data rest ∷ xy) yx s → Heard wx wy x (gets_data b y) (Data more ∷ xy) yx s
 said-piece b rest more wx wy x y xy yx s c = grind (arith, lists)
 

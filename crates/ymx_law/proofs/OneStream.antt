@@ -1,10 +1,10 @@
 -- The law of one stream, also where a side is lost or closed.
-use Rattle.std.proofs.Common.{◌≡◌, ◌≢◌, ℕ, ◌≤◌, List, [], ◌∷◌, ◌++◌, length, Bool, true, false, ◌||◌, ◌⊎◌, inl, inr, None, Some, refl, sym, ap, subst, ◌∙◌, arith}
+use Rattle.std.proofs.Common.{◌≡◌, ℕ, ◌≤◌, List, [], ◌∷◌, ◌++◌, length, Bool, true, false, ◌||◌, ◌⊎◌, inl, inr, None, Some, refl, sym, ap, subst, ◌∙◌, arith}
 use Rattle.ymx_model.specs.Streams.{Phase, Stream, is_live, is_reset, flip, Allowed, after, IsStill, takes, opened_stream, stream_write, stream_forget, stream_accept}
 use Rattle.ymx_model.specs.Streams.Phase.{Unborn, Offered, Live, Lingering, Gone}
 use Rattle.ymx_model.specs.Streams.Move.{Released}
 use Rattle.ymx_model.specs.StreamRules.{StreamCall, forget_reply, is_done, StreamRule}
-use Rattle.ymx_model.specs.StreamRules.StreamCall.{Writes, Reads, Finishes, Resets, Forgets}
+use Rattle.ymx_model.specs.StreamRules.StreamCall.{Forgets}
 use Rattle.ymx_model.specs.declared.types.Reply.{Reply}
 use Rattle.ymx_model.specs.Records.{End, new_end, emptied, end_accept, end_write, end_forget, gets_data}
 use Rattle.ymx_model.specs.Outgoing.{Kind, next_kind, sends}
@@ -16,7 +16,7 @@ use Rattle.ymx_law.specs.Answers.{EndRule, end_released}
 use Rattle.ymx_law.specs.OneStream.{is_given_up, Stands, IsOneStream, Shows, IsQuiet}
 use Rattle.ymx_law.proofs.Links.{when, related-flip}
 use Rattle.ymx_law.proofs.Nothing.{absent-only, absent-rule}
-use Rattle.ymx_law.proofs.Rules.{shows, law-call, law-forget_lost}
+use Rattle.ymx_law.proofs.Rules.{forgets_lost, shows, law-call, law-forget_lost}
 use Rattle.ymx_law.proofs.Calls.{none-done, related-accepts, related-goes, related-releases}
 use Rattle.ymx_law.proofs.Sends.{related-sends}
 use Rattle.ymx_law.proofs.Faults.{related-breaks, related-within}
@@ -56,7 +56,7 @@ gone-absent : (p : Phase) → is_given_up p ≡ true → (is_live p || is_reset 
 gone-absent p g = grind arith
 
 mine-calls : (lost : Bool) (call : StreamCall) (r : Reply) (oy : Bool) (wx wy : ℕ) (x x' y : End) (xy yx : List Part) (s : Stream) (c : IsOneStream lost oy wx wy x y xy yx s) →
-    x ≡ c.mine → EndRule lost call x r x' → (lost ≡ false) ⊎ (call ≢ Forgets) →
+    x ≡ c.mine → EndRule lost call x r x' → forgets_lost lost call ≡ false →
     (t : Stream) × StreamRule lost call s r t × IsOneStream lost oy wx wy x' y xy yx t
 mine-calls lost call r oy wx wy x x' y xy yx s c e h n =
     let k = law-call lost call r wx wy x x' c.yours xy yx s (related-mine wx wy c.mine x c.yours xy yx s (sym e) c.related) n h in
@@ -93,27 +93,15 @@ mine-forgets r oy wx wy x x' y xy yx s c e h = go (when (is_done r))
           one-mine true oy wx wy x x' y xy yx xy yx s s c (related-mine wx wy x x' c.yours xy yx s (sym q) rel),
         )
 
-call_or : (call : StreamCall) → (call ≡ Forgets) ⊎ (call ≢ Forgets)
-call_or (Writes bytes) = inr (λ e. absurd (cc))
-call_or (Reads max) = inr (λ e. absurd (cc))
-call_or Finishes = inr (λ e. absurd (cc))
-call_or Resets = inr (λ e. absurd (cc))
-call_or Forgets = inl refl
-
 pub one-calls : (lost : Bool) (call : StreamCall) (r : Reply) (oy : Bool) (wx wy : ℕ) (x x' y : End) (xy yx : List Part) (s : Stream) →
     IsOneStream lost oy wx wy x y xy yx s → EndRule lost call x r x' → (t : Stream) × StreamRule lost call s r t × IsOneStream lost oy wx wy x' y xy yx t
-one-calls lost call r oy wx wy x x' y xy yx s c h = go lost call c h c.mine_stands (call_or call)
+one-calls lost call r oy wx wy x x' y xy yx s c h = go lost call c h c.mine_stands
   where
-    go : (lost : Bool) (call : StreamCall) (c : IsOneStream lost oy wx wy x y xy yx s) → EndRule lost call x r x' → Stands lost x c.mine → (call ≡ Forgets) ⊎ (call ≢ Forgets) →
+    go : (lost : Bool) (call : StreamCall) (c : IsOneStream lost oy wx wy x y xy yx s) → EndRule lost call x r x' → Stands lost x c.mine →
         (t : Stream) × StreamRule lost call s r t × IsOneStream lost oy wx wy x' y xy yx t
-    go lost call c h (inl e) (inr n) = mine-calls lost call r oy wx wy x x' y xy yx s c e h (inr n)
-    go false call c h (inl e) (inl n) = mine-calls false call r oy wx wy x x' y xy yx s c e h (inl refl)
-    go true Forgets c h (inl e) (inl n) = mine-forgets r oy wx wy x x' y xy yx s c e h
-    go true (Writes b) c h (inl e) (inl n) = absurd (cc)
-    go true (Reads b) c h (inl e) (inl n) = absurd (cc)
-    go true Finishes c h (inl e) (inl n) = absurd (cc)
-    go true Resets c h (inl e) (inl n) = absurd (cc)
-    go lost call c h (inr g) n =
+    go true Forgets c h (inl e) = mine-forgets r oy wx wy x x' y xy yx s c e h
+    go lost call c h (inl e) = mine-calls lost call r oy wx wy x x' y xy yx s c e h refl
+    go lost call c h (inr g) =
         let k = absent-only lost call x x' r (gone-absent x.phase g.2) h in
         let p = (shows wx wy c.mine c.yours xy yx s c.related).phase in (
           s,

@@ -239,13 +239,17 @@ law-forget r wx wy x x' y xy yx s c h = go (when (is_done r))
         (k.0, (e, if_so (is_done r) _ _ d k.1), related-is wx wy _ x' y xy yx _ _ (h.1 ∙ rw d) refl k.2)
     go (inr d) = (s, (e, rw d refl), related-is wx wy x x' y xy yx s s (h.1 ∙ rw d) refl c)
 
--- any call at an end that stands for itself, but a forget in a lost session
+-- the one call after which an end may stand for another
+abbrev pub forgets_lost : Bool → StreamCall → Bool
+forgets_lost true Forgets = true
+forgets_lost _ _ = false
+
+-- any other call
 pub law-call : (lost : Bool) (call : StreamCall) (r : Reply) (wx wy : ℕ) (x x' y : End) (xy yx : List Part) (s : Stream) → Related wx wy x y xy yx s →
-    (lost ≡ false) ⊎ (call ≢ Forgets) → EndRule lost call x r x' → (t : Stream) × StreamRule lost call s r t × Related wx wy x' y xy yx t
+    forgets_lost lost call ≡ false → EndRule lost call x r x' → (t : Stream) × StreamRule lost call s r t × Related wx wy x' y xy yx t
 law-call lost (Writes bytes) r wx wy x x' y xy yx s c n h = law-write lost bytes r wx wy x x' y xy yx s c h
 law-call lost (Reads max) r wx wy x x' y xy yx s c n h = law-read lost max r wx wy x x' y xy yx s c h
 law-call lost Finishes r wx wy x x' y xy yx s c n h = law-finish lost r wx wy x x' y xy yx s c h
 law-call lost Resets r wx wy x x' y xy yx s c n h = law-reset lost r wx wy x x' y xy yx s c h
 law-call false Forgets r wx wy x x' y xy yx s c n h = law-forget r wx wy x x' y xy yx s c h
-law-call true Forgets r wx wy x x' y xy yx s c (inl n) h = absurd (cc)
-law-call true Forgets r wx wy x x' y xy yx s c (inr n) h = absurd (n refl)
+law-call true Forgets r wx wy x x' y xy yx s c n h = absurd (cc)

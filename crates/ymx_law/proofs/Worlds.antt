@@ -14,10 +14,12 @@ use Rattle.ymx_model.specs.Parts.{Part, parts_of}
 use Rattle.ymx_model.specs.Parts.Part.{Syn, Ack, Data, Credit, Fin, Rst}
 use Rattle.ymx_law.specs.Flight.{load, is_data}
 use Rattle.ymx_law.specs.Links.{Related}
-use Rattle.ymx_law.specs.Arrivals.{comes_to}
+use Rattle.ymx_law.specs.Arrivals.{comes_to, Goes}
+use Rattle.ymx_law.specs.Faults.{BreaksNothing}
+use Rattle.ymx_law.proofs.Flight.{no_list}
 use Rattle.ymx_law.specs.Answers.{end_released}
 use Rattle.ymx_law.specs.OneStream.{IsOneStream, IsQuiet}
-use Rattle.ymx_law.specs.Worlds.{of, tagged, put, StreamWorld, stream_mirror, new_streams, Streams, no_streams, flip_some, mirrored, Changes, Same, IsFresh, AreOne, Refines, Act, Happening, rest_of, came, came_in, acts, happens, is_payload, Can, CanHappen, Delivers, StreamSteps, StreamStepsAt, IsQuietWorld, StillIf, AllStill, RunsBeside, is_of, touches, touches_at, SameStream}
+use Rattle.ymx_law.specs.Worlds.{of, tagged, put, put_end, StreamWorld, stream_mirror, new_streams, Streams, no_streams, flip_some, mirrored, Changes, Same, IsFresh, AreOne, Refines, Act, Happening, rest_of, came, came_in, acts, happens, is_payload, Can, CanHappen, Delivers, StreamSteps, StreamStepsAt, IsQuietWorld, StillIf, AllStill, RunsBeside, is_of, touches, touches_at, SameStream}
 use Rattle.ymx_law.specs.Worlds.Act.{Opens, Calls, Accepts, Sends, Comes, ComesIn, Releases, Ends, Stops}
 use Rattle.ymx_law.specs.Worlds.Happening.{AtA, AtB}
 use Rattle.ymx_law.proofs.Links.{not_not}
@@ -45,11 +47,11 @@ of-push_same i ps fs = of-append i ps (tagged i fs) ∙ ap (λ (l : List Part). 
 of-push_other : (i j : ℕ) (ps : List (ℕ × Part)) (fs : List Part) → i ≢ j → of i (ps ++ tagged j fs) ≡ of i ps
 of-push_other i j ps fs n = of-append i ps (tagged j fs) ∙ ap (λ (l : List Part). of i ps ++ l) (of-tagged_other i j fs n) ∙ append-nil (of i ps)
 
-of-head_same : (j : ℕ) (f : Part) (ps : List (ℕ × Part)) → of j ((j, f) ∷ ps) ≡ f ∷ of j ps
-of-head_same j f ps = grind (arith, nat_tests)
+of-front_same : (j : ℕ) (fs : List Part) (ps : List (ℕ × Part)) → of j (tagged j fs ++ ps) ≡ fs ++ of j ps
+of-front_same j fs ps = of-append j (tagged j fs) ps ∙ ap (λ (l : List Part). l ++ of j ps) (of-tagged_same j fs)
 
-of-head_other : (i j : ℕ) (f : Part) (ps : List (ℕ × Part)) → i ≢ j → of i ((j, f) ∷ ps) ≡ of i ps
-of-head_other i j f ps n = grind (arith, nat_tests)
+of-front_other : (i j : ℕ) (fs : List Part) (ps : List (ℕ × Part)) → i ≢ j → of i (tagged j fs ++ ps) ≡ of i ps
+of-front_other i j fs ps n = of-append i (tagged j fs) ps ∙ ap (λ (l : List Part). l ++ of i ps) (of-tagged_other i j fs n)
 
 pub put-same : {A : Type 0} (j : ℕ) (v : A) (f : ℕ → A) → put j v f j ≡ v
 put-same j v f = grind (arith, nat_tests)
@@ -188,29 +190,36 @@ step-sends j k limit w m can r = elim (found _ _ _ _ _ _ _ _ (m j) (r.streams j)
   | inr f ↦ absurd (fresh-none w.a.window k (subst (λ e. next_kind w.a.window e ≡ Some k) f.1.mine can.1))
 ]
 
-no_part : (f : Part) (fs : List Part) → f ∷ fs ≡ [] → ⊥
-no_part f fs e = cc
-
 -- a number whose parts are under way was opened
 opened_is : (ox oy : Bool) (wx wy : ℕ) (x y : End) (xy yx : List Part) (f : Part) (o : Option Stream) → AreOne ox oy wx wy x y xy (f ∷ yx) o → (s : Stream) × (o ≡ Some s) × IsOneStream ox oy wx wy x y xy (f ∷ yx) s
-opened_is ox oy wx wy x y xy yx f None l = absurd (no_part f yx l.none_inn)
+opened_is ox oy wx wy x y xy yx f None l = absurd (no_list l.none_inn)
 opened_is ox oy wx wy x y xy yx f (Some s) l = (s, refl, l)
+
+-- the oldest part comes: its end becomes x', and `left` is left of it
+brings : (refuse : Bool) (f : Part) (left : List Part) (x' : End) (p : ℕ × Part) (ps : List (ℕ × Part)) (w : StreamWorld) (m : Streams) →
+    w.ba ≡ p ∷ ps → w.a.over ≡ false → Refines w m →
+    ((s : Stream) → IsOneStream false w.b.over w.a.window w.b.window (w.a.ends p.0) (w.b.ends p.0) (of p.0 w.ab) (p.1 ∷ of p.0 ps) s →
+    (t : Stream) × Goes refuse f s t × IsOneStream false w.b.over w.a.window w.b.window x' (w.b.ends p.0) (of p.0 w.ab) (left ++ of p.0 ps) t) →
+    (n : Streams) × ((s : Stream) × (t : Stream) × BreaksNothing w.b.window s.own p.1 (of p.0 ps) (w.a.ends p.0) × Goes refuse f s t × Changes p.0 s t m n)
+    × Refines (record w { a = put_end p.0 x' w.a; ba = tagged p.0 left ++ ps }) n
+brings refuse f left x' p ps w m e o r law =
+    let here : of p.0 w.ba ≡ p.1 ∷ of p.0 ps = ap (of p.0) e ∙ of-front_same p.0 (p.1 ∷ []) ps in
+    let k = opened_is _ _ _ _ _ _ _ (of p.0 ps) p.1 (m p.0) (rw here at (r.streams p.0)) in
+    let c = over-is w.a.over false w.b.over _ _ _ _ _ _ k.0 o k.2 in
+    let l = law k.0 c in (
+      put p.0 (Some l.0) m,
+      (k.0, l.0, one-breaks p.1 w.b.over w.a.window w.b.window (w.a.ends p.0) (w.b.ends p.0) (of p.0 w.ab) (of p.0 ps) k.0 c, l.1, changes p.0 k.0 l.0 m k.1),
+      one p.0 w (record w { a = put_end p.0 x' w.a; ba = tagged p.0 left ++ ps }) m l.0 (refl, refl, refl, refl)
+          (λ i n. (put-other i p.0 _ w.a.ends n, refl, refl, of-front_other i p.0 left ps n ∙ sym (ap (of i) e ∙ of-front_other i p.0 (p.1 ∷ []) ps n)))
+          (stands-at _ _ _ _ _ _ _ _ _ _ _ l.0 (put-same p.0 x' w.a.ends) refl (of-front_same p.0 left ps) (over-is false w.a.over w.b.over _ _ _ _ _ _ l.0 (sym o) l.2)) r,
+    )
 
 delivers : (refuse : Bool) (ps : List (ℕ × Part)) (w : StreamWorld) (m : Streams) → w.ba ≡ ps → w.a.over ≡ false → Refines w m →
     (n : Streams) × Delivers refuse (λ f. f) ps w m n × Refines (came refuse ps w) n
 delivers refuse [] w m e o r = (m, (λ i. refl), r)
 delivers refuse (p ∷ ps) w m e o r =
-    let here : of p.0 w.ba ≡ p.1 ∷ of p.0 ps = ap (of p.0) e ∙ of-head_same p.0 p.1 ps in
-    let k = opened_is _ _ _ _ _ _ _ (of p.0 ps) p.1 (m p.0) (rw here at (r.streams p.0)) in
-    let c = over-is w.a.over false w.b.over _ _ _ _ _ _ k.0 o k.2 in
-    let law = one-comes refuse p.1 w.b.over w.a.window w.b.window (w.a.ends p.0) (w.b.ends p.0) (of p.0 w.ab) (of p.0 ps) k.0 c in (
-      put p.0 (Some law.0) m,
-      (k.0, law.0, one-breaks p.1 w.b.over w.a.window w.b.window (w.a.ends p.0) (w.b.ends p.0) (of p.0 w.ab) (of p.0 ps) k.0 c, law.1, changes p.0 k.0 law.0 m k.1),
-      one p.0 w (came refuse (p ∷ ps) w) m law.0 (refl, refl, refl, refl)
-          (λ i n. (put-other i p.0 _ w.a.ends n, refl, refl, sym (ap (of i) e ∙ of-head_other i p.0 p.1 ps n)))
-          (stands-at _ _ _ _ _ _ _ _ _ _ _ law.0 (put-same p.0 (comes_to refuse w.a.window p.1 (w.a.ends p.0)) w.a.ends) refl refl
-          (over-is false w.a.over w.b.over _ _ _ _ _ _ law.0 (sym o) law.2)) r,
-    )
+    brings refuse p.1 [] (comes_to refuse w.a.window p.1 (w.a.ends p.0)) p ps w m e o r
+    (λ s c. one-comes refuse p.1 w.b.over w.a.window w.b.window (w.a.ends p.0) (w.b.ends p.0) (of p.0 w.ab) (of p.0 ps) s c)
 
 step-comes : (refuse : Bool) (w : StreamWorld) (m : Streams) → Can (Comes refuse) w → Refines w m → (n : Streams) × StreamSteps (Comes refuse) w m n × Refines (acts (Comes refuse) w) n
 step-comes refuse w m can r = delivers refuse w.ba w m refl can.0 r
@@ -233,18 +242,9 @@ delivers_in : (k : ℕ) (ps : List (ℕ × Part)) (w : StreamWorld) (m : Streams
     (n : Streams) × Delivers false (λ f. Data (take k (load f))) ps w m n × Refines (came_in k ps w) n
 delivers_in k [] w m e o d r = absurd (cc)
 delivers_in k (p ∷ ps) w m e o d r =
-    let here : of p.0 w.ba ≡ p.1 ∷ of p.0 ps = ap (of p.0) e ∙ of-head_same p.0 p.1 ps in
-    let f = opened_is _ _ _ _ _ _ _ (of p.0 ps) p.1 (m p.0) (rw here at (r.streams p.0)) in
-    let c = over-is w.a.over false w.b.over _ _ _ _ _ _ f.0 o f.2 in
-    let q = subst (λ t. IsOneStream false w.b.over w.a.window w.b.window (w.a.ends p.0) (w.b.ends p.0) (of p.0 w.ab) (t ∷ of p.0 ps) f.0) (cut-is k p.1 d) c in
-    let law = one-pieces (take k (load p.1)) (drop k (load p.1)) w.b.over w.a.window w.b.window (w.a.ends p.0) (w.b.ends p.0) (of p.0 w.ab) (of p.0 ps) f.0 q in (
-      put p.0 (Some law.0) m,
-      (f.0, law.0, one-breaks p.1 w.b.over w.a.window w.b.window (w.a.ends p.0) (w.b.ends p.0) (of p.0 w.ab) (of p.0 ps) f.0 c, law.1, changes p.0 f.0 law.0 m f.1),
-      one p.0 w (came_in k (p ∷ ps) w) m law.0 (refl, refl, refl, refl)
-          (λ i n. (put-other i p.0 _ w.a.ends n, refl, refl, of-head_other i p.0 (rest_of k p.1) ps n ∙ sym (ap (of i) e ∙ of-head_other i p.0 p.1 ps n)))
-          (stands-at _ _ _ _ _ _ _ _ _ _ _ law.0 (put-same p.0 (gets_data (take k (load p.1)) (w.a.ends p.0)) w.a.ends) refl (of-head_same p.0 (rest_of k p.1) ps)
-          (over-is false w.a.over w.b.over _ _ _ _ _ _ law.0 (sym o) law.2)) r,
-    )
+    brings false (Data (take k (load p.1))) (rest_of k p.1 ∷ []) (gets_data (take k (load p.1)) (w.a.ends p.0)) p ps w m e o r
+    (λ s c. one-pieces (take k (load p.1)) (drop k (load p.1)) w.b.over w.a.window w.b.window (w.a.ends p.0) (w.b.ends p.0) (of p.0 w.ab) (of p.0 ps) s
+    (subst (λ t. IsOneStream false w.b.over w.a.window w.b.window (w.a.ends p.0) (w.b.ends p.0) (of p.0 w.ab) (t ∷ of p.0 ps) s) (cut-is k p.1 d) c))
 
 step-comes_in : (k : ℕ) (w : StreamWorld) (m : Streams) → Can (ComesIn k) w → Refines w m → (n : Streams) × StreamSteps (ComesIn k) w m n × Refines (acts (ComesIn k) w) n
 step-comes_in k w m can r = delivers_in k w.ba w m refl can.0 can.2 r
@@ -354,24 +354,22 @@ new-refines mine yours a b = record { a_window = a; b_window = b; streams = λ i
 differs : (i j : ℕ) → (i == j) ≡ false → i ≢ j
 differs i j h = grind (arith, nat_tests)
 
-came-keeps : (i : ℕ) (refuse : Bool) (ps : List (ℕ × Part)) (w : StreamWorld) → w.ba ≡ ps → is_of i ps ≡ false → SameStream i w (came refuse ps w)
-came-keeps i refuse [] w e h = record { a = refl; b = refl; ab = refl; ba = refl }
-came-keeps i refuse (p ∷ ps) w e h = record {
-  a = put-other i p.0 _ w.a.ends (differs i p.0 h);
+front-keeps : (i : ℕ) (left : List Part) (x' : End) (p : ℕ × Part) (ps : List (ℕ × Part)) (w : StreamWorld) → w.ba ≡ p ∷ ps → (i == p.0) ≡ false →
+    SameStream i w (record w { a = put_end p.0 x' w.a; ba = tagged p.0 left ++ ps })
+front-keeps i left x' p ps w e h = let d = differs i p.0 h in record {
+  a = put-other i p.0 x' w.a.ends d;
   b = refl;
   ab = refl;
-  ba = sym (ap (of i) e ∙ of-head_other i p.0 p.1 ps (differs i p.0 h));
+  ba = of-front_other i p.0 left ps d ∙ sym (ap (of i) e ∙ of-front_other i p.0 (p.1 ∷ []) ps d);
 }
+
+came-keeps : (i : ℕ) (refuse : Bool) (ps : List (ℕ × Part)) (w : StreamWorld) → w.ba ≡ ps → is_of i ps ≡ false → SameStream i w (came refuse ps w)
+came-keeps i refuse [] w e h = record { a = refl; b = refl; ab = refl; ba = refl }
+came-keeps i refuse (p ∷ ps) w e h = front-keeps i [] _ p ps w e h
 
 came_in-keeps : (i n : ℕ) (ps : List (ℕ × Part)) (w : StreamWorld) → w.ba ≡ ps → is_of i ps ≡ false → SameStream i w (came_in n ps w)
 came_in-keeps i n [] w e h = record { a = refl; b = refl; ab = refl; ba = refl }
-came_in-keeps i n (p ∷ ps) w e h =
-    let d = differs i p.0 h in record {
-      a = put-other i p.0 _ w.a.ends d;
-      b = refl;
-      ab = refl;
-      ba = of-head_other i p.0 (rest_of n p.1) ps d ∙ sym (ap (of i) e ∙ of-head_other i p.0 p.1 ps d);
-    }
+came_in-keeps i n (p ∷ ps) w e h = front-keeps i (rest_of n p.1 ∷ []) _ p ps w e h
 
 acts-keep : (i : ℕ) (act : Act) (w : StreamWorld) → touches i act w ≡ false → SameStream i w (acts act w)
 acts-keep i (Opens j carries bytes) w h = record { a = put-other i j _ w.a.ends (differs i j h); b = refl; ab = refl; ba = refl }

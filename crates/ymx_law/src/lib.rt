@@ -70,8 +70,8 @@ pub fn all_streams()
     ensures others { OthersKeep }
 {}
 
-/// What the law asks of what happens can be met: a stream is opened, written, sent, accepted, read and reset,
-/// and the reset arrives.
+/// What the law asks of what happens can be met: a stream is opened, written, sent, accepted, read and
+/// reset, and the reset arrives.
 pub fn a_run_can_happen()
     ensures happens { AllCanHappen example_run first_world }
 {}
