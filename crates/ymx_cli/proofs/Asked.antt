@@ -1,65 +1,84 @@
 -- What clap makes of words that ask for frames.
-use Rattle.std.proofs.Common.{◌≡◌, ◌==◌, ◌+◌, ◌<◌, ◌≤◌, ◌^◌, ℕ, true, false, List, [], ◌∷◌, Some, arith, rules, refl, ◌∙◌, ap, subst, codes, decimal, inl, inr, get_or}
-use Rattle.std.specs.Prelude.{pos}
+use Rattle.std.proofs.Common.{◌≡◌, ◌==◌, ◌+◌, ◌++◌, ◌<◌, ◌≤◌, ◌^◌, ℕ, true, false, List, [], ◌∷◌, Option, Some, None, arith, rules, refl, ◌∙◌, ap, codes, decimal, inl, inr, get_or}
+use Rattle.std.specs.Prelude.{◌≢◌, pos, option_and_then, slice_get}
 use Rattle.std.specs.Fmt.{digits}
+use Rattle.std.specs.Str.{bytes_eq}
 use Rattle.std.specs.Str.Parse.{IsNumeral, digits_value}
-use Rattle.std.proofs.lemmas.Bool.{cases_lt, ne_eqb}
+use Rattle.std.proofs.lemmas.Bool.{ne_eqb}
 use Rattle.std.proofs.lemmas.Fmt.{decimal_is_IsNumeral, first_decimal}
 use Rattle.std.proofs.lemmas.Str.Parse.{digit_from_value}
+use Rattle.clap.specs.Lexer.{strip_byte}
 use Rattle.clap.specs.Words.{Accepts, Text, is_simple, subcommand_of, takes}
 use Rattle.clap.specs.ValueTests.{accepts}
 use Rattle.clap.specs.declared.builder.value_parser.ValueParser.TheVariants as parser
 use Rattle.clap.proofs.OnLiterals.{clap_on_literals}
 use Rattle.clap.proofs.ValueTestLemmas.{Accepts-accepts}
-use Rattle.ymx_cli.specs.CommandLine.{AsksFrames, named_limit, ymx_app}
+use Rattle.ymx_cli.specs.CommandLine.{AsksFrames, GivesFile, GivesLimit, file_of, named_words, ymx_app}
 
 pub is_simple-ymx : is_simple ymx_app ≡ true
 is_simple-ymx = refl
 
--- ---- `frames`
+-- ---- what clap asks of a word
 
-takes-frames : (name : Text) → takes ymx_app (name ∷ codes "frames" ∷ []) ≡ true
-unfolding clap_on_literals
-takes-frames name = refl
+-- it is no flag
+abbrev IsPlain : Text → Type 0
+IsPlain word = (strip_byte 45 word ≡ None) × (bytes_eq word (45 ∷ 45 ∷ []) ≡ false)
 
-limit-frames : (name : Text) → named_limit (subcommand_of ymx_app (name ∷ codes "frames" ∷ [])) ≡ Some (codes "frames", Some (codes "262144"))
-unfolding clap_on_literals
-limit-frames name = refl
-
--- ---- `frames --limit`, and a text that begins with a digit
-
-abbrev limit_words : Text → Text → List Text
-limit_words name text = name ∷ codes "frames" ∷ codes "--limit" ∷ text ∷ []
-
-abbrev HasLimit : Text → Text → Type 0
-HasLimit name text = (takes ymx_app (limit_words name text) ≡ true) × (named_limit (subcommand_of ymx_app (limit_words name text)) ≡ Some (codes "frames", Some text))
-
+-- it passes the parser of `--limit`
 abbrev Passes : Text → Type 0
 Passes text = accepts false (parser.Signed (pos 262144) (pos 16777216)) text ≡ true
 
--- of a digit from 1 to 9
-from_digit : (P : ℕ → Type 0) (d n : ℕ) → n ≤ d → P n → (n + 1 ≤ d → P d) → P d
-from_digit P d n low p more = elim (cases_lt n d) [
-  | inl below ↦ more (omega arith)
-  | inr past ↦
-      let same : n ≡ d = omega arith in
-      subst P same p
-]
+plain : (word : Text) → slice_get word 0 ≢ Some 45 → IsPlain word
+plain [] other = (refl, refl)
+plain (d ∷ ds) other =
+    let no : (d == 45) ≡ false = ne_eqb d 45 (λ e. other (ap Some e)) in
+    (rw no refl, rw no refl)
 
--- its first digit is written out, so that the words compute
-has_limit : (name ds : Text) (d : ℕ) → 49 ≤ d → d ≤ 57 → Passes (d ∷ ds) → HasLimit name (d ∷ ds)
+-- ---- words of `frames`
+
+-- these words after `frames` are taken, and give the limit this text and the file this word
+abbrev IsTaken : Text → List Text → Text → Option Text → Type 0
+IsTaken name words text word =
+    (takes ymx_app (name ∷ codes "frames" ∷ words) ≡ true)
+    × (named_words (subcommand_of ymx_app (name ∷ codes "frames" ∷ words)) ≡ Some (codes "frames", Some text, word))
+
+default_input : (name : Text) → IsTaken name [] (codes "262144") None
 unfolding clap_on_literals
-has_limit name ds d low high =
-    let P : ℕ → Type 0 = λ x. Passes (x ∷ ds) → HasLimit name (x ∷ ds) in
-    from_digit P d 49 low (λ a. (rw a refl, refl)) (λ l49.
-    from_digit P d 50 l49 (λ a. (rw a refl, refl)) (λ l50.
-    from_digit P d 51 l50 (λ a. (rw a refl, refl)) (λ l51.
-    from_digit P d 52 l51 (λ a. (rw a refl, refl)) (λ l52.
-    from_digit P d 53 l52 (λ a. (rw a refl, refl)) (λ l53.
-    from_digit P d 54 l53 (λ a. (rw a refl, refl)) (λ l54.
-    from_digit P d 55 l54 (λ a. (rw a refl, refl)) (λ l55.
-    from_digit P d 56 l55 (λ a. (rw a refl, refl)) (λ l56.
-    from_digit P d 57 l56 (λ a. (rw a refl, refl)) (λ l57. absurd (omega arith))))))))))
+default_input name = (refl, refl)
+
+default_dash : (name : Text) → IsTaken name (codes "-" ∷ []) (codes "262144") (Some (codes "-"))
+unfolding clap_on_literals
+default_dash name = (refl, refl)
+
+default_file : (name file : Text) → IsPlain file → IsTaken name (file ∷ []) (codes "262144") (Some file)
+unfolding clap_on_literals
+default_file name file p = (rw (p.0, p.1, p.0) refl, rw (p.0, p.1, p.0) refl)
+
+limit_input : (name text : Text) → IsPlain text → Passes text → IsTaken name (codes "--limit" ∷ text ∷ []) text None
+unfolding clap_on_literals
+limit_input name text p a = (rw (p.0, p.1, p.0, a) refl, rw (p.0, p.1, p.0, p.0) refl)
+
+limit_dash : (name text : Text) → IsPlain text → Passes text → IsTaken name (codes "--limit" ∷ text ∷ codes "-" ∷ []) text (Some (codes "-"))
+unfolding clap_on_literals
+limit_dash name text p a = (rw (p.0, p.1, p.0, a) refl, rw (p.0, p.1, p.0, p.0) refl)
+
+limit_file : (name text file : Text) → IsPlain text → Passes text → IsPlain file → IsTaken name (codes "--limit" ∷ text ∷ file ∷ []) text (Some file)
+unfolding clap_on_literals
+limit_file name text file p a q = (rw (p.0, p.1, p.0, q.0, q.1, q.0, a) refl, rw (p.0, p.1, p.0, q.0, q.1, q.0, p.0) refl)
+
+attached_input : (name text : Text) → IsPlain text → Passes text → IsTaken name ((codes "--limit=" ++ text) ∷ []) text None
+unfolding clap_on_literals
+attached_input name text p a = (rw a refl, rw p.0 refl)
+
+attached_dash : (name text : Text) → IsPlain text → Passes text → IsTaken name ((codes "--limit=" ++ text) ∷ codes "-" ∷ []) text (Some (codes "-"))
+unfolding clap_on_literals
+attached_dash name text p a = (rw a refl, rw p.0 refl)
+
+attached_file : (name text file : Text) → IsPlain text → Passes text → IsPlain file → IsTaken name ((codes "--limit=" ++ text) ∷ file ∷ []) text (Some file)
+unfolding clap_on_literals
+attached_file name text file p a q = (rw (a, q.0, q.1, q.0) refl, rw (q.0, q.1, q.0, p.0) refl)
+
+-- ---- a limit in decimal digits
 
 no_minus : (d : ℕ) → 49 ≤ d → d ≤ 57 → (d == 45) ≡ false
 no_minus d low high = ne_eqb _ _ (λ e. omega arith)
@@ -73,12 +92,17 @@ passes : (d : ℕ) (ds : Text) (limit : ℕ) → 49 ≤ d → d ≤ 57 → IsNum
 passes d ds limit first last h e low high =
     rw (no_minus d first last, no_plus d first last, e) (h, record { sfits = omega arith }, search rules, search rules)
 
-limit_taken : (name text : Text) (limit : ℕ) → IsNumeral 10 text → 48 < get_or text 0 0 → digits_value 10 text ≡ limit → 262144 ≤ limit → limit ≤ 16777216 → HasLimit name text
-limit_taken name [] limit h first e low high = absurd (omega arith)
-limit_taken name (d ∷ ds) limit h first e low high =
+numeral_taken : (text : Text) (limit : ℕ) → IsNumeral 10 text → 48 < get_or text 0 0 → digits_value 10 text ≡ limit → 262144 ≤ limit → limit ≤ 16777216 → IsPlain text × Passes text
+numeral_taken [] limit h first e low high = absurd (omega arith)
+numeral_taken (d ∷ ds) limit h first e low high =
     let last = digit_from_value d h.1.0 in
-    has_limit name ds d (omega arith) (omega (arith, last))
-    (Accepts-accepts false (parser.Signed (pos 262144) (pos 16777216)) (d ∷ ds) (passes d ds limit (omega arith) (omega (arith, last)) h e low high))
+    let no : (d == 45) ≡ false = no_minus d (omega arith) (omega (arith, last)) in
+    ((rw no refl, rw no refl), Accepts-accepts false (parser.Signed (pos 262144) (pos 16777216)) (d ∷ ds) (passes d ds limit (omega arith) (omega (arith, last)) h e low high))
+
+decimal_taken : (limit : ℕ) → 262144 ≤ limit → limit ≤ 16777216 → IsPlain (decimal limit) × Passes (decimal limit)
+decimal_taken limit low high =
+    let numeral = decimal_is_IsNumeral limit (omega arith) in
+    numeral_taken (decimal limit) limit numeral.0 (first_decimal limit (omega arith) (omega arith)) numeral.1 low high
 
 -- ---- words that ask for frames
 
@@ -86,12 +110,59 @@ default_text : codes "262144" ≡ decimal 262144
 unfolding digits
 default_text = refl
 
--- are taken, and have their limit
-pub asked_taken : (words : List Text) (limit : ℕ) → AsksFrames words limit →
-    (takes ymx_app words ≡ true) × (named_limit (subcommand_of ymx_app words) ≡ Some (codes "frames", Some (decimal limit))) × (limit < 2 ^ 32)
-asked_taken words limit (name, inl (e, is)) =
-    rw (e, is) (takes-frames name, limit-frames name ∙ ap (λ (t : Text). Some (codes "frames", Some t)) default_text, omega arith)
-asked_taken words limit (name, inr (e, low, high)) =
-    let numeral = decimal_is_IsNumeral limit (omega arith) in
-    let taken = limit_taken name (decimal limit) limit numeral.0 (first_decimal limit (omega arith) (omega arith)) numeral.1 low high in
-    rw e (taken.0, taken.1, omega arith)
+-- are taken, and have their limit and their file
+abbrev IsRead : Text → List Text → ℕ → Option Text → Type 0
+IsRead name words limit file = (word : Option Text) × (option_and_then file_of word ≡ file) × IsTaken name words (decimal limit) word
+
+-- a word that doesn't begin with `-` is its file
+own_file : (file : Text) → slice_get file 0 ≢ Some 45 → file_of file ≡ Some file
+own_file [] other = refl
+own_file (d ∷ ds) other =
+    let no : (d == 45) ≡ false = ne_eqb d 45 (λ e. other (ap Some e)) in
+    rw no refl
+
+default_read : (name : Text) (files : List Text) (file : Option Text) → GivesFile files file → IsRead name files 262144 file
+default_read name files None (inl e) = rw (e, ← default_text) (None, refl, default_input name)
+default_read name files None (inr e) = rw (e, ← default_text) (Some (codes "-"), refl, default_dash name)
+default_read name files (Some file) (e, other) = rw (e, ← default_text) (Some file, own_file file other, default_file name file (plain file other))
+
+limit_read : (name : Text) (files : List Text) (limit : ℕ) (file : Option Text) → 262144 ≤ limit → limit ≤ 16777216 → GivesFile files file →
+    IsRead name (codes "--limit" ∷ decimal limit ∷ files) limit file
+limit_read name files limit file low high = go file
+  where
+    taken : IsPlain (decimal limit) × Passes (decimal limit)
+    taken = decimal_taken limit low high
+
+    go : (file : Option Text) → GivesFile files file → IsRead name (codes "--limit" ∷ decimal limit ∷ files) limit file
+    go None (inl e) = rw e (None, refl, limit_input name (decimal limit) taken.0 taken.1)
+    go None (inr e) = rw e (Some (codes "-"), refl, limit_dash name (decimal limit) taken.0 taken.1)
+    go (Some f) (e, other) = rw e (Some f, own_file f other, limit_file name (decimal limit) f taken.0 taken.1 (plain f other))
+
+attached_read : (name : Text) (files : List Text) (limit : ℕ) (file : Option Text) → 262144 ≤ limit → limit ≤ 16777216 → GivesFile files file →
+    IsRead name ((codes "--limit=" ++ decimal limit) ∷ files) limit file
+attached_read name files limit file low high = go file
+  where
+    taken : IsPlain (decimal limit) × Passes (decimal limit)
+    taken = decimal_taken limit low high
+
+    go : (file : Option Text) → GivesFile files file → IsRead name ((codes "--limit=" ++ decimal limit) ∷ files) limit file
+    go None (inl e) = rw e (None, refl, attached_input name (decimal limit) taken.0 taken.1)
+    go None (inr e) = rw e (Some (codes "-"), refl, attached_dash name (decimal limit) taken.0 taken.1)
+    go (Some f) (e, other) = rw e (Some f, own_file f other, attached_file name (decimal limit) f taken.0 taken.1 (plain f other))
+
+words_read : (name : Text) (limits files : List Text) (limit : ℕ) (file : Option Text) → GivesLimit limits limit → GivesFile files file → IsRead name (limits ++ files) limit file
+words_read name limits files limit file (inl (e, is)) given = rw (e, is) (default_read name files file given)
+words_read name limits files limit file (inr (inl e, low, high)) given = rw e (limit_read name files limit file low high given)
+words_read name limits files limit file (inr (inr e, low, high)) given = rw e (attached_read name files limit file low high given)
+
+small_limit : (words : List Text) (limit : ℕ) → GivesLimit words limit → limit < 2 ^ 32
+small_limit words limit (inl (e, is)) = omega (arith, is)
+small_limit words limit (inr (e, low, high)) = omega (arith, high)
+
+-- words that ask for frames are taken, and have their limit and their file
+pub asked_taken : (words : List Text) (limit : ℕ) (file : Option Text) → AsksFrames words limit file →
+    (word : Option Text) × (option_and_then file_of word ≡ file) × (takes ymx_app words ≡ true)
+    × (named_words (subcommand_of ymx_app words) ≡ Some (codes "frames", Some (decimal limit), word)) × (limit < 2 ^ 32)
+asked_taken words limit file (name, limits, files, l, f, e) =
+    let read = words_read name limits files limit file l f in
+    rw e (read.0, read.1, read.2.0, read.2.1, small_limit limits limit l)

@@ -3,21 +3,22 @@ use Rattle.std.proofs.Common.{◌≡◌, ◌++◌, ◌&&◌, ℕ, Bool, zero, su
 use Rattle.std.specs.Prelude.{⊤, pos, find, fold, drop, length, is_some, slice_get, encode_utf8, option_and_then, unwrap_or}
 use Rattle.std.specs.Option.{option_map_or}
 use Rattle.std.specs.Str.{bytes_eq, chars}
+use Rattle.std.specs.Cmp.Lexicographic.{bytes_decides}
 use Rattle.clap.specs.Values.{IsSignedIn, read_as, refused_kind}
 use Rattle.clap.specs.ValueTests.{accepts}
 use Rattle.clap.specs.Lexer.{long_of, short_of, without_minus}
 use Rattle.clap.specs.Kinds.{Kinds, or_else, range_kinds, value_kinds, values_kinds}
-use Rattle.clap.specs.Walk.{Held, Names, Outcome, Row, Rule, Step, Text, Waiting, Walk, arg_by_id, arg_by_index, arg_by_long, arg_by_short, at_row, after_flag, after_step, answers_to, attached_value, bundle_met, bundle_step, done, flag_met, has_row, idle, is_pending, long_met, long_or_other, more_values, next, nothing_held, one_of, option, option_met, option_word, plain, plain_word, positional, pushed, reacted, refused, row_text, rows_after, settled, settled_rows, short_met, short_or_plain, stop_after, subcommand, subcommand_met, subcommand_or_other, takes_several, takes_values, to_positional, trailing, used, used_by_id, value, values_or_missing, waits, walk, walk_from, walked, walked_from, with_default, without, word_met}
+use Rattle.clap.specs.Walk.{Held, Names, Outcome, Row, Rule, Step, Text, Waiting, Walk, arg_by_id, arg_by_index, arg_by_long, arg_by_short, at_row, after_flag, after_step, answers_to, attached_value, bundle_met, bundle_step, done, first_of, flag_met, has_row, idle, is_pending, long_met, long_or_other, more_values, next, nothing_held, one_of, option, option_met, option_word, plain, plain_word, positional, pushed, reacted, refused, row_text, rows_after, settled, settled_rows, short_met, short_or_plain, stop_after, subcommand, subcommand_met, subcommand_or_other, takes_several, takes_values, to_positional, trailing, used, used_by_id, value, values_or_missing, waits, walk, walk_from, walked, walked_from, with_default, without, word_met}
 use Rattle.clap.specs.Simple.{Shape, argument_words, built, entered, filled, help_rule, label_of, names_of, rows_at, subcommand_of}
 use Rattle.clap.specs.Faults.{bundle_step_fault, entered_fault, fault_of, flag_word_fault, flags_fault, is_simple_and_free, level_fault, long_fault, option_fault, other_fault, positional_fault, react_fault, repeat_fault, settle_fault, short_fault, step_fault, turn_fault, use_fault, walk_fault, word_fault}
 use Rattle.clap.specs.declared.error.kind.ErrorKind.TheVariants as kind
 use Rattle.clap.specs.declared.parser.matches.ValueSource.TheVariants.{CommandLine, DefaultValue}
 use Rattle.clap.specs.declared.builder.value_parser.Reading.{Reading}
-use Rattle.clap.specs.declared.builder.value_parser.Reading.TheVariants.{WithoutMinus}
+use Rattle.clap.specs.declared.builder.value_parser.Reading.TheVariants.{AsWritten, WithoutMinus}
 use Rattle.clap.specs.declared.builder.value_parser.ValueParser.{ValueParser}
 use Rattle.clap.specs.declared.builder.value_parser.ValueParser.TheVariants as parser
 use Rattle.clap.proofs.ValueTestLemmas.{accepts-Accepts}
-use Rattle.ymx_cli.specs.CommandLine.{HasGoodLimit, limit_rule, named_limit, ymx_app}
+use Rattle.ymx_cli.specs.CommandLine.{HasGoodLimit, file_rule, limit_rule, named_words, ymx_app}
 
 -- ---- texts and rows that passed
 
@@ -28,8 +29,9 @@ abbrev Passed : List Text → Type 0
 Passed [] = ⊤
 Passed (t ∷ ts) = IsSignedIn (pos 262144) (pos 16777216) t × Passed ts
 
+-- a row of the limit has texts that passed
 abbrev IsGood : Row → Type 0
-IsGood r = (r.reading ≡ WithoutMinus) × Passed r.values
+IsGood r = bytes_eq r.id (codes "limit") ≡ true → (r.reading ≡ WithoutMinus) × Passed r.values
 
 abbrev AllGood : List Row → Type 0
 AllGood [] = ⊤
@@ -63,13 +65,13 @@ good_append : (xs ys : List Row) → AllGood xs → AllGood ys → AllGood (xs +
 good_append [] ys p q = q
 good_append (x ∷ xs) ys p q = (p.0, good_append xs ys p.1 q)
 
-good_at : (id : Text) (change : Row → List Row) (missing rows : List Row) → ((r : Row) → IsGood r → AllGood (change r)) → AllGood missing → AllGood rows → AllGood (at_row id change missing rows)
+good_at : (id : Text) (change : Row → List Row) (missing rows : List Row) → ((r : Row) → bytes_eq r.id id ≡ true → IsGood r → AllGood (change r)) → AllGood missing → AllGood rows → AllGood (at_row id change missing rows)
 good_at id change missing [] each more good = more
-good_at id change missing (r ∷ rs) each more good = go (bytes_eq r.id id) (good_at id change missing rs each more good.1)
+good_at id change missing (r ∷ rs) each more good = go (bytes_eq r.id id) (each r) (good_at id change missing rs each more good.1)
   where
-    go : (b : Bool) → AllGood (at_row id change missing rs) → AllGood (cond b (change r ++ rs) (r ∷ at_row id change missing rs))
-    go true rest = good_append (change r) rs (each r good.0) good.1
-    go false rest = (good.0, rest)
+    go : (b : Bool) → (b ≡ true → IsGood r → AllGood (change r)) → AllGood (at_row id change missing rs) → AllGood (cond b (change r ++ rs) (r ∷ at_row id change missing rs))
+    go true this rest = good_append (change r) rs (this refl good.0) good.1
+    go false this rest = (good.0, rest)
 
 -- ---- rules whose uses keep the rows good
 
@@ -255,6 +257,9 @@ walk_good s names (word ∷ rest) w fine good e =
 abbrev built_limit : Rule
 built_limit = filled limit_rule
 
+abbrev built_file : Rule
+built_file = record (filled file_rule) { index = Some 1 }
+
 abbrev built_help : Rule
 built_help = filled help_rule
 
@@ -266,8 +271,22 @@ fine-limit again values rows good e =
     let faults = values_kinds false limit_parser texts in
     let passed = values_passed texts (second_none twice faults (second_none (range_kinds 1 1 (length values)) (or_else twice faults) e)) in
     let new : Row = record { id = codes "limit"; values = texts; count = None; source = Some CommandLine; reading = WithoutMinus } in
-    good_at (codes "limit") (more_values CommandLine texts) (new ∷ []) (without (codes "limit") rows) (λ r g. ((g.0, passed_append r.values texts g.1 passed), tt)) ((refl, passed), tt)
-    (good_at (codes "limit") (λ _. []) [] rows (λ r g. tt) tt good)
+    good_at (codes "limit") (more_values CommandLine texts) (new ∷ []) (without (codes "limit") rows) (λ r same g. (λ is. ((g is).0, passed_append r.values texts (g is).1 passed), tt)) (λ is. (refl, passed), tt)
+    (good_at (codes "limit") (λ _. []) [] rows (λ r same g. tt) tt good)
+
+-- a row of the file is none of the limit
+not_limit : (id : Text) → bytes_eq id (codes "file") ≡ true → bytes_eq id (codes "limit") ≡ true → ⊥
+not_limit id file limit =
+    let same : id ≡ codes "file" = (bytes_decides id (codes "file")).0 file in
+    let bad : false ≡ true = subst (λ (t : Text). bytes_eq t (codes "limit") ≡ true) same limit in
+    true≢false (sym bad)
+
+fine-file : IsFine built_file
+fine-file again values rows good e =
+    let texts = values_or_missing built_file values in
+    let new : Row = record { id = codes "file"; values = texts; count = None; source = Some CommandLine; reading = AsWritten } in
+    good_at (codes "file") (more_values CommandLine texts) (new ∷ []) (without (codes "file") rows) (λ r same g. (λ is. absurd (not_limit r.id same is), tt)) (λ is. absurd (true≢false (sym is)), tt)
+    (good_at (codes "file") (λ _. []) [] rows (λ r same g. tt) tt good)
 
 fine-help : IsFine built_help
 fine-help again values rows good e = good
@@ -283,7 +302,14 @@ default-limit rows good = go (has_row (codes "limit") rows)
 
     go : (b : Bool) → AllGood (cond b rows (at_row (codes "limit") (more_values DefaultValue (codes "262144" ∷ [])) (new ∷ []) rows))
     go true = good
-    go false = good_at (codes "limit") (more_values DefaultValue (codes "262144" ∷ [])) (new ∷ []) rows (λ r g. ((g.0, passed_append r.values (codes "262144" ∷ []) g.1 passed), tt)) ((refl, passed), tt) good
+    go false = good_at (codes "limit") (more_values DefaultValue (codes "262144" ∷ [])) (new ∷ []) rows (λ r same g. (λ is. ((g is).0, passed_append r.values (codes "262144" ∷ []) (g is).1 passed), tt)) (λ is. (refl, passed), tt) good
+
+default-file : (rows : List Row) → AllGood rows → AllGood (with_default rows built_file)
+default-file rows good = go (has_row (codes "file") rows)
+  where
+    go : (b : Bool) → AllGood (cond b rows rows)
+    go true = good
+    go false = good
 
 default-help : (rows : List Row) → AllGood rows → AllGood (with_default rows built_help)
 default-help rows good = go (has_row (codes "help") rows)
@@ -295,13 +321,13 @@ default-help rows good = go (has_row (codes "help") rows)
 abbrev built_frames : Shape
 built_frames = get_or (built ymx_app).subs 0 (built ymx_app).top
 
-rows_good : (words : List Text) → level_fault built_frames [] nothing_held words false [] ≡ [] → AllGood (rows_after (built_limit ∷ built_help ∷ []) [] words)
+rows_good : (words : List Text) → level_fault built_frames [] nothing_held words false [] ≡ [] → AllGood (rows_after (built_limit ∷ built_file ∷ built_help ∷ []) [] words)
 rows_good words e =
-    let fine : AllFine (built_limit ∷ built_help ∷ []) = (fine-limit, (fine-help, tt)) in
-    let end = (walk (built_limit ∷ built_help ∷ []) [] nothing_held words).held in
+    let fine : AllFine (built_limit ∷ built_file ∷ built_help ∷ []) = (fine-limit, (fine-file, (fine-help, tt))) in
+    let end = (walk (built_limit ∷ built_file ∷ built_help ∷ []) [] nothing_held words).held in
     let walked_good = walk_good built_frames [] words (walk_from nothing_held) fine tt (first_none (walk_fault built_frames [] (walk_from nothing_held) words) _ e) in
-    let settles = first_none (settle_fault (built_limit ∷ built_help ∷ []) false end) _ (second_none (walk_fault built_frames [] (walk_from nothing_held) words) _ e) in
-    default-help _ (default-limit _ (settled_good (built_limit ∷ built_help ∷ []) false end fine walked_good settles))
+    let settles = first_none (settle_fault (built_limit ∷ built_file ∷ built_help ∷ []) false end) _ (second_none (walk_fault built_frames [] (walk_from nothing_held) words) _ e) in
+    default-help _ (default-file _ (default-limit _ (settled_good (built_limit ∷ built_file ∷ built_help ∷ []) false end fine walked_good settles)))
 
 -- ---- what is read of good rows
 
@@ -314,11 +340,11 @@ values_limited how (v ∷ vs) t is passed e = (v, ap (λ (o : Option Text). unwr
 
 one_limited : (rows : List Row) (t : Text) → AllGood rows → one_of (codes "limit") rows ≡ Some t → Limited t
 one_limited [] t good e = cc
-one_limited (r ∷ rs) t good e = go (bytes_eq r.id (codes "limit")) (one_limited rs t good.1) e
+one_limited (r ∷ rs) t good e = go (bytes_eq r.id (codes "limit")) good.0 (one_limited rs t good.1) e
   where
-    go : (b : Bool) → (one_of (codes "limit") rs ≡ Some t → Limited t) → option_and_then row_text (cond b (Some r) (find (λ x. bytes_eq x.id (codes "limit")) rs)) ≡ Some t → Limited t
-    go true rest e = values_limited r.reading r.values t good.0.0 good.0.1 e
-    go false rest e = rest e
+    go : (b : Bool) → (b ≡ true → (r.reading ≡ WithoutMinus) × Passed r.values) → (one_of (codes "limit") rs ≡ Some t → Limited t) → option_and_then row_text (cond b (Some r) (find (λ x. bytes_eq x.id (codes "limit")) rs)) ≡ Some t → Limited t
+    go true this rest e = values_limited r.reading r.values t (this refl).0 (this refl).1 e
+    go false this rest e = rest e
 
 -- ---- the subcommands
 
@@ -343,7 +369,7 @@ found_right p (s ∷ ss) right = go (p s) (found_right p ss right.1)
     go false rest = rest
 
 right-frames : IsRight built_frames
-right-frames words t e named is = one_limited (rows_after (built_limit ∷ built_help ∷ []) [] words) t (rows_good words e) is
+right-frames words t e named is = one_limited (rows_after (built_limit ∷ built_file ∷ built_help ∷ []) [] words) t (rows_good words e) is
 
 other_name : (s : Shape) → bytes_eq s.name (codes "frames") ≡ false → IsRight s
 other_name s other words t e named is =
@@ -353,25 +379,26 @@ other_name s other words t e named is =
 subs_right : AllRight (built ymx_app).subs
 subs_right = (right-frames, (other_name _ refl, (other_name _ refl, (other_name _ refl, (other_name _ refl, (other_name _ refl, tt))))))
 
-by_sub : (o : Option Shape) (words : List Text) (t : Text) → RightIfFound o → option_map_or (λ s. level_fault s [] nothing_held words false []) o [] ≡ []
-    → named_limit (option_map (λ s. rows_at s words) o) ≡ Some (codes "frames", Some t) → Limited t
-by_sub None words t right e named = cc
-by_sub (Some s) words t right e named =
-    let same : (s.name, one_of (codes "limit") (rows_after s.rules [] words)) ≡ (codes "frames", Some t) = ap (λ (o : Option (Text × Option Text)). unwrap_or o (codes "frames", Some t)) named in
-    right words t e (ap (λ (p : Text × Option Text). p.0) same) (ap (λ (p : Text × Option Text). p.1) same)
+by_sub : (o : Option Shape) (words : List Text) (t : Text) (file : Option Text) → RightIfFound o → option_map_or (λ s. level_fault s [] nothing_held words false []) o [] ≡ []
+    → named_words (option_map (λ s. rows_at s words) o) ≡ Some (codes "frames", Some t, file) → Limited t
+by_sub None words t file right e named = cc
+by_sub (Some s) words t file right e named =
+    let same : (s.name, one_of (codes "limit") (rows_after s.rules [] words), first_of (codes "file") (rows_after s.rules [] words)) ≡ (codes "frames", Some t, file) =
+    ap (λ (o : Option (Text × Option Text × Option Text)). unwrap_or o (codes "frames", Some t, file)) named in
+    right words t e (ap (λ (p : Text × Option Text × Option Text). p.0) same) (ap (λ (p : Text × Option Text × Option Text). p.1) same)
 
-by_stop : (o : Option (Text × List Text)) (t : Text) → entered_fault (built ymx_app) o ≡ [] → named_limit (entered (built ymx_app) o) ≡ Some (codes "frames", Some t) → Limited t
-by_stop None t e named = cc
-by_stop (Some p) t e named =
-    by_sub (find (λ s. answers_to p.0 (label_of s)) (built ymx_app).subs) p.1 t (found_right (λ s. answers_to p.0 (label_of s)) (built ymx_app).subs subs_right) e named
+by_stop : (o : Option (Text × List Text)) (t : Text) (file : Option Text) → entered_fault (built ymx_app) o ≡ [] → named_words (entered (built ymx_app) o) ≡ Some (codes "frames", Some t, file) → Limited t
+by_stop None t file e named = cc
+by_stop (Some p) t file e named =
+    by_sub (find (λ s. answers_to p.0 (label_of s)) (built ymx_app).subs) p.1 t file (found_right (λ s. answers_to p.0 (label_of s)) (built ymx_app).subs subs_right) e named
 
 -- where the words are taken, the limit is in its range
 pub limit_in_range : (words : List Text) → fault_of ymx_app words ≡ [] → HasGoodLimit (subcommand_of ymx_app words)
-limit_in_range words e t named =
+limit_in_range words e t file named =
     let app = built ymx_app in
     let stop = stop_after app.top.rules (names_of app) (argument_words ymx_app words) in
     let below = first_none (entered_fault app stop) _ (second_none (walk_fault app.top (names_of app) (walk_from nothing_held) (argument_words ymx_app words)) _ e) in
-    by_stop stop t below named
+    by_stop stop t file below named
 
 pub is_simple_and_free-ymx : is_simple_and_free ymx_app ≡ true
 is_simple_and_free-ymx = refl

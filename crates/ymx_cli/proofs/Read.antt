@@ -6,15 +6,19 @@ use Rattle.clap.specs.declared.parser.matches.ArgMatches.TheViews.{out-ArgMatche
 use Rattle.std.specs.Str.Parse.{ParsesUnsigned}
 use Rattle.std.proofs.lemmas.Fmt.{parse-decimal}
 use Rattle.clap.specs.Words.{IsSignedIn, ReadsOne, Row, Text, one_of, subcommand_name_of, subcommand_rows_of, without_minus}
+use Rattle.clap.specs.Walk.{first_of}
 use Rattle.clap.proofs.CallerReads.{signed_reads}
-use Rattle.ymx_cli.specs.CommandLine.{named_limit}
+use Rattle.ymx_cli.specs.CommandLine.{named_words}
 
 -- the rows of a subcommand that was met have its limit
-pub named_text : (rows : List Row) (met : Option (Text × List Row)) (name text : Text) → Some rows ≡ option_map (λ p. p.1) met →
-    named_limit met ≡ Some (name, Some text) → one_of (codes "limit") rows ≡ Some text
-named_text rows None name text e named = cc
-named_text rows (Some p) name text e named =
-    ap (one_of (codes "limit")) (ap (λ (o : Option (List Row)). unwrap_or o rows) e) ∙ ap (λ (o : Option (Text × Option Text)). option_and_then (λ q. q.1) o) named
+pub named_text : (rows : List Row) (met : Option (Text × List Row)) (name : Text) (text word : Option Text) → Some rows ≡ option_map (λ p. p.1) met →
+    named_words met ≡ Some (name, text, word) → (one_of (codes "limit") rows ≡ text) × (first_of (codes "file") rows ≡ word)
+named_text rows None name text word e named = cc
+named_text rows (Some p) name text word e named =
+    let has : rows ≡ p.1 = ap (λ (o : Option (List Row)). unwrap_or o rows) e in (
+      ap (one_of (codes "limit")) has ∙ ap (λ (o : Option (Text × Option Text × Option Text)). option_and_then (λ q. q.1) o) named,
+      ap (first_of (codes "file")) has ∙ ap (λ (o : Option (Text × Option Text × Option Text)). option_and_then (λ q. q.2) o) named,
+    )
 
 -- digits are read as their number
 pub read_number : (E : Type 0) (gives : Text → Result ℕ E → Type 0) (r : Option ℕ) (n : ℕ) → n < 2 ^ 32 →
@@ -35,7 +39,7 @@ pub name_met : (m : ArgMatches) → subcommand_name_of m ≡ option_map (λ p. p
 name_met m = map_twice (λ (p : Text × List Row). p.0) _ (out-ArgMatches m).subcommand
 
 pub named_is : (rows : List Row) (met : Option (Text × List Row)) (name : Text) → Some name ≡ option_map (λ p. p.0) met → Some rows ≡ option_map (λ p. p.1) met →
-    named_limit met ≡ Some (name, one_of (codes "limit") rows)
+    named_words met ≡ Some (name, one_of (codes "limit") rows, first_of (codes "file") rows)
 named_is rows None name n e = cc
 named_is rows (Some p) name n e =
     let named : name ≡ p.0 = ap (λ (o : Option Text). unwrap_or o name) n in

@@ -1,16 +1,39 @@
 -- The command line of the program (this project's own).
-use Rattle.std.specs.Prelude.{◌≡◌, ◌≤◌, ◌⊎◌, ℕ, List, [], ◌∷◌, Option, Some, true, option_map, codes, decimal, pos}
-use Rattle.clap.specs.Words.{App, IsSignedIn, Row, Rule, Shape, Text, new_app, new_rule, one_of, with_rule, with_subcommand, without_minus}
+use Rattle.std.specs.Prelude.{◌≡◌, ◌≢◌, ◌≤◌, ◌⊎◌, ◌++◌, ℕ, List, [], ◌∷◌, Option, Some, None, true, IfSome, if◌then◌else◌, option_map, option_and_then, codes, decimal, pos, slice_get}
+use Rattle.std.specs.Str.{bytes_eq}
+use Rattle.clap.specs.Kinds.{IsAmong}
+use Rattle.clap.specs.Faults.{fault_of}
+use Rattle.clap.specs.Walk.{first_of}
+use Rattle.clap.specs.Words.{App, IsSignedIn, Row, Rule, Shape, Text, new_app, new_rule, one_of, subcommand_of, with_rule, with_subcommand, without_minus}
 use Rattle.clap.specs.declared.builder.action.ArgAction.TheVariants.{Set}
 use Rattle.clap.specs.declared.builder.value_parser.ValueParser.TheVariants as parser
+use Rattle.clap.specs.declared.error.kind.ErrorKind.{ErrorKind}
+use Rattle.clap.specs.declared.error.kind.ErrorKind.TheVariants.{DisplayHelp, DisplayVersion}
+use Rattle.ymx_cli.specs.declared.command.Task.{Task}
+use Rattle.ymx_cli.specs.declared.command.Task.TheVariants.{Frames, Other}
 
--- The words, the first of which is the program's name, ask for the frames of the input with this limit, in bytes of payload:
--- `frames`, whose limit is 262144, or `frames --limit` and a limit from 262144 to 16777216 in decimal digits.
-abbrev pub AsksFrames : List (List ℕ) → ℕ → Type 0
-AsksFrames words limit =
-    (name : List ℕ)
-    × (((words ≡ name ∷ codes "frames" ∷ []) × (limit ≡ 262144))
-    ⊎ ((words ≡ name ∷ codes "frames" ∷ codes "--limit" ∷ decimal limit ∷ []) × (262144 ≤ limit) × (limit ≤ 16777216)))
+-- The words give this limit, in bytes of payload: no words 262144, and `--limit N` or `--limit=N` the number N, from 262144 to
+-- 16777216 in decimal digits.
+abbrev pub GivesLimit : List Text → ℕ → Type 0
+GivesLimit words limit =
+    ((words ≡ []) × (limit ≡ 262144))
+    ⊎ (((words ≡ codes "--limit" ∷ decimal limit ∷ []) ⊎ (words ≡ (codes "--limit=" ++ decimal limit) ∷ [])) × (262144 ≤ limit) × (limit ≤ 16777216))
+
+-- The words name what is read: no word or `-` standard input, and another word, which doesn't begin with `-`, the file of that name.
+abbrev pub GivesFile : List Text → Option Text → Type 0
+GivesFile words None = (words ≡ []) ⊎ (words ≡ codes "-" ∷ [])
+GivesFile words (Some file) = (words ≡ file ∷ []) × (slice_get file 0 ≢ Some 45)
+
+-- The words, the first of which is the program's name, ask for the frames of standard input or of this file, with this limit.
+abbrev pub AsksFrames : List Text → ℕ → Option Text → Type 0
+AsksFrames words limit file =
+    (name : Text) × (limits : List Text) × (files : List Text) × GivesLimit limits limit × GivesFile files file
+    × (words ≡ name ∷ codes "frames" ∷ (limits ++ files))
+
+-- The task is to print frames, with this limit, of standard input or of this file.
+abbrev pub IsFrames : ℕ → Option Text → Task → Type 0
+IsFrames limit file (Frames l f) = (l ≡ limit) × (option_map (λ name. name.now) f ≡ file)
+IsFrames limit file Other = ⊥
 
 -- ---- the same command line, as clap reads it
 
@@ -24,30 +47,56 @@ limit_rule = record (new_rule (codes "limit")) {
   parser = Some (parser.Signed (pos 262144) (pos 16777216));
 }
 
+-- the word that names a file
+abbrev pub file_rule : Rule
+file_rule = record (new_rule (codes "file")) {
+  action = Some Set;
+  value_names = 1;
+}
+
 -- `frames`
 abbrev pub frames_shape : Shape
-frames_shape = (with_rule (new_app (codes "frames")) limit_rule).top
+frames_shape = (with_rule (with_rule (new_app (codes "frames")) limit_rule) file_rule).top
 
 -- a subcommand that takes nothing
 abbrev pub bare_shape : List ℕ → Shape
 bare_shape name = (new_app name).top
 
--- the program by itself, which wants a subcommand
+-- the program by itself, which has a version and wants a subcommand
 abbrev pub top_app : App
 top_app =
     let app = new_app (codes "ymx") in
-    record app { top = record app.top { subcommand_required = true } }
+    record app { top = record app.top { has_version = true; subcommand_required = true } }
 
 -- the program
 abbrev pub ymx_app : App
 ymx_app = with_subcommand (with_subcommand (with_subcommand (with_subcommand (with_subcommand top_app
     frames_shape) (bare_shape (codes "script"))) (bare_shape (codes "local"))) (bare_shape (codes "remote"))) (bare_shape (codes "selftest"))
 
--- of a subcommand that was met: its name, and the text of its limit
-abbrev pub named_limit : Option (Text × List Row) → Option (Text × Option Text)
-named_limit = option_map (λ p. (p.0, one_of (codes "limit") p.1))
+-- of a subcommand that was met: its name, the text of its limit, and the word that names a file
+abbrev pub named_words : Option (Text × List Row) → Option (Text × Option Text × Option Text)
+named_words = option_map (λ p. (p.0, one_of (codes "limit") p.1, first_of (codes "file") p.1))
+
+-- the file of this word: `-` is none
+abbrev pub file_of : Text → Option Text
+file_of word = if bytes_eq word (codes "-") then None else Some word
 
 -- the limit of `frames`, where there is one, was given as the text of a number from 262144 to 16777216; clap hands it on without a minus
 abbrev pub HasGoodLimit : Option (Text × List Row) → Type 0
 HasGoodLimit met =
-    (text : Text) → named_limit met ≡ Some (codes "frames", Some text) → (given : Text) × (text ≡ without_minus given) × IsSignedIn (pos 262144) (pos 16777216) given
+    (text : Text) (file : Option Text) → named_words met ≡ Some (codes "frames", Some text, file) →
+    (given : Text) × (text ≡ without_minus given) × IsSignedIn (pos 262144) (pos 16777216) given
+
+-- ---- words that print nothing on standard output
+
+-- clap has a mistake to tell: neither the help nor the version was asked for
+abbrev pub IsMistake : ErrorKind → Type 0
+IsMistake kind = (kind ≢ DisplayHelp) × (kind ≢ DisplayVersion)
+
+-- the words name no subcommand `frames`
+abbrev pub NamesNoFrames : List Text → Type 0
+NamesNoFrames words = IfSome (subcommand_of ymx_app words) (λ p. p.0 ≢ codes "frames")
+
+-- the words ask for no help and no version: what clap may find at them is a mistake
+abbrev pub AsksNoHelp : List Text → Type 0
+AsksNoHelp words = (kind : ErrorKind) → IsAmong kind (fault_of ymx_app words) → IsMistake kind

@@ -1,22 +1,55 @@
 -- What the program says on its error device (this project's own).
-use Rattle.std.specs.Prelude.{◌≡◌, ◌≢◌, ◌≤◌, ◌↔◌, ℕ, List, [], Bool, Option, IfSome, IsTrue, ◌⊎◌, codes}
+use Rattle.std.specs.Prelude.{◌≡◌, ◌≤◌, ◌↔◌, ℕ, List, [], Bool, Option, IfSome, IsTrue, ◌⊎◌, codes}
 use Rattle.std.specs.Io.{StartsWith}
-use Rattle.std.specs.Io.KnownBytes.{Appends, Consumes, IsAtEnd}
-use Rattle.clap.specs.declared.error.kind.ErrorKind.{ErrorKind}
-use Rattle.clap.specs.declared.error.kind.ErrorKind.TheVariants.{DisplayHelp, DisplayVersion}
+use Rattle.std.specs.Io.KnownBytes.{Appends, Consumes, IsAtEnd, Keeps}
 use Rattle.ymx_model.specs.Devices.{has_failed}
 use Rattle.ymx_frames.specs.Outputs.{Prints}
 use Rattle.ymx_frames.specs.declared.print.FramesEnd.{FramesEnd}
 use Rattle.ymx_frames.specs.declared.print.FramesEnd.TheVariants.{Good, Fault as Faulty, Rest, Reading, Writing, Memory}
 
--- A text was said: all of it, or a beginning where the device failed. The device: its bytes and its failed calls, before and after.
-abbrev pub Says : (before after : Option (List ℕ)) → (failed fails : ℕ) → List ℕ → Type 0
-Says before after failed fails text =
-    Appends before after text ⊎ (IsTrue (has_failed failed fails) × ((part : List ℕ) × StartsWith text part × Appends before after part))
+-- What a call did to a device: the bytes that it had to give, or had taken, and how often it had failed, before and after.
+pub record Change : Type 0 where
+  pub before : Option (List ℕ)
+  pub after : Option (List ℕ)
+  pub failures_before : ℕ
+  pub failures_after : ℕ
+
+-- the change of a device, by what is known of its bytes and of its failures
+abbrev pub change : {D : Type 0} → (D → Option (List ℕ)) → (D → ℕ) → D → D → Change
+change bytes failures old new = record {
+  before = bytes old;
+  after = bytes new;
+  failures_before = failures old;
+  failures_after = failures new;
+}
+
+-- the device failed
+abbrev pub fails : Change → Bool
+fails c = has_failed c.failures_before c.failures_after
+
+-- the device gave and took nothing
+abbrev pub IsKept : Change → Type 0
+IsKept c = Keeps c.before c.after
+
+-- the device took exactly this text
+abbrev pub Takes : Change → List ℕ → Type 0
+Takes c text = Appends c.before c.after text
+
+-- the device took a beginning of this text
+abbrev pub TakesPart : Change → List ℕ → Type 0
+TakesPart c text = (part : List ℕ) × StartsWith text part × Takes c part
+
+-- A text was said on the device: all of it, or a beginning where the device failed.
+abbrev pub Says : Change → List ℕ → Type 0
+Says c text = Takes c text ⊎ (IsTrue (fails c) × TakesPart c text)
 
 -- there was no memory
 abbrev pub out_of_memory : List ℕ
 out_of_memory = codes "ymx: out of memory\n"
+
+-- the file can't be opened
+abbrev pub opening_failed : List ℕ
+opening_failed = codes "ymx: the file can't be opened\n"
 
 -- the writer failed
 abbrev pub writing_failed : List ℕ
@@ -36,17 +69,22 @@ reason Writing = writing_failed
 reason Memory = out_of_memory
 
 -- Frames are printed with this limit, in bytes of payload: the status is 0 at their good end and else 1, and what failed is said.
--- A device is blamed only if it failed. Given are what is left of the reader's input and what the writer has, each before and after,
--- and whether the reader and the writer failed.
-abbrev pub PrintsFrames : (limit status : ℕ) → (was is had has : Option (List ℕ)) → (reader_failed writer_failed : Bool) → (List ℕ → Type 0) → Type 0
-PrintsFrames limit status was is had has reader_failed writer_failed says =
-    (end : FramesEnd) × (text : List ℕ) × (output : List ℕ) × Consumes was is text × Appends had has output
-    × Prints limit text (IsAtEnd is) end output × (end ≡ Reading → IsTrue reader_failed) × (end ≡ Writing → IsTrue writer_failed)
-    × (status ≤ 1) × ((status ≡ 0) ↔ (end ≡ Good)) × says (reason end)
+-- A device is blamed only if it failed. Given are the changes of the input, the output and the error device.
+abbrev pub PrintsFrames : (limit status : ℕ) → (input output errors : Change) → Type 0
+PrintsFrames limit status input output errors =
+    (end : FramesEnd) × (text : List ℕ) × (lines : List ℕ) × Consumes input.before input.after text × Takes output lines
+    × Prints limit text (IsAtEnd input.after) end lines × (end ≡ Reading → IsTrue (fails input)) × (end ≡ Writing → IsTrue (fails output))
+    × (status ≤ 1) × ((status ≡ 0) ↔ (end ≡ Good)) × Says errors (reason end)
 
--- clap has a mistake to tell: neither the help nor the version was asked for
-abbrev pub IsMistake : ErrorKind → Type 0
-IsMistake kind = (kind ≢ DisplayHelp) × (kind ≢ DisplayVersion)
+-- Nothing is printed, the status is 1, and this text says why.
+abbrev pub Refuses : (status : ℕ) → (output errors : Change) → List ℕ → Type 0
+Refuses status output errors text = (status ≡ 1) × IsKept output × Says errors text
+
+-- The frames of a file that holds these bytes are printed with this limit, or it refuses to be opened.
+abbrev pub PrintsFile : (limit status : ℕ) → (refuses : Type 0) → Option (List ℕ) → (output errors : Change) → Type 0
+PrintsFile limit status refuses held output errors =
+    (refuses × Refuses status output errors opening_failed)
+    ⊎ ((input : Change) × Keeps held input.before × (input.failures_before ≡ 0) × PrintsFrames limit status input output errors)
 
 -- This happened to a text; where it is stated what a message displays as, to that text.
 abbrev pub Shows : Option (List ℕ) → (List ℕ → Type 0) → Type 0

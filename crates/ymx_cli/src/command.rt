@@ -1,15 +1,13 @@
 //! The command line of `ymx`.
 
-ghost use Rattle.std.specs.Prelude.{ℕ, List, ◌≡◌, ◌≢◌, ◌≤◌, ◌↔◌, ◌⊎◌, ◌<◌, ◌^◌, Some, codes, decimal, true, false, map, IfOk, IfSome, IsTrue, MatchResult};
+ghost use Rattle.std.specs.Prelude.{ℕ, List, Option, None, ◌≡◌, ◌≢◌, ◌≤◌, ◌↔◌, ◌⊎◌, ◌<◌, ◌^◌, Some, codes, decimal, true, false, map, option_and_then, option_map, IfErr, IfOk, IfSome, IsTrue, MatchResult};
 ghost use Rattle.std.specs.IoError.{error_kind};
 ghost use Rattle.std.specs.declared.io.ErrorKind.TheVariants.{InvalidData};
-ghost use Rattle.std.specs.Io.{StartsWith};
-ghost use Rattle.std.specs.Io.KnownBytes.{Appends, Keeps};
-ghost use Rattle.clap.specs.Words.{app_of, kind_of, rule_of, shape_of, subcommand_rows_of};
+ghost use Rattle.std.specs.Io.KnownBytes.{Keeps};
+ghost use Rattle.clap.specs.Words.{app_of, first_value, found_of, kind_of, rule_of, shape_of, subcommand_rows_of};
 ghost use Rattle.clap.specs.declared.builder.command.Command.TheViews.{out-Command as fields_of};
-ghost use Rattle.ymx_cli.specs.CommandLine.{AsksFrames, HasGoodLimit, bare_shape, frames_shape, limit_rule, named_limit, ymx_app};
-ghost use Rattle.ymx_model.specs.Devices.{has_failed};
-ghost use Rattle.ymx_cli.specs.Messages.{IsMistake, PrintsFrames, Says, Shows, not_text, out_of_memory, reason, writing_failed};
+ghost use Rattle.ymx_cli.specs.CommandLine.{AsksFrames, AsksNoHelp, HasGoodLimit, IsFrames, IsMistake, NamesNoFrames, bare_shape, file_of, file_rule, frames_shape, limit_rule, named_words, ymx_app};
+ghost use Rattle.ymx_cli.specs.Messages.{IsKept, PrintsFile, PrintsFrames, Refuses, Says, Shows, Takes, TakesPart, change, fails, not_text, out_of_memory, reason, writing_failed};
 
 use clap::error::ErrorKind;
 use clap::{Arg, ArgAction, ArgMatches, Command, Error, value_parser};
@@ -19,52 +17,85 @@ use std::fmt::Display;
 use std::io;
 use std::sync::Wait;
 use ymx_frames::{FramesEnd, frames, push_all};
-use ymx_model::{Inlet, Outlet};
+use ymx_model::{DeviceFault, Inlet, Outlet};
 
 /// The longest payload of a Data frame that is accepted where the command line says nothing.
 const DEFAULT_LIMIT: u32 = 262_144;
 
+/// The version of the program, which `--version` prints.
+const VERSION: &str = "0.1.0";
+
 /// What a command line asks for.
 #[derive(Clone, Copy, Debug, PartialEq, Eq)]
-enum Task {
-    Frames { limit: u32 },
+enum Task<'a> {
+    /// The frames of a file or, with no name, of standard input.
+    Frames { limit: u32, file: Option<&'a str> },
+    /// A subcommand that isn't built yet.
     Other,
+}
+
+/// Opens files by their names.
+pub trait Opener {
+    /// An opened file.
+    type File: Inlet + Drop;
+
+    /// The bytes of the file of this name, if the opener can tell.
+    ghost held: { Self → List ℕ → Option (List ℕ) };
+
+    /// No file of this name can be opened.
+    ghost refuses: { Self → List ℕ → Type 0 };
+
+    /// Opens the file of this name, to be read from its beginning.
+    fn open(&self, name: &str) -> Result<Self::File, DeviceFault>
+        ensures opened { IfOk result (λ file. Keeps (held self.now name.now) (Self.File.remaining file) × (Self.File.failures file ≡ 0)) }
+        ensures refused { IfErr result (λ _. refuses self.now name.now) };
 }
 
 /// Does what the words of a command line ask for, the first of which is the program's name. Answers
 /// the exit status: 0 if all went well, 1 at a fault, 2 for a bad command line.
-pub fn ymx_main<S: AsStr, R: Inlet, W: Outlet, E: Outlet>(
+pub fn ymx_main<S: AsStr, F: Opener, R: Inlet, W: Outlet, E: Outlet>(
     rt: &impl Wait,
     alloc: Global,
     words: &[S],
+    files: &F,
     reader: &mut R,
     writer: &mut W,
     errors: &mut E,
 ) -> u8
     ensures status { result ≤ 2 }
     // A good end says nothing on the error device.
-    ensures good { result ≡ 0 → Keeps (E.contents errors.old) (E.contents errors.new) }
-    // Words that ask for frames get them with their limit, or there is no memory to read the words.
-    ensures frames { (limit : ℕ) → AsksFrames (map S.text words.now) limit →
-        PrintsFrames limit result (R.remaining reader.old) (R.remaining reader.new) (W.contents writer.old) (W.contents writer.new)
-        (has_failed (R.failures reader.old) (R.failures reader.new)) (has_failed (W.failures writer.old) (W.failures writer.new))
-        (Says (E.contents errors.old) (E.contents errors.new) (E.failures errors.old) (E.failures errors.new))
-        ⊎ ((result ≡ 1) × Keeps (R.remaining reader.old) (R.remaining reader.new) × Keeps (W.contents writer.old) (W.contents writer.new)
-        × Says (E.contents errors.old) (E.contents errors.new) (E.failures errors.old) (E.failures errors.new) out_of_memory) }
+    ensures good { result ≡ 0 → IsKept (change E.contents E.failures errors.old errors.new) }
+    // Words that ask for the frames of the reader get them with their limit, or there is no memory to read the words.
+    ensures frames { (limit : ℕ) → AsksFrames (map S.text words.now) limit None →
+        let input = change R.remaining R.failures reader.old reader.new in
+        let output = change W.contents W.failures writer.old writer.new in
+        let says = change E.contents E.failures errors.old errors.new in
+        PrintsFrames limit result input output says ⊎ (IsKept input × Refuses result output says out_of_memory) }
+    // So do words that ask for the frames of a file. The reader stays as it was.
+    ensures file { (limit : ℕ) (name : List ℕ) → AsksFrames (map S.text words.now) limit (Some name) →
+        let output = change W.contents W.failures writer.old writer.new in
+        let says = change E.contents E.failures errors.old errors.new in
+        IsKept (change R.remaining R.failures reader.old reader.new)
+        × (PrintsFile limit result (F.refuses files.now name) (F.held files.now name) output says ⊎ Refuses result output says out_of_memory) }
     // Whatever the words, frames are printed so with a limit in its range, or nothing is read.
-    ensures printed { Keeps (R.remaining reader.old) (R.remaining reader.new)
+    ensures printed { let input = change R.remaining R.failures reader.old reader.new in
+        IsKept input
         ⊎ ((limit : ℕ) × (262144 ≤ limit) × (limit ≤ 16777216)
-        × PrintsFrames limit result (R.remaining reader.old) (R.remaining reader.new) (W.contents writer.old) (W.contents writer.new)
-        (has_failed (R.failures reader.old) (R.failures reader.new)) (has_failed (W.failures writer.old) (W.failures writer.new))
-        (Says (E.contents errors.old) (E.contents errors.new) (E.failures errors.old) (E.failures errors.new))) }
+        × PrintsFrames limit result input (change W.contents W.failures writer.old writer.new) (change E.contents E.failures errors.old errors.new)) }
+    // Words that name no `frames` write nothing to the writer, unless they ask for help or the version.
+    ensures silent { NamesNoFrames (map S.text words.now) → AsksNoHelp (map S.text words.now) →
+        IsKept (change W.contents W.failures writer.old writer.new) }
     // At status 2 nothing is read, and nothing is written to the writer.
-    ensures bad { result ≡ 2 → Keeps (R.remaining reader.old) (R.remaining reader.new) × Keeps (W.contents writer.old) (W.contents writer.new) }
+    ensures bad { result ≡ 2 → IsKept (change R.remaining R.failures reader.old reader.new) × IsKept (change W.contents W.failures writer.old writer.new) }
 {
     match parse(alloc, words) {
-        Ok(Task::Frames { limit }) => {
-            let end = frames(rt, alloc, reader, writer, limit);
-            finish(end, errors)
-        }
+        Ok(Task::Frames { limit, file: None }) => print(rt, alloc, reader, limit, writer, errors),
+        Ok(
+            Task::Frames {
+                limit,
+                file: Some(name),
+            },
+        ) => print_file(rt, alloc, files, name, limit, writer, errors),
         Ok(Task::Other) => refuse(errors, b"ymx: not built yet\n"),
         Err(error) => explain(alloc, &error, writer, errors),
     }
@@ -73,9 +104,9 @@ pub fn ymx_main<S: AsStr, R: Inlet, W: Outlet, E: Outlet>(
 /// Says why the words of the command line can't be had, and answers the exit status.
 pub fn no_words<E: Outlet>(error: &io::Error, errors: &mut E) -> u8
     ensures not_utf8 { error_kind error.now ≡ InvalidData →
-        (result ≡ 2) × Says (E.contents errors.old) (E.contents errors.new) (E.failures errors.old) (E.failures errors.new) not_text }
+        (result ≡ 2) × Says (change E.contents E.failures errors.old errors.new) not_text }
     ensures other { error_kind error.now ≢ InvalidData →
-        (result ≡ 1) × Says (E.contents errors.old) (E.contents errors.new) (E.failures errors.old) (E.failures errors.new) out_of_memory }
+        (result ≡ 1) × Says (change E.contents E.failures errors.old errors.new) out_of_memory }
 {
     if error.kind() == io::ErrorKind::InvalidData {
         say(errors, b"error: a word of the command line is not UTF-8\n");
@@ -84,29 +115,81 @@ pub fn no_words<E: Outlet>(error: &io::Error, errors: &mut E) -> u8
     refuse(errors, b"ymx: out of memory\n")
 }
 
+/// Prints the frames of a reader, and answers the status.
+fn print<R: Inlet, W: Outlet, E: Outlet>(
+    rt: &impl Wait,
+    alloc: Global,
+    reader: &mut R,
+    limit: u32,
+    writer: &mut W,
+    errors: &mut E,
+) -> u8
+    ensures printed { PrintsFrames limit result (change R.remaining R.failures reader.old reader.new)
+        (change W.contents W.failures writer.old writer.new) (change E.contents E.failures errors.old errors.new) }
+    ensures quiet { result ≡ 0 → IsKept (change E.contents E.failures errors.old errors.new) }
+{
+    let end = frames(rt, alloc, reader, writer, limit);
+    finish(end, errors)
+}
+
+/// Prints the frames of the file of this name, and answers the status.
+fn print_file<F: Opener, W: Outlet, E: Outlet>(
+    rt: &impl Wait,
+    alloc: Global,
+    files: &F,
+    name: &str,
+    limit: u32,
+    writer: &mut W,
+    errors: &mut E,
+) -> u8
+    ensures printed { PrintsFile limit result (F.refuses files.now name.now) (F.held files.now name.now)
+        (change W.contents W.failures writer.old writer.new) (change E.contents E.failures errors.old errors.new) }
+    ensures quiet { result ≡ 0 → IsKept (change E.contents E.failures errors.old errors.new) }
+    ensures status { result ≤ 1 }
+{
+    match files.open(name) {
+        Ok(mut file) => print(rt, alloc, &mut file, limit, writer, errors),
+        Err(_) => refuse(errors, b"ymx: the file can't be opened\n"),
+    }
+}
+
 /// Reads the words of a command line.
-fn parse<'a, S: AsStr>(alloc: Global, words: &'a [S]) -> Result<Task, Error>
-    ensures frames { (limit : ℕ) → AsksFrames (map S.text words.entry.now) limit →
-        MatchResult result (λ task. task ≡ Task.Frames limit) (λ error. kind_of error ≡ ErrorKind.OutOfMemory) }
-    ensures limits { IfOk result (λ task. (limit : ℕ) → task ≡ Task.Frames limit → (262144 ≤ limit) × (limit ≤ 16777216)) }
+fn parse<'a, S: AsStr>(alloc: Global, words: &'a [S]) -> Result<Task<'a>, Error>
+    ensures frames { (limit : ℕ) (file : Option (List ℕ)) → AsksFrames (map S.text words.entry.now) limit file →
+        MatchResult result (IsFrames limit file) (λ error. kind_of error ≡ ErrorKind.OutOfMemory) }
+    ensures limits { IfOk result (λ task. (limit : ℕ) (file : Option (List ℕ)) → IsFrames limit file task → (262144 ≤ limit) × (limit ≤ 16777216)) }
+    ensures other { NamesNoFrames (map S.text words.entry.now) → IfOk result (λ task. task ≡ Task.Other) }
+    ensures mistake { AsksNoHelp (map S.text words.entry.now) → IfErr result (λ error. IsMistake (kind_of error)) }
 {
     let matches = command(alloc)?.try_get_matches_from(words)?;
     Ok(asked(&matches))
 }
 
 /// What the matches of a command line ask for.
-fn asked(matches: &ArgMatches<'_>) -> Task
-    ensures frames { (limit : ℕ) → limit < 2 ^ 32 → named_limit (subcommand_rows_of matches.now) ≡ Some (codes "frames", Some (decimal limit)) →
-        result ≡ Task.Frames limit }
-    ensures other { IfSome (named_limit (subcommand_rows_of matches.now)) (λ p. p.0 ≢ codes "frames") → result ≡ Task.Other }
-    ensures limits { HasGoodLimit (subcommand_rows_of matches.now) → (limit : ℕ) → result ≡ Task.Frames limit →
-        (262144 ≤ limit) × (limit ≤ 16777216) }
+fn asked<'a>(matches: &ArgMatches<'a>) -> Task<'a>
+    ensures frames { (limit : ℕ) (word : Option (List ℕ)) → limit < 2 ^ 32
+        → named_words (subcommand_rows_of matches.now) ≡ Some (codes "frames", Some (decimal limit), word)
+        → IsFrames limit (option_and_then file_of word) result }
+    ensures other { IfSome (subcommand_rows_of matches.now) (λ p. p.0 ≢ codes "frames") → result ≡ Task.Other }
+    ensures limits { HasGoodLimit (subcommand_rows_of matches.now) → (limit : ℕ) (file : Option (List ℕ)) → IsFrames limit file result
+        → (262144 ≤ limit) × (limit ≤ 16777216) }
 {
     match matches.subcommand() {
         Some(("frames", found)) => Task::Frames {
             limit: found.get_one("limit").unwrap_or(DEFAULT_LIMIT),
+            file: named_file(found),
         },
         _ => Task::Other,
+    }
+}
+
+/// The file whose name was given.
+fn named_file<'a>(found: &ArgMatches<'a>) -> Option<&'a str>
+    ensures { option_map (λ name. name.now) result ≡ option_and_then file_of (first_value (found_of found.now) (codes "file")) }
+{
+    match found.get_str("file") {
+        Some("-") | None => None,
+        Some(name) => Some(name),
     }
 }
 
@@ -116,24 +199,29 @@ fn command<'a>(alloc: Global) -> Result<Command<'a>, AllocError>
 {
     Command::new(alloc, "ymx")
         .about("Stream multiplexing by the yamux protocol, version 0")
+        .version(VERSION)
         .after_help(HELP)
         .subcommand_required(true)
         .subcommand(frames_command(alloc)?)?
-        .subcommand(bare(alloc, "script", "Run steps of two sessions joined by pipes"))?
+        .subcommand(bare(
+            alloc,
+            "script",
+            "Run steps of two sessions joined by pipes (not built yet)",
+        ))?
         .subcommand(bare(
             alloc,
             "local",
-            "Forward local connections through a session",
+            "Forward local connections through a session (not built yet)",
         ))?
         .subcommand(bare(
             alloc,
             "remote",
-            "Connect the streams of a session to a target",
+            "Connect the streams of a session to a target (not built yet)",
         ))?
         .subcommand(bare(
             alloc,
             "selftest",
-            "Run both ends and an echo server in one process",
+            "Run both ends and an echo server in one process (not built yet)",
         ))
 }
 
@@ -142,9 +230,10 @@ fn frames_command<'a>(alloc: Global) -> Result<Command<'a>, AllocError>
     ensures { IfOk result (λ command. (shape_of command ≡ frames_shape) × ((fields_of command).has_globals ≡ false)) }
 {
     Command::new(alloc, "frames")
-        .about("Print the yamux frames of standard input, a line each")
+        .about("Print the yamux frames of a file or of standard input, a line each")
         .after_help(FRAMES_HELP)
-        .arg(limit_argument(alloc))
+        .arg(limit_argument(alloc))?
+        .arg(file_argument(alloc))
 }
 
 /// The argument `--limit` of `frames`.
@@ -157,9 +246,17 @@ fn limit_argument<'a>(alloc: Global) -> Arg<'a>
         .action(ArgAction::Set)
         .value_parser(value_parser!(u32).range(262_144..=16_777_216))
         .default_value("262144")
-        .help(
-            "The longest payload of a Data frame that is accepted, in bytes, from 262144 to 16777216",
-        )
+        .help("The longest payload accepted, from 262144 to 16777216")
+}
+
+/// The argument of `frames` that names the file.
+fn file_argument<'a>(alloc: Global) -> Arg<'a>
+    ensures { (rule_of result ≡ file_rule) × (result.global ≡ false) }
+{
+    Arg::new(alloc, "file")
+        .value_name("FILE")
+        .action(ArgAction::Set)
+        .help("The file to read; `-` or none is standard input")
 }
 
 /// A subcommand that takes nothing.
@@ -171,7 +268,7 @@ fn bare<'a>(alloc: Global, name: &'a str, about: &'a str) -> Command<'a>
 
 /// What the help says at its end.
 const HELP: &str = "Example:
-  ymx frames < examples/hello.yamux
+  ymx frames examples/hello.yamux
 
 The exit status is 0 if all went well, 1 at a fault, and 2 for a bad command line.";
 
@@ -186,14 +283,14 @@ above 3, B5: the payload is longer than the limit; the offset is in bytes), or `
 input ends n bytes into a frame. The exit status is then 1.
 
 Example:
-  ymx frames --limit 1048576 < capture.yamux";
+  ymx frames --limit 1048576 capture.yamux";
 
 /// Says why the printing of frames ended, if a device or memory failed, and answers the status.
 fn finish<E: Outlet>(end: FramesEnd, errors: &mut E) -> u8
     ensures status { result ≤ 1 }
     ensures good { (result ≡ 0) ↔ (end ≡ FramesEnd.Good) }
-    ensures quiet { result ≡ 0 → Keeps (E.contents errors.old) (E.contents errors.new) }
-    ensures said { Says (E.contents errors.old) (E.contents errors.new) (E.failures errors.old) (E.failures errors.new) (reason end) }
+    ensures quiet { result ≡ 0 → IsKept (change E.contents E.failures errors.old errors.new) }
+    ensures said { Says (change E.contents E.failures errors.old errors.new) (reason end) }
 {
     match end {
         FramesEnd::Good => 0,
@@ -207,7 +304,7 @@ fn finish<E: Outlet>(end: FramesEnd, errors: &mut E) -> u8
 /// Says why nothing more is done, and answers the status of a fault.
 fn refuse<E: Outlet>(errors: &mut E, text: &[u8]) -> u8
     ensures status { result ≡ 1 }
-    ensures said { Says (E.contents errors.old) (E.contents errors.new) (E.failures errors.old) (E.failures errors.new) text.now }
+    ensures said { Says (change E.contents E.failures errors.old errors.new) text.now }
 {
     say(errors, text);
     1
@@ -215,24 +312,25 @@ fn refuse<E: Outlet>(errors: &mut E, text: &[u8]) -> u8
 
 /// Says a text. Where the error device fails too there is nobody left to tell.
 fn say<E: Outlet>(errors: &mut E, text: &[u8])
-    ensures { Says (E.contents errors.old) (E.contents errors.new) (E.failures errors.old) (E.failures errors.new) text.now }
+    ensures { Says (change E.contents E.failures errors.old errors.new) text.now }
 {
     let _ = push_all(errors, text);
 }
 
-/// Shows what clap says of a command line: the help that was asked for, or what is wrong with it.
+/// Shows what clap says of a command line: the help or version that was asked for, or what is wrong
+/// with it.
 fn explain<W: Outlet, E: Outlet>(alloc: Global, error: &Error, writer: &mut W, errors: &mut E) -> u8
     ensures status { result ≤ 2 }
-    ensures help { result ≡ 0 → (IsMistake (kind_of error.now) → ⊥) × Keeps (E.contents errors.old) (E.contents errors.new)
-        × ((text : List ℕ) × Appends (W.contents writer.old) (W.contents writer.new) text) }
-    ensures mistake { result ≡ 2 → IsMistake (kind_of error.now) × Keeps (W.contents writer.old) (W.contents writer.new)
-        × ((text : List ℕ) × Says (E.contents errors.old) (E.contents errors.new) (E.failures errors.old) (E.failures errors.new) text) }
-    ensures memory { kind_of error.now ≡ ErrorKind.OutOfMemory → (result ≡ 1) × Keeps (W.contents writer.old) (W.contents writer.new)
-        × Says (E.contents errors.old) (E.contents errors.new) (E.failures errors.old) (E.failures errors.new) out_of_memory }
-    ensures failed { result ≡ 1 → (Keeps (W.contents writer.old) (W.contents writer.new)
-        × Says (E.contents errors.old) (E.contents errors.new) (E.failures errors.old) (E.failures errors.new) out_of_memory)
-        ⊎ (IsTrue (has_failed (W.failures writer.old) (W.failures writer.new))
-        × Says (E.contents errors.old) (E.contents errors.new) (E.failures errors.old) (E.failures errors.new) writing_failed) }
+    ensures help { result ≡ 0 → (IsMistake (kind_of error.now) → ⊥) × IsKept (change E.contents E.failures errors.old errors.new)
+        × ((text : List ℕ) × Takes (change W.contents W.failures writer.old writer.new) text) }
+    ensures mistake { result ≡ 2 → IsMistake (kind_of error.now) × IsKept (change W.contents W.failures writer.old writer.new)
+        × ((text : List ℕ) × Says (change E.contents E.failures errors.old errors.new) text) }
+    ensures silent { IsMistake (kind_of error.now) → IsKept (change W.contents W.failures writer.old writer.new) }
+    ensures memory { kind_of error.now ≡ ErrorKind.OutOfMemory →
+        Refuses result (change W.contents W.failures writer.old writer.new) (change E.contents E.failures errors.old errors.new) out_of_memory }
+    ensures failed { let output = change W.contents W.failures writer.old writer.new in
+        let says = change E.contents E.failures errors.old errors.new in
+        result ≡ 1 → Refuses result output says out_of_memory ⊎ (IsTrue (fails output) × Says says writing_failed) }
 {
     if error.kind() == ErrorKind::OutOfMemory {
         return refuse(errors, b"ymx: out of memory\n");
@@ -250,15 +348,15 @@ fn show<M: Display, W: Outlet, E: Outlet>(
     errors: &mut E,
 ) -> u8
     ensures status { result ≤ 2 }
-    ensures help { result ≡ 0 → (is_mistake ≡ false) × Keeps (E.contents errors.old) (E.contents errors.new)
-        × Shows (M.output message.now) (Appends (W.contents writer.old) (W.contents writer.new)) }
-    ensures mistake { result ≡ 2 → (is_mistake ≡ true) × Keeps (W.contents writer.old) (W.contents writer.new)
-        × Shows (M.output message.now) (Says (E.contents errors.old) (E.contents errors.new) (E.failures errors.old) (E.failures errors.new)) }
-    ensures failed { result ≡ 1 → (Keeps (W.contents writer.old) (W.contents writer.new)
-        × Says (E.contents errors.old) (E.contents errors.new) (E.failures errors.old) (E.failures errors.new) out_of_memory)
-        ⊎ ((is_mistake ≡ false) × IsTrue (has_failed (W.failures writer.old) (W.failures writer.new))
-        × Shows (M.output message.now) (λ text. (part : List ℕ) × StartsWith text part × Appends (W.contents writer.old) (W.contents writer.new) part)
-        × Says (E.contents errors.old) (E.contents errors.new) (E.failures errors.old) (E.failures errors.new) writing_failed) }
+    ensures help { result ≡ 0 → (is_mistake ≡ false) × IsKept (change E.contents E.failures errors.old errors.new)
+        × Shows (M.output message.now) (Takes (change W.contents W.failures writer.old writer.new)) }
+    ensures mistake { result ≡ 2 → (is_mistake ≡ true) × IsKept (change W.contents W.failures writer.old writer.new)
+        × Shows (M.output message.now) (Says (change E.contents E.failures errors.old errors.new)) }
+    ensures silent { is_mistake ≡ true → IsKept (change W.contents W.failures writer.old writer.new) }
+    ensures failed { let output = change W.contents W.failures writer.old writer.new in
+        let says = change E.contents E.failures errors.old errors.new in
+        result ≡ 1 → Refuses result output says out_of_memory
+        ⊎ ((is_mistake ≡ false) × IsTrue (fails output) × Shows (M.output message.now) (TakesPart output) × Says says writing_failed) }
 {
     let Ok(text) = message.to_string(alloc) else {
         return refuse(errors, b"ymx: out of memory\n");
@@ -283,16 +381,47 @@ mod tests {
     const HELLO: &[u8] =
         b"\x00\x01\x00\x01\x00\x00\x00\x01\x00\x00\x00\x00\x00\x00\x00\x00\x00\x00\x00\x01\x00\x00\x00\x05hello";
 
+    /// One file, whose name is `hello`.
+    #[derive(Drop)]
+    struct OneFile<'a> {
+        bytes: &'a [u8],
+    }
+
+    impl<'a> Opener for OneFile<'a> {
+        type File = MemoryInlet<'a>;
+
+        ghost held = { λ s name. Some s.bytes.now };
+
+        ghost refuses = { λ s name. name ≡ name };
+
+        fn open(&self, name: &str) -> Result<MemoryInlet<'a>, DeviceFault> {
+            if name == "hello" {
+                Ok(MemoryInlet::new(self.bytes))
+            } else {
+                Err(DeviceFault)
+            }
+        }
+    }
+
     /// The status, what was printed, and what the error device got.
     fn run<T: Wait + AllocGlobal>(
         rt: &T,
         words: &[&str],
         input: &[u8],
     ) -> Result<(u8, Vec<u8>, Vec<u8>), Fail> {
+        let files = OneFile { bytes: HELLO };
         let mut reader = MemoryInlet::new(input);
         let mut writer = MemoryOutlet::new(rt.alloc());
         let mut errors = MemoryOutlet::new(rt.alloc());
-        let status = ymx_main(rt, rt.alloc(), words, &mut reader, &mut writer, &mut errors);
+        let status = ymx_main(
+            rt,
+            rt.alloc(),
+            words,
+            &files,
+            &mut reader,
+            &mut writer,
+            &mut errors,
+        );
         let printed = Vec::from_slice(rt.alloc(), writer.as_slice())?;
         let said = Vec::from_slice(rt.alloc(), errors.as_slice())?;
         Ok((status, printed, said))
@@ -326,9 +455,14 @@ mod tests {
         let got = run(&rt, &["ymx", "frames"], long)?;
         assert_eq!(rt; got.0, 1);
         assert_eq!(rt; got.1.as_slice(), b"fault B5 at 0\n".as_slice());
-        let got = run(&rt, &["ymx", "frames", "--limit", "300000"], long)?;
-        assert_eq!(rt; got.0, 1);
-        assert_eq!(rt; got.1.as_slice(), b"rest 12\n".as_slice());
+        for words in [
+            ["ymx", "frames", "--limit", "300000"].as_slice(),
+            ["ymx", "frames", "--limit=300000"].as_slice(),
+        ] {
+            let got = run(&rt, words, long)?;
+            assert_eq!(rt; got.0, 1);
+            assert_eq!(rt; got.1.as_slice(), b"rest 12\n".as_slice());
+        }
         for good in ["262144", "16777216"] {
             let got = run(&rt, &["ymx", "frames", "--limit", good], HELLO)?;
             assert_eq!(rt; got.0, 0, "limit {good}");
@@ -343,6 +477,36 @@ mod tests {
     }
 
     #[test]
+    fn reads_a_file(rt: HostRuntime) -> Result<(), Fail> {
+        let lines =
+            b"window flags=0001 id=1 len=0\ndata flags=0000 id=1 len=5 68656c6c6f\n".as_slice();
+        let got = run(&rt, &["ymx", "frames", "hello"], &HELLO[..11])?;
+        assert_eq!(rt; got.0, 0);
+        assert_eq!(rt; got.1.as_slice(), lines);
+        assert!(rt; got.2.is_empty());
+        let got = run(&rt, &["ymx", "frames", "-"], &HELLO[..11])?;
+        assert_eq!(rt; got.0, 1);
+        assert_eq!(rt; got.1.as_slice(), b"rest 11\n".as_slice());
+        let got = run(&rt, &["ymx", "frames", "absent"], HELLO)?;
+        assert_eq!(rt; got.0, 1);
+        assert!(rt; got.1.is_empty());
+        assert_eq!(rt;
+            got.2.as_slice(),
+            b"ymx: the file can't be opened\n".as_slice()
+        );
+        Ok(())
+    }
+
+    #[test]
+    fn tells_its_version(rt: HostRuntime) -> Result<(), Fail> {
+        let got = run(&rt, &["ymx", "--version"], b"")?;
+        assert_eq!(rt; got.0, 0);
+        assert_eq!(rt; got.1.as_slice(), b"ymx 0.1.0\n".as_slice());
+        assert!(rt; got.2.is_empty());
+        Ok(())
+    }
+
+    #[test]
     fn refuses_a_bad_command_line(rt: HostRuntime) -> Result<(), Fail> {
         for words in [["ymx"].as_slice(), ["ymx", "frame"].as_slice()] {
             let got = run(&rt, words, HELLO)?;
@@ -353,6 +517,7 @@ mod tests {
         for name in ["script", "local", "remote", "selftest"] {
             let got = run(&rt, &["ymx", name], HELLO)?;
             assert_eq!(rt; got.0, 1);
+            assert!(rt; got.1.is_empty());
             assert_eq!(rt; got.2.as_slice(), b"ymx: not built yet\n".as_slice());
         }
         Ok(())
@@ -379,10 +544,12 @@ mod tests {
     ) -> (u8, MemoryOutlet, MemoryOutlet) {
         let mut errors = MemoryOutlet::new(rt.alloc());
         let words = ["ymx", "frames"];
+        let files = OneFile { bytes: HELLO };
         let status = ymx_main(
             rt,
             rt.alloc(),
             words.as_slice(),
+            &files,
             &mut reader,
             &mut writer,
             &mut errors,

@@ -5,7 +5,7 @@ mod command;
 mod standard;
 
 use command::{no_words, ymx_main};
-use standard::{ReaderInlet, WriterOutlet};
+use standard::{Disk, ReaderInlet, WriterOutlet};
 use std::alloc::Global;
 use std::process::ExitCode;
 use std::rt::Env;
@@ -30,6 +30,7 @@ fn main(rt: HostRuntime) -> ExitCode {
             &rt,
             alloc,
             words.as_slice(),
+            &Disk { rt: &rt },
             &mut reader,
             &mut writer,
             &mut errors,

@@ -1,11 +1,13 @@
-//! Readers and writers of the standard library as devices.
+//! Readers, writers and files of the standard library as devices.
 
-ghost use Rattle.std.specs.Prelude.{◌≡◌, ◌<◌, ◌≤◌, length, IfOk, OnErr};
+ghost use Rattle.std.specs.Prelude.{◌≡◌, ◌<◌, ◌≤◌, length, IfOk, None, OnErr, ⊤};
 ghost use Rattle.std.specs.Io.{ReadsAtMost, WritesAtMost};
 ghost use Rattle.std.specs.Io.KnownBytes.{Keeps, ReadConsumes, WriteAppends};
 
-use std::io;
+use crate::command::Opener;
 use std::io::{ErrorKind, Read, Write};
+use std::rt::Files;
+use std::{fs, io};
 use ymx_model::{DeviceFault, Inlet, Outlet};
 
 /// How often a call that a signal interrupted is made again before it counts as failed.
@@ -76,6 +78,31 @@ impl<W: Write> Outlet for WriterOutlet<W> {
                 self.failures += 1;
                 Err(DeviceFault)
             }
+        }
+    }
+}
+
+/// The files of the system. No contract says what they hold, nor which there are.
+#[derive(Drop)]
+pub struct Disk<'a, T> {
+    /// The runtime.
+    pub rt: &'a T,
+}
+
+impl<T: Files> Opener for Disk<'_, T> {
+    type File = ReaderInlet<T::File>;
+
+    ghost held = { λ s name. None };
+
+    ghost refuses = { λ s name. ⊤ };
+
+    fn open(&self, name: &str) -> Result<ReaderInlet<T::File>, DeviceFault> {
+        match fs::open(self.rt, name) {
+            Ok(reader) => Ok(ReaderInlet {
+                reader,
+                failures: 0,
+            }),
+            Err(_) => Err(DeviceFault),
         }
     }
 }

@@ -1,25 +1,33 @@
-use Rattle.std.proofs.Common.{rules, map, ap, ◌∙◌, ◌≡◌, [], subst, sym}
+use Rattle.std.proofs.Common.{rules, map, ap, List, ◌∙◌, ◌≡◌, ◌⊎◌, [], inl, inr, subst, sym}
+use Rattle.std.specs.Prelude.{IfSome}
 use Rattle.clap.specs.Faults.{fault_of, is_simple_and_free}
-use Rattle.clap.specs.Words.{App, is_simple, kind_of, subcommand_of, subcommand_rows_of, takes}
+use Rattle.clap.specs.Kinds.{HasKind}
+use Rattle.clap.specs.Words.{App, Row, Text, is_simple, kind_of, subcommand_of, subcommand_rows_of, takes}
+use Rattle.clap.specs.declared.error.Error.{Error}
 use Rattle.clap.specs.declared.error.kind.ErrorKind.TheVariants.{OutOfMemory}
-use Rattle.ymx_cli.specs.CommandLine.{HasGoodLimit, named_limit, ymx_app}
+use Rattle.ymx_cli.specs.CommandLine.{AsksNoHelp, HasGoodLimit, IsFrames, IsMistake, NamesNoFrames, named_words, ymx_app}
 use Rattle.ymx_cli.proofs.Asked.{asked_taken, is_simple-ymx}
 use Rattle.ymx_cli.proofs.Limits.{is_simple_and_free-ymx, limit_in_range}
 use Rattle.ymx_cli.proofs.command.parse.Goals as goal
 
+-- an error at words that ask for no help is a mistake, or memory ran out
+mistake_of : (e : Error) (words : List Text) → AsksNoHelp words → HasKind (fault_of ymx_app words) e → IsMistake (kind_of e)
+mistake_of e words no_help (inl memory) = subst IsMistake (sym memory) ((λ h. cc), (λ h. cc))
+mistake_of e words no_help (inr among) = no_help (kind_of e) among
+
 pub returns-in_err-matches-clause-frames : goal.returns-in_err-matches-clause-frames
-returns-in_err-matches-clause-frames g c = λ limit asks.
+returns-in_err-matches-clause-frames g c = λ limit file asks.
     let words = map g.S.AsStr.text c.args.words.now in
-    let kind : kind_of c.in_err-matches.field-0.0 ≡ OutOfMemory = c.in_err-matches.ensures.passes (ap (λ (a : App). takes a words) c.in_ok-command.ensures ∙ (asked_taken words limit asks).0) in
+    let kind : kind_of c.in_err-matches.field-0.0 ≡ OutOfMemory = c.in_err-matches.ensures.passes (ap (λ (a : App). takes a words) c.in_ok-command.ensures ∙ (asked_taken words limit file asks).2) in
     search rules
 
 pub returns-clause-frames : goal.returns-clause-frames
-returns-clause-frames g c = λ limit asks.
+returns-clause-frames g c = λ limit file asks.
     let words = map g.S.AsStr.text c.args.words.now in
     let app = c.in_ok-command.ensures in
-    let taken = asked_taken words limit asks in
-    c.asked.ensures.frames limit taken.2
-    (ap named_limit ((c.in_ok-matches.ensures.matches (ap is_simple app ∙ is_simple-ymx)).1 ∙ ap (λ (a : App). subcommand_of a words) app) ∙ taken.1)
+    let taken = asked_taken words limit file asks in
+    rw (← taken.1) (c.asked.ensures.frames limit taken.0 taken.4
+    (ap named_words ((c.in_ok-matches.ensures.matches (ap is_simple app ∙ is_simple-ymx)).1 ∙ ap (λ (a : App). subcommand_of a words) app) ∙ taken.3))
 
 pub returns-clause-limits : goal.returns-clause-limits
 returns-clause-limits g c =
@@ -28,3 +36,19 @@ returns-clause-limits g c =
     let taken : fault_of ymx_app words ≡ [] = sym (ap (λ (a : App). fault_of a words) app) ∙ c.in_ok-matches.ensures.kinds (ap is_simple_and_free app ∙ is_simple_and_free-ymx) in
     let rows : subcommand_rows_of c.in_ok-matches.matches ≡ subcommand_of ymx_app words = (c.in_ok-matches.ensures.matches (ap is_simple app ∙ is_simple-ymx)).1 ∙ ap (λ (a : App). subcommand_of a words) app in
     c.asked.ensures.limits (subst HasGoodLimit (sym rows) (limit_in_range words taken))
+
+pub returns-clause-other : goal.returns-clause-other
+returns-clause-other g c = λ none.
+    let words = map g.S.AsStr.text c.args.words.now in
+    let app = c.in_ok-command.ensures in
+    let rows : subcommand_rows_of c.in_ok-matches.matches ≡ subcommand_of ymx_app words = (c.in_ok-matches.ensures.matches (ap is_simple app ∙ is_simple-ymx)).1 ∙ ap (λ (a : App). subcommand_of a words) app in
+    c.asked.ensures.other (rw rows none)
+
+pub returns-in_err-matches-clause-mistake : goal.returns-in_err-matches-clause-mistake
+returns-in_err-matches-clause-mistake g c = λ no_help.
+    let words = map g.S.AsStr.text c.args.words.now in
+    let app = c.in_ok-command.ensures in
+    let kind : HasKind (fault_of ymx_app words) c.in_err-matches.field-0.0 =
+    subst (λ (a : App). HasKind (fault_of a words) c.in_err-matches.field-0.0) app (c.in_err-matches.ensures.kinds (ap is_simple_and_free app ∙ is_simple_and_free-ymx)) in
+    let mistake : IsMistake (kind_of c.in_err-matches.field-0.0) = mistake_of c.in_err-matches.field-0.0 words no_help kind in
+    search rules
