@@ -3,8 +3,8 @@ use Rattle.std.proofs.Common.{◌≡◌, ℕ, zero, suc, ◌<◌, List, [], ◌�
 use Rattle.std.proofs.lemmas.Bool.Decides.{nat_tests}
 use Rattle.ymx_header.specs.declared.header.Header.{Header}
 use Rattle.ymx_header.specs.declared.fault.Fault.{Fault}
-use Rattle.ymx_header.specs.declared.fault.Fault.TheVariants.{BadVersion, UnknownType, WindowExceeded}
 use Rattle.ymx_header.specs.Headers.{header_of, has_syn}
+use Rattle.ymx_header.proofs.Frames.{good}
 use Rattle.ymx_model.specs.declared.types.Fed.{Fed}
 use Rattle.ymx_model.specs.declared.types.Response.TheVariants.{Reject}
 use Rattle.ymx_model.specs.Tables.{look, added}
@@ -25,12 +25,7 @@ then-same : {A : Type 0} (b : Bool) (x y z : A) → (b ≡ true → x ≡ y) →
 then-same true x y z k = k refl
 then-same false x y z k = refl
 
-known_type : (a b c : Bool) → (if a then Some BadVersion else if b then Some UnknownType else if c then Some WindowExceeded else None) ≡ None → b ≡ false
-known_type true b c e = cc
-known_type false true c e = cc
-known_type false false c e = refl
-
-low : (k : ℕ) → nat_lt 3 k ≡ false → (k == 2) ≡ false → (k == 3) ≡ false → nat_lt k 2 ≡ true
+low : (k : ℕ) → k ≤ 3 → (k == 2) ≡ false → (k == 3) ≡ false → nat_lt k 2 ≡ true
 low k a b c = grind (arith, nat_tests)
 
 refusing : (r : Bool) → not r ≡ false → r ≡ true
@@ -47,7 +42,7 @@ head-same h s e =
     else-same (h.kind == 3) (go_away_comes h s) _ _ (λ b.
     then-same (has_syn h) (syn_comes true h s) (syn_comes false h s) other (λ y.
     unless-same (syn_fault h s) s (if refuses s || true then rejected else offered) (if refuses s || false then rejected else offered) (λ m.
-    let k = low h.kind (known_type (not (h.version == 0)) (nat_lt 3 h.kind) (nat_lt s.table.window (payload h)) n) a b in
+    let k = low h.kind (good s.table.window h n).kind a b in
     let is : is_starved h s ≡ not (refuses s) = rw (n, k, y, m) refl in
     let r : refuses s ≡ true = refusing (refuses s) (sym is ∙ e) in
     rw r refl)))))
