@@ -27,7 +27,7 @@ use Rattle.ymx_side_law.specs.Sides.{call_on, Has}
 
 -- ---- what is left of a record
 
-lingers : (p : Phase) → is_lingering p ≡ true → p ≡ Lingering
+pub lingers : (p : Phase) → is_lingering p ≡ true → p ≡ Lingering
 lingers Lingering e = refl
 lingers Unborn e = cc
 lingers Offered e = cc
@@ -36,7 +36,7 @@ lingers WasReset e = cc
 lingers WasRefused e = cc
 lingers Gone e = cc
 
-none_due : (window : ℕ) (e : End) → is_due window e ≡ false → next_kind window e ≡ None
+pub none_due : (window : ℕ) (e : End) → is_due window e ≡ false → next_kind window e ≡ None
 none_due window e d = of (next_kind window e) (sym (due-kind window e) ∙ d)
   where
     of : (k : Option Kind) → is_some k ≡ false → k ≡ None
