@@ -1,18 +1,18 @@
 -- Each step keeps the order of the numbers.
-use Rattle.std.proofs.Common.{◌≡◌, inl, inr, ℕ, None, refl, sym, ◌∙◌, ap, subst}
+use Rattle.std.proofs.Common.{◌≡◌, ◌≢◌, ◌%◌, inl, inr, ℕ, None, refl, sym, ◌∙◌, ap, subst, [], ◌∷◌, List}
 use Rattle.ymx_model.specs.declared.types.Step.{Step}
 use Rattle.ymx_model.specs.declared.types.Step.TheVariants as step
 use Rattle.ymx_model.specs.declared.types.Answer.{Answer}
 use Rattle.ymx_model.specs.Tables.{look}
-use Rattle.ymx_model.specs.Machines.{Machine, mirror}
+use Rattle.ymx_model.specs.Machines.{Machine, mirror, new_machine}
 use Rattle.ymx_model.specs.FreeMoves.{FreeMove, MayMove, moved_by}
-use Rattle.ymx_model.specs.MachineRuns.{MachineStep, MachineStepOfA}
+use Rattle.ymx_model.specs.MachineRuns.{MachineStep, MachineStepOfA, MachineRun}
 use Rattle.ymx_model.specs.Worlds.{is_of_a}
 use Rattle.ymx_model.proofs.Tests.{when}
 use Rattle.ymx_machine_law.specs.Numbers.{HasOrder, HasBothParities}
 use Rattle.ymx_machine_law.proofs.StreamFacts.{if-so_true, if-so_false}
 use Rattle.ymx_machine_law.proofs.Effects.{effect}
-use Rattle.ymx_machine_law.proofs.Cores.{Core, core, core-ends, kept-moves, kept-releases, Sound, sound-effect, sound-move, sound-mirror, sound-unmirror}
+use Rattle.ymx_machine_law.proofs.Cores.{Core, core, core-ends, kept-moves, kept-releases, Sound, sound-effect, sound-move, sound-mirror, sound-unmirror, sound-new}
 use Rattle.ymx_machine_law.proofs.Openers.{Numbered, numbered-effect, numbered-move, numbered-mirror, numbered-unmirror, free}
 
 pub record Ordered (mine yours : ℕ) (c : Core) : Type 0 where
@@ -66,6 +66,21 @@ ordered-step mine yours st given m n h k = elim (when (is_of_a st)) [
 pub order-step : (st : Step) (given : Answer) (m n : Machine) → HasBothParities m → MachineStep st given m n → HasOrder m → HasOrder n × HasBothParities n
 order-step st given m n p h o =
     let k = ordered-step m.me.window m.you.window st given m n h (orders m p o) in (has-order m.me.window m.you.window n k, k.numbered.parity)
+
+ordered-new : (mine first yours your_first : ℕ) → first % 2 ≢ your_first % 2 → Ordered mine yours (core (new_machine mine first yours your_first))
+ordered-new mine first yours your_first p = record { sound = sound-new mine first yours your_first; numbered = record { parity = p; once = tt; at = λ i. tt } }
+
+ordered-run : (mine yours : ℕ) (sts : List Step) (given : List Answer) (m n : Machine) → MachineRun sts given m n → Ordered mine yours (core m) → Ordered mine yours (core n)
+ordered-run mine yours [] [] m n h k = ordered-is mine yours _ _ (ap core h) k
+ordered-run mine yours (st ∷ sts) (given ∷ more) m n h k = ordered-run mine yours sts more h.0 n h.2 (ordered-step mine yours st given m h.0 h.1 k)
+ordered-run mine yours [] (given ∷ more) m n h k = absurd h
+ordered-run mine yours (st ∷ sts) [] m n h k = absurd h
+
+-- every run from a new machine
+pub order-run : (mine first yours your_first : ℕ) (sts : List Step) (given : List Answer) (n : Machine) → first % 2 ≢ your_first % 2 →
+    MachineRun sts given (new_machine mine first yours your_first) n → HasOrder n
+order-run mine first yours your_first sts given n p h =
+    has-order mine yours n (ordered-run mine yours sts given (new_machine mine first yours your_first) n h (ordered-new mine first yours your_first p))
 
 -- the next number is unused
 pub next-free : (m : Machine) → HasBothParities m → HasOrder m → look m.me.next m.streams ≡ None

@@ -20,7 +20,6 @@ use Rattle.ymx_model.specs.MachineRuns.{MachineStepOfA, MachineStep, MachineRun,
 use Rattle.ymx_model.proofs.Tests.{when, or_true}
 use Rattle.ymx_machine_law.proofs.Pasts.{Past, Faces, HasFace}
 use Rattle.ymx_machine_law.specs.Runs.{finished_by, ended_by, finished, ended, is_live_at_a, is_live_at_b, IsFace}
-use Rattle.ymx_machine_law.specs.Numbers.{HasOrder}
 use Rattle.ymx_machine_law.proofs.LaneFaces.{wrote, gave}
 use Rattle.ymx_machine_law.proofs.StreamFacts.{if-so_true, if-so_false}
 use Rattle.ymx_machine_law.proofs.Effects.{tell_out, tell_inn, effect}
@@ -282,13 +281,6 @@ face wa fa wb fb sts given n i w v p h =
     let x = says-a wa wb _ _ (look i n.streams) k.face in
     let y = says-b wa wb _ _ (look i n.streams) k.face in
     (record { begins = x.begins; whole = x.whole; finish = x.finish; near = x.near }, record { begins = y.begins; whole = y.whole; finish = y.finish; near = y.near })
-
--- the numbers and offered lists of every run
-pub order : (wa fa wb fb : ℕ) (sts : List Step) (given : List Answer) (n : Machine) → first_credit ≤ wa → first_credit ≤ wb → fa % 2 ≢ fb % 2 →
-    MachineRun sts given (new_machine wa fa wb fb) n → HasOrder n
-order wa fa wb fb sts given n w v p h =
-    let k = faced-run wa wb 0 blank blank sts given (new_machine wa fa wb fb) n w v h (faced-new wa fa wb fb 0 p) in
-    record { once = k.numbered.once; numbered = k.numbered.at; offered_me = k.sound.offered_me; offered_you = k.sound.offered_you }
 
 not-both : (a : ℕ) → a ≡ 1 → a ≡ 0 → ⊥
 not-both a e f = absurd (omega arith)

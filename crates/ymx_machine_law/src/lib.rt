@@ -45,7 +45,7 @@ pub fn face()
 /// side's next number is unused.
 pub fn numbers()
     ensures in_order { (window_a first_a window_b first_b : ℕ) (steps : List Step) (answers : List Answer) (m : Machine) →
-        first_credit ≤ window_a → first_credit ≤ window_b → first_a % 2 ≡ 1 → first_b % 2 ≡ 0 →
+        first_a % 2 ≡ 1 → first_b % 2 ≡ 0 →
         MachineRun steps answers (new_machine window_a first_a window_b first_b) m → HasOrder m }
     ensures kept { (step : Step) (given : Answer) (m n : Machine) → HasBothParities m → MachineStep step given m n → HasOrder m →
         HasOrder n × HasBothParities n }

@@ -9,7 +9,7 @@ use Rattle.ymx_model.specs.declared.types.Call.{Call}
 use Rattle.ymx_model.specs.declared.types.Call.TheVariants as call
 use Rattle.ymx_model.specs.Lanes.{first_credit}
 use Rattle.ymx_model.specs.Streams.{is_offered, is_live, is_reset, is_lingering, takes, Phase}
-use Rattle.ymx_model.specs.Streams.Phase.{Unborn, Offered, Live, WasReset, Refused, Lingering, Gone}
+use Rattle.ymx_model.specs.Streams.Phase.{Live, WasReset}
 use Rattle.ymx_model.specs.StreamRules.{write_reply, read_reply, finish_reply, reset_reply, forget_reply, moved, is_done, unless_refused}
 use Rattle.ymx_model.specs.Records.{End, takes_payload, new_end, end_write, end_read, end_finish, end_accept, end_reset, end_forget}
 use Rattle.ymx_model.specs.Pings.{Pings, most_pings, pinged, has_back, collected}
@@ -132,31 +132,13 @@ with-keeps P id f s h k =
 
 -- where an offered stream refuses, nothing moves
 offered_moves : (needs lost said : Bool) (p : Phase) (r : Reply) → (moved (unless_refused needs lost p said r) == 0) ≡ false → is_offered p ≡ false
-offered_moves needs lost said Offered r n = n
-offered_moves needs lost said Unborn r n = refl
-offered_moves needs lost said Live r n = refl
-offered_moves needs lost said WasReset r n = refl
-offered_moves needs lost said Refused r n = refl
-offered_moves needs lost said Lingering r n = refl
-offered_moves needs lost said Gone r n = refl
+offered_moves needs lost said p r n = grind arith
 
 offered_done : (needs lost said : Bool) (p : Phase) (r : Reply) → is_done (unless_refused needs lost p said r) ≡ true → is_offered p ≡ false
-offered_done needs lost said Offered r n = sym n
-offered_done needs lost said Unborn r n = refl
-offered_done needs lost said Live r n = refl
-offered_done needs lost said WasReset r n = refl
-offered_done needs lost said Refused r n = refl
-offered_done needs lost said Lingering r n = refl
-offered_done needs lost said Gone r n = refl
+offered_done needs lost said p r n = grind arith
 
 offered_forget : (p : Phase) → is_done (forget_reply p) ≡ true → is_offered p ≡ false
-offered_forget Offered e = sym e
-offered_forget Unborn e = refl
-offered_forget Live e = refl
-offered_forget WasReset e = refl
-offered_forget Refused e = refl
-offered_forget Lingering e = refl
-offered_forget Gone e = refl
+offered_forget p e = grind arith
 
 same-only : (s : Session) (id : ℕ) (d : End) (e : End) → look id s.table.entries ≡ Some e → look id s.table.entries ≡ Some d → d ≡ e
 same-only s id d e l m = one_some d e (sym m ∙ l)
@@ -214,22 +196,10 @@ forget_phase lost e =
     split P lost _ _ (λ t. refl) (λ f. split P (is_reset e.phase) _ _ (λ t. refl) (λ g. split P (e.out.finished && e.inn.ended) _ _ (λ t. refl) (λ k. refl)))
 
 lingering_off : (p : Phase) → is_lingering p ≡ true → (is_offered p ≡ false) × (takes p ≡ false)
-lingering_off Lingering e = (refl, refl)
-lingering_off Unborn e = (refl, refl)
-lingering_off Offered e = (sym e, sym e)
-lingering_off Live e = (refl, sym e)
-lingering_off WasReset e = (refl, refl)
-lingering_off Refused e = (refl, refl)
-lingering_off Gone e = (refl, refl)
+lingering_off p e = grind arith
 
 lingering_live : (p : Phase) → is_lingering p ≡ true → is_live p ≡ false
-lingering_live Lingering e = refl
-lingering_live Unborn e = refl
-lingering_live Offered e = refl
-lingering_live Live e = sym e
-lingering_live WasReset e = refl
-lingering_live Refused e = refl
-lingering_live Gone e = refl
+lingering_live p e = grind arith
 
 forget-at : (id : ℕ) (s : Session) (e : End) → look id s.table.entries ≡ Some e → IsWithin s → IsWithin (forget_outcome id s e).next
 forget-at id s e l h =

@@ -4,7 +4,6 @@ use Rattle.ymx_model.specs.declared.types.Response.{Response}
 use Rattle.ymx_model.specs.declared.types.PingStage.TheVariants.{Sent}
 use Rattle.ymx_model.specs.Lanes.{first_credit}
 use Rattle.ymx_model.specs.Streams.{is_offered, is_live, Phase}
-use Rattle.ymx_model.specs.Streams.Phase.{Unborn, Offered, Live, WasReset, Refused, Lingering, Gone}
 use Rattle.ymx_model.specs.Records.{End, takes_payload}
 use Rattle.ymx_model.specs.Outgoing.{Kind, sends, spelled, next_kind}
 use Rattle.ymx_model.specs.Outgoing.Kind.{Open, OpenWith, Accept, Reset, Credit, Data, Fin}
@@ -38,13 +37,7 @@ if_some true o t e = (refl, e)
 if_some false o t e = cc
 
 offered_not_live : (p : Phase) → is_offered p ≡ true → is_live p ≡ false
-offered_not_live Offered e = refl
-offered_not_live Unborn e = refl
-offered_not_live Live e = sym e
-offered_not_live WasReset e = refl
-offered_not_live Refused e = refl
-offered_not_live Lingering e = refl
-offered_not_live Gone e = refl
+offered_not_live p e = grind arith
 
 silent-none : (window : ℕ) (e : End) → IsSilent e → is_live e.phase ≡ false → next_kind window e ≡ None
 silent-none window e s l = rw (s.syn, s.ack, s.rst, l, s.unsent, s.finished) refl

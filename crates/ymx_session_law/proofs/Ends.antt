@@ -2,7 +2,7 @@
 use Rattle.std.proofs.Common.{◌≡◌, ℕ, ◌+◌, ◌≤◌, List, length, drop, min, Bool, true, false, ◌&&◌, refl, sym, ◌∙◌, arith, length-append, length-drop}
 use Rattle.ymx_model.specs.Lanes.{first_credit}
 use Rattle.ymx_model.specs.Streams.{Phase, takes, is_offered, is_reset, is_recorded, struck}
-use Rattle.ymx_model.specs.Streams.Phase.{Unborn, Offered, Live, WasReset, Refused, Lingering, Gone}
+use Rattle.ymx_model.specs.Streams.Phase.{Lingering}
 use Rattle.ymx_model.specs.Records.{End, Reader, held, new_end, end_write, end_read, end_finish, end_accept, end_reset, end_forget, takes_payload, gets_data, gets_credit, gets_fin, gets_piece, gets_ack, gets_rst, announce}
 use Rattle.ymx_model.specs.Outgoing.{Kind, sends}
 use Rattle.ymx_model.specs.Outgoing.Kind.{Open, OpenWith, Accept, Reset, Credit, Data, Fin}
@@ -43,13 +43,7 @@ pub finish-within : (window : ℕ) (e : End) → is_offered e.phase ≡ false �
 finish-within window e n h = record { phase = h.phase; within = h.within; all = h.all; credit = h.credit; offered = λ o. cc }
 
 pub takes_offered : (p : Phase) → is_offered p ≡ true → takes p ≡ true
-takes_offered Offered e = refl
-takes_offered Unborn e = e
-takes_offered Live e = refl
-takes_offered WasReset e = e
-takes_offered Refused e = e
-takes_offered Lingering e = e
-takes_offered Gone e = e
+takes_offered p e = grind arith
 
 pub accept-within : (window : ℕ) (lost : Bool) (e : End) → is_offered e.phase ≡ true → IsEndWithin window e → IsEndWithin window (end_accept lost e)
 accept-within window lost e o h = record {
@@ -129,13 +123,7 @@ ack-within window e h = record {
 }
 
 struck_recorded : (p : Phase) → is_recorded p ≡ true → is_offered p ≡ false → (is_recorded (struck p) ≡ true) × (takes (struck p) ≡ false) × (is_offered (struck p) ≡ false)
-struck_recorded Unborn r o = (r, cc, refl)
-struck_recorded Offered r o = (absurd cc, refl, refl)
-struck_recorded Live r o = (refl, refl, refl)
-struck_recorded WasReset r o = (refl, refl, refl)
-struck_recorded Refused r o = (r, refl, refl)
-struck_recorded Lingering r o = (refl, refl, refl)
-struck_recorded Gone r o = (r, refl, refl)
+struck_recorded p r o = grind arith
 
 pub rst-within : (window : ℕ) (e : End) → is_offered e.phase ≡ false → IsEndWithin window e → IsEndWithin window (gets_rst e)
 rst-within window e o h =

@@ -11,7 +11,7 @@ use Rattle.ymx_model.specs.declared.types.Response.{Response}
 use Rattle.ymx_model.specs.declared.types.Response.TheVariants.{Pong, Reject}
 use Rattle.ymx_model.specs.declared.types.PingStage.TheVariants.{Back}
 use Rattle.ymx_model.specs.Streams.{is_offered, is_live, is_recorded, takes, struck, Phase}
-use Rattle.ymx_model.specs.Streams.Phase.{Unborn, Offered, Live, WasReset, Refused, Lingering, Gone}
+use Rattle.ymx_model.specs.Streams.Phase.{Offered}
 use Rattle.ymx_model.specs.Records.{End, takes_payload, gets_data, gets_credit, gets_fin, gets_ack, gets_rst, gets_piece}
 use Rattle.ymx_model.specs.Pings.{answered}
 use Rattle.ymx_model.specs.Tables.{look, change, without, added, removed, most_records}
@@ -158,31 +158,13 @@ head-keeps-record window own h e n =
 -- ---- a reset
 
 struck_off : (p : Phase) → is_offered p ≡ false → (is_offered (struck p) ≡ false)
-struck_off Unborn o = refl
-struck_off Offered o = refl
-struck_off Live o = refl
-struck_off WasReset o = refl
-struck_off Refused o = refl
-struck_off Lingering o = refl
-struck_off Gone o = refl
+struck_off p o = grind arith
 
 struck_deaf : (p : Phase) → is_recorded p ≡ true → takes (struck p) ≡ false
-struck_deaf Unborn r = refl
-struck_deaf Offered r = refl
-struck_deaf Live r = refl
-struck_deaf WasReset r = refl
-struck_deaf Refused r = refl
-struck_deaf Lingering r = refl
-struck_deaf Gone r = refl
+struck_deaf p r = grind arith
 
 struck_dead : (p : Phase) → is_live (struck p) ≡ false
-struck_dead Unborn = refl
-struck_dead Offered = refl
-struck_dead Live = refl
-struck_dead WasReset = refl
-struck_dead Refused = refl
-struck_dead Lingering = refl
-struck_dead Gone = refl
+struck_dead p = grind arith
 
 begun-other : (id : ℕ) (of : Option ℕ) (e : End) (ps : List (ℕ × End)) → look id ps ≡ Some e → is_offered e.phase ≡ true → IsBegunWithin of ps → IsBegunWithin of (without id ps)
 begun-other id None e ps l o h = tt

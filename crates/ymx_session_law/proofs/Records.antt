@@ -4,7 +4,6 @@ use Rattle.std.specs.Prelude.{is_some}
 use Rattle.std.proofs.lemmas.Bool.Decides.{nat_tests}
 use Rattle.ymx_model.specs.declared.types.Role.{Role}
 use Rattle.ymx_model.specs.Streams.{is_offered, is_live, is_lingering, Phase}
-use Rattle.ymx_model.specs.Streams.Phase.{Unborn, Offered, Live, WasReset, Refused, Lingering, Gone}
 use Rattle.ymx_model.specs.Records.{End, takes_payload}
 use Rattle.ymx_model.specs.Outgoing.{is_due}
 use Rattle.ymx_model.specs.Tables.{Table, look, change, without, place, on, added, removed, served, most_records, Distinct}
@@ -147,13 +146,7 @@ within-removed id s there off out h = record {
 }
 
 lingers : (p : Phase) → is_lingering p ≡ true → is_offered p ≡ false
-lingers Lingering e = refl
-lingers Unborn e = refl
-lingers Offered e = sym e
-lingers Live e = refl
-lingers WasReset e = refl
-lingers Refused e = refl
-lingers Gone e = refl
+lingers p e = grind arith
 
 spent : (window : ℕ) (begun : Begun) (id : ℕ) (o : Option End) → is_spent window begun id o ≡ true →
     (is_some o ≡ true) × (is_offered_at o ≡ false) × (is_of begun.of id ≡ false)

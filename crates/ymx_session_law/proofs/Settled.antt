@@ -1,11 +1,10 @@
 -- Every event leaves no spent record.
-use Rattle.std.proofs.Common.{◌≡◌, ◌≢◌, ◌⊎◌, inl, inr, ℕ, List, [], ◌∷◌, ◌++◌, length, take, Bool, true, false, not, ◌&&◌, ◌==◌, nat_le, if◌then◌else◌, None, Some, refl, sym, ap, ◌∙◌, subst}
+use Rattle.std.proofs.Common.{◌≡◌, ◌≢◌, ◌⊎◌, inl, inr, ℕ, List, [], ◌∷◌, ◌++◌, length, take, Bool, true, false, not, ◌&&◌, ◌==◌, nat_le, if◌then◌else◌, None, Some, refl, sym, ap, ◌∙◌, subst, arith}
 use Rattle.ymx_model.specs.declared.types.Reply.{Reply}
 use Rattle.ymx_model.specs.declared.types.Call.{Call}
 use Rattle.ymx_model.specs.declared.types.Call.TheVariants as call
 use Rattle.ymx_model.specs.Lanes.{first_credit}
 use Rattle.ymx_model.specs.Streams.{Phase, is_lingering}
-use Rattle.ymx_model.specs.Streams.Phase.{Unborn, Offered, Live, WasReset, Refused, Lingering, Gone}
 use Rattle.ymx_model.specs.StreamRules.{forget_reply, moved, is_done, unless_refused}
 use Rattle.ymx_model.specs.Records.{End, end_accept, end_forget}
 use Rattle.ymx_model.specs.Outgoing.{is_due, is_empty}
@@ -80,22 +79,10 @@ added-settled id e s t n entries window begun status h = record {
 -- ---- calls
 
 phase_done : (needs lost said : Bool) (p : Phase) (r : Reply) → is_done (unless_refused needs lost p said r) ≡ true → is_lingering p ≡ false
-phase_done needs lost said Lingering r n = sym n
-phase_done needs lost said Unborn r n = refl
-phase_done needs lost said Offered r n = refl
-phase_done needs lost said Live r n = refl
-phase_done needs lost said WasReset r n = refl
-phase_done needs lost said Refused r n = refl
-phase_done needs lost said Gone r n = refl
+phase_done needs lost said p r n = grind arith
 
 phase_moves : (needs lost said : Bool) (p : Phase) (r : Reply) → (moved (unless_refused needs lost p said r) == 0) ≡ false → is_lingering p ≡ false
-phase_moves needs lost said Lingering r n = n
-phase_moves needs lost said Unborn r n = refl
-phase_moves needs lost said Offered r n = refl
-phase_moves needs lost said Live r n = refl
-phase_moves needs lost said WasReset r n = refl
-phase_moves needs lost said Refused r n = refl
-phase_moves needs lost said Gone r n = refl
+phase_moves needs lost said p r n = grind arith
 
 -- a change of the record that is there
 at-settled : (id : ℕ) (f : End → End) (s : Session) (e : End) → look id s.table.entries ≡ Some e → Stays s.table.window f e → IsSettled s → IsSettled (on_stream id f s)

@@ -17,7 +17,6 @@ use Rattle.ymx_model.specs.declared.types.Call.{Call}
 use Rattle.ymx_model.specs.declared.types.Role.{Role}
 use Rattle.ymx_model.specs.Lanes.{first_credit}
 use Rattle.ymx_model.specs.Streams.{Phase, is_offered, is_lingering, takes}
-use Rattle.ymx_model.specs.Streams.Phase.{Unborn, Offered, Live, WasReset, Refused, Lingering, Gone}
 use Rattle.ymx_model.specs.Records.{End, takes_payload, gets_data, gets_credit, gets_fin, gets_ack, gets_rst, gets_piece}
 use Rattle.ymx_model.specs.Outgoing.{Kind, is_due, is_empty, sends, spelled, next_kind}
 use Rattle.ymx_model.specs.Pings.{answered, has_asked, ping_goes, first_asked}
@@ -73,13 +72,7 @@ even-piece window true bytes e = even-fin window e _ (even-data window bytes e e
 even-piece window false bytes e = even-data window bytes e e (refl, λ k. refl)
 
 lingering_takes : (p : Phase) → (is_lingering p ≡ false) ⊎ (takes p ≡ false)
-lingering_takes Unborn = inl refl
-lingering_takes Offered = inl refl
-lingering_takes Live = inl refl
-lingering_takes WasReset = inl refl
-lingering_takes Refused = inl refl
-lingering_takes Lingering = inr refl
-lingering_takes Gone = inl refl
+lingering_takes p = grind arith
 
 even-stays : (window : ℕ) (f : End → End) (e : End) → Even window e (f e) → Stays window f e
 even-stays window f e p = of (lingering_takes e.phase)

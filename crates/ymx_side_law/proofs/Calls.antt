@@ -8,7 +8,7 @@ use Rattle.ymx_model.specs.declared.types.Reply.TheVariants.{Refused}
 use Rattle.ymx_model.specs.declared.types.CallFault.TheVariants.{OutOfMemory}
 use Rattle.ymx_model.specs.Lanes.{first_credit}
 use Rattle.ymx_model.specs.Streams.{Phase, is_lingering, is_live, is_reset}
-use Rattle.ymx_model.specs.Streams.Phase.{Unborn, Offered, Live, WasReset, Refused as WasRefused, Lingering, Gone}
+use Rattle.ymx_model.specs.Streams.Phase.{WasReset, Lingering}
 use Rattle.ymx_model.specs.StreamRules.{StreamCall, write_reply, read_reply, finish_reply, reset_reply, forget_reply, moved, is_done}
 use Rattle.ymx_model.specs.StreamRules.StreamCall.{Writes, Reads, Finishes, Resets, Forgets}
 use Rattle.ymx_model.specs.Records.{End, end_write, end_read, end_finish, end_reset, end_forget}
@@ -27,16 +27,10 @@ use Rattle.ymx_side_law.specs.Sides.{call_on, Has}
 
 -- ---- what is left of a record
 
-lingers : (p : Phase) → is_lingering p ≡ true → p ≡ Lingering
-lingers Lingering e = refl
-lingers Unborn e = cc
-lingers Offered e = cc
-lingers Live e = cc
-lingers WasReset e = cc
-lingers WasRefused e = cc
-lingers Gone e = cc
+pub lingers : (p : Phase) → is_lingering p ≡ true → p ≡ Lingering
+lingers p e = grind arith
 
-none_due : (window : ℕ) (e : End) → is_due window e ≡ false → next_kind window e ≡ None
+pub none_due : (window : ℕ) (e : End) → is_due window e ≡ false → next_kind window e ≡ None
 none_due window e d = of (next_kind window e) (sym (due-kind window e) ∙ d)
   where
     of : (k : Option Kind) → is_some k ≡ false → k ≡ None

@@ -9,7 +9,7 @@ use Rattle.ymx_model.specs.declared.types.Status.TheVariants.{Running}
 use Rattle.ymx_model.specs.declared.types.GoAwayMark.TheVariants.{Unsaid}
 use Rattle.ymx_model.specs.declared.types.Response.TheVariants.{Reject}
 use Rattle.ymx_model.specs.Streams.{Phase, is_offered, struck}
-use Rattle.ymx_model.specs.Streams.Phase.{Unborn, Offered, Live, WasReset, Refused as WasRefused, Lingering, Gone}
+use Rattle.ymx_model.specs.Streams.Phase.{Gone}
 use Rattle.ymx_model.specs.Records.{End, gets_data, gets_credit, gets_fin, gets_ack, gets_rst, gets_piece}
 use Rattle.ymx_model.specs.Parts.{Part}
 use Rattle.ymx_model.specs.Parts.Part.{Syn, Ack, Data, Credit, Fin, Rst}
@@ -163,13 +163,7 @@ plain-look own h bytes e s inc l n = of (payload h == 0) refl
 -- ---- a reset
 
 offered-phase : (p : Phase) → is_offered p ≡ true → struck p ≡ Gone
-offered-phase Offered e = refl
-offered-phase Unborn e = cc
-offered-phase Live e = cc
-offered-phase WasReset e = cc
-offered-phase WasRefused e = cc
-offered-phase Lingering e = cc
-offered-phase Gone e = cc
+offered-phase p e = grind arith
 
 ack-phase : (own : Bool) (h : Header) (e : End) → (acknowledges own h e).phase ≡ e.phase
 ack-phase own h e = split (λ x. x.phase ≡ e.phase) (has_ack h && own) (gets_ack e) e (λ t. refl) (λ f. refl)

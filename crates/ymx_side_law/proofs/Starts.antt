@@ -7,7 +7,7 @@ use Rattle.ymx_model.specs.declared.types.CallFault.TheVariants.{Lost}
 use Rattle.ymx_model.specs.declared.types.Call.TheVariants as call
 use Rattle.ymx_model.specs.Lanes.{first_credit}
 use Rattle.ymx_model.specs.Streams.{Phase, is_offered}
-use Rattle.ymx_model.specs.Streams.Phase.{Unborn, Offered, Live, WasReset, Refused as WasRefused, Lingering, Gone}
+use Rattle.ymx_model.specs.Streams.Phase.{Offered, Live}
 use Rattle.ymx_model.specs.Records.{End, new_end, end_write, end_accept}
 use Rattle.ymx_model.specs.Tables.{look, most_records}
 use Rattle.ymx_model.specs.Sessions.{Session, most_unacknowledged, is_lost, is_closed}
@@ -46,13 +46,7 @@ opened_with id count bytes s e w =
     (free, sym much ∙ some-taken first_credit bytes, rw same (look-added_same id made s.table.entries free))) e
 
 is-offered : (p : Phase) → is_offered p ≡ true → p ≡ Offered
-is-offered Offered e = refl
-is-offered Unborn e = cc
-is-offered Live e = cc
-is-offered WasReset e = cc
-is-offered WasRefused e = cc
-is-offered Lingering e = cc
-is-offered Gone e = cc
+is-offered p e = grind arith
 
 -- an offered record, and what accepting makes of it
 pub record IsAccepted (id : ℕ) (s : Session) (o : Outcome) : Type 0 where

@@ -106,11 +106,11 @@ settles-begun : (of : Option ℕ) (s : Session) → ((settles of s).begun ≡ s.
 settles-begun None s = (refl, record { status = refl; incoming = refl })
 settles-begun (Some id) s = settled-begun id s (settled id s) refl
 
-first_and_rest : (b : ℕ) (xs : List ℕ) → take 1 xs ≡ b ∷ [] → xs ≡ b ∷ drop 1 xs
+pub first_and_rest : (b : ℕ) (xs : List ℕ) → take 1 xs ≡ b ∷ [] → xs ≡ b ∷ drop 1 xs
 first_and_rest b [] e = absurd cc
 first_and_rest b (x ∷ xs) e = cc
 
-only_one : (b : ℕ) (xs : List ℕ) → take 1 xs ≡ b ∷ [] → nat_lt 1 (length xs) ≡ false → xs ≡ b ∷ []
+pub only_one : (b : ℕ) (xs : List ℕ) → take 1 xs ≡ b ∷ [] → nat_lt 1 (length xs) ≡ false → xs ≡ b ∷ []
 only_one b [] e l = absurd cc
 only_one b (x ∷ []) e l = e
 only_one b (x ∷ y ∷ xs) e l = absurd (grind (arith, nat_tests))
