@@ -19,11 +19,15 @@ use Rattle.ymx_law.proofs.Phases.{is-live, live-up}
 
 -- ---- what a frame leaves as it was
 
--- one with no payload and no FIN: what this direction carries
-lane-more : (f : Part) {wx wy : ℕ} {x y : End} {xy yx : List Part} {s : Stream} → load f ≡ [] → is_fin f ≡ false → Direction wx wy x y xy yx s →
+-- one with no payload: what this direction carries
+load-more : (f : Part) {wx wy : ℕ} {x y : End} {xy yx : List Part} {s : Stream} → load f ≡ [] → Direction wx wy x y xy yx s →
     Carries wy x.phase y.phase x.out (loads (xy ++ f ∷ [])) (gifts yx) (to_announce wy y.phase y.marks.syn y.marks.carries y.marks.ack) y.inn s.out
-    × Finishes x.phase y.phase x.out (loads (xy ++ f ∷ [])) (has_fin (xy ++ f ∷ [])) y.inn s.out.fin
-lane-more f {xy = xy} e n c = rw (loads_push xy f, e, append-nil (loads xy), has_push is_fin xy f, n, or_false (has_fin xy)) (c.carries, c.finishes)
+load-more f {xy = xy} e c = rw (loads_push xy f, e, append-nil (loads xy)) c.carries
+
+-- one with no payload that is no FIN: the end mark
+fin-more : (f : Part) {wx wy : ℕ} {x y : End} {xy yx : List Part} {s : Stream} → load f ≡ [] → is_fin f ≡ false → Direction wx wy x y xy yx s →
+    Finishes x.phase y.phase x.out (loads (xy ++ f ∷ [])) (has_fin (xy ++ f ∷ [])) y.inn s.out.fin
+fin-more f {xy = xy} e n c = rw (loads_push xy f, e, append-nil (loads xy), has_push is_fin xy f, n, or_false (has_fin xy)) c.finishes
 
 -- one that gives no credit back: what the other direction carries
 back-more : (f : Part) {wx wy : ℕ} {x y : End} {xy yx : List Part} {s : Stream} → gift f ≡ 0 → Direction wx wy x y xy yx s →
@@ -33,10 +37,11 @@ back-more f {yx = yx} e c = rw (gifts_push yx f, e, add-zero (gifts yx)) c.carri
 -- one that is no SYN, ACK or RST: what was said by these
 marks-more : (f : Part) {wx wy : ℕ} {x y : End} {xy yx : List Part} {s : Stream} →
     is_syn f ≡ false → is_ack f ≡ false → is_rst f ≡ false → x.marks.syn ≡ false → Direction wx wy x y xy yx s →
-    (s.rst_out ≡ mark_if (x.marks.rst || has_rst (xy ++ f ∷ []))) × Born s.own x.phase y.phase x.marks.syn (xy ++ f ∷ []) × Acks s.own y.marks.acked x.phase x.marks.ack (xy ++ f ∷ []) s.ack
+    (s.rst_out ≡ mark_if (x.marks.rst || has_rst (xy ++ f ∷ []))) × Born s.own x.phase y.phase x.marks.syn (xy ++ f ∷ [])
+    × Acks s.own y.marks.acked x.phase x.marks.ack (xy ++ f ∷ []) s.ack
 marks-more f {x = x} {xy = xy} a b r n c = (reset-more f x.marks.rst xy r c.reset, born-more f a n c.born, acks-more f b c.acks)
 
-pub goes-open : (limit wx wy : ℕ) (x y : End) (yx : List Part) (s : Stream) →
+goes-open : (limit wx wy : ℕ) (x y : End) (yx : List Part) (s : Stream) →
     (x.phase ≡ Unborn → ⊥) → x.marks.syn ≡ true → x.marks.carries ≡ false → Alive wx wy x y [] yx s → Alive wx wy (sends wx limit Open x) y (parts_of Open wx limit x) yx s
 goes-open limit wx wy x y yx s b l p c =
     let stops : Stops x.phase x.out false x.marks.ack x.marks.rst (parts_of Open wx limit x) = grind arith in
@@ -47,7 +52,7 @@ goes-open limit wx wy x y yx s b l p c =
       kept-told (wx - first_credit) {more = gifts (parts_of Open wx limit x)} {less = to_announce wx x.phase false x.marks.carries x.marks.ack} (grind arith) (grind arith) c.inn.carries,
     )
 
-pub goes-open_with : (limit wx wy : ℕ) (x y : End) (yx : List Part) (s : Stream) →
+goes-open_with : (limit wx wy : ℕ) (x y : End) (yx : List Part) (s : Stream) →
     (x.phase ≡ Unborn → ⊥) → x.marks.syn ≡ true → x.marks.carries ≡ true → Alive wx wy x y [] yx s → Alive wx wy (sends wx limit OpenWith x) y (parts_of OpenWith wx limit x) yx s
 goes-open_with limit wx wy x y yx s b l p c =
     let stops : Stops x.phase (sent limit x.out) false x.marks.ack x.marks.rst (parts_of OpenWith wx limit x) = grind (arith, lists) in
@@ -60,13 +65,14 @@ goes-open_with limit wx wy x y yx s b l p c =
       rw (l, p) at c.inn.carries,
     )
 
-pub goes-accept : (limit wx wy : ℕ) (x y : End) (xy yx : List Part) (s : Stream) →
+goes-accept : (limit wx wy : ℕ) (x y : End) (xy yx : List Part) (s : Stream) →
     (x.phase ≡ Unborn → ⊥) → x.marks.syn ≡ false → x.marks.ack ≡ true → Alive wx wy x y xy yx s → Alive wx wy (sends wx limit Accept x) y (xy ++ parts_of Accept wx limit x) yx s
 goes-accept limit wx wy x y xy yx s b n l c =
     let f = Ack (wx - first_credit) in
     let stops : Stops x.phase x.out x.marks.syn false x.marks.rst (xy ++ f ∷ []) = grind (arith, pushes) in
     assumption (
-      lane-more f refl refl c.out,
+      load-more f refl c.out,
+      fin-more f refl refl c.out,
       reset-more f x.marks.rst xy refl c.out.reset,
       ordered_push xy f (grind arith) c.out.ordered,
       born-more f refl n c.out.born,
@@ -75,10 +81,11 @@ goes-accept limit wx wy x y xy yx s b n l c =
       kept-told (wx - first_credit) {more = gifts (xy ++ f ∷ [])} {less = to_announce wx x.phase x.marks.syn x.marks.carries false} (grind (arith, pushes)) (grind arith) c.inn.carries,
     )
 
-pub goes-reset : (limit wx wy : ℕ) (x y : End) (xy yx : List Part) (s : Stream) →
+goes-reset : (limit wx wy : ℕ) (x y : End) (xy yx : List Part) (s : Stream) →
     (x.phase ≡ Unborn → ⊥) → x.marks.syn ≡ false → x.marks.rst ≡ true → Alive wx wy x y xy yx s → Alive wx wy (sends wx limit Reset x) y (xy ++ parts_of Reset wx limit x) yx s
 goes-reset limit wx wy x y xy yx s b n l c = assumption (
-  lane-more Rst refl refl c.out,
+  load-more Rst refl c.out,
+  fin-more Rst refl refl c.out,
   reset-sent xy l c.out.reset,
   stops-sent n l c.out.stops,
   ordered_push xy Rst (grind arith) c.out.ordered,
@@ -103,12 +110,13 @@ owes-none : (syn carries ack : Bool) {v : ℕ} {p q : Phase} {w : Writer} {fly :
 owes-none syn carries ack {v = v} {q = q} a b u c =
     let e = live-late v q syn carries ack a b u in rw e (kept-announce (live-up q (is-live q u)) (rw e at c))
 
-pub goes-credit : (limit wx wy : ℕ) (x y : End) (xy yx : List Part) (s : Stream) →
+goes-credit : (limit wx wy : ℕ) (x y : End) (xy yx : List Part) (s : Stream) →
     (x.phase ≡ Unborn → ⊥) → is_live x.phase ≡ true → Free x → Alive wx wy x y xy yx s → Alive wx wy (sends wx limit CreditFrame x) y (xy ++ parts_of CreditFrame wx limit x) yx s
 goes-credit limit wx wy x y xy yx s b l free c =
     let f = Credit x.inn.owed in
     assumption (
-      lane-more f refl refl c.out,
+      load-more f refl c.out,
+      fin-more f refl refl c.out,
       marks-more f refl refl refl free.syn c.out,
       stops-more f refl c.out.stops,
       ordered_push xy f (grind arith) c.out.ordered,
@@ -119,7 +127,7 @@ goes-credit limit wx wy x y xy yx s b l free c =
 data-runs : (p : Phase) (w : Writer) (syn ack rst : Bool) (fs : List Part) → Stops p w syn ack rst fs → is_empty w.unsent ≡ false → has_rst fs ≡ false
 data-runs p w syn ack rst fs c some = grind arith
 
-pub goes-data : (limit wx wy : ℕ) (x y : End) (xy yx : List Part) (s : Stream) →
+goes-data : (limit wx wy : ℕ) (x y : End) (xy yx : List Part) (s : Stream) →
     (x.phase ≡ Unborn → ⊥) → is_empty x.out.unsent ≡ false → Free x → Alive wx wy x y xy yx s → Alive wx wy (sends wx limit DataFrame x) y (xy ++ parts_of DataFrame wx limit x) yx s
 goes-data limit wx wy x y xy yx s n some free c =
     let b = take limit x.out.unsent in
@@ -135,13 +143,14 @@ goes-data limit wx wy x y xy yx s n some free c =
       back-more (Data b) refl c.inn,
     )
 
-pub goes-fin : (limit wx wy : ℕ) (x y : End) (xy yx : List Part) (s : Stream) →
+goes-fin : (limit wx wy : ℕ) (x y : End) (xy yx : List Part) (s : Stream) →
     (x.phase ≡ Unborn → ⊥) → x.out.unsent ≡ [] → fin_waits x.out ≡ true → Free x → Alive wx wy x y xy yx s → Alive wx wy (sends wx limit FinFrame x) y (xy ++ parts_of FinFrame wx limit x) yx s
 goes-fin limit wx wy x y xy yx s b e f free c =
     let runs : has_rst (xy ++ Fin ∷ []) ≡ false = grind (arith, pushes) in
-    let carries : Carries wy x.phase y.phase (fin_goes x.out) (loads (xy ++ Fin ∷ [])) (gifts yx) (to_announce wy y.phase y.marks.syn y.marks.carries y.marks.ack) y.inn s.out = grind (arith, lists, pushes) in
-    let finishes : Finishes x.phase y.phase (fin_goes x.out) (loads (xy ++ Fin ∷ [])) (has_fin (xy ++ Fin ∷ [])) y.inn s.out.fin = grind (arith, lists, pushes, ends-goes f e c.out.finishes) in
+    let finishes : Finishes x.phase y.phase (fin_goes x.out) (loads (xy ++ Fin ∷ [])) (has_fin (xy ++ Fin ∷ [])) y.inn s.out.fin =
+    grind (arith, lists, pushes, ends-goes f e c.out.finishes) in
     assumption (
+      load-more Fin refl c.out,
       marks-more Fin refl refl refl free.syn c.out,
       stops-none x.phase (fin_goes x.out) x.marks.syn x.marks.ack (xy ++ Fin ∷ []) free.rst runs,
       ordered_push xy Fin (grind (arith, lists)) c.out.ordered,
