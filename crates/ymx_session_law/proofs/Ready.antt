@@ -53,7 +53,7 @@ has-some id e [] h = absurd h
 has-some id e (p ∷ ps) (inl h) = let a = h.0 in grind (arith, nat_tests)
 has-some id e (p ∷ ps) (inr h) = let i = has-some id e ps h in grind (arith, nat_tests)
 
-has-look : (id : ℕ) (e : End) (ps : List (ℕ × End)) → Distinct ps → Has id e ps → look id ps ≡ Some e
+pub has-look : (id : ℕ) (e : End) (ps : List (ℕ × End)) → Distinct ps → Has id e ps → look id ps ≡ Some e
 has-look id e [] d h = absurd h
 has-look id e (p ∷ ps) d (inl h) = let a = h.0 in let b = h.1 in grind (arith, nat_tests)
 has-look id e (p ∷ ps) d (inr h) =
