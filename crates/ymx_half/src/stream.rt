@@ -5,7 +5,7 @@ ghost use Rattle.std.specs.Option.{option_map};
 ghost use Rattle.ymx_header.specs.Headers.{spelling};
 ghost use Rattle.ymx_model.specs.Streams.{takes, is_offered, is_lingering};
 ghost use Rattle.ymx_model.specs.Streams.Phase.{Live as LivePhase, Offered as OfferedPhase};
-ghost use Rattle.ymx_model.specs.Records.{new_end, dead_writer, dead_reader, only, sent, takes_payload, end_write, end_read, end_finish, end_accept, end_reset, end_forget, gets_data, gets_piece, gets_credit, gets_fin, gets_ack, gets_rst};
+ghost use Rattle.ymx_model.specs.Records.{new_end, dead_writer, dead_reader, only, sent, takes_payload, end_write, end_read, end_finish, end_accept, end_reset, end_forget, gets_data, gets_piece, gets_credit, gets_fin, gets_head, gets_rst};
 ghost use Rattle.ymx_model.specs.Outgoing.{is_due, credit_due, next_kind, sends, spelled};
 
 use crate::directions::{Receiving, Sending};
@@ -368,42 +368,11 @@ impl StreamRec {
 
     // ---- frames that come
 
-    /// Payload comes (flow control). A stream that takes payload has room for all that it granted, and
-    /// may be sent so much less from then on. Any other stream drops it.
+    /// A piece of a payload comes, and behind it the peer's end if `fin` (flow control). A stream that takes
+    /// payload has room for all that it granted, and may be sent so much less from then on. Any other stream
+    /// drops the piece and the end.
     ///
     /// Example: a new stream takes 262,144 bytes, and then none, until it has announced more.
-    pub fn receive_data(&mut self, bytes: &[u8])
-        requires { takes_payload self.old ≡ true → length bytes.now ≤ self.old.inn.granted }
-        ensures { self.new ≡ gets_data bytes.now self.old }
-    {
-        if self.takes_payload() {
-            self.inn.arrive(bytes);
-        }
-    }
-
-    /// The peer lets `delta` bytes more be written (flow control). A stream that was reset or given up
-    /// drops it. The sum is at most 4,294,967,295 bytes: above that the session broke (B6).
-    pub fn receive_credit(&mut self, delta: u32)
-        requires { takes self.old.phase ≡ true → self.old.out.credit + delta ≤ 4294967295 }
-        ensures { self.new ≡ gets_credit delta self.old }
-    {
-        if self.stage.takes() {
-            self.out.grant(delta);
-        }
-    }
-
-    /// The peer's end comes (half-close). A stream that takes payload has ended, and returns no credit
-    /// from then on. Any other ignores it.
-    pub fn receive_fin(&mut self)
-        ensures { self.new ≡ gets_fin self.old }
-    {
-        if self.takes_payload() {
-            self.inn.end();
-            self.marks.whole = false;
-        }
-    }
-
-    /// A piece of a payload comes, and behind it the peer's end if `fin`.
     pub fn receive_piece(&mut self, fin: bool, bytes: &[u8])
         requires { takes_payload self.old ≡ true → length bytes.now ≤ self.old.inn.granted }
         ensures { self.new ≡ gets_piece fin bytes.now self.old }
@@ -414,11 +383,22 @@ impl StreamRec {
         }
     }
 
-    /// The peer has acknowledged the stream (flags). A second time changes nothing.
-    pub fn receive_ack(&mut self)
-        ensures { self.new ≡ gets_ack self.old }
+    /// The head of a frame without RST comes (flags, flow control): the peer acknowledges the stream if
+    /// `acknowledges`, `delta` bytes more may be written, and the peer's end comes if `ends`.
+    ///
+    /// A stream that was reset or given up drops the delta and the end, and one whose end came before drops
+    /// the end. The credit with the delta is at most 4,294,967,295 bytes: above that the session broke (B6).
+    pub fn receive_head(&mut self, acknowledges: bool, delta: u32, ends: bool)
+        requires { takes self.old.phase ≡ true → self.old.out.credit + delta ≤ 4294967295 }
+        ensures { self.new ≡ gets_head acknowledges delta ends self.old }
     {
-        self.marks.acked = true;
+        if acknowledges {
+            self.marks.acked = true;
+        }
+        self.receive_credit(delta);
+        if ends {
+            self.receive_fin();
+        }
     }
 
     /// The peer has reset the stream (flags): what is unread and unsent is dropped, with its memory, and
@@ -433,6 +413,37 @@ impl StreamRec {
         };
         self.drop_halves(stage);
         self.marks = self.marks.only(false, false);
+    }
+
+    /// Payload comes, which a stream that doesn't take it drops.
+    fn receive_data(&mut self, bytes: &[u8])
+        requires { takes_payload self.old ≡ true → length bytes.now ≤ self.old.inn.granted }
+        ensures { self.new ≡ gets_data bytes.now self.old }
+    {
+        if self.takes_payload() {
+            self.inn.arrive(bytes);
+        }
+    }
+
+    /// `delta` bytes more may be written, unless the stream was reset or given up.
+    fn receive_credit(&mut self, delta: u32)
+        requires { takes self.old.phase ≡ true → self.old.out.credit + delta ≤ 4294967295 }
+        ensures { self.new ≡ gets_credit delta self.old }
+    {
+        if self.stage.takes() {
+            self.out.grant(delta);
+        }
+    }
+
+    /// The peer's end comes (half-close). A stream that takes payload has ended, and returns no credit
+    /// from then on.
+    fn receive_fin(&mut self)
+        ensures { self.new ≡ gets_fin self.old }
+    {
+        if self.takes_payload() {
+            self.inn.end();
+            self.marks.whole = false;
+        }
     }
 
     // ---- frames that go

@@ -41,7 +41,7 @@ fn sends_what_was_written(rt: HostRuntime) -> Result<(), Fail> {
         assert_eq!(rt; stream.write(&bytes)?, want);
     }
     assert!(rt; stream.credit() == 0);
-    stream.receive_credit(100);
+    stream.receive_head(false, 100, false);
     assert!(rt; !stream.is_finished());
     assert_eq!(rt; stream.write(&bytes)?, 100);
     let data = [0, 0, 0, 0, 0, 0, 0, 1, 0, 0, 64, 0, 7];
@@ -95,7 +95,7 @@ fn announces_its_window_once(rt: HostRuntime) -> Result<(), Fail> {
     let open = [0, 1, 0, 1, 0, 0, 0, 1, 0, 12, 0, 0];
     assert!(rt; goes(&mut stream, window, Some(FrameKind::Open), 12, &open));
     assert_eq!(rt; (stream.granted(), stream.is_due(window)), (window, false));
-    stream.receive_ack();
+    stream.receive_head(true, 0, false);
     assert!(rt; stream.is_acknowledged());
 
     let mut stream = StreamRec::offered(rt.alloc(), window)?;
@@ -132,9 +132,9 @@ fn returns_credit_for_what_was_read(rt: HostRuntime) -> Result<(), Fail> {
     let open = [0, 1, 0, 1, 0, 0, 0, 1, 0, 0, 0, 0];
     assert!(rt; goes(&mut stream, window, Some(FrameKind::Open), 12, &open));
     assert!(rt; bytes.len() <= stream.granted() as usize);
-    stream.receive_data(&bytes);
+    stream.receive_piece(false, &bytes);
     assert!(rt; 1 <= stream.granted());
-    stream.receive_data(b"x");
+    stream.receive_piece(false, b"x");
     assert_eq!(rt; (stream.unread_len(), stream.granted()), (131_072, 131_072));
     assert_eq!(rt;
         (stream.read(&mut bytes), stream.is_due(window)),
@@ -154,7 +154,7 @@ fn gives_all_before_the_end(rt: HostRuntime) -> Result<(), Fail> {
     let mut stream = StreamRec::offered(rt.alloc(), window)?;
     assert!(rt; 3 <= stream.granted());
     stream.receive_piece(true, b"end");
-    stream.receive_fin();
+    stream.receive_head(false, 0, true);
     assert_eq!(rt; (stream.has_ended(), stream.takes_payload()), (true, false));
     assert!(rt; stream.stage() == Stage::Offered);
     stream.accept(true);
@@ -265,7 +265,7 @@ fn full(alloc: Global, bytes: &[u8]) -> Result<StreamRec, AllocError> {
 fn holds_under_each_refusal(rt: HostRuntime) {
     if let Ok(mut stream) = full(rt.alloc(), &[7; 65_536]) {
         assert!(rt; stream.credit() == 0);
-        stream.receive_credit(4);
+        stream.receive_head(false, 4, false);
         assert!(rt; !stream.is_finished());
         let left = if stream.write(b"more").is_ok() { 0 } else { 4 };
         assert_eq!(rt; stream.credit(), left);

@@ -8,7 +8,7 @@ use Rattle.ymx_model.specs.declared.types.Response.{Response}
 use Rattle.ymx_model.specs.declared.types.Response.TheVariants.{Pong, Reject}
 use Rattle.ymx_model.specs.Streams.{is_offered, takes}
 use Rattle.ymx_model.specs.Streams.Phase.{Offered}
-use Rattle.ymx_model.specs.Records.{End, new_end, takes_payload, gets_credit, gets_fin, gets_ack, gets_rst, gets_piece}
+use Rattle.ymx_model.specs.Records.{End, new_end, takes_payload, gets_ack, gets_head as head_of, gets_rst, gets_piece}
 use Rattle.ymx_model.specs.Pings.{answered}
 use Rattle.ymx_model.specs.GoAway.{was_said, away_comes}
 use Rattle.ymx_model.specs.Tables.{look, added, removed, most_records}
@@ -74,9 +74,7 @@ acknowledges own h e = if has_ack h && own then gets_ack e else e
 
 -- what a head without a reset does to a record: the acknowledgement, the credit, the end
 abbrev pub gets_head : (own : Bool) → Header → End → End
-gets_head own h e =
-    let credited = gets_credit (delta h) (acknowledges own h e) in
-    if ends_now h then gets_fin credited else credited
+gets_head own h e = head_of (has_ack h && own) (delta h) (ends_now h) e
 
 -- the head of a frame, without a fault, for a record that is there
 abbrev pub meets : Header → End → Session → Session

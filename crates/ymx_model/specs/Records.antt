@@ -152,6 +152,13 @@ gets_piece fin bytes e = if fin then gets_fin (gets_data bytes e) else gets_data
 abbrev pub gets_ack : End → End
 gets_ack e = record e { marks = record e.marks { acked = true } }
 
+-- The head of a frame without a reset: it may acknowledge the stream, it lets so many bytes more be written,
+-- and it ends the stream if no payload stands before the end.
+abbrev pub gets_head : (acknowledges : Bool) (delta : ℕ) (ends : Bool) → End → End
+gets_head acknowledges delta ends e =
+    let credited = gets_credit delta (if acknowledges then gets_ack e else e) in
+    if ends then gets_fin credited else credited
+
 -- both halves are over, and nothing is due any more, but for the rejection of a stream that was refused
 abbrev pub gets_rst : End → End
 gets_rst e = record e { phase = struck e.phase; out = dead_writer; inn = dead_reader; marks = only false (is_refused e.phase && e.marks.rst) e.marks }

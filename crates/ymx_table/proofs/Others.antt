@@ -36,6 +36,11 @@ module _ {X : Type 0} (id : ℕ) where
   change-nothing [] = refl
   change-nothing (p ∷ ps) = let h = change-nothing ps in grind (arith, nat_tests)
 
+  -- where there is none, none changes
+  pub change-none : (f : X → X) (ps : List (ℕ × X)) → look id ps ≡ None → change id f ps ≡ ps
+  change-none f [] h = refl
+  change-none f (p ∷ ps) h = let i = change-none f ps in grind (arith, nat_tests)
+
   -- a record that is known may be changed to what the function makes of it
   pub change-known : (f : X → X) (x : X) (ps : List (ℕ × X)) → look id ps ≡ Some x → change id (λ _. f x) ps ≡ change id f ps
   change-known f x [] h = refl

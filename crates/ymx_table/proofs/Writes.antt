@@ -1,6 +1,6 @@
 -- A table after one record was written at its place.
-use Rattle.std.proofs.Common.{◌≡◌, ℕ, zero, suc, map, set, take, drop, ◌<◌, ◌^◌, List, [], ◌∷◌, ◌++◌, length, Bool, if◌then◌else◌, None, Some, refl, sym, ap, ◌∙◌, subst, arith, slice_get, ◌-◌, remove, nat_lt, nat_eq, length-append}
-use Rattle.std.specs.Prelude.{IsSome, All}
+use Rattle.std.proofs.Common.{◌≡◌, ℕ, zero, suc, map, set, take, drop, ◌<◌, ◌^◌, List, [], ◌∷◌, ◌++◌, length, Bool, false, if◌then◌else◌, Option, None, Some, is_some, position, refl, sym, ap, ◌∙◌, subst, arith, slice_get, ◌-◌, remove, nat_lt, nat_eq, length-append}
+use Rattle.std.specs.Prelude.{IsSome, All, MatchOption}
 use Rattle.std.specs.Map.{values_of, keys_of}
 use Rattle.std.proofs.lemmas.Bool.Decides.{nat_tests}
 use Rattle.std.proofs.lemmas.List.{map-append, length-map, take-map, drop-map}
@@ -12,8 +12,8 @@ use Rattle.ymx_model.specs.Outgoing.{is_due}
 use Rattle.ymx_model.specs.Tables.{Table, look, change, without, place, on, removed, added, most_records}
 use Rattle.ymx_table.specs.Kept.{IsKept}
 use Rattle.ymx_table.specs.Standing.{StandsAt}
-use Rattle.ymx_table.proofs.Places.{set_value_at-place, look-place, place-lt, remove-place, remove_entry_is, insert_entry-new}
-use Rattle.ymx_table.proofs.Others.{change-known, change-nothing, length-change, keys-change, length-without}
+use Rattle.ymx_table.proofs.Places.{set_value_at-place, look-place, place-lt, remove-place, remove_entry_is, insert_entry-new, place-position}
+use Rattle.ymx_table.proofs.Others.{change-none, change-known, change-nothing, length-change, keys-change, length-without}
 
 -- the flags of a table's records, after one is written or removed
 module _ (f : ℕ × End → Bool) (g : End → Bool) (same : (id : ℕ) (e : End) → f (id, e) ≡ g e) where
@@ -34,6 +34,20 @@ stands-at t id at there p = record {
   within = rw p (place-lt id t.entries there);
   stands = ap (slice_get (values_of t.entries)) p ∙ look-place id t.entries;
 }
+
+-- what a search for the place of a record finds
+pub stands-found : (t : Table) (id : ℕ) (o : Option ℕ) → is_some o ≡ is_some (look id t.entries) → o ≡ position (nat_eq id) (keys_of t.entries)
+    → MatchOption o (look id t.entries ≡ None) (StandsAt id t)
+stands-found t id None there found = of (look id t.entries) there
+  where
+    of : (o : Option End) → false ≡ is_some o → o ≡ None
+    of None e = refl
+    of (Some x) e = absurd cc
+stands-found t id (Some at) there found = stands-at t id at (sym there) (place-position id t.entries at (sym found))
+
+-- where there is no record, none changes
+pub untouched : (id : ℕ) (f : End → End) (t : Table) → look id t.entries ≡ None → t ≡ on id f t
+untouched id f t absent = sym (ap (λ ps. record t { entries = ps }) (change-none id f t.entries absent))
 
 -- the flags are as many as the records
 pub flags_within : (t u : Table) → t ≡ u → (flags : List Bool) → IsKept t flags → (id at : ℕ) → StandsAt id u at → at < length flags

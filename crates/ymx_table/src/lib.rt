@@ -4,7 +4,7 @@
 //! bytes of its stream would be unsent.
 #![tactic(auto)]
 
-ghost use Rattle.std.specs.Prelude.{◌≡◌, ◌^◌, ◌<◌, ◌≤◌, ◌↔◌, length, nat_eq, is_some, All, IsTrue, IsSome, MatchBool, OnOk, OnErr, None};
+ghost use Rattle.std.specs.Prelude.{◌≡◌, ◌^◌, ◌<◌, ◌≤◌, ◌↔◌, length, nat_eq, is_some, All, IsTrue, IsSome, MatchBool, MatchOption, OnOk, OnErr, None};
 ghost use Rattle.std.specs.List.{IsDistinct};
 ghost use Rattle.std.specs.Map.{keys_of};
 ghost use Rattle.std.specs.Option.{option_copied};
@@ -154,11 +154,18 @@ impl Table {
         }
     }
 
-    /// The place of a record in the order.
+    /// The place of a record in the order, or `None` if there is none under this id.
+    fn find(&self, id: u32) -> Option<usize>
+        ensures { MatchOption result (look id self.now.entries ≡ None) (StandsAt id self.now) }
+    {
+        self.records.get_index_of(&id)
+    }
+
+    /// The place of a record that is there.
     fn place_of(&self, id: u32) -> usize
         requires { IsSome (look id self.now.entries) }
         ensures { StandsAt id self.now result }
     {
-        self.records.get_index_of(&id).unwrap()
+        self.find(id).unwrap()
     }
 }

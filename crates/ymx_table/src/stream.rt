@@ -1,10 +1,10 @@
 //! What calls and frames do to one stream. Each changes the record under one id, which has to be there,
 //! and nothing else.
 
-ghost use Rattle.std.specs.Prelude.{◌≡◌, ◌+◌, ◌≤◌, ◌++◌, length, take, drop, min, true, false, Some, IsSome, IsOk, IfOk, OnErr};
+ghost use Rattle.std.specs.Prelude.{◌≡◌, ◌+◌, ◌≤◌, ◌++◌, length, take, drop, min, true, false, Some, IsSome, IfSome, IsOk, IfOk, OnErr};
 ghost use Rattle.std.specs.Option.{ForSome};
 ghost use Rattle.ymx_model.specs.Streams.{takes, is_offered, is_lingering};
-ghost use Rattle.ymx_model.specs.Records.{takes_payload, end_write, end_read, end_finish, end_accept, end_reset, end_forget, gets_data, gets_piece, gets_credit, gets_fin, gets_ack, gets_rst};
+ghost use Rattle.ymx_model.specs.Records.{takes_payload, end_write, end_read, end_finish, end_accept, end_reset, end_forget, gets_piece, gets_head, gets_rst};
 ghost use Rattle.ymx_model.specs.Outgoing.{next_kind, sends, spelled};
 ghost use Rattle.ymx_model.specs.Tables.{look, on};
 ghost use Rattle.ymx_half.specs.Stages.{phase_of};
@@ -112,66 +112,33 @@ impl Table {
     // ---- frames that come
 
     /// A piece of a payload comes, and behind it the peer's end if `fin` (flow control). A stream that takes
-    /// payload has granted so many bytes.
+    /// payload has granted so many bytes. Where there is no record nothing changes.
     pub fn receive_piece(&mut self, id: u32, fin: bool, bytes: &[u8])
-        requires there { IsSome (look id self.old.entries) }
-        requires granted { ForSome (look id self.old.entries) (λ e. takes_payload e ≡ true → length bytes.now ≤ e.inn.granted) }
+        requires { IfSome (look id self.old.entries) (λ e. takes_payload e ≡ true → length bytes.now ≤ e.inn.granted) }
         ensures { self.new ≡ on id (gets_piece fin bytes.now) self.old }
     {
-        let place = self.place_of(id);
+        let Some(place) = self.find(id) else {
+            return;
+        };
         let stream = &mut self.records[place];
         stream.receive_piece(fin, bytes);
         let is_due = stream.is_due(self.window);
         self.due.set(place, is_due);
     }
 
-    /// Payload comes (flow control). A stream that takes payload has granted so many bytes.
-    pub fn receive_data(&mut self, id: u32, bytes: &[u8])
-        requires there { IsSome (look id self.old.entries) }
-        requires granted { ForSome (look id self.old.entries) (λ e. takes_payload e ≡ true → length bytes.now ≤ e.inn.granted) }
-        ensures { self.new ≡ on id (gets_data bytes.now) self.old }
+    /// The head of a frame without RST comes (flags, flow control): the peer acknowledges the stream if
+    /// `acknowledges`, `delta` bytes more may be written, and the peer's end comes if `ends`. The credit with
+    /// the delta is at most 4,294,967,295 bytes: above that the session broke (B6). Where there is no record
+    /// nothing changes.
+    pub fn receive_head(&mut self, id: u32, acknowledges: bool, delta: u32, ends: bool)
+        requires { IfSome (look id self.old.entries) (λ e. takes e.phase ≡ true → e.out.credit + delta ≤ 4294967295) }
+        ensures { self.new ≡ on id (gets_head acknowledges delta ends) self.old }
     {
-        let place = self.place_of(id);
+        let Some(place) = self.find(id) else {
+            return;
+        };
         let stream = &mut self.records[place];
-        stream.receive_data(bytes);
-        let is_due = stream.is_due(self.window);
-        self.due.set(place, is_due);
-    }
-
-    /// The peer's end comes (half-close).
-    pub fn receive_fin(&mut self, id: u32)
-        requires { IsSome (look id self.old.entries) }
-        ensures { self.new ≡ on id gets_fin self.old }
-    {
-        let place = self.place_of(id);
-        let stream = &mut self.records[place];
-        stream.receive_fin();
-        let is_due = stream.is_due(self.window);
-        self.due.set(place, is_due);
-    }
-
-    /// The peer lets `delta` bytes more be written (flow control). The sum is at most 4,294,967,295 bytes:
-    /// above that the session broke (B6).
-    pub fn receive_credit(&mut self, id: u32, delta: u32)
-        requires there { IsSome (look id self.old.entries) }
-        requires fits { ForSome (look id self.old.entries) (λ e. takes e.phase ≡ true → e.out.credit + delta ≤ 4294967295) }
-        ensures { self.new ≡ on id (gets_credit delta) self.old }
-    {
-        let place = self.place_of(id);
-        let stream = &mut self.records[place];
-        stream.receive_credit(delta);
-        let is_due = stream.is_due(self.window);
-        self.due.set(place, is_due);
-    }
-
-    /// The peer has acknowledged the stream (flags).
-    pub fn receive_ack(&mut self, id: u32)
-        requires { IsSome (look id self.old.entries) }
-        ensures { self.new ≡ on id gets_ack self.old }
-    {
-        let place = self.place_of(id);
-        let stream = &mut self.records[place];
-        stream.receive_ack();
+        stream.receive_head(acknowledges, delta, ends);
         let is_due = stream.is_due(self.window);
         self.due.set(place, is_due);
     }

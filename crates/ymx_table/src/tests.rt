@@ -124,15 +124,11 @@ fn end(table: &mut Table, id: u32, is_reset: bool) -> bool {
     }
 }
 
-/// Payload comes for the stream, as a piece behind which its end stands, or without end.
+/// A piece of a payload comes for the stream, behind which its end stands if `fin`.
 fn get(table: &mut Table, id: u32, bytes: &[u8], fin: bool) -> bool {
     match table.get(id) {
         Some(stream) if bytes.len() <= stream.granted() as usize => {
-            if fin {
-                table.receive_piece(id, true, bytes);
-            } else {
-                table.receive_data(id, bytes);
-            }
+            table.receive_piece(id, fin, bytes);
             true
         }
         _ => false,
@@ -140,12 +136,10 @@ fn get(table: &mut Table, id: u32, bytes: &[u8], fin: bool) -> bool {
 }
 
 /// The peer grants 100 bytes to the stream and acknowledges it.
-#[tactic(auto, using(crate::proofs::Others::table_laws))]
 fn grant(table: &mut Table, id: u32) -> bool {
     match table.get(id) {
         Some(stream) if stream.credit() < 1_000_000 => {
-            table.receive_credit(id, 100);
-            table.receive_ack(id);
+            table.receive_head(id, true, 100, false);
             true
         }
         _ => false,
@@ -229,9 +223,7 @@ fn give_up(table: &mut Table, id: u32) -> bool {
         Some(stream) if stream.stage() == Stage::Live => table.reset(id, Stage::Reset),
         _ => return false,
     }
-    if table.contains(id) {
-        table.receive_fin(id);
-    }
+    table.receive_head(id, false, 0, true);
     match table.get(id) {
         Some(stream) if stream.stage() == Stage::Reset => table.forget(id, false),
         _ => return false,
