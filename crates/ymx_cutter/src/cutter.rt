@@ -1,13 +1,12 @@
 //! Cuts a stream of bytes into frames.
 
-ghost use Rattle.std.specs.Prelude.{◌≡◌, ℕ, List, ◌+◌, ◌≤◌, [], ◌++◌, length, take, min, IsOk, IfOk};
+ghost use Rattle.std.specs.Prelude.{◌≡◌, ℕ, List, ◌+◌, ◌≤◌, [], ◌++◌, length, take, min};
 ghost use Rattle.ymx_cutter.specs.Frames.{fault_of as first_fault, payload_length};
 ghost use Rattle.ymx_cutter.specs.Cutters.{item_of, seen_after};
 ghost use Rattle.ymx_cutter.specs.Views.{seen_of, IsWithin};
 
 use crate::header_bytes::HeaderBytes;
 use crate::item::Item;
-use std::alloc::AllocError;
 use std::marker::Model;
 use ymx_header::{Fault, HEADER_LENGTH, Header, Kind, TYPE_DATA, check};
 
@@ -48,15 +47,28 @@ impl Cutter {
     ghost use Rattle.ymx_cutter.specs.Gathered.{Gathered, gathers};
 
     /// A cutter between two frames, which takes Data frames of at most `limit` bytes of payload.
-    /// It takes no memory and never fails.
-    pub fn new(limit: u32) -> Result<Cutter, AllocError>
-        ensures ok { IsOk result }
-        ensures fresh { IfOk result (λ cutter. cutter ≡ record { limit = limit; seen = Header_bytes [] }) }
+    pub fn new(limit: u32) -> Cutter
+        ensures { result ≡ record { limit = limit; seen = Header_bytes [] } }
     {
-        Ok(Cutter {
+        Cutter {
             limit,
             begun: Begun::Header(HeaderBytes::new()),
-        })
+        }
+    }
+
+    /// Forgets what has come of the frame begun, or the fault: the next byte begins a frame. The
+    /// limit stays.
+    pub fn restart(&mut self)
+        ensures { self.new ≡ record { limit = self.old.limit; seen = Header_bytes [] } }
+    {
+        self.begun = Begun::Header(HeaderBytes::new());
+    }
+
+    /// The longest payload of a Data frame that it takes, in bytes.
+    pub fn limit(&self) -> u32
+        ensures { result ≡ self.now.limit }
+    {
+        self.limit
     }
 
     /// The bytes of the frame begun, its header included: 0 between frames. After a fault it is 12,
@@ -81,6 +93,10 @@ impl Cutter {
         // The call, as a function of what was seen.
         ensures cut { next_of self.old.limit self.old.seen input.now ≡ record { taken = result.0; item = result.1; seen = self.new.seen } }
         ensures limit { self.new.limit ≡ self.old.limit }
+
+        // Before the call and after it the header or the payload begun isn't whole.
+        ensures was_unfinished { IsUnfinished self.old.seen }
+        ensures unfinished { IsUnfinished self.new.seen }
 
         // What a caller goes by.
         ensures within { result.0 ≤ length input.now }
@@ -171,6 +187,7 @@ fn after_header(limit: u32, header: Header) -> (Item, Begun)
 #[cfg(test)]
 mod tests {
     use super::*;
+    use std::alloc::AllocError;
     use std::test::Fail;
     use ymx_header::{FLAG_SYN, TYPE_WINDOW_UPDATE};
 
@@ -232,14 +249,14 @@ mod tests {
             Item::Piece { len: 5, last: true },
         ];
         for cut in 0..=TEXT.len() {
-            let mut cutter = Cutter::new(LIMIT)?;
+            let mut cutter = Cutter::new(LIMIT);
             let mut items = Vec::new(rt.alloc());
             feed(&mut cutter, &mut items, &TEXT[..cut])?;
             feed(&mut cutter, &mut items, &TEXT[cut..])?;
             assert_eq!(rt; items.as_slice(), all.as_slice(), "cut at {cut}");
             assert_eq!(rt; cutter.begun(), 0);
         }
-        let mut cutter = Cutter::new(LIMIT)?;
+        let mut cutter = Cutter::new(LIMIT);
         let mut items = Vec::new(rt.alloc());
         for byte in TEXT.chunks(1) {
             feed(&mut cutter, &mut items, byte)?;
@@ -250,7 +267,7 @@ mod tests {
 
     #[test]
     fn counts_what_is_begun(rt: HostRuntime) -> Result<(), Fail> {
-        let mut cutter = Cutter::new(LIMIT)?;
+        let mut cutter = Cutter::new(LIMIT);
         assert_eq!(rt; cutter.begun(), 0);
         assert_eq!(rt; cutter.next(&TEXT[..5]), (5, None));
         assert_eq!(rt; cutter.begun(), 5);
@@ -292,7 +309,7 @@ mod tests {
                 Fault::BadVersion,
             ),
         ] {
-            let mut cutter = Cutter::new(LIMIT)?;
+            let mut cutter = Cutter::new(LIMIT);
             assert_eq!(rt; cutter.next(&header), (12, Some(Item::Fault(fault))));
             assert_eq!(rt; cutter.begun(), 12);
             assert_eq!(rt; cutter.next(&TEXT), (0, Some(Item::Fault(fault))));
@@ -302,16 +319,30 @@ mod tests {
     }
 
     #[test]
+    fn begins_anew_after_a_restart(rt: HostRuntime) {
+        let mut cutter = Cutter::new(LIMIT);
+        // inside a header, inside a payload, after a fault
+        for part in [&TEXT[..5], &TEXT[12..26], &[1; 12]] {
+            let (taken, _) = cutter.next(part);
+            let _ = cutter.next(&part[taken..]);
+            cutter.restart();
+            assert_eq!(rt; cutter.begun(), 0);
+            assert_eq!(rt; cutter.next(&TEXT), (12, Some(Item::Head(OPEN))));
+            assert_eq!(rt; cutter.limit(), 262_144);
+        }
+    }
+
+    #[test]
     fn takes_data_up_to_the_limit(rt: HostRuntime) -> Result<(), Fail> {
         for (limit, length) in [(LIMIT, 262_144), (262_145, 262_145), (0, 0)] {
             let header = Header { length, ..DATA };
-            let mut cutter = Cutter::new(limit)?;
+            let mut cutter = Cutter::new(limit);
             let taken = cutter.next(&ymx_header::encode(&header));
             assert_eq!(rt; taken, (12, Some(Item::Head(header))), "{length} bytes");
         }
         // Data of length 0 is its head alone, and of another type the length is no limit's matter
         let ping = [0, 2, 0, 1, 0, 0, 0, 0, 255, 255, 255, 255];
-        let mut cutter = Cutter::new(0)?;
+        let mut cutter = Cutter::new(0);
         let empty = Header { length: 0, ..DATA };
         assert_eq!(rt;
             cutter.next(&ymx_header::encode(&empty)),

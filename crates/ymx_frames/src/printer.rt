@@ -32,7 +32,7 @@ impl Printer {
         ensures { IfOk result (λ printer. (printer.lines.items ≡ []) × IsPrinting limit [] [] printer) }
     {
         Ok(Printer {
-            cutter: Cutter::new(limit)?,
+            cutter: Cutter::new(limit),
             header: decode(&[0; HEADER_LENGTH]),
             preview: Preview::new(),
             offset: 0,

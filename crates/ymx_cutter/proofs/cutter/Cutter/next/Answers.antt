@@ -3,14 +3,19 @@ use Rattle.std.proofs.Common.{◌≡◌, ◌++◌, take, Some, subst, arith}
 use Rattle.ymx_cutter.specs.declared.item.Item.TheVariants as item
 use Rattle.ymx_cutter.specs.Frames.{IsBytes}
 use Rattle.ymx_cutter.specs.Gathered.{gathers}
-use Rattle.ymx_cutter.specs.Cutters.{Cut, Reads}
+use Rattle.ymx_cutter.specs.Cutters.{Cut, Reads, IsUnfinished}
 use Rattle.ymx_cutter.specs.Cutters.Seen.{Broken}
 use Rattle.ymx_cutter.specs.Bytewise.{seen_in, events_in, item_events}
 use Rattle.ymx_cutter.proofs.Spelled.{IsBytes-from_at}
 use Rattle.ymx_cutter.proofs.Reading.{reads_next}
 use Rattle.ymx_cutter.proofs.Runs.{next_fault, next_broken}
-use Rattle.ymx_cutter.proofs.Fold.{next_does}
+use Rattle.ymx_cutter.proofs.Fold.{next_does, next_unfinished}
 use Rattle.ymx_cutter.proofs.cutter.Cutter.next.Goals as goal
+
+pub returns-clause-unfinished : goal.returns-clause-unfinished
+returns-clause-unfinished c =
+    let P : Cut → Type 0 = λ cut. IsUnfinished cut.seen in
+    subst P c.advance.ensures.cut (next_unfinished c.args.self.now.limit c.args.self.now.seen c.args.input.now c.advance.ensures.was_unfinished)
 
 pub returns-clause-fault : goal.returns-clause-fault
 returns-clause-fault c = λ fault.

@@ -6,7 +6,7 @@ use Rattle.ymx_frames.proofs.printer.Printer.new.Goals as goal
 
 pub returns : goal.returns
 returns c =
-    let fresh = c.in_ok-new.ensures.fresh in (
+    let fresh = c.new.ensures in (
       c.in_ok-with_capacity.ensures.items,
       record {
         so_far = nothing_printed c.args.limit _ fresh c.decode.ensures.fields c.new-2.ensures refl;
