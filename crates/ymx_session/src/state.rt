@@ -1,11 +1,12 @@
 //! All that a session remembers.
 
-ghost use Rattle.std.specs.Prelude.{◌≡◌};
-ghost use Rattle.ymx_model.specs.Sessions.{breaks, is_lost};
+ghost use Rattle.std.specs.Prelude.{◌≡◌, ◌≤◌, IfOk};
+ghost use Rattle.ymx_model.specs.Lanes.{first_credit};
+ghost use Rattle.ymx_model.specs.Sessions.{new_session, breaks, is_lost};
 
 use crate::arriving::Arriving;
 use crate::frame_buffer::FrameBuffer;
-use std::alloc::Global;
+use std::alloc::{AllocError, Global};
 use std::marker::Model;
 use ymx_control::{Answers, Away, Backlog, Pings};
 use ymx_header::Fault;
@@ -53,6 +54,28 @@ impl Model for State {
 }
 
 impl State {
+    /// A session that has done nothing, with the memory for all that it keeps beside its streams.
+    pub(crate) fn new(alloc: Global, role: Role, window: u32, first: u32) -> Result<State, AllocError>
+        requires narrowest { first_credit ≤ window }
+        requires widest { window ≤ 16777216 }
+        ensures { IfOk result (λ state. state ≡ new_session role window first) }
+    {
+        Ok(State {
+            alloc,
+            role,
+            status: Status::Running,
+            next: first,
+            table: Table::new(alloc, window),
+            offered: Backlog::new(alloc)?,
+            pings: Pings::new(alloc)?,
+            away: Away::new(),
+            alarm: false,
+            answers: Answers::new(alloc)?,
+            begun: FrameBuffer::new(alloc)?,
+            arriving: Arriving::new(window),
+        })
+    }
+
     /// The session breaks.
     pub(crate) fn breaks(&mut self, fault: Fault)
         ensures { self.new ≡ breaks fault self.old }

@@ -122,7 +122,8 @@ impl State {
         if !matches!(stream.stage(), Stage::Live | Stage::Reset) {
             return Err(CallFault::NoStream);
         }
-        self.table.forget(id, self.is_lost());
+        let lost = self.is_lost();
+        self.table.forget(id, lost);
         self.settle(id);
         Ok(())
     }
