@@ -1,3 +1,3 @@
 pub mod Places
-pub mod PingTables
+pub mod PendingPings
 pub mod FreeNumbers

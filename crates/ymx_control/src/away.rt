@@ -59,7 +59,7 @@ impl Away {
     }
 
     /// Its frame begins, and so is no longer due. Only while it is due, as `is_due` tells.
-    pub fn goes(&mut self)
+    pub fn begin_frame(&mut self)
         requires { away_due self.old.here ≡ true }
         ensures { self.new ≡ away_goes self.old }
     {
@@ -67,7 +67,7 @@ impl Away {
     }
 
     /// The peer's comes. A second one changes nothing.
-    pub fn comes(&mut self)
+    pub fn receive(&mut self)
         ensures { self.new ≡ away_comes self.old }
     {
         self.there = true;
@@ -92,7 +92,7 @@ mod tests {
         away.says();
         away.says();
         assert_eq!(rt; (away.is_due(), away.was_said()), (true, true));
-        away.goes();
+        away.begin_frame();
         assert_eq!(rt; (away.is_due(), away.was_said()), (false, true));
         away.says();
         assert_eq!(rt; (away.is_due(), away.was_said()), (false, true));
@@ -102,8 +102,8 @@ mod tests {
     fn comes_from_the_peer(rt: HostRuntime) {
         let mut away = Away::new();
         assert!(rt; !away.peer_is_away());
-        away.comes();
-        away.comes();
+        away.receive();
+        away.receive();
         assert!(rt; away.peer_is_away());
         assert!(rt; !away.was_said());
     }

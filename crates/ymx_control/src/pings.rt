@@ -2,7 +2,7 @@
 
 ghost use Rattle.std.specs.Prelude.{◌≡◌, ◌<◌, ◌==◌, true, false, [], length, position, is_some, IfOk, IfSome, if◌then◌else◌};
 ghost use Rattle.ymx_model.specs.Pings.{no_pings, is_pending, has_back, has_asked, is_back, staged, next_number, first_asked, pinged, answered, ping_goes, collected, most_pings};
-ghost use Rattle.ymx_control.specs.Tables.{IsSound};
+ghost use Rattle.ymx_control.specs.PendingPings.{IsSound};
 ghost use Rattle.ymx_control.specs.Numbers.{ArePendingBefore};
 
 use std::alloc::{AllocError, Global};
@@ -38,7 +38,7 @@ impl Model for Pings {
     ghost use Rattle.std.specs.Prelude.{◌≤◌};
     ghost use Rattle.std.specs.Vec.{vec_capacity};
     ghost use Rattle.ymx_model.specs.Pings.{Pings as AllPings, most_pings};
-    ghost use Rattle.ymx_control.specs.Tables.{IsSound};
+    ghost use Rattle.ymx_control.specs.PendingPings.{IsSound};
 
     ghost Value = { AllPings };
 
@@ -108,7 +108,7 @@ impl Pings {
 
     /// The answer to this ping has come, so that its frame, if not begun, is no longer due. Without
     /// effect on a number that is not pending.
-    pub fn answered(&mut self, number: u32)
+    pub fn receive_answer(&mut self, number: u32)
         ensures { self.new ≡ answered number self.old }
     {
         self.set_stage(number, PingStage::Back);
@@ -116,16 +116,16 @@ impl Pings {
 
     /// The frame of this ping begins, and so is no longer due. Only of a ping whose frame is due, as
     /// `next_due` gives: another's answer, if it is back, would be forgotten.
-    pub fn sent(&mut self, number: u32)
+    pub fn begin_frame(&mut self, number: u32)
         requires { has_asked number self.old.pending ≡ true }
         ensures { self.new ≡ ping_goes number self.old }
     {
         self.set_stage(number, PingStage::Sent);
     }
 
-    /// Whether the answer to this ping is back. If so, it is collected: the number is no longer
-    /// pending.
-    pub fn ponged(&mut self, number: u32) -> bool
+    /// Collects this ping if its answer is back, and tells whether it is: the number is no longer
+    /// pending then.
+    pub fn collect(&mut self, number: u32) -> bool
         ensures back { result ≡ has_back number self.old.pending }
         ensures collected { self.new ≡ (if result then collected number self.old else self.old) }
     {
@@ -238,8 +238,8 @@ mod tests {
         }
         assert!(rt; pings.is_full());
         assert_eq!(rt; pings.len(), Pings::LIMIT);
-        pings.answered(3);
-        assert!(rt; pings.ponged(3));
+        pings.receive_answer(3);
+        assert!(rt; pings.collect(3));
         assert!(rt; !pings.is_full());
         assert_eq!(rt; pings.ask(), 16);
         assert!(rt; pings.is_full());
@@ -255,20 +255,20 @@ mod tests {
         assert!(rt; !pings.is_full());
         assert_eq!(rt; pings.ask(), 1);
         assert_eq!(rt; pings.next_due(), Some(0));
-        pings.sent(0);
+        pings.begin_frame(0);
         assert_eq!(rt; pings.next_due(), Some(1));
         // an answer that nobody can have given to a frame that hasn't gone out counts all the same
-        pings.answered(1);
+        pings.receive_answer(1);
         assert!(rt; !pings.has_due());
-        assert!(rt; !pings.ponged(0));
-        assert!(rt; pings.ponged(1));
-        assert!(rt; !pings.ponged(1));
+        assert!(rt; !pings.collect(0));
+        assert!(rt; pings.collect(1));
+        assert!(rt; !pings.collect(1));
         // a number that isn't pending
-        pings.answered(7);
-        assert!(rt; !pings.ponged(7));
+        pings.receive_answer(7);
+        assert!(rt; !pings.collect(7));
         assert_eq!(rt; pings.len(), 1);
-        pings.answered(0);
-        assert!(rt; pings.ponged(0));
+        pings.receive_answer(0);
+        assert!(rt; pings.collect(0));
         assert!(rt; pings.is_empty());
         Ok(())
     }

@@ -78,14 +78,14 @@ impl Sending {
     }
 
     /// The frame with FIN begins, behind the last byte.
-    pub(crate) fn fin_goes(&mut self)
+    pub(crate) fn begin_fin(&mut self)
         requires due { ((writer_of self.old).finished && not (writer_of self.old).fin_sent) ≡ true }
         requires all_sent { (writer_of self.old).unsent ≡ [] }
         ensures goes { writer_of self.new ≡ fin_goes (writer_of self.old) }
         ensures same_state { is_silent self.new ≡ is_silent self.old }
     {
         if let Sending::Done(half) = self {
-            half.fin_goes();
+            half.begin_fin();
         }
     }
 

@@ -61,7 +61,7 @@ impl DoneHalf {
     }
 
     /// The frame with FIN begins (half-close): once, and behind the last byte.
-    pub fn fin_goes(&mut self)
+    pub fn begin_fin(&mut self)
         requires all_sent { self.old.unsent ≡ [] }
         requires once { self.old.fin_sent ≡ false }
         ensures { self.new ≡ fin_goes self.old }

@@ -571,7 +571,7 @@ impl StreamRec {
                 self.marks.whole = false;
             }
             FrameKind::Data => {}
-            FrameKind::Fin => self.out.fin_goes(),
+            FrameKind::Fin => self.out.begin_fin(),
         }
     }
 

@@ -215,7 +215,7 @@ fn a_sending_half_by_itself(rt: HostRuntime) -> Result<(), Fail> {
     assert_eq!(rt; (out.credit(), out.unsent_len()), (262_143, 2));
     assert_eq!(rt; (out.take(&mut two), two), (2, *b"ef"));
     assert!(rt; out.unsent_len() == 0 && !out.is_fin_sent());
-    out.fin_goes();
+    out.begin_fin();
     assert!(rt; out.is_fin_sent());
     assert_eq!(rt; out.reset(), DeadHalf);
     assert_eq!(rt; SendHalf::new(rt.alloc())?.reset(), DeadHalf);

@@ -1,5 +1,5 @@
 -- A table after one record was written at its place.
-use Rattle.std.proofs.Common.{◌≡◌, ℕ, zero, suc, map, set, take, drop, ◌<◌, ◌^◌, List, [], ◌∷◌, ◌++◌, length, Bool, false, if◌then◌else◌, Option, None, Some, is_some, position, refl, sym, ap, ◌∙◌, subst, arith, slice_get, ◌-◌, remove, nat_lt, nat_eq, length-append}
+use Rattle.std.proofs.Common.{◌≡◌, ℕ, zero, suc, map, set, take, drop, ◌+◌, ◌<◌, ◌^◌, List, [], ◌∷◌, ◌++◌, length, Bool, false, if◌then◌else◌, Option, None, Some, is_some, position, refl, sym, ap, ◌∙◌, subst, arith, slice_get, ◌-◌, remove, nat_lt, nat_eq, length-append}
 use Rattle.std.specs.Prelude.{IsSome, All, MatchOption}
 use Rattle.std.specs.Map.{values_of, keys_of}
 use Rattle.std.proofs.lemmas.Bool.Decides.{nat_tests}
@@ -9,11 +9,11 @@ use Rattle.std.proofs.lemmas.Map.Views.{All-map-remove_entry}
 use Rattle.indexmap.specs.IndexMap.{set_value_at, insert_entry}
 use Rattle.ymx_model.specs.Records.{End}
 use Rattle.ymx_model.specs.Outgoing.{is_due}
-use Rattle.ymx_model.specs.Tables.{Table, look, change, without, place, on, removed, added, most_records}
+use Rattle.ymx_model.specs.Tables.{Table, look, change, without, place, on, served, removed, added, most_records}
 use Rattle.ymx_table.specs.Kept.{IsKept}
 use Rattle.ymx_table.specs.Standing.{StandsAt}
 use Rattle.ymx_table.proofs.Places.{set_value_at-place, look-place, place-lt, remove-place, remove_entry_is, insert_entry-new, place-position}
-use Rattle.ymx_table.proofs.Others.{change-none, change-known, change-nothing, length-change, keys-change, length-without}
+use Rattle.ymx_table.proofs.Others.{change-none, change-known, change-nothing, length-change, keys-change, place-change, length-without}
 
 -- the flags of a table's records, after one is written or removed
 module _ (f : ℕ × End → Bool) (g : End → Bool) (same : (id : ℕ) (e : End) → f (id, e) ≡ g e) where
@@ -87,6 +87,26 @@ module _ (t u : Table) (same : t ≡ u) (id at : ℕ) (before : End) (s : Stands
     few = let e = length-change id (λ _. after) t.entries in rw (entries-written after, e) k.few;
     turn_within = let e = length-change id (λ _. after) t.entries in rw (entries-written after, e) k.turn_within;
     ids_fit = let e = keys-change id (λ _. after) t.entries in rw (entries-written after, e) k.ids_fit;
+  }
+
+  -- the same where the stream was served
+  pub written-served : (f : End → End) (after : End) → after ≡ f before
+      → record t { entries = set_value_at t.entries at after; turn = at + 1 } ≡ served id (on id f u)
+  written-served f after e = λ i. record (written f after e i) { turn = (ap (λ n. n + 1) (s.at_place ∙ sym (place-change id id f u.entries))) i }
+
+  pub kept-served : (flags : List Bool) (after : End) → IsKept (record t { entries = set_value_at t.entries at after }) flags
+      → IsKept (record t { entries = set_value_at t.entries at after; turn = at + 1 }) flags
+  kept-served flags after k = record {
+    narrowest = k.narrowest;
+    widest = k.widest;
+    flagged = k.flagged;
+    few = k.few;
+    turn_within =
+        let w = s.within in
+        let n : length t.entries ≡ length u.entries = ap (λ (v : Table). length v.entries) same in
+        let e = length-change id (λ _. after) t.entries in
+        rw (entries-written after, e) (omega arith);
+    ids_fit = k.ids_fit;
   }
 
   -- where the record stayed, the table did

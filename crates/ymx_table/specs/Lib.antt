@@ -2,3 +2,4 @@ pub mod Kept
 pub mod Standing
 pub mod Others
 pub mod Flags
+pub mod Turns

@@ -28,6 +28,7 @@ use indexmap::IndexMap;
 pub use law::others_keep;
 use std::alloc::{AllocError, Global};
 use std::marker::Model;
+pub use turn::NextFrame;
 use ymx_half::StreamRec;
 
 /// How many records a table holds at most: 1,024.

@@ -5,14 +5,12 @@ ghost use Rattle.std.specs.Prelude.{◌≡◌, ◌+◌, ◌≤◌, ◌++◌, len
 ghost use Rattle.std.specs.Option.{ForSome};
 ghost use Rattle.ymx_model.specs.Streams.{takes, is_offered, is_lingering};
 ghost use Rattle.ymx_model.specs.Records.{takes_payload, end_write, end_read, end_finish, end_accept, end_reset, end_forget, gets_piece, gets_head, gets_rst};
-ghost use Rattle.ymx_model.specs.Outgoing.{next_kind, sends, spelled};
 ghost use Rattle.ymx_model.specs.Tables.{look, on};
 ghost use Rattle.ymx_half.specs.Stages.{phase_of};
-ghost use Rattle.ymx_half.specs.Frames.{kind_of};
 
 use crate::Table;
 use std::alloc::AllocError;
-use ymx_half::{FrameKind, Stage};
+use ymx_half::Stage;
 
 impl Table {
     // ---- calls
@@ -155,26 +153,5 @@ impl Table {
         stream.receive_rst();
         let is_due = stream.is_due(self.window);
         self.due.set(place, is_due);
-    }
-
-    // ---- frames that go
-
-    /// Begins the frame of the stream that goes next: writes all of it to the front of `buffer`, which has
-    /// room for it, and returns how many bytes it has (framing). Data carries at most `limit` bytes of
-    /// payload. The rest of `buffer` stays as it was.
-    pub fn begin_frame(&mut self, id: u32, kind: FrameKind, limit: u32, buffer: &mut [u8]) -> usize
-        requires there { IsSome (look id self.old.entries) }
-        requires next { ForSome (look id self.old.entries) (λ e. next_kind self.old.window e ≡ Some (kind_of kind)) }
-        requires fits { ForSome (look id self.old.entries) (λ e. length (spelled (kind_of kind) self.old.window limit id e) ≤ length buffer.old) }
-        ensures count { ForSome (look id self.old.entries) (λ e. result ≡ length (spelled (kind_of kind) self.old.window limit id e)) }
-        ensures written { ForSome (look id self.old.entries) (λ e. buffer.new ≡ spelled (kind_of kind) self.old.window limit id e ++ drop result buffer.old) }
-        ensures goes { self.new ≡ on id (sends self.old.window limit (kind_of kind)) self.old }
-    {
-        let place = self.place_of(id);
-        let stream = &mut self.records[place];
-        let count = stream.begin_frame(kind, self.window, limit, id, buffer);
-        let is_due = stream.is_due(self.window);
-        self.due.set(place, is_due);
-        count
     }
 }

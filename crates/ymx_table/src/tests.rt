@@ -28,18 +28,33 @@ fn opened(alloc: Global, count: u32) -> Result<Table, AllocError> {
     Ok(table)
 }
 
-/// Sends the frame that goes next of the stream whose turn it is: the stream, the kind and the length.
-#[tactic(auto, using(crate::proofs::Others::table_laws))]
+/// The stream whose turn it is.
+fn next_id(table: &Table) -> Option<u32> {
+    Some(table.next_frame(LIMIT)?.id)
+}
+
+/// Sends the frame that goes next: the stream, the kind and the length.
 fn send(table: &mut Table, buffer: &mut [u8]) -> Option<(u32, FrameKind, usize)> {
-    let id = table.next_due()?;
-    let stream = table.get(id)?;
-    let kind = stream.next_frame(table.window())?;
-    if stream.frame_len(kind, LIMIT) > buffer.len() {
+    let next = table.next_frame(LIMIT)?;
+    if next.length > buffer.len() {
         return None;
     }
-    let count = table.begin_frame(id, kind, LIMIT, buffer);
-    table.served(id);
-    Some((id, kind, count))
+    let count = table.begin_frame(next, LIMIT, buffer);
+    Some((next.id, next.kind, count))
+}
+
+/// Sends a frame of this stream, if one is due and wherever the turn is.
+fn serve(table: &mut Table, buffer: &mut [u8], id: u32) -> bool {
+    let window = table.window();
+    let Some(stream) = table.get(id) else {
+        return false;
+    };
+    let Some(kind) = stream.next_frame(window) else {
+        return false;
+    };
+    let length = stream.frame_len(kind, LIMIT);
+    let next = NextFrame { id, kind, length };
+    length <= buffer.len() && table.begin_frame(next, LIMIT, buffer) == length
 }
 
 /// Whether these bytes stand at the front of the buffer.
@@ -69,7 +84,7 @@ fn streams_take_turns(rt: HostRuntime) -> Result<(), Fail> {
         Some((1, FrameKind::Open, 12))
     );
     assert!(rt; begins_with(&frame, &[0, 1, 0, 1, 0, 0, 0, 1, 0, 0, 0, 0]));
-    assert_eq!(rt; table.next_due(), Some(3));
+    assert_eq!(rt; next_id(&table), Some(3));
 
     // A stream that is added is behind the others, and one that was served waits for all of them.
     assert!(rt; open(rt.alloc(), &mut table, 7)?);
@@ -83,7 +98,7 @@ fn streams_take_turns(rt: HostRuntime) -> Result<(), Fail> {
         assert_eq!(rt; send(&mut table, &mut frame), Some((id, kind, 12)));
     }
     assert_eq!(rt; (table.due_count(), table.any_due()), (0, false));
-    assert_eq!(rt; table.next_due(), None);
+    assert_eq!(rt; next_id(&table), None);
     Ok(())
 }
 
@@ -210,10 +225,9 @@ fn streams_end(rt: HostRuntime) -> Result<(), Fail> {
     );
     assert!(rt; remove(&mut table, 2));
     assert_eq!(rt;
-        (table.len(), table.window(), table.next_due()),
+        (table.len(), table.window(), next_id(&table)),
         (1, WINDOW, None)
     );
-    others_keep();
     Ok(())
 }
 
@@ -223,7 +237,12 @@ fn give_up(table: &mut Table, id: u32) -> bool {
         Some(stream) if stream.stage() == Stage::Live => table.reset(id, Stage::Reset),
         _ => return false,
     }
-    table.receive_head(id, false, 0, true);
+    match table.get(id) {
+        Some(stream) if stream.stage() == Stage::Reset => {
+            table.receive_head(id, false, 0, true);
+        }
+        _ => return false,
+    }
     match table.get(id) {
         Some(stream) if stream.stage() == Stage::Reset => table.forget(id, false),
         _ => return false,
@@ -252,44 +271,48 @@ fn a_full_table_goes_round(rt: HostRuntime) -> Result<(), Fail> {
     let mut frame = vec![in rt.alloc(); 0; FRAME]?;
     assert!(rt; table.is_full() && !open(rt.alloc(), &mut table, 4001)?);
     assert_eq!(rt; (table.len(), table.due_count()), (1024, 1024));
-    assert!(rt; table.contains(999));
-    table.served(999);
-    assert_eq!(rt; table.next_due(), Some(1001));
+    assert!(rt; serve(&mut table, &mut frame, 999));
+    assert_eq!(rt; next_id(&table), Some(1001));
     for id in [1, 2047, 995, 1003] {
         assert!(rt; remove(&mut table, id), "{id}");
-        assert_eq!(rt; table.next_due(), Some(1001), "without {id}");
+        assert_eq!(rt; next_id(&table), Some(1001), "without {id}");
     }
     assert!(rt; !table.is_full() && !remove(&mut table, 995));
-    assert_eq!(rt; (table.len(), table.due_count()), (1020, 1020));
+    assert_eq!(rt; (table.len(), table.due_count()), (1020, 1019));
     assert!(rt; are_served(&mut table, &mut frame, 1001, 2047, 1003));
-    assert!(rt; are_served(&mut table, &mut frame, 3, 1001, 995));
+    assert!(rt; are_served(&mut table, &mut frame, 3, 999, 995));
     assert_eq!(rt;
-        (table.next_due(), table.due_count(), table.len()),
+        (next_id(&table), table.due_count(), table.len()),
         (None, 0, 1020)
     );
     Ok(())
 }
 
-/// Whether the turn is this stream's, whichever of these was served last.
-fn is_next_behind_each(table: &mut Table, busy: u32, served: &[u32]) -> bool {
+/// Whether the turn is this stream's, whichever other of these sends a byte first.
+fn is_next_behind_each(
+    table: &mut Table,
+    buffer: &mut [u8],
+    busy: u32,
+    served: &[u32],
+) -> Result<bool, AllocError> {
     for id in served {
-        if !table.contains(*id) {
-            return false;
+        if *id == busy {
+            continue;
         }
-        table.served(*id);
-        if table.next_due() != Some(busy) {
-            return false;
+        let is_served = write(table, *id, b"y")? == Some(1) && serve(table, buffer, *id);
+        if !is_served || next_id(table) != Some(busy) {
+            return Ok(false);
         }
     }
-    true
+    Ok(true)
 }
 
 /// Whether the one busy stream is found, and nothing once its frame went.
 fn is_found(table: &mut Table, buffer: &mut [u8], busy: u32) -> Result<bool, AllocError> {
     let is_written = write(table, busy, b"x")? == Some(1);
-    let is_next = is_next_behind_each(table, busy, &[1, 125, 127, 129, 131, 2045, 2047]);
+    let is_next = is_next_behind_each(table, buffer, busy, &[1, 125, 127, 129, 131, 2045, 2047])?;
     let is_sent = send(table, buffer) == Some((busy, FrameKind::Data, 13));
-    Ok(is_written && is_next && is_sent && table.next_due().is_none())
+    Ok(is_written && is_next && is_sent && next_id(table).is_none())
 }
 
 /// The one busy stream is found wherever it stands among 1,024, and whatever place is next.
@@ -308,11 +331,11 @@ fn one_busy_stream_is_found(rt: HostRuntime) -> Result<(), Fail> {
 #[test]
 fn the_turn_passes_on(rt: HostRuntime) -> Result<(), Fail> {
     let mut table = opened(rt.alloc(), 3)?;
-    assert!(rt; table.contains(1));
-    table.served(1);
-    assert_eq!(rt; table.next_due(), Some(3));
+    let mut frame = [0; 12];
+    assert!(rt; serve(&mut table, &mut frame, 1));
+    assert_eq!(rt; next_id(&table), Some(3));
     assert!(rt; remove(&mut table, 3));
-    assert_eq!(rt; (table.next_due(), table.due_count()), (Some(5), 2));
+    assert_eq!(rt; (next_id(&table), table.due_count()), (Some(5), 1));
     Ok(())
 }
 
@@ -331,7 +354,7 @@ fn holds_under_each_refusal(rt: HostRuntime) {
             }
         };
         assert_eq!(rt;
-            (table.len(), table.due_count(), table.next_due()),
+            (table.len(), table.due_count(), next_id(&table)),
             (count, count, Some(1))
         );
         for id in [1, 3, 5] {

@@ -1,7 +1,7 @@
 -- Whether the answer is back stands at the place of the number.
 use Rattle.std.proofs.Common.{◌≡◌, get_or, ap, sym, ◌∙◌}
 use Rattle.ymx_model.specs.Pings.{Ping, has_back, is_back}
-use Rattle.ymx_control.proofs.PingTables.{has_back-some, has_back-none, is_some-then_some}
+use Rattle.ymx_control.proofs.PendingPings.{has_back-some, has_back-none, is_some-then_some}
 use Rattle.ymx_control.proofs.pings.back_at.Goals as goal
 
 pub returns-in_err-place-clause-back : goal.returns-in_err-place-clause-back

@@ -1,5 +1,5 @@
 -- A number is pending exactly if it has a place.
-use Rattle.ymx_control.proofs.PingTables.{is_some-position}
+use Rattle.ymx_control.proofs.PendingPings.{is_some-position}
 use Rattle.ymx_control.proofs.pings.is_pending.Goals as goal
 
 pub returns : goal.returns

@@ -1,9 +1,9 @@
--- One record changes, and its flag with it.
+-- One record changes, and its flag with it; the next turn starts behind it.
 use Rattle.std.proofs.Common.{ap, ◌∙◌}
 use Rattle.ymx_model.specs.Outgoing.{sends}
-use Rattle.ymx_model.specs.Tables.{Table, on}
+use Rattle.ymx_model.specs.Tables.{Table, on, served}
 use Rattle.ymx_half.specs.Frames.{kind_of}
-use Rattle.ymx_table.proofs.Writes.{written, kept-written, flags_within}
+use Rattle.ymx_table.proofs.Writes.{written-served, kept-written, kept-served, flags_within}
 use Rattle.ymx_table.proofs.Table.begin_frame.Goals as goal
 
 pub set-requires : goal.set-requires
@@ -11,11 +11,12 @@ set-requires c = flags_within _ _ c.self.view_is _ c.self.invariant _ _ c.place_
 
 pub invariant_of-self : goal.invariant_of-self
 invariant_of-self c =
-    kept-written _ _ c.self.view_is _ _ _ c.place_of-place.ensures c.index_mut-stream.ensures.value
-    _ _ _ _ c.self.invariant c.is_due-is_due.ensures c.set.ensures
+    kept-served _ _ c.self.view_is _ _ _ c.place_of-place.ensures c.index_mut-stream.ensures.value _ _
+    (kept-written _ _ c.self.view_is _ _ _ c.place_of-place.ensures c.index_mut-stream.ensures.value
+    _ _ _ _ c.self.invariant c.is_due-is_due.ensures c.set.ensures)
 
 pub returns-clause-goes : goal.returns-clause-goes
 returns-clause-goes c =
-    written _ _ c.self.view_is _ _ _ c.place_of-place.ensures c.index_mut-stream.ensures.value
-    (sends c.self.inside.window c.args.limit (kind_of c.args.kind)) _ c.begin_frame-count.ensures.goes
-    ∙ ap (λ (t : Table). on c.args.id (sends t.window c.args.limit (kind_of c.args.kind)) c.args.self.now) c.self.view_is
+    written-served _ _ c.self.view_is _ _ _ c.place_of-place.ensures c.index_mut-stream.ensures.value
+    (sends c.self.inside.window c.args.limit (kind_of c.args.next.kind)) _ c.begin_frame-count.ensures.goes
+    ∙ ap (λ (t : Table). served c.args.next.id (on c.args.next.id (sends t.window c.args.limit (kind_of c.args.next.kind)) c.args.self.now)) c.self.view_is

@@ -2,7 +2,7 @@
 use Rattle.std.proofs.Common.{◌≡◌, ◌++◌, ◌∷◌, [], false, arith}
 use Rattle.ymx_model.specs.declared.types.PingStage.TheVariants.{Asked}
 use Rattle.ymx_model.specs.Pings.{Ping, is_pending}
-use Rattle.ymx_control.proofs.PingTables.{IsSound-asked}
+use Rattle.ymx_control.proofs.PendingPings.{IsSound-asked}
 use Rattle.ymx_control.proofs.FreeNumbers.{is_pending-found, ArePendingBefore-free_from}
 use Rattle.ymx_control.proofs.pings.Pings.ask.Goals as goal
 

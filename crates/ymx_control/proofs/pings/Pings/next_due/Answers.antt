@@ -1,5 +1,5 @@
 -- The numbers are distinct, so that the first ping found is the one of its number.
-use Rattle.ymx_control.proofs.PingTables.{first_asked-due}
+use Rattle.ymx_control.proofs.PendingPings.{first_asked-due}
 use Rattle.ymx_control.proofs.pings.Pings.next_due.Goals as goal
 
 pub returns-clause-due : goal.returns-clause-due

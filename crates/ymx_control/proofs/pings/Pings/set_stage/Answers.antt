@@ -1,6 +1,6 @@
 -- What is written at the place of the number stages its ping; where there is none nothing changes.
 use Rattle.std.proofs.Common.{◌≡◌, ◌==◌, ap, sym, position, Some, None}
-use Rattle.ymx_control.proofs.PingTables.{staged-some, staged-none, IsSound-staged, table}
+use Rattle.ymx_control.proofs.PendingPings.{staged-some, staged-none, IsSound-staged, table}
 use Rattle.ymx_control.proofs.pings.Pings.set_stage.Goals as goal
 
 pub invariant_of-self : goal.invariant_of-self

@@ -8,7 +8,7 @@ use Rattle.std.proofs.lemmas.Bool.Decides.{nat_tests}
 use Rattle.ymx_model.specs.declared.types.PingStage.{PingStage}
 use Rattle.ymx_model.specs.declared.types.PingStage.TheVariants.{Asked}
 use Rattle.ymx_model.specs.Pings.{Ping, Pings, is_pending, has_back, has_asked, is_back, first_asked, staged, without_ping, most_pings}
-use Rattle.ymx_control.specs.Tables.{AreDistinct, AreNumbers, IsSound}
+use Rattle.ymx_control.specs.PendingPings.{AreDistinct, AreNumbers, IsSound}
 use Rattle.ymx_control.proofs.Places.{cond-remove, position-place, position-none}
 
 -- the place of a number

@@ -1,8 +1,8 @@
 -- What is removed at the place of the number is its ping.
 use Rattle.std.proofs.Common.{◌≡◌, ◌==◌, ap, ◌∙◌, position, Some, arith}
 use Rattle.ymx_model.specs.Pings.{without_ping}
-use Rattle.ymx_control.proofs.PingTables.{without_ping-some, IsSound-without, table}
-use Rattle.ymx_control.proofs.pings.Pings.ponged.Goals as goal
+use Rattle.ymx_control.proofs.PendingPings.{without_ping-some, IsSound-without, table}
+use Rattle.ymx_control.proofs.pings.Pings.collect.Goals as goal
 
 pub invariant_of-self : goal.invariant_of-self
 invariant_of-self c =
