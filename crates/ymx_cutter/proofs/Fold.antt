@@ -6,7 +6,7 @@ use Rattle.ymx_header.specs.Headers.{header_of}
 use Rattle.ymx_header.specs.declared.header.Header.{Header}
 use Rattle.ymx_header.specs.declared.fault.Fault.{Fault}
 use Rattle.ymx_cutter.specs.declared.item.Item.{Item}
-use Rattle.ymx_cutter.specs.Frames.{fault_of, payload_length}
+use Rattle.ymx_header.specs.Frames.{fault_of, payload_length}
 use Rattle.ymx_cutter.specs.Cutters.{Seen, Cut, next_of, item_of, seen_after, payload_seen, IsUnfinished, TakesFor}
 use Rattle.ymx_cutter.specs.Cutters.Seen.{Header_bytes, Payload, Broken}
 use Rattle.ymx_cutter.specs.Calls.{Call, AreCalls, text_of}

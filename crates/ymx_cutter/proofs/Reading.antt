@@ -6,11 +6,13 @@ use Rattle.std.proofs.lemmas.List.Elements.{All-append, All-push, All-take, All-
 use Rattle.ymx_header.specs.Headers.{spelling, header_of, IsInRange}
 use Rattle.ymx_header.specs.declared.header.Header.{Header}
 use Rattle.ymx_header.specs.declared.fault.Fault.{Fault}
-use Rattle.ymx_cutter.specs.Frames.{Frame, frame_spelling, joined, fault_of, payload_length, IsFrame, IsBytes}
+use Rattle.ymx_header.specs.Frames.{Frame, frame_spelling, fault_of, payload_length}
+use Rattle.ymx_cutter.specs.Frames.{joined, IsGoodFrame, IsBytes}
 use Rattle.ymx_cutter.specs.Gathered.{Gathered, gathers, with_piece}
 use Rattle.ymx_cutter.specs.Cutters.{Seen, Cut, Reads, next_of, item_of, seen_after, payload_seen}
 use Rattle.ymx_cutter.specs.Cutters.Seen.{Header_bytes, Payload, Broken}
-use Rattle.ymx_cutter.proofs.Spelled.{length-spelling, IsInRange-header_of, spelled, joined-push}
+use Rattle.ymx_header.proofs.Spellings.{length-spelling}
+use Rattle.ymx_cutter.proofs.Spelled.{IsInRange-header_of, spelled, good_frame, joined-push}
 
 -- one more frame, whose spelling is what was begun
 push_frame : (text : List ℕ) (frames : List Frame) (f : Frame) (begun : List ℕ) → text ≡ joined frames ++ begun → begun ≡ frame_spelling f → text ≡ joined (frames ++ f ∷ []) ++ []
@@ -44,7 +46,7 @@ none_lack n e = grind (arith, nat_tests)
 
 -- a header that is whole
 pub reads_header : (limit : ℕ) (text : List ℕ) (g : Gathered) (part begun : List ℕ) (h : Header) (fault : Option Fault) (none : Bool) →
-    IsBytes text → All (IsFrame limit) g.frames → text ≡ joined g.frames ++ begun → begun ≡ spelling h → header_of begun ≡ h → IsInRange h →
+    IsBytes text → All (IsGoodFrame limit) g.frames → text ≡ joined g.frames ++ begun → begun ≡ spelling h → header_of begun ≡ h → IsInRange h →
     fault_of limit h ≡ fault → (payload_length h == 0) ≡ none →
     Reads limit text (gathers g part (Some (item_of fault h))) (seen_after fault (payload_length h))
 reads_header limit text g part begun h (Some fault) none small each e b back r f p =
@@ -53,7 +55,7 @@ reads_header limit text g part begun h None true small each e b back r f p =
     rw p
     (record {
       bytes = small;
-      each = All-push (IsFrame limit) g.frames _ each (record { in_range = r; no_fault = f; whole = sym (none_lack _ p) });
+      each = All-push (IsGoodFrame limit) g.frames _ each (good_frame limit h [] r f (sym (none_lack _ p)));
       begun = [];
       whole = push_frame text g.frames _ begun e (b ∙ sym (append-nil (spelling h)));
       is_begun = (refl, omega arith);
@@ -78,7 +80,7 @@ reads_piece limit text g came lacks len part true small n fits r p =
     rw p
     (record {
       bytes = IsBytes-append text part r.bytes small;
-      each = All-push (IsFrame limit) g.frames _ r.each (record { in_range = in_range; no_fault = no_fault; whole = length-append g.payload part ∙ (omega arith) });
+      each = All-push (IsGoodFrame limit) g.frames _ r.each (good_frame limit g.header (g.payload ++ part) in_range no_fault (length-append g.payload part ∙ (omega arith)));
       begun = [];
       whole = push_frame (text ++ part) g.frames _ (r.begun ++ part) (more_begun text g.frames r.begun part r.whole) (payload_begun r.begun (spelling g.header) g.payload part b);
       is_begun = (refl, omega arith);

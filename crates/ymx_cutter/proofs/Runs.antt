@@ -7,13 +7,15 @@ use Rattle.ymx_header.specs.declared.header.Header.{Header}
 use Rattle.ymx_header.specs.declared.fault.Fault.{Fault}
 use Rattle.ymx_cutter.specs.declared.item.Item.{Item}
 use Rattle.ymx_cutter.specs.declared.item.Item.TheVariants as item
-use Rattle.ymx_cutter.specs.Frames.{Frame, frame_spelling, joined, fault_of, payload_length, IsFrame, IsBytes}
+use Rattle.ymx_header.specs.Frames.{Frame, frame_spelling, fault_of, payload_length}
+use Rattle.ymx_cutter.specs.Frames.{joined, IsGoodFrame, IsBytes}
 use Rattle.ymx_cutter.specs.Cuts.{Cuts, FaultStands}
 use Rattle.ymx_cutter.specs.Gathered.{Gathered, gathers, nothing}
 use Rattle.ymx_cutter.specs.Cutters.{Seen, Reads, next_of, begun_of, item_of, seen_after}
 use Rattle.ymx_cutter.specs.Cutters.Seen.{Header_bytes, Payload, Broken}
 use Rattle.ymx_cutter.specs.Calls.{Call, AreCalls, text_of, gathered}
-use Rattle.ymx_cutter.proofs.Spelled.{length-spelling, IsInRange-header_of, spelled}
+use Rattle.ymx_header.proofs.Spellings.{length-spelling}
+use Rattle.ymx_cutter.proofs.Spelled.{IsInRange-header_of, spelled, good_payload}
 use Rattle.ymx_cutter.proofs.Only.{same_header, same_rest, bad_header, none_is_none, one_cut, one_fault, Cuts-fault}
 use Rattle.ymx_cutter.proofs.Reading.{reads_next, IsBytes-back}
 
@@ -21,7 +23,7 @@ use Rattle.ymx_cutter.proofs.Reading.{reads_next, IsBytes-back}
 pub reads_nothing : (limit : ℕ) → Reads limit [] nothing (Header_bytes [])
 reads_nothing limit =
     let small : IsBytes [] = (let P : ℕ → Type 0 = λ b. b < 256 in All-nil P) in
-    record { bytes = small; each = All-nil (IsFrame limit); begun = []; whole = refl; is_begun = (refl, omega arith) }
+    record { bytes = small; each = All-nil (IsGoodFrame limit); begun = []; whole = refl; is_begun = (refl, omega arith) }
 
 pub reads_calls : (limit : ℕ) (text : List ℕ) (g : Gathered) (seen end : Seen) (calls : List Call) → Reads limit text g seen → AreCalls limit seen calls end →
     Reads limit (text ++ text_of calls) (gathered g calls) end
@@ -42,12 +44,12 @@ short_header limit f bytes more short e =
     ap length e ∙ (length-append (frame_spelling f) more ∙ ap (λ (k : ℕ). k + length more) (length-append (spelling f.header) f.payload ∙ ap (λ (k : ℕ). k + length f.payload) (length-spelling f.header))) in
     absurd (omega arith)
 
-short_payload : (limit : ℕ) (h : Header) (payload : List ℕ) (f : Frame) (more : List ℕ) → IsInRange h → length payload < payload_length h → IsFrame limit f → spelling h ++ payload ≡ frame_spelling f ++ more → ⊥
+short_payload : (limit : ℕ) (h : Header) (payload : List ℕ) (f : Frame) (more : List ℕ) → IsInRange h → length payload < payload_length h → IsGoodFrame limit f → spelling h ++ payload ≡ frame_spelling f ++ more → ⊥
 short_payload limit h payload f more r short good e =
     let e' = e ∙ append_assoc (spelling f.header) f.payload more in
     let same = same_header h f.header payload (f.payload ++ more) r good.in_range e' in
     let n : length payload ≡ length f.payload + length more = ap length (same_rest h f.header _ _ same e') ∙ length-append f.payload more in
-    let m : payload_length h ≡ length f.payload = ap payload_length same ∙ sym good.whole in
+    let m : payload_length h ≡ length f.payload = ap payload_length same ∙ sym (good_payload limit f good) in
     absurd (omega arith)
 
 -- what was read is how the text is cut

@@ -6,7 +6,7 @@ use Rattle.ymx_header.specs.declared.fault.Fault.{Fault}
 use Rattle.ymx_header.specs.Headers.{header_of}
 use Rattle.ymx_cutter.specs.declared.item.Item.{Item}
 use Rattle.ymx_cutter.specs.declared.item.Item.TheVariants as item
-use Rattle.ymx_cutter.specs.Frames.{payload_length, fault_of}
+use Rattle.ymx_header.specs.Frames.{payload_length, fault_of}
 use Rattle.ymx_cutter.specs.Cutters.{Seen, seen_after, payload_seen}
 use Rattle.ymx_cutter.specs.Cutters.Seen.{Header_bytes, Payload, Broken}
 use Rattle.ymx_cutter.specs.Calls.{Call}

@@ -5,7 +5,8 @@ use Rattle.ymx_header.specs.declared.fault.Fault.{Fault}
 use Rattle.ymx_header.specs.Headers.{spelling, header_of, IsInRange}
 use Rattle.ymx_cutter.specs.declared.item.Item.{Item}
 use Rattle.ymx_cutter.specs.declared.item.Item.TheVariants as item
-use Rattle.ymx_cutter.specs.Frames.{payload_length, joined, fault_of, IsFrame, IsBytes}
+use Rattle.ymx_header.specs.Frames.{payload_length, fault_of}
+use Rattle.ymx_cutter.specs.Frames.{joined, IsGoodFrame, IsBytes}
 use Rattle.ymx_cutter.specs.Gathered.{Gathered}
 
 -- what has come of the frame begun: the bytes of its header so far; or, of its payload, how many bytes came and how many lack; or the fault of its header
@@ -90,7 +91,7 @@ IsBegun limit g begun (Broken fault) = (length begun ≡ 12) × (fault_of limit 
 -- The text so far is the frames that were gathered, and then what was seen of the next.
 pub record Reads (limit : ℕ) (text : List ℕ) (g : Gathered) (seen : Seen) : Type 0 where
   pub bytes : IsBytes text
-  pub each : All (IsFrame limit) g.frames
+  pub each : All (IsGoodFrame limit) g.frames
   pub begun : List ℕ
   pub whole : text ≡ joined g.frames ++ begun
   pub is_begun : IsBegun limit g begun seen

@@ -4,7 +4,7 @@ use Rattle.ymx_header.specs.declared.header.Header.{Header}
 use Rattle.ymx_header.specs.Headers.{header_of}
 use Rattle.ymx_cutter.specs.declared.item.Item.{Item}
 use Rattle.ymx_cutter.specs.declared.item.Item.TheVariants as item
-use Rattle.ymx_cutter.specs.Frames.{Frame, payload_length}
+use Rattle.ymx_header.specs.Frames.{Frame, payload_length}
 
 -- the frames that are whole, the header that was handed out last, and the payload that has come since
 pub record Gathered : Type 0 where

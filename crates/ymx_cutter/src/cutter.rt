@@ -1,14 +1,14 @@
 //! Cuts a stream of bytes into frames.
 
 ghost use Rattle.std.specs.Prelude.{◌≡◌, ℕ, List, ◌+◌, ◌≤◌, [], ◌++◌, length, take, min};
-ghost use Rattle.ymx_cutter.specs.Frames.{fault_of as first_fault, payload_length};
+ghost use Rattle.ymx_header.specs.Frames.{fault_of as first_fault, payload_length};
 ghost use Rattle.ymx_cutter.specs.Cutters.{item_of, seen_after};
 ghost use Rattle.ymx_cutter.specs.Views.{seen_of, IsWithin};
 
 use crate::header_bytes::HeaderBytes;
 use crate::item::Item;
 use std::marker::Model;
-use ymx_header::{Fault, HEADER_LENGTH, Header, Kind, TYPE_DATA, check};
+use ymx_header::{Fault, HEADER_LENGTH, Header, check};
 
 /// What has come of the frame begun.
 #[derive(Debug, Drop)]
@@ -159,7 +159,7 @@ fn fault_of(limit: u32, header: &Header) -> Option<Fault>
 {
     match check(header) {
         Err(fault) => Some(fault),
-        Ok(Kind::Data) if header.length > limit => Some(Fault::WindowExceeded),
+        Ok(_) if header.payload_len() > limit => Some(Fault::WindowExceeded),
         Ok(_) => None,
     }
 }
@@ -173,13 +173,9 @@ fn after_header(limit: u32, header: Header) -> (Item, Begun)
     if let Some(fault) = fault_of(limit, &header) {
         return (Item::Fault(fault), Begun::Broken(fault));
     }
-    let begun = if header.kind == TYPE_DATA && header.length > 0 {
-        Begun::Payload {
-            came: 0,
-            lacks: header.length,
-        }
-    } else {
-        Begun::Header(HeaderBytes::new())
+    let begun = match header.payload_len() {
+        0 => Begun::Header(HeaderBytes::new()),
+        lacks => Begun::Payload { came: 0, lacks },
     };
     (Item::Head(header), begun)
 }
@@ -189,7 +185,7 @@ mod tests {
     use super::*;
     use std::alloc::AllocError;
     use std::test::Fail;
-    use ymx_header::{FLAG_SYN, TYPE_WINDOW_UPDATE};
+    use ymx_header::{FLAG_SYN, TYPE_DATA, TYPE_WINDOW_UPDATE};
 
     const LIMIT: u32 = 262_144;
 

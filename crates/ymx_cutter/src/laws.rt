@@ -3,7 +3,8 @@
 
 ghost use Rattle.std.specs.Prelude.{◌≡◌, ℕ, List, [], ◌∷◌, ◌++◌, length, Some};
 ghost use Rattle.ymx_header.specs.declared.fault.Fault.{Fault};
-ghost use Rattle.ymx_cutter.specs.Frames.{Frame, joined};
+ghost use Rattle.ymx_header.specs.Frames.{Frame};
+ghost use Rattle.ymx_cutter.specs.Frames.{joined};
 ghost use Rattle.ymx_cutter.specs.Cuts.{Cuts, FaultStands};
 ghost use Rattle.ymx_cutter.specs.Gathered.{Gathered, nothing};
 ghost use Rattle.ymx_cutter.specs.Cutters.{Seen, Reads, IsUnfinished, begun_of};

@@ -12,7 +12,8 @@ use Rattle.ymx_header.specs.declared.fault.Fault.{Fault}
 use Rattle.ymx_header.specs.Faults.{fault_number}
 use Rattle.ymx_cutter.specs.declared.item.Item.{Item}
 use Rattle.ymx_cutter.specs.declared.item.Item.TheVariants as item
-use Rattle.ymx_cutter.specs.Frames.{joined, payload_length, fault_of}
+use Rattle.ymx_header.specs.Frames.{payload_length, fault_of}
+use Rattle.ymx_cutter.specs.Frames.{joined}
 use Rattle.ymx_cutter.specs.Cuts.{Cuts, FaultStands}
 use Rattle.ymx_cutter.specs.Cutters.{Seen, Cut, Reads, begun_of, next_of, item_of, seen_after, payload_seen}
 use Rattle.ymx_cutter.specs.Cutters.Seen.{Header_bytes, Payload, Broken}

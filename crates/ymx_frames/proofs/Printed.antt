@@ -7,22 +7,23 @@ use Rattle.ymx_header.specs.Headers.{spelling, header_of}
 use Rattle.ymx_header.specs.declared.header.Header.{Header}
 use Rattle.ymx_cutter.specs.declared.item.Item.{Item}
 use Rattle.ymx_cutter.specs.declared.item.Item.TheVariants as item
-use Rattle.ymx_cutter.specs.Frames.{Frame, frame_spelling, joined, payload_length, IsFrame}
+use Rattle.ymx_header.specs.Frames.{Frame, frame_spelling, payload_length}
+use Rattle.ymx_cutter.specs.Frames.{joined, IsGoodFrame}
 use Rattle.ymx_cutter.specs.Gathered.{Gathered, nothing, gathers, with_frame}
 use Rattle.ymx_cutter.specs.Cutters.{Seen, Reads, Cutting}
 use Rattle.ymx_cutter.specs.Cutters.Seen.{Header_bytes}
 use Rattle.ymx_cutter.proofs.Runs.{reads_nothing}
-use Rattle.ymx_cutter.proofs.Spelled.{joined-push}
+use Rattle.ymx_cutter.proofs.Spelled.{good_payload, joined-push}
 use Rattle.ymx_frames.specs.declared.printer.Printer.{Printer}
 use Rattle.ymx_frames.specs.Lines.{Preview, line, line_text, lines, preview}
 use Rattle.ymx_frames.specs.Printing.{HasPrinted}
 
 -- one more frame is longer by its header and its payload
-length-joined : (limit : ℕ) (frames : List Frame) (f : Frame) → All (IsFrame limit) (frames ++ f ∷ []) → length (joined (frames ++ f ∷ [])) ≡ length (joined frames) + (12 + payload_length f.header)
+length-joined : (limit : ℕ) (frames : List Frame) (f : Frame) → All (IsGoodFrame limit) (frames ++ f ∷ []) → length (joined (frames ++ f ∷ [])) ≡ length (joined frames) + (12 + payload_length f.header)
 length-joined limit frames f each =
-    let last = (All-pop (IsFrame limit) (frames ++ f ∷ []) frames (Some f) refl each).1 in
+    let last = (All-pop (IsGoodFrame limit) (frames ++ f ∷ []) frames (Some f) refl each).1 in
     ap length (joined-push frames f) ∙ length-append (joined frames) (frame_spelling f)
-    ∙ ap (λ (n : ℕ). length (joined frames) + n) (length-append (spelling f.header) f.payload ∙ ap (λ (n : ℕ). 12 + n) last.whole)
+    ∙ ap (λ (n : ℕ). length (joined frames) + n) (length-append (spelling f.header) f.payload ∙ ap (λ (n : ℕ). 12 + n) (good_payload limit f last))
 
 -- a place moves on, as far as 64 bits go
 place_on : (place before n after most : ℕ) → place ≡ min before most → after ≡ min (place + n) most → after ≡ min (before + n) most
@@ -39,7 +40,7 @@ pub frame_printed : (limit : ℕ) (text output text' output' : List ℕ) (p q : 
 frame_printed limit text output text' output' p q pr g h payload cut e cutter reads limited header shown placed printed =
     let f : Frame = record { header = h; payload = payload } in
     let frames : g.frames ≡ pr.gathered.frames ++ f ∷ [] = ap (λ (x : Gathered). x.frames) e in
-    let each : All (IsFrame limit) (pr.gathered.frames ++ f ∷ []) = subst (All (IsFrame limit)) frames reads.each in
+    let each : All (IsGoodFrame limit) (pr.gathered.frames ++ f ∷ []) = subst (All (IsGoodFrame limit)) frames reads.each in
     let long : length (joined g.frames) ≡ length (joined pr.gathered.frames) + (12 + payload_length h) =
     ap (λ (fs : List Frame). length (joined fs)) frames ∙ length-joined limit pr.gathered.frames f each in
     record {

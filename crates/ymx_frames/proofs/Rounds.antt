@@ -7,7 +7,7 @@ use Rattle.std.proofs.Math.Seq.{take-append_seam}
 use Rattle.std.specs.Io.{StartsWith}
 use Rattle.std.specs.Io.KnownBytes.{Appends, Consumes, Keeps, IsAtEnd}
 use Rattle.std.proofs.KnownBytes.{Appends-nil, Appends-trans, Consumes-nil, Consumes-trans, Consumes-kept}
-use Rattle.ymx_cutter.specs.Frames.{IsFrame}
+use Rattle.ymx_cutter.specs.Frames.{IsGoodFrame}
 use Rattle.ymx_frames.specs.declared.printer.Printer.{Printer}
 use Rattle.ymx_frames.specs.declared.print.FramesEnd.{FramesEnd}
 use Rattle.ymx_frames.specs.declared.print.FramesEnd.TheVariants.{Good, Fault as Faulty, Rest, Reading, Writing, Memory}
@@ -19,7 +19,7 @@ use Rattle.ymx_frames.proofs.Ends.{Leaves, prints_now, front_part, prints_if}
 -- ---- before anything is read
 
 pub nothing_printed_of_nothing : (limit : ℕ) → PrintsPart limit [] []
-nothing_printed_of_nothing limit = ([], inl (record { frames = []; rest = []; whole = refl; each = All-nil (IsFrame limit); printed = refl }), refl)
+nothing_printed_of_nothing limit = ([], inl (record { frames = []; rest = []; whole = refl; each = All-nil (IsGoodFrame limit); printed = refl }), refl)
 
 -- ---- a beginning of what would be printed
 

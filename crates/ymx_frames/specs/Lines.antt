@@ -6,7 +6,7 @@ use Rattle.std.specs.Int.{bytes_high_first}
 use Rattle.ymx_header.specs.declared.header.Header.{Header}
 use Rattle.ymx_header.specs.declared.fault.Fault.{Fault}
 use Rattle.ymx_header.specs.Faults.{fault_number}
-use Rattle.ymx_cutter.specs.Frames.{Frame}
+use Rattle.ymx_header.specs.Frames.{Frame}
 
 -- the word for a type of frame
 abbrev pub kind_word : ℕ → List ℕ

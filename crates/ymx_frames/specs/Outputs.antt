@@ -2,7 +2,8 @@
 use Rattle.std.specs.Prelude.{◌≡◌, ℕ, ◌<◌, List, [], ◌++◌, length, All, ◌⊎◌, ⊤}
 use Rattle.std.specs.Io.{StartsWith}
 use Rattle.ymx_header.specs.declared.fault.Fault.{Fault}
-use Rattle.ymx_cutter.specs.Frames.{Frame, joined, IsFrame}
+use Rattle.ymx_header.specs.Frames.{Frame}
+use Rattle.ymx_cutter.specs.Frames.{joined, IsGoodFrame}
 use Rattle.ymx_cutter.specs.Cuts.{Cuts, FaultStands}
 use Rattle.ymx_frames.specs.declared.print.FramesEnd.{FramesEnd}
 use Rattle.ymx_frames.specs.declared.print.FramesEnd.TheVariants.{Good, Fault as Faulty, Rest, Reading, Writing, Memory}
@@ -28,7 +29,7 @@ pub record PrintsFront (limit : ℕ) (text output : List ℕ) : Type 0 where
   pub frames : List Frame
   pub rest : List ℕ
   pub whole : text ≡ joined frames ++ rest
-  pub each : All (IsFrame limit) frames
+  pub each : All (IsGoodFrame limit) frames
   pub printed : output ≡ lines frames
 
 -- A beginning of the lines of frames at the front of the text is printed, or of these and of the line of a fault that stands in it.

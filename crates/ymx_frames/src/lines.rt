@@ -115,7 +115,7 @@ pub fn write_line(text: &mut Vec<u8>, header: &Header, preview: &Preview) -> Res
     ensures err { OnErr result (text.new.items ≡ text.old.items) }
 {
     let start = text.len();
-    let written = write_frame(text, header, preview);
+    let written = append_frame(text, header, preview);
     whole_or_none(text, start, written)
 }
 
@@ -126,7 +126,7 @@ pub fn write_fault(text: &mut Vec<u8>, fault: Fault, offset: u64) -> Result<(), 
     ensures err { OnErr result (text.new.items ≡ text.old.items) }
 {
     let start = text.len();
-    let written = write_place(text, fault, offset);
+    let written = append_fault(text, fault, offset);
     whole_or_none(text, start, written)
 }
 
@@ -136,7 +136,7 @@ pub fn write_rest(text: &mut Vec<u8>, count: usize) -> Result<(), AllocError>
     ensures err { OnErr result (text.new.items ≡ text.old.items) }
 {
     let start = text.len();
-    let written = write_count(text, count);
+    let written = append_rest(text, count);
     whole_or_none(text, start, written)
 }
 
@@ -156,7 +156,8 @@ fn whole_or_none(
     written
 }
 
-fn write_frame(text: &mut Vec<u8>, header: &Header, preview: &Preview) -> Result<(), AllocError>
+/// Appends the line of a frame, or where there is no memory a beginning of it.
+fn append_frame(text: &mut Vec<u8>, header: &Header, preview: &Preview) -> Result<(), AllocError>
     ensures ok { OnOk result (text.new.items ≡ text.old.items ++ line_text header.now preview.now) }
     ensures kept { StartsWith text.new.items text.old.items }
 {
@@ -165,7 +166,8 @@ fn write_frame(text: &mut Vec<u8>, header: &Header, preview: &Preview) -> Result
     text.extend_from_slice(b"\n")
 }
 
-fn write_place(text: &mut Vec<u8>, fault: Fault, offset: u64) -> Result<(), AllocError>
+/// Appends the line of a fault, or where there is no memory a beginning of it.
+fn append_fault(text: &mut Vec<u8>, fault: Fault, offset: u64) -> Result<(), AllocError>
     ensures ok { OnOk result (text.new.items ≡ text.old.items ++ fault_line fault offset) }
     ensures kept { StartsWith text.new.items text.old.items }
 {
@@ -174,7 +176,8 @@ fn write_place(text: &mut Vec<u8>, fault: Fault, offset: u64) -> Result<(), Allo
     text.extend_from_slice(b"\n")
 }
 
-fn write_count(text: &mut Vec<u8>, count: usize) -> Result<(), AllocError>
+/// Appends the line of a rest, or where there is no memory a beginning of it.
+fn append_rest(text: &mut Vec<u8>, count: usize) -> Result<(), AllocError>
     ensures ok { OnOk result (text.new.items ≡ text.old.items ++ rest_line count) }
     ensures kept { StartsWith text.new.items text.old.items }
 {

@@ -3,7 +3,7 @@
 ghost use Rattle.std.specs.Prelude.{ℕ, List, ◌≡◌, ◌+◌, ◌<◌, ◌≤◌, ◌++◌, [], length, take, Some, IfOk, OnOk, OnErr, IsSomeAnd, IfSome, IfNone, MatchOption, min, ◌^◌, ◌-◌};
 ghost use Rattle.ymx_header.specs.declared.fault.Fault.{Fault as FaultValue};
 ghost use Rattle.ymx_cutter.specs.Cutters.Seen.{Broken};
-ghost use Rattle.ymx_cutter.specs.Frames.{payload_length as length_of_payload};
+ghost use Rattle.ymx_header.specs.Frames.{payload_length};
 ghost use Rattle.ymx_frames.specs.Lines.{line_text, preview};
 ghost use Rattle.ymx_frames.specs.Outputs.{IsOwnEnd, Prints, PrintsFault, PrintsFront};
 ghost use Rattle.ymx_frames.specs.Printing.{HasPrinted, IsPrinting, NoFault};
@@ -12,7 +12,7 @@ use crate::lines::{Preview, write_fault, write_line, write_rest};
 use crate::print::FramesEnd;
 use std::alloc::{AllocError, Global};
 use ymx_cutter::{Cutter, Item};
-use ymx_header::{Fault, HEADER_LENGTH, Header, TYPE_DATA, decode};
+use ymx_header::{Fault, HEADER_LENGTH, Header, decode};
 
 /// Prints the frames of a text that comes in pieces. Of the frame begun it keeps the header and at
 /// most sixteen bytes of payload.
@@ -126,7 +126,7 @@ impl Printer {
             Some(Item::Head(header)) => {
                 self.header = header;
                 self.preview = Preview::new();
-                if payload_length(&header) == 0 {
+                if header.payload_len() == 0 {
                     self.print_frame()?;
                 }
             }
@@ -143,26 +143,15 @@ impl Printer {
     /// The frame begun is whole: prints its line.
     fn print_frame(&mut self) -> Result<(), AllocError>
         ensures printed { OnOk result (self.new.lines.items ≡ self.old.lines.items ++ line_text self.old.header self.old.preview) }
-        ensures placed { OnOk result (self.new.offset ≡ min (self.old.offset + (12 + length_of_payload self.old.header)) (2 ^ 64 - 1)) }
+        ensures placed { OnOk result (self.new.offset ≡ min (self.old.offset + (12 + payload_length self.old.header)) (2 ^ 64 - 1)) }
         ensures fresh { OnOk result (self.new.preview ≡ preview []) }
         ensures kept { (self.new.cutter ≡ self.old.cutter) × (self.new.header ≡ self.old.header) }
         ensures err { OnErr result (self.new.lines.items ≡ self.old.lines.items) }
     {
         write_line(&mut self.lines, &self.header, &self.preview)?;
-        let length = HEADER_LENGTH as u64 + u64::from(payload_length(&self.header));
+        let length = HEADER_LENGTH as u64 + u64::from(self.header.payload_len());
         self.offset = self.offset.saturating_add(length);
         self.preview = Preview::new();
         Ok(())
-    }
-}
-
-/// How many bytes of payload follow a header.
-fn payload_length(header: &Header) -> u32
-    ensures { result ≡ length_of_payload header.now }
-{
-    if header.kind == TYPE_DATA {
-        header.length
-    } else {
-        0
     }
 }

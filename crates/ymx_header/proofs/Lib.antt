@@ -1,2 +1,3 @@
 pub mod Spellings
 pub mod Flags
+pub mod Frames

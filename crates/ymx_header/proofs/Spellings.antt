@@ -1,9 +1,12 @@
 -- A header and its twelve bytes are each other's only reading.
-use Rattle.std.proofs.Common.{◌≡◌, ℕ, zero, suc, ◌+◌, ◌*◌, ◌^◌, ◌<◌, List, [], ◌∷◌, ◌++◌, length, drop, get_or, arith, sym, ◌∙◌, ap, drop-cons}
+use Rattle.std.proofs.Common.{◌≡◌, ℕ, zero, suc, ◌+◌, ◌*◌, ◌^◌, ◌<◌, List, [], ◌∷◌, ◌++◌, length, drop, get_or, arith, refl, sym, ◌∙◌, ap, drop-cons}
 use Rattle.std.proofs.lemmas.Grind.{common_steps}
 use Rattle.byteorder.specs.Endian.{big_bytes}
 use Rattle.ymx_header.specs.Headers.{spelling, header_of, IsInRange}
 use Rattle.ymx_header.specs.declared.header.Header.{Header}
+
+pub length-spelling : (h : Header) → length (spelling h) ≡ 12
+length-spelling h = refl
 
 pub header_of-spelling : (h : Header) → IsInRange h → header_of (spelling h) ≡ h
 header_of-spelling h r = grind (arith, common_steps)

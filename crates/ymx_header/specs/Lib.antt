@@ -1,2 +1,3 @@
 pub mod Headers
 pub mod Faults
+pub mod Frames

@@ -1,43 +1,16 @@
 //! The five fields of a header and their twelve bytes.
 
-ghost use Rattle.std.specs.Prelude.{◌≡◌, ◌↔◌, ◌<◌, ◌≢◌, ℕ, List, length, slice_index, Err, Ok, IsOk, ◌≤◌};
+ghost use Rattle.std.specs.Prelude.{◌≡◌, ◌↔◌, ◌<◌, ◌≢◌, ℕ, List, length, slice_index, Err, Ok, IsOk, ◌≤◌, ◌++◌, drop};
 ghost use Rattle.ymx_header.specs.Headers.{spelling, header_of, IsInRange};
 ghost use Rattle.ymx_header.specs.Faults.{check_of};
 ghost use Rattle.ymx_header.specs.declared.header.Header.{Header};
 
 use crate::fault::Fault;
+use crate::wire::{
+    FLAG_ACK, FLAG_FIN, FLAG_RST, FLAG_SYN, HEADER_LENGTH, TYPE_DATA, TYPE_GO_AWAY, TYPE_PING,
+    TYPE_WINDOW_UPDATE, VERSION,
+};
 use byteorder::{BigEndian, ByteOrder};
-
-/// The version of the protocol: 0, the only one.
-pub const VERSION: u8 = 0;
-
-/// Bytes of a header.
-pub const HEADER_LENGTH: usize = 12;
-
-/// Data: `length` bytes of payload follow the header.
-pub const TYPE_DATA: u8 = 0;
-/// Window Update: `length` is a number of bytes by which the receiver may write more.
-pub const TYPE_WINDOW_UPDATE: u8 = 1;
-/// Ping: `length` is an opaque value, which the answer repeats.
-pub const TYPE_PING: u8 = 2;
-/// Go Away: `length` is the code that says why.
-pub const TYPE_GO_AWAY: u8 = 3;
-
-/// SYN: the frame opens its stream; on a Ping: an answer is asked.
-pub const FLAG_SYN: u16 = 1;
-/// ACK: the frame accepts its stream; on a Ping: this is the answer.
-pub const FLAG_ACK: u16 = 2;
-/// FIN: the sender writes no more on this stream (half-close).
-pub const FLAG_FIN: u16 = 4;
-/// RST: the stream is over in both directions, or was refused.
-pub const FLAG_RST: u16 = 8;
-
-/// Go Away with no error: the sender takes no new streams.
-pub const GO_AWAY_NORMAL: u32 = 0;
-/// Go Away after a fault of the receiver of this frame.
-pub const GO_AWAY_PROTOCOL_ERROR: u32 = 1;
-/// Go Away after a fault of the sender's own.
-pub const GO_AWAY_INTERNAL_ERROR: u32 = 2;
 
 /// The header of a frame, as it stands in the first twelve bytes (framing).
 #[derive(Clone, Copy, Debug, PartialEq, Eq)]
@@ -56,6 +29,7 @@ pub struct Header {
 
 impl Header {
     ghost use Rattle.ymx_header.specs.Headers.{has_syn, has_ack, has_fin, has_rst};
+    ghost use Rattle.ymx_header.specs.Frames.{payload_length};
 
     /// Whether the frame opens its stream, or asks for an answer (flags).
     pub fn has_syn(&self) -> bool
@@ -84,6 +58,18 @@ impl Header {
     {
         self.flags & FLAG_RST != 0
     }
+
+    /// How many bytes of payload follow the header: as many as its length says if its type is Data,
+    /// and else none (framing).
+    pub fn payload_len(&self) -> u32
+        ensures { result ≡ payload_length self.now }
+    {
+        if self.kind == TYPE_DATA {
+            self.length
+        } else {
+            0
+        }
+    }
 }
 
 /// The type of a frame (framing).
@@ -111,6 +97,14 @@ pub fn encode(header: &Header) -> [u8; 12]
     BigEndian::write_u32(&mut bytes[4..8], header.id);
     BigEndian::write_u32(&mut bytes[8..12], header.length);
     bytes
+}
+
+/// Writes the twelve bytes of a header at the front of a buffer, whose other bytes stay (framing).
+pub fn write_header(header: &Header, buffer: &mut [u8])
+    requires { 12 ≤ length buffer.old }
+    ensures { buffer.new ≡ spelling header.now ++ drop 12 buffer.old }
+{
+    buffer[..HEADER_LENGTH].copy_from_slice(&encode(header));
 }
 
 /// The header that twelve bytes spell (framing). Every twelve bytes spell one, and only one.
@@ -186,6 +180,22 @@ mod tests {
         assert_eq!(rt; decode(&ping), header);
         assert_eq!(rt; encode(&header), ping);
         assert_eq!(rt; ping.len(), HEADER_LENGTH);
+    }
+
+    #[test]
+    fn writes_a_header_at_the_front(rt: HostRuntime) {
+        let mut buffer = [9; 14];
+        write_header(&decode(&OPEN), &mut buffer);
+        assert_eq!(rt; buffer, [0, 1, 0, 1, 0, 0, 0, 1, 0, 0, 0, 0, 9, 9]);
+    }
+
+    #[test]
+    fn counts_the_payload_of_data_alone(rt: HostRuntime) {
+        // the length is the lowest of the last four bytes
+        for (kind, want) in [(0, 5), (1, 0), (2, 0), (3, 0)] {
+            let header = decode(&[0, kind, 0, 0, 0, 0, 0, 1, 0, 0, 0, 5]);
+            assert_eq!(rt; header.payload_len(), want, "type {kind}");
+        }
     }
 
     #[test]

@@ -2,8 +2,9 @@
 use Rattle.std.specs.Prelude.{ℕ, ◌+◌, ◌-◌, List, [], ◌∷◌, ◌++◌, length, Bool, true, false, not, ◌&&◌, ◌||◌, ◌==◌, nat_lt, nat_le, if◌then◌else◌, Option, None, Some, is_some, is_none}
 use Rattle.ymx_header.specs.declared.header.Header.{Header}
 use Rattle.ymx_header.specs.declared.fault.Fault.{Fault}
-use Rattle.ymx_header.specs.declared.fault.Fault.TheVariants.{BadVersion, UnknownType, BadSyn, StreamInUse, WindowExceeded, CreditOverflow, BadGoAwayCode, PeerSawProtocolError, PeerSawInternalError}
+use Rattle.ymx_header.specs.declared.fault.Fault.TheVariants.{BadSyn, StreamInUse, WindowExceeded, CreditOverflow, BadGoAwayCode, PeerSawProtocolError, PeerSawInternalError}
 use Rattle.ymx_header.specs.Headers.{has_syn, has_ack, has_fin, has_rst}
+use Rattle.ymx_header.specs.Frames.{payload_length, fault_of}
 use Rattle.ymx_model.specs.declared.types.Response.{Response}
 use Rattle.ymx_model.specs.declared.types.Response.TheVariants.{Pong, Reject}
 use Rattle.ymx_model.specs.Streams.{is_offered, takes}
@@ -39,7 +40,7 @@ is_data h = h.kind == 0
 
 -- the payload that follows, in bytes
 abbrev pub payload : Header → ℕ
-payload h = if is_data h then h.length else 0
+payload h = payload_length h
 
 -- the credit that comes, in bytes
 abbrev pub delta : Header → ℕ
@@ -121,11 +122,7 @@ syn_comes lacks h s =
 
 -- the fault of a header by itself, under the session's frame limit
 abbrev pub header_fault : Header → Session → Option Fault
-header_fault h s =
-    if not (h.version == 0) then Some BadVersion
-    else if nat_lt 3 h.kind then Some UnknownType
-    else if nat_lt s.table.window (payload h) then Some WindowExceeded
-    else None
+header_fault h s = fault_of s.table.window h
 
 -- The head of a frame. All its faults are judged before anything is changed.
 abbrev pub head_comes : (lacks : Bool) → Header → Session → Session

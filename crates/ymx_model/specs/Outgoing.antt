@@ -1,6 +1,6 @@
 -- What is due of one stream, and how its frames are spelled (framing, flags, flow control).
-use Rattle.std.specs.Prelude.{ℕ, ◌-◌, ◌*◌, List, [], ◌∷◌, ◌++◌, length, take, Bool, true, false, not, ◌&&◌, ◌||◌, nat_le, if◌then◌else◌, Option, None, Some}
-use Rattle.ymx_header.specs.Headers.{spelling}
+use Rattle.std.specs.Prelude.{ℕ, ◌-◌, ◌*◌, List, [], ◌∷◌, length, take, Bool, true, false, not, ◌&&◌, ◌||◌, nat_le, if◌then◌else◌, Option, None, Some}
+use Rattle.ymx_header.specs.Frames.{frame_spelling}
 use Rattle.ymx_model.specs.Lanes.{first_credit}
 use Rattle.ymx_model.specs.Streams.{is_live}
 use Rattle.ymx_model.specs.Records.{End, sent, fin_goes, announce}
@@ -56,7 +56,7 @@ sends window limit Fin e = record e { out = fin_goes e.out }
 -- a frame is its header and its payload: type, flags, id, length, payload
 abbrev pub frame : ℕ → ℕ → ℕ → ℕ → List ℕ → List ℕ
 frame kind flags id length payload =
-    spelling (record { version = 0; kind = kind; flags = flags; id = id; length = length }) ++ payload
+    frame_spelling (record { header = record { version = 0; kind = kind; flags = flags; id = id; length = length }; payload = payload })
 
 -- the one spelling of each frame of the stream `id`
 abbrev pub spelled : Kind → ℕ → ℕ → ℕ → End → List ℕ

@@ -1,7 +1,7 @@
 -- Two sessions joined by pipes (this project's own).
-use Rattle.std.specs.Prelude.{◌≡◌, ◌≤◌, ℕ, ◌+◌, List, [], ◌∷◌, ◌++◌, length, take, drop, Bool, true, false, not, ◌&&◌, if◌then◌else◌, sum_by, count_by, All}
+use Rattle.std.specs.Prelude.{◌≡◌, ℕ, ◌+◌, List, [], ◌∷◌, ◌++◌, length, take, drop, Bool, true, false, not, ◌&&◌, if◌then◌else◌, sum_by, count_by, All}
 use Rattle.std.specs.List.{concat}
-use Rattle.ymx_header.specs.Headers.{header_of}
+use Rattle.ymx_header.specs.Frames.{IsFrame}
 use Rattle.ymx_model.specs.declared.types.Side.TheVariants.{A, B}
 use Rattle.ymx_model.specs.declared.types.Direction.TheVariants.{AB, BA}
 use Rattle.ymx_model.specs.declared.types.Step.{Step}
@@ -20,7 +20,6 @@ use Rattle.ymx_model.specs.Pings.{is_asked}
 use Rattle.ymx_model.specs.GoAway.{away_due}
 use Rattle.ymx_model.specs.Sessions.{Session, Incoming, new_session, is_running}
 use Rattle.ymx_model.specs.Sessions.Incoming.{Head, Payload}
-use Rattle.ymx_model.specs.Arrivals.{payload}
 use Rattle.ymx_model.specs.Calls.{feed_end}
 use Rattle.ymx_model.specs.Emissions.{Choice, is_ready}
 use Rattle.ymx_model.specs.Histories.{Gives}
@@ -177,14 +176,9 @@ abbrev pub lacking : Incoming → ℕ
 lacking (Head bytes) = 0
 lacking (Payload id lacks fin stray) = lacks
 
--- These bytes are one frame: the twelve of a header, of this version and of one of the four types, and
--- as many more as it says, at most 262,144, which any session takes (framing).
-pub record IsOneFrame (bytes : List ℕ) : Type 0 where
-  pub header : 12 ≤ length bytes
-  pub whole : length bytes ≡ 12 + payload (header_of bytes)
-  pub version : (header_of bytes).version ≡ 0
-  pub kind : (header_of bytes).kind ≤ 3
-  pub short : payload (header_of bytes) ≤ first_credit
+-- These bytes are one frame, which any session takes: at most 262,144 bytes of payload (framing).
+abbrev pub IsOneFrame : List ℕ → Type 0
+IsOneFrame bytes = IsFrame first_credit bytes
 
 -- What the receiver holds of a frame, the pipe, and the rest of the sender's frame begun, in this
 -- order, are the bytes of these frames under way, each of them whole, behind the rest of a payload where

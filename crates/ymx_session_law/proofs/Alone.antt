@@ -1,10 +1,11 @@
 -- What calls and frames leave alone besides other records.
-use Rattle.std.proofs.Common.{◌≡◌, ℕ, ◌<◌, ◌≤◌, List, [], ◌∷◌, ◌++◌, take, Bool, true, false, not, ◌||◌, ◌==◌, nat_lt, if◌then◌else◌, Option, None, Some, refl, arith}
+use Rattle.std.proofs.Common.{◌≡◌, ℕ, ◌<◌, ◌≤◌, List, [], ◌∷◌, ◌++◌, take, Bool, true, false, ◌||◌, ◌==◌, nat_lt, Option, None, Some, refl, arith}
 use Rattle.std.proofs.lemmas.Bool.Decides.{nat_tests}
 use Rattle.ymx_header.specs.declared.header.Header.{Header}
 use Rattle.ymx_header.specs.declared.fault.Fault.{Fault}
 use Rattle.ymx_header.specs.declared.fault.Fault.TheVariants.{BadGoAwayCode, PeerSawProtocolError, PeerSawInternalError}
 use Rattle.ymx_header.specs.Headers.{has_syn, has_rst, has_fin}
+use Rattle.ymx_header.proofs.Frames.{good}
 use Rattle.ymx_model.specs.declared.types.Response.TheVariants.{Pong, Reject}
 use Rattle.ymx_model.specs.declared.types.Reply.{Reply}
 use Rattle.ymx_model.specs.declared.types.Call.TheVariants as call
@@ -134,14 +135,8 @@ stream_frame lacks h s l =
 all-broken : (f : Fault) (s : Session) → KeepsStreams s (breaks f s)
 all-broken f s = record { role = refl; table = refl; next = refl; offered = refl; begun = refl; incoming = refl }
 
-kind_past : (h : Header) → 2 ≤ h.kind → (h.kind == 2) ≡ false → (h.kind == 3) ≡ false → nat_lt 3 h.kind ≡ true
+kind_past : (h : Header) → 2 ≤ h.kind → (h.kind == 2) ≡ false → (h.kind == 3) ≡ false → 3 < h.kind
 kind_past h l a b = grind (arith, nat_tests)
-
--- a header without a fault has one of four types
-good_kind : (v past : Bool) (f g : Fault) (o : Option Fault) → (if v then Some f else if past then Some g else o) ≡ None → past ≡ false
-good_kind true past f g o e = cc
-good_kind false true f g o e = cc
-good_kind false false f g o e = refl
 
 pub session_frame : (lacks : Bool) (h : Header) (s : Session) → 2 ≤ h.kind → KeepsStreams s (head_comes lacks h s)
 session_frame lacks h s l =
@@ -154,4 +149,4 @@ session_frame lacks h s l =
     split P (h.kind == 3) (go_away_comes h s) _
     (λ t. split P (nat_lt 2 h.length) _ _ (λ e. all-broken BadGoAwayCode s) (λ e. split P (h.length == 1) _ _ (λ e. all-broken PeerSawProtocolError s) (λ e.
     split P (h.length == 2) _ _ (λ e. all-broken PeerSawInternalError s) (λ e. record { role = refl; table = refl; next = refl; offered = refl; begun = refl; incoming = refl })))) (λ b.
-    let past = kind_past h l a b in let few = good_kind (not (h.version == 0)) (nat_lt 3 h.kind) _ _ _ none in absurd cc)))
+    let past = kind_past h l a b in let one_of_four = (good s.table.window h none).kind in absurd (omega arith))))

@@ -24,7 +24,7 @@ use Rattle.ymx_session_law.proofs.Splits.{split, agrees}
 use Rattle.ymx_session_law.proofs.Frames.{Awaits, head-awaits}
 use Rattle.ymx_session_law.proofs.FramesKeep.{unless_fault-keeps}
 use Rattle.ymx_session_law.proofs.FeedsKeep.{header_few, payload_some, byte-keeps}
-use Rattle.ymx_world_law.proofs.Frames.{header_of-append}
+use Rattle.ymx_header.proofs.Frames.{header_of-append}
 use Rattle.ymx_world_law.proofs.Emitted.{settled-begun}
 
 -- ---- what comes leaves the frame begun, and a session that runs after it ran before it

@@ -1,12 +1,9 @@
--- One frame by itself: its length, and how it is found at the front of a text.
-use Rattle.std.proofs.Common.{◌≡◌, ℕ, ◌^◌, ◌<◌, ◌≤◌, List, [], ◌++◌, length, refl, arith, not, nat_lt, ◌==◌, if◌then◌else◌, Option, None, Some}
+-- One frame by itself: its length, and that its header has no fault.
+use Rattle.std.proofs.Common.{◌≡◌, ℕ, ◌^◌, ◌<◌, ◌≤◌, List, [], length, refl, arith, None}
 use Rattle.std.proofs.lemmas.Grind.{common_steps}
 use Rattle.std.proofs.lemmas.Bool.Decides.{nat_tests}
-use Rattle.std.proofs.lemmas.List.{get_or_append_left}
-use Rattle.ymx_header.specs.declared.header.Header.{Header}
-use Rattle.ymx_header.specs.declared.fault.Fault.{Fault}
-use Rattle.ymx_header.specs.declared.fault.Fault.TheVariants.{BadVersion, UnknownType, WindowExceeded}
-use Rattle.ymx_header.specs.Headers.{header_of, spelling}
+use Rattle.ymx_header.specs.Headers.{header_of}
+use Rattle.ymx_header.proofs.Frames.{wider, no-fault as no-fault-under}
 use Rattle.ymx_model.specs.Lanes.{first_credit}
 use Rattle.ymx_model.specs.Outgoing.{frame}
 use Rattle.ymx_model.specs.Arrivals.{payload, header_fault}
@@ -15,9 +12,6 @@ use Rattle.ymx_model.specs.Worlds.{IsOneFrame}
 use Rattle.ymx_session_law.specs.Limits.{IsWithin}
 
 -- ---- spellings
-
-spelling-length : (h : Header) → length (spelling h) ≡ 12
-spelling-length h = refl
 
 -- a frame of Data has as many bytes of payload as its header says
 data-payload : (flags id : ℕ) (body : List ℕ) → length body < 2 ^ 32 → payload (header_of (frame 0 flags id (length body) body)) ≡ length body
@@ -37,22 +31,8 @@ short-frame kind flags id len some known =
     let p = no-payload kind flags id len some in
     record { header = omega arith; whole = omega (arith, p); version = refl; kind = known; short = omega (arith, p) }
 
--- ---- the front of a text
-
--- the header of a text is that of its first twelve bytes
-pub header_of-append : (a b : List ℕ) → 12 ≤ length a → header_of (a ++ b) ≡ header_of a
-header_of-append a b l = grind (arith, common_steps, get_or_append_left a b 0)
-
 -- ---- its header
-
--- a header without a fault
-good_header : (version kind load window : ℕ) (f g h : Option Fault) → version ≡ 0 → kind ≤ 3 → load ≤ window →
-    (if not (version == 0) then f else if nat_lt 3 kind then g else if nat_lt window load then h else None) ≡ None
-good_header version kind load window f g h v k l = grind (arith, nat_tests)
 
 -- no session within its limits finds a fault in it
 pub no-fault : (bytes : List ℕ) (s : Session) → IsOneFrame bytes → IsWithin s → header_fault (header_of bytes) s ≡ None
-no-fault bytes s f w =
-    let h = header_of bytes in
-    let few : payload h ≤ s.table.window = omega (arith, f.short, w.table.narrowest) in
-    good_header h.version h.kind (payload h) s.table.window (Some BadVersion) (Some UnknownType) (Some WindowExceeded) f.version f.kind few
+no-fault bytes s f w = no-fault-under s.table.window bytes (wider first_credit s.table.window bytes (omega (arith, w.table.narrowest)) f)

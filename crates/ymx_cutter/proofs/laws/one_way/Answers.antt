@@ -1,5 +1,6 @@
 use Rattle.std.proofs.Common.{ap, sym, ◌∙◌, List, length}
-use Rattle.ymx_cutter.specs.Frames.{Frame, joined}
+use Rattle.ymx_header.specs.Frames.{Frame}
+use Rattle.ymx_cutter.specs.Frames.{joined}
 use Rattle.ymx_cutter.proofs.Only.{one_cut, one_fault, Cuts-fault}
 use Rattle.ymx_cutter.proofs.laws.one_way.Goals as goal
 

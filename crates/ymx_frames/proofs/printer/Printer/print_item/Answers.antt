@@ -12,18 +12,18 @@ returns-in_ok-print_frame-in-Some-Head-clause-printing c = λ limit text done pr
     let kept = c.in_ok-print_frame-in-Some-Head.ensures in
     let is_head : c.next-taken.result.1 ≡ Some (item.Head c.in-Some-Head.header) = c.in-Some-Head.is ∙ ap Some (rw c.in-Some-Head.is at c.in-Some-Head.field-0-is) in
     frame_printed limit text _ _ _ c.args.self.now c.print_frame.new.self pr _ c.in-Some-Head.header [] _
-    (gathers-whole pr.gathered _ _ _ is_head (sym c.payload_length.ensures ∙ c.if-payload_length-eq0.true))
+    (gathers-whole pr.gathered _ _ _ is_head (sym c.payload_len.ensures ∙ c.if-payload_len-eq0.true))
     kept.kept.0
     (reads_on limit _ text _ _ _ _ _ pr.limited (c.next-taken.ensures.reads text pr.gathered) pr.reads)
     (c.next-taken.ensures.limit ∙ pr.limited)
     kept.kept.1 kept.fresh kept.placed
     (line_after done _ _ c.in-Some-Head.header _ [] kept.printed c.new-self.ensures)
 
-pub returns-else-payload_length-eq0-clause-printing :
-    goal.returns-else-payload_length-eq0-clause-printing
-returns-else-payload_length-eq0-clause-printing c = λ limit text done pr.
+pub returns-else-payload_len-eq0-clause-printing :
+    goal.returns-else-payload_len-eq0-clause-printing
+returns-else-payload_len-eq0-clause-printing c = λ limit text done pr.
     let is_head : c.next-taken.result.1 ≡ Some (item.Head c.in-Some-Head.header) = c.in-Some-Head.is ∙ ap Some (rw c.in-Some-Head.is at c.in-Some-Head.field-0-is) in
-    let g_is = gathers-head pr.gathered (take c.next-taken.result.0 c.args.input.now) _ _ is_head (λ e. c.if-payload_length-eq0.false (c.payload_length.ensures ∙ e)) in
+    let g_is = gathers-head pr.gathered (take c.next-taken.result.0 c.args.input.now) _ _ is_head (λ e. c.if-payload_len-eq0.false (c.payload_len.ensures ∙ e)) in
     frame_begun limit text _ _ c.args.self.now _ pr _
     (ap (λ (x : Gathered). x.frames) g_is)
     (reads_on limit _ text _ _ _ _ _ pr.limited (c.next-taken.ensures.reads text pr.gathered) pr.reads)
