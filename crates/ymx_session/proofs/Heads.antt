@@ -1,5 +1,5 @@
 -- What the head of a frame is to a session in which its payload is awaited already.
-use Rattle.std.proofs.Common.{◌≡◌, ℕ, ◌+◌, ◌≤◌, ◌==◌, nat_lt, List, [], ◌∷◌, ◌++◌, length, Bool, true, false, not, ◌&&◌, ◌||◌, if◌then◌else◌, Option, None, Some, refl, sym, ap, ◌∙◌, subst, arith}
+use Rattle.std.proofs.Common.{◌≡◌, ℕ, ◌+◌, ◌≤◌, ◌==◌, List, [], ◌∷◌, ◌++◌, Bool, true, false, ◌&&◌, if◌then◌else◌, Option, None, Some, refl, sym, ap, ◌∙◌, subst, arith}
 use Rattle.std.specs.Prelude.{IsSome, IfSome, option_map}
 use Rattle.std.proofs.Common.{rules}
 use Rattle.ymx_session_law.proofs.Splits.{split}
@@ -8,7 +8,7 @@ use Rattle.ymx_header.specs.declared.header.Header.{Header}
 use Rattle.ymx_header.specs.Headers.{has_ack, has_fin, has_rst}
 use Rattle.ymx_model.specs.Streams.{is_offered, takes}
 use Rattle.ymx_model.specs.Records.{End, gets_ack, gets_rst, gets_head as head_of}
-use Rattle.ymx_model.specs.Tables.{Table, look, change, without, place, on, added, removed}
+use Rattle.ymx_model.specs.Tables.{Table, look, change, without, on, added, removed}
 use Rattle.ymx_model.specs.Sessions.{Session, Incoming, is_own, on_stream, drop_id, settled, is_spent}
 use Rattle.ymx_model.specs.Sessions.Incoming.{Head, Payload}
 use Rattle.ymx_model.specs.Arrivals.{expects, payload, delta, ends_now, acknowledges, gets_head, reset_comes, meets, offer, syn_comes, syn_fault, refuses}
@@ -162,7 +162,7 @@ offers h v s e table list now w rst a good f t l n =
     let t_is : table ≡ on h.id (gets_head false h) (added h.id (offer s) s.table) = t ∙ rw (i, on-added) (ap (λ (x : Session). added h.id (gets_head false h (offer s)) x.table) w) in
     let k = expects-kept h (record s { table = table; offered = s.offered ++ h.id ∷ [] }) s.incoming a in
     let m : record v { table = table; offered = list; incoming = now } ≡ record s { table = table; offered = s.offered ++ h.id ∷ []; incoming = kept s.incoming } =
-        rw (l, n) (ap (λ (x : Session). record x { table = table; offered = x.offered ++ h.id ∷ []; incoming = kept x.incoming }) w) in
+    rw (l, n) (ap (λ (x : Session). record x { table = table; offered = x.offered ++ h.id ∷ []; incoming = kept x.incoming }) w) in
     m ∙ (sym k ∙ rw (rst, own, t_is) refl)
 
 -- one that its first frame resets leaves no trace

@@ -1,14 +1,13 @@
 -- What calls on the records of a table are to a session.
-use Rattle.std.proofs.Common.{◌≡◌, ℕ, ◌+◌, ◌<◌, ◌≤◌, ◌==◌, min, List, [], ◌∷◌, ◌++◌, length, take, drop, Bool, true, false, Option, None, Some, refl, sym, ap, ◌∙◌, subst, arith}
+use Rattle.std.proofs.Common.{◌≡◌, ℕ, ◌+◌, ◌<◌, ◌==◌, min, List, [], ◌∷◌, ◌++◌, length, take, drop, Bool, true, false, None, Some, refl, sym, ap, ◌∙◌, arith}
 use Rattle.std.proofs.lemmas.Grind.{common_steps}
 use Rattle.std.proofs.lemmas.Bool.Decides.{nat_tests}
-use Rattle.std.proofs.lemmas.List.{take_at}
 use Rattle.ymx_model.specs.declared.types.Reply.TheVariants.{Read}
 use Rattle.ymx_model.specs.declared.types.CallFault.TheVariants.{Closed}
 use Rattle.ymx_model.specs.Lanes.{first_credit}
 use Rattle.ymx_model.specs.Streams.{Phase, is_live, is_reset}
-use Rattle.ymx_model.specs.Streams.Phase.{Unborn, Offered, Live, WasReset, Refused, Lingering, Gone}
-use Rattle.ymx_model.specs.StreamRules.{read_reply, moved}
+use Rattle.ymx_model.specs.Streams.Phase.{Live}
+use Rattle.ymx_model.specs.StreamRules.{read_reply}
 use Rattle.ymx_model.specs.Records.{End, new_end, end_write, end_read}
 use Rattle.ymx_model.specs.Tables.{Table, look, change, added, on}
 use Rattle.ymx_model.specs.Sessions.{Session, is_closed, is_lost, on_stream}

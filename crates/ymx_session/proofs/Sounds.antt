@@ -1,5 +1,5 @@
 -- Every event keeps what holds of every session.
-use Rattle.std.proofs.Common.{◌≡◌, ℕ, ◌+◌, ◌<◌, ◌≤◌, ◌^◌, ◌==◌, min, List, length, Bool, true, false, not, ◌&&◌, nat_lt, Option, None, Some, refl, sym, subst, arith}
+use Rattle.std.proofs.Common.{◌≡◌, ℕ, ◌+◌, ◌<◌, ◌≤◌, ◌^◌, ◌==◌, List, length, Bool, true, false, not, nat_lt, Option, None, Some, refl, arith}
 use Rattle.std.specs.Prelude.{Result, Ok, Err}
 use Rattle.std.proofs.lemmas.Bool.Decides.{nat_tests}
 use Rattle.ymx_model.specs.declared.types.Role.{Role}

@@ -1,5 +1,5 @@
 -- Which sessions can be made (flow control, stream identifiers; the limits are this project's own).
-use Rattle.std.specs.Prelude.{◌≡◌, ℕ, Bool, not, ◌||◌, ◌==◌, nat_lt, if◌then◌else◌, Option, None, Some, MatchOption}
+use Rattle.std.specs.Prelude.{◌≡◌, ℕ, not, ◌||◌, ◌==◌, nat_lt, if◌then◌else◌, Option, None, Some, MatchOption}
 use Rattle.ymx_model.specs.declared.types.Role.{Role}
 use Rattle.ymx_model.specs.declared.types.Role.TheVariants.{Client, Server}
 use Rattle.ymx_model.specs.declared.types.Config.{Config}

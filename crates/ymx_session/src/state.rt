@@ -55,7 +55,12 @@ impl Model for State {
 
 impl State {
     /// A session that has done nothing, with the memory for all that it keeps beside its streams.
-    pub(crate) fn new(alloc: Global, role: Role, window: u32, first: u32) -> Result<State, AllocError>
+    pub(crate) fn new(
+        alloc: Global,
+        role: Role,
+        window: u32,
+        first: u32,
+    ) -> Result<State, AllocError>
         requires narrowest { first_credit ≤ window }
         requires widest { window ≤ 16777216 }
         ensures { IfOk result (λ state. state ≡ new_session role window first) }

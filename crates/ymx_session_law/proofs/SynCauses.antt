@@ -13,7 +13,7 @@ use Rattle.ymx_model.specs.Records.{End}
 use Rattle.ymx_model.specs.Tables.{Table, look, on, added, removed, most_records}
 use Rattle.ymx_model.specs.Sessions.{Session, is_own, on_stream, drop_id, most_offered}
 use Rattle.ymx_model.specs.Sessions.Incoming.{Payload}
-use Rattle.ymx_model.specs.Arrivals.{answers_with, payload, expects, record_fault, acknowledges, gets_head, meets, offer, refuses, head_comes}
+use Rattle.ymx_model.specs.Arrivals.{answers_with, payload, expects, record_fault, syn_fault, acknowledges, gets_head, meets, offer, refuses, head_comes}
 use Rattle.ymx_session_law.specs.Offers.{IsGoodSyn, HasCause, IsOffered, IsRejected, LeavesNoTrace}
 use Rattle.ymx_session_law.specs.Limits.{IsWithin, is_listed}
 use Rattle.ymx_session_law.proofs.Splits.{split, none_of}
