@@ -1,5 +1,8 @@
 //! The plain types of calls, events, world steps and what they answer.
 
+ghost use Rattle.std.specs.Prelude.{◌≡◌};
+ghost use Rattle.ymx_model.specs.Sessions.{is_own};
+
 use crate::bytes::Bytes;
 use thiserror::Error;
 use ymx_header::Fault;
@@ -12,6 +15,19 @@ pub enum Role {
     Client,
     /// The side that was connected to: ids 2, 4, 6, ..
     Server,
+}
+
+impl Role {
+    /// Whether the streams of this id are opened by this side: odd ids by the client, even ones by the
+    /// server (stream identifiers).
+    pub fn is_own(self, id: u32) -> bool
+        ensures { result ≡ is_own self id }
+    {
+        match self {
+            Role::Client => id % 2 == 1,
+            Role::Server => id % 2 == 0,
+        }
+    }
 }
 
 /// What a session is made with.

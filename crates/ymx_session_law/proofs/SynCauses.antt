@@ -13,7 +13,7 @@ use Rattle.ymx_model.specs.Records.{End}
 use Rattle.ymx_model.specs.Tables.{Table, look, on, added, removed, most_records}
 use Rattle.ymx_model.specs.Sessions.{Session, is_own, on_stream, drop_id, most_offered}
 use Rattle.ymx_model.specs.Sessions.Incoming.{Payload}
-use Rattle.ymx_model.specs.Arrivals.{answers_with, payload, expects, record_fault, acknowledges, gets_head, meets, offer, refuses, head_comes}
+use Rattle.ymx_model.specs.Arrivals.{answers_with, payload, expects, record_fault, syn_fault, acknowledges, gets_head, meets, offer, refuses, head_comes}
 use Rattle.ymx_session_law.specs.Offers.{IsGoodSyn, HasCause, IsOffered, IsRejected, LeavesNoTrace}
 use Rattle.ymx_session_law.specs.Limits.{IsWithin, is_listed}
 use Rattle.ymx_model.proofs.Tests.{split, none_of, or_true}
@@ -67,10 +67,13 @@ pub no_cause : (s : Session) → s.away.here ≡ Unsaid → length s.offered < m
 no_cause s a b c = rw (a, few most_offered (length s.offered) b, few most_records (length s.table.entries) c) refl
 
 -- nobody's own id is offered, and no id that has a record
-pub not_own : (h : Header) (s : Session) → IsGoodSyn h s → (is_own s.role h.id ≡ false) × (look h.id s.table.entries ≡ None)
-not_own h s g =
-    let c = syn_chain (h.id == 0 || is_own s.role h.id) (is_some (look h.id s.table.entries)) BadSyn StreamInUse (record_fault h (offer s)) g.fault in
+pub syn-free : (h : Header) (s : Session) → syn_fault h s ≡ None → (is_own s.role h.id ≡ false) × (look h.id s.table.entries ≡ None)
+syn-free h s g =
+    let c = syn_chain (h.id == 0 || is_own s.role h.id) (is_some (look h.id s.table.entries)) BadSyn StreamInUse (record_fault h (offer s)) g in
     ((none_of (h.id == 0) (is_own s.role h.id) c.0).1, none_of_look (look h.id s.table.entries) c.1)
+
+pub not_own : (h : Header) (s : Session) → IsGoodSyn h s → (is_own s.role h.id ≡ false) × (look h.id s.table.entries ≡ None)
+not_own h s g = syn-free h s g.fault
 
 pub offered : (h : Header) (s : Session) → IsGoodSyn h s → has_rst h ≡ false → s.away.here ≡ Unsaid → length s.offered < most_offered → length s.table.entries < most_records →
     IsOffered h s (head_comes false h s)
@@ -87,7 +90,7 @@ offered h s g rst a b c =
 
 -- ---- a stream that its first frame resets
 
-drop-last : (id : ℕ) (xs : List ℕ) → is_listed id xs ≡ false → drop_id id (xs ++ id ∷ []) ≡ xs
+pub drop-last : (id : ℕ) (xs : List ℕ) → is_listed id xs ≡ false → drop_id id (xs ++ id ∷ []) ≡ xs
 drop-last id [] n = grind (arith, nat_tests)
 drop-last id (x ∷ xs) n =
     let o = none_of (x == id) (is_listed id xs) n in let h = drop-last id xs o.1 in rw (o.0, h) refl
@@ -96,11 +99,11 @@ not_before : (n turn : ℕ) → turn ≤ n → nat_lt n turn ≡ false
 not_before n turn l = grind (arith, nat_tests)
 
 -- a record that was added and goes leaves the table as it was
-gone : (id : ℕ) (f : End → End) (e : End) (t : Table) → look id t.entries ≡ None → t.turn ≤ length t.entries → removed id (on id f (added id e t)) ≡ t
+pub gone : (id : ℕ) (f : End → End) (e : End) (t : Table) → look id t.entries ≡ None → t.turn ≤ length t.entries → removed id (on id f (added id e t)) ≡ t
 gone id f e t n l =
     rw (change-added id f e t.entries n, place-added id (f e) t.entries n, without-added id (f e) t.entries n, not_before (length t.entries) t.turn l) refl
 
-unlisted : (id : ℕ) (s : Session) → IsWithin s → look id s.table.entries ≡ None → is_listed id s.offered ≡ false
+pub unlisted : (id : ℕ) (s : Session) → IsWithin s → look id s.table.entries ≡ None → is_listed id s.offered ≡ false
 unlisted id s w n = w.offered.listed id ∙ rw n refl
 
 pub reset_at_once : (h : Header) (s : Session) → IsGoodSyn h s → has_rst h ≡ true → s.away.here ≡ Unsaid → length s.offered < most_offered → length s.table.entries < most_records →

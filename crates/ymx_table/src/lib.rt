@@ -21,6 +21,7 @@ mod stream;
 #[cfg(test)]
 mod tests;
 mod turn;
+mod unacknowledged;
 
 use due_places::DuePlaces;
 use indexmap::IndexMap;

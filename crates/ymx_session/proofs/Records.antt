@@ -1,0 +1,95 @@
+-- What calls on the records of a table are to a session.
+use Rattle.std.proofs.Common.{◌≡◌, ℕ, ◌+◌, ◌<◌, ◌==◌, min, List, [], ◌∷◌, ◌++◌, length, take, drop, Bool, true, false, None, Some, refl, sym, ap, ◌∙◌, arith}
+use Rattle.std.proofs.lemmas.Grind.{common_steps}
+use Rattle.std.proofs.lemmas.Bool.Decides.{nat_tests}
+use Rattle.ymx_model.specs.declared.types.Reply.TheVariants.{Read}
+use Rattle.ymx_model.specs.declared.types.CallFault.TheVariants.{Closed}
+use Rattle.ymx_model.specs.Lanes.{first_credit}
+use Rattle.ymx_model.specs.Streams.{Phase, is_live, is_reset}
+use Rattle.ymx_model.specs.Streams.Phase.{Live}
+use Rattle.ymx_model.specs.StreamRules.{read_reply}
+use Rattle.ymx_model.specs.Records.{End, new_end, end_write, end_read}
+use Rattle.ymx_model.specs.Tables.{Table, look, change, added, on}
+use Rattle.ymx_model.specs.Sessions.{Session, is_closed, is_lost, on_stream}
+use Rattle.ymx_model.specs.Calls.{opened, read_from}
+use Rattle.ymx_session.specs.Replies.{stream_fault, end_fault}
+
+-- ---- opening
+
+take-min : (n : ℕ) (xs : List ℕ) → take (min (length xs) n) xs ≡ take n xs
+take-min n xs = grind (arith, common_steps)
+
+-- a record just made, with its first bytes, is at the end of the table
+pub opened-is : (carries : Bool) (bytes : List ℕ) (count : ℕ) (made wrote : End) (table : Table) (v s : Session) → v ≡ s → made ≡ new_end v.table.window Live true carries →
+    count ≡ min (length bytes) made.out.credit → wrote ≡ end_write (take count bytes) made → table ≡ added v.next wrote v.table →
+    record v { table = table; next = v.next + 2 } ≡ opened carries (take first_credit bytes) s
+opened-is carries bytes count made wrote table v s e m k w t =
+    let n : count ≡ min (length bytes) 262144 = k ∙ ap (λ (x : End). min (length bytes) x.out.credit) m in
+    let f : take count bytes ≡ take 262144 bytes = rw n (take-min 262144 bytes) in
+    let g : wrote ≡ end_write (take first_credit bytes) (new_end v.table.window Live true carries) = rw (w, f, m) refl in
+    rw (t, g) (ap (opened carries (take first_credit bytes)) e)
+
+-- ---- a stream that a caller has
+
+-- it is open in both directions at a session that is not closed
+pub record IsCallers (id : ℕ) (e : End) (s : Session) : Type 0 where
+  pub closed : is_closed s.status ≡ false
+  pub there : look id s.table.entries ≡ Some e
+  pub live : is_live e.phase ≡ true
+  pub reset : is_reset e.phase ≡ false
+
+pub callers : (id : ℕ) (e : End) (s : Session) → stream_fault id s ≡ None → look id s.table.entries ≡ Some e → IsCallers id e s
+callers id e s f l = of (is_closed s.status) refl
+  where
+    live_of : (p : Phase) → end_fault (Some (record e { phase = p })) ≡ None → (is_live p ≡ true) × (is_reset p ≡ false)
+    live_of p g = grind arith
+
+    of : (b : Bool) → is_closed s.status ≡ b → IsCallers id e s
+    of true c = let g : Some Closed ≡ None = rw c at f in cc
+    of false c =
+        let g : end_fault (Some e) ≡ None = rw (c, l) at f in
+        let o = live_of e.phase g in
+        record { closed = c; there = l; live = o.0; reset = o.1 }
+
+-- ---- reading
+
+pub change-at : (id : ℕ) (f g : End → End) (e : End) (ps : List (ℕ × End)) → look id ps ≡ Some e → f e ≡ g e → change id f ps ≡ change id g ps
+change-at id f g e [] l h = refl
+change-at id f g e (p ∷ ps) l h = let more = change-at id f g e ps in grind (arith, nat_tests)
+
+-- as many as are there
+end_read-min : (max : ℕ) (e : End) (n : ℕ) → n ≡ min max (length e.inn.unread) → end_read n e ≡ end_read max e
+end_read-min max e n k = let d : drop n e.inn.unread ≡ drop max e.inn.unread = grind (arith, common_steps) in let m : min n (length e.inn.unread) ≡ min max (length e.inn.unread) = omega arith in rw (d, m) refl
+
+read_of : (xs : List ℕ) (max n : ℕ) (old : List ℕ) → n ≡ min max (length xs) → take n (take n xs ++ drop n old) ≡ take max xs
+read_of xs max n old k = grind (arith, common_steps)
+
+some-length : (n : ℕ) → 0 < n → (n == 0) ≡ false
+some-length n l = grind (arith, nat_tests)
+
+length-front : (max : ℕ) (xs : List ℕ) → 0 < max → 0 < length xs → (length (take max xs) == 0) ≡ false
+length-front max xs l m = some-length _ (grind (arith, common_steps))
+
+read-reply : (max : ℕ) (e : End) (s : Session) → 0 < max → 0 < length e.inn.unread → is_live e.phase ≡ true → is_reset e.phase ≡ false →
+    read_reply (is_lost s.status) max e.phase e.inn.unread e.inn.ended ≡ Read (take max e.inn.unread)
+read-reply max e s l m live reset = let a = some-length max l in let b = some-length (length e.inn.unread) m in rw (reset, live, a, b) refl
+
+pub read-gives : (id n : ℕ) (old new : List ℕ) (e : End) (s : Session) → stream_fault id s ≡ None → look id s.table.entries ≡ Some e → 0 < length old → 0 < length e.inn.unread →
+    n ≡ min (length old) (length e.inn.unread) → new ≡ take n e.inn.unread ++ drop n old → Read (take n new) ≡ (read_from id (length old) s).reply
+read-gives id n old new e s f l a b k w =
+    let c = callers id e s f l in
+    let r = read-reply (length old) e s a b c.live c.reset in
+    rw (w, read_of e.inn.unread (length old) n old k, c.closed, l, r) refl
+
+pub read-leaves : (id n : ℕ) (old : List ℕ) (e : End) (table : Table) (v s : Session) → v ≡ s → stream_fault id s ≡ None → look id s.table.entries ≡ Some e → 0 < length old → 0 < length e.inn.unread →
+    n ≡ min (length old) (length e.inn.unread) → table ≡ on id (end_read n) v.table → record v { table = table } ≡ (read_from id (length old) s).next
+read-leaves id n old e table v s w f l a b k t =
+    let c = callers id e s f l in
+    let r = read-reply (length old) e s a b c.live c.reset in
+    let some = length-front (length old) e.inn.unread a b in
+    let same = change-at id (end_read n) (end_read (length old)) e s.table.entries l (end_read-min (length old) e n k) in
+    let go : (read_from id (length old) s).next ≡ on_stream id (end_read n) s = rw (c.closed, l, r, some, same) refl in
+    rw t (ap (on_stream id (end_read n)) w ∙ sym go)
+
+pub read-rest : (n : ℕ) (xs old new : List ℕ) → n ≡ min (length old) (length xs) → new ≡ take n xs ++ drop n old → new ≡ take n new ++ drop n old
+read-rest n xs old new k w = let t : take n (take n xs ++ drop n old) ≡ take n xs = grind (arith, common_steps) in rw (w, t) refl

@@ -1,0 +1,89 @@
+-- Every event keeps what holds of every session.
+use Rattle.std.proofs.Common.{◌≡◌, ℕ, ◌+◌, ◌<◌, ◌≤◌, ◌^◌, ◌==◌, List, length, Bool, true, false, not, nat_lt, Option, None, Some, refl, arith}
+use Rattle.std.specs.Prelude.{Result, Ok, Err}
+use Rattle.std.proofs.lemmas.Bool.Decides.{nat_tests}
+use Rattle.ymx_model.specs.declared.types.Role.{Role}
+use Rattle.ymx_model.specs.declared.types.Call.{Call}
+use Rattle.ymx_model.specs.declared.types.Call.TheVariants as call
+use Rattle.ymx_model.specs.declared.types.Event.{Event}
+use Rattle.ymx_model.specs.declared.types.Event.TheVariants as event
+use Rattle.ymx_model.specs.declared.types.Reply.{Reply}
+use Rattle.ymx_model.specs.declared.types.Reply.TheVariants.{Refused}
+use Rattle.ymx_model.specs.declared.types.CallFault.{CallFault}
+use Rattle.ymx_model.specs.declared.types.CallFault.TheVariants.{OutOfMemory}
+use Rattle.ymx_model.specs.Lanes.{first_credit}
+use Rattle.ymx_model.specs.Streams.{Phase, is_live, is_reset}
+use Rattle.ymx_model.specs.StreamRules.{write_reply, moved}
+use Rattle.ymx_model.specs.Records.{End}
+use Rattle.ymx_model.specs.Tables.{look}
+use Rattle.ymx_model.specs.Sessions.{Session, new_session, is_own, is_closed, is_lost}
+use Rattle.ymx_model.specs.Calls.{Outcome, outcome, takes_memory, write_to, with_record, write_outcome, unsent_count}
+use Rattle.ymx_model.specs.Emissions.{in_turn}
+use Rattle.ymx_model.specs.Histories.{Gives, CallGives}
+use Rattle.ymx_model.specs.Histories.CallGives.{Outcome as HasOutcome, NoMemory}
+use Rattle.ymx_session_law.proofs.HistoriesKeep.{gives-keep, new-keeps}
+use Rattle.ymx_session_law.proofs.SettledFrames.{gives-settled, new-settled}
+use Rattle.ymx_session_law.proofs.Splits.{split}
+use Rattle.ymx_session.specs.Sound.{IsSound}
+use Rattle.ymx_session.specs.Replies.{is_out_of_memory}
+
+pub gives-sound : (s t : Session) (ev : Event) (told : Reply) → Gives in_turn s ev told t → IsSound s → IsSound t
+gives-sound s t ev told g h = record { within = gives-keep in_turn s t ev told g h.within; settled = gives-settled in_turn s t ev told g h.within h.settled }
+
+-- a call whose next state is that of its outcome
+pub call-sound : (c : Call) (s t : Session) → t ≡ (outcome c s).next → IsSound s → IsSound t
+call-sound c s t e h = gives-sound s t (event.Call c) (outcome c s).reply (HasOutcome refl e) h
+
+pub new-sound : (role : Role) (window first : ℕ) → first_credit ≤ window → window ≤ 16777216 → is_own role first ≡ true → 0 < first → first < 2 ^ 32 → IsSound (new_session role window first)
+new-sound role window first low high own some small = record { within = new-keeps role window first low high own some small; settled = new-settled role window first }
+
+-- ---- a call that may take memory
+
+lacks : {A : Type 0} (r : Result A CallFault) → is_out_of_memory r ≡ true → (told : Reply) → ((fault : CallFault) → r ≡ Err fault → told ≡ Refused fault) → told ≡ Refused OutOfMemory
+lacks {A} (Ok x) e told f = cc
+lacks {A} (Err fault) e told f = of fault e (f fault refl)
+  where
+    of : (g : CallFault) → is_out_of_memory {A = A} (Err g) ≡ true → told ≡ Refused g → told ≡ Refused OutOfMemory
+    of g e h = grind arith
+
+-- it has its outcome, or it wanted memory that wasn't there
+pub memory-gives : {A : Type 0} (r : Result A CallFault) (c : Call) (told : Reply) (s t : Session) →
+    (is_out_of_memory r ≡ false → (told ≡ (outcome c s).reply) × (t ≡ (outcome c s).next)) →
+    (is_out_of_memory r ≡ true → (takes_memory c s ≡ true) × (t ≡ s)) →
+    ((fault : CallFault) → r ≡ Err fault → told ≡ Refused fault) → CallGives s c told t
+memory-gives {A} r c told s t found lack f = of (is_out_of_memory r) refl
+  where
+    of : (b : Bool) → is_out_of_memory r ≡ b → CallGives s c told t
+    of true e = let k = lack e in NoMemory k.0 (lacks r e told f) k.1
+    of false e = let k = found e in HasOutcome k.0 k.1
+
+-- ---- a write that takes no memory
+
+moved-of : (lost said : Bool) (p : Phase) (credit : ℕ) (bytes : List ℕ) → moved (write_reply lost bytes p said credit) ≤ length bytes
+moved-of lost said p credit bytes =
+    let P : Reply → Type 0 = λ r. moved r ≤ length bytes in
+    split P (is_reset p) _ _ (λ t. omega arith) (λ f1.
+    split P (not (is_live p)) _ _ (λ t. omega arith) (λ f2.
+    split P said _ _ (λ t. omega arith) (λ f3.
+    split P lost _ _ (λ t. omega arith) (λ f4.
+    split P (length bytes == 0) _ _ (λ t. omega arith) (λ f5.
+    split P (credit == 0) _ _ (λ t. omega arith) (λ f6. omega arith))))))
+
+moved-within : (id : ℕ) (bytes : List ℕ) (s : Session) → moved (write_to id bytes s).reply ≤ length bytes
+moved-within id bytes s =
+    let P : Outcome → Type 0 = λ o. moved o.reply ≤ length bytes in
+    split P (is_closed s.status) _ _ (λ t. omega arith) (λ f. of (look id s.table.entries))
+  where
+    of : (o : Option End) → moved (with_record (write_outcome id bytes s) s o).reply ≤ length bytes
+    of None = omega arith
+    of (Some e) = moved-of (is_lost s.status) e.out.finished e.phase e.out.credit bytes
+
+-- where no more than 262,144 bytes would be unsent, a write takes none
+pub write-in_room : (id : ℕ) (bytes : List ℕ) (s : Session) (b : Bool) → unsent_count (look id s.table.entries) + length bytes ≤ first_credit →
+    (b ≡ true → takes_memory (call.Write id bytes) s ≡ true) → b ≡ false
+write-in_room id bytes s false l f = refl
+write-in_room id bytes s true l f =
+    let m = moved-within id bytes s in
+    let none : nat_lt first_credit (unsent_count (look id s.table.entries) + moved (write_to id bytes s).reply) ≡ false = grind (arith, nat_tests) in
+    let t = f refl in
+    let no : false ≡ true = rw none at t in cc

@@ -1,0 +1,31 @@
+//! Why no session is made.
+
+ghost use Rattle.ymx_session.specs.declared.new_fault.NewFault.TheVariants.{OutOfMemory as OutOfMemoryFault};
+
+use std::alloc::AllocError;
+use thiserror::Error;
+
+/// Why no session was made. It prints its name alone.
+#[derive(Clone, Copy, Debug, PartialEq, Eq, Error)]
+pub enum NewFault {
+    /// 1: the window is below 262,144 bytes, or above 16,777,216 (flow control).
+    #[error("BadWindow")]
+    BadWindow,
+    /// 2: the first id is one that the peer opens: even at a client, odd at a server (stream
+    /// identifiers).
+    #[error("BadFirst")]
+    BadFirst,
+    /// 3: there was no memory for the session.
+    #[error("OutOfMemory")]
+    OutOfMemory,
+}
+
+impl From<AllocError> for NewFault {
+    ghost use Rattle.std.specs.Prelude.{◌≡◌};
+
+    ghost from_gives = { λ _ fault. fault ≡ OutOfMemoryFault };
+
+    fn from(_error: AllocError) -> NewFault {
+        NewFault::OutOfMemory
+    }
+}

@@ -1,0 +1,101 @@
+//! All that a session remembers.
+
+ghost use Rattle.std.specs.Prelude.{◌≡◌, ◌≤◌, IfOk};
+ghost use Rattle.ymx_model.specs.Lanes.{first_credit};
+ghost use Rattle.ymx_model.specs.Sessions.{new_session, breaks, is_lost};
+
+use crate::arriving::Arriving;
+use crate::frame_buffer::FrameBuffer;
+use std::alloc::{AllocError, Global};
+use std::marker::Model;
+use ymx_control::{Answers, Away, Backlog, Pings};
+use ymx_header::Fault;
+use ymx_model::{Role, Status};
+use ymx_table::Table;
+
+/// All that a session remembers, whether or not it is within its limits.
+#[derive(Drop)]
+pub(crate) struct State {
+    pub(crate) alloc: Global,
+    pub(crate) role: Role,
+    pub(crate) status: Status,
+    pub(crate) next: u32,
+    pub(crate) table: Table,
+    pub(crate) offered: Backlog,
+    pub(crate) pings: Pings,
+    pub(crate) away: Away,
+    pub(crate) alarm: bool,
+    pub(crate) answers: Answers,
+    pub(crate) begun: FrameBuffer,
+    pub(crate) arriving: Arriving,
+}
+
+impl Model for State {
+    ghost use Rattle.std.specs.Prelude.{◌≡◌};
+    ghost use Rattle.ymx_model.specs.Sessions.{Session};
+
+    ghost Value = { Session };
+
+    ghost view = { λ s. record {
+      role = s.role;
+      status = s.status;
+      next = s.next;
+      table = s.table;
+      offered = s.offered;
+      pings = s.pings;
+      away = s.away;
+      alarm = s.alarm;
+      answers = s.answers;
+      begun = s.begun;
+      incoming = s.arriving.incoming;
+    } };
+
+    ghost invariant = { λ s. s.arriving.limit ≡ s.table.window };
+}
+
+impl State {
+    /// A session that has done nothing, with the memory for all that it keeps beside its streams.
+    pub(crate) fn new(
+        alloc: Global,
+        role: Role,
+        window: u32,
+        first: u32,
+    ) -> Result<State, AllocError>
+        requires narrowest { first_credit ≤ window }
+        requires widest { window ≤ 16777216 }
+        ensures { IfOk result (λ state. state ≡ new_session role window first) }
+    {
+        Ok(State {
+            alloc,
+            role,
+            status: Status::Running,
+            next: first,
+            table: Table::new(alloc, window),
+            offered: Backlog::new(alloc)?,
+            pings: Pings::new(alloc)?,
+            away: Away::new(),
+            alarm: false,
+            answers: Answers::new(alloc)?,
+            begun: FrameBuffer::new(alloc)?,
+            arriving: Arriving::new(window),
+        })
+    }
+
+    /// The session breaks.
+    pub(crate) fn breaks(&mut self, fault: Fault)
+        ensures { self.new ≡ breaks fault self.old }
+    {
+        self.status = Status::Broken(fault);
+        self.alarm = !matches!(
+            fault,
+            Fault::PeerSawProtocolError | Fault::PeerSawInternalError
+        );
+    }
+
+    /// Whether no more of the peer's bytes come: they have ended, or the session broke.
+    pub(crate) fn is_lost(&self) -> bool
+        ensures { result ≡ is_lost self.now.status }
+    {
+        matches!(self.status, Status::Lost | Status::Broken(_))
+    }
+}
