@@ -214,7 +214,7 @@ look-settled id limit None s t e some b k = cc
 look-settled id limit (Some x) s t e some b k =
     kind-settled id limit x (next_kind s.table.window x) s t e some (none_if (limit == 0 || nat_lt first_credit limit) (begin_kind id limit x (next_kind s.table.window x) s) t b).1 k
 
-begin-settled : (c : Choice) (s t : Session) → is_empty s.begun.bytes ≡ true → begin c s ≡ Some t → IsSettled s → IsSettled t
+pub begin-settled : (c : Choice) (s t : Session) → is_empty s.begun.bytes ≡ true → begin c s ≡ Some t → IsSettled s → IsSettled t
 begin-settled TheAlarm s t e b k =
     let p = some_if (s.alarm && is_broken s.status) (begins alarm_frame (record s { alarm = false })) t b in
     subst IsSettled (sym p.1) (session-settled alarm_frame s (record s { alarm = false }) e refl refl k)
@@ -228,7 +228,7 @@ begin-settled (ThePing n) s t e b k =
 begin-settled (AStream id limit) s t e b k =
     look-settled id limit (look id s.table.entries) s t e (begin-has (AStream id limit) s t b) (if_some (is_running s.status) (begin_stream id limit (look id s.table.entries) s) t b).1 k
 
-ready-settled : (may : Choice → Session → Bool) (s t : Session) → Ready may s t → IsSettled s → IsSettled t
+pub ready-settled : (may : Choice → Session → Bool) (s t : Session) → Ready may s t → IsSettled s → IsSettled t
 ready-settled may s t (inl h) k = subst IsSettled (sym h.1) k
 ready-settled may s t (inr (e, (c, ok, b))) k = begin-settled c s t e b k
 
@@ -251,7 +251,7 @@ left_some zero (x ∷ xs) t = refl
 left_some (suc n) [] t = absurd (let l : suc n < 0 = grind (arith, nat_tests) in omega arith)
 left_some (suc n) (x ∷ xs) t = left_some n xs (grind (arith, nat_tests))
 
-moves-settled : (n : ℕ) (s : Session) → Distinct s.table.entries → IsSettled s → IsSettled (moves_on n s)
+pub moves-settled : (n : ℕ) (s : Session) → Distinct s.table.entries → IsSettled s → IsSettled (moves_on n s)
 moves-settled n s d k =
     split IsSettled (nat_lt n (length s.begun.bytes)) _ (settles s.begun.of (record s { begun = nothing_begun }))
     (λ t. record { none_spent = k.none_spent; none_begun = λ z. let q : false ≡ true = sym (left_some n s.begun.bytes t) ∙ z in absurd cc })
