@@ -36,11 +36,11 @@ use Rattle.ymx_headline.proofs.Mirrors.{refines-same, order-call, parity}
 use Rattle.ymx_headline.proofs.Tables.{change-found, keeps-put, table-changes, over-is}
 use Rattle.ymx_headline.proofs.StreamCalls.{Called, open-rule, closed-rule, refused-at_both}
 
-so-true : (b : Bool) (P Q : Type 0) → b ≡ true → P → IfSo b P Q
+pub so-true : (b : Bool) (P Q : Type 0) → b ≡ true → P → IfSo b P Q
 so-true true P Q e p = p
 so-true false P Q e p = absurd cc
 
-so-false : (b : Bool) (P Q : Type 0) → b ≡ false → Q → IfSo b P Q
+pub so-false : (b : Bool) (P Q : Type 0) → b ≡ false → Q → IfSo b P Q
 so-false true P Q e q = absurd cc
 so-false false P Q e q = q
 
