@@ -3,25 +3,24 @@ use Rattle.std.proofs.Common.{◌≡◌, ℕ, List, [], ◌∷◌, Bool, true, f
 use Rattle.std.specs.Prelude.{option_map}
 use Rattle.std.proofs.lemmas.Bool.Decides.{nat_tests}
 use Rattle.ymx_model.specs.declared.types.Role.{Role}
-use Rattle.ymx_model.specs.declared.types.Call.{Call}
 use Rattle.ymx_model.specs.declared.types.Call.TheVariants as call
 use Rattle.ymx_model.specs.declared.types.Reply.{Reply}
-use Rattle.ymx_model.specs.declared.types.Reply.TheVariants.{Accepted, Refused}
+use Rattle.ymx_model.specs.declared.types.Reply.TheVariants.{Accepted}
 use Rattle.ymx_model.specs.declared.types.CallFault.TheVariants.{Lost, Closed}
 use Rattle.ymx_model.specs.declared.types.Event.TheVariants as event
-use Rattle.ymx_model.specs.Streams.{Phase, Stream, is_offered, stream_accept}
+use Rattle.ymx_model.specs.Streams.{Phase, is_offered, stream_accept}
 use Rattle.ymx_model.specs.Streams.Phase.{Offered}
 use Rattle.ymx_model.specs.StreamRules.{IfSo}
 use Rattle.ymx_model.specs.Records.{End, end_accept}
 use Rattle.ymx_model.specs.Tables.{look, change, on}
 use Rattle.ymx_model.specs.Sessions.{Session, is_lost, is_closed, on_stream}
-use Rattle.ymx_model.specs.Calls.{Outcome, outcome, refused, answers, accept, accept_of}
+use Rattle.ymx_model.specs.Calls.{Outcome, outcome, refused, answers, accept_of}
 use Rattle.ymx_model.specs.Histories.{CallGives}
 use Rattle.ymx_model.specs.Histories.CallGives.{Outcome as HasOutcome, NoMemory}
 use Rattle.ymx_model.specs.Worlds.{World}
 use Rattle.ymx_model.specs.Machines.{Machine}
 use Rattle.ymx_model.specs.MachineRules.{Rule, AcceptRule}
-use Rattle.ymx_law.specs.Worlds.{World as Streams, Can, put}
+use Rattle.ymx_law.specs.Worlds.{Can, put}
 use Rattle.ymx_law.specs.Worlds.Act.{Accepts}
 use Rattle.ymx_law.proofs.Worlds.{step}
 use Rattle.ymx_session_law.specs.Limits.{IsWithin, is_listed, is_offered_at}

@@ -1,26 +1,24 @@
 -- A ping that is asked or collected is so in the machine.
-use Rattle.std.proofs.Common.{◌≡◌, ◌≢◌, ℕ, ◌+◌, ◌<◌, ◌^◌, ◌%◌, List, [], ◌∷◌, ◌++◌, length, map, Bool, true, false, ◌||◌, ◌==◌, nat_le, nat_lt, Option, None, Some, refl, sym, ap, subst, ◌∙◌, inl, inr, arith}
+use Rattle.std.proofs.Common.{◌≡◌, ◌≢◌, ℕ, ◌+◌, ◌<◌, ◌^◌, ◌%◌, List, [], ◌∷◌, ◌++◌, length, map, Bool, true, false, ◌||◌, ◌==◌, nat_le, nat_lt, Option, None, Some, refl, sym, ap, subst, ◌∙◌, inl, inr}
 use Rattle.std.specs.Prelude.{is_some}
-use Rattle.std.proofs.lemmas.Bool.Decides.{nat_tests}
 use Rattle.std.proofs.lemmas.List.{map-append, length-map}
 use Rattle.ymx_model.specs.declared.types.Role.{Role}
 use Rattle.ymx_model.specs.declared.types.Call.{Call}
 use Rattle.ymx_model.specs.declared.types.Call.TheVariants as call
 use Rattle.ymx_model.specs.declared.types.Reply.{Reply}
 use Rattle.ymx_model.specs.declared.types.Reply.TheVariants.{Pinged, Ponged}
-use Rattle.ymx_model.specs.declared.types.CallFault.{CallFault}
 use Rattle.ymx_model.specs.declared.types.CallFault.TheVariants.{Lost, Closed, PingsPending}
 use Rattle.ymx_model.specs.declared.types.Event.TheVariants as event
 use Rattle.ymx_model.specs.declared.types.PingStage.TheVariants.{Asked as AskedStage}
 use Rattle.ymx_model.specs.Parts.{Part}
-use Rattle.ymx_model.specs.Pings.{Ping, Pings, most_pings, free_from, is_pending, has_asked, has_back, next_number, pinged, collected, without_ping}
+use Rattle.ymx_model.specs.Pings.{Ping, Pings, most_pings, free_from, is_pending, has_asked, has_back, next_number, pinged, collected}
 use Rattle.ymx_model.specs.Tables.{look, without}
-use Rattle.ymx_model.specs.Sessions.{Session, is_running, is_lost, is_closed}
+use Rattle.ymx_model.specs.Sessions.{Session, is_lost, is_closed}
 use Rattle.ymx_model.specs.Calls.{Outcome, outcome, refused, answers}
 use Rattle.ymx_model.specs.Histories.{CallGives}
 use Rattle.ymx_model.specs.Histories.CallGives.{Outcome as HasOutcome, NoMemory}
 use Rattle.ymx_model.specs.Worlds.{World}
-use Rattle.ymx_model.specs.Machines.{Machine, SideState, PingPlace}
+use Rattle.ymx_model.specs.Machines.{Machine, PingPlace}
 use Rattle.ymx_model.specs.Machines.PingPlace.{Asked, There, Back}
 use Rattle.ymx_model.specs.MachineRules.{Rule, PingRule, PongedRule, asked, free_number, is_back}
 use Rattle.ymx_session_law.specs.Limits.{IsWithin, OncePending, Distinct}
@@ -32,7 +30,7 @@ use Rattle.ymx_session_law.proofs.SettledFrames.{gives-settled}
 use Rattle.ymx_session_law.proofs.Splits.{same_or_not, agrees}
 use Rattle.ymx_machine_law.specs.Numbers.{HasOrder}
 use Rattle.ymx_machine_law.proofs.StreamFacts.{when}
-use Rattle.ymx_headline.specs.Agrees.{AgreesAs, SamePings, Sender, Receiver, Text, PingsUnderWay, sending, hearing, arrives, entry_number, number_of, count_in, asks, is_asked_at, is_there_at}
+use Rattle.ymx_headline.specs.Agrees.{AgreesAs, SamePings, Sender, Receiver, Text, PingsUnderWay, sending, hearing, entry_number, number_of, count_in, asks, is_asked_at, is_there_at}
 use Rattle.ymx_headline.proofs.Mirrors.{order-call, parity}
 use Rattle.ymx_headline.proofs.Accepts.{so-true, so-false}
 use Rattle.ymx_headline.proofs.Places.{placed, places-distinct, place-asked, asked-back, asked-asked_same, asked-asked_other, free-same, free-fits, collected-numbers, collected-back, collected-back_other, collected-asked, collected-pending}

@@ -1,5 +1,5 @@
 -- A ping, or the answer to one, that begins is no move of the machine.
-use Rattle.std.proofs.Common.{◌≡◌, ◌≢◌, ℕ, ◌+◌, ◌^◌, ◌<◌, ◌≤◌, List, [], ◌∷◌, ◌++◌, Bool, true, false, not, ◌&&◌, ◌||◌, ◌==◌, nat_lt, if◌then◌else◌, Option, None, Some, refl, sym, ap, subst, ◌∙◌, arith, inl, inr}
+use Rattle.std.proofs.Common.{◌≡◌, ℕ, ◌+◌, ◌^◌, ◌<◌, ◌≤◌, List, [], ◌∷◌, ◌++◌, Bool, true, false, ◌&&◌, ◌||◌, ◌==◌, nat_lt, if◌then◌else◌, Option, None, Some, refl, sym, ap, subst, ◌∙◌, arith, inl, inr}
 use Rattle.std.proofs.lemmas.Grind.{common_steps}
 use Rattle.std.proofs.lemmas.Bool.Decides.{nat_tests}
 use Rattle.ymx_header.specs.Headers.{header_of}
@@ -7,11 +7,11 @@ use Rattle.ymx_model.specs.declared.types.Role.{Role}
 use Rattle.ymx_model.specs.declared.types.Response.{Response}
 use Rattle.ymx_model.specs.declared.types.Response.TheVariants.{Pong, Reject}
 use Rattle.ymx_model.specs.Parts.{Part}
-use Rattle.ymx_model.specs.Pings.{Ping, Pings, is_pending, has_asked, staged, ping_goes}
+use Rattle.ymx_model.specs.Pings.{Ping, has_asked, staged, ping_goes}
 use Rattle.ymx_model.specs.declared.types.PingStage.TheVariants.{Sent}
 use Rattle.ymx_model.specs.Outgoing.{frame}
 use Rattle.ymx_model.specs.Sessions.{Session, is_running, is_closed}
-use Rattle.ymx_model.specs.Emissions.{begin, begins, begin_answer, answer_frame, ping_frame}
+use Rattle.ymx_model.specs.Emissions.{begins, begin_answer, answer_frame, ping_frame}
 use Rattle.ymx_model.specs.Emissions.Choice.{TheAnswer, ThePing}
 use Rattle.ymx_model.specs.Tables.{look}
 use Rattle.ymx_model.specs.Worlds.{World}
@@ -23,13 +23,12 @@ use Rattle.ymx_session_law.proofs.Pings.{pending-staged}
 use Rattle.ymx_session_law.proofs.Splits.{both_of, same_or_not}
 use Rattle.ymx_session_law.proofs.EmissionsKeep.{some_if, if_some, begin-keeps}
 use Rattle.ymx_session_law.proofs.SettledFrames.{begin-settled}
-use Rattle.ymx_machine_law.proofs.StreamFacts.{when}
 use Rattle.ymx_world_law.proofs.Emitted.{empty-bytes}
 use Rattle.ymx_world_law.proofs.Frames.{short-frame}
-use Rattle.ymx_headline.specs.Agrees.{AgreesAs, SameEnds, Sender, Receiver, Text, sending, hearing, arrives, count_in, is_go_away, asks, replies, pongs, pongs_of, is_asked_at}
+use Rattle.ymx_headline.specs.Agrees.{AgreesAs, SameEnds, Sender, Receiver, Text, sending, hearing, count_in, is_go_away, asks, replies, pongs, pongs_of, is_asked_at}
 use Rattle.ymx_headline.proofs.Begun.{count-more, runs-open}
 use Rattle.ymx_headline.proofs.Emits.{BeginsAlike}
-use Rattle.ymx_headline.proofs.SessionFrames.{grown-text, count-one, some-of}
+use Rattle.ymx_headline.proofs.SessionFrames.{grown-text, count-one}
 use Rattle.ymx_headline.proofs.Places.{placed-pending, asked-pending, staged-numbers, sent-back, sent-asked, staged-asked_other}
 use Rattle.ymx_headline.proofs.Rejections.{reject-begins}
 

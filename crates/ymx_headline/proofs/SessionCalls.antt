@@ -1,10 +1,7 @@
 -- Go away and close are the machine's.
-use Rattle.std.proofs.Common.{◌≡◌, ◌≢◌, ℕ, List, [], ◌∷◌, ◌++◌, Bool, true, false, not, ◌&&◌, ◌||◌, nat_lt, refl, sym, ap, subst, ◌∙◌, inl, inr}
-use Rattle.std.proofs.lemmas.List.{append-nil}
+use Rattle.std.proofs.Common.{◌≡◌, ℕ, List, [], ◌++◌, Bool, true, false, not, ◌&&◌, ◌||◌, nat_lt, refl, sym, ap, subst, ◌∙◌, inl, inr}
 use Rattle.ymx_model.specs.declared.types.Role.{Role}
-use Rattle.ymx_model.specs.declared.types.Status.{Status}
 use Rattle.ymx_model.specs.declared.types.Status.TheVariants.{Closed as ClosedStatus}
-use Rattle.ymx_model.specs.declared.types.Call.{Call}
 use Rattle.ymx_model.specs.declared.types.Call.TheVariants as call
 use Rattle.ymx_model.specs.declared.types.Reply.{Reply}
 use Rattle.ymx_model.specs.declared.types.Reply.TheVariants.{Done}
@@ -12,15 +9,15 @@ use Rattle.ymx_model.specs.declared.types.CallFault.TheVariants.{Lost, Closed}
 use Rattle.ymx_model.specs.declared.types.Event.TheVariants as event
 use Rattle.ymx_model.specs.declared.types.GoAwayMark.{GoAwayMark}
 use Rattle.ymx_model.specs.declared.types.GoAwayMark.TheVariants.{Unsaid as NotSaid, Due, Sent}
-use Rattle.ymx_model.specs.Lanes.{Mark, is_unsaid, is_said, is_here}
+use Rattle.ymx_model.specs.Lanes.{Mark, is_said}
 use Rattle.ymx_model.specs.Lanes.Mark.{Unsaid, Said, Here}
 use Rattle.ymx_model.specs.Parts.{Part}
-use Rattle.ymx_model.specs.GoAway.{was_said, away_due, says, says_away as session_says}
-use Rattle.ymx_model.specs.Sessions.{Session, nothing_begun, is_running, is_lost, is_closed}
+use Rattle.ymx_model.specs.GoAway.{away_due, says, says_away as session_says}
+use Rattle.ymx_model.specs.Sessions.{Session, is_running, is_lost, is_closed}
 use Rattle.ymx_model.specs.Calls.{Outcome, outcome, refused, answers, close}
 use Rattle.ymx_model.specs.Histories.{CallGives}
 use Rattle.ymx_model.specs.Histories.CallGives.{Outcome as HasOutcome, NoMemory}
-use Rattle.ymx_model.specs.Worlds.{World, Pipe, held_bytes}
+use Rattle.ymx_model.specs.Worlds.{World, Pipe}
 use Rattle.ymx_model.specs.Machines.{Machine}
 use Rattle.ymx_model.specs.MachineRules.{Rule, OpenSideRule, says_away}
 use Rattle.ymx_law.specs.Worlds.{World as Streams, Machine as Found, Refines, acts}
