@@ -1,5 +1,5 @@
 -- What comes of a stream is moves of the machine.
-use Rattle.std.proofs.Common.{◌≡◌, ◌≢◌, ℕ, ◌+◌, List, [], ◌∷◌, ◌++◌, map, Bool, true, false, not, ◌&&◌, ◌||◌, ◌==◌, if◌then◌else◌, Option, None, Some, refl, sym, ap, subst, ◌∙◌, inl, inr, arith}
+use Rattle.std.proofs.Common.{◌≡◌, ◌≢◌, ℕ, ◌+◌, List, [], ◌∷◌, ◌++◌, map, take, Bool, true, false, not, ◌&&◌, ◌||◌, ◌==◌, if◌then◌else◌, Option, None, Some, refl, sym, ap, subst, ◌∙◌, inl, inr, arith}
 use Rattle.std.proofs.lemmas.Bool.Decides.{nat_tests}
 use Rattle.ymx_model.specs.Streams.{Phase, Stream, Move, Allowed, after, Moves, struck, is_offered}
 use Rattle.ymx_model.specs.Streams.Move.{Arrive, EndArrives, Return, SynOffered, SynRefused, AckArrives, ResetArrives, Released}
@@ -272,3 +272,109 @@ parts-come own id (f ∷ fs) more g m h n over runs e r =
   where
     later-own : (k : LawStep false id f (tagged id fs ++ more) g m) (s : Stream) → s ≡ k.now → IsOpener own id m → s.own ≡ own
     later-own k s q o = ap (λ (z : Stream). z.own) q ∙ (moves-own k.moves k.was k.now k.went ∙ o k.was k.there)
+
+-- ---- a byte of a payload, behind which more comes
+
+abbrev pub byte_came : (id b : ℕ) → List ℕ → List (ℕ × Part) → Streams → Streams
+byte_came id b tail more g = record g { a = put_end id (gets_data (b ∷ []) (g.a.ends id)) g.a; ba = (id, Data tail) ∷ more }
+
+pub byte-comes : (id b : ℕ) (tail : List ℕ) (more : List (ℕ × Part)) (g : Streams) (m : Machine) → hears m ≡ true → g.a.over ≡ false → g.ba_stopped ≡ false → g.ba ≡ (id, Data (b ∷ tail)) ∷ more → Refines g (found m) →
+    Arrives (byte_came id b tail more g) m 0 m.me.offered
+byte-comes id b tail more g m h over runs e r =
+    let k = step (ComesIn 1) g (found m) (over, runs, rw e refl) r in
+    let d : Delivers false (λ x. Data (take 1 (load x))) ((id, Data (b ∷ tail)) ∷ more) g (found m) k.0 = subst (λ l. Delivers false (λ x. Data (take 1 (load x))) l g (found m) k.0) e k.1 in
+    let s = stream-moves id d.3.0 d.0 d.1 m h (no-syns (Data (b ∷ [])) d.3.0 refl d.3.1) d.4.here d.3.2 in
+    let P : List ℕ → Type 0 = λ o. FreeMoves (map (OfStream id) d.3.0) m 0 (record m { streams = s.streams; me = record m.me { offered = o } }) in
+    record {
+      streams = s.streams;
+      moves = map (OfStream id) d.3.0;
+      did = subst P (keeps-offered id (Data (b ∷ [])) d.3.0 m.me.offered refl refl d.3.1) s.did;
+      refines = refines-same _ k.0 _ (changes-same id d.0 d.1 (found m) k.0 _ d.4 s.changed) (subst (λ l. Refines (came_in 1 l g) k.0) e k.2);
+    }
+
+-- ---- a reset
+
+drop-none : (id : ℕ) (ids : List ℕ) → is_listed id ids ≡ false → drop_id id ids ≡ ids
+drop-none id [] e = refl
+drop-none id (x ∷ ids) e = let h = drop-none id ids in grind (arith, nat_tests)
+
+-- the end that a stream is, as the machine has it
+phase-at : (g : Streams) (m : Found) (id : ℕ) (s : Stream) → m id ≡ Some s → Refines g m → s.me ≡ (g.a.ends id).phase
+phase-at g m id s l r =
+    (one-shows g.a.over g.b.over g.a.window g.b.window (g.a.ends id) (g.b.ends id) (of id g.ab) (of id g.ba) s
+    (subst (AreOne g.a.over g.b.over g.a.window g.b.window (g.a.ends id) (g.b.ends id) (of id g.ab) (of id g.ba)) l (r.streams id))).phase
+
+struck-unoffered : (p : Phase) → is_offered (struck p) ≡ false
+struck-unoffered p = grind arith
+
+-- with no move the stream was not offered
+dropped-is : (id : ℕ) (vs : List Move) (was now : Stream) (offered : List ℕ) → MovesOf false Rst vs → Moves vs was now → is_offered now.me ≡ false → (is_offered was.me ≡ false → drop_id id offered ≡ offered) → dropped id vs offered ≡ drop_id id offered
+dropped-is id vs was now o (inl e) p n d =
+    let q : Moves [] was now = subst (λ z. Moves z was now) e p in
+    rw e (sym (d (subst (λ (z : Stream). is_offered z.me ≡ false) q n)))
+dropped-is id vs was now o (inr e) p n d = rw e refl
+
+pub reset-comes : (id : ℕ) (more : List (ℕ × Part)) (g : Streams) (m : Machine) → hears m ≡ true → g.a.over ≡ false → g.ba_stopped ≡ false → g.ba ≡ (id, Rst) ∷ more → Refines g (found m) →
+    (is_offered (g.a.ends id).phase ≡ false → is_listed id m.me.offered ≡ false) → Arrives (part_came id Rst more g) m 0 (drop_id id m.me.offered)
+reset-comes id more g m h over runs e r listed =
+    let k = law-step false id Rst more g m over runs e r in
+    let s = stream-moves id k.moves k.was k.now m h (no-syns Rst k.moves refl k.are) k.there k.went in
+    let P : List ℕ → Type 0 = λ o. FreeMoves (map (OfStream id) k.moves) m 0 (record m { streams = s.streams; me = record m.me { offered = o } }) in
+    let end = comes_to false g.a.window Rst (g.a.ends id) in
+    let struck_now : k.now.me ≡ struck (g.a.ends id).phase = phase-at (part_came id Rst more g) k.later id k.now k.changes.now k.refines ∙ ap (λ (z : End). z.phase) (put-same id end g.a.ends) in
+    record {
+      streams = s.streams;
+      moves = map (OfStream id) k.moves;
+      did = subst P (dropped-is id k.moves k.was k.now m.me.offered k.are k.went (ap is_offered struck_now ∙ struck-unoffered (g.a.ends id).phase)
+          (λ n. drop-none id m.me.offered (listed (ap is_offered (sym (phase-at g (found m) id k.was k.there r)) ∙ n)))) s.did;
+      refines = refines-same _ k.later _ (changes-same id k.was k.now (found m) k.later _ k.changes s.changed) k.refines;
+    }
+
+-- ---- a SYN
+
+abbrev pub syn_came : (refuse : Bool) → (id d : ℕ) → List (ℕ × Part) → Streams → Streams
+syn_came refuse id d more g = record g { a = put_end id (comes_to refuse g.a.window (Syn d) (g.a.ends id)) g.a; ba = more }
+
+
+
+
+one-change : (id : ℕ) (f : Stream → Stream) (was now : Stream) (m : Machine) (n : Found) → Changes id was now (found m) n → now ≡ f was → Same n (found (record m { streams = change id f m.streams }))
+one-change id f was now m n c e i = elim (same_or_not i id) [
+  | inl q ↦ rw q (look-change id f m.streams was c.here ∙ (ap Some (sym e) ∙ sym c.now))
+  | inr d ↦ look-change_other i id f m.streams d ∙ sym (c.others i d)
+]
+
+pub syn-refused : (counted : Bool) (id d : ℕ) (more : List (ℕ × Part)) (g : Streams) (m : Machine) → hears m ≡ true → (refuses m || counted) ≡ true → LawStep true id (Syn d) more g m →
+    Arrives (syn_came true id d more g) m (counted_by (SynArrives id counted)) m.me.offered
+syn-refused counted id d more g m h refused k =
+    let went : Moves (SynRefused ∷ []) k.was k.now = subst (λ z. Moves z k.was k.now) k.are k.went in
+    let streams : List (ℕ × Stream) = change id (after SynRefused) m.streams in
+    let n : Machine = record m { streams = streams } in
+    let is : moved_by (SynArrives id counted) m ≡ n = rw refused refl in
+    record {
+      streams = streams;
+      moves = SynArrives id counted ∷ [];
+      did = ((h, (k.was, k.there, went.0)), (0, omega arith, (sym is, refl)));
+      refines = refines-same _ k.later _ (one-change id (after SynRefused) k.was k.now m k.later k.changes went.1) k.refines;
+    }
+
+no-or : (b : Bool) → (b || false) ≡ b
+no-or true = refl
+no-or false = refl
+
+pub syn-offered : (id d : ℕ) (more : List (ℕ × Part)) (g : Streams) (m : Machine) → hears m ≡ true → refuses m ≡ false → LawStep false id (Syn d) more g m →
+    Arrives (syn_came false id d more g) m 0 (m.me.offered ++ id ∷ [])
+syn-offered id d more g m h room k =
+    let went : Moves (SynOffered ∷ Return d ∷ []) k.was k.now = subst (λ z. Moves z k.was k.now) k.are k.went in
+    let first : List (ℕ × Stream) = change id (after SynOffered) m.streams in
+    let one : Machine = record m { streams = first; me = record m.me { offered = m.me.offered ++ id ∷ [] } } in
+    let s = stream-moves id (Return d ∷ []) (after SynOffered k.was) k.now one h (refl, tt) (look-change id (after SynOffered) m.streams k.was k.there) went.1 in
+    let is : moved_by (SynArrives id false) m ≡ one = rw (no-or (refuses m), room) refl in
+    let last : Machine = record one { streams = s.streams } in
+    let changed : Changes id k.was k.now (found m) (found last) = record { here = k.there; now = s.changed.now; others = λ i o. s.changed.others i o ∙ look-change_other i id (after SynOffered) m.streams o } in
+    record {
+      streams = s.streams;
+      moves = SynArrives id false ∷ OfStream id (Return d) ∷ [];
+      did = ((h, (k.was, k.there, went.0)), (0, refl, subst (λ z. FreeMoves (OfStream id (Return d) ∷ []) z 0 last) (sym is) s.did));
+      refines = refines-same _ k.later _ (changes-same id k.was k.now (found m) k.later _ k.changes changed) k.refines;
+    }
