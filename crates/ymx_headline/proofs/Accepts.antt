@@ -28,9 +28,8 @@ use Rattle.ymx_session_law.specs.Settled.{IsSettled}
 use Rattle.ymx_session_law.proofs.Entries.{look-change_same, look-change_other}
 use Rattle.ymx_session_law.proofs.HistoriesKeep.{gives-keep}
 use Rattle.ymx_session_law.proofs.SettledFrames.{gives-settled}
-use Rattle.ymx_machine_law.specs.Numbers.{HasOrder}
 use Rattle.ymx_machine_law.proofs.StreamFacts.{when}
-use Rattle.ymx_headline.specs.Agrees.{AgreesAs, Keeps, found}
+use Rattle.ymx_headline.specs.Agrees.{AgreesAs, IsNumbered, Keeps, found}
 use Rattle.ymx_headline.proofs.Mirrors.{refines-same, order-call, parity}
 use Rattle.ymx_headline.proofs.Tables.{change-found, keeps-put, table-changes, over-is}
 use Rattle.ymx_headline.proofs.StreamCalls.{Called, open-rule, closed-rule, refused-at_both}
@@ -62,7 +61,7 @@ offered-there (Some d) e = record { end = d; there = refl; phase = offered-is d.
 
 accepts-agree : (x y : Role) (w : World) (m : Machine) (h : AgreesAs x y w m) (id : ℕ) (ids : List ℕ) → w.a.offered ≡ id ∷ ids → is_closed w.a.status ≡ false →
     IsWithin (on_stream id (end_accept (is_lost w.a.status)) (record w.a { offered = ids })) → IsSettled (on_stream id (end_accept (is_lost w.a.status)) (record w.a { offered = ids })) →
-    HasOrder (record m { streams = change id (stream_accept m.me.lost) m.streams; me = record m.me { offered = ids } }) →
+    IsNumbered (record m { streams = change id (stream_accept m.me.lost) m.streams; me = record m.me { offered = ids } }) →
     AgreesAs x y (record w { a = on_stream id (end_accept (is_lost w.a.status)) (record w.a { offered = ids }) }) (record m { streams = change id (stream_accept m.me.lost) m.streams; me = record m.me { offered = ids } })
 accepts-agree x y w m h id ids e open_ within settled order =
     let g = h.streams in

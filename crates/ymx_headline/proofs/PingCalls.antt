@@ -28,9 +28,8 @@ use Rattle.ymx_session_law.proofs.HistoriesKeep.{gives-keep}
 use Rattle.ymx_session_law.proofs.Pings.{pending-added, number-free}
 use Rattle.ymx_session_law.proofs.SettledFrames.{gives-settled}
 use Rattle.ymx_session_law.proofs.Splits.{same_or_not, agrees}
-use Rattle.ymx_machine_law.specs.Numbers.{HasOrder}
 use Rattle.ymx_machine_law.proofs.StreamFacts.{when}
-use Rattle.ymx_headline.specs.Agrees.{AgreesAs, SamePings, Sender, Receiver, Text, PingsUnderWay, sending, hearing, entry_number, number_of, count_in, asks, is_asked_at, is_there_at}
+use Rattle.ymx_headline.specs.Agrees.{AgreesAs, IsNumbered, SamePings, Sender, Receiver, Text, PingsUnderWay, sending, hearing, entry_number, number_of, count_in, asks, is_asked_at, is_there_at}
 use Rattle.ymx_headline.proofs.Mirrors.{order-call, parity}
 use Rattle.ymx_headline.proofs.Accepts.{so-true, so-false}
 use Rattle.ymx_headline.proofs.Places.{placed, places-distinct, place-asked, asked-back, asked-asked_same, asked-asked_other, free-same, free-fits, collected-numbers, collected-back, collected-back_other, collected-asked, collected-pending}
@@ -82,7 +81,7 @@ answerer-text s r bytes parts places f t = record {
 
 pings-change : (x y : Role) (w : World) (m : Machine) (h : AgreesAs x y w m) (p : Pings) (next : ℕ) (places : List (ℕ × PingPlace)) → SamePings p next places → Answered m.me.pings places →
     ((frames : List (List ℕ)) → PingsUnderWay (sending w.a m.me) frames → StillAsked (sending w.a m.me) frames p places) →
-    IsWithin (record w.a { pings = p }) → IsSettled (record w.a { pings = p }) → HasOrder (record m { me = record m.me { next_ping = next; pings = places } }) →
+    IsWithin (record w.a { pings = p }) → IsSettled (record w.a { pings = p }) → IsNumbered (record m { me = record m.me { next_ping = next; pings = places } }) →
     AgreesAs x y (record w { a = record w.a { pings = p } }) (record m { me = record m.me { next_ping = next; pings = places } })
 pings-change x y w m h p next places same answered still within settled order = record {
   roles = h.roles;
@@ -161,7 +160,7 @@ ping-still s k frames e free none h =
     }
 
 ping-agrees : (x y : Role) (w : World) (m : Machine) (h : AgreesAs x y w m) (k : ℕ) → k ≡ next_number w.a.pings → IsWithin (record w.a { pings = pinged w.a.pings }) → IsSettled (record w.a { pings = pinged w.a.pings }) →
-    HasOrder (record m { me = asked k m.me }) → AgreesAs x y (record w { a = record w.a { pings = pinged w.a.pings } }) (record m { me = asked k m.me })
+    IsNumbered (record m { me = asked k m.me }) → AgreesAs x y (record w { a = record w.a { pings = pinged w.a.pings } }) (record m { me = asked k m.me })
 ping-agrees x y w m h k e within settled order =
     let free : is_pending k w.a.pings.pending ≡ false = rw e (number-free w.a.pings h.a.within.pings.count h.a.within.pings) in
     let none = none-there m.me.pings w.a.pings.pending k h.a.pings.numbers free in

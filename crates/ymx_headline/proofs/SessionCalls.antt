@@ -28,9 +28,8 @@ use Rattle.ymx_session_law.specs.Settled.{IsSettled}
 use Rattle.ymx_session_law.proofs.HistoriesKeep.{gives-keep}
 use Rattle.ymx_session_law.proofs.SettledFrames.{gives-settled}
 use Rattle.ymx_session_law.proofs.Splits.{both_of}
-use Rattle.ymx_machine_law.specs.Numbers.{HasOrder}
 use Rattle.ymx_machine_law.proofs.StreamFacts.{when}
-use Rattle.ymx_headline.specs.Agrees.{AgreesAs, SameAway, Sender, Receiver, Text, AwayUnderWay, sending, hearing, arrives, found, count_in, is_go_away}
+use Rattle.ymx_headline.specs.Agrees.{AgreesAs, IsNumbered, SameAway, Sender, Receiver, Text, AwayUnderWay, sending, hearing, arrives, found, count_in, is_go_away}
 use Rattle.ymx_headline.proofs.Accepts.{so-true, so-false}
 use Rattle.ymx_headline.proofs.Mirrors.{refines-same, order-call, parity}
 use Rattle.ymx_headline.proofs.PingCalls.{refused-is}
@@ -82,7 +81,7 @@ said-text s r bytes parts there h t = record {
 }
 
 away-agrees : (x y : Role) (w : World) (m : Machine) (h : AgreesAs x y w m) → IsWithin (record w.a { away = session_says w.a.away }) → IsSettled (record w.a { away = session_says w.a.away }) →
-    HasOrder (record m { me = record m.me { away = says_away m.me.away } }) → AgreesAs x y (record w { a = record w.a { away = session_says w.a.away } }) (record m { me = record m.me { away = says_away m.me.away } })
+    IsNumbered (record m { me = record m.me { away = says_away m.me.away } }) → AgreesAs x y (record w { a = record w.a { away = session_says w.a.away } }) (record m { me = record m.me { away = says_away m.me.away } })
 away-agrees x y w m h within settled order = record {
   roles = h.roles;
   streams = h.streams;
@@ -165,7 +164,7 @@ closed-deaf r p e = let k = (both_of (not p.stopped) false e).1 in absurd cc
 closed-refines : (g : Streams) (m : Found) → Refines g m → Refines (acts Ends g) m
 closed-refines g m r = let k = step Ends g m tt r in refines-same (acts Ends g) k.0 m (λ i. sym (k.1 i)) k.2
 
-close-agrees : (x y : Role) (w : World) (m : Machine) (h : AgreesAs x y w m) → IsWithin (close w.a).next → IsSettled (close w.a).next → HasOrder (record m { me = record m.me { closed = true } }) →
+close-agrees : (x y : Role) (w : World) (m : Machine) (h : AgreesAs x y w m) → IsWithin (close w.a).next → IsSettled (close w.a).next → IsNumbered (record m { me = record m.me { closed = true } }) →
     AgreesAs x y (record w { a = (close w.a).next }) (record m { me = record m.me { closed = true } })
 close-agrees x y w m h within settled order = record {
   roles = h.roles;

@@ -224,7 +224,7 @@ still-as x y w m h a b p q =
     let yours : g.b.window ≡ m.you.window = h.b.records.window ∙ sym h.b.whole.window in
     let each : (id : ℕ) → StillIf g.a.window g.b.window (look id m.streams) = all-still g (found m) quiet h.refines in
     record {
-      streams = all-streams m.me.window m.you.window m.streams h.order.once (λ id. subst (λ n. StillIf m.me.window n (look id m.streams)) yours (subst (λ n. StillIf n g.b.window (look id m.streams)) mine (each id)));
+      streams = all-streams m.me.window m.you.window m.streams h.order.order.once (λ id. subst (λ n. StillIf m.me.window n (look id m.streams)) yours (subst (λ n. StillIf n g.b.window (look id m.streams)) mine (each id)));
       away_me = ab.away;
       away_you = ba.away;
       pings_me = all-back m.me.pings (places-distinct m.me.pings w.a.pings.pending h.a.pings.numbers h.a.within.pings.once) ab.asked ba.there;
