@@ -1,5 +1,5 @@
 -- What follows of a run of two sessions (this project's own).
-use Rattle.std.specs.Prelude.{◌≡◌, ◌≤◌, ◌<◌, ◌^◌, ℕ, List, Bool, true, false, Option, None, Some}
+use Rattle.std.specs.Prelude.{◌≡◌, ◌≤◌, ◌<◌, ◌^◌, ℕ, List, Bool, true, false, nat_lt, Option, None, Some}
 use Rattle.ymx_model.specs.declared.types.Step.{Step}
 use Rattle.ymx_model.specs.declared.types.Answer.{Answer}
 use Rattle.ymx_model.specs.declared.types.Answer.TheVariants as answer
@@ -7,9 +7,9 @@ use Rattle.ymx_model.specs.declared.types.Role.TheVariants.{Client, Server}
 use Rattle.ymx_model.specs.Lanes.{first_credit}
 use Rattle.ymx_model.specs.Streams.{is_live}
 use Rattle.ymx_model.specs.Records.{End}
-use Rattle.ymx_model.specs.Sessions.{Session, is_own}
+use Rattle.ymx_model.specs.Sessions.{Session, is_own, is_running}
 use Rattle.ymx_model.specs.Emissions.{Choice}
-use Rattle.ymx_model.specs.Worlds.{World}
+use Rattle.ymx_model.specs.Worlds.{World, Pipe}
 use Rattle.ymx_model.specs.Machines.{Machine}
 use Rattle.ymx_model.specs.MachineRuns.{is_broken}
 use Rattle.ymx_headline.specs.Agrees.{RunsAlike, Agrees}
@@ -39,3 +39,23 @@ breaks_off _ = false
 abbrev pub is_live_in : Option End → Bool
 is_live_in None = false
 is_live_in (Some e) = is_live e.phase
+
+-- ---- nothing sticks
+
+-- a pipe that wasn't stopped, and whose end wasn't told
+pub record IsOpenPipe (p : Pipe) : Type 0 where
+  pub on : p.stopped ≡ false
+  pub untold : p.ended ≡ false
+
+-- a world in which nothing was stopped, ended, closed or broken
+pub record IsOpenWorld (w : World) : Type 0 where
+  pub a : is_running w.a.status ≡ true
+  pub b : is_running w.b.status ≡ true
+  pub ab : IsOpenPipe w.ab
+  pub ba : IsOpenPipe w.ba
+
+-- an emission that gave bytes, or a delivery that took some
+abbrev pub carries_bytes : Answer → Bool
+carries_bytes (answer.Emitted count) = nat_lt 0 count
+carries_bytes (answer.Fed fed) = nat_lt 0 fed.taken
+carries_bytes _ = false
