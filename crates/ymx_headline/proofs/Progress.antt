@@ -30,7 +30,7 @@ pub record GoesOn (st : Step) (w : World) : Type 0 where
   pub given : Answer
   pub next : World
   pub steps : StepOfA in_turn st given w next
-  pub carries : carries_bytes given ≡ true
+  pub carries : carries_bytes st given ≡ true
 
 -- ---- an emission
 
@@ -87,7 +87,7 @@ pub record Moves (w : World) : Type 0 where
   pub given : Answer
   pub next : World
   pub steps : Steps in_turn st given w next
-  pub carries : carries_bytes given ≡ true
+  pub carries : carries_bytes st given ≡ true
 
 quiet-pipe : (p : Pipe) → IsOpenPipe p → p.bytes ≡ [] → is_quiet_pipe p ≡ true
 quiet-pipe p o e = rw (e, o.on, o.untold) refl
