@@ -38,7 +38,7 @@ abbrev pub asked : List Ping → ℕ
 asked [] = 0
 asked (p ∷ ps) = one_if (is_asked p.stage) + asked ps
 
-one_if-most : (b : Bool) → one_if b ≤ 1
+pub one_if-most : (b : Bool) → one_if b ≤ 1
 one_if-most true = omega arith
 one_if-most false = omega arith
 
@@ -167,7 +167,7 @@ abbrev pub weights : List (List ℕ) → ℕ
 weights [] = 0
 weights (f ∷ fs) = weight f + weights fs
 
-weight-most : (bytes : List ℕ) → weight bytes ≤ 2
+pub weight-most : (bytes : List ℕ) → weight bytes ≤ 2
 weight-most bytes = let k = one_if-most (may_answer (header_of bytes)) in omega (arith, k)
 
 pub weights-most : (frames : List (List ℕ)) → weights frames ≤ 2 * length frames
