@@ -15,10 +15,11 @@ use Rattle.ymx_model.specs.Records.{End, takes_payload, gets_credit, gets_fin, g
 use Rattle.ymx_model.specs.Pings.{answered}
 use Rattle.ymx_model.specs.GoAway.{away_comes}
 use Rattle.ymx_model.specs.Tables.{look, added, removed}
-use Rattle.ymx_model.specs.Sessions.{Session, Incoming, breaks, is_broken, is_running, is_told, is_own, on_stream, drop_id, settled}
+use Rattle.ymx_model.specs.Sessions.{Session, Incoming, breaks, is_broken, is_deaf, is_running, is_told, is_own, on_stream, drop_id, settled}
 use Rattle.ymx_model.specs.Sessions.Incoming.{Head, Payload}
 use Rattle.ymx_model.specs.Arrivals.{payload, delta, answers_with, ping_comes, go_away_comes, expects, record_fault, reset_comes, ends_now, acknowledges, gets_head, meets, meets_some, unless_fault, offer, refuses, syn_fault, syn_comes, header_fault, head_comes, piece_comes}
 use Rattle.ymx_model.specs.Worlds.{record_load, one_if, is_inside}
+use Rattle.ymx_session_law.proofs.FramesKeep.{unless_fault-keeps}
 use Rattle.ymx_session_law.proofs.Splits.{split, agrees}
 use Rattle.ymx_headline.proofs.Loads.{loads, effort, may_answer, Eases, eases-same, eases-then, removed-eases, settled-eases, loads-change, loads-added, asked-answered, one_if-most}
 
@@ -199,3 +200,42 @@ head-heads lacks h s i none =
     let t : Session = if h.kind == 2 then ping_comes h s else if h.kind == 3 then go_away_comes h s else if has_syn h then syn_comes lacks h s else meets_some h (look h.id s.table.entries) s in
     let z : head_comes lacks h s ≡ t = ap (λ o. unless_fault o s t) none in
     subst (Heads (payload h == 0) (one_if (may_answer h)) s) (sym z) (kind-heads lacks h s i (h.kind == 2) refl (h.kind == 3) refl)
+
+-- ---- a session that hears stays so, or breaks
+
+abbrev Awake : Session → Type 0
+Awake s = is_deaf s.status ≡ false
+
+expects-awake : (h : Header) (stray : Bool) (s : Session) → Awake s → Awake (expects h stray s)
+expects-awake h stray s a = split Awake (payload h == 0) s (record s { incoming = Payload h.id (payload h) (has_fin h) stray }) (λ t. a) (λ f. a)
+
+meets-awake : (h : Header) (e : End) (s : Session) → Awake s → Awake (meets h e s)
+meets-awake h e s a =
+    let acked = on_stream h.id (acknowledges (is_own s.role h.id) h) s in
+    let credited = on_stream h.id (gets_head (is_own s.role h.id) h) s in
+    split Awake (has_rst h) (expects h true (reset_comes h.id e acked)) (expects h false credited)
+    (λ t. expects-awake h true (reset_comes h.id e acked) (ap is_deaf (reset-eases h.id e acked).status ∙ a))
+    (λ f. expects-awake h false credited a)
+
+pub head-awake : (lacks : Bool) (h : Header) (s : Session) → Awake s → Awake (head_comes lacks h s)
+head-awake lacks h s a =
+    unless_fault-keeps Awake (header_fault h s) s _ (λ f. refl) (λ none.
+    split Awake (h.kind == 2) (ping_comes h s) _ (λ t. split Awake (has_syn h) (answers_with (Pong h.length) s) (record s { pings = answered h.length s.pings }) (λ e. a) (λ e. a)) (λ p.
+    split Awake (h.kind == 3) (go_away_comes h s) _ (λ t.
+    split Awake (nat_lt 2 h.length) _ _ (λ e. refl) (λ e. split Awake (h.length == 1) _ _ (λ e. refl) (λ e. split Awake (h.length == 2) _ _ (λ e. refl) (λ e. a)))) (λ q.
+    split Awake (has_syn h) (syn_comes lacks h s) (meets_some h (look h.id s.table.entries) s)
+    (λ t. unless_fault-keeps Awake (syn_fault h s) s _ (λ f. refl) (λ none.
+    split Awake (refuses s || lacks) _ _ (λ e. expects-awake h true (answers_with (Reject h.id) s) a)
+    (λ e. meets-awake h (offer s) (record s { table = added h.id (offer s) s.table; offered = s.offered ++ h.id ∷ [] }) a)))
+    (λ t. of (look h.id s.table.entries)))))
+  where
+    of : (o : Option End) → Awake (meets_some h o s)
+    of None = expects-awake h true s a
+    of (Some e) = unless_fault-keeps Awake (record_fault h e) s (meets h e s) (λ f. refl) (λ none. meets-awake h e s a)
+
+-- ---- a piece of a payload
+
+pub piece-eases : (bytes : List ℕ) (id n : ℕ) (fin stray : Bool) (s : Session) → effort (piece_comes bytes id n fin stray s) ≤ effort s
+piece-eases bytes id n fin true s = omega arith
+piece-eases bytes id n fin false s =
+    let l = loads-change s.table.window id (gets_piece (fin && not (nat_lt (length bytes) n)) bytes) s.table.entries (piece-more s.table.window (fin && not (nat_lt (length bytes) n)) bytes) in omega (arith, l)
