@@ -143,7 +143,7 @@ in-settled lacks b s (Head seen) d w k =
     (λ f. same-settled s _ refl refl refl k)
 in-settled lacks b s (Payload id n fin stray) d w k = piece-settled (b ∷ []) id n fin stray s k
 
-takes-settled : (bytes : List ℕ) (s t : Session) (starved : ℕ) → Takes bytes s t starved → IsWithin s → IsSettled s → IsSettled t
+pub takes-settled : (bytes : List ℕ) (s t : Session) (starved : ℕ) → Takes bytes s t starved → IsWithin s → IsSettled s → IsSettled t
 takes-settled [] s t starved p w k = subst IsSettled (sym p.0) k
 takes-settled (b ∷ bytes) s t starved (lacks, more, free, e, p) w k =
     takes-settled bytes (byte_comes lacks b s) t more p (byte-keeps lacks b s free w)

@@ -115,7 +115,7 @@ pub record Left (incoming : Incoming) (rest : List ℕ) (frames : List (List ℕ
   pub sum : frames ≡ gone ++ left
   pub follow : Follow incoming rest left
 
-no-tail : (xs : List ℕ) → length xs ≡ 0 → xs ≡ []
+pub no-tail : (xs : List ℕ) → length xs ≡ 0 → xs ≡ []
 no-tail [] e = refl
 no-tail (x ∷ xs) e = absurd (omega arith)
 
@@ -136,29 +136,29 @@ payload-left false id n fin stray b rest (x ∷ []) frames m some l a e =
     record { gone = []; left = frames; sum = refl; follow = record { tail = []; lacks = refl; each = a; text = cc } }
 payload-left false id n fin stray b rest (x ∷ y ∷ tail) frames m some l a e = absurd (grind (arith, nat_tests))
 
-piece-incoming : (b id n : ℕ) (fin stray : Bool) (s : Session) →
+pub piece-incoming : (b id n : ℕ) (fin stray : Bool) (s : Session) →
     (piece_comes (b ∷ []) id n fin stray s).incoming ≡ (if nat_lt 1 n then Payload id (n - 1) fin stray else Head [])
 piece-incoming b id n fin true s = refl
 piece-incoming b id n fin false s = refl
 
 -- ---- a byte of a header
 
-assoc : (xs : List ℕ) (b : ℕ) (rest : List ℕ) → (xs ++ b ∷ []) ++ rest ≡ xs ++ b ∷ rest
+pub assoc : (xs : List ℕ) (b : ℕ) (rest : List ℕ) → (xs ++ b ∷ []) ++ rest ≡ xs ++ b ∷ rest
 assoc [] b rest = refl
 assoc (x ∷ xs) b rest = ap (λ ys. x ∷ ys) (assoc xs b rest)
 
 -- behind twelve bytes of a text stands what follows them in its first frame
-behind : (head rest f more : List ℕ) → length head ≡ 12 → 12 ≤ length f → head ++ rest ≡ f ++ more → rest ≡ drop 12 f ++ more
+pub behind : (head rest f more : List ℕ) → length head ≡ 12 → 12 ≤ length f → head ++ rest ≡ f ++ more → rest ≡ drop 12 f ++ more
 behind head rest f more l m e =
     let at : drop 12 (head ++ rest) ≡ rest = rw (← l) (drop-append_seam head rest) in
     sym at ∙ ap (drop 12) e ∙ drop-append-le 12 f more m
 
 -- the header that they make is its header
-same-header : (head rest f more : List ℕ) → length head ≡ 12 → 12 ≤ length f → head ++ rest ≡ f ++ more → header_of f ≡ header_of head
+pub same-header : (head rest f more : List ℕ) → length head ≡ 12 → 12 ≤ length f → head ++ rest ≡ f ++ more → header_of f ≡ header_of head
 same-header head rest f more l m e =
     sym (header_of-append f more m) ∙ ap header_of (sym e) ∙ header_of-append head rest (omega arith)
 
-drop-length : (f : List ℕ) (n : ℕ) → length f ≡ 12 + n → length (drop 12 f) ≡ n
+pub drop-length : (f : List ℕ) (n : ℕ) → length f ≡ 12 + n → length (drop 12 f) ≡ n
 drop-length f n e = grind (arith, common_steps)
 
 whole-left : (h : Header) (s : Session) (head rest f : List ℕ) (fs : List (List ℕ)) → h ≡ header_of head → Awaits h s →

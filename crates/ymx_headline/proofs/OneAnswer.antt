@@ -1,0 +1,87 @@
+-- A frame makes at most one answer, and the frame of an answer none.
+use Rattle.std.proofs.Common.{◌≡◌, ℕ, ◌+◌, ◌≤◌, List, [], ◌∷◌, ◌++◌, length, Bool, true, false, ◌&&◌, ◌||◌, ◌==◌, nat_lt, Option, None, Some, refl, sym, ap, ◌∙◌, arith, length-append}
+use Rattle.ymx_header.specs.declared.header.Header.{Header}
+use Rattle.ymx_header.specs.Headers.{header_of, has_syn, has_fin, has_rst}
+use Rattle.ymx_model.specs.declared.types.Response.{Response}
+use Rattle.ymx_model.specs.declared.types.Response.TheVariants.{Pong, Reject}
+use Rattle.ymx_model.specs.Streams.{is_offered}
+use Rattle.ymx_model.specs.Records.{End, gets_rst}
+use Rattle.ymx_model.specs.Pings.{answered}
+use Rattle.ymx_model.specs.Tables.{look, added, removed}
+use Rattle.ymx_model.specs.Sessions.{Session, is_own, is_spent, on_stream, drop_id, settled}
+use Rattle.ymx_model.specs.Sessions.Incoming.{Payload}
+use Rattle.ymx_model.specs.Arrivals.{payload, answers_with, ping_comes, go_away_comes, expects, record_fault, reset_comes, acknowledges, gets_head, meets, meets_some, offer, refuses, syn_fault, syn_comes, header_fault, head_comes}
+use Rattle.ymx_model.specs.Emissions.{answer_frame}
+use Rattle.ymx_session_law.proofs.FramesKeep.{unless_fault-keeps}
+use Rattle.ymx_session_law.proofs.Splits.{split}
+
+abbrev Same : Session → Session → Type 0
+Same s t = t.answers ≡ s.answers
+
+expects-same : (h : Header) (stray : Bool) (s t : Session) → Same s t → Same s (expects h stray t)
+expects-same h stray s t e = split (Same s) (payload h == 0) t (record t { incoming = Payload h.id (payload h) (has_fin h) stray }) (λ t. e) (λ f. e)
+
+reset-same : (id : ℕ) (e : End) (s : Session) → Same s (reset_comes id e s)
+reset-same id e s =
+    let t : Session = on_stream id gets_rst s in
+    split (Same s) (is_offered e.phase) (record s { table = removed id s.table; offered = drop_id id s.offered }) (settled id t) (λ y. refl)
+    (λ n. split (Same s) (is_spent t.table.window t.begun id (look id t.table.entries)) (record t { table = removed id t.table }) t (λ y. refl) (λ n. refl))
+
+meets-same : (h : Header) (e : End) (s : Session) → Same s (meets h e s)
+meets-same h e s =
+    let acked = on_stream h.id (acknowledges (is_own s.role h.id) h) s in
+    let credited = on_stream h.id (gets_head (is_own s.role h.id) h) s in
+    split (Same s) (has_rst h) (expects h true (reset_comes h.id e acked)) (expects h false credited)
+    (λ t. expects-same h true s (reset_comes h.id e acked) (reset-same h.id e acked)) (λ f. expects-same h false s credited refl)
+
+some-same : (h : Header) (o : Option End) (s : Session) → Same s (meets_some h o s)
+some-same h None s = expects-same h true s s refl
+some-same h (Some e) s = unless_fault-keeps (Same s) (record_fault h e) s (meets h e s) (λ f. refl) (λ none. meets-same h e s)
+
+away-same : (h : Header) (s : Session) → Same s (go_away_comes h s)
+away-same h s = split (Same s) (nat_lt 2 h.length) _ _ (λ e. refl) (λ e. split (Same s) (h.length == 1) _ _ (λ e. refl) (λ e. split (Same s) (h.length == 2) _ _ (λ e. refl) (λ e. refl)))
+
+-- ---- at most one
+
+abbrev AtMostOne : Session → Session → Type 0
+AtMostOne s t = length t.answers ≤ length s.answers + 1
+
+few : (s t : Session) → Same s t → AtMostOne s t
+few s t e = let l = ap length e in omega (arith, l)
+
+one-more : (r : Response) (s : Session) → AtMostOne s (answers_with r s)
+one-more r s = let l = length-append s.answers (r ∷ []) in omega (arith, l)
+
+expects-few : (h : Header) (stray : Bool) (s t : Session) → AtMostOne s t → AtMostOne s (expects h stray t)
+expects-few h stray s t e = split (AtMostOne s) (payload h == 0) t (record t { incoming = Payload h.id (payload h) (has_fin h) stray }) (λ t. e) (λ f. e)
+
+syn-few : (lacks : Bool) (h : Header) (s : Session) → AtMostOne s (syn_comes lacks h s)
+syn-few lacks h s =
+    let made : Session = record s { table = added h.id (offer s) s.table; offered = s.offered ++ h.id ∷ [] } in
+    unless_fault-keeps (AtMostOne s) (syn_fault h s) s _ (λ f. few s s refl) (λ none.
+    split (AtMostOne s) (refuses s || lacks) (expects h true (answers_with (Reject h.id) s)) (meets h (offer s) made)
+    (λ e. expects-few h true s (answers_with (Reject h.id) s) (one-more (Reject h.id) s)) (λ e. few s (meets h (offer s) made) (meets-same h (offer s) made)))
+
+pub one-answer : (lacks : Bool) (h : Header) (s : Session) → AtMostOne s (head_comes lacks h s)
+one-answer lacks h s =
+    let P = AtMostOne s in
+    unless_fault-keeps P (header_fault h s) s _ (λ f. few s s refl) (λ none.
+    split P (h.kind == 2) (ping_comes h s) _ (λ t. split P (has_syn h) (answers_with (Pong h.length) s) (record s { pings = answered h.length s.pings }) (λ e. one-more (Pong h.length) s) (λ e. few s s refl)) (λ a.
+    split P (h.kind == 3) (go_away_comes h s) _ (λ t. few s (go_away_comes h s) (away-same h s)) (λ b.
+    split P (has_syn h) (syn_comes lacks h s) (meets_some h (look h.id s.table.entries) s) (λ t. syn-few lacks h s)
+    (λ t. few s (meets_some h (look h.id s.table.entries) s) (some-same h (look h.id s.table.entries) s)))))
+
+-- ---- none to an answer
+
+-- a frame without SYN makes none
+no-syn-same : (lacks : Bool) (h : Header) (s : Session) → has_syn h ≡ false → Same s (head_comes lacks h s)
+no-syn-same lacks h s no_syn =
+    let P = Same s in
+    unless_fault-keeps P (header_fault h s) s _ (λ f. refl) (λ none.
+    split P (h.kind == 2) (ping_comes h s) _ (λ t. split P (has_syn h) (answers_with (Pong h.length) s) (record s { pings = answered h.length s.pings }) (λ e. (let no : true ≡ false = sym e ∙ no_syn in absurd cc)) (λ e. refl)) (λ a.
+    split P (h.kind == 3) (go_away_comes h s) _ (λ t. away-same h s) (λ b.
+    split P (has_syn h) (syn_comes lacks h s) (meets_some h (look h.id s.table.entries) s) (λ e. (let no : true ≡ false = sym e ∙ no_syn in absurd cc)) (λ t. some-same h (look h.id s.table.entries) s))))
+
+pub none-to-an_answer : (lacks : Bool) (r : Response) (s : Session) → Same s (head_comes lacks (header_of (answer_frame r)) s)
+none-to-an_answer lacks (Pong n) s = no-syn-same lacks (header_of (answer_frame (Pong n))) s refl
+none-to-an_answer lacks (Reject id) s = no-syn-same lacks (header_of (answer_frame (Reject id))) s refl

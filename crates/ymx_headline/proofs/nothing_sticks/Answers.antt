@@ -1,0 +1,16 @@
+use Rattle.ymx_headline.proofs.nothing_sticks.Goals as goal
+use Rattle.ymx_headline.proofs.Bound.{bound}
+use Rattle.ymx_headline.proofs.OneAnswer.{one-answer, none-to-an_answer}
+use Rattle.ymx_headline.proofs.Progress.{goes-on}
+
+pub returns-clause-goes_on : goal.returns-clause-goes_on
+returns-clause-goes_on c = λ w h o n. let k = goes-on w h o n in (k.st, k.given, k.next, k.steps, k.carries)
+
+pub returns-clause-bounded : goal.returns-clause-bounded
+returns-clause-bounded c = bound
+
+pub returns-clause-one_answer : goal.returns-clause-one_answer
+returns-clause-one_answer c = one-answer
+
+pub returns-clause-none_to_an_answer : goal.returns-clause-none_to_an_answer
+returns-clause-none_to_an_answer c = none-to-an_answer
