@@ -189,7 +189,7 @@ header-byte x y lacks b rest seen w m h k inc f =
 -- ---- records that a piece of a payload, or a head, changes
 
 -- an end that is absent takes nothing
-absent-takes : (p : Phase) → is_absent p ≡ true → takes p ≡ false
+pub absent-takes : (p : Phase) → is_absent p ≡ true → takes p ≡ false
 absent-takes p e = grind arith
 
 piece-absent : (last : Bool) (bytes : List ℕ) (e : End) → is_absent e.phase ≡ true → gets_piece last bytes e ≡ e
