@@ -161,14 +161,14 @@ parts-split id a b c d more e =
     ap (λ fs. tagged id (a ++ fs) ++ more) (sym e)
     ∙ (ap (λ fs. tagged id fs ++ more) (sym (append_assoc a c d)) ∙ (ap (λ ps. ps ++ more) (tagged-append id (a ++ c) d) ∙ append_assoc (tagged id (a ++ c)) (tagged id d) more))
 
-keeps-some : (answers : List Response) (id : ℕ) (f : End → End) (entries : List (ℕ × End)) (e : End) (ends : ℕ → End) → look id entries ≡ Some e → ((i : ℕ) → Keeps answers i (look i entries) (ends i)) →
+pub keeps-some : (answers : List Response) (id : ℕ) (f : End → End) (entries : List (ℕ × End)) (e : End) (ends : ℕ → End) → look id entries ≡ Some e → ((i : ℕ) → Keeps answers i (look i entries) (ends i)) →
     (i : ℕ) → Keeps answers i (look i (change id f entries)) (put id (f (ends id)) ends i)
 keeps-some answers id f entries e ends l h =
     let was : Keeps answers id (Some e) (ends id) = subst (λ o. Keeps answers id o (ends id)) l (h id) in
     let now : look id (change id f entries) ≡ Some (f e) = look-change_same id f entries ∙ rw l refl in
     keeps-put answers id entries (change id f entries) (f (ends id)) ends (λ i n. h i) (λ i n. look-change_other id i f entries n) (subst (λ o. Keeps answers id o (f (ends id))) (sym now) (ap f was.0, was.1))
 
-unless-none : (o : Option Fault) (s t : Session) → o ≡ None → unless_fault o s t ≡ t
+pub unless-none : (o : Option Fault) (s t : Session) → o ≡ None → unless_fault o s t ≡ t
 unless-none o s t e = rw e refl
 
 pub at-record : (x y : Role) (lacks : Bool) (b : ℕ) (seen rest : List ℕ) (w : World) (m : Machine) (h : AgreesAs x y w m) (k : TakingHead x y lacks b seen rest w m h) (e : End) →
