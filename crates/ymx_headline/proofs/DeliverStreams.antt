@@ -88,7 +88,7 @@ no-syn_starves h s e = rw e (none _ _ _)
 abbrev pub body_of : (frame : List ℕ) → List ℕ
 body_of frame = drop 12 frame
 
-is-not : (h : Header) (n : ℕ) → h.kind < 2 → 2 ≤ n → (h.kind == n) ≡ false
+pub is-not : (h : Header) (n : ℕ) → h.kind < 2 → 2 ≤ n → (h.kind == n) ≡ false
 is-not h n k l = grind (arith, nat_tests)
 
 pub stream-text : (x y : Role) (lacks : Bool) (b : ℕ) (seen rest : List ℕ) (w : World) (m : Machine) (h : AgreesAs x y w m) (k : TakingHead x y lacks b seen rest w m h) (stray : Bool) (parts : List (ℕ × Part)) →
@@ -156,7 +156,7 @@ no-record x y lacks b seen rest_ w m h k kind syn rst none =
 
 -- ---- at a record
 
-parts-split : (id : ℕ) (a b c d : List Part) (more : List (ℕ × Part)) → c ++ d ≡ b → tagged id (a ++ b) ++ more ≡ tagged id (a ++ c) ++ (tagged id d ++ more)
+pub parts-split : (id : ℕ) (a b c d : List Part) (more : List (ℕ × Part)) → c ++ d ≡ b → tagged id (a ++ b) ++ more ≡ tagged id (a ++ c) ++ (tagged id d ++ more)
 parts-split id a b c d more e =
     ap (λ fs. tagged id (a ++ fs) ++ more) (sym e)
     ∙ (ap (λ fs. tagged id fs ++ more) (sym (append_assoc a c d)) ∙ (ap (λ ps. ps ++ more) (tagged-append id (a ++ c) d) ∙ append_assoc (tagged id (a ++ c)) (tagged id d) more))
