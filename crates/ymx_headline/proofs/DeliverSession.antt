@@ -90,12 +90,12 @@ session-arrives x y w m h rest pings away answers mine yours mark move here reje
 
 -- ---- the frame says nothing of streams
 
-record SessionFrame (x y : Role) (lacks : Bool) (b : ℕ) (seen rest : List ℕ) (w : World) (m : Machine) (h : AgreesAs x y w m) (k : TakingHead x y lacks b seen rest w m h) : Type 0 where
-  none_follows : awaited (header_of (seen ++ b ∷ [])) true ≡ Head []
-  says : h.streams.ba ≡ parts_left (awaited (header_of (seen ++ b ∷ [])) true) (body_of k.first.frame) ++ all_parts k.first.frames
-  starves_none : starves lacks b w.a w.a.incoming ≡ 0
+pub record SessionFrame (x y : Role) (lacks : Bool) (b : ℕ) (seen rest : List ℕ) (w : World) (m : Machine) (h : AgreesAs x y w m) (k : TakingHead x y lacks b seen rest w m h) : Type 0 where
+  pub none_follows : awaited (header_of (seen ++ b ∷ [])) true ≡ Head []
+  pub says : h.streams.ba ≡ parts_left (awaited (header_of (seen ++ b ∷ [])) true) (body_of k.first.frame) ++ all_parts k.first.frames
+  pub starves_none : starves lacks b w.a w.a.incoming ≡ 0
 
-session-frame : (x y : Role) (lacks : Bool) (b : ℕ) (seen rest : List ℕ) (w : World) (m : Machine) (h : AgreesAs x y w m) (k : TakingHead x y lacks b seen rest w m h) → nat_lt (header_of (seen ++ b ∷ [])).kind 2 ≡ false → SessionFrame x y lacks b seen rest w m h k
+pub session-frame : (x y : Role) (lacks : Bool) (b : ℕ) (seen rest : List ℕ) (w : World) (m : Machine) (h : AgreesAs x y w m) (k : TakingHead x y lacks b seen rest w m h) → nat_lt (header_of (seen ++ b ∷ [])).kind 2 ≡ false → SessionFrame x y lacks b seen rest w m h k
 session-frame x y lacks b seen rest w m h k high =
     let hd = header_of (seen ++ b ∷ []) in
     let no_data : (hd.kind == 0) ≡ false = grind (arith, nat_tests) in
@@ -112,7 +112,7 @@ session-frame x y lacks b seen rest w m h k high =
     none-starved false q r s = refl
 
 -- the text behind such a frame
-session-text : (x y : Role) (lacks : Bool) (b : ℕ) (seen rest : List ℕ) (w : World) (m : Machine) (h : AgreesAs x y w m) (k : TakingHead x y lacks b seen rest w m h) (f : SessionFrame x y lacks b seen rest w m h k) (mark : Mark) (mine yours : List (ℕ × PingPlace)) →
+pub session-text : (x y : Role) (lacks : Bool) (b : ℕ) (seen rest : List ℕ) (w : World) (m : Machine) (h : AgreesAs x y w m) (k : TakingHead x y lacks b seen rest w m h) (f : SessionFrame x y lacks b seen rest w m h k) (mark : Mark) (mine yours : List (ℕ × PingPlace)) →
     AwayUnderWay (record (sending w.b m.you) { mark = mark; places = yours }) k.first.frames → PingsUnderWay (record (sending w.b m.you) { mark = mark; places = yours }) k.first.frames →
     PongsUnderWay (record (sending w.b m.you) { mark = mark; places = yours }) (record (hearing w.a m.me) { incoming = Head []; places = mine }) k.first.frames →
     Text (record (sending w.b m.you) { mark = mark; places = yours }) (record (hearing w.a m.me) { incoming = Head []; places = mine }) rest h.streams.ba
@@ -121,20 +121,20 @@ session-text x y lacks b seen rest w m h k f mark mine yours away pings pongs =
 
 -- ---- counts
 
-one-less : (n : ℕ) → n + 1 ≤ 1 → n ≡ 0
+pub one-less : (n : ℕ) → n + 1 ≤ 1 → n ≡ 0
 one-less n l = omega arith
 
-some-more : (n : ℕ) → nat_lt 0 (n + 1) ≡ true
+pub some-more : (n : ℕ) → nat_lt 0 (n + 1) ≡ true
 some-more n = grind (arith, nat_tests)
 
-count-less : (test : List ℕ → Bool) (f : List ℕ) (fs : List (List ℕ)) → count_in test fs ≤ count_in test (f ∷ fs)
+pub count-less : (test : List ℕ → Bool) (f : List ℕ) (fs : List (List ℕ)) → count_in test fs ≤ count_in test (f ∷ fs)
 count-less test f fs = of (test f)
   where
     of : (z : Bool) → count_in test fs ≤ (if z then count_in test fs + 1 else count_in test fs)
     of true = omega arith
     of false = omega arith
 
-no-count : (n : ℕ) → n ≡ 0 → nat_lt 0 n ≡ true → ⊥
+pub no-count : (n : ℕ) → n ≡ 0 → nat_lt 0 n ≡ true → ⊥
 no-count n z t = absurd (grind (arith, nat_tests))
 
 -- ---- a go away
