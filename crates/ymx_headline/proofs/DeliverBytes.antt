@@ -93,7 +93,7 @@ pub record Taking (x y : Role) (lacks : Bool) (b : ℕ) (rest : List ℕ) (w : W
   pub within : IsWithin (byte_comes lacks b w.a)
   pub settled : IsSettled (byte_comes lacks b w.a)
 
-no-stop : (p : Pipe) (b : ℕ) (rest : List ℕ) → (p.stopped ≡ true → p.bytes ≡ []) → p.bytes ≡ b ∷ rest → p.stopped ≡ false
+pub no-stop : (p : Pipe) (b : ℕ) (rest : List ℕ) → (p.stopped ≡ true → p.bytes ≡ []) → p.bytes ≡ b ∷ rest → p.stopped ≡ false
 no-stop p b rest e f = of p.stopped refl
   where
     of : (z : Bool) → p.stopped ≡ z → p.stopped ≡ false
@@ -212,7 +212,7 @@ abbrev piece_done : (b id n : ℕ) (fin : Bool) → Session → Session
 piece_done b id n fin s = record s { table = on id (gets_piece (fin && not (nat_lt 1 n)) (b ∷ [])) s.table; incoming = piece_left id n fin false }
 
 -- a stray one changes nothing
-stray-byte : (x y : Role) (lacks : Bool) (b : ℕ) (rest : List ℕ) (id n : ℕ) (fin : Bool) (w : World) (m : Machine) (h : AgreesAs x y w m) → Taking x y lacks b rest w m h → w.a.incoming ≡ Payload id n fin true → 0 < n →
+pub stray-byte : (x y : Role) (lacks : Bool) (b : ℕ) (rest : List ℕ) (id n : ℕ) (fin : Bool) (w : World) (m : Machine) (h : AgreesAs x y w m) → Taking x y lacks b rest w m h → w.a.incoming ≡ Payload id n fin true → 0 < n →
     Delivered x y (byte_comes lacks b w.a) rest w m 0
 stray-byte x y lacks b rest id n fin w m h k inc some =
     let t : Session = record w.a { incoming = piece_left id n fin true } in
