@@ -291,7 +291,7 @@ byte-comes id b tail more g m h over runs e r =
       streams = s.streams;
       moves = map (OfStream id) d.3.0;
       did = subst P (keeps-offered id (Data (b ∷ [])) d.3.0 m.me.offered refl refl d.3.1) s.did;
-      refines = refines-same _ k.0 _ (changes-same id d.0 d.1 (found m) k.0 _ d.4 s.changed) (subst (λ l. Refines (came_in 1 l g) k.0) e k.2);
+      refines = refines-same (byte_came id b tail more g) k.0 (found (record m { streams = s.streams })) (changes-same id d.0 d.1 (found m) k.0 (found (record m { streams = s.streams })) d.4 s.changed) (subst (λ l. Refines (came_in 1 l g) k.0) e k.2);
     }
 
 -- ---- a reset
