@@ -17,7 +17,7 @@ use Rattle.ymx_model.specs.Feeds.{Takes, is_stuck, byte_comes, byte_in, starves}
 use Rattle.ymx_model.specs.Worlds.{World, Pipe, held_bytes, lacking}
 use Rattle.ymx_model.specs.Machines.{Machine, hears}
 use Rattle.ymx_model.specs.FreeMoves.{FreeMove, FreeMoves}
-use Rattle.ymx_law.specs.Worlds.{World as Streams, put, put_end, tagged}
+use Rattle.ymx_law.specs.Worlds.{StreamWorld as Streams, put, put_end, tagged}
 use Rattle.ymx_session_law.specs.Limits.{IsWithin}
 use Rattle.ymx_session_law.specs.Settled.{IsSettled}
 use Rattle.ymx_session_law.proofs.Splits.{split, not_lt}

@@ -16,7 +16,7 @@ use Rattle.ymx_model.specs.FreeMoves.FreeMove.{OfStream, SynArrives}
 use Rattle.ymx_law.specs.Flight.{load, is_syn, is_rst}
 use Rattle.ymx_law.specs.Arrivals.{comes_to, MovesOf}
 use Rattle.ymx_law.specs.Faults.{BreaksNothing}
-use Rattle.ymx_law.specs.Worlds.{World as Streams, Machine as Found, AreOne, Changes, Same, Refines, Delivers, Can, came, came_in, of, tagged, put, put_end}
+use Rattle.ymx_law.specs.Worlds.{StreamWorld as Streams, Streams as Found, AreOne, Changes, Same, Refines, Delivers, Can, came, came_in, of, tagged, put, put_end}
 use Rattle.ymx_law.specs.Answers.{end_released}
 use Rattle.ymx_law.specs.Worlds.Act.{Comes, ComesIn, Releases as ActReleases}
 use Rattle.ymx_law.proofs.Worlds.{step, put-same, put-other}

@@ -18,7 +18,7 @@ use Rattle.ymx_model.specs.Feeds.{byte_comes, starves}
 use Rattle.ymx_model.specs.Worlds.{World}
 use Rattle.ymx_model.specs.Machines.{Machine}
 use Rattle.ymx_law.specs.Answers.{end_released}
-use Rattle.ymx_law.specs.Worlds.{World as Streams, put, put_end, tagged}
+use Rattle.ymx_law.specs.Worlds.{StreamWorld as Streams, put, put_end, tagged}
 use Rattle.ymx_session_law.specs.Limits.{is_offered_at, is_listed}
 use Rattle.ymx_session_law.proofs.Splits.{both_of}
 use Rattle.ymx_session_law.proofs.Entries.{look-change_same, look-change_other, look-without_same, look-without_other, distinct-change}

@@ -23,7 +23,7 @@ use Rattle.ymx_model.specs.Machines.{Machine, hears}
 use Rattle.ymx_model.specs.FreeMoves.{FreeMoves, counted_by, refuses as refuses_syn}
 use Rattle.ymx_model.specs.FreeMoves.FreeMove.{SynArrives}
 use Rattle.ymx_law.specs.Arrivals.{refused_end}
-use Rattle.ymx_law.specs.Worlds.{World as Streams, put, put_end, tagged}
+use Rattle.ymx_law.specs.Worlds.{StreamWorld as Streams, put, put_end, tagged}
 use Rattle.ymx_law.proofs.Worlds.{put-same, put-other}
 use Rattle.ymx_session_law.specs.Offers.{IsGoodSyn}
 use Rattle.ymx_session_law.proofs.Splits.{same_or_not, agrees, none_of}

@@ -30,7 +30,7 @@ use Rattle.ymx_model.specs.Emissions.{Choice}
 use Rattle.ymx_model.specs.Worlds.{World, Steps, Runs, StepOfA, answer_of, is_of_a, new_world, mirror as world_mirror}
 use Rattle.ymx_model.specs.Machines.{Machine, mirror, new_machine}
 use Rattle.ymx_model.specs.MachineRuns.{MachineStep, MachineStepOfA}
-use Rattle.ymx_law.specs.Worlds.{World as Streams}
+use Rattle.ymx_law.specs.Worlds.{StreamWorld as Streams}
 use Rattle.ymx_law.proofs.OneStream.{one-shows}
 use Rattle.ymx_machine_law.specs.Runs.{is_live_at_a, is_live_at_b, IsFace, ObeysAt}
 use Rattle.ymx_machine_law.proofs.Maps.{look-mirror, flipped}

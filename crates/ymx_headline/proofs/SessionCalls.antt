@@ -20,7 +20,7 @@ use Rattle.ymx_model.specs.Histories.CallGives.{Outcome as HasOutcome, NoMemory}
 use Rattle.ymx_model.specs.Worlds.{World, Pipe}
 use Rattle.ymx_model.specs.Machines.{Machine}
 use Rattle.ymx_model.specs.MachineRules.{Rule, OpenSideRule, says_away}
-use Rattle.ymx_law.specs.Worlds.{World as Streams, Machine as Found, Refines, acts}
+use Rattle.ymx_law.specs.Worlds.{StreamWorld as Streams, Streams as Found, Refines, acts}
 use Rattle.ymx_law.specs.Worlds.Act.{Ends}
 use Rattle.ymx_law.proofs.Worlds.{step}
 use Rattle.ymx_session_law.specs.Limits.{IsWithin}
