@@ -8,6 +8,7 @@ use Rattle.ymx_model.specs.Machines.{flip_entry}
 use Rattle.ymx_machine_law.specs.Numbers.{is_in, AllOnce}
 use Rattle.ymx_model.proofs.Tests.{when, is-self, is-other}
 use Rattle.ymx_model.proofs.Lists.{look-change_there, look-change_other as others-change, look-added_same, look-added_other, look-added_there}
+pub use Rattle.ymx_model.proofs.Tests.{same_or_not}
 
 pub look-change : {X : Type 0} (i : ℕ) (f : X → X) (xs : List (ℕ × X)) (x : X) → look i xs ≡ Some x → look i (change i f xs) ≡ Some (f x)
 look-change i f xs x e = look-change_there i f xs x e

@@ -16,7 +16,7 @@ use Rattle.ymx_model.specs.Sessions.{Session, is_own, is_spent, on_stream, settl
 use Rattle.ymx_model.specs.Sessions.Incoming.{Payload}
 use Rattle.ymx_model.specs.Calls.{outcome}
 use Rattle.ymx_model.specs.Arrivals.{answers_with, ping_comes, go_away_comes, payload, expects, record_fault, reset_comes, acknowledges, gets_head, meets, meets_some, offer, refuses, syn_fault, syn_comes, header_fault, head_comes, piece_comes}
-use Rattle.ymx_session_law.specs.Refusals.{others, OnlyRecord, OnlyArrived, KeepsOwn, KeepsStreams}
+use Rattle.ymx_session_law.specs.Refusals.{others, OnlyTable, OnlyRecord, OnlyArrived, KeepsOwn, KeepsStreams}
 use Rattle.ymx_model.proofs.Tests.{split}
 use Rattle.ymx_session_law.proofs.StreamCalls.{StaysAt, write-stays, read-stays, finish-stays, reset-stays, forget-stays}
 use Rattle.ymx_session_law.proofs.FramesKeep.{unless_fault-keeps}
@@ -43,20 +43,37 @@ one-gone id f s =
 one : (id : ℕ) (s : Session) → StaysAt (OnlyRecord id s) id s
 one id s = record { now = record { only = refl; window = refl; rest = refl }; changed = λ f. one-changed id f s; gone = λ f. one-gone id f s }
 
-pub write-alone : (id : ℕ) (bytes : List ℕ) (s : Session) → OnlyRecord id s (outcome (call.Write id bytes) s).next
-write-alone id bytes s = write-stays (OnlyRecord id s) id bytes s (one id s)
+pub write-one : (id : ℕ) (bytes : List ℕ) (s : Session) → OnlyRecord id s (outcome (call.Write id bytes) s).next
+write-one id bytes s = write-stays (OnlyRecord id s) id bytes s (one id s)
 
-pub read-alone : (id max : ℕ) (s : Session) → OnlyRecord id s (outcome (call.Read id max) s).next
-read-alone id max s = read-stays (OnlyRecord id s) id max s (one id s)
+pub read-one : (id max : ℕ) (s : Session) → OnlyRecord id s (outcome (call.Read id max) s).next
+read-one id max s = read-stays (OnlyRecord id s) id max s (one id s)
 
-pub finish-alone : (id : ℕ) (s : Session) → OnlyRecord id s (outcome (call.Finish id) s).next
-finish-alone id s = finish-stays (OnlyRecord id s) id s (one id s)
+pub finish-one : (id : ℕ) (s : Session) → OnlyRecord id s (outcome (call.Finish id) s).next
+finish-one id s = finish-stays (OnlyRecord id s) id s (one id s)
 
-pub reset-alone : (id : ℕ) (s : Session) → OnlyRecord id s (outcome (call.Reset id) s).next
-reset-alone id s = reset-stays (OnlyRecord id s) id s (one id s)
+pub reset-one : (id : ℕ) (s : Session) → OnlyRecord id s (outcome (call.Reset id) s).next
+reset-one id s = reset-stays (OnlyRecord id s) id s (one id s)
 
-pub forget-alone : (id : ℕ) (s : Session) → OnlyRecord id s (outcome (call.Forget id) s).next
-forget-alone id s = forget-stays (OnlyRecord id s) id s (one id s)
+pub forget-one : (id : ℕ) (s : Session) → OnlyRecord id s (outcome (call.Forget id) s).next
+forget-one id s = forget-stays (OnlyRecord id s) id s (one id s)
+
+-- and so but for the table nothing changes
+
+pub write-alone : (id : ℕ) (bytes : List ℕ) (s : Session) → OnlyTable s (outcome (call.Write id bytes) s).next
+write-alone id bytes s = (write-one id bytes s).only
+
+pub read-alone : (id max : ℕ) (s : Session) → OnlyTable s (outcome (call.Read id max) s).next
+read-alone id max s = (read-one id max s).only
+
+pub finish-alone : (id : ℕ) (s : Session) → OnlyTable s (outcome (call.Finish id) s).next
+finish-alone id s = (finish-one id s).only
+
+pub reset-alone : (id : ℕ) (s : Session) → OnlyTable s (outcome (call.Reset id) s).next
+reset-alone id s = (reset-one id s).only
+
+pub forget-alone : (id : ℕ) (s : Session) → OnlyTable s (outcome (call.Forget id) s).next
+forget-alone id s = (forget-one id s).only
 
 -- ---- a piece of a payload
 

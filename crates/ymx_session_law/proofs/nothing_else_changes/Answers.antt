@@ -1,6 +1,6 @@
 use Rattle.ymx_session_law.proofs.Refusals.{refusals}
 use Rattle.ymx_session_law.proofs.Others.{write-others, read-others, finish-others, reset-others, forget-others, head-others, piece-others}
-use Rattle.ymx_session_law.proofs.Alone.{write-alone, read-alone, finish-alone, reset-alone, forget-alone, piece-alone, stream_frame, session_frame}
+use Rattle.ymx_session_law.proofs.Alone.{write-one, read-one, finish-one, reset-one, forget-one, piece-alone, stream_frame, session_frame}
 use Rattle.ymx_session_law.proofs.OthersOut.{open-others, open_with-others, accept-others, begin-others, moves-others}
 use Rattle.ymx_session_law.proofs.nothing_else_changes.Goals as goal
 
@@ -14,11 +14,11 @@ returns c = record {
   forget = forget-others;
   head = head-others;
   piece = piece-others;
-  write_alone = write-alone;
-  read_alone = read-alone;
-  finish_alone = finish-alone;
-  reset_alone = reset-alone;
-  forget_alone = forget-alone;
+  write_alone = write-one;
+  read_alone = read-one;
+  finish_alone = finish-one;
+  reset_alone = reset-one;
+  forget_alone = forget-one;
   piece_alone = piece-alone;
   stream_frame = stream_frame;
   session_frame = session_frame;
