@@ -1,5 +1,5 @@
 -- What clap makes of words that ask for frames.
-use Rattle.std.proofs.Common.{◌≡◌, ◌==◌, ◌+◌, ◌++◌, ◌<◌, ◌≤◌, ◌^◌, ℕ, true, false, List, [], ◌∷◌, Option, Some, None, arith, rules, refl, ◌∙◌, ap, codes, decimal, inl, inr, get_or}
+use Rattle.std.proofs.Common.{◌≡◌, ◌==◌, ◌++◌, ◌<◌, ◌≤◌, ◌^◌, ℕ, true, false, List, [], ◌∷◌, Option, Some, None, arith, rules, refl, ap, codes, decimal, inl, inr, get_or}
 use Rattle.std.specs.Prelude.{◌≢◌, pos, option_and_then, slice_get}
 use Rattle.std.specs.Fmt.{digits}
 use Rattle.std.specs.Str.{bytes_eq}

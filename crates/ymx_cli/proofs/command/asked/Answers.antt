@@ -2,7 +2,7 @@ use Rattle.std.proofs.Common.{◌≡◌, ◌≤◌, Option, Some, ◌∙◌, ap,
 use Rattle.std.specs.Prelude.{option_and_then, unwrap_or}
 use Rattle.std.specs.Str.Parse.{ParsesUnsigned, ExplainsUnsignedError, HasUnsignedDigitsIfOk}
 use Rattle.clap.specs.Walk.{first_of}
-use Rattle.clap.specs.Words.{Text, first_value, found_of, one_text, rows_of, subcommand_rows_of}
+use Rattle.clap.specs.Words.{Text, found_of, one_text, rows_of, subcommand_rows_of}
 use Rattle.clap.proofs.WalkLemmas.{first_value-rows, one_text-rows}
 use Rattle.ymx_cli.specs.CommandLine.{file_of}
 use Rattle.ymx_cli.proofs.Read.{name_met, named_is, named_text, read_limit, read_number}

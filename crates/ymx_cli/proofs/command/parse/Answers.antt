@@ -1,11 +1,10 @@
-use Rattle.std.proofs.Common.{rules, map, ap, List, ◌∙◌, ◌≡◌, ◌⊎◌, [], inl, inr, subst, sym}
-use Rattle.std.specs.Prelude.{IfSome}
+use Rattle.std.proofs.Common.{rules, map, ap, List, ◌∙◌, ◌≡◌, [], inl, inr, subst, sym}
 use Rattle.clap.specs.Faults.{fault_of, is_simple_and_free}
 use Rattle.clap.specs.Kinds.{HasKind}
-use Rattle.clap.specs.Words.{App, Row, Text, is_simple, kind_of, subcommand_of, subcommand_rows_of, takes}
+use Rattle.clap.specs.Words.{App, Text, is_simple, kind_of, subcommand_of, subcommand_rows_of, takes}
 use Rattle.clap.specs.declared.error.Error.{Error}
 use Rattle.clap.specs.declared.error.kind.ErrorKind.TheVariants.{OutOfMemory}
-use Rattle.ymx_cli.specs.CommandLine.{AsksNoHelp, HasGoodLimit, IsFrames, IsMistake, NamesNoFrames, named_words, ymx_app}
+use Rattle.ymx_cli.specs.CommandLine.{AsksNoHelp, HasGoodLimit, IsMistake, named_words, ymx_app}
 use Rattle.ymx_cli.proofs.Asked.{asked_taken, is_simple-ymx}
 use Rattle.ymx_cli.proofs.Limits.{is_simple_and_free-ymx, limit_in_range}
 use Rattle.ymx_cli.proofs.command.parse.Goals as goal

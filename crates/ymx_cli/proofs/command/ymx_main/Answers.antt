@@ -1,4 +1,4 @@
-use Rattle.std.proofs.Common.{◌≡◌, ◌≤◌, ℕ, Option, Some, None, [], rules, ap, subst, sym, inl, inr, refl}
+use Rattle.std.proofs.Common.{◌≡◌, ◌≤◌, Option, Some, None, [], rules, ap, subst, sym, inl, inr, refl}
 use Rattle.std.specs.Prelude.{unwrap_or}
 use Rattle.std.specs.Io.KnownBytes.{Keeps}
 use Rattle.clap.specs.Words.{Text}

@@ -1,0 +1,70 @@
+#!/bin/sh
+# Tries the program from outside, as ./ymx builds it: its exit status, and what it writes on standard output
+# and on standard error. The texts that it must write stand in this folder.
+set -eu
+here=$(cd "$(dirname "$0")" && pwd)
+root=$(cd "$here/../.." && pwd)
+scratch=$(mktemp -d)
+trap 'rm -rf "$scratch"' EXIT
+"$root/ymx" frames < /dev/null
+cd "$scratch"
+passed=0
+failed=0
+: > nothing
+printf 'window flags=0001 id=1 len=0\ndata flags=0000 id=1 len=5 68656c6c6f\n' > lines
+cp "$root/examples/hello.yamux" hello
+head -c 11 hello > rest
+# the header of a Data frame of 262,145 bytes
+printf '\0\0\0\0\0\0\0\1\0\4\0\1' > long
+
+# expect STATUS OUTPUT ERRORS INPUT WORDS..: the program ends so, on this file as its standard input
+expect() {
+    status=$1 output=$2 errors=$3 input=$4
+    shift 4
+    got=0
+    "$root/out/ymx" "$@" < "$input" > out 2> err || got=$?
+    if [ "$got" = "$status" ] && cmp -s out "$output" && cmp -s err "$errors"; then
+        passed=$((passed + 1))
+    else
+        failed=$((failed + 1))
+        echo "FAIL  ymx $*: status $got, and not $status, or another text:"
+        cat out err
+    fi
+}
+
+# says TEXT..: a file with these lines
+says() {
+    printf '%s\n' "$@" > said
+    echo said
+}
+
+expect 0 lines nothing hello frames
+expect 0 lines nothing hello frames -
+expect 0 lines nothing rest frames hello
+expect 0 lines nothing rest frames --limit 262144 hello
+expect 1 "$(says 'rest 11')" nothing rest frames
+expect 1 "$(says 'fault B5 at 0')" nothing long frames
+expect 1 "$(says 'rest 12')" nothing long frames --limit=300000
+expect 1 "$(says 'rest 12')" nothing long frames --limit 300000
+expect 1 nothing "$(says "ymx: the file can't be opened")" hello frames absent
+expect 1 nothing "$(says 'ymx: reading failed')" hello frames .
+for name in script local remote selftest; do
+    expect 1 nothing "$(says 'ymx: not built yet')" hello $name
+done
+expect 0 "$here/help" nothing hello --help
+expect 0 "$here/frames_help" nothing hello frames --help
+expect 0 "$(says 'ymx 0.1.0')" nothing hello --version
+expect 2 nothing "$here/mistake" hello frames --limit 5
+expect 2 nothing "$(says 'error: a word of the command line is not UTF-8')" hello frames "$(printf '\377')"
+if [ -e /dev/full ]; then
+    got=0
+    "$root/out/ymx" frames < hello > /dev/full 2> err || got=$?
+    if [ "$got" = 1 ] && cmp -s err "$(says 'ymx: writing failed')"; then
+        passed=$((passed + 1))
+    else
+        failed=$((failed + 1))
+        echo "FAIL  ymx frames, on a full device: status $got: $(cat err)"
+    fi
+fi
+echo "$passed passed, $failed failed"
+[ "$failed" = 0 ]

@@ -1,0 +1,41 @@
+#!/bin/sh
+# Runs all tests that stand beside `rt ci`, a line each, and what a test that failed has to say. With --all it
+# tries the wrong bodies too, which takes an hour or more. Ends with 'N passed, M failed'.
+set -eu
+root=$(cd "$(dirname "$0")/.." && pwd)
+log=$(mktemp)
+trap 'rm -f "$log"' EXIT
+trap 'exit 130' INT TERM
+passed=0
+failed=0
+
+# try NAME COMMAND..: one test
+try() {
+    name=$1
+    shift
+    began=$(date +%s)
+    if "$@" > "$log" 2>&1 < /dev/null; then
+        passed=$((passed + 1))
+        echo "ok    $name: $(tail -n 1 "$log") ($(($(date +%s) - began)) seconds)"
+    else
+        failed=$((failed + 1))
+        echo "FAIL  $name"
+        cat "$log"
+    fi
+}
+
+case ${1-} in
+'' | --all) ;;
+*)
+    echo "usage: tests/run.sh [--all]" >&2
+    exit 2
+    ;;
+esac
+try 'the program from outside' "$root/tests/program/run.sh"
+try 'programs that must not compile' "$root/tests/must_not_compile/run.sh"
+try 'each allocation fails once' "$root/tests/no_memory/run.sh"
+if [ "${1-}" = --all ]; then
+    try 'wrong bodies' "$root/tests/wrong_bodies.sh"
+fi
+echo "$passed passed, $failed failed"
+[ "$failed" = 0 ]
