@@ -15,11 +15,11 @@ use Rattle.ymx_model.specs.Tables.{Table, look, change, on}
 use Rattle.ymx_model.specs.Sessions.{Session, Incoming, is_running, is_lost, is_broken, is_closed, is_deaf}
 use Rattle.ymx_model.specs.Sessions.Incoming.{Head, Payload}
 use Rattle.ymx_model.specs.Arrivals.{piece_comes}
-use Rattle.ymx_model.specs.Feeds.{Takes, is_stuck, byte_comes, starves}
+use Rattle.ymx_model.specs.Feeds.{Takes, is_stuck, byte_comes, byte_in, starves}
 use Rattle.ymx_model.specs.Worlds.{World, Pipe, held_bytes, lacking}
 use Rattle.ymx_model.specs.Machines.{Machine, hears}
 use Rattle.ymx_model.specs.FreeMoves.{FreeMove, FreeMoves}
-use Rattle.ymx_law.specs.Worlds.{World as Streams, Refines, put}
+use Rattle.ymx_law.specs.Worlds.{World as Streams, Refines, put, put_end, tagged}
 use Rattle.ymx_law.proofs.Worlds.{put-same, put-other}
 use Rattle.ymx_session_law.specs.Limits.{IsWithin}
 use Rattle.ymx_session_law.specs.Settled.{IsSettled}
@@ -27,11 +27,13 @@ use Rattle.ymx_session_law.proofs.Splits.{split, same_or_not, not_lt}
 use Rattle.ymx_session_law.proofs.Entries.{look-change_same, look-change_other}
 use Rattle.ymx_session_law.proofs.FeedsKeep.{takes-keep}
 use Rattle.ymx_session_law.proofs.SettledFrames.{takes-settled}
+use Rattle.ymx_side_law.specs.Sides.{all_come}
+use Rattle.ymx_world_law.proofs.Fed.{no-tail}
 use Rattle.ymx_headline.specs.Agrees.{AgreesAs, IsNumbered, Keeps, OnlyRejects, RejectsOnce, Text, Sender, Receiver, sending, hearing, found, is_absent, is_rejected, pongs, arrives, parts_left, all_parts}
 use Rattle.ymx_headline.proofs.Mirrors.{order-moves, parity}
 use Rattle.ymx_headline.proofs.Tables.{keeps-put}
-use Rattle.ymx_headline.proofs.DeliverMoves.{Arrives}
-use Rattle.ymx_headline.proofs.DeliverTexts.{answered-text}
+use Rattle.ymx_headline.proofs.DeliverMoves.{Arrives, Plain, byte-comes, parts-come}
+use Rattle.ymx_headline.proofs.DeliverTexts.{answered-text, header-text}
 
 -- Side A takes bytes, of which `rest` are left on the pipe, and is then s.
 pub record Delivered (x y : Role) (s : Session) (rest : List ℕ) (w : World) (m : Machine) (counted : ℕ) : Type 0 where
@@ -91,7 +93,7 @@ pub record Taking (x y : Role) (lacks : Bool) (b : ℕ) (rest : List ℕ) (w : W
   pub within : IsWithin (byte_comes lacks b w.a)
   pub settled : IsSettled (byte_comes lacks b w.a)
 
-no-stop : (p : Pipe) (b : ℕ) (rest : List ℕ) → (p.stopped ≡ true → p.bytes ≡ []) → p.bytes ≡ b ∷ rest → p.stopped ≡ false
+pub no-stop : (p : Pipe) (b : ℕ) (rest : List ℕ) → (p.stopped ≡ true → p.bytes ≡ []) → p.bytes ≡ b ∷ rest → p.stopped ≡ false
 no-stop p b rest e f = of p.stopped refl
   where
     of : (z : Bool) → p.stopped ≡ z → p.stopped ≡ false
@@ -155,3 +157,139 @@ left-of s r b rest parts id n fin stray t (c ∷ tail) some long text says =
 
 left-payload : (s : Sender) (r : Receiver) (b : ℕ) (rest : List ℕ) (parts : List (ℕ × Part)) (id n : ℕ) (fin stray : Bool) → r.incoming ≡ Payload id n fin stray → 0 < n → Text s r (b ∷ rest) parts → LeftPayload s r b rest parts id n fin stray
 left-payload s r b rest parts id n fin stray inc some t = left-of s r b rest parts id n fin stray t t.tail some (rw inc at t.lacks) (rw inc at t.text) (rw inc at t.says)
+
+-- ---- such a byte comes
+
+pub delivered-is : (x y : Role) (s t : Session) (rest : List ℕ) (w : World) (m : Machine) (c d : ℕ) → s ≡ t → c ≡ d → Delivered x y t rest w m d → Delivered x y s rest w m c
+delivered-is x y s t rest w m c d e q k = rw (e, q) k
+
+pub byte-is : (lacks : Bool) (b : ℕ) (s : Session) (i : Incoming) → s.status ≡ Running → s.incoming ≡ i → byte_comes lacks b s ≡ byte_in lacks b s i
+byte-is lacks b s i runs inc = let k : byte_comes lacks b s ≡ byte_in lacks b s s.incoming = rw runs refl in k ∙ ap (byte_in lacks b s) inc
+
+-- nothing of the streams changes
+only-incoming : (x y : Role) (w : World) (m : Machine) (h : AgreesAs x y w m) (i : Incoming) (rest : List ℕ) → IsWithin (record w.a { incoming = i }) → IsSettled (record w.a { incoming = i }) → w.ba.stopped ≡ false →
+    Text (sending w.b m.you) (record (hearing w.a m.me) { incoming = i }) rest h.streams.ba → Delivered x y (record w.a { incoming = i }) rest w m 0
+only-incoming x y w m h i rest within settled runs text =
+    arrival-agrees x y w m h w.a.table w.a.offered m.me.offered w.a.answers i rest h.streams.ba h.streams.a.ends 0 h.a.whole.offered refl h.a.records.each h.a.records.once (λ n. refl) within settled runs text
+    (record { streams = m.streams; moves = []; did = (refl, refl); refines = h.refines })
+
+pub header-byte : (x y : Role) (lacks : Bool) (b : ℕ) (rest seen : List ℕ) (w : World) (m : Machine) (h : AgreesAs x y w m) → Taking x y lacks b rest w m h → w.a.incoming ≡ Head seen → (length seen == 11) ≡ false →
+    Delivered x y (byte_comes lacks b w.a) rest w m (starves lacks b w.a w.a.incoming)
+header-byte x y lacks b rest seen w m h k inc f =
+    let t : Session = record w.a { incoming = Head (seen ++ b ∷ []) } in
+    let is : byte_comes lacks b w.a ≡ t = byte-is lacks b w.a (Head seen) k.runs inc ∙ rw f refl in
+    let none : starves lacks b w.a w.a.incoming ≡ 0 = rw (inc, f, no-starving) refl in
+    delivered-is x y (byte_comes lacks b w.a) t rest w m _ 0 is none
+    (only-incoming x y w m h (Head (seen ++ b ∷ [])) rest (subst IsWithin is k.within) (subst IsSettled is k.settled) k.carries (header-text (sending w.b m.you) (hearing w.a m.me) b seen rest h.streams.ba inc k.text))
+  where
+    no-starving : (p q : Bool) → (p && false && q) ≡ false
+    no-starving true q = refl
+    no-starving false q = refl
+
+-- ---- records that a piece of a payload, or a head, changes
+
+-- an end that is absent takes nothing
+pub absent-takes : (p : Phase) → is_absent p ≡ true → takes p ≡ false
+absent-takes p e = grind arith
+
+piece-absent : (last : Bool) (bytes : List ℕ) (e : End) → is_absent e.phase ≡ true → gets_piece last bytes e ≡ e
+piece-absent true bytes e a = let k = absent-takes e.phase a in rw (k, k) refl
+piece-absent false bytes e a = let k = absent-takes e.phase a in rw k refl
+
+keeps-same : (answers : List Response) (id : ℕ) (f : End → End) (o : Option End) (e : End) → ((d : End) → is_absent d.phase ≡ true → f d ≡ d) → Keeps answers id o e → Keeps answers id (option_map f o) (f e)
+keeps-same answers id f None e s h = subst (λ z. Keeps answers id None z) (sym (s e h.0)) h
+keeps-same answers id f (Some d) e s h = (ap f h.0, h.1)
+
+pub keeps-on : (answers : List Response) (id : ℕ) (f : End → End) (entries : List (ℕ × End)) (ends : ℕ → End) → ((d : End) → is_absent d.phase ≡ true → f d ≡ d) → ((i : ℕ) → Keeps answers i (look i entries) (ends i)) →
+    (i : ℕ) → Keeps answers i (look i (change id f entries)) (put id (f (ends id)) ends i)
+keeps-on answers id f entries ends s h =
+    keeps-put answers id entries (change id f entries) (f (ends id)) ends (λ i n. h i) (λ i n. look-change_other id i f entries n)
+    (subst (λ o. Keeps answers id o (f (ends id))) (sym (look-change_same id f entries)) (keeps-same answers id f (look id entries) (ends id) s (h id)))
+
+-- ---- a byte of a payload
+
+abbrev piece_done : (b id n : ℕ) (fin : Bool) → Session → Session
+piece_done b id n fin s = record s { table = on id (gets_piece (fin && not (nat_lt 1 n)) (b ∷ [])) s.table; incoming = piece_left id n fin false }
+
+-- a stray one changes nothing
+pub stray-byte : (x y : Role) (lacks : Bool) (b : ℕ) (rest : List ℕ) (id n : ℕ) (fin : Bool) (w : World) (m : Machine) (h : AgreesAs x y w m) → Taking x y lacks b rest w m h → w.a.incoming ≡ Payload id n fin true → 0 < n →
+    Delivered x y (byte_comes lacks b w.a) rest w m 0
+stray-byte x y lacks b rest id n fin w m h k inc some =
+    let t : Session = record w.a { incoming = piece_left id n fin true } in
+    let is : byte_comes lacks b w.a ≡ t = byte-is lacks b w.a (Payload id n fin true) k.runs inc in
+    let l = left-payload (sending w.b m.you) (hearing w.a m.me) b rest h.streams.ba id n fin true inc some k.text in
+    let none : parts_left (piece_left id n fin true) l.tail ≡ [] = split (λ i. parts_left i l.tail ≡ []) (nat_lt 1 n) (Payload id (n - 1) fin true) (Head []) (λ q. refl) (λ q. refl) in
+    let same : parts_left (piece_left id n fin true) l.tail ++ l.more ≡ h.streams.ba = ap (λ ps. ps ++ l.more) none ∙ sym l.says in
+    delivered-is x y (byte_comes lacks b w.a) t rest w m 0 0 is refl
+    (only-incoming x y w m h (piece_left id n fin true) rest (subst IsWithin is k.within) (subst IsSettled is k.settled) k.carries
+    (subst (Text (sending w.b m.you) (record (hearing w.a m.me) { incoming = piece_left id n fin true }) rest) same l.text))
+
+and-false : (b : Bool) → (b && false) ≡ false
+and-false true = refl
+and-false false = refl
+
+and-true : (b : Bool) → (b && true) ≡ b
+and-true true = refl
+and-true false = refl
+
+-- the parts that its last byte makes whole
+abbrev last-parts : Bool → ℕ → List Part
+last-parts fin b = Data (b ∷ []) ∷ (if fin then Fin ∷ [] else [])
+
+plain-last : (fin : Bool) (b : ℕ) → Plain (last-parts fin b)
+plain-last true b = (refl, refl, (refl, refl, tt))
+plain-last false b = (refl, refl, tt)
+
+tagged-last : (id : ℕ) (fin : Bool) (b : ℕ) (more : List (ℕ × Part)) → tagged id (last-parts fin b) ++ more ≡ parts_left (Payload id 1 fin false) (b ∷ []) ++ more
+tagged-last id true b more = refl
+tagged-last id false b more = refl
+
+last-come : (fin : Bool) (b window : ℕ) (e : End) → all_come false window (last-parts fin b) e ≡ gets_piece fin (b ∷ []) e
+last-come true b window e = refl
+last-come false b window e = refl
+
+-- another changes its record, if there is one
+pub payload-byte : (x y : Role) (lacks : Bool) (b : ℕ) (rest : List ℕ) (id n : ℕ) (fin : Bool) (w : World) (m : Machine) (h : AgreesAs x y w m) → Taking x y lacks b rest w m h → w.a.incoming ≡ Payload id n fin false → 0 < n →
+    Delivered x y (byte_comes lacks b w.a) rest w m 0
+payload-byte x y lacks b rest id n fin w m h k inc some =
+    delivered-is x y (byte_comes lacks b w.a) (piece_done b id n fin w.a) rest w m 0 0 is refl (of (nat_lt 1 n) refl l.text)
+  where
+    is : byte_comes lacks b w.a ≡ piece_done b id n fin w.a
+    is = byte-is lacks b w.a (Payload id n fin false) k.runs inc
+
+    l : LeftPayload (sending w.b m.you) (hearing w.a m.me) b rest h.streams.ba id n fin false
+    l = left-payload (sending w.b m.you) (hearing w.a m.me) b rest h.streams.ba id n fin false inc some k.text
+
+    last : Bool
+    last = fin && not (nat_lt 1 n)
+
+    g : Streams
+    g = h.streams
+
+    done : (parts : List (ℕ × Part)) → Text (sending w.b m.you) (record (hearing w.a m.me) { incoming = piece_left id n fin false }) rest parts →
+        Arrives (record g { a = put_end id (gets_piece last (b ∷ []) (g.a.ends id)) g.a; ba = parts }) m 0 m.me.offered → Delivered x y (piece_done b id n fin w.a) rest w m 0
+    done parts text a =
+        arrival-agrees x y w m h (on id (gets_piece last (b ∷ [])) w.a.table) w.a.offered m.me.offered w.a.answers (piece_left id n fin false) rest parts (put id (gets_piece last (b ∷ []) (g.a.ends id)) g.a.ends) 0
+        h.a.whole.offered refl (keeps-on w.a.answers id (gets_piece last (b ∷ [])) w.a.table.entries g.a.ends (piece-absent last (b ∷ [])) h.a.records.each) h.a.records.once (λ i. refl)
+        (subst IsWithin is k.within) (subst IsSettled is k.settled) k.carries text a
+
+    more-comes : nat_lt 1 n ≡ true → Delivered x y (piece_done b id n fin w.a) rest w m 0
+    more-comes e =
+        let ends_not : last ≡ false = rw e (and-false fin) in
+        let parts : List (ℕ × Part) = (id, Data l.tail) ∷ (if fin then (id, Fin) ∷ [] else []) ++ l.more in
+        let left : parts_left (piece_left id n fin false) l.tail ++ l.more ≡ parts = rw e refl in
+        let come = byte-comes id b l.tail ((if fin then (id, Fin) ∷ [] else []) ++ l.more) g m k.hears_it k.over k.going l.says h.refines in
+        done parts (subst (Text (sending w.b m.you) (record (hearing w.a m.me) { incoming = piece_left id n fin false }) rest) left l.text)
+        (subst (λ z. Arrives (record g { a = put_end id (gets_piece z (b ∷ []) (g.a.ends id)) g.a; ba = parts }) m 0 m.me.offered) (sym ends_not) come)
+
+    of : (z : Bool) → nat_lt 1 n ≡ z → Text (sending w.b m.you) (record (hearing w.a m.me) { incoming = piece_left id n fin false }) rest (parts_left (piece_left id n fin false) l.tail ++ l.more) → Delivered x y (piece_done b id n fin w.a) rest w m 0
+    of true e text = more-comes e
+    of false e text =
+        let few = not_lt 1 n e in
+        let none : l.tail ≡ [] = no-tail l.tail (let z = l.long in omega (arith, z, few)) in
+        let ends_now : last ≡ fin = rw e (and-true fin) in
+        let left : parts_left (piece_left id n fin false) l.tail ++ l.more ≡ l.more = rw e refl in
+        let says : g.ba ≡ tagged id (last-parts fin b) ++ l.more = (rw none at l.says) ∙ sym (tagged-last id fin b l.more) in
+        let come = (parts-come false id (last-parts fin b) l.more g m k.hears_it (plain-last fin b) k.over k.going says h.refines).come in
+        done l.more (subst (Text (sending w.b m.you) (record (hearing w.a m.me) { incoming = piece_left id n fin false }) rest) left text)
+        (subst (λ z. Arrives (record g { a = put_end id z g.a; ba = l.more }) m 0 m.me.offered) (last-come fin b g.a.window (g.a.ends id) ∙ ap (λ z. gets_piece z (b ∷ []) (g.a.ends id)) (sym ends_now)) come)

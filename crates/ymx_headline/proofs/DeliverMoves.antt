@@ -3,8 +3,9 @@ use Rattle.std.proofs.Common.{◌≡◌, ◌≢◌, ℕ, ◌+◌, List, [], ◌�
 use Rattle.std.proofs.lemmas.Bool.Decides.{nat_tests}
 use Rattle.ymx_model.specs.Streams.{Phase, Stream, Move, Allowed, after, Moves, struck, is_offered}
 use Rattle.ymx_model.specs.Streams.Move.{Arrive, EndArrives, Return, SynOffered, SynRefused, AckArrives, ResetArrives, Released}
-use Rattle.ymx_model.specs.Streams.Phase.{Unborn}
+use Rattle.ymx_model.specs.Streams.Phase.{Unborn, Lingering}
 use Rattle.ymx_model.specs.Records.{End, gets_data}
+use Rattle.ymx_model.specs.Outgoing.{next_kind}
 use Rattle.ymx_model.specs.Parts.{Part}
 use Rattle.ymx_model.specs.Parts.Part.{Syn, Ack, Data, Credit, Fin, Rst}
 use Rattle.ymx_model.specs.Tables.{look, change}
@@ -16,7 +17,8 @@ use Rattle.ymx_law.specs.Flight.{load, is_syn, is_rst}
 use Rattle.ymx_law.specs.Arrivals.{comes_to, MovesOf, Goes}
 use Rattle.ymx_law.specs.Faults.{BreaksNothing}
 use Rattle.ymx_law.specs.Worlds.{World as Streams, Machine as Found, AreOne, Changes, Same, Refines, Delivers, Can, came, came_in, of, tagged, put, put_end}
-use Rattle.ymx_law.specs.Worlds.Act.{Comes, ComesIn}
+use Rattle.ymx_law.specs.Answers.{end_released}
+use Rattle.ymx_law.specs.Worlds.Act.{Comes, ComesIn, Releases as ActReleases}
 use Rattle.ymx_law.proofs.Worlds.{step, put-same, put-other}
 use Rattle.ymx_law.proofs.OneStream.{one-shows}
 use Rattle.ymx_session_law.specs.Limits.{is_listed}
@@ -294,7 +296,7 @@ byte-comes id b tail more g m h over runs e r =
 
 -- ---- a reset
 
-drop-none : (id : ℕ) (ids : List ℕ) → is_listed id ids ≡ false → drop_id id ids ≡ ids
+pub drop-none : (id : ℕ) (ids : List ℕ) → is_listed id ids ≡ false → drop_id id ids ≡ ids
 drop-none id [] e = refl
 drop-none id (x ∷ ids) e = let h = drop-none id ids in grind (arith, nat_tests)
 
@@ -377,4 +379,26 @@ syn-offered id d more g m h room k =
       moves = SynArrives id false ∷ OfStream id (Return d) ∷ [];
       did = ((h, (k.was, k.there, went.0)), (0, refl, subst (λ z. FreeMoves (OfStream id (Return d) ∷ []) z 0 last) (sym is) s.did));
       refines = refines-same _ k.later _ (changes-same id k.was k.now (found m) k.later _ k.changes changed) k.refines;
+    }
+
+-- ---- an end that was given up goes
+
+pub release-comes : (id : ℕ) (e : End) (more : List (ℕ × Part)) (offered : List ℕ) (g : Streams) (m : Machine) → e.phase ≡ Lingering → next_kind g.a.window e ≡ None →
+    Arrives (record g { a = put_end id e g.a; ba = more }) m 0 offered → Arrives (record g { a = put_end id (end_released e) g.a; ba = more }) m 0 offered
+release-comes id e more offered g m lingers none k =
+    let g1 : Streams = record g { a = put_end id e g.a; ba = more } in
+    let m1 : Machine = record m { streams = k.streams; me = record m.me { offered = offered } } in
+    let here : put id e g.a.ends id ≡ e = put-same id e g.a.ends in
+    let can : Can (ActReleases id) g1 = (ap (λ (z : End). z.phase) here ∙ lingers, inr (ap (next_kind g.a.window) here ∙ none)) in
+    let r = step (ActReleases id) g1 (found m1) can k.refines in
+    let streams : List (ℕ × Stream) = change id (after Released) k.streams in
+    let goes : FreeMoves (OfStream id Released ∷ []) m1 0 (record m1 { streams = streams }) = ((refl, refl, (r.1.0, r.1.2.here, r.1.1)), (0, refl, (refl, refl))) in
+    record {
+      streams = streams;
+      moves = k.moves ++ OfStream id Released ∷ [];
+      did = moves-join k.moves (OfStream id Released ∷ []) m m1 (record m1 { streams = streams }) 0 0 k.did goes;
+      refines = refines-ends (record g { a = put_end id (end_released (g1.a.ends id)) g1.a; ba = more }) (put id (end_released e) g.a.ends) _ (λ i. elim (same_or_not i id) [
+        | inl q ↦ rw q (put-same id (end_released e) g.a.ends ∙ sym (put-same id (end_released (g1.a.ends id)) g1.a.ends ∙ ap end_released here))
+        | inr d ↦ put-other i id (end_released e) g.a.ends d ∙ sym (put-other i id (end_released (g1.a.ends id)) g1.a.ends d ∙ put-other i id e g.a.ends d)
+      ]) (refines-same _ r.0 _ (one-change id (after Released) r.1.0 (after Released r.1.0) m1 r.0 r.1.2 refl) r.2);
     }

@@ -31,12 +31,12 @@ use Rattle.ymx_side_law.proofs.Calls.{has-some, settled-has, on-look}
 
 -- ---- parts one after the other
 
-come-append : (refuse : Bool) (window : ℕ) (a b : List Part) (e : End) → all_come refuse window (a ++ b) e ≡ all_come refuse window b (all_come refuse window a e)
+pub come-append : (refuse : Bool) (window : ℕ) (a b : List Part) (e : End) → all_come refuse window (a ++ b) e ≡ all_come refuse window b (all_come refuse window a e)
 come-append refuse window [] b e = refl
 come-append refuse window (f ∷ a) b e = come-append refuse window a b (comes_to refuse window f e)
 
 -- no credit, and no payload, change nothing
-credit-none : (e : End) → gets_credit 0 e ≡ e
+pub credit-none : (e : End) → gets_credit 0 e ≡ e
 credit-none e = grind (arith, common_steps)
 
 data-none : (e : End) → gets_data [] e ≡ e
@@ -45,7 +45,7 @@ data-none e = grind (arith, common_steps)
 -- ---- a head without SYN and RST
 
 -- what the acknowledgement and the credit of a head make of an end
-abbrev credited : (own : Bool) → Header → End → End
+abbrev pub credited : (own : Bool) → Header → End → End
 credited own h e = gets_credit (delta h) (acknowledges own h e)
 
 opening-if : (syn ack loaded fin own : Bool) (d window : ℕ) (e : End) → syn ≡ false → (ack ≡ true → own ≡ true) → (loaded ≡ true → d ≡ 0) → (fin ≡ true → d ≡ 0) →
@@ -57,18 +57,18 @@ opening-if false false false true own d window e s o z y = rw (y refl) (sym (cre
 opening-if false false false false own d window e s o z y = refl
 
 -- Data has no delta
-data-delta : (h : Header) → is_data h ≡ true → delta h ≡ 0
+pub data-delta : (h : Header) → is_data h ≡ true → delta h ≡ 0
 data-delta h d = rw d refl
 
-no-delta : (h : Header) → (has_fin h && delta h == 0) ≡ true → delta h ≡ 0
+pub no-delta : (h : Header) → (has_fin h && delta h == 0) ≡ true → delta h ≡ 0
 no-delta h f = agrees (delta h) 0 (both_of (has_fin h) (delta h == 0) f).1
 
-opening-comes : (own : Bool) (window : ℕ) (h : Header) (e : End) → has_syn h ≡ false → (has_ack h ≡ true → own ≡ true) → all_come false window (opening h) e ≡ credited own h e
+pub opening-comes : (own : Bool) (window : ℕ) (h : Header) (e : End) → has_syn h ≡ false → (has_ack h ≡ true → own ≡ true) → all_come false window (opening h) e ≡ credited own h e
 opening-comes own window h e s o =
     opening-if (has_syn h) (has_ack h) (is_data h) (has_fin h && delta h == 0) own (delta h) window e s o (data-delta h) (no-delta h)
 
 -- the payload and the end that follow
-rest-if : (loaded fin : Bool) (bytes : List ℕ) (window : ℕ) (e : End) → (loaded ≡ false → bytes ≡ []) →
+pub rest-if : (loaded fin : Bool) (bytes : List ℕ) (window : ℕ) (e : End) → (loaded ≡ false → bytes ≡ []) →
     all_come false window ((if loaded then Data bytes ∷ [] else []) ++ (if fin then Fin ∷ [] else [])) e ≡ gets_piece fin bytes e
 rest-if true true bytes window e z = refl
 rest-if true false bytes window e z = refl
@@ -116,23 +116,23 @@ piece-look h bytes e s inc l n f =
     not_less : (n : ℕ) → nat_lt n n ≡ false
     not_less n = grind (arith, nat_tests)
 
-no-bytes : (bytes : List ℕ) → length bytes ≡ 0 → bytes ≡ []
+pub no-bytes : (bytes : List ℕ) → length bytes ≡ 0 → bytes ≡ []
 no-bytes [] e = refl
 no-bytes (b ∷ bytes) e = absurd (omega arith)
 
 -- only Data has a payload
-no-payload : (h : Header) (bytes : List ℕ) → length bytes ≡ payload h → is_data h ≡ false → bytes ≡ []
+pub no-payload : (h : Header) (bytes : List ℕ) → length bytes ≡ payload h → is_data h ≡ false → bytes ≡ []
 no-payload h bytes n d = no-bytes bytes (n ∙ rw d refl)
 
 -- a head alone, where no payload follows
-head-alone : (own : Bool) (h : Header) (e : End) → payload h ≡ 0 → gets_head own h e ≡ gets_piece (has_fin h) [] (credited own h e)
+pub head-alone : (own : Bool) (h : Header) (e : End) → payload h ≡ 0 → gets_head own h e ≡ gets_piece (has_fin h) [] (credited own h e)
 head-alone own h e z = of (has_fin h) refl
   where
     of : (b : Bool) → has_fin h ≡ b → gets_head own h e ≡ gets_piece (has_fin h) [] (credited own h e)
     of true f = rw (f, z) (ap gets_fin (sym (data-none (credited own h e))))
     of false f = rw f (sym (data-none (credited own h e)))
 
-head-before : (own : Bool) (h : Header) (e : End) → (payload h == 0) ≡ false → gets_head own h e ≡ credited own h e
+pub head-before : (own : Bool) (h : Header) (e : End) → (payload h == 0) ≡ false → gets_head own h e ≡ credited own h e
 head-before own h e f = of (has_fin h) refl
   where
     of : (b : Bool) → has_fin h ≡ b → gets_head own h e ≡ credited own h e
@@ -261,10 +261,10 @@ unknown lacks h bytes s k y inc l = of (header_fault h s) refl
 
 -- ---- a SYN
 
-syn-opens : (h : Header) → has_syn h ≡ true → opening h ≡ Syn (delta h) ∷ []
+pub syn-opens : (h : Header) → has_syn h ≡ true → opening h ≡ Syn (delta h) ∷ []
 syn-opens h y = rw y refl
 
-own-ack : (h : Header) (e : End) → acknowledges false h e ≡ e
+pub own-ack : (h : Header) (e : End) → acknowledges false h e ≡ e
 own-ack h e = of (has_ack h)
   where
     of : (b : Bool) → (if b && false then gets_ack e else e) ≡ e
@@ -291,7 +291,7 @@ offered-comes h bytes e s g r a b c inc n =
     let P : Session → Type 0 = λ x. look h.id (payload_comes bytes x x.incoming).table.entries ≡ Some (all_come false s.table.window (says h bytes) e) in
     subst P (sym m) (plain-look false h bytes (offer s) t inc there n ∙ ap Some (sym says-it))
 
-refused-stays : (window : ℕ) (loaded fin : Bool) (bytes : List ℕ) →
+pub refused-stays : (window : ℕ) (loaded fin : Bool) (bytes : List ℕ) →
     all_come true window ((if loaded then Data bytes ∷ [] else []) ++ (if fin then Fin ∷ [] else [])) refused_end ≡ refused_end
 refused-stays window true true bytes = refl
 refused-stays window true false bytes = refl
