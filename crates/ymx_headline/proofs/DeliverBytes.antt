@@ -1,35 +1,32 @@
 -- A byte that comes behind the header of a frame, or in it, is moves of the machine.
-use Rattle.std.proofs.Common.{◌≡◌, ◌≢◌, ℕ, ◌+◌, ◌-◌, ◌<◌, List, [], ◌∷◌, ◌++◌, length, Bool, true, false, not, ◌&&◌, ◌||◌, ◌==◌, nat_lt, if◌then◌else◌, Option, None, Some, refl, sym, ap, subst, ◌∙◌, arith, inl, inr}
+use Rattle.std.proofs.Common.{◌≡◌, ℕ, ◌+◌, ◌-◌, ◌<◌, List, [], ◌∷◌, ◌++◌, length, Bool, true, false, not, ◌&&◌, ◌==◌, nat_lt, if◌then◌else◌, Option, None, Some, refl, sym, ap, subst, ◌∙◌, arith}
 use Rattle.std.specs.Prelude.{option_map}
 use Rattle.std.specs.List.{concat}
-use Rattle.std.proofs.lemmas.Bool.Decides.{nat_tests}
 use Rattle.ymx_model.specs.declared.types.Role.{Role}
 use Rattle.ymx_model.specs.declared.types.Response.{Response}
 use Rattle.ymx_model.specs.declared.types.Status.{Status}
-use Rattle.ymx_model.specs.declared.types.Status.TheVariants.{Running, Lost, Broken, Closed}
-use Rattle.ymx_model.specs.Streams.{Phase, Stream, takes}
-use Rattle.ymx_model.specs.Records.{End, gets_data, gets_fin, gets_piece}
+use Rattle.ymx_model.specs.declared.types.Status.TheVariants.{Running}
+use Rattle.ymx_model.specs.Streams.{Phase, takes}
+use Rattle.ymx_model.specs.Records.{End, gets_piece}
 use Rattle.ymx_model.specs.Parts.{Part}
 use Rattle.ymx_model.specs.Parts.Part.{Data, Fin}
 use Rattle.ymx_model.specs.Tables.{Table, look, change, on}
-use Rattle.ymx_model.specs.Sessions.{Session, Incoming, is_running, is_lost, is_broken, is_closed, is_deaf}
+use Rattle.ymx_model.specs.Sessions.{Session, Incoming, is_running, is_lost, is_closed}
 use Rattle.ymx_model.specs.Sessions.Incoming.{Head, Payload}
-use Rattle.ymx_model.specs.Arrivals.{piece_comes}
 use Rattle.ymx_model.specs.Feeds.{Takes, is_stuck, byte_comes, byte_in, starves}
 use Rattle.ymx_model.specs.Worlds.{World, Pipe, held_bytes, lacking}
 use Rattle.ymx_model.specs.Machines.{Machine, hears}
 use Rattle.ymx_model.specs.FreeMoves.{FreeMove, FreeMoves}
-use Rattle.ymx_law.specs.Worlds.{World as Streams, Refines, put, put_end, tagged}
-use Rattle.ymx_law.proofs.Worlds.{put-same, put-other}
+use Rattle.ymx_law.specs.Worlds.{World as Streams, put, put_end, tagged}
 use Rattle.ymx_session_law.specs.Limits.{IsWithin}
 use Rattle.ymx_session_law.specs.Settled.{IsSettled}
-use Rattle.ymx_session_law.proofs.Splits.{split, same_or_not, not_lt}
+use Rattle.ymx_session_law.proofs.Splits.{split, not_lt}
 use Rattle.ymx_session_law.proofs.Entries.{look-change_same, look-change_other}
 use Rattle.ymx_session_law.proofs.FeedsKeep.{takes-keep}
 use Rattle.ymx_session_law.proofs.SettledFrames.{takes-settled}
 use Rattle.ymx_side_law.specs.Sides.{all_come}
 use Rattle.ymx_world_law.proofs.Fed.{no-tail}
-use Rattle.ymx_headline.specs.Agrees.{AgreesAs, IsNumbered, Keeps, OnlyRejects, RejectsOnce, Text, Sender, Receiver, sending, hearing, found, is_absent, is_rejected, pongs, arrives, parts_left, all_parts}
+use Rattle.ymx_headline.specs.Agrees.{AgreesAs, Keeps, RejectsOnce, Text, Sender, Receiver, sending, hearing, is_absent, pongs, parts_left, all_parts}
 use Rattle.ymx_headline.proofs.Mirrors.{order-moves, parity}
 use Rattle.ymx_headline.proofs.Tables.{keeps-put}
 use Rattle.ymx_headline.proofs.DeliverMoves.{Arrives, Plain, byte-comes, parts-come}

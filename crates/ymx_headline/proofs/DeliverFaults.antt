@@ -1,22 +1,19 @@
 -- What breaks no rule of the streams is no fault of a session.
-use Rattle.std.proofs.Common.{◌≡◌, ℕ, ◌+◌, ◌<◌, ◌≤◌, List, [], ◌∷◌, ◌++◌, length, Bool, true, false, not, ◌&&◌, ◌||◌, ◌==◌, nat_lt, if◌then◌else◌, Option, None, Some, refl, sym, ap, subst, ◌∙◌, arith}
-use Rattle.std.specs.Prelude.{is_some}
+use Rattle.std.proofs.Common.{◌≡◌, ℕ, ◌+◌, ◌≤◌, List, [], ◌∷◌, ◌++◌, length, Bool, true, false, not, ◌&&◌, ◌||◌, ◌==◌, nat_lt, if◌then◌else◌, None, refl, sym, ◌∙◌, arith}
 use Rattle.std.proofs.lemmas.Bool.Decides.{nat_tests}
 use Rattle.ymx_header.specs.declared.header.Header.{Header}
 use Rattle.ymx_header.specs.Headers.{has_syn, has_ack, has_fin, has_rst}
-use Rattle.ymx_header.specs.declared.fault.Fault.{Fault}
 use Rattle.ymx_model.specs.Lanes.{first_credit}
-use Rattle.ymx_model.specs.Streams.{Phase, takes}
+use Rattle.ymx_model.specs.Streams.{takes}
 use Rattle.ymx_model.specs.Records.{End, takes_payload, gets_credit, gets_ack}
 use Rattle.ymx_model.specs.Parts.{Part}
-use Rattle.ymx_model.specs.Parts.Part.{Syn, Ack, Data, Credit, Fin, Rst}
+use Rattle.ymx_model.specs.Parts.Part.{Ack, Data, Credit, Fin}
 use Rattle.ymx_model.specs.Tables.{look}
 use Rattle.ymx_model.specs.Sessions.{Session, is_own}
 use Rattle.ymx_model.specs.Arrivals.{is_data, payload, delta, record_fault, header_fault, syn_fault, offer}
-use Rattle.ymx_law.specs.Faults.{BreaksNothing}
-use Rattle.ymx_side_law.specs.Sides.{says, rest}
+use Rattle.ymx_side_law.specs.Sides.{says}
 use Rattle.ymx_side_law.proofs.Comes.{data-delta, no-delta}
-use Rattle.ymx_session_law.proofs.Splits.{split, both_of}
+use Rattle.ymx_session_law.proofs.Splits.{both_of}
 use Rattle.ymx_headline.proofs.DeliverMoves.{AllBreakNothing}
 
 -- ---- a header by itself

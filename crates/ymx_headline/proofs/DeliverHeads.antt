@@ -1,27 +1,21 @@
 -- What the head of a frame of a stream says, does and must not break.
-use Rattle.std.proofs.Common.{◌≡◌, ℕ, ◌+◌, ◌<◌, ◌≤◌, List, [], ◌∷◌, ◌++◌, length, Bool, true, false, not, ◌&&◌, ◌||◌, ◌==◌, nat_lt, if◌then◌else◌, Option, None, Some, refl, sym, ap, subst, ◌∙◌, arith}
-use Rattle.std.proofs.lemmas.Bool.Decides.{nat_tests}
-use Rattle.std.proofs.lemmas.List.{append-nil, append_assoc}
+use Rattle.std.proofs.Common.{◌≡◌, ℕ, List, [], ◌∷◌, ◌++◌, length, Bool, true, false, ◌&&◌, ◌||◌, ◌==◌, if◌then◌else◌, refl, sym, ap, ◌∙◌}
+use Rattle.std.proofs.lemmas.List.{append-nil}
 use Rattle.ymx_header.specs.declared.header.Header.{Header}
-use Rattle.ymx_header.specs.Headers.{has_syn, has_ack, has_fin, has_rst}
-use Rattle.ymx_header.specs.declared.fault.Fault.{Fault}
-use Rattle.ymx_model.specs.Streams.{Phase, takes}
-use Rattle.ymx_model.specs.Records.{End, takes_payload, gets_credit, gets_piece, gets_ack, new_end}
-use Rattle.ymx_model.specs.Streams.Phase.{Offered}
+use Rattle.ymx_header.specs.Headers.{has_syn, has_ack, has_fin}
+use Rattle.ymx_model.specs.Records.{End, gets_credit, gets_piece}
 use Rattle.ymx_model.specs.Parts.{Part}
 use Rattle.ymx_model.specs.Parts.Part.{Syn, Ack, Data, Credit, Fin, Rst}
-use Rattle.ymx_model.specs.Sessions.{Session, Incoming}
 use Rattle.ymx_model.specs.Sessions.Incoming.{Head, Payload}
-use Rattle.ymx_model.specs.Arrivals.{is_data, payload, delta, record_fault, gets_head, header_fault, expects}
+use Rattle.ymx_model.specs.Arrivals.{is_data, payload, delta, gets_head}
 use Rattle.ymx_law.specs.Flight.{is_syn, is_rst}
 use Rattle.ymx_law.specs.Arrivals.{comes_to}
-use Rattle.ymx_law.specs.Faults.{BreaksNothing}
 use Rattle.ymx_law.specs.Worlds.{tagged}
-use Rattle.ymx_side_law.specs.Sides.{opening, rest, says, all_come}
-use Rattle.ymx_side_law.proofs.Comes.{credited, come-append, opening-comes, rest-if, head-alone, head-before, no-payload, no-bytes, data-delta, no-delta, own-ack}
-use Rattle.ymx_session_law.proofs.Splits.{split, agrees, not_lt}
+use Rattle.ymx_side_law.specs.Sides.{opening, rest, all_come}
+use Rattle.ymx_side_law.proofs.Comes.{credited, come-append, opening-comes, rest-if, head-alone, head-before, no-payload, no-bytes, own-ack}
+use Rattle.ymx_session_law.proofs.Splits.{split, agrees}
 use Rattle.ymx_headline.specs.Agrees.{parts_left, is_absent, OnlyRejects}
-use Rattle.ymx_headline.proofs.DeliverMoves.{Plain, AllBreakNothing}
+use Rattle.ymx_headline.proofs.DeliverMoves.{Plain}
 use Rattle.ymx_headline.proofs.DeliverTexts.{awaited}
 use Rattle.ymx_headline.proofs.DeliverBytes.{absent-takes}
 

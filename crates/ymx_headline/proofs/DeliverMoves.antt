@@ -1,20 +1,20 @@
 -- What comes of a stream is moves of the machine.
-use Rattle.std.proofs.Common.{◌≡◌, ◌≢◌, ℕ, ◌+◌, List, [], ◌∷◌, ◌++◌, map, take, Bool, true, false, not, ◌&&◌, ◌||◌, ◌==◌, if◌then◌else◌, Option, None, Some, refl, sym, ap, subst, ◌∙◌, inl, inr, arith}
+use Rattle.std.proofs.Common.{◌≡◌, ℕ, ◌+◌, List, [], ◌∷◌, ◌++◌, map, take, Bool, true, false, ◌||◌, if◌then◌else◌, None, Some, refl, sym, ap, subst, ◌∙◌, inl, inr, arith}
 use Rattle.std.proofs.lemmas.Bool.Decides.{nat_tests}
-use Rattle.ymx_model.specs.Streams.{Phase, Stream, Move, Allowed, after, Moves, struck, is_offered}
+use Rattle.ymx_model.specs.Streams.{Phase, Stream, Move, after, Moves, struck, is_offered}
 use Rattle.ymx_model.specs.Streams.Move.{Arrive, EndArrives, Return, SynOffered, SynRefused, AckArrives, ResetArrives, Released}
-use Rattle.ymx_model.specs.Streams.Phase.{Unborn, Lingering}
+use Rattle.ymx_model.specs.Streams.Phase.{Lingering}
 use Rattle.ymx_model.specs.Records.{End, gets_data}
 use Rattle.ymx_model.specs.Outgoing.{next_kind}
 use Rattle.ymx_model.specs.Parts.{Part}
 use Rattle.ymx_model.specs.Parts.Part.{Syn, Ack, Data, Credit, Fin, Rst}
 use Rattle.ymx_model.specs.Tables.{look, change}
 use Rattle.ymx_model.specs.Sessions.{drop_id}
-use Rattle.ymx_model.specs.Machines.{Machine, SideState, hears}
+use Rattle.ymx_model.specs.Machines.{Machine, hears}
 use Rattle.ymx_model.specs.FreeMoves.{FreeMove, FreeMoves, moved_by, counted_by, is_syn as is_syn_move, is_reset_arriving, refuses}
 use Rattle.ymx_model.specs.FreeMoves.FreeMove.{OfStream, SynArrives}
 use Rattle.ymx_law.specs.Flight.{load, is_syn, is_rst}
-use Rattle.ymx_law.specs.Arrivals.{comes_to, MovesOf, Goes}
+use Rattle.ymx_law.specs.Arrivals.{comes_to, MovesOf}
 use Rattle.ymx_law.specs.Faults.{BreaksNothing}
 use Rattle.ymx_law.specs.Worlds.{World as Streams, Machine as Found, AreOne, Changes, Same, Refines, Delivers, Can, came, came_in, of, tagged, put, put_end}
 use Rattle.ymx_law.specs.Answers.{end_released}
@@ -291,7 +291,7 @@ byte-comes id b tail more g m h over runs e r =
       streams = s.streams;
       moves = map (OfStream id) d.3.0;
       did = subst P (keeps-offered id (Data (b ∷ [])) d.3.0 m.me.offered refl refl d.3.1) s.did;
-      refines = refines-same _ k.0 _ (changes-same id d.0 d.1 (found m) k.0 _ d.4 s.changed) (subst (λ l. Refines (came_in 1 l g) k.0) e k.2);
+      refines = refines-same (byte_came id b tail more g) k.0 (found (record m { streams = s.streams })) (changes-same id d.0 d.1 (found m) k.0 (found (record m { streams = s.streams })) d.4 s.changed) (subst (λ l. Refines (came_in 1 l g) k.0) e k.2);
     }
 
 -- ---- a reset
@@ -336,9 +336,6 @@ reset-comes id more g m h over runs e r listed =
 
 abbrev pub syn_came : (refuse : Bool) → (id d : ℕ) → List (ℕ × Part) → Streams → Streams
 syn_came refuse id d more g = record g { a = put_end id (comes_to refuse g.a.window (Syn d) (g.a.ends id)) g.a; ba = more }
-
-
-
 
 one-change : (id : ℕ) (f : Stream → Stream) (was now : Stream) (m : Machine) (n : Found) → Changes id was now (found m) n → now ≡ f was → Same n (found (record m { streams = change id f m.streams }))
 one-change id f was now m n c e i = elim (same_or_not i id) [

@@ -1,5 +1,5 @@
 -- A ping, and an answer to one, that come are moves of the machine.
-use Rattle.std.proofs.Common.{◌≡◌, ◌≢◌, ℕ, ◌+◌, ◌<◌, ◌≤◌, List, [], ◌∷◌, ◌++◌, map, Bool, true, false, not, ◌&&◌, ◌||◌, ◌==◌, nat_lt, if◌then◌else◌, Option, None, Some, refl, sym, ap, subst, ◌∙◌, inl, inr, arith}
+use Rattle.std.proofs.Common.{◌≡◌, ◌≢◌, ℕ, ◌+◌, ◌≤◌, List, [], ◌∷◌, ◌++◌, map, Bool, true, false, not, ◌&&◌, ◌||◌, ◌==◌, nat_lt, if◌then◌else◌, Some, refl, sym, ap, subst, ◌∙◌, inl, inr, arith}
 use Rattle.std.specs.Prelude.{is_some}
 use Rattle.std.proofs.lemmas.Bool.Decides.{nat_tests}
 use Rattle.ymx_header.specs.declared.header.Header.{Header}
@@ -11,9 +11,9 @@ use Rattle.ymx_model.specs.declared.types.PingStage.TheVariants.{Back as BackSta
 use Rattle.ymx_model.specs.Parts.{Part}
 use Rattle.ymx_model.specs.Pings.{Ping, Pings, is_pending, has_back, has_asked, staged, answered}
 use Rattle.ymx_model.specs.Tables.{look, change}
-use Rattle.ymx_model.specs.Sessions.{Session, is_running}
+use Rattle.ymx_model.specs.Sessions.{Session}
 use Rattle.ymx_model.specs.Sessions.Incoming.{Head}
-use Rattle.ymx_model.specs.Arrivals.{answers_with, head_comes}
+use Rattle.ymx_model.specs.Arrivals.{head_comes}
 use Rattle.ymx_model.specs.Feeds.{byte_comes, starves}
 use Rattle.ymx_model.specs.Worlds.{World}
 use Rattle.ymx_model.specs.Machines.{Machine, PingPlace}
@@ -25,11 +25,11 @@ use Rattle.ymx_session_law.specs.Settled.{IsSettled}
 use Rattle.ymx_session_law.proofs.Splits.{same_or_not}
 use Rattle.ymx_session_law.proofs.Pings.{pending-staged}
 use Rattle.ymx_machine_law.proofs.Maps.{look-change, look-change_other}
-use Rattle.ymx_headline.specs.Agrees.{AgreesAs, RejectsOnce, SamePings, Sender, Receiver, Text, AwayUnderWay, PingsUnderWay, PongsUnderWay, pongs_of, sending, hearing, is_rejected, is_asked_at, is_there_at, number_of, entry_number, asks, replies, is_go_away, count_in, pongs}
+use Rattle.ymx_headline.specs.Agrees.{AgreesAs, RejectsOnce, SamePings, Sender, Receiver, Text, PingsUnderWay, PongsUnderWay, pongs_of, sending, hearing, is_rejected, is_asked_at, is_there_at, number_of, entry_number, asks, replies, is_go_away, count_in, pongs}
 use Rattle.ymx_headline.proofs.DeliverTexts.{count-skip, count-first, away-rest, pings-rest, pongs-rest}
 use Rattle.ymx_headline.proofs.DeliverBytes.{Delivered, delivered-is}
 use Rattle.ymx_headline.proofs.DeliverStreams.{TakingHead}
-use Rattle.ymx_headline.proofs.DeliverSession.{SessionFrame, session-frame, session-text, session-arrives, one-less, some-more, count-less, no-count}
+use Rattle.ymx_headline.proofs.DeliverSession.{session-frame, session-text, session-arrives, one-less, some-more, count-less, no-count}
 
 -- ---- places
 

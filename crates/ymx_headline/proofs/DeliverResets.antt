@@ -1,5 +1,5 @@
 -- A reset that comes is moves of the machine.
-use Rattle.std.proofs.Common.{◌≡◌, ◌≢◌, ℕ, ◌<◌, List, [], ◌∷◌, ◌++◌, length, Bool, true, false, not, ◌&&◌, ◌==◌, if◌then◌else◌, Option, None, Some, refl, sym, ap, subst, ◌∙◌, inl, inr, arith}
+use Rattle.std.proofs.Common.{◌≡◌, ◌≢◌, ℕ, ◌<◌, List, [], ◌∷◌, ◌++◌, Bool, true, false, not, ◌&&◌, Option, None, Some, refl, sym, ap, subst, ◌∙◌, inl, inr, arith}
 use Rattle.std.proofs.lemmas.Bool.Decides.{nat_tests}
 use Rattle.ymx_header.specs.declared.header.Header.{Header}
 use Rattle.ymx_header.specs.Headers.{header_of, has_syn, has_ack, has_rst}
@@ -7,21 +7,20 @@ use Rattle.ymx_model.specs.declared.types.Role.{Role}
 use Rattle.ymx_model.specs.declared.types.Response.{Response}
 use Rattle.ymx_model.specs.Streams.{Phase, is_offered, is_lingering, is_refused, struck}
 use Rattle.ymx_model.specs.Streams.Phase.{Refused, Gone}
-use Rattle.ymx_model.specs.Records.{End, Writer, Marks, dead_writer, only, gets_ack, gets_rst}
+use Rattle.ymx_model.specs.Records.{End, Writer, Marks, dead_writer, only, gets_rst}
 use Rattle.ymx_model.specs.Outgoing.{is_due, next_kind}
-use Rattle.ymx_model.specs.Parts.{Part}
 use Rattle.ymx_model.specs.Parts.Part.{Rst}
 use Rattle.ymx_model.specs.Tables.{Table, look, change, on, without, removed}
-use Rattle.ymx_model.specs.Sessions.{Session, Incoming, Begun, is_own, is_of, is_spent, on_stream, settled, drop_id}
+use Rattle.ymx_model.specs.Sessions.{Session, is_own, is_of, is_spent, on_stream, settled, drop_id}
 use Rattle.ymx_model.specs.Sessions.Incoming.{Head}
-use Rattle.ymx_model.specs.Arrivals.{payload, expects, acknowledges, meets, meets_some, unless_fault, head_comes, reset_comes, record_fault}
+use Rattle.ymx_model.specs.Arrivals.{expects, acknowledges, meets, meets_some, head_comes, reset_comes, record_fault}
 use Rattle.ymx_model.specs.Feeds.{byte_comes, starves}
 use Rattle.ymx_model.specs.Worlds.{World}
 use Rattle.ymx_model.specs.Machines.{Machine}
 use Rattle.ymx_law.specs.Answers.{end_released}
 use Rattle.ymx_law.specs.Worlds.{World as Streams, put, put_end, tagged}
 use Rattle.ymx_session_law.specs.Limits.{is_offered_at, is_listed}
-use Rattle.ymx_session_law.proofs.Splits.{split, both_of}
+use Rattle.ymx_session_law.proofs.Splits.{both_of}
 use Rattle.ymx_session_law.proofs.Entries.{look-change_same, look-change_other, look-without_same, look-without_other, distinct-change}
 use Rattle.ymx_side_law.specs.Sides.{says}
 use Rattle.ymx_machine_law.proofs.StreamFacts.{when}

@@ -1,40 +1,32 @@
 -- A ping, an answer to one and a go away that come are moves of the machine.
-use Rattle.std.proofs.Common.{◌≡◌, ◌≢◌, ℕ, ◌+◌, ◌<◌, ◌≤◌, ◌^◌, List, [], ◌∷◌, ◌++◌, length, map, Bool, true, false, not, ◌&&◌, ◌||◌, ◌==◌, nat_lt, if◌then◌else◌, Option, None, Some, refl, sym, ap, subst, ◌∙◌, inl, inr, arith}
-use Rattle.std.specs.Prelude.{is_some}
+use Rattle.std.proofs.Common.{◌≡◌, ℕ, ◌+◌, ◌≤◌, List, [], ◌∷◌, ◌++◌, Bool, true, false, ◌&&◌, ◌==◌, nat_lt, if◌then◌else◌, Option, None, Some, refl, sym, ap, subst, ◌∙◌, arith}
 use Rattle.std.proofs.lemmas.Bool.Decides.{nat_tests}
 use Rattle.ymx_header.specs.declared.header.Header.{Header}
-use Rattle.ymx_header.specs.Headers.{header_of, has_syn}
+use Rattle.ymx_header.specs.Headers.{header_of}
 use Rattle.ymx_model.specs.declared.types.Role.{Role}
 use Rattle.ymx_model.specs.declared.types.Response.{Response}
-use Rattle.ymx_model.specs.declared.types.Response.TheVariants.{Pong, Reject}
-use Rattle.ymx_model.specs.declared.types.GoAwayMark.{GoAwayMark}
 use Rattle.ymx_model.specs.declared.types.GoAwayMark.TheVariants.{Sent}
-use Rattle.ymx_model.specs.declared.types.PingStage.TheVariants.{Back as BackStage}
 use Rattle.ymx_model.specs.Lanes.{Mark, is_unsaid}
 use Rattle.ymx_model.specs.Lanes.Mark.{Said, Here}
 use Rattle.ymx_model.specs.Records.{End}
 use Rattle.ymx_model.specs.Parts.{Part}
-use Rattle.ymx_model.specs.Pings.{Ping, Pings, is_pending, is_back as is_back_stage, has_back, has_asked, staged, answered}
-use Rattle.ymx_model.specs.GoAway.{Away, was_said, away_due, away_comes}
-use Rattle.ymx_model.specs.Tables.{look, change}
-use Rattle.ymx_model.specs.Sessions.{Session, Incoming, is_running}
+use Rattle.ymx_model.specs.Pings.{Pings}
+use Rattle.ymx_model.specs.GoAway.{Away, away_comes}
+use Rattle.ymx_model.specs.Tables.{look}
+use Rattle.ymx_model.specs.Sessions.{Session}
 use Rattle.ymx_model.specs.Sessions.Incoming.{Head}
-use Rattle.ymx_model.specs.Arrivals.{answers_with, payload, head_comes}
+use Rattle.ymx_model.specs.Arrivals.{payload, head_comes}
 use Rattle.ymx_model.specs.Feeds.{byte_comes, starves}
 use Rattle.ymx_model.specs.Worlds.{World}
 use Rattle.ymx_model.specs.Machines.{Machine, PingPlace}
-use Rattle.ymx_model.specs.Machines.PingPlace.{Asked, There, Back}
-use Rattle.ymx_model.specs.MachineRules.{is_back}
 use Rattle.ymx_model.specs.FreeMoves.{FreeMove, FreeMoves}
-use Rattle.ymx_model.specs.FreeMoves.FreeMove.{AwayArrives, PingThere, PingBack}
+use Rattle.ymx_model.specs.FreeMoves.FreeMove.{AwayArrives}
 use Rattle.ymx_session_law.specs.Limits.{IsWithin}
 use Rattle.ymx_session_law.specs.Settled.{IsSettled}
-use Rattle.ymx_session_law.proofs.Splits.{same_or_not, agrees}
-use Rattle.ymx_session_law.proofs.Pings.{pending-staged}
-use Rattle.ymx_machine_law.proofs.Maps.{look-change, look-change_other}
-use Rattle.ymx_headline.specs.Agrees.{AgreesAs, Keeps, OnlyRejects, RejectsOnce, SamePings, SameAway, IsPlain, Sender, Receiver, Text, AwayUnderWay, PingsUnderWay, PongsUnderWay, pongs_of, sending, hearing, parts_in, all_parts, parts_left, is_rejected, is_asked_at, is_there_at, number_of, entry_number, asks, replies, is_go_away, count_in, pongs}
+use Rattle.ymx_session_law.proofs.Splits.{agrees}
+use Rattle.ymx_headline.specs.Agrees.{AgreesAs, Keeps, OnlyRejects, RejectsOnce, SamePings, SameAway, IsPlain, Sender, Text, AwayUnderWay, PingsUnderWay, PongsUnderWay, sending, hearing, parts_in, all_parts, parts_left, is_rejected, is_go_away, count_in, pongs}
 use Rattle.ymx_headline.proofs.Mirrors.{order-moves, parity}
-use Rattle.ymx_headline.proofs.DeliverTexts.{FirstFrame, awaited, text-after, count-skip, count-first, away-rest, pings-rest, pongs-rest}
+use Rattle.ymx_headline.proofs.DeliverTexts.{awaited, text-after, count-first, pings-rest, pongs-rest}
 use Rattle.ymx_headline.proofs.DeliverBytes.{Delivered, delivered-is}
 use Rattle.ymx_headline.proofs.DeliverHeads.{stray-left}
 use Rattle.ymx_headline.proofs.DeliverStreams.{TakingHead, body_of, not-starved}

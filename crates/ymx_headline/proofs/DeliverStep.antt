@@ -1,20 +1,15 @@
 -- A delivery is moves of the machine, byte after byte, and finds no fault.
-use Rattle.std.proofs.Common.{◌≡◌, ◌≢◌, ℕ, suc, ◌+◌, ◌<◌, ◌≤◌, List, [], ◌∷◌, ◌++◌, length, take, drop, min, Bool, true, false, not, ◌&&◌, ◌==◌, if◌then◌else◌, Option, None, Some, refl, sym, ap, subst, ◌∙◌, inl, inr, arith}
-use Rattle.std.proofs.lemmas.Bool.Decides.{nat_tests}
+use Rattle.std.proofs.Common.{◌≡◌, ℕ, ◌<◌, ◌≤◌, List, [], ◌∷◌, ◌++◌, length, take, drop, Bool, true, false, not, ◌&&◌, ◌==◌, Option, None, Some, refl, sym, ap, subst, ◌∙◌, inl, inr, arith}
 use Rattle.std.proofs.lemmas.Grind.{common_steps}
-use Rattle.std.proofs.lemmas.List.{append_assoc, take-take}
+use Rattle.std.proofs.lemmas.List.{take-take}
 use Rattle.ymx_header.specs.declared.header.Header.{Header}
 use Rattle.ymx_header.specs.Headers.{header_of, has_syn, has_rst}
 use Rattle.ymx_model.specs.declared.types.Role.{Role}
 use Rattle.ymx_model.specs.declared.types.Direction.{Direction}
 use Rattle.ymx_model.specs.declared.types.Step.TheVariants as step
 use Rattle.ymx_model.specs.declared.types.Answer.{Answer}
-use Rattle.ymx_model.specs.declared.types.Answer.TheVariants as answer
-use Rattle.ymx_model.specs.declared.types.Reply.TheVariants as reply
 use Rattle.ymx_model.specs.declared.types.Status.{Status}
 use Rattle.ymx_model.specs.declared.types.Status.TheVariants.{Running, Lost, Broken, Closed}
-use Rattle.ymx_model.specs.declared.types.Why.{Why}
-use Rattle.ymx_model.specs.declared.types.Why.TheVariants.{All, Held}
 use Rattle.ymx_model.specs.declared.types.Fed.{Fed}
 use Rattle.ymx_model.specs.Records.{End}
 use Rattle.ymx_model.specs.Tables.{look}
@@ -22,14 +17,14 @@ use Rattle.ymx_model.specs.Sessions.{Session, Incoming, is_deaf, is_running, is_
 use Rattle.ymx_model.specs.Sessions.Incoming.{Head, Payload}
 use Rattle.ymx_model.specs.Feeds.{Takes, Feeds, is_stuck, byte_comes, starves, why_of}
 use Rattle.ymx_model.specs.Emissions.{Choice}
-use Rattle.ymx_model.specs.Worlds.{World, StepOfA, Steps, answer_of, taken_of, taken_off, mirror as world_mirror}
+use Rattle.ymx_model.specs.Worlds.{World, Steps, answer_of, taken_of, taken_off, mirror as world_mirror}
 use Rattle.ymx_model.specs.Machines.{Machine, mirror}
-use Rattle.ymx_model.specs.MachineRuns.{MachineStepOfA, is_broken as is_broken_why}
+use Rattle.ymx_model.specs.MachineRuns.{is_broken as is_broken_why}
 use Rattle.ymx_model.specs.FreeMoves.{FreeMoves}
 use Rattle.ymx_session_law.proofs.Splits.{differs, agrees}
 use Rattle.ymx_session_law.proofs.FeedsKeep.{payload_some}
 use Rattle.ymx_machine_law.proofs.StreamFacts.{when}
-use Rattle.ymx_headline.specs.Agrees.{Agrees, AgreesAs, Follows, sending, hearing, arrives}
+use Rattle.ymx_headline.specs.Agrees.{Agrees, AgreesAs, Follows}
 use Rattle.ymx_headline.proofs.Mirrors.{mirrors-agree}
 use Rattle.ymx_headline.proofs.Steps.{AtA, at-either, mirror-back}
 use Rattle.ymx_headline.proofs.DeliverMoves.{moves-join}
@@ -167,7 +162,7 @@ not-broken Lost all e = refl
 not-broken (Broken f) all e = cc
 not-broken Closed all e = refl
 
-deliver-step : (may : Choice → Session → Bool) (d : Direction) (n : ℕ) (given : Answer) → AtA may (step.Deliver d n) given
+pub deliver-step : (may : Choice → Session → Bool) (d : Direction) (n : ℕ) (given : Answer) → AtA may (step.Deliver d n) given
 deliver-step may d n given x y w v m s h =
     let fed : Fed = s.2.0 in
     let feeds : Feeds w.b (take n w.ab.bytes) fed s.1 = s.2.2 in
@@ -177,8 +172,7 @@ deliver-step may d n given x y w v m s h =
     let k = bytes-agree first rest y x (world_mirror w) (mirror m) (mirrors-agree x y w m h) s.1 feeds.took.0 bytes feeds.took.1 in
     let now : Machine = mirror k.now in
     let whole : v ≡ record w { b = s.1; ab = record w.ab { bytes = rest } } = s.4 ∙ ap (λ r. record w { b = s.1; ab = taken_off (taken_of r) w.ab }) s.2.1 in
-    let why : is_broken_why fed.why ≡ false = ap is_broken_why feeds.why ∙ not-broken s.1.status (fed.taken == length (take n w.ab.bytes)) k.agrees.a.whole.sound in
-    (
+    let why : is_broken_why fed.why ≡ false = ap is_broken_why feeds.why ∙ not-broken s.1.status (fed.taken == length (take n w.ab.bytes)) k.agrees.a.whole.sound in (
       now,
       (fed, k.moves, feeds.took.0, s.3 ∙ ap answer_of s.2.1, why, feeds.took.2, subst (FreeMoves k.moves (mirror m) feeds.took.0) (sym (mirror-back k.now)) k.did),
       subst (λ u. AgreesAs x y u now) (sym whole) (mirrors-agree y x (record (world_mirror w) { a = s.1; ba = record w.ab { bytes = rest } }) k.now k.agrees),

@@ -1,37 +1,36 @@
 -- The last byte of the header of a frame of a stream is moves of the machine: a frame without SYN and RST.
-use Rattle.std.proofs.Common.{◌≡◌, ◌≢◌, ℕ, ◌+◌, ◌<◌, ◌≤◌, List, [], ◌∷◌, ◌++◌, length, drop, Bool, true, false, not, ◌&&◌, ◌||◌, ◌==◌, nat_lt, if◌then◌else◌, Option, None, Some, refl, sym, ap, subst, ◌∙◌, arith}
+use Rattle.std.proofs.Common.{◌≡◌, ℕ, ◌<◌, ◌≤◌, List, [], ◌∷◌, ◌++◌, length, drop, Bool, true, false, ◌&&◌, ◌==◌, nat_lt, if◌then◌else◌, Option, None, Some, refl, sym, ap, subst, ◌∙◌, arith}
 use Rattle.std.proofs.lemmas.Bool.Decides.{nat_tests}
 use Rattle.std.proofs.lemmas.List.{append_assoc}
 use Rattle.ymx_header.specs.declared.header.Header.{Header}
-use Rattle.ymx_header.specs.Headers.{header_of, has_syn, has_ack, has_fin, has_rst}
+use Rattle.ymx_header.specs.Headers.{header_of, has_syn, has_fin, has_rst}
 use Rattle.ymx_header.specs.declared.fault.Fault.{Fault}
 use Rattle.ymx_model.specs.declared.types.Role.{Role}
 use Rattle.ymx_model.specs.declared.types.Response.{Response}
 use Rattle.ymx_model.specs.Lanes.{first_credit}
-use Rattle.ymx_model.specs.Streams.{Stream}
 use Rattle.ymx_model.specs.Records.{End}
 use Rattle.ymx_model.specs.Parts.{Part}
 use Rattle.ymx_model.specs.Tables.{Table, look, change, on}
-use Rattle.ymx_model.specs.Sessions.{Session, Incoming, is_own, is_deaf, on_stream}
+use Rattle.ymx_model.specs.Sessions.{Session, is_own, on_stream}
 use Rattle.ymx_model.specs.Sessions.Incoming.{Head, Payload}
 use Rattle.ymx_model.specs.Arrivals.{payload, expects, gets_head, meets, meets_some, unless_fault, header_fault, head_comes, is_starved, record_fault}
 use Rattle.ymx_model.specs.Feeds.{byte_comes, starves}
 use Rattle.ymx_model.specs.Worlds.{World}
 use Rattle.ymx_model.specs.Machines.{Machine}
-use Rattle.ymx_law.specs.Worlds.{World as Streams, put, put_end, tagged}
+use Rattle.ymx_law.specs.Worlds.{put, put_end, tagged}
 use Rattle.ymx_session_law.specs.Limits.{IsWithin}
 use Rattle.ymx_session_law.specs.Settled.{IsSettled}
-use Rattle.ymx_session_law.proofs.Splits.{split, agrees}
+use Rattle.ymx_session_law.proofs.Splits.{agrees}
 use Rattle.ymx_session_law.proofs.Entries.{look-change_same, look-change_other}
 use Rattle.ymx_side_law.specs.Sides.{opening, rest, says, all_come}
-use Rattle.ymx_headline.specs.Agrees.{AgreesAs, Keeps, RejectsOnce, Text, sending, hearing, parts_in, all_parts, parts_left, asks, replies, is_go_away, pongs, is_rejected}
+use Rattle.ymx_headline.specs.Agrees.{AgreesAs, Keeps, RejectsOnce, Text, sending, hearing, parts_in, all_parts, parts_left, pongs, is_rejected}
 use Rattle.ymx_headline.proofs.Tables.{keeps-put}
 use Rattle.ymx_headline.proofs.Counts.{own-at}
-use Rattle.ymx_headline.proofs.DeliverMoves.{Arrives, Plain, IsOpener, AllBreakNothing, parts-come}
+use Rattle.ymx_headline.proofs.DeliverMoves.{Arrives, IsOpener, AllBreakNothing, parts-come}
 use Rattle.ymx_headline.proofs.DeliverTexts.{FirstFrame, first-frame, awaited, text-after, away-rest, pings-rest, pongs-rest, pongs-hear}
 use Rattle.ymx_headline.proofs.DeliverBytes.{Delivered, delivered-is, Taking, arrival-agrees, byte-is}
 use Rattle.ymx_headline.proofs.DeliverHeads.{plain-append, tagged-append, plain-opening, plain-rest, came, left, came-left, plain-came, left-is, stray-left, head-does, absent-parts}
-use Rattle.ymx_headline.proofs.DeliverFaults.{no-header_fault, NoFault, no-record_fault}
+use Rattle.ymx_headline.proofs.DeliverFaults.{no-header_fault, no-record_fault}
 
 -- ---- a header becomes whole
 

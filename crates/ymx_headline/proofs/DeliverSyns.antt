@@ -1,43 +1,41 @@
 -- A SYN that comes is moves of the machine: its stream is offered, or refused.
-use Rattle.std.proofs.Common.{◌≡◌, ◌≢◌, ℕ, ◌+◌, ◌<◌, ◌≤◌, List, [], ◌∷◌, ◌++◌, length, Bool, true, false, not, ◌&&◌, ◌||◌, ◌==◌, nat_lt, nat_le, if◌then◌else◌, Option, None, Some, refl, sym, ap, subst, ◌∙◌, inl, inr, arith}
-use Rattle.std.specs.Prelude.{is_none}
+use Rattle.std.proofs.Common.{◌≡◌, ◌≢◌, ℕ, ◌+◌, ◌<◌, ◌≤◌, List, [], ◌∷◌, ◌++◌, length, Bool, true, false, not, ◌&&◌, ◌||◌, ◌==◌, nat_lt, if◌then◌else◌, Option, None, Some, refl, sym, ap, subst, ◌∙◌, inl, inr, arith}
 use Rattle.std.proofs.lemmas.Bool.Decides.{nat_tests}
 use Rattle.ymx_header.specs.declared.header.Header.{Header}
-use Rattle.ymx_header.specs.Headers.{header_of, has_syn, has_ack, has_fin, has_rst}
+use Rattle.ymx_header.specs.Headers.{header_of, has_syn, has_fin, has_rst}
 use Rattle.ymx_model.specs.declared.types.Role.{Role}
 use Rattle.ymx_model.specs.declared.types.Response.{Response}
 use Rattle.ymx_model.specs.declared.types.Response.TheVariants.{Pong, Reject}
-use Rattle.ymx_model.specs.Lanes.{Mark, is_unsaid, first_credit}
-use Rattle.ymx_model.specs.Streams.{Phase, Stream, is_recorded}
+use Rattle.ymx_model.specs.Lanes.{is_unsaid, first_credit}
+use Rattle.ymx_model.specs.Streams.{Stream, is_recorded}
 use Rattle.ymx_model.specs.Streams.Phase.{Unborn, Offered, Refused}
 use Rattle.ymx_model.specs.Records.{End, new_end, gets_credit}
 use Rattle.ymx_model.specs.Parts.{Part}
 use Rattle.ymx_model.specs.Parts.Part.{Syn, Data, Fin}
 use Rattle.ymx_model.specs.GoAway.{was_said}
 use Rattle.ymx_model.specs.Tables.{Table, look, change, on, added}
-use Rattle.ymx_model.specs.Sessions.{Session, Incoming, is_own, is_deaf, on_stream}
+use Rattle.ymx_model.specs.Sessions.{Session, is_own, is_deaf}
 use Rattle.ymx_model.specs.Sessions.Incoming.{Head}
-use Rattle.ymx_model.specs.Arrivals.{answers_with, is_data, payload, delta, expects, gets_head, meets, head_comes, offer, refuses, syn_fault, is_starved}
+use Rattle.ymx_model.specs.Arrivals.{answers_with, is_data, payload, delta, expects, gets_head, meets, head_comes, offer, refuses, is_starved}
 use Rattle.ymx_model.specs.Feeds.{byte_comes, starves}
 use Rattle.ymx_model.specs.Worlds.{World}
-use Rattle.ymx_model.specs.Machines.{Machine, hears, recorded}
+use Rattle.ymx_model.specs.Machines.{Machine, hears}
 use Rattle.ymx_model.specs.FreeMoves.{FreeMoves, counted_by, refuses as refuses_syn}
 use Rattle.ymx_model.specs.FreeMoves.FreeMove.{SynArrives}
-use Rattle.ymx_law.specs.Arrivals.{comes_to, refused_end}
+use Rattle.ymx_law.specs.Arrivals.{refused_end}
 use Rattle.ymx_law.specs.Worlds.{World as Streams, put, put_end, tagged}
 use Rattle.ymx_law.proofs.Worlds.{put-same, put-other}
 use Rattle.ymx_session_law.specs.Offers.{IsGoodSyn}
-use Rattle.ymx_session_law.proofs.Splits.{split, same_or_not, agrees, none_of}
+use Rattle.ymx_session_law.proofs.Splits.{same_or_not, agrees, none_of}
 use Rattle.ymx_session_law.proofs.Entries.{look-change_same, look-change_other, look-added_same, look-added_other}
 use Rattle.ymx_session_law.proofs.SynCauses.{good-syn}
-use Rattle.ymx_side_law.specs.Sides.{opening, rest, rest as rest_of, says, all_come}
+use Rattle.ymx_side_law.specs.Sides.{rest, rest as rest_of, says, all_come}
 use Rattle.ymx_side_law.proofs.Comes.{syn-opens}
 use Rattle.ymx_machine_law.proofs.StreamFacts.{when}
 use Rattle.ymx_headline.specs.Agrees.{AgreesAs, Keeps, OnlyRejects, RejectsOnce, IsPlain, all_parts, is_rejected, pongs}
 use Rattle.ymx_headline.proofs.Tables.{keeps-put}
 use Rattle.ymx_headline.proofs.Counts.{own-at, no-record, same-recorded}
-use Rattle.ymx_headline.proofs.DeliverMoves.{Arrives, LawStep, law-step, Plain, syn_came, syn-refused, syn-offered, parts-come, moves-join, refines-ends}
-use Rattle.ymx_headline.proofs.DeliverTexts.{awaited}
+use Rattle.ymx_headline.proofs.DeliverMoves.{Arrives, law-step, Plain, syn-refused, syn-offered, parts-come, moves-join, refines-ends}
 use Rattle.ymx_headline.proofs.DeliverBytes.{Delivered}
 use Rattle.ymx_headline.proofs.DeliverHeads.{plain-rest, plain-came, came, left, came-left, left-is, stray-left, syn-does}
 use Rattle.ymx_headline.proofs.DeliverFaults.{no-syn_fault}
