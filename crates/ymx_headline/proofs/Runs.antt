@@ -6,7 +6,6 @@ use Rattle.std.proofs.lemmas.Bool.Decides.{nat_tests}
 use Rattle.std.proofs.lemmas.List.Elements.{All-nil, All-cons}
 use Rattle.ymx_model.specs.declared.types.Role.{Role}
 use Rattle.ymx_model.specs.declared.types.Role.TheVariants.{Client, Server}
-use Rattle.ymx_model.specs.declared.types.Direction.{Direction}
 use Rattle.ymx_model.specs.declared.types.Side.TheVariants.{A, B}
 use Rattle.ymx_model.specs.declared.types.Step.{Step}
 use Rattle.ymx_model.specs.declared.types.Step.TheVariants as step
