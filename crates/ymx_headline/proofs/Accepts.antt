@@ -1,5 +1,5 @@
 -- A stream that is accepted is accepted in the machine.
-use Rattle.std.proofs.Common.{◌≡◌, ℕ, List, [], ◌∷◌, Bool, true, false, Option, None, Some, refl, sym, ap, subst, ◌∙◌, inl, inr, arith}
+use Rattle.std.proofs.Common.{◌≡◌, ℕ, List, [], ◌∷◌, true, false, Option, None, Some, refl, sym, ap, subst, ◌∙◌, inl, inr, arith}
 use Rattle.std.specs.Prelude.{option_map}
 use Rattle.std.proofs.lemmas.Bool.Decides.{nat_tests}
 use Rattle.ymx_model.specs.declared.types.Role.{Role}
@@ -10,7 +10,6 @@ use Rattle.ymx_model.specs.declared.types.CallFault.TheVariants.{Lost, Closed}
 use Rattle.ymx_model.specs.declared.types.Event.TheVariants as event
 use Rattle.ymx_model.specs.Streams.{Phase, is_offered, stream_accept}
 use Rattle.ymx_model.specs.Streams.Phase.{Offered}
-use Rattle.ymx_model.specs.StreamRules.{IfSo}
 use Rattle.ymx_model.specs.Records.{End, end_accept}
 use Rattle.ymx_model.specs.Tables.{look, change, on}
 use Rattle.ymx_model.specs.Sessions.{Session, is_lost, is_closed, on_stream}
@@ -32,15 +31,7 @@ use Rattle.ymx_machine_law.proofs.StreamFacts.{when}
 use Rattle.ymx_headline.specs.Agrees.{AgreesAs, IsNumbered, Keeps, found}
 use Rattle.ymx_headline.proofs.Mirrors.{refines-same, order-call, parity}
 use Rattle.ymx_headline.proofs.Tables.{change-found, keeps-put, table-changes, over-is}
-use Rattle.ymx_headline.proofs.StreamCalls.{Called, open-rule, closed-rule, refused-at_both}
-
-pub so-true : (b : Bool) (P Q : Type 0) → b ≡ true → P → IfSo b P Q
-so-true true P Q e p = p
-so-true false P Q e p = absurd cc
-
-pub so-false : (b : Bool) (P Q : Type 0) → b ≡ false → Q → IfSo b P Q
-so-false true P Q e q = absurd cc
-so-false false P Q e q = q
+use Rattle.ymx_headline.proofs.StreamCalls.{so-true, so-false, Called, open-rule, closed-rule, refused-at_both}
 
 -- ---- the stream that is offered
 

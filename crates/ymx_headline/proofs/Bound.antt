@@ -1,5 +1,5 @@
 -- Emissions and deliveries feed at most twice as many frames as the load of the world.
-use Rattle.std.proofs.Common.{◌≡◌, ℕ, ◌+◌, ◌*◌, ◌<◌, ◌≤◌, List, [], ◌∷◌, ◌++◌, length, take, drop, Bool, true, false, not, ◌&&◌, refl, sym, ap, subst, ◌∙◌, inl, inr, arith}
+use Rattle.std.proofs.Common.{◌≡◌, ℕ, ◌+◌, ◌*◌, ◌≤◌, List, [], ◌∷◌, ◌++◌, length, take, drop, Bool, true, false, refl, sym, ap, subst, ◌∙◌, inl, inr, arith}
 use Rattle.std.specs.List.{All, concat}
 use Rattle.std.proofs.lemmas.Grind.{common_steps}
 use Rattle.std.proofs.lemmas.List.{append-nil, append_assoc, take-append-drop}
@@ -7,7 +7,6 @@ use Rattle.std.proofs.lemmas.List.Elements.{All-nil, All-cons, All-append}
 use Rattle.std.proofs.lemmas.List.Folds.{concat-append}
 use Rattle.ymx_model.specs.declared.types.Status.{Status}
 use Rattle.ymx_model.specs.declared.types.Status.TheVariants.{Running, Lost, Broken, Closed}
-use Rattle.ymx_model.specs.declared.types.Side.TheVariants.{A, B}
 use Rattle.ymx_model.specs.declared.types.Direction.TheVariants.{AB, BA}
 use Rattle.ymx_model.specs.declared.types.Step.{Step}
 use Rattle.ymx_model.specs.declared.types.Step.TheVariants as step
@@ -15,21 +14,20 @@ use Rattle.ymx_model.specs.declared.types.Answer.{Answer}
 use Rattle.ymx_model.specs.declared.types.Answer.TheVariants as answer
 use Rattle.ymx_model.specs.declared.types.Event.TheVariants as event
 use Rattle.ymx_model.specs.declared.types.Fed.{Fed}
-use Rattle.ymx_model.specs.declared.types.Reply.{Reply}
 use Rattle.ymx_model.specs.declared.types.Reply.TheVariants as reply
 use Rattle.ymx_model.specs.Sessions.{Session, is_deaf, is_running}
 use Rattle.ymx_model.specs.Feeds.{Feeds, Takes}
 use Rattle.ymx_model.specs.Emissions.{Choice, Flows, Emits, moves_on}
-use Rattle.ymx_model.specs.Worlds.{World, Pipe, StepOfA, Steps, answer_of, taken_of, IsOneFrame, IsUnderWay, held_bytes, is_inside, is_of_a, one_if, world_load, session_load, pushed, taken_off, mirror}
+use Rattle.ymx_model.specs.Worlds.{World, Pipe, StepOfA, Steps, answer_of, taken_of, IsOneFrame, IsUnderWay, held_bytes, is_inside, is_of_a, one_if, world_load, pushed, taken_off, mirror}
 use Rattle.ymx_session_law.specs.Limits.{IsWithin}
 use Rattle.ymx_session_law.proofs.EmissionsKeep.{begin-keeps, moves-keep}
 use Rattle.ymx_session_law.proofs.HistoriesKeep.{gives-keep}
 use Rattle.ymx_machine_law.proofs.StreamFacts.{when, if-so_true, if-so_false}
 use Rattle.ymx_world_law.specs.Texts.{AreWithin}
 use Rattle.ymx_world_law.proofs.Emitted.{empty-bytes}
-use Rattle.ymx_world_law.proofs.Fed.{Follow, Heard, takes-heard}
+use Rattle.ymx_world_law.proofs.Fed.{Follow, takes-heard}
 use Rattle.ymx_headline.specs.Laws.{IsOpenWorld, Carries, fed_by, is_carriage, made_whole}
-use Rattle.ymx_headline.proofs.Loads.{effort, weight, weights, weights-append, weights-most, effort-most, begin-starts, sheds, one_if-most}
+use Rattle.ymx_headline.proofs.Loads.{effort, weights, weights-append, weights-most, effort-most, begin-starts, sheds}
 use Rattle.ymx_headline.proofs.LoadBytes.{takes-bytes}
 
 -- ---- an emission
@@ -149,11 +147,11 @@ emitted-falls may room out s w ab ba u e =
         open_ab = u.open_ab;
         open_ba = u.open_ba;
         text_ab = λ r. (let f = u.text_ab r in record {
-              tail = f.tail;
-              lacks = f.lacks;
-              each = All-append IsOneFrame ab g.frames f.each g.each;
-              text = grown (held_bytes w.b.incoming) w.ab.bytes w.a.begun.bytes f.tail (concat ab) out s.begun.bytes (concat g.frames) f.text g.bytes ∙ ap (λ xs. f.tail ++ xs) (sym (concat-append ab g.frames));
-            });
+          tail = f.tail;
+          lacks = f.lacks;
+          each = All-append IsOneFrame ab g.frames f.each g.each;
+          text = grown (held_bytes w.b.incoming) w.ab.bytes w.a.begun.bytes f.tail (concat ab) out s.begun.bytes (concat g.frames) f.text g.bytes ∙ ap (λ xs. f.tail ++ xs) (sym (concat-append ab g.frames));
+        });
         text_ba = λ r. subst (λ z. Follow z (w.ba.bytes ++ w.b.begun.bytes) ba) (sym g.incoming) (u.text_ba (sym g.status ∙ r));
       };
       falls = omega (arith, k, n, i);
@@ -237,7 +235,7 @@ falls : (may : Choice → Session → Bool) (st : Step) (given : Answer) (w v : 
 falls may st given w v ab ba c u s = elim (when (is_of_a st)) [
   | inl t ↦ subst (Falls w v ab ba) (fed-at_a st given w c t) (step-falls may st given w v ab ba c u (if-so_true _ _ _ t s))
   | inr t ↦ falls-mirror w v ab ba (fed_by st given w)
-  (subst (Falls (mirror w) (mirror v) ba ab) (fed-at_b st given w c t) (step-falls may st given (mirror w) (mirror v) ba ab c (under-mirror w ab ba u) (if-so_false _ _ _ t s)))
+      (subst (Falls (mirror w) (mirror v) ba ab) (fed-at_b st given w c t) (step-falls may st given (mirror w) (mirror v) ba ab c (under-mirror w ab ba u) (if-so_false _ _ _ t s)))
 ]
 
 pub carries-falls : (may : Choice → Session → Bool) (sts : List Step) (given : List Answer) (w v : World) (ab ba : List (List ℕ)) (n : ℕ) → Under w ab ba → Carries may sts given w v n → n ≤ measure w ab ba

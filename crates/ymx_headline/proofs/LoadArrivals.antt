@@ -1,13 +1,10 @@
 -- A frame that comes makes at most one answer, and else lets a session send no more than before.
-use Rattle.std.proofs.Common.{◌≡◌, ◌≢◌, ℕ, ◌+◌, ◌-◌, ◌*◌, ◌<◌, ◌≤◌, List, [], ◌∷◌, ◌++◌, length, Bool, true, false, not, ◌&&◌, ◌||◌, ◌==◌, nat_lt, nat_le, if◌then◌else◌, Option, None, Some, refl, sym, ap, subst, ◌∙◌, arith, length-append}
+use Rattle.std.proofs.Common.{◌≡◌, ◌≢◌, ℕ, ◌+◌, ◌*◌, ◌≤◌, List, [], ◌∷◌, ◌++◌, length, Bool, true, false, not, ◌&&◌, ◌||◌, ◌==◌, nat_lt, nat_le, if◌then◌else◌, Option, None, Some, refl, sym, ap, subst, ◌∙◌, arith, length-append}
 use Rattle.std.proofs.lemmas.Bool.Decides.{nat_tests}
 use Rattle.ymx_header.specs.declared.header.Header.{Header}
 use Rattle.ymx_header.specs.declared.fault.Fault.{Fault}
 use Rattle.ymx_header.specs.declared.fault.Fault.TheVariants.{BadGoAwayCode, PeerSawProtocolError, PeerSawInternalError}
-use Rattle.ymx_header.specs.Headers.{header_of, has_syn, has_ack, has_fin, has_rst}
-use Rattle.ymx_model.specs.declared.types.Status.{Status}
-use Rattle.ymx_model.specs.declared.types.Status.TheVariants.{Running, Lost, Broken, Closed}
-use Rattle.ymx_model.specs.declared.types.Response.{Response}
+use Rattle.ymx_header.specs.Headers.{has_syn, has_ack, has_fin, has_rst}
 use Rattle.ymx_model.specs.declared.types.Response.TheVariants.{Pong, Reject}
 use Rattle.ymx_model.specs.Streams.{Phase, is_live, is_offered, is_refused, takes, struck}
 use Rattle.ymx_model.specs.Streams.Phase.{Unborn, Offered, Live, WasReset, Refused, Lingering, Gone}
@@ -15,13 +12,13 @@ use Rattle.ymx_model.specs.Records.{End, takes_payload, gets_credit, gets_fin, g
 use Rattle.ymx_model.specs.Pings.{answered}
 use Rattle.ymx_model.specs.GoAway.{away_comes}
 use Rattle.ymx_model.specs.Tables.{look, added, removed}
-use Rattle.ymx_model.specs.Sessions.{Session, Incoming, breaks, is_broken, is_deaf, is_running, is_told, is_own, on_stream, drop_id, settled}
+use Rattle.ymx_model.specs.Sessions.{Session, Incoming, breaks, is_deaf, is_told, is_own, on_stream, drop_id, settled}
 use Rattle.ymx_model.specs.Sessions.Incoming.{Head, Payload}
 use Rattle.ymx_model.specs.Arrivals.{payload, delta, answers_with, ping_comes, go_away_comes, expects, record_fault, reset_comes, ends_now, acknowledges, gets_head, meets, meets_some, unless_fault, offer, refuses, syn_fault, syn_comes, header_fault, head_comes, piece_comes}
 use Rattle.ymx_model.specs.Worlds.{record_load, one_if, is_inside}
 use Rattle.ymx_session_law.proofs.FramesKeep.{unless_fault-keeps}
 use Rattle.ymx_session_law.proofs.Splits.{split, agrees}
-use Rattle.ymx_headline.proofs.Loads.{loads, effort, may_answer, Eases, eases-same, eases-then, removed-eases, settled-eases, loads-change, loads-added, asked-answered, one_if-most}
+use Rattle.ymx_headline.proofs.Loads.{effort, may_answer, Eases, eases-then, removed-eases, settled-eases, loads-change, loads-added, asked-answered, one_if-most}
 
 -- ---- records
 

@@ -1,5 +1,5 @@
 -- Bytes that a session takes feed no more frames than their weight.
-use Rattle.std.proofs.Common.{◌≡◌, ℕ, ◌+◌, ◌-◌, ◌<◌, ◌≤◌, List, [], ◌∷◌, ◌++◌, length, drop, Bool, true, false, not, ◌&&◌, ◌||◌, ◌==◌, nat_lt, if◌then◌else◌, None, refl, sym, ap, subst, ◌∙◌, inl, inr, arith, length-append}
+use Rattle.std.proofs.Common.{◌≡◌, ℕ, ◌+◌, ◌-◌, ◌<◌, ◌≤◌, List, [], ◌∷◌, ◌++◌, length, drop, Bool, true, false, ◌==◌, nat_lt, if◌then◌else◌, None, refl, sym, ap, subst, ◌∙◌, inl, inr, arith, length-append}
 use Rattle.std.specs.List.{All, concat}
 use Rattle.std.proofs.lemmas.Bool.Decides.{nat_tests}
 use Rattle.ymx_header.specs.declared.header.Header.{Header}
@@ -10,17 +10,17 @@ use Rattle.ymx_model.specs.Sessions.{Session, Incoming, is_broken, is_deaf}
 use Rattle.ymx_model.specs.Sessions.Incoming.{Head, Payload}
 use Rattle.ymx_model.specs.Arrivals.{payload, header_fault, head_comes, piece_comes}
 use Rattle.ymx_model.specs.Feeds.{Takes, is_stuck, is_between, byte_in, byte_comes}
-use Rattle.ymx_model.specs.Worlds.{IsOneFrame, held_bytes, lacking, is_inside, one_if}
+use Rattle.ymx_model.specs.Worlds.{IsOneFrame, is_inside, one_if}
 use Rattle.ymx_session_law.specs.Limits.{IsWithin}
-use Rattle.ymx_session_law.proofs.FeedsKeep.{byte-keeps, header_few, payload_some}
+use Rattle.ymx_session_law.proofs.FeedsKeep.{byte-keeps, payload_some}
 use Rattle.ymx_session_law.proofs.Frames.{Awaits, head-awaits}
 use Rattle.ymx_session_law.proofs.Pieces.{piece-status}
-use Rattle.ymx_session_law.proofs.Splits.{agrees, differs, none_of}
+use Rattle.ymx_session_law.proofs.Splits.{agrees, none_of}
 use Rattle.ymx_world_law.proofs.Fed.{Follow, no-tail, all-first, all-rest, assoc, behind, same-header, drop-length, piece-incoming}
 use Rattle.ymx_world_law.proofs.Frames.{no-fault}
 use Rattle.ymx_headline.specs.Laws.{begins_payload, after_byte, made_whole}
-use Rattle.ymx_headline.proofs.Loads.{effort, may_answer, weight, weights, one_if-most}
-use Rattle.ymx_headline.proofs.LoadArrivals.{Heads, head-heads, head-awake, piece-eases}
+use Rattle.ymx_headline.proofs.Loads.{effort, may_answer, weight, weights}
+use Rattle.ymx_headline.proofs.LoadArrivals.{head-heads, head-awake, piece-eases}
 
 -- ---- what comes next is told by how much lacks
 

@@ -1,16 +1,14 @@
 -- What a session may still send: a frame that begins takes its part of it.
 use Rattle.std.proofs.Common.{◌≡◌, ◌≢◌, ℕ, ◌+◌, ◌-◌, ◌*◌, ◌<◌, ◌≤◌, List, [], ◌∷◌, ◌++◌, length, take, drop, length-drop, Bool, true, false, not, ◌&&◌, ◌||◌, ◌==◌, nat_lt, nat_le, if◌then◌else◌, Option, None, Some, refl, sym, ap, subst, ◌∙◌, arith}
-use Rattle.std.specs.Prelude.{sum_by, count_by, is_some}
+use Rattle.std.specs.Prelude.{count_by}
 use Rattle.std.proofs.lemmas.Bool.Decides.{nat_tests}
 use Rattle.std.proofs.lemmas.Grind.{common_steps}
 use Rattle.std.proofs.lemmas.List.Recursion.{is_sum_by, is_count_by}
 use Rattle.ymx_header.specs.declared.header.Header.{Header}
 use Rattle.ymx_header.specs.Headers.{header_of, has_syn, has_rst}
-use Rattle.ymx_model.specs.declared.types.Status.{Status}
 use Rattle.ymx_model.specs.declared.types.Response.{Response}
 use Rattle.ymx_model.specs.declared.types.Response.TheVariants.{Pong, Reject}
-use Rattle.ymx_model.specs.declared.types.PingStage.{PingStage}
-use Rattle.ymx_model.specs.declared.types.PingStage.TheVariants.{Asked, Sent, Back}
+use Rattle.ymx_model.specs.declared.types.PingStage.TheVariants.{Sent, Back}
 use Rattle.ymx_model.specs.Lanes.{first_credit}
 use Rattle.ymx_model.specs.Streams.{is_live}
 use Rattle.ymx_model.specs.Records.{End}
@@ -27,6 +25,7 @@ use Rattle.ymx_session_law.specs.Limits.{IsWithin}
 use Rattle.ymx_session_law.proofs.EmissionsKeep.{some_if, none_if, if_some}
 use Rattle.ymx_session_law.proofs.Splits.{split, differs, both_of, none_of, not_lt}
 use Rattle.ymx_world_law.proofs.Frames.{data-frame, short-frame}
+use Rattle.ymx_headline.proofs.Emits.{first_and_rest, only_one}
 
 -- ---- sums
 
@@ -301,15 +300,6 @@ pub record Sheds (b : ℕ) (s t : Session) : Type 0 where
   pub effort : effort t ≤ effort s
   pub status : t.status ≡ s.status
   pub incoming : t.incoming ≡ s.incoming
-
-first_and_rest : (b : ℕ) (xs : List ℕ) → take 1 xs ≡ b ∷ [] → xs ≡ b ∷ drop 1 xs
-first_and_rest b [] e = absurd cc
-first_and_rest b (x ∷ xs) e = cc
-
-only_one : (b : ℕ) (xs : List ℕ) → take 1 xs ≡ b ∷ [] → nat_lt 1 (length xs) ≡ false → xs ≡ b ∷ []
-only_one b [] e l = absurd cc
-only_one b (x ∷ []) e l = e
-only_one b (x ∷ y ∷ xs) e l = absurd (grind (arith, nat_tests))
 
 pub sheds : (b : ℕ) (s : Session) → take 1 s.begun.bytes ≡ b ∷ [] → Sheds b s (moves_on 1 s)
 sheds b s e =

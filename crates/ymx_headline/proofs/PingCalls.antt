@@ -31,9 +31,8 @@ use Rattle.ymx_session_law.proofs.Splits.{same_or_not, agrees}
 use Rattle.ymx_machine_law.proofs.StreamFacts.{when}
 use Rattle.ymx_headline.specs.Agrees.{AgreesAs, IsNumbered, SamePings, Sender, Receiver, Text, PingsUnderWay, sending, hearing, entry_number, number_of, count_in, asks, is_asked_at, is_there_at}
 use Rattle.ymx_headline.proofs.Mirrors.{order-call, parity}
-use Rattle.ymx_headline.proofs.Accepts.{so-true, so-false}
 use Rattle.ymx_headline.proofs.Places.{placed, places-distinct, place-asked, asked-back, asked-asked_same, asked-asked_other, free-same, free-fits, collected-numbers, collected-back, collected-back_other, collected-asked, collected-pending}
-use Rattle.ymx_headline.proofs.StreamCalls.{Called, open-rule, closed-rule, refused-at_both}
+use Rattle.ymx_headline.proofs.StreamCalls.{so-true, so-false, Called, open-rule, closed-rule, refused-at_both}
 
 -- ---- a call that changes the pings alone
 
@@ -183,7 +182,7 @@ ping-called x y w m h s reply (HasOutcome answer state) = elim (when (is_closed 
     | inl t ↦ refused-is x y call.Ping w m h s reply (refused Lost w.a) gives (rw (f, t) refl) refl answer state (rule-of f m _ (so-true m.me.lost _ _ (h.a.whole.lost f ∙ t) (refl, refl)))
     | inr l ↦ elim (when (nat_le most_pings (length w.a.pings.pending))) [
       | inl t ↦ refused-is x y call.Ping w m h s reply (refused PingsPending w.a) gives (rw (f, l, t) refl) refl answer state
-      (rule-of f m _ (so-false m.me.lost _ _ (h.a.whole.lost f ∙ l) (so-true (nat_le 16 (length m.me.pings)) _ _ (ap (nat_le 16) lengths ∙ t) (refl, refl))))
+          (rule-of f m _ (so-false m.me.lost _ _ (h.a.whole.lost f ∙ l) (so-true (nat_le 16 (length m.me.pings)) _ _ (ap (nat_le 16) lengths ∙ t) (refl, refl))))
       | inr q ↦ asks-one f l q (rw (f, l, q) refl)
     ]
   ]
@@ -274,9 +273,9 @@ ponged-called k x y w m h s reply (HasOutcome answer state) = elim (when (is_clo
     | inl b ↦ collects f b (rw (f, b) refl)
     | inr b ↦ elim (when (is_lost w.a.status)) [
       | inl t ↦ refused-is x y (call.Ponged k) w m h s reply (refused Lost w.a) gives (rw (f, b, t) refl) refl answer state
-      (rule-of f m _ (so-false (is_back (look k m.me.pings)) _ _ (h.a.pings.back k ∙ b) (so-true m.me.lost _ _ (h.a.whole.lost f ∙ t) (refl, refl))))
+          (rule-of f m _ (so-false (is_back (look k m.me.pings)) _ _ (h.a.pings.back k ∙ b) (so-true m.me.lost _ _ (h.a.whole.lost f ∙ t) (refl, refl))))
       | inr t ↦ refused-is x y (call.Ponged k) w m h s reply (answers (Ponged false) w.a) gives (rw (f, b, t) refl) refl answer state
-      (rule-of f m _ (so-false (is_back (look k m.me.pings)) _ _ (h.a.pings.back k ∙ b) (so-false m.me.lost _ _ (h.a.whole.lost f ∙ t) (refl, refl))))
+          (rule-of f m _ (so-false (is_back (look k m.me.pings)) _ _ (h.a.pings.back k ∙ b) (so-false m.me.lost _ _ (h.a.whole.lost f ∙ t) (refl, refl))))
     ]
   ]
 ]

@@ -1,5 +1,5 @@
 -- A world that isn't quiet can go on.
-use Rattle.std.proofs.Common.{◌≡◌, ℕ, ◌+◌, ◌<◌, ◌≤◌, List, [], ◌∷◌, length, take, min, Bool, true, false, not, ◌&&◌, nat_lt, nat_le, refl, sym, ap, subst, ◌∙◌, inl, inr, arith}
+use Rattle.std.proofs.Common.{◌≡◌, ℕ, List, [], ◌∷◌, take, min, Bool, true, false, not, ◌&&◌, refl, sym, ap, subst, ◌∙◌, inl, inr, arith}
 use Rattle.ymx_model.specs.declared.types.Status.{Status}
 use Rattle.ymx_model.specs.declared.types.Status.TheVariants.{Running, Lost, Broken, Closed}
 use Rattle.ymx_model.specs.declared.types.Side.{Side}
@@ -12,17 +12,16 @@ use Rattle.ymx_model.specs.declared.types.Answer.{Answer}
 use Rattle.ymx_model.specs.declared.types.Answer.TheVariants as answer
 use Rattle.ymx_model.specs.declared.types.Fed.{Fed}
 use Rattle.ymx_model.specs.declared.types.Reply.TheVariants as reply
-use Rattle.ymx_model.specs.Outgoing.{is_empty}
-use Rattle.ymx_model.specs.Sessions.{Session, is_running, is_broken, is_deaf, most_answers}
+use Rattle.ymx_model.specs.Sessions.{Session, is_running, is_broken, is_deaf}
 use Rattle.ymx_model.specs.Feeds.{Feeds, is_stuck, is_between, byte_comes, starves, why_of}
-use Rattle.ymx_model.specs.Emissions.{Choice, Emits, in_turn, is_ready}
+use Rattle.ymx_model.specs.Emissions.{in_turn, is_ready}
 use Rattle.ymx_model.specs.Worlds.{World, Pipe, Steps, StepOfA, is_of_a, is_quiet, is_quiet_pipe, pushed, taken_off, mirror}
 use Rattle.ymx_session_law.specs.Limits.{IsWithin}
 use Rattle.ymx_session_law.proofs.Ready.{due-gives}
 use Rattle.ymx_machine_law.proofs.StreamFacts.{when}
 use Rattle.ymx_world_law.specs.Texts.{AreWithin}
 use Rattle.ymx_headline.specs.Laws.{IsOpenWorld, IsOpenPipe, carries_bytes}
-use Rattle.ymx_headline.proofs.Accepts.{so-true, so-false}
+use Rattle.ymx_headline.proofs.StreamCalls.{so-true, so-false}
 use Rattle.ymx_headline.proofs.Still.{IsIdle, idle}
 
 -- a step that carries bytes

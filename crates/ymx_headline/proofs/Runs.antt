@@ -6,7 +6,6 @@ use Rattle.std.proofs.lemmas.Bool.Decides.{nat_tests}
 use Rattle.std.proofs.lemmas.List.Elements.{All-nil, All-cons}
 use Rattle.ymx_model.specs.declared.types.Role.{Role}
 use Rattle.ymx_model.specs.declared.types.Role.TheVariants.{Client, Server}
-use Rattle.ymx_model.specs.declared.types.Direction.{Direction}
 use Rattle.ymx_model.specs.declared.types.Side.TheVariants.{A, B}
 use Rattle.ymx_model.specs.declared.types.Step.{Step}
 use Rattle.ymx_model.specs.declared.types.Step.TheVariants as step
@@ -42,31 +41,29 @@ use Rattle.ymx_headline.specs.Laws.{AreGood, HasRun, breaks_off, is_live_in}
 use Rattle.ymx_headline.proofs.Begins.{begins}
 use Rattle.ymx_headline.proofs.Counts.{Stands, stands, no-record}
 use Rattle.ymx_headline.proofs.Mirrors.{mirrors-agree}
-use Rattle.ymx_headline.proofs.Steps.{AtA, at-either, calls, emissions, stops, ends, both-runs}
+use Rattle.ymx_headline.proofs.DeliverStep.{delivers}
+use Rattle.ymx_headline.proofs.Steps.{calls, emissions, stops, ends, both-runs}
 use Rattle.ymx_headline.proofs.Still.{still}
 
 -- ---- every step
 
-abbrev pub DeliveriesFollow : Type 0
-DeliveriesFollow = (may : Choice → Session → Bool) (d : Direction) (n : ℕ) (given : Answer) → AtA may (step.Deliver d n) given
-
-pub follows : DeliveriesFollow → (may : Choice → Session → Bool) (st : Step) (given : Answer) (w v : World) (m : Machine) → Steps may st given w v → Agrees w m → Follows st given v m
-follows f may (step.At side c) given w v m s h = calls may side c given w v m s h
-follows f may (step.Emit side room) given w v m s h = emissions may side room given w v m s h
-follows f may (step.Deliver d n) given w v m s h = at-either may (step.Deliver d n) given w v m (f may d n given) s h
-follows f may (step.Stop d) given w v m s h = stops may d given w v m s h
-follows f may (step.End d) given w v m s h = ends may d given w v m s h
+pub follows : (may : Choice → Session → Bool) (st : Step) (given : Answer) (w v : World) (m : Machine) → Steps may st given w v → Agrees w m → Follows st given v m
+follows may (step.At side c) given w v m s h = calls may side c given w v m s h
+follows may (step.Emit side room) given w v m s h = emissions may side room given w v m s h
+follows may (step.Deliver d n) given w v m s h = delivers may d n given w v m s h
+follows may (step.Stop d) given w v m s h = stops may d given w v m s h
+follows may (step.End d) given w v m s h = ends may d given w v m s h
 
 -- ---- every run
 
-pub runs-alike : DeliveriesFollow → (may : Choice → Session → Bool) (sts : List Step) (given : List Answer) (w v : World) (m : Machine) → Runs may sts given w v → Agrees w m → HasRun may sts given w v m
-runs-alike f may [] [] w v m r h = (m, (r, refl), subst (λ z. Agrees z m) (sym r) h)
-runs-alike f may (st ∷ sts) (given ∷ more) w v m r h =
-    let k = follows f may st given w r.0 m r.1 h in
-    let rest = runs-alike f may sts more r.0 v k.0 r.2 k.2 in
+pub runs-alike : (may : Choice → Session → Bool) (sts : List Step) (given : List Answer) (w v : World) (m : Machine) → Runs may sts given w v → Agrees w m → HasRun may sts given w v m
+runs-alike may [] [] w v m r h = (m, (r, refl), subst (λ z. Agrees z m) (sym r) h)
+runs-alike may (st ∷ sts) (given ∷ more) w v m r h =
+    let k = follows may st given w r.0 m r.1 h in
+    let rest = runs-alike may sts more r.0 v k.0 r.2 k.2 in
     (rest.0, (r.0, k.0, r.1, k.1, still Client Server r.0 k.0 k.2, rest.1), rest.2)
-runs-alike f may [] (given ∷ more) w v m r h = absurd r
-runs-alike f may (st ∷ sts) [] w v m r h = absurd r
+runs-alike may [] (given ∷ more) w v m r h = absurd r
+runs-alike may (st ∷ sts) [] w v m r h = absurd r
 
 -- ---- no answer is a fault
 
@@ -189,22 +186,22 @@ client-odd n e = grind (arith, nat_tests)
 server-even : (n : ℕ) → is_own Server n ≡ true → n % 2 ≡ 0
 server-even n e = grind (arith, nat_tests)
 
-pub run-alike : DeliveriesFollow → (may : Choice → Session → Bool) (sts : List Step) (given : List Answer) (wa fa wb fb : ℕ) (w : World) → AreGood wa fa wb fb → Runs may sts given (new_world wa fa wb fb) w →
+pub run-alike : (may : Choice → Session → Bool) (sts : List Step) (given : List Answer) (wa fa wb fb : ℕ) (w : World) → AreGood wa fa wb fb → Runs may sts given (new_world wa fa wb fb) w →
     HasRun may sts given (new_world wa fa wb fb) w (new_machine wa fa wb fb)
-run-alike f may sts given wa fa wb fb w g r =
-    runs-alike f may sts given (new_world wa fa wb fb) w (new_machine wa fa wb fb) r (begins wa fa wb fb g.low_a g.high_a g.low_b g.high_b g.client g.server g.small_a g.some_b g.small_b)
+run-alike may sts given wa fa wb fb w g r =
+    runs-alike may sts given (new_world wa fa wb fb) w (new_machine wa fa wb fb) r (begins wa fa wb fb g.low_a g.high_a g.low_b g.high_b g.client g.server g.small_a g.some_b g.small_b)
 
-pub run-face : DeliveriesFollow → (may : Choice → Session → Bool) (sts : List Step) (given : List Answer) (wa fa wb fb : ℕ) (w : World) → AreGood wa fa wb fb → Runs may sts given (new_world wa fa wb fb) w → (id : ℕ) →
+pub run-face : (may : Choice → Session → Bool) (sts : List Step) (given : List Answer) (wa fa wb fb : ℕ) (w : World) → AreGood wa fa wb fb → Runs may sts given (new_world wa fa wb fb) w → (id : ℕ) →
     IsFace wb (is_live_in (look id w.b.table.entries)) A B id sts given × IsFace wa (is_live_in (look id w.a.table.entries)) B A id sts given
-run-face f may sts given wa fa wb fb w g r id =
-    let k = run-alike f may sts given wa fa wb fb w g r in
+run-face may sts given wa fa wb fb w g r id =
+    let k = run-alike may sts given wa fa wb fb w g r in
     let both = both-runs may sts given (new_world wa fa wb fb) w (new_machine wa fa wb fb) k.0 k.1 in
     let p = face wa fa wb fb sts given k.0 id g.low_a g.low_b (odd-even fa fb (client-odd fa g.client) (server-even fb g.server)) both.1 in
     (subst (λ b. IsFace wb b A B id sts given) (live-at_b Client Server w k.0 k.2 id) p.0, subst (λ b. IsFace wa b B A id sts given) (live-at_a Client Server w k.0 k.2 id) p.1)
 
-pub run-lanes : DeliveriesFollow → (may : Choice → Session → Bool) (sts : List Step) (given : List Answer) (wa fa wb fb : ℕ) (w : World) → AreGood wa fa wb fb → Runs may sts given (new_world wa fa wb fb) w →
+pub run-lanes : (may : Choice → Session → Bool) (sts : List Step) (given : List Answer) (wa fa wb fb : ℕ) (w : World) → AreGood wa fa wb fb → Runs may sts given (new_world wa fa wb fb) w →
     (n : Machine) × RunsAlike may sts given (new_world wa fa wb fb) (new_machine wa fa wb fb) w n × Agrees w n × ((id : ℕ) → ObeysAt wa wb (look id n.streams))
-run-lanes f may sts given wa fa wb fb w g r =
-    let k = run-alike f may sts given wa fa wb fb w g r in
+run-lanes may sts given wa fa wb fb w g r =
+    let k = run-alike may sts given wa fa wb fb w g r in
     let both = both-runs may sts given (new_world wa fa wb fb) w (new_machine wa fa wb fb) k.0 k.1 in
     (k.0, k.1, k.2, λ id. law wa fa wb fb sts given k.0 id g.low_a g.low_b both.1)

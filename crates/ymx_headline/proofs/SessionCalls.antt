@@ -30,10 +30,9 @@ use Rattle.ymx_session_law.proofs.SettledFrames.{gives-settled}
 use Rattle.ymx_session_law.proofs.Splits.{both_of}
 use Rattle.ymx_machine_law.proofs.StreamFacts.{when}
 use Rattle.ymx_headline.specs.Agrees.{AgreesAs, IsNumbered, SameAway, Sender, Receiver, Text, AwayUnderWay, sending, hearing, arrives, found, count_in, is_go_away}
-use Rattle.ymx_headline.proofs.Accepts.{so-true, so-false}
 use Rattle.ymx_headline.proofs.Mirrors.{refines-same, order-call, parity}
 use Rattle.ymx_headline.proofs.PingCalls.{refused-is}
-use Rattle.ymx_headline.proofs.StreamCalls.{Called, open-rule, closed-rule}
+use Rattle.ymx_headline.proofs.StreamCalls.{so-true, so-false, Called, open-rule, closed-rule}
 
 -- ---- go away
 
