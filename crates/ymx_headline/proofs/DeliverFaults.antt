@@ -49,9 +49,6 @@ data-room theirs window own false fin body e z a t = let k = z refl in omega (ar
 after-ack : (d : ℕ) (e : End) → takes e.phase ≡ true → (takes (gets_credit d (gets_ack e)).phase ≡ true) × ((gets_credit d (gets_ack e)).inn ≡ e.inn)
 after-ack d e t = rw t (t, refl)
 
-after-credit : (d : ℕ) (e : End) → takes e.phase ≡ true → (takes (gets_credit d e).phase ≡ true) × ((gets_credit d e).inn ≡ e.inn)
-after-credit d e t = rw t (t, refl)
-
 room-of : (theirs window : ℕ) (own ack loaded finz fin : Bool) (d : ℕ) (body : List ℕ) (e : End) → theirs ≤ 4294967295 → e.out.credit ≤ 4294967295 → (loaded ≡ false → length body ≡ 0) → (loaded ≡ true → d ≡ 0) → (finz ≡ true → d ≡ 0) →
     AllBreakNothing theirs window own (opened ack (loaded || finz) d ++ followed loaded fin body) e → HasRoom own ack (length body) d e
 room-of theirs window own true loaded finz fin d body e wide small z dz fz a = record {

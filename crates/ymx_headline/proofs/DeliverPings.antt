@@ -26,7 +26,7 @@ use Rattle.ymx_session_law.proofs.Splits.{same_or_not}
 use Rattle.ymx_session_law.proofs.Pings.{pending-staged}
 use Rattle.ymx_machine_law.proofs.Maps.{look-change, look-change_other}
 use Rattle.ymx_headline.specs.Agrees.{AgreesAs, RejectsOnce, SamePings, Sender, Receiver, Text, PingsUnderWay, PongsUnderWay, pongs_of, sending, hearing, is_rejected, is_asked_at, is_there_at, number_of, entry_number, asks, replies, is_go_away, count_in, pongs}
-use Rattle.ymx_headline.proofs.DeliverTexts.{count-skip, count-first, away-rest, pings-rest, pongs-rest}
+use Rattle.ymx_headline.proofs.DeliverTexts.{count-skip, count-first, away-rest, pings-rest, pongs-rest, same-text}
 use Rattle.ymx_headline.proofs.DeliverBytes.{Delivered, delivered-is}
 use Rattle.ymx_headline.proofs.DeliverStreams.{TakingHead}
 use Rattle.ymx_headline.proofs.DeliverSession.{session-frame, session-text, session-arrives, one-less, some-more, count-less, no-count}
@@ -229,20 +229,9 @@ ping-arrives x y lacks b seen rest w m h k kind syn =
     ((k.taking.hears_it, asked), (0, refl, (refl, refl))))
   where
     there-text : (s : Sender) (r : Receiver) (n : ℕ) (bytes : List ℕ) (parts : List (ℕ × Part)) → look n r.places ≡ Some Asked → Text s r bytes parts → Text (record s { answers = s.answers ++ Pong n ∷ [] }) (record r { places = there_now n r.places }) bytes parts
-    there-text s r n bytes parts asked z = record {
-      cut = z.cut;
-      tail = z.tail;
-      frames = z.frames;
-      kept = z.kept;
-      lacks = z.lacks;
-      each = z.each;
-      plain = z.plain;
-      text = z.text;
-      says = z.says;
-      away = record { once = z.away.once; means = z.away.means; said = z.away.said };
-      pings = record { once = z.pings.once; means = z.pings.means; asked = z.pings.asked };
-      pongs = pongs-due s r n z.frames asked z.pongs;
-    }
+    there-text s r n bytes parts asked z =
+        same-text s (record s { answers = s.answers ++ Pong n ∷ [] }) r (record r { places = there_now n r.places }) bytes parts z refl refl refl (record { once = z.away.once; means = z.away.means; said = z.away.said })
+        (record { once = z.pings.once; means = z.pings.means; asked = z.pings.asked }) (pongs-due s r n z.frames asked z.pongs)
 
 -- ---- an answer to a ping arrives
 
@@ -333,17 +322,6 @@ reply-arrives x y lacks b seen rest w m h k kind syn =
     ((k.taking.hears_it, there), (0, refl, (refl, refl))))
   where
     back-text : (s : Sender) (r : Receiver) (n : ℕ) (bytes : List ℕ) (parts : List (ℕ × Part)) → look n s.places ≡ Some There → Text s r bytes parts → Text (record s { pings = answered n s.pings; places = back_now n s.places }) r bytes parts
-    back-text s r n bytes parts there z = record {
-      cut = z.cut;
-      tail = z.tail;
-      frames = z.frames;
-      kept = z.kept;
-      lacks = z.lacks;
-      each = z.each;
-      plain = z.plain;
-      text = z.text;
-      says = z.says;
-      away = record { once = z.away.once; means = z.away.means; said = z.away.said };
-      pings = back-asked s n z.frames there z.pings;
-      pongs = record { once = z.pongs.once; means = z.pongs.means; there = z.pongs.there };
-    }
+    back-text s r n bytes parts there z =
+        same-text s (record s { pings = answered n s.pings; places = back_now n s.places }) r r bytes parts z refl refl refl (record { once = z.away.once; means = z.away.means; said = z.away.said })
+        (back-asked s n z.frames there z.pings) (record { once = z.pongs.once; means = z.pongs.means; there = z.pongs.there })

@@ -23,7 +23,6 @@ use Rattle.ymx_model.specs.FreeMoves.{FreeMove, FreeMoves}
 use Rattle.ymx_model.specs.FreeMoves.FreeMove.{AwayArrives}
 use Rattle.ymx_session_law.specs.Limits.{IsWithin}
 use Rattle.ymx_session_law.specs.Settled.{IsSettled}
-use Rattle.ymx_session_law.proofs.Splits.{agrees}
 use Rattle.ymx_headline.specs.Agrees.{AgreesAs, Keeps, OnlyRejects, RejectsOnce, SamePings, SameAway, IsPlain, Sender, Text, AwayUnderWay, PingsUnderWay, PongsUnderWay, sending, hearing, parts_in, all_parts, parts_left, is_rejected, is_go_away, count_in, pongs}
 use Rattle.ymx_headline.proofs.Mirrors.{order-moves, parity}
 use Rattle.ymx_headline.proofs.DeliverTexts.{awaited, text-after, count-first, pings-rest, pongs-rest}
@@ -130,9 +129,6 @@ pub no-count : (n : ℕ) → n ≡ 0 → nat_lt 0 n ≡ true → ⊥
 no-count n z t = absurd (grind (arith, nat_tests))
 
 -- ---- a go away
-
-is-three : (h : Header) → (h.kind == 3) ≡ true → h.kind ≡ 3
-is-three h e = agrees h.kind 3 e
 
 away-done : (s : Sender) (f : List ℕ) (fs : List (List ℕ)) → is_go_away f ≡ true → AwayUnderWay s (f ∷ fs) → AwayUnderWay (record s { mark = Here }) fs
 away-done s f fs e h =

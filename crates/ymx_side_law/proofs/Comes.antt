@@ -36,7 +36,7 @@ come-append refuse window [] b e = refl
 come-append refuse window (f ∷ a) b e = come-append refuse window a b (comes_to refuse window f e)
 
 -- no credit, and no payload, change nothing
-pub credit-none : (e : End) → gets_credit 0 e ≡ e
+credit-none : (e : End) → gets_credit 0 e ≡ e
 credit-none e = grind (arith, common_steps)
 
 data-none : (e : End) → gets_data [] e ≡ e
@@ -285,7 +285,7 @@ offered-comes h bytes e s g r a b c inc n =
     let P : Session → Type 0 = λ x. look h.id (payload_comes bytes x x.incoming).table.entries ≡ Some (all_come false s.table.window (says h bytes) e) in
     subst P (sym m) (plain-look false h bytes (offer s) t inc there n ∙ ap Some (sym says-it))
 
-pub refused-stays : (window : ℕ) (loaded fin : Bool) (bytes : List ℕ) →
+refused-stays : (window : ℕ) (loaded fin : Bool) (bytes : List ℕ) →
     all_come true window ((if loaded then Data bytes ∷ [] else []) ++ (if fin then Fin ∷ [] else [])) refused_end ≡ refused_end
 refused-stays window true true bytes = refl
 refused-stays window true false bytes = refl
