@@ -1,0 +1,23 @@
+//! The law of turns, over definitions alone.
+
+ghost use Rattle.std.specs.Prelude.{◌≡◌, ◌+◌, ◌<◌, ◌≤◌, ℕ, List, true, false, Some};
+ghost use Rattle.ymx_model.specs.Tables.{due_count};
+ghost use Rattle.ymx_model.specs.Sessions.{Session};
+ghost use Rattle.ymx_model.specs.Emissions.{Choice, begin, moves_on, in_turn, data_limit};
+ghost use Rattle.ymx_model.specs.Emissions.Choice.{AStream};
+ghost use Rattle.ymx_session_law.specs.Limits.{IsWithin};
+ghost use Rattle.ymx_session.specs.Turns.{turn, own_frames, HasDue, is_of_stream, FlowsPast};
+
+/// A stream with something due waits for at most as many frames as its turn says, while no call and no feed
+/// comes between: each frame that begins for another brings it nearer, bytes that go out leave it as it is, and
+/// at 0 the next frame that begins is its own. The turn is less than the session's own frames and the streams
+/// with something due together. (A law over definitions: the function itself does nothing.)
+pub fn turns_are_bounded()
+    ensures nearer { (id : ℕ) (c : Choice) (s t : Session) → IsWithin s → HasDue id s → in_turn c s ≡ true → is_of_stream id c ≡ false → begin c s ≡ Some t → turn id t < turn id s }
+    ensures still_due { (id : ℕ) (c : Choice) (s t : Session) → IsWithin s → HasDue id s → in_turn c s ≡ true → is_of_stream id c ≡ false → begin c s ≡ Some t → HasDue id t }
+    ensures moved { (id n : ℕ) (s : Session) → IsWithin s → HasDue id s → turn id (moves_on n s) ≡ turn id s }
+    ensures due_behind { (id n : ℕ) (s : Session) → IsWithin s → HasDue id s → HasDue id (moves_on n s) }
+    ensures own_next { (id : ℕ) (c : Choice) (s t : Session) → IsWithin s → HasDue id s → turn id s ≡ 0 → in_turn c s ≡ true → begin c s ≡ Some t → c ≡ AStream id data_limit }
+    ensures few { (id : ℕ) (s : Session) → HasDue id s → turn id s < own_frames s + due_count s.table }
+    ensures among { (id : ℕ) (bytes : List ℕ) (frames : ℕ) (s t : Session) → IsWithin s → HasDue id s → FlowsPast id bytes frames s t → frames ≤ turn id s }
+{}
