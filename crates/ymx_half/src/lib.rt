@@ -19,9 +19,7 @@ pub use frame::FrameKind;
 pub use receive::RecvHalf;
 pub use send::SendHalf;
 pub use stream::{Stage, StreamRec};
-
-/// The bytes that each end of a stream may send before it hears of any window: 262,144 (flow control).
-pub const FIRST_CREDIT: u32 = 262_144;
+pub use ymx_header::FIRST_CREDIT;
 
 #[cfg(test)]
 mod tests;
