@@ -23,7 +23,8 @@ header_of-front h xs r = header_of-append (spelling h) xs (omega arith) ∙ head
 
 -- ---- no fault
 
-no-fault-here : (h : Header) (limit : ℕ) → h.version ≡ 0 → h.kind ≤ 3 → payload_length h ≤ limit → fault_of limit h ≡ None
+-- a header of this version, with one of the four types and no longer payload, has no fault
+pub no-fault-here : (h : Header) (limit : ℕ) → h.version ≡ 0 → h.kind ≤ 3 → payload_length h ≤ limit → fault_of limit h ≡ None
 no-fault-here h limit v k l = grind (arith, nat_tests)
 
 -- no fault is in the header of a frame

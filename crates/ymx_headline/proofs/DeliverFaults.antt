@@ -1,6 +1,7 @@
 -- What breaks no rule of the streams is no fault of a session.
 use Rattle.std.proofs.Common.{◌≡◌, ℕ, ◌+◌, ◌≤◌, List, [], ◌∷◌, ◌++◌, length, Bool, true, false, not, ◌&&◌, ◌||◌, ◌==◌, nat_lt, if◌then◌else◌, None, refl, sym, ◌∙◌, arith}
 use Rattle.std.proofs.lemmas.Bool.Decides.{nat_tests}
+use Rattle.ymx_header.proofs.Frames.{no-fault-here}
 use Rattle.ymx_header.specs.declared.header.Header.{Header}
 use Rattle.ymx_header.specs.Headers.{has_syn, has_ack, has_fin, has_rst}
 use Rattle.ymx_model.specs.Lanes.{first_credit}
@@ -19,10 +20,7 @@ use Rattle.ymx_headline.proofs.DeliverMoves.{AllBreakNothing}
 -- ---- a header by itself
 
 pub no-header_fault : (h : Header) (s : Session) → h.version ≡ 0 → h.kind ≤ 3 → payload h ≤ s.table.window → header_fault h s ≡ None
-no-header_fault h s v k p =
-    let few : nat_lt 3 h.kind ≡ false = grind (arith, nat_tests) in
-    let fits : nat_lt s.table.window (payload h) ≡ false = grind (arith, nat_tests) in
-    rw (v, few, fits) refl
+no-header_fault h s v k p = no-fault-here h s.table.window v k p
 
 -- ---- a frame at a record
 
