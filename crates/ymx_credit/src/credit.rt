@@ -1,9 +1,8 @@
 //! The credit of a writer.
 
-ghost use Rattle.std.specs.Prelude.{◌≡◌, ◌+◌, ◌-◌, ◌<◌, ◌≤◌, ◌↔◌, IsOk, OnOk, OnErr, Err};
+ghost use Rattle.std.specs.Prelude.{◌≡◌, ◌+◌, ◌-◌, ◌≤◌};
 
 use std::marker::Model;
-use ymx_header::Fault;
 
 /// How many bytes may still be written to a stream (flow control): at most 4,294,967,295. A contract
 /// sees that number.
@@ -48,16 +47,13 @@ impl Credit {
         self.left -= n;
     }
 
-    /// The peer lets `delta` bytes more be written (Window Update). `CreditOverflow` (B6) exactly if
-    /// the sum is above 4,294,967,295; the credit then stays as it is.
-    pub fn grant(&mut self, delta: u32) -> Result<(), Fault>
-        ensures good { IsOk result ↔ (self.old + delta ≤ 4294967295) }
-        ensures overflow { (result ≡ Err Fault.CreditOverflow) ↔ (4294967295 < self.old + delta) }
-        ensures granted { OnOk result (self.new ≡ self.old + delta) }
-        ensures unchanged { OnErr result (self.new ≡ self.old) }
+    /// The peer lets `delta` bytes more be written (Window Update). The sum is at most 4,294,967,295: a
+    /// frame that would lift it above that breaks the session (B6), and its delta never comes here.
+    pub fn grant(&mut self, delta: u32)
+        requires { self.old + delta ≤ 4294967295 }
+        ensures { self.new ≡ self.old + delta }
     {
-        self.left = self.left.checked_add(delta).ok_or(Fault::CreditOverflow)?;
-        Ok(())
+        self.left += delta;
     }
 }
 
@@ -66,13 +62,9 @@ mod tests {
     use super::*;
 
     #[test]
-    fn is_refused_above_the_limit(rt: HostRuntime) {
-        let mut credit = Credit::new(4_294_967_295);
-        assert_eq!(rt; credit.grant(1), Err(Fault::CreditOverflow));
-        assert_eq!(rt; credit.left(), 4_294_967_295);
-
-        let mut credit = Credit::new(0);
-        assert_eq!(rt; credit.grant(4_294_967_295), Ok(()));
+    fn is_granted_up_to_the_limit(rt: HostRuntime) {
+        let mut credit = Credit::new(1);
+        credit.grant(4_294_967_294);
         assert_eq!(rt; credit.left(), 4_294_967_295);
     }
 

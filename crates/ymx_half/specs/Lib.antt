@@ -1,4 +1,3 @@
-pub mod Starts
 pub mod Windows
 pub mod Directions
 pub mod Stages

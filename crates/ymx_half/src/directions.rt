@@ -45,8 +45,8 @@ impl Sending {
         ensures same_state { is_silent self.new ≡ is_silent self.old }
     {
         match self {
-            Sending::Open(half) => half.grant(delta).unwrap(),
-            Sending::Done(half) => half.grant(delta).unwrap(),
+            Sending::Open(half) => half.grant(delta),
+            Sending::Done(half) => half.grant(delta),
             Sending::Dead(_) => {}
         }
     }

@@ -1,12 +1,11 @@
 //! A sending half that was finished.
 
-ghost use Rattle.std.specs.Prelude.{◌≡◌, ◌+◌, ◌<◌, ◌≤◌, ◌↔◌, ◌++◌, [], true, false, length, take, drop, min, IsOk, OnOk, OnErr, Err};
+ghost use Rattle.std.specs.Prelude.{◌≡◌, ◌+◌, ◌≤◌, ◌++◌, [], true, false, length, take, drop, min};
 ghost use Rattle.ymx_model.specs.Records.{sent, given, fin_goes};
 
 use crate::DeadHalf;
 use std::marker::Model;
 use ymx_credit::Credit;
-use ymx_header::Fault;
 use ymx_ring::Ring;
 
 /// A sending half that was finished: its unsent bytes still go out, and then its end. Nothing is
@@ -39,15 +38,12 @@ impl DoneHalf {
         }
     }
 
-    /// The peer lets `delta` bytes more be written (Window Update), though none are. `CreditOverflow`
-    /// (B6) exactly if the credit would be above 4,294,967,295; nothing has changed then.
-    pub fn grant(&mut self, delta: u32) -> Result<(), Fault>
-        ensures good { IsOk result ↔ (self.old.credit + delta ≤ 4294967295) }
-        ensures overflow { (result ≡ Err Fault.CreditOverflow) ↔ (4294967295 < self.old.credit + delta) }
-        ensures granted { OnOk result (self.new ≡ given delta self.old) }
-        ensures refused_unchanged { OnErr result (self.new ≡ self.old) }
+    /// The peer lets `delta` bytes more be written, as at an open half, though none are.
+    pub fn grant(&mut self, delta: u32)
+        requires { self.old.credit + delta ≤ 4294967295 }
+        ensures { self.new ≡ given delta self.old }
     {
-        self.credit.grant(delta)
+        self.credit.grant(delta);
     }
 
     /// Moves the next bytes of a frame out of the half into `buffer`, as many as are there and fit, and

@@ -1,7 +1,7 @@
 //! A receiving half that is open.
 
 ghost use Rattle.std.specs.Prelude.{◌≡◌, ◌+◌, ◌≤◌, ◌++◌, length, take, drop, min, IfOk};
-ghost use Rattle.ymx_model.specs.Records.{arrive, read, announce, end_comes};
+ghost use Rattle.ymx_model.specs.Records.{new_reader, arrive, read, announce, end_comes};
 
 use crate::{DeadHalf, EndedHalf, FIRST_CREDIT};
 use std::alloc::{AllocError, Global};
@@ -35,8 +35,6 @@ impl Model for RecvHalf {
 }
 
 impl RecvHalf {
-    ghost use Rattle.ymx_half.specs.Starts.{new_reader};
-
     /// Makes the half of a new stream, with memory for the whole window, in bytes. The peer may send
     /// 262,144 bytes at first, and what the window has beyond these is owed to it. Without the memory
     /// it answers `AllocError`.

@@ -1,13 +1,12 @@
 //! A sending half that is open.
 
-ghost use Rattle.std.specs.Prelude.{◌≡◌, ◌+◌, ◌<◌, ◌≤◌, ◌↔◌, ◌++◌, length, take, drop, min, IsOk, IfOk, OnOk, OnErr, Err};
-ghost use Rattle.ymx_model.specs.Records.{write, sent, given, finish};
+ghost use Rattle.std.specs.Prelude.{◌≡◌, ◌+◌, ◌≤◌, ◌++◌, length, take, drop, min, IsOk, IfOk, OnErr};
+ghost use Rattle.ymx_model.specs.Records.{new_writer, write, sent, given, finish};
 
 use crate::{DeadHalf, DoneHalf, FIRST_CREDIT};
 use std::alloc::{AllocError, Global};
 use std::marker::Model;
 use ymx_credit::Credit;
-use ymx_header::Fault;
 use ymx_ring::Ring;
 
 /// A sending half to which bytes may still be written (flow control).
@@ -33,8 +32,6 @@ impl Model for SendHalf {
 }
 
 impl SendHalf {
-    ghost use Rattle.ymx_half.specs.Starts.{new_writer};
-
     /// Makes the half of a new stream: 262,144 bytes may be written, and there is memory for so many
     /// unsent ones. Without that memory it answers `AllocError`.
     pub fn new(alloc: Global) -> Result<SendHalf, AllocError>
@@ -72,15 +69,13 @@ impl SendHalf {
         Ok(count)
     }
 
-    /// The peer lets `delta` bytes more be written (Window Update). `CreditOverflow` (B6) exactly if the
-    /// credit would be above 4,294,967,295; nothing has changed then.
-    pub fn grant(&mut self, delta: u32) -> Result<(), Fault>
-        ensures good { IsOk result ↔ (self.old.credit + delta ≤ 4294967295) }
-        ensures overflow { (result ≡ Err Fault.CreditOverflow) ↔ (4294967295 < self.old.credit + delta) }
-        ensures granted { OnOk result (self.new ≡ given delta self.old) }
-        ensures refused_unchanged { OnErr result (self.new ≡ self.old) }
+    /// The peer lets `delta` bytes more be written (Window Update). The credit is then at most
+    /// 4,294,967,295: above that the session broke (B6).
+    pub fn grant(&mut self, delta: u32)
+        requires { self.old.credit + delta ≤ 4294967295 }
+        ensures { self.new ≡ given delta self.old }
     {
-        self.credit.grant(delta)
+        self.credit.grant(delta);
     }
 
     /// Moves the next bytes of a frame out of the half into `buffer`, as many as are there and fit, and

@@ -1,7 +1,6 @@
 use super::*;
 use std::alloc::{AllocError, Global};
 use std::test::Fail;
-use ymx_header::Fault;
 
 /// The longest payload of Data, and such a frame.
 const LIMIT: u32 = 16_384;
@@ -95,6 +94,7 @@ fn announces_its_window_once(rt: HostRuntime) -> Result<(), Fail> {
     let open = [0, 1, 0, 1, 0, 0, 0, 1, 0, 12, 0, 0];
     assert!(rt; goes(&mut stream, window, Some(FrameKind::Open), 12, &open));
     assert_eq!(rt; (stream.granted(), stream.is_due(window)), (window, false));
+    assert_eq!(rt; stream.credit(), 262_144);
     stream.receive_head(true, 0, false);
     assert!(rt; stream.is_acknowledged());
 
@@ -205,12 +205,11 @@ fn a_sending_half_by_itself(rt: HostRuntime) -> Result<(), Fail> {
     let mut two = [0; 2];
     let mut out = SendHalf::new(rt.alloc())?;
     assert_eq!(rt; out.write(b"abcdef")?, 6);
-    assert_eq!(rt; out.grant(4_294_967_295), Err(Fault::CreditOverflow));
-    assert_eq!(rt; out.grant(1), Ok(()));
+    out.grant(1);
     assert_eq!(rt; (out.take(&mut two), two), (2, *b"ab"));
     assert_eq!(rt; (out.credit(), out.unsent_len()), (262_139, 4));
     let mut out = out.finish();
-    assert_eq!(rt; out.grant(4), Ok(()));
+    out.grant(4);
     assert_eq!(rt; (out.take(&mut two), two), (2, *b"cd"));
     assert_eq!(rt; (out.credit(), out.unsent_len()), (262_143, 2));
     assert_eq!(rt; (out.take(&mut two), two), (2, *b"ef"));
@@ -248,6 +247,24 @@ fn a_receiving_half_by_itself(rt: HostRuntime) -> Result<(), Fail> {
     Ok(())
 }
 
+/// At the largest window, 16,777,216 bytes, records are made, and a write of a million bytes that the peer lets
+/// be written is taken whole.
+#[test]
+fn holds_the_largest_window(rt: HostRuntime) -> Result<(), Fail> {
+    let window = 16_777_216;
+    let offered = StreamRec::offered(rt.alloc(), window)?;
+    assert_eq!(rt; offered.granted(), 262_144);
+    let bytes = vec![in rt.alloc(); 7; 1_000_000]?;
+    let mut stream = StreamRec::opened(rt.alloc(), window, false)?;
+    stream.receive_head(true, 737_856, false);
+    assert!(rt; !stream.is_finished());
+    assert_eq!(rt;
+        (stream.credit(), stream.write(&bytes)?),
+        (1_000_000, 1_000_000)
+    );
+    Ok(())
+}
+
 /// A stream to which as many bytes were written as it has memory for.
 fn full(alloc: Global, bytes: &[u8]) -> Result<StreamRec, AllocError> {
     let mut stream = StreamRec::opened(alloc, 262_144, false)?;
@@ -259,15 +276,19 @@ fn full(alloc: Global, bytes: &[u8]) -> Result<StreamRec, AllocError> {
     Ok(stream)
 }
 
-/// Passes whichever allocation fails: a record that can't be made is none, and one that can't take more
-/// bytes is as it was.
+/// Passes whichever one allocation fails: a record that can't be made is made at the next try, and one that
+/// can't take more bytes is as it was, and takes them at the next.
 #[test]
-fn holds_under_each_refusal(rt: HostRuntime) {
-    if let Ok(mut stream) = full(rt.alloc(), &[7; 65_536]) {
-        assert!(rt; stream.credit() == 0);
-        stream.receive_head(false, 4, false);
-        assert!(rt; !stream.is_finished());
-        let left = if stream.write(b"more").is_ok() { 0 } else { 4 };
-        assert_eq!(rt; stream.credit(), left);
+fn holds_under_each_refusal(rt: HostRuntime) -> Result<(), Fail> {
+    let bytes = [7; 65_536];
+    let mut stream = full(rt.alloc(), &bytes).or_else(|_| full(rt.alloc(), &bytes))?;
+    assert!(rt; stream.credit() == 0);
+    stream.receive_head(false, 4, false);
+    assert!(rt; !stream.is_finished());
+    if stream.write(b"more").is_err() {
+        assert!(rt; stream.credit() == 4 && !stream.is_finished());
+        assert_eq!(rt; stream.write(b"more")?, 4);
     }
+    assert_eq!(rt; stream.credit(), 0);
+    Ok(())
 }

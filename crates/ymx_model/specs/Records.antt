@@ -53,12 +53,20 @@ dead_reader = record { unread = []; granted = 0; owed = 0; ended = false }
 abbrev pub only : Bool → Bool → Marks → Marks
 only syn rst m = record m { syn = syn; carries = syn && m.carries; ack = false; rst = rst; whole = false }
 
+-- the halves of a stream just made: at any window the first credit may be written, and may come; what the
+-- window has beyond it is owed
+abbrev pub new_writer : Writer
+new_writer = record { credit = first_credit; unsent = []; finished = false; fin_sent = false }
+
+abbrev pub new_reader : ℕ → Reader
+new_reader window = record { unread = []; granted = first_credit; owed = window - first_credit; ended = false }
+
 -- an end that is made now, at a session of this window; `syn`: its SYN is due, and `carries` data
 abbrev pub new_end : ℕ → Phase → Bool → Bool → End
 new_end window phase syn carries = record {
   phase = phase;
-  out = record { credit = first_credit; unsent = []; finished = false; fin_sent = false };
-  inn = record { unread = []; granted = first_credit; owed = window - first_credit; ended = false };
+  out = new_writer;
+  inn = new_reader window;
   marks = record { syn = syn; carries = carries; ack = false; rst = false; whole = carries && nat_lt first_credit window; acked = false };
 }
 

@@ -107,15 +107,37 @@ fn refuses_what_no_memory_holds(rt: HostRuntime) -> Result<(), Fail> {
     Ok(())
 }
 
-/// Passes whichever allocation fails: a ring that can't be made is no ring, and one that can't grow is as it was.
+/// The largest window, 16,777,216 bytes: a ring is made for it, and one is grown to it.
 #[test]
-fn holds_under_each_refusal(rt: HostRuntime) {
-    if let Ok(mut ring) = Ring::new(rt.alloc(), 4) {
-        ring.put(b"abc");
-        let capacity = if ring.grow(8).is_ok() { 8 } else { 4 };
-        assert_eq!(rt; (ring.len(), ring.capacity()), (3, capacity));
-        let mut four = [b'.'; 4];
-        assert_eq!(rt; ring.take(&mut four), 3);
-        assert_eq!(rt; four, *b"abc.");
+fn holds_the_largest_window(rt: HostRuntime) -> Result<(), Fail> {
+    let mut ring = Ring::new(rt.alloc(), 16_777_216)?;
+    let bytes = vec![in rt.alloc(); 7; 1_000_000]?;
+    for _ in 0..16 {
+        assert!(rt; bytes.len() <= ring.room());
+        ring.put(&bytes);
     }
+    assert_eq!(rt; ring.len(), 16_000_000);
+    let mut ring = Ring::new(rt.alloc(), 262_144)?;
+    ring.put(b"abc");
+    ring.grow(16_777_216)?;
+    assert_eq!(rt; (ring.len(), ring.capacity()), (3, 16_777_216));
+    Ok(())
+}
+
+/// Passes whichever one allocation fails: a ring that can't be made is made at the next try, and one that can't
+/// grow is as it was, and grows at the next.
+#[test]
+fn holds_under_each_refusal(rt: HostRuntime) -> Result<(), Fail> {
+    let mut ring = Ring::new(rt.alloc(), 4).or_else(|_| Ring::new(rt.alloc(), 4))?;
+    assert!(rt; ring.is_empty() && 3 <= ring.room());
+    ring.put(b"abc");
+    if ring.grow(8).is_err() {
+        assert_eq!(rt; (ring.len(), ring.capacity()), (3, 4));
+        ring.grow(8)?;
+    }
+    assert_eq!(rt; (ring.len(), ring.capacity()), (3, 8));
+    let mut four = [b'.'; 4];
+    assert_eq!(rt; ring.take(&mut four), 3);
+    assert_eq!(rt; four, *b"abc.");
+    Ok(())
 }

@@ -11,6 +11,7 @@ use Rattle.ymx_model.specs.Records.{End}
 use Rattle.ymx_model.specs.Outgoing.{is_due}
 use Rattle.ymx_model.specs.Tables.{Table, look, change, without, place, on, served, removed, added, most_records}
 use Rattle.ymx_table.specs.Kept.{IsKept}
+use Rattle.ymx_table.specs.Changes.{Changes}
 use Rattle.ymx_table.specs.Standing.{StandsAt}
 use Rattle.ymx_table.proofs.Places.{set_value_at-place, look-place, place-lt, remove-place, remove_entry_is, insert_entry-new, place-position}
 use Rattle.ymx_table.proofs.Others.{change-none, change-known, change-nothing, length-change, keys-change, place-change, length-without}
@@ -49,6 +50,14 @@ stands-found t id (Some at) there found = stands-at t id at (sym there) (place-p
 pub untouched : (id : ℕ) (f : End → End) (t : Table) → look id t.entries ≡ None → t ≡ on id f t
 untouched id f t absent = sym (ap (λ ps. record t { entries = ps }) (change-none id f t.entries absent))
 
+-- a change by which each record becomes what a function makes of it
+pub changed : {R : Type 0} (step : End → R → End → Type 0) (id : ℕ) (f : End → End) (old new : Table) (o : Option R)
+    → Changes step id old o new → ((e after : End) (answer : R) → step e answer after → after ≡ f e) → new ≡ on id f old
+changed step id f old new None h is = h.1 ∙ untouched id f old h.0
+changed step id f old new (Some answer) h is =
+    h.2.2 ∙ ap (λ x. on id (λ _. x) old) (is h.0 h.2.0 answer h.2.1)
+    ∙ ap (λ ps. record old { entries = ps }) (change-known id f h.0 old.entries h.1)
+
 -- the flags are as many as the records
 pub flags_within : (t u : Table) → t ≡ u → (flags : List Bool) → IsKept t flags → (id at : ℕ) → StandsAt id u at → at < length flags
 flags_within t u same flags k id at s =
@@ -67,6 +76,9 @@ module _ (t u : Table) (same : t ≡ u) (id at : ℕ) (before : End) (s : Stands
   entries-written after =
       ap (λ i. set_value_at t.entries i after) (s.at_place ∙ ap (λ (v : Table). place id v.entries) (sym same))
       ∙ set_value_at-place id t.entries after
+
+  pub found-before : look id u.entries ≡ Some before
+  found-before = ap (λ (v : Table). look id v.entries) (sym same) ∙ found
 
   -- the table is the same but for the one record
   pub written : (f : End → End) (after : End) → after ≡ f before → record t { entries = set_value_at t.entries at after } ≡ on id f u

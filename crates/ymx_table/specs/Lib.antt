@@ -3,3 +3,4 @@ pub mod Standing
 pub mod Others
 pub mod Flags
 pub mod Turns
+pub mod Changes

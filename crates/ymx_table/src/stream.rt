@@ -3,6 +3,8 @@
 
 ghost use Rattle.std.specs.Prelude.{◌≡◌, ◌+◌, ◌≤◌, ◌++◌, length, take, drop, min, true, false, Some, IsSome, IfSome, IsOk, IfOk, OnErr};
 ghost use Rattle.std.specs.Option.{ForSome};
+ghost use Rattle.std.specs.Fn.{FnOnceTakesAtMut, FnOnceReturnsAtMut};
+ghost use Rattle.ymx_table.specs.Changes.{Changes};
 ghost use Rattle.ymx_model.specs.Streams.{takes, is_offered, is_lingering};
 ghost use Rattle.ymx_model.specs.Records.{takes_payload, end_write, end_read, end_finish, end_accept, end_reset, end_forget, gets_piece, gets_head, gets_rst};
 ghost use Rattle.ymx_model.specs.Tables.{look, on};
@@ -10,7 +12,7 @@ ghost use Rattle.ymx_half.specs.Stages.{phase_of};
 
 use crate::Table;
 use std::alloc::AllocError;
-use ymx_half::Stage;
+use ymx_half::{Stage, StreamRec};
 
 impl Table {
     // ---- calls
@@ -58,11 +60,7 @@ impl Table {
         requires up { ForSome (look id self.old.entries) (λ e. takes e.phase ≡ true) }
         ensures { self.new ≡ on id end_finish self.old }
     {
-        let place = self.place_of(id);
-        let stream = &mut self.records[place];
-        stream.finish();
-        let is_due = stream.is_due(self.window);
-        self.due.set(place, is_due);
+        self.change(id, |stream| stream.finish());
     }
 
     /// An offered stream is accepted. Its ACK is due, unless the session is lost.
@@ -71,11 +69,7 @@ impl Table {
         requires offered { ForSome (look id self.old.entries) (λ e. is_offered e.phase ≡ true) }
         ensures { self.new ≡ on id (end_accept lost) self.old }
     {
-        let place = self.place_of(id);
-        let stream = &mut self.records[place];
-        stream.accept(lost);
-        let is_due = stream.is_due(self.window);
-        self.due.set(place, is_due);
+        self.change(id, |stream| stream.accept(lost));
     }
 
     /// Both directions of the stream are over, and its RST is due (flags). It is then at `stage`, which is
@@ -86,11 +80,7 @@ impl Table {
         requires over { takes (phase_of stage) ≡ false }
         ensures { self.new ≡ on id (end_reset (phase_of stage)) self.old }
     {
-        let place = self.place_of(id);
-        let stream = &mut self.records[place];
-        stream.reset(stage);
-        let is_due = stream.is_due(self.window);
-        self.due.set(place, is_due);
+        self.change(id, |stream| stream.reset(stage));
     }
 
     /// The stream is given up, and lingers until what it still has to send went out. In a lost session that
@@ -100,11 +90,7 @@ impl Table {
         requires held { ForSome (look id self.old.entries) (λ e. is_lingering e.phase ≡ false) }
         ensures { self.new ≡ on id (end_forget lost) self.old }
     {
-        let place = self.place_of(id);
-        let stream = &mut self.records[place];
-        stream.forget(lost);
-        let is_due = stream.is_due(self.window);
-        self.due.set(place, is_due);
+        self.change(id, |stream| stream.forget(lost));
     }
 
     // ---- frames that come
@@ -115,13 +101,7 @@ impl Table {
         requires { IfSome (look id self.old.entries) (λ e. takes_payload e ≡ true → length bytes.now ≤ e.inn.granted) }
         ensures { self.new ≡ on id (gets_piece fin bytes.now) self.old }
     {
-        let Some(place) = self.find(id) else {
-            return;
-        };
-        let stream = &mut self.records[place];
-        stream.receive_piece(fin, bytes);
-        let is_due = stream.is_due(self.window);
-        self.due.set(place, is_due);
+        self.change(id, |stream| stream.receive_piece(fin, bytes));
     }
 
     /// The head of a frame without RST comes (flags, flow control): the peer acknowledges the stream if
@@ -132,13 +112,7 @@ impl Table {
         requires { IfSome (look id self.old.entries) (λ e. takes e.phase ≡ true → e.out.credit + delta ≤ 4294967295) }
         ensures { self.new ≡ on id (gets_head acknowledges delta ends) self.old }
     {
-        let Some(place) = self.find(id) else {
-            return;
-        };
-        let stream = &mut self.records[place];
-        stream.receive_head(acknowledges, delta, ends);
-        let is_due = stream.is_due(self.window);
-        self.due.set(place, is_due);
+        self.change(id, |stream| stream.receive_head(acknowledges, delta, ends));
     }
 
     /// The peer has reset the stream, which is not one that is only offered: the record of such a one is
@@ -148,10 +122,19 @@ impl Table {
         requires not_offered { ForSome (look id self.old.entries) (λ e. is_offered e.phase ≡ false) }
         ensures { self.new ≡ on id gets_rst self.old }
     {
-        let place = self.place_of(id);
+        self.change(id, |stream| stream.receive_rst());
+    }
+
+    /// Changes the record under this id, and its flag with it. `None` if there is none.
+    fn change<R, F: FnOnce(&mut StreamRec) -> R>(&mut self, id: u32, change: F) -> Option<R>
+        requires { IfSome (look id self.old.entries) (λ e. FnOnceTakesAtMut F.FnOnce change e) }
+        ensures { Changes (FnOnceReturnsAtMut F.FnOnce change) id self.old result self.new }
+    {
+        let place = self.find(id)?;
         let stream = &mut self.records[place];
-        stream.receive_rst();
+        let answer = change(stream);
         let is_due = stream.is_due(self.window);
         self.due.set(place, is_due);
+        Some(answer)
     }
 }

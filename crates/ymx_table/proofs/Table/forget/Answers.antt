@@ -1,17 +1,8 @@
--- One record changes, and its flag with it.
+-- One record changes.
+use Rattle.std.proofs.Common.{rules}
 use Rattle.ymx_model.specs.Records.{end_forget}
-use Rattle.ymx_table.proofs.Writes.{written, kept-written, flags_within}
+use Rattle.ymx_table.proofs.Writes.{changed}
 use Rattle.ymx_table.proofs.Table.forget.Goals as goal
 
-pub set-requires : goal.set-requires
-set-requires c = flags_within _ _ c.self.view_is _ c.self.invariant _ _ c.place_of-place.ensures
-
-pub invariant_of-self : goal.invariant_of-self
-invariant_of-self c =
-    kept-written _ _ c.self.view_is _ _ _ c.place_of-place.ensures c.index_mut-stream.ensures.value
-    _ _ _ _ c.self.invariant c.is_due-is_due.ensures c.set.ensures
-
 pub returns : goal.returns
-returns c =
-    written _ _ c.self.view_is _ _ _ c.place_of-place.ensures c.index_mut-stream.ensures.value
-    (end_forget c.args.lost) _ c.forget.ensures
+returns c = changed _ c.args.id (end_forget c.args.lost) _ _ _ c.change.ensures (λ e after answer ran. search rules)
