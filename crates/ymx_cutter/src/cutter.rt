@@ -140,7 +140,7 @@ impl Cutter {
                 }
                 let last = len == *lacks as usize;
                 if last {
-                    self.begun = Begun::Header(HeaderBytes::new());
+                    self.restart();
                 } else {
                     *came += len as u32;
                     *lacks -= len as u32;

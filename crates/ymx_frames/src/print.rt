@@ -113,6 +113,7 @@ fn print_all<R: Inlet, W: Outlet>(
 mod tests {
     use super::*;
     use std::test::Fail;
+    use ymx_header::{Header, TYPE_DATA, write_header};
     use ymx_model::{MemoryInlet, MemoryOutlet};
 
     const LIMIT: u32 = 262_144;
@@ -121,15 +122,16 @@ mod tests {
     const TEXT: &[u8] =
         b"\x00\x01\x00\x01\x00\x00\x00\x01\x00\x00\x00\x00\x00\x00\x00\x00\x00\x00\x00\x01\x00\x00\x00\x05hello\x00\x02\x00\x01\x00\x00\x00\x00\x00\x00\x00\x07\x00\x03\x00\x00\x00\x00\x00\x00\x00\x00\x00\x00";
 
-    /// What is printed of the first bytes of a text that comes in pieces.
+    /// What is printed of a text that comes in pieces.
     fn printed<T: Wait + AllocGlobal>(
         rt: &T,
         text: &[u8],
         pieces: usize,
+        limit: u32,
     ) -> Result<(FramesEnd, Vec<u8>), Fail> {
         let mut reader = MemoryInlet::new(text).in_pieces(pieces.max(1));
         let mut writer = MemoryOutlet::new(rt.alloc());
-        let end = frames(rt, rt.alloc(), &mut reader, &mut writer, LIMIT);
+        let end = frames(rt, rt.alloc(), &mut reader, &mut writer, limit);
         Ok((end, Vec::from_slice(rt.alloc(), writer.as_slice())?))
     }
 
@@ -157,7 +159,7 @@ mod tests {
                 b"window flags=0001 id=1 len=0\nfault B1 at 12\n".as_slice(),
             ),
         ] {
-            let got = printed(&rt, text, usize::MAX)?;
+            let got = printed(&rt, text, usize::MAX, LIMIT)?;
             assert_eq!(rt; got.0, end);
             assert_eq!(rt; got.1.as_slice(), lines);
         }
@@ -169,7 +171,7 @@ mod tests {
         let lines =
             b"window flags=0001 id=1 len=0\ndata flags=0000 id=1 len=5 68656c6c6f\n".as_slice();
         for pieces in 1..30usize {
-            let got = printed(&rt, &TEXT[..29], pieces)?;
+            let got = printed(&rt, &TEXT[..29], pieces, LIMIT)?;
             assert_eq!(rt; got.0, FramesEnd::Good, "pieces of {pieces}");
             assert_eq!(rt; got.1.as_slice(), lines, "pieces of {pieces}");
         }
@@ -191,7 +193,7 @@ mod tests {
             for count in start..end {
                 assert!(rt; count <= TEXT.len());
                 assert!(rt; shown <= lines.len());
-                let got = printed(&rt, &TEXT[..count], 5)?;
+                let got = printed(&rt, &TEXT[..count], 5, LIMIT)?;
                 let mut want = Vec::from_slice(rt.alloc(), &lines[..shown])?;
                 if count > start {
                     let rest = count - start;
@@ -202,6 +204,59 @@ mod tests {
                 }
                 assert_eq!(rt; got.1.as_slice(), want.as_slice(), "first {count} bytes");
             }
+        }
+        Ok(())
+    }
+
+    #[test]
+    fn prints_more_frames_than_a_read_holds(rt: HostRuntime) -> Result<(), Fail> {
+        // twelve zeros are a Data frame without payload
+        let text = vec![in rt.alloc(); 0u8; 120_000]?;
+        let mut want = Vec::new(rt.alloc());
+        for _ in 0..10_000 {
+            want.extend_from_slice(b"data flags=0000 id=0 len=0\n")?;
+        }
+        let got = printed(&rt, text.as_slice(), usize::MAX, LIMIT)?;
+        assert_eq!(rt; got.0, FramesEnd::Good);
+        assert_eq!(rt; got.1.len(), 270_000);
+        assert!(rt; got.1.as_slice() == want.as_slice());
+        Ok(())
+    }
+
+    #[test]
+    fn prints_frames_as_long_as_the_limit(rt: HostRuntime) -> Result<(), Fail> {
+        for (limit, length, end, lines) in [
+            (
+                LIMIT,
+                262_144,
+                FramesEnd::Good,
+                b"data flags=0000 id=1 len=262144 00000000000000000000000000000000..\n".as_slice(),
+            ),
+            (
+                LIMIT,
+                262_145,
+                FramesEnd::Fault,
+                b"fault B5 at 0\n".as_slice(),
+            ),
+            (
+                16_777_216,
+                16_777_216,
+                FramesEnd::Good,
+                b"data flags=0000 id=1 len=16777216 00000000000000000000000000000000..\n".as_slice(),
+            ),
+        ] {
+            let header = Header {
+                version: 0,
+                kind: TYPE_DATA,
+                flags: 0,
+                id: 1,
+                length,
+            };
+            let mut text = vec![in rt.alloc(); 0u8; 12 + length as usize]?;
+            write_header(&header, text.as_mut_slice());
+            let got = printed(&rt, text.as_slice(), usize::MAX, limit)?;
+            assert_eq!(rt; got.0, end);
+            assert_eq!(rt; got.1.as_slice(), lines);
         }
         Ok(())
     }
