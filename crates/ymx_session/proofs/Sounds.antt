@@ -39,9 +39,9 @@ new-sound role window first low high own some small = record { within = new-keep
 
 -- ---- a call that may take memory
 
-lacks : {A : Type 0} (r : Result A CallFault) → is_out_of_memory r ≡ true → (told : Reply) → ((fault : CallFault) → r ≡ Err fault → told ≡ Refused fault) → told ≡ Refused OutOfMemory
-lacks {A} (Ok x) e told f = cc
-lacks {A} (Err fault) e told f = of fault e (f fault refl)
+wants_memory : {A : Type 0} (r : Result A CallFault) → is_out_of_memory r ≡ true → (told : Reply) → ((fault : CallFault) → r ≡ Err fault → told ≡ Refused fault) → told ≡ Refused OutOfMemory
+wants_memory {A} (Ok x) e told f = cc
+wants_memory {A} (Err fault) e told f = of fault e (f fault refl)
   where
     of : (g : CallFault) → is_out_of_memory {A = A} (Err g) ≡ true → told ≡ Refused g → told ≡ Refused OutOfMemory
     of g e h = grind arith
@@ -54,7 +54,7 @@ pub memory-gives : {A : Type 0} (r : Result A CallFault) (c : Call) (told : Repl
 memory-gives {A} r c told s t found lack f = of (is_out_of_memory r) refl
   where
     of : (b : Bool) → is_out_of_memory r ≡ b → CallGives s c told t
-    of true e = let k = lack e in NoMemory k.0 (lacks r e told f) k.1
+    of true e = let k = lack e in NoMemory k.0 (wants_memory r e told f) k.1
     of false e = let k = found e in HasOutcome k.0 k.1
 
 -- ---- a write that takes no memory
