@@ -1,8 +1,9 @@
 //! The credit of a writer.
 
-ghost use Rattle.std.specs.Prelude.{◌≡◌, ◌+◌, ◌-◌, ◌≤◌};
+ghost use Rattle.std.specs.Prelude.{◌≡◌, ◌+◌, ◌-◌, ◌<◌, ◌≤◌, ◌↔◌, IsOk, OnOk, OnErr, Err};
 
 use std::marker::Model;
+use ymx_header::Fault;
 
 /// How many bytes may still be written to a stream (flow control): at most 4,294,967,295. A contract
 /// sees that number.
@@ -47,13 +48,16 @@ impl Credit {
         self.left -= n;
     }
 
-    /// The peer lets `delta` bytes more be written (Window Update). The sum is at most 4,294,967,295: a
-    /// frame that would lift it above that breaks the session (B6), and its delta never comes here.
-    pub fn grant(&mut self, delta: u32)
-        requires { self.old + delta ≤ 4294967295 }
-        ensures { self.new ≡ self.old + delta }
+    /// The peer lets `delta` bytes more be written (Window Update). `CreditOverflow` (B6) exactly if
+    /// the sum is above 4,294,967,295; the credit then stays as it is.
+    pub fn grant(&mut self, delta: u32) -> Result<(), Fault>
+        ensures good { IsOk result ↔ (self.old + delta ≤ 4294967295) }
+        ensures overflow { (result ≡ Err Fault.CreditOverflow) ↔ (4294967295 < self.old + delta) }
+        ensures granted { OnOk result (self.new ≡ self.old + delta) }
+        ensures unchanged { OnErr result (self.new ≡ self.old) }
     {
-        self.left += delta;
+        self.left = self.left.checked_add(delta).ok_or(Fault::CreditOverflow)?;
+        Ok(())
     }
 }
 
@@ -62,9 +66,13 @@ mod tests {
     use super::*;
 
     #[test]
-    fn is_granted_up_to_the_limit(rt: HostRuntime) {
-        let mut credit = Credit::new(1);
-        credit.grant(4_294_967_294);
+    fn is_refused_above_the_limit(rt: HostRuntime) {
+        let mut credit = Credit::new(4_294_967_295);
+        assert_eq!(rt; credit.grant(1), Err(Fault::CreditOverflow));
+        assert_eq!(rt; credit.left(), 4_294_967_295);
+
+        let mut credit = Credit::new(0);
+        assert_eq!(rt; credit.grant(4_294_967_295), Ok(()));
         assert_eq!(rt; credit.left(), 4_294_967_295);
     }
 

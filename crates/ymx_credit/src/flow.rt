@@ -26,7 +26,7 @@ mod tests {
         let mut debt = Debt::new(262_144);
         credit.spend(200_000);
         debt.read(150_000);
-        credit.grant(debt.announced());
+        assert_eq!(rt; credit.grant(debt.announced()), Ok(()));
         assert_eq!(rt; (credit.left(), debt.owed()), (212_144, 0));
     }
 }

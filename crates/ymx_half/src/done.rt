@@ -43,7 +43,7 @@ impl DoneHalf {
         requires { self.old.credit + delta ≤ 4294967295 }
         ensures { self.new ≡ given delta self.old }
     {
-        self.credit.grant(delta);
+        self.credit.grant(delta).unwrap();
     }
 
     /// Moves the next bytes of a frame out of the half into `buffer`, as many as are there and fit, and
