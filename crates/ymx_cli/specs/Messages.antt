@@ -2,7 +2,7 @@
 use Rattle.std.specs.Prelude.{◌≡◌, ◌≤◌, ◌↔◌, ℕ, List, [], Bool, Option, IfSome, IsTrue, ◌⊎◌, codes}
 use Rattle.std.specs.Io.{StartsWith}
 use Rattle.std.specs.Io.KnownBytes.{Appends, Consumes, IsAtEnd, Keeps}
-use Rattle.ymx_model.specs.Devices.{has_failed}
+use Rattle.ymx_model.specs.devices.Devices.{has_failed}
 use Rattle.ymx_frames.specs.Outputs.{Prints}
 use Rattle.ymx_frames.specs.declared.print.FramesEnd.{FramesEnd}
 use Rattle.ymx_frames.specs.declared.print.FramesEnd.TheVariants.{Good, Fault as Faulty, Rest, Reading, Writing, Memory}
@@ -15,8 +15,8 @@ pub record Change : Type 0 where
   pub failures_after : ℕ
 
 -- the change of a device, by what is known of its bytes and of its failures
-abbrev pub change : {D : Type 0} → (D → Option (List ℕ)) → (D → ℕ) → D → D → Change
-change bytes failures old new = record {
+abbrev pub change_of : {D : Type 0} → (D → Option (List ℕ)) → (D → ℕ) → D → D → Change
+change_of bytes failures old new = record {
   before = bytes old;
   after = bytes new;
   failures_before = failures old;
@@ -28,20 +28,20 @@ abbrev pub fails : Change → Bool
 fails c = has_failed c.failures_before c.failures_after
 
 -- the device gave and took nothing
-abbrev pub IsKept : Change → Type 0
-IsKept c = Keeps c.before c.after
+abbrev pub IsUntouched : Change → Type 0
+IsUntouched c = Keeps c.before c.after
 
 -- the device took exactly this text
-abbrev pub Takes : Change → List ℕ → Type 0
-Takes c text = Appends c.before c.after text
+abbrev pub TakesText : Change → List ℕ → Type 0
+TakesText c text = Appends c.before c.after text
 
 -- the device took a beginning of this text
 abbrev pub TakesPart : Change → List ℕ → Type 0
-TakesPart c text = (part : List ℕ) × StartsWith text part × Takes c part
+TakesPart c text = (part : List ℕ) × StartsWith text part × TakesText c part
 
 -- A text was said on the device: all of it, or a beginning where the device failed.
 abbrev pub Says : Change → List ℕ → Type 0
-Says c text = Takes c text ⊎ (IsTrue (fails c) × TakesPart c text)
+Says c text = TakesText c text ⊎ (IsTrue (fails c) × TakesPart c text)
 
 -- there was no memory
 abbrev pub out_of_memory : List ℕ
@@ -72,13 +72,13 @@ reason Memory = out_of_memory
 -- A device is blamed only if it failed. Given are the changes of the input, the output and the error device.
 abbrev pub PrintsFrames : (limit status : ℕ) → (input output errors : Change) → Type 0
 PrintsFrames limit status input output errors =
-    (end : FramesEnd) × (text : List ℕ) × (lines : List ℕ) × Consumes input.before input.after text × Takes output lines
+    (end : FramesEnd) × (text : List ℕ) × (lines : List ℕ) × Consumes input.before input.after text × TakesText output lines
     × Prints limit text (IsAtEnd input.after) end lines × (end ≡ Reading → IsTrue (fails input)) × (end ≡ Writing → IsTrue (fails output))
     × (status ≤ 1) × ((status ≡ 0) ↔ (end ≡ Good)) × Says errors (reason end)
 
 -- Nothing is printed, the status is 1, and this text says why.
 abbrev pub Refuses : (status : ℕ) → (output errors : Change) → List ℕ → Type 0
-Refuses status output errors text = (status ≡ 1) × IsKept output × Says errors text
+Refuses status output errors text = (status ≡ 1) × IsUntouched output × Says errors text
 
 -- The frames of a file that holds these bytes are printed with this limit, or it refuses to be opened.
 abbrev pub PrintsFile : (limit status : ℕ) → (refuses : Type 0) → Option (List ℕ) → (output errors : Change) → Type 0

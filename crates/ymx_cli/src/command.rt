@@ -7,7 +7,7 @@ ghost use Rattle.std.specs.Io.KnownBytes.{Keeps};
 ghost use Rattle.clap.specs.Words.{app_of, first_value, found_of, kind_of, rule_of, shape_of, subcommand_rows_of};
 ghost use Rattle.clap.specs.declared.builder.command.Command.TheViews.{out-Command as fields_of};
 ghost use Rattle.ymx_cli.specs.CommandLine.{AsksFrames, AsksNoHelp, HasGoodLimit, IsFrames, IsMistake, NamesNoFrames, bare_shape, file_of, file_rule, frames_shape, limit_rule, named_words, ymx_app};
-ghost use Rattle.ymx_cli.specs.Messages.{IsKept, PrintsFile, PrintsFrames, Refuses, Says, Shows, Takes, TakesPart, change, fails, not_text, out_of_memory, reason, writing_failed};
+ghost use Rattle.ymx_cli.specs.Messages.{IsUntouched, PrintsFile, PrintsFrames, Refuses, Says, Shows, TakesText, TakesPart, change_of, fails, not_text, out_of_memory, reason, writing_failed};
 
 use clap::error::ErrorKind;
 use clap::{Arg, ArgAction, ArgMatches, Command, Error, value_parser};
@@ -64,29 +64,29 @@ pub fn ymx_main<S: AsStr, F: Opener, R: Inlet, W: Outlet, E: Outlet>(
 ) -> u8
     ensures status { result ≤ 2 }
     // A good end says nothing on the error device.
-    ensures good { result ≡ 0 → IsKept (change E.contents E.failures errors.old errors.new) }
+    ensures good { result ≡ 0 → IsUntouched (change_of E.contents E.failures errors.old errors.new) }
     // Words that ask for the frames of the reader get them with their limit, or there is no memory to read the words.
     ensures frames { (limit : ℕ) → AsksFrames (map S.text words.now) limit None →
-        let input = change R.remaining R.failures reader.old reader.new in
-        let output = change W.contents W.failures writer.old writer.new in
-        let says = change E.contents E.failures errors.old errors.new in
-        PrintsFrames limit result input output says ⊎ (IsKept input × Refuses result output says out_of_memory) }
+        let input = change_of R.remaining R.failures reader.old reader.new in
+        let output = change_of W.contents W.failures writer.old writer.new in
+        let says = change_of E.contents E.failures errors.old errors.new in
+        PrintsFrames limit result input output says ⊎ (IsUntouched input × Refuses result output says out_of_memory) }
     // So do words that ask for the frames of a file. The reader stays as it was.
     ensures file { (limit : ℕ) (name : List ℕ) → AsksFrames (map S.text words.now) limit (Some name) →
-        let output = change W.contents W.failures writer.old writer.new in
-        let says = change E.contents E.failures errors.old errors.new in
-        IsKept (change R.remaining R.failures reader.old reader.new)
+        let output = change_of W.contents W.failures writer.old writer.new in
+        let says = change_of E.contents E.failures errors.old errors.new in
+        IsUntouched (change_of R.remaining R.failures reader.old reader.new)
         × (PrintsFile limit result (F.refuses files.now name) (F.held files.now name) output says ⊎ Refuses result output says out_of_memory) }
     // Whatever the words, frames are printed so with a limit in its range, or nothing is read.
-    ensures printed { let input = change R.remaining R.failures reader.old reader.new in
-        IsKept input
+    ensures printed { let input = change_of R.remaining R.failures reader.old reader.new in
+        IsUntouched input
         ⊎ ((limit : ℕ) × (262144 ≤ limit) × (limit ≤ 16777216)
-        × PrintsFrames limit result input (change W.contents W.failures writer.old writer.new) (change E.contents E.failures errors.old errors.new)) }
+        × PrintsFrames limit result input (change_of W.contents W.failures writer.old writer.new) (change_of E.contents E.failures errors.old errors.new)) }
     // Words that name no `frames` write nothing to the writer, unless they ask for help or the version.
     ensures silent { NamesNoFrames (map S.text words.now) → AsksNoHelp (map S.text words.now) →
-        IsKept (change W.contents W.failures writer.old writer.new) }
+        IsUntouched (change_of W.contents W.failures writer.old writer.new) }
     // At status 2 nothing is read, and nothing is written to the writer.
-    ensures bad { result ≡ 2 → IsKept (change R.remaining R.failures reader.old reader.new) × IsKept (change W.contents W.failures writer.old writer.new) }
+    ensures bad { result ≡ 2 → IsUntouched (change_of R.remaining R.failures reader.old reader.new) × IsUntouched (change_of W.contents W.failures writer.old writer.new) }
 {
     match parse(alloc, words) {
         Ok(Task::Frames { limit, file: None }) => print(rt, alloc, reader, limit, writer, errors),
@@ -104,9 +104,9 @@ pub fn ymx_main<S: AsStr, F: Opener, R: Inlet, W: Outlet, E: Outlet>(
 /// Says why the words of the command line can't be had, and answers the exit status.
 pub fn no_words<E: Outlet>(error: &io::Error, errors: &mut E) -> u8
     ensures not_utf8 { error_kind error.now ≡ InvalidData →
-        (result ≡ 2) × Says (change E.contents E.failures errors.old errors.new) not_text }
+        (result ≡ 2) × Says (change_of E.contents E.failures errors.old errors.new) not_text }
     ensures other { error_kind error.now ≢ InvalidData →
-        (result ≡ 1) × Says (change E.contents E.failures errors.old errors.new) out_of_memory }
+        (result ≡ 1) × Says (change_of E.contents E.failures errors.old errors.new) out_of_memory }
 {
     if error.kind() == io::ErrorKind::InvalidData {
         say(errors, b"error: a word of the command line is not UTF-8\n");
@@ -124,9 +124,9 @@ fn print<R: Inlet, W: Outlet, E: Outlet>(
     writer: &mut W,
     errors: &mut E,
 ) -> u8
-    ensures printed { PrintsFrames limit result (change R.remaining R.failures reader.old reader.new)
-        (change W.contents W.failures writer.old writer.new) (change E.contents E.failures errors.old errors.new) }
-    ensures quiet { result ≡ 0 → IsKept (change E.contents E.failures errors.old errors.new) }
+    ensures printed { PrintsFrames limit result (change_of R.remaining R.failures reader.old reader.new)
+        (change_of W.contents W.failures writer.old writer.new) (change_of E.contents E.failures errors.old errors.new) }
+    ensures quiet { result ≡ 0 → IsUntouched (change_of E.contents E.failures errors.old errors.new) }
 {
     let end = frames(rt, alloc, reader, writer, limit);
     finish(end, errors)
@@ -143,8 +143,8 @@ fn print_file<F: Opener, W: Outlet, E: Outlet>(
     errors: &mut E,
 ) -> u8
     ensures printed { PrintsFile limit result (F.refuses files.now name.now) (F.held files.now name.now)
-        (change W.contents W.failures writer.old writer.new) (change E.contents E.failures errors.old errors.new) }
-    ensures quiet { result ≡ 0 → IsKept (change E.contents E.failures errors.old errors.new) }
+        (change_of W.contents W.failures writer.old writer.new) (change_of E.contents E.failures errors.old errors.new) }
+    ensures quiet { result ≡ 0 → IsUntouched (change_of E.contents E.failures errors.old errors.new) }
     ensures status { result ≤ 1 }
 {
     match files.open(name) {
@@ -289,8 +289,8 @@ Example:
 fn finish<E: Outlet>(end: FramesEnd, errors: &mut E) -> u8
     ensures status { result ≤ 1 }
     ensures good { (result ≡ 0) ↔ (end ≡ FramesEnd.Good) }
-    ensures quiet { result ≡ 0 → IsKept (change E.contents E.failures errors.old errors.new) }
-    ensures said { Says (change E.contents E.failures errors.old errors.new) (reason end) }
+    ensures quiet { result ≡ 0 → IsUntouched (change_of E.contents E.failures errors.old errors.new) }
+    ensures said { Says (change_of E.contents E.failures errors.old errors.new) (reason end) }
 {
     match end {
         FramesEnd::Good => 0,
@@ -304,7 +304,7 @@ fn finish<E: Outlet>(end: FramesEnd, errors: &mut E) -> u8
 /// Says why nothing more is done, and answers the status of a fault.
 fn refuse<E: Outlet>(errors: &mut E, text: &[u8]) -> u8
     ensures status { result ≡ 1 }
-    ensures said { Says (change E.contents E.failures errors.old errors.new) text.now }
+    ensures said { Says (change_of E.contents E.failures errors.old errors.new) text.now }
 {
     say(errors, text);
     1
@@ -312,7 +312,7 @@ fn refuse<E: Outlet>(errors: &mut E, text: &[u8]) -> u8
 
 /// Says a text. Where the error device fails too there is nobody left to tell.
 fn say<E: Outlet>(errors: &mut E, text: &[u8])
-    ensures { Says (change E.contents E.failures errors.old errors.new) text.now }
+    ensures { Says (change_of E.contents E.failures errors.old errors.new) text.now }
 {
     let _ = push_all(errors, text);
 }
@@ -321,15 +321,15 @@ fn say<E: Outlet>(errors: &mut E, text: &[u8])
 /// with it.
 fn explain<W: Outlet, E: Outlet>(alloc: Global, error: &Error, writer: &mut W, errors: &mut E) -> u8
     ensures status { result ≤ 2 }
-    ensures help { result ≡ 0 → (IsMistake (kind_of error.now) → ⊥) × IsKept (change E.contents E.failures errors.old errors.new)
-        × ((text : List ℕ) × Takes (change W.contents W.failures writer.old writer.new) text) }
-    ensures mistake { result ≡ 2 → IsMistake (kind_of error.now) × IsKept (change W.contents W.failures writer.old writer.new)
-        × ((text : List ℕ) × Says (change E.contents E.failures errors.old errors.new) text) }
-    ensures silent { IsMistake (kind_of error.now) → IsKept (change W.contents W.failures writer.old writer.new) }
+    ensures help { result ≡ 0 → (IsMistake (kind_of error.now) → ⊥) × IsUntouched (change_of E.contents E.failures errors.old errors.new)
+        × ((text : List ℕ) × TakesText (change_of W.contents W.failures writer.old writer.new) text) }
+    ensures mistake { result ≡ 2 → IsMistake (kind_of error.now) × IsUntouched (change_of W.contents W.failures writer.old writer.new)
+        × ((text : List ℕ) × Says (change_of E.contents E.failures errors.old errors.new) text) }
+    ensures silent { IsMistake (kind_of error.now) → IsUntouched (change_of W.contents W.failures writer.old writer.new) }
     ensures memory { kind_of error.now ≡ ErrorKind.OutOfMemory →
-        Refuses result (change W.contents W.failures writer.old writer.new) (change E.contents E.failures errors.old errors.new) out_of_memory }
-    ensures failed { let output = change W.contents W.failures writer.old writer.new in
-        let says = change E.contents E.failures errors.old errors.new in
+        Refuses result (change_of W.contents W.failures writer.old writer.new) (change_of E.contents E.failures errors.old errors.new) out_of_memory }
+    ensures failed { let output = change_of W.contents W.failures writer.old writer.new in
+        let says = change_of E.contents E.failures errors.old errors.new in
         result ≡ 1 → Refuses result output says out_of_memory ⊎ (IsTrue (fails output) × Says says writing_failed) }
 {
     if error.kind() == ErrorKind::OutOfMemory {
@@ -348,13 +348,13 @@ fn show<M: Display, W: Outlet, E: Outlet>(
     errors: &mut E,
 ) -> u8
     ensures status { result ≤ 2 }
-    ensures help { result ≡ 0 → (is_mistake ≡ false) × IsKept (change E.contents E.failures errors.old errors.new)
-        × Shows (M.output message.now) (Takes (change W.contents W.failures writer.old writer.new)) }
-    ensures mistake { result ≡ 2 → (is_mistake ≡ true) × IsKept (change W.contents W.failures writer.old writer.new)
-        × Shows (M.output message.now) (Says (change E.contents E.failures errors.old errors.new)) }
-    ensures silent { is_mistake ≡ true → IsKept (change W.contents W.failures writer.old writer.new) }
-    ensures failed { let output = change W.contents W.failures writer.old writer.new in
-        let says = change E.contents E.failures errors.old errors.new in
+    ensures help { result ≡ 0 → (is_mistake ≡ false) × IsUntouched (change_of E.contents E.failures errors.old errors.new)
+        × Shows (M.output message.now) (TakesText (change_of W.contents W.failures writer.old writer.new)) }
+    ensures mistake { result ≡ 2 → (is_mistake ≡ true) × IsUntouched (change_of W.contents W.failures writer.old writer.new)
+        × Shows (M.output message.now) (Says (change_of E.contents E.failures errors.old errors.new)) }
+    ensures silent { is_mistake ≡ true → IsUntouched (change_of W.contents W.failures writer.old writer.new) }
+    ensures failed { let output = change_of W.contents W.failures writer.old writer.new in
+        let says = change_of E.contents E.failures errors.old errors.new in
         result ≡ 1 → Refuses result output says out_of_memory
         ⊎ ((is_mistake ≡ false) × IsTrue (fails output) × Shows (M.output message.now) (TakesPart output) × Says says writing_failed) }
 {

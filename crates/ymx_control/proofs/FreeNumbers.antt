@@ -1,7 +1,7 @@
 -- Of more numbers in a row than there are pings, one is not pending, and the search finds the first.
 use Rattle.std.proofs.Common.{◌≡◌, ◌≢◌, ◌<◌, ◌==◌, ◌^◌, ◌%◌, ℕ, ◌+◌, zero, suc, List, [], ◌∷◌, length, Bool, true, false, cond, refl, ap, sym, ◌∙◌, arith}
 use Rattle.std.proofs.lemmas.Bool.Decides.{nat_tests}
-use Rattle.ymx_model.specs.Pings.{Ping, is_pending, without_ping, free_from, number_after}
+use Rattle.ymx_model.specs.session.Pings.{Ping, is_pending, without_ping, free_from, number_after}
 use Rattle.ymx_control.specs.Numbers.{steps_up, ArePendingBefore}
 
 -- the number so many steps behind another, after one step more

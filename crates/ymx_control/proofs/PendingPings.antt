@@ -7,8 +7,9 @@ use Rattle.std.proofs.lemmas.Grind.{common_steps}
 use Rattle.std.proofs.lemmas.Bool.Decides.{nat_tests}
 use Rattle.ymx_model.specs.declared.types.PingStage.{PingStage}
 use Rattle.ymx_model.specs.declared.types.PingStage.TheVariants.{Asked}
-use Rattle.ymx_model.specs.Pings.{Ping, Pings, is_pending, has_back, has_asked, is_back, first_asked, staged, without_ping, most_pings}
-use Rattle.ymx_control.specs.PendingPings.{AreDistinct, AreNumbers, IsSound}
+use Rattle.ymx_model.specs.session.Pings.{Ping, Pings, is_pending, has_back, has_asked, ping_is_back, first_asked, staged, without_ping}
+use Rattle.ymx_model.specs.shared.Limits.{most_pings}
+use Rattle.ymx_control.specs.PendingPings.{AreDistinct, AreNumbers, ArePingsSound}
 use Rattle.ymx_control.proofs.Places.{cond-remove, position-place, position-none}
 
 -- the place of a number
@@ -25,7 +26,7 @@ pub without_ping-remove : (n : ℕ) (ps : List Ping) → without_ping n ps ≡ r
 without_ping-remove n [] = refl
 without_ping-remove n (p ∷ ps) = rw (without_ping-remove n ps) (cond-remove (p.number == n) p ps _)
 
-pub has_back-at : (n : ℕ) (ps : List Ping) (d : Ping) → place n ps < length ps → has_back n ps ≡ is_back (get_or ps (place n ps) d).stage
+pub has_back-at : (n : ℕ) (ps : List Ping) (d : Ping) → place n ps < length ps → has_back n ps ≡ ping_is_back (get_or ps (place n ps) d).stage
 has_back-at n [] d within = grind arith
 has_back-at n (p ∷ ps) d within = grind (arith, nat_tests, common_steps, has_back-at n ps d)
 
@@ -89,7 +90,7 @@ AreNumbers-push (q ∷ ps) p numbers fits = (numbers.0, AreNumbers-push ps p num
 
 -- ---- the whole table
 
-pub IsSound-staged : (next : ℕ) (ps : List Ping) (stage : PingStage) (n : ℕ) → IsSound (record { next = next; pending = ps }) → IsSound (record { next = next; pending = staged stage n ps })
+pub IsSound-staged : (next : ℕ) (ps : List Ping) (stage : PingStage) (n : ℕ) → ArePingsSound (record { next = next; pending = ps }) → ArePingsSound (record { next = next; pending = staged stage n ps })
 IsSound-staged next ps stage n sound = record {
   few = omega (arith, length-staged stage n ps, sound.few);
   next = sound.next;
@@ -97,7 +98,7 @@ IsSound-staged next ps stage n sound = record {
   numbers = AreNumbers-staged stage n ps sound.numbers;
 }
 
-pub IsSound-without : (next : ℕ) (ps : List Ping) (n : ℕ) → IsSound (record { next = next; pending = ps }) → IsSound (record { next = next; pending = without_ping n ps })
+pub IsSound-without : (next : ℕ) (ps : List Ping) (n : ℕ) → ArePingsSound (record { next = next; pending = ps }) → ArePingsSound (record { next = next; pending = without_ping n ps })
 IsSound-without next ps n sound = record {
   few = omega (arith, length-without n ps, sound.few);
   next = sound.next;
@@ -105,8 +106,8 @@ IsSound-without next ps n sound = record {
   numbers = AreNumbers-without n ps sound.numbers;
 }
 
-pub IsSound-asked : (next : ℕ) (ps : List Ping) (n : ℕ) → IsSound (record { next = next; pending = ps }) → length ps < most_pings → is_pending n ps ≡ false → n < 2 ^ 32
-    → IsSound (record { next = (n + 1) % 2 ^ 32; pending = ps ++ record { number = n; stage = Asked } ∷ [] })
+pub IsSound-asked : (next : ℕ) (ps : List Ping) (n : ℕ) → ArePingsSound (record { next = next; pending = ps }) → length ps < most_pings → is_pending n ps ≡ false → n < 2 ^ 32
+    → ArePingsSound (record { next = (n + 1) % 2 ^ 32; pending = ps ++ record { number = n; stage = Asked } ∷ [] })
 IsSound-asked next ps n sound room absent fits = record {
   few = omega (arith, length_push ps (let p : Ping = record { number = n; stage = Asked } in p));
   next = omega arith;
@@ -135,7 +136,7 @@ is_some-position n ps = rw (is_pending-place n ps) (is_some-cond (nat_lt (place 
     is_some-cond true i = refl
     is_some-cond false i = refl
 
-pub has_back-some : (n : ℕ) (ps : List Ping) (i : ℕ) (d : Ping) → position (λ p. p.number == n) ps ≡ Some i → i < length ps → has_back n ps ≡ is_back (get_or ps i d).stage
+pub has_back-some : (n : ℕ) (ps : List Ping) (i : ℕ) (d : Ping) → position (λ p. p.number == n) ps ≡ Some i → i < length ps → has_back n ps ≡ ping_is_back (get_or ps i d).stage
 has_back-some n ps i d found within =
     let at : place n ps ≡ i = position-place _ ps i found in
     rw at at (has_back-at n ps d (omega arith))

@@ -1,6 +1,6 @@
 -- Which number a ping gets (ping).
 use Rattle.std.specs.Prelude.{◌≡◌, ℕ, ◌+◌, ◌-◌, ◌%◌, ◌^◌, ◌<◌, List, true}
-use Rattle.ymx_model.specs.Pings.{Ping, is_pending}
+use Rattle.ymx_model.specs.session.Pings.{Ping, is_pending}
 
 -- how many steps up lead from a number to another, where 0 follows 4,294,967,295
 abbrev pub steps_up : (from to : ℕ) → ℕ

@@ -1,6 +1,7 @@
 -- What holds of the own pings of a session at all times (ping).
 use Rattle.std.specs.Prelude.{◌≡◌, ◌<◌, ◌≤◌, ◌^◌, List, [], ◌∷◌, length, false}
-use Rattle.ymx_model.specs.Pings.{Ping, Pings, is_pending, most_pings}
+use Rattle.ymx_model.specs.session.Pings.{Ping, Pings, is_pending}
+use Rattle.ymx_model.specs.shared.Limits.{most_pings}
 
 -- no two of these pings have the same number
 abbrev pub AreDistinct : List Ping → Type 0
@@ -12,7 +13,7 @@ abbrev pub AreNumbers : List Ping → Type 0
 AreNumbers [] = Unit {0}
 AreNumbers (p ∷ ps) = (p.number < 2 ^ 32) × AreNumbers ps
 
-pub record IsSound (p : Pings) : Type 0 where
+pub record ArePingsSound (p : Pings) : Type 0 where
   pub few : length p.pending ≤ most_pings
   pub next : p.next < 2 ^ 32
   pub distinct : AreDistinct p.pending

@@ -1,7 +1,7 @@
 //! Who has said Go Away.
 
 ghost use Rattle.std.specs.Prelude.{◌≡◌, true};
-ghost use Rattle.ymx_model.specs.GoAway.{not_away, away_due, was_said, says_away, away_goes, away_comes};
+ghost use Rattle.ymx_model.specs.session.GoAway.{not_away, away_due, was_said, say_away, begin_away, receive_away};
 
 use std::marker::Model;
 use ymx_model::GoAwayMark;
@@ -14,7 +14,7 @@ pub struct Away {
 }
 
 impl Model for Away {
-    ghost use Rattle.ymx_model.specs.GoAway.{Away as BothMarks};
+    ghost use Rattle.ymx_model.specs.session.GoAway.{Away as BothMarks};
 
     ghost Value = { BothMarks };
 
@@ -37,7 +37,7 @@ impl Away {
     /// It is said here: its frame is due. A second time changes nothing, whether or not the frame
     /// has gone.
     pub fn says(&mut self)
-        ensures { self.new ≡ says_away self.old }
+        ensures { self.new ≡ say_away self.old }
     {
         if self.here == GoAwayMark::Unsaid {
             self.here = GoAwayMark::Due;
@@ -61,14 +61,14 @@ impl Away {
     /// Its frame begins, and so is no longer due. Only while it is due, as `is_due` tells.
     pub fn begin_frame(&mut self)
         requires { away_due self.old.here ≡ true }
-        ensures { self.new ≡ away_goes self.old }
+        ensures { self.new ≡ begin_away self.old }
     {
         self.here = GoAwayMark::Sent;
     }
 
     /// The peer's comes. A second one changes nothing.
     pub fn receive(&mut self)
-        ensures { self.new ≡ away_comes self.old }
+        ensures { self.new ≡ receive_away self.old }
     {
         self.there = true;
     }

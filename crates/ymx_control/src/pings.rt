@@ -1,8 +1,9 @@
 //! The own pings of a session.
 
 ghost use Rattle.std.specs.Prelude.{◌≡◌, ◌<◌, ◌==◌, true, false, [], length, position, is_some, IfOk, IfSome, if◌then◌else◌};
-ghost use Rattle.ymx_model.specs.Pings.{no_pings, is_pending, has_back, has_asked, is_back, staged, next_number, first_asked, pinged, answered, ping_goes, collected, most_pings};
-ghost use Rattle.ymx_control.specs.PendingPings.{IsSound};
+ghost use Rattle.ymx_model.specs.session.Pings.{no_pings, is_pending, has_back, has_asked, ping_is_back, staged, next_number, first_asked, ask, receive_answer, begin_ping, collect};
+ghost use Rattle.ymx_model.specs.shared.Limits.{most_pings};
+ghost use Rattle.ymx_control.specs.PendingPings.{ArePingsSound};
 ghost use Rattle.ymx_control.specs.Numbers.{ArePendingBefore};
 
 use std::alloc::{AllocError, Global};
@@ -17,7 +18,7 @@ struct Ping {
 }
 
 impl Model for Ping {
-    ghost use Rattle.ymx_model.specs.Pings.{Ping as OnePing};
+    ghost use Rattle.ymx_model.specs.session.Pings.{Ping as OnePing};
 
     ghost Value = { OnePing };
 
@@ -37,14 +38,15 @@ pub struct Pings {
 impl Model for Pings {
     ghost use Rattle.std.specs.Prelude.{◌≤◌};
     ghost use Rattle.std.specs.Vec.{vec_capacity};
-    ghost use Rattle.ymx_model.specs.Pings.{Pings as AllPings, most_pings};
-    ghost use Rattle.ymx_control.specs.PendingPings.{IsSound};
+    ghost use Rattle.ymx_model.specs.session.Pings.{Pings as AllPings};
+    ghost use Rattle.ymx_model.specs.shared.Limits.{most_pings};
+    ghost use Rattle.ymx_control.specs.PendingPings.{ArePingsSound};
 
     ghost Value = { AllPings };
 
     ghost view = { λ pings. record { next = pings.next; pending = pings.pending.items } };
 
-    ghost invariant = { λ pings. IsSound (record { next = pings.next; pending = pings.pending.items }) × (most_pings ≤ vec_capacity pings.pending) };
+    ghost invariant = { λ pings. ArePingsSound (record { next = pings.next; pending = pings.pending.items }) × (most_pings ≤ vec_capacity pings.pending) };
 }
 
 impl Pings {
@@ -70,7 +72,7 @@ impl Pings {
     /// How many pings are pending.
     pub fn len(&self) -> usize
         ensures len { result ≡ length self.now.pending }
-        ensures sound { IsSound self.now }
+        ensures sound { ArePingsSound self.now }
     {
         self.pending.len()
     }
@@ -85,7 +87,7 @@ impl Pings {
     /// Whether no further ping can be asked before one is collected.
     pub fn is_full(&self) -> bool
         ensures full { result ≡ (length self.now.pending == most_pings) }
-        ensures sound { IsSound self.now }
+        ensures sound { ArePingsSound self.now }
     {
         self.pending.len() == Self::LIMIT
     }
@@ -95,7 +97,7 @@ impl Pings {
     pub fn ask(&mut self) -> u32
         requires { length self.old.pending < most_pings }
         ensures number { result ≡ next_number self.old }
-        ensures asked { self.new ≡ pinged self.old }
+        ensures asked { self.new ≡ ask self.old }
         ensures skipped { ArePendingBefore self.old.next result self.old.pending }
         ensures fresh { is_pending result self.old.pending ≡ false }
     {
@@ -109,7 +111,7 @@ impl Pings {
     /// The answer to this ping has come, so that its frame, if not begun, is no longer due. Without
     /// effect on a number that is not pending.
     pub fn receive_answer(&mut self, number: u32)
-        ensures { self.new ≡ answered number self.old }
+        ensures { self.new ≡ receive_answer number self.old }
     {
         self.set_stage(number, PingStage::Back);
     }
@@ -118,7 +120,7 @@ impl Pings {
     /// `next_due` gives: another's answer, if it is back, would be forgotten.
     pub fn begin_frame(&mut self, number: u32)
         requires { has_asked number self.old.pending ≡ true }
-        ensures { self.new ≡ ping_goes number self.old }
+        ensures { self.new ≡ begin_ping number self.old }
     {
         self.set_stage(number, PingStage::Sent);
     }
@@ -127,7 +129,7 @@ impl Pings {
     /// pending then.
     pub fn collect(&mut self, number: u32) -> bool
         ensures back { result ≡ has_back number self.old.pending }
-        ensures collected { self.new ≡ (if result then collected number self.old else self.old) }
+        ensures collected { self.new ≡ (if result then collect number self.old else self.old) }
     {
         match back_at(self.pending.as_slice(), number) {
             Some(place) => {
@@ -191,7 +193,7 @@ fn back_at(pending: &[Ping], number: u32) -> Option<usize>
 
 /// Whether the answer is back at this stage.
 fn is_back(stage: PingStage) -> bool
-    ensures { result ≡ is_back stage }
+    ensures { result ≡ ping_is_back stage }
 {
     stage == PingStage::Back
 }

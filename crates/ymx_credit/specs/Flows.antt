@@ -16,12 +16,12 @@ abbrev pub new_flow : (window left : ℕ) → Flow
 new_flow window left = record { window = window; left = left; way = 0; here = 0; owed = window - left; announced = 0 }
 
 -- all that makes up the window
-abbrev pub total : Flow → ℕ
-total f = f.left + f.way + f.here + f.owed + f.announced
+abbrev pub flow_total : Flow → ℕ
+flow_total f = f.left + f.way + f.here + f.owed + f.announced
 
 -- each byte of the window is at one place, and none is beyond it
 abbrev pub IsBalanced : Flow → Type 0
-IsBalanced f = total f ≡ f.window
+IsBalanced f = flow_total f ≡ f.window
 
 -- what may happen to a number of bytes
 pub data Step : Type 0 where
@@ -44,18 +44,18 @@ IsPossible (Read n) f = n ≤ f.here
 IsPossible (Announce n) f = n ≤ f.owed
 IsPossible (Grant n) f = n ≤ f.announced
 
-abbrev pub after : Step → Flow → Flow
-after (Spend n) f = record f { left = f.left - n; way = f.way + n }
-after (Arrive n) f = record f { way = f.way - n; here = f.here + n }
-after (Read n) f = record f { here = f.here - n; owed = f.owed + n }
-after (Announce n) f = record f { owed = f.owed - n; announced = f.announced + n }
-after (Grant n) f = record f { announced = f.announced - n; left = f.left + n }
+abbrev pub flow_after : Step → Flow → Flow
+flow_after (Spend n) f = record f { left = f.left - n; way = f.way + n }
+flow_after (Arrive n) f = record f { way = f.way - n; here = f.here + n }
+flow_after (Read n) f = record f { here = f.here - n; owed = f.owed + n }
+flow_after (Announce n) f = record f { owed = f.owed - n; announced = f.announced + n }
+flow_after (Grant n) f = record f { announced = f.announced - n; left = f.left + n }
 
 -- each step is possible when its turn comes
 abbrev pub ArePossible : List Step → Flow → Type 0
 ArePossible [] f = Unit {0}
-ArePossible (s ∷ ss) f = IsPossible s f × ArePossible ss (after s f)
+ArePossible (s ∷ ss) f = IsPossible s f × ArePossible ss (flow_after s f)
 
-abbrev pub after_all : List Step → Flow → Flow
-after_all [] f = f
-after_all (s ∷ ss) f = after_all ss (after s f)
+abbrev pub flow_after_all : List Step → Flow → Flow
+flow_after_all [] f = f
+flow_after_all (s ∷ ss) f = flow_after_all ss (flow_after s f)

@@ -8,7 +8,7 @@ use Rattle.ymx_header.specs.declared.fault.Fault.{Fault}
 use Rattle.ymx_cutter.specs.declared.item.Item.{Item}
 use Rattle.ymx_header.specs.Frames.{fault_of, payload_length}
 use Rattle.ymx_cutter.specs.Cutters.{Seen, Cut, next_of, item_of, seen_after, payload_seen, IsUnfinished, TakesFor}
-use Rattle.ymx_cutter.specs.Cutters.Seen.{Header_bytes, Payload, Broken}
+use Rattle.ymx_cutter.specs.Cutters.Seen.{InHeader, Payload, Broken}
 use Rattle.ymx_cutter.specs.Calls.{Call, AreCalls, text_of}
 use Rattle.ymx_cutter.specs.Bytewise.{Event, header_event, byte_seen, byte_events, seen_in, events_in, piece_events, item_events, events_of}
 use Rattle.ymx_cutter.specs.Bytewise.Event.{Payload_came}
@@ -48,8 +48,8 @@ push_front : (bytes : List ℕ) (b : ℕ) (part : List ℕ) → (bytes ++ b ∷ 
 push_front bytes b part = append_assoc bytes (b ∷ []) part
 
 -- bytes inside a header tell nothing
-does_inside : (limit : ℕ) (part bytes : List ℕ) → length bytes + length part < 12 → Does limit (Header_bytes bytes) part (Header_bytes (bytes ++ part)) []
-does_inside limit [] bytes short = record { ends = ap Header_bytes (sym (append-nil bytes)); tells = refl }
+does_inside : (limit : ℕ) (part bytes : List ℕ) → length bytes + length part < 12 → Does limit (InHeader bytes) part (InHeader (bytes ++ part)) []
+does_inside limit [] bytes short = record { ends = ap InHeader (sym (append-nil bytes)); tells = refl }
 does_inside limit (b ∷ part) bytes short =
     let test = not_eleven (length bytes) (omega arith) in
     let d = does_inside limit part (bytes ++ b ∷ []) (omega (arith, length-append bytes (b ∷ []))) in
@@ -57,7 +57,7 @@ does_inside limit (b ∷ part) bytes short =
 
 -- the last of them ends it
 does_header : (limit : ℕ) (part bytes : List ℕ) → length bytes < 12 → length bytes + length part ≡ 12 →
-    (let h = header_of (bytes ++ part) in Does limit (Header_bytes bytes) part (seen_after (fault_of limit h) (payload_length h)) (header_event (fault_of limit h) h ∷ []))
+    (let h = header_of (bytes ++ part) in Does limit (InHeader bytes) part (seen_after (fault_of limit h) (payload_length h)) (header_event (fault_of limit h) h ∷ []))
 does_header limit [] bytes few whole = absurd (omega arith)
 does_header limit (b ∷ []) bytes few whole =
     let test = is_eleven (length bytes) (omega arith) in
@@ -76,26 +76,26 @@ not_one n p = grind (arith, nat_tests)
 not_zero : (n : ℕ) → 1 < n → (n - 1 == 0) ≡ false
 not_zero n p = grind (arith, nat_tests)
 
-one_down : (n lacks : ℕ) → suc n < lacks + 1 → 0 < n → (n == lacks - 1) ≡ (suc n == lacks)
-one_down n lacks p q = grind (arith, nat_tests)
+one_down : (n missing : ℕ) → suc n < missing + 1 → 0 < n → (n == missing - 1) ≡ (suc n == missing)
+one_down n missing p q = grind (arith, nat_tests)
 
 -- bytes of a payload are a piece
-does_piece : (limit : ℕ) (part : List ℕ) (came lacks : ℕ) → 0 < length part → length part ≤ lacks →
-    Does limit (Payload came lacks) part (payload_seen (came + length part) (lacks - length part)) (piece_events part (length part == lacks))
-does_piece limit [] came lacks some fits = absurd (omega arith)
-does_piece limit (b ∷ []) came lacks some fits = record { ends = refl; tells = ap (λ (last : Bool). Payload_came b last ∷ []) (test_comm lacks 1) }
-does_piece limit (b ∷ c ∷ part) came lacks some fits =
-    let two : 1 < lacks = omega arith in
-    let d = does_piece limit (c ∷ part) (came + 1) (lacks - 1) (omega arith) (omega arith) in
+does_piece : (limit : ℕ) (part : List ℕ) (came missing : ℕ) → 0 < length part → length part ≤ missing →
+    Does limit (Payload came missing) part (payload_seen (came + length part) (missing - length part)) (piece_events part (length part == missing))
+does_piece limit [] came missing some fits = absurd (omega arith)
+does_piece limit (b ∷ []) came missing some fits = record { ends = refl; tells = ap (λ (last : Bool). Payload_came b last ∷ []) (test_comm missing 1) }
+does_piece limit (b ∷ c ∷ part) came missing some fits =
+    let two : 1 < missing = omega arith in
+    let d = does_piece limit (c ∷ part) (came + 1) (missing - 1) (omega arith) (omega arith) in
     let came_is : came + 1 + length (c ∷ part) ≡ came + length (b ∷ c ∷ part) = omega arith in
-    let lacks_is : lacks - 1 - length (c ∷ part) ≡ lacks - length (b ∷ c ∷ part) = omega arith in
-    let last_is : (length (c ∷ part) == lacks - 1) ≡ (length (b ∷ c ∷ part) == lacks) = one_down (length (c ∷ part)) lacks (omega arith) (omega arith) in
-    let seen_is : payload_seen (came + 1) (lacks - 1) ≡ Payload (came + 1) (lacks - 1) = rw (not_zero lacks two) refl in
-    let ends : seen_in limit (payload_seen (came + 1) (lacks - 1)) (c ∷ part) ≡ payload_seen (came + length (b ∷ c ∷ part)) (lacks - length (b ∷ c ∷ part)) =
+    let lacks_is : missing - 1 - length (c ∷ part) ≡ missing - length (b ∷ c ∷ part) = omega arith in
+    let last_is : (length (c ∷ part) == missing - 1) ≡ (length (b ∷ c ∷ part) == missing) = one_down (length (c ∷ part)) missing (omega arith) (omega arith) in
+    let seen_is : payload_seen (came + 1) (missing - 1) ≡ Payload (came + 1) (missing - 1) = rw (not_zero missing two) refl in
+    let ends : seen_in limit (payload_seen (came + 1) (missing - 1)) (c ∷ part) ≡ payload_seen (came + length (b ∷ c ∷ part)) (missing - length (b ∷ c ∷ part)) =
     ap (λ (seen : Seen). seen_in limit seen (c ∷ part)) seen_is ∙ (d.ends ∙ ap2 payload_seen came_is lacks_is) in
-    let tells : events_in limit (payload_seen (came + 1) (lacks - 1)) (c ∷ part) ≡ piece_events (c ∷ part) (length (b ∷ c ∷ part) == lacks) =
+    let tells : events_in limit (payload_seen (came + 1) (missing - 1)) (c ∷ part) ≡ piece_events (c ∷ part) (length (b ∷ c ∷ part) == missing) =
     ap (λ (seen : Seen). events_in limit seen (c ∷ part)) seen_is ∙ (d.tells ∙ ap (piece_events (c ∷ part)) last_is) in
-    does_more limit (Payload came lacks) b (c ∷ part) _ (Payload_came b false ∷ []) _ (ap (λ (last : Bool). Payload_came b last ∷ []) (not_one lacks two)) (record { ends = ends; tells = tells })
+    does_more limit (Payload came missing) b (c ∷ part) _ (Payload_came b false ∷ []) _ (ap (λ (last : Bool). Payload_came b last ∷ []) (not_one missing two)) (record { ends = ends; tells = tells })
   where
     ap2 : (f : ℕ → ℕ → Seen) {a b c d : ℕ} → a ≡ b → c ≡ d → f a c ≡ f b d
     ap2 f p q = λ i. f (p i) (q i)
@@ -110,7 +110,7 @@ abbrev CallDoes : ℕ → Seen → List ℕ → Cut → Type 0
 CallDoes limit seen input cut = Does limit seen (take cut.taken input) cut.seen (item_events cut.item (take cut.taken input))
 
 whole_does : (limit : ℕ) (bytes part : List ℕ) → length bytes < 12 → length bytes + length part ≡ 12 →
-    (let h = header_of (bytes ++ part) in Does limit (Header_bytes bytes) part (seen_after (fault_of limit h) (payload_length h)) (item_events (Some (item_of (fault_of limit h) h)) part))
+    (let h = header_of (bytes ++ part) in Does limit (InHeader bytes) part (seen_after (fault_of limit h) (payload_length h)) (item_events (Some (item_of (fault_of limit h) h)) part))
 whole_does limit bytes [] few whole = absurd (omega arith)
 whole_does limit bytes (b ∷ part) few whole =
     let h = header_of (bytes ++ b ∷ part) in
@@ -118,27 +118,27 @@ whole_does limit bytes (b ∷ part) few whole =
     record { ends = d.ends; tells = d.tells ∙ header_tells (fault_of limit h) h b part }
 
 part_does : (limit : ℕ) (bytes input : List ℕ) (short : Bool) → length bytes < 12 → nat_lt (length bytes + length input) 12 ≡ short →
-    CallDoes limit (Header_bytes bytes) input (next_of limit (Header_bytes bytes) input)
+    CallDoes limit (InHeader bytes) input (next_of limit (InHeader bytes) input)
 part_does limit bytes input true few p =
     rw (p, take_all (length input) input (omega arith)) (does_inside limit input bytes (is_below _ _ p))
 part_does limit bytes input false few p =
     let enough = not_below (length bytes + length input) 12 p in
     rw p (whole_does limit bytes (take (12 - length bytes) input) few (omega (arith, length-take-le (12 - length bytes) input (omega arith))))
 
-some_does : (limit came lacks : ℕ) (input : List ℕ) (empty : Bool) → 0 < lacks → (length input == 0) ≡ empty →
-    CallDoes limit (Payload came lacks) input (next_of limit (Payload came lacks) input)
-some_does limit came lacks input true some p = rw p (record { ends = refl; tells = refl })
-some_does limit came lacks input false some p =
-    let len = min (length input) lacks in
+some_does : (limit came missing : ℕ) (input : List ℕ) (empty : Bool) → 0 < missing → (length input == 0) ≡ empty →
+    CallDoes limit (Payload came missing) input (next_of limit (Payload came missing) input)
+some_does limit came missing input true some p = rw p (record { ends = refl; tells = refl })
+some_does limit came missing input false some p =
+    let len = min (length input) missing in
     let is_some = some_lack (length input) p in
     let n = length-take-le len input (omega arith) in
-    let d = does_piece limit (take len input) came lacks (omega arith) (omega arith) in
+    let d = does_piece limit (take len input) came missing (omega arith) (omega arith) in
     rw p (record { ends = rw n at d.ends; tells = rw n at d.tells })
 
 -- A call is what the bytes that it took do.
 pub next_does : (limit : ℕ) (seen : Seen) (input : List ℕ) → IsUnfinished seen → CallDoes limit seen input (next_of limit seen input)
-next_does limit (Header_bytes bytes) input few = part_does limit bytes input _ few refl
-next_does limit (Payload came lacks) input some = some_does limit came lacks input _ some refl
+next_does limit (InHeader bytes) input few = part_does limit bytes input _ few refl
+next_does limit (Payload came missing) input some = some_does limit came missing input _ some refl
 next_does limit (Broken fault) input u = record { ends = refl; tells = refl }
 
 -- ---- what a call takes, and leaves unfinished
@@ -148,23 +148,23 @@ header_unfinished (Some fault) n none p = tt
 header_unfinished None n true p = rw p (omega arith)
 header_unfinished None n false p = rw p (some_lack n p)
 
-payload_unfinished : (came lacks : ℕ) (none : Bool) → (lacks == 0) ≡ none → IsUnfinished (payload_seen came lacks)
-payload_unfinished came lacks true p = rw p (omega arith)
-payload_unfinished came lacks false p = rw p (some_lack lacks p)
+payload_unfinished : (came missing : ℕ) (none : Bool) → (missing == 0) ≡ none → IsUnfinished (payload_seen came missing)
+payload_unfinished came missing true p = rw p (omega arith)
+payload_unfinished came missing false p = rw p (some_lack missing p)
 
-part_unfinished : (limit : ℕ) (bytes input : List ℕ) (short : Bool) → nat_lt (length bytes + length input) 12 ≡ short → IsUnfinished (next_of limit (Header_bytes bytes) input).seen
+part_unfinished : (limit : ℕ) (bytes input : List ℕ) (short : Bool) → nat_lt (length bytes + length input) 12 ≡ short → IsUnfinished (next_of limit (InHeader bytes) input).seen
 part_unfinished limit bytes input true p = let short = is_below _ _ p in rw p (omega (arith, length-append bytes input))
 part_unfinished limit bytes input false p =
     let h = header_of (bytes ++ take (12 - length bytes) input) in
     rw p (header_unfinished (fault_of limit h) (payload_length h) _ refl)
 
-some_unfinished : (limit came lacks : ℕ) (input : List ℕ) (empty : Bool) → 0 < lacks → (length input == 0) ≡ empty → IsUnfinished (next_of limit (Payload came lacks) input).seen
-some_unfinished limit came lacks input true some p = rw p some
-some_unfinished limit came lacks input false some p = rw p (payload_unfinished _ _ _ refl)
+some_unfinished : (limit came missing : ℕ) (input : List ℕ) (empty : Bool) → 0 < missing → (length input == 0) ≡ empty → IsUnfinished (next_of limit (Payload came missing) input).seen
+some_unfinished limit came missing input true some p = rw p some
+some_unfinished limit came missing input false some p = rw p (payload_unfinished _ _ _ refl)
 
 pub next_unfinished : (limit : ℕ) (seen : Seen) (input : List ℕ) → IsUnfinished seen → IsUnfinished (next_of limit seen input).seen
-next_unfinished limit (Header_bytes bytes) input few = part_unfinished limit bytes input _ refl
-next_unfinished limit (Payload came lacks) input some = some_unfinished limit came lacks input _ some refl
+next_unfinished limit (InHeader bytes) input few = part_unfinished limit bytes input _ refl
+next_unfinished limit (Payload came missing) input some = some_unfinished limit came missing input _ some refl
 next_unfinished limit (Broken fault) input u = tt
 
 item_takes : (fo : Option Fault) (h : Header) (input : List ℕ) (taken : ℕ) → 0 < taken → TakesFor input taken (Some (item_of fo h))
@@ -172,18 +172,18 @@ item_takes None h input taken p = p
 item_takes (Some fault) h input taken p = tt
 
 part_takes : (limit : ℕ) (bytes input : List ℕ) (short : Bool) → length bytes < 12 → nat_lt (length bytes + length input) 12 ≡ short →
-    TakesFor input (next_of limit (Header_bytes bytes) input).taken (next_of limit (Header_bytes bytes) input).item
+    TakesFor input (next_of limit (InHeader bytes) input).taken (next_of limit (InHeader bytes) input).item
 part_takes limit bytes input true few p = rw p refl
 part_takes limit bytes input false few p = rw p (item_takes _ _ input _ (omega arith))
 
-some_takes : (limit came lacks : ℕ) (input : List ℕ) (empty : Bool) → 0 < lacks → (length input == 0) ≡ empty →
-    TakesFor input (next_of limit (Payload came lacks) input).taken (next_of limit (Payload came lacks) input).item
-some_takes limit came lacks input true some p = rw p (sym (none_lack _ p))
-some_takes limit came lacks input false some p = let is_some = some_lack (length input) p in rw p (refl, omega arith)
+some_takes : (limit came missing : ℕ) (input : List ℕ) (empty : Bool) → 0 < missing → (length input == 0) ≡ empty →
+    TakesFor input (next_of limit (Payload came missing) input).taken (next_of limit (Payload came missing) input).item
+some_takes limit came missing input true some p = rw p (sym (none_lack _ p))
+some_takes limit came missing input false some p = let is_some = some_lack (length input) p in rw p (refl, omega arith)
 
 pub next_takes : (limit : ℕ) (seen : Seen) (input : List ℕ) → IsUnfinished seen → TakesFor input (next_of limit seen input).taken (next_of limit seen input).item
-next_takes limit (Header_bytes bytes) input few = part_takes limit bytes input _ few refl
-next_takes limit (Payload came lacks) input some = some_takes limit came lacks input _ some refl
+next_takes limit (InHeader bytes) input few = part_takes limit bytes input _ few refl
+next_takes limit (Payload came missing) input some = some_takes limit came missing input _ some refl
 next_takes limit (Broken fault) input u = tt
 
 -- ---- calls, however the text was cut

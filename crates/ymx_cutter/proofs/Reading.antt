@@ -10,7 +10,7 @@ use Rattle.ymx_header.specs.Frames.{Frame, frame_spelling, fault_of, payload_len
 use Rattle.ymx_cutter.specs.Frames.{joined, IsGoodFrame, IsBytes}
 use Rattle.ymx_cutter.specs.Gathered.{Gathered, gathers, with_piece}
 use Rattle.ymx_cutter.specs.Cutters.{Seen, Cut, Reads, next_of, item_of, seen_after, payload_seen}
-use Rattle.ymx_cutter.specs.Cutters.Seen.{Header_bytes, Payload, Broken}
+use Rattle.ymx_cutter.specs.Cutters.Seen.{InHeader, Payload, Broken}
 use Rattle.ymx_header.proofs.Spellings.{length-spelling}
 use Rattle.ymx_cutter.proofs.Spelled.{IsInRange-header_of, spelled, good_frame, joined-push}
 
@@ -71,12 +71,12 @@ reads_header limit text g part begun h None false small each e b back r f p =
     })
 
 -- a piece of payload
-pub reads_piece : (limit : ℕ) (text : List ℕ) (g : Gathered) (came lacks len : ℕ) (part : List ℕ) (last : Bool) →
-    IsBytes part → length part ≡ len → len ≤ lacks → Reads limit text g (Payload came lacks) → (lacks - len == 0) ≡ last →
-    Reads limit (text ++ part) (with_piece g part last) (payload_seen (came + len) (lacks - len))
-reads_piece limit text g came lacks len part true small n fits r p =
+pub reads_piece : (limit : ℕ) (text : List ℕ) (g : Gathered) (came missing len : ℕ) (part : List ℕ) (last : Bool) →
+    IsBytes part → length part ≡ len → len ≤ missing → Reads limit text g (Payload came missing) → (missing - len == 0) ≡ last →
+    Reads limit (text ++ part) (with_piece g part last) (payload_seen (came + len) (missing - len))
+reads_piece limit text g came missing len part true small n fits r p =
     let (b, in_range, no_fault, came_is, all_is, some) = r.is_begun in
-    let ends : lacks - len ≡ 0 = none_lack _ p in
+    let ends : missing - len ≡ 0 = none_lack _ p in
     rw p
     (record {
       bytes = IsBytes-append text part r.bytes small;
@@ -85,7 +85,7 @@ reads_piece limit text g came lacks len part true small n fits r p =
       whole = push_frame (text ++ part) g.frames _ (r.begun ++ part) (more_begun text g.frames r.begun part r.whole) (payload_begun r.begun (spelling g.header) g.payload part b);
       is_begun = (refl, omega arith);
     })
-reads_piece limit text g came lacks len part false small n fits r p =
+reads_piece limit text g came missing len part false small n fits r p =
     let (b, in_range, no_fault, came_is, all_is, some) = r.is_begun in
     rw p
     (record {
@@ -98,7 +98,7 @@ reads_piece limit text g came lacks len part false small n fits r p =
 
 -- the first bytes of a header
 reads_bytes : (limit : ℕ) (text : List ℕ) (g : Gathered) (bytes input : List ℕ) → IsBytes input → length bytes + length input < 12 →
-    Reads limit text g (Header_bytes bytes) → Reads limit (text ++ input) g (Header_bytes (bytes ++ input))
+    Reads limit text g (InHeader bytes) → Reads limit (text ++ input) g (InHeader (bytes ++ input))
 reads_bytes limit text g bytes input small short r =
     record {
       bytes = IsBytes-append text input r.bytes small;
@@ -110,7 +110,7 @@ reads_bytes limit text g bytes input small short r =
 
 -- the last bytes of a header
 reads_whole : (limit : ℕ) (text : List ℕ) (g : Gathered) (bytes part : List ℕ) → IsBytes part → length bytes + length part ≡ 12 →
-    Reads limit text g (Header_bytes bytes) →
+    Reads limit text g (InHeader bytes) →
     (let h = header_of (bytes ++ part) in Reads limit (text ++ part) (gathers g part (Some (item_of (fault_of limit h) h))) (seen_after (fault_of limit h) (payload_length h)))
 reads_whole limit text g bytes part small twelve r =
     let begun : r.begun ++ part ≡ bytes ++ part = ap (λ (x : List ℕ). x ++ part) r.is_begun.0 in
@@ -131,8 +131,8 @@ abbrev Keeps : ℕ → List ℕ → Gathered → List ℕ → Cut → Type 0
 Keeps limit text g input cut = Reads limit (text ++ take cut.taken input) (gathers g (take cut.taken input) cut.item) cut.seen
 
 -- all of a list, and as much of it as there is
-reads_part : (limit : ℕ) (text : List ℕ) (g : Gathered) (bytes input : List ℕ) (short : Bool) → IsBytes input → Reads limit text g (Header_bytes bytes) →
-    nat_lt (length bytes + length input) 12 ≡ short → Keeps limit text g input (next_of limit (Header_bytes bytes) input)
+reads_part : (limit : ℕ) (text : List ℕ) (g : Gathered) (bytes input : List ℕ) (short : Bool) → IsBytes input → Reads limit text g (InHeader bytes) →
+    nat_lt (length bytes + length input) 12 ≡ short → Keeps limit text g input (next_of limit (InHeader bytes) input)
 reads_part limit text g bytes input true small r p =
     rw (p, take_all (length input) input (omega arith)) (reads_bytes limit text g bytes input small (is_below _ _ p) r)
 reads_part limit text g bytes input false small r p =
@@ -142,23 +142,23 @@ reads_part limit text g bytes input false small r p =
     (reads_whole limit text g bytes (take (12 - length bytes) input) (IsBytes-take (12 - length bytes) input small)
     (omega (arith, length-take-le (12 - length bytes) input (omega arith))) r)
 
-pub ends_alike : (len lacks : ℕ) → len ≤ lacks → (len == lacks) ≡ (lacks - len == 0)
-ends_alike len lacks fits = grind (arith, nat_tests)
+pub ends_alike : (len missing : ℕ) → len ≤ missing → (len == missing) ≡ (missing - len == 0)
+ends_alike len missing fits = grind (arith, nat_tests)
 
-reads_some : (limit : ℕ) (text : List ℕ) (g : Gathered) (came lacks : ℕ) (input : List ℕ) (empty : Bool) → IsBytes input → Reads limit text g (Payload came lacks) →
-    (length input == 0) ≡ empty → Keeps limit text g input (next_of limit (Payload came lacks) input)
-reads_some limit text g came lacks input true small r p = rw (p, append-nil text) r
-reads_some limit text g came lacks input false small r p =
-    let len = min (length input) lacks in
+reads_some : (limit : ℕ) (text : List ℕ) (g : Gathered) (came missing : ℕ) (input : List ℕ) (empty : Bool) → IsBytes input → Reads limit text g (Payload came missing) →
+    (length input == 0) ≡ empty → Keeps limit text g input (next_of limit (Payload came missing) input)
+reads_some limit text g came missing input true small r p = rw (p, append-nil text) r
+reads_some limit text g came missing input false small r p =
+    let len = min (length input) missing in
     let part = take len input in
     let enough : len ≤ length input = omega arith in
-    let fits : len ≤ lacks = omega arith in
-    rw (p, ends_alike len lacks fits)
-    (reads_piece limit text g came lacks len part _ (IsBytes-take len input small) (length-take-le len input enough) fits r refl)
+    let fits : len ≤ missing = omega arith in
+    rw (p, ends_alike len missing fits)
+    (reads_piece limit text g came missing len part _ (IsBytes-take len input small) (length-take-le len input enough) fits r refl)
 
 -- A call keeps what was read: its bytes go on with the text, and its item with what was gathered.
 pub reads_next : (limit : ℕ) (text : List ℕ) (g : Gathered) (seen : Seen) (input : List ℕ) → IsBytes input → Reads limit text g seen →
     (let cut = next_of limit seen input in Reads limit (text ++ take cut.taken input) (gathers g (take cut.taken input) cut.item) cut.seen)
-reads_next limit text g (Header_bytes bytes) input small r = reads_part limit text g bytes input _ small r refl
-reads_next limit text g (Payload came lacks) input small r = reads_some limit text g came lacks input _ small r refl
+reads_next limit text g (InHeader bytes) input small r = reads_part limit text g bytes input _ small r refl
+reads_next limit text g (Payload came missing) input small r = reads_some limit text g came missing input _ small r refl
 reads_next limit text g (Broken fault) input small r = rw (append-nil text) r

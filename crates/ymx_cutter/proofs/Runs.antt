@@ -12,7 +12,7 @@ use Rattle.ymx_cutter.specs.Frames.{joined, IsGoodFrame, IsBytes}
 use Rattle.ymx_cutter.specs.Cuts.{Cuts, FaultStands}
 use Rattle.ymx_cutter.specs.Gathered.{Gathered, gathers, nothing}
 use Rattle.ymx_cutter.specs.Cutters.{Seen, Reads, next_of, begun_of, item_of, seen_after}
-use Rattle.ymx_cutter.specs.Cutters.Seen.{Header_bytes, Payload, Broken}
+use Rattle.ymx_cutter.specs.Cutters.Seen.{InHeader, Payload, Broken}
 use Rattle.ymx_cutter.specs.Calls.{Call, AreCalls, text_of, gathered}
 use Rattle.ymx_header.proofs.Spellings.{length-spelling}
 use Rattle.ymx_cutter.proofs.Spelled.{IsInRange-header_of, spelled, good_payload}
@@ -20,7 +20,7 @@ use Rattle.ymx_cutter.proofs.Only.{same_header, same_rest, bad_header, none_is_n
 use Rattle.ymx_cutter.proofs.Reading.{reads_next, IsBytes-back}
 
 -- nothing is read yet
-pub reads_nothing : (limit : ℕ) → Reads limit [] nothing (Header_bytes [])
+pub reads_nothing : (limit : ℕ) → Reads limit [] nothing (InHeader [])
 reads_nothing limit =
     let small : IsBytes [] = (let P : ℕ → Type 0 = λ b. b < 256 in All-nil P) in
     record { bytes = small; each = All-nil (IsGoodFrame limit); begun = []; whole = refl; is_begun = (refl, omega arith) }
@@ -54,9 +54,9 @@ short_payload limit h payload f more r short good e =
 
 -- what was read is how the text is cut
 pub Reads-cuts : (limit : ℕ) (text : List ℕ) (g : Gathered) (seen : Seen) → (r : Reads limit text g seen) → Cuts limit text g.frames r.begun
-Reads-cuts limit text g (Header_bytes bytes) r =
+Reads-cuts limit text g (InHeader bytes) r =
     record { whole = r.whole; each = r.each; no_more = λ f more good e. short_header limit f bytes more r.is_begun.1 (sym r.is_begun.0 ∙ e) }
-Reads-cuts limit text g (Payload came lacks) r =
+Reads-cuts limit text g (Payload came missing) r =
     let (b, in_range, no_fault, came_is, all_is, some) = r.is_begun in
     record { whole = r.whole; each = r.each; no_more = λ f more good e. short_payload limit g.header g.payload f more in_range (omega arith) good (sym b ∙ e) }
 Reads-cuts limit text g (Broken fault) r =
@@ -70,8 +70,8 @@ Reads-cuts limit text g (Broken fault) r =
     }
 
 pub length-begun : (limit : ℕ) (text : List ℕ) (g : Gathered) (seen : Seen) → (r : Reads limit text g seen) → length r.begun ≡ begun_of seen
-length-begun limit text g (Header_bytes bytes) r = ap length r.is_begun.0
-length-begun limit text g (Payload came lacks) r =
+length-begun limit text g (InHeader bytes) r = ap length r.is_begun.0
+length-begun limit text g (Payload came missing) r =
     let (b, in_range, no_fault, came_is, all_is, some) = r.is_begun in
     ap length b ∙ (length-append (spelling g.header) g.payload ∙ (omega (arith, length-spelling g.header)))
 length-begun limit text g (Broken fault) r = r.is_begun.0
@@ -109,15 +109,15 @@ FaultStands-more limit text more offset fault s =
 
 -- what was read where a fault stands is the fault
 pub reads_the_fault : (limit : ℕ) (text : List ℕ) (g : Gathered) (seen : Seen) (offset : ℕ) (fault : Fault) → Reads limit text g seen → FaultStands limit text offset fault → seen ≡ Broken fault
-reads_the_fault limit text g (Header_bytes bytes) offset fault r s =
-    let same = (one_cut limit text _ _ _ _ (Reads-cuts limit text g (Header_bytes bytes) r) (Cuts-fault limit text offset fault s)).1 in
+reads_the_fault limit text g (InHeader bytes) offset fault r s =
+    let same = (one_cut limit text _ _ _ _ (Reads-cuts limit text g (InHeader bytes) r) (Cuts-fault limit text offset fault s)).1 in
     let n : length bytes ≡ 12 + length s.more =
     sym (ap length r.is_begun.0) ∙ (ap length same ∙ (length-append (spelling s.header) s.more ∙ ap (λ (k : ℕ). k + length s.more) (length-spelling s.header))) in
     let short : length bytes < 12 = r.is_begun.1 in
     absurd (omega arith)
-reads_the_fault limit text g (Payload came lacks) offset fault r s =
+reads_the_fault limit text g (Payload came missing) offset fault r s =
     let (b, in_range, no_fault, came_is, all_is, some) = r.is_begun in
-    let same = (one_cut limit text _ _ _ _ (Reads-cuts limit text g (Payload came lacks) r) (Cuts-fault limit text offset fault s)).1 in
+    let same = (one_cut limit text _ _ _ _ (Reads-cuts limit text g (Payload came missing) r) (Cuts-fault limit text offset fault s)).1 in
     let header = same_header g.header s.header g.payload s.more in_range s.in_range (sym b ∙ same) in
     absurd (none_is_none fault (sym s.has_fault ∙ (ap (fault_of limit) (sym header) ∙ no_fault)))
 reads_the_fault limit text g (Broken other) offset fault r s =
@@ -128,19 +128,19 @@ header_fault None h n fault e = cc
 header_fault (Some other) h n fault e = cc
 
 part_fault : (limit : ℕ) (bytes input : List ℕ) (fault : Fault) (short : Bool) → nat_lt (length bytes + length input) 12 ≡ short →
-    (next_of limit (Header_bytes bytes) input).item ≡ Some (item.Fault fault) → (next_of limit (Header_bytes bytes) input).seen ≡ Broken fault
+    (next_of limit (InHeader bytes) input).item ≡ Some (item.Fault fault) → (next_of limit (InHeader bytes) input).seen ≡ Broken fault
 part_fault limit bytes input fault true p = rw p (λ e. cc)
 part_fault limit bytes input fault false p = rw p (λ e. header_fault _ _ _ fault e)
 
-piece_fault : (limit came lacks : ℕ) (input : List ℕ) (fault : Fault) (empty : Bool) → (length input == 0) ≡ empty →
-    (next_of limit (Payload came lacks) input).item ≡ Some (item.Fault fault) → (next_of limit (Payload came lacks) input).seen ≡ Broken fault
-piece_fault limit came lacks input fault true p = rw p (λ e. cc)
-piece_fault limit came lacks input fault false p = rw p (λ e. cc)
+piece_fault : (limit came missing : ℕ) (input : List ℕ) (fault : Fault) (empty : Bool) → (length input == 0) ≡ empty →
+    (next_of limit (Payload came missing) input).item ≡ Some (item.Fault fault) → (next_of limit (Payload came missing) input).seen ≡ Broken fault
+piece_fault limit came missing input fault true p = rw p (λ e. cc)
+piece_fault limit came missing input fault false p = rw p (λ e. cc)
 
 -- a call whose item is a fault leaves it
 pub next_fault : (limit : ℕ) (seen : Seen) (input : List ℕ) (fault : Fault) → (next_of limit seen input).item ≡ Some (item.Fault fault) → (next_of limit seen input).seen ≡ Broken fault
-next_fault limit (Header_bytes bytes) input fault = part_fault limit bytes input fault _ refl
-next_fault limit (Payload came lacks) input fault = piece_fault limit came lacks input fault _ refl
+next_fault limit (InHeader bytes) input fault = part_fault limit bytes input fault _ refl
+next_fault limit (Payload came missing) input fault = piece_fault limit came missing input fault _ refl
 next_fault limit (Broken other) input fault = λ e. cc
 
 -- ---- lists of calls
@@ -163,11 +163,11 @@ text_of-append a call b =
 
 -- a fault is told only where it stands, right after the frames before it
 pub fault_told : (limit : ℕ) (before : List Call) (call : Call) (after : List Call) (end : Seen) (fault : Fault) →
-    AreCalls limit (Header_bytes []) (before ++ call ∷ after) end → call.item ≡ Some (item.Fault fault) →
+    AreCalls limit (InHeader []) (before ++ call ∷ after) end → call.item ≡ Some (item.Fault fault) →
     FaultStands limit (text_of (before ++ call ∷ after)) (length (joined (gathered nothing before).frames)) fault
 fault_told limit before call after end fault calls told =
-    let h = split limit (Header_bytes []) end before (call ∷ after) calls in
-    let r = reads_calls limit [] nothing (Header_bytes []) h.mid before (reads_nothing limit) h.first in
+    let h = split limit (InHeader []) end before (call ∷ after) calls in
+    let r = reads_calls limit [] nothing (InHeader []) h.mid before (reads_nothing limit) h.first in
     let (input, small, bytes, item, others) = h.second in
     let cut = next_of limit h.mid input in
     let P : List ℕ → Type 0 = λ part. Reads limit (text_of before ++ part) (gathers (gathered nothing before) part cut.item) cut.seen in

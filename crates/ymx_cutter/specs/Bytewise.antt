@@ -8,7 +8,7 @@ use Rattle.ymx_cutter.specs.declared.item.Item.{Item}
 use Rattle.ymx_cutter.specs.declared.item.Item.TheVariants as item
 use Rattle.ymx_header.specs.Frames.{payload_length, fault_of}
 use Rattle.ymx_cutter.specs.Cutters.{Seen, seen_after, payload_seen}
-use Rattle.ymx_cutter.specs.Cutters.Seen.{Header_bytes, Payload, Broken}
+use Rattle.ymx_cutter.specs.Cutters.Seen.{InHeader, Payload, Broken}
 use Rattle.ymx_cutter.specs.Calls.{Call}
 
 -- what one byte tells: a header is whole, or has a fault, or a byte of payload came, the last one or not
@@ -23,20 +23,20 @@ header_event (Some fault) h = Fault_came fault
 
 -- what is seen after one more byte
 abbrev pub byte_seen : ℕ → Seen → ℕ → Seen
-byte_seen limit (Header_bytes bytes) b =
+byte_seen limit (InHeader bytes) b =
     if length bytes == 11
     then seen_after (fault_of limit (header_of (bytes ++ b ∷ []))) (payload_length (header_of (bytes ++ b ∷ [])))
-    else Header_bytes (bytes ++ b ∷ [])
-byte_seen limit (Payload came lacks) b = payload_seen (came + 1) (lacks - 1)
+    else InHeader (bytes ++ b ∷ [])
+byte_seen limit (Payload came missing) b = payload_seen (came + 1) (missing - 1)
 byte_seen limit (Broken fault) b = Broken fault
 
 -- what it tells
 abbrev pub byte_events : ℕ → Seen → ℕ → List Event
-byte_events limit (Header_bytes bytes) b =
+byte_events limit (InHeader bytes) b =
     if length bytes == 11
     then header_event (fault_of limit (header_of (bytes ++ b ∷ []))) (header_of (bytes ++ b ∷ [])) ∷ []
     else []
-byte_events limit (Payload came lacks) b = Payload_came b (lacks == 1) ∷ []
+byte_events limit (Payload came missing) b = Payload_came b (missing == 1) ∷ []
 byte_events limit (Broken fault) b = []
 
 -- what is seen after all these bytes

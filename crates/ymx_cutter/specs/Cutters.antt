@@ -11,14 +11,14 @@ use Rattle.ymx_cutter.specs.Gathered.{Gathered}
 
 -- what has come of the frame begun: the bytes of its header so far; or, of its payload, how many bytes came and how many lack; or the fault of its header
 pub data Seen : Type 0 where
-  Header_bytes : (bytes : List ℕ) → Seen
-  Payload : (came : ℕ) (lacks : ℕ) → Seen
+  InHeader : (bytes : List ℕ) → Seen
+  Payload : (came : ℕ) (missing : ℕ) → Seen
   Broken : (fault : Fault) → Seen
 
 -- the header isn't whole, or the payload isn't
 abbrev pub IsUnfinished : Seen → Type 0
-IsUnfinished (Header_bytes bytes) = length bytes < 12
-IsUnfinished (Payload came lacks) = 0 < lacks
+IsUnfinished (InHeader bytes) = length bytes < 12
+IsUnfinished (Payload came missing) = 0 < missing
 IsUnfinished (Broken fault) = ⊤
 
 -- the value of a cutter: the longest payload that it takes, and what it has seen
@@ -39,7 +39,7 @@ item_of (Some fault) h = item.Fault fault
 
 -- so many bytes of payload have come and so many lack: if none, the next frame begins
 abbrev pub payload_seen : ℕ → ℕ → Seen
-payload_seen came lacks = if lacks == 0 then Header_bytes [] else Payload came lacks
+payload_seen came missing = if missing == 0 then InHeader [] else Payload came missing
 
 -- what is seen after a header that is whole, and that so many bytes of payload follow
 abbrev pub seen_after : Option Fault → ℕ → Seen
@@ -53,24 +53,24 @@ header_cut limit taken h =
 
 -- a piece of the payload
 abbrev pub piece_cut : ℕ → ℕ → ℕ → Cut
-piece_cut came lacks len =
-    record { taken = len; item = Some (item.Piece len (len == lacks)); seen = payload_seen (came + len) (lacks - len) }
+piece_cut came missing len =
+    record { taken = len; item = Some (item.Piece len (len == missing)); seen = payload_seen (came + len) (missing - len) }
 
 -- One call. Inside a header it takes bytes up to the header's end, inside a payload as much as there is of it, and after a fault nothing.
 abbrev pub next_of : ℕ → Seen → List ℕ → Cut
-next_of limit (Header_bytes bytes) input =
+next_of limit (InHeader bytes) input =
     if nat_lt (length bytes + length input) 12
-    then record { taken = length input; item = None; seen = Header_bytes (bytes ++ input) }
+    then record { taken = length input; item = None; seen = InHeader (bytes ++ input) }
     else header_cut limit (12 - length bytes) (header_of (bytes ++ take (12 - length bytes) input))
-next_of limit (Payload came lacks) input =
-    if length input == 0 then record { taken = 0; item = None; seen = Payload came lacks }
-    else piece_cut came lacks (min (length input) lacks)
+next_of limit (Payload came missing) input =
+    if length input == 0 then record { taken = 0; item = None; seen = Payload came missing }
+    else piece_cut came missing (min (length input) missing)
 next_of limit (Broken fault) input = record { taken = 0; item = Some (item.Fault fault); seen = Broken fault }
 
 -- the bytes of the frame begun, 0 between frames; a header with a fault stays begun
 abbrev pub begun_of : Seen → ℕ
-begun_of (Header_bytes bytes) = length bytes
-begun_of (Payload came lacks) = 12 + came
+begun_of (InHeader bytes) = length bytes
+begun_of (Payload came missing) = 12 + came
 begun_of (Broken fault) = 12
 
 -- how many bytes an item takes of the input: none at all only where all were taken, or where the fault is repeated
@@ -82,10 +82,10 @@ TakesFor input taken (Some (item.Fault fault)) = ⊤
 
 -- These bytes are what was seen of the frame begun.
 abbrev pub IsBegun : ℕ → Gathered → List ℕ → Seen → Type 0
-IsBegun limit g begun (Header_bytes bytes) = (begun ≡ bytes) × (length bytes < 12)
-IsBegun limit g begun (Payload came lacks) =
+IsBegun limit g begun (InHeader bytes) = (begun ≡ bytes) × (length bytes < 12)
+IsBegun limit g begun (Payload came missing) =
     (begun ≡ spelling g.header ++ g.payload) × IsInRange g.header × (fault_of limit g.header ≡ None)
-    × (length g.payload ≡ came) × (payload_length g.header ≡ came + lacks) × (0 < lacks)
+    × (length g.payload ≡ came) × (payload_length g.header ≡ came + missing) × (0 < missing)
 IsBegun limit g begun (Broken fault) = (length begun ≡ 12) × (fault_of limit (header_of begun) ≡ Some fault)
 
 -- The text so far is the frames that were gathered, and then what was seen of the next.

@@ -3,7 +3,7 @@
 ghost use Rattle.std.specs.Prelude.{◌≡◌, ℕ, List, ◌+◌, ◌≤◌, [], ◌++◌, length, take, min};
 ghost use Rattle.ymx_header.specs.Frames.{fault_of as first_fault, payload_length};
 ghost use Rattle.ymx_cutter.specs.Cutters.{item_of, seen_after};
-ghost use Rattle.ymx_cutter.specs.Views.{seen_of, IsWithin};
+ghost use Rattle.ymx_cutter.specs.Views.{seen_of, IsBegunWithin};
 
 use crate::header_bytes::HeaderBytes;
 use crate::item::Item;
@@ -14,7 +14,7 @@ use ymx_header::{Fault, HEADER_LENGTH, Header, check};
 #[derive(Debug, Drop)]
 enum Begun {
     Header(HeaderBytes),
-    Payload { came: u32, lacks: u32 },
+    Payload { came: u32, missing: u32 },
     Broken(Fault),
 }
 
@@ -32,23 +32,23 @@ impl Model for Cutter {
 
     ghost Value = { Cutting };
 
-    ghost use Rattle.ymx_cutter.specs.Views.{seen_of, IsWithin};
+    ghost use Rattle.ymx_cutter.specs.Views.{seen_of, IsBegunWithin};
 
     ghost view = { λ c. record { limit = c.limit; seen = seen_of c.begun } };
 
-    ghost invariant = { λ c. IsWithin c.begun };
+    ghost invariant = { λ c. IsBegunWithin c.begun };
 }
 
 impl Cutter {
     ghost use Rattle.ymx_cutter.specs.Cutters.{begun_of, next_of, IsUnfinished, TakesFor, Reads};
-    ghost use Rattle.ymx_cutter.specs.Cutters.Seen.{Header_bytes, Broken};
+    ghost use Rattle.ymx_cutter.specs.Cutters.Seen.{InHeader, Broken};
     ghost use Rattle.ymx_cutter.specs.Bytewise.{seen_in, events_in, item_events};
     ghost use Rattle.ymx_header.specs.declared.fault.Fault.{Fault as FaultValue};
     ghost use Rattle.ymx_cutter.specs.Gathered.{Gathered, gathers};
 
     /// A cutter between two frames, which takes Data frames of at most `limit` bytes of payload.
     pub fn new(limit: u32) -> Cutter
-        ensures { result ≡ record { limit = limit; seen = Header_bytes [] } }
+        ensures { result ≡ record { limit = limit; seen = InHeader [] } }
     {
         Cutter {
             limit,
@@ -59,7 +59,7 @@ impl Cutter {
     /// Forgets what has come of the frame begun, or the fault: the next byte begins a frame. The
     /// limit stays.
     pub fn restart(&mut self)
-        ensures { self.new ≡ record { limit = self.old.limit; seen = Header_bytes [] } }
+        ensures { self.new ≡ record { limit = self.old.limit; seen = InHeader [] } }
     {
         self.begun = Begun::Header(HeaderBytes::new());
     }
@@ -133,17 +133,17 @@ impl Cutter {
                     (taken, Some(item))
                 }
             },
-            Begun::Payload { came, lacks } => {
-                let len = input.len().min(*lacks as usize);
+            Begun::Payload { came, missing } => {
+                let len = input.len().min(*missing as usize);
                 if len == 0 {
                     return (0, None);
                 }
-                let last = len == *lacks as usize;
+                let last = len == *missing as usize;
                 if last {
                     self.restart();
                 } else {
                     *came += len as u32;
-                    *lacks -= len as u32;
+                    *missing -= len as u32;
                 }
                 (len, Some(Item::Piece { len, last }))
             }
@@ -168,14 +168,14 @@ fn fault_of(limit: u32, header: &Header) -> Option<Fault>
 fn after_header(limit: u32, header: Header) -> (Item, Begun)
     ensures item { result.0 ≡ item_of (first_fault limit header) header }
     ensures seen { seen_of result.1 ≡ seen_after (first_fault limit header) (payload_length header) }
-    ensures within { IsWithin result.1 }
+    ensures within { IsBegunWithin result.1 }
 {
     if let Some(fault) = fault_of(limit, &header) {
         return (Item::Fault(fault), Begun::Broken(fault));
     }
     let begun = match header.payload_len() {
         0 => Begun::Header(HeaderBytes::new()),
-        lacks => Begun::Payload { came: 0, lacks },
+        missing => Begun::Payload { came: 0, missing },
     };
     (Item::Head(header), begun)
 }

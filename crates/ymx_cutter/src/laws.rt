@@ -8,7 +8,7 @@ ghost use Rattle.ymx_cutter.specs.Frames.{joined};
 ghost use Rattle.ymx_cutter.specs.Cuts.{Cuts, FaultStands};
 ghost use Rattle.ymx_cutter.specs.Gathered.{Gathered, nothing};
 ghost use Rattle.ymx_cutter.specs.Cutters.{Seen, Reads, IsUnfinished, begun_of};
-ghost use Rattle.ymx_cutter.specs.Cutters.Seen.{Header_bytes, Broken};
+ghost use Rattle.ymx_cutter.specs.Cutters.Seen.{InHeader, Broken};
 ghost use Rattle.ymx_cutter.specs.Calls.{Call, AreCalls, text_of, gathered};
 ghost use Rattle.ymx_cutter.specs.Bytewise.{seen_in, events_in, events_of};
 
@@ -28,7 +28,7 @@ pub fn one_way()
 /// What was read is how the text is cut. What was gathered are its frames, what is begun is its
 /// rest, and a fault that was seen stands there.
 pub fn what_is_read()
-    ensures nothing { (limit : ℕ) → Reads limit [] nothing (Header_bytes []) }
+    ensures nothing { (limit : ℕ) → Reads limit [] nothing (InHeader []) }
     ensures cuts { (limit : ℕ) (text : List ℕ) (g : Gathered) (seen : Seen) → Reads limit text g seen →
         (rest : List ℕ) × Cuts limit text g.frames rest × (length rest ≡ begun_of seen) }
     ensures fault { (limit : ℕ) (text : List ℕ) (g : Gathered) (fault : Fault) → Reads limit text g (Broken fault) →
@@ -40,13 +40,13 @@ pub fn what_is_read()
 /// In whatever pieces a text comes to a new cutter, its items make the frames of the text. A fault
 /// is told only where one stands, and none that stands is missed.
 pub fn any_pieces()
-    ensures frames { (limit : ℕ) (calls : List Call) (end : Seen) → AreCalls limit (Header_bytes []) calls end →
+    ensures frames { (limit : ℕ) (calls : List Call) (end : Seen) → AreCalls limit (InHeader []) calls end →
         (rest : List ℕ) × Cuts limit (text_of calls) (gathered nothing calls).frames rest × (length rest ≡ begun_of end) }
     ensures fault_told { (limit : ℕ) (before : List Call) (call : Call) (after : List Call) (end : Seen) (fault : Fault) →
-        AreCalls limit (Header_bytes []) (before ++ call ∷ after) end → call.item ≡ Some (Item.Fault fault) →
+        AreCalls limit (InHeader []) (before ++ call ∷ after) end → call.item ≡ Some (Item.Fault fault) →
         FaultStands limit (text_of (before ++ call ∷ after)) (length (joined (gathered nothing before).frames)) fault }
     ensures fault_found { (limit : ℕ) (calls : List Call) (end : Seen) (offset : ℕ) (fault : Fault) →
-        AreCalls limit (Header_bytes []) calls end → FaultStands limit (text_of calls) offset fault → end ≡ Broken fault }
+        AreCalls limit (InHeader []) calls end → FaultStands limit (text_of calls) offset fault → end ≡ Broken fault }
 {}
 
 /// What `a ++ b` gives is what `a` gives and then what `b` gives, byte for byte, and calls give what

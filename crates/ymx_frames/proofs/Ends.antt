@@ -16,7 +16,7 @@ use Rattle.ymx_header.specs.Frames.{payload_length, fault_of}
 use Rattle.ymx_cutter.specs.Frames.{joined}
 use Rattle.ymx_cutter.specs.Cuts.{Cuts, FaultStands}
 use Rattle.ymx_cutter.specs.Cutters.{Seen, Cut, Reads, begun_of, next_of, item_of, seen_after, payload_seen}
-use Rattle.ymx_cutter.specs.Cutters.Seen.{Header_bytes, Payload, Broken}
+use Rattle.ymx_cutter.specs.Cutters.Seen.{InHeader, Payload, Broken}
 use Rattle.ymx_cutter.proofs.Only.{one_cut, Cuts-fault}
 use Rattle.ymx_cutter.proofs.Runs.{Reads-cuts, length-begun, Reads-fault, reads_the_fault}
 use Rattle.ymx_frames.specs.declared.printer.Printer.{Printer}
@@ -34,27 +34,27 @@ Tells (Some (item.Head h)) seen = NoFault seen
 Tells (Some (item.Piece len last)) seen = NoFault seen
 Tells (Some (item.Fault fault)) seen = Unit {0}
 
-tells_payload : (came lacks : ℕ) (none : Bool) → (lacks == 0) ≡ none → NoFault (payload_seen came lacks)
-tells_payload came lacks true e = rw e tt
-tells_payload came lacks false e = rw e tt
+tells_payload : (came missing : ℕ) (none : Bool) → (missing == 0) ≡ none → NoFault (payload_seen came missing)
+tells_payload came missing true e = rw e tt
+tells_payload came missing false e = rw e tt
 
 tells_header : (fault : Option Fault) (h : Header) → Tells (Some (item_of fault h)) (seen_after fault (payload_length h))
 tells_header None h = tells_payload 0 (payload_length h) _ refl
 tells_header (Some fault) h = tt
 
 tells_bytes : (limit : ℕ) (bytes input : List ℕ) (short : Bool) → nat_lt (length bytes + length input) 12 ≡ short →
-    Tells (next_of limit (Header_bytes bytes) input).item (next_of limit (Header_bytes bytes) input).seen
+    Tells (next_of limit (InHeader bytes) input).item (next_of limit (InHeader bytes) input).seen
 tells_bytes limit bytes input true e = rw e tt
 tells_bytes limit bytes input false e = rw e (tells_header (fault_of limit (header_of (bytes ++ take (12 - length bytes) input))) _)
 
-tells_piece : (limit came lacks : ℕ) (input : List ℕ) (empty : Bool) → (length input == 0) ≡ empty →
-    Tells (next_of limit (Payload came lacks) input).item (next_of limit (Payload came lacks) input).seen
-tells_piece limit came lacks input true e = rw e tt
-tells_piece limit came lacks input false e = rw e (tells_payload (came + min (length input) lacks) (lacks - min (length input) lacks) _ refl)
+tells_piece : (limit came missing : ℕ) (input : List ℕ) (empty : Bool) → (length input == 0) ≡ empty →
+    Tells (next_of limit (Payload came missing) input).item (next_of limit (Payload came missing) input).seen
+tells_piece limit came missing input true e = rw e tt
+tells_piece limit came missing input false e = rw e (tells_payload (came + min (length input) missing) (missing - min (length input) missing) _ refl)
 
 tells_next : (limit : ℕ) (seen : Seen) (input : List ℕ) → Tells (next_of limit seen input).item (next_of limit seen input).seen
-tells_next limit (Header_bytes bytes) input = tells_bytes limit bytes input _ refl
-tells_next limit (Payload came lacks) input = tells_piece limit came lacks input _ refl
+tells_next limit (InHeader bytes) input = tells_bytes limit bytes input _ refl
+tells_next limit (Payload came missing) input = tells_piece limit came missing input _ refl
 tells_next limit (Broken fault) input = tt
 
 tells : (limit : ℕ) (seen : Seen) (input : List ℕ) (cut : Cut) → next_of limit seen input ≡ cut → Tells cut.item cut.seen

@@ -11,7 +11,7 @@ use Rattle.ymx_header.specs.Frames.{Frame, frame_spelling, payload_length}
 use Rattle.ymx_cutter.specs.Frames.{joined, IsGoodFrame}
 use Rattle.ymx_cutter.specs.Gathered.{Gathered, nothing, gathers, with_frame}
 use Rattle.ymx_cutter.specs.Cutters.{Seen, Reads, Cutting}
-use Rattle.ymx_cutter.specs.Cutters.Seen.{Header_bytes}
+use Rattle.ymx_cutter.specs.Cutters.Seen.{InHeader}
 use Rattle.ymx_cutter.proofs.Runs.{reads_nothing}
 use Rattle.ymx_cutter.proofs.Spelled.{good_payload, joined-push}
 use Rattle.ymx_frames.specs.declared.printer.Printer.{Printer}
@@ -94,7 +94,7 @@ line_after done old new h p payload e shown =
     ap (λ (l : List ℕ). done ++ l) (e ∙ ap (λ (x : Preview). old ++ line_text h x) shown) ∙ sym (append_assoc done old (line_text h (preview payload)))
 
 -- nothing was read
-pub nothing_printed : (limit : ℕ) (p : Printer) → p.cutter ≡ record { limit = limit; seen = Header_bytes [] } → p.header ≡ header_of (0 ∷ 0 ∷ 0 ∷ 0 ∷ 0 ∷ 0 ∷ 0 ∷ 0 ∷ 0 ∷ 0 ∷ 0 ∷ 0 ∷ []) →
+pub nothing_printed : (limit : ℕ) (p : Printer) → p.cutter ≡ record { limit = limit; seen = InHeader [] } → p.header ≡ header_of (0 ∷ 0 ∷ 0 ∷ 0 ∷ 0 ∷ 0 ∷ 0 ∷ 0 ∷ 0 ∷ 0 ∷ 0 ∷ 0 ∷ []) →
     p.preview ≡ preview [] → p.offset ≡ 0 → HasPrinted limit [] [] p
 nothing_printed limit p cutter header shown placed =
     record {

@@ -6,7 +6,7 @@ use Rattle.std.proofs.KnownBytes.{Appends-nil, Appends-trans, Appends-kept}
 use Rattle.std.proofs.lemmas.List.{take-append-drop, take_all, length-drop}
 use Rattle.std.proofs.lemmas.Bool.Decides.{nat_tests}
 use Rattle.std.proofs.Math.Seq.{take-append_seam}
-use Rattle.ymx_model.specs.Devices.{has_failed, most_failures}
+use Rattle.ymx_model.specs.devices.Devices.{has_failed, most_failures}
 
 -- Of these bytes the device has taken all but the rest, and no call has failed.
 pub record HasTaken (bytes rest : List ℕ) (before after : Option (List ℕ)) (failed fails : ℕ) : Type 0 where

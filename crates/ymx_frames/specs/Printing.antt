@@ -3,7 +3,7 @@ use Rattle.std.specs.Prelude.{◌≡◌, ℕ, ◌-◌, ◌^◌, min, List, lengt
 use Rattle.ymx_cutter.specs.Frames.{joined}
 use Rattle.ymx_cutter.specs.Gathered.{Gathered}
 use Rattle.ymx_cutter.specs.Cutters.{Reads, Seen}
-use Rattle.ymx_cutter.specs.Cutters.Seen.{Header_bytes, Payload, Broken}
+use Rattle.ymx_cutter.specs.Cutters.Seen.{InHeader, Payload, Broken}
 use Rattle.ymx_frames.specs.declared.printer.Printer.{Printer}
 use Rattle.ymx_frames.specs.Lines.{lines, preview}
 
@@ -19,8 +19,8 @@ pub record HasPrinted (limit : ℕ) (text output : List ℕ) (p : Printer) : Typ
 
 -- no fault was seen
 abbrev pub NoFault : Seen → Type 0
-NoFault (Header_bytes bytes) = ⊤
-NoFault (Payload came lacks) = ⊤
+NoFault (InHeader bytes) = ⊤
+NoFault (Payload came missing) = ⊤
 NoFault (Broken fault) = ⊥
 
 -- So it goes on, as long as no fault was seen.

@@ -3,7 +3,7 @@
 ghost use Rattle.std.specs.Prelude.{ℕ, List, ◌≡◌, IsTrue, OnOk, OnErr};
 ghost use Rattle.std.specs.Io.{StartsWith};
 ghost use Rattle.std.specs.Io.KnownBytes.{Appends};
-ghost use Rattle.ymx_model.specs.Devices.{has_failed};
+ghost use Rattle.ymx_model.specs.devices.Devices.{has_failed};
 
 use ymx_model::{DeviceFault, Outlet};
 

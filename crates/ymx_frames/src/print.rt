@@ -2,7 +2,7 @@
 
 ghost use Rattle.std.specs.Prelude.{ℕ, List, ◌≡◌, ◌<◌, ◌⊎◌, length, ⊤, IsTrue};
 ghost use Rattle.std.specs.Io.KnownBytes.{Appends, Consumes, IsAtEnd};
-ghost use Rattle.ymx_model.specs.Devices.{has_failed};
+ghost use Rattle.ymx_model.specs.devices.Devices.{has_failed};
 ghost use Rattle.ymx_frames.specs.declared.print.FramesEnd.{FramesEnd as End};
 ghost use Rattle.ymx_frames.specs.Outputs.{IsWhole, Prints};
 

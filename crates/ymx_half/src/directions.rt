@@ -1,8 +1,9 @@
 //! The two directions of a stream, by the halves that hold them.
 
 ghost use Rattle.std.specs.Prelude.{◌≡◌, ◌+◌, ◌≤◌, ◌++◌, ◌&&◌, [], true, false, not, length, take, drop, min, IsOk, IfOk, OnErr};
-ghost use Rattle.ymx_model.specs.Records.{write, sent, given, finish, fin_goes, arrive, read, announce, end_comes, emptied};
-ghost use Rattle.ymx_model.specs.Outgoing.{is_empty};
+ghost use Rattle.ymx_model.specs.shared.Limits.{first_credit, greatest_number};
+ghost use Rattle.ymx_model.specs.session.Records.{writer_write, writer_send, writer_grant, writer_finish, writer_begin_fin, reader_arrive, reader_read, reader_announce, reader_end, reader_empty};
+ghost use Rattle.ymx_model.specs.session.FramesDue.{is_empty};
 
 use crate::{DeadHalf, DoneHalf, EndedHalf, RecvHalf, SendHalf};
 use std::alloc::AllocError;
@@ -20,16 +21,16 @@ pub(crate) enum Sending {
 }
 
 impl Sending {
-    ghost use Rattle.ymx_half.specs.Directions.{writer_of, is_silent};
+    ghost use Rattle.ymx_half.specs.Directions.{writer_of, sends_nothing};
 
     /// Takes the first bytes that the credit allows, of which a dead half has none. See `SendHalf::write`.
     pub(crate) fn write(&mut self, bytes: &[u8]) -> Result<usize, AllocError>
         requires { (writer_of self.old).finished ≡ false }
         ensures took_min { IfOk result (λ count. count ≡ min (length bytes.now) (writer_of self.old).credit) }
-        ensures wrote { IfOk result (λ count. writer_of self.new ≡ write (take count bytes.now) (writer_of self.old)) }
-        ensures in_room { length (writer_of self.old).unsent + min (length bytes.now) (writer_of self.old).credit ≤ 262144 → IsOk result }
+        ensures wrote { IfOk result (λ count. writer_of self.new ≡ writer_write (take count bytes.now) (writer_of self.old)) }
+        ensures in_room { length (writer_of self.old).unsent + min (length bytes.now) (writer_of self.old).credit ≤ first_credit → IsOk result }
         ensures refused_unchanged { OnErr result (writer_of self.new ≡ writer_of self.old) }
-        ensures same_state { is_silent self.new ≡ is_silent self.old }
+        ensures same_state { sends_nothing self.new ≡ sends_nothing self.old }
     {
         match self {
             Sending::Open(half) => half.write(bytes),
@@ -39,10 +40,10 @@ impl Sending {
 
     /// The peer lets `delta` bytes more be written.
     pub(crate) fn grant(&mut self, delta: u32)
-        requires sends { is_silent self.old ≡ false }
-        requires fits { (writer_of self.old).credit + delta ≤ 4294967295 }
-        ensures granted { writer_of self.new ≡ given delta (writer_of self.old) }
-        ensures same_state { is_silent self.new ≡ is_silent self.old }
+        requires sends { sends_nothing self.old ≡ false }
+        requires fits { (writer_of self.old).credit + delta ≤ greatest_number }
+        ensures granted { writer_of self.new ≡ writer_grant delta (writer_of self.old) }
+        ensures same_state { sends_nothing self.new ≡ sends_nothing self.old }
     {
         match self {
             Sending::Open(half) => half.grant(delta),
@@ -55,8 +56,8 @@ impl Sending {
     pub(crate) fn take(&mut self, buffer: &mut [u8]) -> usize
         ensures count { result ≡ min (length buffer.old) (length (writer_of self.old).unsent) }
         ensures taken { buffer.new ≡ take result (writer_of self.old).unsent ++ drop result buffer.old }
-        ensures left { writer_of self.new ≡ sent result (writer_of self.old) }
-        ensures same_state { is_silent self.new ≡ is_silent self.old }
+        ensures left { writer_of self.new ≡ writer_send result (writer_of self.old) }
+        ensures same_state { sends_nothing self.new ≡ sends_nothing self.old }
     {
         match self {
             Sending::Open(half) => half.take(buffer),
@@ -67,9 +68,9 @@ impl Sending {
 
     /// Nothing more is written. A half that is done stays so.
     pub(crate) fn finish(&mut self)
-        requires { is_silent self.old ≡ false }
-        ensures finished { writer_of self.new ≡ finish (writer_of self.old) }
-        ensures same_state { is_silent self.new ≡ is_silent self.old }
+        requires { sends_nothing self.old ≡ false }
+        ensures finished { writer_of self.new ≡ writer_finish (writer_of self.old) }
+        ensures same_state { sends_nothing self.new ≡ sends_nothing self.old }
     {
         *self = match mem::replace(self, Sending::Dead(DeadHalf)) {
             Sending::Open(half) => Sending::Done(half.finish()),
@@ -81,8 +82,8 @@ impl Sending {
     pub(crate) fn begin_fin(&mut self)
         requires due { ((writer_of self.old).finished && not (writer_of self.old).fin_sent) ≡ true }
         requires all_sent { (writer_of self.old).unsent ≡ [] }
-        ensures goes { writer_of self.new ≡ fin_goes (writer_of self.old) }
-        ensures same_state { is_silent self.new ≡ is_silent self.old }
+        ensures goes { writer_of self.new ≡ writer_begin_fin (writer_of self.old) }
+        ensures same_state { sends_nothing self.new ≡ sends_nothing self.old }
     {
         if let Sending::Done(half) = self {
             half.begin_fin();
@@ -152,15 +153,15 @@ pub(crate) enum Receiving {
 }
 
 impl Receiving {
-    ghost use Rattle.ymx_half.specs.Directions.{reader_of, is_deaf};
+    ghost use Rattle.ymx_half.specs.Directions.{reader_of, receives_nothing};
 
     /// These bytes come, before the end.
     pub(crate) fn arrive(&mut self, bytes: &[u8])
-        requires receives { is_deaf self.old ≡ false }
+        requires receives { receives_nothing self.old ≡ false }
         requires open { (reader_of self.old).ended ≡ false }
         requires fits { length bytes.now ≤ (reader_of self.old).granted }
-        ensures came { reader_of self.new ≡ arrive bytes.now (reader_of self.old) }
-        ensures same_state { is_deaf self.new ≡ is_deaf self.old }
+        ensures came { reader_of self.new ≡ reader_arrive bytes.now (reader_of self.old) }
+        ensures same_state { receives_nothing self.new ≡ receives_nothing self.old }
     {
         if let Receiving::Open(half) = self {
             half.arrive(bytes);
@@ -171,8 +172,8 @@ impl Receiving {
     pub(crate) fn read(&mut self, buffer: &mut [u8]) -> usize
         ensures count { result ≡ min (length buffer.old) (length (reader_of self.old).unread) }
         ensures gave { buffer.new ≡ take result (reader_of self.old).unread ++ drop result buffer.old }
-        ensures after { reader_of self.new ≡ read result (reader_of self.old) }
-        ensures same_state { is_deaf self.new ≡ is_deaf self.old }
+        ensures after { reader_of self.new ≡ reader_read result (reader_of self.old) }
+        ensures same_state { receives_nothing self.new ≡ receives_nothing self.old }
     {
         match self {
             Receiving::Open(half) => half.read(buffer),
@@ -183,8 +184,8 @@ impl Receiving {
 
     /// `n` of the owed bytes are announced.
     pub(crate) fn announce(&mut self, n: u32)
-        ensures announced { reader_of self.new ≡ announce n (reader_of self.old) }
-        ensures same_state { is_deaf self.new ≡ is_deaf self.old }
+        ensures announced { reader_of self.new ≡ reader_announce n (reader_of self.old) }
+        ensures same_state { receives_nothing self.new ≡ receives_nothing self.old }
     {
         match self {
             Receiving::Open(half) => half.announce(n),
@@ -195,9 +196,9 @@ impl Receiving {
 
     /// The peer's end arrives. A half that has ended stays so.
     pub(crate) fn end(&mut self)
-        requires { is_deaf self.old ≡ false }
-        ensures ended { reader_of self.new ≡ end_comes (reader_of self.old) }
-        ensures same_state { is_deaf self.new ≡ is_deaf self.old }
+        requires { receives_nothing self.old ≡ false }
+        ensures ended { reader_of self.new ≡ reader_end (reader_of self.old) }
+        ensures same_state { receives_nothing self.new ≡ receives_nothing self.old }
     {
         *self = match mem::replace(self, Receiving::Dead(DeadHalf)) {
             Receiving::Open(half) => Receiving::Ended(half.end()),
@@ -208,8 +209,8 @@ impl Receiving {
     /// What is unread behind the end is dropped.
     pub(crate) fn empty(&mut self)
         requires { (reader_of self.old).ended ≡ true }
-        ensures emptied { reader_of self.new ≡ emptied (reader_of self.old) }
-        ensures same_state { is_deaf self.new ≡ is_deaf self.old }
+        ensures emptied { reader_of self.new ≡ reader_empty (reader_of self.old) }
+        ensures same_state { receives_nothing self.new ≡ receives_nothing self.old }
     {
         if let Receiving::Ended(half) = self {
             half.empty();

@@ -1,7 +1,8 @@
 //! A sending half that was finished.
 
 ghost use Rattle.std.specs.Prelude.{◌≡◌, ◌+◌, ◌≤◌, ◌++◌, [], true, false, length, take, drop, min};
-ghost use Rattle.ymx_model.specs.Records.{sent, given, fin_goes};
+ghost use Rattle.ymx_model.specs.shared.Limits.{greatest_number};
+ghost use Rattle.ymx_model.specs.session.Records.{writer_send, writer_grant, writer_begin_fin};
 
 use crate::DeadHalf;
 use std::marker::Model;
@@ -19,7 +20,7 @@ pub struct DoneHalf {
 
 impl Model for DoneHalf {
     ghost use Rattle.std.specs.Prelude.{true};
-    ghost use Rattle.ymx_model.specs.Records.{Writer};
+    ghost use Rattle.ymx_model.specs.session.Records.{Writer};
 
     ghost Value = { Writer };
 
@@ -40,8 +41,8 @@ impl DoneHalf {
 
     /// The peer lets `delta` bytes more be written, as at an open half, though none are.
     pub fn grant(&mut self, delta: u32)
-        requires { self.old.credit + delta ≤ 4294967295 }
-        ensures { self.new ≡ given delta self.old }
+        requires { self.old.credit + delta ≤ greatest_number }
+        ensures { self.new ≡ writer_grant delta self.old }
     {
         self.credit.grant(delta).unwrap();
     }
@@ -51,7 +52,7 @@ impl DoneHalf {
     pub fn take(&mut self, buffer: &mut [u8]) -> usize
         ensures count { result ≡ min (length buffer.old) (length self.old.unsent) }
         ensures taken { buffer.new ≡ take result self.old.unsent ++ drop result buffer.old }
-        ensures left { self.new ≡ sent result self.old }
+        ensures left { self.new ≡ writer_send result self.old }
     {
         self.unsent.take(buffer)
     }
@@ -60,7 +61,7 @@ impl DoneHalf {
     pub fn begin_fin(&mut self)
         requires all_sent { self.old.unsent ≡ [] }
         requires once { self.old.fin_sent ≡ false }
-        ensures { self.new ≡ fin_goes self.old }
+        ensures { self.new ≡ writer_begin_fin self.old }
     {
         self.fin_sent = true;
     }

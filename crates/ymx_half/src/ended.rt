@@ -1,7 +1,7 @@
 //! A receiving half whose end has arrived.
 
 ghost use Rattle.std.specs.Prelude.{◌≡◌, ◌++◌, true, length, take, drop, min};
-ghost use Rattle.ymx_model.specs.Records.{read, announce, emptied};
+ghost use Rattle.ymx_model.specs.session.Records.{reader_read, reader_announce, reader_empty};
 
 use crate::DeadHalf;
 use std::marker::Model;
@@ -19,7 +19,7 @@ pub struct EndedHalf {
 
 impl Model for EndedHalf {
     ghost use Rattle.std.specs.Prelude.{true};
-    ghost use Rattle.ymx_model.specs.Records.{Reader};
+    ghost use Rattle.ymx_model.specs.session.Records.{Reader};
 
     ghost Value = { Reader };
 
@@ -50,7 +50,7 @@ impl EndedHalf {
     pub fn read(&mut self, buffer: &mut [u8]) -> usize
         ensures count { result ≡ min (length buffer.old) (length self.old.unread) }
         ensures gave { buffer.new ≡ take result self.old.unread ++ drop result buffer.old }
-        ensures after { self.new ≡ read result self.old }
+        ensures after { self.new ≡ reader_read result self.old }
     {
         let count = self.unread.take(buffer);
         self.debt.read(count as u32);
@@ -60,7 +60,7 @@ impl EndedHalf {
     /// `n` of the owed bytes (all, if they are fewer) are announced, by the frame that opens or accepts
     /// the stream: it says the window even where the peer has ended already.
     pub fn announce(&mut self, n: u32)
-        ensures { self.new ≡ announce n self.old }
+        ensures { self.new ≡ reader_announce n self.old }
     {
         let announced = n.min(self.debt.owed());
         self.debt.announced_part(announced);
@@ -69,7 +69,7 @@ impl EndedHalf {
 
     /// What is unread is dropped: the stream is given up.
     pub fn empty(&mut self)
-        ensures { self.new ≡ emptied self.old }
+        ensures { self.new ≡ reader_empty self.old }
     {
         self.unread.clear();
     }

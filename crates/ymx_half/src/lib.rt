@@ -15,11 +15,11 @@ mod stream;
 pub use dead::DeadHalf;
 pub use done::DoneHalf;
 pub use ended::EndedHalf;
-pub use frame::FrameKind;
 pub use receive::RecvHalf;
 pub use send::SendHalf;
 pub use stream::{Stage, StreamRec};
 pub use ymx_header::FIRST_CREDIT;
+pub use ymx_model::FrameKind;
 
 #[cfg(test)]
 mod tests;

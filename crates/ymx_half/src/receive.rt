@@ -1,7 +1,8 @@
 //! A receiving half that is open.
 
 ghost use Rattle.std.specs.Prelude.{◌≡◌, ◌+◌, ◌≤◌, ◌++◌, length, take, drop, min, IfOk};
-ghost use Rattle.ymx_model.specs.Records.{new_reader, arrive, read, announce, end_comes};
+ghost use Rattle.ymx_model.specs.shared.Limits.{first_credit};
+ghost use Rattle.ymx_model.specs.session.Records.{new_reader, reader_arrive, reader_read, reader_announce, reader_end};
 
 use crate::{DeadHalf, EndedHalf, FIRST_CREDIT};
 use std::alloc::{AllocError, Global};
@@ -23,7 +24,7 @@ pub struct RecvHalf {
 
 impl Model for RecvHalf {
     ghost use Rattle.std.specs.Prelude.{false};
-    ghost use Rattle.ymx_model.specs.Records.{Reader};
+    ghost use Rattle.ymx_model.specs.session.Records.{Reader};
 
     ghost Value = { Reader };
 
@@ -41,7 +42,7 @@ impl RecvHalf {
     ///
     /// Example: of a window of 1,048,576 bytes 786,432 are owed from the start.
     pub fn new(alloc: Global, window: u32) -> Result<RecvHalf, AllocError>
-        requires { 262144 ≤ window }
+        requires { first_credit ≤ window }
         ensures { IfOk result (λ half. half ≡ new_reader window) }
     {
         let unread = Ring::new(alloc, window as usize)?;
@@ -55,7 +56,7 @@ impl RecvHalf {
     /// These bytes come. They are no more than the peer may send, and so there is room for them.
     pub fn arrive(&mut self, bytes: &[u8])
         requires { length bytes.now ≤ self.old.granted }
-        ensures { self.new ≡ arrive bytes.now self.old }
+        ensures { self.new ≡ reader_arrive bytes.now self.old }
     {
         self.unread.put(bytes);
         self.granted -= bytes.len() as u32;
@@ -66,7 +67,7 @@ impl RecvHalf {
     pub fn read(&mut self, buffer: &mut [u8]) -> usize
         ensures count { result ≡ min (length buffer.old) (length self.old.unread) }
         ensures gave { buffer.new ≡ take result self.old.unread ++ drop result buffer.old }
-        ensures after { self.new ≡ read result self.old }
+        ensures after { self.new ≡ reader_read result self.old }
     {
         let count = self.unread.take(buffer);
         self.debt.read(count as u32);
@@ -78,7 +79,7 @@ impl RecvHalf {
     /// Example: a window of 1,048,576 bytes is announced by the frame that opens or accepts the stream,
     /// with `n` 786,432; the peer may then send 1,048,576 bytes.
     pub fn announce(&mut self, n: u32)
-        ensures { self.new ≡ announce n self.old }
+        ensures { self.new ≡ reader_announce n self.old }
     {
         let announced = n.min(self.debt.owed());
         self.debt.announced_part(announced);
@@ -87,7 +88,7 @@ impl RecvHalf {
 
     /// The peer's end has arrived.
     pub fn end(self) -> EndedHalf
-        ensures { result ≡ end_comes self }
+        ensures { result ≡ reader_end self }
     {
         let RecvHalf {
             unread,

@@ -1,7 +1,8 @@
 //! A sending half that is open.
 
 ghost use Rattle.std.specs.Prelude.{◌≡◌, ◌+◌, ◌≤◌, ◌++◌, length, take, drop, min, IsOk, IfOk, OnErr};
-ghost use Rattle.ymx_model.specs.Records.{new_writer, write, sent, given, finish};
+ghost use Rattle.ymx_model.specs.shared.Limits.{first_credit, greatest_number};
+ghost use Rattle.ymx_model.specs.session.Records.{new_writer, writer_write, writer_send, writer_grant, writer_finish};
 
 use crate::{DeadHalf, DoneHalf, FIRST_CREDIT};
 use std::alloc::{AllocError, Global};
@@ -21,8 +22,8 @@ pub struct SendHalf {
 
 impl Model for SendHalf {
     ghost use Rattle.std.specs.Prelude.{◌≤◌, false};
-    ghost use Rattle.ymx_model.specs.Lanes.{first_credit};
-    ghost use Rattle.ymx_model.specs.Records.{Writer};
+    ghost use Rattle.ymx_model.specs.shared.Limits.{first_credit};
+    ghost use Rattle.ymx_model.specs.session.Records.{Writer};
 
     ghost Value = { Writer };
 
@@ -53,8 +54,8 @@ impl SendHalf {
     /// grants more.
     pub fn write(&mut self, bytes: &[u8]) -> Result<usize, AllocError>
         ensures took_min { IfOk result (λ count. count ≡ min (length bytes.now) self.old.credit) }
-        ensures wrote { IfOk result (λ count. self.new ≡ write (take count bytes.now) self.old) }
-        ensures in_room { length self.old.unsent + min (length bytes.now) self.old.credit ≤ 262144 → IsOk result }
+        ensures wrote { IfOk result (λ count. self.new ≡ writer_write (take count bytes.now) self.old) }
+        ensures in_room { length self.old.unsent + min (length bytes.now) self.old.credit ≤ first_credit → IsOk result }
         ensures refused_unchanged { OnErr result (self.new ≡ self.old) }
     {
         let count = bytes.len().min(self.credit.left() as usize);
@@ -72,8 +73,8 @@ impl SendHalf {
     /// The peer lets `delta` bytes more be written (Window Update). The credit is then at most
     /// 4,294,967,295: above that the session broke (B6).
     pub fn grant(&mut self, delta: u32)
-        requires { self.old.credit + delta ≤ 4294967295 }
-        ensures { self.new ≡ given delta self.old }
+        requires { self.old.credit + delta ≤ greatest_number }
+        ensures { self.new ≡ writer_grant delta self.old }
     {
         self.credit.grant(delta).unwrap();
     }
@@ -83,14 +84,14 @@ impl SendHalf {
     pub fn take(&mut self, buffer: &mut [u8]) -> usize
         ensures count { result ≡ min (length buffer.old) (length self.old.unsent) }
         ensures taken { buffer.new ≡ take result self.old.unsent ++ drop result buffer.old }
-        ensures left { self.new ≡ sent result self.old }
+        ensures left { self.new ≡ writer_send result self.old }
     {
         self.unsent.take(buffer)
     }
 
     /// Nothing more is written (half-close): the unsent bytes go out, and then the end.
     pub fn finish(self) -> DoneHalf
-        ensures { result ≡ finish self }
+        ensures { result ≡ writer_finish self }
     {
         let SendHalf { credit, unsent } = self;
         DoneHalf::new(credit, unsent)

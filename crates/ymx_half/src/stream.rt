@@ -2,11 +2,12 @@
 
 ghost use Rattle.std.specs.Prelude.{◌≡◌, ◌+◌, ◌≤◌, ◌++◌, ℕ, true, false, length, take, drop, min, is_some, Some, IsOk, IfOk, OnErr};
 ghost use Rattle.std.specs.Option.{option_map};
+ghost use Rattle.ymx_model.specs.shared.Limits.{first_credit, greatest_number};
 ghost use Rattle.ymx_header.specs.Headers.{spelling};
-ghost use Rattle.ymx_model.specs.Streams.{takes, is_offered, is_lingering};
-ghost use Rattle.ymx_model.specs.Streams.Phase.{Live as LivePhase, Offered as OfferedPhase};
-ghost use Rattle.ymx_model.specs.Records.{new_end, dead_writer, dead_reader, only, sent, takes_payload, end_write, end_read, end_finish, end_accept, end_reset, end_forget, gets_data, gets_piece, gets_credit, gets_fin, gets_head, gets_rst};
-ghost use Rattle.ymx_model.specs.Outgoing.{is_due, credit_due, next_kind, sends, spelled};
+ghost use Rattle.ymx_model.specs.shared.Phases.{takes, is_offered, is_lingering};
+ghost use Rattle.ymx_model.specs.shared.Phases.Phase.{Live as LivePhase, Offered as OfferedPhase};
+ghost use Rattle.ymx_model.specs.session.Records.{new_end, dead_writer, dead_reader, only_due, writer_send, takes_payload, end_write, end_read, end_finish, end_accept, end_reset, end_forget, receive_data, receive_piece, receive_credit, receive_fin, receive_head, receive_rst};
+ghost use Rattle.ymx_model.specs.session.FramesDue.{is_due, credit_due, next_kind, begin_frame, spelled};
 
 use crate::directions::{Receiving, Sending};
 use crate::frame::{data, put_header, window_update};
@@ -47,13 +48,13 @@ struct Marks {
     /// The frame that opens the stream.
     syn: bool,
     /// It is Data.
-    carries: bool,
+    with_data: bool,
     /// The frame that accepts the stream.
     ack: bool,
     /// The frame that resets the stream.
     rst: bool,
     /// A credit frame of all that is owed, however little.
-    whole: bool,
+    credit_at_once: bool,
     /// The peer has acknowledged the stream.
     acked: bool,
 }
@@ -63,14 +64,14 @@ impl Marks {
 
     /// Only these are due, whatever was.
     fn only(self, syn: bool, rst: bool) -> Marks
-        ensures { marks_of result ≡ only syn rst (marks_of self) }
+        ensures { marks_of result ≡ only_due syn rst (marks_of self) }
     {
         Marks {
             syn,
-            carries: syn && self.carries,
+            with_data: syn && self.with_data,
             ack: false,
             rst,
-            whole: false,
+            credit_at_once: false,
             acked: self.acked,
         }
     }
@@ -115,26 +116,26 @@ impl Marks {
 #[derive(Drop)]
 pub struct StreamRec {
     stage: Stage,
-    out: Sending,
-    inn: Receiving,
+    writer: Sending,
+    reader: Receiving,
     marks: Marks,
 }
 
 impl Model for StreamRec {
-    ghost use Rattle.ymx_model.specs.Records.{End};
+    ghost use Rattle.ymx_model.specs.session.Records.{End};
 
     ghost Value = { End };
 
     ghost use Rattle.ymx_half.specs.Ends.{end_of, HasHalves};
 
-    ghost view = { λ stream. end_of stream.stage stream.out stream.inn stream.marks };
+    ghost view = { λ stream. end_of stream.stage stream.writer stream.reader stream.marks };
 
-    ghost invariant = { λ stream. HasHalves stream.stage stream.out stream.inn };
+    ghost invariant = { λ stream. HasHalves stream.stage stream.writer stream.reader };
 }
 
 impl StreamRec {
     ghost use Rattle.ymx_half.specs.Stages.{phase_of};
-    ghost use Rattle.ymx_half.specs.Frames.{kind_of, payload};
+    ghost use Rattle.ymx_half.specs.Frames.{frame_payload};
 
     /// Makes the record of a stream that is opened here, with memory for 262,144 unsent bytes and for
     /// all of the window, in bytes. A SYN is due, which carries data if `carries`. Without the memory it
@@ -143,24 +144,24 @@ impl StreamRec {
     /// Example: at a session of 1,048,576 bytes the peer may send 262,144 at first, and hears of the
     /// other 786,432 by the SYN. A SYN that carries data announces nothing, so a credit frame of 786,432
     /// is due next.
-    pub fn opened(alloc: Global, window: u32, carries: bool) -> Result<StreamRec, AllocError>
-        requires { 262144 ≤ window }
-        ensures { IfOk result (λ stream. stream ≡ new_end window LivePhase true carries) }
+    pub fn opened(alloc: Global, window: u32, with_data: bool) -> Result<StreamRec, AllocError>
+        requires { first_credit ≤ window }
+        ensures { IfOk result (λ stream. stream ≡ new_end window LivePhase true with_data) }
     {
-        let out = Sending::Open(SendHalf::new(alloc)?);
-        let inn = Receiving::Open(RecvHalf::new(alloc, window)?);
+        let writer = Sending::Open(SendHalf::new(alloc)?);
+        let reader = Receiving::Open(RecvHalf::new(alloc, window)?);
         let marks = Marks {
             syn: true,
-            carries,
+            with_data,
             ack: false,
             rst: false,
-            whole: carries && FIRST_CREDIT < window,
+            credit_at_once: with_data && FIRST_CREDIT < window,
             acked: false,
         };
         Ok(StreamRec {
             stage: Stage::Live,
-            out,
-            inn,
+            writer,
+            reader,
             marks,
         })
     }
@@ -169,23 +170,23 @@ impl StreamRec {
     /// it yet. Before it is accepted no ACK and no credit is; bytes that are written, an end and a reset
     /// are due at once. Without the memory it answers `AllocError`.
     pub fn offered(alloc: Global, window: u32) -> Result<StreamRec, AllocError>
-        requires { 262144 ≤ window }
+        requires { first_credit ≤ window }
         ensures { IfOk result (λ stream. stream ≡ new_end window OfferedPhase false false) }
     {
-        let out = Sending::Open(SendHalf::new(alloc)?);
-        let inn = Receiving::Open(RecvHalf::new(alloc, window)?);
+        let writer = Sending::Open(SendHalf::new(alloc)?);
+        let reader = Receiving::Open(RecvHalf::new(alloc, window)?);
         let marks = Marks {
             syn: false,
-            carries: false,
+            with_data: false,
             ack: false,
             rst: false,
-            whole: false,
+            credit_at_once: false,
             acked: false,
         };
         Ok(StreamRec {
             stage: Stage::Offered,
-            out,
-            inn,
+            writer,
+            reader,
             marks,
         })
     }
@@ -201,37 +202,37 @@ impl StreamRec {
 
     /// Whether it was finished here, so that nothing more is written.
     pub fn is_finished(&self) -> bool
-        ensures { result ≡ self.now.out.finished }
+        ensures { result ≡ self.now.writer.finished }
     {
-        self.out.is_finished()
+        self.writer.is_finished()
     }
 
     /// How many bytes may still be written.
     pub fn credit(&self) -> u32
-        ensures { result ≡ self.now.out.credit }
+        ensures { result ≡ self.now.writer.credit }
     {
-        self.out.credit()
+        self.writer.credit()
     }
 
     /// Whether the peer's end has arrived.
     pub fn has_ended(&self) -> bool
-        ensures { result ≡ self.now.inn.ended }
+        ensures { result ≡ self.now.reader.ended }
     {
-        self.inn.has_ended()
+        self.reader.has_ended()
     }
 
     /// How many bytes wait to be read.
     pub fn unread_len(&self) -> usize
-        ensures { result ≡ length self.now.inn.unread }
+        ensures { result ≡ length self.now.reader.unread }
     {
-        self.inn.unread_len()
+        self.reader.unread_len()
     }
 
     /// How many bytes the peer may still send.
     pub fn granted(&self) -> u32
-        ensures { result ≡ self.now.inn.granted }
+        ensures { result ≡ self.now.reader.granted }
     {
-        self.inn.granted()
+        self.reader.granted()
     }
 
     /// Whether the peer has acknowledged the stream.
@@ -246,7 +247,7 @@ impl StreamRec {
     pub fn takes_payload(&self) -> bool
         ensures { result ≡ takes_payload self.now }
     {
-        self.stage.takes() && !self.inn.has_ended()
+        self.stage.takes() && !self.reader.has_ended()
     }
 
     /// Whether any frame is due, at a session of this window.
@@ -257,8 +258,8 @@ impl StreamRec {
             || self.marks.ack
             || self.marks.rst
             || self.credit_due(window)
-            || self.out.has_unsent()
-            || self.out.is_fin_due()
+            || self.writer.has_unsent()
+            || self.writer.is_fin_due()
     }
 
     /// Whether a credit frame is due: the end has not arrived, and at least half the window is owed, or
@@ -267,8 +268,8 @@ impl StreamRec {
         ensures { result ≡ credit_due window self.now }
     {
         self.stage == Stage::Live
-            && !self.inn.has_ended()
-            && (self.marks.whole || is_half_owed(window, self.inn.owed()))
+            && !self.reader.has_ended()
+            && (self.marks.credit_at_once || is_half_owed(window, self.reader.owed()))
     }
 
     // ---- calls
@@ -281,13 +282,13 @@ impl StreamRec {
     ///
     /// Example: of 300,000 bytes a new stream takes 262,144, and then none, until the peer grants more.
     pub fn write(&mut self, bytes: &[u8]) -> Result<usize, AllocError>
-        requires { self.old.out.finished ≡ false }
-        ensures took_min { IfOk result (λ count. count ≡ min (length bytes.now) self.old.out.credit) }
+        requires { self.old.writer.finished ≡ false }
+        ensures took_min { IfOk result (λ count. count ≡ min (length bytes.now) self.old.writer.credit) }
         ensures wrote { IfOk result (λ count. self.new ≡ end_write (take count bytes.now) self.old) }
-        ensures in_room { length self.old.out.unsent + min (length bytes.now) self.old.out.credit ≤ 262144 → IsOk result }
+        ensures in_room { length self.old.writer.unsent + min (length bytes.now) self.old.writer.credit ≤ first_credit → IsOk result }
         ensures refused_unchanged { OnErr result (self.new ≡ self.old) }
     {
-        self.out.write(bytes)
+        self.writer.write(bytes)
     }
 
     /// Moves the first unread bytes into `buffer`, as many as are there and fit, and returns their
@@ -296,11 +297,11 @@ impl StreamRec {
     /// Example: of a window of 262,144 bytes the first 131,071 that are read make no credit due, and one
     /// byte more does.
     pub fn read(&mut self, buffer: &mut [u8]) -> usize
-        ensures count { result ≡ min (length buffer.old) (length self.old.inn.unread) }
-        ensures gave { buffer.new ≡ take result self.old.inn.unread ++ drop result buffer.old }
+        ensures count { result ≡ min (length buffer.old) (length self.old.reader.unread) }
+        ensures gave { buffer.new ≡ take result self.old.reader.unread ++ drop result buffer.old }
         ensures after { self.new ≡ end_read result self.old }
     {
-        self.inn.read(buffer)
+        self.reader.read(buffer)
     }
 
     /// Nothing more is written (half-close): the unsent bytes go out, and then the end.
@@ -308,7 +309,7 @@ impl StreamRec {
         requires { takes self.old.phase ≡ true }
         ensures { self.new ≡ end_finish self.old }
     {
-        self.out.finish();
+        self.writer.finish();
     }
 
     /// An offered stream is accepted. An ACK is due, unless the session is lost.
@@ -347,8 +348,8 @@ impl StreamRec {
             return;
         }
         if self.stage != Stage::Reset {
-            if self.out.is_finished() && self.inn.has_ended() {
-                self.inn.empty();
+            if self.writer.is_finished() && self.reader.has_ended() {
+                self.reader.empty();
             } else {
                 self.reset(Stage::Lingering);
             }
@@ -359,10 +360,10 @@ impl StreamRec {
     /// Both halves are over.
     fn drop_halves(&mut self, stage: Stage)
         requires { takes (phase_of stage) ≡ false }
-        ensures { self.new ≡ record self.old { phase = phase_of stage; out = dead_writer; inn = dead_reader } }
+        ensures { self.new ≡ record self.old { phase = phase_of stage; writer = dead_writer; reader = dead_reader } }
     {
-        mem::replace(&mut self.out, Sending::Dead(DeadHalf)).reset();
-        mem::replace(&mut self.inn, Receiving::Dead(DeadHalf)).reset();
+        mem::replace(&mut self.writer, Sending::Dead(DeadHalf)).reset();
+        mem::replace(&mut self.reader, Receiving::Dead(DeadHalf)).reset();
         self.stage = stage;
     }
 
@@ -374,8 +375,8 @@ impl StreamRec {
     ///
     /// Example: a new stream takes 262,144 bytes, and then none, until it has announced more.
     pub fn receive_piece(&mut self, fin: bool, bytes: &[u8])
-        requires { takes_payload self.old ≡ true → length bytes.now ≤ self.old.inn.granted }
-        ensures { self.new ≡ gets_piece fin bytes.now self.old }
+        requires { takes_payload self.old ≡ true → length bytes.now ≤ self.old.reader.granted }
+        ensures { self.new ≡ receive_piece fin bytes.now self.old }
     {
         self.receive_data(bytes);
         if fin {
@@ -389,8 +390,8 @@ impl StreamRec {
     /// A stream that was reset or given up drops the delta and the end, and one whose end came before drops
     /// the end. The credit with the delta is at most 4,294,967,295 bytes: above that the session broke (B6).
     pub fn receive_head(&mut self, acknowledges: bool, delta: u32, ends: bool)
-        requires { takes self.old.phase ≡ true → self.old.out.credit + delta ≤ 4294967295 }
-        ensures { self.new ≡ gets_head acknowledges delta ends self.old }
+        requires { takes self.old.phase ≡ true → self.old.writer.credit + delta ≤ greatest_number }
+        ensures { self.new ≡ receive_head acknowledges delta ends self.old }
     {
         if acknowledges {
             self.marks.acked = true;
@@ -405,7 +406,7 @@ impl StreamRec {
     /// nothing is due any more. The record of an offered stream goes instead.
     pub fn receive_rst(&mut self)
         requires { is_offered self.old.phase ≡ false }
-        ensures { self.new ≡ gets_rst self.old }
+        ensures { self.new ≡ receive_rst self.old }
     {
         let stage = match self.stage {
             Stage::Lingering => Stage::Lingering,
@@ -417,32 +418,32 @@ impl StreamRec {
 
     /// Payload comes, which a stream that doesn't take it drops.
     fn receive_data(&mut self, bytes: &[u8])
-        requires { takes_payload self.old ≡ true → length bytes.now ≤ self.old.inn.granted }
-        ensures { self.new ≡ gets_data bytes.now self.old }
+        requires { takes_payload self.old ≡ true → length bytes.now ≤ self.old.reader.granted }
+        ensures { self.new ≡ receive_data bytes.now self.old }
     {
         if self.takes_payload() {
-            self.inn.arrive(bytes);
+            self.reader.arrive(bytes);
         }
     }
 
     /// `delta` bytes more may be written, unless the stream was reset or given up.
     fn receive_credit(&mut self, delta: u32)
-        requires { takes self.old.phase ≡ true → self.old.out.credit + delta ≤ 4294967295 }
-        ensures { self.new ≡ gets_credit delta self.old }
+        requires { takes self.old.phase ≡ true → self.old.writer.credit + delta ≤ greatest_number }
+        ensures { self.new ≡ receive_credit delta self.old }
     {
         if self.stage.takes() {
-            self.out.grant(delta);
+            self.writer.grant(delta);
         }
     }
 
     /// The peer's end comes (half-close). A stream that takes payload has ended, and returns no credit
     /// from then on.
     fn receive_fin(&mut self)
-        ensures { self.new ≡ gets_fin self.old }
+        ensures { self.new ≡ receive_fin self.old }
     {
         if self.takes_payload() {
-            self.inn.end();
-            self.marks.whole = false;
+            self.reader.end();
+            self.marks.credit_at_once = false;
         }
     }
 
@@ -454,11 +455,11 @@ impl StreamRec {
     /// Example: credit is due of a stream of 262,144 bytes once 131,072 are owed, and not once its end
     /// has arrived.
     pub fn next_frame(&self, window: u32) -> Option<FrameKind>
-        ensures next { option_map kind_of result ≡ next_kind window self.now }
+        ensures next { result ≡ next_kind window self.now }
         ensures due { is_some result ≡ is_due window self.now }
     {
         if self.marks.syn {
-            Some(if self.marks.carries {
+            Some(if self.marks.with_data {
                 FrameKind::OpenWith
             } else {
                 FrameKind::Open
@@ -469,9 +470,9 @@ impl StreamRec {
             Some(FrameKind::Reset)
         } else if self.credit_due(window) {
             Some(FrameKind::Credit)
-        } else if self.out.has_unsent() {
+        } else if self.writer.has_unsent() {
             Some(FrameKind::Data)
-        } else if self.out.is_fin_due() {
+        } else if self.writer.is_fin_due() {
             Some(FrameKind::Fin)
         } else {
             None
@@ -484,7 +485,7 @@ impl StreamRec {
     /// Example: with 20,000 bytes unsent and a limit of 16,384, Data has 16,396 bytes, and the one behind
     /// it 3,628.
     pub fn frame_len(&self, kind: FrameKind, limit: u32) -> usize
-        ensures { (window id : ℕ) → length (spelled (kind_of kind) window limit id self.now) ≡ result }
+        ensures { (window id : ℕ) → length (spelled kind window limit id self.now) ≡ result }
     {
         HEADER_LENGTH + self.payload_len(kind, limit) as usize
     }
@@ -503,11 +504,11 @@ impl StreamRec {
         id: u32,
         buffer: &mut [u8],
     ) -> usize
-        requires next { next_kind window self.old ≡ Some (kind_of kind) }
-        requires fits { length (spelled (kind_of kind) window limit id self.old) ≤ length buffer.old }
-        ensures count { result ≡ length (spelled (kind_of kind) window limit id self.old) }
-        ensures written { buffer.new ≡ spelled (kind_of kind) window limit id self.old ++ drop result buffer.old }
-        ensures goes { self.new ≡ sends window limit (kind_of kind) self.old }
+        requires next { next_kind window self.old ≡ Some kind }
+        requires fits { length (spelled kind window limit id self.old) ≤ length buffer.old }
+        ensures count { result ≡ length (spelled kind window limit id self.old) }
+        ensures written { buffer.new ≡ spelled kind window limit id self.old ++ drop result buffer.old }
+        ensures goes { self.new ≡ begin_frame window limit kind self.old }
     {
         let header = self.header(kind, window, limit, id);
         let count = self.payload_len(kind, limit) as usize;
@@ -519,11 +520,11 @@ impl StreamRec {
 
     /// How many bytes the payload of such a frame has.
     fn payload_len(&self, kind: FrameKind, limit: u32) -> u32
-        ensures { result ≡ length (payload kind limit self.now) }
+        ensures { result ≡ length (frame_payload kind limit self.now) }
     {
         match kind {
             FrameKind::OpenWith | FrameKind::Data => self
-                .out
+                .writer
                 .unsent_len()
                 .min(limit as usize) as u32,
             _ => 0,
@@ -532,7 +533,7 @@ impl StreamRec {
 
     /// The header of such a frame (framing).
     fn header(&self, kind: FrameKind, window: u32, limit: u32, id: u32) -> Header
-        ensures { spelled (kind_of kind) window limit id self.now ≡ spelling result ++ payload kind limit self.now }
+        ensures { spelled kind window limit id self.now ≡ spelling result ++ frame_payload kind limit self.now }
     {
         let delta = window.saturating_sub(FIRST_CREDIT);
         let count = self.payload_len(kind, limit);
@@ -541,7 +542,7 @@ impl StreamRec {
             FrameKind::OpenWith => data(FLAG_SYN, id, count),
             FrameKind::Accept => window_update(FLAG_ACK, id, delta),
             FrameKind::Reset => window_update(FLAG_RST, id, 0),
-            FrameKind::Credit => window_update(0, id, self.inn.owed()),
+            FrameKind::Credit => window_update(0, id, self.reader.owed()),
             FrameKind::Data => data(0, id, count),
             FrameKind::Fin => window_update(FLAG_FIN, id, 0),
         }
@@ -549,40 +550,40 @@ impl StreamRec {
 
     /// What a frame changes but for its payload.
     fn mark_begun(&mut self, kind: FrameKind, window: u32)
-        requires { next_kind window self.old ≡ Some (kind_of kind) }
-        ensures { self.new ≡ sends window 0 (kind_of kind) self.old }
+        requires { next_kind window self.old ≡ Some kind }
+        ensures { self.new ≡ begin_frame window 0 kind self.old }
     {
         match kind {
             FrameKind::Open => {
-                self.inn.announce(window.saturating_sub(FIRST_CREDIT));
+                self.reader.announce(window.saturating_sub(FIRST_CREDIT));
                 self.marks.syn = false;
             }
             FrameKind::OpenWith => {
                 self.marks.syn = false;
-                self.marks.carries = false;
+                self.marks.with_data = false;
             }
             FrameKind::Accept => {
-                self.inn.announce(window.saturating_sub(FIRST_CREDIT));
+                self.reader.announce(window.saturating_sub(FIRST_CREDIT));
                 self.marks.ack = false;
             }
             FrameKind::Reset => self.marks.rst = false,
             FrameKind::Credit => {
-                self.inn.announce(self.inn.owed());
-                self.marks.whole = false;
+                self.reader.announce(self.reader.owed());
+                self.marks.credit_at_once = false;
             }
             FrameKind::Data => {}
-            FrameKind::Fin => self.out.begin_fin(),
+            FrameKind::Fin => self.writer.begin_fin(),
         }
     }
 
     /// Moves the next `count` unsent bytes to the place behind a header.
     fn put_payload(&mut self, count: usize, buffer: &mut [u8])
-        requires there { count ≤ length self.old.out.unsent }
+        requires there { count ≤ length self.old.writer.unsent }
         requires fits { 12 + count ≤ length buffer.old }
-        ensures written { buffer.new ≡ take 12 buffer.old ++ take count self.old.out.unsent ++ drop (12 + count) buffer.old }
-        ensures goes { self.new ≡ record self.old { out = sent count self.old.out } }
+        ensures written { buffer.new ≡ take 12 buffer.old ++ take count self.old.writer.unsent ++ drop (12 + count) buffer.old }
+        ensures goes { self.new ≡ record self.old { writer = writer_send count self.old.writer } }
     {
-        self.out
+        self.writer
             .take(&mut buffer[HEADER_LENGTH..HEADER_LENGTH + count]);
     }
 }

@@ -224,25 +224,25 @@ fn a_sending_half_by_itself(rt: HostRuntime) -> Result<(), Fail> {
 #[test]
 fn a_receiving_half_by_itself(rt: HostRuntime) -> Result<(), Fail> {
     let mut two = [0; 2];
-    let mut inn = RecvHalf::new(rt.alloc(), 262_145)?;
-    assert!(rt; 3 <= inn.granted());
-    inn.arrive(b"abc");
-    assert_eq!(rt; (inn.read(&mut two), two), (2, *b"ab"));
+    let mut reader = RecvHalf::new(rt.alloc(), 262_145)?;
+    assert!(rt; 3 <= reader.granted());
+    reader.arrive(b"abc");
+    assert_eq!(rt; (reader.read(&mut two), two), (2, *b"ab"));
     assert_eq!(rt;
-        (inn.unread_len(), inn.granted(), inn.owed()),
+        (reader.unread_len(), reader.granted(), reader.owed()),
         (1, 262_141, 3)
     );
-    inn.announce(1);
-    assert_eq!(rt; (inn.granted(), inn.owed()), (262_142, 2));
-    let mut inn = inn.end();
-    inn.announce(1);
-    assert_eq!(rt; inn.read(&mut two), 1);
+    reader.announce(1);
+    assert_eq!(rt; (reader.granted(), reader.owed()), (262_142, 2));
+    let mut reader = reader.end();
+    reader.announce(1);
+    assert_eq!(rt; reader.read(&mut two), 1);
     assert_eq!(rt;
-        (inn.unread_len(), inn.granted(), inn.owed()),
+        (reader.unread_len(), reader.granted(), reader.owed()),
         (0, 262_143, 2)
     );
-    inn.empty();
-    assert_eq!(rt; inn.reset(), DeadHalf);
+    reader.empty();
+    assert_eq!(rt; reader.reset(), DeadHalf);
     assert_eq!(rt; RecvHalf::new(rt.alloc(), 262_144)?.reset(), DeadHalf);
     Ok(())
 }

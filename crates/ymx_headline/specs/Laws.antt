@@ -8,17 +8,18 @@ use Rattle.ymx_model.specs.declared.types.Step.TheVariants as step
 use Rattle.ymx_model.specs.declared.types.Answer.{Answer}
 use Rattle.ymx_model.specs.declared.types.Answer.TheVariants as answer
 use Rattle.ymx_model.specs.declared.types.Role.TheVariants.{Client, Server}
-use Rattle.ymx_model.specs.Lanes.{first_credit}
-use Rattle.ymx_model.specs.Streams.{is_live}
-use Rattle.ymx_model.specs.Records.{End}
-use Rattle.ymx_model.specs.Sessions.{Session, Incoming, is_own, is_running}
-use Rattle.ymx_model.specs.Sessions.Incoming.{Head, Payload}
-use Rattle.ymx_model.specs.Arrivals.{payload}
-use Rattle.ymx_model.specs.Feeds.{is_between}
-use Rattle.ymx_model.specs.Emissions.{Choice}
-use Rattle.ymx_model.specs.Worlds.{World, Pipe, Steps, one_if}
-use Rattle.ymx_model.specs.Machines.{Machine}
-use Rattle.ymx_model.specs.MachineRuns.{is_broken}
+use Rattle.ymx_model.specs.shared.Limits.{first_credit}
+use Rattle.ymx_model.specs.shared.Phases.{is_live}
+use Rattle.ymx_model.specs.session.Records.{End}
+use Rattle.ymx_model.specs.session.Sessions.{Session, Incoming, is_own, is_running}
+use Rattle.ymx_model.specs.session.Sessions.Incoming.{Head, Payload}
+use Rattle.ymx_model.specs.session.Arrivals.{payload}
+use Rattle.ymx_model.specs.session.Feeds.{is_between}
+use Rattle.ymx_model.specs.session.Emissions.{Choice}
+use Rattle.ymx_model.specs.world.Worlds.{World, Pipe, Steps}
+use Rattle.ymx_model.specs.world.Load.{one_if}
+use Rattle.ymx_model.specs.machine.Machines.{Machine}
+use Rattle.ymx_model.specs.machine.Runs.{why_is_broken}
 use Rattle.ymx_headline.specs.Agrees.{RunsAlike, Agrees}
 
 -- two sides with windows that may be chosen, and first stream numbers of their own
@@ -39,7 +40,7 @@ HasRun may steps answers w v m = (n : Machine) × RunsAlike may steps answers w 
 
 -- a delivery that found a fault
 abbrev pub breaks_off : Answer → Bool
-breaks_off (answer.Fed fed) = is_broken fed.why
+breaks_off (answer.Fed fed) = why_is_broken fed.why
 breaks_off _ = false
 
 -- a session has a record of a stream, and it is live
@@ -75,7 +76,7 @@ begins_payload h = if payload h == 0 then Head [] else Payload h.id (payload h) 
 -- what has come of a frame that isn't whole, behind one byte more
 abbrev pub after_byte : ℕ → Incoming → Incoming
 after_byte b (Head seen) = if length seen == 11 then begins_payload (header_of (seen ++ b ∷ [])) else Head (seen ++ b ∷ [])
-after_byte b (Payload id lacks fin stray) = if nat_lt 1 lacks then Payload id (lacks - 1) fin stray else Head []
+after_byte b (Payload id missing fin stray) = if nat_lt 1 missing then Payload id (missing - 1) fin stray else Head []
 
 -- how many frames these bytes make whole
 abbrev pub made_whole : List ℕ → Incoming → ℕ

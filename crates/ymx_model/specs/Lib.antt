@@ -1,22 +1,13 @@
-pub mod Devices
-pub mod Memories
-pub mod Lanes
-pub mod Streams
-pub mod StreamRules
-pub mod Records
-pub mod Outgoing
-pub mod Parts
-pub mod Pings
-pub mod GoAway
-pub mod Tables
-pub mod Sessions
-pub mod Calls
-pub mod Arrivals
-pub mod Feeds
-pub mod Emissions
-pub mod Histories
-pub mod Worlds
-pub mod Machines
-pub mod MachineRules
-pub mod FreeMoves
-pub mod MachineRuns
+-- The definitions, in reading order.
+-- What machine and session share on purpose.
+pub mod shared
+-- One stream of the queue machine.
+pub mod stream
+-- The queue machine: it reads the two folders above, and no frames.
+pub mod machine
+-- One session by itself.
+pub mod session
+-- Two sessions joined by pipes.
+pub mod world
+-- Devices, of which no other folder speaks.
+pub mod devices

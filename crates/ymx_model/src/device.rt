@@ -2,7 +2,7 @@
 
 ghost use Rattle.std.specs.Prelude.{ℕ, List, Option, ◌≡◌, ◌<◌, ◌≤◌, length, IfOk, OnErr, OnOk};
 ghost use Rattle.std.specs.Io.KnownBytes.{Keeps, ReadConsumes, WriteAppends};
-ghost use Rattle.ymx_model.specs.Devices.{CountsFailures};
+ghost use Rattle.ymx_model.specs.devices.Devices.{CountsFailures};
 
 /// A call on a device failed. Which way is the device's own affair.
 #[derive(Clone, Copy, Debug, PartialEq, Eq)]

@@ -12,6 +12,6 @@ pub use bytes::Bytes;
 pub use device::{DeviceFault, Inlet, Outlet};
 pub use memory::{MemoryInlet, MemoryOutlet};
 pub use types::{
-    Answer, Call, CallFault, Config, Direction, Entry, Event, Fed, GoAwayMark, Got, PingStage,
-    Reply, Response, Role, Side, Status, Step, Why, Wrote,
+    Answer, Call, CallFault, Config, Direction, Entry, Event, Fed, FrameKind, GoAwayMark, Got,
+    PingStage, Reply, Response, Role, Side, Status, Step, Why, Wrote,
 };

@@ -2,8 +2,8 @@
 
 ghost use Rattle.std.specs.Prelude.{◌≡◌, ◌↔◌, ◌<◌, ◌≤◌, ◌^◌, ◌-◌, [], ◌++◌, ◌||◌, ◌==◌, length, take, drop, min, IsErr, IfOk, OnOk, OnErr, IsTrue, Some, None};
 ghost use Rattle.std.specs.Io.KnownBytes.{Keeps, ReadConsumes, WriteAppends};
-ghost use Rattle.ymx_model.specs.Devices.{CountsFailures, most_failures};
-ghost use Rattle.ymx_model.specs.Memories.{call_fails, failed, is_turn, moved, turn_after};
+ghost use Rattle.ymx_model.specs.devices.Devices.{CountsFailures, most_failures};
+ghost use Rattle.ymx_model.specs.devices.Memories.{call_fails, after_failure, is_turn, after_success, turn_after};
 
 use crate::device::{DeviceFault, Inlet, Outlet};
 use std::alloc::Global;
@@ -20,7 +20,7 @@ pub struct MemoryInlet<'a> {
 
 impl<'a> Model for MemoryInlet<'a> {
     ghost use Rattle.std.specs.Prelude.{◌<◌};
-    ghost use Rattle.ymx_model.specs.Memories.{Memory};
+    ghost use Rattle.ymx_model.specs.devices.Memories.{Memory};
 
     ghost Value = { Memory };
 
@@ -79,8 +79,8 @@ impl Inlet for MemoryInlet<'_> {
         ensures counted { CountsFailures result self.old.failures self.new.failures }
         ensures fails { IsErr result ↔ IsTrue (call_fails self.old) }
         ensures count { IfOk result (λ count. count ≡ min self.old.most (min (length buffer.old) (length self.old.bytes))) }
-        ensures gave { IfOk result (λ count. self.new ≡ moved self.old (drop count self.old.bytes)) }
-        ensures err { OnErr result (self.new ≡ failed self.old) }
+        ensures gave { IfOk result (λ count. self.new ≡ after_success self.old (drop count self.old.bytes)) }
+        ensures err { OnErr result (self.new ≡ after_failure self.old) }
     {
         next_call(&mut self.before_failure, &mut self.failures)?;
         let count = self.most.min(buffer.len()).min(self.bytes.len());
@@ -102,7 +102,7 @@ pub struct MemoryOutlet {
 
 impl Model for MemoryOutlet {
     ghost use Rattle.std.specs.Prelude.{◌<◌};
-    ghost use Rattle.ymx_model.specs.Memories.{Memory};
+    ghost use Rattle.ymx_model.specs.devices.Memories.{Memory};
 
     ghost Value = { Memory };
 
@@ -170,8 +170,8 @@ impl Outlet for MemoryOutlet {
         ensures counted { CountsFailures result self.old.failures self.new.failures }
         ensures fails { IsTrue (call_fails self.old) → IsErr result }
         ensures count { IfOk result (λ count. count ≡ min self.old.most (length bytes.now)) }
-        ensures took { IfOk result (λ count. self.new ≡ moved self.old (self.old.bytes ++ take count bytes.now)) }
-        ensures err { OnErr result (self.new ≡ failed self.old) }
+        ensures took { IfOk result (λ count. self.new ≡ after_success self.old (self.old.bytes ++ take count bytes.now)) }
+        ensures err { OnErr result (self.new ≡ after_failure self.old) }
     {
         next_call(&mut self.before_failure, &mut self.failures)?;
         let count = self.most.min(bytes.len());
@@ -186,8 +186,8 @@ impl Outlet for MemoryOutlet {
         ensures kept { Keeps (Some self.old.bytes) (Some self.new.bytes) }
         ensures counted { CountsFailures result self.old.failures self.new.failures }
         ensures fails { IsErr result ↔ IsTrue (call_fails self.old) }
-        ensures ok { OnOk result (self.new ≡ moved self.old self.old.bytes) }
-        ensures err { OnErr result (self.new ≡ failed self.old) }
+        ensures ok { OnOk result (self.new ≡ after_success self.old self.old.bytes) }
+        ensures err { OnErr result (self.new ≡ after_failure self.old) }
     {
         next_call(&mut self.before_failure, &mut self.failures)
     }

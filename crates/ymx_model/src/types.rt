@@ -1,7 +1,7 @@
 //! The plain types of calls, events, world steps and what they answer.
 
 ghost use Rattle.std.specs.Prelude.{◌≡◌};
-ghost use Rattle.ymx_model.specs.Sessions.{is_own};
+ghost use Rattle.ymx_model.specs.session.Sessions.{is_own};
 
 use crate::bytes::Bytes;
 use thiserror::Error;
@@ -314,6 +314,25 @@ pub enum Response {
     Pong(u32),
     /// The rejection of the stream of this id (flags).
     Reject(u32),
+}
+
+/// A frame of a stream, in the order in which those that are due go out (flags).
+#[derive(Clone, Copy, Debug, PartialEq, Eq)]
+pub enum FrameKind {
+    /// A Window Update with SYN, which opens the stream and announces its window.
+    Open,
+    /// Data with SYN, which opens the stream with a beginning of the unsent bytes.
+    OpenWith,
+    /// A Window Update with ACK, which accepts the stream and announces its window.
+    Accept,
+    /// A Window Update with RST: the stream is over in both directions.
+    Reset,
+    /// A Window Update of all bytes that are owed.
+    Credit,
+    /// Data: a beginning of the unsent bytes.
+    Data,
+    /// A Window Update with FIN, behind the last byte (half-close).
+    Fin,
 }
 
 #[cfg(test)]

@@ -4,14 +4,15 @@ use Rattle.std.proofs.lemmas.Grind.{common_steps}
 use Rattle.std.proofs.lemmas.Bool.Decides.{nat_tests}
 use Rattle.ymx_model.specs.declared.types.Reply.TheVariants.{Read}
 use Rattle.ymx_model.specs.declared.types.CallFault.TheVariants.{Closed}
-use Rattle.ymx_model.specs.Lanes.{first_credit}
-use Rattle.ymx_model.specs.Streams.{Phase, is_live, is_reset}
-use Rattle.ymx_model.specs.Streams.Phase.{Live}
-use Rattle.ymx_model.specs.StreamRules.{read_reply}
-use Rattle.ymx_model.specs.Records.{End, new_end, end_write, end_read}
-use Rattle.ymx_model.specs.Tables.{Table, look, change, added, on}
-use Rattle.ymx_model.specs.Sessions.{Session, is_closed, is_lost, on_stream}
-use Rattle.ymx_model.specs.Calls.{opened, read_from}
+use Rattle.ymx_model.specs.shared.Limits.{first_credit}
+use Rattle.ymx_model.specs.shared.Phases.{Phase, is_live, is_reset}
+use Rattle.ymx_model.specs.shared.Phases.Phase.{Live}
+use Rattle.ymx_model.specs.shared.Replies.{read_reply}
+use Rattle.ymx_model.specs.session.Records.{End, new_end, end_write, end_read}
+use Rattle.ymx_model.specs.session.Tables.{Table, insert_record, with_record}
+use Rattle.ymx_model.specs.shared.Lists.{look, change}
+use Rattle.ymx_model.specs.session.Sessions.{Session, is_closed, is_lost, on_stream}
+use Rattle.ymx_model.specs.session.Calls.{session_opened, read_from}
 use Rattle.ymx_session.specs.Replies.{stream_fault, end_fault}
 
 -- ---- opening
@@ -20,14 +21,14 @@ take-min : (n : ℕ) (xs : List ℕ) → take (min (length xs) n) xs ≡ take n 
 take-min n xs = grind (arith, common_steps)
 
 -- a record just made, with its first bytes, is at the end of the table
-pub opened-is : (carries : Bool) (bytes : List ℕ) (count : ℕ) (made wrote : End) (table : Table) (v s : Session) → v ≡ s → made ≡ new_end v.table.window Live true carries →
-    count ≡ min (length bytes) made.out.credit → wrote ≡ end_write (take count bytes) made → table ≡ added v.next wrote v.table →
-    record v { table = table; next = v.next + 2 } ≡ opened carries (take first_credit bytes) s
-opened-is carries bytes count made wrote table v s e m k w t =
-    let n : count ≡ min (length bytes) 262144 = k ∙ ap (λ (x : End). min (length bytes) x.out.credit) m in
+pub opened-is : (with_data : Bool) (bytes : List ℕ) (count : ℕ) (made wrote : End) (table : Table) (v s : Session) → v ≡ s → made ≡ new_end v.table.window Live true with_data →
+    count ≡ min (length bytes) made.writer.credit → wrote ≡ end_write (take count bytes) made → table ≡ insert_record v.next wrote v.table →
+    record v { table = table; next = v.next + 2 } ≡ session_opened with_data (take first_credit bytes) s
+opened-is with_data bytes count made wrote table v s e m k w t =
+    let n : count ≡ min (length bytes) 262144 = k ∙ ap (λ (x : End). min (length bytes) x.writer.credit) m in
     let f : take count bytes ≡ take 262144 bytes = rw n (take-min 262144 bytes) in
-    let g : wrote ≡ end_write (take first_credit bytes) (new_end v.table.window Live true carries) = rw (w, f, m) refl in
-    rw (t, g) (ap (opened carries (take first_credit bytes)) e)
+    let g : wrote ≡ end_write (take first_credit bytes) (new_end v.table.window Live true with_data) = rw (w, f, m) refl in
+    rw (t, g) (ap (session_opened with_data (take first_credit bytes)) e)
 
 -- ---- a stream that a caller has
 
@@ -58,8 +59,8 @@ change-at id f g e [] l h = refl
 change-at id f g e (p ∷ ps) l h = let more = change-at id f g e ps in grind (arith, nat_tests)
 
 -- as many as are there
-end_read-min : (max : ℕ) (e : End) (n : ℕ) → n ≡ min max (length e.inn.unread) → end_read n e ≡ end_read max e
-end_read-min max e n k = let d : drop n e.inn.unread ≡ drop max e.inn.unread = grind (arith, common_steps) in let m : min n (length e.inn.unread) ≡ min max (length e.inn.unread) = omega arith in rw (d, m) refl
+end_read-min : (max : ℕ) (e : End) (n : ℕ) → n ≡ min max (length e.reader.unread) → end_read n e ≡ end_read max e
+end_read-min max e n k = let d : drop n e.reader.unread ≡ drop max e.reader.unread = grind (arith, common_steps) in let m : min n (length e.reader.unread) ≡ min max (length e.reader.unread) = omega arith in rw (d, m) refl
 
 read_of : (xs : List ℕ) (max n : ℕ) (old : List ℕ) → n ≡ min max (length xs) → take n (take n xs ++ drop n old) ≡ take max xs
 read_of xs max n old k = grind (arith, common_steps)
@@ -70,23 +71,23 @@ some-length n l = grind (arith, nat_tests)
 length-front : (max : ℕ) (xs : List ℕ) → 0 < max → 0 < length xs → (length (take max xs) == 0) ≡ false
 length-front max xs l m = some-length _ (grind (arith, common_steps))
 
-read-reply : (max : ℕ) (e : End) (s : Session) → 0 < max → 0 < length e.inn.unread → is_live e.phase ≡ true → is_reset e.phase ≡ false →
-    read_reply (is_lost s.status) max e.phase e.inn.unread e.inn.ended ≡ Read (take max e.inn.unread)
-read-reply max e s l m live reset = let a = some-length max l in let b = some-length (length e.inn.unread) m in rw (reset, live, a, b) refl
+read-reply : (max : ℕ) (e : End) (s : Session) → 0 < max → 0 < length e.reader.unread → is_live e.phase ≡ true → is_reset e.phase ≡ false →
+    read_reply (is_lost s.status) max e.phase e.reader.unread e.reader.ended ≡ Read (take max e.reader.unread)
+read-reply max e s l m live reset = let a = some-length max l in let b = some-length (length e.reader.unread) m in rw (reset, live, a, b) refl
 
-pub read-gives : (id n : ℕ) (old new : List ℕ) (e : End) (s : Session) → stream_fault id s ≡ None → look id s.table.entries ≡ Some e → 0 < length old → 0 < length e.inn.unread →
-    n ≡ min (length old) (length e.inn.unread) → new ≡ take n e.inn.unread ++ drop n old → Read (take n new) ≡ (read_from id (length old) s).reply
+pub read-gives : (id n : ℕ) (old new : List ℕ) (e : End) (s : Session) → stream_fault id s ≡ None → look id s.table.entries ≡ Some e → 0 < length old → 0 < length e.reader.unread →
+    n ≡ min (length old) (length e.reader.unread) → new ≡ take n e.reader.unread ++ drop n old → Read (take n new) ≡ (read_from id (length old) s).reply
 read-gives id n old new e s f l a b k w =
     let c = callers id e s f l in
     let r = read-reply (length old) e s a b c.live c.reset in
-    rw (w, read_of e.inn.unread (length old) n old k, c.closed, l, r) refl
+    rw (w, read_of e.reader.unread (length old) n old k, c.closed, l, r) refl
 
-pub read-leaves : (id n : ℕ) (old : List ℕ) (e : End) (table : Table) (v s : Session) → v ≡ s → stream_fault id s ≡ None → look id s.table.entries ≡ Some e → 0 < length old → 0 < length e.inn.unread →
-    n ≡ min (length old) (length e.inn.unread) → table ≡ on id (end_read n) v.table → record v { table = table } ≡ (read_from id (length old) s).next
+pub read-leaves : (id n : ℕ) (old : List ℕ) (e : End) (table : Table) (v s : Session) → v ≡ s → stream_fault id s ≡ None → look id s.table.entries ≡ Some e → 0 < length old → 0 < length e.reader.unread →
+    n ≡ min (length old) (length e.reader.unread) → table ≡ with_record id (end_read n) v.table → record v { table = table } ≡ (read_from id (length old) s).next
 read-leaves id n old e table v s w f l a b k t =
     let c = callers id e s f l in
     let r = read-reply (length old) e s a b c.live c.reset in
-    let some = length-front (length old) e.inn.unread a b in
+    let some = length-front (length old) e.reader.unread a b in
     let same = change-at id (end_read n) (end_read (length old)) e s.table.entries l (end_read-min (length old) e n k) in
     let go : (read_from id (length old) s).next ≡ on_stream id (end_read n) s = rw (c.closed, l, r, some, same) refl in
     rw t (ap (on_stream id (end_read n)) w ∙ sym go)

@@ -11,19 +11,19 @@ use Rattle.ymx_model.specs.declared.types.Reply.{Reply}
 use Rattle.ymx_model.specs.declared.types.Reply.TheVariants.{Refused}
 use Rattle.ymx_model.specs.declared.types.CallFault.{CallFault}
 use Rattle.ymx_model.specs.declared.types.CallFault.TheVariants.{OutOfMemory}
-use Rattle.ymx_model.specs.Lanes.{first_credit}
-use Rattle.ymx_model.specs.Streams.{Phase, is_live, is_reset}
-use Rattle.ymx_model.specs.StreamRules.{write_reply, moved}
-use Rattle.ymx_model.specs.Records.{End}
-use Rattle.ymx_model.specs.Tables.{look}
-use Rattle.ymx_model.specs.Sessions.{Session, new_session, is_own, is_closed, is_lost}
-use Rattle.ymx_model.specs.Calls.{Outcome, outcome, takes_memory, write_to, with_record, write_outcome, unsent_count}
-use Rattle.ymx_model.specs.Emissions.{in_turn}
-use Rattle.ymx_model.specs.Histories.{Gives, CallGives}
-use Rattle.ymx_model.specs.Histories.CallGives.{Outcome as HasOutcome, NoMemory}
-use Rattle.ymx_session_law.proofs.HistoriesKeep.{gives-keep, new-keeps}
-use Rattle.ymx_session_law.proofs.SettledFrames.{gives-settled, new-settled}
-use Rattle.ymx_session_law.proofs.Splits.{split}
+use Rattle.ymx_model.specs.shared.Limits.{first_credit}
+use Rattle.ymx_model.specs.shared.Phases.{Phase, is_live, is_reset}
+use Rattle.ymx_model.specs.shared.Replies.{write_reply, bytes_moved}
+use Rattle.ymx_model.specs.session.Records.{End}
+use Rattle.ymx_model.specs.shared.Lists.{look}
+use Rattle.ymx_model.specs.session.Sessions.{Session, new_session, is_own, is_closed, is_lost}
+use Rattle.ymx_model.specs.session.Calls.{Outcome, outcome, takes_memory, write_to, at_record, write_outcome, unsent_count}
+use Rattle.ymx_model.specs.session.Emissions.{in_turn}
+use Rattle.ymx_model.specs.session.Histories.{Gives, CallGives}
+use Rattle.ymx_model.specs.session.Histories.CallGives.{Outcome as HasOutcome, NoMemory}
+use Rattle.ymx_law_session.proofs.limits.HistoriesKeep.{gives-keep, new-keeps}
+use Rattle.ymx_law_session.proofs.given_up.SettledFrames.{gives-settled, new-settled}
+use Rattle.ymx_model.proofs.Tests.{split}
 use Rattle.ymx_session.specs.Sound.{IsSound}
 use Rattle.ymx_session.specs.Replies.{is_out_of_memory}
 
@@ -59,9 +59,9 @@ memory-gives {A} r c told s t found lack f = of (is_out_of_memory r) refl
 
 -- ---- a write that takes no memory
 
-moved-of : (lost said : Bool) (p : Phase) (credit : ℕ) (bytes : List ℕ) → moved (write_reply lost bytes p said credit) ≤ length bytes
+moved-of : (lost said : Bool) (p : Phase) (credit : ℕ) (bytes : List ℕ) → bytes_moved (write_reply lost bytes p said credit) ≤ length bytes
 moved-of lost said p credit bytes =
-    let P : Reply → Type 0 = λ r. moved r ≤ length bytes in
+    let P : Reply → Type 0 = λ r. bytes_moved r ≤ length bytes in
     split P (is_reset p) _ _ (λ t. omega arith) (λ f1.
     split P (not (is_live p)) _ _ (λ t. omega arith) (λ f2.
     split P said _ _ (λ t. omega arith) (λ f3.
@@ -69,14 +69,14 @@ moved-of lost said p credit bytes =
     split P (length bytes == 0) _ _ (λ t. omega arith) (λ f5.
     split P (credit == 0) _ _ (λ t. omega arith) (λ f6. omega arith))))))
 
-moved-within : (id : ℕ) (bytes : List ℕ) (s : Session) → moved (write_to id bytes s).reply ≤ length bytes
+moved-within : (id : ℕ) (bytes : List ℕ) (s : Session) → bytes_moved (write_to id bytes s).reply ≤ length bytes
 moved-within id bytes s =
-    let P : Outcome → Type 0 = λ o. moved o.reply ≤ length bytes in
+    let P : Outcome → Type 0 = λ o. bytes_moved o.reply ≤ length bytes in
     split P (is_closed s.status) _ _ (λ t. omega arith) (λ f. of (look id s.table.entries))
   where
-    of : (o : Option End) → moved (with_record (write_outcome id bytes s) s o).reply ≤ length bytes
+    of : (o : Option End) → bytes_moved (at_record (write_outcome id bytes s) s o).reply ≤ length bytes
     of None = omega arith
-    of (Some e) = moved-of (is_lost s.status) e.out.finished e.phase e.out.credit bytes
+    of (Some e) = moved-of (is_lost s.status) e.writer.finished e.phase e.writer.credit bytes
 
 -- where no more than 262,144 bytes would be unsent, a write takes none
 pub write-in_room : (id : ℕ) (bytes : List ℕ) (s : Session) (b : Bool) → unsent_count (look id s.table.entries) + length bytes ≤ first_credit →
@@ -84,6 +84,6 @@ pub write-in_room : (id : ℕ) (bytes : List ℕ) (s : Session) (b : Bool) → u
 write-in_room id bytes s false l f = refl
 write-in_room id bytes s true l f =
     let m = moved-within id bytes s in
-    let none : nat_lt first_credit (unsent_count (look id s.table.entries) + moved (write_to id bytes s).reply) ≡ false = grind (arith, nat_tests) in
+    let none : nat_lt first_credit (unsent_count (look id s.table.entries) + bytes_moved (write_to id bytes s).reply) ≡ false = grind (arith, nat_tests) in
     let t = f refl in
     let no : false ≡ true = rw none at t in cc

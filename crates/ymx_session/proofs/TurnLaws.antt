@@ -6,21 +6,23 @@ use Rattle.ymx_model.specs.declared.types.Status.{Status}
 use Rattle.ymx_model.specs.declared.types.Status.TheVariants.{Running, Lost, Broken, Closed}
 use Rattle.ymx_model.specs.declared.types.PingStage.TheVariants.{Sent}
 use Rattle.ymx_model.specs.declared.types.Response.{Response}
-use Rattle.ymx_model.specs.Lanes.{first_credit}
-use Rattle.ymx_model.specs.Streams.{is_lingering}
-use Rattle.ymx_model.specs.Records.{End}
-use Rattle.ymx_model.specs.Outgoing.{Kind, is_due, next_kind, sends, is_empty}
-use Rattle.ymx_model.specs.Pings.{Ping, is_asked, has_asked, staged, first_asked, ping_goes}
-use Rattle.ymx_model.specs.GoAway.{away_due, away_goes}
-use Rattle.ymx_model.specs.Tables.{Table, look, removed, round}
-use Rattle.ymx_model.specs.Sessions.{Session, Begun, is_running, is_broken, is_spent, is_of, nothing_begun}
-use Rattle.ymx_model.specs.Emissions.{Choice, begin, begins, begin_answer, begin_stream, begin_kind, alarm_frame, go_away_frame, ping_frame, answer_frame, moves_on, settles, in_turn, is_first, no_answers, data_limit}
-use Rattle.ymx_model.specs.Emissions.Choice.{TheAlarm, TheGoAway, TheAnswer, ThePing, AStream}
-use Rattle.ymx_session_law.specs.Limits.{Distinct, IsWithin}
-use Rattle.ymx_session_law.proofs.Splits.{split, both_of, agrees, differs, same_or_not}
-use Rattle.ymx_session_law.proofs.Entries.{look-change_other, look-without_other}
-use Rattle.ymx_session_law.proofs.EmissionsKeep.{some_if, none_if, if_some, begin-keeps, moves-keep}
-use Rattle.ymx_session_law.proofs.Ready.{due-kind}
+use Rattle.ymx_model.specs.shared.Limits.{first_credit, data_limit}
+use Rattle.ymx_model.specs.shared.Phases.{is_lingering}
+use Rattle.ymx_model.specs.session.Records.{End}
+use Rattle.ymx_model.specs.declared.types.FrameKind.{FrameKind}
+use Rattle.ymx_model.specs.session.FramesDue.{is_due, next_kind, begin_frame, is_empty}
+use Rattle.ymx_model.specs.session.Pings.{Ping, ping_is_asked, has_asked, staged, first_asked, begin_ping}
+use Rattle.ymx_model.specs.session.GoAway.{away_due, begin_away}
+use Rattle.ymx_model.specs.session.Tables.{Table, remove_record, round}
+use Rattle.ymx_model.specs.shared.Lists.{look, Distinct}
+use Rattle.ymx_model.specs.session.Sessions.{Session, Outgoing, is_running, is_broken, is_spent, belongs_to, nothing_outgoing}
+use Rattle.ymx_model.specs.session.Emissions.{Choice, begin, begins, begin_answer, begin_stream, begin_kind, alarm_frame, go_away_frame, ping_frame, answer_frame, moves_on, settles, in_turn, is_first, no_answers}
+use Rattle.ymx_model.specs.session.Emissions.Choice.{TheAlarm, TheGoAway, TheAnswer, ThePing, AStream}
+use Rattle.ymx_law_session.specs.Limits.{IsWithin}
+use Rattle.ymx_model.proofs.Tests.{split, both_of, agrees, differs, same_or_not}
+use Rattle.ymx_model.proofs.Lists.{look-change_other, look-without_other}
+use Rattle.ymx_law_session.proofs.limits.EmissionsKeep.{some_if, none_if, if_some, begin-keeps, moves-keep}
+use Rattle.ymx_law_session.proofs.due.Ready.{due-kind}
 use Rattle.ymx_session.specs.Turns.{own_frames, counted, before, turn, HasDue, is_of_stream, ReadyPast, FlowsPast}
 use Rattle.ymx_session.proofs.Waits.{served-round, served-before, listed-round, removed-round}
 
@@ -44,24 +46,24 @@ not_broken Closed e = refl
 
 count-of : List Ping → ℕ
 count-of [] = 0
-count-of (p ∷ ps) = cond (is_asked p.stage) (1 + count-of ps) (count-of ps)
+count-of (p ∷ ps) = cond (ping_is_asked p.stage) (1 + count-of ps) (count-of ps)
 
-count-of_is : (ps : List Ping) → count-of ps ≡ count_by (λ (p : Ping). is_asked p.stage) ps
+count-of_is : (ps : List Ping) → count-of ps ≡ count_by (λ (p : Ping). ping_is_asked p.stage) ps
 unfolding count-of
-count-of_is ps = is_count_by count-of (λ (p : Ping). is_asked p.stage) refl (λ p qs. refl) ps
+count-of_is ps = is_count_by count-of (λ (p : Ping). ping_is_asked p.stage) refl (λ p qs. refl) ps
 
 one-sent : (n : ℕ) (ps : List Ping) → has_asked n ps ≡ true → count-of (staged Sent n ps) + 1 ≡ count-of ps
 unfolding count-of
 one-sent n [] h = cc
-one-sent n (p ∷ ps) h = of (p.number == n) refl (is_asked p.stage) refl (one-sent n ps)
+one-sent n (p ∷ ps) h = of (p.number == n) refl (ping_is_asked p.stage) refl (one-sent n ps)
   where
-    of : (b : Bool) → (p.number == n) ≡ b → (c : Bool) → is_asked p.stage ≡ c → (has_asked n ps ≡ true → count-of (staged Sent n ps) + 1 ≡ count-of ps) → count-of (staged Sent n (p ∷ ps)) + 1 ≡ count-of (p ∷ ps)
+    of : (b : Bool) → (p.number == n) ≡ b → (c : Bool) → ping_is_asked p.stage ≡ c → (has_asked n ps ≡ true → count-of (staged Sent n ps) + 1 ≡ count-of ps) → count-of (staged Sent n (p ∷ ps)) + 1 ≡ count-of (p ∷ ps)
     of true t true u more = rw (t, u) (omega arith)
-    of true t false u more = let x : is_asked p.stage ≡ true = rw t at h in let y : true ≡ false = sym x ∙ u in cc
+    of true t false u more = let x : ping_is_asked p.stage ≡ true = rw t at h in let y : true ≡ false = sym x ∙ u in cc
     of false t true u more = let x : has_asked n ps ≡ true = rw t at h in let i = more x in rw (t, u) (omega (arith, i))
     of false t false u more = let x : has_asked n ps ≡ true = rw t at h in let i = more x in rw (t, u) i
 
-one-asked : (n : ℕ) (ps : List Ping) → has_asked n ps ≡ true → count_by (λ (p : Ping). is_asked p.stage) (staged Sent n ps) + 1 ≡ count_by (λ (p : Ping). is_asked p.stage) ps
+one-asked : (n : ℕ) (ps : List Ping) → has_asked n ps ≡ true → count_by (λ (p : Ping). ping_is_asked p.stage) (staged Sent n ps) + 1 ≡ count_by (λ (p : Ping). ping_is_asked p.stage) ps
 one-asked n ps h = let a = count-of_is (staged Sent n ps) in let b = count-of_is ps in let i = one-sent n ps h in omega (arith, a, b, i)
 
 answer-nearer : (id : ℕ) (rs : List Response) (s t : Session) → HasDue id s → s.answers ≡ rs → begin_answer rs s ≡ Some t → Nearer id s t
@@ -75,11 +77,11 @@ answer-nearer id (r ∷ more) s t h e b =
 
 -- ---- a frame of another stream
 
-kind-nearer : (id other limit : ℕ) (e : End) (k : Option Kind) (s t : Session) → Distinct s.table.entries → HasDue id s → (other == id) ≡ false → is_first other (round s.table) ≡ true →
+kind-nearer : (id other limit : ℕ) (e : End) (k : Option FrameKind) (s t : Session) → Distinct s.table.entries → HasDue id s → (other == id) ≡ false → is_first other (round s.table) ≡ true →
     look other s.table.entries ≡ Some e → next_kind s.table.window e ≡ k → begin_kind other limit e k s ≡ Some t → Nearer id s t
 kind-nearer id other limit e None s t d h n first l q b = cc
 kind-nearer id other limit e (Some kind) s t d h n first l q b =
-    let f = sends s.table.window limit kind in
+    let f = begin_frame s.table.window limit kind in
     let due : is_due s.table.window e ≡ true = due-kind s.table.window e ∙ rw q refl in
     let v = served-round other f e s.table l d due first in
     let less = served-before id other s.table _ v n (listed-round id h.end s.table h.there h.due) in
@@ -107,7 +109,7 @@ nearer id TheAlarm s t d h i n b =
     let r = not_broken s.status h.running in
     let x : true ≡ false = sym q ∙ r in absurd cc
 nearer id TheGoAway s t d h i n b =
-    let u = begins go_away_frame (record s { away = away_goes s.away }) in
+    let u = begins go_away_frame (record s { away = begin_away s.away }) in
     let p = some_if (is_running s.status && away_due s.away.here) u t b in
     let q : away_due s.away.here ≡ true = (both_of (is_running s.status) (away_due s.away.here) p.0).1 in
     let one : counted (away_due s.away.here) ≡ 1 = rw q refl in
@@ -116,7 +118,7 @@ nearer id TheGoAway s t d h i n b =
 nearer id TheAnswer s t d h i n b =
     let p = if_some (is_running s.status) (begin_answer s.answers s) t b in answer-nearer id s.answers s t h refl p.1
 nearer id (ThePing k) s t d h i n b =
-    let u = begins (ping_frame k) (record s { pings = ping_goes k s.pings }) in
+    let u = begins (ping_frame k) (record s { pings = begin_ping k s.pings }) in
     let p = some_if (is_running s.status && has_asked k s.pings.pending) u t b in
     let q : has_asked k s.pings.pending ≡ true = (both_of (is_running s.status) (has_asked k s.pings.pending) p.0).1 in
     let one = one-asked k s.pings.pending q in
@@ -151,14 +153,14 @@ not-due : (b : Bool) → not b ≡ true → b ≡ false
 not-due true e = sym e
 not-due false e = refl
 
-spent : (w j : ℕ) (begun : Begun) (o : Option End) → is_spent w begun j o ≡ true → (e : End) × (o ≡ Some e) × (is_due w e ≡ false)
+spent : (w j : ℕ) (begun : Outgoing) (o : Option End) → is_spent w begun j o ≡ true → (e : End) × (o ≡ Some e) × (is_due w e ≡ false)
 spent w j begun None t = cc
 spent w j begun (Some e) t =
-    let p = both_of (is_lingering e.phase && not (is_due w e)) (not (is_of begun.of j)) t in
+    let p = both_of (is_lingering e.phase && not (is_due w e)) (not (belongs_to begun.of j)) t in
     let q = both_of (is_lingering e.phase) (not (is_due w e)) p.0 in
     (e, refl, not-due (is_due w e) q.1)
 
-removed-near : (id j : ℕ) (e : End) (s : Session) → Distinct s.table.entries → HasDue id s → look j s.table.entries ≡ Some e → is_due s.table.window e ≡ false → AsNear id s (record s { table = removed j s.table })
+removed-near : (id j : ℕ) (e : End) (s : Session) → Distinct s.table.entries → HasDue id s → look j s.table.entries ≡ Some e → is_due s.table.window e ≡ false → AsNear id s (record s { table = remove_record j s.table })
 removed-near id j e s d h l none =
     let r = removed-round j e s.table l d none in
     record {
@@ -181,15 +183,15 @@ removed-near id j e s d h l none =
 settles-near : (id : ℕ) (of : Option ℕ) (s : Session) → Distinct s.table.entries → HasDue id s → AsNear id s (settles of s)
 settles-near id None s d h = record { same = refl; due = h }
 settles-near id (Some j) s d h =
-    split (AsNear id s) (is_spent s.table.window s.begun j (look j s.table.entries)) (record s { table = removed j s.table }) s
-    (λ t. let p = spent s.table.window j s.begun (look j s.table.entries) t in removed-near id j p.0 s d h p.1 p.2) (λ f. record { same = refl; due = h })
+    split (AsNear id s) (is_spent s.table.window s.outgoing j (look j s.table.entries)) (record s { table = remove_record j s.table }) s
+    (λ t. let p = spent s.table.window j s.outgoing (look j s.table.entries) t in removed-near id j p.0 s d h p.1 p.2) (λ f. record { same = refl; due = h })
 
 pub moves-near : (id n : ℕ) (s : Session) → Distinct s.table.entries → HasDue id s → AsNear id s (moves_on n s)
 moves-near id n s d h =
-    let u = record s { begun = nothing_begun } in
+    let u = record s { outgoing = nothing_outgoing } in
     let g : HasDue id u = record { running = h.running; end = h.end; there = h.there; due = h.due } in
-    let m = settles-near id s.begun.of u d g in
-    split (AsNear id s) (nat_lt n (length s.begun.bytes)) _ (settles s.begun.of u)
+    let m = settles-near id s.outgoing.of u d g in
+    split (AsNear id s) (nat_lt n (length s.outgoing.bytes)) _ (settles s.outgoing.of u)
     (λ t. record { same = refl; due = record { running = h.running; end = h.end; there = h.there; due = h.due } }) (λ f. record { same = m.same; due = m.due })
 
 -- ---- an emission

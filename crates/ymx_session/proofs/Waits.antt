@@ -9,19 +9,21 @@ use Rattle.std.proofs.lemmas.List.Recursion.{is_count_by}
 use Rattle.ymx_model.specs.declared.types.PingStage.TheVariants.{Sent}
 use Rattle.ymx_model.specs.declared.types.GoAwayMark.{GoAwayMark}
 use Rattle.ymx_model.specs.declared.types.Response.{Response}
-use Rattle.ymx_model.specs.Records.{End}
-use Rattle.ymx_model.specs.Outgoing.{is_empty, is_due, next_kind, sends}
-use Rattle.ymx_model.specs.Pings.{Ping, is_asked, has_asked, staged, first_asked}
-use Rattle.ymx_model.specs.GoAway.{away_due}
-use Rattle.ymx_model.specs.Tables.{Table, look, change, without, place, on, removed, served, due_ids, due_count, round}
-use Rattle.ymx_model.specs.Sessions.{Session, is_running, is_broken, settled, is_spent, nothing_begun}
-use Rattle.ymx_model.specs.Emissions.{Choice, begin, begin_answer, begin_stream, begin_kind, moves_on, settles, in_turn, is_first, no_answers, is_some_of, data_limit}
-use Rattle.ymx_model.specs.Emissions.Choice.{TheAlarm, TheGoAway, TheAnswer, ThePing, AStream}
-use Rattle.ymx_session_law.specs.Limits.{Distinct, IsWithin, is_listed}
-use Rattle.ymx_session_law.proofs.Splits.{split, both_of, agrees, differs, is_lt, not_lt}
-use Rattle.ymx_session_law.proofs.Entries.{look-change_other, look-without_other, place-change}
-use Rattle.ymx_session_law.proofs.EmissionsKeep.{some_if, if_some, begin-keeps, moves-keep}
-use Rattle.ymx_session_law.proofs.Ready.{due-kind}
+use Rattle.ymx_model.specs.session.Records.{End}
+use Rattle.ymx_model.specs.session.FramesDue.{is_empty, is_due, next_kind, begin_frame}
+use Rattle.ymx_model.specs.session.Pings.{Ping, ping_is_asked, has_asked, staged, first_asked}
+use Rattle.ymx_model.specs.session.GoAway.{away_due}
+use Rattle.ymx_model.specs.session.Tables.{Table, with_record, remove_record, pass_turn, due_ids, due_count, round}
+use Rattle.ymx_model.specs.shared.Lists.{look, change, without, place, Distinct}
+use Rattle.ymx_model.specs.session.Sessions.{Session, is_running, is_broken, settle, is_spent, nothing_outgoing}
+use Rattle.ymx_model.specs.session.Emissions.{Choice, begin, begin_answer, begin_stream, begin_kind, moves_on, settles, in_turn, is_first, no_answers, is_some_of}
+use Rattle.ymx_model.specs.shared.Limits.{data_limit}
+use Rattle.ymx_model.specs.session.Emissions.Choice.{TheAlarm, TheGoAway, TheAnswer, ThePing, AStream}
+use Rattle.ymx_law_session.specs.Limits.{IsWithin, is_listed}
+use Rattle.ymx_model.proofs.Tests.{split, both_of, agrees, differs, is_lt, not_lt}
+use Rattle.ymx_model.proofs.Lists.{look-change_other, look-without_other, place-change}
+use Rattle.ymx_law_session.proofs.limits.EmissionsKeep.{some_if, if_some, begin-keeps, moves-keep}
+use Rattle.ymx_law_session.proofs.due.Ready.{due-kind}
 use Rattle.ymx_session.specs.Turns.{own_frames, counted, before, turn, HasDue, is_of_stream, ReadyPast, FlowsPast}
 
 -- ---- a record among the others
@@ -134,27 +136,27 @@ pub record Served (id : ℕ) (t u : Table) : Type 0 where
   pub now : round u ≡ rest ++ tail
 
 pub served-round : (id : ℕ) (f : End → End) (e : End) (t : Table) → look id t.entries ≡ Some e → Distinct t.entries → is_due t.window e ≡ true → is_first id (round t) ≡ true →
-    Served id t (served id (on id f t))
+    Served id t (pass_turn id (with_record id f t))
 served-round id f e t l d due first =
     let a = around id e t.entries l d in
     let w = t.window in
     let tail = due_ids w ((id, f e) ∷ []) in
     let place-same : place id (change id f t.entries) ≡ length a.front = place-change id id f t.entries ∙ a.place in
-    let after : round (served id (on id f t)) ≡ due_ids w a.back ++ (due_ids w a.front ++ tail) =
-        rw (place-same, a.changed f) (round-back w 0 id (f e) a.front a.back) in
+    let after : round (pass_turn id (with_record id f t)) ≡ due_ids w a.back ++ (due_ids w a.front ++ tail) =
+    rw (place-same, a.changed f) (round-back w 0 id (f e) a.front a.back) in
     let before_ : round t ≡ round-at w t.turn (a.front ++ (id, e) ∷ a.back) = ap (λ (ps : List (ℕ × End)). round-at w t.turn ps) a.is in
     of (nat_lt (length a.front) t.turn) refl after before_
   where
     of : (b : Bool) → nat_lt (length (around id e t.entries l d).front) t.turn ≡ b →
-        round (served id (on id f t)) ≡ due_ids t.window (around id e t.entries l d).back ++ (due_ids t.window (around id e t.entries l d).front ++ due_ids t.window ((id, f e) ∷ [])) →
-        round t ≡ round-at t.window t.turn ((around id e t.entries l d).front ++ (id, e) ∷ (around id e t.entries l d).back) → Served id t (served id (on id f t))
+        round (pass_turn id (with_record id f t)) ≡ due_ids t.window (around id e t.entries l d).back ++ (due_ids t.window (around id e t.entries l d).front ++ due_ids t.window ((id, f e) ∷ [])) →
+        round t ≡ round-at t.window t.turn ((around id e t.entries l d).front ++ (id, e) ∷ (around id e t.entries l d).back) → Served id t (pass_turn id (with_record id f t))
     of true b after was =
         let a = around id e t.entries l d in
         let w = t.window in
         let m = t.turn - (length a.front + 1) in
         let k : t.turn ≡ length a.front + suc m = behind-of t.turn (length a.front) (is_lt (length a.front) t.turn b) in
         let r : round t ≡ due_ids w (drop m a.back) ++ (due_ids w a.front ++ due_ids w ((id, e) ∷ take m a.back)) =
-            was ∙ (ap (λ (n : ℕ). round-at w n (a.front ++ (id, e) ∷ a.back)) k ∙ round-back w m id e a.front a.back) in
+        was ∙ (ap (λ (n : ℕ). round-at w n (a.front ++ (id, e) ∷ a.back)) k ∙ round-back w m id e a.front a.back) in
         let f1 : is_first id (due_ids w (drop m a.back) ++ (due_ids w a.front ++ due_ids w ((id, e) ∷ take m a.back))) ≡ true = subst (λ (xs : List ℕ). is_first id xs ≡ true) r first in
         let n1 = none-first w id (drop m a.back) (due_ids w a.front ++ due_ids w ((id, e) ∷ take m a.back)) (look-drop id m a.back a.none_back) f1 in
         let f2 : is_first id (due_ids w a.front ++ due_ids w ((id, e) ∷ take m a.back)) ≡ true = rw n1 at f1 in
@@ -166,9 +168,9 @@ served-round id f e t l d due first =
         let w = t.window in
         let k = t.turn in
         let r : round t ≡ due_ids w (drop k a.front) ++ due_ids w ((id, e) ∷ a.back) ++ due_ids w (take k a.front) =
-            was ∙ round-front w k id e a.front a.back (not_lt (length a.front) k b) in
+        was ∙ round-front w k id e a.front a.back (not_lt (length a.front) k b) in
         let r2 : round t ≡ due_ids w (drop k a.front) ++ (due_ids w ((id, e) ∷ a.back) ++ due_ids w (take k a.front)) =
-            r ∙ append_assoc (due_ids w (drop k a.front)) (due_ids w ((id, e) ∷ a.back)) (due_ids w (take k a.front)) in
+        r ∙ append_assoc (due_ids w (drop k a.front)) (due_ids w ((id, e) ∷ a.back)) (due_ids w (take k a.front)) in
         let f1 : is_first id (due_ids w (drop k a.front) ++ (due_ids w ((id, e) ∷ a.back) ++ due_ids w (take k a.front))) ≡ true = subst (λ (xs : List ℕ). is_first id xs ≡ true) r2 first in
         let n1 = none-first w id (drop k a.front) _ (look-drop id k a.front a.none_front) f1 in
         let half : due_ids w a.front ≡ due_ids w (take k a.front) = due-halves w k a.front ∙ rw n1 (no-more (due_ids w (take k a.front))) in
@@ -180,7 +182,7 @@ served-round id f e t l d due first =
         }
 
 -- a record of which nothing is due goes, and the round stays
-pub removed-round : (id : ℕ) (e : End) (t : Table) → look id t.entries ≡ Some e → Distinct t.entries → is_due t.window e ≡ false → round (removed id t) ≡ round t
+pub removed-round : (id : ℕ) (e : End) (t : Table) → look id t.entries ≡ Some e → Distinct t.entries → is_due t.window e ≡ false → round (remove_record id t) ≡ round t
 removed-round id e t l d none = of (nat_lt (place id t.entries) t.turn) refl
   where
     w : ℕ
@@ -189,23 +191,23 @@ removed-round id e t l d none = of (nat_lt (place id t.entries) t.turn) refl
     a : Around id e t.entries
     a = around id e t.entries l d
 
-    of : (b : Bool) → nat_lt (place id t.entries) t.turn ≡ b → round (removed id t) ≡ round t
+    of : (b : Bool) → nat_lt (place id t.entries) t.turn ≡ b → round (remove_record id t) ≡ round t
     of true b =
         let lt : length a.front < t.turn = is_lt (length a.front) t.turn (ap (λ (n : ℕ). nat_lt n t.turn) (sym a.place) ∙ b) in
         let m = t.turn - (length a.front + 1) in
         let k : t.turn ≡ length a.front + suc m = behind-of t.turn (length a.front) lt in
         let j : t.turn - 1 ≡ length a.front + m = omega (arith, lt) in
-        let now : round (removed id t) ≡ due_ids t.window (drop m a.back) ++ (due_ids t.window a.front ++ due_ids t.window (take m a.back)) =
-            rw (b, a.gone, j, drop-append-add a.front a.back m, take-append-add a.front a.back m, due-append t.window a.front (take m a.back)) refl in
+        let now : round (remove_record id t) ≡ due_ids t.window (drop m a.back) ++ (due_ids t.window a.front ++ due_ids t.window (take m a.back)) =
+        rw (b, a.gone, j, drop-append-add a.front a.back m, take-append-add a.front a.back m, due-append t.window a.front (take m a.back)) refl in
         let was : round t ≡ due_ids t.window (drop m a.back) ++ (due_ids t.window a.front ++ due_ids t.window ((id, e) ∷ take m a.back)) =
-            ap (λ (ps : List (ℕ × End)). round-at t.window t.turn ps) a.is ∙ (ap (λ (n : ℕ). round-at t.window n (a.front ++ (id, e) ∷ a.back)) k ∙ round-back t.window m id e a.front a.back) in
+        ap (λ (ps : List (ℕ × End)). round-at t.window t.turn ps) a.is ∙ (ap (λ (n : ℕ). round-at t.window n (a.front ++ (id, e) ∷ a.back)) k ∙ round-back t.window m id e a.front a.back) in
         now ∙ sym (was ∙ rw none refl)
     of false b =
         let le : t.turn ≤ length a.front = not_lt (length a.front) t.turn (ap (λ (n : ℕ). nat_lt n t.turn) (sym a.place) ∙ b) in
-        let now : round (removed id t) ≡ due_ids t.window (drop t.turn a.front) ++ due_ids t.window a.back ++ due_ids t.window (take t.turn a.front) =
-            rw (b, a.gone, drop-append-le t.turn a.front a.back le, take-append-le t.turn a.front a.back le, due-append t.window (drop t.turn a.front) a.back) refl in
+        let now : round (remove_record id t) ≡ due_ids t.window (drop t.turn a.front) ++ due_ids t.window a.back ++ due_ids t.window (take t.turn a.front) =
+        rw (b, a.gone, drop-append-le t.turn a.front a.back le, take-append-le t.turn a.front a.back le, due-append t.window (drop t.turn a.front) a.back) refl in
         let was : round t ≡ due_ids t.window (drop t.turn a.front) ++ due_ids t.window ((id, e) ∷ a.back) ++ due_ids t.window (take t.turn a.front) =
-            ap (λ (ps : List (ℕ × End)). round-at t.window t.turn ps) a.is ∙ round-front t.window t.turn id e a.front a.back le in
+        ap (λ (ps : List (ℕ × End)). round-at t.window t.turn ps) a.is ∙ round-front t.window t.turn id e a.front a.back le in
         now ∙ sym (was ∙ rw none refl)
 
 -- ---- who stands before whom

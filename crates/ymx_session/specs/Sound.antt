@@ -1,7 +1,7 @@
 -- What holds of every session (this project's own).
-use Rattle.ymx_model.specs.Sessions.{Session}
-use Rattle.ymx_session_law.specs.Limits.{IsWithin}
-use Rattle.ymx_session_law.specs.Settled.{IsSettled}
+use Rattle.ymx_model.specs.session.Sessions.{Session}
+use Rattle.ymx_law_session.specs.Limits.{IsWithin}
+use Rattle.ymx_law_session.specs.Settled.{IsSettled}
 
 -- it is within all its limits, and a record that was given up goes as soon as nothing of it is left to send
 pub record IsSound (s : Session) : Type 0 where

@@ -1,11 +1,12 @@
 //! The law of turns, over definitions alone.
 
 ghost use Rattle.std.specs.Prelude.{◌≡◌, ◌+◌, ◌<◌, ◌≤◌, ℕ, List, true, false, Some};
-ghost use Rattle.ymx_model.specs.Tables.{due_count};
-ghost use Rattle.ymx_model.specs.Sessions.{Session};
-ghost use Rattle.ymx_model.specs.Emissions.{Choice, begin, moves_on, in_turn, data_limit};
-ghost use Rattle.ymx_model.specs.Emissions.Choice.{AStream};
-ghost use Rattle.ymx_session_law.specs.Limits.{IsWithin};
+ghost use Rattle.ymx_model.specs.session.Tables.{due_count};
+ghost use Rattle.ymx_model.specs.session.Sessions.{Session};
+ghost use Rattle.ymx_model.specs.session.Emissions.{Choice, begin, moves_on, in_turn};
+ghost use Rattle.ymx_model.specs.shared.Limits.{data_limit};
+ghost use Rattle.ymx_model.specs.session.Emissions.Choice.{AStream};
+ghost use Rattle.ymx_law_session.specs.Limits.{IsWithin};
 ghost use Rattle.ymx_session.specs.Turns.{turn, own_frames, HasDue, is_of_stream, FlowsPast};
 
 /// A stream with something due waits for at most as many frames as its turn says, while no call and no feed

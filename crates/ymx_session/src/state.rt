@@ -1,8 +1,8 @@
 //! All that a session remembers.
 
 ghost use Rattle.std.specs.Prelude.{◌≡◌, ◌≤◌, IfOk};
-ghost use Rattle.ymx_model.specs.Lanes.{first_credit};
-ghost use Rattle.ymx_model.specs.Sessions.{new_session, breaks, is_lost};
+ghost use Rattle.ymx_model.specs.shared.Limits.{first_credit, widest_window};
+ghost use Rattle.ymx_model.specs.session.Sessions.{new_session, breaks, is_lost};
 
 use crate::arriving::Arriving;
 use crate::frame_buffer::FrameBuffer;
@@ -26,13 +26,13 @@ pub(crate) struct State {
     pub(crate) away: Away,
     pub(crate) alarm: bool,
     pub(crate) answers: Answers,
-    pub(crate) begun: FrameBuffer,
+    pub(crate) outgoing: FrameBuffer,
     pub(crate) arriving: Arriving,
 }
 
 impl Model for State {
     ghost use Rattle.std.specs.Prelude.{◌≡◌};
-    ghost use Rattle.ymx_model.specs.Sessions.{Session};
+    ghost use Rattle.ymx_model.specs.session.Sessions.{Session};
 
     ghost Value = { Session };
 
@@ -46,7 +46,7 @@ impl Model for State {
       away = s.away;
       alarm = s.alarm;
       answers = s.answers;
-      begun = s.begun;
+      outgoing = s.outgoing;
       incoming = s.arriving.incoming;
     } };
 
@@ -62,7 +62,7 @@ impl State {
         first: u32,
     ) -> Result<State, AllocError>
         requires narrowest { first_credit ≤ window }
-        requires widest { window ≤ 16777216 }
+        requires widest { window ≤ widest_window }
         ensures { IfOk result (λ state. state ≡ new_session role window first) }
     {
         Ok(State {
@@ -76,7 +76,7 @@ impl State {
             away: Away::new(),
             alarm: false,
             answers: Answers::new(alloc)?,
-            begun: FrameBuffer::new(alloc)?,
+            outgoing: FrameBuffer::new(alloc)?,
             arriving: Arriving::new(window),
         })
     }

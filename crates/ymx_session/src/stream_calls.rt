@@ -2,9 +2,9 @@
 
 ghost use Rattle.std.specs.Prelude.{◌≡◌, ◌≤◌, ◌++◌, length, take, drop, true, false, None, Some, IfOk, IfErr};
 ghost use Rattle.ymx_model.specs.declared.types.Call.TheVariants as call;
-ghost use Rattle.ymx_model.specs.Tables.{look};
-ghost use Rattle.ymx_model.specs.Calls.{write_to, read_from, finish, reset, forget, takes_memory};
-ghost use Rattle.ymx_session_law.specs.Limits.{IsWithin};
+ghost use Rattle.ymx_model.specs.shared.Lists.{look};
+ghost use Rattle.ymx_model.specs.session.Calls.{write_to, read_from, finish, reset, forget, takes_memory};
+ghost use Rattle.ymx_law_session.specs.Limits.{IsWithin};
 ghost use Rattle.ymx_session.specs.Replies.{wrote_or, read_or, count_of, done_or, is_out_of_memory, stream_fault};
 
 use crate::state::State;

@@ -5,7 +5,7 @@ use Rattle.std.specs.Map.{keys_of, values_of, lookup, remove_entry}
 use Rattle.std.specs.List.{position_or_len}
 use Rattle.std.proofs.lemmas.Bool.Decides.{nat_tests}
 use Rattle.indexmap.specs.IndexMap.{set_value_at, insert_entry}
-use Rattle.ymx_model.specs.Tables.{look, change, without, place}
+use Rattle.ymx_model.specs.shared.Lists.{look, change, without, place}
 
 module _ {X : Type 0} (id : ℕ) where
   -- the map's look-up by key is `look`

@@ -5,10 +5,10 @@ use Rattle.std.proofs.lemmas.Bool.{cases_lt, both_ways}
 use Rattle.std.proofs.lemmas.List.{take-map, drop-map, get_or-drop, get_or-take}
 use Rattle.std.proofs.lemmas.Bool.Decides.{nat_tests}
 use Rattle.std.proofs.lemmas.Option.{same_Some}
-use Rattle.ymx_model.specs.Records.{End}
-use Rattle.ymx_model.specs.Outgoing.{is_due}
-use Rattle.ymx_model.specs.Tables.{Table, due_ids, any_due}
-use Rattle.ymx_model.specs.Emissions.{is_first}
+use Rattle.ymx_model.specs.session.Records.{End}
+use Rattle.ymx_model.specs.session.FramesDue.{is_due}
+use Rattle.ymx_model.specs.session.Tables.{Table, due_ids, any_due}
+use Rattle.ymx_model.specs.session.Emissions.{is_first}
 use Rattle.ymx_table.specs.Turns.{IsTurn}
 use Rattle.ymx_table.specs.Kept.{due_flags}
 use Rattle.ymx_table.specs.Flags.{IsFirst, IsNoneFrom}

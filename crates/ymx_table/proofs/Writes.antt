@@ -7,11 +7,13 @@ use Rattle.std.proofs.lemmas.List.{map-append, length-map, take-map, drop-map}
 use Rattle.std.proofs.lemmas.List.Elements.{All-push}
 use Rattle.std.proofs.lemmas.Map.Views.{All-map-remove_entry}
 use Rattle.indexmap.specs.IndexMap.{set_value_at, insert_entry}
-use Rattle.ymx_model.specs.Records.{End}
-use Rattle.ymx_model.specs.Outgoing.{is_due}
-use Rattle.ymx_model.specs.Tables.{Table, look, change, without, place, on, served, removed, added, most_records}
+use Rattle.ymx_model.specs.session.Records.{End}
+use Rattle.ymx_model.specs.session.FramesDue.{is_due}
+use Rattle.ymx_model.specs.session.Tables.{Table, with_record, pass_turn, remove_record, insert_record}
+use Rattle.ymx_model.specs.shared.Lists.{look, change, without, place}
+use Rattle.ymx_model.specs.shared.Limits.{most_records}
 use Rattle.ymx_table.specs.Kept.{IsKept}
-use Rattle.ymx_table.specs.Changes.{Changes}
+use Rattle.ymx_table.specs.Changes.{ChangesRecord}
 use Rattle.ymx_table.specs.Standing.{StandsAt}
 use Rattle.ymx_table.proofs.Places.{set_value_at-place, look-place, place-lt, remove-place, remove_entry_is, insert_entry-new, place-position}
 use Rattle.ymx_table.proofs.Others.{change-none, change-known, change-nothing, length-change, keys-change, place-change, length-without}
@@ -47,15 +49,15 @@ stands-found t id None there found = of (look id t.entries) there
 stands-found t id (Some at) there found = stands-at t id at (sym there) (place-position id t.entries at (sym found))
 
 -- where there is no record, none changes
-pub untouched : (id : ℕ) (f : End → End) (t : Table) → look id t.entries ≡ None → t ≡ on id f t
+pub untouched : (id : ℕ) (f : End → End) (t : Table) → look id t.entries ≡ None → t ≡ with_record id f t
 untouched id f t absent = sym (ap (λ ps. record t { entries = ps }) (change-none id f t.entries absent))
 
 -- a change by which each record becomes what a function makes of it
 pub changed : {R : Type 0} (step : End → R → End → Type 0) (id : ℕ) (f : End → End) (old new : Table) (o : Option R)
-    → Changes step id old o new → ((e after : End) (answer : R) → step e answer after → after ≡ f e) → new ≡ on id f old
+    → ChangesRecord step id old o new → ((e after : End) (answer : R) → step e answer after → after ≡ f e) → new ≡ with_record id f old
 changed step id f old new None h is = h.1 ∙ untouched id f old h.0
 changed step id f old new (Some answer) h is =
-    h.2.2 ∙ ap (λ x. on id (λ _. x) old) (is h.0 h.2.0 answer h.2.1)
+    h.2.2 ∙ ap (λ x. with_record id (λ _. x) old) (is h.0 h.2.0 answer h.2.1)
     ∙ ap (λ ps. record old { entries = ps }) (change-known id f h.0 old.entries h.1)
 
 -- the flags are as many as the records
@@ -81,11 +83,11 @@ module _ (t u : Table) (same : t ≡ u) (id at : ℕ) (before : End) (s : Stands
   found-before = ap (λ (v : Table). look id v.entries) (sym same) ∙ found
 
   -- the table is the same but for the one record
-  pub written : (f : End → End) (after : End) → after ≡ f before → record t { entries = set_value_at t.entries at after } ≡ on id f u
+  pub written : (f : End → End) (after : End) → after ≡ f before → record t { entries = set_value_at t.entries at after } ≡ with_record id f u
   written f after e =
       ap (λ ps. record t { entries = ps })
       (entries-written after ∙ ap (λ x. change id (λ _. x) t.entries) e ∙ change-known id f before t.entries found)
-      ∙ ap (on id f) same
+      ∙ ap (with_record id f) same
 
   -- and it is as every table is, once the record's flag is right
   pub kept-written : (flags flags' : List Bool) (is : Bool) (after : End) → IsKept t flags → is ≡ is_due t.window after
@@ -103,7 +105,7 @@ module _ (t u : Table) (same : t ≡ u) (id at : ℕ) (before : End) (s : Stands
 
   -- the same where the stream was served
   pub written-served : (f : End → End) (after : End) → after ≡ f before
-      → record t { entries = set_value_at t.entries at after; turn = at + 1 } ≡ served id (on id f u)
+      → record t { entries = set_value_at t.entries at after; turn = at + 1 } ≡ pass_turn id (with_record id f u)
   written-served f after e = λ i. record (written f after e i) { turn = (ap (λ n. n + 1) (s.at_place ∙ sym (place-change id id f u.entries))) i }
 
   pub kept-served : (flags : List Bool) (after : End) → IsKept (record t { entries = set_value_at t.entries at after }) flags
@@ -137,10 +139,10 @@ module _ (t u : Table) (same : t ≡ u) (id at : ℕ) (s : StandsAt id u at) (th
   entries-removed : es ≡ without id t.entries
   entries-removed = gone ∙ ap (remove t.entries) at-place ∙ remove-place id t.entries there-still
 
-  pub removed-is : record t { entries = es; turn = turn } ≡ removed id u
+  pub removed-is : record t { entries = es; turn = turn } ≡ remove_record id u
   removed-is =
       (λ i. record t { entries = entries-removed i; turn = (moved ∙ ap (λ k. if nat_lt k t.turn then t.turn - 1 else t.turn) at-place) i })
-      ∙ ap (removed id) same
+      ∙ ap (remove_record id) same
 
   pub kept-removed : (flags flags' : List Bool) → IsKept t flags → flags' ≡ remove flags at → IsKept (record t { entries = es; turn = turn }) flags'
   kept-removed flags flags' k d = record {
@@ -168,8 +170,8 @@ module _ (t u : Table) (same : t ≡ u) (id : ℕ) (x : End) (absent : look id u
   entries-added : es ≡ t.entries ++ (id, x) ∷ []
   entries-added = put ∙ insert_entry-new id t.entries x (ap (λ (v : Table). look id v.entries) same ∙ absent)
 
-  pub added-is : record t { entries = es } ≡ added id x u
-  added-is = ap (λ ps. record t { entries = ps }) entries-added ∙ ap (added id x) same
+  pub added-is : record t { entries = es } ≡ insert_record id x u
+  added-is = ap (λ ps. record t { entries = ps }) entries-added ∙ ap (insert_record id x) same
 
   pub kept-added : (flags flags' : List Bool) (is : Bool) → IsKept t flags → length u.entries < most_records → id < 2 ^ 32 → is ≡ is_due t.window x
       → flags' ≡ flags ++ is ∷ [] → IsKept (record t { entries = es }) flags'

@@ -2,6 +2,7 @@
 use Rattle.std.specs.Prelude.{ℕ, ◌≡◌, ◌/◌, ◌%◌, ◌<◌, ◌≤◌, ◌==◌, Bool, true, false, List, map, slice_index, count_by}
 use Rattle.std.specs.List.{range_with_len}
 use Rattle.std.specs.Int.{bit_at}
+use Rattle.ymx_model.specs.shared.Limits.{most_records}
 
 -- whether bit k of a word is set, counted from the lowest
 abbrev pub bit : ℕ → ℕ → Bool
@@ -31,6 +32,6 @@ IsNoneFrom test from = (k : ℕ) → from ≤ k → test k ≡ false
 
 -- the words hold so many flags and nothing behind them, and `count` says how many are set
 pub record AreFlags (words : List ℕ) (len count : ℕ) : Type 0 where
-  pub few : len ≤ 1024
+  pub few : len ≤ most_records
   pub clear_behind : (k : ℕ) → len ≤ k → flag words k ≡ false
   pub counted : count ≡ set_count (flags_of words len)

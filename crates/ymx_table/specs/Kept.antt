@@ -1,9 +1,9 @@
 -- What is true of every table (this project's own).
 use Rattle.std.specs.Prelude.{◌≡◌, ◌<◌, ◌≤◌, ◌^◌, Bool, List, length, map, All}
 use Rattle.std.specs.Map.{keys_of}
-use Rattle.ymx_model.specs.Lanes.{first_credit}
-use Rattle.ymx_model.specs.Outgoing.{is_due}
-use Rattle.ymx_model.specs.Tables.{Table, most_records}
+use Rattle.ymx_model.specs.shared.Limits.{first_credit, most_records, widest_window}
+use Rattle.ymx_model.specs.session.FramesDue.{is_due}
+use Rattle.ymx_model.specs.session.Tables.{Table}
 
 -- for each record, in order, whether its stream has a frame due
 abbrev pub due_flags : Table → List Bool
@@ -14,7 +14,7 @@ due_flags t = map (λ p. is_due t.window p.1) t.entries
 -- the protocol (32 bits).
 pub record IsKept (t : Table) (due : List Bool) : Type 0 where
   pub narrowest : first_credit ≤ t.window
-  pub widest : t.window ≤ 16777216
+  pub widest : t.window ≤ widest_window
   pub flagged : due ≡ due_flags t
   pub few : length t.entries ≤ most_records
   pub turn_within : t.turn ≤ length t.entries

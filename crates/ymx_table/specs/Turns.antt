@@ -1,10 +1,10 @@
 -- Whose turn it is, and what its stream sends (this project's own).
 use Rattle.std.specs.Prelude.{ℕ, ◌≡◌, length, true, Some, slice_get}
-use Rattle.ymx_model.specs.Records.{End}
-use Rattle.ymx_model.specs.Outgoing.{is_due, next_kind, spelled}
-use Rattle.ymx_model.specs.Tables.{Table, look, round}
-use Rattle.ymx_model.specs.Emissions.{is_first}
-use Rattle.ymx_half.specs.Frames.{kind_of}
+use Rattle.ymx_model.specs.session.Records.{End}
+use Rattle.ymx_model.specs.session.FramesDue.{is_due, next_kind, spelled}
+use Rattle.ymx_model.specs.session.Tables.{Table, round}
+use Rattle.ymx_model.specs.shared.Lists.{look}
+use Rattle.ymx_model.specs.session.Emissions.{is_first}
 use Rattle.ymx_table.specs.declared.turn.NextFrame.{NextFrame}
 
 -- at this place stands the record of the stream whose turn it is
@@ -20,5 +20,5 @@ pub record IsNextFrame (limit : ℕ) (next : NextFrame) (t : Table) : Type 0 whe
   pub end : End
   pub there : look next.id t.entries ≡ Some end
   pub due : is_due t.window end ≡ true
-  pub kind : next_kind t.window end ≡ Some (kind_of next.kind)
-  pub long : next.length ≡ length (spelled (kind_of next.kind) t.window limit next.id end)
+  pub kind : next_kind t.window end ≡ Some next.kind
+  pub long : next.length ≡ length (spelled next.kind t.window limit next.id end)

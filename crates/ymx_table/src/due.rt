@@ -1,7 +1,7 @@
 //! How many streams have a frame due.
 
 ghost use Rattle.std.specs.Prelude.{◌≡◌};
-ghost use Rattle.ymx_model.specs.Tables.{any_due, due_count};
+ghost use Rattle.ymx_model.specs.session.Tables.{any_due, due_count};
 
 use crate::Table;
 

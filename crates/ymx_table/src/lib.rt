@@ -8,9 +8,10 @@ ghost use Rattle.std.specs.Prelude.{◌≡◌, ◌^◌, ◌<◌, ◌≤◌, ◌�
 ghost use Rattle.std.specs.List.{IsDistinct};
 ghost use Rattle.std.specs.Map.{keys_of};
 ghost use Rattle.std.specs.Option.{option_copied};
-ghost use Rattle.ymx_model.specs.Records.{held};
-ghost use Rattle.ymx_model.specs.Lanes.{first_credit};
-ghost use Rattle.ymx_model.specs.Tables.{look, new_table, most_records, added, removed};
+ghost use Rattle.ymx_model.specs.session.Records.{window_held};
+ghost use Rattle.ymx_model.specs.shared.Limits.{first_credit, most_records, widest_window};
+ghost use Rattle.ymx_model.specs.shared.Lists.{look};
+ghost use Rattle.ymx_model.specs.session.Tables.{new_table, insert_record, remove_record};
 ghost use Rattle.ymx_table.specs.Standing.{StandsAt};
 
 mod due;
@@ -48,7 +49,7 @@ pub struct Table {
 }
 
 impl Model for Table {
-    ghost use Rattle.ymx_model.specs.Tables.{Table as Records};
+    ghost use Rattle.ymx_model.specs.session.Tables.{Table as Records};
     ghost use Rattle.ymx_table.specs.Kept.{IsKept};
 
     ghost Value = { Records };
@@ -63,7 +64,7 @@ impl Table {
     /// memory yet.
     pub fn new(alloc: Global, window: u32) -> Table
         requires narrowest { first_credit ≤ window }
-        requires widest { window ≤ 16777216 }
+        requires widest { window ≤ widest_window }
         ensures { result ≡ new_table window }
     {
         Table {
@@ -78,7 +79,7 @@ impl Table {
     pub fn window(&self) -> u32
         ensures value { result ≡ self.now.window }
         ensures narrowest { first_credit ≤ result }
-        ensures widest { result ≤ 16777216 }
+        ensures widest { result ≤ widest_window }
     {
         self.window
     }
@@ -131,8 +132,8 @@ impl Table {
     pub fn insert(&mut self, id: u32, stream: StreamRec) -> Result<(), AllocError>
         requires absent { look id self.old.entries ≡ None }
         requires room { length self.old.entries < most_records }
-        requires of_window { held stream.inn ≡ self.old.window }
-        ensures last { OnOk result (self.new ≡ added id stream self.old) }
+        requires of_window { window_held stream.reader ≡ self.old.window }
+        ensures last { OnOk result (self.new ≡ insert_record id stream self.old) }
         ensures refused_unchanged { OnErr result (self.new ≡ self.old) }
     {
         let is_due = stream.is_due(self.window);
@@ -145,7 +146,7 @@ impl Table {
     /// and if the place of the next turn is behind it, that moves up with them.
     pub fn remove(&mut self, id: u32)
         requires { IsSome (look id self.old.entries) }
-        ensures { self.new ≡ removed id self.old }
+        ensures { self.new ≡ remove_record id self.old }
     {
         let place = self.place_of(id);
         self.records.shift_remove_index(place);

@@ -4,10 +4,12 @@
 ghost use Rattle.std.specs.Prelude.{◌≡◌, ◌+◌, ◌≤◌, ◌++◌, length, take, drop, min, true, false, Some, IsSome, IfSome, IsOk, IfOk, OnErr};
 ghost use Rattle.std.specs.Option.{ForSome};
 ghost use Rattle.std.specs.Fn.{FnOnceTakesAtMut, FnOnceReturnsAtMut};
-ghost use Rattle.ymx_table.specs.Changes.{Changes};
-ghost use Rattle.ymx_model.specs.Streams.{takes, is_offered, is_lingering};
-ghost use Rattle.ymx_model.specs.Records.{takes_payload, end_write, end_read, end_finish, end_accept, end_reset, end_forget, gets_piece, gets_head, gets_rst};
-ghost use Rattle.ymx_model.specs.Tables.{look, on};
+ghost use Rattle.ymx_model.specs.shared.Limits.{first_credit, greatest_number};
+ghost use Rattle.ymx_table.specs.Changes.{ChangesRecord};
+ghost use Rattle.ymx_model.specs.shared.Phases.{takes, is_offered, is_lingering};
+ghost use Rattle.ymx_model.specs.session.Records.{takes_payload, end_write, end_read, end_finish, end_accept, end_reset, end_forget, receive_piece, receive_head, receive_rst};
+ghost use Rattle.ymx_model.specs.shared.Lists.{look};
+ghost use Rattle.ymx_model.specs.session.Tables.{with_record};
 ghost use Rattle.ymx_half.specs.Stages.{phase_of};
 
 use crate::Table;
@@ -24,10 +26,10 @@ impl Table {
     /// it answers `AllocError`, and nothing has changed.
     pub fn write(&mut self, id: u32, bytes: &[u8]) -> Result<usize, AllocError>
         requires there { IsSome (look id self.old.entries) }
-        requires open { ForSome (look id self.old.entries) (λ e. e.out.finished ≡ false) }
-        ensures took_min { IfOk result (λ count. ForSome (look id self.old.entries) (λ e. count ≡ min (length bytes.now) e.out.credit)) }
-        ensures wrote { IfOk result (λ count. self.new ≡ on id (end_write (take count bytes.now)) self.old) }
-        ensures in_room { ForSome (look id self.old.entries) (λ e. length e.out.unsent + min (length bytes.now) e.out.credit ≤ 262144 → IsOk result) }
+        requires open { ForSome (look id self.old.entries) (λ e. e.writer.finished ≡ false) }
+        ensures took_min { IfOk result (λ count. ForSome (look id self.old.entries) (λ e. count ≡ min (length bytes.now) e.writer.credit)) }
+        ensures wrote { IfOk result (λ count. self.new ≡ with_record id (end_write (take count bytes.now)) self.old) }
+        ensures in_room { ForSome (look id self.old.entries) (λ e. length e.writer.unsent + min (length bytes.now) e.writer.credit ≤ first_credit → IsOk result) }
         ensures refused_unchanged { OnErr result (self.new ≡ self.old) }
     {
         let place = self.place_of(id);
@@ -42,9 +44,9 @@ impl Table {
     /// number. The rest of `buffer` stays as it was.
     pub fn read(&mut self, id: u32, buffer: &mut [u8]) -> usize
         requires { IsSome (look id self.old.entries) }
-        ensures count { ForSome (look id self.old.entries) (λ e. result ≡ min (length buffer.old) (length e.inn.unread)) }
-        ensures gave { ForSome (look id self.old.entries) (λ e. buffer.new ≡ take result e.inn.unread ++ drop result buffer.old) }
-        ensures after { self.new ≡ on id (end_read result) self.old }
+        ensures count { ForSome (look id self.old.entries) (λ e. result ≡ min (length buffer.old) (length e.reader.unread)) }
+        ensures gave { ForSome (look id self.old.entries) (λ e. buffer.new ≡ take result e.reader.unread ++ drop result buffer.old) }
+        ensures after { self.new ≡ with_record id (end_read result) self.old }
     {
         let place = self.place_of(id);
         let stream = &mut self.records[place];
@@ -58,7 +60,7 @@ impl Table {
     pub fn finish(&mut self, id: u32)
         requires there { IsSome (look id self.old.entries) }
         requires up { ForSome (look id self.old.entries) (λ e. takes e.phase ≡ true) }
-        ensures { self.new ≡ on id end_finish self.old }
+        ensures { self.new ≡ with_record id end_finish self.old }
     {
         self.change(id, |stream| stream.finish());
     }
@@ -67,7 +69,7 @@ impl Table {
     pub fn accept(&mut self, id: u32, lost: bool)
         requires there { IsSome (look id self.old.entries) }
         requires offered { ForSome (look id self.old.entries) (λ e. is_offered e.phase ≡ true) }
-        ensures { self.new ≡ on id (end_accept lost) self.old }
+        ensures { self.new ≡ with_record id (end_accept lost) self.old }
     {
         self.change(id, |stream| stream.accept(lost));
     }
@@ -78,7 +80,7 @@ impl Table {
         requires there { IsSome (look id self.old.entries) }
         requires up { ForSome (look id self.old.entries) (λ e. takes e.phase ≡ true) }
         requires over { takes (phase_of stage) ≡ false }
-        ensures { self.new ≡ on id (end_reset (phase_of stage)) self.old }
+        ensures { self.new ≡ with_record id (end_reset (phase_of stage)) self.old }
     {
         self.change(id, |stream| stream.reset(stage));
     }
@@ -88,7 +90,7 @@ impl Table {
     pub fn forget(&mut self, id: u32, lost: bool)
         requires there { IsSome (look id self.old.entries) }
         requires held { ForSome (look id self.old.entries) (λ e. is_lingering e.phase ≡ false) }
-        ensures { self.new ≡ on id (end_forget lost) self.old }
+        ensures { self.new ≡ with_record id (end_forget lost) self.old }
     {
         self.change(id, |stream| stream.forget(lost));
     }
@@ -98,8 +100,8 @@ impl Table {
     /// A piece of a payload comes, and behind it the peer's end if `fin` (flow control). A stream that takes
     /// payload has granted so many bytes. Where there is no record nothing changes.
     pub fn receive_piece(&mut self, id: u32, fin: bool, bytes: &[u8])
-        requires { IfSome (look id self.old.entries) (λ e. takes_payload e ≡ true → length bytes.now ≤ e.inn.granted) }
-        ensures { self.new ≡ on id (gets_piece fin bytes.now) self.old }
+        requires { IfSome (look id self.old.entries) (λ e. takes_payload e ≡ true → length bytes.now ≤ e.reader.granted) }
+        ensures { self.new ≡ with_record id (receive_piece fin bytes.now) self.old }
     {
         self.change(id, |stream| stream.receive_piece(fin, bytes));
     }
@@ -109,8 +111,8 @@ impl Table {
     /// the delta is at most 4,294,967,295 bytes: above that the session broke (B6). Where there is no record
     /// nothing changes.
     pub fn receive_head(&mut self, id: u32, acknowledges: bool, delta: u32, ends: bool)
-        requires { IfSome (look id self.old.entries) (λ e. takes e.phase ≡ true → e.out.credit + delta ≤ 4294967295) }
-        ensures { self.new ≡ on id (gets_head acknowledges delta ends) self.old }
+        requires { IfSome (look id self.old.entries) (λ e. takes e.phase ≡ true → e.writer.credit + delta ≤ greatest_number) }
+        ensures { self.new ≡ with_record id (receive_head acknowledges delta ends) self.old }
     {
         self.change(id, |stream| stream.receive_head(acknowledges, delta, ends));
     }
@@ -120,7 +122,7 @@ impl Table {
     pub fn receive_rst(&mut self, id: u32)
         requires there { IsSome (look id self.old.entries) }
         requires not_offered { ForSome (look id self.old.entries) (λ e. is_offered e.phase ≡ false) }
-        ensures { self.new ≡ on id gets_rst self.old }
+        ensures { self.new ≡ with_record id receive_rst self.old }
     {
         self.change(id, |stream| stream.receive_rst());
     }
@@ -128,7 +130,7 @@ impl Table {
     /// Changes the record under this id, and its flag with it. `None` if there is none.
     fn change<R, F: FnOnce(&mut StreamRec) -> R>(&mut self, id: u32, change: F) -> Option<R>
         requires { IfSome (look id self.old.entries) (λ e. FnOnceTakesAtMut F.FnOnce change e) }
-        ensures { Changes (FnOnceReturnsAtMut F.FnOnce change) id self.old result self.new }
+        ensures { ChangesRecord (FnOnceReturnsAtMut F.FnOnce change) id self.old result self.new }
     {
         let place = self.find(id)?;
         let stream = &mut self.records[place];

@@ -2,10 +2,10 @@
 
 ghost use Rattle.std.specs.Prelude.{◌≡◌, ◌≤◌, ◌++◌, length, drop, true, false, IfSome, IfNone, MatchOption};
 ghost use Rattle.std.specs.Option.{ForSome};
-ghost use Rattle.ymx_model.specs.Outgoing.{sends, spelled};
-ghost use Rattle.ymx_model.specs.Tables.{look, on, served, any_due, round};
-ghost use Rattle.ymx_model.specs.Emissions.{is_first};
-ghost use Rattle.ymx_half.specs.Frames.{kind_of};
+ghost use Rattle.ymx_model.specs.session.FramesDue.{begin_frame, spelled};
+ghost use Rattle.ymx_model.specs.shared.Lists.{look};
+ghost use Rattle.ymx_model.specs.session.Tables.{with_record, pass_turn, any_due, round};
+ghost use Rattle.ymx_model.specs.session.Emissions.{is_first};
 ghost use Rattle.ymx_table.specs.Turns.{IsTurn, IsNextFrame};
 
 use crate::Table;
@@ -51,8 +51,8 @@ impl Table {
         requires next { IsNextFrame limit next self.old }
         requires fits { next.length ≤ length buffer.old }
         ensures count { result ≡ next.length }
-        ensures written { ForSome (look next.id self.old.entries) (λ e. buffer.new ≡ spelled (kind_of next.kind) self.old.window limit next.id e ++ drop result buffer.old) }
-        ensures goes { self.new ≡ served next.id (on next.id (sends self.old.window limit (kind_of next.kind)) self.old) }
+        ensures written { ForSome (look next.id self.old.entries) (λ e. buffer.new ≡ spelled next.kind self.old.window limit next.id e ++ drop result buffer.old) }
+        ensures goes { self.new ≡ pass_turn next.id (with_record next.id (begin_frame self.old.window limit next.kind) self.old) }
     {
         let place = self.place_of(next.id);
         let stream = &mut self.records[place];

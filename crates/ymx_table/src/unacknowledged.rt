@@ -1,7 +1,7 @@
 //! How many own streams the peer has not acknowledged.
 
 ghost use Rattle.std.specs.Prelude.{◌≡◌, count_by};
-ghost use Rattle.ymx_model.specs.Calls.{is_unacknowledged};
+ghost use Rattle.ymx_model.specs.session.Calls.{is_unacknowledged};
 
 use crate::Table;
 use ymx_half::{Stage, StreamRec};

@@ -1,5 +1,5 @@
 use Rattle.ymx_headline.proofs.headline.Goals as goal
-use Rattle.ymx_headline.proofs.Runs.{run-alike, runs-alike, none-breaks}
+use Rattle.ymx_headline.proofs.runs.Runs.{run-alike, runs-alike, none-breaks}
 
 pub returns-clause-every_run : goal.returns-clause-every_run
 returns-clause-every_run c = λ may steps answers wa fa wb fb w g r. run-alike may steps answers wa fa wb fb w g r

@@ -1,10 +1,10 @@
 use Rattle.ymx_headline.proofs.nothing_sticks.Goals as goal
-use Rattle.ymx_headline.proofs.Bound.{bound}
-use Rattle.ymx_headline.proofs.OneAnswer.{one-answer, none-to-an_answer}
-use Rattle.ymx_headline.proofs.Progress.{goes-on}
+use Rattle.ymx_headline.proofs.bounds.Bound.{bound}
+use Rattle.ymx_headline.proofs.bounds.OneAnswer.{one-answer, none-to-an_answer}
+use Rattle.ymx_headline.proofs.bounds.Progress.{goes-on}
 
 pub returns-clause-goes_on : goal.returns-clause-goes_on
-returns-clause-goes_on c = λ w h o n. let k = goes-on w h o n in (k.st, k.given, k.next, k.steps, k.carries)
+returns-clause-goes_on c = λ w h o n. let k = goes-on w h o n in (k.st, k.given, k.next, k.steps, k.with_data)
 
 pub returns-clause-bounded : goal.returns-clause-bounded
 returns-clause-bounded c = bound

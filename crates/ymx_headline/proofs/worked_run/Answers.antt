@@ -1,16 +1,16 @@
 use Rattle.std.proofs.Common.{◌≡◌, List, true, refl, subst, arith}
 use Rattle.ymx_model.specs.declared.types.Answer.{Answer}
 use Rattle.ymx_model.specs.declared.types.Role.TheVariants.{Client, Server}
-use Rattle.ymx_model.specs.Emissions.{in_turn}
-use Rattle.ymx_model.specs.Worlds.{Runs, is_quiet}
-use Rattle.ymx_rows.specs.Plays.{play}
-use Rattle.ymx_rows.specs.Words.{start}
-use Rattle.ymx_rows.proofs.Played.{plays, new-within}
+use Rattle.ymx_model.specs.session.Emissions.{in_turn}
+use Rattle.ymx_model.specs.world.Worlds.{Runs, is_quiet}
+use Rattle.ymx_examples.specs.Plays.{play}
+use Rattle.ymx_examples.specs.Words.{start}
+use Rattle.ymx_examples.proofs.Played.{plays, new-within}
 use Rattle.ymx_headline.specs.Example.{example_steps, example_answers}
 use Rattle.ymx_headline.specs.Laws.{AreGood}
 use Rattle.ymx_headline.proofs.worked_run.Goals as goal
-use Rattle.ymx_headline.proofs.Runs.{run-alike}
-use Rattle.ymx_headline.proofs.Still.{still}
+use Rattle.ymx_headline.proofs.runs.Runs.{run-alike}
+use Rattle.ymx_headline.proofs.relation.Still.{still}
 
 answers-are : (play example_steps start).answers ≡ example_answers
 answers-are = refl

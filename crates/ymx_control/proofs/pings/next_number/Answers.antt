@@ -1,6 +1,6 @@
 -- The search goes on behind a number that is pending.
 use Rattle.std.proofs.Common.{◌≡◌, ◌+◌, ◌-◌, true, arith, ◌∙◌}
-use Rattle.ymx_model.specs.Pings.{is_pending}
+use Rattle.ymx_model.specs.session.Pings.{is_pending}
 use Rattle.ymx_control.proofs.FreeNumbers.{free_from-next}
 use Rattle.ymx_control.proofs.pings.next_number.Goals as goal
 

@@ -1,5 +1,5 @@
 use Rattle.std.proofs.Common.{◌+◌, min, ◌∙◌, ap}
-use Rattle.ymx_model.specs.Devices.{most_failures}
+use Rattle.ymx_model.specs.devices.Devices.{most_failures}
 use Rattle.ymx_frames.proofs.Pushed.{taken_more, counted, on_err}
 use Rattle.ymx_frames.proofs.output.push_all.Goals as goal
 

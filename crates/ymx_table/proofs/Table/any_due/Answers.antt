@@ -1,7 +1,7 @@
 -- Any is due where the number of flags that are set is not 0.
 use Rattle.std.proofs.Common.{ap, sym, ◌∙◌, not, nat_eq}
-use Rattle.ymx_model.specs.Outgoing.{is_due}
-use Rattle.ymx_model.specs.Tables.{Table, any_due}
+use Rattle.ymx_model.specs.session.FramesDue.{is_due}
+use Rattle.ymx_model.specs.session.Tables.{Table, any_due}
 use Rattle.ymx_table.specs.Flags.{set_count}
 use Rattle.ymx_table.proofs.Counts.{set_count-map}
 use Rattle.ymx_table.proofs.Rounds.{any_due-count}

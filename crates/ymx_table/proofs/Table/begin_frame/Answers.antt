@@ -1,8 +1,7 @@
 -- One record changes, and its flag with it; the next turn starts behind it.
 use Rattle.std.proofs.Common.{ap, ◌∙◌}
-use Rattle.ymx_model.specs.Outgoing.{sends}
-use Rattle.ymx_model.specs.Tables.{Table, on, served}
-use Rattle.ymx_half.specs.Frames.{kind_of}
+use Rattle.ymx_model.specs.session.FramesDue.{begin_frame}
+use Rattle.ymx_model.specs.session.Tables.{Table, with_record, pass_turn}
 use Rattle.ymx_table.proofs.Writes.{written-served, kept-written, kept-served, flags_within}
 use Rattle.ymx_table.proofs.Table.begin_frame.Goals as goal
 
@@ -18,5 +17,5 @@ invariant_of-self c =
 pub returns-clause-goes : goal.returns-clause-goes
 returns-clause-goes c =
     written-served _ _ c.self.view_is _ _ _ c.place_of-place.ensures c.index_mut-stream.ensures.value
-    (sends c.self.inside.window c.args.limit (kind_of c.args.next.kind)) _ c.begin_frame-count.ensures.goes
-    ∙ ap (λ (t : Table). served c.args.next.id (on c.args.next.id (sends t.window c.args.limit (kind_of c.args.next.kind)) c.args.self.now)) c.self.view_is
+    (begin_frame c.self.inside.window c.args.limit c.args.next.kind) _ c.begin_frame-count.ensures.goes
+    ∙ ap (λ (t : Table). pass_turn c.args.next.id (with_record c.args.next.id (begin_frame t.window c.args.limit c.args.next.kind) c.args.self.now)) c.self.view_is

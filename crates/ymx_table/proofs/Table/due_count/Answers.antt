@@ -1,7 +1,7 @@
 -- As many flags are set as streams have a frame due.
 use Rattle.std.proofs.Common.{ap, ◌∙◌}
-use Rattle.ymx_model.specs.Outgoing.{is_due}
-use Rattle.ymx_model.specs.Tables.{due_count}
+use Rattle.ymx_model.specs.session.FramesDue.{is_due}
+use Rattle.ymx_model.specs.session.Tables.{due_count}
 use Rattle.ymx_table.specs.Flags.{set_count}
 use Rattle.ymx_table.proofs.Counts.{count_is, set_count-map}
 use Rattle.ymx_table.proofs.Table.due_count.Goals as goal

@@ -1,7 +1,8 @@
 -- The kit's look-up by key, said in the table's words.
 use Rattle.std.proofs.Common.{is_some, ap, ◌∙◌, subst, None}
 use Rattle.std.specs.Prelude.{◌≡◌, MatchOption}
-use Rattle.ymx_model.specs.Tables.{Table, look}
+use Rattle.ymx_model.specs.session.Tables.{Table}
+use Rattle.ymx_model.specs.shared.Lists.{look}
 use Rattle.ymx_table.specs.Standing.{StandsAt}
 use Rattle.ymx_table.proofs.Writes.{stands-found}
 use Rattle.ymx_table.proofs.Places.{lookup_is}

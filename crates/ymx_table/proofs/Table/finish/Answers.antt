@@ -1,6 +1,6 @@
 -- One record changes.
 use Rattle.std.proofs.Common.{rules}
-use Rattle.ymx_model.specs.Records.{end_finish}
+use Rattle.ymx_model.specs.session.Records.{end_finish}
 use Rattle.ymx_table.proofs.Writes.{changed}
 use Rattle.ymx_table.proofs.Table.finish.Goals as goal
 

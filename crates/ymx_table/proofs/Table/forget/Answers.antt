@@ -1,6 +1,6 @@
 -- One record changes.
 use Rattle.std.proofs.Common.{rules}
-use Rattle.ymx_model.specs.Records.{end_forget}
+use Rattle.ymx_model.specs.session.Records.{end_forget}
 use Rattle.ymx_table.proofs.Writes.{changed}
 use Rattle.ymx_table.proofs.Table.forget.Goals as goal
 

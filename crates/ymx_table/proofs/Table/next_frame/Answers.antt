@@ -4,9 +4,8 @@ use Rattle.std.specs.Prelude.{IsSome}
 use Rattle.std.specs.Option.{option_map}
 use Rattle.std.specs.Map.Iter.{deref_pair}
 use Rattle.std.proofs.lemmas.Option.{same_Some}
-use Rattle.ymx_model.specs.Records.{End}
-use Rattle.ymx_model.specs.Outgoing.{is_due}
-use Rattle.ymx_half.specs.Frames.{kind_of}
+use Rattle.ymx_model.specs.session.Records.{End}
+use Rattle.ymx_model.specs.session.FramesDue.{is_due}
 use Rattle.ymx_table.specs.Turns.{IsTurn, IsNextFrame}
 use Rattle.ymx_table.proofs.Places.{lookup_is}
 use Rattle.ymx_table.proofs.Table.next_frame.Goals as goal
@@ -29,7 +28,7 @@ unwrap-kind-requires c =
 
 pub returns-clause-frame : goal.returns-clause-frame
 returns-clause-frame c =
-    let kind = sym c.next_frame.ensures.next ∙ ap (option_map kind_of) c.unwrap-kind.ensures in
+    let kind = sym c.next_frame.ensures.next ∙ c.unwrap-kind.ensures in
     subst (IsNextFrame c.args.limit _) c.self.view_is (record {
       end = c.unwrap.result.1.now;
       there = sym (lookup_is c.unwrap.result.0.now c.self.inside.records.entries) ∙ rw c.unwrap.ensures at c.get_index.ensures.value;

@@ -1,7 +1,7 @@
 -- The first from the place of the turn on, or the first before it, or none.
 use Rattle.std.proofs.Common.{subst, false}
 use Rattle.std.specs.Prelude.{◌≡◌, MatchOption}
-use Rattle.ymx_model.specs.Tables.{Table, any_due}
+use Rattle.ymx_model.specs.session.Tables.{Table, any_due}
 use Rattle.ymx_table.specs.Turns.{IsTurn}
 use Rattle.ymx_table.proofs.Rounds.{turn-behind, found-before}
 use Rattle.ymx_table.proofs.Table.next_place.Goals as goal

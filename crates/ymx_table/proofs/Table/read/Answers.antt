@@ -1,5 +1,5 @@
 -- One record changes, and its flag with it.
-use Rattle.ymx_model.specs.Records.{end_read}
+use Rattle.ymx_model.specs.session.Records.{end_read}
 use Rattle.ymx_table.proofs.Writes.{written, kept-written, flags_within}
 use Rattle.ymx_table.proofs.Table.read.Goals as goal
 

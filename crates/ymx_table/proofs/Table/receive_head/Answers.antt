@@ -1,8 +1,8 @@
 -- One record changes.
 use Rattle.std.proofs.Common.{rules}
-use Rattle.ymx_model.specs.Records.{gets_head}
+use Rattle.ymx_model.specs.session.Records.{receive_head}
 use Rattle.ymx_table.proofs.Writes.{changed}
 use Rattle.ymx_table.proofs.Table.receive_head.Goals as goal
 
 pub returns : goal.returns
-returns c = changed _ c.args.id (gets_head c.args.acknowledges c.args.delta c.args.ends) _ _ _ c.change.ensures (λ e after answer ran. search rules)
+returns c = changed _ c.args.id (receive_head c.args.acknowledges c.args.delta c.args.ends) _ _ _ c.change.ensures (λ e after answer ran. search rules)

@@ -1,7 +1,7 @@
 -- One record changes, or none, and its flag with it.
 use Rattle.std.proofs.lemmas.Result.{IfOk-weaker, on_err_weaker}
 use Rattle.std.proofs.Common.{take}
-use Rattle.ymx_model.specs.Records.{end_write}
+use Rattle.ymx_model.specs.session.Records.{end_write}
 use Rattle.ymx_table.proofs.Writes.{written, unwritten, kept-written, flags_within}
 use Rattle.ymx_table.proofs.Table.write.Goals as goal
 

@@ -1,7 +1,7 @@
 -- The number found is not pending, so that the table stays sound, and is the first such.
 use Rattle.std.proofs.Common.{◌≡◌, ◌++◌, ◌∷◌, [], false, arith}
 use Rattle.ymx_model.specs.declared.types.PingStage.TheVariants.{Asked}
-use Rattle.ymx_model.specs.Pings.{Ping, is_pending}
+use Rattle.ymx_model.specs.session.Pings.{Ping, is_pending}
 use Rattle.ymx_control.proofs.PendingPings.{IsSound-asked}
 use Rattle.ymx_control.proofs.FreeNumbers.{is_pending-found, ArePendingBefore-free_from}
 use Rattle.ymx_control.proofs.pings.Pings.ask.Goals as goal

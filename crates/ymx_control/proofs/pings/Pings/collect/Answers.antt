@@ -1,6 +1,6 @@
 -- What is removed at the place of the number is its ping.
 use Rattle.std.proofs.Common.{◌≡◌, ◌==◌, ap, ◌∙◌, position, Some, arith}
-use Rattle.ymx_model.specs.Pings.{without_ping}
+use Rattle.ymx_model.specs.session.Pings.{without_ping}
 use Rattle.ymx_control.proofs.PendingPings.{without_ping-some, IsSound-without, table}
 use Rattle.ymx_control.proofs.pings.Pings.collect.Goals as goal
 

@@ -1,8 +1,8 @@
 use Rattle.std.proofs.Common.{ap, subst}
 use Rattle.ymx_model.specs.declared.types.Call.TheVariants as call
 use Rattle.ymx_model.specs.declared.types.Event.TheVariants as event
-use Rattle.ymx_model.specs.Sessions.{Session}
-use Rattle.ymx_model.specs.Histories.{CallGives}
+use Rattle.ymx_model.specs.session.Sessions.{Session}
+use Rattle.ymx_model.specs.session.Histories.{CallGives}
 use Rattle.ymx_session.specs.Replies.{opened_or}
 use Rattle.ymx_session.proofs.Sounds.{gives-sound, memory-gives}
 use Rattle.ymx_session.proofs.session.Session.open.Goals as goal

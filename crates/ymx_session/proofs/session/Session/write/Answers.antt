@@ -1,9 +1,9 @@
 use Rattle.std.proofs.Common.{◌≡◌, true, ap, subst}
 use Rattle.ymx_model.specs.declared.types.Call.TheVariants as call
 use Rattle.ymx_model.specs.declared.types.Event.TheVariants as event
-use Rattle.ymx_model.specs.Sessions.{Session}
-use Rattle.ymx_model.specs.Calls.{takes_memory}
-use Rattle.ymx_model.specs.Histories.{CallGives}
+use Rattle.ymx_model.specs.session.Sessions.{Session}
+use Rattle.ymx_model.specs.session.Calls.{takes_memory}
+use Rattle.ymx_model.specs.session.Histories.{CallGives}
 use Rattle.ymx_session.specs.Replies.{wrote_or, is_out_of_memory}
 use Rattle.ymx_session.proofs.Sounds.{gives-sound, memory-gives, write-in_room}
 use Rattle.ymx_session.proofs.session.Session.write.Goals as goal

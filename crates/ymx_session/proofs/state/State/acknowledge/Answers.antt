@@ -1,5 +1,5 @@
 use Rattle.std.proofs.Common.{sym, ◌∙◌}
-use Rattle.ymx_model.specs.Sessions.{is_own}
+use Rattle.ymx_model.specs.session.Sessions.{is_own}
 use Rattle.ymx_session.proofs.Heads.{ack-fits, acked-is, unacked-is}
 use Rattle.ymx_session.proofs.state.State.acknowledge.Goals as goal
 

@@ -1,5 +1,5 @@
 use Rattle.std.proofs.Common.{sym, ◌∙◌}
-use Rattle.ymx_model.specs.Sessions.{is_own}
+use Rattle.ymx_model.specs.session.Sessions.{is_own}
 use Rattle.ymx_session.proofs.Heads.{reset-offered, reset-rest, there-acked, not_offered-acked}
 use Rattle.ymx_session.proofs.state.State.reset_comes.Goals as goal
 

@@ -1,5 +1,5 @@
 use Rattle.std.proofs.Common.{◌≡◌, None, sym, ◌∙◌, rules}
-use Rattle.ymx_model.specs.Arrivals.{syn_fault}
+use Rattle.ymx_model.specs.session.Arrivals.{syn_fault}
 use Rattle.ymx_session.proofs.Heads.{resets-at-once}
 use Rattle.ymx_session.proofs.state.State.syn_comes.Goals as goal
 

@@ -1,0 +1,284 @@
+-- Emissions and deliveries feed at most twice as many frames as the load of the world.
+use Rattle.std.proofs.Common.{◌≡◌, ℕ, ◌+◌, ◌*◌, ◌≤◌, List, [], ◌∷◌, ◌++◌, length, take, drop, Bool, true, false, refl, sym, ap, subst, ◌∙◌, inl, inr, arith}
+use Rattle.std.specs.List.{All, concat}
+use Rattle.std.proofs.lemmas.Grind.{common_steps}
+use Rattle.std.proofs.lemmas.List.{append-nil, append_assoc, take-append-drop}
+use Rattle.std.proofs.lemmas.List.Elements.{All-nil, All-cons, All-append}
+use Rattle.std.proofs.lemmas.List.Folds.{concat-append}
+use Rattle.ymx_model.specs.declared.types.Status.{Status}
+use Rattle.ymx_model.specs.declared.types.Status.TheVariants.{Running, Lost, Broken, Closed}
+use Rattle.ymx_model.specs.declared.types.Direction.TheVariants.{AB, BA}
+use Rattle.ymx_model.specs.declared.types.Step.{Step}
+use Rattle.ymx_model.specs.declared.types.Step.TheVariants as step
+use Rattle.ymx_model.specs.declared.types.Answer.{Answer}
+use Rattle.ymx_model.specs.declared.types.Answer.TheVariants as answer
+use Rattle.ymx_model.specs.declared.types.Event.TheVariants as event
+use Rattle.ymx_model.specs.declared.types.Fed.{Fed}
+use Rattle.ymx_model.specs.declared.types.Reply.TheVariants as reply
+use Rattle.ymx_model.specs.session.Sessions.{Session, is_deaf, is_running}
+use Rattle.ymx_model.specs.session.Feeds.{Feeds, Takes}
+use Rattle.ymx_model.specs.session.Emissions.{Choice, Flows, Emits, moves_on}
+use Rattle.ymx_model.specs.world.Worlds.{World, Pipe, StepOfA, Steps, fed_count, pushed, without_front, mirror_world}
+use Rattle.ymx_model.specs.shared.Steps.{answer_of, is_of_a}
+use Rattle.ymx_model.specs.world.UnderWay.{IsOneFrame, IsUnderWay, held_bytes}
+use Rattle.ymx_model.specs.world.Load.{is_inside, one_if, world_load}
+use Rattle.ymx_law_session.specs.Limits.{IsWithin}
+use Rattle.ymx_law_session.proofs.limits.EmissionsKeep.{begin-keeps, moves-keep}
+use Rattle.ymx_law_session.proofs.limits.HistoriesKeep.{gives-keep}
+use Rattle.ymx_model.proofs.Tests.{when}
+use Rattle.ymx_law_machine.proofs.lanes.StreamFacts.{if-so_true, if-so_false}
+use Rattle.ymx_law_world.specs.Texts.{AreWithin}
+use Rattle.ymx_law_world.proofs.Emitted.{empty-bytes}
+use Rattle.ymx_law_world.proofs.Fed.{Follow, takes-heard}
+use Rattle.ymx_headline.specs.Laws.{IsOpenWorld, Carries, fed_by, is_carriage, made_whole}
+use Rattle.ymx_headline.proofs.bounds.Loads.{effort, weights, weights-append, weights-most, effort-most, begin-starts, sheds}
+use Rattle.ymx_headline.proofs.bounds.LoadBytes.{takes-bytes}
+
+-- ---- an emission
+
+-- these bytes go out: whole frames that begin, and what they take of the effort
+pub record Gave (out : List ℕ) (s t : Session) : Type 0 where
+  pub frames : List (List ℕ)
+  pub each : All IsOneFrame frames
+  pub bytes : s.outgoing.bytes ++ concat frames ≡ out ++ t.outgoing.bytes
+  pub effort : effort t + weights frames ≤ effort s
+  pub status : t.status ≡ s.status
+  pub incoming : t.incoming ≡ s.incoming
+
+begun-more : (b : ℕ) (was now all out rest : List ℕ) → was ≡ b ∷ now → now ++ all ≡ out ++ rest → was ++ all ≡ (b ∷ out) ++ rest
+begun-more b was now all out rest e p = rw e (ap (λ xs. b ∷ xs) p)
+
+begun-new : (b : ℕ) (none was now all out rest : List ℕ) → none ≡ [] → was ≡ b ∷ now → now ++ all ≡ out ++ rest → none ++ (was ++ all) ≡ (b ∷ out) ++ rest
+begun-new b none was now all out rest z e p = rw (z, e) (ap (λ xs. b ∷ xs) p)
+
+pub gave : (may : Choice → Session → Bool) (out : List ℕ) (s t : Session) → IsWithin s → Flows may out s t → Gave out s t
+gave may [] s t w e = subst (Gave [] s) (sym e) (record { frames = []; each = All-nil IsOneFrame; bytes = append-nil s.outgoing.bytes; effort = omega arith; status = refl; incoming = refl })
+gave may (b ∷ out) s t w (ready, inl (more, same), first, p) =
+    let within : IsWithin ready = subst IsWithin (sym same) w in
+    let m = sheds b ready first in
+    let k = gave may out (moves_on 1 ready) t (moves-keep 1 ready within) p in
+    let x = m.effort in
+    let y = k.effort in
+    subst (λ z. Gave (b ∷ out) z t) same (record {
+      frames = k.frames;
+      each = k.each;
+      bytes = begun-more b ready.outgoing.bytes (moves_on 1 ready).outgoing.bytes (concat k.frames) out t.outgoing.bytes m.bytes k.bytes;
+      effort = omega (arith, x, y);
+      status = k.status ∙ m.status;
+      incoming = k.incoming ∙ m.incoming;
+    })
+gave may (b ∷ out) s t w (ready, inr (none, (choice, ok, begun)), first, p) =
+    let within : IsWithin ready = begin-keeps choice s ready begun w in
+    let g = begin-starts choice s ready w begun in
+    let m = sheds b ready first in
+    let k = gave may out (moves_on 1 ready) t (moves-keep 1 ready within) p in
+    let x = m.effort in
+    let y = k.effort in
+    let z = g.effort in
+    record {
+      frames = ready.outgoing.bytes ∷ k.frames;
+      each = All-cons IsOneFrame ready.outgoing.bytes k.frames g.one k.each;
+      bytes = begun-new b s.outgoing.bytes ready.outgoing.bytes (moves_on 1 ready).outgoing.bytes (concat k.frames) out t.outgoing.bytes (empty-bytes s.outgoing.bytes none) m.bytes k.bytes;
+      effort = omega (arith, x, y, z);
+      status = k.status ∙ (m.status ∙ g.status);
+      incoming = k.incoming ∙ (m.incoming ∙ g.incoming);
+    }
+
+-- ---- a world whose pipes are open
+
+-- The frames under way in both directions, where the receiver still runs; no session is deaf.
+pub record Under (w : World) (ab ba : List (List ℕ)) : Type 0 where
+  pub awake_a : is_deaf w.a.status ≡ false
+  pub awake_b : is_deaf w.b.status ≡ false
+  pub within_a : IsWithin w.a
+  pub within_b : IsWithin w.b
+  pub open_ab : w.ab.stopped ≡ false
+  pub open_ba : w.ba.stopped ≡ false
+  pub text_ab : w.b.status ≡ Running → Follow w.b.incoming (w.ab.bytes ++ w.a.outgoing.bytes) ab
+  pub text_ba : w.a.status ≡ Running → Follow w.a.incoming (w.ba.bytes ++ w.b.outgoing.bytes) ba
+
+abbrev pub measure : World → (ab ba : List (List ℕ)) → ℕ
+measure w ab ba = effort w.a + effort w.b + weights ab + weights ba + one_if (is_inside w.a.incoming) + one_if (is_inside w.b.incoming)
+
+-- so many frames are fed wholly, and no more than the measure falls
+pub record Falls (w v : World) (ab ba : List (List ℕ)) (fed : ℕ) : Type 0 where
+  pub ab_now : List (List ℕ)
+  pub ba_now : List (List ℕ)
+  pub under : Under v ab_now ba_now
+  pub falls : measure v ab_now ba_now + fed ≤ measure w ab ba
+
+pub under-mirror : (w : World) (ab ba : List (List ℕ)) → Under w ab ba → Under (mirror_world w) ba ab
+under-mirror w ab ba u = record {
+  awake_a = u.awake_b;
+  awake_b = u.awake_a;
+  within_a = u.within_b;
+  within_b = u.within_a;
+  open_ab = u.open_ba;
+  open_ba = u.open_ab;
+  text_ab = u.text_ba;
+  text_ba = u.text_ab;
+}
+
+falls-mirror : (w v : World) (ab ba : List (List ℕ)) (fed : ℕ) → Falls (mirror_world w) (mirror_world v) ba ab fed → Falls w v ab ba fed
+falls-mirror w v ab ba fed f = let k = f.falls in record { ab_now = f.ba_now; ba_now = f.ab_now; under = under-mirror (mirror_world v) f.ab_now f.ba_now f.under; falls = omega (arith, k) }
+
+-- ---- the steps, at side A
+
+grown : (held bytes begun tail all out now more : List ℕ) → held ++ (bytes ++ begun) ≡ tail ++ all → begun ++ more ≡ out ++ now → held ++ ((bytes ++ out) ++ now) ≡ tail ++ (all ++ more)
+grown held bytes begun tail all out now more t e =
+    ap (λ xs. held ++ xs) (append_assoc bytes out now ∙ (ap (λ xs. bytes ++ xs) (sym e) ∙ sym (append_assoc bytes begun more)))
+    ∙ (sym (append_assoc held (bytes ++ begun) more) ∙ (ap (λ xs. xs ++ more) t ∙ append_assoc tail all more))
+
+pushed-open : (out : List ℕ) (p : Pipe) → p.stopped ≡ false → pushed out p ≡ record p { bytes = p.bytes ++ out }
+pushed-open out p e = rw e refl
+
+emitted-falls : (may : Choice → Session → Bool) (room : ℕ) (out : List ℕ) (s : Session) (w : World) (ab ba : List (List ℕ)) → Under w ab ba → Emits may w.a room out s →
+    Falls w (record w { a = s; ab = pushed out w.ab }) ab ba 0
+emitted-falls may room out s w ab ba u e =
+    let g = gave may out w.a s u.within_a e.flows in
+    let k = g.effort in
+    let n = weights-append ab g.frames in
+    let i : one_if (is_inside s.incoming) ≡ one_if (is_inside w.a.incoming) = ap (λ z. one_if (is_inside z)) g.incoming in
+    let within : IsWithin s = gives-keep may w.a s (event.Emit room) (reply.Emitted out) (out, refl, e) u.within_a in
+    subst (λ p. Falls w (record w { a = s; ab = p }) ab ba 0) (sym (pushed-open out w.ab u.open_ab)) (record {
+      ab_now = ab ++ g.frames;
+      ba_now = ba;
+      under = record {
+        awake_a = ap is_deaf g.status ∙ u.awake_a;
+        awake_b = u.awake_b;
+        within_a = within;
+        within_b = u.within_b;
+        open_ab = u.open_ab;
+        open_ba = u.open_ba;
+        text_ab = λ r. (let f = u.text_ab r in record {
+          tail = f.tail;
+          missing = f.missing;
+          each = All-append IsOneFrame ab g.frames f.each g.each;
+          text = grown (held_bytes w.b.incoming) w.ab.bytes w.a.outgoing.bytes f.tail (concat ab) out s.outgoing.bytes (concat g.frames) f.text g.bytes ∙ ap (λ xs. f.tail ++ xs) (sym (concat-append ab g.frames));
+        });
+        text_ba = λ r. subst (λ z. Follow z (w.ba.bytes ++ w.b.outgoing.bytes) ba) (sym g.incoming) (u.text_ba (sym g.status ∙ r));
+      };
+      falls = omega (arith, k, n, i);
+    })
+
+first-bytes : (k n : ℕ) (xs : List ℕ) → k ≤ length (take n xs) → take k (take n xs) ≡ take k xs
+first-bytes k n xs l = grind (arith, common_steps)
+
+cut-there : (k : ℕ) (xs begun : List ℕ) → take k xs ++ (drop k xs ++ begun) ≡ xs ++ begun
+cut-there k xs begun = sym (append_assoc (take k xs) (drop k xs) begun) ∙ ap (λ ys. ys ++ begun) (take-append-drop k xs)
+
+fed-falls : (may : Choice → Session → Bool) (n : ℕ) (fed : Fed) (s : Session) (w : World) (ab ba : List (List ℕ)) → Under w ab ba → Feeds w.b (take n w.ab.bytes) fed s →
+    Falls w (record w { b = s; ab = without_front fed.taken w.ab }) ab ba (made_whole (take fed.taken w.ab.bytes) w.b.incoming)
+fed-falls may n fed s w ab ba u f =
+    let k = fed.taken in
+    let same = first-bytes k n w.ab.bytes f.fits in
+    let took = subst (λ xs. Takes xs w.b s f.took.0) same f.took.1 in
+    let heard = takes-heard (take k w.ab.bytes) w.b s f.took.0 took in
+    let b = takes-bytes (take k w.ab.bytes) (drop k w.ab.bytes ++ w.a.outgoing.bytes) ab w.b s f.took.0 took u.within_b u.awake_b
+    (λ r. subst (λ xs. Follow w.b.incoming xs ab) (sym (cut-there k w.ab.bytes w.a.outgoing.bytes)) (u.text_ab r)) in
+    let e = b.effort in
+    record {
+      ab_now = b.left;
+      ba_now = ba;
+      under = record {
+        awake_a = u.awake_a;
+        awake_b = b.awake;
+        within_a = u.within_a;
+        within_b = gives-keep may w.b s (event.Feed (take n w.ab.bytes)) (reply.Fed fed) (fed, refl, f) u.within_b;
+        open_ab = u.open_ab;
+        open_ba = u.open_ba;
+        text_ab = b.follow;
+        text_ba = λ r. subst (λ z. Follow w.a.incoming (w.ba.bytes ++ z.bytes) ba) (sym heard.outgoing) (u.text_ba r);
+      };
+      falls = omega (arith, e);
+    }
+
+bytes-same : (a b : List ℕ) → reply.Emitted a ≡ reply.Emitted b → b ≡ a
+bytes-same a b e = cc
+
+-- how many frames a step feeds in the direction away from A
+abbrev fed_of : Step → Answer → World → ℕ
+fed_of (step.Deliver d n) (answer.Fed fed) w = made_whole (take fed.taken w.ab.bytes) w.b.incoming
+fed_of _ _ w = 0
+
+step-falls : (may : Choice → Session → Bool) (st : Step) (given : Answer) (w v : World) (ab ba : List (List ℕ)) → is_carriage st ≡ true → Under w ab ba → StepOfA may st given w v → Falls w v ab ba (fed_of st given w)
+step-falls may (step.At side call) given w v ab ba c u s = absurd cc
+step-falls may (step.Stop d) given w v ab ba c u s = absurd cc
+step-falls may (step.End d) given w v ab ba c u s = absurd cc
+step-falls may (step.Emit side room) given w v ab ba c u s =
+    let same = bytes-same s.0 s.2.0 s.2.1 in
+    subst (λ z. Falls w z ab ba 0) (sym s.4) (emitted-falls may room s.0 s.1 w ab ba u (subst (λ out. Emits may w.a room out s.1) same s.2.2))
+step-falls may (step.Deliver d n) given w v ab ba c u s =
+    let fed = s.2.0 in
+    let told = s.2.1 in
+    let now : v ≡ record w { b = s.1; ab = without_front fed.taken w.ab } = s.4 ∙ ap (λ r. record w { b = s.1; ab = without_front (fed_count r) w.ab }) told in
+    let said : given ≡ answer.Fed fed = s.3 ∙ ap answer_of told in
+    subst (λ z. Falls w v ab ba (fed_of (step.Deliver d n) z w)) (sym said) (subst (λ z. Falls w z ab ba (made_whole (take fed.taken w.ab.bytes) w.b.incoming)) (sym now) (fed-falls may n fed s.1 w ab ba u s.2.2))
+
+-- ---- the steps
+
+fed-at_a : (st : Step) (given : Answer) (w : World) → is_carriage st ≡ true → is_of_a st ≡ true → fed_of st given w ≡ fed_by st given w
+fed-at_a (step.At side call) given w c e = absurd cc
+fed-at_a (step.Stop d) given w c e = absurd cc
+fed-at_a (step.End d) given w c e = absurd cc
+fed-at_a (step.Emit side room) given w c e = refl
+fed-at_a (step.Deliver AB n) (answer.Fed fed) w c e = refl
+fed-at_a (step.Deliver AB n) given w c e = refl
+fed-at_a (step.Deliver BA n) given w c e = absurd cc
+
+fed-at_b : (st : Step) (given : Answer) (w : World) → is_carriage st ≡ true → is_of_a st ≡ false → fed_of st given (mirror_world w) ≡ fed_by st given w
+fed-at_b (step.At side call) given w c e = absurd cc
+fed-at_b (step.Stop d) given w c e = absurd cc
+fed-at_b (step.End d) given w c e = absurd cc
+fed-at_b (step.Emit side room) given w c e = refl
+fed-at_b (step.Deliver AB n) given w c e = absurd cc
+fed-at_b (step.Deliver BA n) (answer.Fed fed) w c e = refl
+fed-at_b (step.Deliver BA n) given w c e = refl
+
+falls : (may : Choice → Session → Bool) (st : Step) (given : Answer) (w v : World) (ab ba : List (List ℕ)) → is_carriage st ≡ true → Under w ab ba → Steps may st given w v → Falls w v ab ba (fed_by st given w)
+falls may st given w v ab ba c u s = elim (when (is_of_a st)) [
+  | inl t ↦ subst (Falls w v ab ba) (fed-at_a st given w c t) (step-falls may st given w v ab ba c u (if-so_true _ _ _ t s))
+  | inr t ↦ falls-mirror w v ab ba (fed_by st given w)
+      (subst (Falls (mirror_world w) (mirror_world v) ba ab) (fed-at_b st given w c t) (step-falls may st given (mirror_world w) (mirror_world v) ba ab c (under-mirror w ab ba u) (if-so_false _ _ _ t s)))
+]
+
+pub carries-falls : (may : Choice → Session → Bool) (sts : List Step) (given : List Answer) (w v : World) (ab ba : List (List ℕ)) (n : ℕ) → Under w ab ba → Carries may sts given w v n → n ≤ measure w ab ba
+carries-falls may [] [] w v ab ba n u c = let z = c.1 in omega arith
+carries-falls may (st ∷ sts) (given ∷ more) w v ab ba n u (is, x, rest, s, sum, c) =
+    let f = falls may st given w x ab ba is u s in
+    let k = carries-falls may sts more x v f.ab_now f.ba_now rest f.under c in
+    let l = f.falls in
+    omega (arith, k, l, sum)
+carries-falls may [] (given ∷ more) w v ab ba n u c = absurd c
+carries-falls may (st ∷ sts) [] w v ab ba n u c = absurd c
+
+-- ---- the load
+
+runs-awake : (st : Status) → is_running st ≡ true → is_deaf st ≡ false
+runs-awake Running e = refl
+runs-awake Lost e = absurd cc
+runs-awake (Broken f) e = refl
+runs-awake Closed e = absurd cc
+
+follows-on : (r : Session) (p : Pipe) (s : Session) (frames : List (List ℕ)) → IsUnderWay r p s frames → Follow r.incoming (p.bytes ++ s.outgoing.bytes) frames
+follows-on r p s frames u = record { tail = u.tail; missing = u.missing; each = u.each; text = u.text }
+
+pub bound : (may : Choice → Session → Bool) (sts : List Step) (given : List Answer) (w v : World) (ab ba : List (List ℕ)) (n : ℕ) → AreWithin w → IsOpenWorld w → IsUnderWay w.b w.ab w.a ab → IsUnderWay w.a w.ba w.b ba →
+    Carries may sts given w v n → n ≤ 2 * world_load w ab ba
+bound may sts given w v ab ba n h o p q c =
+    let u : Under w ab ba = record {
+      awake_a = runs-awake w.a.status o.a;
+      awake_b = runs-awake w.b.status o.b;
+      within_a = h.a;
+      within_b = h.b;
+      open_ab = o.ab.on;
+      open_ba = o.ba.on;
+      text_ab = λ r. follows-on w.b w.ab w.a ab p;
+      text_ba = λ r. follows-on w.a w.ba w.b ba q;
+    } in
+    let k = carries-falls may sts given w v ab ba n u c in
+    let a = effort-most w.a in
+    let b = effort-most w.b in
+    let x = weights-most ab in
+    let y = weights-most ba in
+    omega (arith, k, a, b, x, y)

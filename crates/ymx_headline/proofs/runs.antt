@@ -1,0 +1,3 @@
+-- Steps one after another, and what holds of whole runs.
+pub mod Steps
+pub mod Runs

@@ -1,0 +1,5 @@
+pub mod faces
+pub mod lanes
+pub mod order
+pub mod RunStates
+pub mod WorkedRuns

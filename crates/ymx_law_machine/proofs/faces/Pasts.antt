@@ -1,0 +1,36 @@
+-- What one side wrote and what the other got (this project's own).
+use Rattle.std.specs.Prelude.{ℕ, ◌+◌, ◌≡◌, ◌≤◌, List, [], ◌++◌, length, Bool, true, false}
+use Rattle.ymx_model.specs.stream.Lanes.{Lane, is_unsaid, is_here}
+use Rattle.ymx_model.specs.shared.Phases.{Phase, is_up}
+use Rattle.ymx_model.specs.stream.Streams.{Stream}
+
+-- What has happened to a lane so far: the bytes written, the bytes got, whether its writer's Finish was
+-- done, and whether a read of it was answered with the end.
+pub record Past : Type 0 where
+  pub written : List ℕ
+  pub got : List ℕ
+  pub finished : Bool
+  pub ended : Bool
+
+-- How a lane stands to its past. `rest`: what was written and not got. `back`: what was taken back.
+pub record Faces (window : ℕ) (writer reader : Phase) (l : Lane) (h : Past) (rest back : List ℕ) : Type 0 where
+  pub begins : h.written ≡ h.got ++ rest
+  pub holds : is_up reader ≡ true → rest ≡ l.here ++ (l.way ++ back)
+  pub whole : is_up reader ≡ true → is_up writer ≡ true → back ≡ []
+  pub kept : is_up reader ≡ true → is_unsaid l.fin ≡ false → back ≡ []
+  pub empty : is_here l.fin ≡ true → l.way ≡ []
+  pub said : is_unsaid l.fin ≡ false → h.finished ≡ true
+  pub over_fin : h.ended ≡ true → is_here l.fin ≡ true
+  pub over_here : h.ended ≡ true → l.here ≡ []
+  pub over_rest : h.ended ≡ true → rest ≡ []
+  pub near : is_up reader ≡ true → (length rest + l.credit) + l.owed ≤ window
+
+abbrev pub HasFace : (window : ℕ) → (writer reader : Phase) → Lane → Past → Type 0
+HasFace window writer reader l h = (rest : List ℕ) × (back : List ℕ) × Faces window writer reader l h rest back
+
+-- both lanes of a stream, and a reset that was said leaves its sayer's end down
+pub record HasFaces (mine yours : ℕ) (s : Stream) (past_out past_inn : Past) : Type 0 where
+  pub outbound : HasFace yours s.me s.you s.outbound past_out
+  pub inbound : HasFace mine s.you s.me s.inbound past_inn
+  pub rst_outbound : is_unsaid s.rst_outbound ≡ false → is_up s.me ≡ false
+  pub rst_inbound : is_unsaid s.rst_inbound ≡ false → is_up s.you ≡ false

@@ -1,0 +1,3 @@
+-- A record that was given up goes as soon as nothing of it is left to send.
+pub mod Settled
+pub mod SettledFrames

@@ -1,0 +1,2 @@
+-- Why a stream is offered or refused.
+pub mod SynCauses

@@ -1,0 +1,150 @@
+-- The spelling of a whole frame does what the frame does.
+use Rattle.std.proofs.Common.{◌≡◌, ◌⊎◌, inl, inr, ℕ, ◌<◌, ◌≤◌, List, [], ◌∷◌, ◌++◌, length, drop, Bool, true, false, ◌||◌, ◌==◌, nat_lt, Option, None, Some, refl, sym, ap, ◌∙◌, subst, arith}
+use Rattle.std.proofs.lemmas.Grind.{common_steps}
+use Rattle.std.proofs.lemmas.Bool.Decides.{nat_tests}
+use Rattle.ymx_header.specs.declared.header.Header.{Header}
+use Rattle.ymx_header.specs.Headers.{spelling, IsInRange, has_syn, has_rst, has_fin}
+use Rattle.ymx_header.proofs.Spellings.{header_of-spelling}
+use Rattle.ymx_model.specs.declared.types.Status.{Status}
+use Rattle.ymx_model.specs.declared.types.Status.TheVariants.{Running, Lost, Broken, Closed}
+use Rattle.ymx_model.specs.declared.types.Response.TheVariants.{Pong, Reject}
+use Rattle.ymx_model.specs.shared.Phases.{is_offered}
+use Rattle.ymx_model.specs.session.Records.{End, receive_rst}
+use Rattle.ymx_model.specs.session.Pings.{receive_answer}
+use Rattle.ymx_model.specs.shared.Lists.{look, drop_id}
+use Rattle.ymx_model.specs.session.Tables.{insert_record, remove_record}
+use Rattle.ymx_model.specs.session.Sessions.{Session, Incoming, is_own, is_spent, is_deaf, on_stream, settle}
+use Rattle.ymx_model.specs.session.Sessions.Incoming.{Head, Payload}
+use Rattle.ymx_model.specs.session.Arrivals.{answers_with, ping_comes, go_away_comes, payload, expects, record_fault, reset_comes, acknowledges, take_head, meets, meets_some, offer, session_refuses, syn_fault, syn_comes, header_fault, head_comes, piece_comes}
+use Rattle.ymx_model.specs.session.Feeds.{Takes, is_stuck, byte_comes, starves}
+use Rattle.ymx_law_session.specs.Frames.{frame_comes, payload_comes, starved_by}
+use Rattle.ymx_model.proofs.Tests.{split, agrees}
+use Rattle.ymx_law_session.proofs.pieces.Chunks.{takes-join}
+use Rattle.ymx_law_session.proofs.pieces.Pieces.{head-whole, piece-takes}
+use Rattle.ymx_law_session.proofs.limits.FramesKeep.{unless_fault-keeps}
+
+-- ---- what follows a head
+
+-- behind the head the payload is awaited, if there is one
+abbrev pub Awaits : Header → Session → Type 0
+Awaits h s = ((payload h ≡ 0) × (s.incoming ≡ Head [])) ⊎ ((stray : Bool) × (0 < payload h) × (s.incoming ≡ Payload h.id (payload h) (has_fin h) stray))
+
+abbrev pub AwaitsRunning : Header → Session → Type 0
+AwaitsRunning h s = s.status ≡ Running → Awaits h s
+
+expects-awaits : (h : Header) (stray : Bool) (s : Session) → s.incoming ≡ Head [] → AwaitsRunning h (expects h stray s)
+expects-awaits h stray s inc =
+    split (AwaitsRunning h) (payload h == 0) s (record s { incoming = Payload h.id (payload h) (has_fin h) stray })
+    (λ t r. inl (agrees (payload h) 0 t, inc)) (λ f r. inr (stray, grind (arith, nat_tests), refl))
+
+settled-incoming : (id : ℕ) (s : Session) → (settle id s).incoming ≡ s.incoming
+settled-incoming id s =
+    let P : Session → Type 0 = λ x. x.incoming ≡ s.incoming in
+    split P (is_spent s.table.window s.outgoing id (look id s.table.entries)) (record s { table = remove_record id s.table }) s (λ t. refl) (λ f. refl)
+
+reset-incoming : (id : ℕ) (e : End) (s : Session) → (reset_comes id e s).incoming ≡ s.incoming
+reset-incoming id e s =
+    let P : Session → Type 0 = λ x. x.incoming ≡ s.incoming in
+    split P (is_offered e.phase) (record s { table = remove_record id s.table; offered = drop_id id s.offered }) (settle id (on_stream id receive_rst s))
+    (λ t. refl) (λ f. settled-incoming id (on_stream id receive_rst s))
+
+meets-awaits : (h : Header) (e : End) (s : Session) → s.incoming ≡ Head [] → AwaitsRunning h (meets h e s)
+meets-awaits h e s inc =
+    split (AwaitsRunning h) (has_rst h) _ _
+    (λ r. expects-awaits h true (reset_comes h.id e (on_stream h.id (acknowledges (is_own s.role h.id) h) s)) (reset-incoming h.id e _ ∙ inc))
+    (λ r. expects-awaits h false (on_stream h.id (take_head (is_own s.role h.id) h) s) inc)
+
+no_payload : (h : Header) (n : ℕ) → (h.kind == n) ≡ true → 0 < n → payload h ≡ 0
+no_payload h n e l = grind (arith, nat_tests)
+
+pub head-awaits : (no_memory : Bool) (h : Header) (s : Session) → s.incoming ≡ Head [] → AwaitsRunning h (head_comes no_memory h s)
+head-awaits no_memory h s inc =
+    let P = AwaitsRunning h in
+    unless_fault-keeps P (header_fault h s) s _ (λ f r. cc) (λ none.
+    split P (h.kind == 2) (ping_comes h s) _ (λ t. let z = no_payload h 2 t (omega arith) in
+    split P (has_syn h) (answers_with (Pong h.length) s) (record s { pings = receive_answer h.length s.pings }) (λ e r. inl (z, inc)) (λ e r. inl (z, inc))) (λ a.
+    split P (h.kind == 3) (go_away_comes h s) _ (λ t. let z = no_payload h 3 t (omega arith) in
+    split P (nat_lt 2 h.length) _ _ (λ e r. cc) (λ e. split P (h.length == 1) _ _ (λ e r. cc) (λ e. split P (h.length == 2) _ _ (λ e r. cc) (λ e r. inl (z, inc))))) (λ b.
+    split P (has_syn h) (syn_comes no_memory h s) (meets_some h (look h.id s.table.entries) s)
+    (λ t. unless_fault-keeps P (syn_fault h s) s _ (λ f r. cc) (λ n0.
+    split P (session_refuses s || no_memory) _ _ (λ e. expects-awaits h true (answers_with (Reject h.id) s) inc)
+    (λ e. meets-awaits h (offer s) (record s { table = insert_record h.id (offer s) s.table; offered = s.offered ++ h.id ∷ [] }) inc)))
+    (λ t. of (look h.id s.table.entries)))))
+  where
+    of : (o : Option End) → AwaitsRunning h (meets_some h o s)
+    of None = expects-awaits h true s inc
+    of (Some e) = unless_fault-keeps (AwaitsRunning h) (record_fault h e) s (meets h e s) (λ f r. cc) (λ n0. meets-awaits h e s inc)
+
+-- ---- a head
+
+pub same_incoming : (s : Session) → s.incoming ≡ Head [] → record s { incoming = Head [] } ≡ s
+same_incoming s inc = grind (arith, common_steps)
+
+-- the spelling of a header, between two frames, is its head
+pub header-comes : (no_memory : Bool) (h : Header) (s : Session) → IsInRange h → s.status ≡ Running → s.incoming ≡ Head [] → is_stuck s ≡ false →
+    Takes (spelling h) s (head_comes no_memory h s) (starved_by no_memory h s)
+header-comes no_memory h s r st inc free =
+    let whole = head-whole no_memory (drop 1 (spelling h)) [] h.version s st inc free refl in
+    let P : Header → Type 0 = λ x. Takes (spelling h) s (head_comes no_memory x (record s { incoming = Head [] })) (starved_by no_memory x s) in
+    let Q : Session → Type 0 = λ x. Takes (spelling h) s (head_comes no_memory h x) (starved_by no_memory h s) in
+    subst Q (same_incoming s inc) (subst P (header_of-spelling h r) whole)
+
+-- ---- a whole frame
+
+append_none : (xs : List ℕ) → xs ++ [] ≡ xs
+append_none xs = grind (arith, common_steps)
+
+no_bytes : (xs : List ℕ) → length xs ≡ 0 → xs ≡ []
+no_bytes [] e = refl
+no_bytes (x ∷ xs) e = absurd (omega arith)
+
+pub frame-whole : (no_memory : Bool) (h : Header) (bytes : List ℕ) (s : Session) → IsInRange h → s.status ≡ Running → s.incoming ≡ Head [] → is_stuck s ≡ false →
+    length bytes ≡ payload h → (head_comes no_memory h s).status ≡ Running → Takes (spelling h ++ bytes) s (frame_comes no_memory h bytes s) (starved_by no_memory h s)
+frame-whole no_memory h bytes s r st inc free l run = of (head_comes no_memory h s).incoming refl (head-awaits no_memory h s inc run)
+  where
+    first : Takes (spelling h) s (head_comes no_memory h s) (starved_by no_memory h s)
+    first = header-comes no_memory h s r st inc free
+
+    second : (xs : List ℕ) (id n : ℕ) (fin stray : Bool) → length xs ≡ n → 0 < n → (head_comes no_memory h s).incoming ≡ Payload id n fin stray →
+        Takes xs (head_comes no_memory h s) (piece_comes xs id n fin stray (head_comes no_memory h s)) 0
+    second [] id n fin stray e some more = absurd (omega arith)
+    second (b ∷ bs) id n fin stray e some more = piece-takes b bs id n fin stray (head_comes no_memory h s) run more (omega arith)
+
+    of : (i : Incoming) → (head_comes no_memory h s).incoming ≡ i → Awaits h (head_comes no_memory h s) → Takes (spelling h ++ bytes) s (frame_comes no_memory h bytes s) (starved_by no_memory h s)
+    of i e (inl (none, between)) =
+        let P : List ℕ → Type 0 = λ xs. Takes xs s (frame_comes no_memory h bytes s) (starved_by no_memory h s) in
+        let Q : Incoming → Type 0 = λ i. Takes (spelling h) s (payload_comes bytes (head_comes no_memory h s) i) (starved_by no_memory h s) in
+        let nothing = no_bytes bytes (l ∙ none) in
+        subst P (sym (ap (λ xs. spelling h ++ xs) nothing ∙ append_none (spelling h))) (subst Q (sym between) first)
+    of i e (inr (stray, some, more)) =
+        let Q : Incoming → Type 0 = λ i. Takes (spelling h ++ bytes) s (payload_comes bytes (head_comes no_memory h s) i) (starved_by no_memory h s) in
+        let N : ℕ → Type 0 = λ n. Takes (spelling h ++ bytes) s (piece_comes bytes h.id (payload h) (has_fin h) stray (head_comes no_memory h s)) n in
+        subst Q (sym more) (subst N (omega arith) (takes-join (spelling h) bytes s _ _ _ 0 first (second bytes h.id (payload h) (has_fin h) stray l some more)))
+
+-- ---- a session that is deaf takes all, and stays as it is
+
+pub deaf-free : (s : Session) → is_deaf s.status ≡ true → is_stuck s ≡ false
+deaf-free s d = of s.status refl d
+  where
+    of : (st : Status) → s.status ≡ st → is_deaf st ≡ true → is_stuck s ≡ false
+    of Running e d = cc
+    of Lost e d = rw e refl
+    of (Broken f) e d = cc
+    of Closed e d = rw e refl
+
+deaf-starves : (b : ℕ) (s : Session) (i : Incoming) → starves false b s i ≡ 0
+deaf-starves b s (Head seen) = refl
+deaf-starves b s (Payload id n fin stray) = refl
+
+pub takes-deaf : (bs : List ℕ) (s : Session) → is_deaf s.status ≡ true → Takes bs s s 0
+takes-deaf [] s d = (refl, refl)
+takes-deaf (b ∷ bs) s d =
+    let e : byte_comes false b s ≡ s = rw d refl in
+    let P : Session → Type 0 = λ x. Takes bs x s 0 in
+    (false, 0, deaf-free s d, rw (deaf-starves b s s.incoming) refl, subst P (sym e) (takes-deaf bs s d))
+
+-- a payload's bytes, as a block
+pub block-takes : (bytes : List ℕ) (id n : ℕ) (fin stray : Bool) (s : Session) → s.status ≡ Running → s.incoming ≡ Payload id n fin stray → 0 < length bytes → length bytes ≤ n →
+    Takes bytes s (piece_comes bytes id n fin stray s) 0
+block-takes [] id n fin stray s st inc some fits = absurd (omega arith)
+block-takes (b ∷ bs) id n fin stray s st inc some fits = piece-takes b bs id n fin stray s st inc fits

@@ -1,0 +1,10 @@
+use Rattle.ymx_law_session.proofs.offers.SynCauses.{offered, rejected, reset_at_once, starved}
+use Rattle.ymx_law_session.proofs.streams_are_offered.Goals as goal
+
+pub returns : goal.returns
+returns c = record {
+  offered = offered;
+  rejected = rejected;
+  starved = starved;
+  reset_at_once = reset_at_once;
+}

@@ -1,9 +1,0 @@
-use Rattle.ymx_session_law.proofs.Goes.{flows-join, flows-cut, flows-take}
-use Rattle.ymx_session_law.proofs.emitted_in_pieces.Goals as goal
-
-pub returns : goal.returns
-returns c = record {
-  join = flows-join;
-  cut = flows-cut;
-  block = flows-take;
-}

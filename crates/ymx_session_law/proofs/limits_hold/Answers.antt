@@ -1,9 +1,0 @@
-use Rattle.ymx_session_law.proofs.HistoriesKeep.{new-keeps, gives-keep, replays-keep}
-use Rattle.ymx_session_law.proofs.limits_hold.Goals as goal
-
-pub returns : goal.returns
-returns c = record {
-  at_first = new-keeps;
-  kept = gives-keep;
-  always = replays-keep;
-}
