@@ -3,5 +3,6 @@
 pub mod Begins
 pub mod Mirrors
 pub mod Tables
+pub mod Texts
 pub mod Counts
 pub mod Still

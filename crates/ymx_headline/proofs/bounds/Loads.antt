@@ -28,7 +28,7 @@ use Rattle.ymx_law_session.specs.Limits.{IsWithin}
 use Rattle.ymx_law_session.proofs.limits.EmissionsKeep.{some_if, none_if, if_some}
 use Rattle.ymx_model.proofs.Tests.{split, differs, both_of, none_of, not_lt}
 use Rattle.ymx_law_world.proofs.Frames.{data-frame, short-frame}
-use Rattle.ymx_headline.proofs.emissions.Emits.{first_and_rest, only_one}
+use Rattle.ymx_law_world.proofs.Emitted.{first_and_rest, only_one}
 
 -- ---- sums
 

@@ -75,24 +75,11 @@ ended-runs Closed = refl
 ended-side : (is : Role) (s : Session) (side : SideState) → SameSide is s side → SameSide is (feed_end s) (side_ends side)
 ended-side is s side h =
     split (λ x. SameSide is (feed_end s) x) side.closed side (record side { lost = true })
-    (λ c. record {
-      role = h.role;
-      window = h.window;
-      next = h.next;
-      offered = h.offered;
-      closed = h.closed ∙ sym (ended-closed s.status);
-      lost = λ o. (let no : true ≡ false = sym c ∙ h.closed ∙ sym (ended-closed s.status) ∙ o in absurd cc);
-      sound = ended-sound s.status ∙ h.sound;
-    })
-    (λ c. record {
-      role = h.role;
-      window = h.window;
-      next = h.next;
-      offered = h.offered;
-      closed = h.closed ∙ sym (ended-closed s.status);
-      lost = λ o. sym (ended-lost s.status (sym (ended-closed s.status) ∙ o));
-      sound = ended-sound s.status ∙ h.sound;
-    })
+    (λ c. of side.lost (λ o. (let no : true ≡ false = sym c ∙ h.closed ∙ sym (ended-closed s.status) ∙ o in absurd cc)))
+    (λ c. of true (λ o. sym (ended-lost s.status (sym (ended-closed s.status) ∙ o))))
+  where
+    of : (l : Bool) → (is_closed (status_input_ends s.status) ≡ false → l ≡ is_lost (status_input_ends s.status)) → SameSide is (feed_end s) (record side { lost = l })
+    of l f = record { role = h.role; window = h.window; next = h.next; offered = h.offered; closed = h.closed ∙ sym (ended-closed s.status); lost = f; sound = ended-sound s.status ∙ h.sound }
 
 -- of the machine's side an end changes nothing that a direction needs
 ended-places : (side : SideState) → ((side_ends side).away ≡ side.away) × ((side_ends side).pings ≡ side.pings) × ((side_ends side).next_ping ≡ side.next_ping)

@@ -31,8 +31,9 @@ use Rattle.ymx_law_session.proofs.given_up.SettledFrames.{gives-settled}
 use Rattle.ymx_model.proofs.Tests.{same_or_not, agrees, when}
 use Rattle.ymx_headline.specs.Agrees.{AgreesAs, IsNumbered, SamePings, Sender, Receiver, Text, PingsUnderWay, sending, hearing, entry_number, number_of, count_in, asks, is_asked_at, is_there_at}
 use Rattle.ymx_headline.proofs.relation.Mirrors.{order-call, parity}
+use Rattle.ymx_headline.proofs.relation.Texts.{same-text, text-changes}
 use Rattle.ymx_headline.proofs.calls.Places.{placed, places-distinct, place-asked, asked-back, asked-asked_same, asked-asked_other, free-same, free-fits, collected-numbers, collected-back, collected-back_other, collected-asked, collected-pending}
-use Rattle.ymx_headline.proofs.calls.StreamCalls.{so-true, so-false, Called, open-rule, closed-rule, refused-at_both}
+use Rattle.ymx_headline.proofs.calls.StreamCalls.{so-true, so-false, Called, called-alone, open-rule, closed-rule, refused-at_both}
 
 -- ---- a call that changes the pings alone
 
@@ -47,36 +48,14 @@ StillAsked s frames p places = PingsUnderWay (record s { pings = p; places = pla
 
 asker-text : (s : Sender) (r : Receiver) (bytes : List ℕ) (parts : List (ℕ × Part)) (p : Pings) (places : List (ℕ × PingPlace)) → ((frames : List (List ℕ)) → PingsUnderWay s frames → StillAsked s frames p places) →
     Text s r bytes parts → Text (record s { pings = p; places = places }) r bytes parts
-asker-text s r bytes parts p places f t = record {
-  cut = t.cut;
-  tail = t.tail;
-  frames = t.frames;
-  kept = t.kept;
-  missing = t.missing;
-  each = t.each;
-  plain = t.plain;
-  text = t.text;
-  says = t.says;
-  away = record { once = t.away.once; means = t.away.means; said = t.away.said };
-  pings = f t.frames t.pings;
-  pongs = record { once = t.pongs.once; means = t.pongs.means; there = t.pongs.there };
-}
+asker-text s r bytes parts p places f t =
+    same-text s (record s { pings = p; places = places }) r r bytes parts t refl refl refl (record { once = t.away.once; means = t.away.means; said = t.away.said })
+    (f t.frames t.pings) (record { once = t.pongs.once; means = t.pongs.means; there = t.pongs.there })
 
 answerer-text : (s : Sender) (r : Receiver) (bytes : List ℕ) (parts : List (ℕ × Part)) (places : List (ℕ × PingPlace)) → Answered r.places places → Text s r bytes parts → Text s (record r { places = places }) bytes parts
-answerer-text s r bytes parts places f t = record {
-  cut = t.cut;
-  tail = t.tail;
-  frames = t.frames;
-  kept = t.kept;
-  missing = t.missing;
-  each = t.each;
-  plain = t.plain;
-  text = t.text;
-  says = t.says;
-  away = t.away;
-  pings = t.pings;
-  pongs = record { once = t.pongs.once; means = λ n e. f.means n (t.pongs.means n e); there = λ n e. f.there n ∙ t.pongs.there n e };
-}
+answerer-text s r bytes parts places f t =
+    same-text s s r (record r { places = places }) bytes parts t refl refl refl t.away t.pings
+    (record { once = t.pongs.once; means = λ n e. f.means n (t.pongs.means n e); there = λ n e. f.there n ∙ t.pongs.there n e })
 
 pings-change : (x y : Role) (w : World) (m : Machine) (h : AgreesAs x y w m) (p : Pings) (next : ℕ) (places : List (ℕ × PingPlace)) → SamePings p next places → Answered m.me.pings places →
     ((frames : List (List ℕ)) → PingsUnderWay (sending w.a m.me) frames → StillAsked (sending w.a m.me) frames p places) →
@@ -95,11 +74,7 @@ pings-change x y w m h p next places same answered still within settled order = 
     settled = settled;
   };
   b = h.b;
-  ab = record {
-    machine = h.ab.machine;
-    streams = h.ab.streams;
-    text = λ on. asker-text (sending w.a m.me) (hearing w.b m.you) w.ab.bytes h.streams.ab p places still (h.ab.text on);
-  };
+  ab = text-changes (sending w.a m.me) _ (hearing w.b m.you) w.ab h.streams.ab h.streams.ab _ _ (asker-text (sending w.a m.me) (hearing w.b m.you) w.ab.bytes h.streams.ab p places still) h.ab;
   ba = record {
     machine = h.ba.machine;
     streams = h.ba.streams;
@@ -206,18 +181,11 @@ ping-called x y w m h s reply (HasOutcome answer state) = elim (when (is_closed 
         let told : reply ≡ Pinged k = answer ∙ (ap (λ (z : Outcome). z.reply) e ∙ ap (λ n. Pinged n) (sym same)) in
         let next : s ≡ record w.a { pings = ask w.a.pings } = state ∙ ap (λ (z : Outcome). z.next) e in
         let rule = rule-of f now reply (so-false m.me.lost _ _ (h.a.whole.lost f ∙ l) (so-false (nat_le 16 (length m.me.pings)) _ _ (ap (nat_le 16) lengths ∙ q) (told, refl))) in
-        let P : Session → Type 0 = λ z. Called x y call.Ping reply w z m in
-        subst P (sym next) (record {
-          mid = now;
-          ids = [];
-          now = now;
-          rule = rule;
-          releases = refl;
-          agrees = ping-agrees x y w m h k same
-              (subst IsWithin next (gives-keep (λ b z. true) w.a s (event.Call call.Ping) reply gives h.a.within))
-              (subst IsSettled next (gives-settled (λ b z. true) w.a s (event.Call call.Ping) reply gives h.a.within h.a.settled))
-              (order-call call.Ping m now now reply [] (parity x y w m h) rule refl h.order);
-        })
+        called-alone x y call.Ping reply w s m _ now next rule
+        (ping-agrees x y w m h k same
+        (subst IsWithin next (gives-keep (λ b z. true) w.a s (event.Call call.Ping) reply gives h.a.within))
+        (subst IsSettled next (gives-settled (λ b z. true) w.a s (event.Call call.Ping) reply gives h.a.within h.a.settled))
+        (order-call call.Ping m now now reply [] (parity x y w m h) rule refl h.order))
 
 -- ---- a ping is collected
 
@@ -296,17 +264,10 @@ ponged-called k x y w m h s reply (HasOutcome answer state) = elim (when (is_clo
         let once = h.a.within.pings.once in
         let d = places-distinct m.me.pings w.a.pings.pending h.a.pings.numbers once in
         let there = is-back (look k m.me.pings) at in
-        let P : Session → Type 0 = λ z. Called x y (call.Ponged k) reply w z m in
-        subst P (sym next) (record {
-          mid = now;
-          ids = [];
-          now = now;
-          rule = rule;
-          releases = refl;
-          agrees = pings-change x y w m h (collect k w.a.pings) m.me.next_ping (without k m.me.pings)
-              (collected-same w.a.pings m.me.next_ping k m.me.pings once h.a.pings) (collected-answered k m.me.pings d there)
-              (λ frames u. collected-still (sending w.a m.me) k frames once b d there u)
-              (subst IsWithin next (gives-keep (λ b z. true) w.a s (event.Call (call.Ponged k)) reply gives h.a.within))
-              (subst IsSettled next (gives-settled (λ b z. true) w.a s (event.Call (call.Ponged k)) reply gives h.a.within h.a.settled))
-              (order-call (call.Ponged k) m now now reply [] (parity x y w m h) rule refl h.order);
-        })
+        called-alone x y (call.Ponged k) reply w s m _ now next rule
+        (pings-change x y w m h (collect k w.a.pings) m.me.next_ping (without k m.me.pings)
+        (collected-same w.a.pings m.me.next_ping k m.me.pings once h.a.pings) (collected-answered k m.me.pings d there)
+        (λ frames u. collected-still (sending w.a m.me) k frames once b d there u)
+        (subst IsWithin next (gives-keep (λ b z. true) w.a s (event.Call (call.Ponged k)) reply gives h.a.within))
+        (subst IsSettled next (gives-settled (λ b z. true) w.a s (event.Call (call.Ponged k)) reply gives h.a.within h.a.settled))
+        (order-call (call.Ponged k) m now now reply [] (parity x y w m h) rule refl h.order))

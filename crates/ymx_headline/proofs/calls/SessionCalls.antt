@@ -30,8 +30,9 @@ use Rattle.ymx_law_session.proofs.given_up.SettledFrames.{gives-settled}
 use Rattle.ymx_model.proofs.Tests.{both_of, when}
 use Rattle.ymx_headline.specs.Agrees.{AgreesAs, IsNumbered, SameAway, Sender, Receiver, Text, AwayUnderWay, sending, hearing, arrives, found, count_in, is_go_away}
 use Rattle.ymx_headline.proofs.relation.Mirrors.{refines-same, order-call, parity}
+use Rattle.ymx_headline.proofs.relation.Texts.{same-text, text-changes}
 use Rattle.ymx_headline.proofs.calls.PingCalls.{refused-is}
-use Rattle.ymx_headline.proofs.calls.StreamCalls.{so-true, so-false, Called, open-rule, closed-rule}
+use Rattle.ymx_headline.proofs.calls.StreamCalls.{so-true, so-false, Called, called-alone, open-rule, closed-rule}
 
 -- ---- go away
 
@@ -63,20 +64,9 @@ said-way s there frames h u = of s.here s.mark h u.means u.said
     of Sent Here k means said = record { once = u.once; means = means; said = said }
 
 said-text : (s : Sender) (r : Receiver) (bytes : List ℕ) (parts : List (ℕ × Part)) (there : Bool) → SameAway s.here there s.mark → Text s r bytes parts → Text (record s { here = mark_said s.here; mark = said_once s.mark }) r bytes parts
-said-text s r bytes parts there h t = record {
-  cut = t.cut;
-  tail = t.tail;
-  frames = t.frames;
-  kept = t.kept;
-  missing = t.missing;
-  each = t.each;
-  plain = t.plain;
-  text = t.text;
-  says = t.says;
-  away = said-way s there t.frames h t.away;
-  pings = record { once = t.pings.once; means = t.pings.means; asked = t.pings.asked };
-  pongs = record { once = t.pongs.once; means = t.pongs.means; there = t.pongs.there };
-}
+said-text s r bytes parts there h t =
+    same-text s (record s { here = mark_said s.here; mark = said_once s.mark }) r r bytes parts t refl refl refl (said-way s there t.frames h t.away)
+    (record { once = t.pings.once; means = t.pings.means; asked = t.pings.asked }) (record { once = t.pongs.once; means = t.pongs.means; there = t.pongs.there })
 
 away-agrees : (x y : Role) (w : World) (m : Machine) (h : AgreesAs x y w m) → IsWithin (record w.a { away = session_says w.a.away }) → IsSettled (record w.a { away = session_says w.a.away }) →
     IsNumbered (record m { me = record m.me { away = said_once m.me.away } }) → AgreesAs x y (record w { a = record w.a { away = session_says w.a.away } }) (record m { me = record m.me { away = said_once m.me.away } })
@@ -93,11 +83,7 @@ away-agrees x y w m h within settled order = record {
     settled = settled;
   };
   b = h.b;
-  ab = record {
-    machine = h.ab.machine;
-    streams = h.ab.streams;
-    text = λ on. said-text (sending w.a m.me) (hearing w.b m.you) w.ab.bytes h.streams.ab w.b.away.there h.a.away (h.ab.text on);
-  };
+  ab = text-changes (sending w.a m.me) _ (hearing w.b m.you) w.ab h.streams.ab h.streams.ab _ _ (said-text (sending w.a m.me) (hearing w.b m.you) w.ab.bytes h.streams.ab w.b.away.there h.a.away) h.ab;
   ba = h.ba;
   order = order;
 }
@@ -124,18 +110,11 @@ go_away-called x y w m h s reply (HasOutcome answer state) = elim (when (is_clos
         let told : reply ≡ Done = answer ∙ ap (λ (z : Outcome). z.reply) e in
         let next : s ≡ record w.a { away = session_says w.a.away } = state ∙ ap (λ (z : Outcome). z.next) e in
         let rule = rule-of f now reply (so-false m.me.lost _ _ (h.a.whole.lost f ∙ l) (told, refl)) in
-        let P : Session → Type 0 = λ z. Called x y call.GoAway reply w z m in
-        subst P (sym next) (record {
-          mid = now;
-          ids = [];
-          now = now;
-          rule = rule;
-          releases = refl;
-          agrees = away-agrees x y w m h
-              (subst IsWithin next (gives-keep (λ b z. true) w.a s (event.Call call.GoAway) reply gives h.a.within))
-              (subst IsSettled next (gives-settled (λ b z. true) w.a s (event.Call call.GoAway) reply gives h.a.within h.a.settled))
-              (order-call call.GoAway m now now reply [] (parity x y w m h) rule refl h.order);
-        })
+        called-alone x y call.GoAway reply w s m _ now next rule
+        (away-agrees x y w m h
+        (subst IsWithin next (gives-keep (λ b z. true) w.a s (event.Call call.GoAway) reply gives h.a.within))
+        (subst IsSettled next (gives-settled (λ b z. true) w.a s (event.Call call.GoAway) reply gives h.a.within h.a.settled))
+        (order-call call.GoAway m now now reply [] (parity x y w m h) rule refl h.order))
 
 -- ---- close
 
@@ -177,11 +156,7 @@ close-agrees x y w m h within settled order = record {
     settled = settled;
   };
   b = h.b;
-  ab = record {
-    machine = h.ab.machine;
-    streams = h.ab.streams;
-    text = λ on. closed-text (sending w.a m.me) (hearing w.b m.you) w.ab.bytes h.streams.ab (h.ab.text on);
-  };
+  ab = text-changes (sending w.a m.me) _ (hearing w.b m.you) w.ab h.streams.ab h.streams.ab _ _ (closed-text (sending w.a m.me) (hearing w.b m.you) w.ab.bytes h.streams.ab) h.ab;
   ba = record { machine = h.ba.machine; streams = h.ba.streams; text = λ on. absurd (closed-deaf (hearing w.a m.me) w.ba on) };
   order = order;
 }
@@ -196,15 +171,8 @@ close-called x y w m h s reply (HasOutcome answer state) =
     let gives : CallGives w.a call.Close reply s = HasOutcome answer state in
     let now : Machine = record m { me = record m.me { closed = true } } in
     let rule : Rule call.Close m reply now = so-false _ _ _ (never m.me.closed) (answer, refl) in
-    let P : Session → Type 0 = λ z. Called x y call.Close reply w z m in
-    subst P (sym state) (record {
-      mid = now;
-      ids = [];
-      now = now;
-      rule = rule;
-      releases = refl;
-      agrees = close-agrees x y w m h
-          (subst IsWithin state (gives-keep (λ b z. true) w.a s (event.Call call.Close) reply gives h.a.within))
-          (subst IsSettled state (gives-settled (λ b z. true) w.a s (event.Call call.Close) reply gives h.a.within h.a.settled))
-          (order-call call.Close m now now reply [] (parity x y w m h) rule refl h.order);
-    })
+    called-alone x y call.Close reply w s m _ now state rule
+    (close-agrees x y w m h
+    (subst IsWithin state (gives-keep (λ b z. true) w.a s (event.Call call.Close) reply gives h.a.within))
+    (subst IsSettled state (gives-settled (λ b z. true) w.a s (event.Call call.Close) reply gives h.a.within h.a.settled))
+    (order-call call.Close m now now reply [] (parity x y w m h) rule refl h.order))

@@ -48,6 +48,12 @@ pub record Called (x y : Role) (c : Call) (reply : Reply) (w : World) (s : Sessi
   pub releases : ReleasesOf ids mid now
   pub agrees : AgreesAs x y (record w { a = s }) now
 
+-- the machine's step is the call alone, and no record goes
+pub called-alone : (x y : Role) (c : Call) (reply : Reply) (w : World) (s : Session) (m : Machine) (t : Session) (now : Machine) → s ≡ t → Rule c m reply now → AgreesAs x y (record w { a = t }) now → Called x y c reply w s m
+called-alone x y c reply w s m t now e r h =
+    let P : Session → Type 0 = λ z. Called x y c reply w z m in
+    subst P (sym e) (record { mid = now; ids = []; now = now; rule = r; releases = refl; agrees = h })
+
 -- ---- the rule of a call
 
 pub so-false : (b : Bool) (P Q : Type 0) → b ≡ false → Q → MatchBool b P Q
@@ -86,9 +92,7 @@ stream-rule Forgets j m n r h = h
 
 -- a call that is refused at both
 pub refused-at_both : (x y : Role) (c : Call) (reply : Reply) (w : World) (s : Session) (m : Machine) → s ≡ w.a → Rule c m reply m → AgreesAs x y w m → Called x y c reply w s m
-refused-at_both x y c reply w s m e r h =
-    let P : Session → Type 0 = λ s. Called x y c reply w s m in
-    subst P (sym e) (record { mid = m; ids = []; now = m; rule = r; releases = refl; agrees = h })
+refused-at_both x y c reply w s m e r h = called-alone x y c reply w s m w.a m e r h
 
 -- ---- an end without a record
 
@@ -131,17 +135,10 @@ reacts-keep x y w m h s j c reply next open_ only within settled k kept =
     let mid : Machine = record m { streams = k.streams } in
     let rule = open-rule (call_on c j) m mid reply open_ (stream-rule c j m mid reply k.rule) in
     let order = order-call (call_on c j) m mid mid reply [] (parity x y w m h) rule refl h.order in
-    let P : Session → Type 0 = λ z. Called x y (call_on c j) reply w z m in
-    subst P (sym only.alone) (record {
-      mid = mid;
-      ids = [];
-      now = mid;
-      rule = rule;
-      releases = refl;
-      agrees = table-changes x y w m h s.table w.a.next m.me.next w.a.offered m.me.offered k.streams (put j next g.a.ends) h.a.whole.next h.a.whole.offered only.window
-          (keeps-put w.a.answers j w.a.table.entries s.table.entries next g.a.ends (λ i n. h.a.records.each i) only.others kept)
-          (subst IsWithin only.alone within) (subst IsSettled only.alone settled) k.refines order;
-    })
+    called-alone x y (call_on c j) reply w s m _ mid only.alone rule
+    (table-changes x y w m h s.table w.a.next m.me.next w.a.offered m.me.offered k.streams (put j next g.a.ends) h.a.whole.next h.a.whole.offered only.window
+    (keeps-put w.a.answers j w.a.table.entries s.table.entries next g.a.ends (λ i n. h.a.records.each i) only.others kept)
+    (subst IsWithin only.alone within) (subst IsSettled only.alone settled) k.refines order)
 
 -- the record has gone: it was given up, and nothing of it was left
 reacts-release : (x y : Role) (w : World) (m : Machine) (h : AgreesAs x y w m) (s : Session) (j : ℕ) (c : StreamCall) (reply : Reply) (next : End) →

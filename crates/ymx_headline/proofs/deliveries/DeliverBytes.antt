@@ -32,7 +32,8 @@ use Rattle.ymx_headline.specs.Agrees.{AgreesAs, Keeps, RejectsOnce, Text, Sender
 use Rattle.ymx_headline.proofs.relation.Mirrors.{order-moves, parity}
 use Rattle.ymx_headline.proofs.relation.Tables.{keeps-put}
 use Rattle.ymx_headline.proofs.deliveries.DeliverMoves.{Arrives, Plain, byte-comes, parts-come}
-use Rattle.ymx_headline.proofs.deliveries.DeliverTexts.{answered-text, header-text}
+use Rattle.ymx_headline.proofs.deliveries.DeliverTexts.{header-text}
+use Rattle.ymx_headline.proofs.relation.Texts.{answered-text, text-changes}
 
 -- Side A takes bytes, of which `rest` are left on the pipe, and is then s.
 pub record Delivered (x y : Role) (s : Session) (rest : List ℕ) (w : World) (m : Machine) (counted : ℕ) : Type 0 where
@@ -65,11 +66,7 @@ arrival-agrees x y w m h table offered ids answers i rest parts ends counted sam
       settled = settled;
     };
     b = h.b;
-    ab = record {
-      machine = h.ab.machine;
-      streams = h.ab.streams;
-      text = λ with_record. answered-text (sending w.a m.me) (hearing w.b m.you) w.ab.bytes h.streams.ab answers pongs_same (h.ab.text with_record);
-    };
+    ab = text-changes (sending w.a m.me) _ (hearing w.b m.you) w.ab h.streams.ab h.streams.ab _ _ (answered-text (sending w.a m.me) (hearing w.b m.you) w.ab.bytes h.streams.ab answers pongs_same) h.ab;
     ba = record {
       machine = h.ba.machine;
       streams = record { same = h.ba.streams.same; empty = λ t. (let no : true ≡ false = sym t ∙ runs in absurd cc) };

@@ -26,7 +26,8 @@ use Rattle.ymx_model.proofs.Tests.{same_or_not}
 use Rattle.ymx_law_session.proofs.limits.Pings.{pending-staged}
 use Rattle.ymx_law_machine.proofs.order.Maps.{look-change, look-change_other}
 use Rattle.ymx_headline.specs.Agrees.{AgreesAs, RejectsOnce, SamePings, Sender, Receiver, Text, PingsUnderWay, PongsUnderWay, pongs_of, sending, hearing, is_rejected, is_asked_at, is_there_at, number_of, entry_number, asks, replies, is_go_away, count_in, pongs}
-use Rattle.ymx_headline.proofs.deliveries.DeliverTexts.{count-skip, count-first, away-rest, pings-rest, pongs-rest, same-text}
+use Rattle.ymx_headline.proofs.deliveries.DeliverTexts.{count-skip, count-first, away-rest, pings-rest, pongs-rest}
+use Rattle.ymx_headline.proofs.relation.Texts.{same-text}
 use Rattle.ymx_headline.proofs.deliveries.DeliverBytes.{Delivered, delivered-is}
 use Rattle.ymx_headline.proofs.deliveries.DeliverStreams.{TakingHead}
 use Rattle.ymx_headline.proofs.deliveries.DeliverSession.{session-frame, session-text, session-arrives, one-less, some-more, count-less, no-count}

@@ -26,7 +26,8 @@ use Rattle.ymx_model.proofs.Lists.{look-change_same, look-change_other, look-wit
 use Rattle.ymx_law_record.specs.Sides.{frame_says}
 use Rattle.ymx_headline.specs.Agrees.{AgreesAs, Keeps, OnlyRejects, IsPlain, all_parts, is_absent, is_rejected}
 use Rattle.ymx_headline.proofs.relation.Tables.{keeps-put}
-use Rattle.ymx_headline.proofs.emissions.Emits.{lingers, none_due, is_not}
+use Rattle.ymx_law_record.proofs.Calls.{lingers, none_due}
+use Rattle.ymx_headline.proofs.emissions.Emits.{is_not}
 use Rattle.ymx_headline.proofs.deliveries.DeliverMoves.{Arrives, part_came, drop-none, reset-comes, release-comes}
 use Rattle.ymx_headline.proofs.deliveries.DeliverTexts.{awaited}
 use Rattle.ymx_headline.proofs.deliveries.DeliverBytes.{Delivered}

@@ -148,29 +148,3 @@ pongs-rest s r f fs e h = record {
 -- pongs don't see what the receiver has of a frame, nor rejections
 pub pongs-hear : (s : Sender) (r q : Receiver) (fs : List (List ℕ)) → q.places ≡ r.places → PongsUnderWay s r fs → PongsUnderWay s q fs
 pongs-hear s r q fs e h = record { once = h.once; means = λ n t. rw e (h.means n t); there = λ n t. rw e (h.there n t) }
-
--- what is under way stays, and says the same of the session as the sender and the receiver now say
-pub same-text : (s t : Sender) (r q : Receiver) (bytes : List ℕ) (parts : List (ℕ × Part)) (z : Text s r bytes parts) → t.status ≡ s.status → t.outgoing ≡ s.outgoing → q.incoming ≡ r.incoming →
-    AwayUnderWay t z.frames → PingsUnderWay t z.frames → PongsUnderWay t q z.frames → Text t q bytes parts
-same-text s t r q bytes parts z st be inc away pings pongs = record {
-  cut = z.cut;
-  tail = z.tail;
-  frames = z.frames;
-  kept = λ c. z.kept (ap is_closed (sym st) ∙ c);
-  missing = z.missing ∙ ap lacking (sym inc);
-  each = z.each;
-  plain = z.plain;
-  text = rw (inc, be) z.text;
-  says = rw inc z.says;
-  away = away;
-  pings = pings;
-  pongs = pongs;
-}
-
--- the sender's answers change, but for those to pings
-pub answered-text : (s : Sender) (r : Receiver) (bytes : List ℕ) (parts : List (ℕ × Part)) (answers : List Response) → ((n : ℕ) → pongs n answers ≡ pongs n s.answers) → Text s r bytes parts →
-    Text (record s { answers = answers }) r bytes parts
-answered-text s r bytes parts answers e t =
-    same-text s (record s { answers = answers }) r r bytes parts t refl refl refl (record { once = t.away.once; means = t.away.means; said = t.away.said })
-    (record { once = t.pings.once; means = t.pings.means; asked = t.pings.asked })
-    (record { once = λ n. rw (e n) (t.pongs.once n); means = λ n. rw (e n) (t.pongs.means n); there = λ n. rw (e n) (t.pongs.there n) })

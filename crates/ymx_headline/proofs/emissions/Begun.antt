@@ -37,6 +37,7 @@ use Rattle.ymx_law_world.proofs.Frames.{data-frame, short-frame}
 use Rattle.ymx_headline.specs.Agrees.{AgreesAs, IsNumbered, AgreesOn, Keeps, Sender, Receiver, Text, sending, hearing, found, IsPlainFrame, parts_in, all_parts, parts_left, count_in, is_go_away, asks, replies}
 use Rattle.ymx_headline.proofs.relation.Mirrors.{refines-same}
 use Rattle.ymx_headline.proofs.relation.Tables.{keeps-put}
+use Rattle.ymx_headline.proofs.relation.Texts.{text-changes}
 use Rattle.ymx_headline.proofs.relation.Counts.{Stands, stands, no-record}
 use Rattle.ymx_headline.proofs.calls.Ends.{no-text}
 
@@ -276,12 +277,9 @@ begun-agrees x y w m h id limit k e runs none few l due within settled =
         settled = settled;
       };
       b = h.b;
-      ab = record {
-        machine = h.ab.machine;
-        streams = h.ab.streams;
-        text = λ with_record. subst (λ ps. Text (sending (begun_with id limit k e w.a) m.me) (hearing w.b m.you) w.ab.bytes (g.ab ++ tagged id ps)) parts
-            (begun-text (sending w.a m.me) (hearing w.b m.you) w.ab.bytes g.ab id (parts_of k win limit e) (spelled k win limit id e) (runs-open w.a.status runs) none is (h.ab.text with_record));
-      };
+      ab = text-changes (sending w.a m.me) _ (hearing w.b m.you) w.ab g.ab _ _ _
+          (λ t. subst (λ ps. Text (sending (begun_with id limit k e w.a) m.me) (hearing w.b m.you) w.ab.bytes (g.ab ++ tagged id ps)) parts
+          (begun-text (sending w.a m.me) (hearing w.b m.you) w.ab.bytes g.ab id (parts_of k win limit e) (spelled k win limit id e) (runs-open w.a.status runs) none is t)) h.ab;
       ba = h.ba;
       order = h.order;
     }

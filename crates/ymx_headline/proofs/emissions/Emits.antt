@@ -32,7 +32,8 @@ use Rattle.ymx_model.proofs.Lists.{look-without_same, look-without_other}
 use Rattle.ymx_law_session.proofs.due.Ready.{due-kind}
 use Rattle.ymx_law_session.proofs.limits.EmissionsKeep.{some_if, none_if, if_some, begin-keeps, moves-keep}
 use Rattle.ymx_law_session.proofs.given_up.SettledFrames.{begin-settled, moves-settled}
-use Rattle.ymx_law_world.proofs.Emitted.{empty-bytes}
+use Rattle.ymx_law_record.proofs.Calls.{lingers, none_due}
+use Rattle.ymx_law_world.proofs.Emitted.{empty-bytes, first_and_rest, only_one}
 use Rattle.ymx_headline.specs.Agrees.{AgreesAs, Keeps, found}
 use Rattle.ymx_headline.proofs.relation.Mirrors.{refines-same, order-releases, parity}
 use Rattle.ymx_headline.proofs.relation.Tables.{change-found, keeps-put}
@@ -47,28 +48,9 @@ pub record Emitted (x y : Role) (bytes : List ℕ) (w : World) (t : Session) (m 
 
 -- ---- one byte
 
-pub first_and_rest : (b : ℕ) (xs : List ℕ) → take 1 xs ≡ b ∷ [] → xs ≡ b ∷ drop 1 xs
-first_and_rest b [] e = absurd cc
-first_and_rest b (x ∷ xs) e = cc
-
-pub only_one : (b : ℕ) (xs : List ℕ) → take 1 xs ≡ b ∷ [] → nat_lt 1 (length xs) ≡ false → xs ≡ b ∷ []
-only_one b [] e l = absurd cc
-only_one b (x ∷ []) e l = e
-only_one b (x ∷ y ∷ xs) e l = absurd (grind (arith, nat_tests))
-
-pub lingers : (p : Phase) → is_lingering p ≡ true → p ≡ Lingering
-lingers p e = grind arith
-
 pub is_not : (b : Bool) → not b ≡ true → b ≡ false
 is_not true e = cc
 is_not false e = refl
-
-pub none_due : (window : ℕ) (e : End) → is_due window e ≡ false → next_kind window e ≡ None
-none_due window e d = of (next_kind window e) (sym (due-kind window e) ∙ d)
-  where
-    of : (k : Option FrameKind) → is_some k ≡ false → k ≡ None
-    of None z = refl
-    of (Some k) z = cc
 
 stays-byte : (x y : Role) (w : World) (m : Machine) (h : AgreesAs x y w m) (b : ℕ) (begun : Outgoing) → w.a.outgoing.bytes ≡ b ∷ begun.bytes → IsWithin (record w.a { outgoing = begun }) → IsSettled (record w.a { outgoing = begun }) →
     Emitted x y (b ∷ []) w (record w.a { outgoing = begun }) m

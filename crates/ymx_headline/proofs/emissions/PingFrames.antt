@@ -26,6 +26,7 @@ use Rattle.ymx_law_session.proofs.given_up.SettledFrames.{begin-settled}
 use Rattle.ymx_law_world.proofs.Emitted.{empty-bytes}
 use Rattle.ymx_law_world.proofs.Frames.{short-frame}
 use Rattle.ymx_headline.specs.Agrees.{AgreesAs, SameEnds, Sender, Receiver, Text, sending, hearing, count_in, is_go_away, asks, replies, pongs, pongs_of, is_asked_at}
+use Rattle.ymx_headline.proofs.relation.Texts.{text-changes}
 use Rattle.ymx_headline.proofs.emissions.Begun.{count-more, runs-open}
 use Rattle.ymx_headline.proofs.emissions.Emits.{BeginsAlike}
 use Rattle.ymx_headline.proofs.emissions.SessionFrames.{grown-text, count-one}
@@ -102,12 +103,8 @@ pong-begins x y w m h n more e runs none within settled = record {
     settled = settled;
   };
   b = h.b;
-  ab = record {
-    machine = h.ab.machine;
-    streams = h.ab.streams;
-    text = λ on. (let t = h.ab.text on in
-        pong-text (sending w.a m.me) (hearing w.b m.you) w.ab.bytes h.streams.ab n more (pong-fits x y w m h n more e t) (runs-open w.a.status runs) e none t);
-  };
+  ab = text-changes (sending w.a m.me) _ (hearing w.b m.you) w.ab h.streams.ab h.streams.ab _ _
+      (λ t. pong-text (sending w.a m.me) (hearing w.b m.you) w.ab.bytes h.streams.ab n more (pong-fits x y w m h n more e t) (runs-open w.a.status runs) e none t) h.ab;
   ba = h.ba;
   order = h.order;
 }
@@ -211,11 +208,8 @@ ping-begins n x y w m t h none b =
         settled = subst IsSettled p.1 (begin-settled (ThePing n) w.a t none b h.a.settled);
       };
       b = h.b;
-      ab = record {
-        machine = h.ab.machine;
-        streams = h.ab.streams;
-        text = λ on. ping-text (sending w.a m.me) (hearing w.b m.you) w.ab.bytes h.streams.ab n small q.0 (runs-open w.a.status q.0) q.1 (empty-bytes w.a.outgoing.bytes none) (h.ab.text on);
-      };
+      ab = text-changes (sending w.a m.me) _ (hearing w.b m.you) w.ab h.streams.ab h.streams.ab _ _
+          (ping-text (sending w.a m.me) (hearing w.b m.you) w.ab.bytes h.streams.ab n small q.0 (runs-open w.a.status q.0) q.1 (empty-bytes w.a.outgoing.bytes none)) h.ab;
       ba = h.ba;
       order = h.order;
     })

@@ -25,7 +25,7 @@ use Rattle.ymx_model.proofs.Tests.{same_or_not}
 use Rattle.ymx_headline.specs.Agrees.{AgreesAs, Keeps, OnlyRejects, RejectsOnce, Sender, Receiver, Text, sending, hearing, found, is_absent, is_rejected, pongs}
 use Rattle.ymx_headline.proofs.relation.Mirrors.{refines-same}
 use Rattle.ymx_headline.proofs.relation.Counts.{Stands, stands}
-use Rattle.ymx_headline.proofs.deliveries.DeliverTexts.{answered-text}
+use Rattle.ymx_headline.proofs.relation.Texts.{answered-text, text-changes}
 use Rattle.ymx_headline.proofs.emissions.Begun.{begun-text, spelled-is, fits, runs-open}
 
 absent-idle : (window : ℕ) (e : End) → is_absent e.phase ≡ true → OnlyRejects true e → next_kind window e ≡ Some Reset
@@ -105,12 +105,9 @@ reject-begins x y w m h j more e runs none within settled =
         settled = settled;
       };
       b = h.b;
-      ab = record {
-        machine = h.ab.machine;
-        streams = h.ab.streams;
-        text = λ on. begun-text (record (sending w.a m.me) { answers = more }) (hearing w.b m.you) w.ab.bytes g.ab j (Rst ∷ []) (answer_frame (Reject j)) (runs-open w.a.status runs) none is
-            (text-answers (sending w.a m.me) (hearing w.b m.you) w.ab.bytes g.ab j more e (h.ab.text on));
-      };
+      ab = text-changes (sending w.a m.me) _ (hearing w.b m.you) w.ab g.ab _ _ _
+          (λ t. begun-text (record (sending w.a m.me) { answers = more }) (hearing w.b m.you) w.ab.bytes g.ab j (Rst ∷ []) (answer_frame (Reject j)) (runs-open w.a.status runs) none is
+          (text-answers (sending w.a m.me) (hearing w.b m.you) w.ab.bytes g.ab j more e t)) h.ab;
       ba = h.ba;
       order = h.order;
     }

@@ -22,6 +22,7 @@ use Rattle.ymx_law_session.proofs.given_up.SettledFrames.{begin-settled}
 use Rattle.ymx_law_world.proofs.Emitted.{empty-bytes}
 use Rattle.ymx_law_world.proofs.Frames.{short-frame}
 use Rattle.ymx_headline.specs.Agrees.{AgreesAs, Sender, Receiver, Text, AwayUnderWay, PingsUnderWay, PongsUnderWay, sending, hearing, IsPlainFrame, parts_in, all_parts, parts_left, count_in, is_go_away, asks, replies}
+use Rattle.ymx_headline.proofs.relation.Texts.{text-changes}
 use Rattle.ymx_headline.proofs.emissions.Begun.{count-more, parts-more, concat-more, text-more, runs-open}
 use Rattle.ymx_headline.proofs.emissions.Emits.{BeginsAlike}
 
@@ -111,11 +112,8 @@ go_away-begins x y w m t h none b =
         settled = subst IsSettled p.1 (begin-settled TheGoAway w.a t none b h.a.settled);
       };
       b = h.b;
-      ab = record {
-        machine = h.ab.machine;
-        streams = h.ab.streams;
-        text = λ on. go_away-text (sending w.a m.me) (hearing w.b m.you) w.ab.bytes h.streams.ab q.0 (runs-open w.a.status q.0) q.1 (empty-bytes w.a.outgoing.bytes none) (h.ab.text on);
-      };
+      ab = text-changes (sending w.a m.me) _ (hearing w.b m.you) w.ab h.streams.ab h.streams.ab _ _
+          (go_away-text (sending w.a m.me) (hearing w.b m.you) w.ab.bytes h.streams.ab q.0 (runs-open w.a.status q.0) q.1 (empty-bytes w.a.outgoing.bytes none)) h.ab;
       ba = h.ba;
       order = h.order;
     })
