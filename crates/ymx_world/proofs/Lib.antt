@@ -1,0 +1,5 @@
+pub mod Runs
+pub mod Acts
+pub mod Orders
+pub mod Headlines
+pub mod NewWorlds

@@ -1,0 +1,147 @@
+//! A joint order of the histories of two sessions.
+
+ghost use Rattle.std.specs.Prelude.{◌≡◌, ◌<◌, ◌+◌, ◌++◌, length, drop, List, true, false, IfOk, IfSome, IfNone};
+ghost use Rattle.ymx_model.specs.declared.types.Step.{Step as TheStep};
+ghost use Rattle.ymx_model.specs.world.Worlds.{Pipe as PipeValue};
+ghost use Rattle.ymx_world.specs.Joints.{into, put, Gets, steps_of, Advances, IsStuck, IsJointOrder};
+
+use crate::pipe::Pipe;
+use std::alloc::{AllocError, Global};
+use ymx_model::{Bytes, Call, Direction, Entry, Event, Reply, Side, Step};
+
+/// A copy of a call.
+fn copy_of(alloc: Global, call: &Call) -> Result<Call, AllocError>
+    ensures { IfOk result (λ copy. copy ≡ call.now) }
+{
+    Ok(match call {
+        Call::Open => Call::Open,
+        Call::OpenWith(bytes) => Call::OpenWith(Bytes::from_slice(alloc, bytes.as_slice())?),
+        Call::Accept => Call::Accept,
+        Call::Write(id, bytes) => Call::Write(*id, Bytes::from_slice(alloc, bytes.as_slice())?),
+        Call::Read(id, size) => Call::Read(*id, *size),
+        Call::Finish(id) => Call::Finish(*id),
+        Call::Reset(id) => Call::Reset(*id),
+        Call::Forget(id) => Call::Forget(*id),
+        Call::Ping => Call::Ping,
+        Call::Ponged(number) => Call::Ponged(*number),
+        Call::GoAway => Call::GoAway,
+        Call::Close => Call::Close,
+    })
+}
+
+/// The pipe that a side reads.
+fn into_side(side: Side) -> Direction
+    ensures { result ≡ into side }
+{
+    match side {
+        Side::A => Direction::BA,
+        Side::B => Direction::AB,
+    }
+}
+
+/// Takes the next entry of a side, if it may come now.
+fn advance(
+    alloc: Global,
+    side: Side,
+    entry: &Entry,
+    to: &mut Pipe,
+    from: &mut Pipe,
+    steps: &mut Vec<Step>,
+) -> Result<bool, AllocError>
+    ensures gets { IfOk result (λ yes. yes ≡ true → Gets entry.now.event entry.now.reply from.old from.new) }
+    ensures puts { IfOk result (λ yes. yes ≡ true → to.new ≡ put entry.now.event entry.now.reply to.old) }
+    ensures steps { IfOk result (λ yes. yes ≡ true → steps.new.items ≡ steps.old.items ++ steps_of side from.old entry.now.event) }
+    ensures same { IfOk result (λ yes. yes ≡ false → (from.new ≡ from.old) × (to.new ≡ to.old) × (steps.new.items ≡ steps.old.items)) }
+    ensures none { IfOk result (λ yes. yes ≡ false → (q : PipeValue) → Gets entry.now.event entry.now.reply from.old q → ⊥) }
+{
+    match &entry.event {
+        Event::Call(call) => {
+            steps.push(Step::At(side, copy_of(alloc, call)?))?;
+            Ok(true)
+        }
+        Event::Emit(room) => match &entry.reply {
+            Reply::Emitted(bytes) => {
+                to.push(bytes.as_slice())?;
+                steps.push(Step::Emit(side, *room))?;
+                Ok(true)
+            }
+            _ => Ok(false),
+        },
+        Event::Feed(bytes) => {
+            if from.is_ended() {
+                return Ok(true);
+            }
+            match &entry.reply {
+                Reply::Fed(fed) => {
+                    if !from.take_front(bytes.as_slice(), fed.taken) {
+                        return Ok(false);
+                    }
+                    steps.push(Step::Deliver(into_side(side), bytes.len()))?;
+                    Ok(true)
+                }
+                _ => Ok(false),
+            }
+        }
+        Event::FeedEnd => {
+            from.end();
+            steps.push(Step::Stop(into_side(side)))?;
+            steps.push(Step::End(into_side(side)))?;
+            Ok(true)
+        }
+    }
+}
+
+/// Takes the entry at this place, if there is one and it may come now.
+fn try_next(
+    alloc: Global,
+    side: Side,
+    entries: &[Entry],
+    at: usize,
+    to: &mut Pipe,
+    from: &mut Pipe,
+    steps: &mut Vec<Step>,
+) -> Result<bool, AllocError>
+    ensures within { IfOk result (λ yes. yes ≡ true → at < length entries.now) }
+    ensures taken { IfOk result (λ yes. yes ≡ true → Advances side (drop at entries.now) (drop (at + 1) entries.now) to.old from.old to.new from.new steps.old.items steps.new.items) }
+    ensures same { IfOk result (λ yes. yes ≡ false → (from.new ≡ from.old) × (to.new ≡ to.old) × (steps.new.items ≡ steps.old.items)) }
+    ensures stuck { IfOk result (λ yes. yes ≡ false → IsStuck from.old (drop at entries.now)) }
+{
+    if at >= entries.len() {
+        return Ok(false);
+    }
+    let entry = &entries[at];
+    let yes = advance(alloc, side, entry, to, from, steps)?;
+    Ok(yes)
+}
+
+/// A joint order of two histories. `None` only if there is none.
+///
+/// It takes the next entry of A if that may come now, and else that of B. What may come now still may after
+/// entries of the other side, and leaves the same, so no order is missed.
+pub(crate) fn audit(
+    alloc: Global,
+    a: &[Entry],
+    b: &[Entry],
+) -> Result<Option<Vec<Step>>, AllocError>
+    ensures some { IfOk result (λ found. IfSome found (λ steps. IsJointOrder a.now b.now steps.items)) }
+    ensures none { IfOk result (λ found. IfNone found ((steps : List TheStep) → IsJointOrder a.now b.now steps → ⊥)) }
+{
+    let mut steps = Vec::new(alloc);
+    let mut ab = Pipe::new(alloc);
+    let mut ba = Pipe::new(alloc);
+    let mut i = 0;
+    let mut j = 0;
+    while i < a.len() || j < b.len() {
+        let first = try_next(alloc, Side::A, a, i, &mut ab, &mut ba, &mut steps)?;
+        if first {
+            i += 1;
+        } else {
+            let second = try_next(alloc, Side::B, b, j, &mut ba, &mut ab, &mut steps)?;
+            if !second {
+                return Ok(None);
+            }
+            j += 1;
+        }
+    }
+    Ok(Some(steps))
+}

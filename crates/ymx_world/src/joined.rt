@@ -1,0 +1,124 @@
+//! Two sessions and the pipes between them.
+
+ghost use Rattle.std.specs.Prelude.{◌≡◌, IfOk, OnErr};
+ghost use Rattle.ymx_model.specs.declared.types.Answer.TheVariants as answer;
+ghost use Rattle.ymx_model.specs.declared.types.Step.TheVariants as step;
+ghost use Rattle.ymx_model.specs.session.Emissions.{in_turn, is_ready};
+ghost use Rattle.ymx_model.specs.world.Worlds.{Steps, new_pipe, is_quiet};
+ghost use Rattle.ymx_world.specs.Acts.{session_of, pipe_of};
+
+use crate::calls::make_call;
+use crate::pipe::Pipe;
+use std::alloc::{AllocError, Global};
+use std::marker::Model;
+use ymx_model::{Answer, Direction, Fed, Side, Status, Step};
+use ymx_session::Session;
+
+/// The client A and the server B, and a pipe from each to the other. A contract sees the record `World` of
+/// `ymx_model`.
+#[derive(Drop)]
+pub(crate) struct Joined {
+    alloc: Global,
+    a: Session,
+    b: Session,
+    ab: Pipe,
+    ba: Pipe,
+    /// What emissions go into on their way to a pipe: as long as the longest so far.
+    buffer: Vec<u8>,
+}
+
+impl Model for Joined {
+    ghost use Rattle.ymx_model.specs.world.Worlds.{World as WorldValue};
+
+    ghost Value = { WorldValue };
+
+    ghost view = { λ w. record { a = w.a; b = w.b; ab = w.ab; ba = w.ba } };
+}
+
+impl Joined {
+    /// Two sessions with nothing on its way between them.
+    pub(crate) fn new(alloc: Global, a: Session, b: Session) -> Joined
+        ensures { result ≡ record { a = a; b = b; ab = new_pipe; ba = new_pipe } }
+    {
+        Joined {
+            alloc,
+            a,
+            b,
+            ab: Pipe::new(alloc),
+            ba: Pipe::new(alloc),
+            buffer: Vec::new(alloc),
+        }
+    }
+
+    /// One step. Where there is no memory for it nothing is done.
+    pub(crate) fn step(&mut self, step: &Step) -> Result<Answer, AllocError>
+        ensures steps { IfOk result (λ given. Steps in_turn step.now given self.old self.new) }
+        ensures same { OnErr result (self.new ≡ self.old) }
+    {
+        match step {
+            Step::At(Side::A, call) => make_call(self.alloc, &mut self.a, call),
+            Step::At(Side::B, call) => make_call(self.alloc, &mut self.b, call),
+            Step::Emit(Side::A, room) => {
+                let count = self.ab.emit_from(&mut self.a, &mut self.buffer, *room)?;
+                Ok(Answer::Emitted(count))
+            }
+            Step::Emit(Side::B, room) => {
+                let count = self.ba.emit_from(&mut self.b, &mut self.buffer, *room)?;
+                Ok(Answer::Emitted(count))
+            }
+            Step::Deliver(direction, count) => Ok(Answer::Fed(self.deliver(*direction, *count))),
+            Step::Stop(Direction::AB) => {
+                self.ab.stop();
+                Ok(Answer::Done)
+            }
+            Step::Stop(Direction::BA) => {
+                self.ba.stop();
+                Ok(Answer::Done)
+            }
+            Step::End(Direction::AB) => Ok(self.ab.end_at(&mut self.b)),
+            Step::End(Direction::BA) => Ok(self.ba.end_at(&mut self.a)),
+        }
+    }
+
+    /// A delivery of the first bytes in a direction.
+    fn deliver(&mut self, direction: Direction, count: usize) -> Fed
+        ensures { Steps in_turn (step.Deliver direction count) (answer.Fed result) self.old self.new }
+    {
+        match direction {
+            Direction::AB => self.ab.deliver_to(&mut self.b, count),
+            Direction::BA => self.ba.deliver_to(&mut self.a, count),
+        }
+    }
+
+    /// Whether nothing is due, both pipes are empty, and nothing was stopped, closed, broken or ended.
+    pub(crate) fn is_quiet(&self) -> bool
+        ensures { result ≡ is_quiet self.now }
+    {
+        !self.a.due()
+            && !self.b.due()
+            && matches!(self.a.status(), Status::Running)
+            && matches!(self.b.status(), Status::Running)
+            && self.ab.is_quiet()
+            && self.ba.is_quiet()
+    }
+
+    /// Whether the session of a side has something due.
+    pub(crate) fn due(&self, side: Side) -> bool
+        ensures { result ≡ is_ready (session_of side self.now) }
+    {
+        match side {
+            Side::A => self.a.due(),
+            Side::B => self.b.due(),
+        }
+    }
+
+    /// The bytes on their way in a direction.
+    pub(crate) fn pipe(&self, direction: Direction) -> &[u8]
+        ensures { result.now ≡ (pipe_of direction self.now).bytes }
+    {
+        match direction {
+            Direction::AB => self.ab.bytes(),
+            Direction::BA => self.ba.bytes(),
+        }
+    }
+}

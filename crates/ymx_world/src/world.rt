@@ -1,0 +1,153 @@
+//! The type `World`, and its calls.
+
+ghost use Rattle.std.specs.Prelude.{◌≡◌, ◌⊎◌, ◌<◌, List, length, take, true, false, None, IfOk, IfErr, IfSome, IfNone, OnErr};
+ghost use Rattle.ymx_model.specs.declared.types.Role.TheVariants.{Client, Server};
+ghost use Rattle.ymx_model.specs.session.Emissions.{in_turn, is_ready};
+ghost use Rattle.ymx_model.specs.world.Worlds.{World as TheWorld, Steps, Runs, new_world, is_quiet};
+ghost use Rattle.ymx_model.specs.world.UnderWay.{IsUnderWay};
+ghost use Rattle.ymx_model.specs.world.Load.{world_load};
+ghost use Rattle.ymx_model.specs.machine.Machines.{Machine};
+ghost use Rattle.ymx_headline.specs.Agrees.{Agrees, Follows};
+ghost use Rattle.ymx_headline.specs.Laws.{HasRun, IsOpenWorld, carries_bytes};
+ghost use Rattle.ymx_session.specs.NewSessions.{first_id, new_fault, IsNewFault};
+ghost use Rattle.ymx_model.specs.declared.types.Step.{Step as TheStep};
+ghost use Rattle.ymx_model.specs.declared.types.Answer.{Answer as TheAnswer};
+ghost use Rattle.ymx_world.specs.Joints.{IsJointOrder};
+ghost use Rattle.ymx_world.specs.Acts.{session_of, pipe_of};
+
+use crate::audit::audit;
+use crate::joined::Joined;
+use std::alloc::{AllocError, Global};
+use std::marker::Model;
+use ymx_model::{Answer, Config, Direction, Entry, Role, Side, Step};
+use ymx_session::{NewFault, Session};
+
+/// There was no memory of the world's own for a step of a run.
+#[derive(Debug, Drop)]
+pub struct Stopped {
+    /// The answers of the steps before it. It did nothing, and no later one was made.
+    pub answers: Vec<Answer>,
+}
+
+/// Two sessions joined by pipes. A contract sees the record `World` of `ymx_model`, and that it was reached
+/// from a new one by steps.
+///
+/// A is the client and B the server; the direction AB carries A's bytes.
+#[derive(Drop)]
+pub struct World {
+    alloc: Global,
+    joined: Joined,
+}
+
+impl Model for World {
+    ghost use Rattle.ymx_model.specs.world.Worlds.{World as WorldValue};
+    ghost use Rattle.ymx_world.specs.Reached.{IsReached};
+
+    ghost Value = { WorldValue };
+
+    ghost view = { λ w. w.joined };
+
+    ghost invariant = { λ w. IsReached w.joined };
+}
+
+impl World {
+    /// Makes a world of two sessions that have done nothing, the client's config first. The fault is that of
+    /// the client's session, or else of the server's.
+    pub fn new(alloc: Global, config_a: Config, config_b: Config) -> Result<World, NewFault>
+        ensures made { IfOk result (λ world. world ≡ new_world config_a.window (first_id Client config_a.first) config_b.window (first_id Server config_b.first)) }
+        ensures may_a { IfOk result (λ world. new_fault Client config_a ≡ None) }
+        ensures may_b { IfOk result (λ world. new_fault Server config_b ≡ None) }
+        ensures refused { IfErr result (λ fault. IsNewFault Client config_a fault ⊎ (new_fault Client config_a ≡ None) × IsNewFault Server config_b fault) }
+    {
+        let a = Session::new(alloc, Role::Client, config_a)?;
+        let b = Session::new(alloc, Role::Server, config_b)?;
+        let joined = Joined::new(alloc, a, b);
+        Ok(World { alloc, joined })
+    }
+
+    /// One step: a call at a side; an emission, which goes onto the side's pipe, or vanishes where that was
+    /// stopped; a delivery of a pipe's first bytes, all if there are fewer, of which those that the session
+    /// takes leave the pipe; a stop; an end, which answers `NotStopped` without a stop before. Where there is no
+    /// memory for the bytes that are read or emitted, nothing is done.
+    ///
+    /// A session's own want of memory is an answer.
+    pub fn step(&mut self, step: &Step) -> Result<Answer, AllocError>
+        ensures steps { IfOk result (λ given. Steps in_turn step.now given self.old self.new) }
+        ensures same { OnErr result (self.new ≡ self.old) }
+        // A queue machine that agreed with the world has a step with this answer, and agrees again.
+        ensures machine { IfOk result (λ given. (m : Machine) → Agrees self.old m → Follows step.now given self.new m) }
+    {
+        self.joined.step(step)
+    }
+
+    /// Some steps, one after another, and their answers. `Stopped` where there was no memory of the world's
+    /// own for one of them: that one did nothing.
+    ///
+    /// Each queue machine that agreed with the world before has a run with the same answers, which is still
+    /// whenever the world is quiet, and agrees with the world after it.
+    pub fn run(&mut self, steps: &[Step]) -> Result<Vec<Answer>, Stopped>
+        ensures runs { IfOk result (λ answers. Runs in_turn steps.now answers.items self.old self.new) }
+        ensures before { IfErr result (λ stopped. length stopped.answers.items < length steps.now) }
+        ensures stopped { IfErr result (λ stopped. Runs in_turn (take (length stopped.answers.items) steps.now) stopped.answers.items self.old self.new) }
+        ensures headline { IfOk result (λ answers. (m : Machine) → Agrees self.old m → HasRun in_turn steps.now answers.items self.old self.new m) }
+        ensures headline_so_far { IfErr result (λ stopped. (m : Machine) → Agrees self.old m →
+            HasRun in_turn (take (length stopped.answers.items) steps.now) stopped.answers.items self.old self.new m) }
+    {
+        self.make(steps)
+    }
+
+    /// Makes some steps, one after another.
+    fn make(&mut self, steps: &[Step]) -> Result<Vec<Answer>, Stopped>
+        ensures runs { IfOk result (λ answers. Runs in_turn steps.now answers.items self.old self.new) }
+        ensures before { IfErr result (λ stopped. length stopped.answers.items < length steps.now) }
+        ensures stopped { IfErr result (λ stopped. Runs in_turn (take (length stopped.answers.items) steps.now) stopped.answers.items self.old self.new) }
+    {
+        let mut answers = Vec::new(self.alloc);
+        for step in steps {
+            let Ok(()) = answers.reserve(1) else {
+                return Err(Stopped { answers });
+            };
+            let Ok(answer) = self.step(step) else {
+                return Err(Stopped { answers });
+            };
+            answers.push_reserved(answer);
+        }
+        Ok(answers)
+    }
+
+    /// Whether neither session has anything due, both pipes are empty, nothing was stopped, closed or broken,
+    /// and neither input was ended.
+    pub fn quiet(&self) -> bool
+        ensures value { result ≡ is_quiet self.now }
+        // Where nothing was stopped, ended, closed or broken, a world that isn't quiet can carry a byte on.
+        ensures goes_on { IsOpenWorld self.now → result ≡ false →
+            (step : TheStep) × (given : TheAnswer) × (v : TheWorld) × Steps in_turn step given self.now v × (carries_bytes step given ≡ true) }
+    {
+        self.joined.is_quiet()
+    }
+
+    /// Whether an emission of this side into a buffer that isn't empty gives at least one byte.
+    pub fn due(&self, side: Side) -> bool
+        ensures { result ≡ is_ready (session_of side self.now) }
+    {
+        self.joined.due(side)
+    }
+
+    /// The bytes that are on their way in this direction.
+    pub fn pipe(&self, direction: Direction) -> &[u8]
+        ensures { result.now ≡ (pipe_of direction self.now).bytes }
+    {
+        self.joined.pipe(direction)
+    }
+
+    /// Steps of the world in which the histories of its two sides, A's and B's, each keep their order: `None`
+    /// only if there are none. A call and an emission are steps; a feed is the delivery of its bytes, which
+    /// stand at the front of what the other side has emitted and no feed has taken; the end of the input is a
+    /// stop and an end, and a feed behind it has no step.
+    pub fn audit(alloc: Global, a: &[Entry], b: &[Entry]) -> Result<Option<Vec<Step>>, AllocError>
+        ensures some { IfOk result (λ found. IfSome found (λ steps. IsJointOrder a.now b.now steps.items)) }
+        ensures none { IfOk result (λ found. IfNone found ((steps : List TheStep) → IsJointOrder a.now b.now steps → ⊥)) }
+    {
+        audit(alloc, a, b)
+    }
+}
