@@ -1,0 +1,8 @@
+use Rattle.std.proofs.Common.{length}
+use Rattle.ymx_session.specs.Replies.{ponged_or}
+use Rattle.ymx_held.specs.Booked.{to_collect}
+use Rattle.ymx_held.proofs.Books.{asks_one}
+use Rattle.ymx_held.proofs.held.Held.ponged.Goals as goal
+
+pub returns-clause-booked : goal.returns-clause-booked
+returns-clause-booked g c = asks_one g.R.Recorder.KEEPS c.args.seat.now.entries c.add.new.seat.entries (to_collect c.args.number) ponged_or c.args.seat.now.number (length c.prepare.new.self.entries) c.ponged-back.result c.answered.result c.answered.ensures (cc)

@@ -1,0 +1,8 @@
+use Rattle.std.proofs.Common.{length}
+use Rattle.ymx_session.specs.Replies.{wrote_or}
+use Rattle.ymx_held.specs.Booked.{to_write}
+use Rattle.ymx_held.proofs.Books.{asks_one}
+use Rattle.ymx_held.proofs.held.Held.write.Goals as goal
+
+pub returns-clause-booked : goal.returns-clause-booked
+returns-clause-booked g c = asks_one g.R.Recorder.KEEPS c.args.seat.now.entries c.add.new.seat.entries (to_write c.args.id c.args.bytes.now) wrote_or c.args.seat.now.number (length c.prepare.new.self.entries) c.write-wrote.result c.answered.result c.answered.ensures (cc)

@@ -1,0 +1,26 @@
+-- What a hub answers for what its session answered (this project's own).
+use Rattle.std.specs.Prelude.{◌≡◌, ℕ, Result, Ok, Err, IfErr}
+use Rattle.ymx_model.specs.declared.types.CallFault.{CallFault}
+use Rattle.ymx_model.specs.declared.types.CallFault.TheVariants.{OutOfMemory}
+use Rattle.ymx_model.specs.declared.types.Wrote.{Wrote}
+use Rattle.ymx_model.specs.declared.types.Wrote.TheVariants as wrote
+use Rattle.ymx_held.specs.declared.faults.HubFault.{HubFault}
+use Rattle.ymx_held.specs.declared.faults.HubFault.TheVariants.{Call, Memory}
+
+-- want of memory is the hub's own fault, whoever found it
+abbrev pub fault_of : CallFault → HubFault
+fault_of OutOfMemory = Memory
+fault_of fault = Call fault
+
+abbrev pub answer_of : {A : Type 0} → Result A CallFault → Result A HubFault
+answer_of (Ok x) = Ok x
+answer_of (Err fault) = Err (fault_of fault)
+
+-- the answer is no want of memory
+abbrev pub IsNotMemory : {A : Type 0} → Result A HubFault → Type 0
+IsNotMemory result = IfErr result (λ fault. fault ≡ Memory → ⊥)
+
+-- how many bytes a write took
+abbrev pub took_count : Wrote → ℕ
+took_count (wrote.Took n) = n
+took_count wrote.Wait = 0

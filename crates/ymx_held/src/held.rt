@@ -1,0 +1,118 @@
+//! The value under the lock of a hub.
+
+ghost use Rattle.std.specs.Prelude.{◌≡◌, ◌+◌, List, [], length, true, IfOk, MatchResult};
+ghost use Rattle.std.specs.List.Sorted.{IsPermutation};
+ghost use Rattle.ymx_model.specs.session.Emissions.{is_ready};
+ghost use Rattle.ymx_seats.specs.Agrees.{Agrees};
+ghost use Rattle.ymx_seats.specs.Transcripts.{IsNew};
+ghost use Rattle.ymx_seats.specs.Views.{SeatView};
+ghost use Rattle.ymx_held.specs.Answers.{IsNotMemory};
+
+use crate::end_fault::{EndFault, EndWhy};
+use crate::faults::HubFault;
+use std::alloc::Global;
+use std::marker::Model;
+use std::mem;
+use ymx_model::{CallFault, Status};
+use ymx_seats::{Log, Recorder, Seat, Transcript, agree, let_go};
+use ymx_session::Session;
+
+/// A session, the log of its events, how many seats were given, how many streams have both halves unspent, and
+/// the ids of those with one half spent. A contract sees the first three, and that the log is the history of the
+/// session.
+#[derive(Drop)]
+pub struct Held<R: Recorder> {
+    pub(crate) alloc: Global,
+    pub(crate) session: Session,
+    pub(crate) log: Log<R>,
+    pub(crate) given: u32,
+    pub(crate) unspent: usize,
+    pub(crate) half_spent: Vec<u32>,
+    pub(crate) ended: bool,
+}
+
+impl<R: Recorder> Model for Held<R> {
+    ghost use Rattle.std.specs.Prelude.{vec_len, vec_capacity, ◌+◌, ◌≤◌};
+    ghost use Rattle.ymx_held.specs.Held.{HeldView, Kept};
+
+    ghost Value = { HeldView };
+
+    ghost view = { λ s. record { session = s.session; entries = s.log.entries; given = s.given } };
+
+    ghost invariant = { λ s. Kept R.KEEPS s.ended s.log.entries s.session × (s.unspent + vec_len s.half_spent ≤ vec_capacity s.half_spent) × (s.unspent ≤ s.given) };
+}
+
+impl<R: Recorder> Held<R> {
+    /// Holds a session that has done nothing. Takes no memory.
+    pub fn new(alloc: Global, session: Session) -> Held<R>
+        requires { IsNew session }
+    {
+        Held {
+            alloc,
+            session,
+            log: Log::new(alloc),
+            given: 0,
+            unspent: 0,
+            half_spent: Vec::new(alloc),
+            ended: false,
+        }
+    }
+
+    /// A new seat, whose entries come after those that are there. `Closed` once the transcript was handed out, and
+    /// `Seats` after 4,294,967,295 of them. Takes no memory.
+    pub fn seat(&mut self) -> Result<Seat<R>, HubFault>
+        ensures spares { IsNotMemory result }
+        ensures new { IfOk result (λ seat. (seat.number ≡ self.old.given) × (seat.entries ≡ []) × (seat.start ≡ length self.old.entries)) }
+    {
+        if self.ended {
+            return Err(HubFault::Call(CallFault::Closed));
+        }
+        if self.given == u32::MAX {
+            return Err(HubFault::Seats);
+        }
+        let seat = Seat::new(self.alloc, self.given, self.log.next_position());
+        self.given += 1;
+        Ok(seat)
+    }
+
+    /// Whether something is due.
+    pub fn due(&self) -> bool
+        ensures { result ≡ is_ready self.now.session }
+    {
+        self.session.due()
+    }
+
+    /// The state of the session.
+    pub fn status(&self) -> Status
+        ensures { result ≡ self.now.session.status }
+    {
+        self.session.status()
+    }
+
+    /// Hands the transcript out, once all seats that were given are handed in and their lists agree with it. Else
+    /// the seats come back. It takes no memory.
+    pub fn end(&mut self, seats: Vec<Seat<R>>) -> Result<Transcript, EndFault<R>>
+        ensures { MatchResult result (λ transcript. R.KEEPS ≡ true → (all : List SeatView) × IsPermutation seats.items all × (length all ≡ self.old.given) × Agrees all transcript) (λ fault. IsPermutation seats.items fault.seats.items) }
+    {
+        let mut seats = seats;
+        if self.ended || seats.len() != self.given as usize {
+            return Err(EndFault {
+                why: EndWhy::SeatsOut,
+                seats,
+            });
+        }
+        if !agree(seats.as_mut_slice(), self.log.entries()) {
+            return Err(EndFault {
+                why: EndWhy::OutOfOrder,
+                seats,
+            });
+        }
+        let_go(seats);
+        self.ended = true;
+        let log = mem::replace(&mut self.log, Log::new(self.alloc));
+        if !R::KEEPS {
+            return Ok(Transcript::new(Vec::new(self.alloc)));
+        }
+        Ok(Transcript::new(log.into_entries()))
+    }
+}

@@ -1,0 +1,130 @@
+//! Streams that are handed out, with a seat for each half.
+
+ghost use Rattle.std.specs.Prelude.{◌≡◌, [], IfOk};
+ghost use Rattle.ymx_session.specs.Replies.{opened_or, opened_with_or, accepted_or};
+ghost use Rattle.ymx_seats.specs.Slips.{told_by, bytes_told};
+ghost use Rattle.ymx_held.specs.Booked.{Gains, Opens, OpensWith, AcceptsOnce};
+
+use crate::faults::{HubFault, hub_fault};
+use crate::held::Held;
+use ymx_model::CallFault;
+use ymx_seats::{Ask, Recorder, Seat, Tell};
+
+impl<R: Recorder> Held<R> {
+    /// Opens the next own stream, with a seat for each of its halves, which start after the entry of it.
+    ///
+    /// Without seats or memory for the halves and the entry, `Seats` or `Memory` comes, and nothing is done.
+    #[tactic(auto, using(crate::proofs::History::kept_after))]
+    pub fn open(&mut self, seat: &mut Seat<R>) -> Result<(u32, Seat<R>, Seat<R>), HubFault>
+        ensures number { seat.new.number ≡ seat.old.number }
+        ensures start { seat.new.start ≡ seat.old.start }
+        ensures booked { Gains R.KEEPS seat.old.entries seat.new.entries (Opens seat.old.number result) }
+        ensures empty { IfOk result (λ made. (made.1.entries ≡ []) × (made.2.entries ≡ [])) }
+    {
+        if self.given > u32::MAX - 2 {
+            return Err(HubFault::Seats);
+        }
+        if self.half_spent.reserve(self.unspent + 1).is_err() {
+            return Err(HubFault::Memory);
+        }
+        let Ok(slip) = self.log.prepare(self.alloc, seat, Ask::Open, 0, 1) else {
+            return Err(HubFault::Memory);
+        };
+        match self.session.open() {
+            Ok(id) => {
+                self.log.add(seat, slip, Ask::Open, Tell::Opened(id));
+                let start = self.log.next_position();
+                let first = Seat::new(self.alloc, self.given, start);
+                let second = Seat::new(self.alloc, self.given + 1, start);
+                self.given += 2;
+                self.unspent += 1;
+                Ok((id, first, second))
+            }
+            Err(fault) => {
+                self.log.add(seat, slip, Ask::Open, Tell::Refused(fault));
+                Err(hub_fault(fault))
+            }
+        }
+    }
+
+    /// Opens the next own stream with these first bytes, as `open`, and says how many of them were taken.
+    #[tactic(auto, using(crate::proofs::History::kept_after))]
+    pub fn open_with(
+        &mut self,
+        seat: &mut Seat<R>,
+        bytes: &[u8],
+    ) -> Result<(u32, usize, Seat<R>, Seat<R>), HubFault>
+        ensures number { seat.new.number ≡ seat.old.number }
+        ensures start { seat.new.start ≡ seat.old.start }
+        ensures booked { Gains R.KEEPS seat.old.entries seat.new.entries (OpensWith bytes.now seat.old.number result) }
+        ensures empty { IfOk result (λ made. (made.2.entries ≡ []) × (made.3.entries ≡ [])) }
+    {
+        if self.given > u32::MAX - 2 {
+            return Err(HubFault::Seats);
+        }
+        if self.half_spent.reserve(self.unspent + 1).is_err() {
+            return Err(HubFault::Memory);
+        }
+        let ask = Ask::OpenWith(bytes);
+        let Ok(slip) = self.log.prepare(self.alloc, seat, ask, 0, 1) else {
+            return Err(HubFault::Memory);
+        };
+        match self.session.open_with(bytes) {
+            Ok((id, taken)) => {
+                self.log.add(seat, slip, ask, Tell::OpenedWith(id, taken));
+                let start = self.log.next_position();
+                let first = Seat::new(self.alloc, self.given, start);
+                let second = Seat::new(self.alloc, self.given + 1, start);
+                self.given += 2;
+                self.unspent += 1;
+                Ok((id, taken, first, second))
+            }
+            Err(fault) => {
+                self.log.add(seat, slip, ask, Tell::Refused(fault));
+                Err(hub_fault(fault))
+            }
+        }
+    }
+
+    /// One turn of an accept: the offered stream that came first, with a seat for each of its halves, or `None` if
+    /// none is offered yet.
+    #[tactic(auto, using(crate::proofs::History::kept_after))]
+    pub fn accept(
+        &mut self,
+        seat: &mut Seat<R>,
+    ) -> Result<Option<(u32, Seat<R>, Seat<R>)>, HubFault>
+        ensures number { seat.new.number ≡ seat.old.number }
+        ensures start { seat.new.start ≡ seat.old.start }
+        ensures booked { Gains R.KEEPS seat.old.entries seat.new.entries (AcceptsOnce seat.old.number result) }
+    {
+        if self.given > u32::MAX - 2 {
+            return Err(HubFault::Seats);
+        }
+        if self.half_spent.reserve(self.unspent + 1).is_err() {
+            return Err(HubFault::Memory);
+        }
+        let Ok(slip) = self.log.prepare(self.alloc, seat, Ask::Accept, 0, 1) else {
+            return Err(HubFault::Memory);
+        };
+        match self.session.accept() {
+            Ok(Some(id)) => {
+                self.log
+                    .add(seat, slip, Ask::Accept, Tell::Accepted(Some(id)));
+                let start = self.log.next_position();
+                let first = Seat::new(self.alloc, self.given, start);
+                let second = Seat::new(self.alloc, self.given + 1, start);
+                self.given += 2;
+                self.unspent += 1;
+                Ok(Some((id, first, second)))
+            }
+            Ok(None) => {
+                self.log.add(seat, slip, Ask::Accept, Tell::Accepted(None));
+                Ok(None)
+            }
+            Err(fault) => {
+                self.log.add(seat, slip, Ask::Accept, Tell::Refused(fault));
+                Err(hub_fault(fault))
+            }
+        }
+    }
+}

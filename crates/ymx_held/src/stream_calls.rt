@@ -1,0 +1,186 @@
+//! Bytes of a stream, and its halves that are spent, with their entries.
+
+ghost use Rattle.std.specs.Prelude.{◌≡◌, ◌≤◌, ◌++◌, length, take, drop, false, IfOk};
+ghost use Rattle.ymx_session.specs.Replies.{done_or, wrote_or, read_or, count_of, got_count};
+ghost use Rattle.ymx_seats.specs.Slips.{told_by, bytes_told};
+ghost use Rattle.ymx_held.specs.Answers.{IsNotMemory, took_count};
+ghost use Rattle.ymx_held.specs.Booked.{Gains, Asks, Spends, Closes, to_write, to_read, to_finish, to_reset};
+
+use crate::faults::{HubFault, answered, tell_of_done};
+use crate::held::Held;
+use ymx_model::{CallFault, Got, Wrote};
+use ymx_seats::{Ask, Recorder, Seat, Tell};
+
+impl<R: Recorder> Held<R> {
+    /// Writes the first of these bytes, as many as there is credit for, or says that there is none.
+    #[tactic(auto, using(crate::proofs::History::kept_after))]
+    pub fn write(&mut self, seat: &mut Seat<R>, id: u32, bytes: &[u8]) -> Result<Wrote, HubFault>
+        ensures number { seat.new.number ≡ seat.old.number }
+        ensures start { seat.new.start ≡ seat.old.start }
+        ensures booked { Gains R.KEEPS seat.old.entries seat.new.entries (Asks (to_write id bytes.now) wrote_or seat.old.number result) }
+        ensures within { IfOk result (λ wrote. took_count wrote ≤ length bytes.now) }
+    {
+        let ask = Ask::Write(id, bytes);
+        let Ok(slip) = self.log.prepare(self.alloc, seat, ask, 0, 1) else {
+            return Err(HubFault::Memory);
+        };
+        let wrote = self.session.write(id, bytes);
+        self.log.add(seat, slip, ask, tell_of_write(wrote));
+        answered(wrote)
+    }
+
+    /// Moves the first unread bytes to the front of the buffer, as many as are there and fit.
+    #[tactic(auto, using(crate::proofs::History::kept_after))]
+    pub fn read(&mut self, seat: &mut Seat<R>, id: u32, buffer: &mut [u8]) -> Result<Got, HubFault>
+        ensures number { seat.new.number ≡ seat.old.number }
+        ensures start { seat.new.start ≡ seat.old.start }
+        ensures booked { Gains R.KEEPS seat.old.entries seat.new.entries (Asks (to_read id (length buffer.old)) (λ given. read_or given buffer.new) seat.old.number result) }
+        ensures within { IfOk result (λ got. got_count got ≤ length buffer.old) }
+        ensures length { length buffer.new ≡ length buffer.old }
+        ensures off { R.KEEPS ≡ false → IsNotMemory result }
+    {
+        let ask = Ask::Read(id, buffer.len());
+        let Ok(slip) = self.log.prepare(self.alloc, seat, ask, buffer.len(), 1) else {
+            return Err(HubFault::Memory);
+        };
+        let got = self.session.read(id, buffer);
+        self.log.add(seat, slip, ask, tell_of_read(got, buffer));
+        answered(got)
+    }
+
+    /// Notes that a half of a stream is spent. Whether the other half was spent before.
+    fn spend(&mut self, id: u32) -> bool
+        ensures same { self.new ≡ self.old }
+    {
+        let found = self.half_spent.iter().position(|x| *x == id);
+        match found {
+            Some(at) => {
+                let _ = self.half_spent.swap_remove(at);
+                true
+            }
+            None => {
+                if self.unspent > 0 {
+                    self.unspent -= 1;
+                    self.half_spent.push_reserved(id);
+                }
+                false
+            }
+        }
+    }
+
+    /// Half-closes a stream, and gives it up if its other half was spent. The half counts as spent even if there is
+    /// no memory for the entries.
+    #[tactic(auto, using(crate::proofs::History::kept_after))]
+    pub fn finish(&mut self, seat: &mut Seat<R>, id: u32) -> Result<(), HubFault>
+        ensures number { seat.new.number ≡ seat.old.number }
+        ensures start { seat.new.start ≡ seat.old.start }
+        ensures booked { Gains R.KEEPS seat.old.entries seat.new.entries (Spends (to_finish id) id seat.old.number result) }
+        ensures off { R.KEEPS ≡ false → IsNotMemory result }
+    {
+        let second = self.spend(id);
+        let entries = if second { 2 } else { 1 };
+        let Ok(slip) = self
+            .log
+            .prepare(self.alloc, seat, Ask::Finish(id), 0, entries)
+        else {
+            return Err(HubFault::Memory);
+        };
+        let Ok(next) = self
+            .log
+            .prepare(self.alloc, seat, Ask::Forget(id), 0, entries)
+        else {
+            return Err(HubFault::Memory);
+        };
+        let finished = self.session.finish(id);
+        self.log
+            .add(seat, slip, Ask::Finish(id), tell_of_done(finished));
+        if !second {
+            return answered(finished);
+        }
+        let gone = self.session.forget(id);
+        self.log
+            .add(seat, next, Ask::Forget(id), tell_of_done(gone));
+        answered(finished)
+    }
+
+    /// Resets a stream, and gives it up if its other half was spent. The half counts as spent even if there is no
+    /// memory for the entries.
+    #[tactic(auto, using(crate::proofs::History::kept_after))]
+    pub fn reset(&mut self, seat: &mut Seat<R>, id: u32) -> Result<(), HubFault>
+        ensures number { seat.new.number ≡ seat.old.number }
+        ensures start { seat.new.start ≡ seat.old.start }
+        ensures booked { Gains R.KEEPS seat.old.entries seat.new.entries (Spends (to_reset id) id seat.old.number result) }
+        ensures off { R.KEEPS ≡ false → IsNotMemory result }
+    {
+        let second = self.spend(id);
+        let entries = if second { 2 } else { 1 };
+        let Ok(slip) = self
+            .log
+            .prepare(self.alloc, seat, Ask::Reset(id), 0, entries)
+        else {
+            return Err(HubFault::Memory);
+        };
+        let Ok(next) = self
+            .log
+            .prepare(self.alloc, seat, Ask::Forget(id), 0, entries)
+        else {
+            return Err(HubFault::Memory);
+        };
+        let was_reset = self.session.reset(id);
+        self.log
+            .add(seat, slip, Ask::Reset(id), tell_of_done(was_reset));
+        if !second {
+            return answered(was_reset);
+        }
+        let gone = self.session.forget(id);
+        self.log
+            .add(seat, next, Ask::Forget(id), tell_of_done(gone));
+        answered(was_reset)
+    }
+
+    /// Spends a half of a stream without a word to the peer, and gives the stream up if its other half was spent.
+    /// The half counts as spent even if there is no memory for the entry.
+    #[tactic(auto, using(crate::proofs::History::kept_after, crate::proofs::Books::closes_one))]
+    pub fn close_half(&mut self, seat: &mut Seat<R>, id: u32) -> Result<(), HubFault>
+        ensures number { seat.new.number ≡ seat.old.number }
+        ensures start { seat.new.start ≡ seat.old.start }
+        ensures booked { Gains R.KEEPS seat.old.entries seat.new.entries (Closes id seat.old.number result) }
+        ensures off { R.KEEPS ≡ false → IsNotMemory result }
+    {
+        if !self.spend(id) {
+            return Ok(());
+        }
+        let Ok(slip) = self.log.prepare(self.alloc, seat, Ask::Forget(id), 0, 1) else {
+            return Err(HubFault::Memory);
+        };
+        let gone = self.session.forget(id);
+        self.log
+            .add(seat, slip, Ask::Forget(id), tell_of_done(gone));
+        answered(gone)
+    }
+}
+
+/// What is kept of a write.
+fn tell_of_write<'a>(given: Result<Wrote, CallFault>) -> Tell<'a>
+    ensures told { told_by result ≡ wrote_or given }
+    ensures short { bytes_told result ≡ 0 }
+{
+    match given {
+        Ok(wrote) => Tell::Wrote(wrote),
+        Err(fault) => Tell::Refused(fault),
+    }
+}
+
+/// What is kept of a read into this buffer.
+fn tell_of_read(given: Result<Got, CallFault>, buffer: &[u8]) -> Tell<'_>
+    requires { count_of given ≤ length buffer.now }
+    ensures told { told_by result ≡ read_or given buffer.now }
+    ensures short { bytes_told result ≤ length buffer.now }
+{
+    match given {
+        Ok(Got::Bytes(count)) => Tell::Read(&buffer[..count]),
+        Ok(Got::End) => Tell::ReadEnd,
+        Ok(Got::Wait) => Tell::ReadWait,
+        Err(fault) => Tell::Refused(fault),
+    }
+}

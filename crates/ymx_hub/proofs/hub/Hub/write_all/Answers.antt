@@ -1,0 +1,31 @@
+use Rattle.std.proofs.Common.{refl, arith, rules}
+use Rattle.std.proofs.lemmas.Grind.{common_steps}
+use Rattle.ymx_model.specs.declared.types.Wrote.TheVariants.{Took, Wait}
+use Rattle.ymx_hub.proofs.Written.{written_more, write_done, write_stopped}
+use Rattle.ymx_hub.proofs.hub.Hub.write_all.Goals as goal
+
+pub returns-then-taken-bytes-clause-booked : goal.returns-then-taken-bytes-clause-booked
+returns-then-taken-bytes-clause-booked g c =
+    write_done g.R.Recorder.KEEPS _ _ _ _ _ _ _ c.in-Ok-Took.count c.args.bytes.now _ _ c.loop.invariant.written c.loop.invariant.number (grind (arith, common_steps)) (search rules) (rw c.in-Ok-Took.field-0-is at c.in-Ok-Took.ensures.booked)
+
+pub loop-preserved-else-taken-bytes : goal.loop-preserved-else-taken-bytes
+loop-preserved-else-taken-bytes g c = record {
+  next = (tt, tt);
+  number = search rules;
+  start = search rules;
+  within = search rules;
+  written = written_more g.R.Recorder.KEEPS _ _ _ _ _ _ _ _ c.args.bytes.now _ (Took c.in-Ok-Took.count) c.loop.invariant.written c.loop.invariant.number (grind (arith, common_steps)) refl (rw c.in-Ok-Took.field-0-is at c.in-Ok-Took.ensures.booked);
+}
+
+pub loop-preserved : goal.loop-preserved
+loop-preserved g c = record {
+  next = (tt, tt);
+  number = search rules;
+  start = search rules;
+  within = search rules;
+  written = written_more g.R.Recorder.KEEPS _ _ _ _ _ _ _ _ c.args.bytes.now _ Wait c.loop.invariant.written c.loop.invariant.number (grind (arith, common_steps)) (omega arith) (rw c.in-Ok-Wait.field-0-is at c.in-Ok-Wait.ensures.booked);
+}
+
+pub returns-in-Err-clause-booked : goal.returns-in-Err-clause-booked
+returns-in-Err-clause-booked g c =
+    write_stopped g.R.Recorder.KEEPS _ _ _ _ _ _ _ c.args.bytes.now _ c.in-Err.fault c.loop.invariant.written c.loop.invariant.number (grind (arith, common_steps)) c.in-Err.ensures.booked

@@ -1,0 +1,70 @@
+//! Who accepts streams.
+
+ghost use Rattle.std.specs.Prelude.{◌≡◌};
+ghost use Rattle.ymx_held.specs.Booked.{Gains};
+ghost use Rattle.ymx_hub.specs.Halves.{AcceptsHalves};
+
+use crate::halves::{ReadHalf, WriteHalf};
+use crate::hub::Hub;
+use std::alloc::Global;
+use std::marker::Model;
+use std::sync::{Arc, Wait};
+use ymx_held::HubFault;
+use ymx_seats::{Recorder, Seat};
+
+/// Accepts streams of a hub. A contract sees its seat.
+pub struct Acceptor<R: Recorder> {
+    hub: Arc<Hub<R>, Global>,
+    seat: Seat<R>,
+}
+
+impl<R: Recorder> Model for Acceptor<R> {
+    ghost use Rattle.ymx_seats.specs.Views.{SeatView};
+
+    ghost Value = { SeatView };
+
+    ghost view = { λ acceptor. acceptor.seat };
+}
+
+impl<R: Recorder> Acceptor<R> {
+    /// Accepts streams of this hub, at this seat.
+    pub fn new(hub: Arc<Hub<R>, Global>, seat: Seat<R>) -> Acceptor<R>
+        ensures { result ≡ seat }
+    {
+        Acceptor { hub, seat }
+    }
+
+    /// Its seat.
+    pub fn into_seat(self) -> Seat<R>
+        ensures { result ≡ self }
+    {
+        let Acceptor { hub: _, seat } = self;
+        seat
+    }
+
+    /// Waits for a stream that the peer opens. `None` once the session is closed, or lost with none left.
+    pub fn accept<W: Wait>(
+        &mut self,
+        rt: &W,
+    ) -> Result<Option<(WriteHalf<R>, ReadHalf<R>)>, HubFault>
+        ensures number { self.new.number ≡ self.old.number }
+        ensures start { self.new.start ≡ self.old.start }
+        ensures booked { Gains R.KEEPS self.old.entries self.new.entries (AcceptsHalves self.old.number result) }
+    {
+        let Ok(one) = Arc::try_clone(&self.hub) else {
+            return Err(HubFault::Memory);
+        };
+        let Ok(other) = Arc::try_clone(&self.hub) else {
+            return Err(HubFault::Memory);
+        };
+        let (id, writer, reader) = match self.hub.accept(rt, &mut self.seat) {
+            Ok(Some(offer)) => offer,
+            Ok(None) => return Ok(None),
+            Err(fault) => return Err(fault),
+        };
+        Ok(Some((
+            WriteHalf::new(one, writer, id),
+            ReadHalf::new(other, reader, id),
+        )))
+    }
+}

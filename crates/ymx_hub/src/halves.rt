@@ -1,0 +1,119 @@
+//! The two halves of a stream.
+
+ghost use Rattle.std.specs.Prelude.{◌≡◌, ◌<◌, ◌≤◌, length, false, IfOk, IfErr};
+ghost use Rattle.ymx_held.specs.Answers.{IsNotMemory};
+ghost use Rattle.ymx_held.specs.Booked.{Gains, Spends, Closes, to_finish, to_reset};
+ghost use Rattle.ymx_hub.specs.Turns.{Reads, Writes};
+
+use crate::hub::Hub;
+use crate::write_fault::WriteFault;
+use std::alloc::Global;
+use std::marker::Model;
+use std::sync::{Arc, Wait};
+use ymx_held::HubFault;
+use ymx_seats::{Recorder, Seat};
+
+/// The writing half of a stream. It must be spent, by `finish` or `reset`: it cannot be dropped. Whoever spends the
+/// second half of a stream gives the stream up too.
+pub struct WriteHalf<R: Recorder> {
+    hub: Arc<Hub<R>, Global>,
+    seat: Seat<R>,
+    id: u32,
+}
+
+/// The reading half of a stream. It must be spent, by `close`: it cannot be dropped. Whoever spends the second half
+/// of a stream gives the stream up too.
+pub struct ReadHalf<R: Recorder> {
+    hub: Arc<Hub<R>, Global>,
+    seat: Seat<R>,
+    id: u32,
+}
+
+impl<R: Recorder> Model for WriteHalf<R> {
+    ghost use Rattle.ymx_hub.specs.Halves.{HalfView};
+
+    ghost Value = { HalfView };
+
+    ghost view = { λ half. record { id = half.id; seat = half.seat } };
+}
+
+impl<R: Recorder> Model for ReadHalf<R> {
+    ghost use Rattle.ymx_hub.specs.Halves.{HalfView};
+
+    ghost Value = { HalfView };
+
+    ghost view = { λ half. record { id = half.id; seat = half.seat } };
+}
+
+impl<R: Recorder> WriteHalf<R> {
+    /// The half of this stream.
+    pub(crate) fn new(hub: Arc<Hub<R>, Global>, seat: Seat<R>, id: u32) -> WriteHalf<R>
+        ensures { (result.id ≡ id) × (result.seat ≡ seat) }
+    {
+        WriteHalf { hub, seat, id }
+    }
+
+    /// Writes all bytes, and waits for credit (flow control). At a fault the first `taken` of them were written.
+    pub fn write_all<W: Wait>(&mut self, rt: &W, bytes: &[u8]) -> Result<(), WriteFault>
+        ensures same { (self.new.id ≡ self.old.id) × (self.new.seat.number ≡ self.old.seat.number) × (self.new.seat.start ≡ self.old.seat.start) }
+        ensures booked { Gains R.KEEPS self.old.seat.entries self.new.seat.entries (Writes self.old.id bytes.now self.old.seat.number result) }
+        ensures within { IfErr result (λ stop. stop.taken ≤ length bytes.now) }
+    {
+        self.hub.write_all(rt, &mut self.seat, self.id, bytes)
+    }
+
+    /// Half-closes the stream: the peer reads what was written, and then the end (half-close).
+    pub fn finish<W: Wait>(self, rt: &W) -> (Seat<R>, Result<(), HubFault>)
+        ensures same { (result.0.number ≡ self.seat.number) × (result.0.start ≡ self.seat.start) }
+        ensures booked { Gains R.KEEPS self.seat.entries result.0.entries (Spends (to_finish self.id) self.id self.seat.number result.1) }
+        ensures off { R.KEEPS ≡ false → IsNotMemory result.1 }
+    {
+        let WriteHalf { hub, mut seat, id } = self;
+        let result = hub.finish(rt, &mut seat, id);
+        (seat, result)
+    }
+
+    /// Resets the stream: what is not sent is dropped, and neither side reads or writes any more (flags).
+    pub fn reset<W: Wait>(self, rt: &W) -> (Seat<R>, Result<(), HubFault>)
+        ensures same { (result.0.number ≡ self.seat.number) × (result.0.start ≡ self.seat.start) }
+        ensures booked { Gains R.KEEPS self.seat.entries result.0.entries (Spends (to_reset self.id) self.id self.seat.number result.1) }
+        ensures off { R.KEEPS ≡ false → IsNotMemory result.1 }
+    {
+        let WriteHalf { hub, mut seat, id } = self;
+        let result = hub.reset(rt, &mut seat, id);
+        (seat, result)
+    }
+}
+
+impl<R: Recorder> ReadHalf<R> {
+    /// The half of this stream.
+    pub(crate) fn new(hub: Arc<Hub<R>, Global>, seat: Seat<R>, id: u32) -> ReadHalf<R>
+        ensures { (result.id ≡ id) × (result.seat ≡ seat) }
+    {
+        ReadHalf { hub, seat, id }
+    }
+
+    /// Waits for bytes, and moves those that are there and fit to the front of the buffer. 0 is the end: the peer
+    /// has finished, and all was read.
+    pub fn read<W: Wait>(&mut self, rt: &W, buffer: &mut [u8]) -> Result<usize, HubFault>
+        requires { 0 < length buffer.old }
+        ensures same { (self.new.id ≡ self.old.id) × (self.new.seat.number ≡ self.old.seat.number) × (self.new.seat.start ≡ self.old.seat.start) }
+        ensures booked { Gains R.KEEPS self.old.seat.entries self.new.seat.entries (Reads self.old.id (length buffer.old) buffer.new self.old.seat.number result) }
+        ensures within { IfOk result (λ count. count ≤ length buffer.old) }
+        ensures length { length buffer.new ≡ length buffer.old }
+        ensures off { R.KEEPS ≡ false → IsNotMemory result }
+    {
+        self.hub.read(rt, &mut self.seat, self.id, buffer)
+    }
+
+    /// Spends the half. If the other half was spent, the stream is given up, and unread bytes are dropped.
+    pub fn close<W: Wait>(self, rt: &W) -> (Seat<R>, Result<(), HubFault>)
+        ensures same { (result.0.number ≡ self.seat.number) × (result.0.start ≡ self.seat.start) }
+        ensures booked { Gains R.KEEPS self.seat.entries result.0.entries (Closes self.id self.seat.number result.1) }
+        ensures off { R.KEEPS ≡ false → IsNotMemory result.1 }
+    {
+        let ReadHalf { hub, mut seat, id } = self;
+        let result = hub.close_half(rt, &mut seat, id);
+        (seat, result)
+    }
+}

@@ -1,0 +1,193 @@
+//! The hub, and its calls that wait for nothing but the lock.
+
+ghost use Rattle.std.specs.Prelude.{◌≡◌, ◌+◌, List, [], length, true, false, IfOk, MatchResult};
+ghost use Rattle.std.specs.List.Sorted.{IsPermutation};
+ghost use Rattle.ymx_session.specs.Replies.{done_or};
+ghost use Rattle.ymx_seats.specs.Agrees.{Agrees};
+ghost use Rattle.ymx_seats.specs.Transcripts.{IsNew};
+ghost use Rattle.ymx_seats.specs.Views.{SeatView};
+ghost use Rattle.ymx_held.specs.Answers.{IsNotMemory};
+ghost use Rattle.ymx_held.specs.Booked.{Gains, Asks, Opens, OpensWith, Spends, Closes, to_finish, to_reset, to_go_away, to_close};
+
+use crate::bells::Bells;
+use crate::desk::{Desk, take_waiters};
+use std::alloc::{AllocError, Global};
+use std::sync::{Arc, Mutex, MutexGuard, Wait};
+use ymx_held::{EndFault, Held, HubFault};
+use ymx_seats::{Recorder, Seat, Transcript};
+use ymx_session::Session;
+
+/// A session under one lock. What its recorder keeps of it is, whenever the lock is free, the history of the session.
+#[derive(Drop)]
+pub struct Hub<R: Recorder> {
+    pub(crate) desk: Mutex<Desk<R>>,
+    pub(crate) bells: Bells,
+}
+
+impl<R: Recorder> Hub<R> {
+    /// A hub round a session that has done nothing. Without memory it drops both.
+    pub fn new(alloc: Global, session: Session, recorder: R) -> Result<Arc<Hub<R>>, AllocError>
+        requires { IsNew session }
+    {
+        let _ = recorder;
+        Ok(Arc::new(
+            alloc,
+            Hub {
+                desk: Mutex::new(Desk::new(Held::new(alloc, session))),
+                bells: Bells::new(),
+            },
+        )?)
+    }
+
+    /// A new seat. `Seats` after 4,294,967,295 of them, and `Closed` once the transcript was handed out.
+    pub fn seat<W: Wait>(&self, rt: &W) -> Result<Seat<R>, HubFault>
+        ensures empty { IfOk result (λ seat. seat.entries ≡ []) }
+        ensures spares { IsNotMemory result }
+    {
+        self.desk.lock(rt).held.seat()
+    }
+
+    /// Wakes a write pump where something is due now, and nothing was.
+    pub(crate) fn tell_due(&self, was_due: bool, is_due: bool) {
+        if is_due && !was_due {
+            self.bells.due.notify_one();
+        }
+    }
+
+    /// Wakes all, as the session is lost or closed.
+    pub(crate) fn wake_all(&self, desk: MutexGuard<'_, Desk<R>>) {
+        let mut desk = desk;
+        let waiters = take_waiters(&mut desk.waiters);
+        drop(desk);
+        self.bells.ring(waiters);
+        self.bells.due.notify_all();
+    }
+
+    /// Opens a stream, with a seat for each of its halves.
+    pub(crate) fn open<W: Wait>(
+        &self,
+        rt: &W,
+        seat: &mut Seat<R>,
+    ) -> Result<(u32, Seat<R>, Seat<R>), HubFault>
+        ensures number { seat.new.number ≡ seat.old.number }
+        ensures start { seat.new.start ≡ seat.old.start }
+        ensures booked { Gains R.KEEPS seat.old.entries seat.new.entries (Opens seat.old.number result) }
+        ensures empty { IfOk result (λ made. (made.1.entries ≡ []) × (made.2.entries ≡ [])) }
+    {
+        let mut desk = self.desk.lock(rt);
+        let was_due = desk.held.due();
+        let opened = desk.held.open(seat);
+        self.tell_due(was_due, desk.held.due());
+        opened
+    }
+
+    /// Opens a stream with these first bytes, with a seat for each of its halves.
+    pub(crate) fn open_with<W: Wait>(
+        &self,
+        rt: &W,
+        seat: &mut Seat<R>,
+        bytes: &[u8],
+    ) -> Result<(u32, usize, Seat<R>, Seat<R>), HubFault>
+        ensures number { seat.new.number ≡ seat.old.number }
+        ensures start { seat.new.start ≡ seat.old.start }
+        ensures booked { Gains R.KEEPS seat.old.entries seat.new.entries (OpensWith bytes.now seat.old.number result) }
+        ensures empty { IfOk result (λ made. (made.2.entries ≡ []) × (made.3.entries ≡ [])) }
+    {
+        let mut desk = self.desk.lock(rt);
+        let was_due = desk.held.due();
+        let opened = desk.held.open_with(seat, bytes);
+        self.tell_due(was_due, desk.held.due());
+        opened
+    }
+
+    /// Half-closes a stream, and gives it up if its other half was spent.
+    pub(crate) fn finish<W: Wait>(
+        &self,
+        rt: &W,
+        seat: &mut Seat<R>,
+        id: u32,
+    ) -> Result<(), HubFault>
+        ensures number { seat.new.number ≡ seat.old.number }
+        ensures start { seat.new.start ≡ seat.old.start }
+        ensures booked { Gains R.KEEPS seat.old.entries seat.new.entries (Spends (to_finish id) id seat.old.number result) }
+        ensures off { R.KEEPS ≡ false → IsNotMemory result }
+    {
+        let mut desk = self.desk.lock(rt);
+        let was_due = desk.held.due();
+        let finished = desk.held.finish(seat, id);
+        self.tell_due(was_due, desk.held.due());
+        finished
+    }
+
+    /// Resets a stream, gives it up if its other half was spent, and wakes who waits at it.
+    pub(crate) fn reset<W: Wait>(&self, rt: &W, seat: &mut Seat<R>, id: u32) -> Result<(), HubFault>
+        ensures number { seat.new.number ≡ seat.old.number }
+        ensures start { seat.new.start ≡ seat.old.start }
+        ensures booked { Gains R.KEEPS seat.old.entries seat.new.entries (Spends (to_reset id) id seat.old.number result) }
+        ensures off { R.KEEPS ≡ false → IsNotMemory result }
+    {
+        let mut desk = self.desk.lock(rt);
+        let was_due = desk.held.due();
+        let was_reset = desk.held.reset(seat, id);
+        self.tell_due(was_due, desk.held.due());
+        drop(desk);
+        self.bells.reader(id).notify_all();
+        self.bells.writer(id).notify_all();
+        was_reset
+    }
+
+    /// Spends a half of a stream, and gives the stream up if its other half was spent.
+    pub(crate) fn close_half<W: Wait>(
+        &self,
+        rt: &W,
+        seat: &mut Seat<R>,
+        id: u32,
+    ) -> Result<(), HubFault>
+        ensures number { seat.new.number ≡ seat.old.number }
+        ensures start { seat.new.start ≡ seat.old.start }
+        ensures booked { Gains R.KEEPS seat.old.entries seat.new.entries (Closes id seat.old.number result) }
+        ensures off { R.KEEPS ≡ false → IsNotMemory result }
+    {
+        let mut desk = self.desk.lock(rt);
+        let was_due = desk.held.due();
+        let closed = desk.held.close_half(seat, id);
+        self.tell_due(was_due, desk.held.due());
+        closed
+    }
+
+    /// Takes no more streams of the peer's. Refused, in this order, with `Closed` and `Lost`.
+    pub fn go_away<W: Wait>(&self, rt: &W, seat: &mut Seat<R>) -> Result<(), HubFault>
+        ensures number { seat.new.number ≡ seat.old.number }
+        ensures start { seat.new.start ≡ seat.old.start }
+        ensures booked { Gains R.KEEPS seat.old.entries seat.new.entries (Asks to_go_away done_or seat.old.number result) }
+        ensures off { R.KEEPS ≡ false → IsNotMemory result }
+    {
+        let mut desk = self.desk.lock(rt);
+        let was_due = desk.held.due();
+        let said = desk.held.go_away(seat);
+        self.tell_due(was_due, desk.held.due());
+        said
+    }
+
+    /// Closes the session at once, and wakes all who wait: they answer `Closed`.
+    pub fn close<W: Wait>(&self, rt: &W, seat: &mut Seat<R>) -> Result<(), HubFault>
+        ensures number { seat.new.number ≡ seat.old.number }
+        ensures start { seat.new.start ≡ seat.old.start }
+        ensures booked { Gains R.KEEPS seat.old.entries seat.new.entries (Asks to_close done_or seat.old.number result) }
+        ensures off { R.KEEPS ≡ false → IsNotMemory result }
+    {
+        let mut desk = self.desk.lock(rt);
+        let closed = desk.held.close(seat);
+        self.wake_all(desk);
+        closed
+    }
+
+    /// Hands the transcript out, once all seats that were given are handed in and their lists agree with it: each
+    /// entry stands in it as often as in their lists, each list names its own seat, and its positions rise. Else the
+    /// seats come back, perhaps in another order. From then on `seat` answers `Closed`.
+    pub fn end<W: Wait>(&self, rt: &W, seats: Vec<Seat<R>>) -> Result<Transcript, EndFault<R>>
+        ensures { MatchResult result (λ transcript. R.KEEPS ≡ true → (all : List SeatView) × IsPermutation seats.items all × Agrees all transcript) (λ fault. IsPermutation seats.items fault.seats.items) }
+    {
+        self.desk.lock(rt).held.end(seats)
+    }
+}

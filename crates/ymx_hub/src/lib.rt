@@ -1,0 +1,22 @@
+//! A running session: one lock round it, and many callers in many threads.
+//!
+//! `Hub` is the session under its lock. `Opener` and `Acceptor` hand out streams, each as a `WriteHalf` and a
+//! `ReadHalf`. Each caller has a seat, in which its calls are booked. `bells` says who wakes whom.
+#![tactic(auto)]
+
+mod acceptor;
+mod bells;
+mod desk;
+mod halves;
+mod hub;
+mod opener;
+mod waiting_calls;
+mod write_fault;
+
+pub use acceptor::Acceptor;
+pub use halves::{ReadHalf, WriteHalf};
+pub use hub::Hub;
+pub use opener::Opener;
+pub use write_fault::WriteFault;
+pub use ymx_held::{EndFault, EndWhy, HubFault};
+pub use ymx_seats::{Full, Off, Recorder, Seat, Transcript};

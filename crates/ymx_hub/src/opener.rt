@@ -1,0 +1,87 @@
+//! Who opens streams.
+
+ghost use Rattle.std.specs.Prelude.{◌≡◌};
+ghost use Rattle.ymx_held.specs.Booked.{Gains};
+ghost use Rattle.ymx_hub.specs.Halves.{OpensHalves, OpensHalvesWith};
+
+use crate::halves::{ReadHalf, WriteHalf};
+use crate::hub::Hub;
+use std::alloc::Global;
+use std::marker::Model;
+use std::sync::{Arc, Wait};
+use ymx_held::HubFault;
+use ymx_seats::{Recorder, Seat};
+
+/// Opens streams of a hub. A contract sees its seat.
+pub struct Opener<R: Recorder> {
+    hub: Arc<Hub<R>, Global>,
+    seat: Seat<R>,
+}
+
+impl<R: Recorder> Model for Opener<R> {
+    ghost use Rattle.ymx_seats.specs.Views.{SeatView};
+
+    ghost Value = { SeatView };
+
+    ghost view = { λ opener. opener.seat };
+}
+
+impl<R: Recorder> Opener<R> {
+    /// Opens streams of this hub, at this seat.
+    pub fn new(hub: Arc<Hub<R>, Global>, seat: Seat<R>) -> Opener<R>
+        ensures { result ≡ seat }
+    {
+        Opener { hub, seat }
+    }
+
+    /// Its seat.
+    pub fn into_seat(self) -> Seat<R>
+        ensures { result ≡ self }
+    {
+        let Opener { hub: _, seat } = self;
+        seat
+    }
+
+    /// Opens a stream. It doesn't wait for the peer: the session refuses where it may not open one.
+    pub fn open<W: Wait>(&mut self, rt: &W) -> Result<(WriteHalf<R>, ReadHalf<R>), HubFault>
+        ensures number { self.new.number ≡ self.old.number }
+        ensures start { self.new.start ≡ self.old.start }
+        ensures booked { Gains R.KEEPS self.old.entries self.new.entries (OpensHalves self.old.number result) }
+    {
+        let Ok(one) = Arc::try_clone(&self.hub) else {
+            return Err(HubFault::Memory);
+        };
+        let Ok(other) = Arc::try_clone(&self.hub) else {
+            return Err(HubFault::Memory);
+        };
+        let (id, writer, reader) = self.hub.open(rt, &mut self.seat)?;
+        Ok((
+            WriteHalf::new(one, writer, id),
+            ReadHalf::new(other, reader, id),
+        ))
+    }
+
+    /// Opens a stream with these first bytes, and says how many of them were taken: the first 262,144 at most.
+    pub fn open_with<W: Wait>(
+        &mut self,
+        rt: &W,
+        bytes: &[u8],
+    ) -> Result<(WriteHalf<R>, ReadHalf<R>, usize), HubFault>
+        ensures number { self.new.number ≡ self.old.number }
+        ensures start { self.new.start ≡ self.old.start }
+        ensures booked { Gains R.KEEPS self.old.entries self.new.entries (OpensHalvesWith bytes.now self.old.number result) }
+    {
+        let Ok(one) = Arc::try_clone(&self.hub) else {
+            return Err(HubFault::Memory);
+        };
+        let Ok(other) = Arc::try_clone(&self.hub) else {
+            return Err(HubFault::Memory);
+        };
+        let (id, taken, writer, reader) = self.hub.open_with(rt, &mut self.seat, bytes)?;
+        Ok((
+            WriteHalf::new(one, writer, id),
+            ReadHalf::new(other, reader, id),
+            taken,
+        ))
+    }
+}

@@ -1,0 +1,159 @@
+//! Calls that wait. Each turn is one event, and so one entry.
+
+ghost use Rattle.std.specs.Prelude.{◌≡◌, ◌<◌, ◌≤◌, length, false, IfOk, IfErr};
+ghost use Rattle.ymx_held.specs.Answers.{IsNotMemory};
+ghost use Rattle.ymx_held.specs.Booked.{Gains};
+ghost use Rattle.ymx_hub.specs.Turns.{Accepts, Reads, Pings, Writes};
+
+use crate::bells::bit;
+use crate::hub::Hub;
+use crate::write_fault::WriteFault;
+use std::sync::Wait;
+use ymx_held::HubFault;
+use ymx_model::{CallFault, Got, Wrote};
+use ymx_seats::{Recorder, Seat};
+
+impl<R: Recorder> Hub<R> {
+    /// Waits for an offered stream, and gives a seat for each of its halves. `None` if there will be none.
+    pub(crate) fn accept<W: Wait>(
+        &self,
+        rt: &W,
+        seat: &mut Seat<R>,
+    ) -> Result<Option<(u32, Seat<R>, Seat<R>)>, HubFault>
+        ensures number { seat.new.number ≡ seat.old.number }
+        ensures start { seat.new.start ≡ seat.old.start }
+        ensures booked { Gains R.KEEPS seat.old.entries seat.new.entries (Accepts seat.old.number result) }
+    {
+        let mut desk = self.desk.lock(rt);
+        for _ in rt.forever() {
+            let was_due = desk.held.due();
+            match desk.held.accept(seat) {
+                Ok(Some(offer)) => {
+                    self.tell_due(was_due, desk.held.due());
+                    return Ok(Some(offer));
+                }
+                Ok(None) => {
+                    desk.waiters.acceptors = true;
+                    desk = self.bells.offered.wait(rt, desk);
+                }
+                Err(HubFault::Call(CallFault::Lost)) => return Ok(None),
+                Err(HubFault::Call(CallFault::Closed)) => return Ok(None),
+                Err(fault) => return Err(fault),
+            }
+        }
+        unreachable!()
+    }
+
+    /// Waits for bytes of a stream, and moves them to the front of the buffer. 0 is the end.
+    pub(crate) fn read<W: Wait>(
+        &self,
+        rt: &W,
+        seat: &mut Seat<R>,
+        id: u32,
+        buffer: &mut [u8],
+    ) -> Result<usize, HubFault>
+        requires { 0 < length buffer.old }
+        ensures number { seat.new.number ≡ seat.old.number }
+        ensures start { seat.new.start ≡ seat.old.start }
+        ensures booked { Gains R.KEEPS seat.old.entries seat.new.entries (Reads id (length buffer.old) buffer.new seat.old.number result) }
+        ensures within { IfOk result (λ count. count ≤ length buffer.old) }
+        ensures length { length buffer.new ≡ length buffer.old }
+        ensures off { R.KEEPS ≡ false → IsNotMemory result }
+    {
+        let mut desk = self.desk.lock(rt);
+        for _ in rt.forever() {
+            let was_due = desk.held.due();
+            match desk.held.read(seat, id, buffer) {
+                Ok(Got::Bytes(count)) => {
+                    self.tell_due(was_due, desk.held.due());
+                    return Ok(count);
+                }
+                Ok(Got::End) => return Ok(0),
+                Ok(Got::Wait) => {
+                    desk.waiters.readers |= bit(id);
+                    desk = self.bells.reader(id).wait(rt, desk);
+                }
+                Err(fault) => return Err(fault),
+            }
+        }
+        unreachable!()
+    }
+
+    /// Writes all bytes to a stream, and waits for credit.
+    pub(crate) fn write_all<W: Wait>(
+        &self,
+        rt: &W,
+        seat: &mut Seat<R>,
+        id: u32,
+        bytes: &[u8],
+    ) -> Result<(), WriteFault>
+        ensures number { seat.new.number ≡ seat.old.number }
+        ensures start { seat.new.start ≡ seat.old.start }
+        ensures booked { Gains R.KEEPS seat.old.entries seat.new.entries (Writes id bytes.now seat.old.number result) }
+        ensures within { IfErr result (λ stop. stop.taken ≤ length bytes.now) }
+    {
+        let mut taken = 0;
+        let mut desk = self.desk.lock(rt);
+        for _ in rt.forever() {
+            let was_due = desk.held.due();
+            match desk.held.write(seat, id, &bytes[taken..]) {
+                Ok(Wrote::Took(count)) => {
+                    taken += count;
+                    self.tell_due(was_due, desk.held.due());
+                    if taken == bytes.len() {
+                        return Ok(());
+                    }
+                }
+                Ok(Wrote::Wait) => {
+                    desk.waiters.writers |= bit(id);
+                    desk = self.bells.writer(id).wait(rt, desk);
+                }
+                Err(fault) => return Err(WriteFault { taken, fault }),
+            }
+        }
+        unreachable!()
+    }
+
+    /// Asks the peer for a sign of life, waits for it, and returns the ping's number.
+    ///
+    /// Refused with `Closed`, `Lost`, and `PingsPending` while 16 pings wait; while it waits with `Closed` or `Lost`.
+    pub fn ping<W: Wait>(&self, rt: &W, seat: &mut Seat<R>) -> Result<u32, HubFault>
+        ensures number { seat.new.number ≡ seat.old.number }
+        ensures start { seat.new.start ≡ seat.old.start }
+        ensures booked { Gains R.KEEPS seat.old.entries seat.new.entries (Pings seat.old.number result) }
+        ensures off { R.KEEPS ≡ false → IsNotMemory result }
+    {
+        let mut desk = self.desk.lock(rt);
+        let was_due = desk.held.due();
+        let number = match desk.held.ping(seat) {
+            Ok(number) => number,
+            Err(fault) => return Err(fault),
+        };
+        self.tell_due(was_due, desk.held.due());
+        for _ in rt.forever() {
+            match desk.held.ponged(seat, number) {
+                Ok(true) => return Ok(number),
+                Ok(false) => {
+                    desk.waiters.pingers = true;
+                    desk = self.bells.ponged.wait(rt, desk);
+                }
+                Err(fault) => return Err(fault),
+            }
+        }
+        unreachable!()
+    }
+
+    /// Waits until nothing is due, or a write pump has given up. It is no event of the session.
+    pub fn drain<W: Wait>(&self, rt: &W, _seat: &mut Seat<R>)
+        ensures { _seat.new ≡ _seat.old }
+    {
+        let mut desk = self.desk.lock(rt);
+        for _ in rt.forever() {
+            if desk.is_mute || !desk.held.due() {
+                return;
+            }
+            desk.waiters.emptiers = true;
+            desk = self.bells.emptied.wait(rt, desk);
+        }
+    }
+}

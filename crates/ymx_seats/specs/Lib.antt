@@ -1,0 +1,4 @@
+pub mod Views
+pub mod Slips
+pub mod Agrees
+pub mod Transcripts

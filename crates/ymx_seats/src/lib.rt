@@ -1,0 +1,23 @@
+//! Who did what to a session: recorders, seats and the transcript. It uses no threads.
+//!
+//! A caller of a running session has a `Seat`. With the recorder `Full` each event of the session becomes an
+//! entry, which is added to the `Log` under the lock and to the seat of its caller; with `Off` none is kept.
+//! The memory of an entry, its `Slip`, is found before the event. At the end `agree` compares the seats with
+//! the log, whose entries a `Transcript` then hands out.
+#![tactic(auto)]
+
+mod compare;
+mod log;
+mod recorder;
+mod seat;
+mod slips;
+#[cfg(test)]
+mod tests;
+mod transcript;
+
+pub use compare::{agree, same};
+pub use log::Log;
+pub use recorder::{Full, Off, Recorder};
+pub use seat::{Seat, let_go};
+pub use slips::{Ask, Slip, Tell};
+pub use transcript::Transcript;
