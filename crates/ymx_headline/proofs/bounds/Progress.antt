@@ -30,7 +30,7 @@ pub record GoesOn (st : Step) (w : World) : Type 0 where
   pub given : Answer
   pub next : World
   pub steps : StepOfA in_turn st given w next
-  pub with_data : carries_bytes st given ≡ true
+  pub bytes_carried : carries_bytes st given ≡ true
 
 -- ---- an emission
 
@@ -42,7 +42,7 @@ emits-on side w within r =
       given = answer.Emitted 1;
       next = record w { a = k.1; ab = pushed out w.ab };
       steps = (out, k.1, (out, refl, k.2), refl, refl);
-      with_data = refl;
+      bytes_carried = refl;
     }
 
 -- ---- a delivery
@@ -77,7 +77,7 @@ delivers-on d b bs w e free =
       given = answer.Fed fed;
       next = record w { b = byte_comes false b w.b; ab = without_front 1 w.ab };
       steps = (reply.Fed fed, byte_comes false b w.b, (fed, refl, subst (λ bytes. Feeds w.b bytes fed (byte_comes false b w.b)) first (feeds-one b w.b free)), refl, refl);
-      with_data = refl;
+      bytes_carried = refl;
     }
 
 -- ---- either goes on
@@ -87,7 +87,7 @@ pub record Moves (w : World) : Type 0 where
   pub given : Answer
   pub next : World
   pub steps : Steps in_turn st given w next
-  pub with_data : carries_bytes st given ≡ true
+  pub bytes_carried : carries_bytes st given ≡ true
 
 quiet-pipe : (p : Pipe) → IsOpenPipe p → p.bytes ≡ [] → is_quiet_pipe p ≡ true
 quiet-pipe p o e = rw (e, o.on, o.untold) refl
@@ -96,10 +96,10 @@ quiet-world : (w : World) → IsOpenWorld w → is_ready w.a ≡ false → is_re
 quiet-world w o a b p q = rw (a, b, o.a, o.b, quiet-pipe w.ab o.ab p, quiet-pipe w.ba o.ba q) refl
 
 at-a : (st : Step) (w : World) → is_of_a st ≡ true → GoesOn st w → Moves w
-at-a st w e g = record { st = st; given = g.given; next = g.next; steps = so-true _ _ _ e g.steps; with_data = g.with_data }
+at-a st w e g = record { st = st; given = g.given; next = g.next; steps = so-true _ _ _ e g.steps; bytes_carried = g.bytes_carried }
 
 at-b : (st : Step) (w : World) → is_of_a st ≡ false → GoesOn st (mirror_world w) → Moves w
-at-b st w e g = record { st = st; given = g.given; next = mirror_world g.next; steps = so-false _ _ _ e g.steps; with_data = g.with_data }
+at-b st w e g = record { st = st; given = g.given; next = mirror_world g.next; steps = so-false _ _ _ e g.steps; bytes_carried = g.bytes_carried }
 
 pub goes-on : (w : World) → AreWithin w → IsOpenWorld w → is_quiet w ≡ false → Moves w
 goes-on w h o n = elim (when (is_ready w.a)) [

@@ -4,7 +4,7 @@ use Rattle.ymx_headline.proofs.bounds.OneAnswer.{one-answer, none-to-an_answer}
 use Rattle.ymx_headline.proofs.bounds.Progress.{goes-on}
 
 pub returns-clause-goes_on : goal.returns-clause-goes_on
-returns-clause-goes_on c = λ w h o n. let k = goes-on w h o n in (k.st, k.given, k.next, k.steps, k.with_data)
+returns-clause-goes_on c = λ w h o n. let k = goes-on w h o n in (k.st, k.given, k.next, k.steps, k.bytes_carried)
 
 pub returns-clause-bounded : goal.returns-clause-bounded
 returns-clause-bounded c = bound

@@ -10,4 +10,4 @@ pub returns-clause-goes_on : goal.returns-clause-goes_on
 returns-clause-goes_on c = λ o n.
     let reached = subst IsReached c.self.view_is c.self.invariant in
     let k = goes-on c.args.self.now (reached-within c.args.self.now reached) o (ap is_quiet (sym c.self.view_is) ∙ (sym c.is_quiet.ensures ∙ n)) in
-    (k.st, k.given, k.next, k.steps, k.with_data)
+    (k.st, k.given, k.next, k.steps, k.bytes_carried)
