@@ -81,7 +81,7 @@ arrival-agrees x y w m h table offered ids answers i rest parts ends counted sam
 -- side A runs and takes the byte b, which stands first on its pipe
 pub record Taking (x y : Role) (no_memory : Bool) (b : ℕ) (rest : List ℕ) (w : World) (m : Machine) (h : AgreesAs x y w m) : Type 0 where
   pub runs : w.a.status ≡ Running
-  pub with_data : w.ba.stopped ≡ false
+  pub not_stopped : w.ba.stopped ≡ false
   pub hears_it : hears m ≡ true
   pub over : h.streams.a.over ≡ false
   pub going : h.streams.ba_stopped ≡ false
@@ -101,14 +101,14 @@ runs-hears st i l c e p q r = let lost : l ≡ false = (rw e at q) refl in let c
 
 pub taking : (x y : Role) (no_memory : Bool) (b : ℕ) (rest : List ℕ) (w : World) (m : Machine) (h : AgreesAs x y w m) → w.ba.bytes ≡ b ∷ rest → is_stuck w.a ≡ false → w.a.status ≡ Running → Taking x y no_memory b rest w m h
 taking x y no_memory b rest w m h e free runs =
-    let with_data = no-stop w.ba b rest h.ba.streams.empty e in
+    let not_stopped = no-stop w.ba b rest h.ba.streams.empty e in
     let one : Takes (b ∷ []) w.a (byte_comes no_memory b w.a) (starves no_memory b w.a w.a.incoming + 0) = (no_memory, 0, free, refl, (refl, refl)) in record {
       runs = runs;
-      with_data = with_data;
-      hears_it = runs-hears w.a.status m.inbound_stopped m.me.lost m.me.closed runs (h.ba.machine ∙ with_data) h.a.whole.lost h.a.whole.closed;
+      not_stopped = not_stopped;
+      hears_it = runs-hears w.a.status m.inbound_stopped m.me.lost m.me.closed runs (h.ba.machine ∙ not_stopped) h.a.whole.lost h.a.whole.closed;
       over = h.a.records.over ∙ ap (λ z. not (is_running z)) runs;
-      going = h.ba.streams.same ∙ with_data;
-      text = subst (λ bs. Text (sending w.b m.you) (hearing w.a m.me) bs h.streams.ba) e (h.ba.text (rw (with_data, runs) refl));
+      going = h.ba.streams.same ∙ not_stopped;
+      text = subst (λ bs. Text (sending w.b m.you) (hearing w.a m.me) bs h.streams.ba) e (h.ba.text (rw (not_stopped, runs) refl));
       within = takes-keep (b ∷ []) w.a (byte_comes no_memory b w.a) _ one h.a.within;
       settled = takes-settled (b ∷ []) w.a (byte_comes no_memory b w.a) _ one h.a.within h.a.settled;
     }
@@ -176,7 +176,7 @@ header-byte x y no_memory b rest seen w m h k inc f =
     let is : byte_comes no_memory b w.a ≡ t = byte-is no_memory b w.a (Head seen) k.runs inc ∙ rw f refl in
     let none : starves no_memory b w.a w.a.incoming ≡ 0 = rw (inc, f, no-starving) refl in
     delivered-is x y (byte_comes no_memory b w.a) t rest w m _ 0 is none
-    (only-incoming x y w m h (Head (seen ++ b ∷ [])) rest (subst IsWithin is k.within) (subst IsSettled is k.settled) k.with_data (header-text (sending w.b m.you) (hearing w.a m.me) b seen rest h.streams.ba inc k.text))
+    (only-incoming x y w m h (Head (seen ++ b ∷ [])) rest (subst IsWithin is k.within) (subst IsSettled is k.settled) k.not_stopped (header-text (sending w.b m.you) (hearing w.a m.me) b seen rest h.streams.ba inc k.text))
   where
     no-starving : (p q : Bool) → (p && false && q) ≡ false
     no-starving true q = refl
@@ -217,7 +217,7 @@ stray-byte x y no_memory b rest id n fin w m h k inc some =
     let none : parts_left (piece_left id n fin true) l.tail ≡ [] = split (λ i. parts_left i l.tail ≡ []) (nat_lt 1 n) (Payload id (n - 1) fin true) (Head []) (λ q. refl) (λ q. refl) in
     let same : parts_left (piece_left id n fin true) l.tail ++ l.more ≡ h.streams.ba = ap (λ ps. ps ++ l.more) none ∙ sym l.says in
     delivered-is x y (byte_comes no_memory b w.a) t rest w m 0 0 is refl
-    (only-incoming x y w m h (piece_left id n fin true) rest (subst IsWithin is k.within) (subst IsSettled is k.settled) k.with_data
+    (only-incoming x y w m h (piece_left id n fin true) rest (subst IsWithin is k.within) (subst IsSettled is k.settled) k.not_stopped
     (subst (Text (sending w.b m.you) (record (hearing w.a m.me) { incoming = piece_left id n fin true }) rest) same l.text))
 
 and-false : (b : Bool) → (b && false) ≡ false
@@ -267,7 +267,7 @@ payload-byte x y no_memory b rest id n fin w m h k inc some =
     done parts text a =
         arrival-agrees x y w m h (with_record id (receive_piece last (b ∷ [])) w.a.table) w.a.offered m.me.offered w.a.answers (piece_left id n fin false) rest parts (put id (receive_piece last (b ∷ []) (g.a.ends id)) g.a.ends) 0
         h.a.whole.offered refl (keeps-on w.a.answers id (receive_piece last (b ∷ [])) w.a.table.entries g.a.ends (piece-absent last (b ∷ [])) h.a.records.each) h.a.records.once (λ i. refl)
-        (subst IsWithin is k.within) (subst IsSettled is k.settled) k.with_data text a
+        (subst IsWithin is k.within) (subst IsSettled is k.settled) k.not_stopped text a
 
     more-comes : nat_lt 1 n ≡ true → Delivered x y (piece_done b id n fin w.a) rest w m 0
     more-comes e =

@@ -223,7 +223,7 @@ ping-arrives x y no_memory b seen rest w m h k kind syn =
     let pongs = pongs-rest (sending w.b m.you) (hearing w.a m.me) frame frames no_reply k.first.pongs in
     delivered-is x y (byte_comes no_memory b w.a) t rest w m _ 0 is f.starves_none
     (session-arrives x y w m h rest w.a.pings w.a.away answers m.me.pings (there_now n m.you.pings) m.you.away (PingThere n) refl (λ i. rejected-same n i w.a.answers) (once-same n w.a.answers h.a.records.once)
-    h.a.pings (there-pings w.b.pings m.you.next_ping n m.you.pings asked h.b.pings) h.b.away (subst IsWithin is k.taking.within) (subst IsSettled is k.taking.settled) k.taking.with_data
+    h.a.pings (there-pings w.b.pings m.you.next_ping n m.you.pings asked h.b.pings) h.b.away (subst IsWithin is k.taking.within) (subst IsSettled is k.taking.settled) k.taking.not_stopped
     (λ bytes parts z. there-text (sending w.a m.me) (hearing w.b m.you) n bytes parts asked z)
     (session-text x y no_memory b seen rest w m h k f m.you.away m.me.pings (there_now n m.you.pings) (record { once = away.once; means = away.means; said = away.said })
     (asked-done (sending w.b m.you) n frame frames it len asked p) (record { once = pongs.once; means = pongs.means; there = pongs.there }))
@@ -316,7 +316,7 @@ reply-arrives x y no_memory b seen rest w m h k kind syn =
     let done = reply-done (sending w.b m.you) (hearing w.a m.me) n frame frames it len there p in
     delivered-is x y (byte_comes no_memory b w.a) t rest w m _ 0 is f.starves_none
     (session-arrives x y w m h rest (receive_answer n w.a.pings) w.a.away w.a.answers (back_now n m.me.pings) m.you.pings m.you.away (PingBack n) refl (λ i. refl) h.a.records.once
-    (back-pings w.a.pings m.me.next_ping n m.me.pings there h.a.pings) h.b.pings h.b.away (subst IsWithin is k.taking.within) (subst IsSettled is k.taking.settled) k.taking.with_data
+    (back-pings w.a.pings m.me.next_ping n m.me.pings there h.a.pings) h.b.pings h.b.away (subst IsWithin is k.taking.within) (subst IsSettled is k.taking.settled) k.taking.not_stopped
     (λ bytes parts z. back-text (sending w.a m.me) (hearing w.b m.you) n bytes parts there z)
     (session-text x y no_memory b seen rest w m h k f m.you.away (back_now n m.me.pings) m.you.pings (record { once = away.once; means = away.means; said = away.said })
     (record { once = pings.once; means = pings.means; asked = pings.asked }) (record { once = done.once; means = done.means; there = done.there }))

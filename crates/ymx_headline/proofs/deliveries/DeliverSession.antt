@@ -167,7 +167,7 @@ go-away-arrives x y no_memory b seen rest w m h k kind =
     let pongs = pongs-rest (sending w.b m.you) (hearing w.a m.me) k.first.frame k.first.frames (λ n. rw frame_two refl) k.first.pongs in
     delivered-is x y (byte_comes no_memory b w.a) t rest w m _ 0 is f.starves_none
     (session-arrives x y w m h rest w.a.pings (receive_away w.a.away) w.a.answers m.me.pings m.you.pings Here AwayArrives refl (λ i. refl) h.a.records.once h.a.pings h.b.pings
-    (record { said = sym unsaid ∙ h.b.away.said; arrived = refl }) (subst IsWithin is k.taking.within) (subst IsSettled is k.taking.settled) k.taking.with_data (λ bytes parts z. z)
+    (record { said = sym unsaid ∙ h.b.away.said; arrived = refl }) (subst IsWithin is k.taking.within) (subst IsSettled is k.taking.settled) k.taking.not_stopped (λ bytes parts z. z)
     (session-text x y no_memory b seen rest w m h k f Here m.me.pings m.you.pings (away-done (sending w.b m.you) k.first.frame k.first.frames it a)
     (record { once = pings.once; means = pings.means; asked = pings.asked }) (record { once = pongs.once; means = pongs.means; there = pongs.there }))
     ((k.taking.hears_it, said), (0, refl, (refl, refl))))

@@ -48,7 +48,7 @@ deaf-starves no_memory b s (Payload id n fin stray) d = refl
 deaf-byte : (x y : Role) (no_memory : Bool) (b : ℕ) (rest : List ℕ) (w : World) (m : Machine) (h : AgreesAs x y w m) → w.ba.bytes ≡ b ∷ rest → is_deaf w.a.status ≡ true → is_running w.a.status ≡ false →
     Delivered x y (byte_comes no_memory b w.a) rest w m (starves no_memory b w.a w.a.incoming)
 deaf-byte x y no_memory b rest w m h e deaf still =
-    let with_data = no-stop w.ba b rest h.ba.streams.empty e in
+    let not_stopped = no-stop w.ba b rest h.ba.streams.empty e in
     let is : byte_comes no_memory b w.a ≡ w.a = rw deaf refl in
     delivered-is x y (byte_comes no_memory b w.a) w.a rest w m _ 0 is (deaf-starves no_memory b w.a w.a.incoming deaf) (record {
       now = m;
@@ -63,8 +63,8 @@ deaf-byte x y no_memory b rest w m h e deaf still =
         ab = h.ab;
         ba = record {
           machine = h.ba.machine;
-          streams = record { same = h.ba.streams.same; empty = λ t. (let no : true ≡ false = sym t ∙ with_data in absurd cc) };
-          text = λ on. (let no : false ≡ true = rw (with_data, still) at on in absurd cc);
+          streams = record { same = h.ba.streams.same; empty = λ t. (let no : true ≡ false = sym t ∙ not_stopped in absurd cc) };
+          text = λ on. (let no : false ≡ true = rw (not_stopped, still) at on in absurd cc);
         };
         order = h.order;
       };

@@ -115,7 +115,7 @@ stream-arrives x y no_memory b seen rest_parts w m h k stray table offered ids a
     let t : Session = record w.a { table = table; offered = offered; answers = answers; incoming = awaited (header_of (seen ++ b ∷ [])) stray } in
     let is : byte_comes no_memory b w.a ≡ t = k.is ∙ done in
     delivered-is x y (byte_comes no_memory b w.a) t rest_parts w m counted counted is refl
-    (arrival-agrees x y w m h table offered ids answers (awaited (header_of (seen ++ b ∷ [])) stray) rest_parts parts ends counted same window keeps once pongs_same (subst IsWithin is k.taking.within) (subst IsSettled is k.taking.settled) k.taking.with_data
+    (arrival-agrees x y w m h table offered ids answers (awaited (header_of (seen ++ b ∷ [])) stray) rest_parts parts ends counted same window keeps once pongs_same (subst IsWithin is k.taking.within) (subst IsSettled is k.taking.settled) k.taking.not_stopped
     (stream-text x y no_memory b seen rest_parts w m h k stray parts kind frame_says) come)
 
 -- the parts of the frame stand first
