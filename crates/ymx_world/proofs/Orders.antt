@@ -10,7 +10,7 @@ use Rattle.ymx_model.specs.declared.types.Event.TheVariants as event
 use Rattle.ymx_model.specs.declared.types.Entry.{Entry}
 use Rattle.ymx_model.specs.world.Worlds.{Pipe, new_pipe, pushed, without_front}
 use Rattle.std.specs.Prelude.{MatchBool}
-use Rattle.ymx_world.specs.Joints.{emitted_of, put, Takes, Gets, steps_of, Advances, IsStuck, IsJoint, IsJointOrder}
+use Rattle.ymx_law_audit.specs.Joints.{emitted_of, put, Takes, Gets, steps_of, Advances, IsStuck, IsJoint, IsJointOrder}
 
 -- ---- one pipe
 

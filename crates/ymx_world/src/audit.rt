@@ -3,7 +3,7 @@
 ghost use Rattle.std.specs.Prelude.{◌≡◌, ◌<◌, ◌+◌, ◌++◌, length, drop, List, true, false, IfOk, IfSome, IfNone};
 ghost use Rattle.ymx_model.specs.declared.types.Step.{Step as TheStep};
 ghost use Rattle.ymx_model.specs.world.Worlds.{Pipe as PipeValue};
-ghost use Rattle.ymx_world.specs.Joints.{into, put, Gets, steps_of, Advances, IsStuck, IsJointOrder};
+ghost use Rattle.ymx_law_audit.specs.Joints.{into, put, Gets, steps_of, Advances, IsStuck, IsJointOrder};
 
 use crate::pipe::Pipe;
 use std::alloc::{AllocError, Global};

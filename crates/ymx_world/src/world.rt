@@ -12,7 +12,7 @@ ghost use Rattle.ymx_headline.specs.Laws.{HasRun, IsOpenWorld, carries_bytes};
 ghost use Rattle.ymx_session.specs.NewSessions.{first_id, new_fault, IsNewFault};
 ghost use Rattle.ymx_model.specs.declared.types.Step.{Step as TheStep};
 ghost use Rattle.ymx_model.specs.declared.types.Answer.{Answer as TheAnswer};
-ghost use Rattle.ymx_world.specs.Joints.{IsJointOrder};
+ghost use Rattle.ymx_law_audit.specs.Joints.{IsJointOrder};
 ghost use Rattle.ymx_world.specs.Acts.{session_of, pipe_of};
 
 use crate::audit::audit;

@@ -1,0 +1,3 @@
+pub mod Over
+pub mod Events
+pub mod Orders

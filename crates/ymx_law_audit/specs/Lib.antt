@@ -1,0 +1,3 @@
+pub mod Joints
+pub mod Told
+pub mod Example
