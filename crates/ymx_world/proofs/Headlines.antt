@@ -1,10 +1,10 @@
 -- What the headline says of a world that was reached by steps.
-use Rattle.std.proofs.Common.{Result, Ok, Err, IfOk, IfErr, refl}
+use Rattle.std.proofs.Common.{Result, Ok, Err, IfOk, IfErr, Option, Some, None, IfSome, refl}
 use Rattle.ymx_model.specs.declared.types.Role.TheVariants.{Client, Server}
 use Rattle.ymx_model.specs.session.Emissions.{in_turn}
 use Rattle.ymx_model.specs.world.Worlds.{World, new_world}
 use Rattle.ymx_law_session.proofs.limits.HistoriesKeep.{new-keeps, odd_some}
-use Rattle.ymx_law_world.specs.Texts.{AreWithin}
+use Rattle.ymx_law_world.specs.Texts.{AreWithin, AreFrames}
 use Rattle.ymx_law_world.proofs.Worlds.{run-frames, new-frames}
 use Rattle.ymx_world.specs.Reached.{IsReached}
 
@@ -16,11 +16,23 @@ pub err-then : {A E : Type 0} (r : Result A E) (P Q : E → Type 0) → ((x : E)
 err-then (Ok x) P Q f p = p
 err-then (Err e) P Q f p = f e p
 
--- both sessions of a world that was reached keep their limits
-pub reached-within : (w : World) → IsReached w → AreWithin w
-reached-within w r =
+pub some-then : {A : Type 0} (o : Option A) (P Q : A → Type 0) → ((x : A) → P x → Q x) → IfSome o P → IfSome o Q
+some-then (Some x) P Q f p = f x p
+some-then None P Q f p = p
+
+-- what holds where a run was made holds where it stopped too
+pub either-way : {A E : Type 0} (r : Result A E) (P : A → Type 0) (Q : E → Type 0) (C : Type 0) → ((x : A) → P x → C) → ((e : E) → Q e → C) → IfOk r P → IfErr r Q → C
+either-way (Ok x) P Q C f g p q = f x p
+either-way (Err e) P Q C f g p q = g e q
+
+-- both sessions of a world that was reached keep their limits, and frames are under way in what carries
+pub reached-frames : (w : World) → IsReached w → AreWithin w × AreFrames w
+reached-frames w r =
     let g = r.good in
     let start = new_world r.window_a r.first_a r.window_b r.first_b in
-    (run-frames in_turn r.steps r.answers start w r.runs
+    run-frames in_turn r.steps r.answers start w r.runs
     (record { a = new-keeps Client r.window_a r.first_a g.low_a g.high_a g.client (odd_some r.first_a g.client) g.small_a; b = new-keeps Server r.window_b r.first_b g.low_b g.high_b g.server g.some_b g.small_b })
-    (new-frames start refl refl refl refl refl refl)).0
+    (new-frames start refl refl refl refl refl refl)
+
+pub reached-within : (w : World) → IsReached w → AreWithin w
+reached-within w r = (reached-frames w r).0

@@ -2,4 +2,5 @@ pub mod Runs
 pub mod Acts
 pub mod Orders
 pub mod Headlines
+pub mod Bounds
 pub mod NewWorlds

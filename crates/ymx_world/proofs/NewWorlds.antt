@@ -10,7 +10,10 @@ use Rattle.ymx_model.specs.world.Worlds.{World, new_world, new_pipe}
 use Rattle.ymx_session.specs.declared.new_fault.NewFault.{NewFault}
 use Rattle.ymx_session.specs.declared.new_fault.NewFault.TheVariants.{BadWindow, BadFirst}
 use Rattle.ymx_session.specs.NewSessions.{first_id, new_fault}
+use Rattle.ymx_model.specs.machine.Machines.{new_machine}
+use Rattle.ymx_headline.specs.Agrees.{Agrees}
 use Rattle.ymx_headline.specs.Laws.{AreGood}
+use Rattle.ymx_headline.proofs.relation.Begins.{begins}
 use Rattle.ymx_world.specs.Reached.{IsReached}
 
 -- a window that may be chosen, and a first id of the side's own
@@ -55,14 +58,17 @@ good_world a b fine_a fine_b small_a small_b =
       small_b = small_id (b.first == 0) 2 b.first (omega arith) small_b;
     }
 
--- two new sessions with nothing on its way between them
+-- two new sessions with nothing on its way between them are a new world
+made_new : (window_a first_a window_b first_b : ℕ) (a b : Session) (w : World) →
+    a ≡ new_session Client window_a first_a → b ≡ new_session Server window_b first_b → w ≡ record { a = a; b = b; ab = new_pipe; ba = new_pipe } → new_world window_a first_a window_b first_b ≡ w
+made_new window_a first_a window_b first_b a b w made_a made_b is =
+    ap (λ (s : Session). record { a = s; b = new_session Server window_b first_b; ab = new_pipe; ba = new_pipe }) (sym made_a)
+    ∙ ap (λ (s : Session). record { a = a; b = s; ab = new_pipe; ba = new_pipe }) (sym made_b) ∙ sym is
+
 pub reached_new : (window_a first_a window_b first_b : ℕ) (a b : Session) (w : World) → AreGood window_a first_a window_b first_b →
     a ≡ new_session Client window_a first_a → b ≡ new_session Server window_b first_b → w ≡ record { a = a; b = b; ab = new_pipe; ba = new_pipe } → IsReached w
 reached_new window_a first_a window_b first_b a b w good made_a made_b is =
-    let same : new_world window_a first_a window_b first_b ≡ w =
-    ap (λ (s : Session). record { a = s; b = new_session Server window_b first_b; ab = new_pipe; ba = new_pipe }) (sym made_a)
-    ∙ ap (λ (s : Session). record { a = a; b = s; ab = new_pipe; ba = new_pipe }) (sym made_b) ∙ sym is in
-    subst IsReached same (record {
+    subst IsReached (made_new window_a first_a window_b first_b a b w made_a made_b is) (record {
       window_a = window_a;
       first_a = first_a;
       window_b = window_b;
@@ -72,3 +78,10 @@ reached_new window_a first_a window_b first_b a b w good made_a made_b is =
       answers = [];
       runs = refl;
     })
+
+-- the new machine agrees with it
+pub agrees_new : (window_a first_a window_b first_b : ℕ) (a b : Session) (w : World) → AreGood window_a first_a window_b first_b →
+    a ≡ new_session Client window_a first_a → b ≡ new_session Server window_b first_b → w ≡ record { a = a; b = b; ab = new_pipe; ba = new_pipe } → Agrees w (new_machine window_a first_a window_b first_b)
+agrees_new window_a first_a window_b first_b a b w g made_a made_b is =
+    subst (λ (z : World). Agrees z (new_machine window_a first_a window_b first_b)) (made_new window_a first_a window_b first_b a b w made_a made_b is)
+    (begins window_a first_a window_b first_b g.low_a g.high_a g.low_b g.high_b g.client g.server g.small_a g.some_b g.small_b)

@@ -7,6 +7,7 @@ use Rattle.ymx_model.specs.declared.types.Answer.{Answer}
 use Rattle.ymx_model.specs.session.Sessions.{Session}
 use Rattle.ymx_model.specs.session.Emissions.{Choice, in_turn}
 use Rattle.ymx_model.specs.world.Worlds.{World, Steps, Runs}
+use Rattle.ymx_law_audit.proofs.Orders.{runs-on}
 use Rattle.ymx_world.specs.Reached.{IsReached}
 
 -- a run goes on by one more step
@@ -28,6 +29,19 @@ reached_on st given w v r one = record {
   steps = r.steps ++ st ∷ [];
   answers = r.answers ++ given ∷ [];
   runs = run_more in_turn r.steps r.answers st given _ w v r.runs one;
+}
+
+-- a run leads to a world that can be
+pub reached_along : (steps : List Step) (answers : List Answer) (w v : World) → IsReached w → Runs in_turn steps answers w v → IsReached v
+reached_along steps answers w v r run = record {
+  window_a = r.window_a;
+  first_a = r.first_a;
+  window_b = r.window_b;
+  first_b = r.first_b;
+  good = r.good;
+  steps = r.steps ++ steps;
+  answers = r.answers ++ answers;
+  runs = runs-on in_turn r.steps steps r.answers answers _ w v r.runs run;
 }
 
 -- a step that is made, or not, leads to a world that can be

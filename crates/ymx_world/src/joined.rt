@@ -1,14 +1,15 @@
 //! Two sessions and the pipes between them.
 
-ghost use Rattle.std.specs.Prelude.{◌≡◌, IfOk, OnErr};
+ghost use Rattle.std.specs.Prelude.{◌≡◌, ◌<◌, length, take, IfOk, IfErr, OnErr};
 ghost use Rattle.ymx_model.specs.declared.types.Answer.TheVariants as answer;
 ghost use Rattle.ymx_model.specs.declared.types.Step.TheVariants as step;
 ghost use Rattle.ymx_model.specs.session.Emissions.{in_turn, is_ready};
-ghost use Rattle.ymx_model.specs.world.Worlds.{Steps, new_pipe, is_quiet};
+ghost use Rattle.ymx_model.specs.world.Worlds.{Steps, Runs, new_pipe, is_quiet};
 ghost use Rattle.ymx_world.specs.Acts.{session_of, pipe_of};
 
 use crate::calls::make_call;
 use crate::pipe::Pipe;
+use crate::stopped::Stopped;
 use std::alloc::{AllocError, Global};
 use std::marker::Model;
 use ymx_model::{Answer, Direction, Fed, Side, Status, Step};
@@ -78,6 +79,26 @@ impl Joined {
             Step::End(Direction::AB) => Ok(self.ab.end_at(&mut self.b)),
             Step::End(Direction::BA) => Ok(self.ba.end_at(&mut self.a)),
         }
+    }
+
+    /// Some steps, one after another, and their answers, or those before the step for which there was no
+    /// memory.
+    pub(crate) fn run(&mut self, steps: &[Step]) -> Result<Vec<Answer>, Stopped>
+        ensures runs { IfOk result (λ answers. Runs in_turn steps.now answers.items self.old self.new) }
+        ensures before { IfErr result (λ stopped. length stopped.answers.items < length steps.now) }
+        ensures stopped { IfErr result (λ stopped. Runs in_turn (take (length stopped.answers.items) steps.now) stopped.answers.items self.old self.new) }
+    {
+        let mut answers = Vec::new(self.alloc);
+        for step in steps {
+            let Ok(()) = answers.reserve(1) else {
+                return Err(Stopped { answers });
+            };
+            let Ok(answer) = self.step(step) else {
+                return Err(Stopped { answers });
+            };
+            answers.push_reserved(answer);
+        }
+        Ok(answers)
     }
 
     /// A delivery of the first bytes in a direction.

@@ -1,13 +1,16 @@
 //! Two sessions of `ymx_session`, joined by two pipes in memory: the client A, the server B, and what each
 //! has emitted and the other not yet been fed. Whoever holds a `World` drives it by hand, a step at a time.
 //! `world` is the type and its calls. Behind it: `joined` (the sessions and the pipes), `pipe` (one
-//! direction), `calls` (a call on one session, and its answer), `audit` (a joint order of two histories).
+//! direction), `calls` (a call on one session, and its answer), `audit` (a joint order of two histories),
+//! `stopped` (a run that found no memory).
 #![tactic(auto)]
 
 mod audit;
 mod calls;
 mod joined;
 mod pipe;
+mod stopped;
 mod world;
 
-pub use world::{Stopped, World};
+pub use stopped::Stopped;
+pub use world::World;

@@ -1,33 +1,29 @@
 //! The type `World`, and its calls.
 
-ghost use Rattle.std.specs.Prelude.{◌≡◌, ◌⊎◌, ◌<◌, List, length, take, true, false, None, IfOk, IfErr, IfSome, IfNone, OnErr};
+ghost use Rattle.std.specs.Prelude.{◌≡◌, ◌⊎◌, ◌<◌, All, List, length, take, true, false, None, IfOk, IfErr, IfSome, IfNone, OnErr};
 ghost use Rattle.ymx_model.specs.declared.types.Role.TheVariants.{Client, Server};
 ghost use Rattle.ymx_model.specs.session.Emissions.{in_turn, is_ready};
 ghost use Rattle.ymx_model.specs.world.Worlds.{World as TheWorld, Steps, Runs, new_world, is_quiet};
 ghost use Rattle.ymx_model.specs.world.UnderWay.{IsUnderWay};
 ghost use Rattle.ymx_model.specs.world.Load.{world_load};
-ghost use Rattle.ymx_model.specs.machine.Machines.{Machine};
+ghost use Rattle.ymx_model.specs.machine.Machines.{Machine, new_machine};
 ghost use Rattle.ymx_headline.specs.Agrees.{Agrees, Follows};
-ghost use Rattle.ymx_headline.specs.Laws.{HasRun, IsOpenWorld, carries_bytes};
+ghost use Rattle.ymx_headline.specs.Laws.{HasRun, IsOpenWorld, carries_bytes, is_carriage};
 ghost use Rattle.ymx_session.specs.NewSessions.{first_id, new_fault, IsNewFault};
 ghost use Rattle.ymx_model.specs.declared.types.Step.{Step as TheStep};
 ghost use Rattle.ymx_model.specs.declared.types.Answer.{Answer as TheAnswer};
 ghost use Rattle.ymx_law_audit.specs.Joints.{IsJointOrder};
+ghost use Rattle.ymx_law_audit.specs.Told.{AreAnswered};
+ghost use Rattle.ymx_world.specs.Bounds.{IsBounded};
 ghost use Rattle.ymx_world.specs.Acts.{session_of, pipe_of};
 
 use crate::audit::audit;
 use crate::joined::Joined;
+use crate::stopped::Stopped;
 use std::alloc::{AllocError, Global};
 use std::marker::Model;
 use ymx_model::{Answer, Config, Direction, Entry, Role, Side, Step};
 use ymx_session::{NewFault, Session};
-
-/// There was no memory of the world's own for a step of a run.
-#[derive(Debug, Drop)]
-pub struct Stopped {
-    /// The answers of the steps before it. It did nothing, and no later one was made.
-    pub answers: Vec<Answer>,
-}
 
 /// Two sessions joined by pipes. A contract sees the record `World` of `ymx_model`, and that it was reached
 /// from a new one by steps.
@@ -35,7 +31,6 @@ pub struct Stopped {
 /// A is the client and B the server; the direction AB carries A's bytes.
 #[derive(Drop)]
 pub struct World {
-    alloc: Global,
     joined: Joined,
 }
 
@@ -57,12 +52,14 @@ impl World {
         ensures made { IfOk result (λ world. world ≡ new_world config_a.window (first_id Client config_a.first) config_b.window (first_id Server config_b.first)) }
         ensures may_a { IfOk result (λ world. new_fault Client config_a ≡ None) }
         ensures may_b { IfOk result (λ world. new_fault Server config_b ≡ None) }
+        // The headline begins here: the queue machine of these two sides agrees with the world.
+        ensures begins { IfOk result (λ world. Agrees world (new_machine config_a.window (first_id Client config_a.first) config_b.window (first_id Server config_b.first))) }
         ensures refused { IfErr result (λ fault. IsNewFault Client config_a fault ⊎ (new_fault Client config_a ≡ None) × IsNewFault Server config_b fault) }
     {
         let a = Session::new(alloc, Role::Client, config_a)?;
         let b = Session::new(alloc, Role::Server, config_b)?;
         let joined = Joined::new(alloc, a, b);
-        Ok(World { alloc, joined })
+        Ok(World { joined })
     }
 
     /// One step: a call at a side; an emission, which goes onto the side's pipe, or vanishes where that was
@@ -85,6 +82,9 @@ impl World {
     ///
     /// Each queue machine that agreed with the world before has a run with the same answers, which is still
     /// whenever the world is quiet, and agrees with the world after it.
+    ///
+    /// Where nothing was stopped, ended, closed or broken, emissions and deliveries alone feed wholly at most
+    /// twice as many frames as the load of the world: driving the bytes comes to an end.
     pub fn run(&mut self, steps: &[Step]) -> Result<Vec<Answer>, Stopped>
         ensures runs { IfOk result (λ answers. Runs in_turn steps.now answers.items self.old self.new) }
         ensures before { IfErr result (λ stopped. length stopped.answers.items < length steps.now) }
@@ -92,27 +92,12 @@ impl World {
         ensures headline { IfOk result (λ answers. (m : Machine) → Agrees self.old m → HasRun in_turn steps.now answers.items self.old self.new m) }
         ensures headline_so_far { IfErr result (λ stopped. (m : Machine) → Agrees self.old m →
             HasRun in_turn (take (length stopped.answers.items) steps.now) stopped.answers.items self.old self.new m) }
+        ensures bounded { IfOk result (λ answers. IsOpenWorld self.old → All (λ step. is_carriage step ≡ true) steps.now →
+            IsBounded steps.now answers.items self.old self.new) }
+        ensures bounded_so_far { IfErr result (λ stopped. let made = take (length stopped.answers.items) steps.now in
+            IsOpenWorld self.old → All (λ step. is_carriage step ≡ true) made → IsBounded made stopped.answers.items self.old self.new) }
     {
-        self.make(steps)
-    }
-
-    /// Makes some steps, one after another.
-    fn make(&mut self, steps: &[Step]) -> Result<Vec<Answer>, Stopped>
-        ensures runs { IfOk result (λ answers. Runs in_turn steps.now answers.items self.old self.new) }
-        ensures before { IfErr result (λ stopped. length stopped.answers.items < length steps.now) }
-        ensures stopped { IfErr result (λ stopped. Runs in_turn (take (length stopped.answers.items) steps.now) stopped.answers.items self.old self.new) }
-    {
-        let mut answers = Vec::new(self.alloc);
-        for step in steps {
-            let Ok(()) = answers.reserve(1) else {
-                return Err(Stopped { answers });
-            };
-            let Ok(answer) = self.step(step) else {
-                return Err(Stopped { answers });
-            };
-            answers.push_reserved(answer);
-        }
-        Ok(answers)
+        self.joined.run(steps)
     }
 
     /// Whether neither session has anything due, both pipes are empty, nothing was stopped, closed or broken,
@@ -147,6 +132,9 @@ impl World {
     pub fn audit(alloc: Global, a: &[Entry], b: &[Entry]) -> Result<Option<Vec<Step>>, AllocError>
         ensures some { IfOk result (λ found. IfSome found (λ steps. IsJointOrder a.now b.now steps.items)) }
         ensures none { IfOk result (λ found. IfNone found ((steps : List TheStep) → IsJointOrder a.now b.now steps → ⊥)) }
+        // Where both histories replay from sessions, the replies of the entries that have a step are the answers
+        // of a run of these sessions' world over the steps, and of each queue machine that agrees with it.
+        ensures answered { IfOk result (λ found. IfSome found (λ steps. AreAnswered in_turn a.now b.now steps.items)) }
     {
         audit(alloc, a, b)
     }

@@ -4,7 +4,7 @@ use Rattle.ymx_model.specs.session.Emissions.{in_turn}
 use Rattle.ymx_model.specs.declared.types.Answer.{Answer}
 use Rattle.ymx_model.specs.world.Worlds.{Runs}
 use Rattle.ymx_world.proofs.Runs.{run_at}
-use Rattle.ymx_world.proofs.world.World.make.Goals as goal
+use Rattle.ymx_world.proofs.joined.Joined.run.Goals as goal
 
 pub loop-step-preserved : goal.loop-step-preserved
 loop-step-preserved c = record {

@@ -1,7 +1,7 @@
 use Rattle.std.proofs.Common.{◌≡◌, take, vec_len}
 use Rattle.ymx_model.specs.session.Emissions.{in_turn}
 use Rattle.ymx_model.specs.world.Worlds.{Runs}
-use Rattle.ymx_world.proofs.world.World.make.Given as goal
+use Rattle.ymx_world.proofs.joined.Joined.run.Given as goal
 
 abbrev pub invariant-loop-step : goal.invariant-loop-step
 invariant-loop-step l = record {
