@@ -15,17 +15,20 @@ use Rattle.ymx_world.proofs.Headlines.{reached-frames}
 use Rattle.ymx_world.specs.Reached.{IsReached}
 use Rattle.ymx_world.specs.Bounds.{AreUnderWay, IsBounded}
 
+abbrev IsCarriage : Step → Type 0
+IsCarriage st = is_carriage st ≡ true
+
 -- a run of emissions and deliveries feeds some frames wholly
-counts : (steps : List Step) (answers : List Answer) (w v : World) → All (λ st. is_carriage st ≡ true) steps → Runs in_turn steps answers w v → (count : ℕ) × Carries in_turn steps answers w v count
-counts [] [] w v each run = (0, run, refl)
+counts : (steps : List Step) (answers : List Answer) (w v : World) → All IsCarriage steps → Runs in_turn steps answers w v → (count : ℕ) × Carries in_turn steps answers w v count
+counts [] [] w v each run = (0, (run, refl))
 counts [] (given ∷ more) w v each run = absurd run
 counts (st ∷ sts) [] w v each run = absurd run
 counts (st ∷ sts) (given ∷ more) w v each run =
-    let rest = counts sts more run.0 v (All-tail _ st sts each) run.2 in
-    (fed_by st given w + rest.0, All-head _ st sts each, run.0, rest.0, run.1, refl, rest.1)
+    let rest = counts sts more run.0 v (All-tail IsCarriage st sts each) run.2 in
+    (fed_by st given w + rest.0, (All-head IsCarriage st sts each, run.0, rest.0, run.1, refl, rest.1))
 
 -- they are at most twice the load
-pub is-bounded : (steps : List Step) (answers : List Answer) (w v : World) → IsReached w → IsOpenWorld w → All (λ st. is_carriage st ≡ true) steps → Runs in_turn steps answers w v →
+pub is-bounded : (steps : List Step) (answers : List Answer) (w v : World) → IsReached w → IsOpenWorld w → All IsCarriage steps → Runs in_turn steps answers w v →
     IsBounded steps answers w v
 is-bounded steps answers w v reached on each run =
     let h = reached-frames w reached in

@@ -1,6 +1,7 @@
-use Rattle.std.proofs.Common.{subst}
+use Rattle.std.proofs.Common.{subst, take, length}
 use Rattle.ymx_headline.proofs.runs.Runs.{runs-alike}
 use Rattle.ymx_model.specs.session.Emissions.{in_turn}
+use Rattle.ymx_model.specs.world.Worlds.{World, Runs}
 use Rattle.ymx_world.specs.Reached.{IsReached}
 use Rattle.ymx_world.proofs.Bounds.{is-bounded}
 use Rattle.ymx_world.proofs.Headlines.{ok-then, err-then, either-way}
@@ -13,15 +14,25 @@ invariant_of-self c =
     c.run.ensures.runs c.run.ensures.stopped
 
 pub returns-clause-headline : goal.returns-clause-headline
-returns-clause-headline c = ok-then c.run.result _ _ (λ answers run m h. runs-alike in_turn _ _ _ _ m run h) c.run.ensures.runs
+returns-clause-headline c =
+    ok-then c.run.result _ _ (λ answers run m h.
+    runs-alike in_turn _ _ _ _ m (subst (λ (w : World). Runs in_turn c.args.steps.now answers.items w c.run.new.self) c.self.view_is run) h) c.run.ensures.runs
 
 pub returns-clause-headline_so_far : goal.returns-clause-headline_so_far
-returns-clause-headline_so_far c = err-then c.run.result _ _ (λ stopped run m h. runs-alike in_turn _ _ _ _ m run h) c.run.ensures.stopped
+returns-clause-headline_so_far c =
+    err-then c.run.result _ _ (λ stopped run m h.
+    runs-alike in_turn _ _ _ _ m (subst (λ (w : World). Runs in_turn (take (length stopped.answers.items) c.args.steps.now) stopped.answers.items w c.run.new.self) c.self.view_is run) h)
+    c.run.ensures.stopped
 
 pub returns-clause-bounded : goal.returns-clause-bounded
 returns-clause-bounded c =
-    ok-then c.run.result _ _ (λ answers run on each. is-bounded _ _ _ _ (subst IsReached c.self.view_is c.self.invariant) on each run) c.run.ensures.runs
+    ok-then c.run.result _ _ (λ answers run on each.
+    is-bounded _ _ _ _ (subst IsReached c.self.view_is c.self.invariant) on each
+    (subst (λ (w : World). Runs in_turn c.args.steps.now answers.items w c.run.new.self) c.self.view_is run)) c.run.ensures.runs
 
 pub returns-clause-bounded_so_far : goal.returns-clause-bounded_so_far
 returns-clause-bounded_so_far c =
-    err-then c.run.result _ _ (λ stopped run on each. is-bounded _ _ _ _ (subst IsReached c.self.view_is c.self.invariant) on each run) c.run.ensures.stopped
+    err-then c.run.result _ _ (λ stopped run on each.
+    is-bounded _ _ _ _ (subst IsReached c.self.view_is c.self.invariant) on each
+    (subst (λ (w : World). Runs in_turn (take (length stopped.answers.items) c.args.steps.now) stopped.answers.items w c.run.new.self) c.self.view_is run))
+    c.run.ensures.stopped
