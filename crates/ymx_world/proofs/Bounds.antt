@@ -1,19 +1,18 @@
 -- Emissions and deliveries of a world that was reached by steps.
-use Rattle.std.proofs.Common.{◌≡◌, ℕ, ◌+◌, List, [], ◌∷◌, Bool, true, false, refl, sym, subst, ◌∙◌}
+use Rattle.std.proofs.Common.{◌≡◌, ℕ, ◌+◌, List, [], ◌∷◌, true, refl}
 use Rattle.std.specs.List.{All}
 use Rattle.std.proofs.lemmas.List.Elements.{All-head, All-tail}
 use Rattle.ymx_model.specs.declared.types.Step.{Step}
 use Rattle.ymx_model.specs.declared.types.Answer.{Answer}
-use Rattle.ymx_model.specs.session.Sessions.{Session, is_running, is_closed}
 use Rattle.ymx_model.specs.session.Emissions.{in_turn}
-use Rattle.ymx_model.specs.world.Worlds.{World, Runs, new_world}
+use Rattle.ymx_model.specs.world.Worlds.{World, Runs}
 use Rattle.ymx_headline.specs.Laws.{IsOpenWorld, Carries, is_carriage, fed_by}
 use Rattle.ymx_headline.proofs.bounds.Bound.{bound}
 use Rattle.ymx_headline.proofs.emissions.Begun.{runs-open}
 use Rattle.ymx_law_world.specs.Texts.{is_open}
 use Rattle.ymx_world.proofs.Headlines.{reached-frames}
 use Rattle.ymx_world.specs.Reached.{IsReached}
-use Rattle.ymx_world.specs.Bounds.{AreUnderWay, IsBounded}
+use Rattle.ymx_world.specs.Bounds.{IsBounded}
 
 abbrev IsCarriage : Step → Type 0
 IsCarriage st = is_carriage st ≡ true

@@ -1,5 +1,5 @@
 -- A new world is one that can be.
-use Rattle.std.proofs.Common.{◌≡◌, ℕ, ◌<◌, ◌≤◌, ◌^◌, ◌==◌, [], Bool, true, false, not, ◌||◌, nat_lt, cond, Option, None, Some, refl, sym, ap, subst, ◌∙◌, arith}
+use Rattle.std.proofs.Common.{◌≡◌, ℕ, ◌<◌, ◌≤◌, ◌^◌, ◌==◌, [], Bool, true, false, not, ◌||◌, nat_lt, cond, None, Some, refl, sym, ap, subst, ◌∙◌, arith}
 use Rattle.std.proofs.lemmas.Bool.Decides.{nat_tests}
 use Rattle.ymx_model.specs.declared.types.Config.{Config}
 use Rattle.ymx_model.specs.declared.types.Role.{Role}
@@ -7,7 +7,6 @@ use Rattle.ymx_model.specs.declared.types.Role.TheVariants.{Client, Server}
 use Rattle.ymx_model.specs.shared.Limits.{first_credit}
 use Rattle.ymx_model.specs.session.Sessions.{Session, new_session, is_own}
 use Rattle.ymx_model.specs.world.Worlds.{World, new_world, new_pipe}
-use Rattle.ymx_session.specs.declared.new_fault.NewFault.{NewFault}
 use Rattle.ymx_session.specs.declared.new_fault.NewFault.TheVariants.{BadWindow, BadFirst}
 use Rattle.ymx_session.specs.NewSessions.{first_id, new_fault}
 use Rattle.ymx_model.specs.machine.Machines.{new_machine}

@@ -1,4 +1,4 @@
-use Rattle.std.proofs.Common.{rules, arith}
+use Rattle.std.proofs.Common.{rules}
 use Rattle.ymx_model.specs.declared.types.Role.TheVariants.{Client, Server}
 use Rattle.ymx_session.specs.NewSessions.{first_id}
 use Rattle.ymx_world.proofs.NewWorlds.{good_world, reached_new, agrees_new}

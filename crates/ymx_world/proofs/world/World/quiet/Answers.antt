@@ -1,6 +1,5 @@
-use Rattle.std.proofs.Common.{◌≡◌, ◌∙◌, ap, false, subst, sym}
-use Rattle.ymx_model.specs.world.Worlds.{World, is_quiet}
-use Rattle.ymx_headline.specs.Laws.{IsOpenWorld}
+use Rattle.std.proofs.Common.{◌∙◌, ap, subst, sym}
+use Rattle.ymx_model.specs.world.Worlds.{is_quiet}
 use Rattle.ymx_headline.proofs.bounds.Progress.{goes-on}
 use Rattle.ymx_world.proofs.Headlines.{reached-within}
 use Rattle.ymx_world.specs.Reached.{IsReached}
