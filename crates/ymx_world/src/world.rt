@@ -4,8 +4,6 @@ ghost use Rattle.std.specs.Prelude.{◌≡◌, ◌⊎◌, ◌<◌, All, List, le
 ghost use Rattle.ymx_model.specs.declared.types.Role.TheVariants.{Client, Server};
 ghost use Rattle.ymx_model.specs.session.Emissions.{in_turn, is_ready};
 ghost use Rattle.ymx_model.specs.world.Worlds.{World as TheWorld, Steps, Runs, new_world, is_quiet};
-ghost use Rattle.ymx_model.specs.world.UnderWay.{IsUnderWay};
-ghost use Rattle.ymx_model.specs.world.Load.{world_load};
 ghost use Rattle.ymx_model.specs.machine.Machines.{Machine, new_machine};
 ghost use Rattle.ymx_headline.specs.Agrees.{Agrees, Follows};
 ghost use Rattle.ymx_headline.specs.Laws.{HasRun, IsOpenWorld, carries_bytes, is_carriage};
