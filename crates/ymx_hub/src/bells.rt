@@ -39,6 +39,52 @@ impl Waiters {
             emptiers: false,
         }
     }
+
+    /// Everybody.
+    pub(crate) fn all() -> Waiters {
+        Waiters {
+            readers: u64::MAX,
+            writers: u64::MAX,
+            acceptors: true,
+            pingers: true,
+            emptiers: true,
+        }
+    }
+
+    /// Both these and those.
+    pub(crate) fn and(self, those: Waiters) -> Waiters {
+        Waiters {
+            readers: self.readers | those.readers,
+            writers: self.writers | those.writers,
+            acceptors: self.acceptors || those.acceptors,
+            pingers: self.pingers || those.pingers,
+            emptiers: self.emptiers || those.emptiers,
+        }
+    }
+
+    /// Takes those who wait and are concerned: they are to be woken.
+    pub(crate) fn take(&mut self, concerned: Waiters) -> Waiters {
+        let taken = Waiters {
+            readers: self.readers & concerned.readers,
+            writers: self.writers & concerned.writers,
+            acceptors: self.acceptors && concerned.acceptors,
+            pingers: self.pingers && concerned.pingers,
+            emptiers: self.emptiers && concerned.emptiers,
+        };
+        self.readers &= !concerned.readers;
+        self.writers &= !concerned.writers;
+        self.acceptors &= !concerned.acceptors;
+        self.pingers &= !concerned.pingers;
+        self.emptiers &= !concerned.emptiers;
+        taken
+    }
+
+    /// Takes those who wait until bytes went out.
+    pub(crate) fn take_emptiers(&mut self) -> Waiters {
+        let mut concerned = Waiters::none();
+        concerned.emptiers = true;
+        self.take(concerned)
+    }
 }
 
 /// The group of a stream: ids of one side differ by two.

@@ -1,15 +1,19 @@
 //! What stands under the lock.
 
 use crate::bells::Waiters;
-use std::mem;
+use crate::news::News;
 use ymx_held::Held;
 use ymx_seats::Recorder;
 
-/// The session with its log, who waits, and whether a write pump has given up, so that nothing goes out any more.
+/// The session with its log, and who waits for what.
 #[derive(Drop)]
 pub(crate) struct Desk<R: Recorder> {
     pub(crate) held: Held<R>,
     pub(crate) waiters: Waiters,
+    pub(crate) news: News,
+    /// A feed stopped at 1,024 unsent answers, and nothing was emitted since.
+    pub(crate) is_full: bool,
+    /// A write pump has given up, so that nothing goes out any more.
     pub(crate) is_mute: bool,
 }
 
@@ -19,12 +23,9 @@ impl<R: Recorder> Desk<R> {
         Desk {
             held,
             waiters: Waiters::none(),
+            news: News::new(),
+            is_full: false,
             is_mute: false,
         }
     }
-}
-
-/// Takes the waiters, who are to be woken.
-pub(crate) fn take_waiters(waiters: &mut Waiters) -> Waiters {
-    mem::replace(waiters, Waiters::none())
 }

@@ -1,7 +1,8 @@
 //! A running session: one lock round it, and many callers in many threads.
 //!
 //! `Hub` is the session under its lock. `Opener` and `Acceptor` hand out streams, each as a `WriteHalf` and a
-//! `ReadHalf`. Each caller has a seat, in which its calls are booked. `bells` says who wakes whom.
+//! `ReadHalf`. Each caller has a seat, in which its calls are booked. `moving` has the turns of the pumps; `bells`
+//! and `news` say who wakes whom.
 #![tactic(auto)]
 
 mod acceptor;
@@ -9,6 +10,8 @@ mod bells;
 mod desk;
 mod halves;
 mod hub;
+mod moving;
+mod news;
 mod opener;
 mod waiting_calls;
 mod write_fault;
@@ -16,6 +19,7 @@ mod write_fault;
 pub use acceptor::Acceptor;
 pub use halves::{ReadHalf, WriteHalf};
 pub use hub::Hub;
+pub use moving::Turn;
 pub use opener::Opener;
 pub use write_fault::WriteFault;
 pub use ymx_held::{EndFault, EndWhy, HubFault};

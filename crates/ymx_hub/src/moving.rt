@@ -1,0 +1,122 @@
+//! What a pump does in one hold of the lock. No device is touched under it.
+
+ghost use Rattle.std.specs.Prelude.{◌≡◌, ◌≤◌, length, false, IfOk, IsOk};
+ghost use Rattle.ymx_model.specs.declared.types.Event.TheVariants as event;
+ghost use Rattle.ymx_model.specs.declared.types.Reply.TheVariants as reply;
+ghost use Rattle.ymx_held.specs.Booked.{Gains, Does};
+ghost use Rattle.ymx_hub.specs.Pumped.{EmitsOnce, emitted_count};
+
+use crate::hub::Hub;
+use std::sync::Wait;
+use ymx_held::HubFault;
+use ymx_model::{Fed, Status, Why};
+use ymx_seats::{Recorder, Seat};
+
+/// One turn of a write pump.
+#[derive(Clone, Copy, Debug, PartialEq, Eq)]
+pub enum Turn {
+    /// So many bytes were emitted, and stand at the front of the buffer.
+    Emitted(usize),
+    /// Nothing is due now.
+    Idle,
+    /// Nothing is due, and nothing will be: the session is closed, lost or broken.
+    Over,
+}
+
+impl<R: Recorder> Hub<R> {
+    /// Feeds bytes that came from the peer, and wakes whom they concern. `Memory`, and nothing is done, where there
+    /// is none for the entry.
+    pub fn feed<W: Wait>(&self, rt: &W, seat: &mut Seat<R>, bytes: &[u8]) -> Result<Fed, HubFault>
+        ensures number { seat.new.number ≡ seat.old.number }
+        ensures start { seat.new.start ≡ seat.old.start }
+        ensures booked { Gains R.KEEPS seat.old.entries seat.new.entries (Does (event.Feed bytes.now) reply.Fed seat.old.number result) }
+        ensures within { IfOk result (λ fed. fed.taken ≤ length bytes.now) }
+        ensures off { R.KEEPS ≡ false → IsOk result }
+    {
+        let mut desk = self.desk.lock(rt);
+        let was_due = desk.held.due();
+        let fed = desk.held.feed(seat, bytes)?;
+        self.tell_due(was_due, desk.held.due());
+        if desk.held.status() != Status::Running {
+            self.wake_all(desk);
+            return Ok(fed);
+        }
+        desk.is_full = fed.why == Why::Held;
+        let mut concerned = desk.news.read(&bytes[..fed.taken]);
+        concerned.emptiers = !desk.held.due();
+        let woken = desk.waiters.take(concerned);
+        drop(desk);
+        self.bells.ring(woken);
+        Ok(fed)
+    }
+
+    /// The peer's bytes have ended: wakes all who wait. `Memory`, and nothing is done, where there is none for the
+    /// entry.
+    pub fn feed_end<W: Wait>(&self, rt: &W, seat: &mut Seat<R>) -> Result<(), HubFault>
+        ensures number { seat.new.number ≡ seat.old.number }
+        ensures start { seat.new.start ≡ seat.old.start }
+        ensures booked { Gains R.KEEPS seat.old.entries seat.new.entries (Does event.FeedEnd (λ _. reply.Done) seat.old.number result) }
+        ensures off { R.KEEPS ≡ false → IsOk result }
+    {
+        let mut desk = self.desk.lock(rt);
+        let ended = desk.held.feed_end(seat);
+        self.wake_all(desk);
+        ended
+    }
+
+    /// Waits once, unless a feed may take more than the last one did: 1,024 answers were unsent then, and nothing
+    /// was emitted since.
+    pub fn wait_for_room<W: Wait>(&self, rt: &W) {
+        let mut desk = self.desk.lock(rt);
+        if desk.is_full && desk.held.status() == Status::Running {
+            desk.waiters.emptiers = true;
+            drop(self.bells.emptied.wait(rt, desk));
+        }
+    }
+
+    /// Emits into the buffer if something is due. `Memory`, and nothing is done, where there is none for the entry.
+    pub fn emit_turn<W: Wait>(
+        &self,
+        rt: &W,
+        seat: &mut Seat<R>,
+        buffer: &mut [u8],
+    ) -> Result<Turn, HubFault>
+        ensures number { seat.new.number ≡ seat.old.number }
+        ensures start { seat.new.start ≡ seat.old.start }
+        ensures booked { Gains R.KEEPS seat.old.entries seat.new.entries (EmitsOnce (length buffer.old) buffer.new seat.old.number result) }
+        ensures within { IfOk result (λ turn. emitted_count turn ≤ length buffer.old) }
+        ensures length { length buffer.new ≡ length buffer.old }
+        ensures off { R.KEEPS ≡ false → IsOk result }
+    {
+        let mut desk = self.desk.lock(rt);
+        if !desk.held.due() {
+            return Ok(match desk.held.status() {
+                Status::Running => Turn::Idle,
+                _ => Turn::Over,
+            });
+        }
+        let count = desk.held.emit(seat, buffer)?;
+        desk.is_full = false;
+        let woken = desk.waiters.take_emptiers();
+        drop(desk);
+        self.bells.ring(woken);
+        Ok(Turn::Emitted(count))
+    }
+
+    /// Waits once, unless something is due or nothing will be.
+    pub fn wait_until_due<W: Wait>(&self, rt: &W) {
+        let desk = self.desk.lock(rt);
+        if !desk.held.due() && desk.held.status() == Status::Running {
+            drop(self.bells.due.wait(rt, desk));
+        }
+    }
+
+    /// Notes that a write pump has given up, so that nothing goes out any more, and wakes those who drain.
+    pub fn give_up<W: Wait>(&self, rt: &W) {
+        let mut desk = self.desk.lock(rt);
+        desk.is_mute = true;
+        let woken = desk.waiters.take_emptiers();
+        drop(desk);
+        self.bells.ring(woken);
+    }
+}
