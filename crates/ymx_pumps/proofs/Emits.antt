@@ -1,0 +1,203 @@
+-- What a write pump emits and writes.
+use Rattle.std.proofs.Common.{◌≡◌, ℕ, ◌+◌, ◌-◌, ◌^◌, ◌≤◌, List, [], ◌∷◌, ◌++◌, length, take, drop, min, Bool, true, false, Option, Result, Ok, Err, inl, inr, arith, refl, sym, ap, ◌∙◌, subst, append_assoc, append-nil}
+use Rattle.std.proofs.lemmas.Grind.{common_steps}
+use Rattle.std.proofs.lemmas.List.{take_all}
+use Rattle.std.proofs.Math.Seq.{take-append-add, take-add}
+use Rattle.std.specs.Io.KnownBytes.{Appends, Keeps}
+use Rattle.std.proofs.KnownBytes.{Appends-nil, Appends-trans, Appends-kept}
+use Rattle.ymx_model.specs.devices.Devices.{has_failed, most_failures}
+use Rattle.ymx_model.specs.declared.types.Event.TheVariants as event
+use Rattle.ymx_model.specs.declared.types.Reply.TheVariants as reply
+use Rattle.ymx_model.specs.declared.types.Entry.{Entry}
+use Rattle.ymx_seats.specs.Views.{entry}
+use Rattle.ymx_held.specs.declared.faults.HubFault.{HubFault}
+use Rattle.ymx_held.specs.Booked.{Gains, One}
+use Rattle.ymx_hub.specs.declared.moving.Turn.{Turn}
+use Rattle.ymx_hub.specs.declared.moving.Turn.TheVariants.{Emitted, Idle, Over}
+use Rattle.ymx_hub.specs.Pumped.{EmitsOnce}
+use Rattle.ymx_hub.proofs.Waits.{gains_none, gains_on, gains_weaker}
+use Rattle.ymx_pumps.specs.declared.pump_end.PumpWhy.{PumpWhy}
+use Rattle.ymx_pumps.specs.declared.pump_end.PumpWhy.TheVariants.{End, Device, Broken, Memory, Gate}
+use Rattle.ymx_pumps.specs.declared.pump_end.Stop.{Stop}
+use Rattle.ymx_pumps.specs.Pumps.{counted, IsEmit, AreEmits, IsWritten, EndsWrite, WriteAdds, PumpWrote}
+use Rattle.ymx_pumps.specs.Turns.{Pushed, SaysEnd, TurnWrote}
+use Rattle.ymx_pumps.proofs.Counts.{fails_once, counted_on, counted_none}
+
+-- ---- what a loop of pushes did
+
+pub record HasPushed (before after : Option (List ℕ)) (fails failed : ℕ) (bytes : List ℕ) (at : ℕ) : Type 0 where
+  pub within : at ≤ length bytes
+  pub took : Appends before after (take at bytes)
+  pub failures : failed ≡ fails
+
+pub pushed_none : (before : Option (List ℕ)) (fails : ℕ) (bytes : List ℕ) → HasPushed before before fails fails bytes 0
+pushed_none before fails bytes = record { within = omega arith; took = Appends-nil before; failures = refl }
+
+pub pushed_more : (before mid after : Option (List ℕ)) (fails failed failing : ℕ) (bytes rest : List ℕ) (at n : ℕ) → HasPushed before mid fails failed bytes at → rest ≡ drop at bytes → n ≤ length rest →
+    Appends mid after (take n rest) → failing ≡ failed → HasPushed before after fails failing bytes (at + n)
+pushed_more before mid after fails failed failing bytes rest at n h e l a f = record {
+  within = grind (arith, common_steps, h.within, l, e);
+  took = subst (λ (v : List ℕ). Appends before after v) (sym (take-add at n bytes))
+      (Appends-trans before mid after (take at bytes) (take n (drop at bytes)) h.took (subst (λ (v : List ℕ). Appends mid after (take n v)) e a));
+  failures = f ∙ h.failures;
+}
+
+pub pushed_all : (before after : Option (List ℕ)) (fails failed : ℕ) (bytes : List ℕ) (at : ℕ) (u : Unit {0}) → HasPushed before after fails failed bytes at → length bytes ≤ at → Pushed before after fails failed bytes (Ok u)
+pushed_all before after fails failed bytes at u h l =
+    (subst (λ (v : List ℕ). Appends before after v) (take_all at bytes l) h.took, h.failures)
+
+pub pushed_part : (before mid after : Option (List ℕ)) (fails failed failing : ℕ) (bytes : List ℕ) (at : ℕ) → HasPushed before mid fails failed bytes at → Keeps mid after → failing ≡ min (failed + 1) most_failures →
+    Pushed before after fails failing bytes (Err at)
+pushed_part before mid after fails failed failing bytes at h k f =
+    (h.within, Appends-kept before mid after (take at bytes) h.took k, subst (λ (x : ℕ). has_failed x failing ≡ true) h.failures (fails_once failed failing f))
+
+-- ---- emissions
+
+one_emit : (size seat : ℕ) (bytes : List ℕ) (es : List Entry) → One seat (event.Emit size) (reply.Emitted bytes) es → AreEmits size seat bytes es
+one_emit size seat bytes es o =
+    subst (λ (xs : List Entry). AreEmits size seat bytes xs) (sym o.1) (bytes, [], sym (append-nil bytes), record { named = refl; event = refl; reply = refl }, refl)
+
+emits_on : (size seat : ℕ) (xs ys : List ℕ) (es ds : List Entry) → AreEmits size seat xs es → AreEmits size seat ys ds → AreEmits size seat (xs ++ ys) (es ++ ds)
+emits_on size seat xs ys [] ds a b = subst (λ (v : List ℕ). AreEmits size seat (v ++ ys) ds) (sym a) b
+emits_on size seat xs ys (e ∷ es) ds a b =
+    (a.0, a.1 ++ ys, ap (λ (v : List ℕ). v ++ ys) a.2 ∙ append_assoc a.0 a.1 ys, a.3, emits_on size seat a.1 ys es ds a.4 b)
+
+written_same : (failed : Bool) (xs : List ℕ) → IsWritten failed xs xs
+written_same true xs = (length xs, sym (take_all (length xs) xs (omega arith)))
+written_same false xs = refl
+
+written_behind : (failed : Bool) (xs ys given : List ℕ) → IsWritten failed ys given → IsWritten failed (xs ++ ys) (xs ++ given)
+written_behind true xs ys given w = (length xs + w.0, ap (λ (v : List ℕ). xs ++ v) w.1 ∙ sym (take-append-add xs given w.0))
+written_behind false xs ys given w = ap (λ (v : List ℕ). xs ++ v) w
+
+adds_behind : (size seat : ℕ) (failed : Bool) (xs ys : List ℕ) (why : PumpWhy) (es ds : List Entry) → AreEmits size seat xs es → WriteAdds size seat failed ys why ds → WriteAdds size seat failed (xs ++ ys) why (es ++ ds)
+adds_behind size seat failed xs ys why es ds a w = record {
+  emits = es ++ w.emits;
+  closing = w.closing;
+  parts = ap (λ (v : List Entry). es ++ v) w.parts ∙ sym (append_assoc es w.emits w.closing);
+  given = xs ++ w.given;
+  emitted = emits_on size seat xs w.given es w.emits a w.emitted;
+  wrote = written_behind failed xs ys w.given w.wrote;
+  ended = w.ended;
+}
+
+-- a pump that ends with nothing more emitted
+adds_end : (size seat : ℕ) (failed : Bool) (why : PumpWhy) (ds : List Entry) → EndsWrite seat why ds → WriteAdds size seat failed [] why ds
+adds_end size seat failed why ds n = record {
+  emits = [];
+  closing = ds;
+  parts = refl;
+  given = [];
+  emitted = refl;
+  wrote = written_same failed [];
+  ended = n;
+}
+
+-- the last emission, of which the writer took a beginning before it failed
+adds_failed : (size seat n : ℕ) (given : List ℕ) (why : PumpWhy) (es ds : List Entry) → AreEmits size seat given es → EndsWrite seat why ds → WriteAdds size seat true (take n given) why (es ++ ds)
+adds_failed size seat n given why es ds a d = record {
+  emits = es;
+  closing = ds;
+  parts = refl;
+  given = given;
+  emitted = a;
+  wrote = (n, refl);
+  ended = d;
+}
+
+-- ---- a turn
+
+-- how a pump whose writer failed ends
+pub says_device : (seat : ℕ) (why : PumpWhy) (ds : List Entry) → SaysEnd seat Device why ds → EndsWrite seat why ds
+says_device seat why ds (inl s) = rw s.0 s.1
+says_device seat why ds (inr s) = rw s.0 s.1
+
+-- all that was emitted was written
+pub turn_wrote : (keeps : Bool) (size seat n fails failed : ℕ) (buffer : List ℕ) (before after : Option (List ℕ)) (old new : List Entry) → n ≤ length buffer → failed ≡ fails →
+    Appends before after (take n buffer) → Gains keeps old new (EmitsOnce size buffer seat (Ok (Emitted n))) → TurnWrote keeps size seat fails failed before after old new (Ok n)
+turn_wrote keeps size seat n fails failed buffer before after old new l f a g =
+    (f, take n buffer, grind (arith, common_steps), a, gains_weaker keeps old new _ (AreEmits size seat (take n buffer)) (λ es o. one_emit size seat (take n buffer) es o) g)
+
+-- nothing was due
+pub turn_idle : (keeps : Bool) (size seat fails failed : ℕ) (buffer : List ℕ) (before after : Option (List ℕ)) (old new : List Entry) → failed ≡ fails →
+    before ≡ after → Gains keeps old new (EmitsOnce size buffer seat (Ok Idle)) → TurnWrote keeps size seat fails failed before after old new (Ok 0)
+turn_idle keeps size seat fails failed buffer before after old new f k g =
+    (f, [], refl, subst (λ (v : Option (List ℕ)). Appends before v []) k (Appends-nil before), gains_weaker keeps old new _ (AreEmits size seat []) (λ es o. subst (λ (v : List Entry). AreEmits size seat [] v) (sym o) refl) g)
+
+-- the pump's end, with nothing emitted
+pub turn_ends : (keeps : Bool) (size seat fails failed : ℕ) (why : PumpWhy) (before after : Option (List ℕ)) (old new : List Entry) → Keeps before after →
+    Gains keeps old new (EndsWrite seat why) → TurnWrote keeps size seat fails failed before after old new (Err (record { moved = 0; why = why }))
+turn_ends keeps size seat fails failed why before after old new k g =
+    ([], refl, Appends-kept before before after [] (Appends-nil before) k, gains_weaker keeps old new _ (WriteAdds size seat (has_failed fails failed) [] why) (λ es o. adds_end size seat (has_failed fails failed) why es o) g)
+
+-- the writer failed
+pub turn_failed : (keeps : Bool) (size seat m n moved fails failed : ℕ) (why : PumpWhy) (buffer : List ℕ) (before after : Option (List ℕ)) (old mid new : List Entry) → n ≤ length buffer → moved ≤ n →
+    has_failed fails failed ≡ true → Appends before after (take moved (take n buffer)) → Gains keeps old mid (EmitsOnce size buffer seat (Ok (Emitted n))) → m ≡ seat → Gains keeps mid new (SaysEnd m Device why) →
+    TurnWrote keeps size seat fails failed before after old new (Err (record { moved = moved; why = why }))
+turn_failed keeps size seat m n moved fails failed why buffer before after old mid new l k f a g e h = (
+  take moved (take n buffer),
+  grind (arith, common_steps),
+  a,
+  subst (λ (b : Bool). Gains keeps old new (WriteAdds size seat b (take moved (take n buffer)) why)) (sym f)
+      (gains_on keeps old mid new _ _ (WriteAdds size seat true (take moved (take n buffer)) why)
+      (λ es ds o s. adds_failed size seat moved (take n buffer) why es ds (one_emit size seat (take n buffer) es o) (subst (λ (k : ℕ). EndsWrite k why ds) e (says_device m why ds s))) g h),
+)
+
+-- ---- all turns
+
+-- what the turns wrote so far
+pub record Written (keeps : Bool) (size seat fails failed : ℕ) (before after : Option (List ℕ)) (old new : List Entry) (moved : ℕ) : Type 0 where
+  pub written : List ℕ
+  pub failures : failed ≡ fails
+  pub took : Appends before after written
+  pub amount : moved ≡ counted written
+  pub booked : Gains keeps old new (AreEmits size seat written)
+
+pub written_none : (keeps : Bool) (size seat fails : ℕ) (before : Option (List ℕ)) (old : List Entry) → Written keeps size seat fails fails before before old old 0
+written_none keeps size seat fails before old = record {
+  written = [];
+  failures = refl;
+  took = Appends-nil before;
+  amount = counted_none;
+  booked = gains_none keeps old (AreEmits size seat []) refl;
+}
+
+-- one turn more
+pub written_more : (keeps : Bool) (size seat larger m fails failed failing : ℕ) (before mid after : Option (List ℕ)) (old between new : List Entry) (moved n now : ℕ) →
+    Written keeps size seat fails failed before mid old between moved → larger ≡ size → m ≡ seat → TurnWrote keeps larger m failed failing mid after between new (Ok n) →
+    now ≡ min (moved + n) (2 ^ 64 - 1) → Written keeps size seat fails failing before after old new now
+written_more keeps size seat larger m fails failed failing before mid after old between new moved n now w l e t k =
+    let u : TurnWrote keeps size seat failed failing mid after between new (Ok n) =
+    subst (λ (x : ℕ). TurnWrote keeps x seat failed failing mid after between new (Ok n)) l (subst (λ (x : ℕ). TurnWrote keeps larger x failed failing mid after between new (Ok n)) e t) in
+    record {
+      written = w.written ++ u.1;
+      failures = u.0 ∙ w.failures;
+      took = Appends-trans before mid after w.written u.1 w.took u.3;
+      amount = counted_on w.written u.1 moved n now w.amount u.2 k;
+      booked = gains_on keeps old between new _ _ (AreEmits size seat (w.written ++ u.1)) (λ es ds a b. emits_on size seat w.written u.1 es ds a b) w.booked u.4;
+    }
+
+-- the last turn
+pub written_last : (keeps : Bool) (size seat larger m fails failed failing : ℕ) (before mid after : Option (List ℕ)) (old between new : List Entry) (moved now : ℕ) (stop : Stop) →
+    Written keeps size seat fails failed before mid old between moved → larger ≡ size → m ≡ seat → TurnWrote keeps larger m failed failing mid after between new (Err stop) →
+    now ≡ min (moved + stop.moved) (2 ^ 64 - 1) → PumpWrote keeps size seat (has_failed fails failing) before after old new now stop.why
+written_last keeps size seat larger m fails failed failing before mid after old between new moved now stop w l e t k =
+    let u : TurnWrote keeps size seat fails failing mid after between new (Err stop) =
+    subst (λ (x : ℕ). TurnWrote keeps size seat x failing mid after between new (Err stop)) w.failures
+    (subst (λ (x : ℕ). TurnWrote keeps x seat failed failing mid after between new (Err stop)) l (subst (λ (x : ℕ). TurnWrote keeps larger x failed failing mid after between new (Err stop)) e t)) in
+    record {
+      written = w.written ++ u.0;
+      took = Appends-trans before mid after w.written u.0 w.took u.2;
+      amount = counted_on w.written u.0 moved stop.moved now w.amount u.1 k;
+      booked = gains_on keeps old between new _ _ (WriteAdds size seat (has_failed fails failing) (w.written ++ u.0) stop.why)
+          (λ es ds a b. adds_behind size seat (has_failed fails failing) w.written u.0 stop.why es ds a b) w.booked u.3;
+    }
+
+-- a pump that did nothing
+pub wrote_none : (keeps : Bool) (size seat : ℕ) (failed : Bool) (before : Option (List ℕ)) (old : List Entry) → PumpWrote keeps size seat failed before before old old 0 Memory
+wrote_none keeps size seat failed before old = record {
+  written = [];
+  took = Appends-nil before;
+  amount = counted_none;
+  booked = gains_none keeps old (WriteAdds size seat failed [] Memory) (adds_end size seat failed Memory [] refl);
+}

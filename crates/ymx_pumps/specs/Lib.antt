@@ -1,0 +1,2 @@
+pub mod Pumps
+pub mod Turns

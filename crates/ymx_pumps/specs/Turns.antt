@@ -1,0 +1,61 @@
+-- What one turn of a pump does (this project's own).
+use Rattle.std.specs.Prelude.{◌≡◌, ℕ, ◌≤◌, ◌⊎◌, List, [], ◌++◌, length, take, drop, Bool, true, Option, Result, Ok, Err}
+use Rattle.std.specs.Io.KnownBytes.{Appends, Consumes}
+use Rattle.ymx_model.specs.devices.Devices.{has_failed}
+use Rattle.ymx_model.specs.declared.types.Event.TheVariants as event
+use Rattle.ymx_model.specs.declared.types.Reply.TheVariants as reply
+use Rattle.ymx_model.specs.declared.types.Entry.{Entry}
+use Rattle.ymx_held.specs.Booked.{Gains, One}
+use Rattle.ymx_pumps.specs.declared.pump_end.PumpWhy.{PumpWhy}
+use Rattle.ymx_pumps.specs.declared.pump_end.PumpWhy.TheVariants.{End, Device, Memory}
+use Rattle.ymx_pumps.specs.declared.pump_end.Stop.{Stop}
+use Rattle.ymx_pumps.specs.Pumps.{AreEmits, WriteAdds, AreFeeds, IsLeft, ReadAdds}
+
+-- the pump ended for no reason of its device
+abbrev pub IsInside : PumpWhy → Type 0
+IsInside End = ⊥
+IsInside Device = ⊥
+IsInside _ = Unit {0}
+
+-- the end of the input was said, or there was no memory for it
+abbrev pub SaysEnd : ℕ → PumpWhy → PumpWhy → List Entry → Type 0
+SaysEnd seat why result added =
+    ((result ≡ why) × One seat event.FeedEnd reply.Done added) ⊎ ((result ≡ Memory) × (added ≡ []))
+
+-- ---- the write pump
+
+-- the writer took all the bytes, or the first so many up to a failure
+abbrev pub Pushed : (before after : Option (List ℕ)) → (old new : ℕ) → List ℕ → Result (Unit {0}) ℕ → Type 0
+Pushed before after old new bytes (Ok u) = Appends before after bytes × (new ≡ old)
+Pushed before after old new bytes (Err n) = (n ≤ length bytes) × Appends before after (take n bytes) × (has_failed old new ≡ true)
+
+-- a turn that went well, or the last one
+abbrev pub TurnWrote : (keeps : Bool) → (size seat fails failed : ℕ) → (before after : Option (List ℕ)) → (old new : List Entry) → Result ℕ Stop → Type 0
+TurnWrote keeps size seat fails failed before after old new (Ok n) =
+    (failed ≡ fails) × (written : List ℕ) × (length written ≡ n) × Appends before after written × Gains keeps old new (AreEmits size seat written)
+TurnWrote keeps size seat fails failed before after old new (Err stop) =
+    (written : List ℕ) × (length written ≡ stop.moved) × Appends before after written × Gains keeps old new (WriteAdds size seat (has_failed fails failed) written stop.why)
+
+-- ---- the read pump
+
+-- feeds of these bytes, which took the first n
+abbrev pub FeedsFirst : (keeps : Bool) → ℕ → (old new : List Entry) → List ℕ → ℕ → Type 0
+FeedsFirst keeps seat old new bytes n = (n ≤ length bytes) × Gains keeps old new (AreFeeds seat bytes (take n bytes) (drop n bytes))
+
+-- feeds of these bytes took so many, or so many up to the pump's end
+abbrev pub TurnFed : (keeps : Bool) → ℕ → (old new : List Entry) → List ℕ → Result ℕ Stop → Type 0
+TurnFed keeps seat old new bytes (Ok n) = FeedsFirst keeps seat old new bytes n
+TurnFed keeps seat old new bytes (Err stop) = IsInside stop.why × FeedsFirst keeps seat old new bytes stop.moved
+
+-- feeds of these bytes took all, or so many up to the pump's end
+abbrev pub FedAll : (keeps : Bool) → ℕ → (old new : List Entry) → List ℕ → Result (Unit {0}) Stop → Type 0
+FedAll keeps seat old new bytes (Ok u) = Gains keeps old new (AreFeeds seat bytes bytes [])
+FedAll keeps seat old new bytes (Err stop) = IsInside stop.why × FeedsFirst keeps seat old new bytes stop.moved
+
+-- a turn that went well, or the last one
+abbrev pub TurnRead : (keeps : Bool) → (seat fails failed : ℕ) → (before after : Option (List ℕ)) → (old new : List Entry) → Result ℕ Stop → Type 0
+TurnRead keeps seat fails failed before after old new (Ok n) =
+    (failed ≡ fails) × (given : List ℕ) × (length given ≡ n) × Consumes before after given × Gains keeps old new (AreFeeds seat given given [])
+TurnRead keeps seat fails failed before after old new (Err stop) =
+    (given : List ℕ) × (taken : List ℕ) × (last : List ℕ) × (given ≡ taken ++ last) × (length taken ≡ stop.moved) × IsLeft stop.why last
+    × Consumes before after given × Gains keeps old new (ReadAdds seat given taken last stop.why)

@@ -1,0 +1,160 @@
+//! Both pumps at once.
+
+ghost use Rattle.std.specs.Prelude.{◌≡◌, ◌<◌, length, true};
+ghost use Rattle.ymx_header.specs.declared.fault.Fault.{Fault as FaultValue};
+ghost use Rattle.ymx_model.specs.devices.Devices.{has_failed};
+ghost use Rattle.ymx_pumps.specs.Pumps.{PumpRead, PumpWrote};
+
+use crate::gate::Gate;
+use crate::pump_end::{Moved, PumpEnd, PumpWhy};
+use crate::reading::read_on;
+use crate::start::{Start, await_begin, begin};
+use crate::writing::write_on;
+use std::sync::{Mutex, Wait};
+use std::thread::{Threads, join_mut};
+use ymx_hub::Hub;
+use ymx_model::{Inlet, Outlet};
+use ymx_seats::{Recorder, Seat};
+
+/// The write pump, unless it was given up: then it does nothing, and ends with `Memory`.
+fn write_if_begun<R: Recorder, W: Wait, O: Outlet, G: Gate>(
+    rt: &W,
+    start: &Mutex<Start>,
+    hub: &Hub<R>,
+    seat: &mut Seat<R>,
+    writer: &mut O,
+    gate: &mut G,
+    buffer: &mut [u8],
+) -> Moved
+    ensures number { seat.new.number ≡ seat.old.number }
+    ensures start { seat.new.start ≡ seat.old.start }
+    ensures wrote { PumpWrote R.KEEPS (length buffer.old) seat.old.number (has_failed (O.failures writer.old) (O.failures writer.new)) (O.contents writer.old) (O.contents writer.new) seat.old.entries seat.new.entries result.count result.why }
+    ensures device { result.why ≡ PumpWhy.Device → has_failed (O.failures writer.old) (O.failures writer.new) ≡ true }
+    ensures whole { (fault : FaultValue) → result.why ≡ PumpWhy.Broken fault → ⊥ }
+{
+    if !begin(rt, start) {
+        hub.give_up(rt);
+        return Moved {
+            count: 0,
+            why: PumpWhy::Memory,
+        };
+    }
+    write_on(rt, hub, seat, writer, gate, buffer)
+}
+
+/// The read pump, once the write pump has begun or was given up.
+fn read_after<R: Recorder, W: Wait, I: Inlet, G: Gate>(
+    rt: &W,
+    start: &Mutex<Start>,
+    hub: &Hub<R>,
+    seat: &mut Seat<R>,
+    reader: &mut I,
+    gate: &mut G,
+    buffer: &mut [u8],
+) -> Moved
+    ensures number { seat.new.number ≡ seat.old.number }
+    ensures start { seat.new.start ≡ seat.old.start }
+    ensures gave { PumpRead R.KEEPS seat.old.number (I.remaining reader.old) (I.remaining reader.new) seat.old.entries seat.new.entries result.count result.why }
+    ensures device { result.why ≡ PumpWhy.Device → has_failed (I.failures reader.old) (I.failures reader.new) ≡ true }
+{
+    await_begin(rt, start);
+    read_on(rt, hub, seat, reader, gate, buffer)
+}
+
+/// Both pumps, over what is lent.
+fn run_lent<
+    'x,
+    R: Recorder,
+    W: Wait + Threads + Sync,
+    I: Inlet,
+    O: Outlet + Send,
+    G: Gate,
+    H: Gate + Send,
+>(
+    rt: &'x W,
+    start: &'x Mutex<Start>,
+    hub: &'x Hub<R>,
+    read_seat: &'x mut Seat<R>,
+    write_seat: &'x mut Seat<R>,
+    reader: &'x mut I,
+    writer: &'x mut O,
+    read_gate: &'x mut G,
+    write_gate: &'x mut H,
+    read_buffer: &'x mut [u8],
+    write_buffer: &'x mut [u8],
+) -> (Moved, Moved)
+    ensures numbers { (read_seat.new.number ≡ read_seat.old.number) × (write_seat.new.number ≡ write_seat.old.number) }
+    ensures starts { (read_seat.new.start ≡ read_seat.old.start) × (write_seat.new.start ≡ write_seat.old.start) }
+    ensures wrote { PumpWrote R.KEEPS (length write_buffer.old) write_seat.old.number (has_failed (O.failures writer.old) (O.failures writer.new)) (O.contents writer.old) (O.contents writer.new) write_seat.old.entries write_seat.new.entries result.0.count result.0.why }
+    ensures gave { PumpRead R.KEEPS read_seat.old.number (I.remaining reader.old) (I.remaining reader.new) read_seat.old.entries read_seat.new.entries result.1.count result.1.why }
+    ensures write_device { result.0.why ≡ PumpWhy.Device → has_failed (O.failures writer.old) (O.failures writer.new) ≡ true }
+    ensures read_device { result.1.why ≡ PumpWhy.Device → has_failed (I.failures reader.old) (I.failures reader.new) ≡ true }
+    ensures whole { (fault : FaultValue) → result.0.why ≡ PumpWhy.Broken fault → ⊥ }
+{
+    join_mut(
+        rt,
+        &mut || write_if_begun(rt, start, hub, write_seat, writer, write_gate, write_buffer),
+        &mut || read_after(rt, start, hub, read_seat, reader, read_gate, read_buffer),
+    )
+}
+
+/// Runs a read pump and a write pump at once, each in a thread, until both have ended. Gives the read pump's end,
+/// and then the write pump's.
+///
+/// A pump for which no thread can be made ends with `Memory`, and has done no event: it is the write pump.
+pub fn run_pumps<
+    R: Recorder,
+    W: Wait + Threads + Sync,
+    I: Inlet,
+    O: Outlet + Send,
+    G: Gate,
+    H: Gate + Send,
+>(
+    rt: &W,
+    hub: &Hub<R>,
+    seats: (Seat<R>, Seat<R>),
+    reader: &mut I,
+    writer: &mut O,
+    read_gate: &mut G,
+    write_gate: &mut H,
+    read_buffer: &mut [u8],
+    write_buffer: &mut [u8],
+) -> (PumpEnd<R>, PumpEnd<R>)
+    requires read_buffer { 0 < length read_buffer.old }
+    requires write_buffer { 0 < length write_buffer.old }
+    ensures numbers { (result.0.seat.number ≡ seats.0.number) × (result.1.seat.number ≡ seats.1.number) }
+    ensures starts { (result.0.seat.start ≡ seats.0.start) × (result.1.seat.start ≡ seats.1.start) }
+    ensures gave { PumpRead R.KEEPS seats.0.number (I.remaining reader.old) (I.remaining reader.new) seats.0.entries result.0.seat.entries result.0.moved result.0.why }
+    ensures wrote { PumpWrote R.KEEPS (length write_buffer.old) seats.1.number (has_failed (O.failures writer.old) (O.failures writer.new)) (O.contents writer.old) (O.contents writer.new) seats.1.entries result.1.seat.entries result.1.moved result.1.why }
+    ensures read_device { result.0.why ≡ PumpWhy.Device → has_failed (I.failures reader.old) (I.failures reader.new) ≡ true }
+    ensures write_device { result.1.why ≡ PumpWhy.Device → has_failed (O.failures writer.old) (O.failures writer.new) ≡ true }
+    ensures whole { (fault : FaultValue) → result.1.why ≡ PumpWhy.Broken fault → ⊥ }
+{
+    let (mut read_seat, mut write_seat) = seats;
+    let start = Mutex::new(Start::new());
+    let (wrote, fed) = run_lent(
+        rt,
+        &start,
+        hub,
+        &mut read_seat,
+        &mut write_seat,
+        reader,
+        writer,
+        read_gate,
+        write_gate,
+        read_buffer,
+        write_buffer,
+    );
+    (
+        PumpEnd {
+            seat: read_seat,
+            moved: fed.count,
+            why: fed.why,
+        },
+        PumpEnd {
+            seat: write_seat,
+            moved: wrote.count,
+            why: wrote.why,
+        },
+    )
+}

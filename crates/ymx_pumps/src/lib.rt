@@ -1,0 +1,18 @@
+//! What moves bytes between a hub and its devices: pumps, which touch no device under the lock.
+//!
+//! `write_pump` takes what the hub emits to a writer, `read_pump` what a reader gives to the hub, and `run_pumps`
+//! runs one of each at once. A `Gate` may end a pump from outside, and `PumpEnd` says how one ended.
+#![tactic(auto)]
+
+mod both;
+mod gate;
+mod pump_end;
+mod reading;
+mod start;
+mod writing;
+
+pub use both::run_pumps;
+pub use gate::Gate;
+pub use pump_end::{PumpEnd, PumpWhy};
+pub use reading::read_pump;
+pub use writing::write_pump;

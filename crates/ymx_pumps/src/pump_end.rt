@@ -1,0 +1,59 @@
+//! How a pump ended.
+
+ghost use Rattle.std.specs.Prelude.{◌≡◌};
+
+use ymx_header::Fault;
+use ymx_seats::{Recorder, Seat};
+
+/// Why a pump ended.
+#[derive(Clone, Copy, Debug, PartialEq, Eq)]
+pub enum PumpWhy {
+    /// Of a read pump: the input ended. Of a write pump: nothing more will be due, as the session is closed, lost or
+    /// broken, and the writer was ended.
+    End,
+    /// The device failed in this call. The session was told that its input ended.
+    Device,
+    /// The session broke: of a read pump alone.
+    Broken(Fault),
+    /// There was no memory for an entry, or for the thread of the pump.
+    Memory,
+    /// The gate said so.
+    Gate,
+}
+
+/// The end of a pump.
+pub struct PumpEnd<R: Recorder> {
+    /// The pump's seat.
+    pub seat: Seat<R>,
+    /// How many bytes the writer took, or the feeds did; it stays at the greatest `u64`.
+    pub moved: u64,
+    /// Why it ended.
+    pub why: PumpWhy,
+}
+
+/// What a pump moved, and why it ended, while its seat is lent.
+#[derive(Clone, Copy, Debug, PartialEq, Eq)]
+pub(crate) struct Moved {
+    /// How many bytes; it stays at the greatest `u64`.
+    pub(crate) count: u64,
+    /// Why it ended.
+    pub(crate) why: PumpWhy,
+}
+
+/// Why a turn ended its pump.
+#[derive(Clone, Copy, Debug, PartialEq, Eq)]
+pub(crate) struct Stop {
+    /// How many bytes were moved before: written, or taken by feeds.
+    pub(crate) moved: usize,
+    /// Why.
+    pub(crate) why: PumpWhy,
+}
+
+impl Stop {
+    /// Before anything was moved.
+    pub(crate) fn at_once(why: PumpWhy) -> Stop
+        ensures { result ≡ record { moved = 0; why = why } }
+    {
+        Stop { moved: 0, why }
+    }
+}

@@ -1,0 +1,193 @@
+//! The read pump.
+
+ghost use Rattle.std.specs.Prelude.{◌≡◌, ◌<◌, ◌⊎◌, length, true, false, IfErr};
+ghost use Rattle.ymx_model.specs.devices.Devices.{has_failed};
+ghost use Rattle.ymx_held.specs.Booked.{Gains};
+ghost use Rattle.ymx_pumps.specs.Pumps.{PumpRead};
+ghost use Rattle.ymx_pumps.specs.Turns.{SaysEnd, TurnFed, FedAll, TurnRead};
+
+use crate::gate::Gate;
+use crate::pump_end::{Moved, PumpEnd, PumpWhy, Stop};
+use std::sync::Wait;
+use ymx_hub::Hub;
+use ymx_model::{Inlet, Why};
+use ymx_seats::{Recorder, Seat};
+
+/// Feeds once. Where 1,024 answers are unsent it waits once behind it.
+fn feed_turn<R: Recorder, W: Wait, G: Gate>(
+    rt: &W,
+    hub: &Hub<R>,
+    seat: &mut Seat<R>,
+    gate: &mut G,
+    bytes: &[u8],
+) -> Result<usize, Stop>
+    ensures number { seat.new.number ≡ seat.old.number }
+    ensures start { seat.new.start ≡ seat.old.start }
+    ensures fed { TurnFed R.KEEPS seat.old.number seat.old.entries seat.new.entries bytes.now result }
+    ensures off { R.KEEPS ≡ false → IfErr result (λ stop. stop.why ≡ PumpWhy.Memory → ⊥) }
+{
+    let Ok(fed) = hub.feed(rt, seat, bytes) else {
+        return Err(Stop::at_once(PumpWhy::Memory));
+    };
+    let moved = fed.taken;
+    match fed.why {
+        Why::All => Ok(moved),
+        Why::Broken(fault) => Err(Stop {
+            moved,
+            why: PumpWhy::Broken(fault),
+        }),
+        Why::Held => {
+            if !gate.before_wait() {
+                return Err(Stop {
+                    moved,
+                    why: PumpWhy::Gate,
+                });
+            }
+            hub.wait_for_room(rt);
+            Ok(moved)
+        }
+    }
+}
+
+/// Feeds until all is taken. At the pump's end it says how many bytes were.
+fn feed_all<R: Recorder, W: Wait, G: Gate>(
+    rt: &W,
+    hub: &Hub<R>,
+    seat: &mut Seat<R>,
+    gate: &mut G,
+    bytes: &[u8],
+) -> Result<(), Stop>
+    ensures number { seat.new.number ≡ seat.old.number }
+    ensures start { seat.new.start ≡ seat.old.start }
+    ensures fed { FedAll R.KEEPS seat.old.number seat.old.entries seat.new.entries bytes.now result }
+    ensures off { R.KEEPS ≡ false → IfErr result (λ stop. stop.why ≡ PumpWhy.Memory → ⊥) }
+{
+    let mut at = 0;
+    for _ in rt.forever() {
+        if at == bytes.len() {
+            return Ok(());
+        }
+        match feed_turn(rt, hub, seat, gate, &bytes[at..]) {
+            Ok(taken) => at += taken,
+            Err(stop) => {
+                return Err(Stop {
+                    moved: at + stop.moved,
+                    why: stop.why,
+                });
+            }
+        }
+    }
+    unreachable!()
+}
+
+/// The input has ended, for this reason.
+fn end_input<R: Recorder, W: Wait>(
+    rt: &W,
+    hub: &Hub<R>,
+    seat: &mut Seat<R>,
+    why: PumpWhy,
+) -> PumpWhy
+    ensures number { seat.new.number ≡ seat.old.number }
+    ensures start { seat.new.start ≡ seat.old.start }
+    ensures ended { Gains R.KEEPS seat.old.entries seat.new.entries (SaysEnd seat.old.number why result) }
+    ensures why { (result ≡ why) ⊎ (result ≡ PumpWhy.Memory) }
+    ensures off { R.KEEPS ≡ false → result ≡ why }
+{
+    match hub.feed_end(rt, seat) {
+        Ok(()) => why,
+        Err(_) => PumpWhy::Memory,
+    }
+}
+
+/// One turn: reads, and feeds all of it. At the pump's end it says how many bytes were taken.
+fn read_turn<R: Recorder, W: Wait, I: Inlet, G: Gate>(
+    rt: &W,
+    hub: &Hub<R>,
+    seat: &mut Seat<R>,
+    reader: &mut I,
+    gate: &mut G,
+    buffer: &mut [u8],
+) -> Result<usize, Stop>
+    ensures number { seat.new.number ≡ seat.old.number }
+    ensures start { seat.new.start ≡ seat.old.start }
+    ensures length { length buffer.new ≡ length buffer.old }
+    ensures turned { TurnRead R.KEEPS seat.old.number (I.failures reader.old) (I.failures reader.new) (I.remaining reader.old) (I.remaining reader.new) seat.old.entries seat.new.entries result }
+    ensures device { IfErr result (λ stop. stop.why ≡ PumpWhy.Device → has_failed (I.failures reader.old) (I.failures reader.new) ≡ true) }
+    ensures off { R.KEEPS ≡ false → IfErr result (λ stop. stop.why ≡ PumpWhy.Memory → ⊥) }
+{
+    if !gate.before_read() {
+        return Err(Stop::at_once(PumpWhy::Gate));
+    }
+    match reader.pull(buffer) {
+        Err(_) => Err(Stop::at_once(end_input(rt, hub, seat, PumpWhy::Device))),
+        Ok(0) => Err(Stop::at_once(end_input(rt, hub, seat, PumpWhy::End))),
+        Ok(count) => {
+            gate.after_read(count);
+            if let Err(stop) = feed_all(rt, hub, seat, gate, &buffer[..count]) {
+                return Err(stop);
+            }
+            Ok(count)
+        }
+    }
+}
+
+/// The read pump, while its seat is lent.
+pub(crate) fn read_on<R: Recorder, W: Wait, I: Inlet, G: Gate>(
+    rt: &W,
+    hub: &Hub<R>,
+    seat: &mut Seat<R>,
+    reader: &mut I,
+    gate: &mut G,
+    buffer: &mut [u8],
+) -> Moved
+    ensures number { seat.new.number ≡ seat.old.number }
+    ensures start { seat.new.start ≡ seat.old.start }
+    ensures gave { PumpRead R.KEEPS seat.old.number (I.remaining reader.old) (I.remaining reader.new) seat.old.entries seat.new.entries result.count result.why }
+    ensures device { result.why ≡ PumpWhy.Device → has_failed (I.failures reader.old) (I.failures reader.new) ≡ true }
+    ensures off { R.KEEPS ≡ false → result.why ≡ PumpWhy.Memory → ⊥ }
+{
+    let mut count = 0u64;
+    for _ in rt.forever() {
+        match read_turn(rt, hub, seat, reader, gate, buffer) {
+            Ok(taken) => count = count.saturating_add(taken as u64),
+            Err(stop) => {
+                return Moved {
+                    count: count.saturating_add(stop.moved as u64),
+                    why: stop.why,
+                };
+            }
+        }
+    }
+    unreachable!()
+}
+
+/// Reads and feeds until the input has ended, with no lock held while it reads. Where 1,024 answers are unsent it
+/// waits until some went out, and then feeds the rest.
+///
+/// It ends with `End` at the end of the input and with `Device` where the reader failed in this call, and then has
+/// ended the session's input; with `Broken` where the session broke; with `Gate` before a read or a wait; and with
+/// `Memory` where there is none for the entry of an event, which was not done. Bytes that it read and could not
+/// feed are gone, so the caller closes the session then.
+pub fn read_pump<R: Recorder, W: Wait, I: Inlet, G: Gate>(
+    rt: &W,
+    hub: &Hub<R>,
+    seat: Seat<R>,
+    reader: &mut I,
+    gate: &mut G,
+    buffer: &mut [u8],
+) -> PumpEnd<R>
+    requires { 0 < length buffer.old }
+    ensures number { result.seat.number ≡ seat.number }
+    ensures start { result.seat.start ≡ seat.start }
+    ensures gave { PumpRead R.KEEPS seat.number (I.remaining reader.old) (I.remaining reader.new) seat.entries result.seat.entries result.moved result.why }
+    ensures device { result.why ≡ PumpWhy.Device → has_failed (I.failures reader.old) (I.failures reader.new) ≡ true }
+    ensures off { R.KEEPS ≡ false → result.why ≡ PumpWhy.Memory → ⊥ }
+{
+    let mut seat = seat;
+    let Moved { count, why } = read_on(rt, hub, &mut seat, reader, gate, buffer);
+    PumpEnd {
+        seat,
+        moved: count,
+        why,
+    }
+}

@@ -1,0 +1,169 @@
+//! The write pump.
+
+ghost use Rattle.std.specs.Prelude.{◌≡◌, ◌<◌, ◌⊎◌, length, true, false, IfErr};
+ghost use Rattle.std.specs.Io.KnownBytes.{Keeps};
+ghost use Rattle.ymx_header.specs.declared.fault.Fault.{Fault as FaultValue};
+ghost use Rattle.ymx_model.specs.devices.Devices.{has_failed};
+ghost use Rattle.ymx_held.specs.Booked.{Gains};
+ghost use Rattle.ymx_pumps.specs.Pumps.{PumpWrote, EndsWrite};
+ghost use Rattle.ymx_pumps.specs.Turns.{Pushed, SaysEnd, TurnWrote};
+
+use crate::gate::Gate;
+use crate::pump_end::{Moved, PumpEnd, PumpWhy, Stop};
+use std::sync::Wait;
+use ymx_hub::{Hub, Turn};
+use ymx_model::Outlet;
+use ymx_seats::{Recorder, Seat};
+
+/// Pushes all bytes. At a failure it gives how many were taken.
+fn push_all<O: Outlet>(writer: &mut O, bytes: &[u8]) -> Result<(), usize>
+    ensures pushed { Pushed (O.contents writer.old) (O.contents writer.new) (O.failures writer.old) (O.failures writer.new) bytes.now result }
+{
+    let mut at = 0;
+    while at < bytes.len() {
+        match writer.push(&bytes[at..]) {
+            Ok(count) => at += count,
+            Err(_) => return Err(at),
+        }
+    }
+    Ok(())
+}
+
+/// The writer failed: the session is lost, and nothing goes out any more.
+fn lose_writer<R: Recorder, W: Wait>(rt: &W, hub: &Hub<R>, seat: &mut Seat<R>) -> PumpWhy
+    ensures number { seat.new.number ≡ seat.old.number }
+    ensures start { seat.new.start ≡ seat.old.start }
+    ensures ended { Gains R.KEEPS seat.old.entries seat.new.entries (SaysEnd seat.old.number PumpWhy.Device result) }
+    ensures why { (result ≡ PumpWhy.Device) ⊎ (result ≡ PumpWhy.Memory) }
+    ensures off { R.KEEPS ≡ false → result ≡ PumpWhy.Device }
+{
+    let ended = hub.feed_end(rt, seat);
+    hub.give_up(rt);
+    match ended {
+        Ok(()) => PumpWhy::Device,
+        Err(_) => PumpWhy::Memory,
+    }
+}
+
+/// Nothing more will be due: ends the writer.
+fn end_writer<R: Recorder, W: Wait, O: Outlet>(
+    rt: &W,
+    hub: &Hub<R>,
+    seat: &mut Seat<R>,
+    writer: &mut O,
+) -> PumpWhy
+    ensures number { seat.new.number ≡ seat.old.number }
+    ensures start { seat.new.start ≡ seat.old.start }
+    ensures kept { Keeps (O.contents writer.old) (O.contents writer.new) }
+    ensures ended { Gains R.KEEPS seat.old.entries seat.new.entries (EndsWrite seat.old.number result) }
+    ensures device { result ≡ PumpWhy.Device → has_failed (O.failures writer.old) (O.failures writer.new) ≡ true }
+    ensures whole { (fault : FaultValue) → result ≡ PumpWhy.Broken fault → ⊥ }
+    ensures off { R.KEEPS ≡ false → result ≡ PumpWhy.Memory → ⊥ }
+{
+    match writer.end() {
+        Ok(()) => PumpWhy::End,
+        Err(_) => lose_writer(rt, hub, seat),
+    }
+}
+
+/// One turn: emits, and writes all of it; or waits once. At the pump's end it says how many bytes were written.
+fn write_turn<R: Recorder, W: Wait, O: Outlet, G: Gate>(
+    rt: &W,
+    hub: &Hub<R>,
+    seat: &mut Seat<R>,
+    writer: &mut O,
+    gate: &mut G,
+    buffer: &mut [u8],
+) -> Result<usize, Stop>
+    ensures number { seat.new.number ≡ seat.old.number }
+    ensures start { seat.new.start ≡ seat.old.start }
+    ensures length { length buffer.new ≡ length buffer.old }
+    ensures turned { TurnWrote R.KEEPS (length buffer.old) seat.old.number (O.failures writer.old) (O.failures writer.new) (O.contents writer.old) (O.contents writer.new) seat.old.entries seat.new.entries result }
+    ensures device { IfErr result (λ stop. stop.why ≡ PumpWhy.Device → has_failed (O.failures writer.old) (O.failures writer.new) ≡ true) }
+    ensures whole { IfErr result (λ stop. (fault : FaultValue) → stop.why ≡ PumpWhy.Broken fault → ⊥) }
+    ensures off { R.KEEPS ≡ false → IfErr result (λ stop. stop.why ≡ PumpWhy.Memory → ⊥) }
+{
+    match hub.emit_turn(rt, seat, buffer) {
+        Ok(Turn::Emitted(count)) => {
+            if let Err(moved) = push_all(writer, &buffer[..count]) {
+                let why = lose_writer(rt, hub, seat);
+                return Err(Stop { moved, why });
+            }
+            gate.after_write(count);
+            Ok(count)
+        }
+        Ok(Turn::Idle) => {
+            if !gate.before_wait() {
+                return Err(Stop::at_once(PumpWhy::Gate));
+            }
+            hub.wait_until_due(rt);
+            Ok(0)
+        }
+        Ok(Turn::Over) => Err(Stop::at_once(end_writer(rt, hub, seat, writer))),
+        Err(_) => {
+            hub.give_up(rt);
+            Err(Stop::at_once(PumpWhy::Memory))
+        }
+    }
+}
+
+/// The write pump, while its seat is lent.
+pub(crate) fn write_on<R: Recorder, W: Wait, O: Outlet, G: Gate>(
+    rt: &W,
+    hub: &Hub<R>,
+    seat: &mut Seat<R>,
+    writer: &mut O,
+    gate: &mut G,
+    buffer: &mut [u8],
+) -> Moved
+    ensures number { seat.new.number ≡ seat.old.number }
+    ensures start { seat.new.start ≡ seat.old.start }
+    ensures wrote { PumpWrote R.KEEPS (length buffer.old) seat.old.number (has_failed (O.failures writer.old) (O.failures writer.new)) (O.contents writer.old) (O.contents writer.new) seat.old.entries seat.new.entries result.count result.why }
+    ensures device { result.why ≡ PumpWhy.Device → has_failed (O.failures writer.old) (O.failures writer.new) ≡ true }
+    ensures whole { (fault : FaultValue) → result.why ≡ PumpWhy.Broken fault → ⊥ }
+    ensures off { R.KEEPS ≡ false → result.why ≡ PumpWhy.Memory → ⊥ }
+{
+    let mut count = 0u64;
+    for _ in rt.forever() {
+        match write_turn(rt, hub, seat, writer, gate, buffer) {
+            Ok(written) => count = count.saturating_add(written as u64),
+            Err(stop) => {
+                return Moved {
+                    count: count.saturating_add(stop.moved as u64),
+                    why: stop.why,
+                };
+            }
+        }
+    }
+    unreachable!()
+}
+
+/// Emits and writes until nothing more will be due, with no lock held while it writes, and then ends the writer.
+///
+/// It ends with `End` once the session is closed, or lost or broken with nothing due; with `Device` where the
+/// writer failed in this call, which also ends the session's input; with `Gate` before a wait; and with `Memory`
+/// where there is none for the entry of an event, which was not done.
+pub fn write_pump<R: Recorder, W: Wait, O: Outlet, G: Gate>(
+    rt: &W,
+    hub: &Hub<R>,
+    seat: Seat<R>,
+    writer: &mut O,
+    gate: &mut G,
+    buffer: &mut [u8],
+) -> PumpEnd<R>
+    requires { 0 < length buffer.old }
+    ensures number { result.seat.number ≡ seat.number }
+    ensures start { result.seat.start ≡ seat.start }
+    ensures wrote { PumpWrote R.KEEPS (length buffer.old) seat.number (has_failed (O.failures writer.old) (O.failures writer.new)) (O.contents writer.old) (O.contents writer.new) seat.entries result.seat.entries result.moved result.why }
+    ensures device { result.why ≡ PumpWhy.Device → has_failed (O.failures writer.old) (O.failures writer.new) ≡ true }
+    ensures whole { (fault : FaultValue) → result.why ≡ PumpWhy.Broken fault → ⊥ }
+    ensures off { R.KEEPS ≡ false → result.why ≡ PumpWhy.Memory → ⊥ }
+{
+    let mut seat = seat;
+    let Moved { count, why } = write_on(rt, hub, &mut seat, writer, gate, buffer);
+    PumpEnd {
+        seat,
+        moved: count,
+        why,
+    }
+}
