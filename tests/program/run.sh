@@ -48,23 +48,41 @@ expect 1 "$(says 'rest 12')" nothing long frames --limit=300000
 expect 1 "$(says 'rest 12')" nothing long frames --limit 300000
 expect 1 nothing "$(says "ymx: the file can't be opened")" hello frames absent
 expect 1 nothing "$(says 'ymx: reading failed')" hello frames .
-for name in script local remote selftest; do
+for name in local remote selftest; do
     expect 1 nothing "$(says 'ymx: not built yet')" hello $name
 done
 expect 0 "$here/help" nothing hello --help
 expect 0 "$here/frames_help" nothing hello frames --help
+expect 0 "$here/script_help" nothing hello script --help
 expect 0 "$(says 'ymx 0.1.0')" nothing hello --version
 expect 2 nothing "$here/mistake" hello frames --limit 5
 expect 2 nothing "$(says 'error: a word of the command line is not UTF-8')" hello frames "$(printf '\377')"
-if [ -e /dev/full ]; then
+
+# scripts: of a file, of standard input, of a file that isn't there, and of one that can't be read
+script=$root/examples/stream.script
+answers=$root/examples/stream.out
+expect 0 "$answers" nothing nothing script "$script"
+expect 0 "$answers" nothing "$script" script
+expect 0 "$answers" nothing "$script" script -
+expect 0 nothing nothing nothing script
+expect 1 nothing "$(says "ymx: the file can't be opened")" nothing script absent
+expect 1 nothing "$(says 'ymx: reading failed')" nothing script .
+
+# on_full SUBCOMMAND INPUT: a full device takes nothing
+on_full() {
     got=0
-    "$root/out/ymx" frames < hello > /dev/full 2> err || got=$?
+    "$root/out/ymx" "$1" < "$2" > /dev/full 2> err || got=$?
     if [ "$got" = 1 ] && cmp -s err "$(says 'ymx: writing failed')"; then
         passed=$((passed + 1))
     else
         failed=$((failed + 1))
-        echo "FAIL  ymx frames, on a full device: status $got: $(cat err)"
+        echo "FAIL  ymx $1, on a full device: status $got: $(cat err)"
     fi
+}
+
+if [ -e /dev/full ]; then
+    on_full frames hello
+    on_full script "$script"
 fi
 echo "$passed passed, $failed failed"
 [ "$failed" = 0 ]

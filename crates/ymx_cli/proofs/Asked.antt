@@ -1,4 +1,4 @@
--- What clap makes of words that ask for frames.
+-- What clap makes of words that ask for frames or for a script.
 use Rattle.std.proofs.Common.{◌≡◌, ◌==◌, ◌++◌, ◌<◌, ◌≤◌, ◌^◌, ℕ, true, false, List, [], ◌∷◌, Option, Some, None, arith, rules, refl, ap, codes, decimal, inl, inr, get_or}
 use Rattle.std.specs.Prelude.{◌≢◌, pos, option_and_then, slice_get}
 use Rattle.std.specs.Fmt.{digits}
@@ -13,7 +13,7 @@ use Rattle.clap.specs.ValueTests.{accepts}
 use Rattle.clap.specs.declared.builder.value_parser.ValueParser.TheVariants as parser
 use Rattle.clap.proofs.OnLiterals.{clap_on_literals}
 use Rattle.clap.proofs.ValueTestLemmas.{Accepts-accepts}
-use Rattle.ymx_cli.specs.CommandLine.{AsksFrames, GivesFile, GivesLimit, file_of, named_words, ymx_app}
+use Rattle.ymx_cli.specs.CommandLine.{AsksFrames, AsksScript, GivesFile, GivesLimit, file_of, named_words, ymx_app}
 
 pub is_simple-ymx : is_simple ymx_app ≡ true
 is_simple-ymx = refl
@@ -166,3 +166,37 @@ pub asked_taken : (words : List Text) (limit : ℕ) (file : Option Text) → Ask
 asked_taken words limit file (name, limits, files, l, f, e) =
     let read = words_read name limits files limit file l f in
     rw e (read.0, read.1, read.2.0, read.2.1, small_limit limits limit l)
+
+-- ---- words that ask for a script
+
+-- these words after `script` are taken, and give the file this word
+abbrev IsTakenScript : Text → List Text → Option Text → Type 0
+IsTakenScript name words word =
+    (takes ymx_app (name ∷ codes "script" ∷ words) ≡ true)
+    × (named_words (subcommand_of ymx_app (name ∷ codes "script" ∷ words)) ≡ Some (codes "script", None, word))
+
+script_input : (name : Text) → IsTakenScript name [] None
+unfolding clap_on_literals
+script_input name = (refl, refl)
+
+script_dash : (name : Text) → IsTakenScript name (codes "-" ∷ []) (Some (codes "-"))
+unfolding clap_on_literals
+script_dash name = (refl, refl)
+
+script_file : (name file : Text) → IsPlain file → IsTakenScript name (file ∷ []) (Some file)
+unfolding clap_on_literals
+script_file name file p = (rw (p.0, p.1, p.0) refl, rw (p.0, p.1, p.0) refl)
+
+script_read : (name : Text) (files : List Text) (file : Option Text) → GivesFile files file →
+    (word : Option Text) × (option_and_then file_of word ≡ file) × IsTakenScript name files word
+script_read name files None (inl e) = rw e (None, refl, script_input name)
+script_read name files None (inr e) = rw e (Some (codes "-"), refl, script_dash name)
+script_read name files (Some file) (e, other) = rw e (Some file, own_file file other, script_file name file (plain file other))
+
+-- words that ask for a script are taken, and have its file
+pub script_taken : (words : List Text) (file : Option Text) → AsksScript words file →
+    (word : Option Text) × (option_and_then file_of word ≡ file) × (takes ymx_app words ≡ true)
+    × (named_words (subcommand_of ymx_app words) ≡ Some (codes "script", None, word))
+script_taken words file (name, files, f, e) =
+    let read = script_read name files file f in
+    rw e (read.0, read.1, read.2.0, read.2.1)

@@ -10,7 +10,7 @@ use Rattle.clap.specs.declared.builder.value_parser.ValueParser.TheVariants as p
 use Rattle.clap.specs.declared.error.kind.ErrorKind.{ErrorKind}
 use Rattle.clap.specs.declared.error.kind.ErrorKind.TheVariants.{DisplayHelp, DisplayVersion}
 use Rattle.ymx_cli.specs.declared.command.Task.{Task}
-use Rattle.ymx_cli.specs.declared.command.Task.TheVariants.{Frames, Other}
+use Rattle.ymx_cli.specs.declared.command.Task.TheVariants.{Frames, Script, Other}
 
 -- The words give this limit, in bytes of payload: no words 262144, and `--limit N` or `--limit=N` the number N, from 262144 to
 -- 16777216 in decimal digits.
@@ -30,10 +30,21 @@ AsksFrames words limit file =
     (name : Text) × (limits : List Text) × (files : List Text) × GivesLimit limits limit × GivesFile files file
     × (words ≡ name ∷ codes "frames" ∷ (limits ++ files))
 
+-- The words ask for the script of standard input or of this file.
+abbrev pub AsksScript : List Text → Option Text → Type 0
+AsksScript words file = (name : Text) × (files : List Text) × GivesFile files file × (words ≡ name ∷ codes "script" ∷ files)
+
 -- The task is to print frames, with this limit, of standard input or of this file.
 abbrev pub IsFrames : ℕ → Option Text → Task → Type 0
 IsFrames limit file (Frames l f) = (l ≡ limit) × (option_map (λ name. name.now) f ≡ file)
+IsFrames limit file (Script f) = ⊥
 IsFrames limit file Other = ⊥
+
+-- The task is to play a script, that of standard input or of this file.
+abbrev pub IsScript : Option Text → Task → Type 0
+IsScript file (Script f) = option_map (λ name. name.now) f ≡ file
+IsScript file (Frames l f) = ⊥
+IsScript file Other = ⊥
 
 -- ---- the same command line, as clap reads it
 
@@ -58,6 +69,10 @@ file_rule = record (new_rule (codes "file")) {
 abbrev pub frames_shape : Shape
 frames_shape = (with_rule (with_rule (new_app (codes "frames")) limit_rule) file_rule).top
 
+-- `script`
+abbrev pub script_shape : Shape
+script_shape = (with_rule (new_app (codes "script")) file_rule).top
+
 -- a subcommand that takes nothing
 abbrev pub bare_shape : List ℕ → Shape
 bare_shape name = (new_app name).top
@@ -71,7 +86,7 @@ top_app =
 -- the program
 abbrev pub ymx_app : App
 ymx_app = with_subcommand (with_subcommand (with_subcommand (with_subcommand (with_subcommand top_app
-    frames_shape) (bare_shape (codes "script"))) (bare_shape (codes "local"))) (bare_shape (codes "remote"))) (bare_shape (codes "selftest"))
+    frames_shape) script_shape) (bare_shape (codes "local"))) (bare_shape (codes "remote"))) (bare_shape (codes "selftest"))
 
 -- of a subcommand that was met: its name, the text of its limit, and the word that names a file
 abbrev pub named_words : Option (Text × List Row) → Option (Text × Option Text × Option Text)
@@ -93,9 +108,9 @@ HasGoodLimit met =
 abbrev pub IsMistake : ErrorKind → Type 0
 IsMistake kind = (kind ≢ DisplayHelp) × (kind ≢ DisplayVersion)
 
--- the words name no subcommand `frames`
-abbrev pub NamesNoFrames : List Text → Type 0
-NamesNoFrames words = IfSome (subcommand_of ymx_app words) (λ p. p.0 ≢ codes "frames")
+-- the words name a subcommand, and it is neither `frames` nor `script`
+abbrev pub NamesAnother : List Text → Type 0
+NamesAnother words = IfSome (subcommand_of ymx_app words) (λ p. (p.0 ≢ codes "frames") × (p.0 ≢ codes "script"))
 
 -- the words ask for no help and no version: what clap may find at them is a mistake
 abbrev pub AsksNoHelp : List Text → Type 0

@@ -6,6 +6,9 @@ use Rattle.ymx_model.specs.devices.Devices.{has_failed}
 use Rattle.ymx_frames.specs.Outputs.{Prints}
 use Rattle.ymx_frames.specs.declared.print.FramesEnd.{FramesEnd}
 use Rattle.ymx_frames.specs.declared.print.FramesEnd.TheVariants.{Good, Fault as Faulty, Rest, Reading, Writing, Memory}
+use Rattle.ymx_script.specs.Outputs.{Prints as PrintsAnswers}
+use Rattle.ymx_script.specs.declared.lines.ScriptEnd.{ScriptEnd}
+use Rattle.ymx_script.specs.declared.lines.ScriptEnd.TheVariants as script
 
 -- What a call did to a device: the bytes that it had to give, or had taken, and how often it had failed, before and after.
 pub record Change : Type 0 where
@@ -68,6 +71,14 @@ reason Reading = codes "ymx: reading failed\n"
 reason Writing = writing_failed
 reason Memory = out_of_memory
 
+-- why the playing of a script ended, where a device or memory failed
+abbrev pub script_reason : ScriptEnd → List ℕ
+script_reason script.Good = []
+script_reason (script.Line number) = []
+script_reason script.Reading = codes "ymx: reading failed\n"
+script_reason script.Writing = writing_failed
+script_reason script.Memory = out_of_memory
+
 -- Frames are printed with this limit, in bytes of payload: the status is 0 at their good end and else 1, and what failed is said.
 -- A device is blamed only if it failed. Given are the changes of the input, the output and the error device.
 abbrev pub PrintsFrames : (limit status : ℕ) → (input output errors : Change) → Type 0
@@ -80,11 +91,27 @@ PrintsFrames limit status input output errors =
 abbrev pub Refuses : (status : ℕ) → (output errors : Change) → List ℕ → Type 0
 Refuses status output errors text = (status ≡ 1) × IsUntouched output × Says errors text
 
+-- A script is played, and its answers are printed: the status is 0 at its good end and else 1, and what failed is said. A device is
+-- blamed only if it failed. Given are the changes of the input, the output and the error device.
+abbrev pub PlaysScript : (status : ℕ) → (input output errors : Change) → Type 0
+PlaysScript status input output errors =
+    (end : ScriptEnd) × (text : List ℕ) × (lines : List ℕ) × Consumes input.before input.after text × TakesText output lines
+    × PrintsAnswers text (IsAtEnd input.after) end lines × (end ≡ script.Reading → IsTrue (fails input)) × (end ≡ script.Writing → IsTrue (fails output))
+    × (status ≤ 1) × ((status ≡ 0) ↔ (end ≡ script.Good)) × Says errors (script_reason end)
+
+-- A file that holds these bytes is read, and this comes of its change, or it refuses to be opened.
+abbrev pub ReadsFile : (status : ℕ) → (refuses : Type 0) → Option (List ℕ) → (output errors : Change) → (Change → Type 0) → Type 0
+ReadsFile status refuses held output errors comes =
+    (refuses × Refuses status output errors opening_failed)
+    ⊎ ((input : Change) × Keeps held input.before × (input.failures_before ≡ 0) × comes input)
+
 -- The frames of a file that holds these bytes are printed with this limit, or it refuses to be opened.
 abbrev pub PrintsFile : (limit status : ℕ) → (refuses : Type 0) → Option (List ℕ) → (output errors : Change) → Type 0
-PrintsFile limit status refuses held output errors =
-    (refuses × Refuses status output errors opening_failed)
-    ⊎ ((input : Change) × Keeps held input.before × (input.failures_before ≡ 0) × PrintsFrames limit status input output errors)
+PrintsFile limit status refuses held output errors = ReadsFile status refuses held output errors (λ input. PrintsFrames limit status input output errors)
+
+-- The script that a file holds is played, or it refuses to be opened.
+abbrev pub PlaysFile : (status : ℕ) → (refuses : Type 0) → Option (List ℕ) → (output errors : Change) → Type 0
+PlaysFile status refuses held output errors = ReadsFile status refuses held output errors (λ input. PlaysScript status input output errors)
 
 -- This happened to a text; where it is stated what a message displays as, to that text.
 abbrev pub Shows : Option (List ℕ) → (List ℕ → Type 0) → Type 0

@@ -6,8 +6,8 @@ ghost use Rattle.std.specs.declared.io.ErrorKind.TheVariants.{InvalidData};
 ghost use Rattle.std.specs.Io.KnownBytes.{Keeps};
 ghost use Rattle.clap.specs.Words.{app_of, first_value, found_of, kind_of, rule_of, shape_of, subcommand_rows_of};
 ghost use Rattle.clap.specs.declared.builder.command.Command.TheViews.{out-Command as fields_of};
-ghost use Rattle.ymx_cli.specs.CommandLine.{AsksFrames, AsksNoHelp, HasGoodLimit, IsFrames, IsMistake, NamesNoFrames, bare_shape, file_of, file_rule, frames_shape, limit_rule, named_words, ymx_app};
-ghost use Rattle.ymx_cli.specs.Messages.{IsUntouched, PrintsFile, PrintsFrames, Refuses, Says, Shows, TakesText, TakesPart, change_of, fails, not_text, out_of_memory, reason, writing_failed};
+ghost use Rattle.ymx_cli.specs.CommandLine.{AsksFrames, AsksNoHelp, AsksScript, HasGoodLimit, IsFrames, IsMistake, IsScript, NamesAnother, bare_shape, file_of, file_rule, frames_shape, limit_rule, named_words, script_shape, ymx_app};
+ghost use Rattle.ymx_cli.specs.Messages.{IsUntouched, PlaysFile, PlaysScript, PrintsFile, PrintsFrames, Refuses, Says, Shows, TakesText, TakesPart, change_of, fails, not_text, out_of_memory, reason, script_reason, writing_failed};
 
 use clap::error::ErrorKind;
 use clap::{Arg, ArgAction, ArgMatches, Command, Error, value_parser};
@@ -18,6 +18,7 @@ use std::io;
 use std::sync::Wait;
 use ymx_frames::{FramesEnd, frames, push_all};
 use ymx_model::{DeviceFault, Inlet, Outlet};
+use ymx_script::{ScriptEnd, script};
 
 /// The longest payload of a Data frame that is accepted where the command line says nothing.
 const DEFAULT_LIMIT: u32 = 262_144;
@@ -30,6 +31,8 @@ const VERSION: &str = "0.1.0";
 enum Task<'a> {
     /// The frames of a file or, with no name, of standard input.
     Frames { limit: u32, file: Option<&'a str> },
+    /// The script of a file or, with no name, of standard input, to be played.
+    Script { file: Option<&'a str> },
     /// A subcommand that isn't built yet.
     Other,
 }
@@ -77,13 +80,27 @@ pub fn ymx_main<S: AsStr, F: Opener, R: Inlet, W: Outlet, E: Outlet>(
         let says = change_of E.contents E.failures errors.old errors.new in
         IsUntouched (change_of R.remaining R.failures reader.old reader.new)
         × (PrintsFile limit result (F.refuses files.now name) (F.held files.now name) output says ⊎ Refuses result output says out_of_memory) }
-    // Whatever the words, frames are printed so with a limit in its range, or nothing is read.
+    // Words that ask for the script of the reader get it played, or there is no memory to read the words.
+    ensures script { AsksScript (map S.text words.now) None →
+        let input = change_of R.remaining R.failures reader.old reader.new in
+        let output = change_of W.contents W.failures writer.old writer.new in
+        let says = change_of E.contents E.failures errors.old errors.new in
+        PlaysScript result input output says ⊎ (IsUntouched input × Refuses result output says out_of_memory) }
+    // So do words that ask for the script of a file. The reader stays as it was.
+    ensures script_file { (name : List ℕ) → AsksScript (map S.text words.now) (Some name) →
+        let output = change_of W.contents W.failures writer.old writer.new in
+        let says = change_of E.contents E.failures errors.old errors.new in
+        IsUntouched (change_of R.remaining R.failures reader.old reader.new)
+        × (PlaysFile result (F.refuses files.now name) (F.held files.now name) output says ⊎ Refuses result output says out_of_memory) }
+    // Whatever the words, frames are printed so with a limit in its range, or a script is played, or nothing is read.
     ensures printed { let input = change_of R.remaining R.failures reader.old reader.new in
+        let output = change_of W.contents W.failures writer.old writer.new in
+        let says = change_of E.contents E.failures errors.old errors.new in
         IsUntouched input
-        ⊎ ((limit : ℕ) × (262144 ≤ limit) × (limit ≤ 16777216)
-        × PrintsFrames limit result input (change_of W.contents W.failures writer.old writer.new) (change_of E.contents E.failures errors.old errors.new)) }
-    // Words that name no `frames` write nothing to the writer, unless they ask for help or the version.
-    ensures silent { NamesNoFrames (map S.text words.now) → AsksNoHelp (map S.text words.now) →
+        ⊎ (((limit : ℕ) × (262144 ≤ limit) × (limit ≤ 16777216) × PrintsFrames limit result input output says)
+        ⊎ PlaysScript result input output says) }
+    // Words that name another subcommand write nothing to the writer, unless they ask for help or the version.
+    ensures silent { NamesAnother (map S.text words.now) → AsksNoHelp (map S.text words.now) →
         IsUntouched (change_of W.contents W.failures writer.old writer.new) }
     // At status 2 nothing is read, and nothing is written to the writer.
     ensures bad { result ≡ 2 → IsUntouched (change_of R.remaining R.failures reader.old reader.new) × IsUntouched (change_of W.contents W.failures writer.old writer.new) }
@@ -96,6 +113,8 @@ pub fn ymx_main<S: AsStr, F: Opener, R: Inlet, W: Outlet, E: Outlet>(
                 file: Some(name),
             },
         ) => print_file(rt, alloc, files, name, limit, writer, errors),
+        Ok(Task::Script { file: None }) => play(rt, alloc, reader, writer, errors),
+        Ok(Task::Script { file: Some(name) }) => play_file(rt, alloc, files, name, writer, errors),
         Ok(Task::Other) => refuse(errors, b"ymx: not built yet\n"),
         Err(error) => explain(alloc, &error, writer, errors),
     }
@@ -153,12 +172,50 @@ fn print_file<F: Opener, W: Outlet, E: Outlet>(
     }
 }
 
+/// Plays the script of a reader, and answers the status.
+fn play<R: Inlet, W: Outlet, E: Outlet>(
+    rt: &impl Wait,
+    alloc: Global,
+    reader: &mut R,
+    writer: &mut W,
+    errors: &mut E,
+) -> u8
+    ensures played { PlaysScript result (change_of R.remaining R.failures reader.old reader.new)
+        (change_of W.contents W.failures writer.old writer.new) (change_of E.contents E.failures errors.old errors.new) }
+    ensures quiet { result ≡ 0 → IsUntouched (change_of E.contents E.failures errors.old errors.new) }
+{
+    let end = script(rt, alloc, reader, writer);
+    finish_script(end, errors)
+}
+
+/// Plays the script in the file of this name, and answers the status.
+fn play_file<F: Opener, W: Outlet, E: Outlet>(
+    rt: &impl Wait,
+    alloc: Global,
+    files: &F,
+    name: &str,
+    writer: &mut W,
+    errors: &mut E,
+) -> u8
+    ensures played { PlaysFile result (F.refuses files.now name.now) (F.held files.now name.now)
+        (change_of W.contents W.failures writer.old writer.new) (change_of E.contents E.failures errors.old errors.new) }
+    ensures quiet { result ≡ 0 → IsUntouched (change_of E.contents E.failures errors.old errors.new) }
+    ensures status { result ≤ 1 }
+{
+    match files.open(name) {
+        Ok(mut file) => play(rt, alloc, &mut file, writer, errors),
+        Err(_) => refuse(errors, b"ymx: the file can't be opened\n"),
+    }
+}
+
 /// Reads the words of a command line.
 fn parse<'a, S: AsStr>(alloc: Global, words: &'a [S]) -> Result<Task<'a>, Error>
     ensures frames { (limit : ℕ) (file : Option (List ℕ)) → AsksFrames (map S.text words.entry.now) limit file →
         MatchResult result (IsFrames limit file) (λ error. kind_of error ≡ ErrorKind.OutOfMemory) }
     ensures limits { IfOk result (λ task. (limit : ℕ) (file : Option (List ℕ)) → IsFrames limit file task → (262144 ≤ limit) × (limit ≤ 16777216)) }
-    ensures other { NamesNoFrames (map S.text words.entry.now) → IfOk result (λ task. task ≡ Task.Other) }
+    ensures script { (file : Option (List ℕ)) → AsksScript (map S.text words.entry.now) file →
+        MatchResult result (IsScript file) (λ error. kind_of error ≡ ErrorKind.OutOfMemory) }
+    ensures other { NamesAnother (map S.text words.entry.now) → IfOk result (λ task. task ≡ Task.Other) }
     ensures mistake { AsksNoHelp (map S.text words.entry.now) → IfErr result (λ error. IsMistake (kind_of error)) }
 {
     let matches = command(alloc)?.try_get_matches_from(words)?;
@@ -170,13 +227,18 @@ fn asked<'a>(matches: &ArgMatches<'a>) -> Task<'a>
     ensures frames { (limit : ℕ) (word : Option (List ℕ)) → limit < 2 ^ 32
         → named_words (subcommand_rows_of matches.now) ≡ Some (codes "frames", Some (decimal limit), word)
         → IsFrames limit (option_and_then file_of word) result }
-    ensures other { IfSome (subcommand_rows_of matches.now) (λ p. p.0 ≢ codes "frames") → result ≡ Task.Other }
+    ensures script { (word : Option (List ℕ)) → named_words (subcommand_rows_of matches.now) ≡ Some (codes "script", None, word)
+        → IsScript (option_and_then file_of word) result }
+    ensures other { IfSome (subcommand_rows_of matches.now) (λ p. (p.0 ≢ codes "frames") × (p.0 ≢ codes "script")) → result ≡ Task.Other }
     ensures limits { HasGoodLimit (subcommand_rows_of matches.now) → (limit : ℕ) (file : Option (List ℕ)) → IsFrames limit file result
         → (262144 ≤ limit) × (limit ≤ 16777216) }
 {
     match matches.subcommand() {
         Some(("frames", found)) => Task::Frames {
             limit: found.get_one("limit").unwrap_or(DEFAULT_LIMIT),
+            file: named_file(found),
+        },
+        Some(("script", found)) => Task::Script {
             file: named_file(found),
         },
         _ => Task::Other,
@@ -203,11 +265,7 @@ fn command<'a>(alloc: Global) -> Result<Command<'a>, AllocError>
         .after_help(HELP)
         .subcommand_required(true)
         .subcommand(frames_command(alloc)?)?
-        .subcommand(bare(
-            alloc,
-            "script",
-            "Run steps of two sessions joined by pipes (not built yet)",
-        ))?
+        .subcommand(script_command(alloc)?)?
         .subcommand(bare(
             alloc,
             "local",
@@ -236,6 +294,16 @@ fn frames_command<'a>(alloc: Global) -> Result<Command<'a>, AllocError>
         .arg(file_argument(alloc))
 }
 
+/// The subcommand `script`.
+fn script_command<'a>(alloc: Global) -> Result<Command<'a>, AllocError>
+    ensures { IfOk result (λ command. (shape_of command ≡ script_shape) × ((fields_of command).has_globals ≡ false)) }
+{
+    Command::new(alloc, "script")
+        .about("Run steps of two sessions joined by pipes, of a file or of standard input")
+        .after_help(SCRIPT_HELP)
+        .arg(file_argument(alloc))
+}
+
 /// The argument `--limit` of `frames`.
 fn limit_argument<'a>(alloc: Global) -> Arg<'a>
     ensures { (rule_of result ≡ limit_rule) × (result.global ≡ false) }
@@ -249,7 +317,7 @@ fn limit_argument<'a>(alloc: Global) -> Arg<'a>
         .help("The longest payload accepted, from 262144 to 16777216")
 }
 
-/// The argument of `frames` that names the file.
+/// The argument that names the file.
 fn file_argument<'a>(alloc: Global) -> Arg<'a>
     ensures { (rule_of result ≡ file_rule) × (result.global ≡ false) }
 {
@@ -267,8 +335,9 @@ fn bare<'a>(alloc: Global, name: &'a str, about: &'a str) -> Command<'a>
 }
 
 /// What the help says at its end.
-const HELP: &str = "Example:
+const HELP: &str = "Examples:
   ymx frames examples/hello.yamux
+  ymx script examples/stream.script
 
 The exit status is 0 if all went well, 1 at a fault, and 2 for a bad command line.";
 
@@ -285,6 +354,36 @@ input ends n bytes into a frame. The exit status is then 1.
 Example:
   ymx frames --limit 1048576 capture.yamux";
 
+/// What the help of `script` says at its end.
+const SCRIPT_HELP: &str =
+    "A line is a step, and its answer is printed as a line. A is the client, B the server; AB is the pipe
+that carries A's bytes, BA the other. S is A or B, D is AB or BA, n and id are decimal numbers, bytes
+are pairs of hexadecimal digits, or `-` for none. A line that begins with `#` is a comment.
+
+Settings, before every other line:
+  first S n            the side's first stream id
+  window S n           the side's window, from 262144 to 16777216 bytes
+Calls of a side:
+  S open               S openwith bytes     S accept
+  S write id bytes     S read id n          S finish id
+  S fill id n          S skip id n          S reset id      S forget id
+  S ping               S ponged n           S away          S close
+Bytes on their way:
+  emit S n             the side puts at most n bytes onto its pipe
+  deliver D n          the pipe's first n bytes are fed to the other side
+  stop D, end D        the pipe is cut; its receiver learns that the bytes have ended
+  show D, due S, quiet what is on its way, whether a side has something to emit, whether nothing moves
+
+The last line is `error line <k>` at a line that is none of these. The exit status is then 1.
+
+Example:
+  A open               opened 1
+  A write 1 6869       took 2
+  emit A 100           emitted 26
+  deliver AB 100       fed 26
+  B accept             accepted 1
+  B read 1 10          bytes 2 6869";
+
 /// Says why the printing of frames ended, if a device or memory failed, and answers the status.
 fn finish<E: Outlet>(end: FramesEnd, errors: &mut E) -> u8
     ensures status { result ≤ 1 }
@@ -298,6 +397,22 @@ fn finish<E: Outlet>(end: FramesEnd, errors: &mut E) -> u8
         FramesEnd::Reading => refuse(errors, b"ymx: reading failed\n"),
         FramesEnd::Writing => refuse(errors, b"ymx: writing failed\n"),
         FramesEnd::Memory => refuse(errors, b"ymx: out of memory\n"),
+    }
+}
+
+/// Says why the playing of a script ended, if a device or memory failed, and answers the status.
+fn finish_script<E: Outlet>(end: ScriptEnd, errors: &mut E) -> u8
+    ensures status { result ≤ 1 }
+    ensures good { (result ≡ 0) ↔ (end ≡ ScriptEnd.Good) }
+    ensures quiet { result ≡ 0 → IsUntouched (change_of E.contents E.failures errors.old errors.new) }
+    ensures said { Says (change_of E.contents E.failures errors.old errors.new) (script_reason end) }
+{
+    match end {
+        ScriptEnd::Good => 0,
+        ScriptEnd::Line(_) => 1,
+        ScriptEnd::Reading => refuse(errors, b"ymx: reading failed\n"),
+        ScriptEnd::Writing => refuse(errors, b"ymx: writing failed\n"),
+        ScriptEnd::Memory => refuse(errors, b"ymx: out of memory\n"),
     }
 }
 
@@ -498,6 +613,48 @@ mod tests {
     }
 
     #[test]
+    fn plays_a_script(rt: HostRuntime) -> Result<(), Fail> {
+        let answers = b"opened 1\nemitted 12\npipe 12 000100010000000100000000\n".as_slice();
+        for (input, status, printed) in [
+            (b"A open\nemit A 100\nshow AB\n".as_slice(), 0, answers),
+            (b"".as_slice(), 0, b"".as_slice()),
+            (
+                b"# x\n\nA open\nA opn\n".as_slice(),
+                1,
+                b"opened 1\nerror line 4\n".as_slice(),
+            ),
+        ] {
+            for words in [
+                ["ymx", "script"].as_slice(),
+                ["ymx", "script", "-"].as_slice(),
+            ] {
+                let got = run(&rt, words, input)?;
+                assert_eq!(rt; got.0, status);
+                assert_eq!(rt; got.1.as_slice(), printed);
+                assert!(rt; got.2.is_empty());
+            }
+        }
+        Ok(())
+    }
+
+    /// The file is none of a script: its first line is no step.
+    #[test]
+    fn plays_a_file(rt: HostRuntime) -> Result<(), Fail> {
+        let got = run(&rt, &["ymx", "script", "hello"], b"A open\n")?;
+        assert_eq!(rt; got.0, 1);
+        assert_eq!(rt; got.1.as_slice(), b"error line 1\n".as_slice());
+        assert!(rt; got.2.is_empty());
+        let got = run(&rt, &["ymx", "script", "absent"], b"A open\n")?;
+        assert_eq!(rt; got.0, 1);
+        assert!(rt; got.1.is_empty());
+        assert_eq!(rt;
+            got.2.as_slice(),
+            b"ymx: the file can't be opened\n".as_slice()
+        );
+        Ok(())
+    }
+
+    #[test]
     fn tells_its_version(rt: HostRuntime) -> Result<(), Fail> {
         let got = run(&rt, &["ymx", "--version"], b"")?;
         assert_eq!(rt; got.0, 0);
@@ -514,7 +671,7 @@ mod tests {
             assert!(rt; got.1.is_empty());
             assert!(rt; got.2.as_slice().starts_with(b"error: "));
         }
-        for name in ["script", "local", "remote", "selftest"] {
+        for name in ["local", "remote", "selftest"] {
             let got = run(&rt, &["ymx", name], HELLO)?;
             assert_eq!(rt; got.0, 1);
             assert!(rt; got.1.is_empty());
@@ -536,14 +693,15 @@ mod tests {
         Ok(())
     }
 
-    /// The status, what was printed, and what the error device got, of `ymx frames` over these devices.
-    fn print<T: Wait + AllocGlobal>(
+    /// The status, what was printed, and what the error device got, of a subcommand over these devices.
+    fn run_over<T: Wait + AllocGlobal>(
         rt: &T,
+        subcommand: &str,
         mut reader: MemoryInlet,
         mut writer: MemoryOutlet,
     ) -> (u8, MemoryOutlet, MemoryOutlet) {
         let mut errors = MemoryOutlet::new(rt.alloc());
-        let words = ["ymx", "frames"];
+        let words = ["ymx", subcommand];
         let files = OneFile { bytes: HELLO };
         let status = ymx_main(
             rt,
@@ -561,7 +719,12 @@ mod tests {
     #[test]
     fn tells_that_reading_failed(rt: HostRuntime) {
         let reader = MemoryInlet::new(HELLO).in_pieces(12).failing_after(1);
-        let (status, writer, errors) = print(&rt, reader, MemoryOutlet::new(rt.alloc()));
+        let (status, writer, errors) = run_over(
+            &rt,
+            "frames",
+            reader,
+            MemoryOutlet::new(rt.alloc()),
+        );
         assert_eq!(rt; status, 1);
         assert_eq!(rt;
             writer.as_slice(),
@@ -570,11 +733,39 @@ mod tests {
         assert_eq!(rt; errors.as_slice(), b"ymx: reading failed\n".as_slice());
     }
 
+    /// The second read fails, inside the second line.
+    #[test]
+    fn tells_that_reading_a_script_failed(rt: HostRuntime) {
+        let reader = MemoryInlet::new(b"A open\nA open\n")
+            .in_pieces(9)
+            .failing_after(1);
+        let (status, writer, errors) = run_over(
+            &rt,
+            "script",
+            reader,
+            MemoryOutlet::new(rt.alloc()),
+        );
+        assert_eq!(rt; status, 1);
+        assert_eq!(rt; writer.as_slice(), b"opened 1\n".as_slice());
+        assert_eq!(rt; errors.as_slice(), b"ymx: reading failed\n".as_slice());
+    }
+
+    /// The second write fails, after 7 bytes.
+    #[test]
+    fn tells_that_writing_answers_failed(rt: HostRuntime) {
+        let writer = MemoryOutlet::new(rt.alloc()).in_pieces(7).failing_after(1);
+        let reader = MemoryInlet::new(b"A open\nA open\n");
+        let (status, writer, errors) = run_over(&rt, "script", reader, writer);
+        assert_eq!(rt; status, 1);
+        assert_eq!(rt; writer.as_slice(), b"opened ".as_slice());
+        assert_eq!(rt; errors.as_slice(), b"ymx: writing failed\n".as_slice());
+    }
+
     /// The second write fails, after 7 bytes.
     #[test]
     fn tells_that_writing_failed(rt: HostRuntime) {
         let writer = MemoryOutlet::new(rt.alloc()).in_pieces(7).failing_after(1);
-        let (status, writer, errors) = print(&rt, MemoryInlet::new(HELLO), writer);
+        let (status, writer, errors) = run_over(&rt, "frames", MemoryInlet::new(HELLO), writer);
         assert_eq!(rt; status, 1);
         assert_eq!(rt; writer.as_slice(), b"window ".as_slice());
         assert_eq!(rt; errors.as_slice(), b"ymx: writing failed\n".as_slice());
@@ -585,7 +776,7 @@ mod tests {
     fn fails_with_worn_out_devices(rt: HostRuntime) {
         let reader = MemoryInlet::new(HELLO).having_failed(u64::MAX);
         let writer = MemoryOutlet::new(rt.alloc()).having_failed(u64::MAX);
-        let (status, mut writer, errors) = print(&rt, reader, writer);
+        let (status, mut writer, errors) = run_over(&rt, "frames", reader, writer);
         assert_eq!(rt; status, 1);
         assert_eq!(rt; errors.as_slice(), b"ymx: reading failed\n".as_slice());
         assert!(rt; writer.end().is_err());

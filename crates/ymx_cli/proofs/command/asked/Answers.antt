@@ -28,3 +28,9 @@ returns-in-Some-frames-default-clause-limits c = λ good limit file is.
     c.get_one.ensures.none c.get_one.ensures.value (λ t x g. g.0)
     (λ t e. good t (first_of (codes "file") (rows_of found)) (named ∙ ap (λ (o : Option Text). Some (codes "frames", o, first_of (codes "file") (rows_of found))) (sym (one_text-rows found (codes "limit")) ∙ e))) in
     subst (λ (n : ℕ). (262144 ≤ n) × (n ≤ 16777216)) (sym c.unwrap_or.ensures ∙ is.0) range
+
+pub returns-in-Some-script-default-clause-script : goal.returns-in-Some-script-default-clause-script
+returns-in-Some-script-default-clause-script c = λ word named.
+    let found = found_of c.in-Some-script-default.found.now in
+    let texts = named_text (rows_of found) _ _ _ _ c.in-Some-script-default.ensures.rows named in
+    c.named_file-in-Some-script-default.ensures ∙ ap (option_and_then file_of) (first_value-rows found (codes "file") ∙ texts.1)

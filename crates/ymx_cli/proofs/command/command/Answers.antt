@@ -21,7 +21,7 @@ returns c =
     ap app_of_fields c.after_help.ensures ∙ ap app_of_fields c.version.ensures ∙ ap with_version named in
     let top : app_of c.subcommand_required.result ≡ top_app = ap app_of_fields c.subcommand_required.ensures ∙ ap with_required version in
     let frames = c.in_ok-subcommand.ensures.shape c.in_ok-frames_command.ensures.1 ∙ ap₂ with_subcommand top c.in_ok-frames_command.ensures.0 in
-    let script = c.in_ok-subcommand-2.ensures.shape c.bare.ensures.1 ∙ ap₂ with_subcommand frames c.bare.ensures.0 in
-    let local = c.in_ok-subcommand-3.ensures.shape c.bare-2.ensures.1 ∙ ap₂ with_subcommand script c.bare-2.ensures.0 in
-    let remote = c.in_ok-subcommand-4.ensures.shape c.bare-3.ensures.1 ∙ ap₂ with_subcommand local c.bare-3.ensures.0 in
-    IfOk-weaker c.subcommand-5.result _ _ (λ r added. added.shape c.bare-4.ensures.1 ∙ ap₂ with_subcommand remote c.bare-4.ensures.0) c.subcommand-5.ensures
+    let script = c.in_ok-subcommand-2.ensures.shape c.in_ok-script_command.ensures.1 ∙ ap₂ with_subcommand frames c.in_ok-script_command.ensures.0 in
+    let local = c.in_ok-subcommand-3.ensures.shape c.bare.ensures.1 ∙ ap₂ with_subcommand script c.bare.ensures.0 in
+    let remote = c.in_ok-subcommand-4.ensures.shape c.bare-2.ensures.1 ∙ ap₂ with_subcommand local c.bare-2.ensures.0 in
+    IfOk-weaker c.subcommand-5.result _ _ (λ r added. added.shape c.bare-3.ensures.1 ∙ ap₂ with_subcommand remote c.bare-3.ensures.0) c.subcommand-5.ensures

@@ -5,7 +5,7 @@ use Rattle.clap.specs.Words.{App, Text, is_simple, kind_of, subcommand_of, subco
 use Rattle.clap.specs.declared.error.Error.{Error}
 use Rattle.clap.specs.declared.error.kind.ErrorKind.TheVariants.{OutOfMemory}
 use Rattle.ymx_cli.specs.CommandLine.{AsksNoHelp, HasGoodLimit, IsMistake, named_words, ymx_app}
-use Rattle.ymx_cli.proofs.Asked.{asked_taken, is_simple-ymx}
+use Rattle.ymx_cli.proofs.Asked.{asked_taken, is_simple-ymx, script_taken}
 use Rattle.ymx_cli.proofs.Limits.{is_simple_and_free-ymx, limit_in_range}
 use Rattle.ymx_cli.proofs.command.parse.Goals as goal
 
@@ -51,3 +51,17 @@ returns-in_err-matches-clause-mistake g c = λ no_help.
     subst (λ (a : App). HasKind (fault_of a words) c.in_err-matches.field-0.0) app (c.in_err-matches.ensures.kinds (ap is_simple_and_free app ∙ is_simple_and_free-ymx)) in
     let mistake : IsMistake (kind_of c.in_err-matches.field-0.0) = mistake_of c.in_err-matches.field-0.0 words no_help kind in
     search rules
+
+pub returns-in_err-matches-clause-script : goal.returns-in_err-matches-clause-script
+returns-in_err-matches-clause-script g c = λ file asks.
+    let words = map g.S.AsStr.text c.args.words.now in
+    let kind : kind_of c.in_err-matches.field-0.0 ≡ OutOfMemory = c.in_err-matches.ensures.passes (ap (λ (a : App). takes a words) c.in_ok-command.ensures ∙ (script_taken words file asks).2) in
+    search rules
+
+pub returns-clause-script : goal.returns-clause-script
+returns-clause-script g c = λ file asks.
+    let words = map g.S.AsStr.text c.args.words.now in
+    let app = c.in_ok-command.ensures in
+    let taken = script_taken words file asks in
+    rw (← taken.1) (c.asked.ensures.script taken.0
+    (ap named_words ((c.in_ok-matches.ensures.matches (ap is_simple app ∙ is_simple-ymx)).1 ∙ ap (λ (a : App). subcommand_of a words) app) ∙ taken.3))

@@ -2,8 +2,8 @@ use Rattle.std.proofs.Common.{◌≡◌, ◌≤◌, Option, Some, None, [], rule
 use Rattle.std.specs.Prelude.{unwrap_or}
 use Rattle.std.specs.Io.KnownBytes.{Keeps}
 use Rattle.clap.specs.Words.{Text}
-use Rattle.ymx_cli.specs.CommandLine.{IsFrames}
-use Rattle.ymx_cli.specs.declared.command.Task.TheVariants.{Frames, Other}
+use Rattle.ymx_cli.specs.CommandLine.{IsFrames, IsScript}
+use Rattle.ymx_cli.specs.declared.command.Task.TheVariants.{Frames, Script, Other}
 use Rattle.ymx_cli.proofs.command.ymx_main.Goals as goal
 
 not_some : (name : Text) → None ≡ Some name → ⊥
@@ -31,7 +31,7 @@ returns-in-Ok-Frames-default-None-clause-printed g c =
     let e = c.in-Ok-Frames-default-None in
     let is : e.field-0 ≡ Frames e.limit None = cc in
     let range : (262144 ≤ e.limit) × (e.limit ≤ 16777216) = e.ensures.limits e.limit None (subst (IsFrames e.limit None) (sym is) (refl, refl)) in
-    inr (e.limit, range.0, range.1, c.print.ensures.printed)
+    inr (inl (e.limit, range.0, range.1, c.print.ensures.printed))
 
 pub returns-in-Ok-Frames-default-Some-clause-frames : goal.returns-in-Ok-Frames-default-Some-clause-frames
 returns-in-Ok-Frames-default-Some-clause-frames g c = λ limit asks.
@@ -70,5 +70,106 @@ returns-in-Err-clause-frames g c = λ limit asks.
 pub returns-in-Err-clause-file : goal.returns-in-Err-clause-file
 returns-in-Err-clause-file g c = λ limit name asks.
     let memory = c.explain.ensures.memory (c.in-Err.ensures.frames limit (Some name) asks) in
+    let unread : Keeps (g.R.Inlet.remaining c.args.reader.now) (g.R.Inlet.remaining c.args.reader.now) = search rules in
+    (unread, inr memory)
+
+pub returns-in-Ok-Frames-default-None-clause-script : goal.returns-in-Ok-Frames-default-None-clause-script
+returns-in-Ok-Frames-default-None-clause-script g c = λ asks.
+    let e = c.in-Ok-Frames-default-None in
+    let is : e.field-0 ≡ Frames e.limit None = cc in
+    absurd (subst (IsScript None) is (e.ensures.script None asks))
+
+pub returns-in-Ok-Frames-default-None-clause-script_file : goal.returns-in-Ok-Frames-default-None-clause-script_file
+returns-in-Ok-Frames-default-None-clause-script_file g c = λ name asks.
+    let e = c.in-Ok-Frames-default-None in
+    let is : e.field-0 ≡ Frames e.limit None = cc in
+    absurd (subst (IsScript (Some name)) is (e.ensures.script (Some name) asks))
+
+pub returns-in-Ok-Frames-default-Some-clause-script : goal.returns-in-Ok-Frames-default-Some-clause-script
+returns-in-Ok-Frames-default-Some-clause-script g c = λ asks.
+    let e = c.in-Ok-Frames-default-Some in
+    let is : e.field-0 ≡ Frames e.limit (Some e.name) = cc in
+    absurd (subst (IsScript None) is (e.ensures.script None asks))
+
+pub returns-in-Ok-Frames-default-Some-clause-script_file : goal.returns-in-Ok-Frames-default-Some-clause-script_file
+returns-in-Ok-Frames-default-Some-clause-script_file g c = λ name asks.
+    let e = c.in-Ok-Frames-default-Some in
+    let is : e.field-0 ≡ Frames e.limit (Some e.name) = cc in
+    absurd (subst (IsScript (Some name)) is (e.ensures.script (Some name) asks))
+
+pub returns-in-Ok-Other-clause-script : goal.returns-in-Ok-Other-clause-script
+returns-in-Ok-Other-clause-script g c = λ asks.
+    let e = c.in-Ok-Other in
+    let is : e.field-0 ≡ Other = cc in
+    absurd (subst (IsScript None) is (e.ensures.script None asks))
+
+pub returns-in-Ok-Other-clause-script_file : goal.returns-in-Ok-Other-clause-script_file
+returns-in-Ok-Other-clause-script_file g c = λ name asks.
+    let e = c.in-Ok-Other in
+    let is : e.field-0 ≡ Other = cc in
+    absurd (subst (IsScript (Some name)) is (e.ensures.script (Some name) asks))
+
+pub returns-in-Ok-Script-None-clause-frames : goal.returns-in-Ok-Script-None-clause-frames
+returns-in-Ok-Script-None-clause-frames g c = λ limit asks.
+    let e = c.in-Ok-Script-None in
+    let is : e.field-0 ≡ Script None = cc in
+    absurd (subst (IsFrames limit None) is (e.ensures.frames limit None asks))
+
+pub returns-in-Ok-Script-None-clause-file : goal.returns-in-Ok-Script-None-clause-file
+returns-in-Ok-Script-None-clause-file g c = λ limit name asks.
+    let e = c.in-Ok-Script-None in
+    let is : e.field-0 ≡ Script None = cc in
+    absurd (subst (IsFrames limit (Some name)) is (e.ensures.frames limit (Some name) asks))
+
+pub returns-in-Ok-Script-Some-clause-frames : goal.returns-in-Ok-Script-Some-clause-frames
+returns-in-Ok-Script-Some-clause-frames g c = λ limit asks.
+    let e = c.in-Ok-Script-Some in
+    let is : e.field-0 ≡ Script (Some e.name) = cc in
+    absurd (subst (IsFrames limit None) is (e.ensures.frames limit None asks))
+
+pub returns-in-Ok-Script-Some-clause-file : goal.returns-in-Ok-Script-Some-clause-file
+returns-in-Ok-Script-Some-clause-file g c = λ limit name asks.
+    let e = c.in-Ok-Script-Some in
+    let is : e.field-0 ≡ Script (Some e.name) = cc in
+    absurd (subst (IsFrames limit (Some name)) is (e.ensures.frames limit (Some name) asks))
+
+pub returns-in-Ok-Script-None-clause-script : goal.returns-in-Ok-Script-None-clause-script
+returns-in-Ok-Script-None-clause-script g c = λ asks. inl c.play.ensures.played
+
+pub returns-in-Ok-Script-None-clause-script_file : goal.returns-in-Ok-Script-None-clause-script_file
+returns-in-Ok-Script-None-clause-script_file g c = λ name asks.
+    let e = c.in-Ok-Script-None in
+    let is : e.field-0 ≡ Script None = cc in
+    let task : IsScript (Some name) (Script None) = subst (IsScript (Some name)) is (e.ensures.script (Some name) asks) in
+    absurd (not_some name task)
+
+pub returns-in-Ok-Script-None-clause-printed : goal.returns-in-Ok-Script-None-clause-printed
+returns-in-Ok-Script-None-clause-printed g c = inr (inr c.play.ensures.played)
+
+pub returns-in-Ok-Script-Some-clause-script : goal.returns-in-Ok-Script-Some-clause-script
+returns-in-Ok-Script-Some-clause-script g c = λ asks.
+    let e = c.in-Ok-Script-Some in
+    let is : e.field-0 ≡ Script (Some e.name) = cc in
+    let task : IsScript None (Script (Some e.name)) = subst (IsScript None) is (e.ensures.script None asks) in
+    absurd (not_none e.name.now task)
+
+pub returns-in-Ok-Script-Some-clause-script_file : goal.returns-in-Ok-Script-Some-clause-script_file
+returns-in-Ok-Script-Some-clause-script_file g c = λ name asks.
+    let e = c.in-Ok-Script-Some in
+    let is : e.field-0 ≡ Script (Some e.name) = cc in
+    let task : IsScript (Some name) (Script (Some e.name)) = subst (IsScript (Some name)) is (e.ensures.script (Some name) asks) in
+    let same : e.name.now ≡ name = ap (λ (o : Option Text). unwrap_or o []) task in
+    let unread : Keeps (g.R.Inlet.remaining c.args.reader.now) (g.R.Inlet.remaining c.args.reader.now) = search rules in
+    (unread, inl (rw (← same) c.play_file.ensures.played))
+
+pub returns-in-Err-clause-script : goal.returns-in-Err-clause-script
+returns-in-Err-clause-script g c = λ asks.
+    let memory = c.explain.ensures.memory (c.in-Err.ensures.script None asks) in
+    let unread : Keeps (g.R.Inlet.remaining c.args.reader.now) (g.R.Inlet.remaining c.args.reader.now) = search rules in
+    inr (unread, memory)
+
+pub returns-in-Err-clause-script_file : goal.returns-in-Err-clause-script_file
+returns-in-Err-clause-script_file g c = λ name asks.
+    let memory = c.explain.ensures.memory (c.in-Err.ensures.script (Some name) asks) in
     let unread : Keeps (g.R.Inlet.remaining c.args.reader.now) (g.R.Inlet.remaining c.args.reader.now) = search rules in
     (unread, inr memory)

@@ -1,0 +1,5 @@
+pub mod Cuts
+pub mod Feeds
+pub mod Reading
+pub mod Ends
+pub mod Rounds

@@ -1,0 +1,14 @@
+//! The language of `ymx script`: steps of a world of two sessions, a line each, and what they answer, a
+//! line each.
+#![tactic(auto)]
+
+mod command;
+mod lines;
+mod player;
+mod playing;
+mod printing;
+mod words;
+
+pub use command::{Command, command_of};
+pub use lines::ScriptEnd;
+pub use playing::script;

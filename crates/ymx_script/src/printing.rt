@@ -1,0 +1,199 @@
+//! What is printed of an answer.
+
+ghost use Rattle.std.specs.Prelude.{◌≡◌, ◌++◌, take, OnOk, codes};
+ghost use Rattle.std.specs.Io.{StartsWith};
+ghost use Rattle.ymx_script.specs.Printing.{accepted_text, answer_text, digits_text, fed_text, pipe_digits, pipe_text, read_text, refusal_text, starved_text, stop_text, wrote_text, yes_or_no};
+
+use itoa::{Buffer, Integer};
+use std::alloc::{AllocError, Global};
+use ymx_model::{Answer, CallFault, Fed, Why, Wrote};
+
+/// How many bytes of a pipe are shown.
+const SHOWN: usize = 32;
+
+/// Appends a name and a number in decimal digits.
+pub(crate) fn append_number<N: Integer>(
+    text: &mut Vec<u8>,
+    name: &[u8],
+    number: N,
+) -> Result<(), AllocError>
+    ensures ok { OnOk result (text.new.items ≡ text.old.items ++ (name.now ++ N.text number)) }
+    ensures kept { StartsWith text.new.items text.old.items }
+{
+    let mut buffer = Buffer::new();
+    text.extend_from_slice(name)?;
+    text.extend_from_slice(buffer.format(number).as_bytes())
+}
+
+/// Appends an answer, in words; `shown`: with the bytes that were read.
+pub(crate) fn append_answer(
+    alloc: Global,
+    text: &mut Vec<u8>,
+    shown: bool,
+    answer: &Answer,
+) -> Result<(), AllocError>
+    ensures ok { OnOk result (text.new.items ≡ text.old.items ++ answer_text shown answer.now) }
+    ensures kept { StartsWith text.new.items text.old.items }
+{
+    match answer {
+        Answer::Opened(id) => append_number(text, b"opened ", *id),
+        Answer::OpenedWith(id, count) => {
+            append_number(text, b"opened ", *id)?;
+            append_number(text, b" took ", *count)
+        }
+        Answer::Accepted(id) => append_accepted(text, *id),
+        Answer::Wrote(wrote) => append_wrote(text, *wrote),
+        Answer::Read(bytes) => append_read(alloc, text, shown, bytes.as_slice()),
+        Answer::ReadEnd => text.extend_from_slice(b"end"),
+        Answer::ReadWait => text.extend_from_slice(b"wait"),
+        Answer::Done => text.extend_from_slice(b"ok"),
+        Answer::Pinged(number) => append_number(text, b"ping ", *number),
+        Answer::Ponged(back) => append_yes_or_no(text, *back),
+        Answer::Refused(fault) => append_refusal(text, *fault),
+        Answer::Emitted(count) => append_number(text, b"emitted ", *count),
+        Answer::Fed(fed) => append_fed(text, fed),
+        Answer::NotStopped => text.extend_from_slice(b"not stopped"),
+    }
+}
+
+fn append_accepted(text: &mut Vec<u8>, id: Option<u32>) -> Result<(), AllocError>
+    ensures ok { OnOk result (text.new.items ≡ text.old.items ++ accepted_text id) }
+    ensures kept { StartsWith text.new.items text.old.items }
+{
+    match id {
+        Some(id) => append_number(text, b"accepted ", id),
+        None => text.extend_from_slice(b"none"),
+    }
+}
+
+fn append_wrote(text: &mut Vec<u8>, wrote: Wrote) -> Result<(), AllocError>
+    ensures ok { OnOk result (text.new.items ≡ text.old.items ++ wrote_text wrote) }
+    ensures kept { StartsWith text.new.items text.old.items }
+{
+    match wrote {
+        Wrote::Took(count) => append_number(text, b"took ", count),
+        Wrote::Wait => text.extend_from_slice(b"wait"),
+    }
+}
+
+pub(crate) fn append_yes_or_no(text: &mut Vec<u8>, yes: bool) -> Result<(), AllocError>
+    ensures ok { OnOk result (text.new.items ≡ text.old.items ++ yes_or_no yes) }
+    ensures kept { StartsWith text.new.items text.old.items }
+{
+    if yes {
+        text.extend_from_slice(b"yes")
+    } else {
+        text.extend_from_slice(b"no")
+    }
+}
+
+fn append_read(
+    alloc: Global,
+    text: &mut Vec<u8>,
+    shown: bool,
+    bytes: &[u8],
+) -> Result<(), AllocError>
+    ensures ok { OnOk result (text.new.items ≡ text.old.items ++ read_text shown bytes.now) }
+    ensures kept { StartsWith text.new.items text.old.items }
+{
+    append_number(text, b"bytes ", bytes.len())?;
+    if shown {
+        append_digits(alloc, text, bytes)?;
+    }
+    Ok(())
+}
+
+/// Appends bytes in hexadecimal behind a space, if there are any.
+fn append_digits(alloc: Global, text: &mut Vec<u8>, bytes: &[u8]) -> Result<(), AllocError>
+    ensures ok { OnOk result (text.new.items ≡ text.old.items ++ digits_text bytes.now) }
+    ensures kept { StartsWith text.new.items text.old.items }
+{
+    if bytes.is_empty() {
+        return Ok(());
+    }
+    let digits = hex::encode(alloc, bytes)?;
+    text.extend_from_slice(b" ")?;
+    text.extend_from_slice(digits.as_bytes())
+}
+
+fn append_refusal(text: &mut Vec<u8>, fault: CallFault) -> Result<(), AllocError>
+    ensures ok { OnOk result (text.new.items ≡ text.old.items ++ (codes "refused " ++ refusal_text fault)) }
+    ensures kept { StartsWith text.new.items text.old.items }
+{
+    text.extend_from_slice(b"refused ")?;
+    text.extend_from_slice(name_of(fault))
+}
+
+/// The number of a refusal and its name.
+fn name_of(fault: CallFault) -> &'static [u8]
+    ensures { result.now ≡ refusal_text fault }
+{
+    match fault {
+        CallFault::NoStream => b"1 NoStream",
+        CallFault::Finished => b"2 Finished",
+        CallFault::Reset => b"3 Reset",
+        CallFault::Lost => b"4 Lost",
+        CallFault::Closed => b"5 Closed",
+        CallFault::PeerAway => b"6 PeerAway",
+        CallFault::OpensPending => b"7 OpensPending",
+        CallFault::TooMany => b"8 TooMany",
+        CallFault::Exhausted => b"9 Exhausted",
+        CallFault::PingsPending => b"10 PingsPending",
+        CallFault::OutOfMemory => b"11 OutOfMemory",
+    }
+}
+
+fn append_fed(text: &mut Vec<u8>, fed: &Fed) -> Result<(), AllocError>
+    ensures ok { OnOk result (text.new.items ≡ text.old.items ++ fed_text fed.now) }
+    ensures kept { StartsWith text.new.items text.old.items }
+{
+    append_stop(text, fed.why, fed.taken)?;
+    if fed.no_memory == 0 {
+        return Ok(());
+    }
+    append_number(text, b" nomem ", fed.no_memory)
+}
+
+/// Appends why a delivery stopped, and how many bytes it took.
+fn append_stop(text: &mut Vec<u8>, why: Why, taken: usize) -> Result<(), AllocError>
+    ensures ok { OnOk result (text.new.items ≡ text.old.items ++ stop_text why taken) }
+    ensures kept { StartsWith text.new.items text.old.items }
+{
+    match why {
+        Why::All => append_number(text, b"fed ", taken),
+        Why::Held => append_number(text, b"held ", taken),
+        Why::Broken(fault) => {
+            append_number(text, b"broken ", taken)?;
+            append_number(text, b" B", fault.number())
+        }
+    }
+}
+
+/// Appends what is on its way in a direction: how many bytes, and the first of them.
+pub(crate) fn append_pipe(alloc: Global, text: &mut Vec<u8>, bytes: &[u8]) -> Result<(), AllocError>
+    ensures ok { OnOk result (text.new.items ≡ text.old.items ++ pipe_text bytes.now) }
+    ensures kept { StartsWith text.new.items text.old.items }
+{
+    append_number(text, b"pipe ", bytes.len())?;
+    append_pipe_digits(alloc, text, bytes)
+}
+
+/// Appends the first bytes on their way, with two dots if there are more.
+fn append_pipe_digits(alloc: Global, text: &mut Vec<u8>, bytes: &[u8]) -> Result<(), AllocError>
+    ensures ok { OnOk result (text.new.items ≡ text.old.items ++ pipe_digits bytes.now) }
+    ensures kept { StartsWith text.new.items text.old.items }
+{
+    append_digits(alloc, text, front_of(bytes, SHOWN))?;
+    if bytes.len() > SHOWN {
+        return text.extend_from_slice(b"..");
+    }
+    Ok(())
+}
+
+/// The first bytes, at most so many.
+fn front_of(bytes: &[u8], limit: usize) -> &[u8]
+    ensures { result.now ≡ take limit bytes.entry.now }
+{
+    let count = bytes.len().min(limit);
+    &bytes[..count]
+}
