@@ -32,6 +32,7 @@ case ${1-} in
     ;;
 esac
 try 'the program from outside' "$root/tests/program/run.sh"
+try 'scripts and what they print' "$root/tests/script/run.sh"
 try 'programs that must not compile' "$root/tests/must_not_compile/run.sh"
 try 'exchanges of two sessions' "$root/tests/session/run.sh"
 try 'each allocation fails once' "$root/tests/no_memory/run.sh"
