@@ -19,6 +19,6 @@ cd "$work/crates/session_bench"
 for run in 1 2 3 4 5; do
   rt run 2> "$work/log" || { tail -n 20 "$work/log" >&2; exit 1; }
 done > "$work/figures"
-grep -E '^[a-z_0-9]+ [0-9]+$' "$work/figures" | sort -k1,1 -k2,2n | awk '
-  { if ($1 != name) { if (name != "") print name, value[int((n + 1) / 2)]; name = $1; n = 0 } value[++n] = $2 }
-  END { print name, value[int((n + 1) / 2)] }'
+grep -E '^[a-z_0-9]+ [0-9]+ [0-9]+$' "$work/figures" | awk '{ printf "%s %.0f\n", $1, $2 / $3 * 1e9 }' | sort -k1,1 -k2,2n | awk '
+  { if ($1 != name) { if (name != "") print name, value[int((n + 1) / 2)], "a second"; name = $1; n = 0 } value[++n] = $2 }
+  END { print name, value[int((n + 1) / 2)], "a second" }'

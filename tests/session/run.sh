@@ -17,6 +17,6 @@ done
 
 cd "$scratch/crates/session_tests"
 wanted=$(cat src/*.rt | grep -c '^#\[test\]$')
-rt try --test --seconds 170 > "$scratch/log" 2>&1 || { cat "$scratch/log"; exit 1; }
+rt try --test --seconds 900 > "$scratch/log" 2>&1 || { cat "$scratch/log"; exit 1; }
 grep -q "^test result: ok. $wanted passed; 0 failed; 0 ignored; 0 filtered out" "$scratch/log" || { cat "$scratch/log"; exit 1; }
 echo "$wanted tests of two sessions"
