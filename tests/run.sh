@@ -35,6 +35,7 @@ try 'the program from outside' "$root/tests/program/run.sh"
 try 'scripts and what they print' "$root/tests/script/run.sh"
 try 'programs that must not compile' "$root/tests/must_not_compile/run.sh"
 try 'exchanges of two sessions' "$root/tests/session/run.sh"
+try 'worked examples of two sessions' "$root/tests/worlds/run.sh"
 try 'each allocation fails once' "$root/tests/no_memory/run.sh"
 if [ "${1-}" = --all ]; then
     try 'wrong bodies' "$root/tests/wrong_bodies.sh"
