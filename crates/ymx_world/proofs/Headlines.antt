@@ -1,8 +1,13 @@
 -- What the headline says of a world that was reached by steps.
-use Rattle.std.proofs.Common.{Result, Ok, Err, IfOk, IfErr, Option, Some, None, IfSome, refl}
+use Rattle.std.proofs.Common.{Result, Ok, Err, IfOk, IfErr, Option, Some, None, IfSome, List, false, ◌≡◌, refl}
+use Rattle.std.specs.List.{All}
 use Rattle.ymx_model.specs.declared.types.Role.TheVariants.{Client, Server}
 use Rattle.ymx_model.specs.session.Emissions.{in_turn}
-use Rattle.ymx_model.specs.world.Worlds.{World, new_world}
+use Rattle.ymx_model.specs.world.Worlds.{World, Runs, new_world}
+use Rattle.ymx_model.specs.declared.types.Step.{Step}
+use Rattle.ymx_model.specs.declared.types.Answer.{Answer}
+use Rattle.ymx_headline.specs.Laws.{breaks_off}
+use Rattle.ymx_headline.proofs.runs.Runs.{run-alike, runs-alike, none-breaks}
 use Rattle.ymx_law_session.proofs.limits.HistoriesKeep.{new-keeps, odd_some}
 use Rattle.ymx_law_world.specs.Texts.{AreWithin, AreFrames}
 use Rattle.ymx_law_world.proofs.Worlds.{run-frames, new-frames}
@@ -36,3 +41,10 @@ reached-frames w r =
 
 pub reached-within : (w : World) → IsReached w → AreWithin w
 reached-within w r = (reached-frames w r).0
+
+-- no answer of a run from such a world tells of a fault
+pub reached-sound : (steps : List Step) (answers : List Answer) (w v : World) → IsReached w → Runs in_turn steps answers w v → All (λ given. breaks_off given ≡ false) answers
+reached-sound steps answers w v r run =
+    let before = run-alike in_turn r.steps r.answers r.window_a r.first_a r.window_b r.first_b w r.good r.runs in
+    let after = runs-alike in_turn steps answers w v before.0 run before.2 in
+    none-breaks in_turn steps answers w v before.0 after.0 after.1

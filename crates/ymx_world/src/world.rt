@@ -6,7 +6,7 @@ ghost use Rattle.ymx_model.specs.session.Emissions.{in_turn, is_ready};
 ghost use Rattle.ymx_model.specs.world.Worlds.{World as TheWorld, Steps, Runs, new_world, is_quiet};
 ghost use Rattle.ymx_model.specs.machine.Machines.{Machine, new_machine};
 ghost use Rattle.ymx_headline.specs.Agrees.{Agrees, Follows};
-ghost use Rattle.ymx_headline.specs.Laws.{HasRun, IsOpenWorld, carries_bytes, is_carriage};
+ghost use Rattle.ymx_headline.specs.Laws.{HasRun, IsOpenWorld, breaks_off, carries_bytes, is_carriage};
 ghost use Rattle.ymx_session.specs.NewSessions.{first_id, new_fault, IsNewFault};
 ghost use Rattle.ymx_model.specs.declared.types.Step.{Step as TheStep};
 ghost use Rattle.ymx_model.specs.declared.types.Answer.{Answer as TheAnswer};
@@ -81,7 +81,7 @@ impl World {
     /// Each queue machine that agreed with the world before has a run with the same answers, which is still
     /// whenever the world is quiet, and agrees with the world after it.
     ///
-    /// Where nothing was stopped, ended, closed or broken, emissions and deliveries alone feed wholly at most
+    /// No delivery among them finds a fault. Where nothing was stopped, ended, closed or broken, emissions and deliveries alone feed wholly at most
     /// twice as many frames as the load of the world: driving the bytes comes to an end.
     pub fn run(&mut self, steps: &[Step]) -> Result<Vec<Answer>, Stopped>
         ensures runs { IfOk result (λ answers. Runs in_turn steps.now answers.items self.old self.new) }
@@ -90,6 +90,9 @@ impl World {
         ensures headline { IfOk result (λ answers. (m : Machine) → Agrees self.old m → HasRun in_turn steps.now answers.items self.old self.new m) }
         ensures headline_so_far { IfErr result (λ stopped. (m : Machine) → Agrees self.old m →
             HasRun in_turn (take (length stopped.answers.items) steps.now) stopped.answers.items self.old self.new m) }
+        // No session breaks.
+        ensures no_fault { IfOk result (λ answers. All (λ given. breaks_off given ≡ false) answers.items) }
+        ensures no_fault_so_far { IfErr result (λ stopped. All (λ given. breaks_off given ≡ false) stopped.answers.items) }
         ensures bounded { IfOk result (λ answers. IsOpenWorld self.old → All (λ step. is_carriage step ≡ true) steps.now →
             IsBounded steps.now answers.items self.old self.new) }
         ensures bounded_so_far { IfErr result (λ stopped. let made = take (length stopped.answers.items) steps.now in

@@ -4,7 +4,7 @@ use Rattle.ymx_model.specs.session.Emissions.{in_turn}
 use Rattle.ymx_model.specs.world.Worlds.{World, Runs}
 use Rattle.ymx_world.specs.Reached.{IsReached}
 use Rattle.ymx_world.proofs.Bounds.{is-bounded}
-use Rattle.ymx_world.proofs.Headlines.{ok-then, err-then, either-way}
+use Rattle.ymx_world.proofs.Headlines.{ok-then, err-then, either-way, reached-sound}
 use Rattle.ymx_world.proofs.Runs.{reached_along}
 use Rattle.ymx_world.proofs.world.World.run.Goals as goal
 
@@ -35,4 +35,13 @@ returns-clause-bounded_so_far c =
     err-then c.run.result _ _ (λ stopped run on each.
     is-bounded _ _ _ _ (subst IsReached c.self.view_is c.self.invariant) on each
     (subst (λ (w : World). Runs in_turn (take (length stopped.answers.items) c.args.steps.now) stopped.answers.items w c.run.new.self) c.self.view_is run))
+    c.run.ensures.stopped
+
+pub returns-clause-no_fault : goal.returns-clause-no_fault
+returns-clause-no_fault c =
+    ok-then c.run.result _ _ (λ answers run. reached-sound c.args.steps.now answers.items c.self.inside.joined _ c.self.invariant run) c.run.ensures.runs
+
+pub returns-clause-no_fault_so_far : goal.returns-clause-no_fault_so_far
+returns-clause-no_fault_so_far c =
+    err-then c.run.result _ _ (λ stopped run. reached-sound (take (length stopped.answers.items) c.args.steps.now) stopped.answers.items c.self.inside.joined _ c.self.invariant run)
     c.run.ensures.stopped
