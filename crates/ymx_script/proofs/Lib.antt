@@ -3,3 +3,4 @@ pub mod Feeds
 pub mod Reading
 pub mod Ends
 pub mod Rounds
+pub mod ScriptRuns

@@ -6,3 +6,4 @@ pub mod Players
 pub mod Reading
 pub mod Outputs
 pub mod Rounds
+pub mod Runs

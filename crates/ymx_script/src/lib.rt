@@ -3,6 +3,7 @@
 #![tactic(auto)]
 
 mod command;
+mod law;
 mod lines;
 mod player;
 mod playing;
@@ -10,5 +11,6 @@ mod printing;
 mod words;
 
 pub use command::{Command, command_of};
+pub use law::a_script_is_a_run;
 pub use lines::ScriptEnd;
 pub use playing::script;
