@@ -37,6 +37,7 @@ try 'programs that must not compile' "$root/tests/must_not_compile/run.sh"
 try 'exchanges of two sessions' "$root/tests/session/run.sh"
 try 'worked examples of two sessions' "$root/tests/worlds/run.sh"
 try 'each allocation fails once' "$root/tests/no_memory/run.sh"
+try 'a running session in threads' "$root/tests/hub/run.sh"
 if [ "${1-}" = --all ]; then
     try 'wrong bodies' "$root/tests/wrong_bodies.sh"
 fi

@@ -29,6 +29,7 @@ fn write_if_begun<R: Recorder, W: Wait, O: Outlet, G: Gate>(
     ensures number { seat.new.number ≡ seat.old.number }
     ensures start { seat.new.start ≡ seat.old.start }
     ensures wrote { PumpWrote R.KEEPS (length buffer.old) seat.old.number (has_failed (O.failures writer.old) (O.failures writer.new)) (O.contents writer.old) (O.contents writer.new) seat.old.entries seat.new.entries result.count result.why }
+    ensures unfailed { result.why ≡ PumpWhy.End → O.failures writer.new ≡ O.failures writer.old }
     ensures device { result.why ≡ PumpWhy.Device → has_failed (O.failures writer.old) (O.failures writer.new) ≡ true }
     ensures whole { (fault : FaultValue) → result.why ≡ PumpWhy.Broken fault → ⊥ }
 {
@@ -87,6 +88,7 @@ fn run_lent<
     ensures starts { (read_seat.new.start ≡ read_seat.old.start) × (write_seat.new.start ≡ write_seat.old.start) }
     ensures wrote { PumpWrote R.KEEPS (length write_buffer.old) write_seat.old.number (has_failed (O.failures writer.old) (O.failures writer.new)) (O.contents writer.old) (O.contents writer.new) write_seat.old.entries write_seat.new.entries result.0.count result.0.why }
     ensures gave { PumpRead R.KEEPS read_seat.old.number (I.remaining reader.old) (I.remaining reader.new) read_seat.old.entries read_seat.new.entries result.1.count result.1.why }
+    ensures unfailed { result.0.why ≡ PumpWhy.End → O.failures writer.new ≡ O.failures writer.old }
     ensures write_device { result.0.why ≡ PumpWhy.Device → has_failed (O.failures writer.old) (O.failures writer.new) ≡ true }
     ensures read_device { result.1.why ≡ PumpWhy.Device → has_failed (I.failures reader.old) (I.failures reader.new) ≡ true }
     ensures whole { (fault : FaultValue) → result.0.why ≡ PumpWhy.Broken fault → ⊥ }
@@ -127,6 +129,7 @@ pub fn run_pumps<
     ensures gave { PumpRead R.KEEPS seats.0.number (I.remaining reader.old) (I.remaining reader.new) seats.0.entries result.0.seat.entries result.0.moved result.0.why }
     ensures wrote { PumpWrote R.KEEPS (length write_buffer.old) seats.1.number (has_failed (O.failures writer.old) (O.failures writer.new)) (O.contents writer.old) (O.contents writer.new) seats.1.entries result.1.seat.entries result.1.moved result.1.why }
     ensures read_device { result.0.why ≡ PumpWhy.Device → has_failed (I.failures reader.old) (I.failures reader.new) ≡ true }
+    ensures unfailed { result.1.why ≡ PumpWhy.End → O.failures writer.new ≡ O.failures writer.old }
     ensures write_device { result.1.why ≡ PumpWhy.Device → has_failed (O.failures writer.old) (O.failures writer.new) ≡ true }
     ensures whole { (fault : FaultValue) → result.1.why ≡ PumpWhy.Broken fault → ⊥ }
 {

@@ -56,6 +56,7 @@ fn end_writer<R: Recorder, W: Wait, O: Outlet>(
     ensures start { seat.new.start ≡ seat.old.start }
     ensures kept { Keeps (O.contents writer.old) (O.contents writer.new) }
     ensures ended { Gains R.KEEPS seat.old.entries seat.new.entries (EndsWrite seat.old.number result) }
+    ensures unfailed { result ≡ PumpWhy.End → O.failures writer.new ≡ O.failures writer.old }
     ensures device { result ≡ PumpWhy.Device → has_failed (O.failures writer.old) (O.failures writer.new) ≡ true }
     ensures whole { (fault : FaultValue) → result ≡ PumpWhy.Broken fault → ⊥ }
     ensures off { R.KEEPS ≡ false → result ≡ PumpWhy.Memory → ⊥ }
@@ -79,6 +80,7 @@ fn write_turn<R: Recorder, W: Wait, O: Outlet, G: Gate>(
     ensures start { seat.new.start ≡ seat.old.start }
     ensures length { length buffer.new ≡ length buffer.old }
     ensures turned { TurnWrote R.KEEPS (length buffer.old) seat.old.number (O.failures writer.old) (O.failures writer.new) (O.contents writer.old) (O.contents writer.new) seat.old.entries seat.new.entries result }
+    ensures unfailed { IfErr result (λ stop. stop.why ≡ PumpWhy.End → O.failures writer.new ≡ O.failures writer.old) }
     ensures device { IfErr result (λ stop. stop.why ≡ PumpWhy.Device → has_failed (O.failures writer.old) (O.failures writer.new) ≡ true) }
     ensures whole { IfErr result (λ stop. (fault : FaultValue) → stop.why ≡ PumpWhy.Broken fault → ⊥) }
     ensures off { R.KEEPS ≡ false → IfErr result (λ stop. stop.why ≡ PumpWhy.Memory → ⊥) }
@@ -119,6 +121,7 @@ pub(crate) fn write_on<R: Recorder, W: Wait, O: Outlet, G: Gate>(
     ensures number { seat.new.number ≡ seat.old.number }
     ensures start { seat.new.start ≡ seat.old.start }
     ensures wrote { PumpWrote R.KEEPS (length buffer.old) seat.old.number (has_failed (O.failures writer.old) (O.failures writer.new)) (O.contents writer.old) (O.contents writer.new) seat.old.entries seat.new.entries result.count result.why }
+    ensures unfailed { result.why ≡ PumpWhy.End → O.failures writer.new ≡ O.failures writer.old }
     ensures device { result.why ≡ PumpWhy.Device → has_failed (O.failures writer.old) (O.failures writer.new) ≡ true }
     ensures whole { (fault : FaultValue) → result.why ≡ PumpWhy.Broken fault → ⊥ }
     ensures off { R.KEEPS ≡ false → result.why ≡ PumpWhy.Memory → ⊥ }
@@ -155,6 +158,7 @@ pub fn write_pump<R: Recorder, W: Wait, O: Outlet, G: Gate>(
     ensures number { result.seat.number ≡ seat.number }
     ensures start { result.seat.start ≡ seat.start }
     ensures wrote { PumpWrote R.KEEPS (length buffer.old) seat.number (has_failed (O.failures writer.old) (O.failures writer.new)) (O.contents writer.old) (O.contents writer.new) seat.entries result.seat.entries result.moved result.why }
+    ensures unfailed { result.why ≡ PumpWhy.End → O.failures writer.new ≡ O.failures writer.old }
     ensures device { result.why ≡ PumpWhy.Device → has_failed (O.failures writer.old) (O.failures writer.new) ≡ true }
     ensures whole { (fault : FaultValue) → result.why ≡ PumpWhy.Broken fault → ⊥ }
     ensures off { R.KEEPS ≡ false → result.why ≡ PumpWhy.Memory → ⊥ }

@@ -1,0 +1,25 @@
+#!/bin/sh
+# try_crate.sh FOLDER LINE: runs the tests in the .rattle files of a folder as a crate of their own, over the crates
+# of the repository. LINE is the crate's line in crates.txt. Nothing is proved here, and the repository is left
+# alone: the crate stands in a copy. Ends with the count of the tests, which all passed.
+set -eu
+folder=$1
+line=$2
+name=${line%%[ :]*}
+root=$(cd "$(dirname "$0")/.." && pwd)
+scratch=$(mktemp -d)
+trap 'rm -rf "$scratch"' EXIT
+trap 'exit 130' INT TERM
+
+(cd "$root" && find crates -name out -prune -o -type f -print | tar -cf - -T - crates.txt HANDLES) | tar -xf - -C "$scratch"
+mkdir -p "$scratch/crates/$name/src"
+echo "$line" >> "$scratch/crates.txt"
+for file in "$folder"/*.rattle; do
+    cp "$file" "$scratch/crates/$name/src/$(basename "$file" .rattle).rt"
+done
+
+cd "$scratch/crates/$name"
+wanted=$(cat src/*.rt | grep -c '^ *#\[test\]$')
+rt try --test --seconds 900 > "$scratch/log" 2>&1 || { cat "$scratch/log"; exit 1; }
+grep -q "^test result: ok. $wanted passed; 0 failed; 0 ignored; 0 filtered out" "$scratch/log" || { cat "$scratch/log"; exit 1; }
+echo "$wanted tests"
