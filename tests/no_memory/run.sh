@@ -51,7 +51,7 @@ each 1 fault frames
 each 1 rest frames --limit 300000
 each 0 /dev/null --help
 each 2 /dev/null frames --limit 5
-each 1 /dev/null local
+each 2 /dev/null local
 
 # holds TOP CRATE: its test holds whichever allocation fails
 holds() {

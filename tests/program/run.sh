@@ -48,9 +48,14 @@ expect 1 "$(says 'rest 12')" nothing long frames --limit=300000
 expect 1 "$(says 'rest 12')" nothing long frames --limit 300000
 expect 1 nothing "$(says "ymx: the file can't be opened")" hello frames absent
 expect 1 nothing "$(says 'ymx: reading failed')" hello frames .
-for name in local remote selftest; do
-    expect 1 nothing "$(says 'ymx: not built yet')" hello $name
-done
+
+# the tunnel: three connections through it, and addresses that are none, the first of which is told
+printf 'connection %s bytes echoed\n' '1: 0' '2: 1' '3: 300000' > echoed
+expect 0 echoed nothing nothing selftest
+expect 2 nothing "$(says 'ymx: bad address localhost:1')" nothing local --listen localhost:1 --peer x
+expect 2 nothing "$(says 'ymx: bad address 127.0.0.1')" nothing local --listen 127.0.0.1:1 --peer 127.0.0.1
+expect 2 nothing "$(says 'ymx: bad address 127.0.0.1:65536')" nothing remote --bind 127.0.0.1:65536 --target x
+
 expect 0 "$here/help" nothing hello --help
 expect 0 "$here/frames_help" nothing hello frames --help
 expect 0 "$here/script_help" nothing hello script --help

@@ -1,6 +1,6 @@
 -- What is read of the matches of a command line.
 use Rattle.std.proofs.Common.{◌≡◌, ◌<◌, ◌≤◌, ◌^◌, ℕ, List, Option, Some, None, Result, Ok, Err, option_map, arith, refl, ◌∙◌, ap, subst, codes, decimal}
-use Rattle.std.specs.Prelude.{option_and_then, pos, unwrap_or}
+use Rattle.std.specs.Prelude.{IsSomeAnd, option_and_then, pos, unwrap_or}
 use Rattle.clap.specs.declared.parser.matches.ArgMatches.{ArgMatches}
 use Rattle.clap.specs.declared.parser.matches.ArgMatches.TheViews.{out-ArgMatches}
 use Rattle.std.specs.Str.Parse.{ParsesUnsigned}
@@ -56,3 +56,11 @@ read_limit E gives (Some t) r none reads parses good =
     let given = good t refl in
     let read = signed_reads E gives 32 262144 16777216 given.0 r (subst (λ (u : Text). ReadsOne gives u r) given.1 (reads t refl)) parses (omega arith) given.2 in
     rw read.1 (read.2, read.3)
+
+-- no subcommand was met
+pub none_met : (met : Option (Text × List Row)) (P : Text × List Row → Type 0) → None ≡ option_map (λ p. p.0) met → IsSomeAnd met P → ⊥
+none_met None P e h = h
+none_met (Some x) P e h = not_met x.0 e
+  where
+    not_met : (name : Text) → None ≡ Some name → ⊥
+    not_met name e = cc

@@ -1,5 +1,5 @@
 -- The command line of the program (this project's own).
-use Rattle.std.specs.Prelude.{◌≡◌, ◌≢◌, ◌≤◌, ◌⊎◌, ◌++◌, ℕ, List, [], ◌∷◌, Option, Some, None, true, IfSome, if◌then◌else◌, option_map, codes, decimal, pos, slice_get}
+use Rattle.std.specs.Prelude.{◌≡◌, ◌≢◌, ⊤, ◌≤◌, ◌⊎◌, ◌++◌, ℕ, List, [], ◌∷◌, Option, Some, None, true, IsSomeAnd, if◌then◌else◌, option_map, codes, decimal, pos, slice_get}
 use Rattle.std.specs.Str.{bytes_eq}
 use Rattle.clap.specs.Kinds.{IsAmong}
 use Rattle.clap.specs.Faults.{fault_of}
@@ -10,7 +10,9 @@ use Rattle.clap.specs.declared.builder.value_parser.ValueParser.TheVariants as p
 use Rattle.clap.specs.declared.error.kind.ErrorKind.{ErrorKind}
 use Rattle.clap.specs.declared.error.kind.ErrorKind.TheVariants.{DisplayHelp, DisplayVersion}
 use Rattle.ymx_cli.specs.declared.command.Task.{Task}
-use Rattle.ymx_cli.specs.declared.command.Task.TheVariants.{Frames, Script, Other}
+use Rattle.ymx_cli.specs.declared.command.Task.TheVariants.{Frames, Script, Tunnel as ATunnel}
+use Rattle.ymx_cli.specs.declared.tunnel.Tunnel.{Tunnel}
+use Rattle.ymx_cli.specs.declared.tunnel.Tunnel.TheVariants as tunnel
 
 -- The words give this limit, in bytes of payload: no words 262144, and `--limit N` or `--limit=N` the number N, from 262144 to
 -- 16777216 in decimal digits.
@@ -38,13 +40,13 @@ AsksScript words file = (name : Text) × (files : List Text) × GivesFile files 
 abbrev pub IsFrames : ℕ → Option Text → Task → Type 0
 IsFrames limit file (Frames l f) = (l ≡ limit) × (option_map (λ name. name.now) f ≡ file)
 IsFrames limit file (Script f) = ⊥
-IsFrames limit file Other = ⊥
+IsFrames limit file (ATunnel asked) = ⊥
 
 -- The task is to play a script, that of standard input or of this file.
 abbrev pub IsScript : Option Text → Task → Type 0
 IsScript file (Script f) = option_map (λ name. name.now) f ≡ file
 IsScript file (Frames l f) = ⊥
-IsScript file Other = ⊥
+IsScript file (ATunnel asked) = ⊥
 
 -- ---- the same command line, as clap reads it
 
@@ -73,6 +75,54 @@ frames_shape = (with_rule (with_rule (new_app (codes "frames")) limit_rule) file
 abbrev pub script_shape : Shape
 script_shape = (with_rule (new_app (codes "script")) file_rule).top
 
+-- `--NAME`, whose value is an address, and must be given
+abbrev pub address_rule : Text → Rule
+address_rule name = record (new_rule name) {
+  long = Some name;
+  action = Some Set;
+  value_names = 1;
+  required = true;
+}
+
+-- `--count`, whose value is a number of 32 bits
+abbrev pub count_rule : Rule
+count_rule = record (new_rule (codes "count")) {
+  long = Some (codes "count");
+  action = Some Set;
+  value_names = 1;
+  parser = Some (parser.Signed (pos 0) (pos 4294967295));
+}
+
+-- `--window`, whose value is a number in its range
+abbrev pub window_rule : Rule
+window_rule = record (new_rule (codes "window")) {
+  long = Some (codes "window");
+  action = Some Set;
+  value_names = 1;
+  defaults = codes "262144" ∷ [];
+  parser = Some (parser.Signed (pos 262144) (pos 16777216));
+}
+
+-- `--workers`, whose value is a number in its range
+abbrev pub workers_rule : Rule
+workers_rule = record (new_rule (codes "workers")) {
+  long = Some (codes "workers");
+  action = Some Set;
+  value_names = 1;
+  defaults = codes "16" ∷ [];
+  parser = Some (parser.Signed (pos 1) (pos 1024));
+}
+
+-- `local`
+abbrev pub local_shape : Shape
+local_shape = (with_rule (with_rule (with_rule (with_rule (new_app (codes "local"))
+    (address_rule (codes "listen"))) (address_rule (codes "peer"))) count_rule) window_rule).top
+
+-- `remote`
+abbrev pub remote_shape : Shape
+remote_shape = (with_rule (with_rule (with_rule (with_rule (new_app (codes "remote"))
+    (address_rule (codes "bind"))) (address_rule (codes "target"))) window_rule) workers_rule).top
+
 -- a subcommand that takes nothing
 abbrev pub bare_shape : List ℕ → Shape
 bare_shape name = (new_app name).top
@@ -86,7 +136,7 @@ top_app =
 -- the program
 abbrev pub ymx_app : App
 ymx_app = with_subcommand (with_subcommand (with_subcommand (with_subcommand (with_subcommand top_app
-    frames_shape) script_shape) (bare_shape (codes "local"))) (bare_shape (codes "remote"))) (bare_shape (codes "selftest"))
+    frames_shape) script_shape) local_shape) remote_shape) (bare_shape (codes "selftest"))
 
 -- of a subcommand that was met: its name, the text of its limit, and the word that names a file
 abbrev pub named_words : Option (Text × List Row) → Option (Text × Option Text × Option Text)
@@ -108,9 +158,21 @@ HasGoodLimit met =
 abbrev pub IsMistake : ErrorKind → Type 0
 IsMistake kind = (kind ≢ DisplayHelp) × (kind ≢ DisplayVersion)
 
--- the words name a subcommand, and it is neither `frames` nor `script`
+-- the words name `local` or `remote`
 abbrev pub NamesAnother : List Text → Type 0
-NamesAnother words = IfSome (subcommand_of ymx_app words) (λ p. (p.0 ≢ codes "frames") × (p.0 ≢ codes "script"))
+NamesAnother words = IsSomeAnd (subcommand_of ymx_app words) (λ p. (p.0 ≡ codes "local") ⊎ (p.0 ≡ codes "remote"))
+
+-- an end of a tunnel: it writes nothing to standard output
+abbrev pub IsEnd : Tunnel → Type 0
+IsEnd (tunnel.Local listen peer count window) = ⊤
+IsEnd (tunnel.Remote bind target window workers) = ⊤
+IsEnd tunnel.Selftest = ⊥
+
+-- the task is an end of a tunnel
+abbrev pub IsEndTask : Task → Type 0
+IsEndTask (ATunnel asked) = IsEnd asked
+IsEndTask (Frames limit file) = ⊥
+IsEndTask (Script file) = ⊥
 
 -- the words ask for no help and no version: what clap may find at them is a mistake
 abbrev pub AsksNoHelp : List Text → Type 0

@@ -1,14 +1,15 @@
 //! The command line of `ymx`.
 
-ghost use Rattle.std.specs.Prelude.{ℕ, List, Option, None, ◌≡◌, ◌≢◌, ◌≤◌, ◌↔◌, ◌⊎◌, ◌<◌, ◌^◌, Some, codes, decimal, true, false, map, option_and_then, option_map, IfErr, IfOk, IfSome, IsTrue, MatchResult};
+ghost use Rattle.std.specs.Prelude.{ℕ, List, Option, None, ◌≡◌, ◌≢◌, ◌≤◌, ◌↔◌, ◌⊎◌, ◌<◌, ◌^◌, Some, codes, decimal, true, false, map, option_and_then, option_map, IfErr, IfOk, IsSomeAnd, IsTrue, MatchResult};
 ghost use Rattle.std.specs.IoError.{error_kind};
 ghost use Rattle.std.specs.declared.io.ErrorKind.TheVariants.{InvalidData};
 ghost use Rattle.std.specs.Io.KnownBytes.{Keeps};
 ghost use Rattle.clap.specs.Words.{app_of, first_value, found_of, kind_of, rule_of, shape_of, subcommand_rows_of};
 ghost use Rattle.clap.specs.declared.builder.command.Command.TheViews.{out-Command as fields_of};
-ghost use Rattle.ymx_cli.specs.CommandLine.{AsksFrames, AsksNoHelp, AsksScript, HasGoodLimit, IsFrames, IsMistake, IsScript, NamesAnother, bare_shape, file_of, file_rule, frames_shape, limit_rule, named_words, script_shape, ymx_app};
+ghost use Rattle.ymx_cli.specs.CommandLine.{AsksFrames, AsksNoHelp, AsksScript, HasGoodLimit, IsEndTask, IsFrames, IsMistake, IsScript, NamesAnother, bare_shape, file_of, file_rule, frames_shape, limit_rule, named_words, script_shape, ymx_app};
 ghost use Rattle.ymx_cli.specs.Messages.{IsUntouched, PlaysFile, PlaysScript, PrintsFile, PrintsFrames, Refuses, Says, Shows, TakesText, TakesPart, change_of, fails, not_text, out_of_memory, reason, script_reason, writing_failed};
 
+use crate::tunnel::{Tunnel, asked_tunnel, local_command, remote_command, run_tunnel};
 use clap::error::ErrorKind;
 use clap::{Arg, ArgAction, ArgMatches, Command, Error, value_parser};
 use std::alloc::{AllocError, Global};
@@ -16,9 +17,11 @@ use std::convert::AsStr;
 use std::fmt::Display;
 use std::io;
 use std::sync::Wait;
+use std::thread::Threads;
 use ymx_frames::{FramesEnd, frames, push_all};
 use ymx_model::{DeviceFault, Inlet, Outlet};
 use ymx_script::{ScriptEnd, script};
+use ymx_tunnel::Network;
 
 /// The longest payload of a Data frame that is accepted where the command line says nothing.
 const DEFAULT_LIMIT: u32 = 262_144;
@@ -33,8 +36,8 @@ enum Task<'a> {
     Frames { limit: u32, file: Option<&'a str> },
     /// The script of a file or, with no name, of standard input, to be played.
     Script { file: Option<&'a str> },
-    /// A subcommand that isn't built yet.
-    Other,
+    /// A subcommand of the tunnel.
+    Tunnel(Tunnel<'a>),
 }
 
 /// Opens files by their names.
@@ -56,11 +59,20 @@ pub trait Opener {
 
 /// Does what the words of a command line ask for, the first of which is the program's name. Answers
 /// the exit status: 0 if all went well, 1 at a fault, 2 for a bad command line.
-pub fn ymx_main<S: AsStr, F: Opener, R: Inlet, W: Outlet, E: Outlet>(
-    rt: &impl Wait,
+pub fn ymx_main<
+    T: Threads + Wait + Sync,
+    S: AsStr,
+    F: Opener,
+    N: Network,
+    R: Inlet,
+    W: Outlet,
+    E: Outlet,
+>(
+    rt: &T,
     alloc: Global,
     words: &[S],
     files: &F,
+    network: &N,
     reader: &mut R,
     writer: &mut W,
     errors: &mut E,
@@ -99,7 +111,7 @@ pub fn ymx_main<S: AsStr, F: Opener, R: Inlet, W: Outlet, E: Outlet>(
         IsUntouched input
         ⊎ (((limit : ℕ) × (262144 ≤ limit) × (limit ≤ 16777216) × PrintsFrames limit result input output says)
         ⊎ PlaysScript result input output says) }
-    // Words that name another subcommand write nothing to the writer, unless they ask for help or the version.
+    // Words that name an end of a tunnel write nothing to the writer, unless they ask for help or the version.
     ensures silent { NamesAnother (map S.text words.now) → AsksNoHelp (map S.text words.now) →
         IsUntouched (change_of W.contents W.failures writer.old writer.new) }
     // At status 2 nothing is read, and nothing is written to the writer.
@@ -115,7 +127,7 @@ pub fn ymx_main<S: AsStr, F: Opener, R: Inlet, W: Outlet, E: Outlet>(
         ) => print_file(rt, alloc, files, name, limit, writer, errors),
         Ok(Task::Script { file: None }) => play(rt, alloc, reader, writer, errors),
         Ok(Task::Script { file: Some(name) }) => play_file(rt, alloc, files, name, writer, errors),
-        Ok(Task::Other) => refuse(errors, b"ymx: not built yet\n"),
+        Ok(Task::Tunnel(asked)) => run_tunnel(rt, alloc, network, asked, writer, errors),
         Err(error) => explain(alloc, &error, writer, errors),
     }
 }
@@ -215,7 +227,7 @@ fn parse<'a, S: AsStr>(alloc: Global, words: &'a [S]) -> Result<Task<'a>, Error>
     ensures limits { IfOk result (λ task. (limit : ℕ) (file : Option (List ℕ)) → IsFrames limit file task → (262144 ≤ limit) × (limit ≤ 16777216)) }
     ensures script { (file : Option (List ℕ)) → AsksScript (map S.text words.entry.now) file →
         MatchResult result (IsScript file) (λ error. kind_of error ≡ ErrorKind.OutOfMemory) }
-    ensures other { NamesAnother (map S.text words.entry.now) → IfOk result (λ task. task ≡ Task.Other) }
+    ensures other { NamesAnother (map S.text words.entry.now) → IfOk result IsEndTask }
     ensures mistake { AsksNoHelp (map S.text words.entry.now) → IfErr result (λ error. IsMistake (kind_of error)) }
 {
     let matches = command(alloc)?.try_get_matches_from(words)?;
@@ -229,7 +241,7 @@ fn asked<'a>(matches: &ArgMatches<'a>) -> Task<'a>
         → IsFrames limit (option_and_then file_of word) result }
     ensures script { (word : Option (List ℕ)) → named_words (subcommand_rows_of matches.now) ≡ Some (codes "script", None, word)
         → IsScript (option_and_then file_of word) result }
-    ensures other { IfSome (subcommand_rows_of matches.now) (λ p. (p.0 ≢ codes "frames") × (p.0 ≢ codes "script")) → result ≡ Task.Other }
+    ensures other { IsSomeAnd (subcommand_rows_of matches.now) (λ p. (p.0 ≡ codes "local") ⊎ (p.0 ≡ codes "remote")) → IsEndTask result }
     ensures limits { HasGoodLimit (subcommand_rows_of matches.now) → (limit : ℕ) (file : Option (List ℕ)) → IsFrames limit file result
         → (262144 ≤ limit) × (limit ≤ 16777216) }
 {
@@ -241,7 +253,8 @@ fn asked<'a>(matches: &ArgMatches<'a>) -> Task<'a>
         Some(("script", found)) => Task::Script {
             file: named_file(found),
         },
-        _ => Task::Other,
+        Some((name, found)) => Task::Tunnel(asked_tunnel(name, found)),
+        None => Task::Tunnel(Tunnel::Selftest),
     }
 }
 
@@ -266,20 +279,12 @@ fn command<'a>(alloc: Global) -> Result<Command<'a>, AllocError>
         .subcommand_required(true)
         .subcommand(frames_command(alloc)?)?
         .subcommand(script_command(alloc)?)?
-        .subcommand(bare(
-            alloc,
-            "local",
-            "Forward local connections through a session (not built yet)",
-        ))?
-        .subcommand(bare(
-            alloc,
-            "remote",
-            "Connect the streams of a session to a target (not built yet)",
-        ))?
+        .subcommand(local_command(alloc)?)?
+        .subcommand(remote_command(alloc)?)?
         .subcommand(bare(
             alloc,
             "selftest",
-            "Run both ends and an echo server in one process (not built yet)",
+            "Run both ends and an echo server in one process",
         ))
 }
 
@@ -338,6 +343,8 @@ fn bare<'a>(alloc: Global, name: &'a str, about: &'a str) -> Command<'a>
 const HELP: &str = "Examples:
   ymx frames examples/hello.yamux
   ymx script examples/stream.script
+  ymx remote --bind 192.0.2.7:4000 --target 127.0.0.1:80
+  ymx local --listen 127.0.0.1:8080 --peer 192.0.2.7:4000
 
 The exit status is 0 if all went well, 1 at a fault, and 2 for a bad command line.";
 
@@ -489,8 +496,10 @@ fn show<M: Display, W: Outlet, E: Outlet>(
 #[cfg(test)]
 mod tests {
     use super::*;
+    use std::net::{SocketAddr, TcpListener, TcpStream};
     use std::test::Fail;
     use ymx_model::{MemoryInlet, MemoryOutlet};
+    use ymx_tunnel::Sockets;
 
     /// An open and 5 bytes of data on stream 1.
     const HELLO: &[u8] =
@@ -518,8 +527,22 @@ mod tests {
         }
     }
 
+    /// No connection can be made here.
+    #[derive(Drop)]
+    struct Nowhere;
+
+    impl Network for Nowhere {
+        fn connect(&self, _address: SocketAddr) -> Option<TcpStream> {
+            None
+        }
+
+        fn listen(&self, _address: SocketAddr) -> Option<TcpListener> {
+            None
+        }
+    }
+
     /// The status, what was printed, and what the error device got.
-    fn run<T: Wait + AllocGlobal>(
+    fn run<T: Threads + Wait + Sync + AllocGlobal>(
         rt: &T,
         words: &[&str],
         input: &[u8],
@@ -533,6 +556,7 @@ mod tests {
             rt.alloc(),
             words,
             &files,
+            &Nowhere,
             &mut reader,
             &mut writer,
             &mut errors,
@@ -671,11 +695,11 @@ mod tests {
             assert!(rt; got.1.is_empty());
             assert!(rt; got.2.as_slice().starts_with(b"error: "));
         }
-        for name in ["local", "remote", "selftest"] {
+        for name in ["local", "remote"] {
             let got = run(&rt, &["ymx", name], HELLO)?;
-            assert_eq!(rt; got.0, 1);
+            assert_eq!(rt; got.0, 2);
             assert!(rt; got.1.is_empty());
-            assert_eq!(rt; got.2.as_slice(), b"ymx: not built yet\n".as_slice());
+            assert!(rt; got.2.as_slice().starts_with(b"error: "));
         }
         Ok(())
     }
@@ -694,7 +718,7 @@ mod tests {
     }
 
     /// The status, what was printed, and what the error device got, of a subcommand over these devices.
-    fn run_over<T: Wait + AllocGlobal>(
+    fn run_over<T: Threads + Wait + Sync + AllocGlobal>(
         rt: &T,
         subcommand: &str,
         mut reader: MemoryInlet,
@@ -708,6 +732,7 @@ mod tests {
             rt.alloc(),
             words.as_slice(),
             &files,
+            &Nowhere,
             &mut reader,
             &mut writer,
             &mut errors,
@@ -780,5 +805,30 @@ mod tests {
         assert_eq!(rt; status, 1);
         assert_eq!(rt; errors.as_slice(), b"ymx: reading failed\n".as_slice());
         assert!(rt; writer.end().is_err());
+    }
+
+    #[test]
+    fn tests_itself(rt: HostRuntime) {
+        let mut reader = MemoryInlet::new(b"");
+        let mut writer = MemoryOutlet::new(rt.alloc());
+        let mut errors = MemoryOutlet::new(rt.alloc());
+        let words = ["ymx", "selftest"];
+        let files = OneFile { bytes: HELLO };
+        let status = ymx_main(
+            &rt,
+            rt.alloc(),
+            words.as_slice(),
+            &files,
+            &Sockets { rt: &rt },
+            &mut reader,
+            &mut writer,
+            &mut errors,
+        );
+        assert_eq!(rt; status, 0);
+        assert_eq!(rt;
+            writer.as_slice(),
+            b"connection 1: 0 bytes echoed\nconnection 2: 1 bytes echoed\nconnection 3: 300000 bytes echoed\n".as_slice()
+        );
+        assert!(rt; errors.as_slice().is_empty());
     }
 }

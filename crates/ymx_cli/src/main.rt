@@ -3,6 +3,7 @@
 
 mod command;
 mod standard;
+mod tunnel;
 
 use command::{no_words, ymx_main};
 use standard::{Disk, ReaderInlet, WriterOutlet};
@@ -10,6 +11,7 @@ use std::alloc::Global;
 use std::process::ExitCode;
 use std::rt::Env;
 use std::{env, io};
+use ymx_tunnel::Sockets;
 
 fn main(rt: HostRuntime) -> ExitCode {
     let mut reader = ReaderInlet {
@@ -31,6 +33,7 @@ fn main(rt: HostRuntime) -> ExitCode {
             alloc,
             words.as_slice(),
             &Disk { rt: &rt },
+            &Sockets { rt: &rt },
             &mut reader,
             &mut writer,
             &mut errors,

@@ -13,6 +13,7 @@ mod hub;
 mod moving;
 mod news;
 mod opener;
+mod status;
 mod waiting_calls;
 mod write_fault;
 

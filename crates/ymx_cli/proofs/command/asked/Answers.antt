@@ -5,7 +5,7 @@ use Rattle.clap.specs.Walk.{first_of}
 use Rattle.clap.specs.Words.{Text, found_of, one_text, rows_of, subcommand_rows_of}
 use Rattle.clap.proofs.WalkLemmas.{first_value-rows, one_text-rows}
 use Rattle.ymx_cli.specs.CommandLine.{file_of}
-use Rattle.ymx_cli.proofs.Read.{name_met, named_is, named_text, read_limit, read_number}
+use Rattle.ymx_cli.proofs.Read.{name_met, none_met, named_is, named_text, read_limit, read_number}
 use Rattle.ymx_cli.proofs.command.asked.Goals as goal
 
 pub returns-in-Some-frames-default-clause-frames : goal.returns-in-Some-frames-default-clause-frames
@@ -34,3 +34,6 @@ returns-in-Some-script-default-clause-script c = λ word named.
     let found = found_of c.in-Some-script-default.found.now in
     let texts = named_text (rows_of found) _ _ _ _ c.in-Some-script-default.ensures.rows named in
     c.named_file-in-Some-script-default.ensures ∙ ap (option_and_then file_of) (first_value-rows found (codes "file") ∙ texts.1)
+
+pub returns-in-None-clause-other : goal.returns-in-None-clause-other
+returns-in-None-clause-other c = λ named. absurd (none_met (subcommand_rows_of c.args.matches.now) _ (c.in-None.ensures.name ∙ name_met c.args.matches.now) named)

@@ -22,6 +22,6 @@ returns c =
     let top : app_of c.subcommand_required.result ≡ top_app = ap app_of_fields c.subcommand_required.ensures ∙ ap with_required version in
     let frames = c.in_ok-subcommand.ensures.shape c.in_ok-frames_command.ensures.1 ∙ ap₂ with_subcommand top c.in_ok-frames_command.ensures.0 in
     let script = c.in_ok-subcommand-2.ensures.shape c.in_ok-script_command.ensures.1 ∙ ap₂ with_subcommand frames c.in_ok-script_command.ensures.0 in
-    let local = c.in_ok-subcommand-3.ensures.shape c.bare.ensures.1 ∙ ap₂ with_subcommand script c.bare.ensures.0 in
-    let remote = c.in_ok-subcommand-4.ensures.shape c.bare-2.ensures.1 ∙ ap₂ with_subcommand local c.bare-2.ensures.0 in
-    IfOk-weaker c.subcommand-5.result _ _ (λ r added. added.shape c.bare-3.ensures.1 ∙ ap₂ with_subcommand remote c.bare-3.ensures.0) c.subcommand-5.ensures
+    let local = c.in_ok-subcommand-3.ensures.shape c.in_ok-local_command.ensures.1 ∙ ap₂ with_subcommand script c.in_ok-local_command.ensures.0 in
+    let remote = c.in_ok-subcommand-4.ensures.shape c.in_ok-remote_command.ensures.1 ∙ ap₂ with_subcommand local c.in_ok-remote_command.ensures.0 in
+    IfOk-weaker c.subcommand-5.result _ _ (λ r added. added.shape c.bare.ensures.1 ∙ ap₂ with_subcommand remote c.bare.ensures.0) c.subcommand-5.ensures

@@ -3,7 +3,7 @@ use Rattle.std.specs.Prelude.{unwrap_or}
 use Rattle.std.specs.Io.KnownBytes.{Keeps}
 use Rattle.clap.specs.Words.{Text}
 use Rattle.ymx_cli.specs.CommandLine.{IsFrames, IsScript}
-use Rattle.ymx_cli.specs.declared.command.Task.TheVariants.{Frames, Script, Other}
+use Rattle.ymx_cli.specs.declared.command.Task.TheVariants.{Frames, Script, Tunnel}
 use Rattle.ymx_cli.proofs.command.ymx_main.Goals as goal
 
 not_some : (name : Text) → None ≡ Some name → ⊥
@@ -49,16 +49,16 @@ returns-in-Ok-Frames-default-Some-clause-file g c = λ limit name asks.
     let unread : Keeps (g.R.Inlet.remaining c.args.reader.now) (g.R.Inlet.remaining c.args.reader.now) = search rules in
     (unread, inl (rw (← same, ← task.0) c.print_file.ensures.printed))
 
-pub returns-in-Ok-Other-clause-frames : goal.returns-in-Ok-Other-clause-frames
-returns-in-Ok-Other-clause-frames g c = λ limit asks.
-    let e = c.in-Ok-Other in
-    let is : e.field-0 ≡ Other = cc in
+pub returns-in-Ok-Tunnel-clause-frames : goal.returns-in-Ok-Tunnel-clause-frames
+returns-in-Ok-Tunnel-clause-frames g c = λ limit asks.
+    let e = c.in-Ok-Tunnel in
+    let is : e.field-0 ≡ Tunnel e.asked = cc in
     absurd (subst (IsFrames limit None) is (e.ensures.frames limit None asks))
 
-pub returns-in-Ok-Other-clause-file : goal.returns-in-Ok-Other-clause-file
-returns-in-Ok-Other-clause-file g c = λ limit name asks.
-    let e = c.in-Ok-Other in
-    let is : e.field-0 ≡ Other = cc in
+pub returns-in-Ok-Tunnel-clause-file : goal.returns-in-Ok-Tunnel-clause-file
+returns-in-Ok-Tunnel-clause-file g c = λ limit name asks.
+    let e = c.in-Ok-Tunnel in
+    let is : e.field-0 ≡ Tunnel e.asked = cc in
     absurd (subst (IsFrames limit (Some name)) is (e.ensures.frames limit (Some name) asks))
 
 pub returns-in-Err-clause-frames : goal.returns-in-Err-clause-frames
@@ -97,16 +97,16 @@ returns-in-Ok-Frames-default-Some-clause-script_file g c = λ name asks.
     let is : e.field-0 ≡ Frames e.limit (Some e.name) = cc in
     absurd (subst (IsScript (Some name)) is (e.ensures.script (Some name) asks))
 
-pub returns-in-Ok-Other-clause-script : goal.returns-in-Ok-Other-clause-script
-returns-in-Ok-Other-clause-script g c = λ asks.
-    let e = c.in-Ok-Other in
-    let is : e.field-0 ≡ Other = cc in
+pub returns-in-Ok-Tunnel-clause-script : goal.returns-in-Ok-Tunnel-clause-script
+returns-in-Ok-Tunnel-clause-script g c = λ asks.
+    let e = c.in-Ok-Tunnel in
+    let is : e.field-0 ≡ Tunnel e.asked = cc in
     absurd (subst (IsScript None) is (e.ensures.script None asks))
 
-pub returns-in-Ok-Other-clause-script_file : goal.returns-in-Ok-Other-clause-script_file
-returns-in-Ok-Other-clause-script_file g c = λ name asks.
-    let e = c.in-Ok-Other in
-    let is : e.field-0 ≡ Other = cc in
+pub returns-in-Ok-Tunnel-clause-script_file : goal.returns-in-Ok-Tunnel-clause-script_file
+returns-in-Ok-Tunnel-clause-script_file g c = λ name asks.
+    let e = c.in-Ok-Tunnel in
+    let is : e.field-0 ≡ Tunnel e.asked = cc in
     absurd (subst (IsScript (Some name)) is (e.ensures.script (Some name) asks))
 
 pub returns-in-Ok-Script-None-clause-frames : goal.returns-in-Ok-Script-None-clause-frames

@@ -1,0 +1,293 @@
+//! The subcommands `local`, `remote` and `selftest`.
+
+ghost use Rattle.std.specs.Prelude.{◌≡◌, ◌⊎◌, ◌≤◌, codes, false, IfOk, IfSome};
+ghost use Rattle.clap.specs.Words.{rule_of, shape_of};
+ghost use Rattle.clap.specs.declared.builder.command.Command.TheViews.{out-Command as fields_of};
+ghost use Rattle.ymx_cli.specs.CommandLine.{IsEnd, address_rule, count_rule, local_shape, remote_shape, window_rule, workers_rule};
+ghost use Rattle.ymx_cli.specs.Messages.{IsUntouched, change_of};
+
+use clap::{Arg, ArgAction, ArgMatches, Command, value_parser};
+use std::alloc::{AllocError, Global};
+use std::net::{SocketAddr, SocketAddrV4};
+use std::sync::Wait;
+use std::thread::Threads;
+use ymx_forward::{Local, Remote, run_local, run_remote, run_selftest};
+use ymx_frames::push_all;
+use ymx_model::Outlet;
+use ymx_tunnel::Network;
+
+/// How many bytes of a stream may be unread where the command line says nothing.
+const DEFAULT_WINDOW: u32 = 262_144;
+
+/// How many streams `remote` serves at once where the command line says nothing.
+const DEFAULT_WORKERS: u32 = 16;
+
+/// What the words of a subcommand of the tunnel ask for. Addresses are not read yet.
+#[derive(Clone, Copy, Debug, PartialEq, Eq)]
+pub(crate) enum Tunnel<'a> {
+    /// `local`.
+    Local {
+        listen: &'a str,
+        peer: &'a str,
+        count: Option<u32>,
+        window: u32,
+    },
+    /// `remote`.
+    Remote {
+        bind: &'a str,
+        target: &'a str,
+        window: u32,
+        workers: u32,
+    },
+    /// `selftest`.
+    Selftest,
+}
+
+/// What the matches of this subcommand ask for.
+pub(crate) fn asked_tunnel<'a>(name: &str, found: &ArgMatches<'a>) -> Tunnel<'a>
+    ensures { (name.now ≡ codes "local") ⊎ (name.now ≡ codes "remote") → IsEnd result }
+{
+    match name {
+        "local" => Tunnel::Local {
+            listen: found.get_str("listen").unwrap_or(""),
+            peer: found.get_str("peer").unwrap_or(""),
+            count: found.get_one("count"),
+            window: found.get_one("window").unwrap_or(DEFAULT_WINDOW),
+        },
+        "remote" => Tunnel::Remote {
+            bind: found.get_str("bind").unwrap_or(""),
+            target: found.get_str("target").unwrap_or(""),
+            window: found.get_one("window").unwrap_or(DEFAULT_WINDOW),
+            workers: found.get_one("workers").unwrap_or(DEFAULT_WORKERS),
+        },
+        _ => Tunnel::Selftest,
+    }
+}
+
+/// The subcommand `local`.
+pub(crate) fn local_command<'a>(alloc: Global) -> Result<Command<'a>, AllocError>
+    ensures { IfOk result (λ command. (shape_of command ≡ local_shape) × ((fields_of command).has_globals ≡ false)) }
+{
+    Command::new(alloc, "local")
+        .about("Forward local connections through a session")
+        .after_help(LOCAL_HELP)
+        .arg(address(
+            alloc,
+            "listen",
+            "Where connections come from, as 127.0.0.1:8080",
+        ))?
+        .arg(address(alloc, "peer", "Where the `ymx remote` listens"))?
+        .arg(count_argument(alloc))?
+        .arg(window_argument(alloc))
+}
+
+/// The subcommand `remote`.
+pub(crate) fn remote_command<'a>(alloc: Global) -> Result<Command<'a>, AllocError>
+    ensures { IfOk result (λ command. (shape_of command ≡ remote_shape) × ((fields_of command).has_globals ≡ false)) }
+{
+    Command::new(alloc, "remote")
+        .about("Connect the streams of a session to a target")
+        .after_help(REMOTE_HELP)
+        .arg(address(alloc, "bind", "Where the `ymx local` connects to"))?
+        .arg(address(alloc, "target", "Where each stream is connected to"))?
+        .arg(window_argument(alloc))?
+        .arg(workers_argument(alloc))
+}
+
+/// An argument that is an address.
+fn address<'a>(alloc: Global, name: &'a str, help: &'a str) -> Arg<'a>
+    ensures { (rule_of result ≡ address_rule name.entry.now) × (result.global ≡ false) }
+{
+    Arg::new(alloc, name)
+        .long(name)
+        .value_name("ADDRESS")
+        .action(ArgAction::Set)
+        .required(true)
+        .help(help)
+}
+
+/// The argument `--count` of `local`.
+fn count_argument<'a>(alloc: Global) -> Arg<'a>
+    ensures { (rule_of result ≡ count_rule) × (result.global ≡ false) }
+{
+    Arg::new(alloc, "count")
+        .long("count")
+        .value_name("N")
+        .action(ArgAction::Set)
+        .value_parser(value_parser!(u32).range(0..=4_294_967_295))
+        .help("End after so many connections")
+}
+
+/// The argument `--window`.
+fn window_argument<'a>(alloc: Global) -> Arg<'a>
+    ensures { (rule_of result ≡ window_rule) × (result.global ≡ false) }
+{
+    Arg::new(alloc, "window")
+        .long("window")
+        .value_name("BYTES")
+        .action(ArgAction::Set)
+        .value_parser(value_parser!(u32).range(262_144..=16_777_216))
+        .default_value("262144")
+        .help("How much of a stream may be unread here, from 262144 to 16777216")
+}
+
+/// The argument `--workers` of `remote`.
+fn workers_argument<'a>(alloc: Global) -> Arg<'a>
+    ensures { (rule_of result ≡ workers_rule) × (result.global ≡ false) }
+{
+    Arg::new(alloc, "workers")
+        .long("workers")
+        .value_name("N")
+        .action(ArgAction::Set)
+        .value_parser(value_parser!(u32).range(1..=1024))
+        .default_value("16")
+        .help("How many streams are served at once, from 1 to 1024")
+}
+
+/// What the help of `local` says at its end.
+const LOCAL_HELP: &str =
+    "It connects to the peer, and then listens. An address is an IPv4 address and a port.
+
+Example:
+  ymx local --listen 127.0.0.1:8080 --peer 192.0.2.7:4000";
+
+/// What the help of `remote` says at its end.
+const REMOTE_HELP: &str =
+    "It accepts one connection, and ends with it. An address is an IPv4 address and a port.
+
+Example:
+  ymx remote --bind 192.0.2.7:4000 --target 127.0.0.1:80";
+
+/// Does what was asked, and answers the exit status. A bad address is found before anything is connected or bound.
+pub(crate) fn run_tunnel<R: Threads + Wait + Sync, N: Network, W: Outlet, E: Outlet>(
+    rt: &R,
+    alloc: Global,
+    network: &N,
+    asked: Tunnel<'_>,
+    writer: &mut W,
+    errors: &mut E,
+) -> u8
+    ensures status { result ≤ 2 }
+    ensures good { result ≡ 0 → IsUntouched (change_of E.contents E.failures errors.old errors.new) }
+    ensures silent { IsEnd asked.entry → IsUntouched (change_of W.contents W.failures writer.old writer.new) }
+    ensures bad { result ≡ 2 → IsUntouched (change_of W.contents W.failures writer.old writer.new) }
+{
+    match asked {
+        Tunnel::Local {
+            listen,
+            peer,
+            count,
+            window,
+        } => {
+            let Some(listen) = read_address(listen, errors) else {
+                return 2;
+            };
+            let Some(peer) = read_address(peer, errors) else {
+                return 2;
+            };
+            let local = Local {
+                listen,
+                peer,
+                count,
+                window,
+            };
+            run_local(rt, alloc, network, local, errors)
+        }
+        Tunnel::Remote {
+            bind,
+            target,
+            window,
+            workers,
+        } => {
+            let Some(bind) = read_address(bind, errors) else {
+                return 2;
+            };
+            let Some(target) = read_address(target, errors) else {
+                return 2;
+            };
+            let remote = Remote {
+                bind,
+                target,
+                window,
+                workers,
+            };
+            run_remote(rt, alloc, network, remote, errors)
+        }
+        Tunnel::Selftest => run_selftest(rt, alloc, network, writer, errors),
+    }
+}
+
+/// The address that this text spells. If it spells none, that is said.
+fn read_address<E: Outlet>(text: &str, errors: &mut E) -> Option<SocketAddr>
+    ensures { IfSome result (λ _. errors.new ≡ errors.old) }
+{
+    if let Ok(address) = text.parse::<SocketAddrV4>() {
+        return Some(SocketAddr::V4(address));
+    }
+    let _ = push_all(errors, b"ymx: bad address ");
+    let _ = push_all(errors, text.as_bytes());
+    let _ = push_all(errors, b"\n");
+    None
+}
+
+#[cfg(test)]
+mod tests {
+    use super::*;
+    use std::net::TcpListener;
+    use ymx_model::MemoryOutlet;
+    use ymx_tunnel::Sockets;
+
+    #[test]
+    fn finds_a_bad_address_first(rt: HostRuntime) {
+        let network = Sockets { rt: &rt };
+        for (listen, peer, said) in [
+            ("127.0.0.1", "x", b"ymx: bad address 127.0.0.1\n".as_slice()),
+            (
+                "127.0.0.1:0",
+                "[::1]:80",
+                b"ymx: bad address [::1]:80\n".as_slice(),
+            ),
+            (
+                "127.0.0.1:0",
+                "localhost:80",
+                b"ymx: bad address localhost:80\n".as_slice(),
+            ),
+        ] {
+            let mut writer = MemoryOutlet::new(rt.alloc());
+            let mut errors = MemoryOutlet::new(rt.alloc());
+            let asked = Tunnel::Local {
+                listen,
+                peer,
+                count: Some(0),
+                window: DEFAULT_WINDOW,
+            };
+            let status = run_tunnel(&rt, rt.alloc(), &network, asked, &mut writer, &mut errors);
+            assert_eq!(rt; status, 2);
+            assert!(rt; writer.as_slice().is_empty());
+            assert_eq!(rt; errors.as_slice(), said);
+        }
+    }
+
+    /// Nobody listens at the address of a listener that was dropped.
+    #[test]
+    fn cannot_reach_a_peer(rt: HostRuntime) -> Result<(), std::test::Fail> {
+        let network = Sockets { rt: &rt };
+        let listener = TcpListener::bind(&rt, "127.0.0.1:0")?;
+        let address = listener.local_addr()?.to_string(rt.alloc())?;
+        drop(listener);
+        let mut writer = MemoryOutlet::new(rt.alloc());
+        let mut errors = MemoryOutlet::new(rt.alloc());
+        let asked = Tunnel::Local {
+            listen: "127.0.0.1:0",
+            peer: address.as_str(),
+            count: Some(0),
+            window: DEFAULT_WINDOW,
+        };
+        let status = run_tunnel(&rt, rt.alloc(), &network, asked, &mut writer, &mut errors);
+        assert_eq!(rt; status, 1);
+        assert!(rt; writer.as_slice().is_empty());
+        let said = format!(in rt.alloc(); "ymx: cannot reach {address}\n")?;
+        assert_eq!(rt; errors.as_slice(), said.as_bytes());
+        Ok(())
+    }
+}

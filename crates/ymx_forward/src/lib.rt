@@ -1,0 +1,12 @@
+//! What `ymx local`, `ymx remote` and `ymx selftest` do once their command lines are read: they make the connections,
+//! run the session with its pumps and its server, and say what went wrong.
+#![tactic(auto)]
+
+mod forwarding;
+mod programs;
+mod selftest;
+mod tell;
+
+pub use forwarding::{Forwarded, Side, forward};
+pub use programs::{Local, Remote, run_local, run_remote};
+pub use selftest::run_selftest;

@@ -1,0 +1,124 @@
+//! The two ends of a tunnel as programs.
+
+ghost use Rattle.std.specs.Prelude.{◌≡◌, ◌≤◌};
+ghost use Rattle.std.specs.Io.KnownBytes.{Keeps};
+
+use crate::forwarding::{Forwarded, Side, forward};
+use crate::tell::{cannot_listen, cannot_reach, lacks_memory, session_broken};
+use std::alloc::Global;
+use std::net::SocketAddr;
+use std::sync::Wait;
+use std::thread::Threads;
+use ymx_model::Outlet;
+use ymx_tunnel::{Network, Unwatched};
+
+/// What `ymx local` is asked.
+#[derive(Clone, Copy, Debug, PartialEq, Eq)]
+pub struct Local {
+    /// Where connections come from.
+    pub listen: SocketAddr,
+    /// Where the peer of the session is.
+    pub peer: SocketAddr,
+    /// How many connections are forwarded, or as many as come.
+    pub count: Option<u32>,
+    /// How many bytes of a stream may be unread here, 262,144 to 16,777,216.
+    pub window: u32,
+}
+
+/// What `ymx remote` is asked.
+#[derive(Clone, Copy, Debug, PartialEq, Eq)]
+pub struct Remote {
+    /// Where the peer of the session comes from.
+    pub bind: SocketAddr,
+    /// Where connections go to.
+    pub target: SocketAddr,
+    /// How many bytes of a stream may be unread here, 262,144 to 16,777,216.
+    pub window: u32,
+    /// How many streams are served at once.
+    pub workers: u32,
+}
+
+/// Connects to the peer, and forwards each connection that comes as a stream. Answers the exit status.
+pub fn run_local<R: Threads + Wait + Sync, N: Network, E: Outlet>(
+    rt: &R,
+    alloc: Global,
+    network: &N,
+    asked: Local,
+    errors: &mut E,
+) -> u8
+    ensures status { result ≤ 1 }
+    ensures good { result ≡ 0 → Keeps (E.contents errors.old) (E.contents errors.new) }
+{
+    let Some(connection) = network.connect(asked.peer) else {
+        return cannot_reach(alloc, asked.peer, errors);
+    };
+    let Some(listener) = network.listen(asked.listen) else {
+        return cannot_listen(alloc, asked.listen, errors);
+    };
+    let side = Side::Local {
+        listener: &listener,
+        count: asked.count,
+    };
+    let forwarded = forward(
+        rt,
+        alloc,
+        network,
+        &connection,
+        side,
+        asked.window,
+        &Unwatched,
+    );
+    report(alloc, asked.listen, forwarded, errors)
+}
+
+/// Accepts one connection of a peer, and connects each of its streams to the target. Answers the exit status.
+pub fn run_remote<R: Threads + Wait + Sync, N: Network, E: Outlet>(
+    rt: &R,
+    alloc: Global,
+    network: &N,
+    asked: Remote,
+    errors: &mut E,
+) -> u8
+    ensures status { result ≤ 1 }
+    ensures good { result ≡ 0 → Keeps (E.contents errors.old) (E.contents errors.new) }
+{
+    let Some(listener) = network.listen(asked.bind) else {
+        return cannot_listen(alloc, asked.bind, errors);
+    };
+    let Ok((connection, _)) = listener.accept() else {
+        return cannot_listen(alloc, asked.bind, errors);
+    };
+    let _ = connection.set_nodelay(true);
+    let side = Side::Remote {
+        target: asked.target,
+        workers: asked.workers,
+    };
+    let forwarded = forward(
+        rt,
+        alloc,
+        network,
+        &connection,
+        side,
+        asked.window,
+        &Unwatched,
+    );
+    report(alloc, asked.bind, forwarded, errors)
+}
+
+/// Says what went wrong, if anything did, and answers the exit status: of a failed accept, a broken session and want
+/// of memory the first.
+fn report<E: Outlet>(alloc: Global, address: SocketAddr, forwarded: Forwarded, errors: &mut E) -> u8
+    ensures status { result ≤ 1 }
+    ensures good { result ≡ 0 → Keeps (E.contents errors.old) (E.contents errors.new) }
+{
+    if forwarded.accept_failed {
+        return cannot_listen(alloc, address, errors);
+    }
+    if let Some(fault) = forwarded.broken {
+        return session_broken(alloc, fault.number(), errors);
+    }
+    if forwarded.lacked_memory {
+        return lacks_memory(errors);
+    }
+    0
+}

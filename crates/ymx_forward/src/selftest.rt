@@ -1,0 +1,346 @@
+//! Both ends of a tunnel and an echo server in one process, and three connections through them.
+
+ghost use Rattle.std.specs.Prelude.{◌≡◌, ◌≤◌};
+ghost use Rattle.std.specs.Io.KnownBytes.{Keeps};
+
+use crate::forwarding::{Side, forward};
+use crate::tell::{cannot_listen, lacks_memory, refuse};
+use crossbeam_channel::{Receiver, Sender, bounded};
+use std::alloc::Global;
+use std::io::{Read, Write};
+use std::net::{Ipv4Addr, Shutdown, SocketAddr, SocketAddrV4, TcpListener, TcpStream};
+use std::sync::Wait;
+use std::thread::Threads;
+use std::{io, thread};
+use ymx_frames::push_all;
+use ymx_model::Outlet;
+use ymx_tunnel::{Network, Unwatched};
+
+/// How many bytes each connection sends.
+const SIZES: [u32; 3] = [0, 1, 300_000];
+
+/// How many connections there are.
+const CONNECTIONS: u32 = 3;
+
+/// The window of both sessions, in bytes.
+const WINDOW: u32 = 262_144;
+
+/// How many streams are served at once.
+const WORKERS: u32 = 16;
+
+/// Bytes that are written and read at once.
+const CHUNK: usize = 4_096;
+
+/// The same as a number of 32 bits.
+const CHUNK_SIZE: u32 = 4_096;
+
+/// What became of a connection.
+#[derive(Clone, Copy, Debug, PartialEq, Eq)]
+struct Echoed {
+    number: u32,
+    is_whole: bool,
+}
+
+/// Where the three servers listen.
+#[derive(Drop)]
+struct Places {
+    echo: TcpListener,
+    session: TcpListener,
+    local: TcpListener,
+    echo_address: SocketAddr,
+    session_address: SocketAddr,
+    local_address: SocketAddr,
+}
+
+/// Why the lines of the test stop.
+#[derive(Clone, Copy, Debug, PartialEq, Eq)]
+enum Stop {
+    /// This connection failed.
+    Connection(u32),
+    /// The writer failed.
+    Writing,
+    /// There was no memory.
+    Memory,
+}
+
+/// Sends three connections through both ends of a tunnel to an echo server, all on 127.0.0.1, and prints a line for
+/// each. Answers the exit status.
+pub fn run_selftest<R: Threads + Wait + Sync, N: Network, W: Outlet, E: Outlet>(
+    rt: &R,
+    alloc: Global,
+    network: &N,
+    writer: &mut W,
+    errors: &mut E,
+) -> u8
+    ensures status { result ≤ 1 }
+    ensures good { result ≡ 0 → Keeps (E.contents errors.old) (E.contents errors.new) }
+{
+    let Some(places) = listen_all(network) else {
+        return cannot_listen(alloc, any_port(), errors);
+    };
+    let Ok((sender, receiver)) = bounded::<Echoed, Global>(alloc, 3) else {
+        return lacks_memory(errors);
+    };
+    let whole = run_all(rt, alloc, network, &places, sender, &receiver);
+    match print_lines(alloc, whole, writer) {
+        Ok(()) => 0,
+        Err(Stop::Connection(number)) => failed(alloc, number, errors),
+        Err(Stop::Writing) => refuse(errors, b"ymx: writing failed\n"),
+        Err(Stop::Memory) => lacks_memory(errors),
+    }
+}
+
+/// Runs the three servers and the client in threads, and says how many connections were whole before one failed.
+fn run_all<R: Threads + Wait + Sync, N: Network>(
+    rt: &R,
+    alloc: Global,
+    network: &N,
+    places: &Places,
+    sender: Sender<Echoed, Global>,
+    receiver: &Receiver<Echoed, Global>,
+) -> u32 {
+    thread::scope(thread::scope_env(), rt, |scope| {
+        let are_running = scope.spawn(move || serve_echoes(places)).is_ok()
+            && scope
+                .spawn(move || run_remote_end(rt, alloc, network, places))
+                .is_ok()
+            && scope
+                .spawn(move || run_local_end(rt, alloc, network, places))
+                .is_ok()
+            && scope
+                .spawn(move || run_client(rt, network, places, sender))
+                .is_ok();
+        let whole = if are_running {
+            receive_all(rt, receiver)
+        } else {
+            0
+        };
+        if whole < CONNECTIONS {
+            release(network, places);
+        }
+        whole
+    })
+}
+
+/// A port of 127.0.0.1 that the system chooses.
+fn any_port() -> SocketAddr {
+    SocketAddr::V4(SocketAddrV4::new(Ipv4Addr::LOCALHOST, 0))
+}
+
+/// Listens at three ports.
+fn listen_all<N: Network>(network: &N) -> Option<Places> {
+    let echo = network.listen(any_port())?;
+    let session = network.listen(any_port())?;
+    let local = network.listen(any_port())?;
+    let (Ok(echo_address), Ok(session_address), Ok(local_address)) = (
+        echo.local_addr(),
+        session.local_addr(),
+        local.local_addr(),
+    ) else {
+        return None;
+    };
+    Some(Places {
+        echo,
+        session,
+        local,
+        echo_address,
+        session_address,
+        local_address,
+    })
+}
+
+/// Receives what became of each connection, up to the first that failed, and says how many were whole. A result that
+/// doesn't come, or that of another connection, counts as a failure of the one awaited.
+fn receive_all<R: Wait>(rt: &R, receiver: &Receiver<Echoed, Global>) -> u32 {
+    for number in 1..=CONNECTIONS {
+        let whole = Echoed {
+            number,
+            is_whole: true,
+        };
+        if receiver.recv(rt) != Ok(whole) {
+            return number - 1;
+        }
+    }
+    CONNECTIONS
+}
+
+/// Prints a line for each of the first `whole` connections. Stops at the first other one.
+fn print_lines<W: Outlet>(alloc: Global, whole: u32, writer: &mut W) -> Result<(), Stop> {
+    let mut number = 0u32;
+    for size in SIZES {
+        number = number.saturating_add(1);
+        if number > whole {
+            return Err(Stop::Connection(number));
+        }
+        let Ok(line) = format!(in alloc; "connection {number}: {size} bytes echoed\n") else {
+            return Err(Stop::Memory);
+        };
+        if push_all(writer, line.as_bytes()).is_err() {
+            return Err(Stop::Writing);
+        }
+    }
+    Ok(())
+}
+
+/// Says that a connection failed.
+fn failed<E: Outlet>(alloc: Global, number: u32, errors: &mut E) -> u8
+    ensures { result ≡ 1 }
+{
+    match format!(in alloc; "ymx: selftest failed: connection {number}\n") {
+        Ok(text) => refuse(errors, text.as_bytes()),
+        Err(_) => lacks_memory(errors),
+    }
+}
+
+/// Connects to each server as often as it accepts, so that none of them waits any longer.
+fn release<N: Network>(network: &N, places: &Places) {
+    let _ = network.connect(places.session_address);
+    for _ in 0..CONNECTIONS {
+        let _ = network.connect(places.local_address);
+        let _ = network.connect(places.echo_address);
+    }
+}
+
+/// Sends back what each of three connections sends.
+fn serve_echoes(places: &Places) {
+    for _ in 0..CONNECTIONS {
+        let Ok((stream, _)) = places.echo.accept() else {
+            return;
+        };
+        let _ = io::copy(&mut &stream, &mut &stream);
+        let _ = stream.shutdown(Shutdown::Write);
+    }
+}
+
+/// The end of the tunnel at the echo server.
+fn run_remote_end<R: Threads + Wait + Sync, N: Network>(
+    rt: &R,
+    alloc: Global,
+    network: &N,
+    places: &Places,
+) {
+    let Ok((connection, _)) = places.session.accept() else {
+        return;
+    };
+    let side = Side::Remote {
+        target: places.echo_address,
+        workers: WORKERS,
+    };
+    let _ = forward(rt, alloc, network, &connection, side, WINDOW, &Unwatched);
+}
+
+/// The end of the tunnel at the client.
+fn run_local_end<R: Threads + Wait + Sync, N: Network>(
+    rt: &R,
+    alloc: Global,
+    network: &N,
+    places: &Places,
+) {
+    let Some(connection) = network.connect(places.session_address) else {
+        return;
+    };
+    let side = Side::Local {
+        listener: &places.local,
+        count: Some(CONNECTIONS),
+    };
+    let _ = forward(rt, alloc, network, &connection, side, WINDOW, &Unwatched);
+}
+
+/// Makes the three connections, one after the other, and sends what became of each.
+fn run_client<R: Wait, N: Network>(
+    rt: &R,
+    network: &N,
+    places: &Places,
+    sender: Sender<Echoed, Global>,
+) {
+    let mut number = 0u32;
+    for size in SIZES {
+        number = number.saturating_add(1);
+        let is_whole = match network.connect(places.local_address) {
+            Some(stream) => is_echoed(&stream, size).unwrap_or(false),
+            None => false,
+        };
+        if sender.send(rt, Echoed { number, is_whole }).is_err() {
+            return;
+        }
+    }
+}
+
+/// Sends so many bytes, closes the writing side, and reads: whether just these bytes came back.
+fn is_echoed(stream: &TcpStream, size: u32) -> io::Result<bool> {
+    write_pattern(stream, size)?;
+    stream.shutdown(Shutdown::Write)?;
+    reads_pattern(stream, size)
+}
+
+/// The byte at this place of what is sent.
+fn pattern(place: u32) -> u8 {
+    (place % 251) as u8
+}
+
+/// Writes the first so many bytes of the pattern.
+fn write_pattern(mut stream: &TcpStream, size: u32) -> io::Result<()> {
+    for start in 0..size {
+        if start % CHUNK_SIZE == 0 {
+            let mut chunk = [0u8; CHUNK];
+            fill(&mut chunk, start);
+            let length = (size - start).min(CHUNK_SIZE);
+            stream.write_all(&chunk[..length as usize])?;
+        }
+    }
+    Ok(())
+}
+
+/// Fills the chunk with the bytes of the pattern from this place on.
+fn fill(chunk: &mut [u8], start: u32) {
+    let mut place = start;
+    for byte in chunk {
+        *byte = pattern(place);
+        place = place.wrapping_add(1);
+    }
+}
+
+/// Reads up to the end: whether it is the first so many bytes of the pattern.
+fn reads_pattern(mut stream: &TcpStream, size: u32) -> io::Result<bool> {
+    let mut chunk = [0u8; CHUNK];
+    let mut place = 0u32;
+    for _ in 0..=size {
+        let count = stream.read(&mut chunk)?;
+        if count == 0 {
+            return Ok(place == size);
+        }
+        for byte in &chunk[..count] {
+            if place >= size || *byte != pattern(place) {
+                return Ok(false);
+            }
+            place += 1;
+        }
+    }
+    Ok(false)
+}
+
+#[cfg(test)]
+mod tests {
+    use super::*;
+    use ymx_model::MemoryOutlet;
+    use ymx_tunnel::Sockets;
+
+    #[test]
+    fn echoes_three_connections(rt: HostRuntime) {
+        let mut writer = MemoryOutlet::new(rt.alloc());
+        let mut errors = MemoryOutlet::new(rt.alloc());
+        let status = run_selftest(
+            &rt,
+            rt.alloc(),
+            &Sockets { rt: &rt },
+            &mut writer,
+            &mut errors,
+        );
+        assert_eq!(rt; status, 0);
+        assert_eq!(rt;
+            writer.as_slice(),
+            b"connection 1: 0 bytes echoed\nconnection 2: 1 bytes echoed\nconnection 3: 300000 bytes echoed\n".as_slice()
+        );
+        assert!(rt; errors.as_slice().is_empty());
+    }
+}

@@ -1,0 +1,152 @@
+-- What the calls of a half add to what its seat tells.
+use Rattle.std.proofs.Common.{◌≡◌, ℕ, ◌+◌, ◌≤◌, ◌⊎◌, inl, inr, List, [], ◌∷◌, ◌++◌, length, take, drop, Bool, true, false, Option, Some, None, Result, Ok, Err, MatchResult, IfOk, refl, sym, ap, ◌∙◌, append_assoc, append-nil, subst, arith}
+use Rattle.std.proofs.lemmas.Grind.{common_steps}
+use Rattle.std.proofs.lemmas.List.{take_all}
+use Rattle.std.proofs.Math.Seq.{take-add}
+use Rattle.std.specs.Io.KnownBytes.{Appends, Keeps, WriteAppends}
+use Rattle.ymx_model.specs.declared.types.CallFault.{CallFault}
+use Rattle.ymx_model.specs.declared.types.Event.{Event}
+use Rattle.ymx_model.specs.declared.types.Reply.{Reply}
+use Rattle.ymx_model.specs.declared.types.Reply.TheVariants as reply
+use Rattle.ymx_model.specs.declared.types.Entry.{Entry}
+use Rattle.ymx_seats.specs.Views.{entry}
+use Rattle.ymx_session.specs.Replies.{done_or}
+use Rattle.ymx_held.specs.declared.faults.HubFault.{HubFault}
+use Rattle.ymx_held.specs.Booked.{Gains, One, Asks, Forgets, SpendsWith, Spends, Closes, to_write, to_read, to_finish, to_reset, to_forget}
+use Rattle.ymx_hub.specs.declared.write_fault.WriteFault.{WriteFault}
+use Rattle.ymx_hub.specs.Turns.{took_of, total, AreWrites, Writes, AreWaits, Reads, ReadsLast}
+use Rattle.ymx_tunnel.specs.Told.{offered, written, read_of, read_bytes, GivesNone, HasSaidEnd}
+
+pub written_append : (xs ys : List Entry) → written (xs ++ ys) ≡ written xs ++ written ys
+written_append [] ys = refl
+written_append (x ∷ xs) ys =
+    ap (λ (l : List ℕ). take (took_of x.reply) (offered x.event) ++ l) (written_append xs ys) ∙ sym (append_assoc (take (took_of x.reply) (offered x.event)) (written xs) (written ys))
+
+pub read_append : (xs ys : List Entry) → read_bytes (xs ++ ys) ≡ read_bytes xs ++ read_bytes ys
+read_append [] ys = refl
+read_append (x ∷ xs) ys = ap (λ (l : List ℕ). read_of x.reply ++ l) (read_append xs ys) ∙ sym (append_assoc (read_of x.reply) (read_bytes xs) (read_bytes ys))
+
+-- writes of what was left took the first so many bytes
+pub writes_take : (id seat : ℕ) (left : List ℕ) (es : List Entry) → AreWrites id seat left es → written es ≡ take (total es) left
+writes_take id seat left [] w = refl
+writes_take id seat left (e ∷ es) w =
+    ap (λ (v : Event). take (took_of e.reply) (offered v) ++ written es) w.0.1
+    ∙ ap (λ (l : List ℕ). take (took_of e.reply) left ++ l) (writes_take id seat (drop (took_of e.reply) left) es w.1)
+    ∙ sym (take-add (took_of e.reply) (total es) left)
+
+-- ---- what is told of entries that were added
+
+tells_more : (told : List Entry → List ℕ) (before after : List Entry) (Such : List Entry → Type 0) (bytes : List ℕ) →
+    ((xs ys : List Entry) → told (xs ++ ys) ≡ told xs ++ told ys) → ((added : List Entry) → Such added → told added ≡ bytes) → Gains true before after Such →
+    Appends (Some (told before)) (Some (told after)) bytes
+tells_more told before after Such bytes joins f (added, e, s) = ap told e ∙ joins before added ∙ ap (λ (l : List ℕ). told before ++ l) (f added s)
+
+tells_same : (told : List Entry → List ℕ) (before after : List Entry) (Such : List Entry → Type 0) →
+    ((xs ys : List Entry) → told (xs ++ ys) ≡ told xs ++ told ys) → ((added : List Entry) → Such added → told added ≡ []) → Gains true before after Such →
+    Keeps (Some (told before)) (Some (told after))
+tells_same told before after Such joins f (added, e, s) = ap told e ∙ joins before added ∙ ap (λ (l : List ℕ). told before ++ l) (f added s) ∙ append-nil (told before)
+
+-- ---- a sink
+
+take_none : (n : ℕ) → take {A = ℕ} n [] ≡ []
+take_none n = take_all {A = ℕ} n [] (omega arith)
+
+all_written : (id seat : ℕ) (bytes : List ℕ) (u : Unit {0}) (added : List Entry) → Writes id bytes seat (Ok u) added → written added ≡ bytes
+all_written id seat bytes u added (w, (e, last)) = writes_take id seat bytes added w ∙ ap (λ n. take n bytes) e ∙ take_all (length bytes) bytes (omega arith)
+
+some_written : (id seat : ℕ) (bytes : List ℕ) (stop : WriteFault) (added : List Entry) → Writes id bytes seat (Err stop) added → written added ≡ take stop.taken bytes
+some_written id seat bytes stop added (w, (e, why)) = writes_take id seat bytes added w ∙ ap (λ n. take n bytes) e
+
+pub write_all_took : (before after : List Entry) (id seat : ℕ) (bytes : List ℕ) (result : Result (Unit {0}) WriteFault) → Gains true before after (Writes id bytes seat result) →
+    MatchResult result (λ _. Appends (Some (written before)) (Some (written after)) bytes)
+    (λ stop. Appends (Some (written before)) (Some (written after)) (take stop.taken bytes))
+write_all_took before after id seat bytes (Ok u) g =
+    tells_more written before after (Writes id bytes seat (Ok u)) bytes written_append (all_written id seat bytes u) g
+write_all_took before after id seat bytes (Err stop) g =
+    tells_more written before after (Writes id bytes seat (Err stop)) (take stop.taken bytes) written_append (some_written id seat bytes stop) g
+
+forgets_writes : (id seat : ℕ) (added : List Entry) → Forgets id seat added → written added ≡ []
+forgets_writes id seat added (inl e) = ap written e
+forgets_writes id seat added (inr (told, (p, e))) = ap written e ∙ ap (λ (l : List ℕ). l ++ []) (take_none (took_of told))
+
+-- a call that offers no bytes
+spends_writes : (event : Event) (id seat : ℕ) (told : Reply) (added : List Entry) → offered event ≡ [] → SpendsWith event id seat told added → written added ≡ []
+spends_writes event id seat told added none (p, rest, e, f) =
+    ap written e ∙ ap (λ (l : List ℕ). take (took_of told) l ++ written rest) none ∙ ap (λ (l : List ℕ). l ++ written rest) (take_none (took_of told)) ∙ forgets_writes id seat rest f
+
+spent_writes : (event : Event) (id seat : ℕ) (result : Result (Unit {0}) HubFault) (added : List Entry) → offered event ≡ [] → Spends event id seat result added → written added ≡ []
+spent_writes event id seat (Ok u) added none s = spends_writes event id seat reply.Done added none s
+spent_writes event id seat (Err fault) added none (inl (m, e)) = ap written e
+spent_writes event id seat (Err fault) added none (inr (why, f, s)) = spends_writes event id seat (reply.Refused why) added none s
+
+pub finish_keeps : (before after : List Entry) (id seat : ℕ) (result : Result (Unit {0}) HubFault) → Gains true before after (Spends (to_finish id) id seat result) →
+    Keeps (Some (written before)) (Some (written after))
+finish_keeps before after id seat result g =
+    tells_same written before after _ written_append (λ added s. spent_writes (to_finish id) id seat result added refl s) g
+
+pub reset_keeps : (before after : List Entry) (id seat : ℕ) (result : Result (Unit {0}) HubFault) → Gains true before after (Spends (to_reset id) id seat result) →
+    Keeps (Some (written before)) (Some (written after))
+reset_keeps before after id seat result g =
+    tells_same written before after _ written_append (λ added s. spent_writes (to_reset id) id seat result added refl s) g
+
+-- ---- a source
+
+waits_read : (seat : ℕ) (event : Event) (es : List Entry) → AreWaits seat event reply.ReadWait es → read_bytes es ≡ []
+waits_read seat event [] w = refl
+waits_read seat event (e ∷ es) w = ap (λ (r : Reply). read_of r ++ read_bytes es) w.0.2 ∙ waits_read seat event es w.1
+
+one_read : (seat : ℕ) (event : Event) (told : Reply) (es : List Entry) → One seat event told es → read_bytes es ≡ read_of told
+one_read seat event told es (p, e) = ap read_bytes e ∙ append-nil (read_of told)
+
+bytes_read : (id size : ℕ) (buffer : List ℕ) (seat n : ℕ) (last : List Entry) → ReadsLast id size buffer seat (Ok n) last → read_bytes last ≡ take n buffer
+bytes_read id size buffer seat n last (inl one) = one_read seat (to_read id size) (reply.Read (take n buffer)) last one
+bytes_read id size buffer seat n last (inr (none, one)) = one_read seat (to_read id size) reply.ReadEnd last one ∙ sym (ap (λ k. take k buffer) none)
+
+none_read : (id size : ℕ) (buffer : List ℕ) (seat : ℕ) (fault : HubFault) (last : List Entry) → ReadsLast id size buffer seat (Err fault) last → read_bytes last ≡ []
+none_read id size buffer seat fault last (inl (m, e)) = ap read_bytes e
+none_read id size buffer seat fault last (inr (why, f, one)) = one_read seat (to_read id size) (reply.Refused why) last one
+
+reads_give : (id size : ℕ) (buffer : List ℕ) (seat n : ℕ) (added : List Entry) → Reads id size buffer seat (Ok n) added → read_bytes added ≡ take n buffer
+reads_give id size buffer seat n added (waits, last, e, w, l) =
+    ap read_bytes e ∙ read_append waits last ∙ ap (λ (b : List ℕ). b ++ read_bytes last) (waits_read seat (to_read id size) waits w) ∙ bytes_read id size buffer seat n last l
+
+reads_give_none : (id size : ℕ) (buffer : List ℕ) (seat : ℕ) (fault : HubFault) (added : List Entry) → Reads id size buffer seat (Err fault) added → read_bytes added ≡ []
+reads_give_none id size buffer seat fault added (waits, last, e, w, l) =
+    ap read_bytes e ∙ read_append waits last ∙ ap (λ (b : List ℕ). b ++ read_bytes last) (waits_read seat (to_read id size) waits w) ∙ none_read id size buffer seat fault last l
+
+pub read_gave : (before after : List Entry) (id size : ℕ) (buffer : List ℕ) (seat : ℕ) (result : Result ℕ HubFault) → Gains true before after (Reads id size buffer seat result) →
+    WriteAppends (Some (read_bytes before)) (Some (read_bytes after)) result buffer
+read_gave before after id size buffer seat (Ok n) g =
+    tells_more read_bytes before after (Reads id size buffer seat (Ok n)) (take n buffer) read_append (reads_give id size buffer seat n) g
+read_gave before after id size buffer seat (Err fault) g =
+    tells_same read_bytes before after (Reads id size buffer seat (Err fault)) read_append (reads_give_none id size buffer seat fault) g
+
+-- the end was said by the last of some entries
+says_end : (before waits last after : List Entry) (seat : ℕ) (event : Event) (told : Reply) → after ≡ before ++ (waits ++ last) → One seat event told last → GivesNone told → HasSaidEnd after
+says_end before waits last after seat event told e (p, f) none =
+    (before ++ waits, entry p seat event told, [], e ∙ ap (λ (l : List Entry). before ++ (waits ++ l)) f ∙ sym (append_assoc before waits (entry p seat event told ∷ [])), none)
+
+end_read : (before after : List Entry) (id size : ℕ) (buffer : List ℕ) (seat n : ℕ) (added : List Entry) → after ≡ before ++ added → n ≡ 0 → Reads id size buffer seat (Ok n) added → HasSaidEnd after
+end_read before after id size buffer seat n added e none (waits, last, f, w, inl one) =
+    says_end before waits last after seat (to_read id size) (reply.Read (take n buffer)) (e ∙ ap (λ (l : List Entry). before ++ l) f) one (inr (ap (λ k. reply.Read (take k buffer)) none))
+end_read before after id size buffer seat n added e none (waits, last, f, w, inr (zero, one)) =
+    says_end before waits last after seat (to_read id size) reply.ReadEnd (e ∙ ap (λ (l : List Entry). before ++ l) f) one (inl refl)
+
+pub read_ended : (before after : List Entry) (id size : ℕ) (buffer : List ℕ) (seat : ℕ) (result : Result ℕ HubFault) → Gains true before after (Reads id size buffer seat result) →
+    IfOk result (λ count. count ≡ 0 → HasSaidEnd after)
+read_ended before after id size buffer seat (Ok n) (added, e, r) = λ none. end_read before after id size buffer seat n added e none r
+read_ended before after id size buffer seat (Err fault) g = tt
+
+closes_reads : (id seat : ℕ) (result : Result (Unit {0}) HubFault) (added : List Entry) → Closes id seat result added → read_bytes added ≡ []
+closes_reads id seat (Ok u) added (inl e) = ap read_bytes e
+closes_reads id seat (Ok u) added (inr one) = one_read seat (to_forget id) reply.Done added one
+closes_reads id seat (Err fault) added (inl (m, e)) = ap read_bytes e
+closes_reads id seat (Err fault) added (inr (why, f, one)) = one_read seat (to_forget id) (reply.Refused why) added one
+
+pub close_keeps : (before after : List Entry) (id seat : ℕ) (result : Result (Unit {0}) HubFault) → Gains true before after (Closes id seat result) →
+    Keeps (Some (read_bytes before)) (Some (read_bytes after))
+close_keeps before after id seat result g = tells_same read_bytes before after _ read_append (closes_reads id seat result) g
+
+pub close_ended : (before after : List Entry) (Such : List Entry → Type 0) → Gains true before after Such → HasSaidEnd before → HasSaidEnd after
+close_ended before after Such (added, e, s) (front, x, back, f, none) =
+    (front, x, back ++ added, e ∙ ap (λ (l : List Entry). l ++ added) f ∙ append_assoc front (x ∷ back) added, none)

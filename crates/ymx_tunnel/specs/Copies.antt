@@ -1,0 +1,32 @@
+-- What a copy moves (this project's own).
+use Rattle.std.specs.Prelude.{◌≡◌, ℕ, ◌-◌, ◌^◌, min, List, length, Option}
+use Rattle.std.specs.Io.{StartsWith}
+use Rattle.std.specs.Io.KnownBytes.{Appends, Consumes, IsAtEnd}
+use Rattle.ymx_model.specs.declared.types.CallFault.{CallFault}
+use Rattle.ymx_model.specs.declared.types.CallFault.TheVariants as refusal
+use Rattle.ymx_held.specs.declared.faults.HubFault.{HubFault}
+use Rattle.ymx_held.specs.declared.faults.HubFault.TheVariants.{Call}
+use Rattle.ymx_tunnel.specs.declared.copied.CopyWhy.{CopyWhy}
+use Rattle.ymx_tunnel.specs.declared.copied.CopyWhy.TheVariants.{End, Reset, Lost}
+
+-- a stream that was reset and a session that was lost are told apart from all else
+abbrev pub why_of : HubFault → CopyWhy → CopyWhy
+why_of (Call refusal.Reset) own = Reset
+why_of (Call refusal.Lost) own = Lost
+why_of fault own = own
+
+-- of what was given, this beginning was moved on, and counted as far as 64 bits go; it is all of it if the copy came to its end
+pub record IsMoved (given moved : List ℕ) (bytes : ℕ) (why : CopyWhy) : Type 0 where
+  pub beginning : StartsWith given moved
+  pub counted : bytes ≡ min (length moved) (2 ^ 64 - 1)
+  pub all : why ≡ End → moved ≡ given
+
+-- What a reader gave was moved into a sink. At the end the reader has none left.
+abbrev pub CopiesIn : (reader after : Option (List ℕ)) (sink left : Option (List ℕ)) (bytes : ℕ) (why : CopyWhy) → Type 0
+CopiesIn reader after sink left bytes why =
+    (given : List ℕ) × (moved : List ℕ) × Consumes reader after given × Appends sink left moved × IsMoved given moved bytes why × (why ≡ End → IsAtEnd after)
+
+-- What a source gave was moved into a writer.
+abbrev pub CopiesOut : (source left : Option (List ℕ)) (writer after : Option (List ℕ)) (bytes : ℕ) (why : CopyWhy) → Type 0
+CopiesOut source left writer after bytes why =
+    (given : List ℕ) × (moved : List ℕ) × Appends source left given × Appends writer after moved × IsMoved given moved bytes why

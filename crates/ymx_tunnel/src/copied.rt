@@ -1,0 +1,44 @@
+//! How a copy ended.
+
+ghost use Rattle.std.specs.Prelude.{◌≡◌};
+ghost use Rattle.ymx_tunnel.specs.Copies.{why_of};
+
+use ymx_hub::HubFault;
+use ymx_model::CallFault;
+
+/// Why a copy ended.
+#[derive(Clone, Copy, Debug, PartialEq, Eq)]
+pub enum CopyWhy {
+    /// All was copied, and the end was passed on.
+    End,
+    /// What it was copied from failed.
+    Source,
+    /// What it was copied to failed.
+    Sink,
+    /// The stream was reset.
+    Reset,
+    /// The session was lost.
+    Lost,
+}
+
+/// The end of a copy.
+#[derive(Drop)]
+pub struct Copied<L> {
+    /// How many bytes were copied; it stays at the greatest `u64`.
+    pub bytes: u64,
+    /// Why it ended.
+    pub why: CopyWhy,
+    /// What is left of the half of the stream.
+    pub left: L,
+}
+
+/// Why a copy ends at a fault of its half: of the stream, of the session, or else of the half itself.
+pub(crate) fn why_of_fault(fault: HubFault, own: CopyWhy) -> CopyWhy
+    ensures { result ≡ why_of fault own }
+{
+    match fault {
+        HubFault::Call(CallFault::Reset) => CopyWhy::Reset,
+        HubFault::Call(CallFault::Lost) => CopyWhy::Lost,
+        HubFault::Call(_) | HubFault::Memory | HubFault::Seats => own,
+    }
+}

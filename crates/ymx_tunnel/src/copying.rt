@@ -1,0 +1,154 @@
+//! Copies between a device and a half of a stream.
+
+ghost use Rattle.std.specs.Prelude.{ℕ, List, Result, Ok, ◌≡◌, ◌⊎◌, ◌<◌, ◌≤◌, length, take, IsTrue, OnOk, OnErr, IfErr};
+ghost use Rattle.std.specs.Io.{StartsWith};
+ghost use Rattle.std.specs.Io.KnownBytes.{Appends};
+ghost use Rattle.ymx_model.specs.devices.Devices.{has_failed};
+ghost use Rattle.ymx_held.specs.declared.faults.HubFault.{HubFault as Fault};
+ghost use Rattle.ymx_tunnel.specs.Copies.{CopiesIn, CopiesOut};
+
+use crate::copied::{Copied, CopyWhy, why_of_fault};
+use crate::ends::{Sink, Source};
+use std::sync::Wait;
+use ymx_model::{Inlet, Outlet};
+
+/// Copies what the reader gives into the sink, up to the reader's end; then it finishes the sink. At a fault it
+/// resets it. It reads into the buffer, which isn't empty, and takes no memory.
+///
+/// `Source`: the reader failed. `Reset`, `Lost`: the sink said so. `Sink`: the sink refused for another reason.
+pub fn copy_in<W: Wait, I: Inlet, S: Sink>(
+    rt: &W,
+    reader: &mut I,
+    sink: S,
+    buffer: &mut [u8],
+) -> Copied<S::Left>
+    requires { 0 < length buffer.old }
+    // A beginning of what the reader gave; at `End` all of it.
+    ensures moved { CopiesIn (I.remaining reader.old) (I.remaining reader.new) (S.taken sink) (S.taken_in_all result.left) result.bytes result.why }
+    // The end was passed on at `End` alone, and a reader that failed left no end behind.
+    ensures finished { result.why ≡ CopyWhy.End → (last : S) × S.Finishes last result.left (Ok tt) }
+    ensures reset { result.why ≡ CopyWhy.Source → (last : S) × (answer : Result (Unit {0}) Fault) × S.Resets last result.left answer }
+    // The reader is blamed if it failed, and only then.
+    ensures source { result.why ≡ CopyWhy.Source → IsTrue (has_failed (I.failures reader.old) (I.failures reader.new)) }
+    ensures reader_kept { (result.why ≡ CopyWhy.Source) ⊎ (I.failures reader.new ≡ I.failures reader.old) }
+{
+    let mut sink = sink;
+    let (bytes, why) = fill(rt, reader, &mut sink, buffer);
+    if why != CopyWhy::End {
+        let (left, _) = sink.reset(rt);
+        return Copied { bytes, why, left };
+    }
+    let (left, finished) = sink.finish(rt);
+    let why = match finished {
+        Ok(()) => CopyWhy::End,
+        Err(fault) => why_of_fault(fault, CopyWhy::Sink),
+    };
+    Copied { bytes, why, left }
+}
+
+/// Copies what the reader gives into the sink, up to the reader's end, and says how many bytes and why it ended.
+fn fill<W: Wait, I: Inlet, S: Sink>(
+    rt: &W,
+    reader: &mut I,
+    sink: &mut S,
+    buffer: &mut [u8],
+) -> (u64, CopyWhy)
+    requires { 0 < length buffer.old }
+    ensures moved { CopiesIn (I.remaining reader.old) (I.remaining reader.new) (S.taken sink.old) (S.taken sink.new) result.0 result.1 }
+    ensures source { result.1 ≡ CopyWhy.Source → IsTrue (has_failed (I.failures reader.old) (I.failures reader.new)) }
+    ensures reader_kept { (result.1 ≡ CopyWhy.Source) ⊎ (I.failures reader.new ≡ I.failures reader.old) }
+{
+    let mut bytes = 0u64;
+    'round: for _ in rt.forever() {
+        let Ok(count) = reader.pull(buffer) else {
+            return (bytes, CopyWhy::Source);
+        };
+        if count == 0 {
+            return (bytes, CopyWhy::End);
+        }
+        match sink.write_all(rt, &buffer[..count]) {
+            Ok(()) => bytes = bytes.saturating_add(count as u64),
+            Err(stop) => {
+                bytes = bytes.saturating_add(stop.taken as u64);
+                return (bytes, why_of_fault(stop.fault, CopyWhy::Sink));
+            }
+        }
+    }
+    unreachable!()
+}
+
+/// Copies what the source gives into the writer, up to the source's end, and then ends the writer. It closes the
+/// source in any case. It reads into the buffer, which isn't empty, and takes no memory.
+///
+/// `Sink`: the writer failed. `Reset`, `Lost`: the source said so. `Source`: the source refused for another reason.
+pub fn copy_out<W: Wait, S: Source, O: Outlet>(
+    rt: &W,
+    source: S,
+    writer: &mut O,
+    buffer: &mut [u8],
+) -> Copied<S::Left>
+    requires { 0 < length buffer.old }
+    // A beginning of what the source gave; at `End` all of it.
+    ensures moved { CopiesOut (S.given source) (S.given_in_all result.left) (O.contents writer.old) (O.contents writer.new) result.bytes result.why }
+    ensures ended { result.why ≡ CopyWhy.End → S.EndedBefore result.left }
+    // The writer is blamed if it failed, and only then.
+    ensures sink { result.why ≡ CopyWhy.Sink → IsTrue (has_failed (O.failures writer.old) (O.failures writer.new)) }
+    ensures writer_kept { (result.why ≡ CopyWhy.Sink) ⊎ (O.failures writer.new ≡ O.failures writer.old) }
+{
+    let mut source = source;
+    let (bytes, why) = empty(rt, &mut source, writer, buffer);
+    let (left, _) = source.close(rt);
+    if why == CopyWhy::End && writer.end().is_err() {
+        return Copied {
+            bytes,
+            why: CopyWhy::Sink,
+            left,
+        };
+    }
+    Copied { bytes, why, left }
+}
+
+/// Copies what the source gives into the writer, up to the source's end, and says how many bytes and why it ended.
+fn empty<W: Wait, S: Source, O: Outlet>(
+    rt: &W,
+    source: &mut S,
+    writer: &mut O,
+    buffer: &mut [u8],
+) -> (u64, CopyWhy)
+    requires { 0 < length buffer.old }
+    ensures moved { CopiesOut (S.given source.old) (S.given source.new) (O.contents writer.old) (O.contents writer.new) result.0 result.1 }
+    ensures ended { result.1 ≡ CopyWhy.End → S.HasEnded source.new }
+    ensures sink { result.1 ≡ CopyWhy.Sink → IsTrue (has_failed (O.failures writer.old) (O.failures writer.new)) }
+    ensures writer_kept { (result.1 ≡ CopyWhy.Sink) ⊎ (O.failures writer.new ≡ O.failures writer.old) }
+{
+    let mut bytes = 0u64;
+    'round: for _ in rt.forever() {
+        let count = match source.read(rt, buffer) {
+            Ok(0) => return (bytes, CopyWhy::End),
+            Ok(count) => count,
+            Err(fault) => return (bytes, why_of_fault(fault, CopyWhy::Source)),
+        };
+        match push_all(writer, &buffer[..count]) {
+            Ok(()) => bytes = bytes.saturating_add(count as u64),
+            Err(taken) => return (bytes.saturating_add(taken as u64), CopyWhy::Sink),
+        }
+    }
+    unreachable!()
+}
+
+/// Pushes all of these bytes. At a failure it answers how many the writer had taken.
+fn push_all<O: Outlet>(writer: &mut O, bytes: &[u8]) -> Result<(), usize>
+    ensures ok { OnOk result (Appends (O.contents writer.old) (O.contents writer.new) bytes.now) }
+    ensures kept { OnOk result (O.failures writer.new ≡ O.failures writer.old) }
+    ensures err { IfErr result (λ taken. (taken ≤ length bytes.now) × Appends (O.contents writer.old) (O.contents writer.new) (take taken bytes.now)) }
+    ensures failed { OnErr result (IsTrue (has_failed (O.failures writer.old) (O.failures writer.new))) }
+{
+    let mut taken = 0;
+    'push: while taken < bytes.len() {
+        match writer.push(&bytes[taken..]) {
+            Ok(count) => taken += count,
+            Err(_) => return Err(taken),
+        }
+    }
+    Ok(())
+}

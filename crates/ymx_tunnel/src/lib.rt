@@ -1,0 +1,24 @@
+//! A tunnel: TCP connections joined to the streams of a session.
+//!
+//! `Sink` and `Source` are the ends of a copy that are halves of streams; `copy_in` and `copy_out` copy between one and
+//! a device. `serve_local` opens a stream for each connection, and `serve_remote` makes a connection for each stream.
+#![tactic(auto)]
+
+mod connection;
+mod copied;
+mod copying;
+mod ends;
+mod halves;
+mod joining;
+mod network;
+mod serving;
+#[cfg(test)]
+mod tests;
+
+pub use connection::{ConnectionReader, ConnectionWriter};
+pub use copied::{Copied, CopyWhy};
+pub use copying::{copy_in, copy_out};
+pub use ends::{Sink, Source};
+pub use joining::{Direction, Joined};
+pub use network::{Network, Sockets};
+pub use serving::{Served, Unwatched, Watcher, serve_local, serve_remote};

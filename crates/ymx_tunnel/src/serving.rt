@@ -1,0 +1,244 @@
+//! The two servers of a tunnel: one opens a stream for each connection, and one makes a connection for each stream.
+
+use crate::joining::{Joined, join_both, let_go, spend};
+use crate::network::Network;
+use std::alloc::Global;
+use std::net::{SocketAddr, TcpListener, TcpStream};
+use std::sync::atomic::{AtomicBool, AtomicU64, Ordering};
+use std::sync::{Arc, Wait};
+use std::thread;
+use std::thread::Threads;
+use ymx_hub::{Acceptor, Hub, HubFault, Off, Opener, ReadHalf, WriteHalf};
+
+/// Who is told of connections that have ended.
+pub trait Watcher: Sync {
+    /// A connection has ended. Connections are numbered 1, 2, 3, .. as they begin.
+    fn ended<W: Wait>(&self, rt: &W, number: u64, joined: &Joined);
+}
+
+/// Watches nothing.
+#[derive(Drop)]
+pub struct Unwatched;
+
+impl Watcher for Unwatched {
+    fn ended<W: Wait>(&self, _rt: &W, _number: u64, _joined: &Joined) {}
+}
+
+/// How a server ended.
+#[derive(Clone, Copy, Debug, PartialEq, Eq)]
+pub struct Served {
+    /// No connection could be accepted any more.
+    pub accept_failed: bool,
+    /// Somewhere no memory was found.
+    pub lacked_memory: bool,
+}
+
+/// What the workers of a server share.
+#[derive(Drop)]
+struct Shared<'a, V: Watcher> {
+    hub: &'a Arc<Hub<Off>, Global>,
+    alloc: Global,
+    watcher: &'a V,
+    begun: AtomicU64,
+    lacked_memory: AtomicBool,
+}
+
+/// Accepts connections, and serves each in a thread of its own, its worker, which opens a stream and copies both ways.
+/// A connection for which no thread can be made is closed, and so is one for which no stream can be opened. It ends
+/// after `count` connections, or at an accept that fails; without `count` also at the first connection that is accepted
+/// after the session was lost. It returns once all workers have ended.
+pub fn serve_local<R: Threads + Wait + Sync, V: Watcher>(
+    rt: &R,
+    alloc: Global,
+    hub: &Arc<Hub<Off>, Global>,
+    listener: &TcpListener,
+    count: Option<u32>,
+    watcher: &V,
+) -> Served {
+    let shared = Shared::new(alloc, hub, watcher);
+    let lent = &shared;
+    let accept_failed = thread::scope(thread::scope_env(), rt, |scope| {
+        for _ in 0..count.map_or(u64::MAX, u64::from) {
+            let Ok((stream, _)) = listener.accept() else {
+                return true;
+            };
+            if count.is_none() && !lent.hub.is_running(rt) {
+                return false;
+            }
+            if scope
+                .spawn(move || serve_connection(rt, lent, stream))
+                .is_err()
+            {
+                lent.lack_memory();
+            }
+        }
+        false
+    });
+    shared.served(accept_failed)
+}
+
+/// Accepts streams in so many workers, at least one, each of which connects to the target and copies both ways. A
+/// stream for which no connection can be made is reset. It returns once the session gives out no more streams and all
+/// workers have ended.
+pub fn serve_remote<R: Threads + Wait + Sync, N: Network, V: Watcher>(
+    rt: &R,
+    alloc: Global,
+    hub: &Arc<Hub<Off>, Global>,
+    network: &N,
+    target: SocketAddr,
+    workers: u32,
+    watcher: &V,
+) -> Served {
+    let shared = Shared::new(alloc, hub, watcher);
+    let lent = &shared;
+    thread::scope(thread::scope_env(), rt, |scope| {
+        for _ in 1..workers {
+            if scope
+                .spawn(move || serve_streams(rt, lent, network, target))
+                .is_err()
+            {
+                lent.lack_memory();
+            }
+        }
+        serve_streams(rt, lent, network, target);
+    });
+    shared.served(false)
+}
+
+/// Opens a stream for a connection, and copies both ways.
+fn serve_connection<R: Threads + Wait + Sync, V: Watcher>(
+    rt: &R,
+    shared: &Shared<'_, V>,
+    stream: TcpStream,
+) {
+    let number = shared.next_number();
+    let _ = stream.set_nodelay(true);
+    let Some(mut opener) = shared.opener(rt) else {
+        return;
+    };
+    let opened = opener.open(rt);
+    let_go(opener.into_seat());
+    match opened {
+        Ok((sink, source)) => {
+            let joined = join_both(rt, shared.alloc, &stream, sink, source);
+            shared.ended(rt, number, &joined);
+        }
+        Err(fault) => shared.refused(fault),
+    }
+}
+
+/// Accepts streams, one after the other, and serves each, until the session gives out no more.
+fn serve_streams<R: Threads + Wait + Sync, N: Network, V: Watcher>(
+    rt: &R,
+    shared: &Shared<'_, V>,
+    network: &N,
+    target: SocketAddr,
+) {
+    let Some(mut acceptor) = shared.acceptor(rt) else {
+        return;
+    };
+    for _ in rt.forever() {
+        match acceptor.accept(rt) {
+            Ok(Some((sink, source))) => {
+                let number = shared.next_number();
+                let joined = serve_stream(rt, shared.alloc, network, target, sink, source);
+                shared.ended(rt, number, &joined);
+            }
+            Ok(None) => break,
+            Err(HubFault::Memory) => {
+                shared.lack_memory();
+                thread::yield_now();
+            }
+            Err(_) => break,
+        }
+    }
+    let_go(acceptor.into_seat());
+}
+
+/// Connects to the target for a stream, and copies both ways. If it can't connect the stream is reset.
+fn serve_stream<R: Threads + Wait + Sync, N: Network>(
+    rt: &R,
+    alloc: Global,
+    network: &N,
+    target: SocketAddr,
+    sink: WriteHalf<Off>,
+    source: ReadHalf<Off>,
+) -> Joined {
+    match network.connect(target) {
+        Some(stream) => join_both(rt, alloc, &stream, sink, source),
+        None => {
+            spend(rt, Some(sink), Some(source));
+            Joined::without_connection()
+        }
+    }
+}
+
+impl<'a, V: Watcher> Shared<'a, V> {
+    /// Nothing has begun yet.
+    fn new(alloc: Global, hub: &'a Arc<Hub<Off>, Global>, watcher: &'a V) -> Shared<'a, V> {
+        Shared {
+            hub,
+            alloc,
+            watcher,
+            begun: AtomicU64::new(0),
+            lacked_memory: AtomicBool::new(false),
+        }
+    }
+
+    /// The number of a connection that begins.
+    fn next_number(&self) -> u64 {
+        self.begun.fetch_add(1, Ordering::SeqCst).saturating_add(1)
+    }
+
+    /// Who opens streams, if there is a seat and memory for it.
+    fn opener<R: Wait>(&self, rt: &R) -> Option<Opener<Off>> {
+        let Ok(hub) = Arc::try_clone(self.hub) else {
+            self.lack_memory();
+            return None;
+        };
+        match self.hub.seat(rt) {
+            Ok(seat) => Some(Opener::new(hub, seat)),
+            Err(_) => None,
+        }
+    }
+
+    /// Who accepts streams, if there is a seat and memory for it.
+    fn acceptor<R: Wait>(&self, rt: &R) -> Option<Acceptor<Off>> {
+        let Ok(hub) = Arc::try_clone(self.hub) else {
+            self.lack_memory();
+            return None;
+        };
+        match self.hub.seat(rt) {
+            Ok(seat) => Some(Acceptor::new(hub, seat)),
+            Err(_) => None,
+        }
+    }
+
+    /// Somewhere no memory was found.
+    fn lack_memory(&self) {
+        self.lacked_memory.store(true, Ordering::SeqCst);
+    }
+
+    /// A call of the hub was refused.
+    fn refused(&self, fault: HubFault) {
+        if fault == HubFault::Memory {
+            self.lack_memory();
+        }
+    }
+
+    /// A connection has ended.
+    fn ended<R: Wait>(&self, rt: &R, number: u64, joined: &Joined) {
+        if joined.lacked_memory() {
+            self.lack_memory();
+        }
+        self.watcher.ended(rt, number, joined);
+    }
+
+    /// How the server ended.
+    fn served(&self, accept_failed: bool) -> Served {
+        Served {
+            accept_failed,
+            lacked_memory: self.lacked_memory.load(Ordering::SeqCst),
+        }
+    }
+}
