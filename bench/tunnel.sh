@@ -1,0 +1,110 @@
+#!/bin/sh
+# Measures the tunnel over TCP on the loopback: a client, `ymx local`, `ymx remote` and an echo server; the same
+# with Go's yamux in place of ymx, and with plain copying in place of yamux. Medians of five runs, in turn. The
+# client compares what comes back. Needs Go, as tests/interop/run.sh does. With a number it makes so many runs.
+set -eu
+top=$(cd "$(dirname "$0")/.." && pwd)
+"$top/ymx" --version > /dev/null
+folder=$(mktemp -d)
+trap 'rm -rf "$folder"' EXIT
+GO111MODULE=off GOPATH=/usr/share/gocode go build -o "$folder/peer" "$top/tests/interop/peer.go"
+python3 - "$folder/peer" "$top/out/ymx" "${1-5}" <<'PYTHON'
+import os
+import socket
+import statistics
+import subprocess
+import sys
+import time
+
+peer, ymx, runs = sys.argv[1], sys.argv[2], int(sys.argv[3])
+ANY = "127.0.0.1:0"
+CASES = [
+    ("1 connection of 1 GiB", 1, 1, 1 << 30),
+    ("64 connections of 16 MiB at once", 64, 64, 16 << 20),
+    ("2,000 connections of 1 KiB, 64 at once", 2000, 64, 1024),
+    ("200 empty connections, one after another", 200, 1, 0),
+]
+
+
+def free_address():
+    """An address that nobody listens at."""
+    with socket.socket() as one:
+        one.bind(("127.0.0.1", 0))
+        return f"127.0.0.1:{one.getsockname()[1]}"
+
+
+def listens(address):
+    """Whether somebody listens there; to call would be the one connection of `ymx remote`."""
+    return f" {address} " in subprocess.run(["ss", "-ltn"], capture_output=True, text=True, check=True).stdout
+
+
+class Process:
+    """A process that says where it listens, or whose words say it at this place."""
+
+    def __init__(self, words, place=None):
+        self.log = open(os.path.join(os.path.dirname(peer), f"log{time.monotonic_ns()}"), "w+")
+        self.process = subprocess.Popen(words, stdout=self.log, stderr=subprocess.STDOUT)
+        for _ in range(200):
+            if place is not None and listens(words[place]):
+                self.address = words[place]
+                return
+            self.log.seek(0)
+            found = [line.split()[-1] for line in self.log if "listening at " in line]
+            if found:
+                self.address = found[0]
+                return
+            time.sleep(0.05)
+        self.log.seek(0)
+        raise SystemExit(f"{words} says nothing: {self.log.read()}")
+
+    def cost(self):
+        """Seconds of the processor, and the largest resident memory in MiB."""
+        fields = open(f"/proc/{self.process.pid}/stat").read().rsplit(") ", 1)[1].split()
+        seconds = (int(fields[11]) + int(fields[12])) / os.sysconf("SC_CLK_TCK")
+        status = open(f"/proc/{self.process.pid}/status").read()
+        return seconds, int(status.split("VmHWM:")[1].split()[0]) / 1024
+
+    def stop(self):
+        self.process.kill()
+        self.process.wait()
+
+
+def tunnel(kind, echo):
+    """The two processes between the client and the echo server, the client's first."""
+    if kind == "plain copying":
+        far = Process([peer, "forward", "-at", ANY, "-to", echo.address])
+        return Process([peer, "forward", "-at", ANY, "-to", far.address]), far
+    if kind == "Go":
+        far = Process([peer, "remote", "-at", ANY, "-to", echo.address])
+        return Process([peer, "local", "-at", ANY, "-to", far.address]), far
+    far = Process([ymx, "remote", "--bind", free_address(), "--target", echo.address, "--workers", "64"], 3)
+    return Process([ymx, "local", "--listen", free_address(), "--peer", far.address], 3), far
+
+
+def measure(kind, count, at_once, size):
+    echo = Process([peer, "echo", "-at", ANY])
+    near, far = tunnel(kind, echo)
+    words = [peer, "load", "-at", near.address, "-count", str(count), "-at-once", str(at_once), "-size", str(size)]
+    seconds, failures = subprocess.run(words, capture_output=True, text=True, check=True, timeout=300).stdout.split()
+    costs = near.cost(), far.cost()
+    for each in near, far, echo:
+        each.stop()
+    if failures != "0":
+        raise SystemExit(f"{kind}: {failures} connections of {count} failed")
+    return float(seconds), sum(cost[0] for cost in costs), max(cost[1] for cost in costs)
+
+
+for name, count, at_once, size in CASES:
+    print(name)
+    figures = {"ymx": [], "Go": [], "plain copying": []}
+    for _ in range(runs):
+        for kind in figures:
+            figures[kind].append(measure(kind, count, at_once, size))
+    for kind, taken in figures.items():
+        seconds, processor, memory = (statistics.median(column) for column in zip(*taken))
+        if size >= 1 << 20:
+            speed = f"{count * size / seconds / 1e6:,.0f} MB a second each way"
+        else:
+            speed = f"{count / seconds:,.0f} connections a second"
+        print(f"  {kind}: {speed}; {processor:.2f} s of processor, {memory:.0f} MiB at most in one process")
+PYTHON
