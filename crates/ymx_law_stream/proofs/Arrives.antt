@@ -26,7 +26,7 @@ pub taken : (bytes rest : List ℕ) (wx wy : ℕ) (x y : End) (xy yx : List Part
     takes x.phase ≡ true → Alive wx wy x y xy (Data (bytes ++ rest) ∷ yx) s →
     Alive wx wy (record x { reader = reader_arrive bytes x.reader }) y xy (Data rest ∷ yx) (record s { inbound = lane_arrive (length bytes) s.inbound })
 taken bytes rest wx wy x y xy yx s t c = assumption (
-  kept-arrive bytes t (rw (append_assoc bytes rest (loads yx)) at c.inbound.with_data),
+  kept-arrive bytes t (rw (append_assoc bytes rest (loads yx)) at c.inbound.holds),
   ends-arrive bytes (rw (append_assoc bytes rest (loads yx)) at c.inbound.finishes),
   spoke (Data rest ∷ yx) c.inbound,
   born-sleeps wx (record x { reader = reader_arrive bytes x.reader }) xy (takes-born x.phase t),
@@ -37,7 +37,7 @@ pub vanished : (bytes rest : List ℕ) (wx wy : ℕ) (x y : End) (xy yx : List P
     is_up x.phase ≡ false → Alive wx wy x y xy (Data (bytes ++ rest) ∷ yx) s →
     Alive wx wy x y xy (Data rest ∷ yx) (record s { inbound = lane_vanish (length bytes) s.inbound })
 vanished bytes rest wx wy x y xy yx s u c = assumption (
-  kept-vanish bytes u (rw (append_assoc bytes rest (loads yx)) at c.inbound.with_data),
+  kept-vanish bytes u (rw (append_assoc bytes rest (loads yx)) at c.inbound.holds),
   ends-arrive bytes (rw (append_assoc bytes rest (loads yx)) at c.inbound.finishes),
   spoke (Data rest ∷ yx) c.inbound,
 )
@@ -50,14 +50,14 @@ data-nothing bytes rest wx wy x y xy yx s e c = rw e at c
 -- its last byte has come
 pub data-over : (wx wy : ℕ) (x y : End) (xy yx : List Part) (s : Stream) →
     Alive wx wy x y xy (Data [] ∷ yx) s → Alive wx wy x y xy yx s
-data-over wx wy x y xy yx s c = assumption (rw zero-add at c.outbound.with_data, spoke yx c.inbound)
+data-over wx wy x y xy yx s c = assumption (rw zero-add at c.outbound.holds, spoke yx c.inbound)
 
 -- credit that comes to an end that takes it
 pub credited : (d : ℕ) (wx wy : ℕ) (x y : End) (xy yx : List Part) (s : Stream) →
     takes x.phase ≡ true → Alive wx wy x y xy (Credit d ∷ yx) s →
     Alive wx wy (record x { writer = writer_grant d x.writer }) y xy yx (record s { outbound = lane_return d s.outbound })
 credited d wx wy x y xy yx s t c = assumption (
-  kept-given d {due = gifts yx} (takes-up x.phase t) c.outbound.with_data,
+  kept-given d {due = gifts yx} (takes-up x.phase t) c.outbound.holds,
   spoke yx c.inbound,
   born-sleeps wx (record x { writer = writer_grant d x.writer }) xy (takes-born x.phase t),
 )
@@ -65,7 +65,7 @@ credited d wx wy x y xy yx s t c = assumption (
 -- credit that comes to an end that is over
 pub credit-lapses : (d : ℕ) (wx wy : ℕ) (x y : End) (xy yx : List Part) (s : Stream) →
     is_up x.phase ≡ false → Alive wx wy x y xy (Credit d ∷ yx) s → Alive wx wy x y xy yx s
-credit-lapses d wx wy x y xy yx s u c = assumption (kept-dropped d {due = gifts yx} u c.outbound.with_data, spoke yx c.inbound)
+credit-lapses d wx wy x y xy yx s u c = assumption (kept-dropped d {due = gifts yx} u c.outbound.holds, spoke yx c.inbound)
 
 -- the ACK, whose credit counts as credit that comes behind it
 pub acknowledged : (d : ℕ) (wx wy : ℕ) (x y : End) (xy yx : List Part) (s : Stream) →
@@ -95,7 +95,7 @@ pub fin-taken : (wx wy : ℕ) (x y : End) (xy yx : List Part) (s : Stream) →
     takes x.phase ≡ true → Alive wx wy x y xy (Fin ∷ yx) s →
     Alive wx wy (record x { reader = reader_end x.reader; marks = record x.marks { credit_at_once = false } }) y xy yx (record s { inbound = lane_fin Here s.inbound })
 fin-taken wx wy x y xy yx s t c = assumption (
-  rw zero-add at c.outbound.with_data,
+  rw zero-add at c.outbound.holds,
   ends-comes (holds_fin yx) c.inbound.ordered.1.0 c.inbound.ordered.1.1 c.inbound.finishes,
   spoke yx c.inbound,
   born-sleeps wx (record x { reader = reader_end x.reader; marks = record x.marks { credit_at_once = false } }) xy (takes-born x.phase t),
@@ -105,13 +105,13 @@ fin-taken wx wy x y xy yx s t c = assumption (
 pub fin-ignored : (wx wy : ℕ) (x y : End) (xy yx : List Part) (s : Stream) →
     is_up x.phase ≡ false → Alive wx wy x y xy (Fin ∷ yx) s → Alive wx wy x y xy yx (record s { inbound = lane_fin Here s.inbound })
 fin-ignored wx wy x y xy yx s u c = assumption (
-  rw zero-add at c.outbound.with_data,
+  rw zero-add at c.outbound.holds,
   ends-ignored (holds_fin yx) u c.inbound.ordered.1.0 c.inbound.ordered.1.1 c.inbound.finishes,
   spoke yx c.inbound,
 )
 
 pub fin-allowed : (wx wy : ℕ) (x y : End) (xy yx : List Part) (s : Stream) → (x.phase ≡ Unborn → ⊥) → Alive wx wy x y xy (Fin ∷ yx) s → Allowed EndArrives s
-fin-allowed wx wy x y xy yx s n c = let o = c.inbound.ordered in let f = c.inbound.finishes in let i = c.inbound.with_data in let m = c.outbound.phase in grind (arith, lists)
+fin-allowed wx wy x y xy yx s n c = let o = c.inbound.ordered in let f = c.inbound.finishes in let i = c.inbound.holds in let m = c.outbound.phase in grind (arith, lists)
 
 -- a stream is offered, and the credit of its SYN counts as credit that comes behind it
 pub offered : (d : ℕ) (wx wy : ℕ) (y : End) (xy yx : List Part) (s : Stream) →

@@ -22,7 +22,7 @@ use Rattle.ymx_law_stream.proofs.Phases.{down-born, live-takes, live-up, live-bo
 pub alive-writes : (bytes : List ℕ) (wx wy : ℕ) (x y : End) (xy yx : List Part) (s : Stream) →
     x.phase ≡ Live → x.writer.finished ≡ false → length bytes ≤ x.writer.credit → Alive wx wy x y xy yx s → Alive wx wy (end_write bytes x) y xy yx (stream_write bytes s)
 alive-writes bytes wx wy x y xy yx s l o fits c = assumption (
-  kept-write bytes (live-up x.phase l) fits c.outbound.with_data,
+  kept-write bytes (live-up x.phase l) fits c.outbound.holds,
   ends-write bytes (live-up x.phase l) o c.outbound.finishes,
   stops-up x.phase (writer_write bytes x.writer) x.marks.ack (live-up x.phase l) c.outbound.stops,
   born-sleeps wx (end_write bytes x) xy (live-born x.phase l),
@@ -31,7 +31,7 @@ alive-writes bytes wx wy x y xy yx s l o fits c = assumption (
 pub alive-reads : (n : ℕ) (wx wy : ℕ) (x y : End) (xy yx : List Part) (s : Stream) →
     x.phase ≡ Live → Alive wx wy x y xy yx s → Alive wx wy (end_read n x) y xy yx (stream_read n s)
 alive-reads n wx wy x y xy yx s l c = assumption (
-  kept-read n (live-takes x.phase l) c.inbound.with_data,
+  kept-read n (live-takes x.phase l) c.inbound.holds,
   born-sleeps wx (end_read n x) xy (live-born x.phase l),
 )
 
@@ -57,7 +57,7 @@ alive-accepts lost wx wy x y xy yx s l a =
       stops-up Live x.writer (not lost) refl c.outbound.stops,
       acks-accepted lost acceptor c.outbound.acks,
       born-sleeps wx (end_accept lost x) xy (live-born Live refl),
-      kept-less (to_announce wx Live x.marks.syn x.marks.with_data (not lost)) (grind arith) c.inbound.with_data,
+      kept-less (to_announce wx Live x.marks.syn x.marks.with_data (not lost)) (grind arith) c.inbound.holds,
       acks-opener (if lost then s.ack else Said) (rw acceptor refl) c.inbound.acks,
     )
 
@@ -74,13 +74,13 @@ pub alive-resets : (p : Phase) (wx wy : ℕ) (x y : End) (xy yx : List Part) (s 
 alive-resets p wx wy x y xy yx s l d c =
     let up = live-up x.phase l in
     assumption (
-      kept-stopped (kept_fin x s) p d c.outbound.with_data,
+      kept-stopped (kept_fin x s) p d c.outbound.holds,
       ends-stopped p d c.outbound.finishes,
       stops-reset p up d c.outbound.stops,
       born-down p d c.outbound.born,
       acks-reset p d c.outbound.acks,
       born-sleeps wx (end_reset p x) xy (down-born p d),
-      kept-emptied p (to_announce wx p x.marks.syn (x.marks.syn && x.marks.with_data) false) dead_reader d refl (grind arith) c.inbound.with_data,
+      kept-emptied p (to_announce wx p x.marks.syn (x.marks.syn && x.marks.with_data) false) dead_reader d refl (grind arith) c.inbound.holds,
       ends-down p dead_reader d c.inbound.finishes,
       born-other p (grind arith) c.inbound.born,
       acks-other x.marks.ack (let o = c.outbound.acks.none in grind arith) c.inbound.acks,
@@ -95,13 +95,13 @@ pub alive-given_up : (r : Reader) (wx wy : ℕ) (x y : End) (xy yx : List Part) 
     r.unread ≡ [] → (is_live x.phase ≡ true) ⊎ (is_up x.phase ≡ false) → Alive wx wy x y xy yx s →
     Alive wx wy (record x { phase = Lingering; reader = r }) y xy yx (stream_forget s)
 alive-given_up r wx wy x y xy yx s e l c = assumption (
-  kept-down Lingering refl c.outbound.with_data,
+  kept-down Lingering refl c.outbound.holds,
   ends-given_up Lingering refl c.outbound.finishes,
   stops-down Lingering refl c.outbound.stops,
   born-down Lingering refl c.outbound.born,
   acks-down Lingering refl c.outbound.acks,
   born-sleeps wx (record x { phase = Lingering; reader = r }) xy (down-born Lingering refl),
-  kept-emptied Lingering (to_announce wx Lingering x.marks.syn x.marks.with_data x.marks.ack) r refl e (grind arith) c.inbound.with_data,
+  kept-emptied Lingering (to_announce wx Lingering x.marks.syn x.marks.with_data x.marks.ack) r refl e (grind arith) c.inbound.holds,
   ends-down Lingering r refl c.inbound.finishes,
   born-other Lingering (grind arith) c.inbound.born,
 )

@@ -45,7 +45,7 @@ credit-alive : (d : ℕ) (wx wy : ℕ) (x y : End) (xy yx : List Part) (s : Stre
     ((takes x.phase ≡ true) × Allowed (Return d) s × Alive wx wy (receive_credit d x) y xy yx (after_move (Return d) s))
     ⊎ ((takes x.phase ≡ false) × Alive wx wy (receive_credit d x) y xy yx s)
 credit-alive d wx wy x y xy yx s n c = elim (when (takes x.phase)) [
-  | inl t ↦ inl (t, (let m = c.outbound.phase in let o = c.outbound.with_data in grind arith), rw t (credited d wx wy x y xy yx s t c))
+  | inl t ↦ inl (t, (let m = c.outbound.phase in let o = c.outbound.holds in grind arith), rw t (credited d wx wy x y xy yx s t c))
   | inr t ↦ inr (t, rw t (credit-lapses d wx wy x y xy yx s (down x.phase t n) c))
 ]
 
@@ -71,7 +71,7 @@ piece-alive refuse bytes rest wx wy x y xy yx s c = go (when (takes x.phase)) (w
     me = rw c.outbound.phase refl
 
     allowed : Allowed (Arrive (length bytes)) s
-    allowed = let n = syn-only wx wy x y xy (Data (bytes ++ rest)) yx s refl c in let m = c.outbound.phase in let w = c.inbound.with_data.way in grind (arith, lists)
+    allowed = let n = syn-only wx wy x y xy (Data (bytes ++ rest)) yx s refl c in let m = c.outbound.phase in let w = c.inbound.holds.way in grind (arith, lists)
 
     go : (takes x.phase ≡ true) ⊎ (takes x.phase ≡ false) → (x.reader.ended ≡ true) ⊎ (x.reader.ended ≡ false) →
         (t : Stream) × Goes refuse (Data bytes) s t × Alive wx wy (receive_data bytes x) y xy (Data rest ∷ yx) t
@@ -123,7 +123,7 @@ syn-alive true d wx wy x y xy yx s c =
 syn-alive false d wx wy x y xy yx s c =
     let e = c.outbound.sleeps.new (syn-finds d wx wy x y xy yx s c).0 in
     let r = offered d wx wy y xy yx s (subst (λ f. Alive wx wy f y xy (Syn d ∷ yx) s) e c) in
-    let a : Allowed (Return d) (after_move SynOffered s) = let o = r.1.outbound.with_data in grind arith in
+    let a : Allowed (Return d) (after_move SynOffered s) = let o = r.1.outbound.holds in grind arith in
     (after_move (Return d) (after_move SynOffered s), (SynOffered ∷ Return d ∷ [], refl, (r.0, (a, refl))), credited d wx wy (new_end wx Offered false false) y xy yx (after_move SynOffered s) refl r.1)
 
 -- ---- any part

@@ -17,7 +17,7 @@ use Rattle.ymx_law_stream.proofs.Phases.{down-takes, born}
 
 data-granted : (b : List ℕ) (wx wy : ℕ) (x y : End) (xy yx : List Part) (s : Stream) →
     takes x.phase ≡ true → Alive wx wy x y xy (Data b ∷ yx) s → length b ≤ x.reader.granted
-data-granted b wx wy x y xy yx s t c = let i = c.inbound.with_data in grind (arith, lists)
+data-granted b wx wy x y xy yx s t c = let i = c.inbound.holds in grind (arith, lists)
 
 data-last : (b : List ℕ) (wx wy : ℕ) (x y : End) (xy yx : List Part) (s : Stream) →
     takes x.phase ≡ true → x.reader.ended ≡ true → Alive wx wy x y xy (Data b ∷ yx) s → b ≡ []
@@ -29,21 +29,21 @@ fin-open wx wy x y xy yx s t c = let f = c.inbound.finishes.ended in let o = c.i
 
 credit-room : (d : ℕ) (wx wy : ℕ) (x y : End) (xy yx : List Part) (s : Stream) →
     takes x.phase ≡ true → Alive wx wy x y xy (Credit d ∷ yx) s → x.writer.credit + d ≤ wy
-credit-room d wx wy x y xy yx s t c = let o = c.outbound.with_data in grind (arith, lists)
+credit-room d wx wy x y xy yx s t c = let o = c.outbound.holds in grind (arith, lists)
 
 ack-room : (d : ℕ) (wx wy : ℕ) (x y : End) (xy yx : List Part) (s : Stream) →
     takes x.phase ≡ true → Alive wx wy x y xy (Ack d ∷ yx) s → x.writer.credit + d ≤ wy
-ack-room d wx wy x y xy yx s t c = let o = c.outbound.with_data in grind (arith, lists)
+ack-room d wx wy x y xy yx s t c = let o = c.outbound.holds in grind (arith, lists)
 
 ack-own : (d : ℕ) (wx wy : ℕ) (x y : End) (xy yx : List Part) (s : Stream) → Alive wx wy x y xy (Ack d ∷ yx) s → s.own ≡ true
 ack-own d wx wy x y xy yx s c = let o = c.inbound.acks in grind (arith, lists)
 
 syn-room : (d : ℕ) (wx wy : ℕ) (x y : End) (xy yx : List Part) (s : Stream) → x.phase ≡ Unborn → Alive wx wy x y xy (Syn d ∷ yx) s → first_credit + d ≤ wy
-syn-room d wx wy x y xy yx s u c = let o = c.outbound.with_data in let e = c.outbound.sleeps.new u in grind (arith, lists)
+syn-room d wx wy x y xy yx s u c = let o = c.outbound.holds in let e = c.outbound.sleeps.new u in grind (arith, lists)
 
 syn-granted : (d : ℕ) (b : List ℕ) (wx wy : ℕ) (x y : End) (xy yx : List Part) (s : Stream) →
     x.phase ≡ Unborn → Alive wx wy x y xy (Syn d ∷ Data b ∷ yx) s → length b ≤ first_credit
-syn-granted d b wx wy x y xy yx s u c = let i = c.inbound.with_data in let e = c.outbound.sleeps.new u in grind (arith, lists)
+syn-granted d b wx wy x y xy yx s u c = let i = c.inbound.holds in let e = c.outbound.sleeps.new u in grind (arith, lists)
 
 syn-load : (d : ℕ) (wx wy : ℕ) (x y : End) (xy yx : List Part) (s : Stream) →
     x.phase ≡ Unborn → Alive wx wy x y xy (Syn d ∷ yx) s → length (first_load yx) ≤ first_credit
@@ -81,7 +81,7 @@ related-breaks f wx wy x y xy yx s (inr (inr c)) = said-breaks f wx wy x y xy yx
 
 -- an end never has more credit than the peer's window, and never holds more than its own
 alive-within : (wx wy : ℕ) (x y : End) (xy yx : List Part) (s : Stream) → takes x.phase ≡ true → Alive wx wy x y xy yx s → (x.writer.credit ≤ wy) × (length x.reader.unread ≤ wx)
-alive-within wx wy x y xy yx s t c = let o = c.outbound.with_data in let i = c.inbound.with_data in grind (arith, lists)
+alive-within wx wy x y xy yx s t c = let o = c.outbound.holds in let i = c.inbound.holds in grind (arith, lists)
 
 pub related-within : (wx wy : ℕ) (x y : End) (xy yx : List Part) (s : Stream) → takes x.phase ≡ true → Related wx wy x y xy yx s → (x.writer.credit ≤ wy) × (length x.reader.unread ≤ wx)
 related-within wx wy x y xy yx s t (inl c) = alive-within wx wy x y xy yx s t c

@@ -193,7 +193,7 @@ forget-resets x z o = grind arith
 
 reset-given_up : (wx wy : ℕ) (x y : End) (xy yx : List Part) (s : Stream) → is_reset x.phase ≡ true → Related wx wy x y xy yx s →
     Related wx wy (record x { phase = Lingering; reader = x.reader }) y xy yx (stream_forget s)
-reset-given_up wx wy x y xy yx s z (inl c) = inl (alive-given_up x.reader wx wy x y xy yx s (let u = c.inbound.with_data.cleared in grind arith) (inr (reset-down x.phase z)) c)
+reset-given_up wx wy x y xy yx s z (inl c) = inl (alive-given_up x.reader wx wy x y xy yx s (let u = c.inbound.holds.cleared in grind arith) (inr (reset-down x.phase z)) c)
 reset-given_up wx wy x y xy yx s z (inr (inl c)) = inr (inl (heard-forgets x.reader wx wy x y xy yx s c))
 reset-given_up wx wy x y xy yx s z (inr (inr c)) = inr (inr (simp not_not at (said-forgets x.reader wy wx y x yx xy (flip s) c)))
 

@@ -25,7 +25,7 @@ use Rattle.ymx_law_stream.proofs.Phases.{is-live, live-up}
 -- one with no payload: what this direction carries
 load-more : (f : Part) {wx wy : ℕ} {x y : End} {xy yx : List Part} {s : Stream} → load f ≡ [] → Direction wx wy x y xy yx s →
     LaneHolds wy x.phase y.phase x.writer (loads (xy ++ f ∷ [])) (gifts yx) (to_announce wy y.phase y.marks.syn y.marks.with_data y.marks.ack) y.reader s.outbound
-load-more f {xy = xy} e c = rw (loads_push xy f, e, append-nil (loads xy)) c.with_data
+load-more f {xy = xy} e c = rw (loads_push xy f, e, append-nil (loads xy)) c.holds
 
 -- one with no payload that is no FIN: the end mark
 fin-more : (f : Part) {wx wy : ℕ} {x y : End} {xy yx : List Part} {s : Stream} → load f ≡ [] → part_is_fin f ≡ false → Direction wx wy x y xy yx s →
@@ -35,7 +35,7 @@ fin-more f {xy = xy} e n c = rw (loads_push xy f, e, append-nil (loads xy), has_
 -- one that gives no credit back: what the other direction carries
 back-more : (f : Part) {wx wy : ℕ} {x y : End} {xy yx : List Part} {s : Stream} → gift f ≡ 0 → Direction wx wy x y xy yx s →
     LaneHolds wy x.phase y.phase x.writer (loads xy) (gifts (yx ++ f ∷ [])) (to_announce wy y.phase y.marks.syn y.marks.with_data y.marks.ack) y.reader s.outbound
-back-more f {yx = yx} e c = rw (gifts_push yx f, e, add-zero (gifts yx)) c.with_data
+back-more f {yx = yx} e c = rw (gifts_push yx f, e, add-zero (gifts yx)) c.holds
 
 -- one that is no SYN, ACK or RST: what was said by these
 marks-more : (f : Part) {wx wy : ℕ} {x y : End} {xy yx : List Part} {s : Stream} →
@@ -52,7 +52,7 @@ goes-open limit wx wy x y yx s b l p c =
       tt,
       born-sent (wx - first_credit) [] l refl c.outbound.born,
       born-sleeps wx (begin_frame wx limit Open x) (parts_of Open wx limit x) b,
-      kept-told (wx - first_credit) {more = gifts (parts_of Open wx limit x)} {less = to_announce wx x.phase false x.marks.with_data x.marks.ack} (grind arith) (grind arith) c.inbound.with_data,
+      kept-told (wx - first_credit) {more = gifts (parts_of Open wx limit x)} {less = to_announce wx x.phase false x.marks.with_data x.marks.ack} (grind arith) (grind arith) c.inbound.holds,
     )
 
 goes-open_with : (limit wx wy : ℕ) (x y : End) (yx : List Part) (s : Stream) →
@@ -61,11 +61,11 @@ goes-open_with limit wx wy x y yx s b l p c =
     let stops : Stops x.phase (writer_send limit x.writer) false x.marks.ack x.marks.rst (parts_of OpenWith wx limit x) = grind (arith, lists) in
     assumption (
       tt,
-      rw (← append-nil (take limit x.writer.unsent)) at (kept-sent limit c.outbound.with_data),
+      rw (← append-nil (take limit x.writer.unsent)) at (kept-sent limit c.outbound.holds),
       rw (← append-nil (take limit x.writer.unsent)) at (ends-sent limit c.outbound.finishes),
       born-sent 0 (Data (take limit x.writer.unsent) ∷ []) l refl c.outbound.born,
       born-sleeps wx (begin_frame wx limit OpenWith x) (parts_of OpenWith wx limit x) b,
-      rw (l, p) at c.inbound.with_data,
+      rw (l, p) at c.inbound.holds,
     )
 
 goes-accept : (limit wx wy : ℕ) (x y : End) (xy yx : List Part) (s : Stream) →
@@ -81,7 +81,7 @@ goes-accept limit wx wy x y xy yx s b n l c =
       born-more f refl n c.outbound.born,
       born-sleeps wx (begin_frame wx limit Accept x) (xy ++ f ∷ []) b,
       acks-sent (wx - first_credit) l c.outbound.acks,
-      kept-told (wx - first_credit) {more = gifts (xy ++ f ∷ [])} {less = to_announce wx x.phase x.marks.syn x.marks.with_data false} (grind (arith, pushes)) (grind arith) c.inbound.with_data,
+      kept-told (wx - first_credit) {more = gifts (xy ++ f ∷ [])} {less = to_announce wx x.phase x.marks.syn x.marks.with_data false} (grind (arith, pushes)) (grind arith) c.inbound.holds,
     )
 
 goes-reset : (limit wx wy : ℕ) (x y : End) (xy yx : List Part) (s : Stream) →
@@ -124,7 +124,7 @@ goes-credit limit wx wy x y xy yx s b l free c =
       stops-more f refl c.outbound.stops,
       ordered_push xy f (grind arith) c.outbound.ordered,
       born-sleeps wx (begin_frame wx limit CreditFrame x) (xy ++ f ∷ []) b,
-      rw (← gifts_push xy f) at (owes-none x.marks.syn x.marks.with_data x.marks.ack free.syn free.ack l c.inbound.with_data),
+      rw (← gifts_push xy f) at (owes-none x.marks.syn x.marks.with_data x.marks.ack free.syn free.ack l c.inbound.holds),
     )
 
 data-runs : (p : Phase) (w : Writer) (syn ack rst : Bool) (fs : List Part) → Stops p w syn ack rst fs → is_empty w.unsent ≡ false → holds_rst fs ≡ false
@@ -138,7 +138,7 @@ goes-data limit wx wy x y xy yx s n some free c =
     let finishes : LaneEnds x.phase y.phase (writer_send limit x.writer) (loads (xy ++ Data b ∷ [])) (holds_fin (xy ++ Data b ∷ [])) y.reader s.outbound.fin =
     rw (loads_push xy (Data b), has_push part_is_fin xy (Data b), or_false (holds_fin xy)) (ends-sent limit c.outbound.finishes) in
     assumption (
-      rw (← loads_push xy (Data b)) at (kept-sent limit c.outbound.with_data),
+      rw (← loads_push xy (Data b)) at (kept-sent limit c.outbound.holds),
       marks-more (Data b) refl refl refl free.syn c.outbound,
       stops-none x.phase (writer_send limit x.writer) x.marks.syn x.marks.ack (xy ++ Data b ∷ []) free.rst runs,
       ordered_push xy (Data b) (grind (arith, lists)) c.outbound.ordered,

@@ -36,15 +36,15 @@ alive-still wx wy x y s qx qy c =
       you_born = let b = c.outbound.born in let d = c.inbound.born in let e = dx.syn in let f = dy.syn in let m = c.inbound.phase in grind arith;
       me_gone = ap is_lingering c.outbound.phase ∙ qx.gone;
       you_gone = ap is_lingering c.inbound.phase ∙ qy.gone;
-      way_outbound = c.outbound.with_data.way ∙ dx.unsent;
-      way_inbound = c.inbound.with_data.way ∙ dy.unsent;
+      way_outbound = c.outbound.holds.way ∙ dx.unsent;
+      way_inbound = c.inbound.holds.way ∙ dy.unsent;
       fin_outbound = c.outbound.finishes.said ∙ dx.fin;
       fin_inbound = c.inbound.finishes.said ∙ dy.fin;
       ack = let a = c.inbound.acks in let b = c.outbound.acks in let e = dx.ack in let f = dy.ack in grind arith;
       rst_outbound = let a = c.outbound.reset in let b = dx.rst in grind arith;
       rst_inbound = let a = c.inbound.reset in let b = dy.rst in grind arith;
-      little_outbound = λ a b u. lane-little wy x.phase y.phase x.writer y.reader s.outbound _ false (sym c.outbound.phase ∙ a) (sym c.inbound.phase ∙ b) u (owes-little wy y (due-credit wy y qy.nothing) (sym c.inbound.phase ∙ b)) c.outbound.with_data c.outbound.finishes;
-      little_inbound = λ a b u. lane-little wx y.phase x.phase y.writer x.reader s.inbound _ false (sym c.inbound.phase ∙ b) (sym c.outbound.phase ∙ a) u (owes-little wx x (due-credit wx x qx.nothing) (sym c.outbound.phase ∙ a)) c.inbound.with_data c.inbound.finishes;
+      little_outbound = λ a b u. lane-little wy x.phase y.phase x.writer y.reader s.outbound _ false (sym c.outbound.phase ∙ a) (sym c.inbound.phase ∙ b) u (owes-little wy y (due-credit wy y qy.nothing) (sym c.inbound.phase ∙ b)) c.outbound.holds c.outbound.finishes;
+      little_inbound = λ a b u. lane-little wx y.phase x.phase y.writer x.reader s.inbound _ false (sym c.inbound.phase ∙ b) (sym c.outbound.phase ∙ a) u (owes-little wx x (due-credit wx x qx.nothing) (sym c.outbound.phase ∙ a)) c.inbound.holds c.inbound.finishes;
     }
 
 heard-still : (wx wy : ℕ) (x y : End) (s : Stream) → IsQuiet wx x → IsQuiet wy y → Heard wx wy x y [] [] s → IsStill wx wy s

@@ -42,7 +42,7 @@ pub record Acks (own acked : Bool) (p : Phase) (ack : Bool) (fs : List Part) (m 
 -- is under way from x to y, and back; `s`: the machine's stream as the side of x sees it.
 pub record Direction (wx wy : ℕ) (x y : End) (xy yx : List Part) (s : Stream) : Type 0 where
   pub phase : s.me ≡ x.phase
-  pub with_data : LaneHolds wy x.phase y.phase x.writer (loads xy) (gifts yx) (to_announce wy y.phase y.marks.syn y.marks.with_data y.marks.ack) y.reader s.outbound
+  pub holds : LaneHolds wy x.phase y.phase x.writer (loads xy) (gifts yx) (to_announce wy y.phase y.marks.syn y.marks.with_data y.marks.ack) y.reader s.outbound
   pub finishes : LaneEnds x.phase y.phase x.writer (loads xy) (holds_fin xy) y.reader s.outbound.fin
   pub reset : s.rst_outbound ≡ mark_if (x.marks.rst || holds_rst xy)
   pub stops : Stops x.phase x.writer x.marks.syn x.marks.ack x.marks.rst xy
