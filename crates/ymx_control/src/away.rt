@@ -36,7 +36,7 @@ impl Away {
 
     /// It is said here: its frame is due. A second time changes nothing, whether or not the frame
     /// has gone.
-    pub fn says(&mut self)
+    pub fn say(&mut self)
         ensures { self.new ≡ say_away self.old }
     {
         if self.here == GoAwayMark::Unsaid {
@@ -89,12 +89,12 @@ mod tests {
     fn is_said_once(rt: HostRuntime) {
         let mut away = Away::new();
         assert_eq!(rt; (away.is_due(), away.was_said()), (false, false));
-        away.says();
-        away.says();
+        away.say();
+        away.say();
         assert_eq!(rt; (away.is_due(), away.was_said()), (true, true));
         away.begin_frame();
         assert_eq!(rt; (away.is_due(), away.was_said()), (false, true));
-        away.says();
+        away.say();
         assert_eq!(rt; (away.is_due(), away.was_said()), (false, true));
     }
 
