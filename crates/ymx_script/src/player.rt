@@ -15,13 +15,9 @@ ghost use Rattle.ymx_script.specs.Scripts.{EndsLine, IsPlayed, Says, SaysAt, Say
 use crate::command::{Command, command_of};
 use crate::printing::{append_answer, append_number, append_pipe, append_yes_or_no};
 use std::alloc::{AllocError, Global};
+use ymx_header::{FIRST_CREDIT, WIDEST_WINDOW};
 use ymx_model::{Answer, Config, Role, Side, Step};
 use ymx_world::World;
-
-/// The narrowest window, in bytes, and the widest.
-const NARROWEST_WINDOW: u32 = 262_144;
-
-const WIDEST_WINDOW: u32 = 16_777_216;
 
 /// A place in a script, and what was printed and not yet written.
 #[derive(Drop)]
@@ -37,7 +33,7 @@ pub(crate) struct Player {
 fn is_good(role: Role, config: Config) -> bool
     ensures { result ≡ is_none (new_fault role config) }
 {
-    if config.window < NARROWEST_WINDOW || config.window > WIDEST_WINDOW {
+    if config.window < FIRST_CREDIT || config.window > WIDEST_WINDOW {
         return false;
     }
     config.first == 0 || role.is_own(config.first)
@@ -129,7 +125,7 @@ impl Player {
         ensures text { result.text.items ≡ [] }
     {
         let config = Config {
-            window: NARROWEST_WINDOW,
+            window: FIRST_CREDIT,
             first: 0,
         };
         Player {
