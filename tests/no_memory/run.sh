@@ -53,34 +53,24 @@ each 0 /dev/null --help
 each 2 /dev/null frames --limit 5
 each 2 /dev/null local
 
-# holds TOP CRATE: its test holds whichever allocation fails
+# holds CRATE: its test holds whichever allocation fails
 holds() {
-    (cd "$1/crates/$2" && rt test) > log 2>&1 || { tail -n 20 log; exit 1; }
+    if [ "${YMX_FROM_GATE-}" != yes ]; then
+        (cd "$root/crates/$1" && rt test) > log 2>&1 || { tail -n 20 log; exit 1; }
+    fi
     number=0
     while number=$((number + 1)) && rm -f failed; do
-        FAIL_AT=$number FAILED=failed LD_PRELOAD=./failing_malloc.so "$1/crates/$2/out/$2_tests" tests::holds_under_each_refusal \
-            > out 2>&1 || { echo "FAIL  $2: allocation $number: $(cat out)"; exit 1; }
+        FAIL_AT=$number FAILED=failed LD_PRELOAD=./failing_malloc.so "$root/crates/$1/out/$1_tests" tests::holds_under_each_refusal \
+            > out 2>&1 || { echo "FAIL  $1: allocation $number: $(cat out)"; exit 1; }
         [ -e failed ] || break
     done
-    grep -q 'test result: ok' out || { echo "FAIL  $2: $(cat out)"; exit 1; }
-    [ $number -gt 1 ] || { echo "FAIL  $2: it takes no memory"; exit 1; }
-    echo "ok    $2: $((number - 1)) allocations"
+    grep -q 'test result: ok' out || { echo "FAIL  $1: $(cat out)"; exit 1; }
+    [ $number -gt 1 ] || { echo "FAIL  $1: it takes no memory"; exit 1; }
+    echo "ok    $1: $((number - 1)) allocations"
 }
 
-holds "$root" ymx_ring
-holds "$root" ymx_control
-holds "$root" ymx_half
-holds "$root" ymx_table
-
-# The session's test is a crate of its own, in a copy: beside ymx_session it would be proved with the whole
-# session a second time. The libraries come along as they were built.
-copy=$scratch/copy
-mkdir -p "$copy/crates/session_memory/src"
-for crate in ymx_header ymx_cutter ymx_credit ymx_ring ymx_model ymx_law_session ymx_control ymx_half ymx_table ymx_session; do
-    (cd "$root" && find "crates/$crate" -path '*/out/incremental' -prune -o -type f -print | tar -cf - -T -) | tar -xf - -C "$copy"
-    grep "^$crate:" "$root/crates.txt" >> "$copy/crates.txt"
-done
-echo 'session_memory: ymx_session ymx_model' >> "$copy/crates.txt"
-cp "$root/HANDLES" "$copy"
-cp "$here/session.rattle" "$copy/crates/session_memory/src/lib.rt"
-holds "$copy" session_memory
+holds ymx_ring
+holds ymx_control
+holds ymx_half
+holds ymx_table
+holds ymx_session_memory

@@ -1,4 +1,5 @@
-//! What a session does where there is no memory. The crate has nothing but this test.
+//! What a session does where there is no memory. The crate has nothing but this test: beside `ymx_session` it would
+//! be proved with the whole session a second time. tests/no_memory runs it once for each allocation, which fails.
 #![tactic(auto)]
 
 #[cfg(test)]
