@@ -5,7 +5,7 @@ use ymx_seats::{Recorder, Seat};
 /// Why there is no transcript.
 #[derive(Clone, Copy, Debug, PartialEq, Eq)]
 pub enum EndWhy {
-    /// Not every seat that was given is handed in.
+    /// Not every seat that was given is handed in, or the transcript was handed out before.
     SeatsOut,
     /// The lists of the seats and the log disagree.
     OutOfOrder,

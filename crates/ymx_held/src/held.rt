@@ -90,7 +90,8 @@ impl<R: Recorder> Held<R> {
     }
 
     /// Hands the transcript out, once all seats that were given are handed in and their lists agree with it. Else
-    /// the seats come back. It takes no memory.
+    /// the seats come back: with `SeatsOut` where there are more or fewer than were given, and where the transcript was
+    /// handed out before; else with `OutOfOrder`. It takes no memory.
     pub fn end(&mut self, seats: Vec<Seat<R>>) -> Result<Transcript, EndFault<R>>
         ensures { MatchResult result (λ transcript. R.KEEPS ≡ true → (all : List SeatView) × IsPermutation seats.items all × (length all ≡ self.old.given) × Agrees all transcript) (λ fault. IsPermutation seats.items fault.seats.items) }
     {

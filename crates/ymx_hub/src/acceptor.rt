@@ -43,6 +43,9 @@ impl<R: Recorder> Acceptor<R> {
     }
 
     /// Waits for a stream that the peer opens. `None` once the session is closed, or lost with none left.
+    ///
+    /// `Seats` where no two seats are left, and `Memory` where there is none for its halves or the entry: no stream is
+    /// taken then, and the same call may be made again.
     pub fn accept<W: Wait>(
         &mut self,
         rt: &W,

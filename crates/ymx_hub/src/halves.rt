@@ -54,6 +54,9 @@ impl<R: Recorder> WriteHalf<R> {
     }
 
     /// Writes all bytes, and waits for credit (flow control). At a fault the first `taken` of them were written.
+    ///
+    /// Refused with `Closed`, with `Reset` where the peer has reset the stream, and with `Lost`, before it waits or
+    /// while it does. `Memory` where there is none for an entry, or for more than 262,144 unsent bytes.
     pub fn write_all<W: Wait>(&mut self, rt: &W, bytes: &[u8]) -> Result<(), WriteFault>
         ensures same { (self.new.id ≡ self.old.id) × (self.new.seat.number ≡ self.old.seat.number) × (self.new.seat.start ≡ self.old.seat.start) }
         ensures booked { Gains R.KEEPS self.old.seat.entries self.new.seat.entries (Writes self.old.id bytes.now self.old.seat.number result) }
@@ -62,7 +65,10 @@ impl<R: Recorder> WriteHalf<R> {
         self.hub.write_all(rt, &mut self.seat, self.id, bytes)
     }
 
-    /// Half-closes the stream: the peer reads what was written, and then the end (half-close).
+    /// Half-closes the stream: the peer reads what was written, and then the end (half-close). The half is spent
+    /// whatever is answered.
+    ///
+    /// Refused with `Closed`, `Reset` and `Lost`. `Memory`, and nothing is done, where there is none for the entries.
     pub fn finish<W: Wait>(self, rt: &W) -> (Seat<R>, Result<(), HubFault>)
         ensures same { (result.0.number ≡ self.seat.number) × (result.0.start ≡ self.seat.start) }
         ensures booked { Gains R.KEEPS self.seat.entries result.0.entries (Spends (to_finish self.id) self.id self.seat.number result.1) }
@@ -73,7 +79,11 @@ impl<R: Recorder> WriteHalf<R> {
         (seat, result)
     }
 
-    /// Resets the stream: what is not sent is dropped, and neither side reads or writes any more (flags).
+    /// Resets the stream: what is not sent is dropped, and neither side reads or writes any more (flags). The half is
+    /// spent whatever is answered.
+    ///
+    /// Refused with `Closed`, with `Reset` where the peer was first, and with `Lost`. `Memory`, and nothing is done,
+    /// where there is none for the entries.
     pub fn reset<W: Wait>(self, rt: &W) -> (Seat<R>, Result<(), HubFault>)
         ensures same { (result.0.number ≡ self.seat.number) × (result.0.start ≡ self.seat.start) }
         ensures booked { Gains R.KEEPS self.seat.entries result.0.entries (Spends (to_reset self.id) self.id self.seat.number result.1) }
@@ -95,6 +105,9 @@ impl<R: Recorder> ReadHalf<R> {
 
     /// Waits for bytes, and moves those that are there and fit to the front of the buffer. 0 is the end: the peer
     /// has finished, and all was read.
+    ///
+    /// Refused with `Closed` and with `Reset`, and with `Lost` once what was there is read, before it waits or while it
+    /// does. `Memory` where there is none for an entry: no byte is read then.
     pub fn read<W: Wait>(&mut self, rt: &W, buffer: &mut [u8]) -> Result<usize, HubFault>
         requires { 0 < length buffer.old }
         ensures same { (self.new.id ≡ self.old.id) × (self.new.seat.number ≡ self.old.seat.number) × (self.new.seat.start ≡ self.old.seat.start) }
@@ -106,7 +119,10 @@ impl<R: Recorder> ReadHalf<R> {
         self.hub.read(rt, &mut self.seat, self.id, buffer)
     }
 
-    /// Spends the half. If the other half was spent, the stream is given up, and unread bytes are dropped.
+    /// Spends the half, whatever is answered. If the other half was spent, the stream is given up, and unread bytes are
+    /// dropped.
+    ///
+    /// Refused with `Closed`, and `Memory` where there is none for the entry, only where the stream is given up.
     pub fn close<W: Wait>(self, rt: &W) -> (Seat<R>, Result<(), HubFault>)
         ensures same { (result.0.number ≡ self.seat.number) × (result.0.start ≡ self.seat.start) }
         ensures booked { Gains R.KEEPS self.seat.entries result.0.entries (Closes self.id self.seat.number result.1) }

@@ -25,7 +25,7 @@ pub struct Hub<R: Recorder> {
 }
 
 impl<R: Recorder> Hub<R> {
-    /// A hub round a session that has done nothing. Without memory it drops both.
+    /// A hub round a session that has done nothing. `AllocError` where there is no memory for it: both are dropped then.
     pub fn new(alloc: Global, session: Session, recorder: R) -> Result<Arc<Hub<R>>, AllocError>
         requires { IsNew session }
     {
@@ -155,7 +155,8 @@ impl<R: Recorder> Hub<R> {
         closed
     }
 
-    /// Takes no more streams of the peer's. Refused, in this order, with `Closed` and `Lost`.
+    /// Takes no more streams of the peer's. Refused, in this order, with `Closed` and `Lost`. `Memory`, and nothing is
+    /// done, where there is none for the entry.
     pub fn go_away<W: Wait>(&self, rt: &W, seat: &mut Seat<R>) -> Result<(), HubFault>
         ensures number { seat.new.number ≡ seat.old.number }
         ensures start { seat.new.start ≡ seat.old.start }
@@ -169,7 +170,8 @@ impl<R: Recorder> Hub<R> {
         said
     }
 
-    /// Closes the session at once, and wakes all who wait: they answer `Closed`.
+    /// Closes the session at once, and wakes all who wait: they answer `Closed`. `Memory`, and it is not closed, where
+    /// there is none for the entry.
     pub fn close<W: Wait>(&self, rt: &W, seat: &mut Seat<R>) -> Result<(), HubFault>
         ensures number { seat.new.number ≡ seat.old.number }
         ensures start { seat.new.start ≡ seat.old.start }

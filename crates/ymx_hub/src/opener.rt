@@ -42,7 +42,12 @@ impl<R: Recorder> Opener<R> {
         seat
     }
 
-    /// Opens a stream. It doesn't wait for the peer: the session refuses where it may not open one.
+    /// Opens a stream. It doesn't wait for the peer, and bytes may be written at once.
+    ///
+    /// Refused by the session, in this order, with `Closed`, `Lost`, `PeerAway` after the peer's Go Away, `Exhausted`
+    /// where the ids are used up, `OpensPending` while 256 own streams are neither acknowledged, reset nor given up,
+    /// and `TooMany` while 1,024 streams are there. `Seats` where no two seats are left, and `Memory` where there is
+    /// none for the stream, its halves or the entry: no stream is opened then.
     pub fn open<W: Wait>(&mut self, rt: &W) -> Result<(WriteHalf<R>, ReadHalf<R>), HubFault>
         ensures number { self.new.number ≡ self.old.number }
         ensures start { self.new.start ≡ self.old.start }
@@ -61,7 +66,8 @@ impl<R: Recorder> Opener<R> {
         ))
     }
 
-    /// Opens a stream with these first bytes, and says how many of them were taken: the first 262,144 at most.
+    /// Opens a stream with these first bytes, and says how many of them were taken: the first 262,144 at most. It is
+    /// refused as `open` is.
     pub fn open_with<W: Wait>(
         &mut self,
         rt: &W,

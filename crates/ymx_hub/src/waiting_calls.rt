@@ -117,6 +117,7 @@ impl<R: Recorder> Hub<R> {
     /// Asks the peer for a sign of life, waits for it, and returns the ping's number.
     ///
     /// Refused with `Closed`, `Lost`, and `PingsPending` while 16 pings wait; while it waits with `Closed` or `Lost`.
+    /// `Memory` where there is none for an entry; the ping may then have been asked already.
     pub fn ping<W: Wait>(&self, rt: &W, seat: &mut Seat<R>) -> Result<u32, HubFault>
         ensures number { seat.new.number ≡ seat.old.number }
         ensures start { seat.new.start ≡ seat.old.start }
@@ -143,7 +144,8 @@ impl<R: Recorder> Hub<R> {
         unreachable!()
     }
 
-    /// Waits until nothing is due, or a write pump has given up. It is no event of the session.
+    /// Waits until nothing is due, or a write pump of this hub has ended with `Device` or `Memory`, so that nothing goes
+    /// out any more. It is no event of the session.
     pub fn drain<W: Wait>(&self, rt: &W, _seat: &mut Seat<R>)
         ensures { _seat.new ≡ _seat.old }
     {
