@@ -45,7 +45,8 @@ impl Model for World {
 
 impl World {
     /// Makes a world of two sessions that have done nothing, the client's config first. The fault is that of
-    /// the client's session, or else of the server's.
+    /// the client's session, or else of the server's: `BadWindow`, `BadFirst` or `OutOfMemory`, as of
+    /// `Session::new`.
     pub fn new(alloc: Global, config_a: Config, config_b: Config) -> Result<World, NewFault>
         ensures made { IfOk result (λ world. world ≡ new_world config_a.window (first_id Client config_a.first) config_b.window (first_id Server config_b.first)) }
         ensures may_a { IfOk result (λ world. new_fault Client config_a ≡ None) }
@@ -62,10 +63,10 @@ impl World {
 
     /// One step: a call at a side; an emission, which goes onto the side's pipe, or vanishes where that was
     /// stopped; a delivery of a pipe's first bytes, all if there are fewer, of which those that the session
-    /// takes leave the pipe; a stop; an end, which answers `NotStopped` without a stop before. Where there is no
-    /// memory for the bytes that are read or emitted, nothing is done.
+    /// takes leave the pipe; a stop; an end, which answers `NotStopped` without a stop before. `AllocError` where
+    /// there is no memory for the bytes that are read or emitted: then nothing is done.
     ///
-    /// A session's own want of memory is an answer.
+    /// A session's own want of memory is an answer, as each of its refusals is.
     pub fn step(&mut self, step: &Step) -> Result<Answer, AllocError>
         ensures steps { IfOk result (λ given. Steps in_turn step.now given self.old self.new) }
         ensures same { OnErr result (self.new ≡ self.old) }
@@ -81,8 +82,10 @@ impl World {
     /// Each queue machine that agreed with the world before has a run with the same answers, which is still
     /// whenever the world is quiet, and agrees with the world after it.
     ///
-    /// No delivery among them finds a fault. Where nothing was stopped, ended, closed or broken, emissions and deliveries alone feed wholly at most
-    /// twice as many frames as the load of the world: driving the bytes comes to an end.
+    /// No delivery among them finds a fault. Where nothing was stopped, ended, closed or broken, emissions and
+    /// deliveries alone feed wholly at most twice as many frames as the load of the world: driving the bytes
+    /// comes to an end. The load (`world_load` of `ymx_model`) counts the unsent bytes of no frame, what else is
+    /// due, and the frames under way.
     pub fn run(&mut self, steps: &[Step]) -> Result<Vec<Answer>, Stopped>
         ensures runs { IfOk result (λ answers. Runs in_turn steps.now answers.items self.old self.new) }
         ensures before { IfErr result (λ stopped. length stopped.answers.items < length steps.now) }
@@ -129,7 +132,7 @@ impl World {
     /// Steps of the world in which the histories of its two sides, A's and B's, each keep their order: `None`
     /// only if there are none. A call and an emission are steps; a feed is the delivery of its bytes, which
     /// stand at the front of what the other side has emitted and no feed has taken; the end of the input is a
-    /// stop and an end, and a feed behind it has no step.
+    /// stop and an end, and a feed behind it has no step. `AllocError` where there is no memory for the steps.
     pub fn audit(alloc: Global, a: &[Entry], b: &[Entry]) -> Result<Option<Vec<Step>>, AllocError>
         ensures some { IfOk result (λ found. IfSome found (λ steps. IsJointOrder a.now b.now steps.items)) }
         ensures none { IfOk result (λ found. IfNone found ((steps : List TheStep) → IsJointOrder a.now b.now steps → ⊥)) }
