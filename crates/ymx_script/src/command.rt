@@ -12,9 +12,9 @@ use ymx_model::{Bytes, Call, Direction, Side, Step};
 pub enum Command {
     /// Nothing: it is empty, or a comment.
     Nothing,
-    /// The first own id of a side.
+    /// The first own id of a side; 0 stands for the least.
     First(Side, u32),
-    /// The window of a side.
+    /// The window of a side, in bytes.
     Window(Side, u32),
     /// A step of the world.
     Do(Step),
@@ -28,7 +28,8 @@ pub enum Command {
     Show(Direction),
 }
 
-/// What this line says, without its line feed. `None` if it is not of the language.
+/// What this line says, without its line feed. `None` if it is not of the language, and `AllocError` where there
+/// is no memory for the bytes that it spells.
 pub fn command_of(alloc: Global, line: &[u8]) -> Result<Option<Command>, AllocError>
     ensures { IfOk result (λ found. found ≡ command line.now) }
 {

@@ -17,7 +17,7 @@ const LONGEST: usize = 65_536;
 pub enum ScriptEnd {
     /// The input ended, and each of its lines was played.
     Good,
-    /// The line of this number, counted from 1, is a mistake.
+    /// The line of this number, counted from 1, is a mistake. The number stays at the greatest `u64`.
     Line(u64),
     /// The reader failed.
     Reading,

@@ -11,9 +11,10 @@ use ymx_model::CallFault;
 pub enum CopyWhy {
     /// All was copied, and the end was passed on.
     End,
-    /// What it was copied from failed.
+    /// What it was copied from failed: the reader, or the half of the stream for another reason than the two below,
+    /// as that the session was closed or that there was no memory.
     Source,
-    /// What it was copied to failed.
+    /// What it was copied to failed: the writer, or the half of the stream for such a reason.
     Sink,
     /// The stream was reset.
     Reset,
