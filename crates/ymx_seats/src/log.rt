@@ -47,7 +47,8 @@ impl<R: Recorder> Log<R> {
     }
 
     /// Finds the memory for the entry of an event whose reply has at most `bytes` bytes, before the event, and
-    /// room for `entries` entries in all. A recorder that keeps nothing needs none.
+    /// room for `entries` entries in all. A recorder that keeps nothing needs none. `AllocError` where there is none; no
+    /// entry is added.
     pub fn prepare(
         &mut self,
         alloc: Global,

@@ -55,7 +55,7 @@ impl<R: Recorder> Seat<R> {
         self.start
     }
 
-    /// Finds memory for so many more entries.
+    /// Finds memory for so many more entries. `AllocError` where there is none; the entries stay as they are.
     pub fn make_room(&mut self, count: usize) -> Result<(), AllocError>
         ensures number { self.new.number ≡ self.old.number }
         ensures start { self.new.start ≡ self.old.start }
@@ -67,7 +67,7 @@ impl<R: Recorder> Seat<R> {
         Ok(())
     }
 
-    /// Adds an entry.
+    /// Adds an entry behind the others, in memory that was found before.
     pub fn add(&mut self, entry: Entry)
         requires { 0 < self.old.room }
         ensures number { self.new.number ≡ self.old.number }
