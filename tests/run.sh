@@ -38,6 +38,7 @@ try 'exchanges of two sessions' "$root/tests/session/run.sh"
 try 'worked examples of two sessions' "$root/tests/worlds/run.sh"
 try 'each allocation fails once' "$root/tests/no_memory/run.sh"
 try 'a running session in threads' "$root/tests/hub/run.sh"
+try 'copies that fail' "$root/tests/tunnel/run.sh"
 if [ "${1-}" = --all ]; then
     try 'wrong bodies' "$root/tests/wrong_bodies.sh"
 fi
