@@ -9,11 +9,16 @@ use std::sync::{Arc, Wait};
 use std::thread;
 use std::thread::Threads;
 use ymx_hub::{Acceptor, Hub, HubFault, Off, Opener, ReadHalf, WriteHalf};
+use ymx_model::CallFault;
 
-/// Who is told of connections that have ended.
+/// Who is told of connections that have ended. Connections are numbered 1, 2, 3, .. as they begin, and each is told of
+/// once, by one of the two calls.
 pub trait Watcher: Sync {
-    /// A connection has ended. Connections are numbered 1, 2, 3, .. as they begin.
+    /// A connection that had a stream has ended.
     fn ended<W: Wait>(&self, rt: &W, number: u64, joined: &Joined);
+
+    /// A connection was closed, as no stream was to be had for it.
+    fn refused<W: Wait>(&self, rt: &W, number: u64, fault: HubFault);
 }
 
 /// Watches nothing.
@@ -22,6 +27,8 @@ pub struct Unwatched;
 
 impl Watcher for Unwatched {
     fn ended<W: Wait>(&self, _rt: &W, _number: u64, _joined: &Joined) {}
+
+    fn refused<W: Wait>(&self, _rt: &W, _number: u64, _fault: HubFault) {}
 }
 
 /// How a server ended.
@@ -62,14 +69,16 @@ pub fn serve_local<R: Threads + Wait + Sync, V: Watcher>(
             let Ok((stream, _)) = listener.accept() else {
                 return true;
             };
+            let number = lent.next_number();
             if count.is_none() && !lent.hub.is_running(rt) {
+                lent.refused(rt, number, HubFault::Call(CallFault::Lost));
                 return false;
             }
             if scope
-                .spawn(move || serve_connection(rt, lent, stream))
+                .spawn(move || serve_connection(rt, lent, number, stream))
                 .is_err()
             {
-                lent.lack_memory();
+                lent.refused(rt, number, HubFault::Memory);
             }
         }
         false
@@ -109,12 +118,16 @@ pub fn serve_remote<R: Threads + Wait + Sync, N: Network, V: Watcher>(
 fn serve_connection<R: Threads + Wait + Sync, V: Watcher>(
     rt: &R,
     shared: &Shared<'_, V>,
+    number: u64,
     stream: TcpStream,
 ) {
-    let number = shared.next_number();
     let _ = stream.set_nodelay(true);
-    let Some(mut opener) = shared.opener(rt) else {
-        return;
+    let mut opener = match shared.opener(rt) {
+        Ok(opener) => opener,
+        Err(fault) => {
+            shared.refused(rt, number, fault);
+            return;
+        }
     };
     let opened = opener.open(rt);
     let_go(opener.into_seat());
@@ -123,7 +136,7 @@ fn serve_connection<R: Threads + Wait + Sync, V: Watcher>(
             let joined = join_both(rt, shared.alloc, &stream, sink, source);
             shared.ended(rt, number, &joined);
         }
-        Err(fault) => shared.refused(fault),
+        Err(fault) => shared.refused(rt, number, fault),
     }
 }
 
@@ -191,15 +204,12 @@ impl<'a, V: Watcher> Shared<'a, V> {
     }
 
     /// Who opens streams, if there is a seat and memory for it.
-    fn opener<R: Wait>(&self, rt: &R) -> Option<Opener<Off>> {
+    fn opener<R: Wait>(&self, rt: &R) -> Result<Opener<Off>, HubFault> {
         let Ok(hub) = Arc::try_clone(self.hub) else {
-            self.lack_memory();
-            return None;
+            return Err(HubFault::Memory);
         };
-        match self.hub.seat(rt) {
-            Ok(seat) => Some(Opener::new(hub, seat)),
-            Err(_) => None,
-        }
+        let seat = self.hub.seat(rt)?;
+        Ok(Opener::new(hub, seat))
     }
 
     /// Who accepts streams, if there is a seat and memory for it.
@@ -219,11 +229,12 @@ impl<'a, V: Watcher> Shared<'a, V> {
         self.lacked_memory.store(true, Ordering::SeqCst);
     }
 
-    /// A call of the hub was refused.
-    fn refused(&self, fault: HubFault) {
+    /// No stream was to be had for a connection.
+    fn refused<R: Wait>(&self, rt: &R, number: u64, fault: HubFault) {
         if fault == HubFault::Memory {
             self.lack_memory();
         }
+        self.watcher.refused(rt, number, fault);
     }
 
     /// A connection has ended.
