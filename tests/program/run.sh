@@ -63,6 +63,57 @@ expect 0 "$(says 'ymx 0.1.0')" nothing hello --version
 expect 2 nothing "$here/mistake" hello frames --limit 5
 expect 2 nothing "$(says 'error: a word of the command line is not UTF-8')" hello frames "$(printf '\377')"
 
+# refuses BEGINNING WORDS..: status 2, nothing on standard output, and a mistake that begins so
+refuses() {
+    beginning=$1
+    shift
+    got=0
+    "$root/out/ymx" "$@" < hello > out 2> err || got=$?
+    if [ "$got" = 2 ] && cmp -s out nothing && head -n 1 err | grep -q "^$beginning"; then
+        passed=$((passed + 1))
+    else
+        failed=$((failed + 1))
+        echo "FAIL  ymx $*: status $got, and not 2, or another text:"
+        cat out err
+    fi
+}
+
+refuses 'error: '
+refuses 'error: ' frame
+refuses 'error: ' local
+refuses 'error: ' remote --bind 127.0.0.1:0
+for limit in 262143 16777217 x -1; do
+    refuses 'error: ' frames --limit $limit
+    refuses 'error: ' local --listen 127.0.0.1:0 --peer 127.0.0.1:1 --window $limit
+    refuses 'error: ' remote --bind 127.0.0.1:0 --target 127.0.0.1:1 --window $limit
+done
+for count in 4294967296 x -1; do
+    refuses 'error: ' local --listen 127.0.0.1:0 --peer 127.0.0.1:1 --count $count
+done
+for workers in 0 1025 x; do
+    refuses 'error: ' remote --bind 127.0.0.1:0 --target 127.0.0.1:1 --workers $workers
+done
+expect 0 lines nothing hello frames --limit 16777216
+expect 1 nothing "$(says 'ymx: cannot reach 127.0.0.1:1')" nothing local --listen 127.0.0.1:0 --peer 127.0.0.1:1
+# 192.0.2.7 is no address of this machine
+expect 1 nothing "$(says 'ymx: cannot listen at 192.0.2.7:1')" nothing remote --bind 192.0.2.7:1 --target 127.0.0.1:1
+
+# a peer whose first header has version 1
+port=$(python3 -c 'import socket; s = socket.socket(); s.bind(("127.0.0.1", 0)); print(s.getsockname()[1])')
+python3 - "$port" << 'END' &
+import socket, sys, time
+while True:
+    try:
+        peer = socket.create_connection(("127.0.0.1", int(sys.argv[1])))
+        break
+    except ConnectionRefusedError:
+        time.sleep(0.05)
+peer.sendall(b"\x01" + bytes(11))
+while peer.recv(4096):
+    pass
+END
+expect 1 nothing "$(says 'ymx: session broken: B1')" nothing remote --bind "127.0.0.1:$port" --target 127.0.0.1:1
+
 # scripts: of a file, of standard input, of a file that isn't there, and of one that can't be read
 script=$root/examples/stream.script
 answers=$root/examples/stream.out
@@ -70,6 +121,7 @@ expect 0 "$answers" nothing nothing script "$script"
 expect 0 "$answers" nothing "$script" script
 expect 0 "$answers" nothing "$script" script -
 expect 0 nothing nothing nothing script
+expect 1 "$(says 'error line 1')" nothing nothing script hello
 expect 1 nothing "$(says "ymx: the file can't be opened")" nothing script absent
 expect 1 nothing "$(says 'ymx: reading failed')" nothing script .
 
