@@ -1,0 +1,30 @@
+-- What the front door answers (this project's own).
+use Rattle.std.specs.Prelude.{◌≡◌, None}
+use denote.Ref.{MutBor}
+use Rattle.std.specs.Fn.{Once, FnOnceReturnsAtMut}
+use Rattle.ymx_header.specs.declared.fault.Fault.{Fault}
+use Rattle.ymx_model.specs.declared.types.Role.{Role}
+use Rattle.ymx_model.specs.declared.types.Config.{Config}
+use Rattle.ymx_session.specs.NewSessions.{new_fault, IsNewFault}
+use Rattle.ymx_pumps.specs.declared.pump_end.PumpWhy.TheVariants.{Memory as NoMemory, Broken}
+use Rattle.ymx_connect.specs.declared.connect_fault.ConnectFault.{ConnectFault}
+use Rattle.ymx_connect.specs.declared.connect_fault.ConnectFault.TheVariants.{Session, Memory}
+use Rattle.ymx_connect.specs.declared.ended.Ended.{Ended}
+use Rattle.ymx_connect.specs.declared.running.Running.{Running}
+
+-- Why no session runs: what the making of a session answers, or want of memory for a session that could be made.
+abbrev pub IsConnectFault : Role → Config → ConnectFault → Type 0
+IsConnectFault role config (Session fault) = IsNewFault role config fault
+IsConnectFault role config Memory = new_fault role config ≡ None
+
+-- no pump ended for want of memory, and the write pump not with a fault of the peer's
+pub record IsSpared (ended : Ended) : Type 0 where
+  pub read : ended.read ≡ NoMemory → ⊥
+  pub written : ended.written ≡ NoMemory → ⊥
+  pub whole : (fault : Fault) → ended.written ≡ Broken fault → ⊥
+
+-- the answer is one of the caller's function, called with some running session
+pub record Answered {F T : Type 0} (called : Once F (MutBor Running × Unit {0}) (T × (MutBor Running × Unit {0}))) (work : F) (answer : T) : Type 0 where
+  pub before : Running
+  pub after : Running
+  pub says : FnOnceReturnsAtMut called work before answer after

@@ -1,0 +1,121 @@
+//! The two pumps, each in a thread of its own.
+
+ghost use Rattle.std.specs.Prelude.{◌≡◌, ◌<◌, vec_len};
+ghost use Rattle.ymx_header.specs.declared.fault.Fault.{Fault};
+ghost use Rattle.ymx_pumps.specs.declared.pump_end.PumpWhy.TheVariants.{Memory, Broken};
+
+use crate::running::unbooked;
+use crate::spending::let_go;
+use std::alloc::{AllocError, Global};
+use std::sync::Wait;
+use ymx_hub::{Hub, Off};
+use ymx_model::{Inlet, Outlet};
+use ymx_pumps::{Gate, PumpEnd, PumpWhy, read_pump, write_pump};
+
+/// Bytes that the read pump reads at once.
+const READ_BUFFER: usize = 65_536;
+
+/// Bytes that the write pump writes at once: eight whole frames of the longest that are sent.
+const WRITE_BUFFER: usize = 8 * (12 + 16_384);
+
+/// What a pump moves bytes through.
+#[derive(Drop)]
+pub(crate) struct Buffer {
+    bytes: Vec<u8>,
+    ghost not_empty: { 0 < vec_len bytes },
+}
+
+/// How the read pump ended, as its thread says.
+#[derive(Clone, Copy, Drop)]
+pub(crate) struct PumpedIn {
+    pub(crate) why: PumpWhy,
+    pub(crate) moved: u64,
+    ghost spared: { why ≡ Memory → ⊥ },
+}
+
+/// How the write pump ended, as its thread says.
+#[derive(Clone, Copy, Drop)]
+pub(crate) struct PumpedOut {
+    pub(crate) why: PumpWhy,
+    pub(crate) moved: u64,
+    ghost spared: { why ≡ Memory → ⊥ },
+    ghost whole: { (fault : Fault) → why ≡ Broken fault → ⊥ },
+}
+
+/// Lets a pump run.
+#[derive(Drop)]
+struct Open;
+
+impl Gate for Open {
+    fn before_read(&mut self) -> bool {
+        true
+    }
+
+    fn after_read(&mut self, _count: usize) {}
+
+    fn after_write(&mut self, _count: usize) {}
+
+    fn before_wait(&mut self) -> bool {
+        true
+    }
+}
+
+impl Buffer {
+    /// What the read pump moves bytes through.
+    pub(crate) fn for_reading(alloc: Global) -> Result<Buffer, AllocError> {
+        let bytes = vec![in alloc; 0u8; READ_BUFFER]?;
+        Ok(Buffer { bytes })
+    }
+
+    /// What the write pump moves bytes through.
+    pub(crate) fn for_writing(alloc: Global) -> Result<Buffer, AllocError> {
+        let bytes = vec![in alloc; 0u8; WRITE_BUFFER]?;
+        Ok(Buffer { bytes })
+    }
+}
+
+/// Runs the read pump, until it ends.
+pub(crate) fn pump_in<W: Wait, I: Inlet + Drop>(
+    rt: &W,
+    alloc: Global,
+    hub: &Hub<Off>,
+    reader: I,
+    buffer: Buffer,
+) -> PumpedIn {
+    let Buffer { mut bytes } = buffer;
+    let mut reader = reader;
+    let end = read_pump(
+        rt,
+        hub,
+        unbooked(alloc),
+        &mut reader,
+        &mut Open,
+        bytes.as_mut_slice(),
+    );
+    let PumpEnd { seat, moved, why } = end;
+    let_go(seat);
+    PumpedIn { why, moved }
+}
+
+/// Runs the write pump, until it ends.
+pub(crate) fn pump_out<W: Wait, O: Outlet + Drop>(
+    rt: &W,
+    alloc: Global,
+    hub: &Hub<Off>,
+    writer: O,
+    buffer: Buffer,
+) -> PumpedOut {
+    let Buffer { mut bytes } = buffer;
+    let mut writer = writer;
+    let end = write_pump(
+        rt,
+        hub,
+        unbooked(alloc),
+        &mut writer,
+        &mut Open,
+        bytes.as_mut_slice(),
+    );
+    let PumpEnd { seat, moved, why } = end;
+    let_go(seat);
+    PumpedOut { why, moved }
+}
