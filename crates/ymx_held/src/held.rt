@@ -13,16 +13,18 @@ use crate::faults::HubFault;
 use std::alloc::Global;
 use std::marker::Model;
 use std::mem;
-use ymx_model::{CallFault, Status};
+use ymx_model::{CallFault, Config, Role, Status};
 use ymx_seats::{Log, Recorder, Seat, Transcript, agree, let_go};
 use ymx_session::Session;
 
-/// A session, the log of its events, how many seats were given, how many streams have both halves unspent, and
-/// the ids of those with one half spent. A contract sees the first three, and that the log is the history of the
-/// session.
+/// A session, with what it was made, the log of its events, how many seats were given, how many streams have both
+/// halves unspent, and the ids of those with one half spent. A contract sees the session, the log and how many seats
+/// were given; and the log is the history of the session, from the one of this role and config that has done nothing.
 #[derive(Drop)]
 pub struct Held<R: Recorder> {
     pub(crate) alloc: Global,
+    pub(crate) role: Role,
+    pub(crate) config: Config,
     pub(crate) session: Session,
     pub(crate) log: Log<R>,
     pub(crate) given: u32,
@@ -33,13 +35,14 @@ pub struct Held<R: Recorder> {
 
 impl<R: Recorder> Model for Held<R> {
     ghost use Rattle.std.specs.Prelude.{vec_len, vec_capacity, ◌+◌, ◌≤◌};
+    ghost use Rattle.ymx_seats.specs.Transcripts.{IsGood};
     ghost use Rattle.ymx_held.specs.Held.{HeldView, Kept};
 
     ghost Value = { HeldView };
 
     ghost view = { λ s. record { session = s.session; entries = s.log.entries; given = s.given } };
 
-    ghost invariant = { λ s. Kept R.KEEPS s.ended s.log.entries s.session × (s.unspent + vec_len s.half_spent ≤ vec_capacity s.half_spent) × (s.unspent ≤ s.given) };
+    ghost invariant = { λ s. Kept R.KEEPS s.ended s.role s.config s.log.entries s.session × (s.unspent + vec_len s.half_spent ≤ vec_capacity s.half_spent) × (s.unspent ≤ s.given) × IsGood s.role s.config };
 }
 
 impl<R: Recorder> Held<R> {
@@ -47,8 +50,14 @@ impl<R: Recorder> Held<R> {
     pub fn new(alloc: Global, session: Session) -> Held<R>
         requires { IsNew session }
     {
+        let config = Config {
+            window: session.window(),
+            first: session.next_id(),
+        };
         Held {
             alloc,
+            role: session.role(),
+            config,
             session,
             log: Log::new(alloc),
             given: 0,
@@ -93,7 +102,7 @@ impl<R: Recorder> Held<R> {
     /// the seats come back: with `SeatsOut` where there are more or fewer than were given, and where the transcript was
     /// handed out before; else with `OutOfOrder`. It takes no memory.
     pub fn end(&mut self, seats: Vec<Seat<R>>) -> Result<Transcript, EndFault<R>>
-        ensures { MatchResult result (λ transcript. R.KEEPS ≡ true → (all : List SeatView) × IsPermutation seats.items all × (length all ≡ self.old.given) × Agrees all transcript) (λ fault. IsPermutation seats.items fault.seats.items) }
+        ensures { MatchResult result (λ transcript. R.KEEPS ≡ true → (all : List SeatView) × IsPermutation seats.items all × (length all ≡ self.old.given) × Agrees all transcript.entries) (λ fault. IsPermutation seats.items fault.seats.items) }
     {
         let mut seats = seats;
         if self.ended || seats.len() != self.given as usize {
@@ -112,8 +121,9 @@ impl<R: Recorder> Held<R> {
         self.ended = true;
         let log = mem::replace(&mut self.log, Log::new(self.alloc));
         if !R::KEEPS {
-            return Ok(Transcript::new(Vec::new(self.alloc)));
+            let nothing = Vec::new(self.alloc);
+            return Ok(Transcript::new(self.role, self.config, nothing));
         }
-        Ok(Transcript::new(log.into_entries()))
+        Ok(Transcript::new(self.role, self.config, log.into_entries()))
     }
 }

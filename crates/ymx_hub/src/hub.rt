@@ -188,7 +188,7 @@ impl<R: Recorder> Hub<R> {
     /// entry stands in it as often as in their lists, each list names its own seat, and its positions rise. Else the
     /// seats come back, perhaps in another order. From then on `seat` answers `Closed`.
     pub fn end<W: Wait>(&self, rt: &W, seats: Vec<Seat<R>>) -> Result<Transcript, EndFault<R>>
-        ensures { MatchResult result (λ transcript. R.KEEPS ≡ true → (all : List SeatView) × IsPermutation seats.items all × Agrees all transcript) (λ fault. IsPermutation seats.items fault.seats.items) }
+        ensures { MatchResult result (λ transcript. R.KEEPS ≡ true → (all : List SeatView) × IsPermutation seats.items all × Agrees all transcript.entries) (λ fault. IsPermutation seats.items fault.seats.items) }
     {
         self.desk.lock(rt).held.end(seats)
     }

@@ -10,12 +10,13 @@ use Rattle.ymx_held.proofs.held.Held.reset.Goals as goal
 
 pub invariant_of-self-2 : goal.invariant_of-self-2
 invariant_of-self-2 g c = (
-  kept_twice g.R.Recorder.KEEPS c.self.inside.ended c.prepare-2.new.self.entries c.add.new.self.entries c.add-2.new.self.entries c.self.inside.session c.reset-was_reset.new.self c.forget-gone.new.self
+  kept_twice g.R.Recorder.KEEPS c.self.inside.ended c.self.inside.role c.self.inside.config c.prepare-2.new.self.entries c.add.new.self.entries c.add-2.new.self.entries c.self.inside.session c.reset-was_reset.new.self c.forget-gone.new.self
       c.prepare-2.new.seat.number (to_reset c.args.id) (done_or c.reset-was_reset.result) c.add.new.seat.number (to_forget c.args.id) (done_or c.forget-gone.result)
-      (subst (λ (es : List Entry). Kept g.R.Recorder.KEEPS c.self.inside.ended es c.self.inside.session) (sym (c.in-Ok-prepare.ensures.entries ∙ c.in-Ok.ensures.entries)) c.self.invariant.0)
+      (subst (λ (es : List Entry). Kept g.R.Recorder.KEEPS c.self.inside.ended c.self.inside.role c.self.inside.config es c.self.inside.session) (sym (c.in-Ok-prepare.ensures.entries ∙ c.in-Ok.ensures.entries)) c.self.invariant.0)
       c.reset-was_reset.ensures.event (cc) c.forget-gone.ensures.event (cc),
   c.self.invariant.1,
   c.self.invariant.2,
+  c.self.invariant.3,
 )
 
 pub returns-then-not-second-clause-booked : goal.returns-then-not-second-clause-booked
