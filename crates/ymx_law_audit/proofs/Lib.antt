@@ -1,3 +1,4 @@
 pub mod Over
 pub mod Events
 pub mod Orders
+pub mod OneRun

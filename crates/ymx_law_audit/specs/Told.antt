@@ -1,5 +1,6 @@
 -- The replies of two sessions' histories, in a joint order, as answers of the world (this project's own).
-use Rattle.std.specs.Prelude.{◌≡◌, List, [], ◌∷◌, ◌++◌, Bool, true, false, if◌then◌else◌}
+use Rattle.std.specs.Prelude.{◌≡◌, ℕ, List, [], ◌∷◌, ◌++◌, Bool, true, false, if◌then◌else◌}
+use Rattle.ymx_model.specs.declared.types.Role.TheVariants.{Client, Server}
 use Rattle.ymx_model.specs.declared.types.Answer.{Answer}
 use Rattle.ymx_model.specs.declared.types.Answer.TheVariants as answer
 use Rattle.ymx_model.specs.declared.types.Reply.{Reply}
@@ -7,14 +8,14 @@ use Rattle.ymx_model.specs.declared.types.Event.{Event}
 use Rattle.ymx_model.specs.declared.types.Event.TheVariants as event
 use Rattle.ymx_model.specs.declared.types.Entry.{Entry}
 use Rattle.ymx_model.specs.declared.types.Step.{Step}
-use Rattle.ymx_model.specs.session.Sessions.{Session}
+use Rattle.ymx_model.specs.session.Sessions.{Session, new_session}
 use Rattle.ymx_model.specs.session.Emissions.{Choice}
 use Rattle.ymx_model.specs.session.Histories.{Replays}
 use Rattle.ymx_model.specs.shared.Steps.{answer_of}
-use Rattle.ymx_model.specs.world.Worlds.{World, Runs, new_pipe}
-use Rattle.ymx_model.specs.machine.Machines.{Machine}
+use Rattle.ymx_model.specs.world.Worlds.{World, Runs, new_pipe, new_world}
+use Rattle.ymx_model.specs.machine.Machines.{Machine, new_machine}
 use Rattle.ymx_headline.specs.Agrees.{Agrees}
-use Rattle.ymx_headline.specs.Laws.{HasRun}
+use Rattle.ymx_headline.specs.Laws.{AreGood, HasRun}
 use Rattle.ymx_law_audit.specs.Joints.{IsJoint}
 
 -- What the world answers to the steps of an event with this reply. The end of the input is two steps; a feed
@@ -64,3 +65,22 @@ abbrev pub AreAnswered : (may : Choice → Session → Bool) → List Entry → 
 AreAnswered may xs ys steps =
     (turns : List Bool) (a b s t : Session) → IsJoint turns new_pipe new_pipe xs ys steps → Replays may xs a s → Replays may ys b t →
     RunsBetween may steps (told turns xs ys) a b s t
+
+-- A's and B's entries are one run. In a joint order with these steps their replies are the answers of a run from
+-- the new world of these windows and first ids, which leads to the sessions s and t; and the queue machine of these
+-- two sides has a run that goes alike.
+pub record IsOneRun (may : Choice → Session → Bool) (xs ys : List Entry) (steps : List Step) (window_a first_a window_b first_b : ℕ) (s t : Session) : Type 0 where
+  pub turns : List Bool
+  pub joint : IsJoint turns new_pipe new_pipe xs ys steps
+  pub world : World
+  pub runs : Runs may steps (told turns xs ys) (new_world window_a first_a window_b first_b) world
+  pub side_a : world.a ≡ s
+  pub side_b : world.b ≡ t
+  pub machine : HasRun may steps (told turns xs ys) (new_world window_a first_a window_b first_b) world (new_machine window_a first_a window_b first_b)
+
+-- Where A's entries replay from a client's new session, and B's from a server's, they are one run with these steps.
+abbrev pub AreOneRun : (may : Choice → Session → Bool) → List Entry → List Entry → List Step → Type 0
+AreOneRun may xs ys steps =
+    (window_a first_a window_b first_b : ℕ) (s t : Session) → AreGood window_a first_a window_b first_b →
+    Replays may xs (new_session Client window_a first_a) s → Replays may ys (new_session Server window_b first_b) t →
+    IsOneRun may xs ys steps window_a first_a window_b first_b s t

@@ -14,7 +14,7 @@ ghost use Rattle.ymx_model.specs.world.Worlds.{World, new_pipe, new_world};
 ghost use Rattle.ymx_model.specs.machine.Machines.{new_machine};
 ghost use Rattle.ymx_headline.specs.Laws.{AreGood, HasRun};
 ghost use Rattle.ymx_law_audit.specs.Joints.{IsJoint, IsJointOrder};
-ghost use Rattle.ymx_law_audit.specs.Told.{told, AreAnswered};
+ghost use Rattle.ymx_law_audit.specs.Told.{told, AreAnswered, AreOneRun};
 ghost use Rattle.ymx_law_audit.specs.Example.{entries_of_a, entries_of_b, joint_steps, joint_answers};
 
 /// Where A's entries replay from one session and B's from another, the replies of the entries that have a
@@ -27,6 +27,13 @@ pub fn replies_are_answers()
         AreGood window_a first_a window_b first_b → IsJoint turns new_pipe new_pipe xs ys steps →
         Replays may xs (new_session Client window_a first_a) s → Replays may ys (new_session Server window_b first_b) t →
         (w : World) × HasRun may steps (told turns xs ys) (new_world window_a first_a window_b first_b) w (new_machine window_a first_a window_b first_b) }
+{}
+
+/// Two histories that the audit joins are one run of the queue machine. Where the client's entries replay from its
+/// new session, the server's from its own, and they have a joint order with these steps, the replies are the answers
+/// of a run of these two sessions from the new world, and the queue machine has a run that goes alike.
+pub fn joined_histories_are_one_run()
+    ensures { (may : Choice → Session → Bool) (xs ys : List Entry) (steps : List Step) → IsJointOrder xs ys steps → AreOneRun may xs ys steps }
 {}
 
 /// A joint order, and its answers, computed.

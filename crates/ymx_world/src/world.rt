@@ -11,7 +11,7 @@ ghost use Rattle.ymx_session.specs.NewSessions.{first_id, new_fault, IsNewFault}
 ghost use Rattle.ymx_model.specs.declared.types.Step.{Step as TheStep};
 ghost use Rattle.ymx_model.specs.declared.types.Answer.{Answer as TheAnswer};
 ghost use Rattle.ymx_law_audit.specs.Joints.{IsJointOrder};
-ghost use Rattle.ymx_law_audit.specs.Told.{AreAnswered};
+ghost use Rattle.ymx_law_audit.specs.Told.{AreAnswered, AreOneRun};
 ghost use Rattle.ymx_world.specs.Bounds.{IsBounded};
 ghost use Rattle.ymx_world.specs.Acts.{session_of, pipe_of};
 
@@ -139,6 +139,9 @@ impl World {
         // Where both histories replay from sessions, the replies of the entries that have a step are the answers
         // of a run of these sessions' world over the steps, and of each queue machine that agrees with it.
         ensures answered { IfOk result (λ found. IfSome found (λ steps. AreAnswered in_turn a.now b.now steps.items)) }
+        // Where both histories replay from new sessions, a client's and a server's, they are one run: of the new world
+        // of these sessions over the steps, and of the queue machine.
+        ensures one_run { IfOk result (λ found. IfSome found (λ steps. AreOneRun in_turn a.now b.now steps.items)) }
     {
         audit(alloc, a, b)
     }
