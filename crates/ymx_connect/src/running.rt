@@ -87,8 +87,8 @@ impl Handle {
         let_go(seat);
     }
 
-    /// Closes the session at once, and wakes all who wait: they answer `Closed`. What is not sent is dropped. Refused
-    /// with `Closed`.
+    /// Closes the session at once, and wakes all who wait: they answer `Closed`. What is not sent is dropped. It is
+    /// refused in no case; a second close changes nothing.
     pub fn close<W: Wait>(&self, rt: &W) -> Result<(), HubFault>
         ensures { IsNotMemory result }
     {

@@ -1,4 +1,7 @@
 //! How halves of streams are spent where nothing is recorded.
+//!
+//! Once both halves are spent the stream is given up. If it was finished and the peer's end has come, what is unsent
+//! still goes out; else it is reset, and what is unsent is dropped.
 
 ghost use Rattle.ymx_held.specs.Answers.{IsNotMemory};
 
@@ -23,7 +26,7 @@ pub fn reset<W: Wait>(rt: &W, writer: WriteHalf<Off>) -> Result<(), HubFault>
     was_reset
 }
 
-/// Spends the reading half: unread bytes are dropped once the writing half is spent too.
+/// Spends the reading half. If the writing half was spent, the stream is given up, and unread bytes are dropped.
 pub fn close<W: Wait>(rt: &W, reader: ReadHalf<Off>) -> Result<(), HubFault>
     ensures { IsNotMemory result }
 {
@@ -32,7 +35,8 @@ pub fn close<W: Wait>(rt: &W, reader: ReadHalf<Off>) -> Result<(), HubFault>
     closed
 }
 
-/// Half-closes the stream and spends its reading half, and answers the first refusal.
+/// Half-closes the stream, spends its reading half, and so gives the stream up. Where the peer's end has not come it is
+/// reset. Answers the first refusal.
 pub fn close_stream<W: Wait>(
     rt: &W,
     writer: WriteHalf<Off>,
