@@ -1,6 +1,7 @@
 //! Both pumps at once.
 
 ghost use Rattle.std.specs.Prelude.{◌≡◌, ◌<◌, length, true};
+ghost use Rattle.std.specs.Io.KnownBytes.{IsAtEnd};
 ghost use Rattle.ymx_header.specs.declared.fault.Fault.{Fault as FaultValue};
 ghost use Rattle.ymx_model.specs.devices.Devices.{has_failed};
 ghost use Rattle.ymx_pumps.specs.Pumps.{PumpRead, PumpWrote};
@@ -56,6 +57,7 @@ fn read_after<R: Recorder, W: Wait, I: Inlet, G: Gate>(
     ensures number { seat.new.number ≡ seat.old.number }
     ensures start { seat.new.start ≡ seat.old.start }
     ensures gave { PumpRead R.KEEPS seat.old.number (I.remaining reader.old) (I.remaining reader.new) seat.old.entries seat.new.entries result.count result.why }
+    ensures at_end { 0 < length buffer.old → result.why ≡ PumpWhy.End → IsAtEnd (I.remaining reader.new) }
     ensures device { result.why ≡ PumpWhy.Device → has_failed (I.failures reader.old) (I.failures reader.new) ≡ true }
 {
     await_begin(rt, start);
@@ -88,6 +90,7 @@ fn run_lent<
     ensures starts { (read_seat.new.start ≡ read_seat.old.start) × (write_seat.new.start ≡ write_seat.old.start) }
     ensures wrote { PumpWrote R.KEEPS (length write_buffer.old) write_seat.old.number (has_failed (O.failures writer.old) (O.failures writer.new)) (O.contents writer.old) (O.contents writer.new) write_seat.old.entries write_seat.new.entries result.0.count result.0.why }
     ensures gave { PumpRead R.KEEPS read_seat.old.number (I.remaining reader.old) (I.remaining reader.new) read_seat.old.entries read_seat.new.entries result.1.count result.1.why }
+    ensures at_end { 0 < length read_buffer.old → result.1.why ≡ PumpWhy.End → IsAtEnd (I.remaining reader.new) }
     ensures unfailed { result.0.why ≡ PumpWhy.End → O.failures writer.new ≡ O.failures writer.old }
     ensures write_device { result.0.why ≡ PumpWhy.Device → has_failed (O.failures writer.old) (O.failures writer.new) ≡ true }
     ensures read_device { result.1.why ≡ PumpWhy.Device → has_failed (I.failures reader.old) (I.failures reader.new) ≡ true }
@@ -128,6 +131,7 @@ pub fn run_pumps<
     ensures starts { (result.0.seat.start ≡ seats.0.start) × (result.1.seat.start ≡ seats.1.start) }
     ensures gave { PumpRead R.KEEPS seats.0.number (I.remaining reader.old) (I.remaining reader.new) seats.0.entries result.0.seat.entries result.0.moved result.0.why }
     ensures wrote { PumpWrote R.KEEPS (length write_buffer.old) seats.1.number (has_failed (O.failures writer.old) (O.failures writer.new)) (O.contents writer.old) (O.contents writer.new) seats.1.entries result.1.seat.entries result.1.moved result.1.why }
+    ensures at_end { result.0.why ≡ PumpWhy.End → IsAtEnd (I.remaining reader.new) }
     ensures read_device { result.0.why ≡ PumpWhy.Device → has_failed (I.failures reader.old) (I.failures reader.new) ≡ true }
     ensures unfailed { result.1.why ≡ PumpWhy.End → O.failures writer.new ≡ O.failures writer.old }
     ensures write_device { result.1.why ≡ PumpWhy.Device → has_failed (O.failures writer.old) (O.failures writer.new) ≡ true }

@@ -1,6 +1,7 @@
 //! The read pump.
 
 ghost use Rattle.std.specs.Prelude.{◌≡◌, ◌<◌, ◌⊎◌, length, true, false, IfErr};
+ghost use Rattle.std.specs.Io.KnownBytes.{IsAtEnd};
 ghost use Rattle.ymx_model.specs.devices.Devices.{has_failed};
 ghost use Rattle.ymx_held.specs.Booked.{Gains};
 ghost use Rattle.ymx_pumps.specs.Pumps.{PumpRead};
@@ -112,6 +113,7 @@ fn read_turn<R: Recorder, W: Wait, I: Inlet, G: Gate>(
     ensures start { seat.new.start ≡ seat.old.start }
     ensures length { length buffer.new ≡ length buffer.old }
     ensures turned { TurnRead R.KEEPS seat.old.number (I.failures reader.old) (I.failures reader.new) (I.remaining reader.old) (I.remaining reader.new) seat.old.entries seat.new.entries result }
+    ensures at_end { 0 < length buffer.old → IfErr result (λ stop. stop.why ≡ PumpWhy.End → IsAtEnd (I.remaining reader.new)) }
     ensures device { IfErr result (λ stop. stop.why ≡ PumpWhy.Device → has_failed (I.failures reader.old) (I.failures reader.new) ≡ true) }
     ensures off { R.KEEPS ≡ false → IfErr result (λ stop. stop.why ≡ PumpWhy.Memory → ⊥) }
 {
@@ -143,6 +145,7 @@ pub(crate) fn read_on<R: Recorder, W: Wait, I: Inlet, G: Gate>(
     ensures number { seat.new.number ≡ seat.old.number }
     ensures start { seat.new.start ≡ seat.old.start }
     ensures gave { PumpRead R.KEEPS seat.old.number (I.remaining reader.old) (I.remaining reader.new) seat.old.entries seat.new.entries result.count result.why }
+    ensures at_end { 0 < length buffer.old → result.why ≡ PumpWhy.End → IsAtEnd (I.remaining reader.new) }
     ensures device { result.why ≡ PumpWhy.Device → has_failed (I.failures reader.old) (I.failures reader.new) ≡ true }
     ensures off { R.KEEPS ≡ false → result.why ≡ PumpWhy.Memory → ⊥ }
 {
@@ -164,10 +167,10 @@ pub(crate) fn read_on<R: Recorder, W: Wait, I: Inlet, G: Gate>(
 /// Reads and feeds until the input has ended, with no lock held while it reads. Where 1,024 answers are unsent it
 /// waits until some went out, and then feeds the rest.
 ///
-/// It ends with `End` at the end of the input and with `Device` where the reader failed in this call, and then has
-/// ended the session's input; with `Broken` where the session broke; with `Gate` before a read or a wait; and with
-/// `Memory` where there is none for the entry of an event, which was not done. Bytes that it read and could not
-/// feed are gone, so the caller closes the session then.
+/// It ends with `End` at the end of the input, when the reader has nothing left, and with `Device` where the reader
+/// failed in this call, and then has ended the session's input; with `Broken` where the session broke; with `Gate`
+/// before a read or a wait; and with `Memory` where there is none for the entry of an event, which was not done.
+/// Bytes that it read and could not feed are gone, so the caller closes the session then.
 pub fn read_pump<R: Recorder, W: Wait, I: Inlet, G: Gate>(
     rt: &W,
     hub: &Hub<R>,
@@ -180,6 +183,7 @@ pub fn read_pump<R: Recorder, W: Wait, I: Inlet, G: Gate>(
     ensures number { result.seat.number ≡ seat.number }
     ensures start { result.seat.start ≡ seat.start }
     ensures gave { PumpRead R.KEEPS seat.number (I.remaining reader.old) (I.remaining reader.new) seat.entries result.seat.entries result.moved result.why }
+    ensures at_end { result.why ≡ PumpWhy.End → IsAtEnd (I.remaining reader.new) }
     ensures device { result.why ≡ PumpWhy.Device → has_failed (I.failures reader.old) (I.failures reader.new) ≡ true }
     ensures off { R.KEEPS ≡ false → result.why ≡ PumpWhy.Memory → ⊥ }
 {

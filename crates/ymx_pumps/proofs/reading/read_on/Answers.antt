@@ -7,6 +7,7 @@ loop-preserved g c = record {
   next = (tt, tt);
   number = search rules;
   start = search rules;
+  room = search rules;
   fed = fed_more g.R.Recorder.KEEPS c.args.seat.now.number c.loop.seat.number (g.I.Inlet.failures c.args.reader.now) (g.I.Inlet.failures c.loop.reader) (g.I.Inlet.failures c.read_turn.new.reader) (g.I.Inlet.remaining c.args.reader.now) (g.I.Inlet.remaining c.loop.reader) (g.I.Inlet.remaining c.read_turn.new.reader) c.args.seat.now.entries c.loop.seat.entries c.read_turn.new.seat.entries c.loop.count c.in-Ok.taken c.saturating_add-count.result c.loop.invariant.fed c.loop.invariant.number c.in-Ok.ensures.turned c.saturating_add-count.ensures;
 }
 

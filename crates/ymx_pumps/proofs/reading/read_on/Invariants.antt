@@ -1,4 +1,4 @@
-use Rattle.std.proofs.Common.{◌≡◌}
+use Rattle.std.proofs.Common.{◌≡◌, length}
 use Rattle.ymx_pumps.proofs.Feeds.{AllFed}
 use Rattle.ymx_pumps.proofs.reading.read_on.Given as goal
 
@@ -7,5 +7,6 @@ invariant-loop g l = record {
   next : (goal.iterator-loop g).can_next l.iterator' × (goal.iterator-loop g).is_finite l.iterator';
   number : l.seat.number ≡ l.initial.seat.number;
   start : l.seat.start ≡ l.initial.seat.start;
+  room : length l.buffer ≡ length l.initial.buffer;
   fed : AllFed g.R.Recorder.KEEPS l.initial.seat.number (g.I.Inlet.failures l.initial.reader) (g.I.Inlet.failures l.reader) (g.I.Inlet.remaining l.initial.reader) (g.I.Inlet.remaining l.reader) l.initial.seat.entries l.seat.entries l.count;
 }
