@@ -1,6 +1,6 @@
 -- What is read of the matches of a command line.
 use Rattle.std.proofs.Common.{◌≡◌, ◌<◌, ◌≤◌, ◌^◌, ℕ, List, Option, Some, None, Result, Ok, Err, option_map, arith, refl, ◌∙◌, ap, subst, codes, decimal}
-use Rattle.std.specs.Prelude.{IsSomeAnd, option_and_then, pos, unwrap_or}
+use Rattle.std.specs.Prelude.{IfSome, IsSomeAnd, option_and_then, pos, unwrap_or}
 use Rattle.clap.specs.declared.parser.matches.ArgMatches.{ArgMatches}
 use Rattle.clap.specs.declared.parser.matches.ArgMatches.TheViews.{out-ArgMatches}
 use Rattle.std.specs.Str.Parse.{ParsesUnsigned}
@@ -8,7 +8,7 @@ use Rattle.std.proofs.lemmas.Fmt.{parse-decimal}
 use Rattle.clap.specs.Words.{IsSignedIn, ReadsOne, Row, Text, one_of, subcommand_name_of, subcommand_rows_of, without_minus}
 use Rattle.clap.specs.Walk.{first_of}
 use Rattle.clap.proofs.CallerReads.{signed_reads}
-use Rattle.ymx_cli.specs.CommandLine.{named_words}
+use Rattle.ymx_cli.specs.CommandLine.{IsNotSaid, named_words}
 
 -- the rows of a subcommand that was met have its limit
 pub named_text : (rows : List Row) (met : Option (Text × List Row)) (name : Text) (text word : Option Text) → Some rows ≡ option_map (λ p. p.1) met →
@@ -64,3 +64,11 @@ none_met (Some x) P e h = not_met x.0 e
   where
     not_met : (name : Text) → None ≡ Some name → ⊥
     not_met name e = cc
+
+-- a flag that wasn't given with a subcommand isn't in its rows
+pub not_said : (rows : List Row) (met : Option (Text × List Row)) → Some rows ≡ option_map (λ p. p.1) met →
+    IfSome met (λ p. IsNotSaid (one_of (codes "verbose") p.1)) → IsNotSaid (one_of (codes "verbose") rows)
+not_said rows None e quiet = cc
+not_said rows (Some p) e quiet =
+    let has : rows ≡ p.1 = ap (λ (o : Option (List Row)). unwrap_or o rows) e in
+    rw has quiet

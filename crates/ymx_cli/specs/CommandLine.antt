@@ -1,11 +1,11 @@
 -- The command line of the program (this project's own).
-use Rattle.std.specs.Prelude.{◌≡◌, ◌≢◌, ⊤, ◌≤◌, ◌⊎◌, ◌++◌, ℕ, List, [], ◌∷◌, Option, Some, None, true, IsSomeAnd, if◌then◌else◌, option_map, codes, decimal, pos, slice_get}
+use Rattle.std.specs.Prelude.{◌≡◌, ◌≢◌, ⊤, ◌≤◌, ◌⊎◌, ◌++◌, ℕ, List, [], ◌∷◌, Option, Some, None, true, false, IfSome, IsSomeAnd, if◌then◌else◌, option_map, codes, decimal, pos, slice_get}
 use Rattle.std.specs.Str.{bytes_eq}
 use Rattle.clap.specs.Kinds.{IsAmong}
 use Rattle.clap.specs.Faults.{fault_of}
 use Rattle.clap.specs.Walk.{first_of}
 use Rattle.clap.specs.Words.{App, IsSignedIn, Row, Rule, Shape, Text, new_app, new_rule, one_of, subcommand_of, with_rule, with_subcommand, without_minus}
-use Rattle.clap.specs.declared.builder.action.ArgAction.TheVariants.{Set}
+use Rattle.clap.specs.declared.builder.action.ArgAction.TheVariants.{Set, SetTrue}
 use Rattle.clap.specs.declared.builder.value_parser.ValueParser.TheVariants as parser
 use Rattle.clap.specs.declared.error.kind.ErrorKind.{ErrorKind}
 use Rattle.clap.specs.declared.error.kind.ErrorKind.TheVariants.{DisplayHelp, DisplayVersion}
@@ -113,15 +113,23 @@ workers_rule = record (new_rule (codes "workers")) {
   parser = Some (parser.Signed (pos 1) (pos 1024));
 }
 
+-- `--verbose`, or `-v`, a flag
+abbrev pub verbose_rule : Rule
+verbose_rule = record (new_rule (codes "verbose")) {
+  short = Some 118;
+  long = Some (codes "verbose");
+  action = Some SetTrue;
+}
+
 -- `local`
 abbrev pub local_shape : Shape
-local_shape = (with_rule (with_rule (with_rule (with_rule (new_app (codes "local"))
-    (address_rule (codes "listen"))) (address_rule (codes "peer"))) count_rule) window_rule).top
+local_shape = (with_rule (with_rule (with_rule (with_rule (with_rule (new_app (codes "local"))
+    (address_rule (codes "listen"))) (address_rule (codes "peer"))) count_rule) window_rule) verbose_rule).top
 
 -- `remote`
 abbrev pub remote_shape : Shape
-remote_shape = (with_rule (with_rule (with_rule (with_rule (new_app (codes "remote"))
-    (address_rule (codes "bind"))) (address_rule (codes "target"))) window_rule) workers_rule).top
+remote_shape = (with_rule (with_rule (with_rule (with_rule (with_rule (new_app (codes "remote"))
+    (address_rule (codes "bind"))) (address_rule (codes "target"))) window_rule) workers_rule) verbose_rule).top
 
 -- a subcommand that takes nothing
 abbrev pub bare_shape : List ℕ → Shape
@@ -164,8 +172,8 @@ NamesAnother words = IsSomeAnd (subcommand_of ymx_app words) (λ p. (p.0 ≡ cod
 
 -- an end of a tunnel: it writes nothing to standard output
 abbrev pub IsEnd : Tunnel → Type 0
-IsEnd (tunnel.Local listen peer count window) = ⊤
-IsEnd (tunnel.Remote bind target window workers) = ⊤
+IsEnd (tunnel.Local listen peer count window verbose) = ⊤
+IsEnd (tunnel.Remote bind target window workers verbose) = ⊤
 IsEnd tunnel.Selftest = ⊥
 
 -- the task is an end of a tunnel
@@ -177,3 +185,25 @@ IsEndTask (Script file) = ⊥
 -- the words ask for no help and no version: what clap may find at them is a mistake
 abbrev pub AsksNoHelp : List Text → Type 0
 AsksNoHelp words = (kind : ErrorKind) → IsAmong kind (fault_of ymx_app words) → IsMistake kind
+
+-- ---- words that ask for no lines on standard error
+
+-- a flag, of which clap keeps this text, wasn't given
+abbrev pub IsNotSaid : Option Text → Type 0
+IsNotSaid text = (text ≡ None) ⊎ (text ≡ Some (codes "false"))
+
+-- no end of a tunnel that says lines
+abbrev pub IsSilent : Tunnel → Type 0
+IsSilent (tunnel.Local listen peer count window verbose) = verbose ≡ false
+IsSilent (tunnel.Remote bind target window workers verbose) = verbose ≡ false
+IsSilent tunnel.Selftest = ⊤
+
+-- no task that says lines
+abbrev pub IsSilentTask : Task → Type 0
+IsSilentTask (ATunnel asked) = IsSilent asked
+IsSilentTask (Frames limit file) = ⊤
+IsSilentTask (Script file) = ⊤
+
+-- the words of a subcommand, if they name one, have no `-v`
+abbrev pub AsksNoLines : List Text → Type 0
+AsksNoLines words = IfSome (subcommand_of ymx_app words) (λ p. IsNotSaid (one_of (codes "verbose") p.1))

@@ -1,12 +1,12 @@
 //! The command line of `ymx`.
 
-ghost use Rattle.std.specs.Prelude.{ℕ, List, Option, None, ◌≡◌, ◌≢◌, ◌≤◌, ◌↔◌, ◌⊎◌, ◌<◌, ◌^◌, Some, codes, decimal, true, false, map, option_and_then, option_map, IfErr, IfOk, IsSomeAnd, IsTrue, MatchResult};
+ghost use Rattle.std.specs.Prelude.{ℕ, List, Option, None, ◌≡◌, ◌≢◌, ◌≤◌, ◌↔◌, ◌⊎◌, ◌<◌, ◌^◌, Some, codes, decimal, true, false, map, option_and_then, option_map, IfErr, IfOk, IfSome, IsSomeAnd, IsTrue, MatchResult};
 ghost use Rattle.std.specs.IoError.{error_kind};
 ghost use Rattle.std.specs.declared.io.ErrorKind.TheVariants.{InvalidData};
 ghost use Rattle.std.specs.Io.KnownBytes.{Keeps};
-ghost use Rattle.clap.specs.Words.{app_of, first_value, found_of, kind_of, rule_of, shape_of, subcommand_rows_of};
+ghost use Rattle.clap.specs.Words.{app_of, first_value, found_of, kind_of, one_of, rule_of, shape_of, subcommand_rows_of};
 ghost use Rattle.clap.specs.declared.builder.command.Command.TheViews.{out-Command as fields_of};
-ghost use Rattle.ymx_cli.specs.CommandLine.{AsksFrames, AsksNoHelp, AsksScript, HasGoodLimit, IsEndTask, IsFrames, IsMistake, IsScript, NamesAnother, bare_shape, file_of, file_rule, frames_shape, limit_rule, named_words, script_shape, ymx_app};
+ghost use Rattle.ymx_cli.specs.CommandLine.{AsksFrames, AsksNoHelp, AsksNoLines, AsksScript, HasGoodLimit, IsEndTask, IsFrames, IsMistake, IsNotSaid, IsScript, IsSilentTask, NamesAnother, bare_shape, file_of, file_rule, frames_shape, limit_rule, named_words, script_shape, ymx_app};
 ghost use Rattle.ymx_cli.specs.Messages.{IsUntouched, PlaysFile, PlaysScript, PrintsFile, PrintsFrames, Refuses, Says, Shows, TakesText, TakesPart, change_of, fails, not_text, out_of_memory, reason, script_reason, writing_failed};
 
 use crate::tunnel::{Tunnel, asked_tunnel, local_command, remote_command, run_tunnel};
@@ -57,8 +57,9 @@ pub trait Opener {
         ensures refused { IfErr result (λ _. refuses self.now name.now) };
 }
 
-/// Does what the words of a command line ask for, the first of which is the program's name. Answers
-/// the exit status: 0 if all went well, 1 at a fault, 2 for a bad command line.
+/// Does what the words of a command line ask for, the first of which is the program's name. Faults are said on
+/// `errors`, and what `-v` asks for on `lines`. Answers the exit status: 0 if all went well, 1 at a fault, 2 for a bad
+/// command line.
 pub fn ymx_main<
     T: Threads + Wait + Sync,
     S: AsStr,
@@ -67,6 +68,7 @@ pub fn ymx_main<
     R: Inlet,
     W: Outlet,
     E: Outlet,
+    L: Outlet + Send,
 >(
     rt: &T,
     alloc: Global,
@@ -76,6 +78,7 @@ pub fn ymx_main<
     reader: &mut R,
     writer: &mut W,
     errors: &mut E,
+    lines: &mut L,
 ) -> u8
     ensures status { result ≤ 2 }
     // A good end says nothing on the error device.
@@ -114,6 +117,8 @@ pub fn ymx_main<
     // Words that name an end of a tunnel write nothing to the writer, unless they ask for help or the version.
     ensures silent { NamesAnother (map S.text words.now) → AsksNoHelp (map S.text words.now) →
         IsUntouched (change_of W.contents W.failures writer.old writer.new) }
+    // Without `-v` no lines are said.
+    ensures unsaid { AsksNoLines (map S.text words.now) → IsUntouched (change_of L.contents L.failures lines.old lines.new) }
     // At status 2 nothing is read, and nothing is written to the writer.
     ensures bad { result ≡ 2 → IsUntouched (change_of R.remaining R.failures reader.old reader.new) × IsUntouched (change_of W.contents W.failures writer.old writer.new) }
 {
@@ -127,7 +132,7 @@ pub fn ymx_main<
         ) => print_file(rt, alloc, files, name, limit, writer, errors),
         Ok(Task::Script { file: None }) => play(rt, alloc, reader, writer, errors),
         Ok(Task::Script { file: Some(name) }) => play_file(rt, alloc, files, name, writer, errors),
-        Ok(Task::Tunnel(asked)) => run_tunnel(rt, alloc, network, asked, writer, errors),
+        Ok(Task::Tunnel(asked)) => run_tunnel(rt, alloc, network, asked, writer, errors, lines),
         Err(error) => explain(alloc, &error, writer, errors),
     }
 }
@@ -229,6 +234,7 @@ fn parse<'a, S: AsStr>(alloc: Global, words: &'a [S]) -> Result<Task<'a>, Error>
         MatchResult result (IsScript file) (λ error. kind_of error ≡ ErrorKind.OutOfMemory) }
     ensures other { NamesAnother (map S.text words.entry.now) → IfOk result IsEndTask }
     ensures mistake { AsksNoHelp (map S.text words.entry.now) → IfErr result (λ error. IsMistake (kind_of error)) }
+    ensures silent { AsksNoLines (map S.text words.entry.now) → IfOk result IsSilentTask }
 {
     let matches = command(alloc)?.try_get_matches_from(words)?;
     Ok(asked(&matches))
@@ -244,6 +250,7 @@ fn asked<'a>(matches: &ArgMatches<'a>) -> Task<'a>
     ensures other { IsSomeAnd (subcommand_rows_of matches.now) (λ p. (p.0 ≡ codes "local") ⊎ (p.0 ≡ codes "remote")) → IsEndTask result }
     ensures limits { HasGoodLimit (subcommand_rows_of matches.now) → (limit : ℕ) (file : Option (List ℕ)) → IsFrames limit file result
         → (262144 ≤ limit) × (limit ≤ 16777216) }
+    ensures silent { IfSome (subcommand_rows_of matches.now) (λ p. IsNotSaid (one_of (codes "verbose") p.1)) → IsSilentTask result }
 {
     match matches.subcommand() {
         Some(("frames", found)) => Task::Frames {
@@ -551,6 +558,7 @@ mod tests {
         let mut reader = MemoryInlet::new(input);
         let mut writer = MemoryOutlet::new(rt.alloc());
         let mut errors = MemoryOutlet::new(rt.alloc());
+        let mut lines = MemoryOutlet::new(rt.alloc());
         let status = ymx_main(
             rt,
             rt.alloc(),
@@ -560,6 +568,7 @@ mod tests {
             &mut reader,
             &mut writer,
             &mut errors,
+            &mut lines,
         );
         let printed = Vec::from_slice(rt.alloc(), writer.as_slice())?;
         let said = Vec::from_slice(rt.alloc(), errors.as_slice())?;
@@ -725,6 +734,7 @@ mod tests {
         mut writer: MemoryOutlet,
     ) -> (u8, MemoryOutlet, MemoryOutlet) {
         let mut errors = MemoryOutlet::new(rt.alloc());
+        let mut lines = MemoryOutlet::new(rt.alloc());
         let words = ["ymx", subcommand];
         let files = OneFile { bytes: HELLO };
         let status = ymx_main(
@@ -736,6 +746,7 @@ mod tests {
             &mut reader,
             &mut writer,
             &mut errors,
+            &mut lines,
         );
         (status, writer, errors)
     }
@@ -812,6 +823,7 @@ mod tests {
         let mut reader = MemoryInlet::new(b"");
         let mut writer = MemoryOutlet::new(rt.alloc());
         let mut errors = MemoryOutlet::new(rt.alloc());
+        let mut lines = MemoryOutlet::new(rt.alloc());
         let words = ["ymx", "selftest"];
         let files = OneFile { bytes: HELLO };
         let status = ymx_main(
@@ -823,6 +835,7 @@ mod tests {
             &mut reader,
             &mut writer,
             &mut errors,
+            &mut lines,
         );
         assert_eq!(rt; status, 0);
         assert_eq!(rt;

@@ -26,6 +26,10 @@ fn main(rt: HostRuntime) -> ExitCode {
         writer: rt.stderr(),
         failures: 0,
     };
+    let mut lines = WriterOutlet {
+        writer: rt.stderr(),
+        failures: 0,
+    };
     let alloc = rt.alloc();
     let status = match words(&rt, alloc) {
         Ok(words) => ymx_main(
@@ -37,6 +41,7 @@ fn main(rt: HostRuntime) -> ExitCode {
             &mut reader,
             &mut writer,
             &mut errors,
+            &mut lines,
         ),
         Err(error) => no_words(&error, &mut errors),
     };

@@ -1,9 +1,9 @@
 //! The subcommands `local`, `remote` and `selftest`.
 
 ghost use Rattle.std.specs.Prelude.{◌≡◌, ◌⊎◌, ◌≤◌, codes, false, IfOk, IfSome};
-ghost use Rattle.clap.specs.Words.{rule_of, shape_of};
+ghost use Rattle.clap.specs.Words.{found_of, one_text, rule_of, shape_of};
 ghost use Rattle.clap.specs.declared.builder.command.Command.TheViews.{out-Command as fields_of};
-ghost use Rattle.ymx_cli.specs.CommandLine.{IsEnd, address_rule, count_rule, local_shape, remote_shape, window_rule, workers_rule};
+ghost use Rattle.ymx_cli.specs.CommandLine.{IsEnd, IsNotSaid, IsSilent, address_rule, count_rule, local_shape, remote_shape, verbose_rule, window_rule, workers_rule};
 ghost use Rattle.ymx_cli.specs.Messages.{IsUntouched, change_of};
 
 use clap::{Arg, ArgAction, ArgMatches, Command, value_parser};
@@ -31,6 +31,7 @@ pub(crate) enum Tunnel<'a> {
         peer: &'a str,
         count: Option<u32>,
         window: u32,
+        is_verbose: bool,
     },
     /// `remote`.
     Remote {
@@ -38,6 +39,7 @@ pub(crate) enum Tunnel<'a> {
         target: &'a str,
         window: u32,
         workers: u32,
+        is_verbose: bool,
     },
     /// `selftest`.
     Selftest,
@@ -45,7 +47,8 @@ pub(crate) enum Tunnel<'a> {
 
 /// What the matches of this subcommand ask for.
 pub(crate) fn asked_tunnel<'a>(name: &str, found: &ArgMatches<'a>) -> Tunnel<'a>
-    ensures { (name.now ≡ codes "local") ⊎ (name.now ≡ codes "remote") → IsEnd result }
+    ensures end { (name.now ≡ codes "local") ⊎ (name.now ≡ codes "remote") → IsEnd result }
+    ensures silent { IsNotSaid (one_text (found_of found.now) (codes "verbose")) → IsSilent result }
 {
     match name {
         "local" => Tunnel::Local {
@@ -53,12 +56,14 @@ pub(crate) fn asked_tunnel<'a>(name: &str, found: &ArgMatches<'a>) -> Tunnel<'a>
             peer: found.get_str("peer").unwrap_or(""),
             count: found.get_one("count"),
             window: found.get_one("window").unwrap_or(DEFAULT_WINDOW),
+            is_verbose: found.get_flag("verbose"),
         },
         "remote" => Tunnel::Remote {
             bind: found.get_str("bind").unwrap_or(""),
             target: found.get_str("target").unwrap_or(""),
             window: found.get_one("window").unwrap_or(DEFAULT_WINDOW),
             workers: found.get_one("workers").unwrap_or(DEFAULT_WORKERS),
+            is_verbose: found.get_flag("verbose"),
         },
         _ => Tunnel::Selftest,
     }
@@ -78,7 +83,8 @@ pub(crate) fn local_command<'a>(alloc: Global) -> Result<Command<'a>, AllocError
         ))?
         .arg(address(alloc, "peer", "Where the `ymx remote` listens"))?
         .arg(count_argument(alloc))?
-        .arg(window_argument(alloc))
+        .arg(window_argument(alloc))?
+        .arg(verbose_argument(alloc))
 }
 
 /// The subcommand `remote`.
@@ -91,7 +97,8 @@ pub(crate) fn remote_command<'a>(alloc: Global) -> Result<Command<'a>, AllocErro
         .arg(address(alloc, "bind", "Where the `ymx local` connects to"))?
         .arg(address(alloc, "target", "Where each stream is connected to"))?
         .arg(window_argument(alloc))?
-        .arg(workers_argument(alloc))
+        .arg(workers_argument(alloc))?
+        .arg(verbose_argument(alloc))
 }
 
 /// An argument that is an address.
@@ -144,6 +151,17 @@ fn workers_argument<'a>(alloc: Global) -> Arg<'a>
         .help("How many streams are served at once, from 1 to 1024")
 }
 
+/// The argument `--verbose`, or `-v`.
+fn verbose_argument<'a>(alloc: Global) -> Arg<'a>
+    ensures { (rule_of result ≡ verbose_rule) × (result.global ≡ false) }
+{
+    Arg::new(alloc, "verbose")
+        .short('v')
+        .long("verbose")
+        .action(ArgAction::SetTrue)
+        .help("Say on standard error where it listens, and how each connection ended")
+}
+
 /// What the help of `local` says at its end.
 const LOCAL_HELP: &str =
     "It connects to the peer, and then listens. An address is an IPv4 address and a port.
@@ -159,18 +177,27 @@ Example:
   ymx remote --bind 192.0.2.7:4000 --target 127.0.0.1:80";
 
 /// Does what was asked, and answers the exit status. A bad address is found before anything is connected or bound.
-pub(crate) fn run_tunnel<R: Threads + Wait + Sync, N: Network, W: Outlet, E: Outlet>(
+/// Faults are said on `errors`, and what `-v` asks for on `lines`.
+pub(crate) fn run_tunnel<
+    R: Threads + Wait + Sync,
+    N: Network,
+    W: Outlet,
+    E: Outlet,
+    L: Outlet + Send,
+>(
     rt: &R,
     alloc: Global,
     network: &N,
     asked: Tunnel<'_>,
     writer: &mut W,
     errors: &mut E,
+    lines: &mut L,
 ) -> u8
     ensures status { result ≤ 2 }
     ensures good { result ≡ 0 → IsUntouched (change_of E.contents E.failures errors.old errors.new) }
     ensures silent { IsEnd asked.entry → IsUntouched (change_of W.contents W.failures writer.old writer.new) }
     ensures bad { result ≡ 2 → IsUntouched (change_of W.contents W.failures writer.old writer.new) }
+    ensures unsaid { IsSilent asked.entry → IsUntouched (change_of L.contents L.failures lines.old lines.new) }
 {
     match asked {
         Tunnel::Local {
@@ -178,6 +205,7 @@ pub(crate) fn run_tunnel<R: Threads + Wait + Sync, N: Network, W: Outlet, E: Out
             peer,
             count,
             window,
+            is_verbose,
         } => {
             let Some(listen) = read_address(listen, errors) else {
                 return 2;
@@ -190,14 +218,16 @@ pub(crate) fn run_tunnel<R: Threads + Wait + Sync, N: Network, W: Outlet, E: Out
                 peer,
                 count,
                 window,
+                is_verbose,
             };
-            run_local(rt, alloc, network, local, errors)
+            run_local(rt, alloc, network, local, errors, lines)
         }
         Tunnel::Remote {
             bind,
             target,
             window,
             workers,
+            is_verbose,
         } => {
             let Some(bind) = read_address(bind, errors) else {
                 return 2;
@@ -210,8 +240,9 @@ pub(crate) fn run_tunnel<R: Threads + Wait + Sync, N: Network, W: Outlet, E: Out
                 target,
                 window,
                 workers,
+                is_verbose,
             };
-            run_remote(rt, alloc, network, remote, errors)
+            run_remote(rt, alloc, network, remote, errors, lines)
         }
         Tunnel::Selftest => run_selftest(rt, alloc, network, writer, errors),
     }
@@ -255,15 +286,26 @@ mod tests {
         ] {
             let mut writer = MemoryOutlet::new(rt.alloc());
             let mut errors = MemoryOutlet::new(rt.alloc());
+            let mut lines = MemoryOutlet::new(rt.alloc());
             let asked = Tunnel::Local {
                 listen,
                 peer,
                 count: Some(0),
                 window: DEFAULT_WINDOW,
+                is_verbose: true,
             };
-            let status = run_tunnel(&rt, rt.alloc(), &network, asked, &mut writer, &mut errors);
+            let status = run_tunnel(
+                &rt,
+                rt.alloc(),
+                &network,
+                asked,
+                &mut writer,
+                &mut errors,
+                &mut lines,
+            );
             assert_eq!(rt; status, 2);
             assert!(rt; writer.as_slice().is_empty());
+            assert!(rt; lines.as_slice().is_empty());
             assert_eq!(rt; errors.as_slice(), said);
         }
     }
@@ -277,15 +319,26 @@ mod tests {
         drop(listener);
         let mut writer = MemoryOutlet::new(rt.alloc());
         let mut errors = MemoryOutlet::new(rt.alloc());
+        let mut lines = MemoryOutlet::new(rt.alloc());
         let asked = Tunnel::Local {
             listen: "127.0.0.1:0",
             peer: address.as_str(),
             count: Some(0),
             window: DEFAULT_WINDOW,
+            is_verbose: true,
         };
-        let status = run_tunnel(&rt, rt.alloc(), &network, asked, &mut writer, &mut errors);
+        let status = run_tunnel(
+            &rt,
+            rt.alloc(),
+            &network,
+            asked,
+            &mut writer,
+            &mut errors,
+            &mut lines,
+        );
         assert_eq!(rt; status, 1);
         assert!(rt; writer.as_slice().is_empty());
+        assert!(rt; lines.as_slice().is_empty());
         let said = format!(in rt.alloc(); "ymx: cannot reach {address}\n")?;
         assert_eq!(rt; errors.as_slice(), said.as_bytes());
         Ok(())

@@ -6,6 +6,7 @@ mod forwarding;
 mod programs;
 mod selftest;
 mod tell;
+mod watching;
 
 pub use forwarding::{Forwarded, Side, forward};
 pub use programs::{Local, Remote, run_local, run_remote};

@@ -1,16 +1,17 @@
 //! The two ends of a tunnel as programs.
 
-ghost use Rattle.std.specs.Prelude.{◌≡◌, ◌≤◌};
+ghost use Rattle.std.specs.Prelude.{◌≡◌, ◌≤◌, false};
 ghost use Rattle.std.specs.Io.KnownBytes.{Keeps};
 
 use crate::forwarding::{Forwarded, Side, forward};
 use crate::tell::{cannot_listen, cannot_reach, lacks_memory, session_broken};
+use crate::watching::Lines;
 use std::alloc::Global;
-use std::net::SocketAddr;
+use std::net::{SocketAddr, TcpListener, TcpStream};
 use std::sync::Wait;
 use std::thread::Threads;
 use ymx_model::Outlet;
-use ymx_tunnel::{Network, Unwatched};
+use ymx_tunnel::{Network, Unwatched, Watcher};
 
 /// What `ymx local` is asked.
 #[derive(Clone, Copy, Debug, PartialEq, Eq)]
@@ -23,6 +24,8 @@ pub struct Local {
     pub count: Option<u32>,
     /// How many bytes of a stream may be unread here, 262,144 to 16,777,216.
     pub window: u32,
+    /// Whether it says that it is ready, and how each connection ended.
+    pub is_verbose: bool,
 }
 
 /// What `ymx remote` is asked.
@@ -36,18 +39,23 @@ pub struct Remote {
     pub window: u32,
     /// How many streams are served at once.
     pub workers: u32,
+    /// Whether it says that it is ready, and how each connection ended.
+    pub is_verbose: bool,
 }
 
-/// Connects to the peer, and forwards each connection that comes as a stream. Answers the exit status.
-pub fn run_local<R: Threads + Wait + Sync, N: Network, E: Outlet>(
+/// Connects to the peer, and forwards each connection that comes as a stream. Says faults on `errors`, and the lines
+/// that `is_verbose` asks for on `lines`. Answers the exit status.
+pub fn run_local<R: Threads + Wait + Sync, N: Network, E: Outlet, L: Outlet + Send>(
     rt: &R,
     alloc: Global,
     network: &N,
     asked: Local,
     errors: &mut E,
+    lines: &mut L,
 ) -> u8
     ensures status { result ≤ 1 }
     ensures good { result ≡ 0 → Keeps (E.contents errors.old) (E.contents errors.new) }
+    ensures silent { asked.is_verbose ≡ false → Keeps (L.contents lines.old) (L.contents lines.new) }
 {
     let Some(connection) = network.connect(asked.peer) else {
         return cannot_reach(alloc, asked.peer, errors);
@@ -55,36 +63,92 @@ pub fn run_local<R: Threads + Wait + Sync, N: Network, E: Outlet>(
     let Some(listener) = network.listen(asked.listen) else {
         return cannot_listen(alloc, asked.listen, errors);
     };
-    let side = Side::Local {
-        listener: &listener,
-        count: asked.count,
-    };
-    let forwarded = forward(
+    if !asked.is_verbose {
+        return forward_out(
+            rt,
+            alloc,
+            network,
+            &connection,
+            &listener,
+            asked,
+            &Unwatched,
+            errors,
+        );
+    }
+    let watcher = Lines::new(lines);
+    watcher.listening(rt, &listener, asked.listen);
+    forward_out(
         rt,
         alloc,
         network,
         &connection,
-        side,
-        asked.window,
-        &Unwatched,
-    );
-    report(alloc, asked.listen, forwarded, errors)
+        &listener,
+        asked,
+        &watcher,
+        errors,
+    )
 }
 
-/// Accepts one connection of a peer, and connects each of its streams to the target. Answers the exit status.
-pub fn run_remote<R: Threads + Wait + Sync, N: Network, E: Outlet>(
+/// Forwards each connection that comes as a stream. Answers the exit status.
+fn forward_out<R: Threads + Wait + Sync, N: Network, V: Watcher, E: Outlet>(
     rt: &R,
     alloc: Global,
     network: &N,
-    asked: Remote,
+    connection: &TcpStream,
+    listener: &TcpListener,
+    asked: Local,
+    watcher: &V,
     errors: &mut E,
 ) -> u8
     ensures status { result ≤ 1 }
     ensures good { result ≡ 0 → Keeps (E.contents errors.old) (E.contents errors.new) }
 {
+    let side = Side::Local {
+        listener,
+        count: asked.count,
+    };
+    let forwarded = forward(rt, alloc, network, connection, side, asked.window, watcher);
+    report(alloc, asked.listen, forwarded, errors)
+}
+
+/// Accepts one connection of a peer, and connects each of its streams to the target. Says faults on `errors`, and the
+/// lines that `is_verbose` asks for on `lines`. Answers the exit status.
+pub fn run_remote<R: Threads + Wait + Sync, N: Network, E: Outlet, L: Outlet + Send>(
+    rt: &R,
+    alloc: Global,
+    network: &N,
+    asked: Remote,
+    errors: &mut E,
+    lines: &mut L,
+) -> u8
+    ensures status { result ≤ 1 }
+    ensures good { result ≡ 0 → Keeps (E.contents errors.old) (E.contents errors.new) }
+    ensures silent { asked.is_verbose ≡ false → Keeps (L.contents lines.old) (L.contents lines.new) }
+{
     let Some(listener) = network.listen(asked.bind) else {
         return cannot_listen(alloc, asked.bind, errors);
     };
+    if !asked.is_verbose {
+        return forward_in(rt, alloc, network, &listener, asked, &Unwatched, errors);
+    }
+    let watcher = Lines::new(lines);
+    watcher.listening(rt, &listener, asked.bind);
+    forward_in(rt, alloc, network, &listener, asked, &watcher, errors)
+}
+
+/// Accepts one connection of a peer, and connects each of its streams to the target. Answers the exit status.
+fn forward_in<R: Threads + Wait + Sync, N: Network, V: Watcher, E: Outlet>(
+    rt: &R,
+    alloc: Global,
+    network: &N,
+    listener: &TcpListener,
+    asked: Remote,
+    watcher: &V,
+    errors: &mut E,
+) -> u8
+    ensures status { result ≤ 1 }
+    ensures good { result ≡ 0 → Keeps (E.contents errors.old) (E.contents errors.new) }
+{
     let Ok((connection, _)) = listener.accept() else {
         return cannot_listen(alloc, asked.bind, errors);
     };
@@ -93,15 +157,7 @@ pub fn run_remote<R: Threads + Wait + Sync, N: Network, E: Outlet>(
         target: asked.target,
         workers: asked.workers,
     };
-    let forwarded = forward(
-        rt,
-        alloc,
-        network,
-        &connection,
-        side,
-        asked.window,
-        &Unwatched,
-    );
+    let forwarded = forward(rt, alloc, network, &connection, side, asked.window, watcher);
     report(alloc, asked.bind, forwarded, errors)
 }
 

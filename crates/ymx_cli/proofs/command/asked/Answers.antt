@@ -4,8 +4,8 @@ use Rattle.std.specs.Str.Parse.{ParsesUnsigned, ExplainsUnsignedError, HasUnsign
 use Rattle.clap.specs.Walk.{first_of}
 use Rattle.clap.specs.Words.{Text, found_of, one_text, rows_of, subcommand_rows_of}
 use Rattle.clap.proofs.WalkLemmas.{first_value-rows, one_text-rows}
-use Rattle.ymx_cli.specs.CommandLine.{file_of}
-use Rattle.ymx_cli.proofs.Read.{name_met, none_met, named_is, named_text, read_limit, read_number}
+use Rattle.ymx_cli.specs.CommandLine.{IsNotSaid, file_of}
+use Rattle.ymx_cli.proofs.Read.{name_met, none_met, named_is, named_text, not_said, read_limit, read_number}
 use Rattle.ymx_cli.proofs.command.asked.Goals as goal
 
 pub returns-in-Some-frames-default-clause-frames : goal.returns-in-Some-frames-default-clause-frames
@@ -37,3 +37,9 @@ returns-in-Some-script-default-clause-script c = λ word named.
 
 pub returns-in-None-clause-other : goal.returns-in-None-clause-other
 returns-in-None-clause-other c = λ named. absurd (none_met (subcommand_rows_of c.args.matches.now) _ (c.in-None.ensures.name ∙ name_met c.args.matches.now) named)
+
+pub returns-in-Some-clause-silent : goal.returns-in-Some-clause-silent
+returns-in-Some-clause-silent c = λ quiet.
+    let found = found_of c.in-Some.found.now in
+    let unsaid = not_said (rows_of found) (subcommand_rows_of c.args.matches.now) c.in-Some.ensures.rows quiet in
+    c.asked_tunnel.ensures.silent (subst IsNotSaid (sym (one_text-rows found (codes "verbose"))) unsaid)

@@ -65,3 +65,10 @@ returns-clause-script g c = λ file asks.
     let taken = script_taken words file asks in
     rw (← taken.1) (c.asked.ensures.script taken.0
     (ap named_words ((c.in_ok-matches.ensures.matches (ap is_simple app ∙ is_simple-ymx)).1 ∙ ap (λ (a : App). subcommand_of a words) app) ∙ taken.3))
+
+pub returns-clause-silent : goal.returns-clause-silent
+returns-clause-silent g c = λ quiet.
+    let words = map g.S.AsStr.text c.args.words.now in
+    let app = c.in_ok-command.ensures in
+    let rows : subcommand_rows_of c.in_ok-matches.matches ≡ subcommand_of ymx_app words = (c.in_ok-matches.ensures.matches (ap is_simple app ∙ is_simple-ymx)).1 ∙ ap (λ (a : App). subcommand_of a words) app in
+    c.asked.ensures.silent (rw rows quiet)

@@ -19,7 +19,9 @@ returns c =
     let local_two = c.in_ok-arg-2.ensures.globals ∙ ap₂ (λ (x y : Bool). x || y) local_one c.address-2.ensures.1 in
     let three = c.in_ok-arg-3.ensures.shape c.window_argument.ensures.1 ∙ ap₂ with_rule two c.window_argument.ensures.0 in
     let local_three = c.in_ok-arg-3.ensures.globals ∙ ap₂ (λ (x y : Bool). x || y) local_two c.window_argument.ensures.1 in
-    IfOk-weaker c.arg-4.result _ _ (λ r added. (
-      ap (λ (a : App). a.top) (added.shape c.workers_argument.ensures.1 ∙ ap₂ with_rule three c.workers_argument.ensures.0),
-      added.globals ∙ ap₂ (λ (x y : Bool). x || y) local_three c.workers_argument.ensures.1,
-    )) c.arg-4.ensures
+    let four = c.in_ok-arg-4.ensures.shape c.workers_argument.ensures.1 ∙ ap₂ with_rule three c.workers_argument.ensures.0 in
+    let local_four = c.in_ok-arg-4.ensures.globals ∙ ap₂ (λ (x y : Bool). x || y) local_three c.workers_argument.ensures.1 in
+    IfOk-weaker c.arg-5.result _ _ (λ r added. (
+      ap (λ (a : App). a.top) (added.shape c.verbose_argument.ensures.1 ∙ ap₂ with_rule four c.verbose_argument.ensures.0),
+      added.globals ∙ ap₂ (λ (x y : Bool). x || y) local_four c.verbose_argument.ensures.1,
+    )) c.arg-5.ensures

@@ -1,0 +1,165 @@
+//! What `-v` asks for: lines about a tunnel while it runs, written by all of its threads.
+
+use arrayvec::ArrayString;
+use std::fmt::Write;
+use std::net::{SocketAddr, TcpListener};
+use std::sync::{Mutex, Wait};
+use ymx_frames::push_all;
+use ymx_hub::HubFault;
+use ymx_model::Outlet;
+use ymx_tunnel::{CopyWhy, Joined, Watcher};
+
+/// Room for the longest line, in bytes: that of a connection with the greatest numbers has 159.
+const LINE: usize = 192;
+
+/// A line, which takes no memory.
+type Line = ArrayString<LINE>;
+
+/// Says that a tunnel is ready, and how each of its connections ended, a line each. The device takes a line as a whole,
+/// whichever threads say one at once. Where it fails the line is lost, and nobody is told.
+#[derive(Drop)]
+pub(crate) struct Lines<'a, L: Outlet> {
+    device: Mutex<&'a mut L>,
+}
+
+impl<'a, L: Outlet> Lines<'a, L> {
+    /// Says its lines on this device.
+    pub(crate) fn new(device: &'a mut L) -> Lines<'a, L> {
+        Lines {
+            device: Mutex::new(device),
+        }
+    }
+
+    /// Says where a tunnel listens that was asked to listen at this address. At port 0 the system chose a port, which
+    /// is said.
+    pub(crate) fn listening<W: Wait>(&self, rt: &W, listener: &TcpListener, asked: SocketAddr) {
+        let address = listener.local_addr().unwrap_or(asked);
+        let mut line = Line::new();
+        let _ = writeln!(line, "ymx: listening at {address}");
+        self.say(rt, &line);
+    }
+
+    /// Says a line.
+    fn say<W: Wait>(&self, rt: &W, line: &Line) {
+        let mut device = self.device.lock(rt);
+        let _ = push_all(&mut **device, line.as_str().as_bytes());
+    }
+}
+
+impl<L: Outlet + Send> Watcher for Lines<'_, L> {
+    fn ended<W: Wait>(&self, rt: &W, number: u64, joined: &Joined) {
+        self.say(rt, &end_line(number, joined));
+    }
+
+    fn refused<W: Wait>(&self, rt: &W, number: u64, fault: HubFault) {
+        let mut line = Line::new();
+        let _ = writeln!(line, "ymx: connection {number}: no stream: {fault}");
+        self.say(rt, &line);
+    }
+}
+
+/// The line of a connection that has ended.
+fn end_line(number: u64, joined: &Joined) -> Line {
+    let Joined { inward, outward } = *joined;
+    let sent = inward.bytes;
+    let sent_why = inward_word(inward.why);
+    let got = outward.bytes;
+    let got_why = outward_word(outward.why);
+    let mut line = Line::new();
+    let _ = writeln!(
+        line,
+        "ymx: connection {number}: {sent} bytes to the peer ({sent_why}), {got} bytes from the peer ({got_why})"
+    );
+    line
+}
+
+/// Why the copy from a connection into its stream ended.
+fn inward_word(why: CopyWhy) -> &'static str {
+    match why {
+        CopyWhy::End => "ended",
+        CopyWhy::Source => "connection failed",
+        CopyWhy::Sink => "no memory",
+        CopyWhy::Reset => "reset",
+        CopyWhy::Lost => "lost",
+    }
+}
+
+/// Why the copy from a stream out to its connection ended.
+fn outward_word(why: CopyWhy) -> &'static str {
+    match why {
+        CopyWhy::End => "ended",
+        CopyWhy::Source => "no memory",
+        CopyWhy::Sink => "connection failed",
+        CopyWhy::Reset => "reset",
+        CopyWhy::Lost => "lost",
+    }
+}
+
+#[cfg(test)]
+mod tests {
+    use super::*;
+    use ymx_model::{CallFault, MemoryOutlet};
+    use ymx_tunnel::Direction;
+
+    /// A connection that carried so many bytes each way, and why it ended.
+    fn joined(sent: u64, sent_why: CopyWhy, got: u64, got_why: CopyWhy) -> Joined {
+        Joined {
+            inward: Direction {
+                bytes: sent,
+                why: sent_why,
+            },
+            outward: Direction {
+                bytes: got,
+                why: got_why,
+            },
+        }
+    }
+
+    #[test]
+    fn says_how_connections_ended(rt: HostRuntime) {
+        let mut device = MemoryOutlet::new(rt.alloc()).in_pieces(7);
+        let lines = Lines::new(&mut device);
+        lines.ended(&rt, 1, &joined(5, CopyWhy::End, 0, CopyWhy::Reset));
+        lines.ended(&rt, 2, &joined(0, CopyWhy::Source, 1, CopyWhy::Sink));
+        lines.ended(&rt, 3, &joined(7, CopyWhy::Sink, 8, CopyWhy::Source));
+        lines.ended(&rt, 4, &joined(9, CopyWhy::Lost, 9, CopyWhy::Lost));
+        lines.refused(&rt, 5, HubFault::Call(CallFault::OpensPending));
+        lines.refused(&rt, u64::MAX, HubFault::Memory);
+        drop(lines);
+        assert_eq!(rt;
+            device.as_slice(),
+            b"ymx: connection 1: 5 bytes to the peer (ended), 0 bytes from the peer (reset)
+ymx: connection 2: 0 bytes to the peer (connection failed), 1 bytes from the peer (connection failed)
+ymx: connection 3: 7 bytes to the peer (no memory), 8 bytes from the peer (no memory)
+ymx: connection 4: 9 bytes to the peer (lost), 9 bytes from the peer (lost)
+ymx: connection 5: no stream: OpensPending
+ymx: connection 18446744073709551615: no stream: Memory
+"
+                .as_slice()
+        );
+    }
+
+    #[test]
+    fn says_the_longest_line_whole(rt: HostRuntime) {
+        let why = joined(u64::MAX, CopyWhy::Source, u64::MAX, CopyWhy::Sink);
+        let line = end_line(u64::MAX, &why);
+        assert_eq!(rt;
+            line.as_str().as_bytes(),
+            b"ymx: connection 18446744073709551615: 18446744073709551615 bytes to the peer (connection failed), 18446744073709551615 bytes from the peer (connection failed)\n".as_slice()
+        );
+    }
+
+    /// What comes after a device has failed comes again.
+    #[test]
+    fn goes_on_where_the_device_fails(rt: HostRuntime) {
+        let mut device = MemoryOutlet::new(rt.alloc()).failing_after(1);
+        let lines = Lines::new(&mut device);
+        lines.refused(&rt, 1, HubFault::Memory);
+        lines.refused(&rt, 2, HubFault::Memory);
+        drop(lines);
+        assert_eq!(rt;
+            device.as_slice(),
+            b"ymx: connection 1: no stream: Memory\n".as_slice()
+        );
+    }
+}
