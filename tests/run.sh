@@ -39,6 +39,8 @@ try 'worked examples of two sessions' "$root/tests/worlds/run.sh"
 try 'each allocation fails once' "$root/tests/no_memory/run.sh"
 try 'a running session in threads' "$root/tests/hub/run.sh"
 try 'copies that fail' "$root/tests/tunnel/run.sh"
+try 'the front door' "$root/tests/connect/run.sh"
+try 'unit tests of the program' "$root/tests/units/run.sh"
 if [ "${1-}" = --all ]; then
     try 'wrong bodies' "$root/tests/wrong_bodies.sh"
 fi

@@ -134,34 +134,3 @@ fn write<W: Write>(writer: &mut W, bytes: &[u8]) -> io::Result<usize>
     }
     writer.write(bytes)
 }
-
-#[cfg(test)]
-mod tests {
-    use super::*;
-    use std::test::Fail;
-    use ymx_frames::{FramesEnd, frames};
-
-    /// An open of stream 1.
-    const OPEN: &[u8] = b"\x00\x01\x00\x01\x00\x00\x00\x01\x00\x00\x00\x00";
-
-    #[test]
-    fn reads_and_writes_by_the_standard_library(rt: HostRuntime) -> Result<(), Fail> {
-        let mut reader = ReaderInlet {
-            reader: OPEN,
-            failures: 0,
-        };
-        let mut writer = WriterOutlet {
-            writer: Vec::new(rt.alloc()),
-            failures: 0,
-        };
-        let end = frames(&rt, rt.alloc(), &mut reader, &mut writer, 262_144);
-        assert_eq!(rt; end, FramesEnd::Good);
-        assert_eq!(rt;
-            writer.writer.as_slice(),
-            b"window flags=0001 id=1 len=0\n".as_slice()
-        );
-        assert!(rt; writer.end().is_ok());
-        assert_eq!(rt; (reader.failures, writer.failures), (0, 0));
-        Ok(())
-    }
-}

@@ -13,11 +13,12 @@ use ymx_model::{Config, Role};
 use ymx_pumps::{Gate, PumpEnd, PumpWhy, run_pumps};
 use ymx_session::Session;
 use ymx_tunnel::{
-    ConnectionReader, ConnectionWriter, Network, Served, Watcher, serve_local, serve_remote,
+    ConnectionReader, ConnectionWriter, Connections, Network, Served, Watcher, serve_local,
+    serve_remote,
 };
 
 /// Bytes that the read pump reads at once.
-const READ_BUFFER: usize = 65_536;
+const READ_BUFFER: usize = 262_144;
 
 /// Bytes that the write pump writes at once: eight whole frames of the longest that are sent.
 const WRITE_BUFFER: usize = 8 * (12 + 16_384);
@@ -116,11 +117,12 @@ pub fn forward<R: Threads + Wait + Sync, N: Network, V: Watcher>(
         return without_memory();
     };
     let lent = &hub;
+    let connections = &Connections::new(alloc);
     thread::scope(thread::scope_env(), rt, |scope| {
-        let Ok(pumps) = scope.spawn(move || pump(rt, lent, connection, buffers)) else {
+        let Ok(pumps) = scope.spawn(move || pump(rt, lent, connection, buffers, connections)) else {
             return without_memory();
         };
-        let served = serve(rt, alloc, lent, network, side, watcher);
+        let served = serve(rt, alloc, lent, network, side, connections, watcher);
         finish(rt, lent);
         let pumped = pumps.join(rt);
         Forwarded {
@@ -164,12 +166,15 @@ fn serve<R: Threads + Wait + Sync, N: Network, V: Watcher>(
     hub: &Arc<Hub<Off>, Global>,
     network: &N,
     side: Side<'_>,
+    connections: &Connections,
     watcher: &V,
 ) -> Served {
     match side {
-        Side::Local { listener, count } => serve_local(rt, alloc, hub, listener, count, watcher),
+        Side::Local { listener, count } => {
+            serve_local(rt, alloc, hub, listener, count, connections, watcher)
+        }
         Side::Remote { target, workers } => {
-            serve_remote(rt, alloc, hub, network, target, workers, watcher)
+            serve_remote(rt, alloc, hub, network, target, workers, connections, watcher)
         }
     }
 }
@@ -184,12 +189,13 @@ fn finish<R: Wait>(rt: &R, hub: &Arc<Hub<Off>, Global>) {
     let_go(seat);
 }
 
-/// Runs both pumps, until both have ended.
+/// Runs both pumps, until both have ended. The session is over then, and the connections are shut.
 fn pump<R: Threads + Wait + Sync>(
     rt: &R,
     hub: &Arc<Hub<Off>, Global>,
     connection: &TcpStream,
     buffers: Buffers,
+    connections: &Connections,
 ) -> Pumped {
     let Ok(read_seat) = hub.seat(rt) else {
         return Pumped::nothing();
@@ -215,6 +221,7 @@ fn pump<R: Threads + Wait + Sync>(
         into.as_mut_slice(),
         out_of.as_mut_slice(),
     );
+    connections.shut(rt);
     let read_why = why_of(read);
     let wrote_why = why_of(wrote);
     Pumped {

@@ -318,29 +318,3 @@ fn reads_pattern(mut stream: &TcpStream, size: u32) -> io::Result<bool> {
     }
     Ok(false)
 }
-
-#[cfg(test)]
-mod tests {
-    use super::*;
-    use ymx_model::MemoryOutlet;
-    use ymx_tunnel::Sockets;
-
-    #[test]
-    fn echoes_three_connections(rt: HostRuntime) {
-        let mut writer = MemoryOutlet::new(rt.alloc());
-        let mut errors = MemoryOutlet::new(rt.alloc());
-        let status = run_selftest(
-            &rt,
-            rt.alloc(),
-            &Sockets { rt: &rt },
-            &mut writer,
-            &mut errors,
-        );
-        assert_eq!(rt; status, 0);
-        assert_eq!(rt;
-            writer.as_slice(),
-            b"connection 1: 0 bytes echoed\nconnection 2: 1 bytes echoed\nconnection 3: 300000 bytes echoed\n".as_slice()
-        );
-        assert!(rt; errors.as_slice().is_empty());
-    }
-}

@@ -1,6 +1,7 @@
 //! A connection joined to a stream: both ways at once, each in a thread of its own.
 
-use crate::connection::{ConnectionReader, ConnectionWriter};
+use crate::connection::ConnectionWriter;
+use crate::connections::{Connections, Line, LineReader};
 use crate::copied::{Copied, CopyWhy};
 use crate::copying::{copy_in, copy_out};
 use crate::ends::{Sink, Source};
@@ -40,33 +41,49 @@ impl Joined {
 
     /// There was no connection to join.
     pub(crate) fn without_connection() -> Joined {
+        Joined::of_nothing(CopyWhy::Source, CopyWhy::Sink)
+    }
+
+    /// There was no memory to join a connection.
+    fn without_memory() -> Joined {
+        Joined::of_nothing(CopyWhy::Sink, CopyWhy::Source)
+    }
+
+    /// Nothing was copied.
+    fn of_nothing(inward: CopyWhy, outward: CopyWhy) -> Joined {
         Joined {
             inward: Direction {
                 bytes: 0,
-                why: CopyWhy::Source,
+                why: inward,
             },
             outward: Direction {
                 bytes: 0,
-                why: CopyWhy::Sink,
+                why: outward,
             },
         }
     }
 }
 
-/// Copies both ways until both copies have ended. Each direction has a buffer, which is made once; at a fault of one
-/// direction the connection is shut both ways. Where no memory or no thread is found the stream is reset, and the
-/// connection is shut.
+/// Copies both ways until both copies have ended; meanwhile the connection is one of those that are open. Each
+/// direction has a buffer, which is made once; at a fault of one direction the connection is shut both ways. Where no
+/// memory or no thread is found the stream is reset, and the connection is shut.
 pub(crate) fn join_both<R: Threads + Wait + Sync>(
     rt: &R,
     alloc: Global,
-    stream: &TcpStream,
+    connections: &Connections,
+    stream: TcpStream,
     sink: WriteHalf<Off>,
     source: ReadHalf<Off>,
 ) -> Joined {
+    let Some(line) = connections.add(rt, alloc, stream) else {
+        spend(rt, Some(sink), Some(source));
+        return Joined::without_memory();
+    };
     let mut sink = Some(sink);
     let source = Mutex::new(Some(source));
-    let joined = run_both(rt, alloc, stream, &mut sink, &source);
+    let joined = run_both(rt, alloc, &line, &mut sink, &source);
     spend(rt, sink, source.into_inner());
+    connections.remove(rt, &line);
     joined
 }
 
@@ -75,10 +92,11 @@ pub(crate) fn join_both<R: Threads + Wait + Sync>(
 fn run_both<R: Threads + Wait + Sync>(
     rt: &R,
     alloc: Global,
-    stream: &TcpStream,
+    line: &Line,
     sink: &mut Option<WriteHalf<Off>>,
     source: &Mutex<Option<ReadHalf<Off>>>,
 ) -> Joined {
+    let stream = &line.stream;
     thread::scope(thread::scope_env(), rt, |scope| {
         let Ok(thread) = scope.spawn(move || outward(rt, alloc, stream, source)) else {
             return Joined {
@@ -86,7 +104,7 @@ fn run_both<R: Threads + Wait + Sync>(
                 outward: ended(stream, 0, CopyWhy::Source),
             };
         };
-        let inward = inward(rt, alloc, stream, sink);
+        let inward = inward(rt, alloc, line, sink);
         let outward = thread.join(rt);
         Joined { inward, outward }
     })
@@ -96,9 +114,10 @@ fn run_both<R: Threads + Wait + Sync>(
 fn inward<R: Wait>(
     rt: &R,
     alloc: Global,
-    stream: &TcpStream,
+    line: &Line,
     sink: &mut Option<WriteHalf<Off>>,
 ) -> Direction {
+    let stream = &line.stream;
     let Some(sink) = mem::replace(sink, None) else {
         return ended(stream, 0, CopyWhy::Sink);
     };
@@ -106,7 +125,7 @@ fn inward<R: Wait>(
         spend(rt, Some(sink), None);
         return ended(stream, 0, CopyWhy::Sink);
     };
-    let mut reader = ConnectionReader::new(stream);
+    let mut reader = LineReader::new(line);
     let Copied { bytes, why, left } = copy_in(rt, &mut reader, sink, buffer.as_mut_slice());
     let_go(left);
     ended(stream, bytes, why)

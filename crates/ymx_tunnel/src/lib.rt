@@ -5,6 +5,7 @@
 #![tactic(auto)]
 
 mod connection;
+mod connections;
 mod copied;
 mod copying;
 mod ends;
@@ -12,10 +13,9 @@ mod halves;
 mod joining;
 mod network;
 mod serving;
-#[cfg(test)]
-mod tests;
 
 pub use connection::{ConnectionReader, ConnectionWriter};
+pub use connections::Connections;
 pub use copied::{Copied, CopyWhy};
 pub use copying::{copy_in, copy_out};
 pub use ends::{Sink, Source};

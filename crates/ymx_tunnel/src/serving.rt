@@ -1,5 +1,6 @@
 //! The two servers of a tunnel: one opens a stream for each connection, and one makes a connection for each stream.
 
+use crate::connections::Connections;
 use crate::joining::{Joined, join_both, let_go, spend};
 use crate::network::Network;
 use std::alloc::Global;
@@ -45,6 +46,7 @@ pub struct Served {
 struct Shared<'a, V: Watcher> {
     hub: &'a Arc<Hub<Off>, Global>,
     alloc: Global,
+    connections: &'a Connections,
     watcher: &'a V,
     begun: AtomicU64,
     lacked_memory: AtomicBool,
@@ -53,16 +55,18 @@ struct Shared<'a, V: Watcher> {
 /// Accepts connections, and serves each in a thread of its own, its worker, which opens a stream and copies both ways.
 /// A connection for which no thread can be made is closed, and so is one for which no stream can be opened. It ends
 /// after `count` connections, or at an accept that fails; without `count` also at the first connection that is accepted
-/// after the session was lost. It returns once all workers have ended.
+/// after the session was lost. Whoever sees that the session is over shuts the connections. It returns once all workers
+/// have ended.
 pub fn serve_local<R: Threads + Wait + Sync, V: Watcher>(
     rt: &R,
     alloc: Global,
     hub: &Arc<Hub<Off>, Global>,
     listener: &TcpListener,
     count: Option<u32>,
+    connections: &Connections,
     watcher: &V,
 ) -> Served {
-    let shared = Shared::new(alloc, hub, watcher);
+    let shared = Shared::new(alloc, hub, connections, watcher);
     let lent = &shared;
     let accept_failed = thread::scope(thread::scope_env(), rt, |scope| {
         for _ in 0..count.map_or(u64::MAX, u64::from) {
@@ -87,8 +91,8 @@ pub fn serve_local<R: Threads + Wait + Sync, V: Watcher>(
 }
 
 /// Accepts streams in so many workers, at least one, each of which connects to the target and copies both ways. A
-/// stream for which no connection can be made is reset. It returns once the session gives out no more streams and all
-/// workers have ended.
+/// stream for which no connection can be made is reset. Whoever sees that the session is over shuts the connections. It
+/// returns once the session gives out no more streams and all workers have ended.
 pub fn serve_remote<R: Threads + Wait + Sync, N: Network, V: Watcher>(
     rt: &R,
     alloc: Global,
@@ -96,9 +100,10 @@ pub fn serve_remote<R: Threads + Wait + Sync, N: Network, V: Watcher>(
     network: &N,
     target: SocketAddr,
     workers: u32,
+    connections: &Connections,
     watcher: &V,
 ) -> Served {
-    let shared = Shared::new(alloc, hub, watcher);
+    let shared = Shared::new(alloc, hub, connections, watcher);
     let lent = &shared;
     thread::scope(thread::scope_env(), rt, |scope| {
         for _ in 1..workers {
@@ -133,7 +138,7 @@ fn serve_connection<R: Threads + Wait + Sync, V: Watcher>(
     let_go(opener.into_seat());
     match opened {
         Ok((sink, source)) => {
-            let joined = join_both(rt, shared.alloc, &stream, sink, source);
+            let joined = join_both(rt, shared.alloc, shared.connections, stream, sink, source);
             shared.ended(rt, number, &joined);
         }
         Err(fault) => shared.refused(rt, number, fault),
@@ -154,7 +159,7 @@ fn serve_streams<R: Threads + Wait + Sync, N: Network, V: Watcher>(
         match acceptor.accept(rt) {
             Ok(Some((sink, source))) => {
                 let number = shared.next_number();
-                let joined = serve_stream(rt, shared.alloc, network, target, sink, source);
+                let joined = serve_stream(rt, shared, network, target, sink, source);
                 shared.ended(rt, number, &joined);
             }
             Ok(None) => break,
@@ -169,16 +174,16 @@ fn serve_streams<R: Threads + Wait + Sync, N: Network, V: Watcher>(
 }
 
 /// Connects to the target for a stream, and copies both ways. If it can't connect the stream is reset.
-fn serve_stream<R: Threads + Wait + Sync, N: Network>(
+fn serve_stream<R: Threads + Wait + Sync, N: Network, V: Watcher>(
     rt: &R,
-    alloc: Global,
+    shared: &Shared<'_, V>,
     network: &N,
     target: SocketAddr,
     sink: WriteHalf<Off>,
     source: ReadHalf<Off>,
 ) -> Joined {
     match network.connect(target) {
-        Some(stream) => join_both(rt, alloc, &stream, sink, source),
+        Some(stream) => join_both(rt, shared.alloc, shared.connections, stream, sink, source),
         None => {
             spend(rt, Some(sink), Some(source));
             Joined::without_connection()
@@ -188,10 +193,16 @@ fn serve_stream<R: Threads + Wait + Sync, N: Network>(
 
 impl<'a, V: Watcher> Shared<'a, V> {
     /// Nothing has begun yet.
-    fn new(alloc: Global, hub: &'a Arc<Hub<Off>, Global>, watcher: &'a V) -> Shared<'a, V> {
+    fn new(
+        alloc: Global,
+        hub: &'a Arc<Hub<Off>, Global>,
+        connections: &'a Connections,
+        watcher: &'a V,
+    ) -> Shared<'a, V> {
         Shared {
             hub,
             alloc,
+            connections,
             watcher,
             begun: AtomicU64::new(0),
             lacked_memory: AtomicBool::new(false),
