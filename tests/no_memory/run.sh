@@ -1,7 +1,8 @@
 #!/bin/sh
 # Makes each allocation fail in turn. Whichever it is, the program ends as if none had failed, or it
-# says so: `ymx: out of memory`, status 1, and a beginning of the output. And in each crate that takes
-# memory for a stream or a session a test holds: what was refused changed nothing.
+# says so: `ymx: out of memory`, status 1, and a beginning of the output; in a script a call may be refused
+# too, or a stream rejected. And in each crate that takes memory for a stream or a session a test holds: what
+# was refused changed nothing.
 set -eu
 here=$(cd "$(dirname "$0")" && pwd)
 root=$(cd "$here/../.." && pwd)
@@ -52,6 +53,11 @@ each 1 rest frames --limit 300000
 each 0 /dev/null --help
 each 2 /dev/null frames --limit 5
 each 2 /dev/null local
+
+# Scripts of two sessions: what was refused changed nothing, and a stream without memory is rejected.
+python3 "$here/scripts.py" "$root/out/ymx" "$scratch/failing_malloc.so" "$root/tests/script/bytes_one_by_one.script" \
+    "$root/tests/script/window.script" "$root/tests/script/half_close.script" "$root/tests/script/reset.script" \
+    "$root/tests/script/go_away.script" "$root/tests/script/open_with_data.script"
 
 # holds CRATE: its test holds whichever allocation fails
 holds() {
