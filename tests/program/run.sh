@@ -56,7 +56,92 @@ expect 2 nothing "$(says 'ymx: bad address localhost:1')" nothing local --listen
 expect 2 nothing "$(says 'ymx: bad address 127.0.0.1')" nothing local --listen 127.0.0.1:1 --peer 127.0.0.1
 expect 2 nothing "$(says 'ymx: bad address 127.0.0.1:65536')" nothing remote --bind 127.0.0.1:65536 --target x
 
+# in_time COMMAND..: tries it until it succeeds, for at most 30 seconds
+in_time() {
+    tries=0
+    until "$@"; do
+        tries=$((tries + 1))
+        [ $tries -lt 300 ] || return 1
+        sleep 0.1
+    done
+}
+
+# port_of FILE: the port that a program has said in this file, once it has
+port_of() {
+    in_time grep -qs '[0-9]$' "$1"
+    sed -n '1s/.*[^0-9]//; 1p' "$1"
+}
+
+# holds TEXT COMMAND..: one thing that must hold
+holds() {
+    text=$1
+    shift
+    if "$@"; then
+        passed=$((passed + 1))
+    else
+        failed=$((failed + 1))
+        echo "FAIL  $text"
+        tail -n +1 local_out local_err remote_out remote_err
+    fi
+}
+
+# through PORT..: one connection through both ends, as this client makes it and an echo server answers it
+through() {
+    python3 "$here/ends.py" ask "$1" > answer || return 1
+    both_end && [ "$(cat answer)" = hello ]
+}
+
+# both_end: both ends end well, and have printed nothing
+both_end() {
+    wait "$local" && wait "$remote" && cmp -s nothing local_out && cmp -s nothing remote_out
+}
+
+ymx=$root/out/ymx
+python3 "$here/ends.py" echo > echo_port &
+target=127.0.0.1:$(port_of echo_port)
+"$ymx" remote -v --bind 127.0.0.1:0 --target "$target" > remote_out 2> remote_err &
+remote=$!
+peer=$(port_of remote_err)
+"$ymx" local --verbose --listen 127.0.0.1:0 --peer "127.0.0.1:$peer" --count 1 > local_out 2> local_err &
+local=$!
+port=$(port_of local_err)
+end='ymx: connection 1: 5 bytes to the peer (ended), 5 bytes from the peer (ended)'
+holds 'a connection with -v' through "$port"
+holds 'what local -v says' cmp -s local_err "$(says "ymx: listening at 127.0.0.1:$port" "$end")"
+holds 'what remote -v says' cmp -s remote_err "$(says "ymx: listening at 127.0.0.1:$peer" "$end")"
+
+# without -v nothing is said
+python3 "$here/ends.py" echo > echo_port &
+target=127.0.0.1:$(port_of echo_port)
+peer=$(python3 "$here/ends.py" port)
+port=$(python3 "$here/ends.py" port)
+"$ymx" remote --bind "127.0.0.1:$peer" --target "$target" > remote_out 2> remote_err &
+remote=$!
+reach() {
+    "$ymx" local --listen "127.0.0.1:$port" --peer "127.0.0.1:$peer" --count 1 > local_out 2> local_err
+}
+in_time reach &
+local=$!
+holds 'a connection without -v' through "$port"
+holds 'local says nothing' cmp -s local_err nothing
+holds 'remote says nothing' cmp -s remote_err nothing
+
+# nobody listens at the target
+peer=$(python3 "$here/ends.py" port)
+"$ymx" remote -v --bind "127.0.0.1:$peer" --target "127.0.0.1:$(python3 "$here/ends.py" port)" > remote_out 2> remote_err &
+remote=$!
+port_of remote_err > remote_port
+"$ymx" local -v --listen 127.0.0.1:0 --peer "127.0.0.1:$peer" --count 1 > local_out 2> local_err &
+local=$!
+python3 "$here/ends.py" ask "$(port_of local_err)" > answer 2> answer_err || true
+holds 'both end well without a target' both_end
+end='ymx: connection 1: 0 bytes to the peer (connection failed), 0 bytes from the peer (connection failed)'
+holds 'what remote -v says without a target' cmp -s remote_err "$(says "ymx: listening at 127.0.0.1:$peer" "$end")"
+holds 'what local -v says without a target' grep -q '^ymx: connection 1: .* bytes to the peer (.*), 0 bytes from the peer (.*)$' local_err
+
 expect 0 "$here/help" nothing hello --help
+expect 0 "$here/local_help" nothing hello local --help
+expect 0 "$here/remote_help" nothing hello remote --help
 expect 0 "$here/frames_help" nothing hello frames --help
 expect 0 "$here/script_help" nothing hello script --help
 expect 0 "$(says 'ymx 0.1.0')" nothing hello --version
