@@ -18,7 +18,7 @@ use ymx_tunnel::{
 };
 
 /// Bytes that the read pump reads at once.
-const READ_BUFFER: usize = 262_144;
+const READ_BUFFER: usize = 65_536;
 
 /// Bytes that the write pump writes at once: eight whole frames of the longest that are sent.
 const WRITE_BUFFER: usize = 8 * (12 + 16_384);
@@ -174,7 +174,16 @@ fn serve<R: Threads + Wait + Sync, N: Network, V: Watcher>(
             serve_local(rt, alloc, hub, listener, count, connections, watcher)
         }
         Side::Remote { target, workers } => {
-            serve_remote(rt, alloc, hub, network, target, workers, connections, watcher)
+            serve_remote(
+                rt,
+                alloc,
+                hub,
+                network,
+                target,
+                workers,
+                connections,
+                watcher,
+            )
         }
     }
 }
