@@ -417,8 +417,8 @@ class Tunnel:
         self.local = Ymx(folder, [program, "local", "--listen", f"127.0.0.1:{port}", "--peer", address])
         self.local.wait_until_it_listens(port)
         self.address = ("127.0.0.1", port)
-        # Workers of the remote side that have not begun yet would be counted as missing.
-        wait_for(lambda: threads(self.remote.pid) >= workers + 2)
+        # Threads that have not begun yet would be counted as missing: the pumps of both, and the remote side's workers.
+        wait_for(lambda: threads(self.local.pid) >= 3 and threads(self.remote.pid) >= workers + 2)
         self.at_rest = self.holds()
 
     def holds(self):
@@ -437,7 +437,7 @@ class Tunnel:
 
 
 class Client:
-    """A client, in a process of its own."""
+    """A client, in a process of its own. It tells once bytes came on each of its connections."""
 
     def __init__(self, folder, address, numbers, **plan):
         self.report = os.path.join(folder, f"client{time.monotonic_ns()}")
