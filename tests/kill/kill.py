@@ -570,7 +570,7 @@ class Killing:
     def kill_remote(self, client, _beside, began):
         self.tunnel.remote.kill()
         self.note_end(client, began)
-        call_once(self.tunnel.address)
+        call_until_it_ends(self.tunnel.local, self.tunnel.address)
         self.tunnel.local.ends_well(began)
         self.longest = max(self.longest, time.monotonic() - began)
         self.tunnel = None
@@ -600,13 +600,18 @@ class Killing:
         self.tunnel.check_rest()
 
 
-def call_once(address):
+def call_until_it_ends(local, address):
     """Where its session is lost, `ymx local` ends at the next connection that comes, and closes it."""
-    time.sleep(0.2)
-    try:
-        socket.create_connection(address).close()
-    except OSError:
-        pass
+
+    def has_ended():
+        time.sleep(0.1)
+        try:
+            socket.create_connection(address).close()
+        except OSError:
+            pass
+        return local.process.poll() is not None
+
+    wait_for(has_ended)
 
 
 # What both sides do on connections on which nothing moves any more.
@@ -646,7 +651,7 @@ def run_quiet(folder, program, victim, plan, workers=32, has_readers=True):
             target.kill()
         began = time.monotonic()
         if victim == "remote":
-            call_once(tunnel.address)
+            call_until_it_ends(tunnel.local, tunnel.address)
         alive.ends_well(began)
         target.check()
     finally:
