@@ -6,7 +6,7 @@ use Rattle.ymx_model.specs.devices.Devices.{has_failed}
 use Rattle.ymx_frames.specs.Outputs.{Prints}
 use Rattle.ymx_frames.specs.declared.print.FramesEnd.{FramesEnd}
 use Rattle.ymx_frames.specs.declared.print.FramesEnd.TheVariants.{Good, Fault as Faulty, Rest, Reading, Writing, Memory}
-use Rattle.ymx_script.specs.Outputs.{Prints as PrintsAnswers}
+use Rattle.ymx_script.specs.Outputs.{PrintsByEnd as PrintsAnswers}
 use Rattle.ymx_script.specs.declared.lines.ScriptEnd.{ScriptEnd}
 use Rattle.ymx_script.specs.declared.lines.ScriptEnd.TheVariants as script
 
@@ -43,8 +43,8 @@ abbrev pub TakesPart : Change → List ℕ → Type 0
 TakesPart c text = (part : List ℕ) × StartsWith text part × TakesText c part
 
 -- A text was said on the device: all of it, or a beginning where the device failed.
-abbrev pub Says : Change → List ℕ → Type 0
-Says c text = TakesText c text ⊎ (IsTrue (fails c) × TakesPart c text)
+abbrev pub SaysText : Change → List ℕ → Type 0
+SaysText c text = TakesText c text ⊎ (IsTrue (fails c) × TakesPart c text)
 
 -- there was no memory
 abbrev pub out_of_memory : List ℕ
@@ -84,12 +84,12 @@ script_reason script.Memory = out_of_memory
 abbrev pub PrintsFrames : (limit status : ℕ) → (input output errors : Change) → Type 0
 PrintsFrames limit status input output errors =
     (end : FramesEnd) × (text : List ℕ) × (lines : List ℕ) × Consumes input.before input.after text × TakesText output lines
-    × Prints limit text (IsAtEnd input.after) end lines × (end ≡ Reading → IsTrue (fails input)) × (end ≡ Writing → IsTrue (fails output))
-    × (status ≤ 1) × ((status ≡ 0) ↔ (end ≡ Good)) × Says errors (reason end)
+    × PrintsByEnd limit text (IsAtEnd input.after) end lines × (end ≡ Reading → IsTrue (fails input)) × (end ≡ Writing → IsTrue (fails output))
+    × (status ≤ 1) × ((status ≡ 0) ↔ (end ≡ Good)) × SaysText errors (reason end)
 
 -- Nothing is printed, the status is 1, and this text says why.
 abbrev pub Refuses : (status : ℕ) → (output errors : Change) → List ℕ → Type 0
-Refuses status output errors text = (status ≡ 1) × IsUntouched output × Says errors text
+Refuses status output errors text = (status ≡ 1) × IsUntouched output × SaysText errors text
 
 -- A script is played, and its answers are printed: the status is 0 at its good end and else 1, and what failed is said. A device is
 -- blamed only if it failed. Given are the changes of the input, the output and the error device.
@@ -97,7 +97,7 @@ abbrev pub PlaysScript : (status : ℕ) → (input output errors : Change) → T
 PlaysScript status input output errors =
     (end : ScriptEnd) × (text : List ℕ) × (lines : List ℕ) × Consumes input.before input.after text × TakesText output lines
     × PrintsAnswers text (IsAtEnd input.after) end lines × (end ≡ script.Reading → IsTrue (fails input)) × (end ≡ script.Writing → IsTrue (fails output))
-    × (status ≤ 1) × ((status ≡ 0) ↔ (end ≡ script.Good)) × Says errors (script_reason end)
+    × (status ≤ 1) × ((status ≡ 0) ↔ (end ≡ script.Good)) × SaysText errors (script_reason end)
 
 -- A file that holds these bytes is read, and this comes of its change, or it refuses to be opened.
 abbrev pub ReadsFile : (status : ℕ) → (refuses : Type 0) → Option (List ℕ) → (output errors : Change) → (Change → Type 0) → Type 0

@@ -7,7 +7,7 @@ ghost use Rattle.std.specs.Io.KnownBytes.{Keeps};
 ghost use Rattle.clap.specs.Words.{app_of, first_value, found_of, kind_of, one_of, rule_of, shape_of, subcommand_rows_of};
 ghost use Rattle.clap.specs.declared.builder.command.Command.TheViews.{out-Command as fields_of};
 ghost use Rattle.ymx_cli.specs.CommandLine.{AsksFrames, AsksNoHelp, AsksNoLines, AsksScript, HasGoodLimit, IsEndTask, IsFrames, IsMistake, IsNotSaid, IsScript, IsSilentTask, NamesAnother, bare_shape, file_of, file_rule, frames_shape, limit_rule, named_words, script_shape, ymx_app};
-ghost use Rattle.ymx_cli.specs.Messages.{IsUntouched, PlaysFile, PlaysScript, PrintsFile, PrintsFrames, Refuses, Says, Shows, TakesText, TakesPart, change_of, fails, not_text, out_of_memory, reason, script_reason, writing_failed};
+ghost use Rattle.ymx_cli.specs.Messages.{IsUntouched, PlaysFile, PlaysScript, PrintsFile, PrintsFrames, Refuses, SaysText, Shows, TakesText, TakesPart, change_of, fails, not_text, out_of_memory, reason, script_reason, writing_failed};
 
 use crate::tunnel::{Tunnel, asked_tunnel, local_command, remote_command, run_tunnel};
 use clap::error::ErrorKind;
@@ -41,7 +41,7 @@ enum Task<'a> {
 }
 
 /// Opens files by their names.
-pub trait Opener {
+pub trait FileOpener {
     /// An opened file.
     type File: Inlet + Drop;
 
@@ -63,7 +63,7 @@ pub trait Opener {
 pub fn ymx_main<
     T: Threads + Wait + Sync,
     S: AsStr,
-    F: Opener,
+    F: FileOpener,
     N: Network,
     R: Inlet,
     W: Outlet,
@@ -140,9 +140,9 @@ pub fn ymx_main<
 /// Says why the words of the command line can't be had, and answers the exit status.
 pub fn no_words<E: Outlet>(error: &io::Error, errors: &mut E) -> u8
     ensures not_utf8 { error_kind error.now ≡ InvalidData →
-        (result ≡ 2) × Says (change_of E.contents E.failures errors.old errors.new) not_text }
+        (result ≡ 2) × SaysText (change_of E.contents E.failures errors.old errors.new) not_text }
     ensures other { error_kind error.now ≢ InvalidData →
-        (result ≡ 1) × Says (change_of E.contents E.failures errors.old errors.new) out_of_memory }
+        (result ≡ 1) × SaysText (change_of E.contents E.failures errors.old errors.new) out_of_memory }
 {
     if error.kind() == io::ErrorKind::InvalidData {
         say(errors, b"error: a word of the command line is not UTF-8\n");
@@ -169,7 +169,7 @@ fn print<R: Inlet, W: Outlet, E: Outlet>(
 }
 
 /// Prints the frames of the file of this name, and answers the status.
-fn print_file<F: Opener, W: Outlet, E: Outlet>(
+fn print_file<F: FileOpener, W: Outlet, E: Outlet>(
     rt: &impl Wait,
     alloc: Global,
     files: &F,
@@ -206,7 +206,7 @@ fn play<R: Inlet, W: Outlet, E: Outlet>(
 }
 
 /// Plays the script in the file of this name, and answers the status.
-fn play_file<F: Opener, W: Outlet, E: Outlet>(
+fn play_file<F: FileOpener, W: Outlet, E: Outlet>(
     rt: &impl Wait,
     alloc: Global,
     files: &F,
@@ -403,7 +403,7 @@ fn finish<E: Outlet>(end: FramesEnd, errors: &mut E) -> u8
     ensures status { result ≤ 1 }
     ensures good { (result ≡ 0) ↔ (end ≡ FramesEnd.Good) }
     ensures quiet { result ≡ 0 → IsUntouched (change_of E.contents E.failures errors.old errors.new) }
-    ensures said { Says (change_of E.contents E.failures errors.old errors.new) (reason end) }
+    ensures said { SaysText (change_of E.contents E.failures errors.old errors.new) (reason end) }
 {
     match end {
         FramesEnd::Good => 0,
@@ -419,7 +419,7 @@ fn finish_script<E: Outlet>(end: ScriptEnd, errors: &mut E) -> u8
     ensures status { result ≤ 1 }
     ensures good { (result ≡ 0) ↔ (end ≡ ScriptEnd.Good) }
     ensures quiet { result ≡ 0 → IsUntouched (change_of E.contents E.failures errors.old errors.new) }
-    ensures said { Says (change_of E.contents E.failures errors.old errors.new) (script_reason end) }
+    ensures said { SaysText (change_of E.contents E.failures errors.old errors.new) (script_reason end) }
 {
     match end {
         ScriptEnd::Good => 0,
@@ -433,7 +433,7 @@ fn finish_script<E: Outlet>(end: ScriptEnd, errors: &mut E) -> u8
 /// Says why nothing more is done, and answers the status of a fault.
 fn refuse<E: Outlet>(errors: &mut E, text: &[u8]) -> u8
     ensures status { result ≡ 1 }
-    ensures said { Says (change_of E.contents E.failures errors.old errors.new) text.now }
+    ensures said { SaysText (change_of E.contents E.failures errors.old errors.new) text.now }
 {
     say(errors, text);
     1
@@ -441,7 +441,7 @@ fn refuse<E: Outlet>(errors: &mut E, text: &[u8]) -> u8
 
 /// Says a text. Where the error device fails too there is nobody left to tell.
 fn say<E: Outlet>(errors: &mut E, text: &[u8])
-    ensures { Says (change_of E.contents E.failures errors.old errors.new) text.now }
+    ensures { SaysText (change_of E.contents E.failures errors.old errors.new) text.now }
 {
     let _ = push_all(errors, text);
 }
@@ -453,13 +453,13 @@ fn explain<W: Outlet, E: Outlet>(alloc: Global, error: &Error, writer: &mut W, e
     ensures help { result ≡ 0 → (IsMistake (kind_of error.now) → ⊥) × IsUntouched (change_of E.contents E.failures errors.old errors.new)
         × ((text : List ℕ) × TakesText (change_of W.contents W.failures writer.old writer.new) text) }
     ensures mistake { result ≡ 2 → IsMistake (kind_of error.now) × IsUntouched (change_of W.contents W.failures writer.old writer.new)
-        × ((text : List ℕ) × Says (change_of E.contents E.failures errors.old errors.new) text) }
+        × ((text : List ℕ) × SaysText (change_of E.contents E.failures errors.old errors.new) text) }
     ensures silent { IsMistake (kind_of error.now) → IsUntouched (change_of W.contents W.failures writer.old writer.new) }
     ensures memory { kind_of error.now ≡ ErrorKind.OutOfMemory →
         Refuses result (change_of W.contents W.failures writer.old writer.new) (change_of E.contents E.failures errors.old errors.new) out_of_memory }
     ensures failed { let output = change_of W.contents W.failures writer.old writer.new in
         let says = change_of E.contents E.failures errors.old errors.new in
-        result ≡ 1 → Refuses result output says out_of_memory ⊎ (IsTrue (fails output) × Says says writing_failed) }
+        result ≡ 1 → Refuses result output says out_of_memory ⊎ (IsTrue (fails output) × SaysText says writing_failed) }
 {
     if error.kind() == ErrorKind::OutOfMemory {
         return refuse(errors, b"ymx: out of memory\n");
@@ -480,12 +480,12 @@ fn show<M: Display, W: Outlet, E: Outlet>(
     ensures help { result ≡ 0 → (is_mistake ≡ false) × IsUntouched (change_of E.contents E.failures errors.old errors.new)
         × Shows (M.output message.now) (TakesText (change_of W.contents W.failures writer.old writer.new)) }
     ensures mistake { result ≡ 2 → (is_mistake ≡ true) × IsUntouched (change_of W.contents W.failures writer.old writer.new)
-        × Shows (M.output message.now) (Says (change_of E.contents E.failures errors.old errors.new)) }
+        × Shows (M.output message.now) (SaysText (change_of E.contents E.failures errors.old errors.new)) }
     ensures silent { is_mistake ≡ true → IsUntouched (change_of W.contents W.failures writer.old writer.new) }
     ensures failed { let output = change_of W.contents W.failures writer.old writer.new in
         let says = change_of E.contents E.failures errors.old errors.new in
         result ≡ 1 → Refuses result output says out_of_memory
-        ⊎ ((is_mistake ≡ false) × IsTrue (fails output) × Shows (M.output message.now) (TakesPart output) × Says says writing_failed) }
+        ⊎ ((is_mistake ≡ false) × IsTrue (fails output) × Shows (M.output message.now) (TakesPart output) × SaysText says writing_failed) }
 {
     let Ok(text) = message.to_string(alloc) else {
         return refuse(errors, b"ymx: out of memory\n");

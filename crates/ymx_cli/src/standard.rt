@@ -4,7 +4,7 @@ ghost use Rattle.std.specs.Prelude.{◌≡◌, ◌<◌, ◌≤◌, length, IfOk,
 ghost use Rattle.std.specs.Io.{ReadsAtMost, WritesAtMost};
 ghost use Rattle.std.specs.Io.KnownBytes.{Keeps, ReadConsumes, WriteAppends};
 
-use crate::command::Opener;
+use crate::command::FileOpener;
 use std::io::{ErrorKind, Read, Write};
 use std::rt::Files;
 use std::{fs, io};
@@ -89,7 +89,7 @@ pub struct Disk<'a, T> {
     pub rt: &'a T,
 }
 
-impl<T: Files> Opener for Disk<'_, T> {
+impl<T: Files> FileOpener for Disk<'_, T> {
     type File = ReaderInlet<T::File>;
 
     ghost held = { λ s name. None };

@@ -25,7 +25,7 @@ const WRITE_BUFFER: usize = 8 * (12 + 16_384);
 
 /// Which side of a tunnel runs over a connection.
 #[derive(Drop)]
-pub enum Side<'a> {
+pub enum TunnelSide<'a> {
     /// The yamux client: each connection that the listener accepts becomes a stream, `count` of them or all.
     Local {
         /// Where connections come from.
@@ -105,13 +105,13 @@ pub fn forward<R: Threads + Wait + Sync, N: Network, V: Watcher>(
     alloc: Global,
     network: &N,
     connection: &TcpStream,
-    side: Side<'_>,
+    side: TunnelSide<'_>,
     window: u32,
     watcher: &V,
 ) -> Forwarded {
     let role = match side {
-        Side::Local { .. } => Role::Client,
-        Side::Remote { .. } => Role::Server,
+        TunnelSide::Local { .. } => Role::Client,
+        TunnelSide::Remote { .. } => Role::Server,
     };
     let Some((hub, buffers)) = prepare(alloc, role, window) else {
         return without_memory();
@@ -165,15 +165,15 @@ fn serve<R: Threads + Wait + Sync, N: Network, V: Watcher>(
     alloc: Global,
     hub: &Arc<Hub<Off>, Global>,
     network: &N,
-    side: Side<'_>,
+    side: TunnelSide<'_>,
     connections: &Connections,
     watcher: &V,
 ) -> Served {
     match side {
-        Side::Local { listener, count } => {
+        TunnelSide::Local { listener, count } => {
             serve_local(rt, alloc, hub, listener, count, connections, watcher)
         }
-        Side::Remote { target, workers } => {
+        TunnelSide::Remote { target, workers } => {
             serve_remote(
                 rt,
                 alloc,

@@ -8,6 +8,6 @@ mod selftest;
 mod tell;
 mod watching;
 
-pub use forwarding::{Forwarded, Side, forward};
+pub use forwarding::{Forwarded, TunnelSide, forward};
 pub use programs::{Local, Remote, run_local, run_remote};
 pub use selftest::run_selftest;

@@ -3,7 +3,7 @@
 ghost use Rattle.std.specs.Prelude.{◌≡◌, ◌≤◌, false};
 ghost use Rattle.std.specs.Io.KnownBytes.{Keeps};
 
-use crate::forwarding::{Forwarded, Side, forward};
+use crate::forwarding::{Forwarded, TunnelSide, forward};
 use crate::tell::{cannot_listen, cannot_reach, lacks_memory, session_broken};
 use crate::watching::Lines;
 use std::alloc::Global;
@@ -103,7 +103,7 @@ fn forward_out<R: Threads + Wait + Sync, N: Network, V: Watcher, E: Outlet>(
     ensures status { result ≤ 1 }
     ensures good { result ≡ 0 → Keeps (E.contents errors.old) (E.contents errors.new) }
 {
-    let side = Side::Local {
+    let side = TunnelSide::Local {
         listener,
         count: asked.count,
     };
@@ -153,7 +153,7 @@ fn forward_in<R: Threads + Wait + Sync, N: Network, V: Watcher, E: Outlet>(
         return cannot_listen(alloc, asked.bind, errors);
     };
     let _ = connection.set_nodelay(true);
-    let side = Side::Remote {
+    let side = TunnelSide::Remote {
         target: asked.target,
         workers: asked.workers,
     };

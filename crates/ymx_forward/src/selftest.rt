@@ -3,7 +3,7 @@
 ghost use Rattle.std.specs.Prelude.{◌≡◌, ◌≤◌};
 ghost use Rattle.std.specs.Io.KnownBytes.{Keeps};
 
-use crate::forwarding::{Side, forward};
+use crate::forwarding::{TunnelSide, forward};
 use crate::tell::{cannot_listen, lacks_memory, refuse};
 use crossbeam_channel::{Receiver, Sender, bounded};
 use std::alloc::Global;
@@ -222,7 +222,7 @@ fn run_remote_end<R: Threads + Wait + Sync, N: Network>(
     let Ok((connection, _)) = places.session.accept() else {
         return;
     };
-    let side = Side::Remote {
+    let side = TunnelSide::Remote {
         target: places.echo_address,
         workers: WORKERS,
     };
@@ -239,7 +239,7 @@ fn run_local_end<R: Threads + Wait + Sync, N: Network>(
     let Some(connection) = network.connect(places.session_address) else {
         return;
     };
-    let side = Side::Local {
+    let side = TunnelSide::Local {
         listener: &places.local,
         count: Some(CONNECTIONS),
     };

@@ -7,7 +7,7 @@ use std::sync::{Mutex, Wait};
 use ymx_frames::push_all;
 use ymx_hub::HubFault;
 use ymx_model::Outlet;
-use ymx_tunnel::{CopyWhy, Joined, Watcher};
+use ymx_tunnel::{CopyWhy, EndedConnection, Watcher};
 
 /// Room for the longest line, in bytes: that of a connection with the greatest numbers has 159.
 const LINE: usize = 192;
@@ -47,7 +47,7 @@ impl<'a, L: Outlet> Lines<'a, L> {
 }
 
 impl<L: Outlet + Send> Watcher for Lines<'_, L> {
-    fn ended<W: Wait>(&self, rt: &W, number: u64, joined: &Joined) {
+    fn ended<W: Wait>(&self, rt: &W, number: u64, joined: &EndedConnection) {
         self.say(rt, &end_line(number, joined));
     }
 
@@ -59,8 +59,8 @@ impl<L: Outlet + Send> Watcher for Lines<'_, L> {
 }
 
 /// The line of a connection that has ended.
-fn end_line(number: u64, joined: &Joined) -> Line {
-    let Joined { inward, outward } = *joined;
+fn end_line(number: u64, joined: &EndedConnection) -> Line {
+    let EndedConnection { inward, outward } = *joined;
     let sent = inward.bytes;
     let sent_why = inward_word(inward.why);
     let got = outward.bytes;

@@ -138,7 +138,7 @@ impl StreamRec {
     ghost use Rattle.ymx_half.specs.Frames.{frame_payload};
 
     /// Makes the record of a stream that is opened here, with memory for 262,144 unsent bytes and for
-    /// all of the window, in bytes. A SYN is due, which carries data if `carries`. Without the memory it
+    /// all of the window, in bytes. A SYN is due, which carries data if `with_data`. Without the memory it
     /// answers `AllocError`.
     ///
     /// Example: at a session of 1,048,576 bytes the peer may send 262,144 at first, and hears of the

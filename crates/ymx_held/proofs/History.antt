@@ -9,7 +9,7 @@ use Rattle.ymx_model.specs.session.Sessions.{Session, new_session}
 use Rattle.ymx_model.specs.session.Emissions.{in_turn}
 use Rattle.ymx_model.specs.session.Histories.{Gives, ReplaysFrom}
 use Rattle.ymx_seats.specs.Transcripts.{IsNew, IsGood, IsReplayable}
-use Rattle.ymx_seats.specs.Views.{kept, entry}
+use Rattle.ymx_seats.specs.Views.{kept_entries, entry}
 use Rattle.ymx_held.specs.Held.{Kept}
 
 pub replays_more : (at : ℕ) (es : List Entry) (e : Entry) (s t u : Session) → ReplaysFrom in_turn at es s t → e.position ≡ at + length es → Gives in_turn t e.event e.reply u → ReplaysFrom in_turn at (es ++ e ∷ []) s u
@@ -24,12 +24,12 @@ pub kept_new : (keeps : Bool) (role : Role) (config : Config) (es : List Entry) 
 kept_new true role config es s n e r w f = rw (e, r, w, f) (of_new s n)
 kept_new false role config es s n e r w f = tt
 
-pub kept_after : (keeps over : Bool) (role : Role) (config : Config) (es : List Entry) (s t : Session) (n : ℕ) (a : Event) (r : Reply) → Kept keeps over role config es s → Gives in_turn s a r t → Kept keeps over role config (es ++ kept keeps (entry (length es) n a r)) t
+pub kept_after : (keeps over : Bool) (role : Role) (config : Config) (es : List Entry) (s t : Session) (n : ℕ) (a : Event) (r : Reply) → Kept keeps over role config es s → Gives in_turn s a r t → Kept keeps over role config (es ++ kept_entries keeps (entry (length es) n a r)) t
 kept_after true true role config es s t n a r k h = tt
 kept_after true false role config es s t n a r k h = replays_more 0 es (entry (length es) n a r) (new_session role config.window config.first) s t k (omega arith) h
 kept_after false over role config es s t n a r k h = tt
 
-pub kept_twice : (keeps over : Bool) (role : Role) (config : Config) (es mid last : List Entry) (s t u : Session) (n : ℕ) (a : Event) (r : Reply) (m : ℕ) (b : Event) (q : Reply) → Kept keeps over role config es s → Gives in_turn s a r t → mid ≡ es ++ kept keeps (entry (length es) n a r) → Gives in_turn t b q u → last ≡ mid ++ kept keeps (entry (length mid) m b q) → Kept keeps over role config last u
+pub kept_twice : (keeps over : Bool) (role : Role) (config : Config) (es mid last : List Entry) (s t u : Session) (n : ℕ) (a : Event) (r : Reply) (m : ℕ) (b : Event) (q : Reply) → Kept keeps over role config es s → Gives in_turn s a r t → mid ≡ es ++ kept_entries keeps (entry (length es) n a r) → Gives in_turn t b q u → last ≡ mid ++ kept_entries keeps (entry (length mid) m b q) → Kept keeps over role config last u
 kept_twice keeps over role config es mid last s t u n a r m b q k g e h d =
     subst (λ (xs : List Entry). Kept keeps over role config xs u) (sym d)
     (kept_after keeps over role config mid t u m b q (subst (λ (xs : List Entry). Kept keeps over role config xs t) (sym e) (kept_after keeps over role config es s t n a r k g)) h)

@@ -16,7 +16,7 @@ use Rattle.ymx_session.specs.Replies.{done_or, pinged_or, ponged_or, is_of_memor
 use Rattle.ymx_model.proofs.Tests.{split}
 use Rattle.ymx_held.specs.declared.faults.HubFault.{HubFault}
 use Rattle.ymx_held.specs.declared.faults.HubFault.TheVariants.{Memory}
-use Rattle.ymx_held.specs.Answers.{fault_of, answer_of, IsNotMemory}
+use Rattle.ymx_held.specs.Answers.{hub_fault_of, hub_answer, IsNotMemory}
 
 -- a reply that says that memory was wanted
 abbrev pub wants : Reply → Bool
@@ -28,7 +28,7 @@ Spares o = wants o.reply ≡ false
 
 -- ---- of a reply, a result, an answer
 
-only_memory : (fault : CallFault) → fault_of fault ≡ Memory → is_of_memory fault ≡ true
+only_memory : (fault : CallFault) → hub_fault_of fault ≡ Memory → is_of_memory fault ≡ true
 only_memory NoStream e = cc
 only_memory Finished e = cc
 only_memory Reset e = cc
@@ -45,7 +45,7 @@ no_both : (b : Bool) → b ≡ true → b ≡ false → ⊥
 no_both true e f = cc
 no_both false e f = cc
 
-answer_spares : {A : Type 0} (given : Result A CallFault) (result : Result A HubFault) → result ≡ answer_of given → is_out_of_memory given ≡ false → IsNotMemory result
+answer_spares : {A : Type 0} (given : Result A CallFault) (result : Result A HubFault) → result ≡ hub_answer given → is_out_of_memory given ≡ false → IsNotMemory result
 answer_spares (Ok x) result e n = rw e tt
 answer_spares (Err fault) result e n = rw e (λ m. no_both (is_of_memory fault) (only_memory fault m) n)
 
@@ -53,7 +53,7 @@ result_spares : {A : Type 0} (given : Result A CallFault) (told : Result A CallF
 result_spares (Ok x) told f w = refl
 result_spares (Err fault) told f w = ap wants (sym (f fault)) ∙ w
 
-spared : {A : Type 0} (given : Result A CallFault) (result : Result A HubFault) (told : Result A CallFault → Reply) (r : Reply) → ((fault : CallFault) → told (Err fault) ≡ Refused fault) → told given ≡ r → wants r ≡ false → result ≡ answer_of given → IsNotMemory result
+spared : {A : Type 0} (given : Result A CallFault) (result : Result A HubFault) (told : Result A CallFault → Reply) (r : Reply) → ((fault : CallFault) → told (Err fault) ≡ Refused fault) → told given ≡ r → wants r ≡ false → result ≡ hub_answer given → IsNotMemory result
 spared given result told r f e w a = answer_spares given result a (result_spares given told f (ap wants e ∙ w))
 
 -- ---- of an outcome
@@ -73,27 +73,27 @@ unless_spares needs lost p said r w =
     split P (needs && said) _ _ (λ t. refl) (λ f3.
     split P lost _ _ (λ t. refl) (λ f4. w))))
 
-pub finish_spares : (id : ℕ) (s : Session) (given : Result (Unit {0}) CallFault) (result : Result (Unit {0}) HubFault) → done_or given ≡ (finish id s).reply → result ≡ answer_of given → IsNotMemory result
+pub finish_spares : (id : ℕ) (s : Session) (given : Result (Unit {0}) CallFault) (result : Result (Unit {0}) HubFault) → done_or given ≡ (finish id s).reply → result ≡ hub_answer given → IsNotMemory result
 finish_spares id s given result e a =
     spared given result done_or _ (λ f. refl) e (with_spares id (finish_outcome id s) s (λ r. unless_spares true (is_lost s.status) r.phase r.writer.finished Done refl)) a
 
-pub reset_spares : (id : ℕ) (s : Session) (given : Result (Unit {0}) CallFault) (result : Result (Unit {0}) HubFault) → done_or given ≡ (reset id s).reply → result ≡ answer_of given → IsNotMemory result
+pub reset_spares : (id : ℕ) (s : Session) (given : Result (Unit {0}) CallFault) (result : Result (Unit {0}) HubFault) → done_or given ≡ (reset id s).reply → result ≡ hub_answer given → IsNotMemory result
 reset_spares id s given result e a =
     spared given result done_or _ (λ f. refl) e (with_spares id (reset_outcome id s) s (λ r. unless_spares false (is_lost s.status) r.phase false Done refl)) a
 
-pub ping_spares : (s : Session) (given : Result ℕ CallFault) (result : Result ℕ HubFault) → pinged_or given ≡ (ping s).reply → result ≡ answer_of given → IsNotMemory result
+pub ping_spares : (s : Session) (given : Result ℕ CallFault) (result : Result ℕ HubFault) → pinged_or given ≡ (ping s).reply → result ≡ hub_answer given → IsNotMemory result
 ping_spares s given result e a =
     spared given result pinged_or _ (λ f. refl) e (
     split Spares (is_closed s.status) _ _ (λ t. refl) (λ f. split Spares (is_lost s.status) _ _ (λ t. refl) (λ g.
     split Spares (nat_le most_pings (length s.pings.pending)) _ _ (λ t. refl) (λ k. refl)))) a
 
-pub ponged_spares : (n : ℕ) (s : Session) (given : Result Bool CallFault) (result : Result Bool HubFault) → ponged_or given ≡ (ponged n s).reply → result ≡ answer_of given → IsNotMemory result
+pub ponged_spares : (n : ℕ) (s : Session) (given : Result Bool CallFault) (result : Result Bool HubFault) → ponged_or given ≡ (ponged n s).reply → result ≡ hub_answer given → IsNotMemory result
 ponged_spares n s given result e a =
     spared given result ponged_or _ (λ f. refl) e (
     split Spares (is_closed s.status) _ _ (λ t. refl) (λ f. split Spares (has_back n s.pings.pending) _ _ (λ t. refl) (λ g.
     split Spares (is_lost s.status) _ _ (λ t. refl) (λ k. refl)))) a
 
-pub go_away_spares : (s : Session) (given : Result (Unit {0}) CallFault) (result : Result (Unit {0}) HubFault) → done_or given ≡ (go_away s).reply → result ≡ answer_of given → IsNotMemory result
+pub go_away_spares : (s : Session) (given : Result (Unit {0}) CallFault) (result : Result (Unit {0}) HubFault) → done_or given ≡ (go_away s).reply → result ≡ hub_answer given → IsNotMemory result
 go_away_spares s given result e a =
     spared given result done_or _ (λ f. refl) e (
     split Spares (is_closed s.status) _ _ (λ t. refl) (λ f. split Spares (is_lost s.status) _ _ (λ t. refl) (λ g. refl))) a

@@ -8,13 +8,13 @@ use Rattle.ymx_held.specs.declared.faults.HubFault.{HubFault}
 use Rattle.ymx_held.specs.declared.faults.HubFault.TheVariants.{Call, Memory}
 
 -- want of memory is the hub's own fault, whoever found it
-abbrev pub fault_of : CallFault → HubFault
-fault_of OutOfMemory = Memory
-fault_of fault = Call fault
+abbrev pub hub_fault_of : CallFault → HubFault
+hub_fault_of OutOfMemory = Memory
+hub_fault_of fault = Call fault
 
-abbrev pub answer_of : {A : Type 0} → Result A CallFault → Result A HubFault
-answer_of (Ok x) = Ok x
-answer_of (Err fault) = Err (fault_of fault)
+abbrev pub hub_answer : {A : Type 0} → Result A CallFault → Result A HubFault
+hub_answer (Ok x) = Ok x
+hub_answer (Err fault) = Err (hub_fault_of fault)
 
 -- the answer is no want of memory
 abbrev pub IsNotMemory : {A : Type 0} → Result A HubFault → Type 0

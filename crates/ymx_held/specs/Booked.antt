@@ -11,7 +11,7 @@ use Rattle.ymx_session.specs.Replies.{done_or}
 use Rattle.ymx_seats.specs.Views.{SeatView, entry}
 use Rattle.ymx_held.specs.declared.faults.HubFault.{HubFault}
 use Rattle.ymx_held.specs.declared.faults.HubFault.TheVariants.{Memory, Seats}
-use Rattle.ymx_held.specs.Answers.{fault_of}
+use Rattle.ymx_held.specs.Answers.{hub_fault_of}
 
 -- ---- the events
 
@@ -67,7 +67,7 @@ abbrev pub Asks : {A : Type 0} → Event → (Result A CallFault → Reply) → 
 Asks event told seat (Ok x) added = One seat event (told (Ok x)) added
 Asks event told seat (Err fault) added =
     ((fault ≡ Memory) × (added ≡ []))
-    ⊎ ((why : CallFault) × (fault ≡ fault_of why) × One seat event (told (Err why)) added)
+    ⊎ ((why : CallFault) × (fault ≡ hub_fault_of why) × One seat event (told (Err why)) added)
 
 -- one entry, whose reply is the answer; or there was no memory for it
 abbrev pub Does : {A : Type 0} → Event → (A → Reply) → ℕ → Result A HubFault → List Entry → Type 0
@@ -80,7 +80,7 @@ Does event told seat (Err fault) added = (fault ≡ Memory) × (added ≡ [])
 abbrev pub IsRefused : Event → ℕ → HubFault → List Entry → Type 0
 IsRefused event seat fault added =
     (((fault ≡ Memory) ⊎ (fault ≡ Seats)) × (added ≡ []))
-    ⊎ ((why : CallFault) × (fault ≡ fault_of why) × One seat event (reply.Refused why) added)
+    ⊎ ((why : CallFault) × (fault ≡ hub_fault_of why) × One seat event (reply.Refused why) added)
 
 -- one entry, which gave a stream; the seats of both its halves start after it
 abbrev pub IsGiven : Event → Reply → ℕ → SeatView → SeatView → List Entry → Type 0
@@ -119,7 +119,7 @@ abbrev pub Spends : Event → ℕ → ℕ → Result (Unit {0}) HubFault → Lis
 Spends event id seat (Ok u) added = SpendsWith event id seat reply.Done added
 Spends event id seat (Err fault) added =
     ((fault ≡ Memory) × (added ≡ []))
-    ⊎ ((why : CallFault) × (fault ≡ fault_of why) × SpendsWith event id seat (reply.Refused why) added)
+    ⊎ ((why : CallFault) × (fault ≡ hub_fault_of why) × SpendsWith event id seat (reply.Refused why) added)
 
 -- nothing, or the stream was given up, which gives the answer
 abbrev pub Closes : ℕ → ℕ → Result (Unit {0}) HubFault → List Entry → Type 0

@@ -3,7 +3,7 @@
 ghost use Rattle.std.specs.Prelude.{◌≡◌};
 ghost use Rattle.ymx_session.specs.Replies.{done_or};
 ghost use Rattle.ymx_seats.specs.Slips.{told_by, bytes_told};
-ghost use Rattle.ymx_held.specs.Answers.{answer_of, fault_of};
+ghost use Rattle.ymx_held.specs.Answers.{hub_answer, hub_fault_of};
 
 use thiserror::Error;
 use ymx_model::CallFault;
@@ -25,7 +25,7 @@ pub enum HubFault {
 
 /// What a hub answers for a refusal of its session.
 pub(crate) fn hub_fault(fault: CallFault) -> HubFault
-    ensures { result ≡ fault_of fault }
+    ensures { result ≡ hub_fault_of fault }
 {
     match fault {
         CallFault::OutOfMemory => HubFault::Memory,
@@ -35,7 +35,7 @@ pub(crate) fn hub_fault(fault: CallFault) -> HubFault
 
 /// What a hub answers for what its session answered.
 pub(crate) fn answered<T: Drop>(given: Result<T, CallFault>) -> Result<T, HubFault>
-    ensures { result ≡ answer_of given }
+    ensures { result ≡ hub_answer given }
 {
     match given {
         Ok(answer) => Ok(answer),

@@ -4,7 +4,7 @@ use Rattle.ymx_model.specs.declared.types.Entry.{Entry}
 use Rattle.ymx_seats.specs.Views.{SeatView}
 use Rattle.ymx_held.specs.declared.faults.HubFault.{HubFault}
 use Rattle.ymx_held.specs.Booked.{Opens, OpensWith, IsRefused, to_open, to_open_with}
-use Rattle.ymx_hub.specs.Turns.{Accepts}
+use Rattle.ymx_hub.specs.Turns.{AcceptsInTurns}
 
 -- a half: the id of its stream, and its seat
 pub record HalfView : Type 0 where
@@ -25,6 +25,6 @@ OpensHalvesWith bytes seat (Err fault) added = IsRefused (to_open_with bytes) se
 -- waits; then both halves of the stream that was offered, that there will be none, or the refusal
 abbrev pub AcceptsHalves : ℕ → Result (Option (HalfView × HalfView)) HubFault → List Entry → Type 0
 AcceptsHalves seat (Ok (Some made)) added =
-    (made.1.id ≡ made.0.id) × Accepts seat (Ok (Some (made.0.id, made.0.seat, made.1.seat))) added
-AcceptsHalves seat (Ok None) added = Accepts seat (Ok None) added
-AcceptsHalves seat (Err fault) added = Accepts seat (Err fault) added
+    (made.1.id ≡ made.0.id) × AcceptsInTurns seat (Ok (Some (made.0.id, made.0.seat, made.1.seat))) added
+AcceptsHalves seat (Ok None) added = AcceptsInTurns seat (Ok None) added
+AcceptsHalves seat (Err fault) added = AcceptsInTurns seat (Err fault) added

@@ -11,7 +11,7 @@ use Rattle.ymx_session.specs.Replies.{pinged_or}
 use Rattle.ymx_seats.specs.Views.{SeatView}
 use Rattle.ymx_held.specs.declared.faults.HubFault.{HubFault}
 use Rattle.ymx_held.specs.declared.faults.HubFault.TheVariants.{Memory}
-use Rattle.ymx_held.specs.Answers.{fault_of}
+use Rattle.ymx_held.specs.Answers.{hub_fault_of}
 use Rattle.ymx_held.specs.Booked.{One, Asks, IsGiven, IsRefused, to_accept, to_write, to_read, to_ping, to_collect}
 use Rattle.ymx_hub.specs.declared.write_fault.WriteFault.{WriteFault}
 
@@ -37,8 +37,8 @@ AcceptsLast seat (Ok (Some made)) last = IsGiven to_accept (reply.Accepted (Some
 AcceptsLast seat (Ok None) last = (why : CallFault) × IsOver why × One seat to_accept (reply.Refused why) last
 AcceptsLast seat (Err fault) last = IsRefused to_accept seat fault last
 
-abbrev pub Accepts : ℕ → Result (Option (ℕ × SeatView × SeatView)) HubFault → List Entry → Type 0
-Accepts seat result added = Turns seat to_accept (reply.Accepted None) (AcceptsLast seat result) added
+abbrev pub AcceptsInTurns : ℕ → Result (Option (ℕ × SeatView × SeatView)) HubFault → List Entry → Type 0
+AcceptsInTurns seat result added = Turns seat to_accept (reply.Accepted None) (AcceptsLast seat result) added
 
 -- ---- read
 
@@ -48,7 +48,7 @@ ReadsLast id size buffer seat (Ok n) last =
     One seat (to_read id size) (reply.Read (take n buffer)) last ⊎ ((n ≡ 0) × One seat (to_read id size) reply.ReadEnd last)
 ReadsLast id size buffer seat (Err fault) last =
     ((fault ≡ Memory) × (last ≡ []))
-    ⊎ ((why : CallFault) × (fault ≡ fault_of why) × One seat (to_read id size) (reply.Refused why) last)
+    ⊎ ((why : CallFault) × (fault ≡ hub_fault_of why) × One seat (to_read id size) (reply.Refused why) last)
 
 abbrev pub Reads : (id size : ℕ) → (buffer : List ℕ) → ℕ → Result ℕ HubFault → List Entry → Type 0
 Reads id size buffer seat result added = Turns seat (to_read id size) reply.ReadWait (ReadsLast id size buffer seat result) added
@@ -60,7 +60,7 @@ abbrev pub PongsLast : (number : ℕ) → ℕ → Result ℕ HubFault → List E
 PongsLast number seat (Ok n) last = (n ≡ number) × One seat (to_collect number) (reply.Ponged true) last
 PongsLast number seat (Err fault) last =
     ((fault ≡ Memory) × (last ≡ []))
-    ⊎ ((why : CallFault) × (fault ≡ fault_of why) × One seat (to_collect number) (reply.Refused why) last)
+    ⊎ ((why : CallFault) × (fault ≡ hub_fault_of why) × One seat (to_collect number) (reply.Refused why) last)
 
 -- a ping of this number, then the waits for its answer
 abbrev pub IsPinged : ℕ → Result ℕ HubFault → List Entry → Type 0
@@ -107,7 +107,7 @@ abbrev pub WriteEnds : (bytes : List ℕ) → Result (Unit {0}) WriteFault → L
 WriteEnds bytes (Ok u) added = (total added ≡ length bytes) × EndsIn HasTaken added
 WriteEnds bytes (Err stop) added =
     (total added ≡ stop.taken)
-    × ((stop.fault ≡ Memory) ⊎ ((why : CallFault) × (stop.fault ≡ fault_of why) × EndsIn (λ told. told ≡ reply.Refused why) added))
+    × ((stop.fault ≡ Memory) ⊎ ((why : CallFault) × (stop.fault ≡ hub_fault_of why) × EndsIn (λ told. told ≡ reply.Refused why) added))
 
 -- writes of what was left, and how they ended
 abbrev pub Writes : (id : ℕ) → (bytes : List ℕ) → ℕ → Result (Unit {0}) WriteFault → List Entry → Type 0

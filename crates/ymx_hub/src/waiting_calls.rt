@@ -3,7 +3,7 @@
 ghost use Rattle.std.specs.Prelude.{◌≡◌, ◌<◌, ◌≤◌, length, false, IfOk, IfErr};
 ghost use Rattle.ymx_held.specs.Answers.{IsNotMemory};
 ghost use Rattle.ymx_held.specs.Booked.{Gains};
-ghost use Rattle.ymx_hub.specs.Turns.{Accepts, Reads, Pings, Writes};
+ghost use Rattle.ymx_hub.specs.Turns.{AcceptsInTurns, Reads, Pings, Writes};
 
 use crate::bells::bit;
 use crate::hub::Hub;
@@ -22,7 +22,7 @@ impl<R: Recorder> Hub<R> {
     ) -> Result<Option<(u32, Seat<R>, Seat<R>)>, HubFault>
         ensures number { seat.new.number ≡ seat.old.number }
         ensures start { seat.new.start ≡ seat.old.start }
-        ensures booked { Gains R.KEEPS seat.old.entries seat.new.entries (Accepts seat.old.number result) }
+        ensures booked { Gains R.KEEPS seat.old.entries seat.new.entries (AcceptsInTurns seat.old.number result) }
     {
         let mut desk = self.desk.lock(rt);
         for _ in rt.forever() {

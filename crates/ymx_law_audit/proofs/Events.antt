@@ -16,18 +16,18 @@ use Rattle.ymx_model.specs.session.Emissions.{Choice}
 use Rattle.ymx_model.specs.session.Histories.{Gives}
 use Rattle.ymx_model.specs.shared.Steps.{answer_of}
 use Rattle.ymx_model.specs.world.Worlds.{World, Pipe, Steps, Runs, pushed, without_front, fed_count}
-use Rattle.ymx_law_audit.specs.Joints.{ended_pipe, emitted_of, put, Takes, Gets, steps_of}
-use Rattle.ymx_law_audit.specs.Told.{answers_of, ended_by}
+use Rattle.ymx_law_audit.specs.Joints.{ended_pipe, emitted_of, sent_into, TakesFront, Gets, world_steps}
+use Rattle.ymx_law_audit.specs.Told.{answers_of, is_ended_behind}
 use Rattle.ymx_law_audit.proofs.Over.{IsOver, feed-over, gives-over, end-over}
 
 -- ---- the end of a pipe
 
-ended-feed : (bytes : List ℕ) (told : Reply) (p q : Pipe) (en : Bool) → en ≡ p.ended → MatchBool en (q ≡ p) (Takes bytes told p q) → q.ended ≡ p.ended
+ended-feed : (bytes : List ℕ) (told : Reply) (p q : Pipe) (en : Bool) → en ≡ p.ended → MatchBool en (q ≡ p) (TakesFront bytes told p q) → q.ended ≡ p.ended
 ended-feed bytes told p q true is g = ap (λ (z : Pipe). z.ended) g
 ended-feed bytes told p q false is g = ap (λ (z : Pipe). z.ended) g.5
 
 -- a pipe's end is told by the end of its receiver's input alone
-pub gets-ended : (e : Event) (told : Reply) (p q : Pipe) → Gets e told p q → q.ended ≡ ended_by p.ended e
+pub gets-ended : (e : Event) (told : Reply) (p q : Pipe) → Gets e told p q → q.ended ≡ is_ended_behind p.ended e
 gets-ended (event.Call c) told p q g = ap (λ (z : Pipe). z.ended) g
 gets-ended (event.Emit n) told p q g = ap (λ (z : Pipe). z.ended) g.2
 gets-ended (event.Feed bytes) told p q g = ended-feed bytes told p q p.ended refl g
@@ -37,7 +37,7 @@ pushed-ended : (out bytes : List ℕ) (stopped ended : Bool) → (pushed out (re
 pushed-ended out bytes true ended = refl
 pushed-ended out bytes false ended = refl
 
-pub put-ended : (e : Event) (told : Reply) (p : Pipe) → (put e told p).ended ≡ p.ended
+pub put-ended : (e : Event) (told : Reply) (p : Pipe) → (sent_into e told p).ended ≡ p.ended
 put-ended (event.Call c) told p = refl
 put-ended (event.Emit n) told p = pushed-ended (emitted_of told) p.bytes p.stopped p.ended
 put-ended (event.Feed bytes) told p = refl
@@ -62,7 +62,7 @@ one-step may st given w v s = (v, s, refl)
 
 feed-a : (may : Choice → Session → Bool) (bytes : List ℕ) (told : Reply) (a b s : Session) (ab q : Pipe) (held : List ℕ) (stopped ended : Bool) →
     let ba : Pipe = record { bytes = held; stopped = stopped; ended = ended } in
-    Gives may a (event.Feed bytes) told s → MatchBool ended (q ≡ ba) (Takes bytes told ba q) → (ended ≡ true → IsOver a) →
+    Gives may a (event.Feed bytes) told s → MatchBool ended (q ≡ ba) (TakesFront bytes told ba q) → (ended ≡ true → IsOver a) →
     Runs may (if ended then [] else step.Deliver BA (length bytes) ∷ []) (if ended then [] else answer_of told ∷ []) (world a b ab ba) (world s b ab q)
 feed-a may bytes told a b s ab q held stopped true g h over =
     ap (λ (z : Session). world z b ab q) (feed-over a s bytes told may (over refl) g) ∙ ap (λ (z : Pipe). world a b ab z) h
@@ -75,7 +75,7 @@ feed-a may bytes told a b s ab q held stopped false g h over =
 
 pub event-a : (may : Choice → Session → Bool) (e : Event) (told : Reply) (a b s : Session) (ab ba q : Pipe) →
     Gives may a e told s → Gets e told ba q → (ba.ended ≡ true → IsOver a) →
-    Runs may (steps_of A ba e) (answers_of ba.ended e told) (world a b ab ba) (world s b (put e told ab) q)
+    Runs may (world_steps A ba e) (answers_of ba.ended e told) (world a b ab ba) (world s b (sent_into e told ab) q)
 event-a may (event.Call c) told a b s ab ba q g h over =
     one-step may (step.At A c) (answer_of told) (world a b ab ba) (world s b ab q)
     (told, s, g, refl, ap (λ (z : Pipe). world s b ab z) h)
@@ -98,7 +98,7 @@ event-a may event.FeedEnd told a b s ab ba q g h over =
 
 feed-b : (may : Choice → Session → Bool) (bytes : List ℕ) (told : Reply) (a b s : Session) (ba q : Pipe) (held : List ℕ) (stopped ended : Bool) →
     let ab : Pipe = record { bytes = held; stopped = stopped; ended = ended } in
-    Gives may b (event.Feed bytes) told s → MatchBool ended (q ≡ ab) (Takes bytes told ab q) → (ended ≡ true → IsOver b) →
+    Gives may b (event.Feed bytes) told s → MatchBool ended (q ≡ ab) (TakesFront bytes told ab q) → (ended ≡ true → IsOver b) →
     Runs may (if ended then [] else step.Deliver AB (length bytes) ∷ []) (if ended then [] else answer_of told ∷ []) (world a b ab ba) (world a s q ba)
 feed-b may bytes told a b s ba q held stopped true g h over =
     ap (λ (z : Session). world a z q ba) (feed-over b s bytes told may (over refl) g) ∙ ap (λ (z : Pipe). world a b z ba) h
@@ -111,7 +111,7 @@ feed-b may bytes told a b s ba q held stopped false g h over =
 
 pub event-b : (may : Choice → Session → Bool) (e : Event) (told : Reply) (a b s : Session) (ab ba q : Pipe) →
     Gives may b e told s → Gets e told ab q → (ab.ended ≡ true → IsOver b) →
-    Runs may (steps_of B ab e) (answers_of ab.ended e told) (world a b ab ba) (world a s q (put e told ba))
+    Runs may (world_steps B ab e) (answers_of ab.ended e told) (world a b ab ba) (world a s q (sent_into e told ba))
 event-b may (event.Call c) told a b s ab ba q g h over =
     one-step may (step.At B c) (answer_of told) (world a b ab ba) (world a s q ba)
     (told, s, g, refl, ap (λ (z : Pipe). record { a = s; b = a; ab = ba; ba = z }) h)

@@ -29,34 +29,34 @@ emitted_of (reply.Emitted out) = out
 emitted_of _ = []
 
 -- the pipe after what its sender did
-abbrev pub put : Event → Reply → Pipe → Pipe
-put (event.Call c) told p = p
-put (event.Emit n) told p = pushed (emitted_of told) p
-put (event.Feed bytes) told p = p
-put event.FeedEnd told p = p
+abbrev pub sent_into : Event → Reply → Pipe → Pipe
+sent_into (event.Call c) told p = p
+sent_into (event.Emit n) told p = pushed (emitted_of told) p
+sent_into (event.Feed bytes) told p = p
+sent_into event.FeedEnd told p = p
 
 -- these bytes are the front of the pipe, and no more of them are taken
-abbrev pub Takes : List ℕ → Reply → Pipe → Pipe → Type 0
-Takes bytes told p q = (fed : Fed) × (told ≡ reply.Fed fed) × (fed.taken ≤ length bytes) × (length bytes ≤ length p.bytes) × (take (length bytes) p.bytes ≡ bytes) × (q ≡ without_front fed.taken p)
+abbrev pub TakesFront : List ℕ → Reply → Pipe → Pipe → Type 0
+TakesFront bytes told p q = (fed : Fed) × (told ≡ reply.Fed fed) × (fed.taken ≤ length bytes) × (length bytes ≤ length p.bytes) × (take (length bytes) p.bytes ≡ bytes) × (q ≡ without_front fed.taken p)
 
 -- the pipe p may be q after what its receiver did
 abbrev pub Gets : Event → Reply → Pipe → Pipe → Type 0
 Gets (event.Call c) told p q = q ≡ p
 Gets (event.Emit n) told p q = (out : List ℕ) × (told ≡ reply.Emitted out) × (q ≡ p)
-Gets (event.Feed bytes) told p q = MatchBool p.ended (q ≡ p) (Takes bytes told p q)
+Gets (event.Feed bytes) told p q = MatchBool p.ended (q ≡ p) (TakesFront bytes told p q)
 Gets event.FeedEnd told p q = q ≡ ended_pipe
 
 -- the world's steps of an event of a side that reads this pipe
-abbrev pub steps_of : Side → Pipe → Event → List Step
-steps_of side p (event.Call c) = step.At side c ∷ []
-steps_of side p (event.Emit n) = step.Emit side n ∷ []
-steps_of side p (event.Feed bytes) = if p.ended then [] else step.Deliver (into side) (length bytes) ∷ []
-steps_of side p event.FeedEnd = step.Stop (into side) ∷ step.End (into side) ∷ []
+abbrev pub world_steps : Side → Pipe → Event → List Step
+world_steps side p (event.Call c) = step.At side c ∷ []
+world_steps side p (event.Emit n) = step.Emit side n ∷ []
+world_steps side p (event.Feed bytes) = if p.ended then [] else step.Deliver (into side) (length bytes) ∷ []
+world_steps side p event.FeedEnd = step.Stop (into side) ∷ step.End (into side) ∷ []
 
 -- the first of these entries of a side came, and left more: its pipes and the steps so far, before and after
 abbrev pub Advances : Side → List Entry → List Entry → (to from to_new from_new : Pipe) → (done done_new : List Step) → Type 0
 Advances side xs more to from to_new from_new done done_new =
-    (x : Entry) × (xs ≡ x ∷ more) × Gets x.event x.reply from from_new × (to_new ≡ put x.event x.reply to) × (done_new ≡ done ++ steps_of side from x.event)
+    (x : Entry) × (xs ≡ x ∷ more) × Gets x.event x.reply from from_new × (to_new ≡ sent_into x.event x.reply to) × (done_new ≡ done ++ world_steps side from x.event)
 
 -- the first of these entries may not come now
 abbrev pub IsStuck : Pipe → List Entry → Type 0
@@ -67,10 +67,10 @@ abbrev pub IsJoint : List Bool → Pipe → Pipe → List Entry → List Entry �
 IsJoint [] ab ba xs ys steps = (xs ≡ []) × (ys ≡ []) × (steps ≡ [])
 IsJoint (true ∷ turns) ab ba xs ys steps =
     (x : Entry) × (more : List Entry) × (q : Pipe) × (rest : List Step) × (xs ≡ x ∷ more) × Gets x.event x.reply ba q
-    × (steps ≡ steps_of A ba x.event ++ rest) × IsJoint turns (put x.event x.reply ab) q more ys rest
+    × (steps ≡ world_steps A ba x.event ++ rest) × IsJoint turns (sent_into x.event x.reply ab) q more ys rest
 IsJoint (false ∷ turns) ab ba xs ys steps =
     (y : Entry) × (more : List Entry) × (q : Pipe) × (rest : List Step) × (ys ≡ y ∷ more) × Gets y.event y.reply ab q
-    × (steps ≡ steps_of B ab y.event ++ rest) × IsJoint turns q (put y.event y.reply ba) xs more rest
+    × (steps ≡ world_steps B ab y.event ++ rest) × IsJoint turns q (sent_into y.event y.reply ba) xs more rest
 
 -- a joint order from two new pipes
 abbrev pub IsJointOrder : List Entry → List Entry → List Step → Type 0

@@ -27,37 +27,37 @@ answers_of ended (event.Feed bytes) told = if ended then [] else answer_of told 
 answers_of ended event.FeedEnd told = answer.Done ∷ answer.Done ∷ []
 
 -- whether a side's input has ended, behind this event
-abbrev pub ended_by : (ended : Bool) → Event → Bool
-ended_by ended (event.Call c) = ended
-ended_by ended (event.Emit n) = ended
-ended_by ended (event.Feed bytes) = ended
-ended_by ended event.FeedEnd = true
+abbrev pub is_ended_behind : (ended : Bool) → Event → Bool
+is_ended_behind ended (event.Call c) = ended
+is_ended_behind ended (event.Emit n) = ended
+is_ended_behind ended (event.Feed bytes) = ended
+is_ended_behind ended event.FeedEnd = true
 
 -- The replies of A's and B's entries, taken by turns (true: A's next), as the world's answers.
 abbrev pub told_from : List Bool → (ended_a ended_b : Bool) → List Entry → List Entry → List Answer
 told_from [] ended_a ended_b xs ys = []
 told_from (true ∷ turns) ended_a ended_b [] ys = []
 told_from (true ∷ turns) ended_a ended_b (x ∷ xs) ys =
-    answers_of ended_a x.event x.reply ++ told_from turns (ended_by ended_a x.event) ended_b xs ys
+    answers_of ended_a x.event x.reply ++ told_from turns (is_ended_behind ended_a x.event) ended_b xs ys
 told_from (false ∷ turns) ended_a ended_b xs [] = []
 told_from (false ∷ turns) ended_a ended_b xs (y ∷ ys) =
-    answers_of ended_b y.event y.reply ++ told_from turns ended_a (ended_by ended_b y.event) xs ys
+    answers_of ended_b y.event y.reply ++ told_from turns ended_a (is_ended_behind ended_b y.event) xs ys
 
 abbrev pub told : List Bool → List Entry → List Entry → List Answer
 told turns xs ys = told_from turns false false xs ys
 
 -- two sessions with nothing on its way between them
-abbrev pub joined : Session → Session → World
-joined a b = record { a = a; b = b; ab = new_pipe; ba = new_pipe }
+abbrev pub fresh_world : Session → Session → World
+fresh_world a b = record { a = a; b = b; ab = new_pipe; ba = new_pipe }
 
 -- The world of the sessions a and b has a run over these steps that answers so and leads to the sessions s
 -- and t; and so has each queue machine that agrees with it at the start.
 pub record RunsBetween (may : Choice → Session → Bool) (steps : List Step) (answers : List Answer) (a b s t : Session) : Type 0 where
   pub world : World
-  pub runs : Runs may steps answers (joined a b) world
+  pub runs : Runs may steps answers (fresh_world a b) world
   pub side_a : world.a ≡ s
   pub side_b : world.b ≡ t
-  pub machine : (m : Machine) → Agrees (joined a b) m → HasRun may steps answers (joined a b) world m
+  pub machine : (m : Machine) → Agrees (fresh_world a b) m → HasRun may steps answers (fresh_world a b) world m
 
 -- Where A's entries replay from the session a to s, and B's from b to t, their replies in any joint order with
 -- these steps are the answers of such a run.

@@ -80,9 +80,9 @@ is_taken_at None = false
 is_taken_at (Some e) = not (is_offered e.phase)
 
 -- a frame begun that is a stream's is of a record that is there
-abbrev pub IsBegunWithin : (of : Option ℕ) → List (ℕ × End) → Type 0
-IsBegunWithin None entries = Unit
-IsBegunWithin (Some id) entries = is_taken_at (look id entries) ≡ true
+abbrev pub HasBegunRecord : (of : Option ℕ) → List (ℕ × End) → Type 0
+HasBegunRecord None entries = Unit
+HasBegunRecord (Some id) entries = is_taken_at (look id entries) ≡ true
 
 -- At least one byte of a payload lacks. What lacks was granted, where it is taken; and an own stream was
 -- opened before.
@@ -124,6 +124,6 @@ pub record IsWithin (s : Session) : Type 0 where
   pub offered : IsOfferedWithin s.offered s.table.entries
   pub pings : IsPingsWithin s.pings
   pub answers : IsAnswersWithin s.answers s.incoming
-  pub outgoing : IsBegunWithin s.outgoing.of s.table.entries
+  pub outgoing : HasBegunRecord s.outgoing.of s.table.entries
   pub incoming : IsIncomingWithin s.incoming s.role s.next s.table.entries
   pub next : IsNextWithin s.role s.next s.table.entries

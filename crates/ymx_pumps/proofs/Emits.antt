@@ -19,7 +19,7 @@ use Rattle.ymx_hub.proofs.Waits.{gains_none, gains_on, gains_weaker}
 use Rattle.ymx_pumps.specs.declared.pump_end.PumpWhy.{PumpWhy}
 use Rattle.ymx_pumps.specs.declared.pump_end.PumpWhy.TheVariants.{End, Device, Broken, Memory, Gate}
 use Rattle.ymx_pumps.specs.declared.pump_end.Stop.{Stop}
-use Rattle.ymx_pumps.specs.Pumps.{counted, IsEmit, AreEmits, IsWritten, EndsWrite, WriteAdds, PumpWrote}
+use Rattle.ymx_pumps.specs.Pumps.{byte_count, IsEmit, AreEmits, IsWritten, EndsWrite, WriteAdds, PumpWrote}
 use Rattle.ymx_pumps.specs.Turns.{Pushed, SaysEnd, TurnWrote}
 use Rattle.ymx_pumps.proofs.Counts.{fails_once, counted_on, counted_none}
 
@@ -150,7 +150,7 @@ pub record Written (keeps : Bool) (size seat fails failed : ℕ) (before after :
   pub written : List ℕ
   pub failures : failed ≡ fails
   pub took : Appends before after written
-  pub amount : moved ≡ counted written
+  pub amount : moved ≡ byte_count written
   pub booked : Gains keeps old new (AreEmits size seat written)
 
 pub written_none : (keeps : Bool) (size seat fails : ℕ) (before : Option (List ℕ)) (old : List Entry) → Written keeps size seat fails fails before before old old 0

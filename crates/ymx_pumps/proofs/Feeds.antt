@@ -17,7 +17,7 @@ use Rattle.ymx_hub.proofs.Waits.{gains_none, gains_on, gains_weaker}
 use Rattle.ymx_pumps.specs.declared.pump_end.PumpWhy.{PumpWhy}
 use Rattle.ymx_pumps.specs.declared.pump_end.PumpWhy.TheVariants.{End, Device, Broken, Memory, Gate}
 use Rattle.ymx_pumps.specs.declared.pump_end.Stop.{Stop}
-use Rattle.ymx_pumps.specs.Pumps.{counted, IsFeed, AreFeeds, IsLeft, EndsRead, ReadAdds, PumpRead}
+use Rattle.ymx_pumps.specs.Pumps.{byte_count, IsFeed, AreFeeds, IsLeft, EndsRead, ReadAdds, PumpRead}
 use Rattle.ymx_pumps.specs.Turns.{IsInside, SaysEnd, FeedsFirst, TurnFed, FedAll, TurnRead}
 use Rattle.ymx_pumps.proofs.Counts.{counted_on, counted_none}
 
@@ -196,7 +196,7 @@ pub record AllFed (keeps : Bool) (seat fails failed : ℕ) (before after : Optio
   pub given : List ℕ
   pub failures : failed ≡ fails
   pub gave : Consumes before after given
-  pub amount : moved ≡ counted given
+  pub amount : moved ≡ byte_count given
   pub booked : Gains keeps old new (AreFeeds seat given given [])
 
 pub fed_nothing : (keeps : Bool) (seat fails : ℕ) (before : Option (List ℕ)) (old : List Entry) → AllFed keeps seat fails fails before before old old 0

@@ -10,8 +10,8 @@ use Rattle.ymx_pumps.specs.declared.pump_end.PumpWhy.{PumpWhy}
 use Rattle.ymx_pumps.specs.declared.pump_end.PumpWhy.TheVariants.{End, Device}
 
 -- a count of bytes stays at the greatest u64
-abbrev pub counted : List ℕ → ℕ
-counted bytes = min (length bytes) (2 ^ 64 - 1)
+abbrev pub byte_count : List ℕ → ℕ
+byte_count bytes = min (length bytes) (2 ^ 64 - 1)
 
 -- ---- the write pump
 
@@ -51,7 +51,7 @@ pub record WriteAdds (size seat : ℕ) (failed : Bool) (written : List ℕ) (why
 pub record PumpWrote (keeps : Bool) (size seat : ℕ) (failed : Bool) (before after : Option (List ℕ)) (old new : List Entry) (moved : ℕ) (why : PumpWhy) : Type 0 where
   pub written : List ℕ
   pub took : Appends before after written
-  pub amount : moved ≡ counted written
+  pub amount : moved ≡ byte_count written
   pub booked : Gains keeps old new (WriteAdds size seat failed written why)
 
 -- ---- the read pump
@@ -102,5 +102,5 @@ pub record PumpRead (keeps : Bool) (seat : ℕ) (before after : Option (List ℕ
   pub gave : Consumes before after given
   pub parts : given ≡ taken ++ last
   pub whole : IsLeft why last
-  pub amount : moved ≡ counted taken
+  pub amount : moved ≡ byte_count taken
   pub booked : Gains keeps old new (ReadAdds seat given taken last why)

@@ -9,7 +9,7 @@ use Rattle.ymx_script.specs.Printing.{error_line}
 use Rattle.ymx_script.specs.Scripts.{Place, IsBad, PrintsFront}
 use Rattle.ymx_script.specs.Scripts.IsBad.{TooLong, Mistaken, LastMistaken}
 use Rattle.ymx_script.specs.Reading.{IsAtMistake}
-use Rattle.ymx_script.specs.Outputs.{Prints, PrintsPart, Tells}
+use Rattle.ymx_script.specs.Outputs.{PrintsByEnd, PrintsBeginning, Tells}
 
 pub starts_itself : (text : List ℕ) → StartsWith text text
 starts_itself text = grind (arith, common_steps)
@@ -32,12 +32,12 @@ mistake_if text done ended other l f h = record {
 }
 
 -- what is printed of the first lines is a part of it
-pub front_part : (text output : List ℕ) (ended : Type 0) → PrintsFront text output → PrintsPart text ended output
+pub front_part : (text output : List ℕ) (ended : Type 0) → PrintsFront text output → PrintsBeginning text ended output
 front_part text output ended h = (output, inl h, starts_itself output)
 
 -- the line of a mistake is told
 pub tells : (text done : List ℕ) (ended : Type 0) (mid new : Lines) (e : ScriptEnd) → Tells mid new e → IsAtMistake text done ended mid →
-    Prints text ended e (done ++ new.player.text.items)
+    PrintsByEnd text ended e (done ++ new.player.text.items)
 tells text done ended mid new (Line number) t h = record {
   before = h.before;
   bytes = h.bytes;
@@ -52,7 +52,7 @@ tells text done ended mid new (Line number) t h = record {
 }
 tells text done ended mid new Memory t h =
     let front : PrintsFront text (done ++ mid.player.text.items) = record { before = h.before; after = h.bytes ++ h.after; p = h.p; whole = h.whole; plays = h.plays } in
-    subst (λ (zs : List ℕ). PrintsPart text ended (done ++ zs)) (sym t) (front_part text (done ++ mid.player.text.items) ended front)
+    subst (λ (zs : List ℕ). PrintsBeginning text ended (done ++ zs)) (sym t) (front_part text (done ++ mid.player.text.items) ended front)
 tells text done ended mid new Good t h = absurd t
 tells text done ended mid new Reading t h = absurd t
 tells text done ended mid new Writing t h = absurd t

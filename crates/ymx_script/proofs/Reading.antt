@@ -6,7 +6,7 @@ use Rattle.ymx_script.specs.declared.lines.Lines.{Lines}
 use Rattle.ymx_script.specs.declared.player.Player.{Player}
 use Rattle.ymx_script.specs.Language.{command}
 use Rattle.ymx_script.specs.Players.{place_of}
-use Rattle.ymx_script.specs.Scripts.{EndsLine, Place, IsPlayed, Plays, PrintsAll, last_line, start, with_feeds, line_number, has_feed, longest, is_mistake}
+use Rattle.ymx_script.specs.Scripts.{EndsLine, Place, IsPlayed, Plays, PrintsWhole, last_line, first_place, with_feeds, line_number, has_feed, longest, is_mistake}
 use Rattle.ymx_script.specs.Scripts.IsBad.{TooLong, Mistaken}
 use Rattle.ymx_script.specs.Reading.{IsReading, IsAtMistake, IsFront}
 use Rattle.ymx_script.proofs.Feeds.{one_of_parts}
@@ -37,7 +37,7 @@ more_of_line text done piece part old new is_part now player number one short r 
     whole = ap (λ (zs : List ℕ). zs ++ piece) r.played.whole ∙ append_assoc (with_feeds r.before) old.part.items piece ∙ ap (λ (zs : List ℕ). with_feeds r.before ++ zs) (sym is_part ∙ sym now);
     one = subst (λ (zs : List ℕ). has_feed zs ≡ false) (sym is_part ∙ sym now) (one_of_parts old.part.items piece r.played.one one);
     short = subst (λ (zs : List ℕ). length zs ≤ longest) (sym now) short;
-    plays = subst (λ (z : Player). Plays r.before start (done ++ z.text.items) (place_of z)) (sym player) r.played.plays;
+    plays = subst (λ (z : Player). Plays r.before first_place (done ++ z.text.items) (place_of z)) (sym player) r.played.plays;
   };
   numbered = number ∙ r.numbered;
 }
@@ -51,7 +51,7 @@ too_long text done piece more part old new is_part player number one long r = re
   after = more;
   p = place_of new.player;
   whole = ap (λ (zs : List ℕ). zs ++ (piece ++ more)) r.played.whole ∙ grind (arith, common_steps);
-  plays = subst (λ (z : Player). Plays r.before start (done ++ z.text.items) (place_of z)) (sym player) r.played.plays;
+  plays = subst (λ (z : Player). Plays r.before first_place (done ++ z.text.items) (place_of z)) (sym player) r.played.plays;
   bad = TooLong (subst (λ (zs : List ℕ). has_feed zs ≡ false) (sym is_part) (one_of_parts old.part.items piece r.played.one one)) long;
   numbered = number ∙ r.numbered;
 }
@@ -63,7 +63,7 @@ front_of text done more old new same r = record {
   after = old.part.items ++ more;
   p = place_of old.player;
   whole = ap (λ (zs : List ℕ). zs ++ more) r.played.whole ∙ append_assoc (with_feeds r.before) old.part.items more;
-  plays = subst (λ (zs : List ℕ). Plays r.before start (done ++ zs) (place_of old.player)) (sym same) r.played.plays;
+  plays = subst (λ (zs : List ℕ). Plays r.before first_place (done ++ zs) (place_of old.player)) (sym same) r.played.plays;
 }
 
 -- the line has ended
@@ -72,8 +72,8 @@ pub line_ends : (text done now : List ℕ) (old new : Lines) → new.part.items 
     IsReading text done old → IsReading (text ++ 10 ∷ []) done new
 line_ends text done now old new none number played printed r =
     let before = r.before ++ old.part.items ∷ [] in
-    let plays : Plays before start ((done ++ old.player.text.items) ++ now) (place_of new.player) =
-    plays_more r.before old.part.items start (place_of old.player) (place_of new.player) (done ++ old.player.text.items) now r.played.plays played in
+    let plays : Plays before first_place ((done ++ old.player.text.items) ++ now) (place_of new.player) =
+    plays_more r.before old.part.items first_place (place_of old.player) (place_of new.player) (done ++ old.player.text.items) now r.played.plays played in
     let out : (done ++ old.player.text.items) ++ now ≡ done ++ new.player.text.items =
     append_assoc done old.player.text.items now ∙ ap (λ (zs : List ℕ). done ++ zs) (sym printed) in
     let text_is : text ++ 10 ∷ [] ≡ with_feeds before ++ [] =
@@ -85,7 +85,7 @@ line_ends text done now old new none number played printed r =
         whole = text_is ∙ ap (λ (zs : List ℕ). with_feeds before ++ zs) (sym none);
         one = subst (λ (zs : List ℕ). has_feed zs ≡ false) (sym none) refl;
         short = subst (λ (zs : List ℕ). length zs ≤ longest) (sym none) (omega arith);
-        plays = subst (λ (zs : List ℕ). Plays before start zs (place_of new.player)) out plays;
+        plays = subst (λ (zs : List ℕ). Plays before first_place zs (place_of new.player)) out plays;
       };
       numbered = number ∙ ap (λ n. min (n + 1) (2 ^ 64 - 1)) r.numbered ∙ sym (number_more r.before old.part.items);
     }
@@ -99,7 +99,7 @@ line_mistaken text done more old new number mistake same r = record {
   after = 10 ∷ more;
   p = place_of old.player;
   whole = ap (λ (zs : List ℕ). zs ++ 10 ∷ more) r.played.whole ∙ append_assoc (with_feeds r.before) old.part.items (10 ∷ more);
-  plays = subst (λ (zs : List ℕ). Plays r.before start (done ++ zs) (place_of old.player)) (sym same) r.played.plays;
+  plays = subst (λ (zs : List ℕ). Plays r.before first_place (done ++ zs) (place_of old.player)) (sym same) r.played.plays;
   bad = Mistaken r.played.one mistake more refl;
   numbered = number ∙ r.numbered;
 }
@@ -162,14 +162,14 @@ next_err (Err e) bytes end old mid new ends goes f =
 
 -- ---- the end of the text
 
-pub all_without_last : (text done : List ℕ) (l : Lines) → l.part.items ≡ [] → IsReading text done l → PrintsAll text (done ++ l.player.text.items)
+pub all_without_last : (text done : List ℕ) (l : Lines) → l.part.items ≡ [] → IsReading text done l → PrintsWhole text (done ++ l.player.text.items)
 all_without_last text done l none r = (
   r.before,
   [],
   place_of l.player,
   r.played.whole ∙ ap (λ (zs : List ℕ). with_feeds r.before ++ zs) none,
   refl,
-  subst (λ (zs : List (List ℕ)). Plays zs start (done ++ l.player.text.items) (place_of l.player)) (grind (arith, common_steps)) r.played.plays,
+  subst (λ (zs : List (List ℕ)). Plays zs first_place (done ++ l.player.text.items) (place_of l.player)) (grind (arith, common_steps)) r.played.plays,
 )
 
 last_is : (part : List ℕ) → 0 < length part → last_line part ≡ part ∷ []
@@ -177,7 +177,7 @@ last_is [] h = absurd (omega (arith, h))
 last_is (b ∷ bs) h = refl
 
 pub all_with_last : (text done now : List ℕ) (old : Lines) (new : Player) → 0 < length old.part.items → IsPlayed old.part.items (place_of old.player) now (place_of new) →
-    new.text.items ≡ old.player.text.items ++ now → IsReading text done old → PrintsAll text (done ++ new.text.items)
+    new.text.items ≡ old.player.text.items ++ now → IsReading text done old → PrintsWhole text (done ++ new.text.items)
 all_with_last text done now old new some played printed r =
     let out : (done ++ old.player.text.items) ++ now ≡ done ++ new.text.items =
     append_assoc done old.player.text.items now ∙ ap (λ (zs : List ℕ). done ++ zs) (sym printed) in (
@@ -186,14 +186,14 @@ all_with_last text done now old new some played printed r =
       place_of new,
       r.played.whole,
       r.played.one,
-      subst (λ (zs : List (List ℕ)). Plays (r.before ++ zs) start (done ++ new.text.items) (place_of new)) (sym (last_is old.part.items some))
-          (subst (λ (zs : List ℕ). Plays (r.before ++ old.part.items ∷ []) start zs (place_of new)) out
-          (plays_more r.before old.part.items start (place_of old.player) (place_of new) (done ++ old.player.text.items) now r.played.plays played)),
+      subst (λ (zs : List (List ℕ)). Plays (r.before ++ zs) first_place (done ++ new.text.items) (place_of new)) (sym (last_is old.part.items some))
+          (subst (λ (zs : List ℕ). Plays (r.before ++ old.part.items ∷ []) first_place zs (place_of new)) out
+          (plays_more r.before old.part.items first_place (place_of old.player) (place_of new) (done ++ old.player.text.items) now r.played.plays played)),
     )
 
 pub all_if_last : (result : Result Bool AllocError) (old : Lines) (new : Player) (line : List ℕ) → line ≡ old.part.items → 0 < length old.part.items →
     IfOk result (λ good. good ≡ true → (now : List ℕ) × IsPlayed line (place_of old.player) now (place_of new) × (new.text.items ≡ old.player.text.items ++ now)) →
-    IfOk result (λ good. good ≡ true → (text done : List ℕ) → IsReading text done old → PrintsAll text (done ++ new.text.items))
+    IfOk result (λ good. good ≡ true → (text done : List ℕ) → IsReading text done old → PrintsWhole text (done ++ new.text.items))
 all_if_last (Ok good) old new line is some f = λ yes text done r.
     let h = f yes in
     all_with_last text done h.0 old new some (subst (λ (zs : List ℕ). IsPlayed zs (place_of old.player) h.0 (place_of new)) is h.1) h.2 r

@@ -10,17 +10,17 @@ use Rattle.ymx_script.specs.declared.lines.Lines.{Lines}
 use Rattle.ymx_script.specs.declared.lines.ScriptEnd.{ScriptEnd}
 use Rattle.ymx_script.specs.declared.lines.ScriptEnd.TheVariants.{Good, Line, Reading, Writing, Memory}
 use Rattle.ymx_model.specs.devices.Devices.{has_failed}
-use Rattle.ymx_script.specs.Outputs.{IsOwnEnd, Leaves, Prints, PrintsPart, PrintsSome}
+use Rattle.ymx_script.specs.Outputs.{BlamesNoDevice, Leaves, PrintsByEnd, PrintsBeginning, PrintsSome}
 use Rattle.ymx_script.specs.Players.{place_of}
 use Rattle.ymx_script.specs.Rounds.{HasEnded, HasRun}
 use Rattle.ymx_script.specs.Reading.{IsReading}
-use Rattle.ymx_script.specs.Scripts.{Place, Plays, PrintsFront, PrintsMistake, IsPart, start, with_feeds, has_feed, longest}
+use Rattle.ymx_script.specs.Scripts.{Place, Plays, PrintsFront, PrintsMistake, IsPart, first_place, with_feeds, has_feed, longest}
 use Rattle.ymx_script.proofs.Ends.{bad_if, front_part}
 
 -- ---- before anything is read
 
-pub nothing_printed_of_nothing : (ended : Type 0) → PrintsPart [] ended []
-nothing_printed_of_nothing ended = front_part [] [] ended (record { before = []; after = []; p = start; whole = refl; plays = (refl, refl) })
+pub nothing_printed_of_nothing : (ended : Type 0) → PrintsBeginning [] ended []
+nothing_printed_of_nothing ended = front_part [] [] ended (record { before = []; after = []; p = first_place; whole = refl; plays = (refl, refl) })
 
 -- ---- a beginning of what would be printed
 
@@ -31,11 +31,11 @@ starts_more (x ∷ done) full part s = ap (λ (l : List ℕ). x ∷ l) (starts_m
 starts_through : (full middle part : List ℕ) → StartsWith full middle → StartsWith middle part → StartsWith full part
 starts_through full middle part p q = grind (arith, common_steps)
 
-part_short : (text output short : List ℕ) (ended : Type 0) → PrintsPart text ended output → StartsWith output short → PrintsPart text ended short
+part_short : (text output short : List ℕ) (ended : Type 0) → PrintsBeginning text ended output → StartsWith output short → PrintsBeginning text ended short
 part_short text output short ended (full, printed, starts) s = (full, printed, starts_through full output short starts s)
 
 -- what is printed of a text at its end, as far as a writer took it before it failed
-cut_short : (text output short : List ℕ) (ended : Type 0) (e : ScriptEnd) → Prints text ended e output → StartsWith output short → PrintsPart text ended short
+cut_short : (text output short : List ℕ) (ended : Type 0) (e : ScriptEnd) → PrintsByEnd text ended e output → StartsWith output short → PrintsBeginning text ended short
 cut_short text output short ended Good h s = (output, inr (inl h), s)
 cut_short text output short ended (Line number) h s = (output, inr (inr (number, h)), s)
 cut_short text output short ended Reading h s = part_short text output short ended h s
@@ -61,10 +61,10 @@ some_if text output ended other f (inl h) = inl h
 some_if text output ended other f (inr (inl h)) = inr (inl (f h.0, h.1))
 some_if text output ended other f (inr (inr h)) = inr (inr (h.0, mistake_of text h.0 output ended other f h.1))
 
-part_if : (text output : List ℕ) (ended other : Type 0) → (ended → other) → PrintsPart text ended output → PrintsPart text other output
+part_if : (text output : List ℕ) (ended other : Type 0) → (ended → other) → PrintsBeginning text ended output → PrintsBeginning text other output
 part_if text output ended other f (full, printed, starts) = (full, some_if text full ended other f printed, starts)
 
-prints_if : (text output : List ℕ) (ended other : Type 0) (e : ScriptEnd) → (ended → other) → Prints text ended e output → Prints text other e output
+prints_if : (text output : List ℕ) (ended other : Type 0) (e : ScriptEnd) → (ended → other) → PrintsByEnd text ended e output → PrintsByEnd text other e output
 prints_if text output ended other Good f h = (f h.0, h.1)
 prints_if text output ended other (Line number) f h = mistake_of text number output ended other f h
 prints_if text output ended other Reading f h = part_if text output ended other f h
@@ -76,7 +76,7 @@ reading_front : (text done : List ℕ) (l : Lines) → IsReading text done l →
 reading_front text done l r = record { before = r.before; after = l.part.items; p = place_of l.player; whole = r.played.whole; plays = r.played.plays }
 
 left_short : (text piece done part : List ℕ) (l : Lines) (end : Option ScriptEnd) (ended : Type 0) → (piece ≡ [] → ended) → Leaves text piece done l end → StartsWith l.player.text.items part →
-    PrintsPart (text ++ piece) ended (done ++ part)
+    PrintsBeginning (text ++ piece) ended (done ++ part)
 left_short text piece done part l None ended f r s =
     (done ++ l.player.text.items, inl (reading_front (text ++ piece) done l r), starts_more done l.player.text.items part s)
 left_short text piece done part l (Some e) ended f h s =
@@ -89,15 +89,15 @@ pub written : (text done : List ℕ) (old new : Lines) → place_of new.player �
 written text done old new place none part number r =
     let out : done ++ old.player.text.items ≡ (done ++ old.player.text.items) ++ new.player.text.items =
     sym (append-nil (done ++ old.player.text.items)) ∙ ap (λ (zs : List ℕ). (done ++ old.player.text.items) ++ zs) (sym none) in
-    let plays : Plays r.before start ((done ++ old.player.text.items) ++ new.player.text.items) (place_of old.player) =
-    subst (λ (zs : List ℕ). Plays r.before start zs (place_of old.player)) out r.played.plays in
+    let plays : Plays r.before first_place ((done ++ old.player.text.items) ++ new.player.text.items) (place_of old.player) =
+    subst (λ (zs : List ℕ). Plays r.before first_place zs (place_of old.player)) out r.played.plays in
     record {
       before = r.before;
       played = record {
         whole = r.played.whole ∙ ap (λ (zs : List ℕ). with_feeds r.before ++ zs) (sym part);
         one = subst (λ (zs : List ℕ). has_feed zs ≡ false) (sym part) r.played.one;
         short = subst (λ (zs : List ℕ). length zs ≤ longest) (sym part) r.played.short;
-        plays = subst (λ (z : Place). Plays r.before start ((done ++ old.player.text.items) ++ new.player.text.items) z) (sym place) plays;
+        plays = subst (λ (z : Place). Plays r.before first_place ((done ++ old.player.text.items) ++ new.player.text.items) z) (sym place) plays;
       };
       numbered = number ∙ r.numbered;
     }
@@ -124,7 +124,7 @@ starts_front xs ys = take-append_seam xs ys
 
 -- a read failed
 pub read_fails : (was is had has after : Option (List ℕ)) (read reads written writes : ℕ) (l : Lines) (ended : Type 0) → HasRun was is had has read reads written writes l → Keeps is after →
-    (text : List ℕ) × (output : List ℕ) × Consumes was after text × Appends had has output × PrintsPart text ended output
+    (text : List ℕ) × (output : List ℕ) × Consumes was after text × Appends had has output × PrintsBeginning text ended output
 read_fails was is had has after read reads written writes l ended h kept = (
   h.text,
   h.done,
@@ -145,7 +145,7 @@ pub write_fails : (was is had has after then_has : Option (List ℕ)) (read read
     Consumes is after (take count buffer) × (count ≡ 0 → 0 < length buffer → IsAtEnd after) → count ≤ length buffer → 0 < length buffer →
     ((text done : List ℕ) → IsReading text done l → Leaves text (take count buffer) done m end) → lines ≡ m.player.text.items →
     (part : List ℕ) × StartsWith lines part × Appends has then_has part →
-    (text : List ℕ) × (output : List ℕ) × Consumes was after text × Appends had then_has output × PrintsPart text (IsAtEnd after) output
+    (text : List ℕ) × (output : List ℕ) × Consumes was after text × Appends had then_has output × PrintsBeginning text (IsAtEnd after) output
 write_fails was is had has after then_has read reads written writes count buffer lines l m end h (consumes, ended) fits some leaves same (part, starts, appends) = (
   h.text ++ take count buffer,
   h.done ++ part,
@@ -159,7 +159,7 @@ pub run_ends : (was is had has after then_has : Option (List ℕ)) (read reads w
     (h : HasRun was is had has read reads written writes l) →
     Consumes is after (take count buffer) × (count ≡ 0 → 0 < length buffer → IsAtEnd after) → count ≤ length buffer → 0 < length buffer →
     ((text done : List ℕ) → IsReading text done l → Leaves text (take count buffer) done m end) → end ≡ Some e → lines ≡ m.player.text.items → Appends has then_has lines →
-    (text : List ℕ) × (output : List ℕ) × Consumes was after text × Appends had then_has output × Prints text (IsAtEnd after) e output
+    (text : List ℕ) × (output : List ℕ) × Consumes was after text × Appends had then_has output × PrintsByEnd text (IsAtEnd after) e output
 run_ends was is had has after then_has read reads written writes count buffer lines l m end e h (consumes, ended) fits some leaves some_end same appends =
     let all = subst (Appends has then_has) same appends in (
       h.text ++ take count buffer,
@@ -196,14 +196,14 @@ if_not_failed (Err x) b P e t h = cc
 
 -- ---- who is blamed
 
-pub blames_none : (found : Option ScriptEnd) (e blamed : ScriptEnd) (P : Type 0) → IfSome found IsOwnEnd → found ≡ Some e → (IsOwnEnd blamed → ⊥) → e ≡ blamed → P
+pub blames_none : (found : Option ScriptEnd) (e blamed : ScriptEnd) (P : Type 0) → IfSome found BlamesNoDevice → found ≡ Some e → (BlamesNoDevice blamed → ⊥) → e ≡ blamed → P
 blames_none found e blamed P own is never same =
-    absurd (never (subst IsOwnEnd same (subst (λ (o : Option ScriptEnd). IfSome o IsOwnEnd) is own)))
+    absurd (never (subst BlamesNoDevice same (subst (λ (o : Option ScriptEnd). IfSome o BlamesNoDevice) is own)))
 
-pub reading_is_not_own : IsOwnEnd Reading → ⊥
+pub reading_is_not_own : BlamesNoDevice Reading → ⊥
 reading_is_not_own h = h
 
-pub writing_is_not_own : IsOwnEnd Writing → ⊥
+pub writing_is_not_own : BlamesNoDevice Writing → ⊥
 writing_is_not_own h = h
 
 pub never_both : (P : Type 0) → Reading ≡ Writing → P
@@ -239,7 +239,7 @@ ended_writing was is had has after then_has read reads reads' written writes wri
 
 pub ended_itself : (was is had has after then_has : Option (List ℕ)) (read reads reads' written writes writes' count : ℕ) (buffer lines : List ℕ) (l m : Lines) (found : Option ScriptEnd) (e : ScriptEnd) →
     Consumes is after (take count buffer) × (count ≡ 0 → 0 < length buffer → IsAtEnd after) → count ≤ length buffer → 0 < length buffer →
-    ((text done : List ℕ) → IsReading text done l → Leaves text (take count buffer) done m found) → IfSome found IsOwnEnd → found ≡ Some e → lines ≡ m.player.text.items →
+    ((text done : List ℕ) → IsReading text done l → Leaves text (take count buffer) done m found) → IfSome found BlamesNoDevice → found ≡ Some e → lines ≡ m.player.text.items →
     Appends has then_has lines → reads' ≡ reads → writes' ≡ writes →
     HasRun was is had has read reads written writes l → HasEnded was after had then_has read reads' written writes' e
 ended_itself was is had has after then_has read reads reads' written writes writes' count buffer lines l m found e moved fits some leaves own is_e same appends kept written_same h = record {

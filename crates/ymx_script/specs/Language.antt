@@ -5,7 +5,7 @@ use Rattle.ymx_model.specs.declared.types.Side.{Side}
 use Rattle.ymx_model.specs.declared.types.Step.TheVariants.{At, Emit, Deliver, Stop, End}
 use Rattle.ymx_script.specs.declared.command.Command.{Command}
 use Rattle.ymx_script.specs.declared.command.Command.TheVariants.{Nothing, First, Window, Do, Skip, Quiet, Due, Show}
-use Rattle.ymx_script.specs.Words.{words, is, side, direction, number, count, payload}
+use Rattle.ymx_script.specs.Words.{words, is, side, direction, number, count, payload_word}
 
 -- where the first is there, the second
 infixl 10 ◌>>=◌
@@ -52,7 +52,7 @@ numbered_call s verb word =
 -- a side and a call with one argument
 abbrev pub call_of : Side → (verb word : List ℕ) → Option Command
 call_of s verb word =
-    if is (codes "openwith") verb then payload word >>= (λ bytes. Some (Do (At s (OpenWith bytes))))
+    if is (codes "openwith") verb then payload_word word >>= (λ bytes. Some (Do (At s (OpenWith bytes))))
     else numbered_call s verb word
 
 -- a line of three words that begins with no side
@@ -83,7 +83,7 @@ counted_call s verb id n =
 -- a side and a call that moves bytes of this stream
 abbrev pub moving_call : Side → (verb : List ℕ) → (id : ℕ) → (last : List ℕ) → Option Command
 moving_call s verb id last =
-    if is (codes "write") verb then payload last >>= (λ bytes. Some (Do (At s (Write id bytes))))
+    if is (codes "write") verb then payload_word last >>= (λ bytes. Some (Do (At s (Write id bytes))))
     else count last >>= (λ n. counted_call s verb id n)
 
 -- a line of four words

@@ -10,12 +10,12 @@ abbrev pub place_of : Player → Place
 place_of s = record { a = s.a; b = s.b; world = s.world }
 
 -- a command that asks something of the world
-abbrev pub asks : Command → Bool
-asks Nothing = false
-asks (First side n) = false
-asks (Window side n) = false
-asks (Do step) = true
-asks (Skip step) = true
-asks Quiet = true
-asks (Due side) = true
-asks (Show direction) = true
+abbrev pub asks_world : Command → Bool
+asks_world Nothing = false
+asks_world (First side n) = false
+asks_world (Window side n) = false
+asks_world (Do step) = true
+asks_world (Skip step) = true
+asks_world Quiet = true
+asks_world (Due side) = true
+asks_world (Show direction) = true

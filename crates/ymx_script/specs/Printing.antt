@@ -84,9 +84,9 @@ abbrev pub pipe_text : List ℕ → List ℕ
 pipe_text bytes = codes "pipe " ++ decimal (length bytes) ++ pipe_digits bytes
 
 -- a text as a line
-abbrev pub line : List ℕ → List ℕ
-line text = text ++ codes "\n"
+abbrev pub with_line_feed : List ℕ → List ℕ
+with_line_feed text = text ++ codes "\n"
 
 -- the line of a mistake, which stands in the line of this number
 abbrev pub error_line : ℕ → List ℕ
-error_line number = line (codes "error line " ++ decimal number)
+error_line number = with_line_feed (codes "error line " ++ decimal number)

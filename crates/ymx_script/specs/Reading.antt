@@ -2,7 +2,7 @@
 use Rattle.std.specs.Prelude.{◌≡◌, ℕ, List, ◌++◌}
 use Rattle.ymx_script.specs.declared.lines.Lines.{Lines}
 use Rattle.ymx_script.specs.Players.{place_of}
-use Rattle.ymx_script.specs.Scripts.{Place, HasPlayed, IsBad, Plays, PrintsFront, start, with_feeds, line_number}
+use Rattle.ymx_script.specs.Scripts.{Place, HasPlayed, IsBad, Plays, PrintsFront, first_place, with_feeds, line_number}
 
 -- Of this text the lines that have ended were played. What they print is `done` and what is kept to be written.
 pub record IsReading (text done : List ℕ) (l : Lines) : Type 0 where
@@ -17,7 +17,7 @@ pub record IsAtMistake (text done : List ℕ) (ended : Type 0) (l : Lines) : Typ
   pub after : List ℕ
   pub p : Place
   pub whole : text ≡ with_feeds before ++ (bytes ++ after)
-  pub plays : Plays before start (done ++ l.player.text.items) p
+  pub plays : Plays before first_place (done ++ l.player.text.items) p
   pub bad : IsBad bytes after p ended
   pub numbered : l.number ≡ line_number before
 

@@ -13,7 +13,7 @@ use Rattle.ymx_world.specs.Acts.{session_of, pipe_of}
 use Rattle.ymx_script.specs.declared.command.Command.{Command}
 use Rattle.ymx_script.specs.declared.command.Command.TheVariants.{Nothing, First, Window, Do, Skip, Quiet, Due, Show}
 use Rattle.ymx_script.specs.Language.{command}
-use Rattle.ymx_script.specs.Printing.{answer_text, yes_or_no, pipe_text, line, error_line}
+use Rattle.ymx_script.specs.Printing.{answer_text, yes_or_no, pipe_text, with_line_feed, error_line}
 
 -- A place in a script: the configs of both sides, and the world, once there is one.
 pub record Place : Type 0 where
@@ -25,8 +25,8 @@ abbrev pub first_config : Config
 first_config = record { window = 262144; first = 0 }
 
 -- where a script begins
-abbrev pub start : Place
-start = record { a = first_config; b = first_config; world = None }
+abbrev pub first_place : Place
+first_place = record { a = first_config; b = first_config; world = None }
 
 abbrev pub world_or_new : Config → Config → Option World → World
 world_or_new a b None = new_world a.window (first_id Client a.first) b.window (first_id Server b.first)
@@ -64,11 +64,11 @@ with_window side n p = unless_late p.world (with_config side (record (config_of 
 
 -- in the world w a command prints this and leads to v
 abbrev pub SaysIn : Command → World → List ℕ → World → Type 0
-SaysIn (Do step) w text v = (given : Answer) × Steps in_turn step given w v × (text ≡ line (answer_text true given))
-SaysIn (Skip step) w text v = (given : Answer) × Steps in_turn step given w v × (text ≡ line (answer_text false given))
-SaysIn Quiet w text v = (text ≡ line (codes "quiet " ++ yes_or_no (is_quiet w))) × (v ≡ w)
-SaysIn (Due side) w text v = (text ≡ line (codes "due " ++ yes_or_no (is_ready (session_of side w)))) × (v ≡ w)
-SaysIn (Show direction) w text v = (text ≡ line (pipe_text (pipe_of direction w).bytes)) × (v ≡ w)
+SaysIn (Do step) w text v = (given : Answer) × Steps in_turn step given w v × (text ≡ with_line_feed (answer_text true given))
+SaysIn (Skip step) w text v = (given : Answer) × Steps in_turn step given w v × (text ≡ with_line_feed (answer_text false given))
+SaysIn Quiet w text v = (text ≡ with_line_feed (codes "quiet " ++ yes_or_no (is_quiet w))) × (v ≡ w)
+SaysIn (Due side) w text v = (text ≡ with_line_feed (codes "due " ++ yes_or_no (is_ready (session_of side w)))) × (v ≡ w)
+SaysIn (Show direction) w text v = (text ≡ with_line_feed (pipe_text (pipe_of direction w).bytes)) × (v ≡ w)
 SaysIn Nothing w text v = ⊥
 SaysIn (First side n) w text v = ⊥
 SaysIn (Window side n) w text v = ⊥
@@ -145,7 +145,7 @@ pub record HasPlayed (text : List ℕ) (before : List (List ℕ)) (part : List �
   pub whole : text ≡ with_feeds before ++ part
   pub one : has_feed part ≡ false
   pub short : length part ≤ longest
-  pub plays : Plays before start output p
+  pub plays : Plays before first_place output p
 
 -- what has come of a line
 pub record IsPart (bytes : List ℕ) : Type 0 where
@@ -158,10 +158,10 @@ last_line [] = []
 last_line (b ∷ bs) = (b ∷ bs) ∷ []
 
 -- the lines of a text, the last of which may lack its line feed, print this
-abbrev pub PrintsAll : List ℕ → List ℕ → Type 0
-PrintsAll text output =
+abbrev pub PrintsWhole : List ℕ → List ℕ → Type 0
+PrintsWhole text output =
     (before : List (List ℕ)) × (part : List ℕ) × (p : Place) × (text ≡ with_feeds before ++ part) × (has_feed part ≡ false)
-    × Plays (before ++ last_line part) start output p
+    × Plays (before ++ last_line part) first_place output p
 
 -- Behind these lines stands one that is too long, or one that ends and is a mistake at the place p. `ended`: the text is all of the input.
 pub data IsBad (bytes after : List ℕ) (p : Place) (ended : Type 0) : Type 0 where
@@ -177,7 +177,7 @@ pub record PrintsMistake (text : List ℕ) (number : ℕ) (output : List ℕ) (e
   pub p : Place
   pub printed : List ℕ
   pub whole : text ≡ with_feeds before ++ (bytes ++ after)
-  pub plays : Plays before start printed p
+  pub plays : Plays before first_place printed p
   pub bad : IsBad bytes after p ended
   pub numbered : number ≡ line_number before
   pub told : output ≡ printed ++ error_line number
@@ -188,4 +188,4 @@ pub record PrintsFront (text output : List ℕ) : Type 0 where
   pub after : List ℕ
   pub p : Place
   pub whole : text ≡ with_feeds before ++ after
-  pub plays : Plays before start output p
+  pub plays : Plays before first_place output p

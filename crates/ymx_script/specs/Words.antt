@@ -48,5 +48,5 @@ abbrev pub count : List ℕ → Option ℕ
 count word = at_most 1000000 (number word)
 
 -- bytes: pairs of hexadecimal digits of either case; no bytes is `-`
-abbrev pub payload : List ℕ → Option (List ℕ)
-payload word = if is (codes "-") word then Some [] else if length word == 0 then None else result_ok (decode_of word)
+abbrev pub payload_word : List ℕ → Option (List ℕ)
+payload_word word = if is (codes "-") word then Some [] else if length word == 0 then None else result_ok (decode_of word)

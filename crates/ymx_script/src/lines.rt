@@ -1,9 +1,9 @@
 //! The lines of a script whose text comes in pieces.
 
 ghost use Rattle.std.specs.Prelude.{◌≡◌, ◌++◌, ◌∷◌, [], true, false, List, ℕ, take, IfOk, IfSome, OnErr};
-ghost use Rattle.ymx_script.specs.Outputs.{IsOwnEnd, Leaves, Tells};
+ghost use Rattle.ymx_script.specs.Outputs.{BlamesNoDevice, Leaves, Tells};
 ghost use Rattle.ymx_script.specs.Reading.{IsAtMistake, IsFront, IsReading};
-ghost use Rattle.ymx_script.specs.Scripts.{EndsLine, IsPart, PrintsAll, has_feed};
+ghost use Rattle.ymx_script.specs.Scripts.{EndsLine, IsPart, PrintsWhole, has_feed};
 
 use crate::player::{Player, feed_in};
 use crate::words::bytes_from;
@@ -118,7 +118,7 @@ impl Lines {
     /// mistake.
     fn finish(&mut self) -> Result<bool, AllocError>
         requires { IsPart self.old.part.items }
-        ensures good { IfOk result (λ good. good ≡ true → (text done : List ℕ) → IsReading text done self.old → PrintsAll text (done ++ self.new.player.text.items)) }
+        ensures good { IfOk result (λ good. good ≡ true → (text done : List ℕ) → IsReading text done self.old → PrintsWhole text (done ++ self.new.player.text.items)) }
         ensures bad { IfOk result (λ good. good ≡ false → (text done : List ℕ) → IsReading text done self.old → IsAtMistake text done (Unit {0}) self.new) }
         ensures err { OnErr result ((text done more : List ℕ) → IsReading text done self.old → IsFront (text ++ more) done self.new) }
     {
@@ -131,7 +131,7 @@ impl Lines {
     /// Appends the line of a mistake, which ends the script.
     fn tell_mistake(&mut self) -> ScriptEnd
         ensures told { Tells self.old self.new result }
-        ensures own { IsOwnEnd result }
+        ensures own { BlamesNoDevice result }
     {
         if self.player.append_error(self.number).is_err() {
             return ScriptEnd::Memory;
@@ -143,7 +143,7 @@ impl Lines {
     pub(crate) fn round(&mut self, piece: &[u8]) -> Option<ScriptEnd>
         requires { IsPart self.old.part.items }
         ensures leaves { (text done : List ℕ) → IsReading text done self.old → Leaves text piece.now done self.new result }
-        ensures own { IfSome result IsOwnEnd }
+        ensures own { IfSome result BlamesNoDevice }
     {
         if piece.is_empty() {
             return match self.finish() {

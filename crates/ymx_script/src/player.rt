@@ -8,9 +8,9 @@ ghost use Rattle.ymx_model.specs.session.Emissions.{in_turn};
 ghost use Rattle.ymx_model.specs.world.Worlds.{Steps};
 ghost use Rattle.ymx_session.specs.NewSessions.{new_fault};
 ghost use Rattle.ymx_script.specs.Language.{command};
-ghost use Rattle.ymx_script.specs.Printing.{error_line, line, yes_or_no, answer_text, pipe_text};
-ghost use Rattle.ymx_script.specs.Players.{place_of, asks};
-ghost use Rattle.ymx_script.specs.Scripts.{EndsLine, IsPlayed, Says, SaysAt, SaysIn, config_of, has_feed, is_bad_setting, is_mistake, longest, start, unless_late, with_config, world_or_new};
+ghost use Rattle.ymx_script.specs.Printing.{error_line, with_line_feed, yes_or_no, answer_text, pipe_text};
+ghost use Rattle.ymx_script.specs.Players.{place_of, asks_world};
+ghost use Rattle.ymx_script.specs.Scripts.{EndsLine, IsPlayed, Says, SaysAt, SaysIn, config_of, has_feed, is_bad_setting, is_mistake, longest, first_place, unless_late, with_config, world_or_new};
 
 use crate::command::{Command, command_of};
 use crate::printing::{append_answer, append_number, append_pipe, append_yes_or_no};
@@ -47,7 +47,7 @@ fn whole_or_none(
 ) -> Result<(), AllocError>
     ensures same { result ≡ appended }
     ensures ok { OnOk appended (text.new.items ≡ text.old.items) }
-    ensures err { OnErr appended (text.new.items ≡ take start text.old.items) }
+    ensures err { OnErr appended (text.new.items ≡ take first_place text.old.items) }
 {
     if appended.is_err() {
         text.truncate(start);
@@ -62,7 +62,7 @@ fn append_line(
     shown: bool,
     answer: &Answer,
 ) -> Result<(), AllocError>
-    ensures ok { OnOk result (text.new.items ≡ text.old.items ++ line (answer_text shown answer.now)) }
+    ensures ok { OnOk result (text.new.items ≡ text.old.items ++ with_line_feed (answer_text shown answer.now)) }
     ensures kept { StartsWith text.new.items text.old.items }
 {
     append_answer(alloc, text, shown, answer)?;
@@ -71,7 +71,7 @@ fn append_line(
 
 /// Appends a line of a word and a yes or no.
 fn append_test(text: &mut Vec<u8>, name: &[u8], yes: bool) -> Result<(), AllocError>
-    ensures ok { OnOk result (text.new.items ≡ text.old.items ++ line (name.now ++ yes_or_no yes)) }
+    ensures ok { OnOk result (text.new.items ≡ text.old.items ++ with_line_feed (name.now ++ yes_or_no yes)) }
     ensures kept { StartsWith text.new.items text.old.items }
 {
     text.extend_from_slice(name)?;
@@ -87,7 +87,7 @@ fn perform_step(
     shown: bool,
     step: &Step,
 ) -> Result<(), AllocError>
-    ensures ok { OnOk result ((given : AnswerValue) × Steps in_turn step.now given world.old world.new × (text.new.items ≡ text.old.items ++ line (answer_text shown given))) }
+    ensures ok { OnOk result ((given : AnswerValue) × Steps in_turn step.now given world.old world.new × (text.new.items ≡ text.old.items ++ with_line_feed (answer_text shown given))) }
     ensures kept { StartsWith text.new.items text.old.items }
 {
     let answer = world.step(step)?;
@@ -101,7 +101,7 @@ fn perform(
     text: &mut Vec<u8>,
     command: &Command,
 ) -> Result<(), AllocError>
-    requires { asks command.now ≡ true }
+    requires { asks_world command.now ≡ true }
     ensures ok { OnOk result ((now : List ℕ) × SaysIn command.now world.old now world.new × (text.new.items ≡ text.old.items ++ now)) }
     ensures kept { StartsWith text.new.items text.old.items }
 {
@@ -121,7 +121,7 @@ fn perform(
 impl Player {
     /// At the start of a script.
     pub(crate) fn new(alloc: Global) -> Player
-        ensures place { place_of result ≡ start }
+        ensures place { place_of result ≡ first_place }
         ensures text { result.text.items ≡ [] }
     {
         let config = Config {
@@ -192,7 +192,7 @@ impl Player {
     /// Does what a command asks of the world, which is made where it isn't there, and appends its line, or
     /// nothing where there is no memory.
     fn ask(&mut self, command: &Command) -> Result<(), AllocError>
-        requires { asks command.now ≡ true }
+        requires { asks_world command.now ≡ true }
         ensures ok { OnOk result ((now : List ℕ) × SaysAt command.now (place_of self.old) now (place_of self.new) × (self.new.text.items ≡ self.old.text.items ++ now)) }
         ensures err { OnErr result (self.new.text.items ≡ self.old.text.items) }
     {

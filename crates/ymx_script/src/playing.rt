@@ -3,7 +3,7 @@
 ghost use Rattle.std.specs.Prelude.{ℕ, List, Option, [], ◌≡◌, ◌<◌, ◌⊎◌, length, IsTrue, MatchOption};
 ghost use Rattle.std.specs.Io.KnownBytes.{Appends, Consumes, IsAtEnd};
 ghost use Rattle.ymx_model.specs.devices.Devices.{has_failed};
-ghost use Rattle.ymx_script.specs.Outputs.{Prints};
+ghost use Rattle.ymx_script.specs.Outputs.{PrintsByEnd};
 ghost use Rattle.ymx_script.specs.Reading.{IsReading};
 ghost use Rattle.ymx_script.specs.Rounds.{HasEnded, HasRun};
 ghost use Rattle.ymx_script.specs.Scripts.{IsPart};
@@ -32,7 +32,7 @@ pub fn script<R: Inlet, W: Outlet>(
     ensures printed { (text : List ℕ) × (output : List ℕ)
         × Consumes (R.remaining reader.old) (R.remaining reader.new) text
         × Appends (W.contents writer.old) (W.contents writer.new) output
-        × Prints text (IsAtEnd (R.remaining reader.new)) result output }
+        × PrintsByEnd text (IsAtEnd (R.remaining reader.new)) result output }
 
     // A device is blamed only if it failed, and one that failed is blamed.
     ensures reading { result ≡ ScriptEnd.Reading → IsTrue (has_failed (R.failures reader.old) (R.failures reader.new)) }

@@ -2,7 +2,7 @@
 
 ghost use Rattle.std.specs.Prelude.{◌≡◌, ◌≤◌, ◌==◌, ◌∷◌, [], length, drop, IfOk, MatchOption};
 ghost use Rattle.std.specs.List.{position};
-ghost use Rattle.ymx_script.specs.Words.{count, digits, direction, is, number, payload, side, words};
+ghost use Rattle.ymx_script.specs.Words.{count, digits, direction, is, number, payload_word, side, words};
 
 use hex::{FromHexError, decode};
 use std::alloc::{AllocError, Global};
@@ -141,7 +141,7 @@ pub(crate) fn count_of(word: &[u8]) -> Option<usize>
 
 /// Bytes: pairs of hexadecimal digits of either case; no bytes is `-`.
 pub(crate) fn payload_of(alloc: Global, word: &[u8]) -> Result<Option<Bytes>, AllocError>
-    ensures { IfOk result (λ found. found ≡ payload word.now) }
+    ensures { IfOk result (λ found. found ≡ payload_word word.now) }
 {
     if is(word, b"-") {
         return Ok(Some(Bytes::new(alloc)));

@@ -7,13 +7,13 @@ use Rattle.std.proofs.lemmas.List.Sums.{sum_by-cons}
 use Rattle.std.proofs.lemmas.List.Elements.{All-cons, All-nil, All-head, All-tail, All-push}
 use Rattle.ymx_model.specs.declared.types.Entry.{Entry}
 use Rattle.ymx_seats.specs.Views.{SeatView}
-use Rattle.ymx_seats.specs.Agrees.{part, NumberedFrom, RisesFrom, after_all, IsOwn, Agrees}
+use Rattle.ymx_seats.specs.Agrees.{part, NumberedFrom, RisesFrom, behind_all, IsOwn, Agrees}
 
-pub rises_more : (es : List Entry) (from : ℕ) (e : Entry) → RisesFrom from es → after_all from es ≤ e.position → RisesFrom from (es ++ e ∷ [])
+pub rises_more : (es : List Entry) (from : ℕ) (e : Entry) → RisesFrom from es → behind_all from es ≤ e.position → RisesFrom from (es ++ e ∷ [])
 rises_more [] from e r h = (h, tt)
 rises_more (x ∷ xs) from e r h = (r.0, rises_more xs (x.position + 1) e r.1 h)
 
-pub after_more : (es : List Entry) (from : ℕ) (e : Entry) → after_all from (es ++ e ∷ []) ≡ e.position + 1
+pub after_more : (es : List Entry) (from : ℕ) (e : Entry) → behind_all from (es ++ e ∷ []) ≡ e.position + 1
 after_more [] from e = refl
 after_more (x ∷ xs) from e = after_more xs (x.position + 1) e
 
@@ -122,11 +122,11 @@ pub numbered_on : (xs : List SeatView) (i : ℕ) (d : SeatView) → i < length x
 numbered_on xs i d h e n k =
     subst (NumberedFrom 0) (sym (more_seats xs i d h e)) (numbered_more (take i xs) 0 d n (k ∙ grind (arith, common_steps)))
 
-pub rises_on : (xs : List Entry) (i : ℕ) (d : Entry) (from : ℕ) → i < length xs → d ≡ get_or xs i d → RisesFrom from (take i xs) → after_all from (take i xs) ≤ d.position → RisesFrom from (take (i + 1) xs)
+pub rises_on : (xs : List Entry) (i : ℕ) (d : Entry) (from : ℕ) → i < length xs → d ≡ get_or xs i d → RisesFrom from (take i xs) → behind_all from (take i xs) ≤ d.position → RisesFrom from (take (i + 1) xs)
 rises_on xs i d from h e r k = subst (RisesFrom from) (sym (more_entries xs i d h e)) (rises_more (take i xs) from d r k)
 
-pub after_on : (xs : List Entry) (i : ℕ) (d : Entry) (from : ℕ) → i < length xs → d ≡ get_or xs i d → d.position + 1 ≡ after_all from (take (i + 1) xs)
-after_on xs i d from h e = sym (ap (after_all from) (more_entries xs i d h e) ∙ after_more (take i xs) from d)
+pub after_on : (xs : List Entry) (i : ℕ) (d : Entry) (from : ℕ) → i < length xs → d ≡ get_or xs i d → d.position + 1 ≡ behind_all from (take (i + 1) xs)
+after_on xs i d from h e = sym (ap (behind_all from) (more_entries xs i d h e) ∙ after_more (take i xs) from d)
 
 pub parts_on : (xs : List SeatView) (es : List Entry) (i : ℕ) (d : SeatView) → i < length xs → d ≡ get_or xs i d → All (λ s. s.entries ≡ part s.number es) (take i xs) → d.entries ≡ part d.number es → All (λ s. s.entries ≡ part s.number es) (take (i + 1) xs)
 parts_on xs es i d h e a p = subst (All (λ s. s.entries ≡ part s.number es)) (sym (more_seats xs i d h e)) (All-push (λ s. s.entries ≡ part s.number es) (take i xs) d a p)

@@ -18,9 +18,9 @@ RisesFrom from [] = Unit {0}
 RisesFrom from (e ∷ es) = (from ≤ e.position) × RisesFrom (e.position + 1) es
 
 -- what follows the last position
-abbrev pub after_all : ℕ → List Entry → ℕ
-after_all from [] = from
-after_all from (e ∷ es) = after_all (e.position + 1) es
+abbrev pub behind_all : ℕ → List Entry → ℕ
+behind_all from [] = from
+behind_all from (e ∷ es) = behind_all (e.position + 1) es
 
 -- a seat's list: each entry names it, and the positions rise from its start
 pub record IsOwn (s : SeatView) : Type 0 where

@@ -26,7 +26,7 @@ impl<R: Recorder> Model for Log<R> {
 }
 
 impl<R: Recorder> Log<R> {
-    ghost use Rattle.ymx_seats.specs.Views.{kept, entry};
+    ghost use Rattle.ymx_seats.specs.Views.{kept_entries, entry};
     ghost use Rattle.ymx_seats.specs.Slips.{asked_by, told_by, bytes_told, IsReady};
 
     /// No entries.
@@ -80,8 +80,8 @@ impl<R: Recorder> Log<R> {
         requires room { R.KEEPS ≡ true → (0 < self.old.room) × (0 < seat.old.room) }
         ensures number { seat.new.number ≡ seat.old.number }
         ensures start { seat.new.start ≡ seat.old.start }
-        ensures entries { self.new.entries ≡ self.old.entries ++ kept R.KEEPS (entry (length self.old.entries) seat.old.number (asked_by ask.entry) (told_by tell.entry)) }
-        ensures seat_entries { seat.new.entries ≡ seat.old.entries ++ kept R.KEEPS (entry (length self.old.entries) seat.old.number (asked_by ask.entry) (told_by tell.entry)) }
+        ensures entries { self.new.entries ≡ self.old.entries ++ kept_entries R.KEEPS (entry (length self.old.entries) seat.old.number (asked_by ask.entry) (told_by tell.entry)) }
+        ensures seat_entries { seat.new.entries ≡ seat.old.entries ++ kept_entries R.KEEPS (entry (length self.old.entries) seat.old.number (asked_by ask.entry) (told_by tell.entry)) }
         ensures left { R.KEEPS ≡ true → (self.new.room + 1 ≡ self.old.room) × (seat.new.room + 1 ≡ seat.old.room) }
     {
         let Some(slip) = slip else {

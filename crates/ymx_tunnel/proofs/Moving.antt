@@ -10,7 +10,7 @@ use Rattle.std.proofs.lemmas.Grind.{common_steps}
 use Rattle.ymx_model.specs.devices.Devices.{has_failed, most_failures}
 use Rattle.ymx_tunnel.specs.declared.copied.CopyWhy.{CopyWhy}
 use Rattle.ymx_tunnel.specs.declared.copied.CopyWhy.TheVariants.{End, Source, Sink, Reset, Lost}
-use Rattle.ymx_tunnel.specs.Copies.{IsMoved, CopiesIn, CopiesOut, why_of}
+use Rattle.ymx_tunnel.specs.Copies.{IsMoved, CopiesIn, CopiesOut, copy_reason}
 use Rattle.ymx_model.specs.declared.types.CallFault.TheVariants as refusal
 use Rattle.ymx_held.specs.declared.faults.HubFault.{HubFault}
 use Rattle.ymx_held.specs.declared.faults.HubFault.TheVariants.{Call, Memory, Seats}
@@ -143,14 +143,14 @@ sink_is_no_end e = subst by_end e tt
 pub finished_by : (S : Type 0) (P : S → Result (Unit {0}) HubFault → Type 0) (s : S) (answer : Result (Unit {0}) HubFault) → P s answer → answer ≡ Ok tt → (last : S) × P last (Ok tt)
 finished_by S P s answer p e = (s, subst (P s) e p)
 
-own_case : (fault : HubFault) (own : CopyWhy) → (own ≡ End → ⊥) → why_of fault own ≡ End → ⊥
+own_case : (fault : HubFault) (own : CopyWhy) → (own ≡ End → ⊥) → copy_reason fault own ≡ End → ⊥
 own_case (Call refusal.Reset) own f e = cc
 own_case (Call refusal.Lost) own f e = cc
 own_case (Call _) own f e = f e
 own_case Memory own f e = f e
 own_case Seats own f e = f e
 
-pub no_end : (fault : HubFault) (why own : CopyWhy) → why ≡ why_of fault own → (own ≡ End → ⊥) → why ≡ End → ⊥
+pub no_end : (fault : HubFault) (why own : CopyWhy) → why ≡ copy_reason fault own → (own ≡ End → ⊥) → why ≡ End → ⊥
 no_end fault why own e f w = own_case fault own f (sym e ∙ w)
 
 -- ---- out of a source

@@ -15,22 +15,22 @@ use Rattle.ymx_held.specs.declared.faults.HubFault.{HubFault}
 use Rattle.ymx_held.specs.Booked.{Gains, One, Asks, Forgets, SpendsWith, Spends, Closes, to_write, to_read, to_finish, to_reset, to_forget}
 use Rattle.ymx_hub.specs.declared.write_fault.WriteFault.{WriteFault}
 use Rattle.ymx_hub.specs.Turns.{took_of, total, AreWrites, Writes, AreWaits, Reads, ReadsLast}
-use Rattle.ymx_tunnel.specs.Told.{offered, written, read_of, read_bytes, GivesNone, HasSaidEnd}
+use Rattle.ymx_tunnel.specs.Told.{offered, bytes_written, read_of, read_bytes, GivesNone, HasSaidEnd}
 
-pub written_append : (xs ys : List Entry) → written (xs ++ ys) ≡ written xs ++ written ys
+pub written_append : (xs ys : List Entry) → bytes_written (xs ++ ys) ≡ bytes_written xs ++ bytes_written ys
 written_append [] ys = refl
 written_append (x ∷ xs) ys =
-    ap (λ (l : List ℕ). take (took_of x.reply) (offered x.event) ++ l) (written_append xs ys) ∙ sym (append_assoc (take (took_of x.reply) (offered x.event)) (written xs) (written ys))
+    ap (λ (l : List ℕ). take (took_of x.reply) (offered x.event) ++ l) (written_append xs ys) ∙ sym (append_assoc (take (took_of x.reply) (offered x.event)) (bytes_written xs) (bytes_written ys))
 
 pub read_append : (xs ys : List Entry) → read_bytes (xs ++ ys) ≡ read_bytes xs ++ read_bytes ys
 read_append [] ys = refl
 read_append (x ∷ xs) ys = ap (λ (l : List ℕ). read_of x.reply ++ l) (read_append xs ys) ∙ sym (append_assoc (read_of x.reply) (read_bytes xs) (read_bytes ys))
 
 -- writes of what was left took the first so many bytes
-pub writes_take : (id seat : ℕ) (left : List ℕ) (es : List Entry) → AreWrites id seat left es → written es ≡ take (total es) left
+pub writes_take : (id seat : ℕ) (left : List ℕ) (es : List Entry) → AreWrites id seat left es → bytes_written es ≡ take (total es) left
 writes_take id seat left [] w = refl
 writes_take id seat left (e ∷ es) w =
-    ap (λ (v : Event). take (took_of e.reply) (offered v) ++ written es) w.0.1
+    ap (λ (v : Event). take (took_of e.reply) (offered v) ++ bytes_written es) w.0.1
     ∙ ap (λ (l : List ℕ). take (took_of e.reply) left ++ l) (writes_take id seat (drop (took_of e.reply) left) es w.1)
     ∙ sym (take-add (took_of e.reply) (total es) left)
 
@@ -51,43 +51,43 @@ tells_same told before after Such joins f (added, e, s) = ap told e ∙ joins be
 take_none : (n : ℕ) → take {A = ℕ} n [] ≡ []
 take_none n = take_all {A = ℕ} n [] (omega arith)
 
-all_written : (id seat : ℕ) (bytes : List ℕ) (u : Unit {0}) (added : List Entry) → Writes id bytes seat (Ok u) added → written added ≡ bytes
+all_written : (id seat : ℕ) (bytes : List ℕ) (u : Unit {0}) (added : List Entry) → Writes id bytes seat (Ok u) added → bytes_written added ≡ bytes
 all_written id seat bytes u added (w, (e, last)) = writes_take id seat bytes added w ∙ ap (λ n. take n bytes) e ∙ take_all (length bytes) bytes (omega arith)
 
-some_written : (id seat : ℕ) (bytes : List ℕ) (stop : WriteFault) (added : List Entry) → Writes id bytes seat (Err stop) added → written added ≡ take stop.taken bytes
+some_written : (id seat : ℕ) (bytes : List ℕ) (stop : WriteFault) (added : List Entry) → Writes id bytes seat (Err stop) added → bytes_written added ≡ take stop.taken bytes
 some_written id seat bytes stop added (w, (e, why)) = writes_take id seat bytes added w ∙ ap (λ n. take n bytes) e
 
 pub write_all_took : (before after : List Entry) (id seat : ℕ) (bytes : List ℕ) (result : Result (Unit {0}) WriteFault) → Gains true before after (Writes id bytes seat result) →
-    MatchResult result (λ _. Appends (Some (written before)) (Some (written after)) bytes)
-    (λ stop. Appends (Some (written before)) (Some (written after)) (take stop.taken bytes))
+    MatchResult result (λ _. Appends (Some (bytes_written before)) (Some (bytes_written after)) bytes)
+    (λ stop. Appends (Some (bytes_written before)) (Some (bytes_written after)) (take stop.taken bytes))
 write_all_took before after id seat bytes (Ok u) g =
-    tells_more written before after (Writes id bytes seat (Ok u)) bytes written_append (all_written id seat bytes u) g
+    tells_more bytes_written before after (Writes id bytes seat (Ok u)) bytes written_append (all_written id seat bytes u) g
 write_all_took before after id seat bytes (Err stop) g =
-    tells_more written before after (Writes id bytes seat (Err stop)) (take stop.taken bytes) written_append (some_written id seat bytes stop) g
+    tells_more bytes_written before after (Writes id bytes seat (Err stop)) (take stop.taken bytes) written_append (some_written id seat bytes stop) g
 
-forgets_writes : (id seat : ℕ) (added : List Entry) → Forgets id seat added → written added ≡ []
-forgets_writes id seat added (inl e) = ap written e
-forgets_writes id seat added (inr (told, (p, e))) = ap written e ∙ ap (λ (l : List ℕ). l ++ []) (take_none (took_of told))
+forgets_writes : (id seat : ℕ) (added : List Entry) → Forgets id seat added → bytes_written added ≡ []
+forgets_writes id seat added (inl e) = ap bytes_written e
+forgets_writes id seat added (inr (told, (p, e))) = ap bytes_written e ∙ ap (λ (l : List ℕ). l ++ []) (take_none (took_of told))
 
 -- a call that offers no bytes
-spends_writes : (event : Event) (id seat : ℕ) (told : Reply) (added : List Entry) → offered event ≡ [] → SpendsWith event id seat told added → written added ≡ []
+spends_writes : (event : Event) (id seat : ℕ) (told : Reply) (added : List Entry) → offered event ≡ [] → SpendsWith event id seat told added → bytes_written added ≡ []
 spends_writes event id seat told added none (p, rest, e, f) =
-    ap written e ∙ ap (λ (l : List ℕ). take (took_of told) l ++ written rest) none ∙ ap (λ (l : List ℕ). l ++ written rest) (take_none (took_of told)) ∙ forgets_writes id seat rest f
+    ap bytes_written e ∙ ap (λ (l : List ℕ). take (took_of told) l ++ bytes_written rest) none ∙ ap (λ (l : List ℕ). l ++ bytes_written rest) (take_none (took_of told)) ∙ forgets_writes id seat rest f
 
-spent_writes : (event : Event) (id seat : ℕ) (result : Result (Unit {0}) HubFault) (added : List Entry) → offered event ≡ [] → Spends event id seat result added → written added ≡ []
+spent_writes : (event : Event) (id seat : ℕ) (result : Result (Unit {0}) HubFault) (added : List Entry) → offered event ≡ [] → Spends event id seat result added → bytes_written added ≡ []
 spent_writes event id seat (Ok u) added none s = spends_writes event id seat reply.Done added none s
-spent_writes event id seat (Err fault) added none (inl (m, e)) = ap written e
+spent_writes event id seat (Err fault) added none (inl (m, e)) = ap bytes_written e
 spent_writes event id seat (Err fault) added none (inr (why, f, s)) = spends_writes event id seat (reply.Refused why) added none s
 
 pub finish_keeps : (before after : List Entry) (id seat : ℕ) (result : Result (Unit {0}) HubFault) → Gains true before after (Spends (to_finish id) id seat result) →
-    Keeps (Some (written before)) (Some (written after))
+    Keeps (Some (bytes_written before)) (Some (bytes_written after))
 finish_keeps before after id seat result g =
-    tells_same written before after _ written_append (λ added s. spent_writes (to_finish id) id seat result added refl s) g
+    tells_same bytes_written before after _ written_append (λ added s. spent_writes (to_finish id) id seat result added refl s) g
 
 pub reset_keeps : (before after : List Entry) (id seat : ℕ) (result : Result (Unit {0}) HubFault) → Gains true before after (Spends (to_reset id) id seat result) →
-    Keeps (Some (written before)) (Some (written after))
+    Keeps (Some (bytes_written before)) (Some (bytes_written after))
 reset_keeps before after id seat result g =
-    tells_same written before after _ written_append (λ added s. spent_writes (to_reset id) id seat result added refl s) g
+    tells_same bytes_written before after _ written_append (λ added s. spent_writes (to_reset id) id seat result added refl s) g
 
 -- ---- a source
 

@@ -10,10 +10,10 @@ use Rattle.ymx_tunnel.specs.declared.copied.CopyWhy.{CopyWhy}
 use Rattle.ymx_tunnel.specs.declared.copied.CopyWhy.TheVariants.{End, Reset, Lost}
 
 -- a stream that was reset and a session that was lost are told apart from all else
-abbrev pub why_of : HubFault → CopyWhy → CopyWhy
-why_of (Call refusal.Reset) own = Reset
-why_of (Call refusal.Lost) own = Lost
-why_of fault own = own
+abbrev pub copy_reason : HubFault → CopyWhy → CopyWhy
+copy_reason (Call refusal.Reset) own = Reset
+copy_reason (Call refusal.Lost) own = Lost
+copy_reason fault own = own
 
 -- of what was given, this beginning was moved on, and counted as far as 64 bits go; it is all of it if the copy came to its end
 pub record IsMoved (given moved : List ℕ) (bytes : ℕ) (why : CopyWhy) : Type 0 where

@@ -14,9 +14,9 @@ offered (event.Call (call.Write id bytes)) = bytes
 offered _ = []
 
 -- the bytes that writes took, joined
-abbrev pub written : List Entry → List ℕ
-written [] = []
-written (e ∷ es) = take (took_of e.reply) (offered e.event) ++ written es
+abbrev pub bytes_written : List Entry → List ℕ
+bytes_written [] = []
+bytes_written (e ∷ es) = take (took_of e.reply) (offered e.event) ++ bytes_written es
 
 -- the bytes that a read gave
 abbrev pub read_of : Reply → List ℕ

@@ -1,7 +1,7 @@
 //! How a copy ended.
 
 ghost use Rattle.std.specs.Prelude.{◌≡◌};
-ghost use Rattle.ymx_tunnel.specs.Copies.{why_of};
+ghost use Rattle.ymx_tunnel.specs.Copies.{copy_reason};
 
 use ymx_hub::HubFault;
 use ymx_model::CallFault;
@@ -35,7 +35,7 @@ pub struct Copied<L> {
 
 /// Why a copy ends at a fault of its half: of the stream, of the session, or else of the half itself.
 pub(crate) fn why_of_fault(fault: HubFault, own: CopyWhy) -> CopyWhy
-    ensures { result ≡ why_of fault own }
+    ensures { result ≡ copy_reason fault own }
 {
     match fault {
         HubFault::Call(CallFault::Reset) => CopyWhy::Reset,

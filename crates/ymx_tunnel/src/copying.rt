@@ -5,7 +5,7 @@ ghost use Rattle.std.specs.Io.{StartsWith};
 ghost use Rattle.std.specs.Io.KnownBytes.{Appends};
 ghost use Rattle.ymx_model.specs.devices.Devices.{has_failed};
 ghost use Rattle.ymx_held.specs.declared.faults.HubFault.{HubFault as Fault};
-ghost use Rattle.ymx_tunnel.specs.Copies.{CopiesIn, CopiesOut, why_of};
+ghost use Rattle.ymx_tunnel.specs.Copies.{CopiesIn, CopiesOut, copy_reason};
 
 use crate::copied::{Copied, CopyWhy, why_of_fault};
 use crate::ends::{Sink, Source};
@@ -29,7 +29,7 @@ pub fn copy_in<W: Wait, I: Inlet, S: Sink>(
     ensures finished { result.why ≡ CopyWhy.End → (last : S) × S.Finishes last result.left (Ok tt) }
     ensures reset { result.why ≡ CopyWhy.Source → (last : S) × (answer : Result (Unit {0}) Fault) × S.Resets last result.left answer }
     // At any other end it was reset, or its finish was refused for that reason.
-    ensures spent { (result.why ≡ CopyWhy.End) ⊎ ((last : S) × (answer : Result (Unit {0}) Fault) × S.Resets last result.left answer) ⊎ ((last : S) × (fault : Fault) × (result.why ≡ why_of fault CopyWhy.Sink) × S.Finishes last result.left (Err fault)) }
+    ensures spent { (result.why ≡ CopyWhy.End) ⊎ ((last : S) × (answer : Result (Unit {0}) Fault) × S.Resets last result.left answer) ⊎ ((last : S) × (fault : Fault) × (result.why ≡ copy_reason fault CopyWhy.Sink) × S.Finishes last result.left (Err fault)) }
     // The reader is blamed if it failed, and only then.
     ensures source { result.why ≡ CopyWhy.Source → IsTrue (has_failed (I.failures reader.old) (I.failures reader.new)) }
     ensures reader_kept { (result.why ≡ CopyWhy.Source) ⊎ (I.failures reader.new ≡ I.failures reader.old) }

@@ -3,7 +3,7 @@
 
 ghost use Rattle.std.specs.Prelude.{Some, None, ⊤, true};
 ghost use Rattle.ymx_held.specs.Booked.{Gains, Spends, to_finish, to_reset};
-ghost use Rattle.ymx_tunnel.specs.Told.{written, read_bytes, HasSaidEnd};
+ghost use Rattle.ymx_tunnel.specs.Told.{bytes_written, read_bytes, HasSaidEnd};
 
 use crate::ends::{Sink, Source};
 use std::sync::Wait;
@@ -12,9 +12,9 @@ use ymx_hub::{Full, HubFault, Off, ReadHalf, Seat, WriteFault, WriteHalf};
 impl Sink for WriteHalf<Full> {
     type Left = Seat<Full>;
 
-    ghost taken = { λ half. Some (written half.seat.entries) };
+    ghost taken = { λ half. Some (bytes_written half.seat.entries) };
 
-    ghost taken_in_all = { λ seat. Some (written seat.entries) };
+    ghost taken_in_all = { λ seat. Some (bytes_written seat.entries) };
 
     ghost Finishes = { λ half seat answer. Gains true half.seat.entries seat.entries (Spends (to_finish half.id) half.id half.seat.number answer) };
 

@@ -17,7 +17,7 @@ const COPY_BUFFER: usize = 65_536;
 
 /// One direction of a connection that has ended.
 #[derive(Clone, Copy, Debug, PartialEq, Eq)]
-pub struct Direction {
+pub struct EndedCopy {
     /// How many bytes were copied; it stays at the greatest `u64`.
     pub bytes: u64,
     /// Why the copy ended.
@@ -26,37 +26,37 @@ pub struct Direction {
 
 /// A connection that has ended.
 #[derive(Clone, Copy, Debug, PartialEq, Eq)]
-pub struct Joined {
+pub struct EndedConnection {
     /// From the connection into the stream.
-    pub inward: Direction,
+    pub inward: EndedCopy,
     /// From the stream out to the connection.
-    pub outward: Direction,
+    pub outward: EndedCopy,
 }
 
-impl Joined {
+impl EndedConnection {
     /// Whether no memory was found for a buffer, for a thread, or for what the stream has to send.
     pub fn lacked_memory(&self) -> bool {
         self.inward.why == CopyWhy::Sink || self.outward.why == CopyWhy::Source
     }
 
     /// There was no connection to join.
-    pub(crate) fn without_connection() -> Joined {
-        Joined::of_nothing(CopyWhy::Source, CopyWhy::Sink)
+    pub(crate) fn without_connection() -> EndedConnection {
+        EndedConnection::of_nothing(CopyWhy::Source, CopyWhy::Sink)
     }
 
     /// There was no memory to join a connection.
-    fn without_memory() -> Joined {
-        Joined::of_nothing(CopyWhy::Sink, CopyWhy::Source)
+    fn without_memory() -> EndedConnection {
+        EndedConnection::of_nothing(CopyWhy::Sink, CopyWhy::Source)
     }
 
     /// Nothing was copied.
-    fn of_nothing(inward: CopyWhy, outward: CopyWhy) -> Joined {
-        Joined {
-            inward: Direction {
+    fn of_nothing(inward: CopyWhy, outward: CopyWhy) -> EndedConnection {
+        EndedConnection {
+            inward: EndedCopy {
                 bytes: 0,
                 why: inward,
             },
-            outward: Direction {
+            outward: EndedCopy {
                 bytes: 0,
                 why: outward,
             },
@@ -74,10 +74,10 @@ pub(crate) fn join_both<R: Threads + Wait + Sync>(
     stream: TcpStream,
     sink: WriteHalf<Off>,
     source: ReadHalf<Off>,
-) -> Joined {
+) -> EndedConnection {
     let Some(line) = connections.add(rt, alloc, stream) else {
         spend(rt, Some(sink), Some(source));
-        return Joined::without_memory();
+        return EndedConnection::without_memory();
     };
     let mut sink = Some(sink);
     let source = Mutex::new(Some(source));
@@ -95,18 +95,18 @@ fn run_both<R: Threads + Wait + Sync>(
     line: &Line,
     sink: &mut Option<WriteHalf<Off>>,
     source: &Mutex<Option<ReadHalf<Off>>>,
-) -> Joined {
+) -> EndedConnection {
     let stream = &line.stream;
     thread::scope(thread::scope_env(), rt, |scope| {
         let Ok(thread) = scope.spawn(move || outward(rt, alloc, stream, source)) else {
-            return Joined {
+            return EndedConnection {
                 inward: ended(stream, 0, CopyWhy::Sink),
                 outward: ended(stream, 0, CopyWhy::Source),
             };
         };
         let inward = inward(rt, alloc, line, sink);
         let outward = thread.join(rt);
-        Joined { inward, outward }
+        EndedConnection { inward, outward }
     })
 }
 
@@ -116,7 +116,7 @@ fn inward<R: Wait>(
     alloc: Global,
     line: &Line,
     sink: &mut Option<WriteHalf<Off>>,
-) -> Direction {
+) -> EndedCopy {
     let stream = &line.stream;
     let Some(sink) = mem::replace(sink, None) else {
         return ended(stream, 0, CopyWhy::Sink);
@@ -137,7 +137,7 @@ fn outward<R: Wait>(
     alloc: Global,
     stream: &TcpStream,
     source: &Mutex<Option<ReadHalf<Off>>>,
-) -> Direction {
+) -> EndedCopy {
     let taken = mem::replace(&mut *source.lock(rt), None);
     let Some(source) = taken else {
         return ended(stream, 0, CopyWhy::Source);
@@ -153,11 +153,11 @@ fn outward<R: Wait>(
 }
 
 /// One direction has ended. At a fault the connection is shut both ways, so that the other direction ends too.
-fn ended(stream: &TcpStream, bytes: u64, why: CopyWhy) -> Direction {
+fn ended(stream: &TcpStream, bytes: u64, why: CopyWhy) -> EndedCopy {
     if why != CopyWhy::End {
         let _ = stream.shutdown(Shutdown::Both);
     }
-    Direction { bytes, why }
+    EndedCopy { bytes, why }
 }
 
 /// Spends the halves that are left: resets the stream, and closes it.

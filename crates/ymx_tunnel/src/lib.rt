@@ -19,6 +19,6 @@ pub use connections::Connections;
 pub use copied::{Copied, CopyWhy};
 pub use copying::{copy_in, copy_out};
 pub use ends::{Sink, Source};
-pub use joining::{Direction, Joined};
+pub use joining::{EndedConnection, EndedCopy};
 pub use network::{Network, Sockets};
 pub use serving::{Served, Unwatched, Watcher, serve_local, serve_remote};

@@ -1,7 +1,7 @@
 //! The two servers of a tunnel: one opens a stream for each connection, and one makes a connection for each stream.
 
 use crate::connections::Connections;
-use crate::joining::{Joined, join_both, let_go, spend};
+use crate::joining::{EndedConnection, join_both, let_go, spend};
 use crate::network::Network;
 use std::alloc::Global;
 use std::net::{SocketAddr, TcpListener, TcpStream};
@@ -16,7 +16,7 @@ use ymx_model::CallFault;
 /// once, by one of the two calls.
 pub trait Watcher: Sync {
     /// A connection that had a stream has ended.
-    fn ended<W: Wait>(&self, rt: &W, number: u64, joined: &Joined);
+    fn ended<W: Wait>(&self, rt: &W, number: u64, joined: &EndedConnection);
 
     /// A connection was closed, as no stream was to be had for it.
     fn refused<W: Wait>(&self, rt: &W, number: u64, fault: HubFault);
@@ -27,7 +27,7 @@ pub trait Watcher: Sync {
 pub struct Unwatched;
 
 impl Watcher for Unwatched {
-    fn ended<W: Wait>(&self, _rt: &W, _number: u64, _joined: &Joined) {}
+    fn ended<W: Wait>(&self, _rt: &W, _number: u64, _joined: &EndedConnection) {}
 
     fn refused<W: Wait>(&self, _rt: &W, _number: u64, _fault: HubFault) {}
 }
@@ -181,12 +181,12 @@ fn serve_stream<R: Threads + Wait + Sync, N: Network, V: Watcher>(
     target: SocketAddr,
     sink: WriteHalf<Off>,
     source: ReadHalf<Off>,
-) -> Joined {
+) -> EndedConnection {
     match network.connect(target) {
         Some(stream) => join_both(rt, shared.alloc, shared.connections, stream, sink, source),
         None => {
             spend(rt, Some(sink), Some(source));
-            Joined::without_connection()
+            EndedConnection::without_connection()
         }
     }
 }
@@ -249,7 +249,7 @@ impl<'a, V: Watcher> Shared<'a, V> {
     }
 
     /// A connection has ended.
-    fn ended<R: Wait>(&self, rt: &R, number: u64, joined: &Joined) {
+    fn ended<R: Wait>(&self, rt: &R, number: u64, joined: &EndedConnection) {
         if joined.lacked_memory() {
             self.lack_memory();
         }

@@ -10,11 +10,11 @@ use Rattle.ymx_model.specs.declared.types.Event.TheVariants as event
 use Rattle.ymx_model.specs.declared.types.Entry.{Entry}
 use Rattle.ymx_model.specs.world.Worlds.{Pipe, new_pipe, pushed, without_front}
 use Rattle.std.specs.Prelude.{MatchBool}
-use Rattle.ymx_law_audit.specs.Joints.{emitted_of, put, Takes, Gets, steps_of, Advances, IsStuck, IsJoint, IsJointOrder}
+use Rattle.ymx_law_audit.specs.Joints.{emitted_of, sent_into, TakesFront, Gets, world_steps, Advances, IsStuck, IsJoint, IsJointOrder}
 
 -- ---- one pipe
 
-one_feed : (en : Bool) (bytes : List ℕ) (r : Reply) (p q s : Pipe) → MatchBool en (q ≡ p) (Takes bytes r p q) → MatchBool en (s ≡ p) (Takes bytes r p s) → q ≡ s
+one_feed : (en : Bool) (bytes : List ℕ) (r : Reply) (p q s : Pipe) → MatchBool en (q ≡ p) (TakesFront bytes r p q) → MatchBool en (s ≡ p) (TakesFront bytes r p s) → q ≡ s
 one_feed true bytes r p q s g h = g ∙ sym h
 one_feed false bytes r p q s g h =
     let e : g.0 ≡ h.0 = cc (g.1, h.1) in
@@ -51,7 +51,7 @@ gets_pushed out (event.Feed bytes) t p q g = feed_pushed p.stopped p.ended p.byt
 gets_pushed out event.FeedEnd t p q g = ap (pushed out) g
 
 -- what the receiver may do it still may after the sender's event, and the order makes no difference
-pub gets_put : (e : Event) (r : Reply) (f : Event) (t : Reply) (p q : Pipe) → Gets f t p q → Gets f t (put e r p) (put e r q)
+pub gets_put : (e : Event) (r : Reply) (f : Event) (t : Reply) (p q : Pipe) → Gets f t p q → Gets f t (sent_into e r p) (sent_into e r q)
 gets_put (event.Call c) r f t p q g = g
 gets_put (event.Emit n) r f t p q g = gets_pushed (emitted_of r) f t p q g
 gets_put (event.Feed bytes) r f t p q g = g
@@ -64,7 +64,7 @@ abbrev pub HasOrder : Pipe → Pipe → List Entry → List Entry → Type 0
 HasOrder ab ba xs ys = (turns : List Bool) × (steps : List Step) × IsJoint turns ab ba xs ys steps
 
 -- where A's next may come now, it may come first
-front_a : (turns : List Bool) (ab ba : Pipe) (x : Entry) (xs ys : List Entry) (steps : List Step) (q : Pipe) → IsJoint turns ab ba (x ∷ xs) ys steps → Gets x.event x.reply ba q → HasOrder (put x.event x.reply ab) q xs ys
+front_a : (turns : List Bool) (ab ba : Pipe) (x : Entry) (xs ys : List Entry) (steps : List Step) (q : Pipe) → IsJoint turns ab ba (x ∷ xs) ys steps → Gets x.event x.reply ba q → HasOrder (sent_into x.event x.reply ab) q xs ys
 front_a [] ab ba x xs ys steps q j g = absurd (cc j.0)
 front_a (true ∷ turns) ab ba x xs ys steps q j g =
     let e : x ≡ j.0 = cc j.4 in
@@ -73,13 +73,13 @@ front_a (true ∷ turns) ab ba x xs ys steps q j g =
     (turns, j.3, rw (e, es, p) j.7)
 front_a (false ∷ turns) ab ba x xs ys steps q j g =
     let y = j.0 in
-    let i = front_a turns j.2 (put y.event y.reply ba) x xs j.1 j.3 (put y.event y.reply q) j.7 (gets_put y.event y.reply x.event x.reply ba q g) in (
+    let i = front_a turns j.2 (sent_into y.event y.reply ba) x xs j.1 j.3 (sent_into y.event y.reply q) j.7 (gets_put y.event y.reply x.event x.reply ba q g) in (
       false ∷ i.0,
-      steps_of B (put x.event x.reply ab) y.event ++ i.1,
-      (y, j.1, put x.event x.reply j.2, i.1, j.4, gets_put x.event x.reply y.event y.reply ab j.2 j.5, refl, i.2),
+      world_steps B (sent_into x.event x.reply ab) y.event ++ i.1,
+      (y, j.1, sent_into x.event x.reply j.2, i.1, j.4, gets_put x.event x.reply y.event y.reply ab j.2 j.5, refl, i.2),
     )
 
-front_b : (turns : List Bool) (ab ba : Pipe) (y : Entry) (xs ys : List Entry) (steps : List Step) (q : Pipe) → IsJoint turns ab ba xs (y ∷ ys) steps → Gets y.event y.reply ab q → HasOrder q (put y.event y.reply ba) xs ys
+front_b : (turns : List Bool) (ab ba : Pipe) (y : Entry) (xs ys : List Entry) (steps : List Step) (q : Pipe) → IsJoint turns ab ba xs (y ∷ ys) steps → Gets y.event y.reply ab q → HasOrder q (sent_into y.event y.reply ba) xs ys
 front_b [] ab ba y xs ys steps q j g = absurd (cc j.1)
 front_b (false ∷ turns) ab ba y xs ys steps q j g =
     let e : y ≡ j.0 = cc j.4 in
@@ -88,10 +88,10 @@ front_b (false ∷ turns) ab ba y xs ys steps q j g =
     (turns, j.3, rw (e, es, p) j.7)
 front_b (true ∷ turns) ab ba y xs ys steps q j g =
     let x = j.0 in
-    let i = front_b turns (put x.event x.reply ab) j.2 y j.1 ys j.3 (put x.event x.reply q) j.7 (gets_put x.event x.reply y.event y.reply ab q g) in (
+    let i = front_b turns (sent_into x.event x.reply ab) j.2 y j.1 ys j.3 (sent_into x.event x.reply q) j.7 (gets_put x.event x.reply y.event y.reply ab q g) in (
       true ∷ i.0,
-      steps_of A (put y.event y.reply ba) x.event ++ i.1,
-      (x, j.1, put y.event y.reply j.2, i.1, j.4, gets_put y.event y.reply x.event x.reply ba j.2 j.5, refl, i.2),
+      world_steps A (sent_into y.event y.reply ba) x.event ++ i.1,
+      (x, j.1, sent_into y.event y.reply j.2, i.1, j.4, gets_put y.event y.reply x.event x.reply ba j.2 j.5, refl, i.2),
     )
 
 -- ---- the search
@@ -110,18 +110,18 @@ sound_first a b turns rest j = (turns, j)
 pub whole_first : (a b : List Entry) → Whole a b new_pipe new_pipe a b
 whole_first a b steps j = (j.0, steps, j.1)
 
-pub sound_a : (a b : List Entry) (ab ba : Pipe) (x : Entry) (xs ys : List Entry) (done : List Step) (q : Pipe) → Sound a b ab ba (x ∷ xs) ys done → Gets x.event x.reply ba q → Sound a b (put x.event x.reply ab) q xs ys (done ++ steps_of A ba x.event)
+pub sound_a : (a b : List Entry) (ab ba : Pipe) (x : Entry) (xs ys : List Entry) (done : List Step) (q : Pipe) → Sound a b ab ba (x ∷ xs) ys done → Gets x.event x.reply ba q → Sound a b (sent_into x.event x.reply ab) q xs ys (done ++ world_steps A ba x.event)
 sound_a a b ab ba x xs ys done q s g turns rest j =
-    subst (IsJointOrder a b) (sym (append_assoc done (steps_of A ba x.event) rest)) (s (true ∷ turns) (steps_of A ba x.event ++ rest) (x, xs, q, rest, refl, g, refl, j))
+    subst (IsJointOrder a b) (sym (append_assoc done (world_steps A ba x.event) rest)) (s (true ∷ turns) (world_steps A ba x.event ++ rest) (x, xs, q, rest, refl, g, refl, j))
 
-pub sound_b : (a b : List Entry) (ab ba : Pipe) (y : Entry) (xs ys : List Entry) (done : List Step) (q : Pipe) → Sound a b ab ba xs (y ∷ ys) done → Gets y.event y.reply ab q → Sound a b q (put y.event y.reply ba) xs ys (done ++ steps_of B ab y.event)
+pub sound_b : (a b : List Entry) (ab ba : Pipe) (y : Entry) (xs ys : List Entry) (done : List Step) (q : Pipe) → Sound a b ab ba xs (y ∷ ys) done → Gets y.event y.reply ab q → Sound a b q (sent_into y.event y.reply ba) xs ys (done ++ world_steps B ab y.event)
 sound_b a b ab ba y xs ys done q s g turns rest j =
-    subst (IsJointOrder a b) (sym (append_assoc done (steps_of B ab y.event) rest)) (s (false ∷ turns) (steps_of B ab y.event ++ rest) (y, ys, q, rest, refl, g, refl, j))
+    subst (IsJointOrder a b) (sym (append_assoc done (world_steps B ab y.event) rest)) (s (false ∷ turns) (world_steps B ab y.event ++ rest) (y, ys, q, rest, refl, g, refl, j))
 
-pub whole_a : (a b : List Entry) (ab ba : Pipe) (x : Entry) (xs ys : List Entry) (q : Pipe) → Whole a b ab ba (x ∷ xs) ys → Gets x.event x.reply ba q → Whole a b (put x.event x.reply ab) q xs ys
+pub whole_a : (a b : List Entry) (ab ba : Pipe) (x : Entry) (xs ys : List Entry) (q : Pipe) → Whole a b ab ba (x ∷ xs) ys → Gets x.event x.reply ba q → Whole a b (sent_into x.event x.reply ab) q xs ys
 whole_a a b ab ba x xs ys q w g steps j = let h = w steps j in front_a h.0 ab ba x xs ys h.1 q h.2 g
 
-pub whole_b : (a b : List Entry) (ab ba : Pipe) (y : Entry) (xs ys : List Entry) (q : Pipe) → Whole a b ab ba xs (y ∷ ys) → Gets y.event y.reply ab q → Whole a b q (put y.event y.reply ba) xs ys
+pub whole_b : (a b : List Entry) (ab ba : Pipe) (y : Entry) (xs ys : List Entry) (q : Pipe) → Whole a b ab ba xs (y ∷ ys) → Gets y.event y.reply ab q → Whole a b q (sent_into y.event y.reply ba) xs ys
 whole_b a b ab ba y xs ys q w g steps j = let h = w steps j in front_b h.0 ab ba y xs ys h.1 q h.2 g
 
 -- where neither side's next may come, and entries are left, there is no order

@@ -3,7 +3,7 @@
 ghost use Rattle.std.specs.Prelude.{◌≡◌, ◌<◌, ◌+◌, ◌++◌, length, drop, List, true, false, IfOk, IfSome, IfNone};
 ghost use Rattle.ymx_model.specs.declared.types.Step.{Step as TheStep};
 ghost use Rattle.ymx_model.specs.world.Worlds.{Pipe as PipeValue};
-ghost use Rattle.ymx_law_audit.specs.Joints.{into, put, Gets, steps_of, Advances, IsStuck, IsJointOrder};
+ghost use Rattle.ymx_law_audit.specs.Joints.{into, sent_into, Gets, world_steps, Advances, IsStuck, IsJointOrder};
 
 use crate::pipe::Pipe;
 use std::alloc::{AllocError, Global};
@@ -49,8 +49,8 @@ fn advance(
     steps: &mut Vec<Step>,
 ) -> Result<bool, AllocError>
     ensures gets { IfOk result (λ yes. yes ≡ true → Gets entry.now.event entry.now.reply from.old from.new) }
-    ensures puts { IfOk result (λ yes. yes ≡ true → to.new ≡ put entry.now.event entry.now.reply to.old) }
-    ensures steps { IfOk result (λ yes. yes ≡ true → steps.new.items ≡ steps.old.items ++ steps_of side from.old entry.now.event) }
+    ensures puts { IfOk result (λ yes. yes ≡ true → to.new ≡ sent_into entry.now.event entry.now.reply to.old) }
+    ensures steps { IfOk result (λ yes. yes ≡ true → steps.new.items ≡ steps.old.items ++ world_steps side from.old entry.now.event) }
     ensures same { IfOk result (λ yes. yes ≡ false → (from.new ≡ from.old) × (to.new ≡ to.old) × (steps.new.items ≡ steps.old.items)) }
     ensures none { IfOk result (λ yes. yes ≡ false → (q : PipeValue) → Gets entry.now.event entry.now.reply from.old q → ⊥) }
 {

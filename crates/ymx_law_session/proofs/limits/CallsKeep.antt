@@ -17,7 +17,7 @@ use Rattle.ymx_model.specs.shared.Lists.{look}
 use Rattle.ymx_model.specs.session.Sessions.{Session, Incoming, is_own, is_lost, is_closed, on_stream, settle}
 use Rattle.ymx_model.specs.session.Sessions.Incoming.{Head, Payload}
 use Rattle.ymx_model.specs.session.Calls.{Outcome, outcome, open_or, session_opened, accept, accept_of, at_stream, at_record, write_outcome, read_outcome, finish_outcome, reset_outcome, forget_outcome, is_unacknowledged}
-use Rattle.ymx_law_session.specs.Limits.{IsEndWithin, IsOfferedWithin, IsBegunWithin, IsIncomingWithin, IsPingsWithin, IsWithin, is_offered_at, is_listed}
+use Rattle.ymx_law_session.specs.Limits.{IsEndWithin, IsOfferedWithin, HasBegunRecord, IsIncomingWithin, IsPingsWithin, IsWithin, is_offered_at, is_listed}
 use Rattle.ymx_model.proofs.Tests.{split, both_of, not_le, one_some}
 use Rattle.ymx_model.proofs.Lists.{look-added_before}
 use Rattle.ymx_law_session.proofs.limits.Ends.{takes_offered, new-within, write-within, read-within, finish-within, accept-within, reset-within, forget-within}
@@ -54,7 +54,7 @@ incoming-opened (Payload j no_memory fin false) role next e ps p h = record {
     of d (inl was) t = h.granted d was t
     of d (inr (n, same, now)) t = let k = h.own (rw same p) in absurd (omega arith)
 
-pub begun-added : (id : ℕ) (e : End) (of : Option ℕ) (ps : List (ℕ × End)) → IsBegunWithin of ps → IsBegunWithin of (ps ++ (id, e) ∷ [])
+pub begun-added : (id : ℕ) (e : End) (of : Option ℕ) (ps : List (ℕ × End)) → HasBegunRecord of ps → HasBegunRecord of (ps ++ (id, e) ∷ [])
 begun-added id e None ps h = tt
 begun-added id e (Some j) ps h = taken-added id j e ps h
 

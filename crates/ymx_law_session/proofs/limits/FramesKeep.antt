@@ -21,7 +21,7 @@ use Rattle.ymx_model.specs.session.GoAway.{was_said}
 use Rattle.ymx_model.specs.session.Sessions.{Session, Incoming, is_own, breaks, on_stream, settle}
 use Rattle.ymx_model.specs.session.Sessions.Incoming.{Head, Payload}
 use Rattle.ymx_model.specs.session.Arrivals.{answers_with, ping_comes, go_away_comes, payload, delta, expects, record_fault, reset_comes, ends_now, acknowledges, take_head, meets, unless_fault, meets_some, offer, session_refuses, syn_fault, syn_comes, header_fault, head_comes, piece_comes}
-use Rattle.ymx_law_session.specs.Limits.{IsEndWithin, IsBegunWithin, IsIncomingWithin, IsPayloadWithin, IsWithin, is_taken_at, is_in_header}
+use Rattle.ymx_law_session.specs.Limits.{IsEndWithin, HasBegunRecord, IsIncomingWithin, IsPayloadWithin, IsWithin, is_taken_at, is_in_header}
 use Rattle.ymx_model.proofs.Tests.{split, same_or_not, both_of, none_of, not_le, not_lt, is_lt}
 use Rattle.ymx_model.proofs.Lists.{look_before, look-added_same, look-without_other, look-change_there}
 use Rattle.ymx_law_session.proofs.limits.Ends.{new-within, credit-within, fin-within, piece-within, ack-within, rst-within}
@@ -168,7 +168,7 @@ struck_deaf p r = grind arith
 struck_dead : (p : Phase) → is_live (struck p) ≡ false
 struck_dead p = grind arith
 
-begun-other : (id : ℕ) (of : Option ℕ) (e : End) (ps : List (ℕ × End)) → look id ps ≡ Some e → is_offered e.phase ≡ true → IsBegunWithin of ps → IsBegunWithin of (without id ps)
+begun-other : (id : ℕ) (of : Option ℕ) (e : End) (ps : List (ℕ × End)) → look id ps ≡ Some e → is_offered e.phase ≡ true → HasBegunRecord of ps → HasBegunRecord of (without id ps)
 begun-other id None e ps l o h = tt
 begun-other id (Some j) e ps l o h = of_other (same_or_not j id)
   where

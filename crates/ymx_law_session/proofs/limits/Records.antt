@@ -11,7 +11,7 @@ use Rattle.ymx_model.specs.shared.Lists.{look, change, without, place, Distinct}
 use Rattle.ymx_model.specs.shared.Limits.{most_records}
 use Rattle.ymx_model.specs.session.Sessions.{Session, Outgoing, Incoming, belongs_to, is_spent, settle, on_stream}
 use Rattle.ymx_model.specs.session.Sessions.Incoming.{Head, Payload}
-use Rattle.ymx_law_session.specs.Limits.{IsEndWithin, IsTableWithin, IsBegunWithin, IsIncomingWithin, IsPayloadWithin, IsWithin, is_offered_at}
+use Rattle.ymx_law_session.specs.Limits.{IsEndWithin, IsTableWithin, HasBegunRecord, IsIncomingWithin, IsPayloadWithin, IsWithin, is_offered_at}
 use Rattle.ymx_model.proofs.Tests.{split, differs, both_of, negated}
 use Rattle.ymx_model.proofs.Lists.{look_before, length-change, distinct-change, look-added_before, distinct-added, look-without_other, look-without_before, distinct-without, length-without, length-without_there, place-within}
 use Rattle.ymx_law_session.proofs.limits.Owns.{next-on, next-removed}
@@ -84,7 +84,7 @@ pub record Keeps (window : ℕ) (f : End → End) (e : End) : Type 0 where
   pub unacked : is_live (f e).phase ≡ true → not (f e).marks.acked ≡ true → (is_live e.phase ≡ true) × (not e.marks.acked ≡ true)
 
 pub begun-on : (id : ℕ) (f : End → End) (of : Option ℕ) (ps : List (ℕ × End)) →
-    ((e : End) → look id ps ≡ Some e → is_offered e.phase ≡ false → is_offered (f e).phase ≡ false) → IsBegunWithin of ps → IsBegunWithin of (change id f ps)
+    ((e : End) → look id ps ≡ Some e → is_offered e.phase ≡ false → is_offered (f e).phase ≡ false) → HasBegunRecord of ps → HasBegunRecord of (change id f ps)
 begun-on id f None ps keeps h = tt
 begun-on id f (Some j) ps keeps h = taken-change id j f ps keeps h
 
@@ -124,7 +124,7 @@ within-on id f s keeps h =
 
 -- ---- one record goes
 
-begun-removed : (id : ℕ) (of : Option ℕ) (ps : List (ℕ × End)) → belongs_to of id ≡ false → IsBegunWithin of ps → IsBegunWithin of (without id ps)
+begun-removed : (id : ℕ) (of : Option ℕ) (ps : List (ℕ × End)) → belongs_to of id ≡ false → HasBegunRecord of ps → HasBegunRecord of (without id ps)
 begun-removed id None ps n h = tt
 begun-removed id (Some j) ps n h = rw (look-without_other id j ps (differs j id n)) h
 

@@ -112,7 +112,7 @@ syn_fault h s =
     else if is_some (look h.id s.table.entries) then Some StreamInUse
     else record_fault h (offer s)
 
--- a stream is refused by a rejection, or else offered; `lacks`: no memory is found for its record
+-- a stream is refused by a rejection, or else offered; `no_memory`: no memory is found for its record
 abbrev pub syn_comes : (no_memory : Bool) → Header → Session → Session
 syn_comes no_memory h s =
     unless_fault (syn_fault h s) s (
