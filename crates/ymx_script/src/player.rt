@@ -47,7 +47,7 @@ fn whole_or_none(
 ) -> Result<(), AllocError>
     ensures same { result ≡ appended }
     ensures ok { OnOk appended (text.new.items ≡ text.old.items) }
-    ensures err { OnErr appended (text.new.items ≡ take first_place text.old.items) }
+    ensures err { OnErr appended (text.new.items ≡ take start text.old.items) }
 {
     if appended.is_err() {
         text.truncate(start);
