@@ -6,7 +6,7 @@ use Rattle.ymx_model.specs.devices.Devices.{has_failed}
 use Rattle.ymx_frames.specs.Outputs.{Prints}
 use Rattle.ymx_frames.specs.declared.print.FramesEnd.{FramesEnd}
 use Rattle.ymx_frames.specs.declared.print.FramesEnd.TheVariants.{Good, Fault as Faulty, Rest, Reading, Writing, Memory}
-use Rattle.ymx_script.specs.Outputs.{PrintsByEnd as PrintsAnswers}
+use Rattle.ymx_script.specs.Outputs.{PrintsByEnd}
 use Rattle.ymx_script.specs.declared.lines.ScriptEnd.{ScriptEnd}
 use Rattle.ymx_script.specs.declared.lines.ScriptEnd.TheVariants as script
 
@@ -84,7 +84,7 @@ script_reason script.Memory = out_of_memory
 abbrev pub PrintsFrames : (limit status : ℕ) → (input output errors : Change) → Type 0
 PrintsFrames limit status input output errors =
     (end : FramesEnd) × (text : List ℕ) × (lines : List ℕ) × Consumes input.before input.after text × TakesText output lines
-    × PrintsByEnd limit text (IsAtEnd input.after) end lines × (end ≡ Reading → IsTrue (fails input)) × (end ≡ Writing → IsTrue (fails output))
+    × Prints limit text (IsAtEnd input.after) end lines × (end ≡ Reading → IsTrue (fails input)) × (end ≡ Writing → IsTrue (fails output))
     × (status ≤ 1) × ((status ≡ 0) ↔ (end ≡ Good)) × SaysText errors (reason end)
 
 -- Nothing is printed, the status is 1, and this text says why.
@@ -96,7 +96,7 @@ Refuses status output errors text = (status ≡ 1) × IsUntouched output × Says
 abbrev pub PlaysScript : (status : ℕ) → (input output errors : Change) → Type 0
 PlaysScript status input output errors =
     (end : ScriptEnd) × (text : List ℕ) × (lines : List ℕ) × Consumes input.before input.after text × TakesText output lines
-    × PrintsAnswers text (IsAtEnd input.after) end lines × (end ≡ script.Reading → IsTrue (fails input)) × (end ≡ script.Writing → IsTrue (fails output))
+    × PrintsByEnd text (IsAtEnd input.after) end lines × (end ≡ script.Reading → IsTrue (fails input)) × (end ≡ script.Writing → IsTrue (fails output))
     × (status ≤ 1) × ((status ≡ 0) ↔ (end ≡ script.Good)) × SaysText errors (script_reason end)
 
 -- A file that holds these bytes is read, and this comes of its change, or it refuses to be opened.
