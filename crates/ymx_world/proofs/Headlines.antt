@@ -1,9 +1,9 @@
 -- What the headline says of a world that was reached by steps.
-use Rattle.std.proofs.Common.{Result, Ok, Err, IfOk, IfErr, Option, Some, None, IfSome, List, false, ◌≡◌, refl}
+use Rattle.std.proofs.Common.{Result, Ok, Err, IfOk, IfErr, Option, Some, None, IfSome, List, [], ◌∷◌, false, ◌≡◌, refl, arith}
 use Rattle.std.specs.List.{All}
 use Rattle.ymx_model.specs.declared.types.Role.TheVariants.{Client, Server}
 use Rattle.ymx_model.specs.session.Emissions.{in_turn}
-use Rattle.ymx_model.specs.world.Worlds.{World, Runs, new_world}
+use Rattle.ymx_model.specs.world.Worlds.{World, Steps, Runs, new_world}
 use Rattle.ymx_model.specs.declared.types.Step.{Step}
 use Rattle.ymx_model.specs.declared.types.Answer.{Answer}
 use Rattle.ymx_headline.specs.Laws.{breaks_off}
@@ -48,3 +48,7 @@ reached-sound steps answers w v r run =
     let before = run-alike in_turn r.steps r.answers r.window_a r.first_a r.window_b r.first_b w r.good r.runs in
     let after = runs-alike in_turn steps answers w v before.0 run before.2 in
     none-breaks in_turn steps answers w v before.0 after.0 after.1
+
+-- nor does the answer of a step
+pub step-sound : (st : Step) (given : Answer) (w v : World) → IsReached w → Steps in_turn st given w v → breaks_off given ≡ false
+step-sound st given w v r s = reached-sound (st ∷ []) (given ∷ []) w v r (v, s, refl) 0 given (omega arith)

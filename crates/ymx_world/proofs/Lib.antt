@@ -3,4 +3,5 @@ pub mod Acts
 pub mod Orders
 pub mod Headlines
 pub mod Bounds
+pub mod Progress
 pub mod NewWorlds

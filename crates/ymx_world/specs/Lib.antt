@@ -1,3 +1,4 @@
 pub mod Acts
 pub mod Reached
 pub mod Bounds
+pub mod Progress

@@ -14,6 +14,7 @@ ghost use Rattle.ymx_law_audit.specs.Joints.{IsJointOrder};
 ghost use Rattle.ymx_law_audit.specs.Told.{AreAnswered, AreOneRun};
 ghost use Rattle.ymx_world.specs.Bounds.{IsBounded};
 ghost use Rattle.ymx_world.specs.Acts.{session_of, pipe_of};
+ghost use Rattle.ymx_world.specs.Progress.{GoesForward};
 
 use crate::audit::audit;
 use crate::joined::Joined;
@@ -72,6 +73,10 @@ impl World {
         ensures same { OnErr result (self.new ≡ self.old) }
         // A queue machine that agreed with the world has a step with this answer, and agrees again.
         ensures machine { IfOk result (λ given. (m : Machine) → Agrees self.old m → Follows step.now given self.new m) }
+        // No session breaks.
+        ensures no_fault { IfOk result (λ given. breaks_off given ≡ false) }
+        // An emission gives what is due. A delivery takes a byte, or its receiver is held and has an answer due.
+        ensures forward { IfOk result (λ given. GoesForward step.now given self.old) }
     {
         self.joined.step(step)
     }
