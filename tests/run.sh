@@ -1,6 +1,6 @@
 #!/bin/sh
 # Runs all tests that stand beside `rt ci`, a line each, and what a test that failed has to say. With --all it
-# tries the wrong bodies too, which takes an hour or more. Ends with 'N passed, M failed'.
+# refuses each allocation of two sessions too, and tries the wrong bodies, which takes an hour or more. Ends with 'N passed, M failed'.
 set -eu
 root=$(cd "$(dirname "$0")/.." && pwd)
 log=$(mktemp)
@@ -42,6 +42,7 @@ try 'copies that fail' "$root/tests/tunnel/run.sh"
 try 'the front door' "$root/tests/connect/run.sh"
 try 'unit tests of the program' "$root/tests/units/run.sh"
 if [ "${1-}" = --all ]; then
+    try 'each allocation of two sessions fails' "$root/tests/worlds/run.sh" --refuse-each
     try 'wrong bodies' "$root/tests/wrong_bodies.sh"
 fi
 echo "$passed passed, $failed failed"

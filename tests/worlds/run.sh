@@ -1,7 +1,8 @@
 #!/bin/sh
 # Worked examples through two real sessions: what `World` answers, and what its audit finds. They run and are
 # not proved, since to prove them takes longer than to prove `ymx_world`; so they stand beside the gate.
+# With --refuse-each the rows are played again with each allocation refused in turn, which takes half a minute each.
 set -eu
 here=$(cd "$(dirname "$0")" && pwd)
 below=$(sed -n 's/^ymx_world: //p' "$here/../../crates.txt")
-exec "$here/../try_crate.sh" "$here" "world_examples: ymx_world $below"
+exec "$here/../try_crate.sh" "$here" "world_examples: ymx_world $below" "$@"
