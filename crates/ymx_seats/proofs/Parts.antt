@@ -1,10 +1,11 @@
 -- The parts of a transcript.
-use Rattle.std.proofs.Common.{◌≡◌, ℕ, ◌==◌, ◌+◌, ◌≤◌, ◌<◌, List, [], ◌∷◌, ◌++◌, length, Bool, true, false, cond, All, sum_by, take, get_or, refl, sym, ap, subst, ◌≢◌, ◌∙◌, arith}
+use Rattle.std.proofs.Common.{◌≡◌, ℕ, ◌==◌, ◌+◌, ◌≤◌, ◌<◌, List, [], ◌∷◌, ◌++◌, length, Bool, true, false, cond, All, sum_by, take, drop, get_or, length-append, length-take-le, take-append-drop, drop-cons, add-one, refl, sym, ap, subst, ◌≢◌, ◌∙◌, arith}
 use Rattle.std.proofs.lemmas.Grind.{common_steps}
 use Rattle.std.proofs.lemmas.Bool.Decides.{nat_tests}
+use Rattle.std.proofs.Math.Seq.{get_or-append_seam}
 use Rattle.std.proofs.lemmas.List.{take_more}
 use Rattle.std.proofs.lemmas.List.Sums.{sum_by-cons}
-use Rattle.std.proofs.lemmas.List.Elements.{All-cons, All-nil, All-head, All-tail, All-push}
+use Rattle.std.proofs.lemmas.List.Elements.{All-cons, All-nil, All-head, All-tail, All-push, filter-append}
 use Rattle.ymx_model.specs.declared.types.Entry.{Entry}
 use Rattle.ymx_seats.specs.Views.{SeatView}
 use Rattle.ymx_seats.specs.Agrees.{part, NumberedFrom, RisesFrom, behind_all, IsOwn, Agrees}
@@ -43,11 +44,11 @@ hits_by false s ss from x w d e n i h =
     rw d (i (omega arith))
 
 -- an entry weighs what it weighs at the one seat that it names
-hits : (ss : List SeatView) (from x w : ℕ) → NumberedFrom from ss → from ≤ x → x < from + length ss → sum_by (λ s. cond (x == s.number) w 0) ss ≡ w
+pub hits : (ss : List SeatView) (from x w : ℕ) → NumberedFrom from ss → from ≤ x → x < from + length ss → sum_by (λ s. cond (x == s.number) w 0) ss ≡ w
 hits [] from x w n h k = absurd (omega arith)
 hits (s ∷ ss) from x w n h k = hits_by (x == s.number) s ss from x w refl n.0 n.1 (λ q. hits ss (from + 1) x w n.1 q (omega arith)) h
 
-one_by : (b : Bool) (e : Entry) (es : List Entry) (weight : Entry → ℕ) → sum_by weight (cond b (e ∷ es) es) ≡ cond b (weight e) 0 + sum_by weight es
+pub one_by : (b : Bool) (e : Entry) (es : List Entry) (weight : Entry → ℕ) → sum_by weight (cond b (e ∷ es) es) ≡ cond b (weight e) 0 + sum_by weight es
 one_by true e es weight = sum_by-cons weight e es
 one_by false e es weight = omega arith
 
@@ -133,3 +134,37 @@ parts_on xs es i d h e a p = subst (All (λ s. s.entries ≡ part s.number es)) 
 
 pub risings_on : (xs : List SeatView) (i : ℕ) (d : SeatView) → i < length xs → d ≡ get_or xs i d → All (λ s. RisesFrom s.start s.entries) (take i xs) → RisesFrom d.start d.entries → All (λ s. RisesFrom s.start s.entries) (take (i + 1) xs)
 risings_on xs i d h e a p = subst (All (λ s. RisesFrom s.start s.entries)) (sym (more_seats xs i d h e)) (All-push (λ s. RisesFrom s.start s.entries) (take i xs) d a p)
+
+-- ---- loops that stop
+
+split_at : {X : Type 0} (xs : List X) (i : ℕ) (d : X) → i < length xs → d ≡ get_or xs i d → take i xs ++ d ∷ drop (i + 1) xs ≡ xs
+split_at xs i d h e = ap (λ ys. take i xs ++ ys) (ap (λ x. x ∷ drop (i + 1) xs) e ∙ sym (rw add-one (drop-cons xs i d h))) ∙ take-append-drop i xs
+
+rises_at : (es : List Entry) (e : Entry) (fs : List Entry) (from : ℕ) → RisesFrom from (es ++ e ∷ fs) → behind_all from es ≤ e.position
+rises_at [] e fs from r = r.0
+rises_at (x ∷ xs) e fs from r = rises_at xs e fs (x.position + 1) r.1
+
+-- the next position is not below what is behind the positions so far
+pub rises_next : (xs : List Entry) (i : ℕ) (d : Entry) (from : ℕ) → i < length xs → d ≡ get_or xs i d → RisesFrom from xs → behind_all from (take i xs) ≤ d.position
+rises_next xs i d from h e r = rises_at (take i xs) d (drop (i + 1) xs) from (subst (RisesFrom from) (sym (split_at xs i d h e)) r)
+
+numbered_at : (ss : List SeatView) (s : SeatView) (ts : List SeatView) (from : ℕ) → NumberedFrom from (ss ++ s ∷ ts) → s.number ≡ from + length ss
+numbered_at [] s ts from n = omega (arith, n.0)
+numbered_at (x ∷ xs) s ts from n = omega (arith, numbered_at xs s ts (from + 1) n.1)
+
+-- the next number is how many seats there were
+pub numbered_next : (xs : List SeatView) (i : ℕ) (d : SeatView) → i < length xs → d ≡ get_or xs i d → NumberedFrom 0 xs → d.number ≡ i
+numbered_next xs i d h e n = omega (arith, numbered_at (take i xs) d (drop (i + 1) xs) 0 (subst (NumberedFrom 0) (sym (split_at xs i d h e)) n), length-take-le i xs (omega arith))
+
+part_at : (es : List Entry) (e : Entry) (fs : List Entry) (n : ℕ) → e.seat ≡ n → part n (es ++ e ∷ fs) ≡ part n es ++ e ∷ part n fs
+part_at es e fs n q = filter-append (λ (e : Entry). e.seat == n) es (e ∷ fs) ∙ ap (λ b. part n es ++ cond b (e ∷ part n fs) (part n fs)) (let t : (e.seat == n) ≡ true = grind (arith, nat_tests) in t)
+
+-- what stands in a part behind the entries so far is the next entry of the seat
+pub part_next : (mine all : List Entry) (at i n : ℕ) (e : Entry) → at ≤ length mine → take at mine ≡ part n (take i all) → i < length all → e ≡ get_or all i e → e.seat ≡ n → mine ≡ part n all → (at < length mine) × ((d : Entry) → get_or mine at d ≡ e)
+part_next mine all at i n e w t h k q m =
+    let rest = part n (drop (i + 1) all) in
+    let is : mine ≡ take at mine ++ e ∷ rest = m ∙ (ap (part n) (sym (split_at all i e h k)) ∙ (part_at (take i all) e (drop (i + 1) all) n q ∙ ap (λ ys. ys ++ e ∷ rest) (sym t))) in
+    let long = length-take-le at mine w in (
+      omega (arith, ap length is, length-append (take at mine) (e ∷ rest)),
+      λ d. ap (λ ys. get_or ys at d) is ∙ (ap (λ j. get_or (take at mine ++ e ∷ rest) j d) (sym long) ∙ get_or-append_seam (take at mine) e rest d),
+    )

@@ -1,8 +1,9 @@
 //! The comparison of the seats' lists with the log. It takes no memory.
 
-ghost use Rattle.std.specs.Prelude.{◌≡◌, ◌↔◌, IsTrue, ◌<◌, length, All};
-ghost use Rattle.std.specs.List.Sorted.{IsPermutation};
+ghost use Rattle.std.specs.Prelude.{◌≡◌, ◌↔◌, IsTrue, ◌<◌, length, List, All};
+ghost use Rattle.std.specs.List.Sorted.{IsPermutation, IsNonDecreasingBy};
 ghost use Rattle.ymx_seats.specs.Agrees.{part, NumberedFrom, RisesFrom, IsOwn, Agrees};
+ghost use Rattle.ymx_seats.specs.Views.{SeatView};
 
 use crate::recorder::Recorder;
 use crate::seat::Seat;
@@ -74,7 +75,7 @@ pub fn same(a: &Entry, b: &Entry) -> bool
 
 /// Whether the entries that name this seat are just these, in this order.
 fn is_part(number: u32, mine: &[Entry], all: &[Entry]) -> bool
-    ensures { IsTrue result → mine.now ≡ part number all.now }
+    ensures { IsTrue result ↔ mine.now ≡ part number all.now }
 {
     let mut at = 0;
     for entry in all {
@@ -90,21 +91,22 @@ fn is_part(number: u32, mine: &[Entry], all: &[Entry]) -> bool
 
 /// Whether the positions rise from `start`.
 fn rises(start: u64, mine: &[Entry]) -> bool
-    ensures { IsTrue result → RisesFrom start mine.now }
+    ensures { IsTrue result ↔ RisesFrom start mine.now }
 {
-    let mut next = start;
+    // what follows the last position may not fit 64 bits
+    let mut next = start as u128;
     for entry in mine {
-        if entry.position < next || entry.position == u64::MAX {
+        if (entry.position as u128) < next {
             return false;
         }
-        next = entry.position + 1;
+        next = entry.position as u128 + 1;
     }
     true
 }
 
 /// Whether each entry names a seat below this number.
 fn are_within(count: usize, all: &[Entry]) -> bool
-    ensures { IsTrue result → All (λ e. e.seat < count) all.now }
+    ensures { IsTrue result ↔ All (λ e. e.seat < count) all.now }
 {
     for entry in all {
         if entry.seat as usize >= count {
@@ -116,7 +118,7 @@ fn are_within(count: usize, all: &[Entry]) -> bool
 
 /// Whether the seats have the numbers from 0 on.
 fn are_numbered<R: Recorder>(seats: &[Seat<R>]) -> bool
-    ensures { IsTrue result → NumberedFrom 0 seats.now }
+    ensures { IsTrue result ↔ NumberedFrom 0 seats.now }
 {
     let mut next = 0;
     for seat in seats {
@@ -132,6 +134,7 @@ fn are_numbered<R: Recorder>(seats: &[Seat<R>]) -> bool
 fn are_parts<R: Recorder>(seats: &[Seat<R>], all: &[Entry]) -> bool
     ensures parts { IsTrue result → All (λ s. s.entries ≡ part s.number all.now) seats.now }
     ensures rising { IsTrue result → All (λ s. RisesFrom s.start s.entries) seats.now }
+    ensures exact { All (λ s. s.entries ≡ part s.number all.now) seats.now → All (λ s. RisesFrom s.start s.entries) seats.now → IsTrue result }
 {
     for seat in seats {
         if !is_part(seat.number(), seat.entries(), all) || !rises(seat.start(), seat.entries()) {
@@ -143,17 +146,20 @@ fn are_parts<R: Recorder>(seats: &[Seat<R>], all: &[Entry]) -> bool
 
 /// Puts the seats into the order of their numbers.
 fn arrange<R: Recorder>(seats: &mut [Seat<R>])
-    ensures { IsPermutation seats.old seats.new }
+    ensures permutation { IsPermutation seats.old seats.new }
+    ensures sorted { IsNonDecreasingBy (λ s. s.number) seats.new }
 {
     seats.sort_unstable_by_key(|seat| seat.number());
 }
 
 /// Whether the seats are numbered 0, 1, 2, .., each once, and each entry stands in the list of the seat that it
-/// names, and nowhere else, at positions that rise from the seat's start. It puts the seats into the order of
-/// their numbers.
+/// names, and nowhere else, at positions that rise from the seat's start. The seats may come in any order, and are
+/// put into that of their numbers. The entries of `all` come in the order of their positions; in another order
+/// `false` can be answered for lists that hold the same entries.
 pub fn agree<R: Recorder>(seats: &mut [Seat<R>], all: &[Entry]) -> bool
     ensures seats { IsPermutation seats.old seats.new }
     ensures agree { IsTrue result → Agrees seats.new all.now }
+    ensures exact { RisesFrom 0 all.now → (order : List SeatView) → IsPermutation seats.old order → Agrees order all.now → IsTrue result }
 {
     arrange(seats);
     if !are_numbered(seats) {

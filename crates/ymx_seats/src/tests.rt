@@ -1,4 +1,4 @@
-//! What no clause says: that the comparison finds lists that agree.
+//! Seats and a log together: what was kept for both agrees, and what was kept for one alone does not.
 
 use crate::{Ask, Full, Log, Off, Recorder, Seat, Tell, agree, let_go, same};
 use std::alloc::{AllocError, Global};
