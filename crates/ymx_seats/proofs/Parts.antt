@@ -18,6 +18,10 @@ pub after_more : (es : List Entry) (from : ℕ) (e : Entry) → behind_all from 
 after_more [] from e = refl
 after_more (x ∷ xs) from e = after_more xs (x.position + 1) e
 
+-- an entry at the end whose position is how many there were
+pub rises_pushed : (es fs : List Entry) (e : Entry) (n : ℕ) → fs ≡ es ++ e ∷ [] → e.position ≡ n → RisesFrom 0 es × (behind_all 0 es ≤ n) → RisesFrom 0 fs × (behind_all 0 fs ≤ n + 1)
+rises_pushed es fs e n is at r = rw is (rises_more es 0 e r.0 (omega (arith, r.1)), omega (arith, after_more es 0 e))
+
 pub numbered_more : (ss : List SeatView) (from : ℕ) (s : SeatView) → NumberedFrom from ss → s.number ≡ from + length ss → NumberedFrom from (ss ++ s ∷ [])
 numbered_more [] from s n e = (omega (arith, e), tt)
 numbered_more (x ∷ xs) from s n e = (n.0, numbered_more xs (from + 1) s n.1 (omega (arith, e)))

@@ -9,7 +9,7 @@ use std::alloc::{AllocError, Global};
 use std::marker::{Model, PhantomData};
 use ymx_model::Entry;
 
-/// The entries so far. A contract sees them, and for how many more there is memory.
+/// The entries so far. A contract sees them, and for how many more there is memory. Their positions rise.
 #[derive(Drop)]
 pub struct Log<R: Recorder> {
     entries: Vec<Entry>,
@@ -17,15 +17,19 @@ pub struct Log<R: Recorder> {
 }
 
 impl<R: Recorder> Model for Log<R> {
-    ghost use Rattle.std.specs.Prelude.{◌-◌, vec_capacity, vec_len};
+    ghost use Rattle.std.specs.Prelude.{◌-◌, ◌≤◌, vec_capacity, vec_len};
+    ghost use Rattle.ymx_seats.specs.Agrees.{RisesFrom, behind_all};
     ghost use Rattle.ymx_seats.specs.Views.{LogView};
 
     ghost Value = { LogView };
 
     ghost view = { λ s. record { entries = s.entries.items; room = vec_capacity s.entries - vec_len s.entries } };
+
+    ghost invariant = { λ s. RisesFrom 0 s.entries.items × (behind_all 0 s.entries.items ≤ vec_len s.entries) };
 }
 
 impl<R: Recorder> Log<R> {
+    ghost use Rattle.ymx_seats.specs.Agrees.{RisesFrom};
     ghost use Rattle.ymx_seats.specs.Views.{kept_entries, entry};
     ghost use Rattle.ymx_seats.specs.Slips.{asked_by, told_by, bytes_told, IsReady};
 
@@ -109,9 +113,10 @@ impl<R: Recorder> Log<R> {
         });
     }
 
-    /// The entries so far.
+    /// The entries so far. Their positions rise.
     pub fn entries(&self) -> &[Entry]
-        ensures { result.now ≡ self.now.entries }
+        ensures entries { result.now ≡ self.now.entries }
+        ensures rising { RisesFrom 0 self.now.entries }
     {
         &self.entries
     }
