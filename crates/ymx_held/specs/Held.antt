@@ -6,11 +6,12 @@ use Rattle.ymx_model.specs.declared.types.Entry.{Entry}
 use Rattle.ymx_model.specs.session.Sessions.{Session}
 use Rattle.ymx_seats.specs.Transcripts.{IsHistory}
 
--- the session, the entries so far, and how many seats were given
+-- the session, the entries so far, how many seats were given, and whether the transcript was handed out
 pub record HeldView : Type 0 where
   pub session : Session
   pub entries : List Entry
   pub given : ℕ
+  pub ended : Bool
 
 -- until they are moved out, the entries that are kept are the history of the session, which was made with this
 -- role and config

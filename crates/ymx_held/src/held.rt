@@ -1,12 +1,13 @@
 //! The value under the lock of a hub.
 
-ghost use Rattle.std.specs.Prelude.{◌≡◌, ◌+◌, List, [], length, true, IfOk, MatchResult};
+ghost use Rattle.std.specs.Prelude.{◌≡◌, ◌≢◌, ◌⊎◌, ◌+◌, List, [], length, true, false, IfOk, IfErr, OnOk, OnErr, MatchResult};
 ghost use Rattle.std.specs.List.Sorted.{IsPermutation};
 ghost use Rattle.ymx_model.specs.session.Emissions.{is_ready};
 ghost use Rattle.ymx_seats.specs.Agrees.{Agrees};
 ghost use Rattle.ymx_seats.specs.Transcripts.{IsNew};
 ghost use Rattle.ymx_seats.specs.Views.{SeatView};
 ghost use Rattle.ymx_held.specs.Answers.{IsNotMemory};
+ghost use Rattle.ymx_held.specs.declared.end_fault.EndWhy.TheVariants.{SeatsOut, OutOfOrder};
 
 use crate::end_fault::{EndFault, EndWhy};
 use crate::faults::HubFault;
@@ -18,8 +19,9 @@ use ymx_seats::{Log, Recorder, Seat, Transcript, agree, let_go};
 use ymx_session::Session;
 
 /// A session, with what it was made, the log of its events, how many seats were given, how many streams have both
-/// halves unspent, and the ids of those with one half spent. A contract sees the session, the log and how many seats
-/// were given; and the log is the history of the session, from the one of this role and config that has done nothing.
+/// halves unspent, and the ids of those with one half spent. A contract sees the session, the log, how many seats
+/// were given, and whether the transcript was handed out. Until then the log is the history of the session, from the
+/// one of this role and config that has done nothing.
 #[derive(Drop)]
 pub struct Held<R: Recorder> {
     pub(crate) alloc: Global,
@@ -40,7 +42,7 @@ impl<R: Recorder> Model for Held<R> {
 
     ghost Value = { HeldView };
 
-    ghost view = { λ s. record { session = s.session; entries = s.log.entries; given = s.given } };
+    ghost view = { λ s. record { session = s.session; entries = s.log.entries; given = s.given; ended = s.ended } };
 
     ghost invariant = { λ s. Kept R.KEEPS s.ended s.role s.config s.log.entries s.session × (s.unspent + vec_len s.half_spent ≤ vec_capacity s.half_spent) × (s.unspent ≤ s.given) × IsGood s.role s.config };
 }
@@ -99,10 +101,14 @@ impl<R: Recorder> Held<R> {
     }
 
     /// Hands the transcript out, once all seats that were given are handed in and their lists agree with it. Else
-    /// the seats come back: with `SeatsOut` where there are more or fewer than were given, and where the transcript was
-    /// handed out before; else with `OutOfOrder`. It takes no memory.
+    /// nothing changes, and the seats come back: with `SeatsOut` where there are more or fewer than were given, and
+    /// where the transcript was handed out before; else with `OutOfOrder`. It takes no memory.
     pub fn end(&mut self, seats: Vec<Seat<R>>) -> Result<Transcript, EndFault<R>>
-        ensures { MatchResult result (λ transcript. R.KEEPS ≡ true → (all : List SeatView) × IsPermutation seats.items all × (length all ≡ self.old.given) × Agrees all transcript.entries) (λ fault. IsPermutation seats.items fault.seats.items) }
+        ensures ended { MatchResult result (λ transcript. R.KEEPS ≡ true → (all : List SeatView) × IsPermutation seats.items all × (length all ≡ self.old.given) × Agrees all transcript.entries) (λ fault. IsPermutation seats.items fault.seats.items) }
+        ensures seats_out { IfErr result (λ fault. fault.why ≡ SeatsOut → (self.old.ended ≡ true) ⊎ (length seats.items ≢ self.old.given)) }
+        ensures out_of_order { IfErr result (λ fault. fault.why ≡ OutOfOrder → (self.old.ended ≡ false) × (length seats.items ≡ self.old.given) × ((order : List SeatView) → IsPermutation seats.items order → Agrees order self.old.entries → ⊥)) }
+        ensures spent { OnOk result ((self.old.ended ≡ false) × (self.new.ended ≡ true) × (length seats.items ≡ self.old.given)) }
+        ensures unchanged { OnErr result (self.new ≡ self.old) }
     {
         let mut seats = seats;
         if self.ended || seats.len() != self.given as usize {
