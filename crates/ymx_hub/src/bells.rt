@@ -4,6 +4,13 @@
 //! credit of a stream that is one of 64, which streams share by their ids. Whoever changes what others may wait for
 //! takes the waiters under the lock, and rings their bells behind it. So a bell that nobody waits at costs nothing,
 //! and no wake-up is lost: who waits has said so before its event could come.
+//!
+//! Those who wait for an offered stream are woken one by one. Each counts itself before it sleeps, and takes itself
+//! back once it has the lock again, so the count is never below the number of sleepers. A feed rings once for each
+//! SYN, but no more often than the count, and a ring wakes a sleeper if there is one. So for each offered stream an
+//! acceptor is awake or a ring is to come, or else a ring is to come for each sleeper. Who is woken and finds the
+//! stream taken by another sleeps again: nothing is offered then. Who is woken and refused leaves the stream, and
+//! rings once more.
 
 ghost use Rattle.std.specs.Prelude.{◌<◌};
 
@@ -20,8 +27,8 @@ pub(crate) struct Waiters {
     pub(crate) readers: u64,
     /// A bit for each bell of streams that are written.
     pub(crate) writers: u64,
-    /// Somebody waits for a stream that is offered.
-    pub(crate) acceptors: bool,
+    /// How many wait for a stream that is offered.
+    pub(crate) acceptors: u32,
     /// Somebody waits for the answer to a ping.
     pub(crate) pingers: bool,
     /// Somebody waits until nothing is due, or until fewer answers are unsent.
@@ -34,7 +41,7 @@ impl Waiters {
         Waiters {
             readers: 0,
             writers: 0,
-            acceptors: false,
+            acceptors: 0,
             pingers: false,
             emptiers: false,
         }
@@ -45,7 +52,7 @@ impl Waiters {
         Waiters {
             readers: u64::MAX,
             writers: u64::MAX,
-            acceptors: true,
+            acceptors: u32::MAX,
             pingers: true,
             emptiers: true,
         }
@@ -56,27 +63,37 @@ impl Waiters {
         Waiters {
             readers: self.readers | those.readers,
             writers: self.writers | those.writers,
-            acceptors: self.acceptors || those.acceptors,
+            acceptors: self.acceptors.saturating_add(those.acceptors),
             pingers: self.pingers || those.pingers,
             emptiers: self.emptiers || those.emptiers,
         }
     }
 
-    /// Takes those who wait and are concerned: they are to be woken.
+    /// Takes those who wait and are concerned: they are to be woken. Those who wait for an offered stream take
+    /// themselves back.
     pub(crate) fn take(&mut self, concerned: Waiters) -> Waiters {
         let taken = Waiters {
             readers: self.readers & concerned.readers,
             writers: self.writers & concerned.writers,
-            acceptors: self.acceptors && concerned.acceptors,
+            acceptors: self.acceptors.min(concerned.acceptors),
             pingers: self.pingers && concerned.pingers,
             emptiers: self.emptiers && concerned.emptiers,
         };
         self.readers &= !concerned.readers;
         self.writers &= !concerned.writers;
-        self.acceptors &= !concerned.acceptors;
         self.pingers &= !concerned.pingers;
         self.emptiers &= !concerned.emptiers;
         taken
+    }
+
+    /// One more will wait for an offered stream.
+    pub(crate) fn add_acceptor(&mut self) {
+        self.acceptors = self.acceptors.saturating_add(1);
+    }
+
+    /// One that waited for an offered stream has the lock again.
+    pub(crate) fn remove_acceptor(&mut self) {
+        self.acceptors = self.acceptors.saturating_sub(1);
     }
 
     /// Takes those who wait until bytes went out.
@@ -141,8 +158,8 @@ impl Bells {
     pub(crate) fn ring(&self, waiters: Waiters) {
         ring_groups(&self.readers, waiters.readers);
         ring_groups(&self.writers, waiters.writers);
-        if waiters.acceptors {
-            self.offered.notify_all();
+        for _ in 0..waiters.acceptors {
+            self.offered.notify_one();
         }
         if waiters.pingers {
             self.ponged.notify_all();

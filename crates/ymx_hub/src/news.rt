@@ -50,7 +50,7 @@ fn concerned_by(header: &Header) -> Waiters {
     let has = |flag: u16| header.flags & flag != 0;
     match header.kind {
         TYPE_DATA | TYPE_WINDOW_UPDATE => {
-            concerned.acceptors = has(FLAG_SYN);
+            concerned.acceptors = u32::from(has(FLAG_SYN));
             if has(FLAG_FIN | FLAG_RST) {
                 concerned.readers = bit(header.id);
             }

@@ -24,6 +24,7 @@ impl<R: Recorder> Hub<R> {
         ensures start { seat.new.start ≡ seat.old.start }
         ensures booked { Gains R.KEEPS seat.old.entries seat.new.entries (AcceptsInTurns seat.old.number result) }
     {
+        let mut was_woken = false;
         let mut desk = self.desk.lock(rt);
         for _ in rt.forever() {
             let was_due = desk.held.due();
@@ -33,12 +34,20 @@ impl<R: Recorder> Hub<R> {
                     return Ok(Some(offer));
                 }
                 Ok(None) => {
-                    desk.waiters.acceptors = true;
+                    desk.waiters.add_acceptor();
                     desk = self.bells.offered.wait(rt, desk);
+                    desk.waiters.remove_acceptor();
+                    was_woken = true;
                 }
                 Err(HubFault::Call(CallFault::Lost)) => return Ok(None),
                 Err(HubFault::Call(CallFault::Closed)) => return Ok(None),
-                Err(fault) => return Err(fault),
+                Err(fault) => {
+                    if was_woken {
+                        // The stream is still offered, and another may have memory for it.
+                        self.bells.offered.notify_one();
+                    }
+                    return Err(fault);
+                }
             }
         }
         unreachable!()
