@@ -1,7 +1,7 @@
 //! Who wakes whom.
 //!
 //! Whoever waits says so under the lock, in `Waiters`, and sleeps on the bell of its purpose; for the bytes or the
-//! credit of a stream that is one of 64, which streams share by their ids. Whoever changes what others may wait for
+//! credit of a stream that is one of 1,024, which streams share by their ids. Whoever changes what others may wait for
 //! takes the waiters under the lock, and rings their bells behind it. So a bell that nobody waits at costs nothing,
 //! and no wake-up is lost: who waits has said so before its event could come.
 //!
@@ -14,21 +14,22 @@
 
 ghost use Rattle.std.specs.Prelude.{◌<◌};
 
-use std::array;
+use crate::bell_set::{BellSet, take_lowest};
 use std::sync::Condvar;
+use std::{array, mem};
 
 /// How many bells the streams share, for reading and for writing each.
-const GROUPS: u32 = 64;
+const BELLS: u32 = 1_024;
 
-/// Who waits, and for what.
-#[derive(Clone, Copy, Drop)]
+/// Who waits, and for what; or who is to be woken.
+#[derive(Drop)]
 pub(crate) struct Waiters {
-    /// A bit for each bell of streams that are read.
-    pub(crate) readers: u64,
-    /// A bit for each bell of streams that are written.
-    pub(crate) writers: u64,
+    /// The bells of those who read a stream.
+    readers: BellSet,
+    /// The bells of those who write a stream.
+    writers: BellSet,
     /// How many wait for a stream that is offered.
-    pub(crate) acceptors: u32,
+    acceptors: u32,
     /// Somebody waits for the answer to a ping.
     pub(crate) pingers: bool,
     /// Somebody waits until nothing is due, or until fewer answers are unsent.
@@ -36,54 +37,25 @@ pub(crate) struct Waiters {
 }
 
 impl Waiters {
-    /// Nobody waits.
+    /// Nobody.
     pub(crate) fn none() -> Waiters {
         Waiters {
-            readers: 0,
-            writers: 0,
+            readers: BellSet::none(),
+            writers: BellSet::none(),
             acceptors: 0,
             pingers: false,
             emptiers: false,
         }
     }
 
-    /// Everybody.
-    pub(crate) fn all() -> Waiters {
-        Waiters {
-            readers: u64::MAX,
-            writers: u64::MAX,
-            acceptors: u32::MAX,
-            pingers: true,
-            emptiers: true,
-        }
+    /// Somebody will wait who reads this stream.
+    pub(crate) fn add_reader(&mut self, id: u32) {
+        self.readers.add(bell_of(id));
     }
 
-    /// Both these and those.
-    pub(crate) fn and(self, those: Waiters) -> Waiters {
-        Waiters {
-            readers: self.readers | those.readers,
-            writers: self.writers | those.writers,
-            acceptors: self.acceptors.saturating_add(those.acceptors),
-            pingers: self.pingers || those.pingers,
-            emptiers: self.emptiers || those.emptiers,
-        }
-    }
-
-    /// Takes those who wait and are concerned: they are to be woken. Those who wait for an offered stream take
-    /// themselves back.
-    pub(crate) fn take(&mut self, concerned: Waiters) -> Waiters {
-        let taken = Waiters {
-            readers: self.readers & concerned.readers,
-            writers: self.writers & concerned.writers,
-            acceptors: self.acceptors.min(concerned.acceptors),
-            pingers: self.pingers && concerned.pingers,
-            emptiers: self.emptiers && concerned.emptiers,
-        };
-        self.readers &= !concerned.readers;
-        self.writers &= !concerned.writers;
-        self.pingers &= !concerned.pingers;
-        self.emptiers &= !concerned.emptiers;
-        taken
+    /// Somebody will wait who writes this stream.
+    pub(crate) fn add_writer(&mut self, id: u32) {
+        self.writers.add(bell_of(id));
     }
 
     /// One more will wait for an offered stream.
@@ -96,31 +68,65 @@ impl Waiters {
         self.acceptors = self.acceptors.saturating_sub(1);
     }
 
-    /// Takes those who wait until bytes went out.
-    pub(crate) fn take_emptiers(&mut self) -> Waiters {
-        let mut concerned = Waiters::none();
-        concerned.emptiers = true;
-        self.take(concerned)
+    /// Moves who reads this stream to those who are woken.
+    pub(crate) fn wake_reader(&mut self, id: u32, woken: &mut Waiters) {
+        let bell = bell_of(id);
+        if self.readers.take(bell) {
+            woken.readers.add(bell);
+        }
+    }
+
+    /// Moves who writes this stream to those who are woken.
+    pub(crate) fn wake_writer(&mut self, id: u32, woken: &mut Waiters) {
+        let bell = bell_of(id);
+        if self.writers.take(bell) {
+            woken.writers.add(bell);
+        }
+    }
+
+    /// One more of those who wait for an offered stream is woken, if there is one more. It takes itself back.
+    pub(crate) fn wake_acceptor(&self, woken: &mut Waiters) {
+        if woken.acceptors < self.acceptors {
+            woken.acceptors += 1;
+        }
+    }
+
+    /// Moves who waits for the answer to a ping to those who are woken.
+    pub(crate) fn wake_pingers(&mut self, woken: &mut Waiters) {
+        if mem::take(&mut self.pingers) {
+            woken.pingers = true;
+        }
+    }
+
+    /// Takes those who wait until bytes went out: whether there are any.
+    pub(crate) fn take_emptiers(&mut self) -> bool {
+        mem::take(&mut self.emptiers)
+    }
+
+    /// Moves all to those who are woken. Those who wait for an offered stream take themselves back.
+    pub(crate) fn wake_all(&mut self, woken: &mut Waiters) {
+        self.readers.move_to(&mut woken.readers);
+        self.writers.move_to(&mut woken.writers);
+        woken.acceptors = self.acceptors;
+        self.wake_pingers(woken);
+        if self.take_emptiers() {
+            woken.emptiers = true;
+        }
     }
 }
 
-/// The group of a stream: ids of one side differ by two.
-fn group(id: u32) -> u32
-    ensures { result < 64 }
+/// The bell of a stream: ids of one side differ by two.
+fn bell_of(id: u32) -> u32
+    ensures { result < 1_024 }
 {
-    id / 2 % GROUPS
-}
-
-/// The bit of a stream's group.
-pub(crate) fn bit(id: u32) -> u64 {
-    1 << group(id)
+    id / 2 % BELLS
 }
 
 /// What waiters sleep on.
 #[derive(Drop)]
 pub(crate) struct Bells {
-    readers: [Condvar; 64],
-    writers: [Condvar; 64],
+    readers: [Condvar; 1_024],
+    writers: [Condvar; 1_024],
     /// A stream is offered.
     pub(crate) offered: Condvar,
     /// The answer to a ping is back.
@@ -146,18 +152,18 @@ impl Bells {
 
     /// The bell of who reads this stream.
     pub(crate) fn reader(&self, id: u32) -> &Condvar {
-        &self.readers[group(id) as usize]
+        &self.readers[bell_of(id) as usize]
     }
 
     /// The bell of who writes this stream.
     pub(crate) fn writer(&self, id: u32) -> &Condvar {
-        &self.writers[group(id) as usize]
+        &self.writers[bell_of(id) as usize]
     }
 
     /// Wakes these waiters.
-    pub(crate) fn ring(&self, waiters: Waiters) {
-        ring_groups(&self.readers, waiters.readers);
-        ring_groups(&self.writers, waiters.writers);
+    pub(crate) fn ring(&self, waiters: &Waiters) {
+        ring_set(&self.readers, &waiters.readers);
+        ring_set(&self.writers, &waiters.writers);
         for _ in 0..waiters.acceptors {
             self.offered.notify_one();
         }
@@ -170,14 +176,15 @@ impl Bells {
     }
 }
 
-/// Rings the bells whose bits are set.
-fn ring_groups(bells: &[Condvar; 64], groups: u64) {
-    if groups == 0 {
-        return;
-    }
-    for group in 0..GROUPS {
-        if groups >> group & 1 == 1 {
-            bells[group as usize].notify_all();
+/// Rings the bells of this set.
+fn ring_set(bells: &[Condvar; 1_024], set: &BellSet) {
+    let mut filled = set.filled();
+    for _ in 0..filled.count_ones() {
+        let place = take_lowest(&mut filled) % 16;
+        let mut word = set.word(place);
+        for _ in 0..word.count_ones() {
+            let bell = place * 64 + take_lowest(&mut word);
+            bells[bell as usize].notify_all();
         }
     }
 }

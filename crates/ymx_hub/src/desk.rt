@@ -28,4 +28,21 @@ impl<R: Recorder> Desk<R> {
             is_mute: false,
         }
     }
+
+    /// Takes those whom the bytes concern that the session just took.
+    pub(crate) fn take_concerned(&mut self, bytes: &[u8]) -> Waiters {
+        let mut woken = Waiters::none();
+        self.news.read(bytes, &mut self.waiters, &mut woken);
+        if !self.held.due() && self.waiters.take_emptiers() {
+            woken.emptiers = true;
+        }
+        woken
+    }
+
+    /// Takes all who wait.
+    pub(crate) fn take_all(&mut self) -> Waiters {
+        let mut woken = Waiters::none();
+        self.waiters.wake_all(&mut woken);
+        woken
+    }
 }

@@ -9,7 +9,7 @@ ghost use Rattle.ymx_seats.specs.Views.{SeatView};
 ghost use Rattle.ymx_held.specs.Answers.{IsNotMemory};
 ghost use Rattle.ymx_held.specs.Booked.{Gains, Asks, Opens, OpensWith, Spends, Closes, to_finish, to_reset, to_go_away, to_close};
 
-use crate::bells::{Bells, Waiters};
+use crate::bells::Bells;
 use crate::desk::Desk;
 use std::alloc::{AllocError, Global};
 use std::sync::{Arc, Mutex, MutexGuard, Wait};
@@ -57,9 +57,9 @@ impl<R: Recorder> Hub<R> {
     /// Wakes all, as the session is lost, broken or closed.
     pub(crate) fn wake_all(&self, desk: MutexGuard<'_, Desk<R>>) {
         let mut desk = desk;
-        let waiters = desk.waiters.take(Waiters::all());
+        let woken = desk.take_all();
         drop(desk);
-        self.bells.ring(waiters);
+        self.bells.ring(&woken);
         self.bells.due.notify_all();
     }
 

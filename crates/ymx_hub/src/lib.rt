@@ -6,6 +6,7 @@
 #![tactic(auto)]
 
 mod acceptor;
+mod bell_set;
 mod bells;
 mod desk;
 mod halves;

@@ -42,11 +42,9 @@ impl<R: Recorder> Hub<R> {
             return Ok(fed);
         }
         desk.is_full = fed.why == Why::Held;
-        let mut concerned = desk.news.read(&bytes[..fed.taken]);
-        concerned.emptiers = !desk.held.due();
-        let woken = desk.waiters.take(concerned);
+        let woken = desk.take_concerned(&bytes[..fed.taken]);
         drop(desk);
-        self.bells.ring(woken);
+        self.bells.ring(&woken);
         Ok(fed)
     }
 
@@ -97,9 +95,11 @@ impl<R: Recorder> Hub<R> {
         }
         let count = desk.held.emit(seat, buffer)?;
         desk.is_full = false;
-        let woken = desk.waiters.take_emptiers();
+        let has_emptiers = desk.waiters.take_emptiers();
         drop(desk);
-        self.bells.ring(woken);
+        if has_emptiers {
+            self.bells.emptied.notify_all();
+        }
         Ok(Turn::Emitted(count))
     }
 
@@ -115,8 +115,10 @@ impl<R: Recorder> Hub<R> {
     pub fn give_up<W: Wait>(&self, rt: &W) {
         let mut desk = self.desk.lock(rt);
         desk.is_mute = true;
-        let woken = desk.waiters.take_emptiers();
+        let has_emptiers = desk.waiters.take_emptiers();
         drop(desk);
-        self.bells.ring(woken);
+        if has_emptiers {
+            self.bells.emptied.notify_all();
+        }
     }
 }

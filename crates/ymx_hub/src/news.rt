@@ -1,10 +1,10 @@
 //! Whom the bytes that came concern.
 
-use crate::bells::{Waiters, bit};
+use crate::bells::Waiters;
 use ymx_cutter::{Cutter, Item};
 use ymx_header::{FLAG_FIN, FLAG_RST, FLAG_SYN, Header, TYPE_DATA, TYPE_PING, TYPE_WINDOW_UPDATE};
 
-/// Reads along what the session took, and says whom the frames concern. It judges nothing: where a frame is bad,
+/// Reads along what the session took, and wakes whom the frames concern. It judges nothing: where a frame is bad,
 /// the session breaks, and all are woken.
 #[derive(Drop)]
 pub(crate) struct News {
@@ -22,9 +22,8 @@ impl News {
         }
     }
 
-    /// Whom these bytes concern, which come next.
-    pub(crate) fn read(&mut self, bytes: &[u8]) -> Waiters {
-        let mut concerned = Waiters::none();
+    /// Moves whom these bytes concern, which come next, out of those who wait to those who are woken.
+    pub(crate) fn read(&mut self, bytes: &[u8], waiters: &mut Waiters, woken: &mut Waiters) {
         let mut rest = bytes;
         // Each call takes a byte at least, as long as there are any and no header is bad.
         for _ in 0..bytes.len() {
@@ -33,34 +32,40 @@ impl News {
             match item {
                 Some(Item::Head(header)) => {
                     self.id = header.id;
-                    concerned = concerned.and(concerned_by(&header));
+                    wake_by(&header, waiters, woken);
                 }
-                Some(Item::Piece { .. }) => concerned.readers |= bit(self.id),
-                Some(Item::Fault(_)) => return Waiters::all(),
-                None => return concerned,
+                Some(Item::Piece { .. }) => waiters.wake_reader(self.id, woken),
+                Some(Item::Fault(_)) => {
+                    waiters.wake_all(woken);
+                    return;
+                }
+                None => return,
             }
         }
-        concerned
     }
 }
 
-/// Whom a frame concerns by its header.
-fn concerned_by(header: &Header) -> Waiters {
-    let mut concerned = Waiters::none();
+/// Wakes whom a frame concerns by its header.
+fn wake_by(header: &Header, waiters: &mut Waiters, woken: &mut Waiters) {
     let has = |flag: u16| header.flags & flag != 0;
     match header.kind {
         TYPE_DATA | TYPE_WINDOW_UPDATE => {
-            concerned.acceptors = u32::from(has(FLAG_SYN));
+            if has(FLAG_SYN) {
+                waiters.wake_acceptor(woken);
+            }
             if has(FLAG_FIN | FLAG_RST) {
-                concerned.readers = bit(header.id);
+                waiters.wake_reader(header.id, woken);
             }
             let is_credit = header.kind == TYPE_WINDOW_UPDATE && header.length > 0;
             if is_credit || has(FLAG_RST) {
-                concerned.writers = bit(header.id);
+                waiters.wake_writer(header.id, woken);
             }
         }
-        TYPE_PING => concerned.pingers = !has(FLAG_SYN),
-        _ => concerned = Waiters::all(),
+        TYPE_PING => {
+            if !has(FLAG_SYN) {
+                waiters.wake_pingers(woken);
+            }
+        }
+        _ => waiters.wake_all(woken),
     }
-    concerned
 }

@@ -5,7 +5,6 @@ ghost use Rattle.ymx_held.specs.Answers.{IsNotMemory};
 ghost use Rattle.ymx_held.specs.Booked.{Gains};
 ghost use Rattle.ymx_hub.specs.Turns.{AcceptsInTurns, Reads, Pings, Writes};
 
-use crate::bells::bit;
 use crate::hub::Hub;
 use crate::write_fault::WriteFault;
 use std::sync::Wait;
@@ -79,7 +78,7 @@ impl<R: Recorder> Hub<R> {
                 }
                 Ok(Got::End) => return Ok(0),
                 Ok(Got::Wait) => {
-                    desk.waiters.readers |= bit(id);
+                    desk.waiters.add_reader(id);
                     desk = self.bells.reader(id).wait(rt, desk);
                 }
                 Err(fault) => return Err(fault),
@@ -114,7 +113,7 @@ impl<R: Recorder> Hub<R> {
                     }
                 }
                 Ok(Wrote::Wait) => {
-                    desk.waiters.writers |= bit(id);
+                    desk.waiters.add_writer(id);
                     desk = self.bells.writer(id).wait(rt, desk);
                 }
                 Err(fault) => return Err(WriteFault { taken, fault }),
