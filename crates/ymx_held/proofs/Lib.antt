@@ -1,3 +1,4 @@
 pub mod History
 pub mod Books
 pub mod Spares
+pub mod Given

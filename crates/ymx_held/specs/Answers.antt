@@ -1,7 +1,9 @@
 -- What a hub answers for what its session answered (this project's own).
-use Rattle.std.specs.Prelude.{◌≡◌, ℕ, Result, Ok, Err, IfErr}
+use Rattle.std.specs.Prelude.{◌≡◌, ℕ, ◌<◌, Result, Ok, Err, IfErr}
 use Rattle.ymx_model.specs.declared.types.CallFault.{CallFault}
 use Rattle.ymx_model.specs.declared.types.CallFault.TheVariants.{OutOfMemory}
+use Rattle.ymx_model.specs.declared.types.Got.{Got}
+use Rattle.ymx_model.specs.declared.types.Got.TheVariants as got
 use Rattle.ymx_model.specs.declared.types.Wrote.{Wrote}
 use Rattle.ymx_model.specs.declared.types.Wrote.TheVariants as wrote
 use Rattle.ymx_held.specs.declared.faults.HubFault.{HubFault}
@@ -24,3 +26,9 @@ IsNotMemory result = IfErr result (λ fault. fault ≡ Memory → ⊥)
 abbrev pub took_count : Wrote → ℕ
 took_count (wrote.Took n) = n
 took_count wrote.Wait = 0
+
+-- a read that gives bytes gives one at least
+abbrev pub GivesSome : Got → Type 0
+GivesSome (got.Bytes n) = 0 < n
+GivesSome got.End = Unit {0}
+GivesSome got.Wait = Unit {0}

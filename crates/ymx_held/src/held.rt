@@ -1,6 +1,6 @@
 //! The value under the lock of a hub.
 
-ghost use Rattle.std.specs.Prelude.{◌≡◌, ◌≢◌, ◌⊎◌, ◌+◌, List, [], length, true, false, IfOk, IfErr, OnOk, OnErr, MatchResult};
+ghost use Rattle.std.specs.Prelude.{◌≡◌, ◌≢◌, ◌⊎◌, ◌+◌, ◌^◌, List, [], length, true, false, IfOk, IfErr, OnOk, OnErr, MatchResult};
 ghost use Rattle.std.specs.List.Sorted.{IsPermutation};
 ghost use Rattle.ymx_model.specs.session.Emissions.{is_ready};
 ghost use Rattle.ymx_seats.specs.Agrees.{Agrees};
@@ -48,9 +48,10 @@ impl<R: Recorder> Model for Held<R> {
 }
 
 impl<R: Recorder> Held<R> {
-    /// Holds a session that has done nothing. Takes no memory.
+    /// Holds a session that has done nothing, with no entries and no seats. Takes no memory.
     pub fn new(alloc: Global, session: Session) -> Held<R>
         requires { IsNew session }
+        ensures { result ≡ record { session = session; entries = []; given = 0 } }
     {
         let config = Config {
             window: session.window(),
@@ -70,10 +71,12 @@ impl<R: Recorder> Held<R> {
     }
 
     /// A new seat, whose entries come after those that are there. `Closed` once the transcript was handed out, and
-    /// `Seats` after 4,294,967,295 of them. Takes no memory.
+    /// `Seats` after 4,294,967,295 of them: nothing is changed then. Takes no memory.
     pub fn seat(&mut self) -> Result<Seat<R>, HubFault>
         ensures spares { IsNotMemory result }
         ensures new { IfOk result (λ seat. (seat.number ≡ self.old.given) × (seat.entries ≡ []) × (seat.start ≡ length self.old.entries)) }
+        ensures counted { MatchResult result (λ seat. self.new ≡ record self.old { given = self.old.given + 1 }) (λ fault. self.new ≡ self.old) }
+        ensures refused { IfErr result (λ fault. (fault ≡ HubFault.Call CallFault.Closed) ⊎ ((fault ≡ HubFault.Seats) × (self.old.given + 1 ≡ 2 ^ 32))) }
     {
         if self.ended {
             return Err(HubFault::Call(CallFault::Closed));

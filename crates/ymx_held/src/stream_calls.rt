@@ -1,9 +1,9 @@
 //! Bytes of a stream, and its halves that are spent, with their entries.
 
-ghost use Rattle.std.specs.Prelude.{◌≡◌, ◌≤◌, ◌++◌, length, take, drop, false, IfOk};
+ghost use Rattle.std.specs.Prelude.{◌≡◌, ◌<◌, ◌≤◌, ◌++◌, length, take, drop, false, IfOk};
 ghost use Rattle.ymx_session.specs.Replies.{done_or, wrote_or, read_or, count_of, got_count};
 ghost use Rattle.ymx_seats.specs.Slips.{told_by, bytes_told};
-ghost use Rattle.ymx_held.specs.Answers.{IsNotMemory, took_count};
+ghost use Rattle.ymx_held.specs.Answers.{IsNotMemory, GivesSome, took_count};
 ghost use Rattle.ymx_held.specs.Booked.{Gains, Asks, Spends, Closes, to_write, to_read, to_finish, to_reset};
 
 use crate::faults::{HubFault, answered, tell_of_done};
@@ -29,7 +29,8 @@ impl<R: Recorder> Held<R> {
         answered(wrote)
     }
 
-    /// Moves the first unread bytes to the front of the buffer, as many as are there and fit.
+    /// Moves the first unread bytes to the front of the buffer, as many as are there and fit: one at least, if it has
+    /// room.
     #[tactic(auto, using(crate::proofs::History::kept_after))]
     pub fn read(&mut self, seat: &mut Seat<R>, id: u32, buffer: &mut [u8]) -> Result<Got, HubFault>
         ensures number { seat.new.number ≡ seat.old.number }
@@ -37,6 +38,7 @@ impl<R: Recorder> Held<R> {
         ensures booked { Gains R.KEEPS seat.old.entries seat.new.entries (Asks (to_read id (length buffer.old)) (λ given. read_or given buffer.new) seat.old.number result) }
         ensures within { IfOk result (λ got. got_count got ≤ length buffer.old) }
         ensures length { length buffer.new ≡ length buffer.old }
+        ensures some { 0 < length buffer.old → IfOk result GivesSome }
         ensures off { R.KEEPS ≡ false → IsNotMemory result }
     {
         let ask = Ask::Read(id, buffer.len());

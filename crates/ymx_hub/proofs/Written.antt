@@ -26,7 +26,7 @@ writes_more id seat left [] e a n v = ((n, v ∙ ap (to_write id) (grind (arith,
 writes_more id seat left (x ∷ xs) e a n v =
     (a.0, writes_more id seat (drop (took_of x.reply) left) xs e a.1 n (v ∙ ap (to_write id) (sym (drop_drop (took_of x.reply) (total xs) left))))
 
-ends_more : (Such : Reply → Type 0) (es : List Entry) (e : Entry) → Such e.reply → EndsIn Such (es ++ e ∷ [])
+pub ends_more : (Such : Reply → Type 0) (es : List Entry) (e : Entry) → Such e.reply → EndsIn Such (es ++ e ∷ [])
 ends_more Such [] e s = s
 ends_more Such (x ∷ []) e s = s
 ends_more Such (x ∷ y ∷ ys) e s = ends_more Such (y ∷ ys) e s

@@ -1,9 +1,10 @@
 //! The two halves of a stream.
 
 ghost use Rattle.std.specs.Prelude.{◌≡◌, ◌<◌, ◌≤◌, length, false, IfOk, IfErr};
+ghost use Rattle.ymx_model.specs.declared.types.Reply.TheVariants as reply;
 ghost use Rattle.ymx_held.specs.Answers.{IsNotMemory};
 ghost use Rattle.ymx_held.specs.Booked.{Gains, Spends, Closes, to_finish, to_reset};
-ghost use Rattle.ymx_hub.specs.Turns.{Reads, Writes};
+ghost use Rattle.ymx_hub.specs.Turns.{Reads, EndsIn, Writes};
 
 use crate::hub::Hub;
 use crate::write_fault::WriteFault;
@@ -112,6 +113,7 @@ impl<R: Recorder> ReadHalf<R> {
         requires { 0 < length buffer.old }
         ensures same { (self.new.id ≡ self.old.id) × (self.new.seat.number ≡ self.old.seat.number) × (self.new.seat.start ≡ self.old.seat.start) }
         ensures booked { Gains R.KEEPS self.old.seat.entries self.new.seat.entries (Reads self.old.id (length buffer.old) buffer.new self.old.seat.number result) }
+        ensures end { IfOk result (λ count. count ≡ 0 → Gains R.KEEPS self.old.seat.entries self.new.seat.entries (EndsIn (λ told. told ≡ reply.ReadEnd))) }
         ensures within { IfOk result (λ count. count ≤ length buffer.old) }
         ensures length { length buffer.new ≡ length buffer.old }
         ensures off { R.KEEPS ≡ false → IsNotMemory result }

@@ -3,7 +3,8 @@
 ghost use Rattle.std.specs.Prelude.{◌≡◌, ◌<◌, ◌≤◌, length, false, IfOk, IfErr};
 ghost use Rattle.ymx_held.specs.Answers.{IsNotMemory};
 ghost use Rattle.ymx_held.specs.Booked.{Gains};
-ghost use Rattle.ymx_hub.specs.Turns.{AcceptsInTurns, Reads, Pings, Writes};
+ghost use Rattle.ymx_model.specs.declared.types.Reply.TheVariants as reply;
+ghost use Rattle.ymx_hub.specs.Turns.{AcceptsInTurns, Reads, EndsIn, Pings, Writes};
 
 use crate::hub::Hub;
 use crate::write_fault::WriteFault;
@@ -64,6 +65,7 @@ impl<R: Recorder> Hub<R> {
         ensures number { seat.new.number ≡ seat.old.number }
         ensures start { seat.new.start ≡ seat.old.start }
         ensures booked { Gains R.KEEPS seat.old.entries seat.new.entries (Reads id (length buffer.old) buffer.new seat.old.number result) }
+        ensures end { IfOk result (λ count. count ≡ 0 → Gains R.KEEPS seat.old.entries seat.new.entries (EndsIn (λ told. told ≡ reply.ReadEnd))) }
         ensures within { IfOk result (λ count. count ≤ length buffer.old) }
         ensures length { length buffer.new ≡ length buffer.old }
         ensures off { R.KEEPS ≡ false → IsNotMemory result }
