@@ -58,6 +58,11 @@ impl Running {
 }
 
 impl Handle {
+    /// The hub, for calls that bring their own seat.
+    pub fn hub(&self) -> &Arc<Hub<Off>, Global> {
+        &self.hub
+    }
+
     /// Asks the peer for a sign of life, waits for it, and returns the ping's number.
     ///
     /// Refused with `Closed`, `Lost`, and `PingsPending` while 16 pings wait; while it waits with `Closed` or `Lost`.

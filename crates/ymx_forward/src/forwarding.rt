@@ -1,27 +1,19 @@
-//! A session over a connection, with its pumps and its server.
+//! A session over a connection, with its server.
 
-ghost use Rattle.std.specs.Prelude.{◌<◌, vec_len};
+ghost use Rattle.std.specs.Prelude.{None};
 
 use std::alloc::Global;
 use std::net::{SocketAddr, TcpListener, TcpStream};
 use std::sync::{Arc, Wait};
-use std::thread;
 use std::thread::Threads;
+use ymx_connect::{Connected, PumpWhy, connect};
 use ymx_header::Fault;
-use ymx_hub::{Hub, Off, Seat};
-use ymx_model::{Config, Role};
-use ymx_pumps::{Gate, PumpEnd, PumpWhy, run_pumps};
-use ymx_session::Session;
+use ymx_hub::{Hub, Off};
+use ymx_model::{Config, DeviceFault, Inlet, Role};
 use ymx_tunnel::{
     ConnectionReader, ConnectionWriter, Connections, Network, Served, Watcher, serve_local,
     serve_remote,
 };
-
-/// Bytes that the read pump reads at once.
-const READ_BUFFER: usize = 65_536;
-
-/// Bytes that the write pump writes at once: eight whole frames of the longest that are sent.
-const WRITE_BUFFER: usize = 8 * (12 + 16_384);
 
 /// Which side of a tunnel runs over a connection.
 #[derive(Drop)]
@@ -53,46 +45,31 @@ pub struct Forwarded {
     pub lacked_memory: bool,
 }
 
-/// What the pumps read and write through.
-#[derive(Drop)]
-struct Buffers {
-    into: Vec<u8>,
-    out_of: Vec<u8>,
-    ghost not_empty: { (0 < vec_len into) × (0 < vec_len out_of) },
+/// What comes from the peer. The session is over once the read pump lets it go: then it shuts the connections.
+struct PeerReader<'a, R: Wait> {
+    rt: &'a R,
+    reader: ConnectionReader<'a>,
+    connections: &'a Connections,
 }
 
-/// How both pumps ended.
-#[derive(Clone, Copy, Drop)]
-struct Pumped {
-    broken: Option<Fault>,
-    lacked_memory: bool,
-}
+impl<R: Wait> Inlet for PeerReader<'_, R> {
+    ghost remaining = { λ _. None };
 
-impl Pumped {
-    /// No pump ran, as no seat was given.
-    fn nothing() -> Pumped {
-        Pumped {
-            broken: None,
-            lacked_memory: true,
-        }
+    ghost failures = { λ s. s.reader.failures };
+
+    fn pull(&mut self, buffer: &mut [u8]) -> Result<usize, DeviceFault> {
+        self.reader.pull(buffer)
     }
 }
 
-/// Lets the pumps run.
-#[derive(Drop)]
-struct Open;
-
-impl Gate for Open {
-    fn before_read(&mut self) -> bool {
-        true
-    }
-
-    fn after_read(&mut self, _count: usize) {}
-
-    fn after_write(&mut self, _count: usize) {}
-
-    fn before_wait(&mut self) -> bool {
-        true
+impl<R: Wait> Drop for PeerReader<'_, R> {
+    fn drop(self) {
+        let PeerReader {
+            rt,
+            reader: _,
+            connections,
+        } = self;
+        connections.shut(rt);
     }
 }
 
@@ -113,24 +90,29 @@ pub fn forward<R: Threads + Wait + Sync, N: Network, V: Watcher>(
         TunnelSide::Local { .. } => Role::Client,
         TunnelSide::Remote { .. } => Role::Server,
     };
-    let Some((hub, buffers)) = prepare(alloc, role, window) else {
-        return without_memory();
-    };
-    let lent = &hub;
     let connections = &Connections::new(alloc);
-    thread::scope(thread::scope_env(), rt, |scope| {
-        let Ok(pumps) = scope.spawn(move || pump(rt, lent, connection, buffers, connections)) else {
-            return without_memory();
-        };
-        let served = serve(rt, alloc, lent, network, side, connections, watcher);
-        finish(rt, lent);
-        let pumped = pumps.join(rt);
-        Forwarded {
-            accept_failed: served.accept_failed,
-            broken: pumped.broken,
-            lacked_memory: served.lacked_memory || pumped.lacked_memory,
-        }
-    })
+    let reader = PeerReader {
+        rt,
+        reader: ConnectionReader::new(connection),
+        connections,
+    };
+    let writer = ConnectionWriter::new(connection);
+    let config = Config { window, first: 0 };
+    let connected = connect(rt, alloc, reader, writer, role, config, |running| {
+        let hub = running.handle.hub();
+        serve(rt, alloc, hub, network, side, connections, watcher)
+    });
+    match connected {
+        Ok(Connected { answer, ended }) => Forwarded {
+            accept_failed: answer.accept_failed,
+            broken: match ended.read {
+                PumpWhy::Broken(fault) => Some(fault),
+                _ => None,
+            },
+            lacked_memory: answer.lacked_memory,
+        },
+        Err(_) => without_memory(),
+    }
 }
 
 /// Nothing was done, for want of memory.
@@ -140,23 +122,6 @@ fn without_memory() -> Forwarded {
         broken: None,
         lacked_memory: true,
     }
-}
-
-/// A hub round a new session, and the buffers of its pumps, if there is memory for them.
-fn prepare(alloc: Global, role: Role, window: u32) -> Option<(Arc<Hub<Off>, Global>, Buffers)> {
-    let Ok(into) = vec![in alloc; 0u8; READ_BUFFER] else {
-        return None;
-    };
-    let Ok(out_of) = vec![in alloc; 0u8; WRITE_BUFFER] else {
-        return None;
-    };
-    let Ok(session) = Session::new(alloc, role, Config { window, first: 0 }) else {
-        return None;
-    };
-    let Ok(hub) = Hub::new(alloc, session, Off) else {
-        return None;
-    };
-    Some((hub, Buffers { into, out_of }))
 }
 
 /// Serves one side of the tunnel, until it ends.
@@ -186,74 +151,4 @@ fn serve<R: Threads + Wait + Sync, N: Network, V: Watcher>(
             )
         }
     }
-}
-
-/// Waits until all is sent, and closes the session.
-fn finish<R: Wait>(rt: &R, hub: &Arc<Hub<Off>, Global>) {
-    let Ok(mut seat) = hub.seat(rt) else {
-        return;
-    };
-    hub.drain(rt, &mut seat);
-    let _ = hub.close(rt, &mut seat);
-    let_go(seat);
-}
-
-/// Runs both pumps, until both have ended. The session is over then, and the connections are shut.
-fn pump<R: Threads + Wait + Sync>(
-    rt: &R,
-    hub: &Arc<Hub<Off>, Global>,
-    connection: &TcpStream,
-    buffers: Buffers,
-    connections: &Connections,
-) -> Pumped {
-    let Ok(read_seat) = hub.seat(rt) else {
-        return Pumped::nothing();
-    };
-    let Ok(write_seat) = hub.seat(rt) else {
-        let_go(read_seat);
-        return Pumped::nothing();
-    };
-    let Buffers {
-        mut into,
-        mut out_of,
-    } = buffers;
-    let mut reader = ConnectionReader::new(connection);
-    let mut writer = ConnectionWriter::new(connection);
-    let (read, wrote) = run_pumps(
-        rt,
-        hub,
-        (read_seat, write_seat),
-        &mut reader,
-        &mut writer,
-        &mut Open,
-        &mut Open,
-        into.as_mut_slice(),
-        out_of.as_mut_slice(),
-    );
-    connections.shut(rt);
-    let read_why = why_of(read);
-    let wrote_why = why_of(wrote);
-    Pumped {
-        broken: match read_why {
-            PumpWhy::Broken(fault) => Some(fault),
-            _ => None,
-        },
-        lacked_memory: read_why == PumpWhy::Memory || wrote_why == PumpWhy::Memory,
-    }
-}
-
-/// Why a pump ended. Its seat is let go.
-fn why_of(end: PumpEnd<Off>) -> PumpWhy {
-    let PumpEnd {
-        seat,
-        moved: _,
-        why,
-    } = end;
-    let_go(seat);
-    why
-}
-
-/// Lets a seat go: with the recorder `Off` it holds nothing.
-fn let_go(seat: Seat<Off>) {
-    let _ = seat.into_entries();
 }
