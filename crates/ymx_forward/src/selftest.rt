@@ -115,9 +115,7 @@ fn run_all<R: Threads + Wait + Sync, N: Network>(
         } else {
             0
         };
-        if whole < CONNECTIONS {
-            release(network, places);
-        }
+        release(network, places);
         whole
     })
 }
@@ -243,7 +241,20 @@ fn run_local_end<R: Threads + Wait + Sync, N: Network>(
         listener: &places.local,
         count: Some(CONNECTIONS),
     };
-    let _ = forward(rt, alloc, network, &connection, side, WINDOW, &Unwatched);
+    let forwarded = forward(rt, alloc, network, &connection, side, WINDOW, &Unwatched);
+    if forwarded.lacked_memory {
+        close_all(places);
+    }
+}
+
+/// Accepts as many connections as there are, and closes each: those for which no session runs, so that the client
+/// waits for none of them.
+fn close_all(places: &Places) {
+    for _ in 0..CONNECTIONS {
+        if places.local.accept().is_err() {
+            return;
+        }
+    }
 }
 
 /// Makes the three connections, one after the other, and sends what became of each.
