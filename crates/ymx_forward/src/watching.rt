@@ -78,9 +78,10 @@ fn inward_word(why: CopyWhy) -> &'static str {
     match why {
         CopyWhy::End => "ended",
         CopyWhy::Source => "connection failed",
-        CopyWhy::Sink => "no memory",
+        CopyWhy::Sink => "refused",
         CopyWhy::Reset => "reset",
         CopyWhy::Lost => "lost",
+        CopyWhy::Memory => "no memory",
     }
 }
 
@@ -88,9 +89,10 @@ fn inward_word(why: CopyWhy) -> &'static str {
 fn outward_word(why: CopyWhy) -> &'static str {
     match why {
         CopyWhy::End => "ended",
-        CopyWhy::Source => "no memory",
+        CopyWhy::Source => "refused",
         CopyWhy::Sink => "connection failed",
         CopyWhy::Reset => "reset",
         CopyWhy::Lost => "lost",
+        CopyWhy::Memory => "no memory",
     }
 }

@@ -9,11 +9,11 @@ use Rattle.std.proofs.Math.Seq.{take-append_seam, take-add}
 use Rattle.std.proofs.lemmas.Grind.{common_steps}
 use Rattle.ymx_model.specs.devices.Devices.{has_failed, most_failures}
 use Rattle.ymx_tunnel.specs.declared.copied.CopyWhy.{CopyWhy}
-use Rattle.ymx_tunnel.specs.declared.copied.CopyWhy.TheVariants.{End, Source, Sink, Reset, Lost}
+use Rattle.ymx_tunnel.specs.declared.copied.CopyWhy.TheVariants.{End, Source, Sink, Reset, Lost, Memory}
 use Rattle.ymx_tunnel.specs.Copies.{IsMoved, CopiesIn, CopiesOut, copy_reason}
 use Rattle.ymx_model.specs.declared.types.CallFault.TheVariants as refusal
 use Rattle.ymx_held.specs.declared.faults.HubFault.{HubFault}
-use Rattle.ymx_held.specs.declared.faults.HubFault.TheVariants.{Call, Memory, Seats}
+use Rattle.ymx_held.specs.declared.faults.HubFault.TheVariants.{Call, Memory as NoMemory, Seats}
 
 -- a call that fails is counted
 pub counted : (first old new : ℕ) → new ≡ min (old + 1) most_failures → old ≡ first → IsTrue (has_failed first new)
@@ -134,6 +134,7 @@ by_end Source = Unit {0}
 by_end Sink = Unit {0}
 by_end Reset = Unit {0}
 by_end Lost = Unit {0}
+by_end Memory = Unit {0}
 
 pub sink_is_no_end : Sink ≡ End → ⊥
 unfolding by_end
@@ -147,7 +148,7 @@ own_case : (fault : HubFault) (own : CopyWhy) → (own ≡ End → ⊥) → copy
 own_case (Call refusal.Reset) own f e = cc
 own_case (Call refusal.Lost) own f e = cc
 own_case (Call _) own f e = f e
-own_case Memory own f e = f e
+own_case NoMemory own f e = cc
 own_case Seats own f e = f e
 
 pub no_end : (fault : HubFault) (why own : CopyWhy) → why ≡ copy_reason fault own → (own ≡ End → ⊥) → why ≡ End → ⊥

@@ -5,14 +5,15 @@ use Rattle.std.specs.Io.KnownBytes.{Appends, Consumes, IsAtEnd}
 use Rattle.ymx_model.specs.declared.types.CallFault.{CallFault}
 use Rattle.ymx_model.specs.declared.types.CallFault.TheVariants as refusal
 use Rattle.ymx_held.specs.declared.faults.HubFault.{HubFault}
-use Rattle.ymx_held.specs.declared.faults.HubFault.TheVariants.{Call}
+use Rattle.ymx_held.specs.declared.faults.HubFault.TheVariants.{Call, Memory as NoMemory}
 use Rattle.ymx_tunnel.specs.declared.copied.CopyWhy.{CopyWhy}
-use Rattle.ymx_tunnel.specs.declared.copied.CopyWhy.TheVariants.{End, Reset, Lost}
+use Rattle.ymx_tunnel.specs.declared.copied.CopyWhy.TheVariants.{End, Reset, Lost, Memory}
 
--- a stream that was reset and a session that was lost are told apart from all else
+-- a stream that was reset, a session that was lost and want of memory are told apart from all else
 abbrev pub copy_reason : HubFault → CopyWhy → CopyWhy
 copy_reason (Call refusal.Reset) own = Reset
 copy_reason (Call refusal.Lost) own = Lost
+copy_reason NoMemory own = Memory
 copy_reason fault own = own
 
 -- of what was given, this beginning was moved on, and counted as far as 64 bits go; it is all of it if the copy came to its end

@@ -11,8 +11,8 @@ use ymx_model::CallFault;
 pub enum CopyWhy {
     /// All was copied, and the end was passed on.
     End,
-    /// What it was copied from failed: the reader, or the half of the stream for another reason than the two below,
-    /// as that the session was closed or that there was no memory.
+    /// What it was copied from failed: the reader, or the half of the stream for another reason than the three below,
+    /// as that the session was closed.
     Source,
     /// What it was copied to failed: the writer, or the half of the stream for such a reason.
     Sink,
@@ -20,6 +20,9 @@ pub enum CopyWhy {
     Reset,
     /// The session was lost.
     Lost,
+    /// There was no memory for what the stream has to send; or, of a connection, none for it or for a buffer, or no
+    /// thread.
+    Memory,
 }
 
 /// The end of a copy.
@@ -33,13 +36,15 @@ pub struct Copied<L> {
     pub left: L,
 }
 
-/// Why a copy ends at a fault of its half: of the stream, of the session, or else of the half itself.
+/// Why a copy ends at a fault of its half: of the stream, of the session, for want of memory, or else of the half
+/// itself.
 pub(crate) fn why_of_fault(fault: HubFault, own: CopyWhy) -> CopyWhy
     ensures { result ≡ copy_reason fault own }
 {
     match fault {
         HubFault::Call(CallFault::Reset) => CopyWhy::Reset,
         HubFault::Call(CallFault::Lost) => CopyWhy::Lost,
-        HubFault::Call(_) | HubFault::Memory | HubFault::Seats => own,
+        HubFault::Memory => CopyWhy::Memory,
+        HubFault::Call(_) | HubFault::Seats => own,
     }
 }

@@ -15,7 +15,8 @@ use ymx_model::{Inlet, Outlet};
 /// Copies what the reader gives into the sink, up to the reader's end; then it finishes the sink. At a fault it
 /// resets it. It reads into the buffer, which isn't empty, and takes no memory.
 ///
-/// `Source`: the reader failed. `Reset`, `Lost`: the sink said so. `Sink`: the sink refused for another reason.
+/// `Source`: the reader failed. `Reset`, `Lost`, `Memory`: the sink said so. `Sink`: the sink refused for another
+/// reason.
 pub fn copy_in<W: Wait, I: Inlet, S: Sink>(
     rt: &W,
     reader: &mut I,
@@ -82,7 +83,8 @@ fn fill<W: Wait, I: Inlet, S: Sink>(
 /// Copies what the source gives into the writer, up to the source's end, and then ends the writer. It closes the
 /// source in any case. It reads into the buffer, which isn't empty, and takes no memory.
 ///
-/// `Sink`: the writer failed. `Reset`, `Lost`: the source said so. `Source`: the source refused for another reason.
+/// `Sink`: the writer failed. `Reset`, `Lost`, `Memory`: the source said so. `Source`: the source refused for another
+/// reason.
 pub fn copy_out<W: Wait, S: Source, O: Outlet>(
     rt: &W,
     source: S,

@@ -36,7 +36,7 @@ pub struct EndedConnection {
 impl EndedConnection {
     /// Whether no memory was found for a buffer, for a thread, or for what the stream has to send.
     pub fn lacked_memory(&self) -> bool {
-        self.inward.why == CopyWhy::Sink || self.outward.why == CopyWhy::Source
+        self.inward.why == CopyWhy::Memory || self.outward.why == CopyWhy::Memory
     }
 
     /// There was no connection to join.
@@ -46,7 +46,7 @@ impl EndedConnection {
 
     /// There was no memory to join a connection.
     fn without_memory() -> EndedConnection {
-        EndedConnection::of_nothing(CopyWhy::Sink, CopyWhy::Source)
+        EndedConnection::of_nothing(CopyWhy::Memory, CopyWhy::Memory)
     }
 
     /// Nothing was copied.
@@ -100,8 +100,8 @@ fn run_both<R: Threads + Wait + Sync>(
     thread::scope(thread::scope_env(), rt, |scope| {
         let Ok(thread) = scope.spawn(move || outward(rt, alloc, stream, source)) else {
             return EndedConnection {
-                inward: ended(stream, 0, CopyWhy::Sink),
-                outward: ended(stream, 0, CopyWhy::Source),
+                inward: ended(stream, 0, CopyWhy::Memory),
+                outward: ended(stream, 0, CopyWhy::Memory),
             };
         };
         let inward = inward(rt, alloc, line, sink);
@@ -123,7 +123,7 @@ fn inward<R: Wait>(
     };
     let Ok(mut buffer) = vec![in alloc; 0u8; COPY_BUFFER] else {
         spend(rt, Some(sink), None);
-        return ended(stream, 0, CopyWhy::Sink);
+        return ended(stream, 0, CopyWhy::Memory);
     };
     let mut reader = LineReader::new(line);
     let Copied { bytes, why, left } = copy_in(rt, &mut reader, sink, buffer.as_mut_slice());
@@ -144,7 +144,7 @@ fn outward<R: Wait>(
     };
     let Ok(mut buffer) = vec![in alloc; 0u8; COPY_BUFFER] else {
         spend(rt, None, Some(source));
-        return ended(stream, 0, CopyWhy::Source);
+        return ended(stream, 0, CopyWhy::Memory);
     };
     let mut writer = ConnectionWriter::new(stream);
     let Copied { bytes, why, left } = copy_out(rt, source, &mut writer, buffer.as_mut_slice());
