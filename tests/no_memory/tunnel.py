@@ -1,0 +1,232 @@
+"""Refuses the tunnel an allocation or a thread at a time. Its words: the program, and the library that refuses.
+
+One small connection goes through `ymx local --count 1` and `ymx remote` to a target: the client sends some bytes and
+ends its side, and the target then answers some and ends its own. In each run one of the two is refused one allocation
+or the start of one thread: the first, the second and so on, up to the first number that a run doesn't come to.
+
+Whichever it is, both end within 10 seconds of what they wait for. A status is 0, and nothing is said, or it is 1 and
+one text is said: of the side that was refused `ymx: out of memory`, of `ymx local` also that it can't reach a
+`ymx remote` that has gone. What arrives is a beginning of what was sent, and all of it where both statuses are 0. Of
+that there is one exception: a stream for which `ymx remote` has no memory is rejected. Then the target is not called,
+the client reads the end, and both statuses are 0.
+"""
+
+import os
+import random
+import socket
+import subprocess
+import sys
+import tempfile
+import threading
+import time
+
+QUESTION = random.Random(3).randbytes(20_000)
+ANSWER = random.Random(4).randbytes(30_000)
+# In seconds, for whatever must end.
+PATIENCE = 10.0
+OUT_OF_MEMORY = "ymx: out of memory\n"
+
+
+def read_all(connection):
+    """What comes, up to the end or to a fault."""
+    came = bytearray()
+    try:
+        while piece := connection.recv(65_536):
+            came += piece
+    except OSError:
+        pass
+    return bytes(came)
+
+
+class Target(threading.Thread):
+    """Answers each connection once its question has ended, until `stop`."""
+
+    def __init__(self):
+        super().__init__(daemon=True)
+        self.listener = socket.create_server(("127.0.0.1", 0))
+        self.address = "127.0.0.1:%d" % self.listener.getsockname()[1]
+        self.questions = []
+        self.last = None
+        self.start()
+
+    def run(self):
+        while True:
+            connection, caller = self.listener.accept()
+            with connection:
+                if caller == self.last:
+                    return
+                self.questions.append(read_all(connection))
+                try:
+                    connection.sendall(ANSWER)
+                except OSError:
+                    pass
+
+    def stop(self):
+        """What was asked, once all who have called were answered."""
+        with socket.socket() as caller:
+            caller.bind(("127.0.0.1", 0))
+            self.last = caller.getsockname()
+            caller.connect(self.listener.getsockname())
+            self.join(PATIENCE)
+        if self.is_alive():
+            raise TimeoutError("the target waits for the end of a connection")
+        self.listener.close()
+        return self.questions
+
+
+def free_port():
+    """A port that nobody listens at."""
+    with socket.socket() as one:
+        one.bind(("127.0.0.1", 0))
+        return one.getsockname()[1]
+
+
+def listens(port):
+    """Whether somebody listens at this port; to call would be the one connection of `ymx remote`."""
+    with open("/proc/net/tcp") as table:
+        return any(line.split()[1:4:2] == [f"0100007F:{port:04X}", "0A"] for line in table)
+
+
+class Side:
+    """One `ymx` that listens at a port of its own."""
+
+    def __init__(self, words, port, environment):
+        self.port = port
+        self.process = subprocess.Popen(
+            words, env=environment, stdin=subprocess.DEVNULL, stdout=subprocess.PIPE, stderr=subprocess.PIPE, text=True
+        )
+
+    def is_there(self):
+        """Waits until it listens, or has ended: whether it listens."""
+        late = time.monotonic() + PATIENCE
+        while self.process.poll() is None:
+            if listens(self.port):
+                return True
+            if time.monotonic() > late:
+                raise TimeoutError("it neither listens nor ends")
+            time.sleep(0.002)
+        return False
+
+    def end(self):
+        """Its status, and what it says, once it has ended."""
+        out, said = self.process.communicate(timeout=PATIENCE)
+        return self.process.returncode, said if out == "" else f"on standard output {out!r}"
+
+    def kill(self):
+        if self.process.poll() is None:
+            self.process.kill()
+            self.process.communicate()
+
+
+class Tunnel:
+    """Runs of the tunnel, in which one side is refused something."""
+
+    def __init__(self, program, failing, folder):
+        self.program, self.failing = program, failing
+        self.mark = os.path.join(folder, "failed")
+
+    def environment(self, refused, variable, number):
+        """That of a side, which is refused what has this number, or nothing."""
+        if not refused:
+            return dict(os.environ)
+        return dict(os.environ, LD_PRELOAD=self.failing, FAILED=self.mark, **{variable: str(number)})
+
+    def run(self, name, variable, number):
+        """Refuses this side what has this number: how the run ended, and whether it came to it."""
+        target = Target()
+        sides = []
+        try:
+            near, far, answer = self.carry(target, sides, name, variable, number)
+            questions = target.stop()
+        except (TimeoutError, subprocess.TimeoutExpired) as fault:
+            raise SystemExit(f"FAIL  ymx {name}: {variable}={number}: it hangs: {fault}")
+        finally:
+            for side in sides:
+                side.kill()
+        came = self.has_come()
+        try:
+            return judge(name, near, far, questions, answer, sides), came
+        except AssertionError as fault:
+            raise SystemExit(f"FAIL  ymx {name}: {variable}={number}: {fault}: local {near}, remote {far}")
+
+    def carry(self, target, sides, name, variable, number):
+        """One connection: how both sides end, and what the client reads."""
+        ports = [free_port(), free_port()]
+        place, peer = (f"127.0.0.1:{port}" for port in ports)
+        words = [self.program, "remote", "--bind", peer, "--target", target.address, "--workers", "2"]
+        far = Side(words, ports[1], self.environment(name == "remote", variable, number))
+        sides.append(far)
+        far.is_there()
+        words = [self.program, "local", "--listen", place, "--peer", peer, "--count", "1"]
+        near = Side(words, ports[0], self.environment(name == "local", variable, number))
+        sides.append(near)
+        answer = ask(ports[0]) if near.is_there() else b""
+        near_end = near.end()
+        if near_end[0] != 0 and far.process.poll() is None:
+            # It may have gone before it called.
+            with socket.socket() as caller:
+                caller.connect_ex(("127.0.0.1", ports[1]))
+        return near_end, far.end(), answer
+
+
+    def has_come(self):
+        """Whether the run came to what was to be refused."""
+        came = os.path.exists(self.mark)
+        if came:
+            os.remove(self.mark)
+        return came
+
+
+def ask(port):
+    """What a client reads that asks at this port."""
+    with socket.create_connection(("127.0.0.1", port), PATIENCE) as client:
+        try:
+            client.sendall(QUESTION)
+            client.shutdown(socket.SHUT_WR)
+        except OSError:
+            pass
+        return read_all(client)
+
+
+def judge(name, near, far, questions, answer, sides):
+    """How a run ended."""
+    unreached = (1, f"ymx: cannot reach 127.0.0.1:{sides[0].port}\n")
+    good = (0, "")
+    refused = (1, OUT_OF_MEMORY)
+    assert near in ([good, refused] if name == "local" else [good, unreached]), "local ends so"
+    assert far in ([good, refused] if name == "remote" else [good]), "remote ends so"
+    assert near != unreached or far == refused, "remote was there"
+    assert len(questions) <= 1, "more than one connection"
+    assert QUESTION.startswith(b"".join(questions)) and ANSWER.startswith(answer), "other bytes arrive"
+    if (near, far) != (good, good):
+        return "out of memory"
+    if name == "remote" and not questions and not answer:
+        return "rejected"
+    assert (questions, answer) == ([QUESTION], ANSWER), f"{list(map(len, questions))} and {len(answer)} bytes arrive"
+    return "as ever"
+
+
+def try_all(tunnel, name, variable):
+    """Refuses one after another, until a run comes to no more."""
+    counts = {"as ever": 0, "out of memory": 0, "rejected": 0}
+    number, came = 0, True
+    while came:
+        number += 1
+        ending, came = tunnel.run(name, variable, number)
+        counts[ending] += 1
+    told = ", ".join(f"{count} {ending}" for ending, count in counts.items() if count)
+    if counts["as ever"] == sum(counts.values()):
+        raise SystemExit(f"FAIL  ymx {name}: {variable}: no run was refused anything")
+    print(f"ok    ymx {name}: {variable} up to {number - 1}: {told}", flush=True)
+
+
+def main():
+    program, failing = sys.argv[1:]
+    with tempfile.TemporaryDirectory() as folder:
+        tunnel = Tunnel(program, failing, folder)
+        for name in "remote", "local":
+            try_all(tunnel, name, "FAIL_AT")
+            try_all(tunnel, name, "FAIL_THREAD_AT")
+
+
+main()
