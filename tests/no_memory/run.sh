@@ -1,8 +1,8 @@
 #!/bin/sh
 # Makes each allocation fail in turn. Whichever it is, the program ends as if none had failed, or it
 # says so: `ymx: out of memory`, status 1, and a beginning of the output; in a script a call may be refused
-# too, or a stream rejected. And in each crate that takes memory for a stream or a session a test holds: what
-# was refused changed nothing.
+# too, or a stream rejected. And in each crate that takes memory for a stream or a session, and for two running
+# sessions, a test holds: what was refused changed nothing.
 set -eu
 here=$(cd "$(dirname "$0")" && pwd)
 root=$(cd "$here/../.." && pwd)
@@ -83,3 +83,4 @@ holds ymx_control
 holds ymx_half
 holds ymx_table
 holds ymx_session_memory
+holds ymx_hub_memory
