@@ -51,7 +51,7 @@ impl<R: Recorder> Held<R> {
     /// Holds a session that has done nothing, with no entries and no seats. Takes no memory.
     pub fn new(alloc: Global, session: Session) -> Held<R>
         requires { IsNew session }
-        ensures { result ≡ record { session = session; entries = []; given = 0 } }
+        ensures { result ≡ record { session = session; entries = []; given = 0; ended = false } }
     {
         let config = Config {
             window: session.window(),
