@@ -10,7 +10,7 @@ trap 'rm -rf "$scratch"' EXIT
 
 (cd "$root" && find crates -name out -prune -o -type f -print | tar -cf - -T - crates.txt HANDLES) | tar -xf - -C "$scratch"
 mkdir -p "$scratch/crates/misuse/src" "$scratch/crates/misuse_of_hubs/src"
-below=$(sed -n 's/^ymx_hub[^:]*: //p' "$root/crates.txt")
+below=$(sed -n 's/^ymx_hub may_wait=[0-9]*: //p' "$root/crates.txt")
 { echo "misuse: ymx_half"; echo "misuse_of_hubs: ymx_hub $below"; } >> "$scratch/crates.txt"
 
 failed=0
