@@ -32,6 +32,8 @@ failed=0
 begin() {
     name=$1
     shift
+    # What an earlier one said is gone before it is looked for.
+    : > "$name"
     "$@" > "$name" 2>&1 &
     jobs="$jobs $!"
     tries=0
