@@ -193,14 +193,14 @@ abbrev pub IsNotSaid : Option Text → Type 0
 IsNotSaid text = (text ≡ None) ⊎ (text ≡ Some (codes "false"))
 
 -- no end of a tunnel that says lines
-abbrev pub IsSilent : Tunnel → Type 0
-IsSilent (tunnel.Local listen peer count window verbose) = verbose ≡ false
-IsSilent (tunnel.Remote bind target window workers verbose) = verbose ≡ false
-IsSilent tunnel.Selftest = ⊤
+abbrev pub IsNotVerbose : Tunnel → Type 0
+IsNotVerbose (tunnel.Local listen peer count window verbose) = verbose ≡ false
+IsNotVerbose (tunnel.Remote bind target window workers verbose) = verbose ≡ false
+IsNotVerbose tunnel.Selftest = ⊤
 
 -- no task that says lines
 abbrev pub IsSilentTask : Task → Type 0
-IsSilentTask (ATunnel asked) = IsSilent asked
+IsSilentTask (ATunnel asked) = IsNotVerbose asked
 IsSilentTask (Frames limit file) = ⊤
 IsSilentTask (Script file) = ⊤
 

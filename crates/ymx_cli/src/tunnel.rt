@@ -3,7 +3,7 @@
 ghost use Rattle.std.specs.Prelude.{◌≡◌, ◌⊎◌, ◌≤◌, codes, false, IfOk, IfSome};
 ghost use Rattle.clap.specs.Words.{found_of, one_text, rule_of, shape_of};
 ghost use Rattle.clap.specs.declared.builder.command.Command.TheViews.{out-Command as fields_of};
-ghost use Rattle.ymx_cli.specs.CommandLine.{IsEnd, IsNotSaid, IsSilent, address_rule, count_rule, local_shape, remote_shape, verbose_rule, window_rule, workers_rule};
+ghost use Rattle.ymx_cli.specs.CommandLine.{IsEnd, IsNotSaid, IsNotVerbose, address_rule, count_rule, local_shape, remote_shape, verbose_rule, window_rule, workers_rule};
 ghost use Rattle.ymx_cli.specs.Messages.{IsUntouched, change_of};
 
 use clap::{Arg, ArgAction, ArgMatches, Command, value_parser};
@@ -48,7 +48,7 @@ pub(crate) enum Tunnel<'a> {
 /// What the matches of this subcommand ask for.
 pub(crate) fn asked_tunnel<'a>(name: &str, found: &ArgMatches<'a>) -> Tunnel<'a>
     ensures end { (name.now ≡ codes "local") ⊎ (name.now ≡ codes "remote") → IsEnd result }
-    ensures silent { IsNotSaid (one_text (found_of found.now) (codes "verbose")) → IsSilent result }
+    ensures silent { IsNotSaid (one_text (found_of found.now) (codes "verbose")) → IsNotVerbose result }
 {
     match name {
         "local" => Tunnel::Local {
@@ -197,7 +197,7 @@ pub(crate) fn run_tunnel<
     ensures good { result ≡ 0 → IsUntouched (change_of E.contents E.failures errors.old errors.new) }
     ensures silent { IsEnd asked.entry → IsUntouched (change_of W.contents W.failures writer.old writer.new) }
     ensures bad { result ≡ 2 → IsUntouched (change_of W.contents W.failures writer.old writer.new) }
-    ensures unsaid { IsSilent asked.entry → IsUntouched (change_of L.contents L.failures lines.old lines.new) }
+    ensures unsaid { IsNotVerbose asked.entry → IsUntouched (change_of L.contents L.failures lines.old lines.new) }
 {
     match asked {
         Tunnel::Local {

@@ -9,7 +9,7 @@ use Rattle.ymx_header.specs.declared.fault.Fault.{Fault}
 use Rattle.ymx_header.specs.Frames.{Frame, frame_spelling, fault_of, payload_length}
 use Rattle.ymx_cutter.specs.Frames.{joined, IsGoodFrame, IsBytes}
 use Rattle.ymx_cutter.specs.Gathered.{Gathered, gathers, with_piece}
-use Rattle.ymx_cutter.specs.Cutters.{Seen, Cut, Reads, next_of, item_of, seen_after, payload_seen}
+use Rattle.ymx_cutter.specs.Cutters.{Seen, Cut, Gathers, next_of, item_of, seen_after, payload_seen}
 use Rattle.ymx_cutter.specs.Cutters.Seen.{InHeader, Payload, Broken}
 use Rattle.ymx_header.proofs.Spellings.{length-spelling}
 use Rattle.ymx_cutter.proofs.Spelled.{IsInRange-header_of, spelled, good_frame, joined-push}
@@ -48,7 +48,7 @@ none_lack n e = grind (arith, nat_tests)
 pub reads_header : (limit : ℕ) (text : List ℕ) (g : Gathered) (part begun : List ℕ) (h : Header) (fault : Option Fault) (none : Bool) →
     IsBytes text → All (IsGoodFrame limit) g.frames → text ≡ joined g.frames ++ begun → begun ≡ spelling h → header_of begun ≡ h → IsInRange h →
     fault_of limit h ≡ fault → (payload_length h == 0) ≡ none →
-    Reads limit text (gathers g part (Some (item_of fault h))) (seen_after fault (payload_length h))
+    Gathers limit text (gathers g part (Some (item_of fault h))) (seen_after fault (payload_length h))
 reads_header limit text g part begun h (Some fault) none small each e b back r f p =
     record { bytes = small; each = each; begun = begun; whole = e; is_begun = (ap length b ∙ length-spelling h, ap (fault_of limit) back ∙ f) }
 reads_header limit text g part begun h None true small each e b back r f p =
@@ -72,8 +72,8 @@ reads_header limit text g part begun h None false small each e b back r f p =
 
 -- a piece of payload
 pub reads_piece : (limit : ℕ) (text : List ℕ) (g : Gathered) (came missing len : ℕ) (part : List ℕ) (last : Bool) →
-    IsBytes part → length part ≡ len → len ≤ missing → Reads limit text g (Payload came missing) → (missing - len == 0) ≡ last →
-    Reads limit (text ++ part) (with_piece g part last) (payload_seen (came + len) (missing - len))
+    IsBytes part → length part ≡ len → len ≤ missing → Gathers limit text g (Payload came missing) → (missing - len == 0) ≡ last →
+    Gathers limit (text ++ part) (with_piece g part last) (payload_seen (came + len) (missing - len))
 reads_piece limit text g came missing len part true small n fits r p =
     let (b, in_range, no_fault, came_is, all_is, some) = r.is_begun in
     let ends : missing - len ≡ 0 = none_lack _ p in
@@ -98,7 +98,7 @@ reads_piece limit text g came missing len part false small n fits r p =
 
 -- the first bytes of a header
 reads_bytes : (limit : ℕ) (text : List ℕ) (g : Gathered) (bytes input : List ℕ) → IsBytes input → length bytes + length input < 12 →
-    Reads limit text g (InHeader bytes) → Reads limit (text ++ input) g (InHeader (bytes ++ input))
+    Gathers limit text g (InHeader bytes) → Gathers limit (text ++ input) g (InHeader (bytes ++ input))
 reads_bytes limit text g bytes input small short r =
     record {
       bytes = IsBytes-append text input r.bytes small;
@@ -110,8 +110,8 @@ reads_bytes limit text g bytes input small short r =
 
 -- the last bytes of a header
 reads_whole : (limit : ℕ) (text : List ℕ) (g : Gathered) (bytes part : List ℕ) → IsBytes part → length bytes + length part ≡ 12 →
-    Reads limit text g (InHeader bytes) →
-    (let h = header_of (bytes ++ part) in Reads limit (text ++ part) (gathers g part (Some (item_of (fault_of limit h) h))) (seen_after (fault_of limit h) (payload_length h)))
+    Gathers limit text g (InHeader bytes) →
+    (let h = header_of (bytes ++ part) in Gathers limit (text ++ part) (gathers g part (Some (item_of (fault_of limit h) h))) (seen_after (fault_of limit h) (payload_length h)))
 reads_whole limit text g bytes part small twelve r =
     let begun : r.begun ++ part ≡ bytes ++ part = ap (λ (x : List ℕ). x ++ part) r.is_begun.0 in
     let whole = more_begun text g.frames r.begun part r.whole in
@@ -128,10 +128,10 @@ not_below m n e = grind (arith, nat_tests)
 
 -- what reads keep of a call
 abbrev Keeps : ℕ → List ℕ → Gathered → List ℕ → Cut → Type 0
-Keeps limit text g input cut = Reads limit (text ++ take cut.taken input) (gathers g (take cut.taken input) cut.item) cut.seen
+Keeps limit text g input cut = Gathers limit (text ++ take cut.taken input) (gathers g (take cut.taken input) cut.item) cut.seen
 
 -- all of a list, and as much of it as there is
-reads_part : (limit : ℕ) (text : List ℕ) (g : Gathered) (bytes input : List ℕ) (short : Bool) → IsBytes input → Reads limit text g (InHeader bytes) →
+reads_part : (limit : ℕ) (text : List ℕ) (g : Gathered) (bytes input : List ℕ) (short : Bool) → IsBytes input → Gathers limit text g (InHeader bytes) →
     nat_lt (length bytes + length input) 12 ≡ short → Keeps limit text g input (next_of limit (InHeader bytes) input)
 reads_part limit text g bytes input true small r p =
     rw (p, take_all (length input) input (omega arith)) (reads_bytes limit text g bytes input small (is_below _ _ p) r)
@@ -145,7 +145,7 @@ reads_part limit text g bytes input false small r p =
 pub ends_alike : (len missing : ℕ) → len ≤ missing → (len == missing) ≡ (missing - len == 0)
 ends_alike len missing fits = grind (arith, nat_tests)
 
-reads_some : (limit : ℕ) (text : List ℕ) (g : Gathered) (came missing : ℕ) (input : List ℕ) (empty : Bool) → IsBytes input → Reads limit text g (Payload came missing) →
+reads_some : (limit : ℕ) (text : List ℕ) (g : Gathered) (came missing : ℕ) (input : List ℕ) (empty : Bool) → IsBytes input → Gathers limit text g (Payload came missing) →
     (length input == 0) ≡ empty → Keeps limit text g input (next_of limit (Payload came missing) input)
 reads_some limit text g came missing input true small r p = rw (p, append-nil text) r
 reads_some limit text g came missing input false small r p =
@@ -157,8 +157,8 @@ reads_some limit text g came missing input false small r p =
     (reads_piece limit text g came missing len part _ (IsBytes-take len input small) (length-take-le len input enough) fits r refl)
 
 -- A call keeps what was read: its bytes go on with the text, and its item with what was gathered.
-pub reads_next : (limit : ℕ) (text : List ℕ) (g : Gathered) (seen : Seen) (input : List ℕ) → IsBytes input → Reads limit text g seen →
-    (let cut = next_of limit seen input in Reads limit (text ++ take cut.taken input) (gathers g (take cut.taken input) cut.item) cut.seen)
+pub reads_next : (limit : ℕ) (text : List ℕ) (g : Gathered) (seen : Seen) (input : List ℕ) → IsBytes input → Gathers limit text g seen →
+    (let cut = next_of limit seen input in Gathers limit (text ++ take cut.taken input) (gathers g (take cut.taken input) cut.item) cut.seen)
 reads_next limit text g (InHeader bytes) input small r = reads_part limit text g bytes input _ small r refl
 reads_next limit text g (Payload came missing) input small r = reads_some limit text g came missing input _ small r refl
 reads_next limit text g (Broken fault) input small r = rw (append-nil text) r

@@ -11,7 +11,7 @@ use Rattle.ymx_header.specs.Frames.{Frame, frame_spelling, fault_of, payload_len
 use Rattle.ymx_cutter.specs.Frames.{joined, IsGoodFrame, IsBytes}
 use Rattle.ymx_cutter.specs.Cuts.{Cuts, FaultStands}
 use Rattle.ymx_cutter.specs.Gathered.{Gathered, gathers, nothing}
-use Rattle.ymx_cutter.specs.Cutters.{Seen, Reads, next_of, begun_of, item_of, seen_after}
+use Rattle.ymx_cutter.specs.Cutters.{Seen, Gathers, next_of, begun_of, item_of, seen_after}
 use Rattle.ymx_cutter.specs.Cutters.Seen.{InHeader, Payload, Broken}
 use Rattle.ymx_cutter.specs.Calls.{Call, AreCalls, text_of, gathered}
 use Rattle.ymx_header.proofs.Spellings.{length-spelling}
@@ -20,18 +20,18 @@ use Rattle.ymx_cutter.proofs.Only.{same_header, same_rest, bad_header, none_is_n
 use Rattle.ymx_cutter.proofs.Reading.{reads_next, IsBytes-back}
 
 -- nothing is read yet
-pub reads_nothing : (limit : ℕ) → Reads limit [] nothing (InHeader [])
+pub reads_nothing : (limit : ℕ) → Gathers limit [] nothing (InHeader [])
 reads_nothing limit =
     let small : IsBytes [] = (let P : ℕ → Type 0 = λ b. b < 256 in All-nil P) in
     record { bytes = small; each = All-nil (IsGoodFrame limit); begun = []; whole = refl; is_begun = (refl, omega arith) }
 
-pub reads_calls : (limit : ℕ) (text : List ℕ) (g : Gathered) (seen end : Seen) (calls : List Call) → Reads limit text g seen → AreCalls limit seen calls end →
-    Reads limit (text ++ text_of calls) (gathered g calls) end
-reads_calls limit text g seen end [] r e = rw (append-nil text) (subst (Reads limit text g) (sym e) r)
+pub reads_calls : (limit : ℕ) (text : List ℕ) (g : Gathered) (seen end : Seen) (calls : List Call) → Gathers limit text g seen → AreCalls limit seen calls end →
+    Gathers limit (text ++ text_of calls) (gathered g calls) end
+reads_calls limit text g seen end [] r e = rw (append-nil text) (subst (Gathers limit text g) (sym e) r)
 reads_calls limit text g seen end (call ∷ calls) r (input, small, bytes, item, others) =
     let cut = next_of limit seen input in
-    let P : List ℕ → Type 0 = λ part. Reads limit (text ++ part) (gathers g part cut.item) cut.seen in
-    let Q : Option Item → Type 0 = λ x. Reads limit (text ++ call.bytes) (gathers g call.bytes x) cut.seen in
+    let P : List ℕ → Type 0 = λ part. Gathers limit (text ++ part) (gathers g part cut.item) cut.seen in
+    let Q : Option Item → Type 0 = λ x. Gathers limit (text ++ call.bytes) (gathers g call.bytes x) cut.seen in
     let next = subst Q (sym item) (subst P (sym bytes) (reads_next limit text g seen input small r)) in
     rw (← append_assoc text call.bytes (text_of calls))
     (reads_calls limit (text ++ call.bytes) (gathers g call.bytes call.item) cut.seen end calls next others)
@@ -53,13 +53,13 @@ short_payload limit h payload f more r short good e =
     absurd (omega arith)
 
 -- what was read is how the text is cut
-pub Reads-cuts : (limit : ℕ) (text : List ℕ) (g : Gathered) (seen : Seen) → (r : Reads limit text g seen) → Cuts limit text g.frames r.begun
-Reads-cuts limit text g (InHeader bytes) r =
+pub Gathers-cuts : (limit : ℕ) (text : List ℕ) (g : Gathered) (seen : Seen) → (r : Gathers limit text g seen) → Cuts limit text g.frames r.begun
+Gathers-cuts limit text g (InHeader bytes) r =
     record { whole = r.whole; each = r.each; no_more = λ f more good e. short_header limit f bytes more r.is_begun.1 (sym r.is_begun.0 ∙ e) }
-Reads-cuts limit text g (Payload came missing) r =
+Gathers-cuts limit text g (Payload came missing) r =
     let (b, in_range, no_fault, came_is, all_is, some) = r.is_begun in
     record { whole = r.whole; each = r.each; no_more = λ f more good e. short_payload limit g.header g.payload f more in_range (omega arith) good (sym b ∙ e) }
-Reads-cuts limit text g (Broken fault) r =
+Gathers-cuts limit text g (Broken fault) r =
     let small = IsBytes-back text (joined g.frames) r.begun r.whole r.bytes in
     let spells = spelled r.begun small r.is_begun.0 in
     record {
@@ -69,15 +69,15 @@ Reads-cuts limit text g (Broken fault) r =
           bad_header limit (header_of r.begun) fault [] (IsInRange-header_of r.begun small) r.is_begun.1 f more good (append-nil (spelling (header_of r.begun)) ∙ (spells ∙ e));
     }
 
-pub length-begun : (limit : ℕ) (text : List ℕ) (g : Gathered) (seen : Seen) → (r : Reads limit text g seen) → length r.begun ≡ begun_of seen
+pub length-begun : (limit : ℕ) (text : List ℕ) (g : Gathered) (seen : Seen) → (r : Gathers limit text g seen) → length r.begun ≡ begun_of seen
 length-begun limit text g (InHeader bytes) r = ap length r.is_begun.0
 length-begun limit text g (Payload came missing) r =
     let (b, in_range, no_fault, came_is, all_is, some) = r.is_begun in
     ap length b ∙ (length-append (spelling g.header) g.payload ∙ (omega (arith, length-spelling g.header)))
 length-begun limit text g (Broken fault) r = r.is_begun.0
 
-pub Reads-fault : (limit : ℕ) (text : List ℕ) (g : Gathered) (fault : Fault) → Reads limit text g (Broken fault) → FaultStands limit text (length (joined g.frames)) fault
-Reads-fault limit text g fault r =
+pub Gathers-fault : (limit : ℕ) (text : List ℕ) (g : Gathered) (fault : Fault) → Gathers limit text g (Broken fault) → FaultStands limit text (length (joined g.frames)) fault
+Gathers-fault limit text g fault r =
     let small = IsBytes-back text (joined g.frames) r.begun r.whole r.bytes in
     let spells = spelled r.begun small r.is_begun.0 in
     record {
@@ -108,20 +108,20 @@ FaultStands-more limit text more offset fault s =
     }
 
 -- what was read where a fault stands is the fault
-pub reads_the_fault : (limit : ℕ) (text : List ℕ) (g : Gathered) (seen : Seen) (offset : ℕ) (fault : Fault) → Reads limit text g seen → FaultStands limit text offset fault → seen ≡ Broken fault
+pub reads_the_fault : (limit : ℕ) (text : List ℕ) (g : Gathered) (seen : Seen) (offset : ℕ) (fault : Fault) → Gathers limit text g seen → FaultStands limit text offset fault → seen ≡ Broken fault
 reads_the_fault limit text g (InHeader bytes) offset fault r s =
-    let same = (one_cut limit text _ _ _ _ (Reads-cuts limit text g (InHeader bytes) r) (Cuts-fault limit text offset fault s)).1 in
+    let same = (one_cut limit text _ _ _ _ (Gathers-cuts limit text g (InHeader bytes) r) (Cuts-fault limit text offset fault s)).1 in
     let n : length bytes ≡ 12 + length s.more =
     sym (ap length r.is_begun.0) ∙ (ap length same ∙ (length-append (spelling s.header) s.more ∙ ap (λ (k : ℕ). k + length s.more) (length-spelling s.header))) in
     let short : length bytes < 12 = r.is_begun.1 in
     absurd (omega arith)
 reads_the_fault limit text g (Payload came missing) offset fault r s =
     let (b, in_range, no_fault, came_is, all_is, some) = r.is_begun in
-    let same = (one_cut limit text _ _ _ _ (Reads-cuts limit text g (Payload came missing) r) (Cuts-fault limit text offset fault s)).1 in
+    let same = (one_cut limit text _ _ _ _ (Gathers-cuts limit text g (Payload came missing) r) (Cuts-fault limit text offset fault s)).1 in
     let header = same_header g.header s.header g.payload s.more in_range s.in_range (sym b ∙ same) in
     absurd (none_is_none fault (sym s.has_fault ∙ (ap (fault_of limit) (sym header) ∙ no_fault)))
 reads_the_fault limit text g (Broken other) offset fault r s =
-    ap Broken (one_fault limit text _ _ _ _ (Reads-fault limit text g other r) s).1
+    ap Broken (one_fault limit text _ _ _ _ (Gathers-fault limit text g other r) s).1
 
 header_fault : (fo : Option Fault) (h : Header) (n : ℕ) (fault : Fault) → Some (item_of fo h) ≡ Some (item.Fault fault) → seen_after fo n ≡ Broken fault
 header_fault None h n fault e = cc
@@ -170,13 +170,13 @@ fault_told limit before call after end fault calls told =
     let r = reads_calls limit [] nothing (InHeader []) h.mid before (reads_nothing limit) h.first in
     let (input, small, bytes, item, others) = h.second in
     let cut = next_of limit h.mid input in
-    let P : List ℕ → Type 0 = λ part. Reads limit (text_of before ++ part) (gathers (gathered nothing before) part cut.item) cut.seen in
+    let P : List ℕ → Type 0 = λ part. Gathers limit (text_of before ++ part) (gathers (gathered nothing before) part cut.item) cut.seen in
     let next = subst P (sym bytes) (reads_next limit (text_of before) (gathered nothing before) h.mid input small r) in
-    let Q : Option Item → Type 0 = λ x. Reads limit (text_of before ++ call.bytes) (gathers (gathered nothing before) call.bytes x) cut.seen in
+    let Q : Option Item → Type 0 = λ x. Gathers limit (text_of before ++ call.bytes) (gathers (gathered nothing before) call.bytes x) cut.seen in
     let after_fault = subst Q (sym item ∙ told) next in
-    let broken = subst (Reads limit (text_of before ++ call.bytes) (gathered nothing before)) (next_fault limit h.mid input fault (sym item ∙ told)) after_fault in
+    let broken = subst (Gathers limit (text_of before ++ call.bytes) (gathered nothing before)) (next_fault limit h.mid input fault (sym item ∙ told)) after_fault in
     rw (text_of-append before call after)
-    (FaultStands-more limit (text_of before ++ call.bytes) (text_of after) _ fault (Reads-fault limit (text_of before ++ call.bytes) (gathered nothing before) fault broken))
+    (FaultStands-more limit (text_of before ++ call.bytes) (text_of after) _ fault (Gathers-fault limit (text_of before ++ call.bytes) (gathered nothing before) fault broken))
 
 -- after a fault nothing is taken, and it is told again
 pub next_broken : (limit : ℕ) (seen : Seen) (input : List ℕ) (fault : Fault) → seen ≡ Broken fault →

@@ -89,7 +89,7 @@ IsBegun limit g begun (Payload came missing) =
 IsBegun limit g begun (Broken fault) = (length begun ≡ 12) × (fault_of limit (header_of begun) ≡ Some fault)
 
 -- The text so far is the frames that were gathered, and then what was seen of the next.
-pub record Reads (limit : ℕ) (text : List ℕ) (g : Gathered) (seen : Seen) : Type 0 where
+pub record Gathers (limit : ℕ) (text : List ℕ) (g : Gathered) (seen : Seen) : Type 0 where
   pub bytes : IsBytes text
   pub each : All (IsGoodFrame limit) g.frames
   pub begun : List ℕ

@@ -40,7 +40,7 @@ impl Model for Cutter {
 }
 
 impl Cutter {
-    ghost use Rattle.ymx_cutter.specs.Cutters.{begun_of, next_of, IsUnfinished, TakesFor, Reads};
+    ghost use Rattle.ymx_cutter.specs.Cutters.{begun_of, next_of, IsUnfinished, TakesFor, Gathers};
     ghost use Rattle.ymx_cutter.specs.Cutters.Seen.{InHeader, Broken};
     ghost use Rattle.ymx_cutter.specs.Bytewise.{seen_in, events_in, item_events};
     ghost use Rattle.ymx_header.specs.declared.fault.Fault.{Fault as FaultValue};
@@ -107,8 +107,8 @@ impl Cutter {
 
         // If the text so far is the frames gathered and what was seen of the next, it still is,
         // with the bytes taken and with what the item adds.
-        ensures reads { (text : List ℕ) (g : Gathered) → Reads self.old.limit text g self.old.seen →
-            Reads self.old.limit (text ++ take result.0 input.now) (gathers g (take result.0 input.now) result.1) self.new.seen }
+        ensures reads { (text : List ℕ) (g : Gathered) → Gathers self.old.limit text g self.old.seen →
+            Gathers self.old.limit (text ++ take result.0 input.now) (gathers g (take result.0 input.now) result.1) self.new.seen }
 
         // It is what the bytes taken do one after the other.
         ensures seen { seen_in self.old.limit self.old.seen (take result.0 input.now) ≡ self.new.seen }

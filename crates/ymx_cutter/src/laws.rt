@@ -7,7 +7,7 @@ ghost use Rattle.ymx_header.specs.Frames.{Frame};
 ghost use Rattle.ymx_cutter.specs.Frames.{joined};
 ghost use Rattle.ymx_cutter.specs.Cuts.{Cuts, FaultStands};
 ghost use Rattle.ymx_cutter.specs.Gathered.{Gathered, nothing};
-ghost use Rattle.ymx_cutter.specs.Cutters.{Seen, Reads, IsUnfinished, begun_of};
+ghost use Rattle.ymx_cutter.specs.Cutters.{Seen, Gathers, IsUnfinished, begun_of};
 ghost use Rattle.ymx_cutter.specs.Cutters.Seen.{InHeader, Broken};
 ghost use Rattle.ymx_cutter.specs.Calls.{Call, AreCalls, text_of, gathered};
 ghost use Rattle.ymx_cutter.specs.Bytewise.{seen_in, events_in, events_of};
@@ -28,12 +28,12 @@ pub fn one_way()
 /// What was read is how the text is cut. What was gathered are its frames, what is begun is its
 /// rest, and a fault that was seen stands there.
 pub fn what_is_read()
-    ensures nothing { (limit : ℕ) → Reads limit [] nothing (InHeader []) }
-    ensures cuts { (limit : ℕ) (text : List ℕ) (g : Gathered) (seen : Seen) → Reads limit text g seen →
+    ensures nothing { (limit : ℕ) → Gathers limit [] nothing (InHeader []) }
+    ensures cuts { (limit : ℕ) (text : List ℕ) (g : Gathered) (seen : Seen) → Gathers limit text g seen →
         (rest : List ℕ) × Cuts limit text g.frames rest × (length rest ≡ begun_of seen) }
-    ensures fault { (limit : ℕ) (text : List ℕ) (g : Gathered) (fault : Fault) → Reads limit text g (Broken fault) →
+    ensures fault { (limit : ℕ) (text : List ℕ) (g : Gathered) (fault : Fault) → Gathers limit text g (Broken fault) →
         FaultStands limit text (length (joined g.frames)) fault }
-    ensures found { (limit : ℕ) (text : List ℕ) (g : Gathered) (seen : Seen) (offset : ℕ) (fault : Fault) → Reads limit text g seen →
+    ensures found { (limit : ℕ) (text : List ℕ) (g : Gathered) (seen : Seen) (offset : ℕ) (fault : Fault) → Gathers limit text g seen →
         FaultStands limit text offset fault → seen ≡ Broken fault }
 {}
 

@@ -5,7 +5,7 @@ ghost use Rattle.std.specs.Io.KnownBytes.{Keeps};
 
 use crate::forwarding::{Forwarded, TunnelSide, forward};
 use crate::tell::{cannot_listen, cannot_reach, lacks_memory, session_broken};
-use crate::watching::Lines;
+use crate::watching::Notices;
 use std::alloc::Global;
 use std::net::{SocketAddr, TcpListener, TcpStream};
 use std::sync::Wait;
@@ -75,7 +75,7 @@ pub fn run_local<R: Threads + Wait + Sync, N: Network, E: Outlet, L: Outlet + Se
             errors,
         );
     }
-    let watcher = Lines::new(lines);
+    let watcher = Notices::new(lines);
     watcher.listening(rt, &listener, asked.listen);
     forward_out(
         rt,
@@ -131,7 +131,7 @@ pub fn run_remote<R: Threads + Wait + Sync, N: Network, E: Outlet, L: Outlet + S
     if !asked.is_verbose {
         return forward_in(rt, alloc, network, &listener, asked, &Unwatched, errors);
     }
-    let watcher = Lines::new(lines);
+    let watcher = Notices::new(lines);
     watcher.listening(rt, &listener, asked.bind);
     forward_in(rt, alloc, network, &listener, asked, &watcher, errors)
 }

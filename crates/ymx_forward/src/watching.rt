@@ -18,14 +18,14 @@ type Line = ArrayString<LINE>;
 /// Says that a tunnel is ready, and how each of its connections ended, a line each. The device takes a line as a whole,
 /// whichever threads say one at once. Where it fails the line is lost, and nobody is told.
 #[derive(Drop)]
-pub(crate) struct Lines<'a, L: Outlet> {
+pub(crate) struct Notices<'a, L: Outlet> {
     device: Mutex<&'a mut L>,
 }
 
-impl<'a, L: Outlet> Lines<'a, L> {
+impl<'a, L: Outlet> Notices<'a, L> {
     /// Says its lines on this device.
-    pub(crate) fn new(device: &'a mut L) -> Lines<'a, L> {
-        Lines {
+    pub(crate) fn new(device: &'a mut L) -> Notices<'a, L> {
+        Notices {
             device: Mutex::new(device),
         }
     }
@@ -46,7 +46,7 @@ impl<'a, L: Outlet> Lines<'a, L> {
     }
 }
 
-impl<L: Outlet + Send> Watcher for Lines<'_, L> {
+impl<L: Outlet + Send> Watcher for Notices<'_, L> {
     fn ended<W: Wait>(&self, rt: &W, number: u64, joined: &EndedConnection) {
         self.say(rt, &end_line(number, joined));
     }

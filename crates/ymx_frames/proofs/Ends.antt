@@ -15,10 +15,10 @@ use Rattle.ymx_cutter.specs.declared.item.Item.TheVariants as item
 use Rattle.ymx_header.specs.Frames.{payload_length, fault_of}
 use Rattle.ymx_cutter.specs.Frames.{joined}
 use Rattle.ymx_cutter.specs.Cuts.{Cuts, FaultStands}
-use Rattle.ymx_cutter.specs.Cutters.{Seen, Cut, Reads, begun_of, next_of, item_of, seen_after, payload_seen}
+use Rattle.ymx_cutter.specs.Cutters.{Seen, Cut, Gathers, begun_of, next_of, item_of, seen_after, payload_seen}
 use Rattle.ymx_cutter.specs.Cutters.Seen.{InHeader, Payload, Broken}
 use Rattle.ymx_cutter.proofs.Only.{one_cut, Cuts-fault}
-use Rattle.ymx_cutter.proofs.Runs.{Reads-cuts, length-begun, Reads-fault, reads_the_fault}
+use Rattle.ymx_cutter.proofs.Runs.{Gathers-cuts, length-begun, Gathers-fault, reads_the_fault}
 use Rattle.ymx_frames.specs.declared.printer.Printer.{Printer}
 use Rattle.ymx_frames.specs.declared.print.FramesEnd.{FramesEnd}
 use Rattle.ymx_frames.specs.declared.print.FramesEnd.TheVariants.{Good, Fault as Faulty, Rest, Reading, Writing, Memory}
@@ -82,7 +82,7 @@ pub prints_all : (limit : ℕ) (text output : List ℕ) (p : Printer) → HasPri
 prints_all limit text output p pr none =
     let r = pr.reads in
     let empty : r.begun ≡ [] = empty_list r.begun (length-begun limit text pr.gathered p.cutter.seen r ∙ none) in
-    (pr.gathered.frames, subst (Cuts limit text pr.gathered.frames) empty (Reads-cuts limit text pr.gathered p.cutter.seen r), pr.printed)
+    (pr.gathered.frames, subst (Cuts limit text pr.gathered.frames) empty (Gathers-cuts limit text pr.gathered p.cutter.seen r), pr.printed)
 
 fault_seen : (seen : Seen) (fault : Fault) → NoFault seen → seen ≡ Broken fault → ⊥
 fault_seen seen fault none e = subst NoFault e none
@@ -94,7 +94,7 @@ prints_rest limit text done old new p count pr none is_begun some e =
     let n : length r.begun ≡ count = length-begun limit text pr.gathered p.cutter.seen r ∙ sym is_begun in (
       pr.gathered.frames,
       r.begun,
-      Reads-cuts limit text pr.gathered p.cutter.seen r,
+      Gathers-cuts limit text pr.gathered p.cutter.seen r,
       omega arith,
       λ offset fault s. fault_seen p.cutter.seen fault none (reads_the_fault limit text pr.gathered p.cutter.seen offset fault r s),
       ap (λ (l : List ℕ). done ++ l) e ∙ sym (append_assoc done old (rest_line count)) ∙ ap (λ (l : List ℕ). l ++ rest_line count) pr.printed
@@ -127,9 +127,9 @@ pub prints_fault : (limit : ℕ) (text more done old new : List ℕ) (p : Printe
     new ≡ old ++ fault_line fault p.offset → PrintsFault limit (text ++ more) (done ++ new)
 prints_fault limit text more done old new p fault pr broken e =
     let g = pr.gathered in
-    let r : Reads limit text g (Broken fault) = subst (Reads limit text g) broken pr.reads in
-    let s = Reads-fault limit text g fault r in
-    let before : g.frames ≡ s.before = (one_cut limit text _ _ _ _ (Reads-cuts limit text g (Broken fault) r) (Cuts-fault limit text _ fault s)).0 in
+    let r : Gathers limit text g (Broken fault) = subst (Gathers limit text g) broken pr.reads in
+    let s = Gathers-fault limit text g fault r in
+    let before : g.frames ≡ s.before = (one_cut limit text _ _ _ _ (Gathers-cuts limit text g (Broken fault) r) (Cuts-fault limit text _ fault s)).0 in
     let place = fault_text fault _ _ (place_again p.offset (length (joined g.frames)) (2 ^ 64 - 1) pr.placed) in (
       length (joined g.frames),
       fault,

@@ -10,7 +10,7 @@ use Rattle.ymx_cutter.specs.declared.item.Item.TheVariants as item
 use Rattle.ymx_header.specs.Frames.{Frame, frame_spelling, payload_length}
 use Rattle.ymx_cutter.specs.Frames.{joined, IsGoodFrame}
 use Rattle.ymx_cutter.specs.Gathered.{Gathered, nothing, gathers, with_frame}
-use Rattle.ymx_cutter.specs.Cutters.{Seen, Reads, Cutting}
+use Rattle.ymx_cutter.specs.Cutters.{Seen, Gathers, Cutting}
 use Rattle.ymx_cutter.specs.Cutters.Seen.{InHeader}
 use Rattle.ymx_cutter.proofs.Runs.{reads_nothing}
 use Rattle.ymx_cutter.proofs.Spelled.{good_payload, joined-push}
@@ -30,12 +30,12 @@ place_on : (place before n after most : ℕ) → place ≡ min before most → a
 place_on place before n after most p q = omega arith
 
 -- a call of a cutter keeps what was read, also where its limit has another name
-pub reads_on : (limit own : ℕ) (text part : List ℕ) (g g' : Gathered) (seen seen' : Seen) → own ≡ limit → (Reads own text g seen → Reads own part g' seen') → Reads limit text g seen → Reads limit part g' seen'
-reads_on limit own text part g g' seen seen' e f r = subst (λ n. Reads n part g' seen') e (f (subst (λ n. Reads n text g seen) (sym e) r))
+pub reads_on : (limit own : ℕ) (text part : List ℕ) (g g' : Gathered) (seen seen' : Seen) → own ≡ limit → (Gathers own text g seen → Gathers own part g' seen') → Gathers limit text g seen → Gathers limit part g' seen'
+reads_on limit own text part g g' seen seen' e f r = subst (λ n. Gathers n part g' seen') e (f (subst (λ n. Gathers n text g seen) (sym e) r))
 
 -- a frame is whole, and its line is printed
 pub frame_printed : (limit : ℕ) (text output text' output' : List ℕ) (p q : Printer) (pr : HasPrinted limit text output p) (g : Gathered) (h : Header) (payload : List ℕ) (cut : Cutting) →
-    g ≡ with_frame pr.gathered h payload → q.cutter ≡ cut → Reads limit text' g cut.seen → cut.limit ≡ limit → q.header ≡ h → q.preview ≡ preview [] →
+    g ≡ with_frame pr.gathered h payload → q.cutter ≡ cut → Gathers limit text' g cut.seen → cut.limit ≡ limit → q.header ≡ h → q.preview ≡ preview [] →
     q.offset ≡ min (p.offset + (12 + payload_length h)) (2 ^ 64 - 1) → output' ≡ output ++ line_text h (preview payload) → HasPrinted limit text' output' q
 frame_printed limit text output text' output' p q pr g h payload cut e cutter reads limited header shown placed printed =
     let f : Frame = record { header = h; payload = payload } in
@@ -45,7 +45,7 @@ frame_printed limit text output text' output' p q pr g h payload cut e cutter re
     ap (λ (fs : List Frame). length (joined fs)) frames ∙ length-joined limit pr.gathered.frames f each in
     record {
       gathered = g;
-      reads = subst (λ (x : Cutting). Reads limit text' g x.seen) (sym cutter) reads;
+      reads = subst (λ (x : Cutting). Gathers limit text' g x.seen) (sym cutter) reads;
       limited = ap (λ (x : Cutting). x.limit) cutter ∙ limited;
       header = header ∙ sym (ap (λ (x : Gathered). x.header) e);
       shown = shown ∙ ap preview (sym (ap (λ (x : Gathered). x.payload) e));
@@ -55,7 +55,7 @@ frame_printed limit text output text' output' p q pr g h payload cut e cutter re
 
 -- more of a frame has come, and nothing is printed
 pub frame_begun : (limit : ℕ) (text output text' : List ℕ) (p q : Printer) (pr : HasPrinted limit text output p) (g : Gathered) →
-    g.frames ≡ pr.gathered.frames → Reads limit text' g q.cutter.seen → q.cutter.limit ≡ limit → q.header ≡ g.header → q.preview ≡ preview g.payload →
+    g.frames ≡ pr.gathered.frames → Gathers limit text' g q.cutter.seen → q.cutter.limit ≡ limit → q.header ≡ g.header → q.preview ≡ preview g.payload →
     q.offset ≡ p.offset → HasPrinted limit text' output q
 frame_begun limit text output text' p q pr g frames reads limited header shown placed =
     record {

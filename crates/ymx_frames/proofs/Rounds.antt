@@ -56,7 +56,7 @@ left_short limit text input done new part p (Some e) ended f h s =
 -- ---- the loop
 
 -- So far this text was read and its lines were written, and no device failed.
-pub record HasRun (limit : ℕ) (was is had has : Option (List ℕ)) (read reads written writes : ℕ) (p : Printer) : Type 0 where
+pub record RoundsHavePrinted (limit : ℕ) (was is had has : Option (List ℕ)) (read reads written writes : ℕ) (p : Printer) : Type 0 where
   pub text : List ℕ
   pub done : List ℕ
   pub consumes : Consumes was is text
@@ -65,7 +65,7 @@ pub record HasRun (limit : ℕ) (was is had has : Option (List ℕ)) (read reads
   pub reader : reads ≡ read
   pub writer : writes ≡ written
 
-pub run_begins : (limit : ℕ) (was had : Option (List ℕ)) (read written : ℕ) (p : Printer) → (p.lines.items ≡ []) × IsPrinting limit [] [] p → HasRun limit was was had had read read written written p
+pub run_begins : (limit : ℕ) (was had : Option (List ℕ)) (read written : ℕ) (p : Printer) → (p.lines.items ≡ []) × IsPrinting limit [] [] p → RoundsHavePrinted limit was was had had read read written written p
 run_begins limit was had read written p (none, pr) = record {
   text = [];
   done = [];
@@ -80,7 +80,7 @@ starts_front : (xs ys : List ℕ) → StartsWith (xs ++ ys) xs
 starts_front xs ys = take-append_seam xs ys
 
 -- a read failed
-pub read_fails : (limit : ℕ) (was is had has after : Option (List ℕ)) (read reads written writes : ℕ) (p : Printer) → HasRun limit was is had has read reads written writes p → Keeps is after →
+pub read_fails : (limit : ℕ) (was is had has after : Option (List ℕ)) (read reads written writes : ℕ) (p : Printer) → RoundsHavePrinted limit was is had has read reads written writes p → Keeps is after →
     (text : List ℕ) × (output : List ℕ) × Consumes was after text × Appends had has output × PrintsPart limit text output
 read_fails limit was is had has after read reads written writes p h kept = (
   h.text,
@@ -98,7 +98,7 @@ last_read count buffer P fits some f e =
 
 -- a write failed after a read
 pub write_fails : (limit : ℕ) (was is had has after then_has : Option (List ℕ)) (read reads written writes count : ℕ) (buffer lines : List ℕ) (p q : Printer) (end : Option FramesEnd) →
-    (h : HasRun limit was is had has read reads written writes p) →
+    (h : RoundsHavePrinted limit was is had has read reads written writes p) →
     Consumes is after (take count buffer) × (count ≡ 0 → 0 < length buffer → IsAtEnd after) → count ≤ length buffer → 0 < length buffer →
     Leaves limit h.text (take count buffer) (h.done ++ q.lines.items) q end → lines ≡ q.lines.items →
     (part : List ℕ) × StartsWith lines part × Appends has then_has part →
@@ -113,7 +113,7 @@ write_fails limit was is had has after then_has read reads written writes count 
 
 -- the printing ended after a read
 pub run_ends : (limit : ℕ) (was is had has after then_has : Option (List ℕ)) (read reads written writes count : ℕ) (buffer lines : List ℕ) (p q : Printer) (end : Option FramesEnd) (e : FramesEnd) →
-    (h : HasRun limit was is had has read reads written writes p) →
+    (h : RoundsHavePrinted limit was is had has read reads written writes p) →
     Consumes is after (take count buffer) × (count ≡ 0 → 0 < length buffer → IsAtEnd after) → count ≤ length buffer → 0 < length buffer →
     Leaves limit h.text (take count buffer) (h.done ++ q.lines.items) q end → end ≡ Some e → lines ≡ q.lines.items → Appends has then_has lines →
     (text : List ℕ) × (output : List ℕ) × Consumes was after text × Appends had then_has output × Prints limit text (IsAtEnd after) e output
@@ -129,10 +129,10 @@ run_ends limit was is had has after then_has read reads written writes count buf
 
 -- it goes on after a read
 pub run_goes_on : (limit : ℕ) (was is had has after then_has : Option (List ℕ)) (read reads reads' written writes writes' count : ℕ) (buffer lines : List ℕ) (p q s : Printer) (end : Option FramesEnd) →
-    (h : HasRun limit was is had has read reads written writes p) → Consumes is after (take count buffer) →
+    (h : RoundsHavePrinted limit was is had has read reads written writes p) → Consumes is after (take count buffer) →
     Leaves limit h.text (take count buffer) (h.done ++ q.lines.items) q end → end ≡ None → lines ≡ q.lines.items → Appends has then_has lines →
     ((limit : ℕ) (text done : List ℕ) → IsPrinting limit text (done ++ q.lines.items) q → IsPrinting limit text ((done ++ q.lines.items) ++ s.lines.items) s) →
-    reads' ≡ reads → writes' ≡ writes → HasRun limit was after had then_has read reads' written writes' s
+    reads' ≡ reads → writes' ≡ writes → RoundsHavePrinted limit was after had then_has read reads' written writes' s
 run_goes_on limit was is had has after then_has read reads reads' written writes writes' count buffer lines p q s end h consumes leaves none same appends clear kept writer = record {
   text = h.text ++ take count buffer;
   done = h.done ++ q.lines.items;

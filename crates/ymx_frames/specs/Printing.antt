@@ -2,7 +2,7 @@
 use Rattle.std.specs.Prelude.{◌≡◌, ℕ, ◌-◌, ◌^◌, min, List, length, ⊤}
 use Rattle.ymx_cutter.specs.Frames.{joined}
 use Rattle.ymx_cutter.specs.Gathered.{Gathered}
-use Rattle.ymx_cutter.specs.Cutters.{Reads, Seen}
+use Rattle.ymx_cutter.specs.Cutters.{Gathers, Seen}
 use Rattle.ymx_cutter.specs.Cutters.Seen.{InHeader, Payload, Broken}
 use Rattle.ymx_frames.specs.declared.printer.Printer.{Printer}
 use Rattle.ymx_frames.specs.Lines.{lines, preview}
@@ -10,7 +10,7 @@ use Rattle.ymx_frames.specs.Lines.{lines, preview}
 -- Of this text the frames that are whole were printed. The printer keeps what it needs of the frame begun, and its place in the text.
 pub record HasPrinted (limit : ℕ) (text output : List ℕ) (p : Printer) : Type 0 where
   pub gathered : Gathered
-  pub reads : Reads limit text gathered p.cutter.seen
+  pub reads : Gathers limit text gathered p.cutter.seen
   pub limited : p.cutter.limit ≡ limit
   pub header : p.header ≡ gathered.header
   pub shown : p.preview ≡ preview gathered.payload

@@ -3,7 +3,7 @@
 ghost use Rattle.std.specs.Prelude.{◌≡◌, ◌≢◌, ◌⊎◌, ◌+◌, ◌^◌, List, [], length, true, false, IfOk, IfErr, OnOk, OnErr, MatchResult};
 ghost use Rattle.std.specs.List.Sorted.{IsPermutation};
 ghost use Rattle.ymx_model.specs.session.Emissions.{is_ready};
-ghost use Rattle.ymx_seats.specs.Agrees.{Agrees};
+ghost use Rattle.ymx_seats.specs.Tallies.{Tallies};
 ghost use Rattle.ymx_seats.specs.Transcripts.{IsNew};
 ghost use Rattle.ymx_seats.specs.Views.{SeatView};
 ghost use Rattle.ymx_held.specs.Answers.{IsNotMemory};
@@ -107,9 +107,9 @@ impl<R: Recorder> Held<R> {
     /// nothing changes, and the seats come back: with `SeatsOut` where there are more or fewer than were given, and
     /// where the transcript was handed out before; else with `OutOfOrder`. It takes no memory.
     pub fn end(&mut self, seats: Vec<Seat<R>>) -> Result<Transcript, EndFault<R>>
-        ensures ended { MatchResult result (λ transcript. R.KEEPS ≡ true → (all : List SeatView) × IsPermutation seats.items all × (length all ≡ self.old.given) × Agrees all transcript.entries) (λ fault. IsPermutation seats.items fault.seats.items) }
+        ensures ended { MatchResult result (λ transcript. R.KEEPS ≡ true → (all : List SeatView) × IsPermutation seats.items all × (length all ≡ self.old.given) × Tallies all transcript.entries) (λ fault. IsPermutation seats.items fault.seats.items) }
         ensures seats_out { IfErr result (λ fault. fault.why ≡ SeatsOut → (self.old.ended ≡ true) ⊎ (length seats.items ≢ self.old.given)) }
-        ensures out_of_order { IfErr result (λ fault. fault.why ≡ OutOfOrder → (self.old.ended ≡ false) × (length seats.items ≡ self.old.given) × ((order : List SeatView) → IsPermutation seats.items order → Agrees order self.old.entries → ⊥)) }
+        ensures out_of_order { IfErr result (λ fault. fault.why ≡ OutOfOrder → (self.old.ended ≡ false) × (length seats.items ≡ self.old.given) × ((order : List SeatView) → IsPermutation seats.items order → Tallies order self.old.entries → ⊥)) }
         ensures spent { OnOk result ((self.old.ended ≡ false) × (self.new.ended ≡ true) × (length seats.items ≡ self.old.given)) }
         ensures unchanged { OnErr result (self.new ≡ self.old) }
     {

@@ -12,7 +12,7 @@ use ymx_session::Session;
 const SEATS: usize = 16;
 
 /// A hub with its seats, and how often its calls and pumps were refused memory.
-pub struct Side<R: Recorder> {
+pub struct HubSide<R: Recorder> {
     pub hub: Arc<Hub<R>, Global>,
     pub seats: Vec<Seat<R>>,
     pub refusals: u32,
@@ -43,7 +43,7 @@ pub fn make_side<R: Recorder, W: Abort>(
     role: Role,
     one: R,
     other: R,
-) -> Side<R> {
+) -> HubSide<R> {
     let mut refusals = 0u32;
     let hub = match hub(alloc, role, one) {
         Some(hub) => hub,
@@ -60,14 +60,14 @@ pub fn make_side<R: Recorder, W: Abort>(
         refusals = refusals.saturating_add(1);
         assert!(rt; seats.reserve(SEATS).is_ok());
     }
-    Side {
+    HubSide {
         hub,
         seats,
         refusals,
     }
 }
 
-impl<R: Recorder> Side<R> {
+impl<R: Recorder> HubSide<R> {
     /// A new seat.
     pub fn seat<W: Wait + Abort>(&self, rt: &W) -> Seat<R> {
         match self.hub.seat(rt) {
@@ -179,7 +179,7 @@ impl<R: Recorder> Side<R> {
 
     /// Hands the seats in: the lists and the history agree. Says how often memory was refused.
     pub fn end<W: Wait + Abort>(self, rt: &W) -> u32 {
-        let Side {
+        let HubSide {
             hub,
             seats,
             refusals,

@@ -1,7 +1,7 @@
 //! The steps of a run. Each says whether the run goes on.
 
-use crate::side::{Halves, Side};
-use crate::wire::{ROOM, Reads, Wire};
+use crate::side::{Halves, HubSide};
+use crate::wire::{ROOM, ReadBudget, Wire};
 use std::process::Abort;
 use std::sync::Wait;
 use ymx_hub::{HubFault, Recorder};
@@ -21,14 +21,18 @@ fn no_memory(entries: &[Entry]) -> u32 {
 
 /// Takes what is due at one side to the other, by a pump at each. The run goes on unless a pump ends for want of
 /// memory.
-pub fn carry<R: Recorder, W: Wait + Abort>(rt: &W, from: &mut Side<R>, to: &mut Side<R>) -> bool {
+pub fn carry<R: Recorder, W: Wait + Abort>(
+    rt: &W,
+    from: &mut HubSide<R>,
+    to: &mut HubSide<R>,
+) -> bool {
     let mut wire = Wire::new();
     let end = write_pump(
         rt,
         &from.hub,
         from.seat(rt),
         &mut wire,
-        &mut Reads(0),
+        &mut ReadBudget(0),
         &mut [0; ROOM],
     );
     if !has_gone(rt, from, end) {
@@ -36,7 +40,7 @@ pub fn carry<R: Recorder, W: Wait + Abort>(rt: &W, from: &mut Side<R>, to: &mut 
     }
     assert!(rt; !wire.is_short);
     // No bytes would be the end of the input.
-    let reads = Reads(u32::from(!wire.as_slice().is_empty()));
+    let reads = ReadBudget(u32::from(!wire.as_slice().is_empty()));
     let mut reader = MemoryInlet::new(wire.as_slice());
     let mut gate = reads;
     let end = read_pump(
@@ -51,7 +55,7 @@ pub fn carry<R: Recorder, W: Wait + Abort>(rt: &W, from: &mut Side<R>, to: &mut 
 }
 
 /// Whether a pump ended by its gate, and not for want of memory.
-fn has_gone<R: Recorder, W: Abort>(rt: &W, side: &mut Side<R>, end: PumpEnd<R>) -> bool {
+fn has_gone<R: Recorder, W: Abort>(rt: &W, side: &mut HubSide<R>, end: PumpEnd<R>) -> bool {
     let PumpEnd {
         seat,
         moved: _,
@@ -72,7 +76,7 @@ fn has_gone<R: Recorder, W: Abort>(rt: &W, side: &mut Side<R>, end: PumpEnd<R>) 
 /// Writes these bytes, which have room. Where memory is refused none were taken.
 pub fn write<R: Recorder, W: Wait + Abort>(
     rt: &W,
-    side: &mut Side<R>,
+    side: &mut HubSide<R>,
     halves: &mut Halves<R>,
     bytes: &[u8],
 ) -> bool {
@@ -94,7 +98,7 @@ pub fn write<R: Recorder, W: Wait + Abort>(
 /// Whether the stream stands. It doesn't where the peer had no memory for it: then it was reset.
 pub fn stands<R: Recorder, W: Wait + Abort>(
     rt: &W,
-    side: &mut Side<R>,
+    side: &mut HubSide<R>,
     halves: &mut Halves<R>,
 ) -> bool {
     let Some(writer) = &mut halves.writer else {
@@ -119,7 +123,7 @@ pub fn stands<R: Recorder, W: Wait + Abort>(
 /// Reads just these bytes, which are there.
 pub fn read<R: Recorder, W: Wait + Abort>(
     rt: &W,
-    side: &mut Side<R>,
+    side: &mut HubSide<R>,
     halves: &mut Halves<R>,
     bytes: &[u8],
 ) -> bool {
@@ -140,7 +144,7 @@ pub fn read<R: Recorder, W: Wait + Abort>(
 /// Half-closes the stream. The run goes on unless the half was spent without memory.
 pub fn finish<R: Recorder, W: Wait + Abort>(
     rt: &W,
-    side: &mut Side<R>,
+    side: &mut HubSide<R>,
     halves: &mut Halves<R>,
 ) -> bool {
     let Some(writer) = halves.writer.take() else {
@@ -158,7 +162,7 @@ pub fn finish<R: Recorder, W: Wait + Abort>(
 /// Gives up reading. The run goes on unless the half was spent without memory.
 pub fn close_reader<R: Recorder, W: Wait + Abort>(
     rt: &W,
-    side: &mut Side<R>,
+    side: &mut HubSide<R>,
     halves: &mut Halves<R>,
 ) -> bool {
     let Some(reader) = halves.reader.take() else {

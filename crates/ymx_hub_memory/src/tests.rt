@@ -1,6 +1,6 @@
 //! A word goes there and back over one stream, between two hubs of one thread.
 
-use crate::side::{Halves, Side, make_side};
+use crate::side::{Halves, HubSide, make_side};
 use crate::steps::{carry, close_reader, finish, read, stands, write};
 use std::alloc::Global;
 use std::process::Abort;
@@ -14,8 +14,8 @@ const WORD: &[u8; 5] = b"hello";
 /// The opener writes, and what is due goes both ways. Whether the stream stands then.
 fn meets<R: Recorder, W: Wait + Abort>(
     rt: &W,
-    near: &mut Side<R>,
-    far: &mut Side<R>,
+    near: &mut HubSide<R>,
+    far: &mut HubSide<R>,
     halves: &mut Halves<R>,
 ) -> bool {
     write(rt, near, halves, WORD)
@@ -27,9 +27,9 @@ fn meets<R: Recorder, W: Wait + Abort>(
 /// The opener finishes and reads, and the other side sends back what it reads.
 fn echoes<R: Recorder, W: Wait + Abort>(
     rt: &W,
-    near: &mut Side<R>,
+    near: &mut HubSide<R>,
     mine: &mut Halves<R>,
-    far: &mut Side<R>,
+    far: &mut HubSide<R>,
     theirs: &mut Halves<R>,
 ) -> bool {
     finish(rt, near, mine)
@@ -46,7 +46,7 @@ fn echoes<R: Recorder, W: Wait + Abort>(
 }
 
 /// One run. Whether it came to its end.
-fn runs<R: Recorder, W: Wait + Abort>(rt: &W, near: &mut Side<R>, far: &mut Side<R>) -> bool {
+fn runs<R: Recorder, W: Wait + Abort>(rt: &W, near: &mut HubSide<R>, far: &mut HubSide<R>) -> bool {
     let mut mine = near.open(rt);
     if !meets(rt, near, far, &mut mine) {
         near.close(rt);
@@ -64,7 +64,7 @@ fn runs<R: Recorder, W: Wait + Abort>(rt: &W, near: &mut Side<R>, far: &mut Side
 }
 
 /// One run between two new sides: whether it came to its end, and how often it was refused memory.
-fn run<R: Recorder, W: Wait + Abort>(rt: &W, near: Side<R>, far: Side<R>) -> (bool, u32) {
+fn run<R: Recorder, W: Wait + Abort>(rt: &W, near: HubSide<R>, far: HubSide<R>) -> (bool, u32) {
     let (mut near, mut far) = (near, far);
     let is_whole = runs(rt, &mut near, &mut far);
     (is_whole, near.end(rt).saturating_add(far.end(rt)))

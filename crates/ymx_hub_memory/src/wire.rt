@@ -56,9 +56,9 @@ impl Outlet for Wire {
 
 /// Lets a pump read so often, and never wait.
 #[derive(Drop)]
-pub struct Reads(pub u32);
+pub struct ReadBudget(pub u32);
 
-impl Gate for Reads {
+impl Gate for ReadBudget {
     fn before_read(&mut self) -> bool {
         let may = self.0 > 0;
         self.0 = self.0.saturating_sub(1);

@@ -6,7 +6,7 @@ use Rattle.ymx_script.specs.declared.lines.Lines.{Lines}
 use Rattle.ymx_script.specs.declared.lines.ScriptEnd.{ScriptEnd}
 use Rattle.ymx_script.specs.declared.lines.ScriptEnd.TheVariants.{Good, Line, Reading, Writing, Memory}
 use Rattle.ymx_script.specs.Printing.{error_line}
-use Rattle.ymx_script.specs.Scripts.{Place, IsBad, PrintsFront}
+use Rattle.ymx_script.specs.Scripts.{Place, IsBad, PrintsFirstLines}
 use Rattle.ymx_script.specs.Scripts.IsBad.{TooLong, Mistaken, LastMistaken}
 use Rattle.ymx_script.specs.Reading.{IsAtMistake}
 use Rattle.ymx_script.specs.Outputs.{PrintsByEnd, PrintsBeginning, Tells}
@@ -32,7 +32,7 @@ mistake_if text done ended other l f h = record {
 }
 
 -- what is printed of the first lines is a part of it
-pub front_part : (text output : List ℕ) (ended : Type 0) → PrintsFront text output → PrintsBeginning text ended output
+pub front_part : (text output : List ℕ) (ended : Type 0) → PrintsFirstLines text output → PrintsBeginning text ended output
 front_part text output ended h = (output, inl h, starts_itself output)
 
 -- the line of a mistake is told
@@ -51,7 +51,7 @@ tells text done ended mid new (Line number) t h = record {
   told = ap (λ (zs : List ℕ). done ++ zs) t.1 ∙ sym (append_assoc done mid.player.text.items (error_line number));
 }
 tells text done ended mid new Memory t h =
-    let front : PrintsFront text (done ++ mid.player.text.items) = record { before = h.before; after = h.bytes ++ h.after; p = h.p; whole = h.whole; plays = h.plays } in
+    let front : PrintsFirstLines text (done ++ mid.player.text.items) = record { before = h.before; after = h.bytes ++ h.after; p = h.p; whole = h.whole; plays = h.plays } in
     subst (λ (zs : List ℕ). PrintsBeginning text ended (done ++ zs)) (sym t) (front_part text (done ++ mid.player.text.items) ended front)
 tells text done ended mid new Good t h = absurd t
 tells text done ended mid new Reading t h = absurd t

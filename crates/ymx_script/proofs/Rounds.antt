@@ -12,9 +12,9 @@ use Rattle.ymx_script.specs.declared.lines.ScriptEnd.TheVariants.{Good, Line, Re
 use Rattle.ymx_model.specs.devices.Devices.{has_failed}
 use Rattle.ymx_script.specs.Outputs.{BlamesNoDevice, Leaves, PrintsByEnd, PrintsBeginning, PrintsSome}
 use Rattle.ymx_script.specs.Players.{place_of}
-use Rattle.ymx_script.specs.Rounds.{HasEnded, HasRun}
+use Rattle.ymx_script.specs.Rounds.{HasEnded, RoundsHavePlayed}
 use Rattle.ymx_script.specs.Reading.{IsReading}
-use Rattle.ymx_script.specs.Scripts.{Place, Plays, PrintsFront, PrintsMistake, IsPart, first_place, with_feeds, has_feed, longest}
+use Rattle.ymx_script.specs.Scripts.{Place, Plays, PrintsFirstLines, PrintsMistake, IsTextPart, first_place, with_feeds, has_feed, longest}
 use Rattle.ymx_script.proofs.Ends.{bad_if, front_part}
 
 -- ---- before anything is read
@@ -72,7 +72,7 @@ prints_if text output ended other Writing f h = part_if text output ended other 
 prints_if text output ended other Memory f h = part_if text output ended other f h
 
 -- the lines that were played are the first of the text
-reading_front : (text done : List ℕ) (l : Lines) → IsReading text done l → PrintsFront text (done ++ l.player.text.items)
+reading_front : (text done : List ℕ) (l : Lines) → IsReading text done l → PrintsFirstLines text (done ++ l.player.text.items)
 reading_front text done l r = record { before = r.before; after = l.part.items; p = place_of l.player; whole = r.played.whole; plays = r.played.plays }
 
 left_short : (text piece done part : List ℕ) (l : Lines) (end : Option ScriptEnd) (ended : Type 0) → (piece ≡ [] → ended) → Leaves text piece done l end → StartsWith l.player.text.items part →
@@ -104,7 +104,7 @@ written text done old new place none part number r =
 
 -- ---- the loop
 
-pub run_begins : (was had : Option (List ℕ)) (read written : ℕ) (l : Lines) → IsReading [] [] l → HasRun was was had had read read written written l
+pub run_begins : (was had : Option (List ℕ)) (read written : ℕ) (l : Lines) → IsReading [] [] l → RoundsHavePlayed was was had had read read written written l
 run_begins was had read written l r = record {
   text = [];
   done = [];
@@ -116,14 +116,14 @@ run_begins was had read written l r = record {
 }
 
 -- a part of a line is kept
-pub run_part : (was is had has : Option (List ℕ)) (read reads written writes : ℕ) (l : Lines) → HasRun was is had has read reads written writes l → IsPart l.part.items
+pub run_part : (was is had has : Option (List ℕ)) (read reads written writes : ℕ) (l : Lines) → RoundsHavePlayed was is had has read reads written writes l → IsTextPart l.part.items
 run_part was is had has read reads written writes l h = record { one = h.reading.played.one; short = h.reading.played.short }
 
 starts_front : (xs ys : List ℕ) → StartsWith (xs ++ ys) xs
 starts_front xs ys = take-append_seam xs ys
 
 -- a read failed
-pub read_fails : (was is had has after : Option (List ℕ)) (read reads written writes : ℕ) (l : Lines) (ended : Type 0) → HasRun was is had has read reads written writes l → Keeps is after →
+pub read_fails : (was is had has after : Option (List ℕ)) (read reads written writes : ℕ) (l : Lines) (ended : Type 0) → RoundsHavePlayed was is had has read reads written writes l → Keeps is after →
     (text : List ℕ) × (output : List ℕ) × Consumes was after text × Appends had has output × PrintsBeginning text ended output
 read_fails was is had has after read reads written writes l ended h kept = (
   h.text,
@@ -141,7 +141,7 @@ last_read count buffer P fits some f e =
 
 -- a write failed after a read
 pub write_fails : (was is had has after then_has : Option (List ℕ)) (read reads written writes count : ℕ) (buffer lines : List ℕ) (l m : Lines) (end : Option ScriptEnd) →
-    (h : HasRun was is had has read reads written writes l) →
+    (h : RoundsHavePlayed was is had has read reads written writes l) →
     Consumes is after (take count buffer) × (count ≡ 0 → 0 < length buffer → IsAtEnd after) → count ≤ length buffer → 0 < length buffer →
     ((text done : List ℕ) → IsReading text done l → Leaves text (take count buffer) done m end) → lines ≡ m.player.text.items →
     (part : List ℕ) × StartsWith lines part × Appends has then_has part →
@@ -156,7 +156,7 @@ write_fails was is had has after then_has read reads written writes count buffer
 
 -- the script ended after a read
 pub run_ends : (was is had has after then_has : Option (List ℕ)) (read reads written writes count : ℕ) (buffer lines : List ℕ) (l m : Lines) (end : Option ScriptEnd) (e : ScriptEnd) →
-    (h : HasRun was is had has read reads written writes l) →
+    (h : RoundsHavePlayed was is had has read reads written writes l) →
     Consumes is after (take count buffer) × (count ≡ 0 → 0 < length buffer → IsAtEnd after) → count ≤ length buffer → 0 < length buffer →
     ((text done : List ℕ) → IsReading text done l → Leaves text (take count buffer) done m end) → end ≡ Some e → lines ≡ m.player.text.items → Appends has then_has lines →
     (text : List ℕ) × (output : List ℕ) × Consumes was after text × Appends had then_has output × PrintsByEnd text (IsAtEnd after) e output
@@ -172,10 +172,10 @@ run_ends was is had has after then_has read reads written writes count buffer li
 
 -- it goes on after a read
 pub run_goes_on : (was is had has after then_has : Option (List ℕ)) (read reads reads' written writes writes' count : ℕ) (buffer lines : List ℕ) (l m n : Lines) (end : Option ScriptEnd) →
-    (h : HasRun was is had has read reads written writes l) → Consumes is after (take count buffer) →
+    (h : RoundsHavePlayed was is had has read reads written writes l) → Consumes is after (take count buffer) →
     ((text done : List ℕ) → IsReading text done l → Leaves text (take count buffer) done m end) → end ≡ None → lines ≡ m.player.text.items → Appends has then_has lines →
     ((text done : List ℕ) → IsReading text done m → IsReading text (done ++ m.player.text.items) n) →
-    reads' ≡ reads → writes' ≡ writes → HasRun was after had then_has read reads' written writes' n
+    reads' ≡ reads → writes' ≡ writes → RoundsHavePlayed was after had then_has read reads' written writes' n
 run_goes_on was is had has after then_has read reads reads' written writes writes' count buffer lines l m n end h consumes leaves none same appends clear kept writer = record {
   text = h.text ++ take count buffer;
   done = h.done ++ m.player.text.items;
@@ -214,7 +214,7 @@ failed_since first before after same failed = subst (λ (n : ℕ). IsTrue (has_f
 
 -- ---- the ends
 
-pub ended_reading : (was is had has after : Option (List ℕ)) (read reads reads' written writes : ℕ) (l : Lines) → HasRun was is had has read reads written writes l → Keeps is after →
+pub ended_reading : (was is had has after : Option (List ℕ)) (read reads reads' written writes : ℕ) (l : Lines) → RoundsHavePlayed was is had has read reads written writes l → Keeps is after →
     IsTrue (has_failed reads reads') → HasEnded was after had has read reads' written writes Reading
 ended_reading was is had has after read reads reads' written writes l h kept failed = record {
   printed = read_fails was is had has after read reads written writes l (IsAtEnd after) h kept;
@@ -228,7 +228,7 @@ pub ended_writing : (was is had has after then_has : Option (List ℕ)) (read re
     Consumes is after (take count buffer) × (count ≡ 0 → 0 < length buffer → IsAtEnd after) → count ≤ length buffer → 0 < length buffer →
     ((text done : List ℕ) → IsReading text done l → Leaves text (take count buffer) done m end) → lines ≡ m.player.text.items →
     (part : List ℕ) × StartsWith lines part × Appends has then_has part → reads' ≡ reads → IsTrue (has_failed writes writes') →
-    HasRun was is had has read reads written writes l → HasEnded was after had then_has read reads' written writes' Writing
+    RoundsHavePlayed was is had has read reads written writes l → HasEnded was after had then_has read reads' written writes' Writing
 ended_writing was is had has after then_has read reads reads' written writes writes' count buffer lines l m end moved fits some leaves same part kept failed h = record {
   printed = write_fails was is had has after then_has read reads written writes count buffer lines l m end h moved fits some leaves same part;
   reading = λ e. never_both _ (sym e);
@@ -241,7 +241,7 @@ pub ended_itself : (was is had has after then_has : Option (List ℕ)) (read rea
     Consumes is after (take count buffer) × (count ≡ 0 → 0 < length buffer → IsAtEnd after) → count ≤ length buffer → 0 < length buffer →
     ((text done : List ℕ) → IsReading text done l → Leaves text (take count buffer) done m found) → IfSome found BlamesNoDevice → found ≡ Some e → lines ≡ m.player.text.items →
     Appends has then_has lines → reads' ≡ reads → writes' ≡ writes →
-    HasRun was is had has read reads written writes l → HasEnded was after had then_has read reads' written writes' e
+    RoundsHavePlayed was is had has read reads written writes l → HasEnded was after had then_has read reads' written writes' e
 ended_itself was is had has after then_has read reads reads' written writes writes' count buffer lines l m found e moved fits some leaves own is_e same appends kept written_same h = record {
   printed = run_ends was is had has after then_has read reads written writes count buffer lines l m found e h moved fits some leaves is_e same appends;
   reading = blames_none found e Reading _ own is_e reading_is_not_own;

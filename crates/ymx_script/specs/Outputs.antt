@@ -6,11 +6,11 @@ use Rattle.ymx_script.specs.declared.lines.ScriptEnd.{ScriptEnd}
 use Rattle.ymx_script.specs.declared.lines.ScriptEnd.TheVariants.{Good, Line, Reading, Writing, Memory}
 use Rattle.ymx_script.specs.Printing.{error_line}
 use Rattle.ymx_script.specs.Reading.{IsReading}
-use Rattle.ymx_script.specs.Scripts.{PrintsWhole, PrintsMistake, PrintsFront}
+use Rattle.ymx_script.specs.Scripts.{PrintsWhole, PrintsMistake, PrintsFirstLines}
 
 -- The first lines of a text, or all of it, or those before a bad line with the line of the mistake, print this.
 abbrev pub PrintsSome : (text : List ℕ) → (ended : Type 0) → (output : List ℕ) → Type 0
-PrintsSome text ended output = PrintsFront text output ⊎ ((ended × PrintsWhole text output) ⊎ ((number : ℕ) × PrintsMistake text number output ended))
+PrintsSome text ended output = PrintsFirstLines text output ⊎ ((ended × PrintsWhole text output) ⊎ ((number : ℕ) × PrintsMistake text number output ended))
 
 -- a beginning of that
 abbrev pub PrintsBeginning : (text : List ℕ) → (ended : Type 0) → (output : List ℕ) → Type 0

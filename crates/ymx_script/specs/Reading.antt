@@ -2,7 +2,7 @@
 use Rattle.std.specs.Prelude.{◌≡◌, ℕ, List, ◌++◌}
 use Rattle.ymx_script.specs.declared.lines.Lines.{Lines}
 use Rattle.ymx_script.specs.Players.{place_of}
-use Rattle.ymx_script.specs.Scripts.{Place, HasPlayed, IsBad, Plays, PrintsFront, first_place, with_feeds, line_number}
+use Rattle.ymx_script.specs.Scripts.{Place, HasPlayed, IsBad, Plays, PrintsFirstLines, first_place, with_feeds, line_number}
 
 -- Of this text the lines that have ended were played. What they print is `done` and what is kept to be written.
 pub record IsReading (text done : List ℕ) (l : Lines) : Type 0 where
@@ -23,4 +23,4 @@ pub record IsAtMistake (text done : List ℕ) (ended : Type 0) (l : Lines) : Typ
 
 -- what is printed is that of the first lines of the text
 abbrev pub IsFront : (text done : List ℕ) → Lines → Type 0
-IsFront text done l = PrintsFront text (done ++ l.player.text.items)
+IsFront text done l = PrintsFirstLines text (done ++ l.player.text.items)

@@ -9,7 +9,7 @@ use Rattle.ymx_script.specs.Outputs.{PrintsByEnd}
 use Rattle.ymx_script.specs.Reading.{IsReading}
 
 -- So far this text was read and what it prints was written, and no device failed.
-pub record HasRun (was is had has : Option (List ℕ)) (read reads written writes : ℕ) (l : Lines) : Type 0 where
+pub record RoundsHavePlayed (was is had has : Option (List ℕ)) (read reads written writes : ℕ) (l : Lines) : Type 0 where
   pub text : List ℕ
   pub done : List ℕ
   pub consumes : Consumes was is text

@@ -148,7 +148,7 @@ pub record HasPlayed (text : List ℕ) (before : List (List ℕ)) (part : List �
   pub plays : Plays before first_place output p
 
 -- what has come of a line
-pub record IsPart (bytes : List ℕ) : Type 0 where
+pub record IsTextPart (bytes : List ℕ) : Type 0 where
   pub one : has_feed bytes ≡ false
   pub short : length bytes ≤ longest
 
@@ -183,7 +183,7 @@ pub record PrintsMistake (text : List ℕ) (number : ℕ) (output : List ℕ) (e
   pub told : output ≡ printed ++ error_line number
 
 -- the first lines of a text print this
-pub record PrintsFront (text output : List ℕ) : Type 0 where
+pub record PrintsFirstLines (text output : List ℕ) : Type 0 where
   pub before : List (List ℕ)
   pub after : List ℕ
   pub p : Place

@@ -3,7 +3,7 @@
 ghost use Rattle.std.specs.Prelude.{◌≡◌, ◌++◌, ◌∷◌, [], true, false, List, ℕ, take, IfOk, IfSome, OnErr};
 ghost use Rattle.ymx_script.specs.Outputs.{BlamesNoDevice, Leaves, Tells};
 ghost use Rattle.ymx_script.specs.Reading.{IsAtMistake, IsFront, IsReading};
-ghost use Rattle.ymx_script.specs.Scripts.{EndsLine, IsPart, PrintsWhole, has_feed};
+ghost use Rattle.ymx_script.specs.Scripts.{EndsLine, IsTextPart, PrintsWhole, has_feed};
 
 use crate::player::{Player, feed_in};
 use crate::words::bytes_from;
@@ -50,8 +50,8 @@ impl Lines {
     /// More of the line has come. Answers `false` if it is too long.
     fn add(&mut self, piece: &[u8]) -> Result<bool, AllocError>
         requires one { has_feed piece.now ≡ false }
-        requires part { IsPart self.old.part.items }
-        ensures part { IfOk result (λ good. good ≡ true → IsPart self.new.part.items) }
+        requires part { IsTextPart self.old.part.items }
+        ensures part { IfOk result (λ good. good ≡ true → IsTextPart self.new.part.items) }
         ensures good { IfOk result (λ good. good ≡ true → (text done : List ℕ) → IsReading text done self.old → IsReading (text ++ piece.now) done self.new) }
         ensures bad { IfOk result (λ good. good ≡ false → (text done more : List ℕ) → IsReading text done self.old → IsAtMistake (text ++ (piece.now ++ more)) done ⊥ self.new) }
         ensures err { OnErr result ((text done more : List ℕ) → IsReading text done self.old → IsFront (text ++ more) done self.new) }
@@ -65,8 +65,8 @@ impl Lines {
 
     /// The line has ended, and is played. Answers `false` if it is a mistake.
     fn end_line(&mut self) -> Result<bool, AllocError>
-        requires { IsPart self.old.part.items }
-        ensures part { IfOk result (λ good. good ≡ true → IsPart self.new.part.items) }
+        requires { IsTextPart self.old.part.items }
+        ensures part { IfOk result (λ good. good ≡ true → IsTextPart self.new.part.items) }
         ensures good { IfOk result (λ good. good ≡ true → (text done : List ℕ) → IsReading text done self.old → IsReading (text ++ 10 ∷ []) done self.new) }
         ensures bad { IfOk result (λ good. good ≡ false → (text done more : List ℕ) → IsReading text done self.old → IsAtMistake (text ++ 10 ∷ more) done ⊥ self.new) }
         ensures err { OnErr result ((text done more : List ℕ) → IsReading text done self.old → IsFront (text ++ more) done self.new) }
@@ -83,8 +83,8 @@ impl Lines {
     /// The first line of these bytes, which ends at this place, is played. Answers `false` if it is bad.
     fn next_line(&mut self, bytes: &[u8], end: usize) -> Result<bool, AllocError>
         requires ends { EndsLine bytes.now end }
-        requires part { IsPart self.old.part.items }
-        ensures part { IfOk result (λ good. good ≡ true → IsPart self.new.part.items) }
+        requires part { IsTextPart self.old.part.items }
+        ensures part { IfOk result (λ good. good ≡ true → IsTextPart self.new.part.items) }
         ensures good { IfOk result (λ good. good ≡ true → (text done : List ℕ) → IsReading text done self.old → IsReading (text ++ (take end bytes.now ++ 10 ∷ [])) done self.new) }
         ensures bad { IfOk result (λ good. good ≡ false → (text done : List ℕ) → IsReading text done self.old → IsAtMistake (text ++ bytes.now) done ⊥ self.new) }
         ensures err { OnErr result ((text done : List ℕ) → IsReading text done self.old → IsFront (text ++ bytes.now) done self.new) }
@@ -98,7 +98,7 @@ impl Lines {
 
     /// More of the text has come. Answers `false` if a line of it is bad.
     fn read(&mut self, piece: &[u8]) -> Result<bool, AllocError>
-        requires { IsPart self.old.part.items }
+        requires { IsTextPart self.old.part.items }
         ensures good { IfOk result (λ good. good ≡ true → (text done : List ℕ) → IsReading text done self.old → IsReading (text ++ piece.now) done self.new) }
         ensures bad { IfOk result (λ good. good ≡ false → (text done : List ℕ) → IsReading text done self.old → IsAtMistake (text ++ piece.now) done ⊥ self.new) }
         ensures err { OnErr result ((text done : List ℕ) → IsReading text done self.old → IsFront (text ++ piece.now) done self.new) }
@@ -117,7 +117,7 @@ impl Lines {
     /// The text has ended: what has come of a line is its last, and is played. Answers `false` if it is a
     /// mistake.
     fn finish(&mut self) -> Result<bool, AllocError>
-        requires { IsPart self.old.part.items }
+        requires { IsTextPart self.old.part.items }
         ensures good { IfOk result (λ good. good ≡ true → (text done : List ℕ) → IsReading text done self.old → PrintsWhole text (done ++ self.new.player.text.items)) }
         ensures bad { IfOk result (λ good. good ≡ false → (text done : List ℕ) → IsReading text done self.old → IsAtMistake text done (Unit {0}) self.new) }
         ensures err { OnErr result ((text done more : List ℕ) → IsReading text done self.old → IsFront (text ++ more) done self.new) }
@@ -141,7 +141,7 @@ impl Lines {
 
     /// Plays a piece of the text, of which no bytes are the end. Answers how the script ended, if it did.
     pub(crate) fn round(&mut self, piece: &[u8]) -> Option<ScriptEnd>
-        requires { IsPart self.old.part.items }
+        requires { IsTextPart self.old.part.items }
         ensures leaves { (text done : List ℕ) → IsReading text done self.old → Leaves text piece.now done self.new result }
         ensures own { IfSome result BlamesNoDevice }
     {

@@ -5,8 +5,8 @@ ghost use Rattle.std.specs.Io.KnownBytes.{Appends, Consumes, IsAtEnd};
 ghost use Rattle.ymx_model.specs.devices.Devices.{has_failed};
 ghost use Rattle.ymx_script.specs.Outputs.{PrintsByEnd};
 ghost use Rattle.ymx_script.specs.Reading.{IsReading};
-ghost use Rattle.ymx_script.specs.Rounds.{HasEnded, HasRun};
-ghost use Rattle.ymx_script.specs.Scripts.{IsPart};
+ghost use Rattle.ymx_script.specs.Rounds.{HasEnded, RoundsHavePlayed};
+ghost use Rattle.ymx_script.specs.Scripts.{IsTextPart};
 
 use crate::lines::{Lines, ScriptEnd};
 use std::alloc::Global;
@@ -91,11 +91,11 @@ fn play_piece<R: Inlet, W: Outlet>(
     input: &mut [u8],
 ) -> Option<ScriptEnd>
     requires room { 0 < length input.old }
-    requires part { IsPart lines.old.part.items }
+    requires part { IsTextPart lines.old.part.items }
     ensures { (was had : Option (List ℕ)) (read written : ℕ) →
-        HasRun was (R.remaining reader.old) had (W.contents writer.old) read (R.failures reader.old) written (W.failures writer.old) lines.old →
+        RoundsHavePlayed was (R.remaining reader.old) had (W.contents writer.old) read (R.failures reader.old) written (W.failures writer.old) lines.old →
         MatchOption result
-        (HasRun was (R.remaining reader.new) had (W.contents writer.new) read (R.failures reader.new) written (W.failures writer.new) lines.new)
+        (RoundsHavePlayed was (R.remaining reader.new) had (W.contents writer.new) read (R.failures reader.new) written (W.failures writer.new) lines.new)
         (λ end. HasEnded was (R.remaining reader.new) had (W.contents writer.new) read (R.failures reader.new) written (W.failures writer.new) end) }
 {
     let Ok(count) = reader.pull(input) else {

@@ -6,7 +6,7 @@ use Rattle.std.proofs.lemmas.List.Sums.{sum_by-cons}
 use Rattle.std.proofs.lemmas.List.Elements.{All-cons, All-nil, All-head, All-tail, All-weaker}
 use Rattle.ymx_model.specs.declared.types.Entry.{Entry}
 use Rattle.ymx_seats.specs.Views.{SeatView}
-use Rattle.ymx_seats.specs.Agrees.{part, NumberedFrom, RisesFrom, IsOwn, Agrees}
+use Rattle.ymx_seats.specs.Tallies.{part, NumberedFrom, RisesFrom, IsOwn, Tallies}
 use Rattle.ymx_seats.proofs.Equality.{is_same, same_is, same_as_itself, not_same}
 use Rattle.ymx_seats.proofs.Parts.{one_by}
 
@@ -134,14 +134,14 @@ alone_in (s ∷ ss) from k a =
 
 -- ---- each seat's list is its part
 
-pub agreed_parts : (ss : List SeatView) (es : List Entry) → RisesFrom 0 es → Agrees ss es → All (λ s. s.entries ≡ part s.number es) ss
+pub agreed_parts : (ss : List SeatView) (es : List Entry) → RisesFrom 0 es → Tallies ss es → All (λ s. s.entries ≡ part s.number es) ss
 agreed_parts ss es r a = λ k d h.
     let i = alone_in ss 0 a.numbers a.own k d h in
     let o = a.own k d h in
     same_lists _ (part _ es) _ 0 o.rising (part_rises _ es 0 r)
     (record { alike = λ weight. sym (i.alone weight) ∙ (sym (a.counted (of_seat _ weight)) ∙ sym (part_weighs es _ weight)) })
 
-pub agreed_starts : (ss : List SeatView) (es : List Entry) → Agrees ss es → All (λ s. RisesFrom s.start s.entries) ss
+pub agreed_starts : (ss : List SeatView) (es : List Entry) → Tallies ss es → All (λ s. RisesFrom s.start s.entries) ss
 agreed_starts ss es a = λ k d h. (a.own k d h).rising
 
 -- ---- each entry names a seat that is there
@@ -177,5 +177,5 @@ within_all (e ∷ es) count z =
     let c = sum_by-cons (unseated count) e es in
     All-cons (λ e. e.seat < count) e es (within_by (ltb e.seat count) e count (unseated count e) refl refl (omega (arith, c))) (within_all es count (omega (arith, c)))
 
-pub agreed_within : (ss : List SeatView) (es : List Entry) → Agrees ss es → All (λ e. e.seat < length ss) es
+pub agreed_within : (ss : List SeatView) (es : List Entry) → Tallies ss es → All (λ e. e.seat < length ss) es
 agreed_within ss es a = within_all es (length ss) (a.counted (unseated (length ss)) ∙ lists_within ss 0 (length ss) a.numbers a.own (omega arith))

@@ -7,7 +7,7 @@ use Rattle.std.proofs.lemmas.List.Sorted.{IsPermutation-sym, IsPermutation-trans
 use Rattle.std.proofs.lemmas.List.Elements.{All-cons, All-nil, All-head, All-tail, All-weaker}
 use Rattle.ymx_model.specs.declared.types.Entry.{Entry}
 use Rattle.ymx_seats.specs.Views.{SeatView}
-use Rattle.ymx_seats.specs.Agrees.{NumberedFrom, IsOwn, Agrees}
+use Rattle.ymx_seats.specs.Tallies.{NumberedFrom, IsOwn, Tallies}
 use Rattle.ymx_seats.proofs.Parts.{hits}
 
 abbrev one_where : Bool → ℕ
@@ -83,7 +83,7 @@ numbered_once_sorted order ss p up n =
     (λ k h l. sum_by-IsPermutation (λ s. one_where (k == s.number)) order ss p ∙ hits order 0 k 1 n h (omega (arith, length_permutation order ss p)))
 
 -- what agrees in some order does so once it is sorted
-pub agrees_once_sorted : (given order ss : List SeatView) (es : List Entry) → IsPermutation given order → IsPermutation given ss → IsNonDecreasingBy (λ s. s.number) ss → Agrees order es → Agrees ss es
+pub agrees_once_sorted : (given order ss : List SeatView) (es : List Entry) → IsPermutation given order → IsPermutation given ss → IsNonDecreasingBy (λ s. s.number) ss → Tallies order es → Tallies ss es
 agrees_once_sorted given order ss es p q up a =
     let r = IsPermutation-trans order given ss (IsPermutation-sym given order p) q in
     record {

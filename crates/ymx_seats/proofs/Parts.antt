@@ -8,7 +8,7 @@ use Rattle.std.proofs.lemmas.List.Sums.{sum_by-cons}
 use Rattle.std.proofs.lemmas.List.Elements.{All-cons, All-nil, All-head, All-tail, All-push, filter-append}
 use Rattle.ymx_model.specs.declared.types.Entry.{Entry}
 use Rattle.ymx_seats.specs.Views.{SeatView}
-use Rattle.ymx_seats.specs.Agrees.{part, NumberedFrom, RisesFrom, behind_all, IsOwn, Agrees}
+use Rattle.ymx_seats.specs.Tallies.{part, NumberedFrom, RisesFrom, behind_all, IsOwn, Tallies}
 
 pub rises_more : (es : List Entry) (from : ℕ) (e : Entry) → RisesFrom from es → behind_all from es ≤ e.position → RisesFrom from (es ++ e ∷ [])
 rises_more [] from e r h = (h, tt)
@@ -107,7 +107,7 @@ all_own (s ∷ ss) es p r =
     })
     (all_own ss es (All-tail (λ (s : SeatView). s.entries ≡ part s.number es) s ss p) (All-tail (λ (s : SeatView). RisesFrom s.start s.entries) s ss r))
 
-pub all_agree : (ss : List SeatView) (es : List Entry) → NumberedFrom 0 ss → All (λ e. e.seat < length ss) es → All (λ s. s.entries ≡ part s.number es) ss → All (λ s. RisesFrom s.start s.entries) ss → Agrees ss es
+pub all_agree : (ss : List SeatView) (es : List Entry) → NumberedFrom 0 ss → All (λ e. e.seat < length ss) es → All (λ s. s.entries ≡ part s.number es) ss → All (λ s. RisesFrom s.start s.entries) ss → Tallies ss es
 all_agree ss es n a p r =
     record {
       numbers = n;

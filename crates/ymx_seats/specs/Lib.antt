@@ -1,4 +1,4 @@
 pub mod Views
 pub mod Slips
-pub mod Agrees
+pub mod Tallies
 pub mod Transcripts

@@ -2,7 +2,7 @@
 
 ghost use Rattle.std.specs.Prelude.{◌≡◌, ◌↔◌, IsTrue, ◌<◌, length, List, All};
 ghost use Rattle.std.specs.List.Sorted.{IsPermutation, IsNonDecreasingBy};
-ghost use Rattle.ymx_seats.specs.Agrees.{part, NumberedFrom, RisesFrom, IsOwn, Agrees};
+ghost use Rattle.ymx_seats.specs.Tallies.{part, NumberedFrom, RisesFrom, IsOwn, Tallies};
 ghost use Rattle.ymx_seats.specs.Views.{SeatView};
 
 use crate::recorder::Recorder;
@@ -158,8 +158,8 @@ fn arrange<R: Recorder>(seats: &mut [Seat<R>])
 /// `false` can be answered for lists that hold the same entries.
 pub fn agree<R: Recorder>(seats: &mut [Seat<R>], all: &[Entry]) -> bool
     ensures seats { IsPermutation seats.old seats.new }
-    ensures agree { IsTrue result → Agrees seats.new all.now }
-    ensures exact { RisesFrom 0 all.now → (order : List SeatView) → IsPermutation seats.old order → Agrees order all.now → IsTrue result }
+    ensures agree { IsTrue result → Tallies seats.new all.now }
+    ensures exact { RisesFrom 0 all.now → (order : List SeatView) → IsPermutation seats.old order → Tallies order all.now → IsTrue result }
 {
     arrange(seats);
     if !are_numbered(seats) {

@@ -18,7 +18,7 @@ pub struct Log<R: Recorder> {
 
 impl<R: Recorder> Model for Log<R> {
     ghost use Rattle.std.specs.Prelude.{◌-◌, ◌≤◌, vec_capacity, vec_len};
-    ghost use Rattle.ymx_seats.specs.Agrees.{RisesFrom, behind_all};
+    ghost use Rattle.ymx_seats.specs.Tallies.{RisesFrom, behind_all};
     ghost use Rattle.ymx_seats.specs.Views.{LogView};
 
     ghost Value = { LogView };
@@ -29,7 +29,7 @@ impl<R: Recorder> Model for Log<R> {
 }
 
 impl<R: Recorder> Log<R> {
-    ghost use Rattle.ymx_seats.specs.Agrees.{RisesFrom};
+    ghost use Rattle.ymx_seats.specs.Tallies.{RisesFrom};
     ghost use Rattle.ymx_seats.specs.Views.{kept_entries, entry};
     ghost use Rattle.ymx_seats.specs.Slips.{asked_by, told_by, bytes_told, IsReady};
 

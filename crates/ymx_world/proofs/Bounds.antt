@@ -12,7 +12,7 @@ use Rattle.ymx_headline.proofs.emissions.Begun.{runs-open}
 use Rattle.ymx_law_world.specs.Texts.{is_open}
 use Rattle.ymx_world.proofs.Headlines.{reached-frames}
 use Rattle.ymx_world.specs.Reached.{IsReached}
-use Rattle.ymx_world.specs.Bounds.{IsBounded}
+use Rattle.ymx_world.specs.Bounds.{IsBoundedRun}
 
 abbrev IsCarriage : Step → Type 0
 IsCarriage st = is_carriage st ≡ true
@@ -28,7 +28,7 @@ counts (st ∷ sts) (given ∷ more) w v each run =
 
 -- they are at most twice the load
 pub is-bounded : (steps : List Step) (answers : List Answer) (w v : World) → IsReached w → IsOpenWorld w → All IsCarriage steps → Runs in_turn steps answers w v →
-    IsBounded steps answers w v
+    IsBoundedRun steps answers w v
 is-bounded steps answers w v reached on each run =
     let h = reached-frames w reached in
     let open_ab : is_open w.b w.ab w.a ≡ true = rw (on.ab.on, on.b, runs-open w.a.status on.a) refl in

@@ -15,7 +15,7 @@ pub record AreUnderWay (w : World) (frames_ab frames_ba : List (List ℕ)) : Typ
 
 -- The steps, which led from w to v, feed so many frames wholly; and whatever frames are under way in w, these
 -- are at most twice its load.
-pub record IsBounded (steps : List Step) (answers : List Answer) (w v : World) : Type 0 where
+pub record IsBoundedRun (steps : List Step) (answers : List Answer) (w v : World) : Type 0 where
   pub frames : (frames_ab : List (List ℕ)) × (frames_ba : List (List ℕ)) × AreUnderWay w frames_ab frames_ba
   pub fed : (count : ℕ) × Carries in_turn steps answers w v count
   pub most : (frames_ab frames_ba : List (List ℕ)) (count : ℕ) → AreUnderWay w frames_ab frames_ba → Carries in_turn steps answers w v count →

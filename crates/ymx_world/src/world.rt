@@ -12,7 +12,7 @@ ghost use Rattle.ymx_model.specs.declared.types.Step.{Step as TheStep};
 ghost use Rattle.ymx_model.specs.declared.types.Answer.{Answer as TheAnswer};
 ghost use Rattle.ymx_law_audit.specs.Joints.{IsJointOrder};
 ghost use Rattle.ymx_law_audit.specs.Told.{AreAnswered, AreOneRun};
-ghost use Rattle.ymx_world.specs.Bounds.{IsBounded};
+ghost use Rattle.ymx_world.specs.Bounds.{IsBoundedRun};
 ghost use Rattle.ymx_world.specs.Acts.{session_of, pipe_of};
 ghost use Rattle.ymx_world.specs.Progress.{GoesForward};
 
@@ -102,9 +102,9 @@ impl World {
         ensures no_fault { IfOk result (λ answers. All (λ given. breaks_off given ≡ false) answers.items) }
         ensures no_fault_so_far { IfErr result (λ stopped. All (λ given. breaks_off given ≡ false) stopped.answers.items) }
         ensures bounded { IfOk result (λ answers. IsOpenWorld self.old → All (λ step. is_carriage step ≡ true) steps.now →
-            IsBounded steps.now answers.items self.old self.new) }
+            IsBoundedRun steps.now answers.items self.old self.new) }
         ensures bounded_so_far { IfErr result (λ stopped. let made = take (length stopped.answers.items) steps.now in
-            IsOpenWorld self.old → All (λ step. is_carriage step ≡ true) made → IsBounded made stopped.answers.items self.old self.new) }
+            IsOpenWorld self.old → All (λ step. is_carriage step ≡ true) made → IsBoundedRun made stopped.answers.items self.old self.new) }
     {
         self.joined.run(steps)
     }

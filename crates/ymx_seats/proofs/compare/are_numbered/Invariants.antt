@@ -1,5 +1,5 @@
 use Rattle.std.proofs.Common.{◌≡◌, take}
-use Rattle.ymx_seats.specs.Agrees.{NumberedFrom}
+use Rattle.ymx_seats.specs.Tallies.{NumberedFrom}
 use Rattle.ymx_seats.proofs.compare.are_numbered.Given as goal
 
 abbrev pub invariant-loop-seat : goal.invariant-loop-seat

@@ -1,5 +1,5 @@
 use Rattle.std.proofs.Common.{◌≡◌, take}
-use Rattle.ymx_seats.specs.Agrees.{RisesFrom, behind_all}
+use Rattle.ymx_seats.specs.Tallies.{RisesFrom, behind_all}
 use Rattle.ymx_seats.proofs.compare.rises.Given as goal
 
 abbrev pub invariant-loop-entry : goal.invariant-loop-entry

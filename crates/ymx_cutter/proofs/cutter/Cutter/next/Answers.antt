@@ -3,7 +3,7 @@ use Rattle.std.proofs.Common.{◌≡◌, ◌++◌, take, Some, subst, arith}
 use Rattle.ymx_cutter.specs.declared.item.Item.TheVariants as item
 use Rattle.ymx_cutter.specs.Frames.{IsBytes}
 use Rattle.ymx_cutter.specs.Gathered.{gathers}
-use Rattle.ymx_cutter.specs.Cutters.{Cut, Reads, IsUnfinished}
+use Rattle.ymx_cutter.specs.Cutters.{Cut, Gathers, IsUnfinished}
 use Rattle.ymx_cutter.specs.Cutters.Seen.{Broken}
 use Rattle.ymx_cutter.specs.Bytewise.{seen_in, events_in, item_events}
 use Rattle.ymx_cutter.proofs.Spelled.{IsBytes-from_at}
@@ -26,7 +26,7 @@ pub returns-clause-reads : goal.returns-clause-reads
 returns-clause-reads c = λ text g r.
     let input = c.args.input.now in
     let small : IsBytes input = IsBytes-from_at input (λ k. let fits = c.type_inv.input k in omega (arith, fits)) in
-    let P : Cut → Type 0 = λ cut. Reads c.args.self.now.limit (text ++ take cut.taken input) (gathers g (take cut.taken input) cut.item) cut.seen in
+    let P : Cut → Type 0 = λ cut. Gathers c.args.self.now.limit (text ++ take cut.taken input) (gathers g (take cut.taken input) cut.item) cut.seen in
     subst P c.advance.ensures.cut (reads_next c.args.self.now.limit text g c.args.self.now.seen input small r)
 
 pub returns-clause-seen : goal.returns-clause-seen

@@ -29,7 +29,7 @@ pub record IsOwn (s : SeatView) : Type 0 where
 
 -- The seats are all that were numbered. Each entry stands in the transcript as often as in their lists:
 -- however entries are weighed, both weigh the same.
-pub record Agrees (seats : List SeatView) (entries : List Entry) : Type 0 where
+pub record Tallies (seats : List SeatView) (entries : List Entry) : Type 0 where
   pub numbers : NumberedFrom 0 seats
   pub counted : (weight : Entry → ℕ) → sum_by weight entries ≡ sum_by (λ s. sum_by weight s.entries) seats
   pub own : All IsOwn seats
