@@ -9,7 +9,7 @@ use Rattle.ymx_model.specs.declared.types.Got.TheVariants as got
 use Rattle.ymx_session.specs.Replies.{ponged_or, read_or}
 use Rattle.ymx_held.specs.declared.faults.HubFault.{HubFault}
 use Rattle.ymx_held.specs.Booked.{Gains, One, Asks, to_ping, to_collect, to_read}
-use Rattle.ymx_hub.specs.Turns.{AreWaits, Turns, PongsLast, IsPinged, Reads, ReadsLast}
+use Rattle.ymx_hub.specs.Turns.{AreWaits, Turns, PongsLast, IsPinged, ReadTurns, ReadsLast}
 
 pub gains_none : (keeps : Bool) (before : List Entry) (Such : List Entry → Type 0) → Such [] → Gains keeps before before Such
 gains_none true before Such p = ([], grind (arith, common_steps), p)
@@ -79,7 +79,7 @@ end_by : (seat m id size more : ℕ) (buffer : List ℕ) (ds : List Entry) → m
 end_by seat m id size more buffer ds e r o =
     inr (refl, subst (λ (n : ℕ). One n (to_read id size) ReadEnd ds) e (subst (λ (n : ℕ). One m (to_read id n) ReadEnd ds) r o))
 
-pub read_end : (keeps : Bool) (before mid after : List Entry) (seat m id size more : ℕ) (buffer : List ℕ) → Gains keeps before mid (AreWaits seat (to_read id size) ReadWait) → m ≡ seat → more ≡ size → Gains keeps mid after (Asks (to_read id more) (λ given. read_or given buffer) m (Ok got.End)) → Gains keeps before after (Reads id size buffer seat (Ok 0))
+pub read_end : (keeps : Bool) (before mid after : List Entry) (seat m id size more : ℕ) (buffer : List ℕ) → Gains keeps before mid (AreWaits seat (to_read id size) ReadWait) → m ≡ seat → more ≡ size → Gains keeps mid after (Asks (to_read id more) (λ given. read_or given buffer) m (Ok got.End)) → Gains keeps before after (ReadTurns id size buffer seat (Ok 0))
 read_end keeps before mid after seat m id size more buffer g e r h =
     turns_end keeps before mid after seat (to_read id size) ReadWait (ReadsLast id size buffer seat (Ok 0)) g
     (gains_weaker keeps mid after (One m (to_read id more) ReadEnd) (ReadsLast id size buffer seat (Ok 0)) (λ es o. end_by seat m id size more buffer es e r o) h)

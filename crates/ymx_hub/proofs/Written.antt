@@ -11,7 +11,7 @@ use Rattle.ymx_seats.specs.Views.{entry}
 use Rattle.ymx_held.specs.declared.faults.HubFault.{HubFault}
 use Rattle.ymx_held.specs.Answers.{took_count}
 use Rattle.ymx_held.specs.Booked.{Gains, One, Asks, to_write}
-use Rattle.ymx_hub.specs.Turns.{took_of, total, AreWrites, EndsIn, HasTaken, Writes}
+use Rattle.ymx_hub.specs.Turns.{took_of, total, AreWrites, EndsIn, HasTaken, WriteTurns}
 use Rattle.ymx_hub.proofs.Waits.{gains_none, gains_on}
 
 total_more : (es : List Entry) (e : Entry) → total (es ++ e ∷ []) ≡ total es + took_of e.reply
@@ -59,14 +59,14 @@ written_more keeps before mid after id seat m taken now bytes rest Wait g e r k 
     (λ es ds w o. rw k (written_by id seat m taken bytes rest (reply.Wrote Wait) es ds e r w o)) g h
 
 -- the turn that wrote the last
-pub write_done : (keeps : Bool) (before mid after : List Entry) (id seat m taken count : ℕ) (bytes rest : List ℕ) (u : Unit {0}) → Gains keeps before mid (Written id seat bytes taken) → m ≡ seat → rest ≡ drop taken bytes → taken + count ≡ length bytes → Gains keeps mid after (Asks (to_write id rest) wrote_or m (Ok (Took count))) → Gains keeps before after (Writes id bytes seat (Ok u))
+pub write_done : (keeps : Bool) (before mid after : List Entry) (id seat m taken count : ℕ) (bytes rest : List ℕ) (u : Unit {0}) → Gains keeps before mid (Written id seat bytes taken) → m ≡ seat → rest ≡ drop taken bytes → taken + count ≡ length bytes → Gains keeps mid after (Asks (to_write id rest) wrote_or m (Ok (Took count))) → Gains keeps before after (WriteTurns id bytes seat (Ok u))
 write_done keeps before mid after id seat m taken count bytes rest u g e r k h =
-    gains_on keeps before mid after (Written id seat bytes taken) (Asks (to_write id rest) wrote_or m (Ok (Took count))) (Writes id bytes seat (Ok u))
+    gains_on keeps before mid after (Written id seat bytes taken) (Asks (to_write id rest) wrote_or m (Ok (Took count))) (WriteTurns id bytes seat (Ok u))
     (λ es ds w o.
     let all = written_by id seat m taken bytes rest (reply.Wrote (Took count)) es ds e r w o in
     (all.0, (all.1 ∙ k, ended_by HasTaken m id rest (reply.Wrote (Took count)) es ds o (count, refl)))) g h
 
-stopped_by : (id seat m taken : ℕ) (bytes rest : List ℕ) (fault : HubFault) (es ds : List Entry) → m ≡ seat → rest ≡ drop taken bytes → Written id seat bytes taken es → Asks {A = Wrote} (to_write id rest) wrote_or m (Err fault) ds → Writes id bytes seat (Err (record { taken = taken; fault = fault })) (es ++ ds)
+stopped_by : (id seat m taken : ℕ) (bytes rest : List ℕ) (fault : HubFault) (es ds : List Entry) → m ≡ seat → rest ≡ drop taken bytes → Written id seat bytes taken es → Asks {A = Wrote} (to_write id rest) wrote_or m (Err fault) ds → WriteTurns id bytes seat (Err (record { taken = taken; fault = fault })) (es ++ ds)
 stopped_by id seat m taken bytes rest fault es ds e r w (inl n) =
     let none : es ++ ds ≡ es = ap (λ (v : List Entry). es ++ v) n.1 ∙ grind (arith, common_steps) in
     rw none (w.0, (w.1, inl n.0))
@@ -75,7 +75,7 @@ stopped_by id seat m taken bytes rest fault es ds e r w (inr o) =
     (all.0, (all.1 ∙ grind (arith, common_steps), inr (o.0, o.1, ended_by (λ told. told ≡ reply.Refused o.0) m id rest (reply.Refused o.0) es ds o.2 refl)))
 
 -- the turn that was refused
-pub write_stopped : (keeps : Bool) (before mid after : List Entry) (id seat m taken : ℕ) (bytes rest : List ℕ) (fault : HubFault) → Gains keeps before mid (Written id seat bytes taken) → m ≡ seat → rest ≡ drop taken bytes → Gains keeps mid after (Asks {A = Wrote} (to_write id rest) wrote_or m (Err fault)) → Gains keeps before after (Writes id bytes seat (Err (record { taken = taken; fault = fault })))
+pub write_stopped : (keeps : Bool) (before mid after : List Entry) (id seat m taken : ℕ) (bytes rest : List ℕ) (fault : HubFault) → Gains keeps before mid (Written id seat bytes taken) → m ≡ seat → rest ≡ drop taken bytes → Gains keeps mid after (Asks {A = Wrote} (to_write id rest) wrote_or m (Err fault)) → Gains keeps before after (WriteTurns id bytes seat (Err (record { taken = taken; fault = fault })))
 write_stopped keeps before mid after id seat m taken bytes rest fault g e r h =
-    gains_on keeps before mid after (Written id seat bytes taken) (Asks {A = Wrote} (to_write id rest) wrote_or m (Err fault)) (Writes id bytes seat (Err (record { taken = taken; fault = fault })))
+    gains_on keeps before mid after (Written id seat bytes taken) (Asks {A = Wrote} (to_write id rest) wrote_or m (Err fault)) (WriteTurns id bytes seat (Err (record { taken = taken; fault = fault })))
     (λ es ds w o. stopped_by id seat m taken bytes rest fault es ds e r w o) g h

@@ -50,8 +50,8 @@ ReadsLast id size buffer seat (Err fault) last =
     ((fault ≡ Memory) × (last ≡ []))
     ⊎ ((why : CallFault) × (fault ≡ hub_fault_of why) × One seat (to_read id size) (reply.Refused why) last)
 
-abbrev pub Reads : (id size : ℕ) → (buffer : List ℕ) → ℕ → Result ℕ HubFault → List Entry → Type 0
-Reads id size buffer seat result added = Turns seat (to_read id size) reply.ReadWait (ReadsLast id size buffer seat result) added
+abbrev pub ReadTurns : (id size : ℕ) → (buffer : List ℕ) → ℕ → Result ℕ HubFault → List Entry → Type 0
+ReadTurns id size buffer seat result added = Turns seat (to_read id size) reply.ReadWait (ReadsLast id size buffer seat result) added
 
 -- ---- ping
 
@@ -70,9 +70,9 @@ IsPinged seat result added =
     × Turns seat (to_collect number) (reply.Ponged false) (PongsLast number seat result) rest
 
 -- that, or the ping was refused
-abbrev pub Pings : ℕ → Result ℕ HubFault → List Entry → Type 0
-Pings seat (Ok n) added = IsPinged seat (Ok n) added
-Pings seat (Err fault) added = IsPinged seat (Err fault) added ⊎ Asks to_ping pinged_or seat (Err fault) added
+abbrev pub PingTurns : ℕ → Result ℕ HubFault → List Entry → Type 0
+PingTurns seat (Ok n) added = IsPinged seat (Ok n) added
+PingTurns seat (Err fault) added = IsPinged seat (Err fault) added ⊎ Asks to_ping pinged_or seat (Err fault) added
 
 -- ---- write
 
@@ -110,5 +110,5 @@ WriteEnds bytes (Err stop) added =
     × ((stop.fault ≡ Memory) ⊎ ((why : CallFault) × (stop.fault ≡ hub_fault_of why) × EndsIn (λ told. told ≡ reply.Refused why) added))
 
 -- writes of what was left, and how they ended
-abbrev pub Writes : (id : ℕ) → (bytes : List ℕ) → ℕ → Result (Unit {0}) WriteFault → List Entry → Type 0
-Writes id bytes seat result added = AreWrites id seat bytes added × WriteEnds bytes result added
+abbrev pub WriteTurns : (id : ℕ) → (bytes : List ℕ) → ℕ → Result (Unit {0}) WriteFault → List Entry → Type 0
+WriteTurns id bytes seat result added = AreWrites id seat bytes added × WriteEnds bytes result added

@@ -15,6 +15,8 @@ pub(crate) struct Desk<R: Recorder> {
     pub(crate) is_full: bool,
     /// A write pump has given up, so that nothing goes out any more.
     pub(crate) is_mute: bool,
+    /// A stream that the peer opened was rejected for want of memory.
+    pub(crate) has_lacked_memory: bool,
 }
 
 impl<R: Recorder> Desk<R> {
@@ -26,6 +28,7 @@ impl<R: Recorder> Desk<R> {
             news: News::new(),
             is_full: false,
             is_mute: false,
+            has_lacked_memory: false,
         }
     }
 

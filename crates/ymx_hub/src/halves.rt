@@ -4,7 +4,7 @@ ghost use Rattle.std.specs.Prelude.{◌≡◌, ◌<◌, ◌≤◌, length, false
 ghost use Rattle.ymx_model.specs.declared.types.Reply.TheVariants as reply;
 ghost use Rattle.ymx_held.specs.Answers.{IsNotMemory};
 ghost use Rattle.ymx_held.specs.Booked.{Gains, Spends, Closes, to_finish, to_reset};
-ghost use Rattle.ymx_hub.specs.Turns.{Reads, EndsIn, Writes};
+ghost use Rattle.ymx_hub.specs.Turns.{ReadTurns, EndsIn, WriteTurns};
 
 use crate::hub::Hub;
 use crate::write_fault::WriteFault;
@@ -60,7 +60,7 @@ impl<R: Recorder> WriteHalf<R> {
     /// while it does. `Memory` where there is none for an entry, or for more than 262,144 unsent bytes.
     pub fn write_all<W: Wait>(&mut self, rt: &W, bytes: &[u8]) -> Result<(), WriteFault>
         ensures same { (self.new.id ≡ self.old.id) × (self.new.seat.number ≡ self.old.seat.number) × (self.new.seat.start ≡ self.old.seat.start) }
-        ensures booked { Gains R.KEEPS self.old.seat.entries self.new.seat.entries (Writes self.old.id bytes.now self.old.seat.number result) }
+        ensures booked { Gains R.KEEPS self.old.seat.entries self.new.seat.entries (WriteTurns self.old.id bytes.now self.old.seat.number result) }
         ensures within { IfErr result (λ stop. stop.taken ≤ length bytes.now) }
     {
         self.hub.write_all(rt, &mut self.seat, self.id, bytes)
@@ -112,7 +112,7 @@ impl<R: Recorder> ReadHalf<R> {
     pub fn read<W: Wait>(&mut self, rt: &W, buffer: &mut [u8]) -> Result<usize, HubFault>
         requires { 0 < length buffer.old }
         ensures same { (self.new.id ≡ self.old.id) × (self.new.seat.number ≡ self.old.seat.number) × (self.new.seat.start ≡ self.old.seat.start) }
-        ensures booked { Gains R.KEEPS self.old.seat.entries self.new.seat.entries (Reads self.old.id (length buffer.old) buffer.new self.old.seat.number result) }
+        ensures booked { Gains R.KEEPS self.old.seat.entries self.new.seat.entries (ReadTurns self.old.id (length buffer.old) buffer.new self.old.seat.number result) }
         ensures end { IfOk result (λ count. count ≡ 0 → Gains R.KEEPS self.old.seat.entries self.new.seat.entries (EndsIn (λ told. told ≡ reply.ReadEnd))) }
         ensures within { IfOk result (λ count. count ≤ length buffer.old) }
         ensures length { length buffer.new ≡ length buffer.old }

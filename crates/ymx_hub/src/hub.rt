@@ -3,12 +3,13 @@
 ghost use Rattle.std.specs.Prelude.{◌≡◌, ◌+◌, List, [], length, true, false, IfOk, MatchResult};
 ghost use Rattle.std.specs.List.Sorted.{IsPermutation};
 ghost use Rattle.ymx_session.specs.Replies.{done_or};
-ghost use Rattle.ymx_seats.specs.Agrees.{Agrees};
+ghost use Rattle.ymx_seats.specs.Tallies.{Tallies};
 ghost use Rattle.ymx_seats.specs.Transcripts.{IsNew};
 ghost use Rattle.ymx_seats.specs.Views.{SeatView};
 ghost use Rattle.ymx_held.specs.Answers.{IsNotMemory};
 ghost use Rattle.ymx_held.specs.Booked.{Gains, Asks, Opens, OpensWith, Spends, Closes, to_finish, to_reset, to_go_away, to_close};
 
+use crate::awaiting::take_lock;
 use crate::bells::Bells;
 use crate::desk::Desk;
 use std::alloc::{AllocError, Global};
@@ -44,7 +45,14 @@ impl<R: Recorder> Hub<R> {
         ensures empty { IfOk result (λ seat. seat.entries ≡ []) }
         ensures spares { IsNotMemory result }
     {
-        self.desk.lock(rt).held.seat()
+        take_lock(rt, &self.desk).held.seat()
+    }
+
+    /// Gives up the lock, and wakes a write pump where something is due now, and nothing was.
+    pub(crate) fn let_go(&self, desk: MutexGuard<'_, Desk<R>>, was_due: bool) {
+        let is_due = desk.held.due();
+        drop(desk);
+        self.tell_due(was_due, is_due);
     }
 
     /// Wakes a write pump where something is due now, and nothing was.
@@ -74,10 +82,10 @@ impl<R: Recorder> Hub<R> {
         ensures booked { Gains R.KEEPS seat.old.entries seat.new.entries (Opens seat.old.number result) }
         ensures empty { IfOk result (λ made. (made.1.entries ≡ []) × (made.2.entries ≡ [])) }
     {
-        let mut desk = self.desk.lock(rt);
+        let mut desk = take_lock(rt, &self.desk);
         let was_due = desk.held.due();
         let opened = desk.held.open(seat);
-        self.tell_due(was_due, desk.held.due());
+        self.let_go(desk, was_due);
         opened
     }
 
@@ -93,10 +101,10 @@ impl<R: Recorder> Hub<R> {
         ensures booked { Gains R.KEEPS seat.old.entries seat.new.entries (OpensWith bytes.now seat.old.number result) }
         ensures empty { IfOk result (λ made. (made.2.entries ≡ []) × (made.3.entries ≡ [])) }
     {
-        let mut desk = self.desk.lock(rt);
+        let mut desk = take_lock(rt, &self.desk);
         let was_due = desk.held.due();
         let opened = desk.held.open_with(seat, bytes);
-        self.tell_due(was_due, desk.held.due());
+        self.let_go(desk, was_due);
         opened
     }
 
@@ -112,10 +120,10 @@ impl<R: Recorder> Hub<R> {
         ensures booked { Gains R.KEEPS seat.old.entries seat.new.entries (Spends (to_finish id) id seat.old.number result) }
         ensures off { R.KEEPS ≡ false → IsNotMemory result }
     {
-        let mut desk = self.desk.lock(rt);
+        let mut desk = take_lock(rt, &self.desk);
         let was_due = desk.held.due();
         let finished = desk.held.finish(seat, id);
-        self.tell_due(was_due, desk.held.due());
+        self.let_go(desk, was_due);
         finished
     }
 
@@ -126,11 +134,10 @@ impl<R: Recorder> Hub<R> {
         ensures booked { Gains R.KEEPS seat.old.entries seat.new.entries (Spends (to_reset id) id seat.old.number result) }
         ensures off { R.KEEPS ≡ false → IsNotMemory result }
     {
-        let mut desk = self.desk.lock(rt);
+        let mut desk = take_lock(rt, &self.desk);
         let was_due = desk.held.due();
         let was_reset = desk.held.reset(seat, id);
-        self.tell_due(was_due, desk.held.due());
-        drop(desk);
+        self.let_go(desk, was_due);
         self.bells.reader(id).notify_all();
         self.bells.writer(id).notify_all();
         was_reset
@@ -148,10 +155,10 @@ impl<R: Recorder> Hub<R> {
         ensures booked { Gains R.KEEPS seat.old.entries seat.new.entries (Closes id seat.old.number result) }
         ensures off { R.KEEPS ≡ false → IsNotMemory result }
     {
-        let mut desk = self.desk.lock(rt);
+        let mut desk = take_lock(rt, &self.desk);
         let was_due = desk.held.due();
         let closed = desk.held.close_half(seat, id);
-        self.tell_due(was_due, desk.held.due());
+        self.let_go(desk, was_due);
         closed
     }
 
@@ -163,10 +170,10 @@ impl<R: Recorder> Hub<R> {
         ensures booked { Gains R.KEEPS seat.old.entries seat.new.entries (Asks to_go_away done_or seat.old.number result) }
         ensures off { R.KEEPS ≡ false → IsNotMemory result }
     {
-        let mut desk = self.desk.lock(rt);
+        let mut desk = take_lock(rt, &self.desk);
         let was_due = desk.held.due();
         let said = desk.held.go_away(seat);
-        self.tell_due(was_due, desk.held.due());
+        self.let_go(desk, was_due);
         said
     }
 
@@ -178,7 +185,7 @@ impl<R: Recorder> Hub<R> {
         ensures booked { Gains R.KEEPS seat.old.entries seat.new.entries (Asks to_close done_or seat.old.number result) }
         ensures off { R.KEEPS ≡ false → IsNotMemory result }
     {
-        let mut desk = self.desk.lock(rt);
+        let mut desk = take_lock(rt, &self.desk);
         let closed = desk.held.close(seat);
         self.wake_all(desk);
         closed
@@ -188,8 +195,8 @@ impl<R: Recorder> Hub<R> {
     /// entry stands in it as often as in their lists, each list names its own seat, and its positions rise. Else the
     /// seats come back, perhaps in another order. From then on `seat` answers `Closed`.
     pub fn end<W: Wait>(&self, rt: &W, seats: Vec<Seat<R>>) -> Result<Transcript, EndFault<R>>
-        ensures { MatchResult result (λ transcript. R.KEEPS ≡ true → (all : List SeatView) × IsPermutation seats.items all × Agrees all transcript.entries) (λ fault. IsPermutation seats.items fault.seats.items) }
+        ensures { MatchResult result (λ transcript. R.KEEPS ≡ true → (all : List SeatView) × IsPermutation seats.items all × Tallies all transcript.entries) (λ fault. IsPermutation seats.items fault.seats.items) }
     {
-        self.desk.lock(rt).held.end(seats)
+        take_lock(rt, &self.desk).held.end(seats)
     }
 }

@@ -2,10 +2,11 @@
 //!
 //! `Hub` is the session under its lock. `Opener` and `Acceptor` hand out streams, each as a `WriteHalf` and a
 //! `ReadHalf`. Each caller has a seat, in which its calls are booked. `moving` has the turns of the pumps; `bells`
-//! and `news` say who wakes whom.
+//! and `news` say who wakes whom, and `awaiting` how.
 #![tactic(auto)]
 
 mod acceptor;
+mod awaiting;
 mod bell_set;
 mod bells;
 mod desk;

@@ -6,6 +6,7 @@ ghost use Rattle.ymx_model.specs.declared.types.Reply.TheVariants as reply;
 ghost use Rattle.ymx_held.specs.Booked.{Gains, Does};
 ghost use Rattle.ymx_hub.specs.Pumped.{EmitsOnce, emitted_count};
 
+use crate::awaiting::{await_bell, take_lock};
 use crate::hub::Hub;
 use std::sync::Wait;
 use ymx_held::HubFault;
@@ -33,17 +34,19 @@ impl<R: Recorder> Hub<R> {
         ensures within { IfOk result (λ fed. fed.taken ≤ length bytes.now) }
         ensures off { R.KEEPS ≡ false → IsOk result }
     {
-        let mut desk = self.desk.lock(rt);
+        let mut desk = take_lock(rt, &self.desk);
         let was_due = desk.held.due();
         let fed = desk.held.feed(seat, bytes)?;
-        self.tell_due(was_due, desk.held.due());
+        if fed.no_memory > 0 {
+            desk.has_lacked_memory = true;
+        }
         if desk.held.status() != Status::Running {
             self.wake_all(desk);
             return Ok(fed);
         }
         desk.is_full = fed.why == Why::Held;
         let woken = desk.take_concerned(&bytes[..fed.taken]);
-        drop(desk);
+        self.let_go(desk, was_due);
         self.bells.ring(&woken);
         Ok(fed)
     }
@@ -56,7 +59,7 @@ impl<R: Recorder> Hub<R> {
         ensures booked { Gains R.KEEPS seat.old.entries seat.new.entries (Does event.FeedEnd (λ _. reply.Done) seat.old.number result) }
         ensures off { R.KEEPS ≡ false → IsOk result }
     {
-        let mut desk = self.desk.lock(rt);
+        let mut desk = take_lock(rt, &self.desk);
         let ended = desk.held.feed_end(seat);
         self.wake_all(desk);
         ended
@@ -65,7 +68,7 @@ impl<R: Recorder> Hub<R> {
     /// Waits once, unless a feed may take more than the last one did: 1,024 answers were unsent then, and nothing
     /// was emitted since.
     pub fn wait_for_room<W: Wait>(&self, rt: &W) {
-        let mut desk = self.desk.lock(rt);
+        let mut desk = take_lock(rt, &self.desk);
         if desk.is_full && desk.held.status() == Status::Running {
             desk.waiters.emptiers = true;
             drop(self.bells.emptied.wait(rt, desk));
@@ -86,7 +89,7 @@ impl<R: Recorder> Hub<R> {
         ensures length { length buffer.new ≡ length buffer.old }
         ensures off { R.KEEPS ≡ false → IsOk result }
     {
-        let mut desk = self.desk.lock(rt);
+        let mut desk = take_lock(rt, &self.desk);
         if !desk.held.due() {
             return Ok(match desk.held.status() {
                 Status::Running => Turn::Idle,
@@ -105,15 +108,15 @@ impl<R: Recorder> Hub<R> {
 
     /// Waits once, unless something is due or nothing will be.
     pub fn wait_until_due<W: Wait>(&self, rt: &W) {
-        let desk = self.desk.lock(rt);
+        let desk = take_lock(rt, &self.desk);
         if !desk.held.due() && desk.held.status() == Status::Running {
-            drop(self.bells.due.wait(rt, desk));
+            drop(await_bell(rt, &self.bells.due, desk));
         }
     }
 
     /// Notes that a write pump has given up, so that nothing goes out any more, and wakes those who drain.
     pub fn give_up<W: Wait>(&self, rt: &W) {
-        let mut desk = self.desk.lock(rt);
+        let mut desk = take_lock(rt, &self.desk);
         desk.is_mute = true;
         let has_emptiers = desk.waiters.take_emptiers();
         drop(desk);

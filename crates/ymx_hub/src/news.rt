@@ -2,7 +2,9 @@
 
 use crate::bells::Waiters;
 use ymx_cutter::{Cutter, Item};
-use ymx_header::{FLAG_FIN, FLAG_RST, FLAG_SYN, Header, TYPE_DATA, TYPE_PING, TYPE_WINDOW_UPDATE};
+use ymx_header::{
+    FLAG_FIN, FLAG_RST, FLAG_SYN, Header, TYPE_DATA, TYPE_GO_AWAY, TYPE_PING, TYPE_WINDOW_UPDATE,
+};
 
 /// Reads along what the session took, and wakes whom the frames concern. It judges nothing: where a frame is bad,
 /// the session breaks, and all are woken.
@@ -66,6 +68,8 @@ fn wake_by(header: &Header, waiters: &mut Waiters, woken: &mut Waiters) {
                 waiters.wake_pingers(woken);
             }
         }
+        // It concerns who opens streams, and nobody waits for that.
+        TYPE_GO_AWAY => {}
         _ => waiters.wake_all(woken),
     }
 }

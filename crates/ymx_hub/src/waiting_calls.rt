@@ -4,8 +4,9 @@ ghost use Rattle.std.specs.Prelude.{◌≡◌, ◌<◌, ◌≤◌, length, false
 ghost use Rattle.ymx_held.specs.Answers.{IsNotMemory};
 ghost use Rattle.ymx_held.specs.Booked.{Gains};
 ghost use Rattle.ymx_model.specs.declared.types.Reply.TheVariants as reply;
-ghost use Rattle.ymx_hub.specs.Turns.{AcceptsInTurns, Reads, EndsIn, Pings, Writes};
+ghost use Rattle.ymx_hub.specs.Turns.{AcceptsInTurns, ReadTurns, EndsIn, PingTurns, WriteTurns};
 
+use crate::awaiting::{await_bell, take_lock};
 use crate::hub::Hub;
 use crate::write_fault::WriteFault;
 use std::sync::Wait;
@@ -25,12 +26,12 @@ impl<R: Recorder> Hub<R> {
         ensures booked { Gains R.KEEPS seat.old.entries seat.new.entries (AcceptsInTurns seat.old.number result) }
     {
         let mut was_woken = false;
-        let mut desk = self.desk.lock(rt);
+        let mut desk = take_lock(rt, &self.desk);
         for _ in rt.forever() {
             let was_due = desk.held.due();
             match desk.held.accept(seat) {
                 Ok(Some(offer)) => {
-                    self.tell_due(was_due, desk.held.due());
+                    self.let_go(desk, was_due);
                     return Ok(Some(offer));
                 }
                 Ok(None) => {
@@ -64,24 +65,24 @@ impl<R: Recorder> Hub<R> {
         requires { 0 < length buffer.old }
         ensures number { seat.new.number ≡ seat.old.number }
         ensures start { seat.new.start ≡ seat.old.start }
-        ensures booked { Gains R.KEEPS seat.old.entries seat.new.entries (Reads id (length buffer.old) buffer.new seat.old.number result) }
+        ensures booked { Gains R.KEEPS seat.old.entries seat.new.entries (ReadTurns id (length buffer.old) buffer.new seat.old.number result) }
         ensures end { IfOk result (λ count. count ≡ 0 → Gains R.KEEPS seat.old.entries seat.new.entries (EndsIn (λ told. told ≡ reply.ReadEnd))) }
         ensures within { IfOk result (λ count. count ≤ length buffer.old) }
         ensures length { length buffer.new ≡ length buffer.old }
         ensures off { R.KEEPS ≡ false → IsNotMemory result }
     {
-        let mut desk = self.desk.lock(rt);
+        let mut desk = take_lock(rt, &self.desk);
         for _ in rt.forever() {
             let was_due = desk.held.due();
             match desk.held.read(seat, id, buffer) {
                 Ok(Got::Bytes(count)) => {
-                    self.tell_due(was_due, desk.held.due());
+                    self.let_go(desk, was_due);
                     return Ok(count);
                 }
                 Ok(Got::End) => return Ok(0),
                 Ok(Got::Wait) => {
                     desk.waiters.add_reader(id);
-                    desk = self.bells.reader(id).wait(rt, desk);
+                    desk = await_bell(rt, self.bells.reader(id), desk);
                 }
                 Err(fault) => return Err(fault),
             }
@@ -99,24 +100,25 @@ impl<R: Recorder> Hub<R> {
     ) -> Result<(), WriteFault>
         ensures number { seat.new.number ≡ seat.old.number }
         ensures start { seat.new.start ≡ seat.old.start }
-        ensures booked { Gains R.KEEPS seat.old.entries seat.new.entries (Writes id bytes.now seat.old.number result) }
+        ensures booked { Gains R.KEEPS seat.old.entries seat.new.entries (WriteTurns id bytes.now seat.old.number result) }
         ensures within { IfErr result (λ stop. stop.taken ≤ length bytes.now) }
     {
         let mut taken = 0;
-        let mut desk = self.desk.lock(rt);
+        let mut desk = take_lock(rt, &self.desk);
         for _ in rt.forever() {
             let was_due = desk.held.due();
             match desk.held.write(seat, id, &bytes[taken..]) {
                 Ok(Wrote::Took(count)) => {
                     taken += count;
-                    self.tell_due(was_due, desk.held.due());
                     if taken == bytes.len() {
+                        self.let_go(desk, was_due);
                         return Ok(());
                     }
+                    self.tell_due(was_due, desk.held.due());
                 }
                 Ok(Wrote::Wait) => {
                     desk.waiters.add_writer(id);
-                    desk = self.bells.writer(id).wait(rt, desk);
+                    desk = await_bell(rt, self.bells.writer(id), desk);
                 }
                 Err(fault) => return Err(WriteFault { taken, fault }),
             }
@@ -131,10 +133,10 @@ impl<R: Recorder> Hub<R> {
     pub fn ping<W: Wait>(&self, rt: &W, seat: &mut Seat<R>) -> Result<u32, HubFault>
         ensures number { seat.new.number ≡ seat.old.number }
         ensures start { seat.new.start ≡ seat.old.start }
-        ensures booked { Gains R.KEEPS seat.old.entries seat.new.entries (Pings seat.old.number result) }
+        ensures booked { Gains R.KEEPS seat.old.entries seat.new.entries (PingTurns seat.old.number result) }
         ensures off { R.KEEPS ≡ false → IsNotMemory result }
     {
-        let mut desk = self.desk.lock(rt);
+        let mut desk = take_lock(rt, &self.desk);
         let was_due = desk.held.due();
         let number = match desk.held.ping(seat) {
             Ok(number) => number,
@@ -146,7 +148,7 @@ impl<R: Recorder> Hub<R> {
                 Ok(true) => return Ok(number),
                 Ok(false) => {
                     desk.waiters.pingers = true;
-                    desk = self.bells.ponged.wait(rt, desk);
+                    desk = await_bell(rt, &self.bells.ponged, desk);
                 }
                 Err(fault) => return Err(fault),
             }
@@ -159,7 +161,7 @@ impl<R: Recorder> Hub<R> {
     pub fn drain<W: Wait>(&self, rt: &W, _seat: &mut Seat<R>)
         ensures { _seat.new ≡ _seat.old }
     {
-        let mut desk = self.desk.lock(rt);
+        let mut desk = take_lock(rt, &self.desk);
         for _ in rt.forever() {
             if desk.is_mute || !desk.held.due() {
                 return;

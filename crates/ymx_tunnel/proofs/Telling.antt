@@ -14,7 +14,7 @@ use Rattle.ymx_session.specs.Replies.{done_or}
 use Rattle.ymx_held.specs.declared.faults.HubFault.{HubFault}
 use Rattle.ymx_held.specs.Booked.{Gains, One, Asks, Forgets, SpendsWith, Spends, Closes, to_write, to_read, to_finish, to_reset, to_forget}
 use Rattle.ymx_hub.specs.declared.write_fault.WriteFault.{WriteFault}
-use Rattle.ymx_hub.specs.Turns.{took_of, total, AreWrites, Writes, AreWaits, Reads, ReadsLast}
+use Rattle.ymx_hub.specs.Turns.{took_of, total, AreWrites, WriteTurns, AreWaits, ReadTurns, ReadsLast}
 use Rattle.ymx_tunnel.specs.Told.{offered, bytes_written, read_of, read_bytes, GivesNone, HasSaidEnd}
 
 pub written_append : (xs ys : List Entry) → bytes_written (xs ++ ys) ≡ bytes_written xs ++ bytes_written ys
@@ -51,19 +51,19 @@ tells_same told before after Such joins f (added, e, s) = ap told e ∙ joins be
 take_none : (n : ℕ) → take {A = ℕ} n [] ≡ []
 take_none n = take_all {A = ℕ} n [] (omega arith)
 
-all_written : (id seat : ℕ) (bytes : List ℕ) (u : Unit {0}) (added : List Entry) → Writes id bytes seat (Ok u) added → bytes_written added ≡ bytes
+all_written : (id seat : ℕ) (bytes : List ℕ) (u : Unit {0}) (added : List Entry) → WriteTurns id bytes seat (Ok u) added → bytes_written added ≡ bytes
 all_written id seat bytes u added (w, (e, last)) = writes_take id seat bytes added w ∙ ap (λ n. take n bytes) e ∙ take_all (length bytes) bytes (omega arith)
 
-some_written : (id seat : ℕ) (bytes : List ℕ) (stop : WriteFault) (added : List Entry) → Writes id bytes seat (Err stop) added → bytes_written added ≡ take stop.taken bytes
+some_written : (id seat : ℕ) (bytes : List ℕ) (stop : WriteFault) (added : List Entry) → WriteTurns id bytes seat (Err stop) added → bytes_written added ≡ take stop.taken bytes
 some_written id seat bytes stop added (w, (e, why)) = writes_take id seat bytes added w ∙ ap (λ n. take n bytes) e
 
-pub write_all_took : (before after : List Entry) (id seat : ℕ) (bytes : List ℕ) (result : Result (Unit {0}) WriteFault) → Gains true before after (Writes id bytes seat result) →
+pub write_all_took : (before after : List Entry) (id seat : ℕ) (bytes : List ℕ) (result : Result (Unit {0}) WriteFault) → Gains true before after (WriteTurns id bytes seat result) →
     MatchResult result (λ _. Appends (Some (bytes_written before)) (Some (bytes_written after)) bytes)
     (λ stop. Appends (Some (bytes_written before)) (Some (bytes_written after)) (take stop.taken bytes))
 write_all_took before after id seat bytes (Ok u) g =
-    tells_more bytes_written before after (Writes id bytes seat (Ok u)) bytes written_append (all_written id seat bytes u) g
+    tells_more bytes_written before after (WriteTurns id bytes seat (Ok u)) bytes written_append (all_written id seat bytes u) g
 write_all_took before after id seat bytes (Err stop) g =
-    tells_more bytes_written before after (Writes id bytes seat (Err stop)) (take stop.taken bytes) written_append (some_written id seat bytes stop) g
+    tells_more bytes_written before after (WriteTurns id bytes seat (Err stop)) (take stop.taken bytes) written_append (some_written id seat bytes stop) g
 
 forgets_writes : (id seat : ℕ) (added : List Entry) → Forgets id seat added → bytes_written added ≡ []
 forgets_writes id seat added (inl e) = ap bytes_written e
@@ -106,33 +106,33 @@ none_read : (id size : ℕ) (buffer : List ℕ) (seat : ℕ) (fault : HubFault) 
 none_read id size buffer seat fault last (inl (m, e)) = ap read_bytes e
 none_read id size buffer seat fault last (inr (why, f, one)) = one_read seat (to_read id size) (reply.Refused why) last one
 
-reads_give : (id size : ℕ) (buffer : List ℕ) (seat n : ℕ) (added : List Entry) → Reads id size buffer seat (Ok n) added → read_bytes added ≡ take n buffer
+reads_give : (id size : ℕ) (buffer : List ℕ) (seat n : ℕ) (added : List Entry) → ReadTurns id size buffer seat (Ok n) added → read_bytes added ≡ take n buffer
 reads_give id size buffer seat n added (waits, last, e, w, l) =
     ap read_bytes e ∙ read_append waits last ∙ ap (λ (b : List ℕ). b ++ read_bytes last) (waits_read seat (to_read id size) waits w) ∙ bytes_read id size buffer seat n last l
 
-reads_give_none : (id size : ℕ) (buffer : List ℕ) (seat : ℕ) (fault : HubFault) (added : List Entry) → Reads id size buffer seat (Err fault) added → read_bytes added ≡ []
+reads_give_none : (id size : ℕ) (buffer : List ℕ) (seat : ℕ) (fault : HubFault) (added : List Entry) → ReadTurns id size buffer seat (Err fault) added → read_bytes added ≡ []
 reads_give_none id size buffer seat fault added (waits, last, e, w, l) =
     ap read_bytes e ∙ read_append waits last ∙ ap (λ (b : List ℕ). b ++ read_bytes last) (waits_read seat (to_read id size) waits w) ∙ none_read id size buffer seat fault last l
 
-pub read_gave : (before after : List Entry) (id size : ℕ) (buffer : List ℕ) (seat : ℕ) (result : Result ℕ HubFault) → Gains true before after (Reads id size buffer seat result) →
+pub read_gave : (before after : List Entry) (id size : ℕ) (buffer : List ℕ) (seat : ℕ) (result : Result ℕ HubFault) → Gains true before after (ReadTurns id size buffer seat result) →
     WriteAppends (Some (read_bytes before)) (Some (read_bytes after)) result buffer
 read_gave before after id size buffer seat (Ok n) g =
-    tells_more read_bytes before after (Reads id size buffer seat (Ok n)) (take n buffer) read_append (reads_give id size buffer seat n) g
+    tells_more read_bytes before after (ReadTurns id size buffer seat (Ok n)) (take n buffer) read_append (reads_give id size buffer seat n) g
 read_gave before after id size buffer seat (Err fault) g =
-    tells_same read_bytes before after (Reads id size buffer seat (Err fault)) read_append (reads_give_none id size buffer seat fault) g
+    tells_same read_bytes before after (ReadTurns id size buffer seat (Err fault)) read_append (reads_give_none id size buffer seat fault) g
 
 -- the end was said by the last of some entries
 says_end : (before waits last after : List Entry) (seat : ℕ) (event : Event) (told : Reply) → after ≡ before ++ (waits ++ last) → One seat event told last → GivesNone told → HasSaidEnd after
 says_end before waits last after seat event told e (p, f) none =
     (before ++ waits, entry p seat event told, [], e ∙ ap (λ (l : List Entry). before ++ (waits ++ l)) f ∙ sym (append_assoc before waits (entry p seat event told ∷ [])), none)
 
-end_read : (before after : List Entry) (id size : ℕ) (buffer : List ℕ) (seat n : ℕ) (added : List Entry) → after ≡ before ++ added → n ≡ 0 → Reads id size buffer seat (Ok n) added → HasSaidEnd after
+end_read : (before after : List Entry) (id size : ℕ) (buffer : List ℕ) (seat n : ℕ) (added : List Entry) → after ≡ before ++ added → n ≡ 0 → ReadTurns id size buffer seat (Ok n) added → HasSaidEnd after
 end_read before after id size buffer seat n added e none (waits, last, f, w, inl one) =
     says_end before waits last after seat (to_read id size) (reply.Read (take n buffer)) (e ∙ ap (λ (l : List Entry). before ++ l) f) one (inr (ap (λ k. reply.Read (take k buffer)) none))
 end_read before after id size buffer seat n added e none (waits, last, f, w, inr (zero, one)) =
     says_end before waits last after seat (to_read id size) reply.ReadEnd (e ∙ ap (λ (l : List Entry). before ++ l) f) one (inl refl)
 
-pub read_ended : (before after : List Entry) (id size : ℕ) (buffer : List ℕ) (seat : ℕ) (result : Result ℕ HubFault) → Gains true before after (Reads id size buffer seat result) →
+pub read_ended : (before after : List Entry) (id size : ℕ) (buffer : List ℕ) (seat : ℕ) (result : Result ℕ HubFault) → Gains true before after (ReadTurns id size buffer seat result) →
     IfOk result (λ count. count ≡ 0 → HasSaidEnd after)
 read_ended before after id size buffer seat (Ok n) (added, e, r) = λ none. end_read before after id size buffer seat n added e none r
 read_ended before after id size buffer seat (Err fault) g = tt

@@ -3,7 +3,7 @@ use Rattle.ymx_model.specs.declared.types.Reply.TheVariants.{Ponged}
 use Rattle.ymx_session.specs.Replies.{ponged_or}
 use Rattle.ymx_held.specs.Booked.{Gains, Asks, to_collect}
 use Rattle.ymx_hub.proofs.Waits.{waits_on, pinged, pong_back, pong_refused, gains_weaker}
-use Rattle.ymx_hub.specs.Turns.{IsPinged, Pings}
+use Rattle.ymx_hub.specs.Turns.{IsPinged, PingTurns}
 use Rattle.ymx_hub.proofs.hub.Hub.ping.Goals as goal
 
 pub loop-preserved : goal.loop-preserved
@@ -21,6 +21,6 @@ returns-in-Ok-true-clause-booked g c =
 
 pub returns-in-Err-ponged-clause-booked : goal.returns-in-Err-ponged-clause-booked
 returns-in-Err-ponged-clause-booked g c =
-    gains_weaker g.R.Recorder.KEEPS _ _ (IsPinged c.args.seat.now.number (Err c.in-Err-ponged.fault)) (Pings c.args.seat.now.number (Err c.in-Err-ponged.fault)) (λ es p. inl p)
+    gains_weaker g.R.Recorder.KEEPS _ _ (IsPinged c.args.seat.now.number (Err c.in-Err-ponged.fault)) (PingTurns c.args.seat.now.number (Err c.in-Err-ponged.fault)) (λ es p. inl p)
     (pinged g.R.Recorder.KEEPS _ _ _ _ c.args.seat.now.number c.ping.new.seat.number c.in-Ok.number (Err c.in-Err-ponged.fault) c.in-Ok.ensures.booked (search rules) c.loop.invariant.waits
     (pong_refused g.R.Recorder.KEEPS _ _ _ _ _ c.in-Err-ponged.fault c.loop.invariant.number c.in-Err-ponged.ensures.booked))

@@ -8,8 +8,8 @@ pub returns-then-taken-bytes-clause-booked : goal.returns-then-taken-bytes-claus
 returns-then-taken-bytes-clause-booked g c =
     write_done g.R.Recorder.KEEPS _ _ _ _ _ _ _ c.in-Ok-Took.count c.args.bytes.now _ _ c.loop.invariant.written c.loop.invariant.number (grind (arith, common_steps)) (search rules) (rw c.in-Ok-Took.field-0-is at c.in-Ok-Took.ensures.booked)
 
-pub loop-preserved-else-taken-bytes : goal.loop-preserved-else-taken-bytes
-loop-preserved-else-taken-bytes g c = record {
+pub loop-preserved-in-Ok-Took : goal.loop-preserved-in-Ok-Took
+loop-preserved-in-Ok-Took g c = record {
   next = (tt, tt);
   number = search rules;
   start = search rules;
