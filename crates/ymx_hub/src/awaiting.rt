@@ -2,36 +2,111 @@
 //!
 //! To put a thread to sleep and to wake it costs some ten microseconds, and most waits here are shorter. So a thread
 //! looks for a while first, and lets others run between two looks. A ring costs no call of the system then.
+//!
+//! Where waits are long, looking is in vain, and takes the processor from those who work. So each purpose has its
+//! `Patience`: few look at once, and after some looks in vain the next waits do without.
 
+use std::sync::atomic::{AtomicU64, Ordering};
 use std::sync::{Condvar, Mutex, MutexGuard, Wait};
 use std::thread;
 use std::time::Duration;
 
 /// How often a thread looks whether its bell has rung, before it sleeps.
-const LOOKS: u32 = 40;
+const LOOKS: u32 = 200;
 
 /// How often a thread tries a lock, before it sleeps.
 const TRIES: u32 = 10;
 
+/// How many threads look at once, of those who wait for one purpose.
+const MOST_LOOKERS: u64 = 2;
+
+/// How many looks may end in vain, one after another, before waits do without.
+const IN_VAIN: u64 = 4;
+
+/// How many waits then do without, before the next look.
+const LEFT_OUT: u64 = 15;
+
 /// How many seconds a thread sleeps at most before its caller looks again. No wake-up is lost, so any time will do.
 const NAP_SECONDS: u64 = 3_600;
+
+/// Whether looking pays, for those who wait for one purpose. Threads share it, and what one of them writes may be lost:
+/// then a wait takes a little longer, and no more.
+#[derive(Drop)]
+pub(crate) struct Patience {
+    /// How many look now.
+    lookers: AtomicU64,
+    /// How many looks ended in vain, one after another.
+    in_vain: AtomicU64,
+    /// How many waits did without since the last look.
+    left_out: AtomicU64,
+}
+
+impl Patience {
+    /// Nobody has looked.
+    pub(crate) fn new() -> Patience {
+        Patience {
+            lookers: AtomicU64::new(0),
+            in_vain: AtomicU64::new(0),
+            left_out: AtomicU64::new(0),
+        }
+    }
+
+    /// Whether one more should look. It counts a wait that does without.
+    fn lets_look(&self) -> bool {
+        if self.lookers.load(Ordering::SeqCst) >= MOST_LOOKERS {
+            return false;
+        }
+        if self.in_vain.load(Ordering::SeqCst) < IN_VAIN {
+            return true;
+        }
+        if self.left_out.fetch_add(1, Ordering::SeqCst) < LEFT_OUT {
+            return false;
+        }
+        self.left_out.store(0, Ordering::SeqCst);
+        true
+    }
+
+    /// Looks for a while: whether the bell rang since it had rung so often.
+    fn look(&self, bell: &Condvar, rung: u64) -> bool {
+        if !self.lets_look() {
+            return false;
+        }
+        self.lookers.fetch_add(1, Ordering::SeqCst);
+        let has_rung = has_rung_soon(bell, rung);
+        self.lookers.fetch_sub(1, Ordering::SeqCst);
+        if has_rung {
+            self.in_vain.store(0, Ordering::SeqCst);
+        } else {
+            self.in_vain.fetch_add(1, Ordering::SeqCst);
+        }
+        has_rung
+    }
+}
+
+/// Looks for a while: whether the bell rang since it had rung so often.
+fn has_rung_soon(bell: &Condvar, rung: u64) -> bool {
+    for _ in 0..LOOKS {
+        if bell.notifications() != rung {
+            return true;
+        }
+        thread::yield_now();
+    }
+    false
+}
 
 /// Waits until this bell rings, with the lock given up. As at any `Condvar` it may end with no ring.
 pub(crate) fn await_bell<'a, W: Wait, T>(
     rt: &W,
     bell: &Condvar,
+    patience: &Patience,
     guard: MutexGuard<'a, T>,
 ) -> MutexGuard<'a, T> {
     // Whoever rings has taken the waiters under the lock, so its ring comes behind this line.
     let rung = bell.notifications();
     let mutex = MutexGuard::unlock(guard);
-    for _ in 0..LOOKS {
-        if bell.notifications() != rung {
-            return take_lock(rt, mutex);
-        }
-        thread::yield_now();
+    if !patience.look(bell, rung) {
+        bell.sleep(rt, rung, Duration::from_secs(NAP_SECONDS));
     }
-    bell.sleep(rt, rung, Duration::from_secs(NAP_SECONDS));
     take_lock(rt, mutex)
 }
 

@@ -14,6 +14,7 @@
 
 ghost use Rattle.std.specs.Prelude.{◌<◌};
 
+use crate::awaiting::Patience;
 use crate::bell_set::{BellSet, take_lowest};
 use std::sync::Condvar;
 use std::{array, mem};
@@ -135,6 +136,14 @@ pub(crate) struct Bells {
     pub(crate) emptied: Condvar,
     /// Something is due.
     pub(crate) due: Condvar,
+    /// That of those who read a stream.
+    pub(crate) reading: Patience,
+    /// That of those who write a stream.
+    pub(crate) writing: Patience,
+    /// That of those who wait for the answer to a ping.
+    pub(crate) pinging: Patience,
+    /// That of write pumps, which wait until something is due.
+    pub(crate) pumping: Patience,
 }
 
 impl Bells {
@@ -147,6 +156,10 @@ impl Bells {
             ponged: Condvar::new(),
             emptied: Condvar::new(),
             due: Condvar::new(),
+            reading: Patience::new(),
+            writing: Patience::new(),
+            pinging: Patience::new(),
+            pumping: Patience::new(),
         }
     }
 

@@ -110,7 +110,7 @@ impl<R: Recorder> Hub<R> {
     pub fn wait_until_due<W: Wait>(&self, rt: &W) {
         let desk = take_lock(rt, &self.desk);
         if !desk.held.due() && desk.held.status() == Status::Running {
-            drop(await_bell(rt, &self.bells.due, desk));
+            drop(await_bell(rt, &self.bells.due, &self.bells.pumping, desk));
         }
     }
 

@@ -82,7 +82,7 @@ impl<R: Recorder> Hub<R> {
                 Ok(Got::End) => return Ok(0),
                 Ok(Got::Wait) => {
                     desk.waiters.add_reader(id);
-                    desk = await_bell(rt, self.bells.reader(id), desk);
+                    desk = await_bell(rt, self.bells.reader(id), &self.bells.reading, desk);
                 }
                 Err(fault) => return Err(fault),
             }
@@ -118,7 +118,7 @@ impl<R: Recorder> Hub<R> {
                 }
                 Ok(Wrote::Wait) => {
                     desk.waiters.add_writer(id);
-                    desk = await_bell(rt, self.bells.writer(id), desk);
+                    desk = await_bell(rt, self.bells.writer(id), &self.bells.writing, desk);
                 }
                 Err(fault) => return Err(WriteFault { taken, fault }),
             }
@@ -148,7 +148,7 @@ impl<R: Recorder> Hub<R> {
                 Ok(true) => return Ok(number),
                 Ok(false) => {
                     desk.waiters.pingers = true;
-                    desk = await_bell(rt, &self.bells.ponged, desk);
+                    desk = await_bell(rt, &self.bells.ponged, &self.bells.pinging, desk);
                 }
                 Err(fault) => return Err(fault),
             }
