@@ -1,9 +1,9 @@
 #!/bin/sh
-# Times two running sessions of one process that talk over TCP on the loopback: payload of one stream and of 64 at
-# once, pings, and a byte that goes there and back beside 10 and beside 1,000 streams on which both sides wait; with
-# the recorder `Off` and with `Full`, and of HashiCorp's yamux for Go where that is installed. Medians of five runs, in
-# turn. Needs `rt`; proves and builds in a temporary folder, which takes some minutes. With a number it makes so many
-# runs.
+# Times two running sessions of one process that talk over pipes in memory and over TCP on the loopback: payload of one
+# stream and of 64 at once, pings, and a byte that goes there and back beside 10 and beside 1,000 streams on which both
+# sides wait; with the recorder `Off` and with `Full`, and of HashiCorp's yamux for Go, over TCP, where that is
+# installed. Medians of five runs, in turn. Needs `rt`; proves and builds in a temporary folder, which takes some
+# minutes. With a number it makes so many runs.
 set -eu
 top=$(cd "$(dirname "$0")/.." && pwd)
 runs=${1-5}
@@ -17,7 +17,7 @@ for crate in ymx_header ymx_cutter ymx_credit ymx_ring ymx_model ymx_law_session
     grep "^$crate[ :]" "$top/crates.txt" >> "$work/crates.txt"
 done
 below=$(sed -n 's/^ymx_tunnel [^:]*: //p' "$top/crates.txt")
-echo "hub_bench: ymx_tunnel ymx_pumps $below anyhow" >> "$work/crates.txt"
+echo "hub_bench: ymx_tunnel ymx_pumps ymx_ring $below anyhow" >> "$work/crates.txt"
 cp "$top/bench/hub_bench.rattle" "$work/crates/hub_bench/src/main.rt"
 cp "$top/HANDLES" "$work/HANDLES"
 echo "proving and building the bench (some minutes)" >&2
