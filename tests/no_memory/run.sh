@@ -59,7 +59,8 @@ python3 "$here/scripts.py" "$root/out/ymx" "$scratch/failing_malloc.so" "$root/t
     "$root/tests/script/window.script" "$root/tests/script/half_close.script" "$root/tests/script/reset.script" \
     "$root/tests/script/go_away.script" "$root/tests/script/open_with_data.script"
 
-# Both ends of the tunnel, and one connection through them: each that is refused says so, and both end.
+# Both ends of the tunnel, and one connection through them: each that is refused says so, and both end. And the
+# selftest, which ends too.
 python3 "$here/tunnel.py" "$root/out/ymx" "$scratch/failing_malloc.so"
 
 # holds CRATE: its test holds whichever allocation fails

@@ -1,4 +1,5 @@
-"""Refuses the tunnel an allocation or a thread at a time. Its words: the program, and the library that refuses.
+"""Refuses the tunnel, and `ymx selftest`, an allocation or a thread at a time. Its words: the program, and the library
+that refuses.
 
 One small connection goes through `ymx local --count 1` and `ymx remote` to a target: the client sends some bytes and
 ends its side, and the target then answers some and ends its own. In each run one of the two is refused one allocation
@@ -9,8 +10,14 @@ one text is said: of the side that was refused `ymx: out of memory`, of `ymx loc
 `ymx remote` that has gone. What arrives is a beginning of what was sent, and all of it where both statuses are 0. Of
 that there is one exception: a stream for which `ymx remote` has no memory is rejected. Then the target is not called,
 the client reads the end, and both statuses are 0.
+
+`ymx selftest` is refused each in the same way. It ends within 10 seconds too: with status 0 and its three lines, or
+with status 1 and one text: that there was no memory, that it can't listen, or which connection failed, behind the
+lines of those before.
 """
 
+import collections
+import functools
 import os
 import random
 import socket
@@ -25,6 +32,9 @@ ANSWER = random.Random(4).randbytes(30_000)
 # In seconds, for whatever must end.
 PATIENCE = 10.0
 OUT_OF_MEMORY = "ymx: out of memory\n"
+CANNOT_LISTEN = "ymx: cannot listen at 127.0.0.1:0\n"
+# What `ymx selftest` prints.
+LINES = [f"connection {number}: {size} bytes echoed\n" for number, size in enumerate([0, 1, 300_000], 1)]
 
 
 def read_all(connection):
@@ -119,7 +129,7 @@ class Side:
 
 
 class Tunnel:
-    """Runs of the tunnel, in which one side is refused something."""
+    """Runs of the tunnel, in which one side is refused something, and of `ymx selftest`."""
 
     def __init__(self, program, failing, folder):
         self.program, self.failing = program, failing
@@ -168,6 +178,19 @@ class Tunnel:
                 caller.connect_ex(("127.0.0.1", ports[1]))
         return near_end, far.end(), answer
 
+    def run_selftest(self, variable, number):
+        """Refuses `ymx selftest` what has this number: how the run ended, and whether it came to it."""
+        words, environment = [self.program, "selftest"], self.environment(True, variable, number)
+        try:
+            ended = subprocess.run(
+                words, env=environment, stdin=subprocess.DEVNULL, capture_output=True, text=True, timeout=PATIENCE
+            )
+        except subprocess.TimeoutExpired:
+            raise SystemExit(f"FAIL  ymx selftest: {variable}={number}: it hangs")
+        try:
+            return judge_selftest(ended.returncode, ended.stdout, ended.stderr), self.has_come()
+        except AssertionError as fault:
+            raise SystemExit(f"FAIL  ymx selftest: {variable}={number}: {fault}: {ended}")
 
     def has_come(self):
         """Whether the run came to what was to be refused."""
@@ -206,15 +229,30 @@ def judge(name, near, far, questions, answer, sides):
     return "as ever"
 
 
-def try_all(tunnel, name, variable):
+def judge_selftest(status, out, said):
+    """How a run of `ymx selftest` ended."""
+    lines = out.splitlines(keepends=True)
+    assert lines == LINES[: len(lines)], "other lines"
+    if (status, said, lines) == (0, "", LINES):
+        return "as ever"
+    assert status == 1 and len(lines) < len(LINES), "it ends so"
+    if said == f"ymx: selftest failed: connection {len(lines) + 1}\n":
+        return "a connection failed"
+    if said == CANNOT_LISTEN and not lines:
+        return "cannot listen"
+    assert said == OUT_OF_MEMORY, "another text"
+    return "out of memory"
+
+
+def try_all(run, name, variable):
     """Refuses one after another, until a run comes to no more."""
-    counts = {"as ever": 0, "out of memory": 0, "rejected": 0}
+    counts = collections.Counter()
     number, came = 0, True
     while came:
         number += 1
-        ending, came = tunnel.run(name, variable, number)
+        ending, came = run(variable, number)
         counts[ending] += 1
-    told = ", ".join(f"{count} {ending}" for ending, count in counts.items() if count)
+    told = ", ".join(f"{count} {ending}" for ending, count in sorted(counts.items()))
     if counts["as ever"] == sum(counts.values()):
         raise SystemExit(f"FAIL  ymx {name}: {variable}: no run was refused anything")
     print(f"ok    ymx {name}: {variable} up to {number - 1}: {told}", flush=True)
@@ -224,9 +262,11 @@ def main():
     program, failing = sys.argv[1:]
     with tempfile.TemporaryDirectory() as folder:
         tunnel = Tunnel(program, failing, folder)
-        for name in "remote", "local":
-            try_all(tunnel, name, "FAIL_AT")
-            try_all(tunnel, name, "FAIL_THREAD_AT")
+        runs = {name: functools.partial(tunnel.run, name) for name in ("remote", "local")}
+        runs["selftest"] = tunnel.run_selftest
+        for name, run in runs.items():
+            try_all(run, name, "FAIL_AT")
+            try_all(run, name, "FAIL_THREAD_AT")
 
 
 main()

@@ -1,4 +1,8 @@
 //! Both ends of a tunnel and an echo server in one process, and three connections through them.
+//!
+//! Each server owns where it listens and its end of the session, so these close when its thread ends, or can't be made.
+//! Then whoever waits there is told at once. Who could still wait for a connection that nobody makes is released at the
+//! end.
 
 ghost use Rattle.std.specs.Prelude.{◌≡◌, ◌≤◌};
 ghost use Rattle.std.specs.Io.KnownBytes.{Keeps};
@@ -41,15 +45,22 @@ struct Echoed {
     is_whole: bool,
 }
 
-/// Where the three servers listen.
-#[derive(Drop)]
+/// Where two of the servers listen.
+#[derive(Clone, Copy, Debug, PartialEq, Eq)]
 struct Places {
+    echo: SocketAddr,
+    local: SocketAddr,
+}
+
+/// What the servers own.
+#[derive(Drop)]
+struct Owned {
     echo: TcpListener,
-    session: TcpListener,
     local: TcpListener,
-    echo_address: SocketAddr,
-    session_address: SocketAddr,
-    local_address: SocketAddr,
+    /// The connection that carries the session, at the end of the tunnel at the client.
+    near: TcpStream,
+    /// The same at the end at the echo server.
+    far: TcpStream,
 }
 
 /// Why the lines of the test stop.
@@ -75,13 +86,13 @@ pub fn run_selftest<R: Threads + Wait + Sync, N: Network, W: Outlet, E: Outlet>(
     ensures status { result ≤ 1 }
     ensures good { result ≡ 0 → Keeps (E.contents errors.old) (E.contents errors.new) }
 {
-    let Some(places) = listen_all(network) else {
+    let Some((places, owned)) = prepare(network) else {
         return cannot_listen(alloc, any_port(), errors);
     };
     let Ok((sender, receiver)) = bounded::<Echoed, Global>(alloc, 3) else {
         return lacks_memory(errors);
     };
-    let whole = run_all(rt, alloc, network, &places, sender, &receiver);
+    let whole = run_all(rt, alloc, network, places, owned, sender, &receiver);
     match print_lines(alloc, whole, writer) {
         Ok(()) => 0,
         Err(Stop::Connection(number)) => failed(alloc, number, errors),
@@ -90,25 +101,36 @@ pub fn run_selftest<R: Threads + Wait + Sync, N: Network, W: Outlet, E: Outlet>(
     }
 }
 
-/// Runs the three servers and the client in threads, and says how many connections were whole before one failed.
+/// Runs the three servers and the client in threads, and says how many connections were whole before one failed; none
+/// was where a thread can't be made.
 fn run_all<R: Threads + Wait + Sync, N: Network>(
     rt: &R,
     alloc: Global,
     network: &N,
-    places: &Places,
+    places: Places,
+    owned: Owned,
     sender: Sender<Echoed, Global>,
     receiver: &Receiver<Echoed, Global>,
 ) -> u32 {
-    thread::scope(thread::scope_env(), rt, |scope| {
-        let are_running = scope.spawn(move || serve_echoes(places)).is_ok()
+    let Owned {
+        echo,
+        local,
+        near,
+        far,
+    } = owned;
+    thread::scope(thread::scope_env(), rt, move |scope| {
+        let has_echo = scope.spawn(move || serve_echoes(echo)).is_ok();
+        let has_far = scope
+            .spawn(move || run_remote_end(rt, alloc, network, far, places.echo))
+            .is_ok();
+        let has_near = scope
+            .spawn(move || run_local_end(rt, alloc, network, near, local))
+            .is_ok();
+        let are_running = has_echo
+            && has_far
+            && has_near
             && scope
-                .spawn(move || run_remote_end(rt, alloc, network, places))
-                .is_ok()
-            && scope
-                .spawn(move || run_local_end(rt, alloc, network, places))
-                .is_ok()
-            && scope
-                .spawn(move || run_client(rt, network, places, sender))
+                .spawn(move || run_client(rt, network, places.local, sender))
                 .is_ok();
         let whole = if are_running {
             receive_all(rt, receiver)
@@ -125,26 +147,39 @@ fn any_port() -> SocketAddr {
     SocketAddr::V4(SocketAddrV4::new(Ipv4Addr::LOCALHOST, 0))
 }
 
-/// Listens at three ports.
-fn listen_all<N: Network>(network: &N) -> Option<Places> {
+/// Listens at two ports, and connects both ends of the session, so that neither has to wait for the other.
+fn prepare<N: Network>(network: &N) -> Option<(Places, Owned)> {
     let echo = network.listen(any_port())?;
-    let session = network.listen(any_port())?;
     let local = network.listen(any_port())?;
-    let (Ok(echo_address), Ok(session_address), Ok(local_address)) = (
-        echo.local_addr(),
-        session.local_addr(),
-        local.local_addr(),
-    ) else {
+    let (near, far) = connect_session(network)?;
+    let (Ok(echo_address), Ok(local_address)) = (echo.local_addr(), local.local_addr()) else {
         return None;
     };
-    Some(Places {
+    let places = Places {
+        echo: echo_address,
+        local: local_address,
+    };
+    let owned = Owned {
         echo,
-        session,
         local,
-        echo_address,
-        session_address,
-        local_address,
-    })
+        near,
+        far,
+    };
+    Some((places, owned))
+}
+
+/// Both ends of a connection. The system makes it before it is accepted, so the accept doesn't wait.
+fn connect_session<N: Network>(network: &N) -> Option<(TcpStream, TcpStream)> {
+    let listener = network.listen(any_port())?;
+    let Ok(address) = listener.local_addr() else {
+        return None;
+    };
+    let near = network.connect(address)?;
+    let Ok((far, _)) = listener.accept() else {
+        return None;
+    };
+    let _ = far.set_nodelay(true);
+    Some((near, far))
 }
 
 /// Receives what became of each connection, up to the first that failed, and says how many were whole. A result that
@@ -190,19 +225,19 @@ fn failed<E: Outlet>(alloc: Global, number: u32, errors: &mut E) -> u8
     }
 }
 
-/// Connects to each server as often as it accepts, so that none of them waits any longer.
-fn release<N: Network>(network: &N, places: &Places) {
-    let _ = network.connect(places.session_address);
+/// Connects to each listener as often as its server accepts, so that none waits any longer. A listener that has closed
+/// refuses it.
+fn release<N: Network>(network: &N, places: Places) {
     for _ in 0..CONNECTIONS {
-        let _ = network.connect(places.local_address);
-        let _ = network.connect(places.echo_address);
+        let _ = network.connect(places.local);
+        let _ = network.connect(places.echo);
     }
 }
 
 /// Sends back what each of three connections sends.
-fn serve_echoes(places: &Places) {
+fn serve_echoes(listener: TcpListener) {
     for _ in 0..CONNECTIONS {
-        let Ok((stream, _)) = places.echo.accept() else {
+        let Ok((stream, _)) = listener.accept() else {
             return;
         };
         let _ = io::copy(&mut &stream, &mut &stream);
@@ -215,13 +250,11 @@ fn run_remote_end<R: Threads + Wait + Sync, N: Network>(
     rt: &R,
     alloc: Global,
     network: &N,
-    places: &Places,
+    connection: TcpStream,
+    target: SocketAddr,
 ) {
-    let Ok((connection, _)) = places.session.accept() else {
-        return;
-    };
     let side = TunnelSide::Remote {
-        target: places.echo_address,
+        target,
         workers: WORKERS,
     };
     let _ = forward(rt, alloc, network, &connection, side, WINDOW, &Unwatched);
@@ -232,42 +265,27 @@ fn run_local_end<R: Threads + Wait + Sync, N: Network>(
     rt: &R,
     alloc: Global,
     network: &N,
-    places: &Places,
+    connection: TcpStream,
+    listener: TcpListener,
 ) {
-    let Some(connection) = network.connect(places.session_address) else {
-        return;
-    };
     let side = TunnelSide::Local {
-        listener: &places.local,
+        listener: &listener,
         count: Some(CONNECTIONS),
     };
-    let forwarded = forward(rt, alloc, network, &connection, side, WINDOW, &Unwatched);
-    if forwarded.lacked_memory {
-        close_all(places);
-    }
-}
-
-/// Accepts as many connections as there are, and closes each: those for which no session runs, so that the client
-/// waits for none of them.
-fn close_all(places: &Places) {
-    for _ in 0..CONNECTIONS {
-        if places.local.accept().is_err() {
-            return;
-        }
-    }
+    let _ = forward(rt, alloc, network, &connection, side, WINDOW, &Unwatched);
 }
 
 /// Makes the three connections, one after the other, and sends what became of each.
 fn run_client<R: Wait, N: Network>(
     rt: &R,
     network: &N,
-    places: &Places,
+    address: SocketAddr,
     sender: Sender<Echoed, Global>,
 ) {
     let mut number = 0u32;
     for size in SIZES {
         number = number.saturating_add(1);
-        let is_whole = match network.connect(places.local_address) {
+        let is_whole = match network.connect(address) {
             Some(stream) => is_echoed(&stream, size).unwrap_or(false),
             None => false,
         };
