@@ -7,9 +7,8 @@ or the start of one thread: the first, the second and so on, up to the first num
 
 Whichever it is, both end within 10 seconds of what they wait for. A status is 0, and nothing is said, or it is 1 and
 one text is said: of the side that was refused `ymx: out of memory`, of `ymx local` also that it can't reach a
-`ymx remote` that has gone. What arrives is a beginning of what was sent, and all of it where both statuses are 0. Of
-that there is one exception: a stream for which `ymx remote` has no memory is rejected. Then the target is not called,
-the client reads the end, and both statuses are 0.
+`ymx remote` that has gone. What arrives is a beginning of what was sent, and all of it where both statuses are 0. So a
+`ymx remote` that rejects the stream, as it has no memory for it, says so too.
 
 `ymx selftest` is refused each in the same way. It ends within 10 seconds too: with status 0 and its three lines, or
 with status 1 and one text: that there was no memory, that it can't listen, or which connection failed, behind the
@@ -223,8 +222,6 @@ def judge(name, near, far, questions, answer, sides):
     assert QUESTION.startswith(b"".join(questions)) and ANSWER.startswith(answer), "other bytes arrive"
     if (near, far) != (good, good):
         return "out of memory"
-    if name == "remote" and not questions and not answer:
-        return "rejected"
     assert (questions, answer) == ([QUESTION], ANSWER), f"{list(map(len, questions))} and {len(answer)} bytes arrive"
     return "as ever"
 

@@ -41,7 +41,7 @@ pub struct Forwarded {
     pub accept_failed: bool,
     /// The session broke.
     pub broken: Option<Fault>,
-    /// Somewhere no memory was found.
+    /// Somewhere no memory was found, as for a stream that the peer opened.
     pub lacked_memory: bool,
 }
 
@@ -124,7 +124,8 @@ fn without_memory() -> Forwarded {
     }
 }
 
-/// Serves one side of the tunnel, until it ends.
+/// Serves one side of the tunnel, until it ends. A stream of the peer's that was rejected for want of memory counts as
+/// want of memory here.
 fn serve<R: Threads + Wait + Sync, N: Network, V: Watcher>(
     rt: &R,
     alloc: Global,
@@ -134,7 +135,7 @@ fn serve<R: Threads + Wait + Sync, N: Network, V: Watcher>(
     connections: &Connections,
     watcher: &V,
 ) -> Served {
-    match side {
+    let served = match side {
         TunnelSide::Local { listener, count } => {
             serve_local(rt, alloc, hub, listener, count, connections, watcher)
         }
@@ -150,5 +151,9 @@ fn serve<R: Threads + Wait + Sync, N: Network, V: Watcher>(
                 watcher,
             )
         }
+    };
+    Served {
+        accept_failed: served.accept_failed,
+        lacked_memory: served.lacked_memory || hub.has_lacked_memory(rt),
     }
 }
