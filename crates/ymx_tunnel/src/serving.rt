@@ -1,14 +1,17 @@
 //! The two servers of a tunnel: one opens a stream for each connection, and one makes a connection for each stream.
 
 use crate::connections::Connections;
-use crate::joining::{EndedConnection, join_both, let_go, spend};
+use crate::direction::{let_go, spend};
+use crate::idle::{Accepted, IdleWorkers};
+use crate::joining::{EndedConnection, join_both};
 use crate::network::Network;
+use crate::partner::{Partner, Worker};
 use std::alloc::Global;
 use std::net::{SocketAddr, TcpListener, TcpStream};
 use std::sync::atomic::{AtomicBool, AtomicU64, Ordering};
 use std::sync::{Arc, Wait};
-use std::thread;
 use std::thread::Threads;
+use std::{mem, thread};
 use ymx_hub::{Acceptor, Hub, HubFault, Off, Opener, ReadHalf, WriteHalf};
 use ymx_model::CallFault;
 
@@ -52,11 +55,11 @@ struct Shared<'a, V: Watcher> {
     lacked_memory: AtomicBool,
 }
 
-/// Accepts connections, and serves each in a thread of its own, its worker, which opens a stream and copies both ways.
-/// A connection for which no thread can be made is closed, and so is one for which no stream can be opened. It ends
-/// after `count` connections, or at an accept that fails; without `count` also at the first connection that is accepted
-/// after the session was lost. Whoever sees that the session is over shuts the connections. It returns once all workers
-/// have ended.
+/// Accepts connections, and has each served by a worker, a thread that opens a stream and copies both ways. A worker
+/// that has served its connection waits for the next one; if none waits a new one is made. A connection for which no
+/// thread can be made is closed, and so is one for which no stream can be opened. It ends after `count` connections, or
+/// at an accept that fails; without `count` also at the first connection that is accepted after the session was lost.
+/// Whoever sees that the session is over shuts the connections. It returns once all workers have ended.
 pub fn serve_local<R: Threads + Wait + Sync, V: Watcher>(
     rt: &R,
     alloc: Global,
@@ -67,32 +70,39 @@ pub fn serve_local<R: Threads + Wait + Sync, V: Watcher>(
     watcher: &V,
 ) -> Served {
     let shared = Shared::new(alloc, hub, connections, watcher);
-    let lent = &shared;
+    let idle = IdleWorkers::new(alloc);
+    let (lent, waiting) = (&shared, &idle);
     let accept_failed = thread::scope(thread::scope_env(), rt, |scope| {
+        let mut accept_failed = false;
         for _ in 0..count.map_or(u64::MAX, u64::from) {
             let Ok((stream, _)) = listener.accept() else {
-                return true;
+                accept_failed = true;
+                break;
             };
             let number = lent.next_number();
             if count.is_none() && !lent.hub.is_running(rt) {
                 lent.refused(rt, number, HubFault::Call(CallFault::Lost));
-                return false;
+                break;
             }
+            let Err(first) = waiting.hand_over(rt, Accepted { number, stream }) else {
+                continue;
+            };
             if scope
-                .spawn(move || serve_connection(rt, lent, number, stream))
+                .spawn(move || serve_connections(rt, lent, waiting, first))
                 .is_err()
             {
                 lent.refused(rt, number, HubFault::Memory);
             }
         }
-        false
+        waiting.end(rt);
+        accept_failed
     });
     shared.served(accept_failed)
 }
 
-/// Accepts streams in so many workers, at least one, each of which connects to the target and copies both ways. A
-/// stream for which no connection can be made is reset. Whoever sees that the session is over shuts the connections. It
-/// returns once the session gives out no more streams and all workers have ended.
+/// Accepts streams in so many workers, at least one, each of which connects to the target and copies both ways, for one
+/// stream after the other. A stream for which no connection can be made is reset. Whoever sees that the session is over
+/// shuts the connections. It returns once the session gives out no more streams and all workers have ended.
 pub fn serve_remote<R: Threads + Wait + Sync, N: Network, V: Watcher>(
     rt: &R,
     alloc: Global,
@@ -119,71 +129,132 @@ pub fn serve_remote<R: Threads + Wait + Sync, N: Network, V: Watcher>(
     shared.served(false)
 }
 
-/// Opens a stream for a connection, and copies both ways.
-fn serve_connection<R: Threads + Wait + Sync, V: Watcher>(
+/// Serves this connection, and then one after the other for which it has waited. The partner is made for the first
+/// connection, and asked for again at the next one where no thread was found.
+fn serve_connections<R: Threads + Wait + Sync, V: Watcher>(
     rt: &R,
     shared: &Shared<'_, V>,
-    number: u64,
-    stream: TcpStream,
+    idle: &IdleWorkers,
+    first: Accepted,
 ) {
-    let _ = stream.set_nodelay(true);
-    let mut opener = match shared.opener(rt) {
-        Ok(opener) => opener,
-        Err(fault) => {
-            shared.refused(rt, number, fault);
-            return;
+    let alloc = shared.alloc;
+    let partner = Partner::new();
+    let lent = &partner;
+    thread::scope(thread::scope_env(), rt, |scope| {
+        let mut worker = Worker::new(alloc, lent);
+        let mut next = Some(first);
+        for _ in rt.forever() {
+            let Some(accepted) = mem::replace(&mut next, None) else {
+                break;
+            };
+            if !worker.has_partner {
+                worker.has_partner = scope.spawn(move || lent.run(rt, alloc)).is_ok();
+            }
+            serve_connection(rt, shared, &mut worker, accepted);
+            next = idle.await_connection(rt);
         }
-    };
-    let opened = opener.open(rt);
-    let_go(opener.into_seat());
-    match opened {
+        worker.end(rt);
+    });
+    partner.let_go(rt);
+}
+
+/// Opens a stream for a connection, and copies both ways.
+fn serve_connection<R: Wait, V: Watcher>(
+    rt: &R,
+    shared: &Shared<'_, V>,
+    worker: &mut Worker<'_>,
+    accepted: Accepted,
+) {
+    let Accepted { number, stream } = accepted;
+    let _ = stream.set_nodelay(true);
+    match open_stream(rt, shared) {
         Ok((sink, source)) => {
-            let joined = join_both(rt, shared.alloc, shared.connections, stream, sink, source);
+            let alloc = shared.alloc;
+            let joined = join_both(rt, alloc, shared.connections, worker, stream, sink, source);
             shared.ended(rt, number, &joined);
         }
         Err(fault) => shared.refused(rt, number, fault),
     }
 }
 
-/// Accepts streams, one after the other, and serves each, until the session gives out no more.
+/// Opens a stream.
+fn open_stream<R: Wait, V: Watcher>(
+    rt: &R,
+    shared: &Shared<'_, V>,
+) -> Result<(WriteHalf<Off>, ReadHalf<Off>), HubFault> {
+    let mut opener = shared.opener(rt)?;
+    let opened = opener.open(rt);
+    let_go(opener.into_seat());
+    opened
+}
+
+/// Accepts streams, one after the other, and serves each, until the session gives out no more. The partner is made for
+/// the first stream, and asked for again at the next one where no thread was found.
 fn serve_streams<R: Threads + Wait + Sync, N: Network, V: Watcher>(
     rt: &R,
     shared: &Shared<'_, V>,
     network: &N,
     target: SocketAddr,
 ) {
-    let Some(mut acceptor) = shared.acceptor(rt) else {
-        return;
-    };
+    let alloc = shared.alloc;
+    let partner = Partner::new();
+    let lent = &partner;
+    thread::scope(thread::scope_env(), rt, |scope| {
+        let Some(mut acceptor) = shared.acceptor(rt) else {
+            return;
+        };
+        let mut worker = Worker::new(alloc, lent);
+        for _ in rt.forever() {
+            let Some((sink, source)) = next_stream(rt, shared, &mut acceptor) else {
+                break;
+            };
+            if !worker.has_partner {
+                worker.has_partner = scope.spawn(move || lent.run(rt, alloc)).is_ok();
+            }
+            let number = shared.next_number();
+            let joined = serve_stream(rt, shared, network, target, &mut worker, sink, source);
+            shared.ended(rt, number, &joined);
+        }
+        worker.end(rt);
+        let_go(acceptor.into_seat());
+    });
+    partner.let_go(rt);
+}
+
+/// The next stream, unless the session gives out no more.
+fn next_stream<R: Wait, V: Watcher>(
+    rt: &R,
+    shared: &Shared<'_, V>,
+    acceptor: &mut Acceptor<Off>,
+) -> Option<(WriteHalf<Off>, ReadHalf<Off>)> {
     for _ in rt.forever() {
         match acceptor.accept(rt) {
-            Ok(Some((sink, source))) => {
-                let number = shared.next_number();
-                let joined = serve_stream(rt, shared, network, target, sink, source);
-                shared.ended(rt, number, &joined);
-            }
-            Ok(None) => break,
+            Ok(accepted) => return accepted,
             Err(HubFault::Memory) => {
                 shared.lack_memory();
                 thread::yield_now();
             }
-            Err(_) => break,
+            Err(_) => return None,
         }
     }
-    let_go(acceptor.into_seat());
+    unreachable!()
 }
 
 /// Connects to the target for a stream, and copies both ways. If it can't connect the stream is reset.
-fn serve_stream<R: Threads + Wait + Sync, N: Network, V: Watcher>(
+fn serve_stream<R: Wait, N: Network, V: Watcher>(
     rt: &R,
     shared: &Shared<'_, V>,
     network: &N,
     target: SocketAddr,
+    worker: &mut Worker<'_>,
     sink: WriteHalf<Off>,
     source: ReadHalf<Off>,
 ) -> EndedConnection {
     match network.connect(target) {
-        Some(stream) => join_both(rt, shared.alloc, shared.connections, stream, sink, source),
+        Some(stream) => {
+            let alloc = shared.alloc;
+            join_both(rt, alloc, shared.connections, worker, stream, sink, source)
+        }
         None => {
             spend(rt, Some(sink), Some(source));
             EndedConnection::without_connection()
