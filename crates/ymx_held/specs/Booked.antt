@@ -82,10 +82,11 @@ IsRefused event seat fault added =
     (((fault ≡ Memory) ⊎ (fault ≡ Seats)) × (added ≡ []))
     ⊎ ((why : CallFault) × (fault ≡ hub_fault_of why) × One seat event (reply.Refused why) added)
 
--- one entry, which gave a stream; the seats of both its halves start after it
+-- one entry, which gave a stream; the seats of both its halves start after it, with no entry
 abbrev pub IsGiven : Event → Reply → ℕ → SeatView → SeatView → List Entry → Type 0
 IsGiven event told seat one other added =
     (position : ℕ) × (added ≡ entry position seat event told ∷ []) × (position < one.start) × (position < other.start)
+    × (one.entries ≡ []) × (other.entries ≡ [])
 
 -- the stream that was opened
 abbrev pub Opens : ℕ → Result (ℕ × SeatView × SeatView) HubFault → List Entry → Type 0

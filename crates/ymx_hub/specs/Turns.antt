@@ -2,6 +2,7 @@
 use Rattle.std.specs.Prelude.{◌≡◌, ℕ, ◌+◌, ◌⊎◌, List, [], ◌∷◌, ◌++◌, length, take, drop, true, false, Option, Some, None, Result, Ok, Err}
 use Rattle.ymx_model.specs.declared.types.CallFault.{CallFault}
 use Rattle.ymx_model.specs.declared.types.CallFault.TheVariants.{Lost, Closed}
+use Rattle.ymx_model.specs.declared.types.Wrote.{Wrote}
 use Rattle.ymx_model.specs.declared.types.Wrote.TheVariants.{Took}
 use Rattle.ymx_model.specs.declared.types.Event.{Event}
 use Rattle.ymx_model.specs.declared.types.Reply.{Reply}
@@ -102,12 +103,21 @@ EndsIn Such (e ∷ f ∷ fs) = EndsIn Such (f ∷ fs)
 abbrev pub HasTaken : Reply → Type 0
 HasTaken told = (n : ℕ) × (told ≡ reply.Wrote (Took n))
 
+-- a write was answered with what it took, or that it has to wait
+abbrev pub IsWrote : Reply → Type 0
+IsWrote told = (wrote : Wrote) × (told ≡ reply.Wrote wrote)
+
+-- no write was refused: there was none, or the last was answered so
+abbrev pub IsUnrefused : List Entry → Type 0
+IsUnrefused added = (added ≡ []) ⊎ EndsIn IsWrote added
+
 -- all bytes were taken; or the first so many, up to a refusal, or to want of memory for the next entry
 abbrev pub WriteEnds : (bytes : List ℕ) → Result (Unit {0}) WriteFault → List Entry → Type 0
 WriteEnds bytes (Ok u) added = (total added ≡ length bytes) × EndsIn HasTaken added
 WriteEnds bytes (Err stop) added =
     (total added ≡ stop.taken)
-    × ((stop.fault ≡ Memory) ⊎ ((why : CallFault) × (stop.fault ≡ hub_fault_of why) × EndsIn (λ told. told ≡ reply.Refused why) added))
+    × (((stop.fault ≡ Memory) × IsUnrefused added)
+    ⊎ ((why : CallFault) × (stop.fault ≡ hub_fault_of why) × EndsIn (λ told. told ≡ reply.Refused why) added))
 
 -- writes of what was left, and how they ended
 abbrev pub WriteTurns : (id : ℕ) → (bytes : List ℕ) → ℕ → Result (Unit {0}) WriteFault → List Entry → Type 0
