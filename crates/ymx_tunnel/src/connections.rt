@@ -4,12 +4,12 @@
 
 ghost use Rattle.std.specs.Prelude.{None};
 
-use crate::connection::ConnectionReader;
+use crate::connection::{ConnectionReader, ConnectionWriter};
 use std::alloc::Global;
 use std::net::{Shutdown, TcpStream};
 use std::sync::atomic::{AtomicBool, Ordering};
 use std::sync::{Arc, Mutex, Wait};
-use ymx_model::{DeviceFault, Inlet};
+use ymx_model::{DeviceFault, Inlet, Outlet};
 
 /// The connections of a server that are open.
 #[derive(Drop)]
@@ -34,13 +34,47 @@ pub(crate) struct Line {
     number: u64,
     /// It has said that no more bytes come from it.
     has_ended: AtomicBool,
+    /// Its writing side was shut, as no more bytes go to it.
+    was_ended: AtomicBool,
+    /// It failed, or was shut at a fault: what it reads then is no end.
+    has_broken: AtomicBool,
 }
 
 impl Line {
+    /// A connection that was just made.
+    fn new(stream: TcpStream, number: u64) -> Line {
+        Line {
+            stream,
+            number,
+            has_ended: AtomicBool::new(false),
+            was_ended: AtomicBool::new(false),
+            has_broken: AtomicBool::new(false),
+        }
+    }
+
+    /// Shuts the connection both ways, so that both directions end.
+    pub(crate) fn shut_down(&self) {
+        self.was_ended.store(true, Ordering::SeqCst);
+        let _ = self.stream.shutdown(Shutdown::Both);
+    }
+
+    /// The same, where what is read then is no end.
+    pub(crate) fn break_off(&self) {
+        self.has_broken.store(true, Ordering::SeqCst);
+        self.shut_down();
+    }
+
+    /// Whether it failed. The system tells of a failure once: where it told a write, a read finds an end. But a
+    /// connection that failed has no peer any more, and one that didn't has none only if it was ended here too.
+    fn is_broken(&self) -> bool {
+        self.has_broken.load(Ordering::SeqCst)
+            || (!self.was_ended.load(Ordering::SeqCst) && self.stream.peer_addr().is_err())
+    }
+
     /// Shuts the connection both ways, unless it has ended: then what came for it may still go out.
     fn shut(&self) {
         if !self.has_ended.load(Ordering::SeqCst) {
-            let _ = self.stream.shutdown(Shutdown::Both);
+            self.shut_down();
         }
     }
 }
@@ -76,12 +110,7 @@ impl Connections {
     ) -> Option<Arc<Line, Global>> {
         let mut open = self.open.lock(rt);
         let number = open.added;
-        let line = Line {
-            stream,
-            number,
-            has_ended: AtomicBool::new(false),
-        };
-        let Ok(line) = Arc::new(alloc, line) else {
+        let Ok(line) = Arc::new(alloc, Line::new(stream, number)) else {
             return None;
         };
         let Ok(other) = Arc::try_clone(&line) else {
@@ -112,11 +141,19 @@ impl Connections {
     }
 }
 
-/// What comes from an open connection. It notes the end.
+/// What comes from an open connection. It notes the end, and takes none from a connection that has failed.
 #[derive(Drop)]
 pub(crate) struct LineReader<'a> {
     line: &'a Line,
     reader: ConnectionReader<'a>,
+    failures: u64,
+}
+
+/// What goes to an open connection. It notes the end, and a failure.
+#[derive(Drop)]
+pub(crate) struct LineWriter<'a> {
+    line: &'a Line,
+    writer: ConnectionWriter<'a>,
 }
 
 impl<'a> LineReader<'a> {
@@ -125,6 +162,17 @@ impl<'a> LineReader<'a> {
         LineReader {
             line,
             reader: ConnectionReader::new(&line.stream),
+            failures: 0,
+        }
+    }
+}
+
+impl<'a> LineWriter<'a> {
+    /// What goes to this connection.
+    pub(crate) fn new(line: &'a Line) -> LineWriter<'a> {
+        LineWriter {
+            line,
+            writer: ConnectionWriter::new(&line.stream),
         }
     }
 }
@@ -132,13 +180,45 @@ impl<'a> LineReader<'a> {
 impl Inlet for LineReader<'_> {
     ghost remaining = { λ _. None };
 
-    ghost failures = { λ s. s.reader.failures };
+    ghost failures = { λ s. s.failures };
 
     fn pull(&mut self, buffer: &mut [u8]) -> Result<usize, DeviceFault> {
-        let pulled = self.reader.pull(buffer);
-        if pulled == Ok(0) {
-            self.line.has_ended.store(true, Ordering::SeqCst);
+        if self.failures == u64::MAX {
+            return Err(DeviceFault);
         }
-        pulled
+        match self.reader.pull(buffer) {
+            Ok(0) if !self.line.is_broken() => {
+                self.line.has_ended.store(true, Ordering::SeqCst);
+                Ok(0)
+            }
+            Ok(count) if count > 0 => Ok(count),
+            _ => {
+                self.failures += 1;
+                Err(DeviceFault)
+            }
+        }
+    }
+}
+
+impl Outlet for LineWriter<'_> {
+    ghost contents = { λ _. None };
+
+    ghost failures = { λ s. s.writer.failures };
+
+    fn push(&mut self, bytes: &[u8]) -> Result<usize, DeviceFault> {
+        let pushed = self.writer.push(bytes);
+        if pushed.is_err() {
+            self.line.has_broken.store(true, Ordering::SeqCst);
+        }
+        pushed
+    }
+
+    fn end(&mut self) -> Result<(), DeviceFault> {
+        self.line.was_ended.store(true, Ordering::SeqCst);
+        let ended = self.writer.end();
+        if ended.is_err() {
+            self.line.has_broken.store(true, Ordering::SeqCst);
+        }
+        ended
     }
 }

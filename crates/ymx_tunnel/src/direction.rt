@@ -2,13 +2,11 @@
 
 ghost use Rattle.std.specs.Prelude.{◌<◌, vec_len, OnOk};
 
-use crate::connection::ConnectionWriter;
-use crate::connections::{Line, LineReader};
+use crate::connections::{Line, LineReader, LineWriter};
 use crate::copied::{Copied, CopyWhy};
 use crate::copying::{copy_in, copy_out};
 use crate::ends::{Sink, Source};
 use std::alloc::{AllocError, Global};
-use std::net::{Shutdown, TcpStream};
 use std::sync::Wait;
 use ymx_hub::{Off, ReadHalf, Seat, WriteHalf};
 
@@ -34,12 +32,12 @@ pub(crate) fn inward<R: Wait>(
 ) -> EndedCopy {
     let Ok(()) = make_buffer(alloc, buffer) else {
         spend(rt, Some(sink), None);
-        return ended(&line.stream, 0, CopyWhy::Memory);
+        return ended(line, 0, CopyWhy::Memory);
     };
     let mut reader = LineReader::new(line);
     let Copied { bytes, why, left } = copy_in(rt, &mut reader, sink, buffer.as_mut_slice());
     let_go(left);
-    ended(&line.stream, bytes, why)
+    ended(line, bytes, why)
 }
 
 /// Copies from the stream out to the connection, and spends its half. The buffer is made at its first use.
@@ -52,12 +50,12 @@ pub(crate) fn outward<R: Wait>(
 ) -> EndedCopy {
     let Ok(()) = make_buffer(alloc, buffer) else {
         spend(rt, None, Some(source));
-        return ended(&line.stream, 0, CopyWhy::Memory);
+        return ended(line, 0, CopyWhy::Memory);
     };
-    let mut writer = ConnectionWriter::new(&line.stream);
+    let mut writer = LineWriter::new(line);
     let Copied { bytes, why, left } = copy_out(rt, source, &mut writer, buffer.as_mut_slice());
     let_go(left);
-    ended(&line.stream, bytes, why)
+    ended(line, bytes, why)
 }
 
 /// Makes the buffer of a copy, unless it was made before.
@@ -70,10 +68,13 @@ fn make_buffer(alloc: Global, buffer: &mut Vec<u8>) -> Result<(), AllocError>
     Ok(())
 }
 
-/// One direction has ended. At a fault the connection is shut both ways, so that the other direction ends too.
-pub(crate) fn ended(stream: &TcpStream, bytes: u64, why: CopyWhy) -> EndedCopy {
-    if why != CopyWhy::End {
-        let _ = stream.shutdown(Shutdown::Both);
+/// One direction has ended. At a fault the connection is shut both ways, so that the other direction ends too. It
+/// doesn't take that for an end: where the stream was reset or the session lost, its half of the stream says so.
+pub(crate) fn ended(line: &Line, bytes: u64, why: CopyWhy) -> EndedCopy {
+    match why {
+        CopyWhy::End => {}
+        CopyWhy::Reset | CopyWhy::Lost => line.shut_down(),
+        CopyWhy::Source | CopyWhy::Sink | CopyWhy::Memory => line.break_off(),
     }
     EndedCopy { bytes, why }
 }

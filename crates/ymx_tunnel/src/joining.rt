@@ -82,8 +82,8 @@ fn copy_both<R: Wait>(
     let Some(lent) = lend(worker, line) else {
         spend(rt, Some(sink), Some(source));
         return EndedConnection {
-            inward: ended(&line.stream, 0, CopyWhy::Memory),
-            outward: ended(&line.stream, 0, CopyWhy::Memory),
+            inward: ended(line, 0, CopyWhy::Memory),
+            outward: ended(line, 0, CopyWhy::Memory),
         };
     };
     worker.partner.copy_out(rt, lent, source);
