@@ -129,19 +129,20 @@ pub fn run_remote<R: Threads + Wait + Sync, N: Network, E: Outlet, L: Outlet + S
         return cannot_listen(alloc, asked.bind, errors);
     };
     if !asked.is_verbose {
-        return forward_in(rt, alloc, network, &listener, asked, &Unwatched, errors);
+        return forward_in(rt, alloc, network, listener, asked, &Unwatched, errors);
     }
     let watcher = Notices::new(lines);
     watcher.listening(rt, &listener, asked.bind);
-    forward_in(rt, alloc, network, &listener, asked, &watcher, errors)
+    forward_in(rt, alloc, network, listener, asked, &watcher, errors)
 }
 
-/// Accepts one connection of a peer, and connects each of its streams to the target. Answers the exit status.
+/// Accepts one connection of a peer, so that others are refused, and connects each of its streams to the target. Answers
+/// the exit status.
 fn forward_in<R: Threads + Wait + Sync, N: Network, V: Watcher, E: Outlet>(
     rt: &R,
     alloc: Global,
     network: &N,
-    listener: &TcpListener,
+    listener: TcpListener,
     asked: Remote,
     watcher: &V,
     errors: &mut E,
@@ -152,6 +153,7 @@ fn forward_in<R: Threads + Wait + Sync, N: Network, V: Watcher, E: Outlet>(
     let Ok((connection, _)) = listener.accept() else {
         return cannot_listen(alloc, asked.bind, errors);
     };
+    drop(listener);
     let _ = connection.set_nodelay(true);
     let side = TunnelSide::Remote {
         target: asked.target,
