@@ -1,6 +1,7 @@
 #!/bin/sh
 # Runs all tests that stand beside `rt ci`, a line each, and what a test that failed has to say. With --all it
-# refuses each allocation of two sessions too, and tries the wrong bodies, which takes an hour or more. Ends with 'N passed, M failed'.
+# refuses each allocation of two sessions too, proves and runs the programs of the guide, and tries the wrong bodies,
+# which takes an hour or more. Ends with 'N passed, M failed'.
 set -eu
 root=$(cd "$(dirname "$0")/.." && pwd)
 log=$(mktemp)
@@ -43,6 +44,7 @@ try 'the front door' "$root/tests/connect/run.sh"
 try 'unit tests of the program' "$root/tests/units/run.sh"
 if [ "${1-}" = --all ]; then
     try 'each allocation of two sessions fails' "$root/tests/worlds/run.sh" --refuse-each
+    try 'the programs of the guide' "$root/tests/examples/run.sh"
     try 'wrong bodies' "$root/tests/wrong_bodies.sh"
 fi
 echo "$passed passed, $failed failed"
