@@ -1,6 +1,7 @@
 #!/bin/sh
 # Tries the program from outside, as ./ymx builds it: its exit status, and what it writes on standard output
-# and on standard error. The texts that it must write stand in this folder.
+# and on standard error. The texts that it must write stand in this folder. A program that hangs is ended after a
+# minute, and fails.
 set -eu
 here=$(cd "$(dirname "$0")" && pwd)
 root=$(cd "$here/../.." && pwd)
@@ -22,7 +23,7 @@ expect() {
     status=$1 output=$2 errors=$3 input=$4
     shift 4
     got=0
-    "$root/out/ymx" "$@" < "$input" > out 2> err || got=$?
+    timeout 60 "$root/out/ymx" "$@" < "$input" > out 2> err || got=$?
     if [ "$got" = "$status" ] && cmp -s out "$output" && cmp -s err "$errors"; then
         passed=$((passed + 1))
     else
@@ -99,10 +100,10 @@ both_end() {
 ymx=$root/out/ymx
 python3 "$here/ends.py" echo > echo_port &
 target=127.0.0.1:$(port_of echo_port)
-"$ymx" remote -v --bind 127.0.0.1:0 --target "$target" > remote_out 2> remote_err &
+timeout 60 "$ymx" remote -v --bind 127.0.0.1:0 --target "$target" > remote_out 2> remote_err &
 remote=$!
 peer=$(port_of remote_err)
-"$ymx" local --verbose --listen 127.0.0.1:0 --peer "127.0.0.1:$peer" --count 1 > local_out 2> local_err &
+timeout 60 "$ymx" local --verbose --listen 127.0.0.1:0 --peer "127.0.0.1:$peer" --count 1 > local_out 2> local_err &
 local=$!
 port=$(port_of local_err)
 end='ymx: connection 1: 5 bytes to the peer (ended), 5 bytes from the peer (ended)'
@@ -115,10 +116,10 @@ python3 "$here/ends.py" echo > echo_port &
 target=127.0.0.1:$(port_of echo_port)
 peer=$(python3 "$here/ends.py" port)
 port=$(python3 "$here/ends.py" port)
-"$ymx" remote --bind "127.0.0.1:$peer" --target "$target" > remote_out 2> remote_err &
+timeout 60 "$ymx" remote --bind "127.0.0.1:$peer" --target "$target" > remote_out 2> remote_err &
 remote=$!
 reach() {
-    "$ymx" local --listen "127.0.0.1:$port" --peer "127.0.0.1:$peer" --count 1 > local_out 2> local_err
+    timeout 60 "$ymx" local --listen "127.0.0.1:$port" --peer "127.0.0.1:$peer" --count 1 > local_out 2> local_err
 }
 in_time reach &
 local=$!
@@ -128,10 +129,10 @@ holds 'remote says nothing' cmp -s remote_err nothing
 
 # nobody listens at the target
 peer=$(python3 "$here/ends.py" port)
-"$ymx" remote -v --bind "127.0.0.1:$peer" --target "127.0.0.1:$(python3 "$here/ends.py" port)" > remote_out 2> remote_err &
+timeout 60 "$ymx" remote -v --bind "127.0.0.1:$peer" --target "127.0.0.1:$(python3 "$here/ends.py" port)" > remote_out 2> remote_err &
 remote=$!
 port_of remote_err > remote_port
-"$ymx" local -v --listen 127.0.0.1:0 --peer "127.0.0.1:$peer" --count 1 > local_out 2> local_err &
+timeout 60 "$ymx" local -v --listen 127.0.0.1:0 --peer "127.0.0.1:$peer" --count 1 > local_out 2> local_err &
 local=$!
 python3 "$here/ends.py" ask "$(port_of local_err)" > answer 2> answer_err || true
 holds 'both end well without a target' both_end
@@ -153,7 +154,7 @@ refuses() {
     beginning=$1
     shift
     got=0
-    "$root/out/ymx" "$@" < hello > out 2> err || got=$?
+    timeout 60 "$root/out/ymx" "$@" < hello > out 2> err || got=$?
     if [ "$got" = 2 ] && cmp -s out nothing && head -n 1 err | grep -q "^$beginning"; then
         passed=$((passed + 1))
     else
@@ -213,7 +214,7 @@ expect 1 nothing "$(says 'ymx: reading failed')" nothing script .
 # on_full SUBCOMMAND INPUT: a full device takes nothing
 on_full() {
     got=0
-    "$root/out/ymx" "$1" < "$2" > /dev/full 2> err || got=$?
+    timeout 60 "$root/out/ymx" "$1" < "$2" > /dev/full 2> err || got=$?
     if [ "$got" = 1 ] && cmp -s err "$(says 'ymx: writing failed')"; then
         passed=$((passed + 1))
     else
