@@ -140,6 +140,8 @@ end='ymx: connection 1: 0 bytes to the peer (connection failed), 0 bytes from th
 holds 'what remote -v says without a target' cmp -s remote_err "$(says "ymx: listening at 127.0.0.1:$peer" "$end")"
 holds 'what local -v says without a target' grep -q '^ymx: connection 1: .* bytes to the peer (.*), 0 bytes from the peer (.*)$' local_err
 
+holds 'both ends, frame by frame' python3 "$here/raw.py" "$ymx"
+
 expect 0 "$here/help" nothing hello --help
 expect 0 "$here/local_help" nothing hello local --help
 expect 0 "$here/remote_help" nothing hello remote --help

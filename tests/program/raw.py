@@ -1,0 +1,380 @@
+"""Plays the peer of `ymx local` and of `ymx remote` frame by frame, with users and a target of its own, and looks at
+what each does, says and answers: at its limits, where something fails, and where its words are bad.
+
+The system chooses all ports. Nothing is proved by waiting: each test waits for what must come, for at most a minute.
+It says which tests failed, and nothing where none did. No test follows one that hangs.
+
+usage: raw.py YMX
+"""
+
+import signal
+import socket
+import struct
+import subprocess
+import sys
+
+# How long a test may take.
+SECONDS = 60
+DATA, WINDOW, AWAY = 0, 1, 3
+SYN, ACK, FIN = 1, 2, 4
+HEADER = struct.Struct(">BBHII")
+# A header of version 1.
+BAD = b"\x01" + bytes(11)
+ANY = "127.0.0.1:0"
+# 192.0.2.7 is no address of this machine.
+NOWHERE = "192.0.2.7:1"
+# How many bytes each side may send on a stream before any is granted.
+FIRST_WINDOW = 262_144
+
+
+# ---- the ends of connections
+
+
+def frame(kind, flags, stream, length):
+    return HEADER.pack(0, kind, flags, stream, length)
+
+
+def listen():
+    listener = socket.create_server(("127.0.0.1", 0))
+    return listener, f"127.0.0.1:{listener.getsockname()[1]}"
+
+
+def call(address):
+    host, port = address.rsplit(":", 1)
+    return socket.create_connection((host, int(port)))
+
+
+def accept(listener):
+    connection, _ = listener.accept()
+    return connection
+
+
+def take(connection, count):
+    """So many bytes, or fewer before the end."""
+    came = b""
+    while len(came) < count and (piece := connection.recv(count - len(came))):
+        came += piece
+    return came
+
+
+def has_ended(connection):
+    """Whether the end comes, and no byte before it."""
+    return connection.recv(1) == b""
+
+
+def next_frame(connection):
+    """The type, the flags and the stream of the next frame, whose payload is dropped."""
+    _, kind, flags, stream, length = HEADER.unpack(take(connection, HEADER.size))
+    if kind == DATA:
+        take(connection, length)
+    return kind, flags, stream
+
+
+def leave(connection):
+    """Ends this side of a connection, and reads up to the end of the other."""
+    connection.shutdown(socket.SHUT_WR)
+    while connection.recv(4096):
+        pass
+    connection.close()
+
+
+def break_off(connection):
+    """Ends a connection by a reset."""
+    connection.setsockopt(socket.SOL_SOCKET, socket.SO_LINGER, struct.pack("ii", 1, 0))
+    connection.close()
+
+
+# ---- the program
+
+
+class Program:
+    """`ymx` with these words, and at most so many open files."""
+
+    running = []
+
+    def __init__(self, *words, files=None):
+        limit = [] if files is None else ["sh", "-c", f'ulimit -n {files} && exec "$@"', "sh"]
+        # Without a buffer, as `readline` and `communicate` read the same pipe.
+        self.process = subprocess.Popen([*limit, sys.argv[1], *words], stdin=subprocess.DEVNULL,
+                                        stdout=subprocess.PIPE, stderr=subprocess.PIPE, bufsize=0)
+        self.running.append(self.process)
+
+    def line(self):
+        """The next line that it says."""
+        return self.process.stderr.readline().decode()
+
+    def place(self):
+        """Where it says that it listens."""
+        line = self.line()
+        assert line.startswith("ymx: listening at "), line
+        return line.split()[-1]
+
+    def end(self):
+        """Its status, and what else it says; it prints nothing."""
+        out, said = self.process.communicate()
+        assert out == b"", f"on standard output {out!r}"
+        return self.process.returncode, said.decode()
+
+
+def local(*words, listen_at=ANY, files=None):
+    """`ymx local -v`, and its connection to this peer."""
+    listener, address = listen()
+    program = Program("local", "-v", "--listen", listen_at, "--peer", address, *words, files=files)
+    return program, accept(listener)
+
+
+def remote(target, *words):
+    """`ymx remote -v`, and a connection to it."""
+    program = Program("remote", "-v", "--bind", ANY, "--target", target, *words)
+    return program, call(program.place())
+
+
+# ---- what is asked
+
+
+def no_connections():
+    program, peer = local("--count", "0")
+    program.place()
+    assert has_ended(peer), "something was sent"
+    peer.close()
+    assert program.end() == (0, "")
+
+
+def the_third_of_two():
+    """It ends once both streams have, and serves no third connection."""
+    program, peer = local("--count", "2")
+    place = program.place()
+    users = [call(place), call(place)]
+    opened = take(peer, 24)
+    assert opened == frame(WINDOW, SYN, 1, 0) + frame(WINDOW, SYN, 3, 0), opened.hex()
+    third = call(place)
+    for stream in 1, 3:
+        peer.sendall(frame(WINDOW, ACK | FIN, stream, 0))
+    for user in users:
+        user.shutdown(socket.SHUT_WR)
+        assert has_ended(user)
+    rest = take(peer, 1000)
+    assert sorted([rest[:12], rest[12:]]) == [frame(WINDOW, FIN, stream, 0) for stream in (1, 3)], rest.hex()
+    peer.close()
+    status, said = program.end()
+    assert status == 0 and len(said.splitlines()) == 2, said
+    try:
+        assert has_ended(third), "the third was served"
+    except ConnectionResetError:
+        pass
+
+
+def window_of_local():
+    """Its SYN announces what is above the first window."""
+    program, peer = local("--count", "1", "--window", "1048576")
+    user = call(program.place())
+    opened = take(peer, 12)
+    assert opened == frame(WINDOW, SYN, 1, 1048576 - FIRST_WINDOW), opened.hex()
+    peer.close()
+    assert has_ended(user)
+    assert program.end() == (0, "ymx: connection 1: 0 bytes to the peer (lost), 0 bytes from the peer (lost)\n")
+
+
+def window_of_remote():
+    """Its ACK does."""
+    target, address = listen()
+    program, peer = remote(address, "--window", "1048576")
+    peer.sendall(frame(WINDOW, SYN, 1, 0))
+    accepted = take(peer, 12)
+    assert accepted == frame(WINDOW, ACK, 1, 1048576 - FIRST_WINDOW), accepted.hex()
+    accept(target).close()
+    leave(peer)
+    assert program.end()[0] == 0
+
+
+def workers(words, count):
+    """So many streams are served at once, and the next one as soon as one of them has ended."""
+    target, address = listen()
+    program, peer = remote(address, *words)
+    streams = range(1, 2 * count + 3, 2)
+    for stream in streams:
+        peer.sendall(frame(WINDOW, SYN, stream, 0))
+    served = [accept(target) for _ in range(count)]
+    # A byte goes through each: the workers are all at work, and none is left for the last stream.
+    for connection in served:
+        connection.sendall(b"!")
+    accepted, answers = set(), 0
+    while answers < count:
+        kind, flags, stream = next_frame(peer)
+        if flags & ACK:
+            accepted.add(stream)
+        answers += kind == DATA
+    assert len(accepted) == count, accepted
+    target.setblocking(False)
+    try:
+        target.accept()
+        raise AssertionError("one more is served")
+    except BlockingIOError:
+        target.setblocking(True)
+    # The peer ends all, so that it doesn't matter which stream is the last.
+    for stream in streams:
+        peer.sendall(frame(WINDOW, FIN, stream, 0))
+    for connection in served:
+        connection.close()
+    accept(target).close()
+    leave(peer)
+    status, said = program.end()
+    assert status == 0 and len(said.splitlines()) == count + 1, said
+
+
+def a_broken_session_of_local():
+    """It answers with a Go Away, and ends at the next connection."""
+    program, peer = local()
+    place = program.place()
+    peer.sendall(BAD)
+    answer = take(peer, 1000)
+    assert answer == frame(AWAY, 0, 0, 1), answer.hex()
+    peer.close()
+    assert has_ended(call(place))
+    assert program.end() == (1, "ymx: connection 1: no stream: Lost\nymx: session broken: B1\n")
+
+
+def the_peer_says_that_it_broke():
+    program, peer = remote("127.0.0.1:1")
+    peer.sendall(frame(AWAY, 0, 0, 1))
+    assert has_ended(peer)
+    peer.close()
+    assert program.end() == (1, "ymx: session broken: B8\n")
+
+
+def the_connection_of_remote_breaks():
+    """That is no fault of the session."""
+    program, peer = remote("127.0.0.1:1")
+    break_off(peer)
+    assert program.end() == (0, "")
+
+
+def the_connection_of_local_breaks():
+    """The first connection loses its stream, and tells by its end that the session is lost; the second gets none."""
+    program, peer = local()
+    place = program.place()
+    user = call(place)
+    opened = take(peer, 12)
+    assert opened == frame(WINDOW, SYN, 1, 0), opened.hex()
+    break_off(peer)
+    assert has_ended(user)
+    assert has_ended(call(place))
+    status, said = program.end()
+    assert status == 0 and sorted(said.splitlines()) == [
+        "ymx: connection 1: 0 bytes to the peer (lost), 0 bytes from the peer (lost)",
+        "ymx: connection 2: no stream: Lost",
+    ], said
+
+
+def local_cannot_listen():
+    """It has called its peer by then, and leaves it."""
+    program, peer = local(listen_at=NOWHERE)
+    assert has_ended(peer)
+    assert program.end() == (1, f"ymx: cannot listen at {NOWHERE}\n")
+
+
+def an_accept_fails():
+    # Open are standard input, output and error, and where it listens; of `local` the session's connection too.
+    program, peer = local(files=5)
+    program.place()
+    assert has_ended(peer)
+    peer.close()
+    assert program.end() == (1, f"ymx: cannot listen at {ANY}\n")
+    program = Program("remote", "--bind", ANY, "--target", ANY, files=4)
+    assert program.end() == (1, f"ymx: cannot listen at {ANY}\n")
+
+
+def a_failed_accept_and_a_broken_session():
+    """Of both the failed accept is told."""
+    program, peer = local(files=6)
+    user = call(program.place())
+    assert take(peer, 12) == frame(WINDOW, SYN, 1, 0)
+    peer.sendall(BAD)
+    assert has_ended(user)
+    peer.close()
+    status, said = program.end()
+    assert (status, said.splitlines()[1:]) == (1, [f"ymx: cannot listen at {ANY}"]), said
+
+
+def too_many_opens():
+    """256 streams may wait for their ACK; one more connection is closed."""
+    program, peer = local("--count", "257")
+    place = program.place()
+    users = [call(place) for _ in range(256)]
+    assert len(take(peer, 256 * 12)) == 256 * 12
+    assert has_ended(call(place))
+    assert program.line() == "ymx: connection 257: no stream: OpensPending\n"
+    peer.close()
+    for user in users:
+        assert has_ended(user)
+    assert program.end()[0] == 0
+
+
+def bad_words():
+    """Nobody is called before all words are read."""
+    peer, address = listen()
+    for words, said in (
+        (("local", "--listen", "x", "--peer", address), "ymx: bad address x\n"),
+        (("local", "--peer", "y", "--listen", "x"), "ymx: bad address x\n"),
+        (("remote", "--bind", address, "--target", "x"), "ymx: bad address x\n"),
+        (("remote", "--bind", address, "--target", ""), "ymx: bad address \n"),
+    ):
+        end = Program(*words).end()
+        assert end == (2, said), (words, end)
+    for words in ("--count", "x"), ("--window", "5"), ("--workers", "1"):
+        status, said = Program("local", "--listen", ANY, "--peer", address, *words).end()
+        assert status == 2 and said.startswith("error: "), (words, status, said)
+    peer.setblocking(False)
+    try:
+        peer.accept()
+        raise AssertionError("it called its peer")
+    except BlockingIOError:
+        pass
+
+
+TESTS = (
+    ("--count 0", no_connections, ()),
+    ("--count 2", the_third_of_two, ()),
+    ("--window of local", window_of_local, ()),
+    ("--window of remote", window_of_remote, ()),
+    ("--workers 1", workers, (("--workers", "1"), 1)),
+    ("16 workers", workers, ((), 16)),
+    ("a broken session of local", a_broken_session_of_local, ()),
+    ("a peer that says that it broke", the_peer_says_that_it_broke, ()),
+    ("a connection to remote that breaks", the_connection_of_remote_breaks, ()),
+    ("a connection of local that breaks", the_connection_of_local_breaks, ()),
+    ("local can't listen", local_cannot_listen, ()),
+    ("an accept that fails", an_accept_fails, ()),
+    ("a failed accept and a broken session", a_failed_accept_and_a_broken_session, ()),
+    ("257 opens", too_many_opens, ()),
+    ("bad words", bad_words, ()),
+)
+
+
+def hangs(_signal, _frame):
+    raise TimeoutError(f"it still waits after {SECONDS} seconds")
+
+
+def main():
+    signal.signal(signal.SIGALRM, hangs)
+    failed = 0
+    for name, test, words in TESTS:
+        signal.alarm(SECONDS)
+        try:
+            test(*words)
+        except (AssertionError, OSError, struct.error) as fault:
+            failed += 1
+            print(f"FAIL  {name}: {fault!r}", flush=True)
+            if isinstance(fault, TimeoutError):
+                break
+        finally:
+            signal.alarm(0)
+            for process in Program.running:
+                process.kill()
+                process.communicate()
+            Program.running.clear()
+    return failed != 0
+
+
+if __name__ == "__main__":
+    sys.exit(main())
