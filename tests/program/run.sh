@@ -147,6 +147,7 @@ expect 0 "$here/local_help" nothing hello local --help
 expect 0 "$here/remote_help" nothing hello remote --help
 expect 0 "$here/frames_help" nothing hello frames --help
 expect 0 "$here/script_help" nothing hello script --help
+expect 0 "$here/selftest_help" nothing hello selftest --help
 expect 0 "$(says 'ymx 0.1.0')" nothing hello --version
 expect 2 nothing "$here/mistake" hello frames --limit 5
 expect 2 nothing "$(says 'error: a word of the command line is not UTF-8')" hello frames "$(printf '\377')"
@@ -183,8 +184,12 @@ for workers in 0 1025 x; do
 done
 expect 0 lines nothing hello frames --limit 16777216
 expect 1 nothing "$(says 'ymx: cannot reach 127.0.0.1:1')" nothing local --listen 127.0.0.1:0 --peer 127.0.0.1:1
+expect 1 nothing "$(says 'ymx: cannot reach 127.0.0.1:1')" nothing local --listen 127.0.0.1:0 --peer 127.0.0.1:1 --count 4294967295 --window 16777216
 # 192.0.2.7 is no address of this machine
 expect 1 nothing "$(says 'ymx: cannot listen at 192.0.2.7:1')" nothing remote --bind 192.0.2.7:1 --target 127.0.0.1:1
+for workers in 1 1024; do
+    expect 1 nothing "$(says 'ymx: cannot listen at 192.0.2.7:1')" nothing remote --bind 192.0.2.7:1 --target 127.0.0.1:1 --workers $workers --window 16777216
+done
 
 # a peer whose first header has version 1
 port=$(python3 -c 'import socket; s = socket.socket(); s.bind(("127.0.0.1", 0)); print(s.getsockname()[1])')
