@@ -71,6 +71,10 @@ func (c *content) Read(p []byte) (int, error) {
 var errDiffers = errors.New("other bytes came")
 var errCount = errors.New("another number of bytes came")
 
+// A break of a TCP connection must reach a stream at the other side as a reset. The other way nothing is asked: a
+// stream that was reset ends its TCP connection like any other.
+var errEnds = errors.New("a break looks like an end")
+
 // Reads to the end. The bytes must be the first so many of the seed.
 func compare(from io.Reader, seed uint64, size int64) error {
 	wanted := newContent(seed)
@@ -142,12 +146,11 @@ func (k *counts) serve(c twoWay) {
 		_, err = io.CopyN(io.Discard, c, size/2)
 		breakOff(c)
 	case callerBreaks:
-		if err = compare(c, seed, size); err == errDiffers {
-			break
-		}
-		if err == nil {
-			err = errCount
-		} else {
+		switch err = compare(c, seed, size); err {
+		case nil, errCount:
+			err = errEnds
+		case errDiffers:
+		default:
 			err = nil
 		}
 	case tellsCounts:
