@@ -206,8 +206,8 @@ func exchange(c twoWay, how byte, seed uint64, size int64) error {
 	case serverBreaks:
 		go sendOn(c, seed, size)
 		switch err := compare(c, seed, size); err {
-		case nil:
-			return errCount
+		case nil, errCount:
+			return errEnds
 		case errDiffers:
 			return err
 		}
