@@ -15,7 +15,7 @@ import sys
 
 # How long a test may take.
 SECONDS = 60
-DATA, WINDOW, AWAY = 0, 1, 3
+DATA, WINDOW, PING, AWAY = 0, 1, 2, 3
 SYN, ACK, FIN = 1, 2, 4
 HEADER = struct.Struct(">BBHII")
 # A header of version 1.
@@ -187,6 +187,24 @@ def window_of_remote():
     assert program.end()[0] == 0
 
 
+def a_second_peer():
+    """`remote` serves one peer, and refuses others."""
+    target, address = listen()
+    program = Program("remote", "-v", "--bind", ANY, "--target", address)
+    place = program.place()
+    peer = call(place)
+    peer.sendall(frame(PING, SYN, 0, 7))
+    assert take(peer, 12) == frame(PING, ACK, 0, 7), "it serves the first"
+    try:
+        call(place).close()
+        raise AssertionError("a second peer is connected")
+    except ConnectionRefusedError:
+        pass
+    leave(peer)
+    assert program.end() == (0, "")
+    target.close()
+
+
 def workers(words, count):
     """So many streams are served at once, and the next one as soon as one of them has ended."""
     target, address = listen()
@@ -339,6 +357,7 @@ TESTS = (
     ("--window of remote", window_of_remote, ()),
     ("--workers 1", workers, (("--workers", "1"), 1)),
     ("16 workers", workers, ((), 16)),
+    ("a second peer", a_second_peer, ()),
     ("a broken session of local", a_broken_session_of_local, ()),
     ("a peer that says that it broke", the_peer_says_that_it_broke, ()),
     ("a connection to remote that breaks", the_connection_of_remote_breaks, ()),
