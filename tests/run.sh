@@ -32,6 +32,7 @@ case ${1-} in
     exit 2
     ;;
 esac
+try 'the released program' "$root/tests/release/run.sh"
 try 'the program from outside' "$root/tests/program/run.sh"
 try 'scripts and what they print' "$root/tests/script/run.sh"
 try 'programs that must not compile' "$root/tests/must_not_compile/run.sh"

@@ -63,15 +63,17 @@ python3 "$here/scripts.py" "$root/out/ymx" "$scratch/failing_malloc.so" "$root/t
 # selftest, which ends too.
 python3 "$here/tunnel.py" "$root/out/ymx" "$scratch/failing_malloc.so"
 
-# holds CRATE: its test holds whichever allocation fails
+# What a part of a session, a session and two running sessions do: each test holds whichever allocation fails.
+if [ "${YMX_FROM_GATE-}" != yes ]; then
+    (cd "$root/crates/ymx_no_memory" && rt test) > log 2>&1 || { tail -n 20 log; exit 1; }
+fi
+
+# holds PART: its test holds whichever allocation fails
 holds() {
-    if [ "${YMX_FROM_GATE-}" != yes ]; then
-        (cd "$root/crates/$1" && rt test) > log 2>&1 || { tail -n 20 log; exit 1; }
-    fi
     number=0
     while number=$((number + 1)) && rm -f failed; do
-        FAIL_AT=$number FAILED=failed LD_PRELOAD=./failing_malloc.so "$root/crates/$1/out/$1_tests" tests::holds_under_each_refusal \
-            > out 2>&1 || { echo "FAIL  $1: allocation $number: $(cat out)"; exit 1; }
+        FAIL_AT=$number FAILED=failed LD_PRELOAD=./failing_malloc.so "$root/crates/ymx_no_memory/out/ymx_no_memory_tests" \
+            "$1::holds_under_each_refusal" > out 2>&1 || { echo "FAIL  $1: allocation $number: $(cat out)"; exit 1; }
         [ -e failed ] || break
     done
     grep -q 'test result: ok' out || { echo "FAIL  $1: $(cat out)"; exit 1; }
@@ -79,9 +81,9 @@ holds() {
     echo "ok    $1: $((number - 1)) allocations"
 }
 
-holds ymx_ring
-holds ymx_control
-holds ymx_half
-holds ymx_table
-holds ymx_session_memory
-holds ymx_hub_memory
+holds ring
+holds control
+holds half
+holds table
+holds session
+holds hubs

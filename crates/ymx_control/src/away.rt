@@ -80,31 +80,3 @@ impl Away {
         self.there
     }
 }
-
-#[cfg(test)]
-mod tests {
-    use super::*;
-
-    #[test]
-    fn is_said_once(rt: HostRuntime) {
-        let mut away = Away::new();
-        assert_eq!(rt; (away.is_due(), away.was_said()), (false, false));
-        away.say();
-        away.say();
-        assert_eq!(rt; (away.is_due(), away.was_said()), (true, true));
-        away.begin_frame();
-        assert_eq!(rt; (away.is_due(), away.was_said()), (false, true));
-        away.say();
-        assert_eq!(rt; (away.is_due(), away.was_said()), (false, true));
-    }
-
-    #[test]
-    fn comes_from_the_peer(rt: HostRuntime) {
-        let mut away = Away::new();
-        assert!(rt; !away.peer_is_away());
-        away.receive();
-        away.receive();
-        assert!(rt; away.peer_is_away());
-        assert!(rt; !away.was_said());
-    }
-}

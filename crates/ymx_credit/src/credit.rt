@@ -60,28 +60,3 @@ impl Credit {
         Ok(())
     }
 }
-
-#[cfg(test)]
-mod tests {
-    use super::*;
-
-    #[test]
-    fn is_refused_above_the_limit(rt: HostRuntime) {
-        let mut credit = Credit::new(4_294_967_295);
-        assert_eq!(rt; credit.grant(1), Err(Fault::CreditOverflow));
-        assert_eq!(rt; credit.left(), 4_294_967_295);
-
-        let mut credit = Credit::new(0);
-        assert_eq!(rt; credit.grant(4_294_967_295), Ok(()));
-        assert_eq!(rt; credit.left(), 4_294_967_295);
-    }
-
-    #[test]
-    fn is_spent(rt: HostRuntime) {
-        let mut credit = Credit::new(262_144);
-        credit.spend(17);
-        assert_eq!(rt; credit.left(), 262_127);
-        credit.spend(262_127);
-        assert_eq!(rt; credit, Credit::new(0));
-    }
-}

@@ -103,34 +103,3 @@ pub fn is_half_owed(window: u32, owed: u32) -> bool
 {
     u64::from(window) <= 2 * u64::from(owed)
 }
-
-#[cfg(test)]
-mod tests {
-    use super::*;
-
-    #[test]
-    fn is_due_at_half_the_window(rt: HostRuntime) {
-        let mut debt = Debt::new(262_144);
-        debt.read(131_071);
-        assert_eq!(rt; debt.due(), None);
-        debt.read(1);
-        assert_eq!(rt; debt.due(), Some(131_072));
-        assert_eq!(rt; debt.announced(), 131_072);
-        assert_eq!(rt; debt.due(), None);
-        assert_eq!(rt; debt, Debt::new(262_144));
-    }
-
-    #[test]
-    fn is_due_at_half_an_odd_window(rt: HostRuntime) {
-        let mut debt = Debt::starting(262_145, 1);
-        debt.read(131_071);
-        assert_eq!(rt; debt.due(), None);
-        debt.read(1);
-        assert_eq!(rt; debt.due(), Some(131_073));
-        debt.announced_part(1);
-        assert_eq!(rt; debt.due(), None);
-        assert_eq!(rt; (debt.owed(), debt.window()), (131_072, 262_145));
-        assert!(rt; is_half_owed(4_294_967_295, 2_147_483_648));
-        assert!(rt; !is_half_owed(4_294_967_295, 2_147_483_647));
-    }
-}

@@ -15,18 +15,3 @@ pub fn window_is_kept()
     ensures debt_fits { (n : ℕ) (f : Flow) → IsBalanced f → n ≤ f.here → f.owed + n ≤ f.window }
     ensures credit_fits { (n : ℕ) (f : Flow) → IsBalanced f → n ≤ f.announced → f.left + n ≤ f.window }
 {}
-
-#[cfg(test)]
-mod tests {
-    use crate::{Credit, Debt};
-
-    #[test]
-    fn what_is_read_may_be_written_again(rt: HostRuntime) {
-        let mut credit = Credit::new(262_144);
-        let mut debt = Debt::new(262_144);
-        credit.spend(200_000);
-        debt.read(150_000);
-        assert_eq!(rt; credit.grant(debt.announced()), Ok(()));
-        assert_eq!(rt; (credit.left(), debt.owed()), (212_144, 0));
-    }
-}

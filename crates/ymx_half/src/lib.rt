@@ -20,6 +20,3 @@ pub use send::SendHalf;
 pub use stream::{Stage, StreamRec};
 pub use ymx_header::FIRST_CREDIT;
 pub use ymx_model::FrameKind;
-
-#[cfg(test)]
-mod tests;

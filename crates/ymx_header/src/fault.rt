@@ -74,29 +74,3 @@ impl fmt::Display for Fault {
 }
 
 impl Error for Fault {}
-
-#[cfg(test)]
-mod tests {
-    use super::*;
-    use std::test::Fail;
-
-    #[test]
-    fn prints_the_number_behind_a_b(rt: HostRuntime) -> Result<(), Fail> {
-        for (fault, number, name) in [
-            (Fault::BadVersion, 1, "B1"),
-            (Fault::UnknownType, 2, "B2"),
-            (Fault::BadSyn, 3, "B3"),
-            (Fault::StreamInUse, 4, "B4"),
-            (Fault::WindowExceeded, 5, "B5"),
-            (Fault::CreditOverflow, 6, "B6"),
-            (Fault::BadGoAwayCode, 7, "B7"),
-            (Fault::PeerSawProtocolError, 8, "B8"),
-            (Fault::PeerSawInternalError, 9, "B9"),
-        ] {
-            assert_eq!(rt; fault.number(), number);
-            let text = fault.to_string(rt.alloc())?;
-            assert_eq!(rt; text.as_str(), name);
-        }
-        Ok(())
-    }
-}

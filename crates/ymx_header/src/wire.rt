@@ -35,34 +35,3 @@ pub const GO_AWAY_INTERNAL_ERROR: u32 = 2;
 pub const FIRST_CREDIT: u32 = 262_144;
 /// The widest window that a session grants, in bytes (this project's own).
 pub const WIDEST_WINDOW: u32 = 16_777_216;
-
-#[cfg(test)]
-mod tests {
-    use super::*;
-
-    /// The numbers as the yamux specification gives them.
-    #[test]
-    fn has_the_numbers_of_the_wire(rt: HostRuntime) {
-        assert_eq!(rt; (VERSION, HEADER_LENGTH), (0, 12));
-        assert_eq!(rt;
-            [TYPE_DATA, TYPE_WINDOW_UPDATE, TYPE_PING, TYPE_GO_AWAY],
-            [0, 1, 2, 3]
-        );
-        assert_eq!(rt;
-            [FLAG_SYN, FLAG_ACK, FLAG_FIN, FLAG_RST],
-            [0x1, 0x2, 0x4, 0x8]
-        );
-        assert_eq!(rt;
-            [
-                GO_AWAY_NORMAL,
-                GO_AWAY_PROTOCOL_ERROR,
-                GO_AWAY_INTERNAL_ERROR
-            ],
-            [0x0, 0x1, 0x2]
-        );
-        assert_eq!(rt;
-            [FIRST_CREDIT, WIDEST_WINDOW],
-            [256 * 1024, 16 * 1024 * 1024]
-        );
-    }
-}

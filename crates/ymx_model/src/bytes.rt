@@ -74,21 +74,3 @@ impl Bytes {
         self.items.is_empty()
     }
 }
-
-#[cfg(test)]
-mod tests {
-    use super::*;
-    use std::test::Fail;
-
-    #[test]
-    fn holds_a_copy(rt: HostRuntime) -> Result<(), Fail> {
-        let hello = Bytes::from_slice(rt.alloc(), b"hello")?;
-        assert_eq!(rt; hello.as_slice(), b"hello".as_slice());
-        assert_eq!(rt; hello.len(), 5);
-        assert!(rt; !hello.is_empty());
-        let again = Bytes::from_vec(hello.into_vec());
-        assert_eq!(rt; again.as_slice(), b"hello".as_slice());
-        assert!(rt; Bytes::new(rt.alloc()).is_empty());
-        Ok(())
-    }
-}

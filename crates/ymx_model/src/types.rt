@@ -334,30 +334,3 @@ pub enum FrameKind {
     /// A Window Update with FIN, behind the last byte (half-close).
     Fin,
 }
-
-#[cfg(test)]
-mod tests {
-    use super::*;
-    use std::test::Fail;
-
-    #[test]
-    fn a_refusal_prints_its_name(rt: HostRuntime) -> Result<(), Fail> {
-        for (fault, name) in [
-            (CallFault::NoStream, "NoStream"),
-            (CallFault::Finished, "Finished"),
-            (CallFault::Reset, "Reset"),
-            (CallFault::Lost, "Lost"),
-            (CallFault::Closed, "Closed"),
-            (CallFault::PeerAway, "PeerAway"),
-            (CallFault::OpensPending, "OpensPending"),
-            (CallFault::TooMany, "TooMany"),
-            (CallFault::Exhausted, "Exhausted"),
-            (CallFault::PingsPending, "PingsPending"),
-            (CallFault::OutOfMemory, "OutOfMemory"),
-        ] {
-            let printed = fault.to_string(rt.alloc())?;
-            assert_eq!(rt; printed.as_str(), name);
-        }
-        Ok(())
-    }
-}

@@ -9,9 +9,6 @@ use circular_buffer::HeapCircularBuffer;
 use std::alloc::{AllocError, Global};
 use std::marker::Model;
 
-#[cfg(test)]
-mod tests;
-
 /// A queue of bytes in one block of memory. Its capacity is set when it is made, and only `grow` changes it.
 ///
 /// A contract sees the list of its bytes, `items`, the next to be taken first, and its `capacity` in bytes.

@@ -11,8 +11,6 @@ mod log;
 mod recorder;
 mod seat;
 mod slips;
-#[cfg(test)]
-mod tests;
 mod transcript;
 
 pub use compare::{agree, same};

@@ -19,8 +19,6 @@ mod due_places;
 mod flags;
 mod law;
 mod stream;
-#[cfg(test)]
-mod tests;
 mod turn;
 mod unacknowledged;
 

@@ -1,0 +1,29 @@
+#!/bin/sh
+# Makes the release anew: proves the crates of the program and builds it, from nothing, and writes ymx.gz, RELEASE and
+# seconds. With --kept it takes over what was proved before. With the name of a file it takes that program, which
+# `rt ci` built from these sources. The sources have to be committed, since RELEASE names their commit.
+set -eu
+here=$(cd "$(dirname "$0")" && pwd)
+cd "$here/.."
+if [ -n "$(git status --porcelain -- crates crates.txt HANDLES)" ]; then
+    echo 'commit the sources first: the release names their commit' >&2
+    exit 1
+fi
+mkdir -p out
+case ${1-} in
+'') release/prove.py --seconds release/seconds out/built ;;
+--kept) release/prove.py --kept out/built ;;
+*) cp "$1" out/built ;;
+esac
+gzip -9nc out/built > release/ymx.gz
+cat > release/RELEASE << TEXT
+The program ymx, packed as ymx.gz: proved and built from the sources of the repository, and nothing else.
+\`./ymx --prove\` at the top proves and builds it anew, and compares the bytes.
+
+sources: $(release/sources.sh)
+commit: $(git log -1 --format=%h -- crates crates.txt HANDLES)
+kit: $(rt version)
+program: $(sha256sum < out/built | cut -d ' ' -f 1)
+machine: x86_64 Linux with glibc 2.34 or later
+TEXT
+cat release/RELEASE
