@@ -209,7 +209,7 @@ def take_over(crates):
                 is_same = kept.read() == stamps[it.name]
         except OSError:
             is_same = False
-        if is_same and not it.is_program and os.path.exists(it.made(".rlib")):
+        if is_same and os.path.exists(it.made(".o" if it.is_program else ".rlib")):
             good.add(it.name)
     return stamps, good
 
