@@ -9,16 +9,23 @@ scratch=$(mktemp -d)
 trap 'rm -rf "$scratch"' EXIT
 
 (cd "$root" && find crates -name out -prune -o -type f -print | tar -cf - -T - crates.txt HANDLES) | tar -xf - -C "$scratch"
-mkdir -p "$scratch/crates/misuse/src" "$scratch/crates/misuse_of_hubs/src"
-below=$(sed -n 's/^ymx_hub may_wait=[0-9]*: //p' "$root/crates.txt")
-{ echo "misuse: ymx_half"; echo "misuse_of_hubs: ymx_hub $below"; } >> "$scratch/crates.txt"
+mkdir -p "$scratch/crates/misuse/src" "$scratch/crates/misuse_of_hubs/src" "$scratch/crates/misuse_of_the_door/src"
+below() {
+    sed -n "s/^$1 may_wait=[0-9]*: //p" "$root/crates.txt"
+}
+{
+    echo "misuse: ymx_half"
+    echo "misuse_of_hubs: ymx_hub $(below ymx_hub)"
+    echo "misuse_of_the_door: ymx_connect $(below ymx_connect)"
+} >> "$scratch/crates.txt"
 
 failed=0
 for program in "$here"/*.rattle; do
     name=$(basename "$program" .rattle)
     want=$(sed -n '2s,^// ,,p' "$program")
     crate=misuse
-    grep -q '^use ymx_hub::' "$program" && crate=misuse_of_hubs
+    ! grep -q '^use ymx_hub::' "$program" || crate=misuse_of_hubs
+    ! grep -q '^use ymx_connect::' "$program" || crate=misuse_of_the_door
     cp "$program" "$scratch/crates/$crate/src/main.rt"
     answer=$(cd "$scratch/crates/$crate" && rt try 2>&1 || true)
     if printf '%s\n' "$answer" | grep -qF -- "$want"; then

@@ -1,7 +1,7 @@
 -- What the front door answers (this project's own).
 use Rattle.std.specs.Prelude.{◌≡◌, None}
-use denote.Ref.{MutBor}
-use Rattle.std.specs.Fn.{Once, FnOnceReturnsAtMut}
+use denote.Ref.{Bor}
+use Rattle.std.specs.Fn.{Once, FnOnceReturnsAt}
 use Rattle.ymx_header.specs.declared.fault.Fault.{Fault}
 use Rattle.ymx_model.specs.declared.types.Role.{Role}
 use Rattle.ymx_model.specs.declared.types.Config.{Config}
@@ -10,7 +10,7 @@ use Rattle.ymx_pumps.specs.declared.pump_end.PumpWhy.TheVariants.{Memory as NoMe
 use Rattle.ymx_connect.specs.declared.connect_fault.ConnectFault.{ConnectFault}
 use Rattle.ymx_connect.specs.declared.connect_fault.ConnectFault.TheVariants.{Session, Memory}
 use Rattle.ymx_connect.specs.declared.ended.Ended.{Ended}
-use Rattle.ymx_connect.specs.declared.running.Running.{Running}
+use Rattle.ymx_connect.specs.declared.handle.Handle.{Handle}
 
 -- Why no session runs: what the making of a session answers, or want of memory for a session that could be made.
 abbrev pub IsConnectFault : Role → Config → ConnectFault → Type 0
@@ -24,7 +24,5 @@ pub record IsSpared (ended : Ended) : Type 0 where
   pub whole : (fault : Fault) → ended.written ≡ Broken fault → ⊥
 
 -- the answer is one of the caller's function, called with some running session
-pub record Answered {F T : Type 0} (called : Once F (MutBor Running × Unit {0}) (T × (MutBor Running × Unit {0}))) (work : F) (answer : T) : Type 0 where
-  pub before : Running
-  pub after : Running
-  pub says : FnOnceReturnsAtMut called work before answer after
+abbrev pub Answered : {F T : Type 0} → Once F (Bor Handle × Unit {0}) T → F → T → Type 0
+Answered called work answer = (session : Handle) × FnOnceReturnsAt called work session answer

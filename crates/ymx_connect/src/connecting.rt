@@ -6,8 +6,9 @@ ghost use Rattle.ymx_connect.specs.Connecting.{IsConnectFault, IsSpared, Answere
 
 use crate::connect_fault::ConnectFault;
 use crate::ended::{Connected, Ended};
+use crate::handle::Handle;
 use crate::pumping::{Buffer, PumpedIn, PumpedOut, pump_in, pump_out};
-use crate::running::Running;
+use crate::tcp::{ConnectionReader, ConnectionWriter};
 use std::alloc::Global;
 use std::net::TcpStream;
 use std::sync::{Arc, Wait};
@@ -16,7 +17,6 @@ use std::thread::Threads;
 use ymx_hub::{Hub, Off};
 use ymx_model::{Config, Inlet, Outlet, Role};
 use ymx_session::Session;
-use ymx_tunnel::{ConnectionReader, ConnectionWriter};
 
 /// The configuration of most sessions: a window of 262,144 bytes, and the least own id first.
 pub const USUAL_CONFIG: Config = Config {
@@ -27,14 +27,14 @@ pub const USUAL_CONFIG: Config = Config {
 /// What stands before the pumps run.
 struct Prepared {
     hub: Arc<Hub<Off>, Global>,
-    running: Running,
+    handle: Handle,
     into: Buffer,
     out_of: Buffer,
 }
 
 /// Runs a session over a TCP connection. It is `connect` with this connection as reader and writer, and what is
 /// written goes out at once.
-pub fn connect_tcp<W: Threads + Wait + Sync, T: Drop, F: FnOnce(&mut Running) -> T>(
+pub fn connect_tcp<W: Threads + Wait + Sync, T: Drop, F: FnOnce(&Handle) -> T>(
     rt: &W,
     alloc: Global,
     connection: &TcpStream,
@@ -69,7 +69,7 @@ pub fn connect<
     I: Inlet + Send + Drop,
     O: Outlet + Send + Drop,
     T: Drop,
-    F: FnOnce(&mut Running) -> T,
+    F: FnOnce(&Handle) -> T,
 >(
     rt: &W,
     alloc: Global,
@@ -89,24 +89,7 @@ pub fn connect<
         Ok(prepared) => prepared,
         Err(fault) => return Err(fault),
     };
-    let Prepared {
-        hub,
-        mut running,
-        into,
-        out_of,
-    } = prepared;
-    let connected = run(
-        rt,
-        alloc,
-        &hub,
-        &mut running,
-        reader,
-        writer,
-        (into, out_of),
-        work,
-    );
-    running.let_go();
-    match connected {
+    match run(rt, alloc, prepared, reader, writer, work) {
         Some(connected) => Ok(connected),
         None => Err(ConnectFault::Memory),
     }
@@ -130,12 +113,12 @@ fn prepare(alloc: Global, role: Role, config: Config) -> Result<Prepared, Connec
     let Ok(hub) = Hub::new(alloc, session, Off) else {
         return Err(ConnectFault::Memory);
     };
-    let Ok(running) = Running::new(alloc, &hub) else {
+    let Ok(handle) = Handle::new(alloc, &hub) else {
         return Err(ConnectFault::Memory);
     };
     Ok(Prepared {
         hub,
-        running,
+        handle,
         into,
         out_of,
     })
@@ -148,22 +131,19 @@ fn run<
     I: Inlet + Send + Drop,
     O: Outlet + Send + Drop,
     T: Drop,
-    F: FnOnce(&mut Running) -> T,
->(
-    rt: &W,
-    alloc: Global,
-    hub: &Hub<Off>,
-    running: &mut Running,
-    reader: I,
-    writer: O,
-    buffers: (Buffer, Buffer),
-    work: F,
-) -> Option<Connected<T>>
+    F: FnOnce(&Handle) -> T,
+>(rt: &W, alloc: Global, prepared: Prepared, reader: I, writer: O, work: F) -> Option<Connected<T>>
     requires { F.IsAlwaysCallable work }
     ensures answered { IfSome result (λ connected. Answered F.FnOnce work connected.answer) }
     ensures spared { IfSome result (λ connected. IsSpared connected.ended) }
 {
-    let (into, out_of) = buffers;
+    let Prepared {
+        hub,
+        handle,
+        into,
+        out_of,
+    } = prepared;
+    let (hub, handle) = (&*hub, &handle);
     thread::scope(
         thread::scope_env(),
         rt,
@@ -179,10 +159,10 @@ fn run<
                 .spawn(move || pump_in(rt, alloc, hub, reader, into))
                 .ok();
             if reading.is_none() {
-                let _ = running.handle.close(rt);
+                let _ = handle.close(rt);
             }
             let reading = reading?;
-            let answer = work_and_close(rt, running, work);
+            let answer = work_and_close(rt, handle, work);
             let written = writing.join(rt);
             let read = reading.join(rt);
             Some(Connected {
@@ -194,17 +174,13 @@ fn run<
 }
 
 /// Calls the caller's function, waits until all is sent, and closes the session.
-fn work_and_close<W: Wait, T, F: FnOnce(&mut Running) -> T>(
-    rt: &W,
-    running: &mut Running,
-    work: F,
-) -> T
+fn work_and_close<W: Wait, T, F: FnOnce(&Handle) -> T>(rt: &W, handle: &Handle, work: F) -> T
     requires { F.IsAlwaysCallable work }
     ensures { Answered F.FnOnce work result }
 {
-    let answer = work(running);
-    running.handle.drain(rt);
-    let _ = running.handle.close(rt);
+    let answer = work(handle);
+    handle.drain(rt);
+    let _ = handle.close(rt);
     answer
 }
 

@@ -4,8 +4,8 @@ ghost use Rattle.std.specs.Prelude.{◌≡◌, ◌<◌, vec_len};
 ghost use Rattle.ymx_header.specs.declared.fault.Fault.{Fault};
 ghost use Rattle.ymx_pumps.specs.declared.pump_end.PumpWhy.TheVariants.{Memory, Broken};
 
-use crate::running::unbooked;
-use crate::spending::let_go;
+use crate::halves::let_go;
+use crate::handle::unbooked;
 use std::alloc::{AllocError, Global};
 use std::sync::Wait;
 use ymx_hub::{Hub, Off};

@@ -4,16 +4,12 @@ ghost use Rattle.std.specs.Prelude.{None};
 
 use std::alloc::Global;
 use std::net::{SocketAddr, TcpListener, TcpStream};
-use std::sync::{Arc, Wait};
+use std::sync::Wait;
 use std::thread::Threads;
-use ymx_connect::{Connected, PumpWhy, connect};
+use ymx_connect::{Connected, ConnectionReader, ConnectionWriter, Handle, PumpWhy, connect};
 use ymx_header::Fault;
-use ymx_hub::{Hub, Off};
 use ymx_model::{Config, DeviceFault, Inlet, Role};
-use ymx_tunnel::{
-    ConnectionReader, ConnectionWriter, Connections, Network, Served, Watcher, serve_local,
-    serve_remote,
-};
+use ymx_tunnel::{Connections, Network, Served, Watcher, serve_local, serve_remote};
 
 /// Which side of a tunnel runs over a connection.
 #[derive(Drop)]
@@ -98,9 +94,8 @@ pub fn forward<R: Threads + Wait + Sync, N: Network, V: Watcher>(
     };
     let writer = ConnectionWriter::new(connection);
     let config = Config { window, first: 0 };
-    let connected = connect(rt, alloc, reader, writer, role, config, |running| {
-        let hub = running.handle.hub();
-        serve(rt, alloc, hub, network, side, connections, watcher)
+    let connected = connect(rt, alloc, reader, writer, role, config, |handle| {
+        serve(rt, alloc, handle, network, side, connections, watcher)
     });
     match connected {
         Ok(Connected { answer, ended }) => Forwarded {
@@ -129,7 +124,7 @@ fn without_memory() -> Forwarded {
 fn serve<R: Threads + Wait + Sync, N: Network, V: Watcher>(
     rt: &R,
     alloc: Global,
-    hub: &Arc<Hub<Off>, Global>,
+    handle: &Handle,
     network: &N,
     side: TunnelSide<'_>,
     connections: &Connections,
@@ -137,13 +132,13 @@ fn serve<R: Threads + Wait + Sync, N: Network, V: Watcher>(
 ) -> Served {
     let served = match side {
         TunnelSide::Local { listener, count } => {
-            serve_local(rt, alloc, hub, listener, count, connections, watcher)
+            serve_local(rt, alloc, handle, listener, count, connections, watcher)
         }
         TunnelSide::Remote { target, workers } => {
             serve_remote(
                 rt,
                 alloc,
-                hub,
+                handle,
                 network,
                 target,
                 workers,
@@ -154,6 +149,6 @@ fn serve<R: Threads + Wait + Sync, N: Network, V: Watcher>(
     };
     Served {
         accept_failed: served.accept_failed,
-        lacked_memory: served.lacked_memory || hub.has_lacked_memory(rt),
+        lacked_memory: served.lacked_memory || handle.has_lacked_memory(rt),
     }
 }

@@ -4,11 +4,11 @@
 
 ghost use Rattle.std.specs.Prelude.{None};
 
-use crate::connection::{ConnectionReader, ConnectionWriter};
 use std::alloc::Global;
 use std::net::{Shutdown, TcpStream};
 use std::sync::atomic::{AtomicBool, Ordering};
 use std::sync::{Arc, Mutex, Wait};
+use ymx_connect::{ConnectionReader, ConnectionWriter};
 use ymx_model::{DeviceFault, Inlet, Outlet};
 
 /// The connections of a server that are open.

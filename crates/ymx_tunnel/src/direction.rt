@@ -92,6 +92,6 @@ pub(crate) fn spend<R: Wait>(rt: &R, sink: Option<WriteHalf<Off>>, source: Optio
 }
 
 /// Lets a seat go: with the recorder `Off` it holds nothing.
-pub(crate) fn let_go(seat: Seat<Off>) {
+fn let_go(seat: Seat<Off>) {
     let _ = seat.into_entries();
 }

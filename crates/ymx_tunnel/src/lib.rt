@@ -4,7 +4,6 @@
 //! a device. `serve_local` opens a stream for each connection, and `serve_remote` makes a connection for each stream.
 #![tactic(auto)]
 
-mod connection;
 mod connections;
 mod copied;
 mod copying;
@@ -18,7 +17,6 @@ mod partner;
 mod serving;
 mod slot;
 
-pub use connection::{ConnectionReader, ConnectionWriter};
 pub use connections::Connections;
 pub use copied::{Copied, CopyWhy};
 pub use copying::{copy_in, copy_out};

@@ -1,18 +1,19 @@
 //! The two servers of a tunnel: one opens a stream for each connection, and one makes a connection for each stream.
 
 use crate::connections::Connections;
-use crate::direction::{let_go, spend};
+use crate::direction::spend;
 use crate::idle::{Accepted, IdleWorkers};
 use crate::joining::{EndedConnection, join_both};
 use crate::network::Network;
 use crate::partner::{Partner, Worker};
 use std::alloc::Global;
 use std::net::{SocketAddr, TcpListener, TcpStream};
+use std::sync::Wait;
 use std::sync::atomic::{AtomicBool, AtomicU64, Ordering};
-use std::sync::{Arc, Wait};
 use std::thread::Threads;
 use std::{mem, thread};
-use ymx_hub::{Acceptor, Hub, HubFault, Off, Opener, ReadHalf, WriteHalf};
+use ymx_connect::{Handle, HubFault};
+use ymx_hub::{Off, ReadHalf, WriteHalf};
 use ymx_model::CallFault;
 
 /// Who is told of connections that have ended. Connections are numbered 1, 2, 3, .. as they begin, and each is told of
@@ -47,7 +48,7 @@ pub struct Served {
 /// What the workers of a server share.
 #[derive(Drop)]
 struct Shared<'a, V: Watcher> {
-    hub: &'a Arc<Hub<Off>, Global>,
+    handle: &'a Handle,
     alloc: Global,
     connections: &'a Connections,
     watcher: &'a V,
@@ -63,13 +64,13 @@ struct Shared<'a, V: Watcher> {
 pub fn serve_local<R: Threads + Wait + Sync, V: Watcher>(
     rt: &R,
     alloc: Global,
-    hub: &Arc<Hub<Off>, Global>,
+    handle: &Handle,
     listener: &TcpListener,
     count: Option<u32>,
     connections: &Connections,
     watcher: &V,
 ) -> Served {
-    let shared = Shared::new(alloc, hub, connections, watcher);
+    let shared = Shared::new(alloc, handle, connections, watcher);
     let idle = IdleWorkers::new(alloc);
     let (lent, waiting) = (&shared, &idle);
     let accept_failed = thread::scope(thread::scope_env(), rt, |scope| {
@@ -80,7 +81,7 @@ pub fn serve_local<R: Threads + Wait + Sync, V: Watcher>(
                 break;
             };
             let number = lent.next_number();
-            if count.is_none() && !lent.hub.is_running(rt) {
+            if count.is_none() && !lent.handle.is_running(rt) {
                 lent.refused(rt, number, HubFault::Call(CallFault::Lost));
                 break;
             }
@@ -106,14 +107,14 @@ pub fn serve_local<R: Threads + Wait + Sync, V: Watcher>(
 pub fn serve_remote<R: Threads + Wait + Sync, N: Network, V: Watcher>(
     rt: &R,
     alloc: Global,
-    hub: &Arc<Hub<Off>, Global>,
+    handle: &Handle,
     network: &N,
     target: SocketAddr,
     workers: u32,
     connections: &Connections,
     watcher: &V,
 ) -> Served {
-    let shared = Shared::new(alloc, hub, connections, watcher);
+    let shared = Shared::new(alloc, handle, connections, watcher);
     let lent = &shared;
     thread::scope(thread::scope_env(), rt, |scope| {
         for _ in 1..workers {
@@ -182,10 +183,8 @@ fn open_stream<R: Wait, V: Watcher>(
     rt: &R,
     shared: &Shared<'_, V>,
 ) -> Result<(WriteHalf<Off>, ReadHalf<Off>), HubFault> {
-    let mut opener = shared.opener(rt)?;
-    let opened = opener.open(rt);
-    let_go(opener.into_seat());
-    opened
+    let (writer, reader) = shared.handle.open(rt)?;
+    Ok((writer.into_half(), reader.into_half()))
 }
 
 /// Accepts streams, one after the other, and serves each, until the session gives out no more. The partner is made for
@@ -200,12 +199,9 @@ fn serve_streams<R: Threads + Wait + Sync, N: Network, V: Watcher>(
     let partner = Partner::new();
     let lent = &partner;
     thread::scope(thread::scope_env(), rt, |scope| {
-        let Some(mut acceptor) = shared.acceptor(rt) else {
-            return;
-        };
         let mut worker = Worker::new(alloc, lent);
         for _ in rt.forever() {
-            let Some((sink, source)) = next_stream(rt, shared, &mut acceptor) else {
+            let Some((sink, source)) = next_stream(rt, shared) else {
                 break;
             };
             if !worker.has_partner {
@@ -216,7 +212,6 @@ fn serve_streams<R: Threads + Wait + Sync, N: Network, V: Watcher>(
             shared.ended(rt, number, &joined);
         }
         worker.end(rt);
-        let_go(acceptor.into_seat());
     });
     partner.let_go(rt);
 }
@@ -225,11 +220,11 @@ fn serve_streams<R: Threads + Wait + Sync, N: Network, V: Watcher>(
 fn next_stream<R: Wait, V: Watcher>(
     rt: &R,
     shared: &Shared<'_, V>,
-    acceptor: &mut Acceptor<Off>,
 ) -> Option<(WriteHalf<Off>, ReadHalf<Off>)> {
     for _ in rt.forever() {
-        match acceptor.accept(rt) {
-            Ok(accepted) => return accepted,
+        match shared.handle.accept(rt) {
+            Ok(Some((writer, reader))) => return Some((writer.into_half(), reader.into_half())),
+            Ok(None) => return None,
             Err(HubFault::Memory) => {
                 shared.lack_memory();
                 thread::yield_now();
@@ -266,12 +261,12 @@ impl<'a, V: Watcher> Shared<'a, V> {
     /// Nothing has begun yet.
     fn new(
         alloc: Global,
-        hub: &'a Arc<Hub<Off>, Global>,
+        handle: &'a Handle,
         connections: &'a Connections,
         watcher: &'a V,
     ) -> Shared<'a, V> {
         Shared {
-            hub,
+            handle,
             alloc,
             connections,
             watcher,
@@ -283,27 +278,6 @@ impl<'a, V: Watcher> Shared<'a, V> {
     /// The number of a connection that begins.
     fn next_number(&self) -> u64 {
         self.begun.fetch_add(1, Ordering::SeqCst).saturating_add(1)
-    }
-
-    /// Who opens streams, if there is a seat and memory for it.
-    fn opener<R: Wait>(&self, rt: &R) -> Result<Opener<Off>, HubFault> {
-        let Ok(hub) = Arc::try_clone(self.hub) else {
-            return Err(HubFault::Memory);
-        };
-        let seat = self.hub.seat(rt)?;
-        Ok(Opener::new(hub, seat))
-    }
-
-    /// Who accepts streams, if there is a seat and memory for it.
-    fn acceptor<R: Wait>(&self, rt: &R) -> Option<Acceptor<Off>> {
-        let Ok(hub) = Arc::try_clone(self.hub) else {
-            self.lack_memory();
-            return None;
-        };
-        match self.hub.seat(rt) {
-            Ok(seat) => Some(Acceptor::new(hub, seat)),
-            Err(_) => None,
-        }
     }
 
     /// Somewhere no memory was found.

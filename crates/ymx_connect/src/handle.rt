@@ -1,0 +1,134 @@
+//! A running session, as the caller's function sees it.
+
+ghost use Rattle.std.specs.Prelude.{◌≤◌, length, IfOk};
+ghost use Rattle.ymx_held.specs.Answers.{IsNotMemory};
+
+use crate::halves::{Reader, Writer, let_go};
+use std::alloc::{AllocError, Global};
+use std::sync::{Arc, Wait};
+use ymx_hub::{Acceptor, Hub, HubFault, Off, Opener, Seat};
+
+/// A running session, as the caller's function sees it. Threads may share it, and each may make any call.
+#[derive(Drop)]
+pub struct Handle {
+    hub: Arc<Hub<Off>, Global>,
+    alloc: Global,
+}
+
+/// A seat. With the recorder `Off` nothing is booked at a seat, so it needs no hub.
+pub(crate) fn unbooked(alloc: Global) -> Seat<Off> {
+    Seat::new(alloc, 0, 0)
+}
+
+impl Handle {
+    /// The session of this hub.
+    pub(crate) fn new(alloc: Global, hub: &Arc<Hub<Off>, Global>) -> Result<Handle, AllocError> {
+        Ok(Handle {
+            hub: Arc::try_clone(hub)?,
+            alloc,
+        })
+    }
+
+    /// Opens a stream (stream identifiers). It doesn't wait for the peer, and bytes may be written at once.
+    ///
+    /// Refused, in this order, with `Closed`, `Lost`, `PeerAway` after the peer's Go Away, `Exhausted` where the ids
+    /// are used up, `OpensPending` while 256 own streams are neither acknowledged, reset nor given up, and `TooMany`
+    /// while 1,024 streams are there. `Memory` where there is none for the stream: no stream is opened then.
+    pub fn open<W: Wait>(&self, rt: &W) -> Result<(Writer, Reader), HubFault> {
+        let mut opener = self.opener()?;
+        let opened = opener.open(rt);
+        let_go(opener.into_seat());
+        let (writer, reader) = opened?;
+        Ok((Writer::new(writer), Reader::new(reader)))
+    }
+
+    /// Opens a stream with these first bytes, and says how many of them were taken: the first 262,144 at most. It is
+    /// refused as `open` is.
+    pub fn open_with<W: Wait>(
+        &self,
+        rt: &W,
+        bytes: &[u8],
+    ) -> Result<(Writer, Reader, usize), HubFault> {
+        let mut opener = self.opener()?;
+        let opened = opener.open_with(rt, bytes);
+        let_go(opener.into_seat());
+        let (writer, reader, taken) = opened?;
+        Ok((Writer::new(writer), Reader::new(reader), taken))
+    }
+
+    /// Waits for a stream that the peer opens, and acknowledges it. `None` once the session is closed, or lost with
+    /// none left.
+    ///
+    /// `Memory` where there is none for its halves: no stream is taken then, and the same call may be made again.
+    pub fn accept<W: Wait>(&self, rt: &W) -> Result<Option<(Writer, Reader)>, HubFault> {
+        let Ok(hub) = Arc::try_clone(&self.hub) else {
+            return Err(HubFault::Memory);
+        };
+        let mut acceptor = Acceptor::new(hub, unbooked(self.alloc));
+        let accepted = acceptor.accept(rt);
+        let_go(acceptor.into_seat());
+        match accepted {
+            Ok(Some((writer, reader))) => Ok(Some((Writer::new(writer), Reader::new(reader)))),
+            Ok(None) => Ok(None),
+            Err(fault) => Err(fault),
+        }
+    }
+
+    /// Asks the peer for a sign of life, waits for it, and returns the ping's number (ping).
+    ///
+    /// Refused with `Closed`, `Lost`, and `PingsPending` while 16 pings wait; while it waits with `Closed` or `Lost`.
+    pub fn ping<W: Wait>(&self, rt: &W) -> Result<u32, HubFault>
+        ensures { IsNotMemory result }
+    {
+        let mut seat = unbooked(self.alloc);
+        let ponged = self.hub.ping(rt, &mut seat);
+        let_go(seat);
+        ponged
+    }
+
+    /// Takes no more streams of the peer's (go away). Refused, in this order, with `Closed` and `Lost`.
+    pub fn go_away<W: Wait>(&self, rt: &W) -> Result<(), HubFault>
+        ensures { IsNotMemory result }
+    {
+        let mut seat = unbooked(self.alloc);
+        let said = self.hub.go_away(rt, &mut seat);
+        let_go(seat);
+        said
+    }
+
+    /// Waits until all that is due was emitted, or nothing goes out any more.
+    pub fn drain<W: Wait>(&self, rt: &W) {
+        let mut seat = unbooked(self.alloc);
+        self.hub.drain(rt, &mut seat);
+        let_go(seat);
+    }
+
+    /// Closes the session at once, and wakes all who wait: they answer `Closed`. What is not sent is dropped. It is
+    /// refused in no case; a second close changes nothing.
+    pub fn close<W: Wait>(&self, rt: &W) -> Result<(), HubFault>
+        ensures { IsNotMemory result }
+    {
+        let mut seat = unbooked(self.alloc);
+        let closed = self.hub.close(rt, &mut seat);
+        let_go(seat);
+        closed
+    }
+
+    /// Whether the session goes on: it is neither lost, broken nor closed.
+    pub fn is_running<W: Wait>(&self, rt: &W) -> bool {
+        self.hub.is_running(rt)
+    }
+
+    /// Whether a stream of the peer's was rejected here for want of memory.
+    pub fn has_lacked_memory<W: Wait>(&self, rt: &W) -> bool {
+        self.hub.has_lacked_memory(rt)
+    }
+
+    /// Who opens a stream.
+    fn opener(&self) -> Result<Opener<Off>, HubFault> {
+        match Arc::try_clone(&self.hub) {
+            Ok(hub) => Ok(Opener::new(hub, unbooked(self.alloc))),
+            Err(_) => Err(HubFault::Memory),
+        }
+    }
+}
