@@ -47,6 +47,7 @@ if [ "${1-}" = --all ]; then
     try 'each allocation of two sessions fails' "$root/tests/worlds/run.sh" --refuse-each
     try 'the programs of the guide' "$root/tests/examples/run.sh"
     try 'wrong bodies' "$root/tests/wrong_bodies.sh"
+    try 'wrong statements' "$root/tests/refused.sh"
 fi
 echo "$passed passed, $failed failed"
 [ "$failed" = 0 ]

@@ -93,8 +93,16 @@ def main(names):
     return 0 if refused == wanted else 1
 
 
-if __name__ == "__main__":
-    rt, printing = load_rt(), threading.Lock()
+def start():
+    """Loads rt, and goes to the top of the repository."""
+    global rt
+    rt = load_rt()
     rt.rtlib.guarded()
     os.chdir(TOP)
+
+
+rt, printing = None, threading.Lock()
+
+if __name__ == "__main__":
+    start()
     sys.exit(main(sys.argv[1:]))
