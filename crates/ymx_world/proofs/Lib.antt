@@ -5,3 +5,4 @@ pub mod Headlines
 pub mod Bounds
 pub mod Progress
 pub mod NewWorlds
+pub mod Plays

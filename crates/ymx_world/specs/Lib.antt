@@ -2,3 +2,4 @@ pub mod Acts
 pub mod Reached
 pub mod Bounds
 pub mod Progress
+pub mod Played

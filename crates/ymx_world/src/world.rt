@@ -15,9 +15,14 @@ ghost use Rattle.ymx_law_audit.specs.Told.{AreAnswered, AreOneRun};
 ghost use Rattle.ymx_world.specs.Bounds.{IsBoundedRun};
 ghost use Rattle.ymx_world.specs.Acts.{session_of, pipe_of};
 ghost use Rattle.ymx_world.specs.Progress.{GoesForward};
+ghost use Rattle.ymx_world.specs.Played.{machine_of, world_of, WhereStopped, IsPlayFault};
+ghost use Rattle.ymx_law_machine.specs.Faces.{AreFaces};
+ghost use Rattle.ymx_law_machine.specs.Runs.{StillRun};
+ghost use Rattle.ymx_headline.specs.QuietRuns.{QuietRuns};
 
 use crate::audit::audit;
 use crate::joined::Joined;
+use crate::played::{PlayFault, Played};
 use crate::stopped::Stopped;
 use std::alloc::{AllocError, Global};
 use std::marker::Model;
@@ -107,6 +112,48 @@ impl World {
             IsOpenWorld self.old → All (λ step. is_carriage step ≡ true) made → IsBoundedRun made stopped.answers.items self.old self.new) }
     {
         self.joined.run(steps)
+    }
+
+    /// A run from two new sessions: the steps one after another, their answers, and after which of them the
+    /// world was quiet. The configs are the client's and the server's.
+    ///
+    /// What one side read of a stream is a beginning of what the other wrote to it. Once a read was answered with
+    /// the end it is all of it, and the other finished before (clause `face`). The answers are those of a run of
+    /// the queue machine, which has two queues a stream and no frames, and is still wherever `quiet` says so
+    /// (clause `queues`). So it is however the steps cut the bytes and wherever they stop them, with no premise.
+    ///
+    /// `Refused` comes as of `World::new`. `Stopped` comes where there was no memory of the world's own for a
+    /// step: that one did nothing, and the same holds of the steps before it.
+    pub fn play(
+        alloc: Global,
+        config_a: Config,
+        config_b: Config,
+        steps: &[Step],
+    ) -> Result<Played, PlayFault>
+        ensures face { IfOk result (λ played. AreFaces steps.now played.answers.items) }
+        ensures queues { IfOk result (λ played. (m : Machine) × StillRun steps.now played.answers.items played.quiet.items (machine_of config_a config_b) m) }
+        // It was done by two sessions and the pipes between them. No other clause names these.
+        ensures real { IfOk result (λ played. QuietRuns in_turn steps.now played.answers.items played.quiet.items (world_of config_a config_b) played.world) }
+        ensures made { IfOk result (λ played. (new_fault Client config_a ≡ None) × (new_fault Server config_b ≡ None)) }
+        ensures refused { IfErr result (λ fault. IsPlayFault config_a config_b fault) }
+        ensures before { IfErr result (WhereStopped (λ played. length played.answers.items < length steps.now)) }
+        ensures face_so_far { IfErr result (WhereStopped (λ played. AreFaces (take (length played.answers.items) steps.now) played.answers.items)) }
+        ensures queues_so_far { IfErr result (WhereStopped (λ played.
+            (m : Machine) × StillRun (take (length played.answers.items) steps.now) played.answers.items played.quiet.items (machine_of config_a config_b) m)) }
+        ensures real_so_far { IfErr result (WhereStopped (λ played.
+            QuietRuns in_turn (take (length played.answers.items) steps.now) played.answers.items played.quiet.items (world_of config_a config_b) played.world)) }
+    {
+        let world = match World::new(alloc, config_a, config_b) {
+            Ok(world) => world,
+            Err(fault) => return Err(PlayFault::Refused(fault)),
+        };
+        let mut played = Played::new(alloc, world);
+        for step in steps {
+            let Ok(()) = played.play_step(step) else {
+                return Err(PlayFault::Stopped(played));
+            };
+        }
+        Ok(played)
     }
 
     /// Whether neither session has anything due, both pipes are empty, nothing was stopped, closed or broken,
