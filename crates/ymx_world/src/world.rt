@@ -1,6 +1,6 @@
 //! The type `World`, and its calls.
 
-ghost use Rattle.std.specs.Prelude.{◌≡◌, ◌⊎◌, ◌<◌, All, List, length, take, true, false, None, IfOk, IfErr, IfSome, IfNone, OnErr};
+ghost use Rattle.std.specs.Prelude.{◌≡◌, ◌⊎◌, ◌<◌, ◌↔◌, [], IsTrue, All, List, length, take, true, false, None, IfOk, IfErr, IfSome, IfNone, OnErr};
 ghost use Rattle.ymx_model.specs.declared.types.Role.TheVariants.{Client, Server};
 ghost use Rattle.ymx_model.specs.session.Emissions.{in_turn, is_ready};
 ghost use Rattle.ymx_model.specs.world.Worlds.{World as TheWorld, Steps, Runs, new_world, is_quiet};
@@ -15,6 +15,7 @@ ghost use Rattle.ymx_law_audit.specs.Told.{AreAnswered, AreOneRun};
 ghost use Rattle.ymx_world.specs.Bounds.{IsBoundedRun};
 ghost use Rattle.ymx_world.specs.Acts.{session_of, pipe_of};
 ghost use Rattle.ymx_world.specs.Progress.{GoesForward};
+ghost use Rattle.ymx_world.specs.Settled.{IsCarriedOn, IsDueCarriage};
 ghost use Rattle.ymx_world.specs.Played.{machine_of, world_of, WhereStopped, IsPlayFault};
 ghost use Rattle.ymx_law_machine.specs.Faces.{AreFaces};
 ghost use Rattle.ymx_law_machine.specs.Runs.{StillRun};
@@ -28,6 +29,9 @@ use std::alloc::{AllocError, Global};
 use std::marker::Model;
 use ymx_model::{Answer, Config, Direction, Entry, Role, Side, Step};
 use ymx_session::{NewFault, Session};
+
+/// The room of an emission that settles a world, in bytes: four of the longest frames that a session emits.
+const ROOM: usize = 65_584;
 
 /// Two sessions joined by pipes. A contract sees the record `World` of `ymx_model`, and that it was reached
 /// from a new one by steps.
@@ -165,6 +169,59 @@ impl World {
             (step : TheStep) × (given : TheAnswer) × (v : TheWorld) × Steps in_turn step given self.now v × (carries_bytes step given ≡ true) }
     {
         self.joined.is_quiet()
+    }
+
+    /// Whether nothing was stopped, ended, closed or broken.
+    pub fn is_open(&self) -> bool
+        ensures { IsTrue result ↔ IsOpenWorld self.now }
+    {
+        self.joined.is_open()
+    }
+
+    /// Emits and delivers until the world is quiet, and answers whether it is: false for a world in which
+    /// something was stopped, ended, closed or broken, which is left as it is. `AllocError` where there is no
+    /// memory for an emission: then the steps before it were made, and a later call goes on from there.
+    ///
+    /// It ends, since each of its steps carries a byte on. No frame is made or lost on the way that
+    /// emissions and deliveries by hand would not make or lose.
+    pub fn settle(&mut self) -> Result<bool, AllocError>
+        ensures quiet { IfOk result (λ settled. settled ≡ true → is_quiet self.new ≡ true) }
+        ensures open { IsOpenWorld self.old → IfOk result (λ settled. settled ≡ true) }
+        ensures left_alone { IfOk result (λ settled. settled ≡ false → self.new ≡ self.old) }
+        // Whatever the result, emissions and deliveries alone were made.
+        ensures carried { IsCarriedOn self.old self.new }
+    {
+        if !self.joined.is_open() {
+            return Ok(false);
+        }
+        while let Some(step) = self.due_carriage() {
+            self.step(&step)?;
+        }
+        Ok(true)
+    }
+
+    /// A step that carries bytes on: a delivery of all that is on its way to a side where nothing is due, or else an
+    /// emission where something is. Deliveries go first, so that little is on its way at a time.
+    fn due_carriage(&self) -> Option<Step>
+        ensures some { IfSome result (λ step. IsDueCarriage step self.now) }
+        ensures no_emission { IfNone result ((is_ready self.now.a ≡ false) × (is_ready self.now.b ≡ false)) }
+        ensures no_delivery { IfNone result ((self.now.ab.bytes ≡ []) × (self.now.ba.bytes ≡ [])) }
+    {
+        let ab = self.pipe(Direction::AB).len();
+        if ab > 0 && !self.due(Side::B) {
+            return Some(Step::Deliver(Direction::AB, ab));
+        }
+        let ba = self.pipe(Direction::BA).len();
+        if ba > 0 && !self.due(Side::A) {
+            return Some(Step::Deliver(Direction::BA, ba));
+        }
+        if self.due(Side::B) {
+            return Some(Step::Emit(Side::B, ROOM));
+        }
+        if self.due(Side::A) {
+            return Some(Step::Emit(Side::A, ROOM));
+        }
+        None
     }
 
     /// Whether an emission of this side into a buffer that isn't empty gives at least one byte.
