@@ -5,3 +5,5 @@ pub mod LoadArrivals
 pub mod LoadBytes
 pub mod Bound
 pub mod OneAnswer
+pub mod Potential
+pub mod Driving

@@ -102,3 +102,9 @@ Carries may (st ∷ sts) (given ∷ more) w v n =
     (is_carriage st ≡ true) × (x : World) × (rest : ℕ) × Steps may st given w x × (n ≡ fed_by st given w + rest) × Carries may sts more x v rest
 Carries may [] (given ∷ more) w v n = ⊥
 Carries may (st ∷ sts) [] w v n = ⊥
+
+-- a run of emissions and deliveries, each of which carries at least one byte
+abbrev pub KeepsCarrying : (may : Choice → Session → Bool) → List Step → List Answer → World → World → Type 0
+KeepsCarrying may [] [] w v = v ≡ w
+KeepsCarrying may (st ∷ sts) (given ∷ more) w v = (carries_bytes st given ≡ true) × (x : World) × Steps may st given w x × KeepsCarrying may sts more x v
+KeepsCarrying may _ _ w v = ⊥

@@ -1,5 +1,6 @@
 pub mod LaneLaws
 pub mod Runs
+pub mod Faces
 pub mod Numbers
 pub mod Others
 pub mod Examples

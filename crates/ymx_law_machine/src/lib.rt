@@ -18,7 +18,8 @@ ghost use Rattle.ymx_model.specs.shared.Lists.{look};
 ghost use Rattle.ymx_law_machine.specs.Examples.{HasCome, crossing_answers, crossing_steps, forgotten_answers, forgotten_steps, first_machine, vanishing_answers, vanishing_steps};
 ghost use Rattle.ymx_law_machine.specs.Numbers.{HasBothParities, HasOrder};
 ghost use Rattle.ymx_law_machine.specs.Others.{needs_memory, touched, touched_by};
-ghost use Rattle.ymx_law_machine.specs.Runs.{is_live_at_a, is_live_at_b, IsFace, ObeysAt};
+ghost use Rattle.ymx_law_machine.specs.Runs.{is_live_at_a, is_live_at_b, ObeysAt};
+ghost use Rattle.ymx_law_machine.specs.Faces.{IsFaceWithin};
 
 /// The law of a lane (flow control): in every run from a new machine, the bytes on their way, the
 /// bytes unread, the credit and what is owed of it are never more than the reader's window.
@@ -36,8 +37,8 @@ pub fn face()
     ensures both_directions { (window_a first_a window_b first_b : ℕ) (steps : List Step) (answers : List Answer) (m : Machine) (id : ℕ) →
         first_credit ≤ window_a → first_credit ≤ window_b → first_a % 2 ≡ 1 → first_b % 2 ≡ 0 →
         MachineRun steps answers (new_machine window_a first_a window_b first_b) m →
-        IsFace window_b (is_live_at_b (look id m.streams)) A B id steps answers
-        × IsFace window_a (is_live_at_a (look id m.streams)) B A id steps answers }
+        IsFaceWithin window_b (is_live_at_b (look id m.streams)) A B id steps answers
+        × IsFaceWithin window_a (is_live_at_a (look id m.streams)) B A id steps answers }
 {}
 
 /// Stream identifiers: in every run each number stands once, below its opener's next number and odd or

@@ -5,3 +5,5 @@ pub mod Headlines
 pub mod Bounds
 pub mod Progress
 pub mod NewWorlds
+pub mod Plays
+pub mod Settling

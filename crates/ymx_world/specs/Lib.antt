@@ -2,3 +2,5 @@ pub mod Acts
 pub mod Reached
 pub mod Bounds
 pub mod Progress
+pub mod Played
+pub mod Settled

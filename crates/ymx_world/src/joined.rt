@@ -6,6 +6,7 @@ ghost use Rattle.ymx_model.specs.declared.types.Step.TheVariants as step;
 ghost use Rattle.ymx_model.specs.session.Emissions.{in_turn, is_ready};
 ghost use Rattle.ymx_model.specs.world.Worlds.{Steps, Runs, new_pipe, is_quiet};
 ghost use Rattle.ymx_world.specs.Acts.{session_of, pipe_of};
+ghost use Rattle.ymx_world.specs.Settled.{is_open_world};
 
 use crate::calls::make_call;
 use crate::pipe::Pipe;
@@ -121,6 +122,16 @@ impl Joined {
             && matches!(self.b.status(), Status::Running)
             && self.ab.is_quiet()
             && self.ba.is_quiet()
+    }
+
+    /// Whether nothing was stopped, ended, closed or broken.
+    pub(crate) fn is_open(&self) -> bool
+        ensures { result ≡ is_open_world self.now }
+    {
+        matches!(self.a.status(), Status::Running)
+            && matches!(self.b.status(), Status::Running)
+            && self.ab.is_open()
+            && self.ba.is_open()
     }
 
     /// Whether the session of a side has something due.

@@ -2,15 +2,17 @@
 //! has emitted and the other not yet been fed. Whoever holds a `World` drives it by hand, a step at a time.
 //! `world` is the type and its calls. Behind it: `joined` (the sessions and the pipes), `pipe` (one
 //! direction), `calls` (a call on one session, and its answer), `audit` (a joint order of two histories),
-//! `stopped` (a run that found no memory).
+//! `stopped` (a run that found no memory), `played` (a run from new sessions).
 #![tactic(auto)]
 
 mod audit;
 mod calls;
 mod joined;
 mod pipe;
+mod played;
 mod stopped;
 mod world;
 
+pub use played::{PlayFault, Played};
 pub use stopped::Stopped;
 pub use world::World;

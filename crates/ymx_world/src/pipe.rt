@@ -4,6 +4,7 @@ ghost use Rattle.std.specs.Prelude.{◌≡◌, ◌≤◌, ◌↔◌, false, leng
 ghost use Rattle.ymx_model.specs.world.Worlds.{new_pipe, pushed, without_front, stopped_now, is_quiet_pipe};
 ghost use Rattle.ymx_law_audit.specs.Joints.{ended_pipe};
 ghost use Rattle.ymx_world.specs.Acts.{IsAppended, IsEmitted, IsFed, IsEnded};
+ghost use Rattle.ymx_world.specs.Settled.{is_open_pipe};
 
 use std::alloc::{AllocError, Global};
 use std::marker::Model;
@@ -57,6 +58,13 @@ impl Pipe {
         ensures { result ≡ is_quiet_pipe self.now }
     {
         self.bytes().is_empty() && !self.stopped && !self.ended
+    }
+
+    /// Whether it was neither stopped nor ended.
+    pub(crate) fn is_open(&self) -> bool
+        ensures { result ≡ is_open_pipe self.now }
+    {
+        !self.stopped && !self.ended
     }
 
     /// One emission into the first `room` bytes of `buffer`, which grows where it is shorter. What is emitted

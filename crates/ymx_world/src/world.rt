@@ -1,6 +1,6 @@
 //! The type `World`, and its calls.
 
-ghost use Rattle.std.specs.Prelude.{◌≡◌, ◌⊎◌, ◌<◌, All, List, length, take, true, false, None, IfOk, IfErr, IfSome, IfNone, OnErr};
+ghost use Rattle.std.specs.Prelude.{◌≡◌, ◌⊎◌, ◌<◌, ◌↔◌, [], IsTrue, All, List, length, take, true, false, None, IfOk, IfErr, IfSome, IfNone, OnErr};
 ghost use Rattle.ymx_model.specs.declared.types.Role.TheVariants.{Client, Server};
 ghost use Rattle.ymx_model.specs.session.Emissions.{in_turn, is_ready};
 ghost use Rattle.ymx_model.specs.world.Worlds.{World as TheWorld, Steps, Runs, new_world, is_quiet};
@@ -15,14 +15,23 @@ ghost use Rattle.ymx_law_audit.specs.Told.{AreAnswered, AreOneRun};
 ghost use Rattle.ymx_world.specs.Bounds.{IsBoundedRun};
 ghost use Rattle.ymx_world.specs.Acts.{session_of, pipe_of};
 ghost use Rattle.ymx_world.specs.Progress.{GoesForward};
+ghost use Rattle.ymx_world.specs.Settled.{IsCarriedOn, IsDueCarriage};
+ghost use Rattle.ymx_world.specs.Played.{machine_of, world_of, WhereStopped, IsPlayFault};
+ghost use Rattle.ymx_law_machine.specs.Faces.{AreFaces};
+ghost use Rattle.ymx_law_machine.specs.Runs.{StillRun};
+ghost use Rattle.ymx_headline.specs.QuietRuns.{QuietRuns};
 
 use crate::audit::audit;
 use crate::joined::Joined;
+use crate::played::{PlayFault, Played};
 use crate::stopped::Stopped;
 use std::alloc::{AllocError, Global};
 use std::marker::Model;
 use ymx_model::{Answer, Config, Direction, Entry, Role, Side, Step};
 use ymx_session::{NewFault, Session};
+
+/// The room of an emission that settles a world, in bytes: four of the longest frames that a session emits.
+const ROOM: usize = 65_584;
 
 /// Two sessions joined by pipes. A contract sees the record `World` of `ymx_model`, and that it was reached
 /// from a new one by steps.
@@ -109,6 +118,48 @@ impl World {
         self.joined.run(steps)
     }
 
+    /// A run from two new sessions: the steps one after another, their answers, and after which of them the
+    /// world was quiet. The configs are the client's and the server's.
+    ///
+    /// What one side read of a stream is a beginning of what the other wrote to it. Once a read was answered with
+    /// the end it is all of it, and the other finished before (clause `face`). The answers are those of a run of
+    /// the queue machine, which has two queues a stream and no frames, and is still wherever `quiet` says so
+    /// (clause `queues`). So it is however the steps cut the bytes and wherever they stop them, with no premise.
+    ///
+    /// `Refused` comes as of `World::new`. `Stopped` comes where there was no memory of the world's own for a
+    /// step: that one did nothing, and the same holds of the steps before it.
+    pub fn play(
+        alloc: Global,
+        config_a: Config,
+        config_b: Config,
+        steps: &[Step],
+    ) -> Result<Played, PlayFault>
+        ensures face { IfOk result (λ played. AreFaces steps.now played.answers.items) }
+        ensures queues { IfOk result (λ played. (m : Machine) × StillRun steps.now played.answers.items played.quiet.items (machine_of config_a config_b) m) }
+        // It was done by two sessions and the pipes between them. No other clause names these.
+        ensures real { IfOk result (λ played. QuietRuns in_turn steps.now played.answers.items played.quiet.items (world_of config_a config_b) played.world) }
+        ensures made { IfOk result (λ played. (new_fault Client config_a ≡ None) × (new_fault Server config_b ≡ None)) }
+        ensures refused { IfErr result (λ fault. IsPlayFault config_a config_b fault) }
+        ensures before { IfErr result (WhereStopped (λ played. length played.answers.items < length steps.now)) }
+        ensures face_so_far { IfErr result (WhereStopped (λ played. AreFaces (take (length played.answers.items) steps.now) played.answers.items)) }
+        ensures queues_so_far { IfErr result (WhereStopped (λ played.
+            (m : Machine) × StillRun (take (length played.answers.items) steps.now) played.answers.items played.quiet.items (machine_of config_a config_b) m)) }
+        ensures real_so_far { IfErr result (WhereStopped (λ played.
+            QuietRuns in_turn (take (length played.answers.items) steps.now) played.answers.items played.quiet.items (world_of config_a config_b) played.world)) }
+    {
+        let world = match World::new(alloc, config_a, config_b) {
+            Ok(world) => world,
+            Err(fault) => return Err(PlayFault::Refused(fault)),
+        };
+        let mut played = Played::new(alloc, world);
+        for step in steps {
+            let Ok(()) = played.play_step(step) else {
+                return Err(PlayFault::Stopped(played));
+            };
+        }
+        Ok(played)
+    }
+
     /// Whether neither session has anything due, both pipes are empty, nothing was stopped, closed or broken,
     /// and neither input was ended.
     pub fn quiet(&self) -> bool
@@ -118,6 +169,59 @@ impl World {
             (step : TheStep) × (given : TheAnswer) × (v : TheWorld) × Steps in_turn step given self.now v × (carries_bytes step given ≡ true) }
     {
         self.joined.is_quiet()
+    }
+
+    /// Whether nothing was stopped, ended, closed or broken.
+    pub fn is_open(&self) -> bool
+        ensures { IsTrue result ↔ IsOpenWorld self.now }
+    {
+        self.joined.is_open()
+    }
+
+    /// Emits and delivers until the world is quiet, and answers whether it is: false for a world in which
+    /// something was stopped, ended, closed or broken, which is left as it is. `AllocError` where there is no
+    /// memory for an emission: then the steps before it were made, and a later call goes on from there.
+    ///
+    /// It ends, since each of its steps carries a byte on. No frame is made or lost on the way that
+    /// emissions and deliveries by hand would not make or lose.
+    pub fn settle(&mut self) -> Result<bool, AllocError>
+        ensures quiet { IfOk result (λ settled. settled ≡ true → is_quiet self.new ≡ true) }
+        ensures open { IsOpenWorld self.old → IfOk result (λ settled. settled ≡ true) }
+        ensures left_alone { IfOk result (λ settled. settled ≡ false → self.new ≡ self.old) }
+        // Whatever the result, emissions and deliveries alone were made.
+        ensures carried { IsCarriedOn self.old self.new }
+    {
+        if !self.joined.is_open() {
+            return Ok(false);
+        }
+        while let Some(step) = self.due_carriage() {
+            self.step(&step)?;
+        }
+        Ok(true)
+    }
+
+    /// A step that carries bytes on: a delivery of all that is on its way to a side where nothing is due, or else an
+    /// emission where something is. Deliveries go first, so that little is on its way at a time.
+    fn due_carriage(&self) -> Option<Step>
+        ensures some { IfSome result (λ step. IsDueCarriage step self.now) }
+        ensures no_emission { IfNone result ((is_ready self.now.a ≡ false) × (is_ready self.now.b ≡ false)) }
+        ensures no_delivery { IfNone result ((self.now.ab.bytes ≡ []) × (self.now.ba.bytes ≡ [])) }
+    {
+        let ab = self.pipe(Direction::AB).len();
+        if ab > 0 && !self.due(Side::B) {
+            return Some(Step::Deliver(Direction::AB, ab));
+        }
+        let ba = self.pipe(Direction::BA).len();
+        if ba > 0 && !self.due(Side::A) {
+            return Some(Step::Deliver(Direction::BA, ba));
+        }
+        if self.due(Side::B) {
+            return Some(Step::Emit(Side::B, ROOM));
+        }
+        if self.due(Side::A) {
+            return Some(Step::Emit(Side::A, ROOM));
+        }
+        None
     }
 
     /// Whether an emission of this side into a buffer that isn't empty gives at least one byte.

@@ -1,5 +1,5 @@
 -- Emissions and deliveries feed at most twice as many frames as the load of the world.
-use Rattle.std.proofs.Common.{◌≡◌, ℕ, ◌+◌, ◌*◌, ◌≤◌, List, [], ◌∷◌, ◌++◌, length, take, drop, Bool, true, false, refl, sym, ap, subst, ◌∙◌, inl, inr, arith}
+use Rattle.std.proofs.Common.{◌≡◌, ℕ, ◌+◌, ◌*◌, ◌≤◌, List, [], ◌∷◌, ◌++◌, length, take, drop, Bool, true, false, refl, sym, ap, subst, ◌∙◌, inl, inr, arith, length-append}
 use Rattle.std.specs.List.{All, concat}
 use Rattle.std.proofs.lemmas.Grind.{common_steps}
 use Rattle.std.proofs.lemmas.List.{append-nil, append_assoc, take-append-drop}
@@ -29,7 +29,7 @@ use Rattle.ymx_model.proofs.Tests.{when}
 use Rattle.ymx_law_machine.proofs.lanes.StreamFacts.{if-so_true, if-so_false}
 use Rattle.ymx_law_world.specs.Texts.{AreWithin}
 use Rattle.ymx_law_world.proofs.Emitted.{empty-bytes}
-use Rattle.ymx_law_world.proofs.Fed.{Follow, takes-heard}
+use Rattle.ymx_law_world.proofs.Fed.{Follow, takes-heard, all-first, all-rest}
 use Rattle.ymx_headline.specs.Laws.{IsOpenWorld, Carries, fed_by, is_carriage, made_whole}
 use Rattle.ymx_headline.proofs.bounds.Loads.{effort, weights, weights-append, weights-most, effort-most, begin-starts, sheds}
 use Rattle.ymx_headline.proofs.bounds.LoadBytes.{takes-bytes}
@@ -100,12 +100,20 @@ pub record Under (w : World) (ab ba : List (List ℕ)) : Type 0 where
 abbrev pub measure : World → (ab ba : List (List ℕ)) → ℕ
 measure w ab ba = effort w.a + effort w.b + weights ab + weights ba + one_if (is_inside w.a.incoming) + one_if (is_inside w.b.incoming)
 
--- so many frames are fed wholly, and no more than the measure falls
-pub record Falls (w v : World) (ab ba : List (List ℕ)) (fed : ℕ) : Type 0 where
+-- What each byte that is carried lowers. A frame has at most 262,156 bytes; one that hasn't begun counts above
+-- what it leaves behind.
+abbrev pub potential : World → (ab ba : List (List ℕ)) → ℕ
+potential w ab ba =
+    1048624 * (effort w.a + effort w.b) + 524312 * (weights ab + weights ba)
+    + 2 * (length w.a.outgoing.bytes + length w.b.outgoing.bytes) + length w.ab.bytes + length w.ba.bytes
+
+-- so many frames are fed wholly, and no more than the measure falls; so many bytes are carried, and no more than the potential falls
+pub record Falls (w v : World) (ab ba : List (List ℕ)) (fed bytes : ℕ) : Type 0 where
   pub ab_now : List (List ℕ)
   pub ba_now : List (List ℕ)
   pub under : Under v ab_now ba_now
   pub falls : measure v ab_now ba_now + fed ≤ measure w ab ba
+  pub drops : potential v ab_now ba_now + bytes ≤ potential w ab ba
 
 pub under-mirror : (w : World) (ab ba : List (List ℕ)) → Under w ab ba → Under (mirror_world w) ba ab
 under-mirror w ab ba u = record {
@@ -119,8 +127,11 @@ under-mirror w ab ba u = record {
   text_ba = u.text_ab;
 }
 
-falls-mirror : (w v : World) (ab ba : List (List ℕ)) (fed : ℕ) → Falls (mirror_world w) (mirror_world v) ba ab fed → Falls w v ab ba fed
-falls-mirror w v ab ba fed f = let k = f.falls in record { ab_now = f.ba_now; ba_now = f.ab_now; under = under-mirror (mirror_world v) f.ab_now f.ba_now f.under; falls = omega (arith, k) }
+falls-mirror : (w v : World) (ab ba : List (List ℕ)) (fed bytes : ℕ) → Falls (mirror_world w) (mirror_world v) ba ab fed bytes → Falls w v ab ba fed bytes
+falls-mirror w v ab ba fed bytes f =
+    let k = f.falls in
+    let d = f.drops in
+    record { ab_now = f.ba_now; ba_now = f.ab_now; under = under-mirror (mirror_world v) f.ab_now f.ba_now f.under; falls = omega (arith, k); drops = omega (arith, d) }
 
 -- ---- the steps, at side A
 
@@ -129,18 +140,32 @@ grown held bytes begun tail all out now more t e =
     ap (λ xs. held ++ xs) (append_assoc bytes out now ∙ (ap (λ xs. bytes ++ xs) (sym e) ∙ sym (append_assoc bytes begun more)))
     ∙ (sym (append_assoc held (bytes ++ begun) more) ∙ (ap (λ xs. xs ++ more) t ∙ append_assoc tail all more))
 
-pushed-open : (out : List ℕ) (p : Pipe) → p.stopped ≡ false → pushed out p ≡ record p { bytes = p.bytes ++ out }
+-- frames are no longer than their weight says
+long-frames : (frames : List (List ℕ)) → All IsOneFrame frames → length (concat frames) ≤ 262156 * weights frames
+long-frames [] a = omega arith
+long-frames (f ∷ fs) a =
+    let one = all-first f fs a in
+    let whole = one.whole in
+    let short = one.short in
+    let rest = long-frames fs (all-rest f fs a) in
+    let n = length-append f (concat fs) in
+    omega (arith, whole, short, rest, n)
+
+pub pushed-open : (out : List ℕ) (p : Pipe) → p.stopped ≡ false → pushed out p ≡ record p { bytes = p.bytes ++ out }
 pushed-open out p e = rw e refl
 
 emitted-falls : (may : Choice → Session → Bool) (room : ℕ) (out : List ℕ) (s : Session) (w : World) (ab ba : List (List ℕ)) → Under w ab ba → Emits may w.a room out s →
-    Falls w (record w { a = s; ab = pushed out w.ab }) ab ba 0
+    Falls w (record w { a = s; ab = pushed out w.ab }) ab ba 0 (length out)
 emitted-falls may room out s w ab ba u e =
     let g = gave may out w.a s u.within_a e.flows in
     let k = g.effort in
     let n = weights-append ab g.frames in
     let i : one_if (is_inside s.incoming) ≡ one_if (is_inside w.a.incoming) = ap (λ z. one_if (is_inside z)) g.incoming in
     let within : IsWithin s = gives-keep may w.a s (event.Emit room) (reply.Emitted out) (out, refl, e) u.within_a in
-    subst (λ p. Falls w (record w { a = s; ab = p }) ab ba 0) (sym (pushed-open out w.ab u.open_ab)) (record {
+    let long = long-frames g.frames g.each in
+    let came : length w.a.outgoing.bytes + length (concat g.frames) ≡ length out + length s.outgoing.bytes = sym (length-append w.a.outgoing.bytes (concat g.frames)) ∙ (ap length g.bytes ∙ length-append out s.outgoing.bytes) in
+    let pushed_on = length-append w.ab.bytes out in
+    subst (λ p. Falls w (record w { a = s; ab = p }) ab ba 0 (length out)) (sym (pushed-open out w.ab u.open_ab)) (record {
       ab_now = ab ++ g.frames;
       ba_now = ba;
       under = record {
@@ -159,16 +184,20 @@ emitted-falls may room out s w ab ba u e =
         text_ba = λ r. subst (λ z. Follow z (w.ba.bytes ++ w.b.outgoing.bytes) ba) (sym g.incoming) (u.text_ba (sym g.status ∙ r));
       };
       falls = omega (arith, k, n, i);
+      drops = omega (arith, k, n, long, came, pushed_on);
     })
 
 first-bytes : (k n : ℕ) (xs : List ℕ) → k ≤ length (take n xs) → take k (take n xs) ≡ take k xs
 first-bytes k n xs l = grind (arith, common_steps)
 
+drop-fewer : (k n : ℕ) (xs : List ℕ) → k ≤ length (take n xs) → length (drop k xs) + k ≡ length xs
+drop-fewer k n xs l = grind (arith, common_steps)
+
 cut-there : (k : ℕ) (xs begun : List ℕ) → take k xs ++ (drop k xs ++ begun) ≡ xs ++ begun
 cut-there k xs begun = sym (append_assoc (take k xs) (drop k xs) begun) ∙ ap (λ ys. ys ++ begun) (take-append-drop k xs)
 
 fed-falls : (may : Choice → Session → Bool) (n : ℕ) (fed : Fed) (s : Session) (w : World) (ab ba : List (List ℕ)) → Under w ab ba → Feeds w.b (take n w.ab.bytes) fed s →
-    Falls w (record w { b = s; ab = without_front fed.taken w.ab }) ab ba (made_whole (take fed.taken w.ab.bytes) w.b.incoming)
+    Falls w (record w { b = s; ab = without_front fed.taken w.ab }) ab ba (made_whole (take fed.taken w.ab.bytes) w.b.incoming) fed.taken
 fed-falls may n fed s w ab ba u f =
     let k = fed.taken in
     let same = first-bytes k n w.ab.bytes f.fits in
@@ -177,6 +206,9 @@ fed-falls may n fed s w ab ba u f =
     let b = takes-bytes (take k w.ab.bytes) (drop k w.ab.bytes ++ w.a.outgoing.bytes) ab w.b s f.took.0 took u.within_b u.awake_b
     (λ r. subst (λ xs. Follow w.b.incoming xs ab) (sym (cut-there k w.ab.bytes w.a.outgoing.bytes)) (u.text_ab r)) in
     let e = b.effort in
+    let u_worth = b.worth in
+    let still_begun = ap (λ z. length z.bytes) heard.outgoing in
+    let left = drop-fewer fed.taken n w.ab.bytes f.fits in
     record {
       ab_now = b.left;
       ba_now = ba;
@@ -191,9 +223,10 @@ fed-falls may n fed s w ab ba u f =
         text_ba = λ r. subst (λ z. Follow w.a.incoming (w.ba.bytes ++ z.bytes) ba) (sym heard.outgoing) (u.text_ba r);
       };
       falls = omega (arith, e);
+      drops = omega (arith, u_worth, still_begun, left);
     }
 
-bytes-same : (a b : List ℕ) → reply.Emitted a ≡ reply.Emitted b → b ≡ a
+pub bytes-same : (a b : List ℕ) → reply.Emitted a ≡ reply.Emitted b → b ≡ a
 bytes-same a b e = cc
 
 -- how many frames a step feeds in the direction away from A
@@ -201,19 +234,27 @@ abbrev fed_of : Step → Answer → World → ℕ
 fed_of (step.Deliver d n) (answer.Fed fed) w = made_whole (take fed.taken w.ab.bytes) w.b.incoming
 fed_of _ _ w = 0
 
-step-falls : (may : Choice → Session → Bool) (st : Step) (given : Answer) (w v : World) (ab ba : List (List ℕ)) → is_carriage st ≡ true → Under w ab ba → StepOfA may st given w v → Falls w v ab ba (fed_of st given w)
+-- how many bytes a step carries
+abbrev pub carried : Step → Answer → ℕ
+carried (step.Emit side room) (answer.Emitted count) = count
+carried (step.Deliver d n) (answer.Fed fed) = fed.taken
+carried _ _ = 0
+
+step-falls : (may : Choice → Session → Bool) (st : Step) (given : Answer) (w v : World) (ab ba : List (List ℕ)) → is_carriage st ≡ true → Under w ab ba → StepOfA may st given w v → Falls w v ab ba (fed_of st given w) (carried st given)
 step-falls may (step.At side call) given w v ab ba c u s = absurd cc
 step-falls may (step.Stop d) given w v ab ba c u s = absurd cc
 step-falls may (step.End d) given w v ab ba c u s = absurd cc
 step-falls may (step.Emit side room) given w v ab ba c u s =
     let same = bytes-same s.0 s.2.0 s.2.1 in
-    subst (λ z. Falls w z ab ba 0) (sym s.4) (emitted-falls may room s.0 s.1 w ab ba u (subst (λ out. Emits may w.a room out s.1) same s.2.2))
+    let one = subst (λ z. Falls w z ab ba 0 (length s.0)) (sym s.4) (emitted-falls may room s.0 s.1 w ab ba u (subst (λ out. Emits may w.a room out s.1) same s.2.2)) in
+    subst (λ z. Falls w v ab ba 0 (carried (step.Emit side room) z)) (sym s.3) one
 step-falls may (step.Deliver d n) given w v ab ba c u s =
     let fed = s.2.0 in
     let told = s.2.1 in
     let now : v ≡ record w { b = s.1; ab = without_front fed.taken w.ab } = s.4 ∙ ap (λ r. record w { b = s.1; ab = without_front (fed_count r) w.ab }) told in
     let said : given ≡ answer.Fed fed = s.3 ∙ ap answer_of told in
-    subst (λ z. Falls w v ab ba (fed_of (step.Deliver d n) z w)) (sym said) (subst (λ z. Falls w z ab ba (made_whole (take fed.taken w.ab.bytes) w.b.incoming)) (sym now) (fed-falls may n fed s.1 w ab ba u s.2.2))
+    subst (λ z. Falls w v ab ba (fed_of (step.Deliver d n) z w) (carried (step.Deliver d n) z)) (sym said)
+    (subst (λ z. Falls w z ab ba (made_whole (take fed.taken w.ab.bytes) w.b.incoming) fed.taken) (sym now) (fed-falls may n fed s.1 w ab ba u s.2.2))
 
 -- ---- the steps
 
@@ -235,11 +276,11 @@ fed-at_b (step.Deliver AB n) given w c e = absurd cc
 fed-at_b (step.Deliver BA n) (answer.Fed fed) w c e = refl
 fed-at_b (step.Deliver BA n) given w c e = refl
 
-falls : (may : Choice → Session → Bool) (st : Step) (given : Answer) (w v : World) (ab ba : List (List ℕ)) → is_carriage st ≡ true → Under w ab ba → Steps may st given w v → Falls w v ab ba (fed_by st given w)
+pub falls : (may : Choice → Session → Bool) (st : Step) (given : Answer) (w v : World) (ab ba : List (List ℕ)) → is_carriage st ≡ true → Under w ab ba → Steps may st given w v → Falls w v ab ba (fed_by st given w) (carried st given)
 falls may st given w v ab ba c u s = elim (when (is_of_a st)) [
-  | inl t ↦ subst (Falls w v ab ba) (fed-at_a st given w c t) (step-falls may st given w v ab ba c u (if-so_true _ _ _ t s))
-  | inr t ↦ falls-mirror w v ab ba (fed_by st given w)
-      (subst (Falls (mirror_world w) (mirror_world v) ba ab) (fed-at_b st given w c t) (step-falls may st given (mirror_world w) (mirror_world v) ba ab c (under-mirror w ab ba u) (if-so_false _ _ _ t s)))
+  | inl t ↦ subst (λ n. Falls w v ab ba n (carried st given)) (fed-at_a st given w c t) (step-falls may st given w v ab ba c u (if-so_true _ _ _ t s))
+  | inr t ↦ falls-mirror w v ab ba (fed_by st given w) (carried st given)
+      (subst (λ n. Falls (mirror_world w) (mirror_world v) ba ab n (carried st given)) (fed-at_b st given w c t) (step-falls may st given (mirror_world w) (mirror_world v) ba ab c (under-mirror w ab ba u) (if-so_false _ _ _ t s)))
 ]
 
 pub carries-falls : (may : Choice → Session → Bool) (sts : List Step) (given : List Answer) (w v : World) (ab ba : List (List ℕ)) (n : ℕ) → Under w ab ba → Carries may sts given w v n → n ≤ measure w ab ba
@@ -263,20 +304,23 @@ runs-awake Closed e = absurd cc
 follows-on : (r : Session) (p : Pipe) (s : Session) (frames : List (List ℕ)) → IsUnderWay r p s frames → Follow r.incoming (p.bytes ++ s.outgoing.bytes) frames
 follows-on r p s frames u = record { tail = u.tail; missing = u.missing; each = u.each; text = u.text }
 
+-- a world that is open, with the frames under way in it
+pub under-open : (w : World) (ab ba : List (List ℕ)) → AreWithin w → IsOpenWorld w → IsUnderWay w.b w.ab w.a ab → IsUnderWay w.a w.ba w.b ba → Under w ab ba
+under-open w ab ba h o p q = record {
+  awake_a = runs-awake w.a.status o.a;
+  awake_b = runs-awake w.b.status o.b;
+  within_a = h.a;
+  within_b = h.b;
+  open_ab = o.ab.on;
+  open_ba = o.ba.on;
+  text_ab = λ r. follows-on w.b w.ab w.a ab p;
+  text_ba = λ r. follows-on w.a w.ba w.b ba q;
+}
+
 pub bound : (may : Choice → Session → Bool) (sts : List Step) (given : List Answer) (w v : World) (ab ba : List (List ℕ)) (n : ℕ) → AreWithin w → IsOpenWorld w → IsUnderWay w.b w.ab w.a ab → IsUnderWay w.a w.ba w.b ba →
     Carries may sts given w v n → n ≤ 2 * world_load w ab ba
 bound may sts given w v ab ba n h o p q c =
-    let u : Under w ab ba = record {
-      awake_a = runs-awake w.a.status o.a;
-      awake_b = runs-awake w.b.status o.b;
-      within_a = h.a;
-      within_b = h.b;
-      open_ab = o.ab.on;
-      open_ba = o.ba.on;
-      text_ab = λ r. follows-on w.b w.ab w.a ab p;
-      text_ba = λ r. follows-on w.a w.ba w.b ba q;
-    } in
-    let k = carries-falls may sts given w v ab ba n u c in
+    let k = carries-falls may sts given w v ab ba n (under-open w ab ba h o p q) c in
     let a = effort-most w.a in
     let b = effort-most w.b in
     let x = weights-most ab in

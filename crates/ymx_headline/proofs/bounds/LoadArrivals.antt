@@ -84,6 +84,7 @@ reset-eases id e s =
 
 -- The head of a frame: what it leaves to be sent, and whether the payload follows. `most`: what it may add.
 pub record Heads (ends : Bool) (most : ℕ) (s t : Session) : Type 0 where
+  pub rise : effort t ≤ effort s + most
   pub effort : effort t + one_if (is_inside t.incoming) + one_if ends ≤ effort s + 1 + most
 
 stays-out : (i : Incoming) → i ≡ Head [] → one_if (is_inside i) ≡ 0
@@ -93,8 +94,8 @@ expects-heads : (h : Header) (stray : Bool) (s x : Session) (most : ℕ) → x.i
 expects-heads h stray s x most i l = of (payload h == 0)
   where
     of : (b : Bool) → Heads b most s (if b then x else record x { incoming = Payload h.id (payload h) (has_fin h) stray })
-    of true = let z = stays-out x.incoming i in record { effort = omega (arith, z, l) }
-    of false = record { effort = omega (arith, l) }
+    of true = let z = stays-out x.incoming i in record { effort = omega (arith, z, l); rise = omega (arith, z, l) }
+    of false = record { effort = omega (arith, l); rise = omega (arith, l) }
 
 meets-heads : (h : Header) (e : End) (s : Session) → s.incoming ≡ Head [] → Heads (payload h == 0) 0 s (meets h e s)
 meets-heads h e s i =
@@ -110,7 +111,7 @@ meets-heads h e s i =
 
 -- what may be added, at most
 more-heads : (ends : Bool) (a b : ℕ) (s t : Session) → a ≤ b → Heads ends a s t → Heads ends b s t
-more-heads ends a b s t l h = let k = h.effort in record { effort = omega (arith, k, l) }
+more-heads ends a b s t l h = let k = h.effort in let r = h.rise in record { effort = omega (arith, k, l); rise = omega (arith, r, l) }
 
 -- a fault adds an alarm
 fault-heads : (f : Fault) (ends : Bool) (s : Session) → s.incoming ≡ Head [] → Heads ends 1 s (breaks f s)
@@ -118,7 +119,7 @@ fault-heads f ends s i =
     let z = stays-out s.incoming i in
     let a = one_if-most ends in
     let b = one_if-most (is_told f && true) in
-    record { effort = omega (arith, z, a, b) }
+    record { effort = omega (arith, z, a, b); rise = omega (arith, z, a, b) }
 
 fault-or : (ends : Bool) (o : Option Fault) (s t : Session) → s.incoming ≡ Head [] → (o ≡ None → Heads ends 1 s t) → Heads ends 1 s (unless_fault o s t)
 fault-or ends None s t i h = h refl
@@ -131,9 +132,10 @@ syn-heads no_memory h s i =
     let l = loads-added s.table.window h.id (offer s) s.table.entries in
     let k = meets-heads h (offer s) made i in
     let m = k.effort in
+    let r = k.rise in
     split (Heads (payload h == 0) 1 s) (session_refuses s || no_memory) (expects h true (answers_with (Reject h.id) s)) (meets h (offer s) made)
     (λ t. expects-heads h true s (answers_with (Reject h.id) s) 1 i (let n = length-append s.answers (Reject h.id ∷ []) in omega (arith, n)))
-    (λ f. record { effort = omega (arith, l, m) }))
+    (λ f. record { effort = omega (arith, l, m); rise = omega (arith, l, r) }))
 
 -- a reset has no fault
 reset-sound : (h : Header) (e : End) → has_rst h ≡ true → record_fault h e ≡ None
@@ -155,15 +157,15 @@ ping-heads : (h : Header) (s : Session) → s.incoming ≡ Head [] → (payload 
 ping-heads h s i p = rw p (of (has_syn h))
   where
     of : (b : Bool) → Heads true (one_if b) s (if b then answers_with (Pong h.length) s else record s { pings = receive_answer h.length s.pings })
-    of true = let z = stays-out s.incoming i in let n = length-append s.answers (Pong h.length ∷ []) in record { effort = omega (arith, z, n) }
-    of false = let z = stays-out s.incoming i in let n = asked-answered h.length s.pings.pending in record { effort = omega (arith, z, n) }
+    of true = let z = stays-out s.incoming i in let n = length-append s.answers (Pong h.length ∷ []) in record { effort = omega (arith, z, n); rise = omega (arith, z, n) }
+    of false = let z = stays-out s.incoming i in let n = asked-answered h.length s.pings.pending in record { effort = omega (arith, z, n); rise = omega (arith, z, n) }
 
 -- what the peer told is answered by no alarm
 told-heads : (f : Fault) (s : Session) → s.incoming ≡ Head [] → is_told f ≡ false → Heads true 0 s (breaks f s)
 told-heads f s i t =
     let z = stays-out s.incoming i in
     let a : one_if (is_told f && true) ≡ 0 = rw t refl in
-    record { effort = omega (arith, z, a) }
+    record { effort = omega (arith, z, a); rise = omega (arith, z, a) }
 
 away-heads : (h : Header) (s : Session) → s.incoming ≡ Head [] → (payload h == 0) ≡ true → Heads (payload h == 0) (one_if (nat_lt 2 h.length)) s (go_away_comes h s)
 away-heads h s i p = rw p (of (nat_lt 2 h.length))
@@ -172,7 +174,7 @@ away-heads h s i p = rw p (of (nat_lt 2 h.length))
     of true = fault-heads BadGoAwayCode true s i
     of false =
         split (Heads true 0 s) (h.length == 1) _ _ (λ t. told-heads PeerSawProtocolError s i refl) (λ a.
-        split (Heads true 0 s) (h.length == 2) _ _ (λ t. told-heads PeerSawInternalError s i refl) (λ b. let z = stays-out s.incoming i in record { effort = omega (arith, z) }))
+        split (Heads true 0 s) (h.length == 2) _ _ (λ t. told-heads PeerSawInternalError s i refl) (λ b. let z = stays-out s.incoming i in record { effort = omega (arith, z); rise = omega (arith, z) }))
 
 -- ---- any head
 

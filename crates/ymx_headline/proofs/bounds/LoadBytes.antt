@@ -1,5 +1,5 @@
 -- Bytes that a session takes feed no more frames than their weight.
-use Rattle.std.proofs.Common.{◌≡◌, ℕ, ◌+◌, ◌-◌, ◌<◌, ◌≤◌, List, [], ◌∷◌, ◌++◌, length, drop, Bool, true, false, ◌==◌, nat_lt, if◌then◌else◌, None, refl, sym, ap, subst, ◌∙◌, inl, inr, arith, length-append}
+use Rattle.std.proofs.Common.{◌≡◌, ℕ, ◌+◌, ◌-◌, ◌*◌, ◌<◌, ◌≤◌, List, [], ◌∷◌, ◌++◌, length, drop, Bool, true, false, ◌==◌, nat_lt, if◌then◌else◌, None, refl, sym, ap, subst, ◌∙◌, inl, inr, arith, length-append}
 use Rattle.std.specs.List.{All, concat}
 use Rattle.std.proofs.lemmas.Bool.Decides.{nat_tests}
 use Rattle.ymx_header.specs.declared.header.Header.{Header}
@@ -20,7 +20,7 @@ use Rattle.ymx_model.proofs.Tests.{agrees, none_of}
 use Rattle.ymx_law_world.proofs.Fed.{Follow, no-tail, all-first, all-rest, assoc, behind, same-header, drop-length, piece-incoming}
 use Rattle.ymx_law_world.proofs.Frames.{no-fault}
 use Rattle.ymx_headline.specs.Laws.{begins_payload, after_byte, made_whole}
-use Rattle.ymx_headline.proofs.bounds.Loads.{effort, may_answer, weight, weights}
+use Rattle.ymx_headline.proofs.bounds.Loads.{one_if-most, effort, may_answer, weight, weights}
 use Rattle.ymx_headline.proofs.bounds.LoadArrivals.{head-heads, head-awake, piece-eases}
 
 -- ---- what comes next is told by how much lacks
@@ -61,6 +61,7 @@ pub record Byte (b : ℕ) (rest : List ℕ) (frames : List (List ℕ)) (s t : Se
   pub follow : t.status ≡ Running → Follow t.incoming rest left
   pub awake : is_deaf t.status ≡ false
   pub alike : t.status ≡ Running → Alike t.incoming (after_byte b s.incoming)
+  pub worth : 2 * effort t + weights left ≤ 2 * effort s + weights frames
   pub effort : effort t + one_if (is_inside t.incoming) + weights left + one_if (is_between (after_byte b s.incoming)) ≤ effort s + one_if (is_inside s.incoming) + weights frames
 
 not-between : (xs : List ℕ) (b : ℕ) → is_between (Head (xs ++ b ∷ [])) ≡ false
@@ -84,6 +85,7 @@ early-byte b seen rest frames s awake early u =
       awake = awake;
       alike = λ r bytes. ap (made_whole bytes) (sym step);
       effort = omega (arith, z);
+      worth = omega arith;
     }
 
 twelfth-byte : (no_memory : Bool) (b : ℕ) (seen rest : List ℕ) (frames : List (List ℕ)) (s : Session) → IsWithin s → is_deaf s.status ≡ false → (length seen == 11) ≡ true → Follow (Head seen) (b ∷ rest) frames →
@@ -107,7 +109,10 @@ twelfth-byte no_memory b seen rest frames s w awake late u =
         let one = all-first f fs a in
         let same : header_of f ≡ h = same-header (seen ++ b ∷ []) rest f (concat fs) long one.header e in
         let sound : header_fault h before ≡ None = subst (λ x. header_fault x before ≡ None) same (no-fault f s one w) in
-        let k = (head-heads no_memory h before refl sound).effort in
+        let heads = head-heads no_memory h before refl sound in
+        let k = heads.effort in
+        let r = heads.rise in
+        let o = one_if-most (may_answer h) in
         let step : after_byte b (Head seen) ≡ begins_payload h = rw late refl in
         let z : one_if (is_between (after_byte b (Head seen))) ≡ one_if (payload h == 0) = ap (λ i. one_if (is_between i)) step ∙ ap one_if (ends-with h) in
         let m : weight f ≡ 1 + one_if (may_answer h) = ap (λ x. 1 + one_if (may_answer x)) same in
@@ -118,6 +123,7 @@ twelfth-byte no_memory b seen rest frames s w awake late u =
           awake = head-awake no_memory h before awake;
           alike = λ r bytes. awaited h t (head-awaits no_memory h before refl r) bytes ∙ ap (made_whole bytes) (sym step);
           effort = omega (arith, k, z, m);
+          worth = omega (arith, r, o, m);
         }
       where
         behind-head : (f : List ℕ) (fs : List (List ℕ)) (h : Header) (t : Session) → length (drop 12 f) ≡ payload h → All IsOneFrame fs → rest ≡ drop 12 f ++ concat fs → Awaits h t → Follow t.incoming rest fs
@@ -138,6 +144,7 @@ payload-byte b id n fin stray rest frames s awake some u =
       awake = ap is_deaf (piece-status (b ∷ []) id n fin stray s) ∙ awake;
       alike = λ r bytes. ap (made_whole bytes) now;
       effort = omega (arith, l, m, k);
+      worth = omega (arith, l);
     }
   where
     inside-or : (more : Bool) → one_if (is_inside (if more then Payload id (n - 1) fin stray else Head [])) + one_if (is_between (if more then Payload id (n - 1) fin stray else Head [])) ≡ 1
@@ -179,11 +186,12 @@ pub record Bytes (bytes rest : List ℕ) (frames : List (List ℕ)) (s t : Sessi
   pub left : List (List ℕ)
   pub follow : t.status ≡ Running → Follow t.incoming rest left
   pub awake : is_deaf t.status ≡ false
+  pub worth : 2 * effort t + weights left ≤ 2 * effort s + weights frames
   pub effort : effort t + one_if (is_inside t.incoming) + weights left + made_whole bytes s.incoming ≤ effort s + one_if (is_inside s.incoming) + weights frames
 
 pub takes-bytes : (bytes rest : List ℕ) (frames : List (List ℕ)) (s t : Session) (starved : ℕ) → Takes bytes s t starved → IsWithin s → is_deaf s.status ≡ false → (s.status ≡ Running → Follow s.incoming (bytes ++ rest) frames) →
     Bytes bytes rest frames s t
-takes-bytes [] rest frames s t starved p w awake u = subst (Bytes [] rest frames s) (sym p.0) (record { left = frames; follow = u; awake = awake; effort = omega arith })
+takes-bytes [] rest frames s t starved p w awake u = subst (Bytes [] rest frames s) (sym p.0) (record { left = frames; follow = u; awake = awake; effort = omega arith; worth = omega arith })
 takes-bytes (b ∷ bytes) rest frames s t starved (no_memory, more, free, e, p) w awake u =
     let next = byte_comes no_memory b s in
     let one = one-byte no_memory b (bytes ++ rest) frames s w awake (u (runs s awake free)) in
@@ -191,7 +199,9 @@ takes-bytes (b ∷ bytes) rest frames s t starved (no_memory, more, free, e, p) 
     let same = of bytes p one.awake one.alike in
     let x = one.effort in
     let y = k.effort in
-    record { left = k.left; follow = k.follow; awake = k.awake; effort = omega (arith, x, y, same) }
+    let u = one.worth in
+    let v = k.worth in
+    record { left = k.left; follow = k.follow; awake = k.awake; effort = omega (arith, x, y, same); worth = omega (arith, u, v) }
   where
     of : (bytes : List ℕ) → Takes bytes (byte_comes no_memory b s) t more → is_deaf (byte_comes no_memory b s).status ≡ false → ((byte_comes no_memory b s).status ≡ Running → Alike (byte_comes no_memory b s).incoming (after_byte b s.incoming)) →
         made_whole bytes (byte_comes no_memory b s).incoming ≡ made_whole bytes (after_byte b s.incoming)

@@ -92,7 +92,7 @@ pub record Moves (w : World) : Type 0 where
 quiet-pipe : (p : Pipe) → IsOpenPipe p → p.bytes ≡ [] → is_quiet_pipe p ≡ true
 quiet-pipe p o e = rw (e, o.on, o.untold) refl
 
-quiet-world : (w : World) → IsOpenWorld w → is_ready w.a ≡ false → is_ready w.b ≡ false → w.ab.bytes ≡ [] → w.ba.bytes ≡ [] → is_quiet w ≡ true
+pub quiet-world : (w : World) → IsOpenWorld w → is_ready w.a ≡ false → is_ready w.b ≡ false → w.ab.bytes ≡ [] → w.ba.bytes ≡ [] → is_quiet w ≡ true
 quiet-world w o a b p q = rw (a, b, o.a, o.b, quiet-pipe w.ab o.ab p, quiet-pipe w.ba o.ba q) refl
 
 at-a : (st : Step) (w : World) → is_of_a st ≡ true → GoesOn st w → Moves w

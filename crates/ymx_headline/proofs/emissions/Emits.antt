@@ -1,13 +1,10 @@
 -- An emission is no move of the machine, but that records given up may go.
-use Rattle.std.proofs.Common.{◌≡◌, ℕ, ◌≤◌, List, [], ◌∷◌, ◌++◌, length, take, drop, Bool, true, false, not, ◌&&◌, ◌||◌, ◌==◌, nat_lt, Option, None, Some, refl, sym, ap, subst, ◌∙◌, inl, inr, arith}
-use Rattle.std.specs.Prelude.{is_some}
-use Rattle.std.proofs.lemmas.Bool.Decides.{nat_tests}
+use Rattle.std.proofs.Common.{◌≡◌, ℕ, ◌≤◌, List, [], ◌∷◌, ◌++◌, length, take, drop, Bool, true, false, not, ◌&&◌, ◌||◌, ◌==◌, nat_lt, Option, None, Some, refl, sym, ap, subst, ◌∙◌, inl, inr}
 use Rattle.std.proofs.lemmas.List.{append-nil, append_assoc}
 use Rattle.ymx_model.specs.declared.types.Role.{Role}
 use Rattle.ymx_model.specs.shared.Limits.{first_credit}
-use Rattle.ymx_model.specs.shared.Phases.{Phase, is_lingering}
+use Rattle.ymx_model.specs.shared.Phases.{is_lingering}
 use Rattle.ymx_model.specs.stream.Streams.{Stream, after_move}
-use Rattle.ymx_model.specs.shared.Phases.Phase.{Lingering}
 use Rattle.ymx_model.specs.stream.Streams.Move.{Released}
 use Rattle.ymx_model.specs.session.Records.{End}
 use Rattle.ymx_model.specs.declared.types.FrameKind.{FrameKind}
@@ -29,7 +26,6 @@ use Rattle.ymx_law_session.specs.Limits.{IsWithin}
 use Rattle.ymx_law_session.specs.Settled.{IsSettled}
 use Rattle.ymx_model.proofs.Tests.{split, both_of, none_of, not_lt}
 use Rattle.ymx_model.proofs.Lists.{look-without_same, look-without_other}
-use Rattle.ymx_law_session.proofs.due.Ready.{due-kind}
 use Rattle.ymx_law_session.proofs.limits.EmissionsKeep.{some_if, none_if, if_some, begin-keeps, moves-keep}
 use Rattle.ymx_law_session.proofs.given_up.SettledFrames.{begin-settled, moves-settled}
 use Rattle.ymx_law_record.proofs.Calls.{lingers, none_due}

@@ -2,6 +2,8 @@ use Rattle.ymx_headline.proofs.nothing_sticks.Goals as goal
 use Rattle.ymx_headline.proofs.bounds.Bound.{bound}
 use Rattle.ymx_headline.proofs.bounds.OneAnswer.{one-answer, none-to-an_answer}
 use Rattle.ymx_headline.proofs.bounds.Progress.{goes-on}
+use Rattle.ymx_headline.proofs.bounds.Potential.{potential_of}
+use Rattle.ymx_headline.proofs.bounds.Driving.{ends}
 
 pub returns-clause-goes_on : goal.returns-clause-goes_on
 returns-clause-goes_on c = λ w h o n. let k = goes-on w h o n in (k.st, k.given, k.next, k.steps, k.bytes_carried)
@@ -14,3 +16,6 @@ returns-clause-one_answer c = one-answer
 
 pub returns-clause-none_to_an_answer : goal.returns-clause-none_to_an_answer
 returns-clause-none_to_an_answer c = none-to-an_answer
+
+pub returns-clause-ends : goal.returns-clause-ends
+returns-clause-ends c = λ may w m a fr o. (potential_of w, λ steps answers v k. ends may steps answers w v m a fr o k)

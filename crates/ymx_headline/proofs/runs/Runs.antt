@@ -34,7 +34,8 @@ use Rattle.ymx_model.specs.machine.Machines.{Machine, mirror_machine, new_machin
 use Rattle.ymx_model.specs.machine.Runs.{MachineStep, MachineStepOfA}
 use Rattle.ymx_law_stream.specs.Worlds.{StreamWorld as Streams}
 use Rattle.ymx_law_stream.proofs.OneStream.{one-shows}
-use Rattle.ymx_law_machine.specs.Runs.{is_live_at_a, is_live_at_b, IsFace, ObeysAt}
+use Rattle.ymx_law_machine.specs.Runs.{is_live_at_a, is_live_at_b, ObeysAt}
+use Rattle.ymx_law_machine.specs.Faces.{IsFaceWithin, AreFaces}
 use Rattle.ymx_law_machine.proofs.order.Maps.{look-mirror, flipped}
 use Rattle.ymx_law_machine.proofs.lanes.MachineLaws.{law}
 use Rattle.ymx_law_machine.proofs.faces.RunFaces.{face, odd-even}
@@ -195,12 +196,15 @@ run-alike may sts given wa fa wb fb w g r =
     runs-alike may sts given (new_world wa fa wb fb) w (new_machine wa fa wb fb) r (begins wa fa wb fb g.low_a g.high_a g.low_b g.high_b g.client g.server g.small_a g.some_b g.small_b)
 
 pub run-face : (may : Choice → Session → Bool) (sts : List Step) (given : List Answer) (wa fa wb fb : ℕ) (w : World) → AreGood wa fa wb fb → Runs may sts given (new_world wa fa wb fb) w → (id : ℕ) →
-    IsFace wb (is_live_in (look id w.b.table.entries)) A B id sts given × IsFace wa (is_live_in (look id w.a.table.entries)) B A id sts given
+    IsFaceWithin wb (is_live_in (look id w.b.table.entries)) A B id sts given × IsFaceWithin wa (is_live_in (look id w.a.table.entries)) B A id sts given
 run-face may sts given wa fa wb fb w g r id =
     let k = run-alike may sts given wa fa wb fb w g r in
     let both = both-runs may sts given (new_world wa fa wb fb) w (new_machine wa fa wb fb) k.0 k.1 in
     let p = face wa fa wb fb sts given k.0 id g.low_a g.low_b (odd-even fa fb (client-odd fa g.client) (server-even fb g.server)) both.1 in
-    (subst (λ b. IsFace wb b A B id sts given) (live-at_b Client Server w k.0 k.2 id) p.0, subst (λ b. IsFace wa b B A id sts given) (live-at_a Client Server w k.0 k.2 id) p.1)
+    (subst (λ b. IsFaceWithin wb b A B id sts given) (live-at_b Client Server w k.0 k.2 id) p.0, subst (λ b. IsFaceWithin wa b B A id sts given) (live-at_a Client Server w k.0 k.2 id) p.1)
+
+pub run-faces : (may : Choice → Session → Bool) (sts : List Step) (given : List Answer) (wa fa wb fb : ℕ) (w : World) → AreGood wa fa wb fb → Runs may sts given (new_world wa fa wb fb) w → AreFaces sts given
+run-faces may sts given wa fa wb fb w g r = λ id. (let both = run-face may sts given wa fa wb fb w g r id in (both.0.face, both.1.face))
 
 pub run-lanes : (may : Choice → Session → Bool) (sts : List Step) (given : List Answer) (wa fa wb fb : ℕ) (w : World) → AreGood wa fa wb fb → Runs may sts given (new_world wa fa wb fb) w →
     (n : Machine) × RunsAlike may sts given (new_world wa fa wb fb) (new_machine wa fa wb fb) w n × Agrees w n × ((id : ℕ) → ObeysAt wa wb (look id n.streams))

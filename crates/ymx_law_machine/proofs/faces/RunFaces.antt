@@ -21,7 +21,8 @@ use Rattle.ymx_model.specs.machine.Machines.{Machine, mirror_machine, new_machin
 use Rattle.ymx_model.specs.machine.Runs.{MachineStepOfA, MachineStep, MachineRun, written_by, got_by, written, got}
 use Rattle.ymx_model.proofs.Tests.{when, or_true}
 use Rattle.ymx_law_machine.proofs.faces.Pasts.{Past, Faces, HasFace}
-use Rattle.ymx_law_machine.specs.Runs.{finished_by, ended_by, finished, ended, is_live_at_a, is_live_at_b, IsFace}
+use Rattle.ymx_law_machine.specs.Runs.{is_live_at_a, is_live_at_b}
+use Rattle.ymx_law_machine.specs.Faces.{finished_by, ended_by, finished, ended, IsFaceWithin}
 use Rattle.ymx_law_machine.proofs.faces.LaneFaces.{wrote, gave}
 use Rattle.ymx_law_machine.proofs.lanes.StreamFacts.{if-so_true, if-so_false}
 use Rattle.ymx_law_machine.proofs.faces.Effects.{tell_outbound, tell_inbound, effect}
@@ -215,8 +216,8 @@ faced-run mine yours i po pi (st ∷ sts) [] m n w v h k = absurd h
 
 -- ---- what the faces say
 
-lane-near : (w : ℕ) (p q : Phase) (l : Lane) (h : Past) (r b : List ℕ) → q ≡ Live → Faces w p q l h r b → length h.written ≤ length h.got + w
-lane-near w p q l h r b e c =
+lane-within_window : (w : ℕ) (p q : Phase) (l : Lane) (h : Past) (r b : List ℕ) → q ≡ Live → Faces w p q l h r b → length h.written ≤ length h.got + w
+lane-within_window w p q l h r b e c =
     let n = c.near (ap is_up e) in
     let k : length h.written ≡ length h.got + length r = ap length c.begins ∙ length-append h.got r in omega arith
 
@@ -237,14 +238,14 @@ record Says (w : ℕ) (live : Bool) (h : Past) : Type 0 where
   begins : (rest : List ℕ) × (h.written ≡ h.got ++ rest)
   whole : h.ended ≡ true → h.written ≡ h.got
   finish : h.ended ≡ true → h.finished ≡ true
-  near : live ≡ true → length h.written ≤ length h.got + w
+  within_window : live ≡ true → length h.written ≤ length h.got + w
 
 says : (w : ℕ) (p q : Phase) (l : Lane) (h : Past) → HasFace w p q l h → Says w (is_live q) h
 says w p q l h f = record {
   begins = (f.0, f.2.begins);
   whole = λ e. lane-whole w p q l h f.0 f.1 e f.2;
   finish = λ e. lane-finish w p q l h f.0 f.1 e f.2;
-  near = λ e. lane-near w p q l h f.0 f.1 (is-live q e) f.2;
+  within_window = λ e. lane-within_window w p q l h f.0 f.1 (is-live q e) f.2;
 }
 
 says-blank : (w : ℕ) (h : Past) → IsBlank h → Says w false h
@@ -252,7 +253,7 @@ says-blank w h b = record {
   begins = ([], b.written ∙ sym (append-nil h.got ∙ b.got));
   whole = λ e. b.written ∙ sym b.got;
   finish = λ e. (let k : true ≡ false = sym e ∙ b.ended in absurd (cc));
-  near = λ e. absurd (cc);
+  within_window = λ e. absurd (cc);
 }
 
 says-a : (wa wb : ℕ) (po pi : Past) (o : Option Stream) → FaceAt wa wb po pi o → Says wb (is_live_at_b o) po
@@ -277,12 +278,14 @@ faced-new wa fa wb fb i p = record {
 -- every stream of every run, in both directions
 pub face : (wa fa wb fb : ℕ) (sts : List Step) (given : List Answer) (n : Machine) (i : ℕ) → first_credit ≤ wa → first_credit ≤ wb → fa % 2 ≢ fb % 2 →
     MachineRun sts given (new_machine wa fa wb fb) n →
-    IsFace wb (is_live_at_b (look i n.streams)) A B i sts given × IsFace wa (is_live_at_a (look i n.streams)) B A i sts given
+    IsFaceWithin wb (is_live_at_b (look i n.streams)) A B i sts given × IsFaceWithin wa (is_live_at_a (look i n.streams)) B A i sts given
 face wa fa wb fb sts given n i w v p h =
     let k = faced-run wa wb i blank blank sts given (new_machine wa fa wb fb) n w v h (faced-new wa fa wb fb i p) in
     let x = says-a wa wb _ _ (look i n.streams) k.face in
-    let y = says-b wa wb _ _ (look i n.streams) k.face in
-    (record { begins = x.begins; whole = x.whole; finish = x.finish; near = x.near }, record { begins = y.begins; whole = y.whole; finish = y.finish; near = y.near })
+    let y = says-b wa wb _ _ (look i n.streams) k.face in (
+      record { face = record { begins = x.begins; whole = x.whole; finish = x.finish }; within_window = x.within_window },
+      record { face = record { begins = y.begins; whole = y.whole; finish = y.finish }; within_window = y.within_window },
+    )
 
 not-both : (a : ℕ) → a ≡ 1 → a ≡ 0 → ⊥
 not-both a e f = absurd (omega arith)

@@ -7,7 +7,6 @@ use Rattle.ymx_model.specs.shared.Phases.Phase.{Live}
 use Rattle.std.specs.Prelude.{MatchBool}
 use Rattle.ymx_model.specs.shared.Replies.{bytes_moved, is_done, write_reply, read_reply, finish_reply, reset_reply}
 use Rattle.ymx_law_machine.proofs.lanes.LaneLaws.{lists}
-use Rattle.ymx_model.proofs.Tests.{when}
 
 pub if-so_true : (b : Bool) (P Q : Type 0) → b ≡ true → MatchBool b P Q → P
 if-so_true b P Q e h = subst (λ (x : Bool). MatchBool x P Q) e h

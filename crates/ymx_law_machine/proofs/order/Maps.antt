@@ -5,7 +5,7 @@ use Rattle.ymx_model.specs.stream.Streams.{Stream, flip}
 use Rattle.ymx_model.specs.shared.Lists.{look, change, drop_id}
 use Rattle.ymx_model.specs.machine.Machines.{flip_entry}
 use Rattle.ymx_law_machine.specs.Numbers.{is_in, AllOnce}
-use Rattle.ymx_model.proofs.Tests.{when, is-self, is-other, same_or_not}
+use Rattle.ymx_model.proofs.Tests.{when, is-self, is-other}
 use Rattle.ymx_model.proofs.Lists.{look-change_there, look-change_other as others-change, look-added_same, look-added_other, look-added_there}
 
 pub look-change : {X : Type 0} (i : ℕ) (f : X → X) (xs : List (ℕ × X)) (x : X) → look i xs ≡ Some x → look i (change i f xs) ≡ Some (f x)

@@ -1,0 +1,25 @@
+use Rattle.std.proofs.Common.{◌≡◌, true, subst, sym, ◌∙◌, ap}
+use Rattle.ymx_world.specs.Reached.{IsReached}
+use Rattle.ymx_world.specs.Settled.{is_open_world}
+use Rattle.ymx_world.proofs.Settling.{open-world, one-carriage, carried-none, carried-more, reached-carried}
+use Rattle.ymx_world.proofs.world.World.settle.Goals as goal
+
+pub returns-then-not-is_open-clause-carried : goal.returns-then-not-is_open-clause-carried
+returns-then-not-is_open-clause-carried c = carried-none c.args.self.now (subst IsReached c.self.view_is c.self.invariant)
+
+pub loop-step-init : goal.loop-step-init
+loop-step-init c =
+    let is_open : is_open_world c.args.self.now ≡ true = sym (c.is_open.ensures ∙ ap is_open_world c.self.view_is) ∙ c.if-not-is_open.false in
+    record { open_still = open-world c.args.self.now is_open; carried = carried-none c.args.self.now (subst IsReached c.self.view_is c.self.invariant) }
+
+pub loop-step-smaller : goal.loop-step-smaller
+loop-step-smaller c =
+    let reached = reached-carried c.args.self.now c.loop-step.self (subst IsReached c.self.view_is c.self.invariant) c.loop-step.invariant.carried in
+    (one-carriage c.in-Some.step c.in_ok-step.field-0 c.loop-step.self c.step.new.self reached c.loop-step.invariant.open_still c.in-Some.ensures.some c.in_ok-step.ensures.forward c.in_ok-step.ensures.no_fault c.in_ok-step.ensures.steps).less
+
+pub loop-step-preserved : goal.loop-step-preserved
+loop-step-preserved c =
+    let first = subst IsReached c.self.view_is c.self.invariant in
+    let reached = reached-carried c.args.self.now c.loop-step.self first c.loop-step.invariant.carried in
+    let one = one-carriage c.in-Some.step c.in_ok-step.field-0 c.loop-step.self c.step.new.self reached c.loop-step.invariant.open_still c.in-Some.ensures.some c.in_ok-step.ensures.forward c.in_ok-step.ensures.no_fault c.in_ok-step.ensures.steps in
+    record { open_still = one.on; carried = carried-more c.args.self.now c.loop-step.self c.step.new.self c.in-Some.step c.in_ok-step.field-0 first c.loop-step.invariant.carried c.in_ok-step.ensures.steps one }

@@ -1,0 +1,37 @@
+-- What settles a world: emissions and deliveries alone, each of which carries bytes (this project's own).
+use Rattle.std.specs.Prelude.{◌≡◌, ◌<◌, ◌&&◌, List, length, All, Bool, true, false, not}
+use Rattle.ymx_model.specs.declared.types.Step.{Step}
+use Rattle.ymx_model.specs.declared.types.Step.TheVariants as step
+use Rattle.ymx_model.specs.declared.types.Answer.{Answer}
+use Rattle.ymx_model.specs.session.Sessions.{is_running}
+use Rattle.ymx_model.specs.session.Emissions.{in_turn, is_ready}
+use Rattle.ymx_model.specs.world.Worlds.{World, Pipe, Runs}
+use Rattle.ymx_headline.specs.Laws.{IsOpenWorld, is_carriage}
+use Rattle.ymx_world.specs.Acts.{session_of, pipe_of}
+use Rattle.ymx_world.specs.Bounds.{IsBoundedRun}
+use Rattle.ymx_world.specs.Progress.{receiver_of}
+
+-- whether a pipe wasn't stopped, and its end wasn't told
+abbrev pub is_open_pipe : Pipe → Bool
+is_open_pipe p = not p.stopped && not p.ended
+
+-- whether nothing was stopped, ended, closed or broken
+abbrev pub is_open_world : World → Bool
+is_open_world w = is_running w.a.status && is_running w.b.status && is_open_pipe w.ab && is_open_pipe w.ba
+
+-- An emission with room at a side where something is due; or a delivery of some bytes of a pipe that isn't empty,
+-- to a side where nothing is due.
+abbrev pub IsDueCarriage : Step → World → Type 0
+IsDueCarriage (step.Emit side room) w = (0 < room) × (is_ready (session_of side w) ≡ true)
+IsDueCarriage (step.Deliver direction n) w = (0 < n) × (0 < length (pipe_of direction w).bytes) × (is_ready (receiver_of direction w) ≡ false)
+IsDueCarriage _ w = ⊥
+
+-- Some emissions and deliveries, and nothing else, led from w to v. From an open world they lead to an open one, and
+-- feed wholly at most twice as many frames as its load.
+pub record IsCarriedOn (w v : World) : Type 0 where
+  pub steps : List Step
+  pub answers : List Answer
+  pub alone : All (λ st. is_carriage st ≡ true) steps
+  pub runs : Runs in_turn steps answers w v
+  pub on : IsOpenWorld w → IsOpenWorld v
+  pub bounded : IsOpenWorld w → IsBoundedRun steps answers w v
