@@ -1,5 +1,5 @@
 -- The command line of the program (this project's own).
-use Rattle.std.specs.Prelude.{◌≡◌, ◌≢◌, ⊤, ◌≤◌, ◌⊎◌, ◌++◌, ℕ, List, [], ◌∷◌, Option, Some, None, true, false, IfSome, IsSomeAnd, if◌then◌else◌, option_map, codes, decimal, pos, slice_get}
+use Rattle.std.specs.Prelude.{◌≡◌, ◌≢◌, ⊤, ◌≤◌, ◌⊎◌, ◌++◌, ℕ, ℤ, List, [], ◌∷◌, Option, Some, None, true, false, IfSome, IsSomeAnd, if◌then◌else◌, option_map, codes, decimal, pos, slice_get}
 use Rattle.std.specs.Str.{bytes_eq}
 use Rattle.clap.specs.Kinds.{IsAmong}
 use Rattle.clap.specs.Faults.{fault_of}
@@ -50,15 +50,18 @@ IsScript file (ATunnel asked) = ⊥
 
 -- ---- the same command line, as clap reads it
 
--- `--limit`, whose value is a number in its range
-abbrev pub limit_rule : Rule
-limit_rule = record (new_rule (codes "limit")) {
-  long = Some (codes "limit");
+-- `--NAME`, whose value is a number in this range
+abbrev pub number_rule : Text → ℤ → ℤ → Rule
+number_rule name least most = record (new_rule name) {
+  long = Some name;
   action = Some Set;
   value_names = 1;
-  defaults = codes "262144" ∷ [];
-  parser = Some (parser.Signed (pos 262144) (pos 16777216));
+  parser = Some (parser.Signed least most);
 }
+
+-- `--limit`, whose value is a number in its range
+abbrev pub limit_rule : Rule
+limit_rule = record (number_rule (codes "limit") (pos 262144) (pos 16777216)) { defaults = codes "262144" ∷ [] }
 
 -- the word that names a file
 abbrev pub file_rule : Rule
@@ -86,32 +89,15 @@ address_rule name = record (new_rule name) {
 
 -- `--count`, whose value is a number of 32 bits
 abbrev pub count_rule : Rule
-count_rule = record (new_rule (codes "count")) {
-  long = Some (codes "count");
-  action = Some Set;
-  value_names = 1;
-  parser = Some (parser.Signed (pos 0) (pos 4294967295));
-}
+count_rule = number_rule (codes "count") (pos 0) (pos 4294967295)
 
 -- `--window`, whose value is a number in its range
 abbrev pub window_rule : Rule
-window_rule = record (new_rule (codes "window")) {
-  long = Some (codes "window");
-  action = Some Set;
-  value_names = 1;
-  defaults = codes "262144" ∷ [];
-  parser = Some (parser.Signed (pos 262144) (pos 16777216));
-}
+window_rule = record (number_rule (codes "window") (pos 262144) (pos 16777216)) { defaults = codes "262144" ∷ [] }
 
 -- `--workers`, whose value is a number in its range
 abbrev pub workers_rule : Rule
-workers_rule = record (new_rule (codes "workers")) {
-  long = Some (codes "workers");
-  action = Some Set;
-  value_names = 1;
-  defaults = codes "16" ∷ [];
-  parser = Some (parser.Signed (pos 1) (pos 1024));
-}
+workers_rule = record (number_rule (codes "workers") (pos 1) (pos 1024)) { defaults = codes "16" ∷ [] }
 
 -- `--verbose`, or `-v`, a flag
 abbrev pub verbose_rule : Rule
@@ -121,15 +107,21 @@ verbose_rule = record (new_rule (codes "verbose")) {
   action = Some SetTrue;
 }
 
+-- `local` with its addresses
+abbrev pub local_start : App
+local_start = with_rule (with_rule (new_app (codes "local")) (address_rule (codes "listen"))) (address_rule (codes "peer"))
+
 -- `local`
 abbrev pub local_shape : Shape
-local_shape = (with_rule (with_rule (with_rule (with_rule (with_rule (new_app (codes "local"))
-    (address_rule (codes "listen"))) (address_rule (codes "peer"))) count_rule) window_rule) verbose_rule).top
+local_shape = (with_rule (with_rule (with_rule local_start count_rule) window_rule) verbose_rule).top
+
+-- `remote` with its addresses
+abbrev pub remote_start : App
+remote_start = with_rule (with_rule (new_app (codes "remote")) (address_rule (codes "bind"))) (address_rule (codes "target"))
 
 -- `remote`
 abbrev pub remote_shape : Shape
-remote_shape = (with_rule (with_rule (with_rule (with_rule (with_rule (new_app (codes "remote"))
-    (address_rule (codes "bind"))) (address_rule (codes "target"))) window_rule) workers_rule) verbose_rule).top
+remote_shape = (with_rule (with_rule (with_rule remote_start window_rule) workers_rule) verbose_rule).top
 
 -- a subcommand that takes nothing
 abbrev pub bare_shape : List ℕ → Shape

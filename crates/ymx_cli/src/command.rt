@@ -4,14 +4,15 @@ ghost use Rattle.std.specs.Prelude.{ℕ, List, Option, None, ◌≡◌, ◌≢�
 ghost use Rattle.std.specs.IoError.{error_kind};
 ghost use Rattle.std.specs.declared.io.ErrorKind.TheVariants.{InvalidData};
 ghost use Rattle.std.specs.Io.KnownBytes.{Keeps};
-ghost use Rattle.clap.specs.Words.{app_of, first_value, found_of, kind_of, one_of, rule_of, shape_of, subcommand_rows_of};
+ghost use Rattle.clap.specs.Words.{app_of, first_value, found_of, kind_of, one_of, rule_of, shape_of, subcommand_rows_of, with_subcommand};
 ghost use Rattle.clap.specs.declared.builder.command.Command.TheViews.{out-Command as fields_of};
-ghost use Rattle.ymx_cli.specs.CommandLine.{AsksFrames, AsksNoHelp, AsksNoLines, AsksScript, HasGoodLimit, IsEndTask, IsFrames, IsMistake, IsNotSaid, IsScript, IsSilentTask, NamesAnother, bare_shape, file_of, file_rule, frames_shape, limit_rule, named_words, script_shape, ymx_app};
+ghost use Rattle.ymx_cli.specs.CommandLine.{AsksFrames, AsksNoHelp, AsksNoLines, AsksScript, HasGoodLimit, IsEndTask, IsFrames, IsMistake, IsNotSaid, IsScript, IsSilentTask, NamesAnother, bare_shape, file_of, file_rule, frames_shape, limit_rule, local_shape, named_words, remote_shape, script_shape, top_app, ymx_app};
 ghost use Rattle.ymx_cli.specs.Messages.{IsUntouched, PlaysFile, PlaysScript, PrintsFile, PrintsFrames, Refuses, SaysText, Shows, TakesText, TakesPart, change_of, fails, not_text, out_of_memory, reason, script_reason, writing_failed};
 
+use crate::arguments::{number_argument, titled};
 use crate::tunnel::{Tunnel, asked_tunnel, local_command, remote_command, run_tunnel};
 use clap::error::ErrorKind;
-use clap::{Arg, ArgAction, ArgMatches, Command, Error, value_parser};
+use clap::{Arg, ArgAction, ArgMatches, Command, Error};
 use std::alloc::{AllocError, Global};
 use std::convert::AsStr;
 use std::fmt::Display;
@@ -30,7 +31,7 @@ const DEFAULT_LIMIT: u32 = 262_144;
 const VERSION: &str = "0.1.0";
 
 /// What a command line asks for.
-#[derive(Clone, Copy, Debug, PartialEq, Eq)]
+#[derive(Clone, Copy)]
 enum Task<'a> {
     /// The frames of a file or, with no name, of standard input.
     Frames { limit: u32, file: Option<&'a str> },
@@ -279,54 +280,86 @@ fn named_file<'a>(found: &ArgMatches<'a>) -> Option<&'a str>
 fn command<'a>(alloc: Global) -> Result<Command<'a>, AllocError>
     ensures { IfOk result (λ command. app_of command ≡ ymx_app) }
 {
-    Command::new(alloc, "ymx")
-        .about("Stream multiplexing by the yamux protocol, version 0")
-        .version(VERSION)
-        .after_help(HELP)
-        .subcommand_required(true)
+    let command = with_tools(alloc, top_command(alloc))?;
+    with_ends(alloc, command)?.subcommand(bare(
+        alloc,
+        "selftest",
+        "Run both ends and an echo server in one process",
+    ))
+}
+
+/// The program by itself.
+fn top_command<'a>(alloc: Global) -> Command<'a>
+    ensures { app_of result ≡ top_app }
+{
+    titled(
+        alloc,
+        "ymx",
+        "Stream multiplexing by the yamux protocol, version 0",
+        HELP,
+    )
+    .version(VERSION)
+    .subcommand_required(true)
+}
+
+/// Adds `frames` and `script`.
+fn with_tools<'a>(alloc: Global, command: Command<'a>) -> Result<Command<'a>, AllocError>
+    ensures { IfOk result (λ r. app_of r ≡ with_subcommand (with_subcommand (app_of command.entry) frames_shape) script_shape) }
+{
+    command
         .subcommand(frames_command(alloc)?)?
-        .subcommand(script_command(alloc)?)?
+        .subcommand(script_command(alloc)?)
+}
+
+/// Adds `local` and `remote`.
+fn with_ends<'a>(alloc: Global, command: Command<'a>) -> Result<Command<'a>, AllocError>
+    ensures { IfOk result (λ r. app_of r ≡ with_subcommand (with_subcommand (app_of command.entry) local_shape) remote_shape) }
+{
+    command
         .subcommand(local_command(alloc)?)?
-        .subcommand(remote_command(alloc)?)?
-        .subcommand(bare(
-            alloc,
-            "selftest",
-            "Run both ends and an echo server in one process",
-        ))
+        .subcommand(remote_command(alloc)?)
 }
 
 /// The subcommand `frames`.
 fn frames_command<'a>(alloc: Global) -> Result<Command<'a>, AllocError>
     ensures { IfOk result (λ command. (shape_of command ≡ frames_shape) × ((fields_of command).has_globals ≡ false)) }
 {
-    Command::new(alloc, "frames")
-        .about("Print the yamux frames of a file or of standard input, a line each")
-        .after_help(FRAMES_HELP)
-        .arg(limit_argument(alloc))?
-        .arg(file_argument(alloc))
+    titled(
+        alloc,
+        "frames",
+        "Print the yamux frames of a file or of standard input, a line each",
+        FRAMES_HELP,
+    )
+    .arg(limit_argument(alloc))?
+    .arg(file_argument(alloc))
 }
 
 /// The subcommand `script`.
 fn script_command<'a>(alloc: Global) -> Result<Command<'a>, AllocError>
     ensures { IfOk result (λ command. (shape_of command ≡ script_shape) × ((fields_of command).has_globals ≡ false)) }
 {
-    Command::new(alloc, "script")
-        .about("Run steps of two sessions joined by pipes, of a file or of standard input")
-        .after_help(SCRIPT_HELP)
-        .arg(file_argument(alloc))
+    titled(
+        alloc,
+        "script",
+        "Run steps of two sessions joined by pipes, of a file or of standard input",
+        SCRIPT_HELP,
+    )
+    .arg(file_argument(alloc))
 }
 
 /// The argument `--limit` of `frames`.
 fn limit_argument<'a>(alloc: Global) -> Arg<'a>
     ensures { (rule_of result ≡ limit_rule) × (result.global ≡ false) }
 {
-    Arg::new(alloc, "limit")
-        .long("limit")
-        .value_name("BYTES")
-        .action(ArgAction::Set)
-        .value_parser(value_parser!(u32).range(262_144..=16_777_216))
-        .default_value("262144")
-        .help("The longest payload accepted, from 262144 to 16777216")
+    number_argument(
+        alloc,
+        "limit",
+        "BYTES",
+        262_144,
+        16_777_216,
+        "The longest payload accepted, from 262144 to 16777216",
+    )
+    .default_value("262144")
 }
 
 /// The argument that names the file.

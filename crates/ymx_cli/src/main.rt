@@ -1,6 +1,7 @@
 //! The program `ymx`: its command line and its standard devices.
 #![tactic(auto)]
 
+mod arguments;
 mod command;
 mod standard;
 mod tunnel;

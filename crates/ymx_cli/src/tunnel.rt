@@ -1,12 +1,13 @@
 //! The subcommands `local`, `remote` and `selftest`.
 
 ghost use Rattle.std.specs.Prelude.{◌≡◌, ◌⊎◌, ◌≤◌, codes, false, IfOk, IfSome};
-ghost use Rattle.clap.specs.Words.{found_of, one_text, rule_of, shape_of};
+ghost use Rattle.clap.specs.Words.{app_of, found_of, one_text, rule_of, shape_of};
 ghost use Rattle.clap.specs.declared.builder.command.Command.TheViews.{out-Command as fields_of};
-ghost use Rattle.ymx_cli.specs.CommandLine.{IsEnd, IsNotSaid, IsNotVerbose, address_rule, count_rule, local_shape, remote_shape, verbose_rule, window_rule, workers_rule};
+ghost use Rattle.ymx_cli.specs.CommandLine.{IsEnd, IsNotSaid, IsNotVerbose, address_rule, count_rule, local_shape, local_start, remote_shape, remote_start, verbose_rule, window_rule, workers_rule};
 ghost use Rattle.ymx_cli.specs.Messages.{IsUntouched, change_of};
 
-use clap::{Arg, ArgAction, ArgMatches, Command, value_parser};
+use crate::arguments::{number_argument, titled};
+use clap::{Arg, ArgAction, ArgMatches, Command};
 use std::alloc::{AllocError, Global};
 use std::net::{SocketAddr, SocketAddrV4};
 use std::sync::Wait;
@@ -23,7 +24,7 @@ const DEFAULT_WINDOW: u32 = 262_144;
 const DEFAULT_WORKERS: u32 = 16;
 
 /// What the words of a subcommand of the tunnel ask for. Addresses are not read yet.
-#[derive(Clone, Copy, Debug, PartialEq, Eq)]
+#[derive(Clone, Copy)]
 pub(crate) enum Tunnel<'a> {
     /// `local`.
     Local {
@@ -73,32 +74,52 @@ pub(crate) fn asked_tunnel<'a>(name: &str, found: &ArgMatches<'a>) -> Tunnel<'a>
 pub(crate) fn local_command<'a>(alloc: Global) -> Result<Command<'a>, AllocError>
     ensures { IfOk result (λ command. (shape_of command ≡ local_shape) × ((fields_of command).has_globals ≡ false)) }
 {
-    Command::new(alloc, "local")
-        .about("Forward local connections through a session")
-        .after_help(LOCAL_HELP)
-        .arg(address(
-            alloc,
-            "listen",
-            "Where connections come from, as 127.0.0.1:8080",
-        ))?
-        .arg(address(alloc, "peer", "Where the `ymx remote` listens"))?
+    local_addresses(alloc)?
         .arg(count_argument(alloc))?
         .arg(window_argument(alloc))?
         .arg(verbose_argument(alloc))
+}
+
+/// The subcommand `local` with its addresses.
+fn local_addresses<'a>(alloc: Global) -> Result<Command<'a>, AllocError>
+    ensures { IfOk result (λ command. (app_of command ≡ local_start) × ((fields_of command).has_globals ≡ false)) }
+{
+    titled(
+        alloc,
+        "local",
+        "Forward local connections through a session",
+        LOCAL_HELP,
+    )
+    .arg(address(
+        alloc,
+        "listen",
+        "Where connections come from, as 127.0.0.1:8080",
+    ))?
+    .arg(address(alloc, "peer", "Where the `ymx remote` listens"))
 }
 
 /// The subcommand `remote`.
 pub(crate) fn remote_command<'a>(alloc: Global) -> Result<Command<'a>, AllocError>
     ensures { IfOk result (λ command. (shape_of command ≡ remote_shape) × ((fields_of command).has_globals ≡ false)) }
 {
-    Command::new(alloc, "remote")
-        .about("Connect the streams of a session to a target")
-        .after_help(REMOTE_HELP)
-        .arg(address(alloc, "bind", "Where the `ymx local` connects to"))?
-        .arg(address(alloc, "target", "Where each stream is connected to"))?
+    remote_addresses(alloc)?
         .arg(window_argument(alloc))?
         .arg(workers_argument(alloc))?
         .arg(verbose_argument(alloc))
+}
+
+/// The subcommand `remote` with its addresses.
+fn remote_addresses<'a>(alloc: Global) -> Result<Command<'a>, AllocError>
+    ensures { IfOk result (λ command. (app_of command ≡ remote_start) × ((fields_of command).has_globals ≡ false)) }
+{
+    titled(
+        alloc,
+        "remote",
+        "Connect the streams of a session to a target",
+        REMOTE_HELP,
+    )
+    .arg(address(alloc, "bind", "Where the `ymx local` connects to"))?
+    .arg(address(alloc, "target", "Where each stream is connected to"))
 }
 
 /// An argument that is an address.
@@ -117,38 +138,44 @@ fn address<'a>(alloc: Global, name: &'a str, help: &'a str) -> Arg<'a>
 fn count_argument<'a>(alloc: Global) -> Arg<'a>
     ensures { (rule_of result ≡ count_rule) × (result.global ≡ false) }
 {
-    Arg::new(alloc, "count")
-        .long("count")
-        .value_name("N")
-        .action(ArgAction::Set)
-        .value_parser(value_parser!(u32).range(0..=4_294_967_295))
-        .help("End after so many connections")
+    number_argument(
+        alloc,
+        "count",
+        "N",
+        0,
+        4_294_967_295,
+        "End after so many connections",
+    )
 }
 
 /// The argument `--window`.
 fn window_argument<'a>(alloc: Global) -> Arg<'a>
     ensures { (rule_of result ≡ window_rule) × (result.global ≡ false) }
 {
-    Arg::new(alloc, "window")
-        .long("window")
-        .value_name("BYTES")
-        .action(ArgAction::Set)
-        .value_parser(value_parser!(u32).range(262_144..=16_777_216))
-        .default_value("262144")
-        .help("How much of a stream may be unread here, from 262144 to 16777216")
+    number_argument(
+        alloc,
+        "window",
+        "BYTES",
+        262_144,
+        16_777_216,
+        "How much of a stream may be unread here, from 262144 to 16777216",
+    )
+    .default_value("262144")
 }
 
 /// The argument `--workers` of `remote`.
 fn workers_argument<'a>(alloc: Global) -> Arg<'a>
     ensures { (rule_of result ≡ workers_rule) × (result.global ≡ false) }
 {
-    Arg::new(alloc, "workers")
-        .long("workers")
-        .value_name("N")
-        .action(ArgAction::Set)
-        .value_parser(value_parser!(u32).range(1..=1024))
-        .default_value("16")
-        .help("How many streams are served at once, from 1 to 1024")
+    number_argument(
+        alloc,
+        "workers",
+        "N",
+        1,
+        1024,
+        "How many streams are served at once, from 1 to 1024",
+    )
+    .default_value("16")
 }
 
 /// The argument `--verbose`, or `-v`.

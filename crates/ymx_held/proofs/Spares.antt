@@ -45,7 +45,7 @@ no_both : (b : Bool) → b ≡ true → b ≡ false → ⊥
 no_both true e f = cc
 no_both false e f = cc
 
-answer_spares : {A : Type 0} (given : Result A CallFault) (result : Result A HubFault) → result ≡ hub_answer given → is_out_of_memory given ≡ false → IsNotMemory result
+pub answer_spares : {A : Type 0} (given : Result A CallFault) (result : Result A HubFault) → result ≡ hub_answer given → is_out_of_memory given ≡ false → IsNotMemory result
 answer_spares (Ok x) result e n = rw e tt
 answer_spares (Err fault) result e n = rw e (λ m. no_both (is_of_memory fault) (only_memory fault m) n)
 
@@ -73,13 +73,13 @@ unless_spares needs lost p said r w =
     split P (needs && said) _ _ (λ t. refl) (λ f3.
     split P lost _ _ (λ t. refl) (λ f4. w))))
 
-pub finish_spares : (id : ℕ) (s : Session) (given : Result (Unit {0}) CallFault) (result : Result (Unit {0}) HubFault) → done_or given ≡ (finish id s).reply → result ≡ hub_answer given → IsNotMemory result
-finish_spares id s given result e a =
-    spared given result done_or _ (λ f. refl) e (with_spares id (finish_outcome id s) s (λ r. unless_spares true (is_lost s.status) r.phase r.writer.finished Done refl)) a
+pub finish_spares : (id : ℕ) (s : Session) (given : Result (Unit {0}) CallFault) → done_or given ≡ (finish id s).reply → is_out_of_memory given ≡ false
+finish_spares id s given e =
+    result_spares given done_or (λ f. refl) (ap wants e ∙ with_spares id (finish_outcome id s) s (λ r. unless_spares true (is_lost s.status) r.phase r.writer.finished Done refl))
 
-pub reset_spares : (id : ℕ) (s : Session) (given : Result (Unit {0}) CallFault) (result : Result (Unit {0}) HubFault) → done_or given ≡ (reset id s).reply → result ≡ hub_answer given → IsNotMemory result
-reset_spares id s given result e a =
-    spared given result done_or _ (λ f. refl) e (with_spares id (reset_outcome id s) s (λ r. unless_spares false (is_lost s.status) r.phase false Done refl)) a
+pub reset_spares : (id : ℕ) (s : Session) (given : Result (Unit {0}) CallFault) → done_or given ≡ (reset id s).reply → is_out_of_memory given ≡ false
+reset_spares id s given e =
+    result_spares given done_or (λ f. refl) (ap wants e ∙ with_spares id (reset_outcome id s) s (λ r. unless_spares false (is_lost s.status) r.phase false Done refl))
 
 pub ping_spares : (s : Session) (given : Result ℕ CallFault) (result : Result ℕ HubFault) → pinged_or given ≡ (ping s).reply → result ≡ hub_answer given → IsNotMemory result
 ping_spares s given result e a =

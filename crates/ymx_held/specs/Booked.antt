@@ -10,6 +10,8 @@ use Rattle.ymx_model.specs.declared.types.Entry.{Entry}
 use Rattle.ymx_session.specs.Replies.{done_or}
 use Rattle.ymx_seats.specs.Views.{SeatView, entry}
 use Rattle.ymx_held.specs.declared.faults.HubFault.{HubFault}
+use Rattle.ymx_held.specs.declared.stream_calls.Ending.{Ending}
+use Rattle.ymx_held.specs.declared.stream_calls.Ending.TheVariants as ending
 use Rattle.ymx_held.specs.declared.faults.HubFault.TheVariants.{Memory, Seats}
 use Rattle.ymx_held.specs.Answers.{hub_fault_of}
 
@@ -35,6 +37,11 @@ to_finish id = event.Call (call.Finish id)
 
 abbrev pub to_reset : ℕ → Event
 to_reset id = event.Call (call.Reset id)
+
+-- the call that ends a half of a stream
+abbrev pub to_end : Ending → ℕ → Event
+to_end ending.Finish id = to_finish id
+to_end ending.Reset id = to_reset id
 
 abbrev pub to_forget : ℕ → Event
 to_forget id = event.Call (call.Forget id)

@@ -1,15 +1,18 @@
 //! Bytes of a stream, and its halves that are spent, with their entries.
 
 ghost use Rattle.std.specs.Prelude.{◌≡◌, ◌<◌, ◌≤◌, ◌++◌, length, take, drop, false, IfOk};
-ghost use Rattle.ymx_session.specs.Replies.{done_or, wrote_or, read_or, count_of, got_count};
-ghost use Rattle.ymx_seats.specs.Slips.{told_by, bytes_told};
+ghost use Rattle.ymx_model.specs.session.Emissions.{in_turn};
+ghost use Rattle.ymx_model.specs.session.Histories.{Gives};
+ghost use Rattle.ymx_session.specs.Replies.{done_or, is_out_of_memory, wrote_or, read_or, count_of, got_count};
+ghost use Rattle.ymx_seats.specs.Slips.{asked_by, told_by, bytes_told};
 ghost use Rattle.ymx_held.specs.Answers.{IsNotMemory, GivesSome, took_count};
-ghost use Rattle.ymx_held.specs.Booked.{Gains, Asks, Spends, Closes, to_write, to_read, to_finish, to_reset};
+ghost use Rattle.ymx_held.specs.Booked.{Gains, Asks, Spends, Closes, to_write, to_read, to_finish, to_reset, to_end};
 
 use crate::faults::{HubFault, answered, tell_of_done};
 use crate::held::Held;
 use ymx_model::{CallFault, Got, Wrote};
 use ymx_seats::{Ask, Recorder, Seat, Tell};
+use ymx_session::Session;
 
 impl<R: Recorder> Held<R> {
     /// Writes the first of these bytes, as many as there is credit for, or says that there is none.
@@ -72,54 +75,38 @@ impl<R: Recorder> Held<R> {
 
     /// Half-closes a stream, and gives it up if its other half was spent. The half counts as spent even if there is
     /// no memory for the entries.
-    #[tactic(auto, using(crate::proofs::History::kept_after))]
     pub fn finish(&mut self, seat: &mut Seat<R>, id: u32) -> Result<(), HubFault>
         ensures number { seat.new.number ≡ seat.old.number }
         ensures start { seat.new.start ≡ seat.old.start }
         ensures booked { Gains R.KEEPS seat.old.entries seat.new.entries (Spends (to_finish id) id seat.old.number result) }
         ensures off { R.KEEPS ≡ false → IsNotMemory result }
     {
-        let second = self.spend(id);
-        let entries = if second { 2 } else { 1 };
-        let Ok(slip) = self
-            .log
-            .prepare(self.alloc, seat, Ask::Finish(id), 0, entries)
-        else {
-            return Err(HubFault::Memory);
-        };
-        let Ok(next) = self
-            .log
-            .prepare(self.alloc, seat, Ask::Forget(id), 0, entries)
-        else {
-            return Err(HubFault::Memory);
-        };
-        let finished = self.session.finish(id);
-        self.log
-            .add(seat, slip, Ask::Finish(id), tell_of_done(finished));
-        if !second {
-            return answered(finished);
-        }
-        let gone = self.session.forget(id);
-        self.log
-            .add(seat, next, Ask::Forget(id), tell_of_done(gone));
-        answered(finished)
+        self.end_half(seat, id, Ending::Finish)
     }
 
     /// Resets a stream, and gives it up if its other half was spent. The half counts as spent even if there is no
     /// memory for the entries.
-    #[tactic(auto, using(crate::proofs::History::kept_after))]
     pub fn reset(&mut self, seat: &mut Seat<R>, id: u32) -> Result<(), HubFault>
         ensures number { seat.new.number ≡ seat.old.number }
         ensures start { seat.new.start ≡ seat.old.start }
         ensures booked { Gains R.KEEPS seat.old.entries seat.new.entries (Spends (to_reset id) id seat.old.number result) }
         ensures off { R.KEEPS ≡ false → IsNotMemory result }
     {
+        self.end_half(seat, id, Ending::Reset)
+    }
+
+    /// Ends a half of a stream by this call, and gives the stream up if its other half was spent.
+    #[tactic(auto, using(crate::proofs::History::kept_after))]
+    fn end_half(&mut self, seat: &mut Seat<R>, id: u32, ending: Ending) -> Result<(), HubFault>
+        ensures number { seat.new.number ≡ seat.old.number }
+        ensures start { seat.new.start ≡ seat.old.start }
+        ensures booked { Gains R.KEEPS seat.old.entries seat.new.entries (Spends (to_end ending id) id seat.old.number result) }
+        ensures off { R.KEEPS ≡ false → IsNotMemory result }
+    {
         let second = self.spend(id);
         let entries = if second { 2 } else { 1 };
-        let Ok(slip) = self
-            .log
-            .prepare(self.alloc, seat, Ask::Reset(id), 0, entries)
-        else {
+        let ask = ending.ask(id);
+        let Ok(slip) = self.log.prepare(self.alloc, seat, ask, 0, entries) else {
             return Err(HubFault::Memory);
         };
         let Ok(next) = self
@@ -128,16 +115,15 @@ impl<R: Recorder> Held<R> {
         else {
             return Err(HubFault::Memory);
         };
-        let was_reset = self.session.reset(id);
-        self.log
-            .add(seat, slip, Ask::Reset(id), tell_of_done(was_reset));
+        let ended = ending.call(&mut self.session, id);
+        self.log.add(seat, slip, ask, tell_of_done(ended));
         if !second {
-            return answered(was_reset);
+            return answered(ended);
         }
         let gone = self.session.forget(id);
         self.log
             .add(seat, next, Ask::Forget(id), tell_of_done(gone));
-        answered(was_reset)
+        answered(ended)
     }
 
     /// Spends a half of a stream without a word to the peer, and gives the stream up if its other half was spent.
@@ -159,6 +145,36 @@ impl<R: Recorder> Held<R> {
         self.log
             .add(seat, slip, Ask::Forget(id), tell_of_done(gone));
         answered(gone)
+    }
+}
+
+/// The calls that end a half of a stream.
+#[derive(Clone, Copy)]
+enum Ending {
+    Finish,
+    Reset,
+}
+
+impl Ending {
+    /// The event of this call, to be kept.
+    fn ask<'a>(self, id: u32) -> Ask<'a>
+        ensures { asked_by result ≡ to_end self id }
+    {
+        match self {
+            Ending::Finish => Ask::Finish(id),
+            Ending::Reset => Ask::Reset(id),
+        }
+    }
+
+    /// Makes this call of the session.
+    fn call(self, session: &mut Session, id: u32) -> Result<(), CallFault>
+        ensures event { Gives in_turn session.old (to_end self id) (done_or result) session.new }
+        ensures spares { is_out_of_memory result ≡ false }
+    {
+        match self {
+            Ending::Finish => session.finish(id),
+            Ending::Reset => session.reset(id),
+        }
     }
 }
 
