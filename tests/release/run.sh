@@ -6,6 +6,9 @@ set -eu
 root=$(cd "$(dirname "$0")/../.." && pwd)
 scratch=$(mktemp -d)
 trap 'rm -rf "$scratch"' EXIT
+# the launcher that is tried is that of a copy, in which no gate has built anything
+from_gate=${YMX_FROM_GATE-}
+unset YMX_FROM_GATE
 
 fail() {
     echo "FAIL  $1"
@@ -34,7 +37,7 @@ grep -q 'the sources have changed since the release' said || fail 'a changed sou
 cp "$root/crates/ymx_header/src/lib.rt" crates/ymx_header/src/lib.rt
 
 program=$root/crates/ymx_cli/out/ymx_cli
-if [ "${YMX_FROM_GATE-}" = yes ]; then
+if [ "$from_gate" = yes ]; then
     "$root/release/compare.sh" "$program" || fail 'the release'
 else
     # there is no program of the gate: one byte off the released one is tried all the same

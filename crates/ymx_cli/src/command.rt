@@ -28,7 +28,7 @@ use ymx_tunnel::Network;
 const DEFAULT_LIMIT: u32 = 262_144;
 
 /// The version of the program, which `--version` prints.
-const VERSION: &str = "0.1.0";
+const VERSION: &str = "0.2.0";
 
 /// What a command line asks for.
 #[derive(Clone, Copy)]
