@@ -7,8 +7,14 @@ use Rattle.ymx_model.specs.declared.types.Step.TheVariants as step
 use Rattle.ymx_model.specs.declared.types.Answer.{Answer}
 use Rattle.ymx_model.specs.session.Sessions.{is_running}
 use Rattle.ymx_model.specs.session.Emissions.{in_turn, is_ready}
-use Rattle.ymx_model.specs.world.Worlds.{World, Pipe, Steps, is_quiet}
+use Rattle.ymx_model.specs.world.Worlds.{World, Pipe, Steps}
 use Rattle.ymx_model.proofs.Tests.{both_of}
+use Rattle.ymx_model.specs.declared.types.Role.TheVariants.{Client, Server}
+use Rattle.ymx_model.specs.machine.Machines.{Machine}
+use Rattle.ymx_model.specs.machine.Runs.{IsStillMachine}
+use Rattle.ymx_headline.specs.Agrees.{Agrees}
+use Rattle.ymx_headline.proofs.relation.Still.{still}
+use Rattle.ymx_headline.proofs.runs.Runs.{runs-alike}
 use Rattle.ymx_headline.specs.Laws.{IsOpenWorld, IsOpenPipe, is_carriage, carries_bytes, breaks_off}
 use Rattle.ymx_headline.proofs.bounds.Potential.{potential_of, some-carried}
 use Rattle.ymx_headline.proofs.bounds.Driving.{lowers-open, carries-carriage}
@@ -74,6 +80,7 @@ carried-none w r = record {
   runs = refl;
   on = λ o. o;
   bounded = λ o. is-bounded [] [] w w r o (All-nil (λ (st : Step). is_carriage st ≡ true)) refl;
+  queues = λ m h. runs-alike in_turn [] [] w w m refl h;
 }
 
 pub carried-more : (w x v : World) (st : Step) (given : Answer) → IsReached w → IsCarriedOn w x → Steps in_turn st given x v → IsOneCarriage st x v → IsCarriedOn w v
@@ -88,11 +95,12 @@ carried-more w x v st given r h s one =
       runs = runs;
       on = λ o. one.on;
       bounded = λ o. is-bounded (h.steps ++ st ∷ []) (h.answers ++ given ∷ []) w v r o alone runs;
+      queues = λ m a. runs-alike in_turn (h.steps ++ st ∷ []) (h.answers ++ given ∷ []) w v m runs a;
     }
 
 pub reached-carried : (w v : World) → IsReached w → IsCarriedOn w v → IsReached v
 reached-carried w v r h = reached_along h.steps h.answers w v r h.runs
 
--- nothing is left to carry
-pub settled-quiet : (w : World) → IsOpenWorld w → (is_ready w.a ≡ false) × (is_ready w.b ≡ false) → (w.ab.bytes ≡ []) × (w.ba.bytes ≡ []) → is_quiet w ≡ true
-settled-quiet w o due under = quiet-world w o due.0 due.1 under.0 under.1
+-- nothing is left to carry, and the machine is still
+pub settled-still : (w : World) → IsOpenWorld w → (is_ready w.a ≡ false) × (is_ready w.b ≡ false) → (w.ab.bytes ≡ []) × (w.ba.bytes ≡ []) → (m : Machine) → Agrees w m → IsStillMachine m
+settled-still w o due under m a = still Client Server w m a (quiet-world w o due.0 due.1 under.0 under.1)

@@ -6,7 +6,9 @@ use Rattle.ymx_model.specs.declared.types.Answer.{Answer}
 use Rattle.ymx_model.specs.session.Sessions.{is_running}
 use Rattle.ymx_model.specs.session.Emissions.{in_turn, is_ready}
 use Rattle.ymx_model.specs.world.Worlds.{World, Pipe, Runs}
-use Rattle.ymx_headline.specs.Laws.{IsOpenWorld, is_carriage}
+use Rattle.ymx_model.specs.machine.Machines.{Machine}
+use Rattle.ymx_headline.specs.Agrees.{Agrees}
+use Rattle.ymx_headline.specs.Laws.{HasRun, IsOpenWorld, is_carriage}
 use Rattle.ymx_world.specs.Acts.{session_of, pipe_of}
 use Rattle.ymx_world.specs.Bounds.{IsBoundedRun}
 use Rattle.ymx_world.specs.Progress.{receiver_of}
@@ -27,7 +29,7 @@ IsDueCarriage (step.Deliver direction n) w = (0 < n) × (0 < length (pipe_of dir
 IsDueCarriage _ w = ⊥
 
 -- Some emissions and deliveries, and nothing else, led from w to v. From an open world they lead to an open one, and
--- feed wholly at most twice as many frames as its load.
+-- feed wholly at most twice as many frames as its load. Each queue machine that agreed with w has a run beside them.
 pub record IsCarriedOn (w v : World) : Type 0 where
   pub steps : List Step
   pub answers : List Answer
@@ -35,3 +37,4 @@ pub record IsCarriedOn (w v : World) : Type 0 where
   pub runs : Runs in_turn steps answers w v
   pub on : IsOpenWorld w → IsOpenWorld v
   pub bounded : IsOpenWorld w → IsBoundedRun steps answers w v
+  pub queues : (m : Machine) → Agrees w m → HasRun in_turn steps answers w v m

@@ -5,6 +5,7 @@ ghost use Rattle.ymx_model.specs.declared.types.Role.TheVariants.{Client, Server
 ghost use Rattle.ymx_model.specs.session.Emissions.{in_turn, is_ready};
 ghost use Rattle.ymx_model.specs.world.Worlds.{World as TheWorld, Steps, Runs, new_world, is_quiet};
 ghost use Rattle.ymx_model.specs.machine.Machines.{Machine, new_machine};
+ghost use Rattle.ymx_model.specs.machine.Runs.{IsStillMachine};
 ghost use Rattle.ymx_headline.specs.Agrees.{Agrees, Follows};
 ghost use Rattle.ymx_headline.specs.Laws.{HasRun, IsOpenWorld, breaks_off, carries_bytes, is_carriage};
 ghost use Rattle.ymx_session.specs.NewSessions.{first_id, new_fault, IsNewFault};
@@ -164,6 +165,8 @@ impl World {
     /// and neither input was ended.
     pub fn quiet(&self) -> bool
         ensures value { result ≡ is_quiet self.now }
+        // A queue machine that agrees with a quiet world is still.
+        ensures still { result ≡ true → (m : Machine) → Agrees self.now m → IsStillMachine m }
         // Where nothing was stopped, ended, closed or broken, a world that isn't quiet can carry a byte on.
         ensures goes_on { IsOpenWorld self.now → result ≡ false →
             (step : TheStep) × (given : TheAnswer) × (v : TheWorld) × Steps in_turn step given self.now v × (carries_bytes step given ≡ true) }
@@ -188,6 +191,8 @@ impl World {
         ensures quiet { IfOk result (λ settled. settled ≡ true → is_quiet self.new ≡ true) }
         ensures open { IsOpenWorld self.old → IfOk result (λ settled. settled ≡ true) }
         ensures left_alone { IfOk result (λ settled. settled ≡ false → self.new ≡ self.old) }
+        // Nothing is on its way in the queues then: a machine that agrees with the world is still.
+        ensures still { IfOk result (λ settled. settled ≡ true → (m : Machine) → Agrees self.new m → IsStillMachine m) }
         // Whatever the result, emissions and deliveries alone were made.
         ensures carried { IsCarriedOn self.old self.new }
     {

@@ -1,7 +1,8 @@
-use Rattle.std.proofs.Common.{◌≡◌, true, subst, sym, ◌∙◌, ap}
+use Rattle.std.proofs.Common.{◌≡◌, true, false, [], rules, subst, sym, ◌∙◌, ap}
+use Rattle.ymx_model.specs.session.Emissions.{is_ready}
 use Rattle.ymx_world.specs.Reached.{IsReached}
 use Rattle.ymx_world.specs.Settled.{is_open_world}
-use Rattle.ymx_world.proofs.Settling.{open-world, one-carriage, carried-none, carried-more, reached-carried}
+use Rattle.ymx_world.proofs.Settling.{open-world, one-carriage, carried-none, carried-more, reached-carried, settled-still}
 use Rattle.ymx_world.proofs.world.World.settle.Goals as goal
 
 pub returns-then-not-is_open-clause-carried : goal.returns-then-not-is_open-clause-carried
@@ -23,3 +24,9 @@ loop-step-preserved c =
     let reached = reached-carried c.args.self.now c.loop-step.self first c.loop-step.invariant.carried in
     let one = one-carriage c.in-Some.step c.in_ok-step.field-0 c.loop-step.self c.step.new.self reached c.loop-step.invariant.open_still c.in-Some.ensures.some c.in_ok-step.ensures.forward c.in_ok-step.ensures.no_fault c.in_ok-step.ensures.steps in
     record { open_still = one.on; carried = carried-more c.args.self.now c.loop-step.self c.step.new.self c.in-Some.step c.in_ok-step.field-0 first c.loop-step.invariant.carried c.in_ok-step.ensures.steps one }
+
+pub returns-clause-still : goal.returns-clause-still
+returns-clause-still c = λ e m a.
+    let due : (is_ready c.loop-step.self.a ≡ false) × (is_ready c.loop-step.self.b ≡ false) = search rules in
+    let under : (c.loop-step.self.ab.bytes ≡ []) × (c.loop-step.self.ba.bytes ≡ []) = search rules in
+    settled-still c.loop-step.self c.loop-step.invariant.open_still due under m a
