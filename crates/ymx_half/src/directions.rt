@@ -1,6 +1,6 @@
 //! The two directions of a stream, by the halves that hold them.
 
-ghost use Rattle.std.specs.Prelude.{◌≡◌, ◌+◌, ◌≤◌, ◌++◌, ◌&&◌, [], true, false, not, length, take, drop, min, IsOk, IfOk, OnErr};
+ghost use Rattle.std.specs.Prelude.{◌≡◌, ◌+◌, ◌<◌, ◌≤◌, ◌++◌, ◌&&◌, [], true, false, not, length, take, drop, min, IsOk, IfOk, OnErr};
 ghost use Rattle.ymx_model.specs.shared.Limits.{first_credit, greatest_number};
 ghost use Rattle.ymx_model.specs.session.Records.{writer_write, writer_send, writer_grant, writer_finish, writer_begin_fin, reader_arrive, reader_read, reader_announce, reader_end, reader_empty};
 ghost use Rattle.ymx_model.specs.session.FramesDue.{is_empty};
@@ -178,6 +178,31 @@ impl Receiving {
         match self {
             Receiving::Open(half) => half.read(buffer),
             Receiving::Ended(half) => half.read(buffer),
+            Receiving::Dead(_) => 0,
+        }
+    }
+
+    /// The first unread bytes, as they lie in the ring.
+    pub(crate) fn unread(&self) -> &[u8]
+        ensures first { result.now ≡ take (length result.now) (reader_of self.now).unread }
+        ensures some { 0 < length (reader_of self.now).unread → 0 < length result.now }
+    {
+        match self {
+            Receiving::Open(half) => half.unread(),
+            Receiving::Ended(half) => half.unread(),
+            Receiving::Dead(_) => &[],
+        }
+    }
+
+    /// Drops the first unread bytes, as a read of them would take them out.
+    pub(crate) fn consume(&mut self, count: usize) -> usize
+        ensures count { result ≡ min count (length (reader_of self.old).unread) }
+        ensures after { reader_of self.new ≡ reader_read result (reader_of self.old) }
+        ensures same_state { receives_nothing self.new ≡ receives_nothing self.old }
+    {
+        match self {
+            Receiving::Open(half) => half.consume(count),
+            Receiving::Ended(half) => half.consume(count),
             Receiving::Dead(_) => 0,
         }
     }

@@ -1,6 +1,6 @@
 //! A receiving half whose end has arrived.
 
-ghost use Rattle.std.specs.Prelude.{◌≡◌, ◌++◌, true, length, take, drop, min};
+ghost use Rattle.std.specs.Prelude.{◌≡◌, ◌<◌, ◌++◌, true, length, take, drop, min};
 ghost use Rattle.ymx_model.specs.session.Records.{reader_read, reader_announce, reader_empty};
 
 use crate::DeadHalf;
@@ -55,6 +55,26 @@ impl EndedHalf {
         let count = self.unread.take(buffer);
         self.debt.read(count as u32);
         count
+    }
+
+    /// The first unread bytes, as they lie in the ring: some, if any is unread. None is taken out.
+    pub fn unread(&self) -> &[u8]
+        ensures first { result.now ≡ take (length result.now) self.now.unread }
+        ensures some { 0 < length self.now.unread → 0 < length result.now }
+    {
+        self.unread.front()
+    }
+
+    /// Drops the first `count` unread bytes, or as many as are there, as a read of them would take them out, and
+    /// returns their number.
+    pub fn consume(&mut self, count: usize) -> usize
+        ensures count { result ≡ min count (length self.old.unread) }
+        ensures after { self.new ≡ reader_read result self.old }
+    {
+        let taken = count.min(self.unread.len());
+        self.unread.skip(taken);
+        self.debt.read(taken as u32);
+        taken
     }
 
     /// `n` of the owed bytes (all, if they are fewer) are announced, by the frame that opens or accepts

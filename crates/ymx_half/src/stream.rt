@@ -1,6 +1,6 @@
 //! The record of a stream.
 
-ghost use Rattle.std.specs.Prelude.{◌≡◌, ◌+◌, ◌≤◌, ◌++◌, ℕ, true, false, length, take, drop, min, is_some, Some, IsOk, IfOk, OnErr};
+ghost use Rattle.std.specs.Prelude.{◌≡◌, ◌+◌, ◌<◌, ◌≤◌, ◌++◌, ℕ, true, false, length, take, drop, min, is_some, Some, IsOk, IfOk, OnErr};
 ghost use Rattle.std.specs.Option.{option_map};
 ghost use Rattle.ymx_model.specs.shared.Limits.{first_credit, greatest_number};
 ghost use Rattle.ymx_header.specs.Headers.{spelling};
@@ -228,6 +228,15 @@ impl StreamRec {
         self.reader.unread_len()
     }
 
+    /// The first unread bytes, as they lie in the stream's ring: some, if any is unread. None is taken out. Bytes
+    /// that wrap round the end of the ring come once those before them were consumed.
+    pub fn unread(&self) -> &[u8]
+        ensures first { result.now ≡ take (length result.now) self.now.reader.unread }
+        ensures some { 0 < length self.now.reader.unread → 0 < length result.now }
+    {
+        self.reader.unread()
+    }
+
     /// How many bytes the peer may still send.
     pub fn granted(&self) -> u32
         ensures { result ≡ self.now.reader.granted }
@@ -302,6 +311,15 @@ impl StreamRec {
         ensures after { self.new ≡ end_read result self.old }
     {
         self.reader.read(buffer)
+    }
+
+    /// Drops the first `count` unread bytes, or as many as are there, as a read of them would take them out, and
+    /// returns their number. The caller has seen them by `unread`.
+    pub fn consume(&mut self, count: usize) -> usize
+        ensures count { result ≡ min count (length self.old.reader.unread) }
+        ensures after { self.new ≡ end_read result self.old }
+    {
+        self.reader.consume(count)
     }
 
     /// Nothing more is written (half-close): the unsent bytes go out, and then the end.

@@ -69,6 +69,33 @@ impl Ring {
         self.bytes.read_into(buffer)
     }
 
+    /// Returns the first bytes, as they lie in the ring's block. None is taken out.
+    ///
+    /// They are a beginning of the ring's bytes, and there are some if there is any in the ring. Bytes that wrap
+    /// round the end of the block come once those before them were skipped.
+    ///
+    /// Example: `abc` for a ring that holds `abc`, none of which wraps.
+    pub fn front(&self) -> &[u8]
+        ensures first { result.now ≡ take (length result.now) self.now.items }
+        ensures some { 0 < length self.now.items → 0 < length result.now }
+    {
+        let (first, wrapped) = self.bytes.as_slices();
+        if first.is_empty() { wrapped } else { first }
+    }
+
+    /// Drops the first `count` bytes, of which there have to be so many, and keeps those behind them. The ring
+    /// keeps its memory.
+    ///
+    /// Example: `skip(1)` on a ring that holds `abc` leaves `bc`.
+    pub fn skip(&mut self, count: usize)
+        requires { count ≤ length self.old.items }
+        ensures left { self.new.items ≡ drop count self.old.items }
+        ensures same_capacity { self.new.capacity ≡ self.old.capacity }
+    {
+        let left = self.len() - count;
+        self.bytes.truncate_front(left);
+    }
+
     /// Drops all bytes. The ring keeps its memory, so all of its capacity is room again.
     ///
     /// Example: after `clear`, a ring of 4 bytes that held `abc` has a `room` of 4.

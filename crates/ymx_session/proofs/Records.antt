@@ -14,6 +14,7 @@ use Rattle.ymx_model.specs.shared.Lists.{look, change}
 use Rattle.ymx_model.specs.session.Sessions.{Session, is_closed, is_lost, on_stream}
 use Rattle.ymx_model.specs.session.Calls.{session_opened, read_from}
 use Rattle.ymx_session.specs.Replies.{stream_fault, end_fault}
+use Rattle.ymx_session.specs.Streams.{waiting}
 
 -- ---- opening
 
@@ -94,3 +95,28 @@ read-leaves id n old e table v s w f l a b k t =
 
 pub read-rest : (n : ℕ) (xs old new : List ℕ) → n ≡ min (length old) (length xs) → new ≡ take n xs ++ drop n old → new ≡ take n new ++ drop n old
 read-rest n xs old new k w = let t : take n (take n xs ++ drop n old) ≡ take n xs = grind (arith, common_steps) in rw (w, t) refl
+
+-- ---- bytes that are lent, and taken out once they were seen
+
+-- the bytes that wait are those of the caller's stream
+pub waiting-is : (id : ℕ) (e : End) (s : Session) → stream_fault id s ≡ None → look id s.table.entries ≡ Some e → waiting id s ≡ e.reader.unread
+waiting-is id e s f l = rw (f, l) refl
+
+pub consume-gives : (id n count : ℕ) (e : End) (s : Session) → stream_fault id s ≡ None → look id s.table.entries ≡ Some e → 0 < count → 0 < length e.reader.unread →
+    n ≡ min count (length e.reader.unread) → Read (take n (take count (waiting id s))) ≡ (read_from id count s).reply
+consume-gives id n count e s f l a b k =
+    let c = callers id e s f l in
+    let r = read-reply count e s a b c.live c.reset in
+    let same : take n (take count e.reader.unread) ≡ take count e.reader.unread = grind (arith, common_steps) in
+    rw (waiting-is id e s f l, same, c.closed, l, r) refl
+
+-- a read changes the same, whatever is in its buffer
+pub consume-leaves : (id n count : ℕ) (e : End) (table : Table) (v s : Session) → v ≡ s → stream_fault id s ≡ None → look id s.table.entries ≡ Some e → 0 < count → 0 < length e.reader.unread →
+    n ≡ min count (length e.reader.unread) → table ≡ with_record id (end_read n) v.table → record v { table = table } ≡ (read_from id count s).next
+consume-leaves id n count e table v s w f l a b k t =
+    let c = callers id e s f l in
+    let r = read-reply count e s a b c.live c.reset in
+    let some = length-front count e.reader.unread a b in
+    let same = change-at id (end_read n) (end_read count) e s.table.entries l (end_read-min count e n k) in
+    let go : (read_from id count s).next ≡ on_stream id (end_read n) s = rw (c.closed, l, r, some, same) refl in
+    rw t (ap (on_stream id (end_read n)) w ∙ sym go)

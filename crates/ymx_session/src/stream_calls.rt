@@ -1,10 +1,12 @@
 //! Calls on one stream.
 
-ghost use Rattle.std.specs.Prelude.{◌≡◌, ◌≤◌, ◌++◌, length, take, drop, true, false, None, Some, IfOk, IfErr};
+ghost use Rattle.std.specs.Prelude.{◌≡◌, ◌<◌, ◌≤◌, ◌↔◌, ◌++◌, length, take, drop, true, false, None, Some, IsTrue, IfOk, IfErr};
 ghost use Rattle.ymx_model.specs.declared.types.Call.TheVariants as call;
+ghost use Rattle.ymx_model.specs.declared.types.Reply.TheVariants.{ReadEnd};
 ghost use Rattle.ymx_model.specs.shared.Lists.{look};
 ghost use Rattle.ymx_model.specs.session.Calls.{write_to, read_from, finish, reset, forget, takes_memory};
 ghost use Rattle.ymx_law_session.specs.Limits.{IsWithin};
+ghost use Rattle.ymx_session.specs.Streams.{waiting, room_of};
 ghost use Rattle.ymx_session.specs.Replies.{wrote_or, read_or, count_of, done_or, is_out_of_memory, stream_fault};
 
 use crate::state::State;
@@ -77,6 +79,64 @@ impl State {
             return Err(CallFault::Lost);
         }
         Ok(Got::Wait)
+    }
+
+    /// The first unread bytes, as they lie in the stream's ring.
+    pub(crate) fn unread(&self, id: u32) -> &[u8]
+        ensures first { result.now ≡ take (length result.now) (waiting id self.now) }
+        ensures some { 0 < length (waiting id self.now) → 0 < length result.now }
+    {
+        match self.stream(id) {
+            Ok(stream) => stream.unread(),
+            Err(_) => &[],
+        }
+    }
+
+    /// Drops the first unread bytes, as a read of them would take them out.
+    pub(crate) fn consume(&mut self, id: u32, count: usize) -> Result<Got, CallFault>
+        ensures reply { read_or result (take count (waiting id self.old)) ≡ (read_from id count self.old).reply }
+        ensures state { self.new ≡ (read_from id count self.old).next }
+        ensures within { count_of result ≤ count }
+    {
+        let stream = self.stream(id)?;
+        if count == 0 {
+            return Ok(Got::Bytes(0));
+        }
+        let has_bytes = stream.unread_len() > 0;
+        if has_bytes {
+            let taken = self.table.consume(id, count);
+            return Ok(Got::Bytes(taken));
+        }
+        if stream.has_ended() {
+            return Ok(Got::End);
+        }
+        if self.is_lost() {
+            return Err(CallFault::Lost);
+        }
+        Ok(Got::Wait)
+    }
+
+    /// How many bytes may be written now.
+    pub(crate) fn room(&self, id: u32) -> usize
+        ensures { result ≡ room_of id self.now }
+    {
+        let Ok(stream) = self.stream(id) else {
+            return 0;
+        };
+        if stream.is_finished() || self.is_lost() {
+            return 0;
+        }
+        stream.credit() as usize
+    }
+
+    /// Whether the peer has finished the stream and all was read.
+    pub(crate) fn is_at_end(&self, id: u32) -> bool
+        ensures { IsTrue result ↔ ((read_from id 1 self.now).reply ≡ ReadEnd) }
+    {
+        match self.stream(id) {
+            Ok(stream) => stream.has_ended() && stream.unread_len() == 0,
+            Err(_) => false,
+        }
     }
 
     /// Half-closes a stream.

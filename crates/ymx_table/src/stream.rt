@@ -56,6 +56,21 @@ impl Table {
         count
     }
 
+    /// Drops the stream's first `count` unread bytes, or as many as are there, as a read of them would take them
+    /// out, and returns their number.
+    pub fn consume(&mut self, id: u32, count: usize) -> usize
+        requires { IsSome (look id self.old.entries) }
+        ensures count { ForSome (look id self.old.entries) (λ e. result ≡ min count (length e.reader.unread)) }
+        ensures after { self.new ≡ with_record id (end_read result) self.old }
+    {
+        let place = self.place_of(id);
+        let stream = &mut self.records[place];
+        let taken = stream.consume(count);
+        let is_due = stream.is_due(self.window);
+        self.due.set(place, is_due);
+        taken
+    }
+
     /// Nothing more is written to the stream (half-close). It is neither reset nor given up.
     pub fn finish(&mut self, id: u32)
         requires there { IsSome (look id self.old.entries) }

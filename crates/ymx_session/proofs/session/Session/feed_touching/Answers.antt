@@ -1,0 +1,8 @@
+use Rattle.std.proofs.Common.{refl}
+use Rattle.ymx_model.specs.declared.types.Event.TheVariants as event
+use Rattle.ymx_model.specs.declared.types.Reply.TheVariants as reply
+use Rattle.ymx_session.proofs.Sounds.{gives-sound}
+use Rattle.ymx_session.proofs.session.Session.feed_touching.Goals as goal
+
+pub invariant_of-self : goal.invariant_of-self
+invariant_of-self c = gives-sound _ _ (event.Feed c.args.input.now) (reply.Fed c.feed.result) (c.feed.result, refl, c.feed.ensures.feeds) c.self.invariant
