@@ -1,9 +1,10 @@
 #!/usr/bin/env python3
 """Writes the proofs of those exports of crates/ymx_c that take the session's address, proofs/ymx_core_NAME/Proof.antt.
-Usage: python3 c/write_proofs.py crates/ymx_c [NAME..]
+Usage: c/write_proofs.py [--same] crates/ymx_c [NAME..]; with --same it writes nothing, and says which files differ.
 All are one text; what differs is whether there is an id, and a slice that is read or written."""
 import os, sys
-out = sys.argv[1]
+same = sys.argv[1] == '--same'
+out, *only = sys.argv[2:] if same else sys.argv[1:]
 FNS = {
  'open': ('', '', 'Answers x (event.Call call.Open) u m'),
  'accept': ('', '', 'Answers x (event.Call call.Accept) u m'),
@@ -154,9 +155,15 @@ def text(name, ident, sl, fact):
              f'use Rattle.ymx_c.specs.contracts.face.{name} as g', f'use Rattle.ymx_c.proofs.face.{name}.Met.{{met}}', '',
              'abbrev stayed : Stays f.ended.signature.params f.ended.kept', f'stayed = {stay}', '']
     return '\n'.join(head) + '\n' + body + '\n'
-only = sys.argv[2:]
+differs = 0
 for name, (ident, sl, fact) in FNS.items():
     if only and name not in only: continue
-    d = f'{out}/proofs/ymx_core_{name}'
-    os.makedirs(d, exist_ok=True)
-    open(f'{d}/Proof.antt', 'w').write(text(name, ident, sl, fact))
+    path = f'{out}/proofs/ymx_core_{name}/Proof.antt'
+    if same:
+        if open(path).read() != text(name, ident, sl, fact):
+            print(f'{path} differs')
+            differs = 1
+        continue
+    os.makedirs(os.path.dirname(path), exist_ok=True)
+    open(path, 'w').write(text(name, ident, sl, fact))
+sys.exit(differs)

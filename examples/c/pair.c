@@ -3,6 +3,7 @@
  *
  *     cc -o pair pair.c $(pkg-config --cflags --libs ymx)
  */
+#define _POSIX_C_SOURCE 200809L
 #include <ymx.h>
 
 #include <errno.h>
