@@ -1,0 +1,145 @@
+/* The C half of libymx: each call looks whether its pointers are NULL, and then calls the proved function of its
+ * name. The proved functions are those of crates/ymx_c. They ask for pointers that aren't NULL, even to no bytes. */
+#include "ymx.h"
+
+/* Two rather than one, so that YMX_VERSION_MAJOR is replaced by its number before it is made a text. */
+#define TEXT_OF(number) #number
+#define TEXT(number) TEXT_OF(number)
+
+/* What crates/ymx_c exports. A slice is passed as a pointer and a length. */
+int64_t ymx_core_new(uint32_t role, uint32_t window, uint32_t first, ymx_session **out);
+void ymx_core_drop(ymx_session *session);
+int64_t ymx_core_feed(ymx_session *session, const void *bytes, size_t len);
+int64_t ymx_core_feed_end(ymx_session *session);
+int64_t ymx_core_emit(ymx_session *session, void *buffer, size_t len);
+int64_t ymx_core_due(ymx_session *session);
+int64_t ymx_core_open(ymx_session *session);
+int64_t ymx_core_accept(ymx_session *session);
+int64_t ymx_core_write(ymx_session *session, uint32_t id, const void *bytes, size_t len);
+int64_t ymx_core_read(ymx_session *session, uint32_t id, void *buffer, size_t len);
+int64_t ymx_core_finish(ymx_session *session, uint32_t id);
+int64_t ymx_core_reset(ymx_session *session, uint32_t id);
+int64_t ymx_core_forget(ymx_session *session, uint32_t id);
+int64_t ymx_core_ping(ymx_session *session);
+int64_t ymx_core_ponged(ymx_session *session, uint32_t number);
+int64_t ymx_core_go_away(ymx_session *session);
+int64_t ymx_core_close(ymx_session *session);
+int64_t ymx_core_status(ymx_session *session);
+
+/* The kit's free, the other half of its malloc. */
+void rattle_dealloc(void *block);
+
+/* Where a slice of no bytes lies. Nothing reads or writes it. */
+static unsigned char nowhere;
+
+/* No session, or bytes that lie at NULL. */
+static int is_bad(const ymx_session *session, const void *bytes, size_t len) {
+    return session == NULL || (bytes == NULL && len > 0);
+}
+
+int64_t ymx_new(ymx_role role, uint32_t window, uint32_t first, ymx_session **out) {
+    if (out == NULL) return YMX_E_NULL;
+    *out = NULL;
+    return ymx_core_new(role == YMX_CLIENT ? 0 : 1, window, first, out);
+}
+
+void ymx_free(ymx_session *session) {
+    if (session == NULL) return;
+    ymx_core_drop(session);
+    rattle_dealloc(session);
+}
+
+int64_t ymx_feed(ymx_session *session, const void *bytes, size_t len) {
+    if (is_bad(session, bytes, len)) return YMX_E_NULL;
+    return ymx_core_feed(session, bytes == NULL ? &nowhere : bytes, len);
+}
+
+int64_t ymx_emit(ymx_session *session, void *buffer, size_t len) {
+    if (is_bad(session, buffer, len)) return YMX_E_NULL;
+    return ymx_core_emit(session, buffer == NULL ? &nowhere : buffer, len);
+}
+
+int64_t ymx_write(ymx_session *session, uint32_t id, const void *bytes, size_t len) {
+    if (is_bad(session, bytes, len)) return YMX_E_NULL;
+    return ymx_core_write(session, id, bytes == NULL ? &nowhere : bytes, len);
+}
+
+int64_t ymx_read(ymx_session *session, uint32_t id, void *buffer, size_t len) {
+    if (is_bad(session, buffer, len)) return YMX_E_NULL;
+    return ymx_core_read(session, id, buffer == NULL ? &nowhere : buffer, len);
+}
+
+int64_t ymx_feed_end(ymx_session *session) {
+    return session == NULL ? YMX_E_NULL : ymx_core_feed_end(session);
+}
+
+/* The proved function gives the session back as it was, so it may be const here. */
+int64_t ymx_due(const ymx_session *session) {
+    return session == NULL ? YMX_E_NULL : ymx_core_due((ymx_session *)session);
+}
+
+int64_t ymx_status(const ymx_session *session) {
+    return session == NULL ? YMX_E_NULL : ymx_core_status((ymx_session *)session);
+}
+
+int64_t ymx_open(ymx_session *session) {
+    return session == NULL ? YMX_E_NULL : ymx_core_open(session);
+}
+
+int64_t ymx_accept(ymx_session *session) {
+    return session == NULL ? YMX_E_NULL : ymx_core_accept(session);
+}
+
+int64_t ymx_finish(ymx_session *session, uint32_t id) {
+    return session == NULL ? YMX_E_NULL : ymx_core_finish(session, id);
+}
+
+int64_t ymx_reset(ymx_session *session, uint32_t id) {
+    return session == NULL ? YMX_E_NULL : ymx_core_reset(session, id);
+}
+
+int64_t ymx_forget(ymx_session *session, uint32_t id) {
+    return session == NULL ? YMX_E_NULL : ymx_core_forget(session, id);
+}
+
+int64_t ymx_ping(ymx_session *session) {
+    return session == NULL ? YMX_E_NULL : ymx_core_ping(session);
+}
+
+int64_t ymx_ponged(ymx_session *session, uint32_t number) {
+    return session == NULL ? YMX_E_NULL : ymx_core_ponged(session, number);
+}
+
+int64_t ymx_go_away(ymx_session *session) {
+    return session == NULL ? YMX_E_NULL : ymx_core_go_away(session);
+}
+
+int64_t ymx_close(ymx_session *session) {
+    return session == NULL ? YMX_E_NULL : ymx_core_close(session);
+}
+
+const char *ymx_error_name(int64_t code) {
+    if (code >= 0) return "OK";
+    switch (code) {
+    case YMX_E_NO_STREAM: return "NO_STREAM";
+    case YMX_E_FINISHED: return "FINISHED";
+    case YMX_E_RESET: return "RESET";
+    case YMX_E_LOST: return "LOST";
+    case YMX_E_CLOSED: return "CLOSED";
+    case YMX_E_PEER_AWAY: return "PEER_AWAY";
+    case YMX_E_OPENS_PENDING: return "OPENS_PENDING";
+    case YMX_E_TOO_MANY: return "TOO_MANY";
+    case YMX_E_EXHAUSTED: return "EXHAUSTED";
+    case YMX_E_PINGS_PENDING: return "PINGS_PENDING";
+    case YMX_E_NO_MEMORY: return "NO_MEMORY";
+    case YMX_WAIT: return "WAIT";
+    case YMX_E_BAD_WINDOW: return "BAD_WINDOW";
+    case YMX_E_BAD_FIRST: return "BAD_FIRST";
+    case YMX_E_NULL: return "NULL";
+    default: return "UNKNOWN";
+    }
+}
+
+const char *ymx_version(void) {
+    return TEXT(YMX_VERSION_MAJOR) "." TEXT(YMX_VERSION_MINOR) "." TEXT(YMX_VERSION_PATCH);
+}

@@ -1,0 +1,190 @@
+/* ymx.h: yamux (version 0 of HashiCorp's stream multiplexer) as a library that does no input or output.
+ *
+ * A session is one side of a connection. It never reads, writes, waits, starts a thread or ends the program: the
+ * caller feeds it the bytes that came from the peer, and writes out the bytes that it emits. A call that would
+ * have to wait says so. docs/C.md has a whole server, and says what is proved.
+ *
+ * Answers. A call answers a number: 0 or more is good, less than 0 is an ymx_error. A refusal changes nothing.
+ *
+ * Threads. One thread at a time uses a session; it may be another one each time. Two sessions share nothing, and
+ * the library has no variables of its own. No call belongs into a signal handler.
+ *
+ * Memory. Sessions come from malloc and go by free. Only ymx_new, ymx_open, ymx_feed (for streams that the peer
+ * opens) and a ymx_write beyond 262,144 unsent bytes of one stream take memory. Bytes and buffers belong to the
+ * caller: nothing else touches them during a call, and the session keeps no pointer to them. They may be NULL
+ * where the length is 0. A length is at most PTRDIFF_MAX.
+ */
+#ifndef YMX_H
+#define YMX_H
+
+#include <stddef.h>
+#include <stdint.h>
+
+/* The version of this header; ymx_version() has that of the library. */
+#define YMX_VERSION_MAJOR 0
+#define YMX_VERSION_MINOR 2
+#define YMX_VERSION_PATCH 0
+
+/* The least and the widest window of a stream, in bytes (flow control). */
+#define YMX_LEAST_WINDOW 262144
+#define YMX_WIDEST_WINDOW 16777216
+
+#if defined(__GNUC__) && __GNUC__ >= 4
+#define YMX_API __attribute__((visibility("default")))
+#else
+#define YMX_API
+#endif
+
+#ifdef __cplusplus
+extern "C" {
+#endif
+
+/* A session. Nobody looks into it. */
+typedef struct ymx_session ymx_session;
+
+/* Which side of the connection it is. The client is the side that called (stream identifiers). */
+typedef enum ymx_role { YMX_CLIENT = 0, YMX_SERVER = 1 } ymx_role;
+
+/* Why a call was refused. Each call lists the refusals that it can answer. */
+typedef enum ymx_error {
+    YMX_E_NO_STREAM = -1,      /* no stream of the caller's has this id */
+    YMX_E_FINISHED = -2,       /* the stream was finished on this side */
+    YMX_E_RESET = -3,          /* the stream was reset, by either side */
+    YMX_E_LOST = -4,           /* the connection is lost, or the session broke */
+    YMX_E_CLOSED = -5,         /* the session was closed */
+    YMX_E_PEER_AWAY = -6,      /* the peer takes no more streams (go away) */
+    YMX_E_OPENS_PENDING = -7,  /* 256 own streams are neither acknowledged, reset nor forgotten */
+    YMX_E_TOO_MANY = -8,       /* 1,024 streams are there */
+    YMX_E_EXHAUSTED = -9,      /* the own stream ids are used up */
+    YMX_E_PINGS_PENDING = -10, /* 16 pings are not collected */
+    YMX_E_NO_MEMORY = -11,     /* malloc gave none */
+    YMX_WAIT = -12,            /* no refusal: nothing to read yet, or no credit to write; ask again later */
+    YMX_E_BAD_WINDOW = -13,    /* the window is below YMX_LEAST_WINDOW or above YMX_WIDEST_WINDOW */
+    YMX_E_BAD_FIRST = -14,     /* the first stream id is one that the peer opens */
+    YMX_E_NULL = -15           /* a pointer is NULL that may not be; nothing was done */
+} ymx_error;
+
+/* What ymx_status answers. A session that broke answers YMX_BROKEN and the number of the fault, so 101 to 109:
+ * 1 a frame's version is not 0, 2 an unknown type (framing), 3 a SYN for stream 0 or for an id of this side's, 4 a
+ * SYN for a stream that is there (stream identifiers), 5 Data beyond the window, 6 a credit above 4,294,967,295
+ * (flow control), 7 an unknown Go Away code, 8 and 9 the peer says that it found a protocol error, or that it has an
+ * internal one (go away). */
+enum { YMX_RUNNING = 0, YMX_LOST = 1, YMX_CLOSED = 2, YMX_BROKEN = 100 };
+
+/* ---- a session comes and goes */
+
+/* Makes a session that has done nothing, writes its address to *out, and answers 0. Whoever has it calls ymx_free.
+ *
+ * `window` is how many bytes the peer may have unread on one stream: YMX_LEAST_WINDOW, which is the usual one, to
+ * YMX_WIDEST_WINDOW. `first` is the first own stream id: odd at a client, even at a server; or 0 for the least.
+ *
+ * Otherwise *out is NULL, and it answers YMX_E_BAD_WINDOW, then YMX_E_BAD_FIRST, then YMX_E_NO_MEMORY; with `out`
+ * NULL, YMX_E_NULL. */
+YMX_API int64_t ymx_new(ymx_role role, uint32_t window, uint32_t first, ymx_session **out);
+
+/* Ends a session and gives back its memory. Nothing is sent: ymx_go_away or ymx_close come before it. NULL is
+ * allowed, and does nothing. */
+YMX_API void ymx_free(ymx_session *session);
+
+/* ---- bytes of the connection */
+
+/* Feeds `len` bytes that came from the peer, in pieces of any length (framing), and answers how many were taken.
+ *
+ * Fewer than `len` are taken where 1,024 answers are unsent: then emit, and feed the rest. Or the session broke,
+ * now or before, as ymx_status says: then emit what is due, and hang up. A session that is lost or closed takes all
+ * and drops it. It never fails for want of memory: a stream that the peer opens is then rejected. */
+YMX_API int64_t ymx_feed(ymx_session *session, const void *bytes, size_t len);
+
+/* The connection has ended or failed: nothing more will come. Answers 0. Bytes that are there are still read; after
+ * them calls answer YMX_E_LOST. */
+YMX_API int64_t ymx_feed_end(ymx_session *session);
+
+/* Writes bytes for the peer into `buffer`, at most `len`, and answers how many (framing). The caller sends them all,
+ * in order. 0 where nothing is due. Fewer than `len` come only if nothing is left due. Streams take turns. */
+YMX_API int64_t ymx_emit(ymx_session *session, void *buffer, size_t len);
+
+/* 1 where ymx_emit would give at least one byte, else 0. No stream is looked at. */
+YMX_API int64_t ymx_due(const ymx_session *session);
+
+/* ---- streams */
+
+/* Opens a stream, and answers its id, which is above 0 (stream identifiers). Bytes may be written at once.
+ *
+ * Refused with YMX_E_CLOSED, YMX_E_LOST, YMX_E_PEER_AWAY, YMX_E_EXHAUSTED, YMX_E_OPENS_PENDING, YMX_E_TOO_MANY,
+ * YMX_E_NO_MEMORY: the first that applies. */
+YMX_API int64_t ymx_open(ymx_session *session);
+
+/* Takes the stream of the peer's that came first, and answers its id, or 0 where none waits.
+ *
+ * Refused with YMX_E_CLOSED, and YMX_E_LOST once none waits. */
+YMX_API int64_t ymx_accept(ymx_session *session);
+
+/* Writes to a stream, and answers how many of the `len` bytes were taken: as many as the peer's credit allows, from
+ * the first on (flow control). YMX_WAIT where there is no credit.
+ *
+ * Refused with YMX_E_CLOSED, YMX_E_NO_STREAM, YMX_E_RESET, YMX_E_FINISHED, YMX_E_LOST, YMX_E_NO_MEMORY. */
+YMX_API int64_t ymx_write(ymx_session *session, uint32_t id, const void *bytes, size_t len);
+
+/* Reads from a stream into `buffer`, at most `len` bytes, and answers how many: as many as are there and fit. The
+ * rest of the buffer stays as it was. 0 at the end, once the peer has finished and all was read; YMX_WAIT where
+ * nothing is there yet. Into a buffer of length 0 it reads 0 bytes.
+ *
+ * Refused with YMX_E_CLOSED, YMX_E_NO_STREAM, YMX_E_RESET, YMX_E_LOST. */
+YMX_API int64_t ymx_read(ymx_session *session, uint32_t id, void *buffer, size_t len);
+
+/* Half-closes a stream: nothing more is written to it, and its end goes out behind the last byte (half-close).
+ * Answers 0. It may still be read.
+ *
+ * Refused with YMX_E_CLOSED, YMX_E_NO_STREAM, YMX_E_RESET, YMX_E_FINISHED, YMX_E_LOST. */
+YMX_API int64_t ymx_finish(ymx_session *session, uint32_t id);
+
+/* Breaks a stream off, both ways: what is unread or unsent of it is dropped, and the peer learns of it. Answers 0.
+ * The id stays the caller's until ymx_forget.
+ *
+ * Refused with YMX_E_CLOSED, YMX_E_NO_STREAM, YMX_E_RESET, YMX_E_LOST. */
+YMX_API int64_t ymx_reset(ymx_session *session, uint32_t id);
+
+/* Gives a stream up: its id is none of the caller's from now on. Answers 0. Where both sides have finished it, its
+ * unsent bytes still go out; where not, it is reset. Every stream that was opened or accepted is to be forgotten
+ * once, or it keeps its memory as long as the session.
+ *
+ * Refused with YMX_E_CLOSED, YMX_E_NO_STREAM. */
+YMX_API int64_t ymx_forget(ymx_session *session, uint32_t id);
+
+/* ---- the session as a whole */
+
+/* Asks the peer for a sign of life, and answers the number of the ping (ping).
+ *
+ * Refused with YMX_E_CLOSED, YMX_E_LOST, YMX_E_PINGS_PENDING. */
+YMX_API int64_t ymx_ping(ymx_session *session);
+
+/* 1 where the answer to the ping of this number is back, which is said once; else 0.
+ *
+ * Refused with YMX_E_CLOSED, and where the answer isn't back with YMX_E_LOST. */
+YMX_API int64_t ymx_ponged(ymx_session *session, uint32_t number);
+
+/* Takes no more streams of the peer's, and tells it so (go away). Answers 0. Streams that are there go on.
+ *
+ * Refused with YMX_E_CLOSED, YMX_E_LOST. */
+YMX_API int64_t ymx_go_away(ymx_session *session);
+
+/* Closes the session at once: nothing more is emitted, unsent bytes are dropped. Answers 0. */
+YMX_API int64_t ymx_close(ymx_session *session);
+
+/* YMX_RUNNING, YMX_LOST, YMX_CLOSED, or YMX_BROKEN and the number of a fault. */
+YMX_API int64_t ymx_status(const ymx_session *session);
+
+/* ---- texts */
+
+/* The name of an error without its prefix, as "RESET"; "OK" of 0 and more, "UNKNOWN" of any other number. It is
+ * static, and never NULL. */
+YMX_API const char *ymx_error_name(int64_t code);
+
+/* The library's version, as "0.2.0". It is static. */
+YMX_API const char *ymx_version(void);
+
+#ifdef __cplusplus
+}
+#endif
+
+#endif

@@ -1,0 +1,224 @@
+//! A session for C: what `ymx.h` declares, under names that begin with `ymx_core_`.
+//!
+//! C holds a pointer that `ymx_core_new` wrote, and never looks behind it. Each call takes that pointer,
+//! requires that a session lies there which nobody else uses, and says by one number what became of it: 0 or
+//! more is the answer, less than 0 a refusal. `face` has the calls over a session, with numbers for answers.
+//!
+//! The calls of `ymx.h` are C functions that look whether a pointer is NULL, and then call their namesakes here.
+#![tactic(auto)]
+
+mod face;
+
+ghost use Rattle.std.specs.Prelude.{◌≡◌, ◌⊎◌, length};
+ghost use Rattle.std.specs.Borrow.{full_share, sem};
+ghost use Rattle.std.specs.Ptr.{lies_at, room_at};
+ghost use Rattle.ymx_model.specs.declared.types.Event.TheVariants as event;
+ghost use Rattle.ymx_model.specs.declared.types.Call.TheVariants as call;
+ghost use Rattle.ymx_model.specs.session.Sessions.{Session as SessionValue};
+ghost use Rattle.ymx_model.specs.session.Emissions.{is_ready};
+ghost use Rattle.ymx_session.specs.contracts.session.Session.{the_row};
+ghost use Rattle.ymx_c.specs.Answers.{Answers, Fills, status_number, flag};
+ghost use Rattle.ymx_c.specs.NewAnswers.{IsMade, IsRefused};
+
+use std::alloc::Global;
+use ymx_session::Session;
+
+/// Makes a session that has done nothing, and writes its address to `out`. 0, or why there is none, and then
+/// NULL is written: -13 for a window below 262,144 or above 16,777,216 bytes (flow control), -14 for a first
+/// stream id that the peer opens (stream identifiers), -11 where there is no memory. `role` is 0 for the
+/// client, and anything else for the server; `first` is the first own id, or 0 for the least.
+#[unsafe(no_mangle)]
+pub extern "C" fn ymx_core_new(
+    alloc: Global,
+    role: u32,
+    window: u32,
+    first: u32,
+    out: &mut *mut u8,
+) -> i64
+    ensures { IsMade role window first result ⊎ IsRefused role window first result out.new }
+{
+    match face::make(alloc, role, window, first) {
+        Ok(whole) => {
+            let place = Box::into_raw(whole);
+            *out = place.cast();
+            0
+        }
+        Err(fault) => {
+            *out = std::ptr::null_mut();
+            face::new_refusal(fault)
+        }
+    }
+}
+
+/// Ends a session and gives back all that it keeps. What it lay in is room again.
+#[unsafe(no_mangle)]
+pub unsafe extern "C" fn ymx_core_drop(at: *mut u8)
+    ghost old: { SessionValue }
+    requires* { sem 𝓛 (lies_at the_row full_share at old) }
+    ensures* { sem 𝓛 (room_at the_row at) }
+{
+    face::end(unsafe { (at as *mut Session).read() });
+}
+
+// ---- the calls
+
+/// Opens the next own stream: its id, or a refusal.
+#[unsafe(no_mangle)]
+pub unsafe extern "C" fn ymx_core_open(at: *mut u8) -> i64
+    ghost old: { SessionValue }
+    requires* { sem 𝓛 (lies_at the_row full_share at old) }
+    ensures* { ∃ₛ (λ (now : SessionValue). sem 𝓛 (lies_at the_row full_share at now) ∗ ⌜ Answers old (event.Call call.Open) result now ⌝) }
+{
+    face::open(unsafe { &mut *(at as *mut Session) })
+}
+
+/// Takes the offered stream that came first: its id, 0 if none waits, or a refusal.
+#[unsafe(no_mangle)]
+pub unsafe extern "C" fn ymx_core_accept(at: *mut u8) -> i64
+    ghost old: { SessionValue }
+    requires* { sem 𝓛 (lies_at the_row full_share at old) }
+    ensures* { ∃ₛ (λ (now : SessionValue). sem 𝓛 (lies_at the_row full_share at now) ∗ ⌜ Answers old (event.Call call.Accept) result now ⌝) }
+{
+    face::accept(unsafe { &mut *(at as *mut Session) })
+}
+
+/// Asks the peer for a sign of life (ping): the number of the ping, or a refusal.
+#[unsafe(no_mangle)]
+pub unsafe extern "C" fn ymx_core_ping(at: *mut u8) -> i64
+    ghost old: { SessionValue }
+    requires* { sem 𝓛 (lies_at the_row full_share at old) }
+    ensures* { ∃ₛ (λ (now : SessionValue). sem 𝓛 (lies_at the_row full_share at now) ∗ ⌜ Answers old (event.Call call.Ping) result now ⌝) }
+{
+    face::ping(unsafe { &mut *(at as *mut Session) })
+}
+
+/// Whether the answer to the ping of this number is back: 1, 0 if not, or a refusal. With 1 it is collected.
+#[unsafe(no_mangle)]
+pub unsafe extern "C" fn ymx_core_ponged(at: *mut u8, number: u32) -> i64
+    ghost old: { SessionValue }
+    requires* { sem 𝓛 (lies_at the_row full_share at old) }
+    ensures* { ∃ₛ (λ (now : SessionValue). sem 𝓛 (lies_at the_row full_share at now) ∗ ⌜ Answers old (event.Call (call.Ponged number)) result now ⌝) }
+{
+    face::ponged(unsafe { &mut *(at as *mut Session) }, number)
+}
+
+/// Takes no more streams of the peer's (go away): 0, or a refusal.
+#[unsafe(no_mangle)]
+pub unsafe extern "C" fn ymx_core_go_away(at: *mut u8) -> i64
+    ghost old: { SessionValue }
+    requires* { sem 𝓛 (lies_at the_row full_share at old) }
+    ensures* { ∃ₛ (λ (now : SessionValue). sem 𝓛 (lies_at the_row full_share at now) ∗ ⌜ Answers old (event.Call call.GoAway) result now ⌝) }
+{
+    face::go_away(unsafe { &mut *(at as *mut Session) })
+}
+
+/// Closes the session at once: 0.
+#[unsafe(no_mangle)]
+pub unsafe extern "C" fn ymx_core_close(at: *mut u8) -> i64
+    ghost old: { SessionValue }
+    requires* { sem 𝓛 (lies_at the_row full_share at old) }
+    ensures* { ∃ₛ (λ (now : SessionValue). sem 𝓛 (lies_at the_row full_share at now) ∗ ⌜ Answers old (event.Call call.Close) result now ⌝) }
+{
+    face::close(unsafe { &mut *(at as *mut Session) })
+}
+
+/// Writes to a stream: how many bytes were taken, -12 where there is no credit (flow control), or a refusal.
+#[unsafe(no_mangle)]
+pub unsafe extern "C" fn ymx_core_write(at: *mut u8, id: u32, bytes: &[u8]) -> i64
+    ghost old: { SessionValue }
+    requires* { sem 𝓛 (lies_at the_row full_share at old) }
+    ensures* { ∃ₛ (λ (now : SessionValue). sem 𝓛 (lies_at the_row full_share at now) ∗ ⌜ Answers old (event.Call (call.Write id bytes.now)) result now ⌝) }
+{
+    face::write(unsafe { &mut *(at as *mut Session) }, id, bytes)
+}
+
+/// Reads from a stream: how many bytes stand at the buffer's front, 0 at the end, -12 where nothing is
+/// there yet, or a refusal.
+#[unsafe(no_mangle)]
+pub unsafe extern "C" fn ymx_core_read(at: *mut u8, id: u32, buffer: &mut [u8]) -> i64
+    ghost old: { SessionValue }
+    requires* { sem 𝓛 (lies_at the_row full_share at old) }
+    ensures* { ∃ₛ (λ (now : SessionValue). sem 𝓛 (lies_at the_row full_share at now) ∗ ⌜ Fills old (event.Call (call.Read id (length buffer.old))) result buffer.new now ⌝) }
+{
+    face::read(unsafe { &mut *(at as *mut Session) }, id, buffer)
+}
+
+/// Half-closes a stream (half-close): 0, or a refusal.
+#[unsafe(no_mangle)]
+pub unsafe extern "C" fn ymx_core_finish(at: *mut u8, id: u32) -> i64
+    ghost old: { SessionValue }
+    requires* { sem 𝓛 (lies_at the_row full_share at old) }
+    ensures* { ∃ₛ (λ (now : SessionValue). sem 𝓛 (lies_at the_row full_share at now) ∗ ⌜ Answers old (event.Call (call.Finish id)) result now ⌝) }
+{
+    face::finish(unsafe { &mut *(at as *mut Session) }, id)
+}
+
+/// Resets a stream (flags): 0, or a refusal.
+#[unsafe(no_mangle)]
+pub unsafe extern "C" fn ymx_core_reset(at: *mut u8, id: u32) -> i64
+    ghost old: { SessionValue }
+    requires* { sem 𝓛 (lies_at the_row full_share at old) }
+    ensures* { ∃ₛ (λ (now : SessionValue). sem 𝓛 (lies_at the_row full_share at now) ∗ ⌜ Answers old (event.Call (call.Reset id)) result now ⌝) }
+{
+    face::reset(unsafe { &mut *(at as *mut Session) }, id)
+}
+
+/// Gives a stream up: 0, or a refusal.
+#[unsafe(no_mangle)]
+pub unsafe extern "C" fn ymx_core_forget(at: *mut u8, id: u32) -> i64
+    ghost old: { SessionValue }
+    requires* { sem 𝓛 (lies_at the_row full_share at old) }
+    ensures* { ∃ₛ (λ (now : SessionValue). sem 𝓛 (lies_at the_row full_share at now) ∗ ⌜ Answers old (event.Call (call.Forget id)) result now ⌝) }
+{
+    face::forget(unsafe { &mut *(at as *mut Session) }, id)
+}
+
+/// Feeds bytes that came from the peer (framing): how many were taken.
+#[unsafe(no_mangle)]
+pub unsafe extern "C" fn ymx_core_feed(at: *mut u8, input: &[u8]) -> i64
+    ghost old: { SessionValue }
+    requires* { sem 𝓛 (lies_at the_row full_share at old) }
+    ensures* { ∃ₛ (λ (now : SessionValue). sem 𝓛 (lies_at the_row full_share at now) ∗ ⌜ Answers old (event.Feed input.now) result now ⌝) }
+{
+    face::feed(unsafe { &mut *(at as *mut Session) }, input)
+}
+
+/// The peer's bytes have ended: 0.
+#[unsafe(no_mangle)]
+pub unsafe extern "C" fn ymx_core_feed_end(at: *mut u8) -> i64
+    ghost old: { SessionValue }
+    requires* { sem 𝓛 (lies_at the_row full_share at old) }
+    ensures* { ∃ₛ (λ (now : SessionValue). sem 𝓛 (lies_at the_row full_share at now) ∗ ⌜ Answers old event.FeedEnd result now ⌝) }
+{
+    face::feed_end(unsafe { &mut *(at as *mut Session) })
+}
+
+/// Emits what is due and fits (framing): how many bytes stand at the buffer's front.
+#[unsafe(no_mangle)]
+pub unsafe extern "C" fn ymx_core_emit(at: *mut u8, buffer: &mut [u8]) -> i64
+    ghost old: { SessionValue }
+    requires* { sem 𝓛 (lies_at the_row full_share at old) }
+    ensures* { ∃ₛ (λ (now : SessionValue). sem 𝓛 (lies_at the_row full_share at now) ∗ ⌜ Fills old (event.Emit (length buffer.old)) result buffer.new now ⌝) }
+{
+    face::emit(unsafe { &mut *(at as *mut Session) }, buffer)
+}
+
+/// Whether an emission into a buffer that isn't empty gives a byte: 1, or 0.
+#[unsafe(no_mangle)]
+pub unsafe extern "C" fn ymx_core_due(at: *mut u8) -> i64
+    ghost old: { SessionValue }
+    requires* { sem 𝓛 (lies_at the_row full_share at old) }
+    ensures* { ∃ₛ (λ (now : SessionValue). sem 𝓛 (lies_at the_row full_share at now) ∗ ⌜ (result ≡ flag (is_ready old)) × (now ≡ old) ⌝) }
+{
+    face::due(unsafe { &mut *(at as *mut Session) })
+}
+
+/// The state of the session: 0 running, 1 lost, 2 closed, 101 to 109 broken by the fault of that number.
+#[unsafe(no_mangle)]
+pub unsafe extern "C" fn ymx_core_status(at: *mut u8) -> i64
+    ghost old: { SessionValue }
+    requires* { sem 𝓛 (lies_at the_row full_share at old) }
+    ensures* { ∃ₛ (λ (now : SessionValue). sem 𝓛 (lies_at the_row full_share at now) ∗ ⌜ (result ≡ status_number old.status) × (now ≡ old) ⌝) }
+{
+    face::status(unsafe { &mut *(at as *mut Session) })
+}

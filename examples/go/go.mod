@@ -1,0 +1,3 @@
+module ymx_example
+
+go 1.15

@@ -1,0 +1,159 @@
+//! yamux over libymx: a `Session` does no input or output.
+
+use std::{ffi::CStr, fmt, ptr};
+use ymx_sys::*;
+
+/// Which side of the connection it is.
+#[derive(Clone, Copy, Debug, PartialEq, Eq)]
+pub enum Role {
+    Client,
+    Server,
+}
+
+/// Why a call was refused. `name` is its name in ymx.h without the prefix, as "RESET".
+#[derive(Clone, Copy, Debug, PartialEq, Eq)]
+pub struct Refused {
+    pub code: i64,
+}
+
+impl Refused {
+    pub fn name(self) -> &'static str {
+        unsafe { CStr::from_ptr(ymx_error_name(self.code)) }.to_str().unwrap_or("UNKNOWN")
+    }
+}
+
+impl fmt::Display for Refused {
+    fn fmt(&self, f: &mut fmt::Formatter<'_>) -> fmt::Result {
+        f.write_str(self.name())
+    }
+}
+
+impl std::error::Error for Refused {}
+
+/// What a read gives.
+#[derive(Clone, Copy, Debug, PartialEq, Eq)]
+pub enum Got {
+    /// So many bytes stand at the buffer's front.
+    Bytes(usize),
+    /// The peer has finished, and all was read.
+    End,
+    /// Nothing is there yet.
+    Wait,
+}
+
+/// One side of a connection.
+pub struct Session(ptr::NonNull<ymx_session>);
+
+// Each call takes the session by `&mut`, or only reads it, and the library has no variables of its own.
+unsafe impl Send for Session {}
+
+fn good(answer: i64) -> Result<usize, Refused> {
+    usize::try_from(answer).map_err(|_| Refused { code: answer })
+}
+
+/// `None` where it would have to wait.
+fn unless_wait(answer: i64) -> Result<Option<usize>, Refused> {
+    if answer == YMX_WAIT { Ok(None) } else { good(answer).map(Some) }
+}
+
+impl Session {
+    /// A session with this window, 262,144 to 16,777,216 bytes; `first` is the first own stream id, or 0.
+    pub fn new(role: Role, window: u32, first: u32) -> Result<Session, Refused> {
+        let mut at = ptr::null_mut();
+        let role = if role == Role::Client { YMX_CLIENT } else { YMX_SERVER };
+        let answer = unsafe { ymx_new(role, window, first, &mut at) };
+        good(answer)?;
+        ptr::NonNull::new(at).map(Session).ok_or(Refused { code: answer })
+    }
+
+    /// Feeds bytes of the peer's, and returns how many were taken.
+    pub fn feed(&mut self, bytes: &[u8]) -> Result<usize, Refused> {
+        good(unsafe { ymx_feed(self.0.as_ptr(), bytes.as_ptr().cast(), bytes.len()) })
+    }
+
+    /// The peer's bytes have ended.
+    pub fn feed_end(&mut self) -> Result<(), Refused> {
+        good(unsafe { ymx_feed_end(self.0.as_ptr()) }).map(drop)
+    }
+
+    /// Fills the buffer with bytes for the peer, and returns how many.
+    pub fn emit(&mut self, buffer: &mut [u8]) -> Result<usize, Refused> {
+        good(unsafe { ymx_emit(self.0.as_ptr(), buffer.as_mut_ptr().cast(), buffer.len()) })
+    }
+
+    /// Whether an emission would give bytes.
+    pub fn due(&self) -> bool {
+        unsafe { ymx_due(self.0.as_ptr()) == 1 }
+    }
+
+    /// Opens a stream, and returns its id.
+    pub fn open(&mut self) -> Result<u32, Refused> {
+        good(unsafe { ymx_open(self.0.as_ptr()) }).map(|id| id as u32)
+    }
+
+    /// The id of a stream of the peer's.
+    pub fn accept(&mut self) -> Result<Option<u32>, Refused> {
+        good(unsafe { ymx_accept(self.0.as_ptr()) }).map(|id| (id > 0).then_some(id as u32))
+    }
+
+    /// Writes to a stream, and returns how many bytes were taken; `None` where there is no credit.
+    pub fn write(&mut self, id: u32, bytes: &[u8]) -> Result<Option<usize>, Refused> {
+        unless_wait(unsafe { ymx_write(self.0.as_ptr(), id, bytes.as_ptr().cast(), bytes.len()) })
+    }
+
+    /// Reads from a stream. Into an empty buffer it reads nothing, and says `End`.
+    pub fn read(&mut self, id: u32, buffer: &mut [u8]) -> Result<Got, Refused> {
+        let answer = unsafe { ymx_read(self.0.as_ptr(), id, buffer.as_mut_ptr().cast(), buffer.len()) };
+        Ok(match unless_wait(answer)? {
+            None => Got::Wait,
+            Some(0) => Got::End,
+            Some(count) => Got::Bytes(count),
+        })
+    }
+
+    /// Half-closes a stream.
+    pub fn finish(&mut self, id: u32) -> Result<(), Refused> {
+        good(unsafe { ymx_finish(self.0.as_ptr(), id) }).map(drop)
+    }
+
+    /// Breaks a stream off.
+    pub fn reset(&mut self, id: u32) -> Result<(), Refused> {
+        good(unsafe { ymx_reset(self.0.as_ptr(), id) }).map(drop)
+    }
+
+    /// Gives a stream up.
+    pub fn forget(&mut self, id: u32) -> Result<(), Refused> {
+        good(unsafe { ymx_forget(self.0.as_ptr(), id) }).map(drop)
+    }
+
+    /// Asks the peer for a sign of life, and returns the ping's number.
+    pub fn ping(&mut self) -> Result<u32, Refused> {
+        good(unsafe { ymx_ping(self.0.as_ptr()) }).map(|number| number as u32)
+    }
+
+    /// Whether the answer to that ping is back, which is said once.
+    pub fn ponged(&mut self, number: u32) -> Result<bool, Refused> {
+        good(unsafe { ymx_ponged(self.0.as_ptr(), number) }).map(|back| back == 1)
+    }
+
+    /// Takes no more streams of the peer's.
+    pub fn go_away(&mut self) -> Result<(), Refused> {
+        good(unsafe { ymx_go_away(self.0.as_ptr()) }).map(drop)
+    }
+
+    /// Closes the session at once.
+    pub fn close(&mut self) {
+        unsafe { ymx_close(self.0.as_ptr()) };
+    }
+
+    /// 0 running, 1 lost, 2 closed, 101 to 109 broken.
+    pub fn status(&self) -> i64 {
+        unsafe { ymx_status(self.0.as_ptr()) }
+    }
+}
+
+impl Drop for Session {
+    fn drop(&mut self) {
+        unsafe { ymx_free(self.0.as_ptr()) }
+    }
+}

@@ -1,0 +1,87 @@
+/* Each allocation of an exchange is refused in turn: the answer names it, nothing is left over, and what was there
+ * goes on. Linked with malloc, realloc and free wrapped. */
+#include "check.h"
+
+void *__real_malloc(size_t size);
+void *__real_realloc(void *block, size_t size);
+void __real_free(void *block);
+void *__wrap_malloc(size_t size);
+void *__wrap_realloc(void *block, size_t size);
+void __wrap_free(void *block);
+
+static long asked, refused = -1, held, bytes;
+
+void *__wrap_malloc(size_t size) {
+    if (asked++ == refused) return NULL;
+    held++;
+    bytes += (long)size;
+    return __real_malloc(size);
+}
+
+void *__wrap_realloc(void *block, size_t size) {
+    if (asked++ == refused) return NULL;
+    if (block == NULL) held++;
+    return __real_realloc(block, size);
+}
+
+void __wrap_free(void *block) {
+    if (block != NULL) held--;
+    __real_free(block);
+}
+
+/* Makes a session; where it is refused, counts that and makes it again. */
+static ymx_session *make(ymx_role role, int *refusals) {
+    ymx_session *session;
+    int64_t answer = ymx_new(role, YMX_LEAST_WINDOW, 0, &session);
+    if (answer == 0) return session;
+    CHECK(answer == YMX_E_NO_MEMORY && session == NULL);
+    ++*refusals;
+    CHECK(ymx_new(role, YMX_LEAST_WINDOW, 0, &session) == 0);
+    return session;
+}
+
+/* A word goes there. How often memory was refused. */
+static int exchange(void) {
+    int refusals = 0;
+    unsigned char wire[4096], in[64];
+    ymx_session *client = make(YMX_CLIENT, &refusals), *server = make(YMX_SERVER, &refusals);
+    int64_t id = ymx_open(client);
+    if (id == YMX_E_NO_MEMORY) {
+        refusals++;
+        id = ymx_open(client);
+    }
+    CHECK(id == 1 && ymx_write(client, 1, "hello", 5) == 5);
+    int64_t count = ymx_emit(client, wire, sizeof wire);
+    CHECK(ymx_feed(server, wire, (size_t)count) == count);
+    id = ymx_accept(server);
+    if (id == 1) {
+        CHECK(ymx_read(server, 1, in, sizeof in) == 5 && memcmp(in, "hello", 5) == 0);
+        CHECK(ymx_read(server, 1, in, sizeof in) == YMX_WAIT);
+    } else {
+        /* the stream was rejected, and the client learns of it */
+        refusals++;
+        CHECK(id == 0);
+    }
+    count = ymx_emit(server, wire, sizeof wire);
+    CHECK(count > 0 && ymx_feed(client, wire, (size_t)count) == count);
+    CHECK(ymx_write(client, 1, "x", 1) == (id == 1 ? 1 : YMX_E_RESET));
+    CHECK(ymx_status(client) == YMX_RUNNING && ymx_status(server) == YMX_RUNNING);
+    ymx_free(client);
+    ymx_free(server);
+    CHECK(held == 0);
+    return refusals;
+}
+
+int main(void) {
+    CHECK(exchange() == 0);
+    long all = asked, most = bytes;
+    for (refused = 0; refused < all; refused++) {
+        asked = 0;
+        if (exchange() != 1) {
+            fprintf(stderr, "the allocation %ld of %ld was refused, and nobody said so\n", refused, all);
+            return 1;
+        }
+    }
+    printf("%ld allocations, %ld bytes in all\n", all, most);
+    return 0;
+}

@@ -1,0 +1,103 @@
+#!/bin/sh
+# Tries libymx as a C program gets it: ymx.h in C99 and C++11 without a warning, the libraries' names, each constant
+# against the proved crate's, NULL everywhere, bytes in pieces, each allocation refused, every byte over a
+# socketpair under the sanitizers, and an installed copy by pkg-config. It ends with a line that says the count.
+# c/build.sh says what it is built from.
+set -eu
+here=$(cd "$(dirname "$0")" && pwd)
+root=$(cd "$here/../.." && pwd)
+scratch=$(mktemp -d)
+trap 'rm -rf "$scratch"' EXIT
+trap 'exit 130' INT TERM
+passed=0
+failed=0
+DESTDIR=$scratch PREFIX=/installed "$root/c/build.sh" install "$scratch/built"
+library=$scratch/built/lib
+cd "$scratch"
+
+# is NAME COMMAND..: a test, which says nothing where it is good
+is() {
+    name=$1
+    shift
+    if "$@" > said 2>&1; then
+        passed=$((passed + 1))
+        echo "ok    $name"
+    else
+        failed=$((failed + 1))
+        echo "FAIL  $name:"
+        cat said
+    fi
+}
+
+strict="-Wall -Wextra -pedantic -Werror -I$scratch/built/include"
+
+# in_c PROGRAM SOURCE WORDS..: compiled as C99, linked with the archive
+in_c() {
+    program=$1
+    source=$2
+    shift 2
+    # shellcheck disable=SC2086
+    cc -std=c99 $strict -o "$program" "$@" "$source" "$library/libymx.a"
+}
+
+built_and_run() {
+    in_c "$@" && "./$1"
+}
+
+in_cpp() {
+    # shellcheck disable=SC2086
+    c++ -std=c++11 $strict -o header "$here/header.cc" "$library/libymx.a" && ./header
+}
+
+only_ours() {
+    nm -D --defined-only "$library/libymx.so.1" | sed 's/.* //' | sort > shown
+    sed -n 's/^YMX_API.*[ *]\(ymx_[a-z_]*\)(.*/\1/p' "$root/c/ymx.h" | sort > declared
+    nm -g --defined-only "$library/libymx.a" | sed -n 's/.* T //p' | sort > linked
+    diff declared shown && diff declared linked
+}
+
+only_libc() {
+    readelf -d "$library/libymx.so.1" | sed -n 's/.*(NEEDED).*\[\(.*\)\]/\1/p' > needs
+    echo libc.so.6 | diff - needs
+    nm -D --undefined-only "$library/libymx.so.1" | sed 's/^ *[Uw] //; s/@.*//' | grep -v '^_' | sort > asks
+    cat asks
+    ! grep -qvE '^(malloc|realloc|free|memcpy|memmove|memset|memcmp)$' asks
+}
+
+# The numbers of the proved crate, in the names of ymx.h.
+numbers_of_crate() {
+    sed -n 's/^ *CallFault::\([A-Za-z]*\) => \(-[0-9]*\),/\1 \2/p; s/^ *NewFault::\(Bad[A-Za-z]*\) => \(-[0-9]*\),/\1 \2/p' "$root/crates/ymx_c/src/face.rt" |
+        sed 's/OutOfMemory/NoMemory/; s/\([a-z]\)\([A-Z]\)/\1_\2/g' | awk '{ print "YMX_E_" toupper($1), $2 }'
+    sed -n 's/^const WAIT: i64 = \(.*\);/YMX_WAIT \1/p; s/^ *Status::\([A-Z][a-z]*\) => \([0-9]*\),/\1 \2/p; s/^ *Status::\(Broken\)(fault) => \([0-9]*\) +.*/\1 \2/p' "$root/crates/ymx_c/src/face.rt" |
+        awk '{ print ($1 ~ /^YMX/ ? $1 : "YMX_" toupper($1)), $2 }'
+    sed -n 's/^ *if number == \(.*\) {$/YMX_CLIENT \1/p' "$root/crates/ymx_c/src/face.rt"
+    sed -n 's/^pub const FIRST_CREDIT: u32 = \(.*\);/YMX_LEAST_WINDOW \1/p; s/^pub const WIDEST_WINDOW: u32 = \(.*\);/YMX_WIDEST_WINDOW \1/p' "$root/crates/ymx_header/src/wire.rt" | tr -d _ |
+        sed 's/YMX\(LEAST\|WIDEST\)WINDOW/YMX_\1_WINDOW/'
+}
+
+same_numbers() {
+    in_c constants "$here/constants.c" && ./constants | sort > ours && numbers_of_crate | sort > theirs && diff ours theirs
+}
+
+by_pkg_config() {
+    export PKG_CONFIG_PATH=$scratch/installed/lib/pkgconfig PKG_CONFIG_SYSROOT_DIR=$scratch
+    version=$(sed -n 's/^#define YMX_VERSION_[A-Z]* //p' "$root/c/ymx.h" | paste -sd.)
+    [ "$(pkg-config --modversion ymx)" = "$version" ] || return 1
+    # shellcheck disable=SC2046
+    cc -o installed_pair "$root/examples/c/pair.c" $(pkg-config --cflags --libs ymx)
+    LD_LIBRARY_PATH=$scratch/installed/lib ./installed_pair
+}
+
+is "ymx.h and a program in C++11" in_cpp
+is "the libraries show what ymx.h declares, and nothing else" only_ours
+is "the shared library needs libc alone" only_libc
+is "each constant is the proved crate's" same_numbers
+is "NULL" built_and_run nulls "$here/nulls.c" -fsanitize=address,undefined -fno-sanitize-recover=all
+is "bytes one by one and at once" built_and_run pieces "$here/pieces.c" -O1 -fsanitize=address,undefined -fno-sanitize-recover=all
+is "each allocation refused" built_and_run refused_memory "$here/refused_memory.c" -Wl,--wrap=malloc,--wrap=realloc,--wrap=free
+is "every byte over a socketpair, with no leak" built_and_run pair "$root/examples/c/pair.c" -O1 -fsanitize=address,undefined -fno-sanitize-recover=all
+is "the echo server" in_c echo_server "$root/examples/c/echo_server.c"
+is "an installed copy, by pkg-config" by_pkg_config
+is "the proofs are those that c/write_proofs.py writes" python3 "$root/c/write_proofs.py" --same "$root/crates/ymx_c"
+echo "$passed passed, $failed failed"
+[ $failed = 0 ]
