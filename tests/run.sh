@@ -45,6 +45,7 @@ try 'the front door' "$root/tests/connect/run.sh"
 try 'unit tests of the program' "$root/tests/units/run.sh"
 if [ "${1-}" = --all ]; then
     try 'each allocation of two sessions fails' "$root/tests/worlds/run.sh" --refuse-each
+    try 'the C interface' "$root/tests/capi/run.sh"
     try 'the programs of the guide' "$root/tests/examples/run.sh"
     try 'wrong bodies' "$root/tests/wrong_bodies.sh"
     try 'wrong statements' "$root/tests/refused.sh"
