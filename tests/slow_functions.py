@@ -1,7 +1,8 @@
 #!/usr/bin/env python3
 """Lists the slowest functions of a crate: checks it from nothing at one job, and notes how much processor time has gone
 by as each function's proof ends. It builds nothing and leaves out/ alone; the libraries below must be built in out/
-(`rt check` in the crate's folder builds them).
+(`rt check` in the crate's folder builds them). A function's figure is all the time since the line before it, so the
+loading of what several functions share counts for the first of them.
 
 Usage: tests/slow_functions.py NAME [COUNT]    the COUNT slowest functions of crates/NAME, 15 if it isn't given
 """
