@@ -8,7 +8,7 @@ use Rattle.std.proofs.lemmas.Bool.Decides.{nat_tests}
 use Rattle.ymx_model.specs.declared.types.PingStage.{PingStage}
 use Rattle.ymx_model.specs.declared.types.PingStage.TheVariants.{Asked}
 use Rattle.ymx_model.specs.session.Pings.{Ping, Pings, is_pending, has_back, has_asked, ping_is_back, first_asked, staged, without_ping}
-use Rattle.ymx_model.specs.shared.Limits.{most_pings}
+use Rattle.ymx_machine.specs.shared.Limits.{most_pings}
 use Rattle.ymx_control.specs.PendingPings.{AreDistinct, AreNumbers, ArePingsSound}
 use Rattle.ymx_control.proofs.Places.{cond-remove, position-place, position-none}
 

@@ -3,7 +3,7 @@ use Rattle.std.proofs.Common.{◌≡◌, ◌≤◌, ℕ, ◌+◌, List, [], ◌�
 use Rattle.std.specs.List.{position_or_len}
 use Rattle.std.proofs.lemmas.Grind.{common_steps}
 use Rattle.std.proofs.lemmas.Bool.Decides.{nat_tests}
-use Rattle.ymx_model.specs.shared.Lists.{drop_id}
+use Rattle.ymx_machine.specs.shared.Lists.{drop_id}
 
 -- taking out the first element, or one behind it
 pub cond-remove : {X : Type 0} (b : Bool) (x : X) (xs : List X) (n : ℕ) → cond b xs (x ∷ remove xs n) ≡ remove (x ∷ xs) (cond (not b) (1 + n) 0)

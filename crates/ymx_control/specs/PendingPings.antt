@@ -1,7 +1,7 @@
 -- What holds of the own pings of a session at all times (ping).
 use Rattle.std.specs.Prelude.{◌≡◌, ◌<◌, ◌≤◌, ◌^◌, List, [], ◌∷◌, length, false}
 use Rattle.ymx_model.specs.session.Pings.{Ping, Pings, is_pending}
-use Rattle.ymx_model.specs.shared.Limits.{most_pings}
+use Rattle.ymx_machine.specs.shared.Limits.{most_pings}
 
 -- no two of these pings have the same number
 abbrev pub AreDistinct : List Ping → Type 0

@@ -2,7 +2,7 @@
 
 ghost use Rattle.std.specs.Prelude.{◌≡◌, ◌<◌, ◌==◌, true, false, [], length, position, is_some, IfOk, IfSome, if◌then◌else◌};
 ghost use Rattle.ymx_model.specs.session.Pings.{no_pings, is_pending, has_back, has_asked, ping_is_back, staged, next_number, first_asked, ask, receive_answer, begin_ping, collect};
-ghost use Rattle.ymx_model.specs.shared.Limits.{most_pings};
+ghost use Rattle.ymx_machine.specs.shared.Limits.{most_pings};
 ghost use Rattle.ymx_control.specs.PendingPings.{ArePingsSound};
 ghost use Rattle.ymx_control.specs.Numbers.{ArePendingBefore};
 
@@ -39,7 +39,7 @@ impl Model for Pings {
     ghost use Rattle.std.specs.Prelude.{◌≤◌};
     ghost use Rattle.std.specs.Vec.{vec_capacity};
     ghost use Rattle.ymx_model.specs.session.Pings.{Pings as AllPings};
-    ghost use Rattle.ymx_model.specs.shared.Limits.{most_pings};
+    ghost use Rattle.ymx_machine.specs.shared.Limits.{most_pings};
     ghost use Rattle.ymx_control.specs.PendingPings.{ArePingsSound};
 
     ghost Value = { AllPings };

@@ -1,7 +1,7 @@
 //! The bounded queues of a session: the streams that wait to be accepted, and the answers that it owes.
 
 ghost use Rattle.std.specs.Prelude.{◌≡◌, ◌<◌, ◌≤◌, ◌==◌, [], ◌∷◌, ◌++◌, length, drop, slice_get, position, IfOk, IfSome};
-ghost use Rattle.ymx_model.specs.shared.Lists.{drop_id};
+ghost use Rattle.ymx_machine.specs.shared.Lists.{drop_id};
 
 use std::alloc::{AllocError, Global};
 use std::collections::VecDeque;

@@ -10,13 +10,13 @@ use Rattle.ymx_model.specs.session.FramesDue.{is_empty}
 use Rattle.ymx_model.specs.session.Pings.{first_asked, has_asked}
 use Rattle.ymx_model.specs.session.GoAway.{away_due}
 use Rattle.ymx_model.specs.session.Tables.{round}
-use Rattle.ymx_model.specs.shared.Lists.{look}
+use Rattle.ymx_machine.specs.shared.Lists.{look}
 use Rattle.ymx_model.specs.session.Sessions.{Session, is_running, is_broken}
 use Rattle.ymx_model.specs.session.Emissions.{Choice, begin, begin_answer, begin_stream, is_some_of, Ready, Flows, Emits, moves_on, is_ready, no_answers, in_turn, is_first}
-use Rattle.ymx_model.specs.shared.Limits.{data_limit}
+use Rattle.ymx_machine.specs.shared.Limits.{data_limit}
 use Rattle.ymx_model.specs.session.Emissions.Choice.{TheAlarm, TheGoAway, TheAnswer, ThePing, AStream}
 use Rattle.ymx_law_session.specs.Limits.{IsWithin}
-use Rattle.ymx_model.proofs.Tests.{split, both_of, agrees, one_some}
+use Rattle.ymx_machine.proofs.Tests.{split, both_of, agrees, one_some}
 use Rattle.ymx_law_session.proofs.limits.EmissionsKeep.{some_if, if_some, ready-keeps, moves-keep}
 use Rattle.ymx_law_session.proofs.due.Goes.{flows-join, flows-take}
 use Rattle.ymx_law_session.proofs.due.Ready.{next_of, begin-ready, begin-has}

@@ -11,7 +11,7 @@ use Rattle.ymx_model.specs.session.Sessions.Incoming.{Head, Payload}
 use Rattle.ymx_model.specs.session.Arrivals.{head_comes}
 use Rattle.ymx_model.specs.session.Feeds.{Takes, Feeds, is_stuck, starves, why_of}
 use Rattle.ymx_law_session.specs.Limits.{IsWithin}
-use Rattle.ymx_model.proofs.Tests.{split, agrees, none_of}
+use Rattle.ymx_machine.proofs.Tests.{split, agrees, none_of}
 use Rattle.ymx_law_session.proofs.pieces.Chunks.{takes-join}
 use Rattle.ymx_law_session.proofs.pieces.Pieces.{head-takes, head-whole, counted}
 use Rattle.ymx_law_session.proofs.pieces.Frames.{block-takes, takes-deaf}

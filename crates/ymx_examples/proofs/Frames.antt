@@ -1,14 +1,14 @@
 -- Examples of frames fed to one session: faults, pings, answers, the end of a payload.
 use Rattle.std.proofs.Common.{◌≡◌, [], ◌∷◌, ◌++◌, true, false, Some, refl}
 use Rattle.ymx_header.specs.declared.fault.Fault.TheVariants.{BadVersion, BadSyn, StreamInUse, CreditOverflow, BadGoAwayCode, PeerSawProtocolError, PeerSawInternalError}
-use Rattle.ymx_model.specs.declared.types.Side.TheVariants.{A, B}
-use Rattle.ymx_model.specs.declared.types.Direction.TheVariants.{AB}
-use Rattle.ymx_model.specs.declared.types.Step.TheVariants.{Emit, Deliver}
-use Rattle.ymx_model.specs.declared.types.Call.TheVariants.{Open, Accept, Write, Read, Reset, Ping, Ponged}
-use Rattle.ymx_model.specs.declared.types.Answer.TheVariants.{Opened, Done, Pinged, Emitted}
-use Rattle.ymx_model.specs.declared.types.Reply.TheVariants as reply
-use Rattle.ymx_model.specs.declared.types.Why.TheVariants.{All}
-use Rattle.ymx_model.specs.declared.types.CallFault.TheVariants as fault
+use Rattle.ymx_machine.specs.declared.types.Side.TheVariants.{A, B}
+use Rattle.ymx_machine.specs.declared.types.Direction.TheVariants.{AB}
+use Rattle.ymx_machine.specs.declared.types.Step.TheVariants.{Emit, Deliver}
+use Rattle.ymx_machine.specs.declared.types.Call.TheVariants.{Open, Accept, Write, Read, Reset, Ping, Ponged}
+use Rattle.ymx_machine.specs.declared.types.Answer.TheVariants.{Opened, Done, Pinged, Emitted}
+use Rattle.ymx_machine.specs.declared.types.Reply.TheVariants as reply
+use Rattle.ymx_machine.specs.declared.types.Why.TheVariants.{All}
+use Rattle.ymx_machine.specs.declared.types.CallFault.TheVariants as fault
 use Rattle.ymx_model.specs.session.Sessions.{Session}
 use Rattle.ymx_model.specs.session.Emissions.{is_ready}
 use Rattle.ymx_model.specs.world.Worlds.{new_world}

@@ -1,11 +1,11 @@
 -- Examples at the limits: streams offered and opened, records, answers.
 use Rattle.std.proofs.Common.{◌≡◌, [], ◌∷◌, ◌++◌, length, drop, replicate, Some, refl}
 use Rattle.ymx_header.specs.declared.fault.Fault.TheVariants.{BadGoAwayCode}
-use Rattle.ymx_model.specs.declared.types.Call.TheVariants.{Open, Accept, GoAway}
-use Rattle.ymx_model.specs.declared.types.Answer.TheVariants.{Opened, Accepted, Emitted}
-use Rattle.ymx_model.specs.declared.types.Reply.TheVariants as reply
-use Rattle.ymx_model.specs.declared.types.Why.TheVariants.{All}
-use Rattle.ymx_model.specs.declared.types.CallFault.TheVariants as fault
+use Rattle.ymx_machine.specs.declared.types.Call.TheVariants.{Open, Accept, GoAway}
+use Rattle.ymx_machine.specs.declared.types.Answer.TheVariants.{Opened, Accepted, Emitted}
+use Rattle.ymx_machine.specs.declared.types.Reply.TheVariants as reply
+use Rattle.ymx_machine.specs.declared.types.Why.TheVariants.{All}
+use Rattle.ymx_machine.specs.declared.types.CallFault.TheVariants as fault
 use Rattle.ymx_examples.specs.Plays.{Played, play, Poured, play_emit, FedDone, play_feed}
 use Rattle.ymx_examples.specs.Words.{start, server, a, b, fed, held_after, broken, rounds, after_call, go_away_with, opened_to, pings, syns}
 

@@ -1,12 +1,12 @@
 -- Examples that a tempting mistake would break.
 use Rattle.std.proofs.Common.{◌≡◌, [], ◌∷◌, ◌++◌, None, Some, refl}
-use Rattle.ymx_model.specs.declared.types.Side.TheVariants.{A}
-use Rattle.ymx_model.specs.declared.types.Step.TheVariants.{Emit}
-use Rattle.ymx_model.specs.declared.types.Call.TheVariants.{Open, Accept, Write, Read, Finish, Reset, Forget, GoAway, Close}
-use Rattle.ymx_model.specs.declared.types.Answer.TheVariants.{Emitted}
-use Rattle.ymx_model.specs.declared.types.Reply.TheVariants as reply
-use Rattle.ymx_model.specs.declared.types.Why.TheVariants.{All}
-use Rattle.ymx_model.specs.declared.types.CallFault.TheVariants as fault
+use Rattle.ymx_machine.specs.declared.types.Side.TheVariants.{A}
+use Rattle.ymx_machine.specs.declared.types.Step.TheVariants.{Emit}
+use Rattle.ymx_machine.specs.declared.types.Call.TheVariants.{Open, Accept, Write, Read, Finish, Reset, Forget, GoAway, Close}
+use Rattle.ymx_machine.specs.declared.types.Answer.TheVariants.{Emitted}
+use Rattle.ymx_machine.specs.declared.types.Reply.TheVariants as reply
+use Rattle.ymx_machine.specs.declared.types.Why.TheVariants.{All}
+use Rattle.ymx_machine.specs.declared.types.CallFault.TheVariants as fault
 use Rattle.ymx_model.specs.session.Sessions.{Session}
 use Rattle.ymx_model.specs.session.Feeds as one_by_one
 use Rattle.ymx_model.specs.session.Emissions.{begin}

@@ -1,18 +1,18 @@
 -- What is computed of a world's steps is a run of them.
 use Rattle.std.proofs.Common.{◌≡◌, ℕ, ◌^◌, ◌<◌, ◌≤◌, List, [], ◌∷◌, take, Bool, true, false, refl}
-use Rattle.ymx_model.specs.declared.types.Step.{Step}
-use Rattle.ymx_model.specs.declared.types.Step.TheVariants as step
-use Rattle.ymx_model.specs.declared.types.Reply.TheVariants as reply
+use Rattle.ymx_machine.specs.declared.types.Step.{Step}
+use Rattle.ymx_machine.specs.declared.types.Step.TheVariants as step
+use Rattle.ymx_machine.specs.declared.types.Reply.TheVariants as reply
 use Rattle.ymx_model.specs.declared.types.Event.TheVariants as event
 use Rattle.ymx_model.specs.declared.types.Role.TheVariants.{Client, Server}
-use Rattle.ymx_model.specs.shared.Limits.{first_credit}
+use Rattle.ymx_machine.specs.shared.Limits.{first_credit}
 use Rattle.ymx_model.specs.session.Histories.CallGives.{Outcome}
 use Rattle.ymx_model.specs.session.Sessions.{Session, is_own}
 use Rattle.ymx_model.specs.session.Calls.{outcome, feed_end}
 use Rattle.ymx_model.specs.session.Emissions.{in_turn}
 use Rattle.ymx_model.specs.session.Histories.{Gives}
 use Rattle.ymx_model.specs.world.Worlds.{World, new_world, StepOfA, Steps, Runs, mirror_world}
-use Rattle.ymx_model.specs.shared.Steps.{is_of_a}
+use Rattle.ymx_machine.specs.shared.Steps.{is_of_a}
 use Rattle.ymx_law_session.specs.Limits.{IsWithin}
 use Rattle.ymx_law_session.proofs.limits.HistoriesKeep.{gives-keep, new-keeps, odd_some}
 use Rattle.ymx_examples.specs.Plays.{Moved, play_emit, play_feed, step_of_a, play_step, play}

@@ -1,11 +1,11 @@
 -- Examples of streams: open, write, read, half-close, reset.
 use Rattle.std.proofs.Common.{◌≡◌, [], ◌∷◌, ◌++◌, drop, replicate, true, false, Some, refl}
-use Rattle.ymx_model.specs.declared.types.Side.TheVariants.{A, B}
-use Rattle.ymx_model.specs.declared.types.Direction.TheVariants.{AB, BA}
-use Rattle.ymx_model.specs.declared.types.Step.TheVariants.{Emit, Deliver, Stop, End}
-use Rattle.ymx_model.specs.declared.types.Call.TheVariants.{Open, Accept, Write, Read, Finish, Reset, Ping, Ponged, GoAway}
-use Rattle.ymx_model.specs.declared.types.Answer.TheVariants.{Opened, Accepted, Read as GaveBytes, ReadEnd, ReadWait, Done, Pinged, Ponged as Back, Refused, Emitted, NotStopped}
-use Rattle.ymx_model.specs.declared.types.CallFault.TheVariants as fault
+use Rattle.ymx_machine.specs.declared.types.Side.TheVariants.{A, B}
+use Rattle.ymx_machine.specs.declared.types.Direction.TheVariants.{AB, BA}
+use Rattle.ymx_machine.specs.declared.types.Step.TheVariants.{Emit, Deliver, Stop, End}
+use Rattle.ymx_machine.specs.declared.types.Call.TheVariants.{Open, Accept, Write, Read, Finish, Reset, Ping, Ponged, GoAway}
+use Rattle.ymx_machine.specs.declared.types.Answer.TheVariants.{Opened, Accepted, Read as GaveBytes, ReadEnd, ReadWait, Done, Pinged, Ponged as Back, Refused, Emitted, NotStopped}
+use Rattle.ymx_machine.specs.declared.types.CallFault.TheVariants as fault
 use Rattle.ymx_model.specs.world.Worlds.{new_world, is_quiet}
 use Rattle.ymx_examples.specs.Plays.{Played, play}
 use Rattle.ymx_examples.specs.Words.{start, a, b, x, took, fed, rounds, window_frame, hello}

@@ -1,7 +1,7 @@
 -- Examples of wide windows: credit behind half of them.
 use Rattle.std.proofs.Common.{◌≡◌, [], ◌∷◌, ◌++◌, true, false, refl}
-use Rattle.ymx_model.specs.declared.types.Call.TheVariants.{Open, Accept, Write, Read}
-use Rattle.ymx_model.specs.declared.types.Answer.TheVariants.{Read as GaveBytes}
+use Rattle.ymx_machine.specs.declared.types.Call.TheVariants.{Open, Accept, Write, Read}
+use Rattle.ymx_machine.specs.declared.types.Answer.TheVariants.{Read as GaveBytes}
 use Rattle.ymx_model.specs.session.Emissions.{is_ready}
 use Rattle.ymx_model.specs.world.Worlds.{new_world}
 use Rattle.ymx_examples.specs.Plays.{Played, play}

@@ -1,13 +1,13 @@
 -- Examples of windows: credit, announcements, turns, opening with data.
 use Rattle.std.proofs.Common.{◌≡◌, [], ◌∷◌, Some, refl}
 use Rattle.ymx_header.specs.declared.fault.Fault.TheVariants.{CreditOverflow}
-use Rattle.ymx_model.specs.declared.types.Side.TheVariants.{A, B}
-use Rattle.ymx_model.specs.declared.types.Direction.TheVariants.{AB, BA}
-use Rattle.ymx_model.specs.declared.types.Step.TheVariants.{Emit, Deliver}
-use Rattle.ymx_model.specs.declared.types.Call.TheVariants.{Open, OpenWith, Accept, Read, Reset, GoAway}
-use Rattle.ymx_model.specs.declared.types.Answer.TheVariants.{Opened, OpenedWith, Accepted, Read as GaveBytes, Done, Refused, Emitted}
-use Rattle.ymx_model.specs.declared.types.Why.TheVariants.{All}
-use Rattle.ymx_model.specs.declared.types.CallFault.TheVariants as fault
+use Rattle.ymx_machine.specs.declared.types.Side.TheVariants.{A, B}
+use Rattle.ymx_machine.specs.declared.types.Direction.TheVariants.{AB, BA}
+use Rattle.ymx_machine.specs.declared.types.Step.TheVariants.{Emit, Deliver}
+use Rattle.ymx_machine.specs.declared.types.Call.TheVariants.{Open, OpenWith, Accept, Read, Reset, GoAway}
+use Rattle.ymx_machine.specs.declared.types.Answer.TheVariants.{Opened, OpenedWith, Accepted, Read as GaveBytes, Done, Refused, Emitted}
+use Rattle.ymx_machine.specs.declared.types.Why.TheVariants.{All}
+use Rattle.ymx_machine.specs.declared.types.CallFault.TheVariants as fault
 use Rattle.ymx_model.specs.world.Worlds.{new_world}
 use Rattle.ymx_examples.specs.Plays.{Played, play, play_feed}
 use Rattle.ymx_examples.specs.Words.{start, server, a, b, fed, broken, window_frame, look_credit}

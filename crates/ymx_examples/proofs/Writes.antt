@@ -2,14 +2,14 @@
 use Rattle.std.proofs.Common.{◌≡◌, ℕ, ◌+◌, ◌-◌, ◌<◌, ◌≤◌, List, length, take, min, false, ◌==◌, Some, refl, sym, ap, ◌∙◌, subst, arith, length-take}
 use Rattle.std.proofs.lemmas.Bool.Decides.{nat_tests}
 use Rattle.ymx_model.specs.declared.types.Status.TheVariants.{Running}
-use Rattle.ymx_model.specs.declared.types.Reply.TheVariants.{Wrote as WroteReply}
-use Rattle.ymx_model.specs.declared.types.Wrote.TheVariants.{Took, Wait}
-use Rattle.ymx_model.specs.shared.Phases.Phase.{Live}
+use Rattle.ymx_machine.specs.declared.types.Reply.TheVariants.{Wrote as WroteReply}
+use Rattle.ymx_machine.specs.declared.types.Wrote.TheVariants.{Took, Wait}
+use Rattle.ymx_machine.specs.shared.Phases.Phase.{Live}
 use Rattle.ymx_model.specs.session.Records.{End, end_write}
-use Rattle.ymx_model.specs.shared.Lists.{look}
+use Rattle.ymx_machine.specs.shared.Lists.{look}
 use Rattle.ymx_model.specs.session.Sessions.{Session, on_stream}
 use Rattle.ymx_model.specs.session.Calls.{write_to}
-use Rattle.ymx_model.proofs.Lists.{look-change_same}
+use Rattle.ymx_machine.proofs.Lists.{look-change_same}
 use Rattle.ymx_examples.proofs.Windows.{wide_fed}
 
 -- a stream that may be written to, with this credit

@@ -1,11 +1,11 @@
 -- Two sessions and their pipes played by computation: ample memory, frames in turn (this project's own).
 use Rattle.std.specs.Prelude.{ℕ, zero, suc, ◌-◌, List, [], ◌∷◌, ◌++◌, length, take, drop, Bool, true, false, not, ◌&&◌, ◌||◌, ◌==◌, if◌then◌else◌, Option, None, Some}
 use Rattle.ymx_header.specs.Headers.{header_of}
-use Rattle.ymx_model.specs.declared.types.Step.{Step}
-use Rattle.ymx_model.specs.declared.types.Step.TheVariants as step
-use Rattle.ymx_model.specs.declared.types.Answer.{Answer}
-use Rattle.ymx_model.specs.declared.types.Answer.TheVariants as answer
-use Rattle.ymx_model.specs.declared.types.Fed.{Fed}
+use Rattle.ymx_machine.specs.declared.types.Step.{Step}
+use Rattle.ymx_machine.specs.declared.types.Step.TheVariants as step
+use Rattle.ymx_machine.specs.declared.types.Answer.{Answer}
+use Rattle.ymx_machine.specs.declared.types.Answer.TheVariants as answer
+use Rattle.ymx_machine.specs.declared.types.Fed.{Fed}
 use Rattle.ymx_model.specs.session.FramesDue.{is_empty}
 use Rattle.ymx_model.specs.session.Pings.{first_asked}
 use Rattle.ymx_model.specs.session.GoAway.{away_due}
@@ -16,10 +16,10 @@ use Rattle.ymx_model.specs.session.Calls.{Outcome, outcome, feed_end}
 use Rattle.ymx_model.specs.session.Arrivals.{head_comes, piece_comes}
 use Rattle.ymx_model.specs.session.Feeds.{is_stuck, byte_comes, why_of}
 use Rattle.ymx_model.specs.session.Emissions.{Choice, begin, moves_on, no_answers}
-use Rattle.ymx_model.specs.shared.Limits.{data_limit}
+use Rattle.ymx_machine.specs.shared.Limits.{data_limit}
 use Rattle.ymx_model.specs.session.Emissions.Choice.{TheAlarm, TheGoAway, TheAnswer, ThePing, AStream}
 use Rattle.ymx_model.specs.world.Worlds.{World, pushed, without_front, stopped_now, mirror_world}
-use Rattle.ymx_model.specs.shared.Steps.{answer_of, is_of_a}
+use Rattle.ymx_machine.specs.shared.Steps.{answer_of, is_of_a}
 
 -- ---- emission
 

@@ -1,13 +1,13 @@
 -- A run of two sessions: two streams, bytes in pieces, a half-close on both sides, a reset, a ping.
 use Rattle.std.specs.Prelude.{List, [], ◌∷◌, Some, true}
-use Rattle.ymx_model.specs.declared.types.Side.TheVariants.{A, B}
-use Rattle.ymx_model.specs.declared.types.Direction.TheVariants.{AB, BA}
-use Rattle.ymx_model.specs.declared.types.Step.{Step}
-use Rattle.ymx_model.specs.declared.types.Step.TheVariants.{Emit, Deliver}
-use Rattle.ymx_model.specs.declared.types.Call.TheVariants.{Open, Accept, Write, Read, Finish, Reset, Ping, Ponged}
-use Rattle.ymx_model.specs.declared.types.CallFault.TheVariants as fault
-use Rattle.ymx_model.specs.declared.types.Answer.{Answer}
-use Rattle.ymx_model.specs.declared.types.Answer.TheVariants as answer
+use Rattle.ymx_machine.specs.declared.types.Side.TheVariants.{A, B}
+use Rattle.ymx_machine.specs.declared.types.Direction.TheVariants.{AB, BA}
+use Rattle.ymx_machine.specs.declared.types.Step.{Step}
+use Rattle.ymx_machine.specs.declared.types.Step.TheVariants.{Emit, Deliver}
+use Rattle.ymx_machine.specs.declared.types.Call.TheVariants.{Open, Accept, Write, Read, Finish, Reset, Ping, Ponged}
+use Rattle.ymx_machine.specs.declared.types.CallFault.TheVariants as fault
+use Rattle.ymx_machine.specs.declared.types.Answer.{Answer}
+use Rattle.ymx_machine.specs.declared.types.Answer.TheVariants as answer
 use Rattle.ymx_examples.specs.Words.{a, b, took, fed, hello}
 
 -- the calls, emissions and deliveries

@@ -2,15 +2,13 @@
 use Rattle.std.specs.Prelude.{◌≡◌, ◌≤◌, ◌<◌, ◌^◌, ℕ, ◌+◌, ◌-◌, List, [], ◌∷◌, ◌++◌, length, take, Bool, true, false, ◌==◌, nat_lt, if◌then◌else◌, Option, None, Some}
 use Rattle.ymx_header.specs.declared.header.Header.{Header}
 use Rattle.ymx_header.specs.Headers.{header_of, has_fin}
-use Rattle.ymx_model.specs.declared.types.Direction.TheVariants.{AB, BA}
-use Rattle.ymx_model.specs.declared.types.Step.{Step}
-use Rattle.ymx_model.specs.declared.types.Step.TheVariants as step
-use Rattle.ymx_model.specs.declared.types.Answer.{Answer}
-use Rattle.ymx_model.specs.declared.types.Answer.TheVariants as answer
+use Rattle.ymx_machine.specs.declared.types.Direction.TheVariants.{AB, BA}
+use Rattle.ymx_machine.specs.declared.types.Step.{Step}
+use Rattle.ymx_machine.specs.declared.types.Step.TheVariants as step
+use Rattle.ymx_machine.specs.declared.types.Answer.{Answer}
+use Rattle.ymx_machine.specs.declared.types.Answer.TheVariants as answer
 use Rattle.ymx_model.specs.declared.types.Role.TheVariants.{Client, Server}
-use Rattle.ymx_model.specs.shared.Limits.{first_credit}
-use Rattle.ymx_model.specs.shared.Phases.{is_live}
-use Rattle.ymx_model.specs.session.Records.{End}
+use Rattle.ymx_machine.specs.shared.Limits.{first_credit}
 use Rattle.ymx_model.specs.session.Sessions.{Session, Incoming, is_own, is_running}
 use Rattle.ymx_model.specs.session.Sessions.Incoming.{Head, Payload}
 use Rattle.ymx_model.specs.session.Arrivals.{payload}
@@ -18,8 +16,8 @@ use Rattle.ymx_model.specs.session.Feeds.{is_between}
 use Rattle.ymx_model.specs.session.Emissions.{Choice}
 use Rattle.ymx_model.specs.world.Worlds.{World, Pipe, Steps}
 use Rattle.ymx_model.specs.world.Load.{one_if}
-use Rattle.ymx_model.specs.machine.Machines.{Machine}
-use Rattle.ymx_model.specs.machine.Runs.{why_is_broken}
+use Rattle.ymx_machine.specs.machine.Machines.{Machine}
+use Rattle.ymx_machine.specs.machine.Runs.{why_is_broken}
 use Rattle.ymx_headline.specs.Agrees.{RunsAlike, Agrees}
 
 -- two sides with windows that may be chosen, and first stream numbers of their own
@@ -42,11 +40,6 @@ HasRun may steps answers w v m = (n : Machine) × RunsAlike may steps answers w 
 abbrev pub breaks_off : Answer → Bool
 breaks_off (answer.Fed fed) = why_is_broken fed.why
 breaks_off _ = false
-
--- a session has a record of a stream, and it is live
-abbrev pub is_live_in : Option End → Bool
-is_live_in None = false
-is_live_in (Some e) = is_live e.phase
 
 -- ---- nothing sticks
 

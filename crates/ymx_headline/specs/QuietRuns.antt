@@ -1,7 +1,7 @@
 -- A run of the world that tells after each step whether the world is quiet (this project's own).
 use Rattle.std.specs.Prelude.{◌≡◌, List, [], ◌∷◌, Bool}
-use Rattle.ymx_model.specs.declared.types.Step.{Step}
-use Rattle.ymx_model.specs.declared.types.Answer.{Answer}
+use Rattle.ymx_machine.specs.declared.types.Step.{Step}
+use Rattle.ymx_machine.specs.declared.types.Answer.{Answer}
 use Rattle.ymx_model.specs.session.Sessions.{Session}
 use Rattle.ymx_model.specs.session.Emissions.{Choice}
 use Rattle.ymx_model.specs.world.Worlds.{World, Steps, is_quiet}

@@ -1,20 +1,20 @@
 -- One event of a side as steps of the world.
 use Rattle.std.proofs.Common.{◌≡◌, ℕ, List, [], ◌∷◌, length, take, Bool, true, false, if◌then◌else◌, refl, sym, ap, subst, ◌∙◌}
 use Rattle.std.specs.Prelude.{MatchBool}
-use Rattle.ymx_model.specs.declared.types.Side.TheVariants.{A, B}
-use Rattle.ymx_model.specs.declared.types.Direction.TheVariants.{AB, BA}
-use Rattle.ymx_model.specs.declared.types.Step.{Step}
-use Rattle.ymx_model.specs.declared.types.Step.TheVariants as step
-use Rattle.ymx_model.specs.declared.types.Answer.{Answer}
-use Rattle.ymx_model.specs.declared.types.Answer.TheVariants as answer
-use Rattle.ymx_model.specs.declared.types.Reply.{Reply}
+use Rattle.ymx_machine.specs.declared.types.Side.TheVariants.{A, B}
+use Rattle.ymx_machine.specs.declared.types.Direction.TheVariants.{AB, BA}
+use Rattle.ymx_machine.specs.declared.types.Step.{Step}
+use Rattle.ymx_machine.specs.declared.types.Step.TheVariants as step
+use Rattle.ymx_machine.specs.declared.types.Answer.{Answer}
+use Rattle.ymx_machine.specs.declared.types.Answer.TheVariants as answer
+use Rattle.ymx_machine.specs.declared.types.Reply.{Reply}
 use Rattle.ymx_model.specs.declared.types.Event.{Event}
 use Rattle.ymx_model.specs.declared.types.Event.TheVariants as event
 use Rattle.ymx_model.specs.session.Sessions.{Session}
 use Rattle.ymx_model.specs.session.Calls.{feed_end}
 use Rattle.ymx_model.specs.session.Emissions.{Choice}
 use Rattle.ymx_model.specs.session.Histories.{Gives}
-use Rattle.ymx_model.specs.shared.Steps.{answer_of}
+use Rattle.ymx_machine.specs.shared.Steps.{answer_of}
 use Rattle.ymx_model.specs.world.Worlds.{World, Pipe, Steps, Runs, pushed, without_front, fed_count}
 use Rattle.ymx_law_audit.specs.Joints.{ended_pipe, emitted_of, sent_into, TakesFront, Gets, world_steps}
 use Rattle.ymx_law_audit.specs.Told.{answers_of, is_ended_behind}

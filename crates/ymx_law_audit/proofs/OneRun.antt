@@ -1,11 +1,11 @@
 -- Two histories of new sessions, in a joint order, are one run of the queue machine.
 use Rattle.std.proofs.Common.{List, Bool}
 use Rattle.ymx_model.specs.declared.types.Role.TheVariants.{Client, Server}
-use Rattle.ymx_model.specs.declared.types.Step.{Step}
+use Rattle.ymx_machine.specs.declared.types.Step.{Step}
 use Rattle.ymx_model.specs.declared.types.Entry.{Entry}
 use Rattle.ymx_model.specs.session.Sessions.{Session, new_session}
 use Rattle.ymx_model.specs.session.Emissions.{Choice}
-use Rattle.ymx_model.specs.machine.Machines.{new_machine}
+use Rattle.ymx_machine.specs.machine.Machines.{new_machine}
 use Rattle.ymx_headline.proofs.relation.Begins.{begins}
 use Rattle.ymx_law_audit.specs.Joints.{IsJointOrder}
 use Rattle.ymx_law_audit.specs.Told.{AreOneRun}

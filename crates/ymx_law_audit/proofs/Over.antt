@@ -3,16 +3,16 @@ use Rattle.std.proofs.Common.{◌≡◌, ℕ, List, [], ◌∷◌, length, take,
 use Rattle.std.specs.Prelude.{count_by}
 use Rattle.ymx_model.specs.declared.types.Status.{Status}
 use Rattle.ymx_model.specs.declared.types.Status.TheVariants.{Running, Lost, Broken, Closed}
-use Rattle.ymx_model.specs.declared.types.Reply.{Reply}
-use Rattle.ymx_model.specs.declared.types.Call.{Call}
-use Rattle.ymx_model.specs.declared.types.Call.TheVariants as call
+use Rattle.ymx_machine.specs.declared.types.Reply.{Reply}
+use Rattle.ymx_machine.specs.declared.types.Call.{Call}
+use Rattle.ymx_machine.specs.declared.types.Call.TheVariants as call
 use Rattle.ymx_model.specs.declared.types.Event.{Event}
 use Rattle.ymx_model.specs.declared.types.Event.TheVariants as event
 use Rattle.ymx_model.specs.declared.types.Response.{Response}
 use Rattle.ymx_model.specs.declared.types.FrameKind.{FrameKind}
-use Rattle.ymx_model.specs.shared.Lists.{look}
-use Rattle.ymx_model.specs.shared.Limits.{most_pings, most_records, most_unacknowledged}
-use Rattle.ymx_model.specs.shared.Replies.{is_done, finish_reply, reset_reply, forget_reply, write_reply, read_reply, bytes_moved}
+use Rattle.ymx_machine.specs.shared.Lists.{look}
+use Rattle.ymx_machine.specs.shared.Limits.{most_pings, most_records, most_unacknowledged}
+use Rattle.ymx_machine.specs.shared.Replies.{is_done, finish_reply, reset_reply, forget_reply, write_reply, read_reply, bytes_moved}
 use Rattle.ymx_model.specs.session.Records.{End}
 use Rattle.ymx_model.specs.session.Pings.{has_back, has_asked}
 use Rattle.ymx_model.specs.session.GoAway.{away_due}
@@ -23,7 +23,7 @@ use Rattle.ymx_model.specs.session.Emissions.{Choice, Flows, Ready, begin, begin
 use Rattle.ymx_model.specs.session.Emissions.Choice.{TheAlarm, TheGoAway, TheAnswer, ThePing, AStream}
 use Rattle.ymx_model.specs.session.Histories.{Gives, CallGives}
 use Rattle.ymx_model.specs.session.Histories.CallGives.{Outcome as HasOutcome, NoMemory}
-use Rattle.ymx_model.proofs.Tests.{split, none_of, one_some}
+use Rattle.ymx_machine.proofs.Tests.{split, none_of, one_some}
 
 abbrev pub IsOver : Session → Type 0
 IsOver s = is_running s.status ≡ false

@@ -1,17 +1,17 @@
 -- A joint order of two short histories: A opens a stream and emits its frame, B is fed it and accepts.
 use Rattle.std.specs.Prelude.{List, [], ◌∷◌, Some}
-use Rattle.ymx_model.specs.declared.types.Side.TheVariants.{A, B}
-use Rattle.ymx_model.specs.declared.types.Direction.TheVariants.{AB}
-use Rattle.ymx_model.specs.declared.types.Step.{Step}
-use Rattle.ymx_model.specs.declared.types.Step.TheVariants as step
-use Rattle.ymx_model.specs.declared.types.Answer.{Answer}
-use Rattle.ymx_model.specs.declared.types.Answer.TheVariants as answer
-use Rattle.ymx_model.specs.declared.types.Call.TheVariants.{Open, Accept}
-use Rattle.ymx_model.specs.declared.types.Reply.TheVariants as reply
+use Rattle.ymx_machine.specs.declared.types.Side.TheVariants.{A, B}
+use Rattle.ymx_machine.specs.declared.types.Direction.TheVariants.{AB}
+use Rattle.ymx_machine.specs.declared.types.Step.{Step}
+use Rattle.ymx_machine.specs.declared.types.Step.TheVariants as step
+use Rattle.ymx_machine.specs.declared.types.Answer.{Answer}
+use Rattle.ymx_machine.specs.declared.types.Answer.TheVariants as answer
+use Rattle.ymx_machine.specs.declared.types.Call.TheVariants.{Open, Accept}
+use Rattle.ymx_machine.specs.declared.types.Reply.TheVariants as reply
 use Rattle.ymx_model.specs.declared.types.Event.TheVariants as event
 use Rattle.ymx_model.specs.declared.types.Entry.{Entry}
-use Rattle.ymx_model.specs.declared.types.Fed.{Fed}
-use Rattle.ymx_model.specs.declared.types.Why.TheVariants.{All}
+use Rattle.ymx_machine.specs.declared.types.Fed.{Fed}
+use Rattle.ymx_machine.specs.declared.types.Why.TheVariants.{All}
 use Rattle.ymx_examples.specs.Words.{window_frame}
 
 -- the frame that opens stream 1, fed as a whole

@@ -1,14 +1,14 @@
 -- Joint orders of the histories of two sessions (this project's own).
 use Rattle.std.specs.Prelude.{◌≡◌, ◌≤◌, ℕ, List, [], ◌∷◌, ◌++◌, length, take, Bool, true, false, if◌then◌else◌, MatchBool}
-use Rattle.ymx_model.specs.declared.types.Side.{Side}
-use Rattle.ymx_model.specs.declared.types.Side.TheVariants.{A, B}
-use Rattle.ymx_model.specs.declared.types.Direction.{Direction}
-use Rattle.ymx_model.specs.declared.types.Direction.TheVariants.{AB, BA}
-use Rattle.ymx_model.specs.declared.types.Step.{Step}
-use Rattle.ymx_model.specs.declared.types.Step.TheVariants as step
-use Rattle.ymx_model.specs.declared.types.Reply.{Reply}
-use Rattle.ymx_model.specs.declared.types.Reply.TheVariants as reply
-use Rattle.ymx_model.specs.declared.types.Fed.{Fed}
+use Rattle.ymx_machine.specs.declared.types.Side.{Side}
+use Rattle.ymx_machine.specs.declared.types.Side.TheVariants.{A, B}
+use Rattle.ymx_machine.specs.declared.types.Direction.{Direction}
+use Rattle.ymx_machine.specs.declared.types.Direction.TheVariants.{AB, BA}
+use Rattle.ymx_machine.specs.declared.types.Step.{Step}
+use Rattle.ymx_machine.specs.declared.types.Step.TheVariants as step
+use Rattle.ymx_machine.specs.declared.types.Reply.{Reply}
+use Rattle.ymx_machine.specs.declared.types.Reply.TheVariants as reply
+use Rattle.ymx_machine.specs.declared.types.Fed.{Fed}
 use Rattle.ymx_model.specs.declared.types.Event.{Event}
 use Rattle.ymx_model.specs.declared.types.Event.TheVariants as event
 use Rattle.ymx_model.specs.declared.types.Entry.{Entry}

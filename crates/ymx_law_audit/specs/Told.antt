@@ -1,19 +1,19 @@
 -- The replies of two sessions' histories, in a joint order, as answers of the world (this project's own).
 use Rattle.std.specs.Prelude.{◌≡◌, ℕ, List, [], ◌∷◌, ◌++◌, Bool, true, false, if◌then◌else◌}
 use Rattle.ymx_model.specs.declared.types.Role.TheVariants.{Client, Server}
-use Rattle.ymx_model.specs.declared.types.Answer.{Answer}
-use Rattle.ymx_model.specs.declared.types.Answer.TheVariants as answer
-use Rattle.ymx_model.specs.declared.types.Reply.{Reply}
+use Rattle.ymx_machine.specs.declared.types.Answer.{Answer}
+use Rattle.ymx_machine.specs.declared.types.Answer.TheVariants as answer
+use Rattle.ymx_machine.specs.declared.types.Reply.{Reply}
 use Rattle.ymx_model.specs.declared.types.Event.{Event}
 use Rattle.ymx_model.specs.declared.types.Event.TheVariants as event
 use Rattle.ymx_model.specs.declared.types.Entry.{Entry}
-use Rattle.ymx_model.specs.declared.types.Step.{Step}
+use Rattle.ymx_machine.specs.declared.types.Step.{Step}
 use Rattle.ymx_model.specs.session.Sessions.{Session, new_session}
 use Rattle.ymx_model.specs.session.Emissions.{Choice}
 use Rattle.ymx_model.specs.session.Histories.{Replays}
-use Rattle.ymx_model.specs.shared.Steps.{answer_of}
+use Rattle.ymx_machine.specs.shared.Steps.{answer_of}
 use Rattle.ymx_model.specs.world.Worlds.{World, Runs, new_pipe, new_world}
-use Rattle.ymx_model.specs.machine.Machines.{Machine, new_machine}
+use Rattle.ymx_machine.specs.machine.Machines.{Machine, new_machine}
 use Rattle.ymx_headline.specs.Agrees.{Agrees}
 use Rattle.ymx_headline.specs.Laws.{AreGood, HasRun}
 use Rattle.ymx_law_audit.specs.Joints.{IsJoint}

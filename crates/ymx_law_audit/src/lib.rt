@@ -5,13 +5,13 @@
 
 ghost use Rattle.std.specs.Prelude.{◌≡◌, ℕ, List, Bool, true, false, ◌∷◌, []};
 ghost use Rattle.ymx_model.specs.declared.types.Entry.{Entry};
-ghost use Rattle.ymx_model.specs.declared.types.Step.{Step};
+ghost use Rattle.ymx_machine.specs.declared.types.Step.{Step};
 ghost use Rattle.ymx_model.specs.declared.types.Role.TheVariants.{Client, Server};
 ghost use Rattle.ymx_model.specs.session.Sessions.{Session, new_session};
 ghost use Rattle.ymx_model.specs.session.Emissions.{Choice};
 ghost use Rattle.ymx_model.specs.session.Histories.{Replays};
 ghost use Rattle.ymx_model.specs.world.Worlds.{World, new_pipe, new_world};
-ghost use Rattle.ymx_model.specs.machine.Machines.{new_machine};
+ghost use Rattle.ymx_machine.specs.machine.Machines.{new_machine};
 ghost use Rattle.ymx_headline.specs.Laws.{AreGood, HasRun};
 ghost use Rattle.ymx_law_audit.specs.Joints.{IsJoint, IsJointOrder};
 ghost use Rattle.ymx_law_audit.specs.Told.{told, AreAnswered, AreOneRun};

@@ -1,10 +1,10 @@
 -- The states that a run goes through.
 use Rattle.std.proofs.Common.{ℕ, List, [], ◌∷◌, true}
-use Rattle.ymx_model.specs.stream.Streams.{Stream, stream_accept}
-use Rattle.ymx_model.specs.shared.Lists.{change}
-use Rattle.ymx_model.specs.machine.Machines.{Machine}
-use Rattle.ymx_model.specs.machine.CallRules.{said_once}
-use Rattle.ymx_model.specs.machine.FreeMoves.{FreeMove, moved_by}
+use Rattle.ymx_machine.specs.stream.Streams.{Stream, stream_accept}
+use Rattle.ymx_machine.specs.shared.Lists.{change}
+use Rattle.ymx_machine.specs.machine.Machines.{Machine}
+use Rattle.ymx_machine.specs.machine.CallRules.{said_once}
+use Rattle.ymx_machine.specs.machine.FreeMoves.{FreeMove, moved_by}
 
 -- one stream changes
 abbrev pub on : ℕ → (Stream → Stream) → Machine → Machine

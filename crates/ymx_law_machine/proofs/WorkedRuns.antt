@@ -1,19 +1,19 @@
 -- The worked runs of the machine, by computation: the moves are given.
 use Rattle.std.proofs.Common.{◌≡◌, inl, ℕ, [], ◌∷◌, false, Some, refl, ap, arith}
-use Rattle.ymx_model.specs.declared.types.Reply.TheVariants as reply
-use Rattle.ymx_model.specs.declared.types.CallFault.TheVariants as fault
-use Rattle.ymx_model.specs.declared.types.Wrote.TheVariants.{Took}
+use Rattle.ymx_machine.specs.declared.types.Reply.TheVariants as reply
+use Rattle.ymx_machine.specs.declared.types.CallFault.TheVariants as fault
+use Rattle.ymx_machine.specs.declared.types.Wrote.TheVariants.{Took}
 use Rattle.std.proofs.lemmas.List.Elements.{All-from_recursion}
-use Rattle.ymx_model.specs.stream.Lanes.{is_said}
-use Rattle.ymx_model.specs.stream.Lanes.Mark.{Unsaid, Said, Here}
-use Rattle.ymx_model.specs.stream.Streams.{Stream, IsStill, stream_write, stream_read, stream_finish, stream_reset, stream_forget}
-use Rattle.ymx_model.specs.stream.Streams.Move.{Arrive, EndArrives, AckArrives, ResetArrives, Released}
-use Rattle.ymx_model.specs.shared.Phases.Phase.{WasReset}
-use Rattle.ymx_model.specs.machine.Machines.{Machine, mirror_machine}
-use Rattle.ymx_model.specs.machine.CallRules.{machine_opened}
-use Rattle.ymx_model.specs.machine.FreeMoves.{moved_by}
-use Rattle.ymx_model.specs.machine.FreeMoves.FreeMove.{OfStream, SynArrives}
-use Rattle.ymx_model.specs.machine.Runs.{MachineRun, IsStillMachine}
+use Rattle.ymx_machine.specs.stream.Lanes.{is_said}
+use Rattle.ymx_machine.specs.stream.Lanes.Mark.{Unsaid, Said, Here}
+use Rattle.ymx_machine.specs.stream.Streams.{Stream, IsStill, stream_write, stream_read, stream_finish, stream_reset, stream_forget}
+use Rattle.ymx_machine.specs.stream.Streams.Move.{Arrive, EndArrives, AckArrives, ResetArrives, Released}
+use Rattle.ymx_machine.specs.shared.Phases.Phase.{WasReset}
+use Rattle.ymx_machine.specs.machine.Machines.{Machine, mirror_machine}
+use Rattle.ymx_machine.specs.machine.CallRules.{machine_opened}
+use Rattle.ymx_machine.specs.machine.FreeMoves.{moved_by}
+use Rattle.ymx_machine.specs.machine.FreeMoves.FreeMove.{OfStream, SynArrives}
+use Rattle.ymx_machine.specs.machine.Runs.{MachineRun, IsStillMachine}
 use Rattle.ymx_law_machine.proofs.RunStates.{on, accepted, said_away, moved_all, closed_now}
 use Rattle.ymx_law_machine.specs.Examples.{first_machine, vanishing_steps, vanishing_answers, forgotten_steps, forgotten_answers, crossing_steps, crossing_answers}
 
@@ -51,7 +51,7 @@ vanishing = (
           (38, [], refl, refl),
           (
             vanishing_5,
-            (_, SynArrives 1 false ∷ OfStream 1 (Arrive 2) ∷ OfStream 1 EndArrives ∷ [], 0, refl, refl, refl, ((refl, (_, refl, refl)), (0, refl, ((refl, refl, (_, refl, (refl, omega arith))), (0, refl, ((refl, refl, (_, refl, (refl, refl, refl))), (0, refl, (refl, refl)))))))),
+            (_, SynArrives 1 false ∷ OfStream 1 (Arrive 2) ∷ OfStream 1 EndArrives ∷ [], 0, refl, refl, refl, ((refl, (_, refl, refl), refl), (0, refl, ((refl, refl, (_, refl, (refl, omega arith))), (0, refl, ((refl, refl, (_, refl, (refl, refl, refl))), (0, refl, (refl, refl)))))))),
             refl,
           ),
         ),
@@ -106,7 +106,7 @@ forgotten = (
       (24, [], refl, refl),
       (
         forgotten_3,
-        (_, SynArrives 1 false ∷ OfStream 1 EndArrives ∷ [], 0, refl, refl, refl, ((refl, (_, refl, refl)), (0, refl, ((refl, refl, (_, refl, (refl, refl, refl))), (0, refl, (refl, refl)))))),
+        (_, SynArrives 1 false ∷ OfStream 1 EndArrives ∷ [], 0, refl, refl, refl, ((refl, (_, refl, refl), refl), (0, refl, ((refl, refl, (_, refl, (refl, refl, refl))), (0, refl, (refl, refl)))))),
         (
           forgotten_4,
           (reply.Accepted (Some 1), mirror_machine forgotten_4, [], refl, (refl, refl), refl),
@@ -198,7 +198,7 @@ crossing = (
     (12, [], refl, refl),
     (
       crossing_2,
-      (_, SynArrives 1 false ∷ [], 0, refl, refl, refl, ((refl, (_, refl, refl)), (0, refl, (refl, refl)))),
+      (_, SynArrives 1 false ∷ [], 0, refl, refl, refl, ((refl, (_, refl, refl), refl), (0, refl, (refl, refl)))),
       (
         crossing_3,
         (reply.Accepted (Some 1), mirror_machine crossing_3, [], refl, (refl, refl), refl),

@@ -1,14 +1,14 @@
 -- The face: what the callers of a stream see of it, over a whole run (this project's own).
-use Rattle.std.specs.Prelude.{ℕ, ◌+◌, ◌≡◌, ◌≤◌, List, [], ◌∷◌, ◌++◌, length, Bool, true, false, ◌&&◌, ◌||◌, ◌==◌}
-use Rattle.ymx_model.specs.declared.types.Side.{Side}
-use Rattle.ymx_model.specs.declared.types.Side.TheVariants.{A, B}
-use Rattle.ymx_model.specs.declared.types.Step.{Step}
-use Rattle.ymx_model.specs.declared.types.Step.TheVariants as step
-use Rattle.ymx_model.specs.declared.types.Answer.{Answer}
-use Rattle.ymx_model.specs.declared.types.Answer.TheVariants as answer
-use Rattle.ymx_model.specs.declared.types.Call.TheVariants as call
-use Rattle.ymx_model.specs.shared.Steps.{is_same_side}
-use Rattle.ymx_model.specs.machine.Runs.{written, got}
+use Rattle.std.specs.Prelude.{ℕ, ◌+◌, ◌≡◌, ◌≤◌, List, [], ◌∷◌, ◌++◌, length, take, Bool, true, false, ◌&&◌, ◌||◌, ◌==◌}
+use Rattle.ymx_machine.specs.declared.types.Side.{Side}
+use Rattle.ymx_machine.specs.declared.types.Side.TheVariants.{A, B}
+use Rattle.ymx_machine.specs.declared.types.Step.{Step}
+use Rattle.ymx_machine.specs.declared.types.Step.TheVariants as step
+use Rattle.ymx_machine.specs.declared.types.Answer.{Answer}
+use Rattle.ymx_machine.specs.declared.types.Answer.TheVariants as answer
+use Rattle.ymx_machine.specs.declared.types.Call.TheVariants as call
+use Rattle.ymx_machine.specs.shared.Steps.{is_same_side}
+use Rattle.ymx_machine.specs.machine.Runs.{written, got}
 
 -- whether a step was a Finish of a stream at a side, and was done
 abbrev pub finished_by : Side → ℕ → Step → Answer → Bool
@@ -38,11 +38,21 @@ pub record IsFace (writer reader : Side) (id : ℕ) (steps : List Step) (answers
   pub whole : ended reader id steps answers ≡ true → written writer id steps answers ≡ got reader id steps answers
   pub finish : ended reader id steps answers ≡ true → finished writer id steps answers ≡ true
 
--- so it is for every stream, in both directions
+-- so it is at every moment of the run, for every stream, in both directions
 abbrev pub AreFaces : List Step → List Answer → Type 0
-AreFaces steps answers = (id : ℕ) → IsFace A B id steps answers × IsFace B A id steps answers
+AreFaces steps answers = (made id : ℕ) →
+    IsFace A B id (take made steps) (take made answers) × IsFace B A id (take made steps) (take made answers)
 
--- Besides, while the reader's end is live, at most the reader's window is missing.
-pub record IsFaceWithin (window : ℕ) (live : Bool) (writer reader : Side) (id : ℕ) (steps : List Step) (answers : List Answer) : Type 0 where
+-- What the writer wrote and the reader did not get fits the reader's window.
+abbrev pub FitsWindow : (window : ℕ) (writer reader : Side) (id : ℕ) → List Step → List Answer → Type 0
+FitsWindow window writer reader id steps answers = length (written writer id steps answers) ≤ length (got reader id steps answers) + window
+
+-- so it is at every moment of the run, for every stream, in both directions: the windows of A and B
+abbrev pub FitWindows : (window_a window_b : ℕ) → List Step → List Answer → Type 0
+FitWindows window_a window_b steps answers = (made id : ℕ) →
+    FitsWindow window_b A B id (take made steps) (take made answers) × FitsWindow window_a B A id (take made steps) (take made answers)
+
+-- the face, and what fits the window
+pub record IsFaceWithin (window : ℕ) (writer reader : Side) (id : ℕ) (steps : List Step) (answers : List Answer) : Type 0 where
   pub face : IsFace writer reader id steps answers
-  pub within_window : live ≡ true → length (written writer id steps answers) ≤ length (got reader id steps answers) + window
+  pub within_window : FitsWindow window writer reader id steps answers

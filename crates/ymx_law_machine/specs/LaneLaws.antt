@@ -1,8 +1,8 @@
 -- The law of a lane (this project's own, after flow control).
 use Rattle.std.specs.Prelude.{ℕ, ◌≡◌, ◌≤◌, [], length, true, false}
-use Rattle.ymx_model.specs.stream.Lanes.{Lane, lane_total}
-use Rattle.ymx_model.specs.shared.Phases.{Phase, is_up, takes}
-use Rattle.ymx_model.specs.stream.Streams.{Stream}
+use Rattle.ymx_machine.specs.stream.Lanes.{Lane, lane_total}
+use Rattle.ymx_machine.specs.shared.Phases.{Phase, is_up, takes}
+use Rattle.ymx_machine.specs.stream.Streams.{Stream}
 
 -- Bytes on their way and here, credit and owed are at most the reader's window, and just as much until
 -- an end of the stream is reset, refused or given up: the writer's end, the reader's. So what is unread

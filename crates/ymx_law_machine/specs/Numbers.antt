@@ -1,9 +1,9 @@
 -- Stream numbers, and the lists of offered streams (stream identifiers).
 use Rattle.std.specs.Prelude.{ℕ, ◌%◌, ◌<◌, ◌≡◌, ◌≢◌, List, [], ◌∷◌, Bool, true, false, ◌||◌, ◌==◌, Option, None, Some}
-use Rattle.ymx_model.specs.stream.Streams.{Stream}
-use Rattle.ymx_model.specs.shared.Phases.{is_offered}
-use Rattle.ymx_model.specs.shared.Lists.{look, Distinct}
-use Rattle.ymx_model.specs.machine.Machines.{Machine}
+use Rattle.ymx_machine.specs.stream.Streams.{Stream}
+use Rattle.ymx_machine.specs.shared.Phases.{is_offered}
+use Rattle.ymx_machine.specs.shared.Lists.{look, Distinct}
+use Rattle.ymx_machine.specs.machine.Machines.{Machine}
 
 -- each number stands once
 abbrev pub NumbersOnce : List (ℕ × Stream) → Type 0

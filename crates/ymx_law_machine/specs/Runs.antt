@@ -1,11 +1,10 @@
 -- Over whole runs: the law of a lane, and where a run is still (this project's own).
 use Rattle.std.specs.Prelude.{ℕ, ◌≡◌, List, [], ◌∷◌, Bool, true, false, Option, None, Some}
-use Rattle.ymx_model.specs.declared.types.Step.{Step}
-use Rattle.ymx_model.specs.declared.types.Answer.{Answer}
-use Rattle.ymx_model.specs.stream.Streams.{Stream}
-use Rattle.ymx_model.specs.shared.Phases.{is_live}
-use Rattle.ymx_model.specs.machine.Machines.{Machine}
-use Rattle.ymx_model.specs.machine.Runs.{MachineStep, IsStillMachine}
+use Rattle.ymx_machine.specs.declared.types.Step.{Step}
+use Rattle.ymx_machine.specs.declared.types.Answer.{Answer}
+use Rattle.ymx_machine.specs.stream.Streams.{Stream}
+use Rattle.ymx_machine.specs.machine.Machines.{Machine}
+use Rattle.ymx_machine.specs.machine.Runs.{MachineStep, IsStillMachine}
 use Rattle.ymx_law_machine.specs.LaneLaws.{ObeysWindows}
 
 -- ---- the law of a lane
@@ -14,17 +13,6 @@ use Rattle.ymx_law_machine.specs.LaneLaws.{ObeysWindows}
 abbrev pub ObeysAt : (window_a window_b : ℕ) → Option Stream → Type 0
 ObeysAt window_a window_b None = Unit {0}
 ObeysAt window_a window_b (Some s) = ObeysWindows window_a window_b s
-
--- ---- whether an end is live
-
--- the reader's end is Live
-abbrev pub is_live_at_a : Option Stream → Bool
-is_live_at_a None = false
-is_live_at_a (Some s) = is_live s.me
-
-abbrev pub is_live_at_b : Option Stream → Bool
-is_live_at_b None = false
-is_live_at_b (Some s) = is_live s.you
 
 -- ---- a run that tells when it is still
 

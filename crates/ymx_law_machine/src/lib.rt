@@ -2,23 +2,23 @@
 #![tactic(auto)]
 
 ghost use Rattle.std.specs.Prelude.{◌%◌, ◌≡◌, ◌≢◌, ◌⊎◌, ◌≤◌, ℕ, List, None, Some, true};
-ghost use Rattle.ymx_model.specs.declared.types.Answer.{Answer};
-ghost use Rattle.ymx_model.specs.declared.types.Call.{Call};
-ghost use Rattle.ymx_model.specs.declared.types.CallFault.TheVariants.{OutOfMemory};
-ghost use Rattle.ymx_model.specs.declared.types.Reply.TheVariants.{Refused};
-ghost use Rattle.ymx_model.specs.declared.types.Reply.{Reply};
-ghost use Rattle.ymx_model.specs.declared.types.Side.TheVariants.{A, B};
-ghost use Rattle.ymx_model.specs.declared.types.Step.{Step};
-ghost use Rattle.ymx_model.specs.machine.FreeMoves.{FreeMove, moved_by};
-ghost use Rattle.ymx_model.specs.shared.Limits.{first_credit};
-ghost use Rattle.ymx_model.specs.machine.CallRules.{Rule};
-ghost use Rattle.ymx_model.specs.machine.Runs.{IsStillMachine, MachineRun, MachineStep};
-ghost use Rattle.ymx_model.specs.machine.Machines.{Machine, new_machine};
-ghost use Rattle.ymx_model.specs.shared.Lists.{look};
+ghost use Rattle.ymx_machine.specs.declared.types.Answer.{Answer};
+ghost use Rattle.ymx_machine.specs.declared.types.Call.{Call};
+ghost use Rattle.ymx_machine.specs.declared.types.CallFault.TheVariants.{OutOfMemory};
+ghost use Rattle.ymx_machine.specs.declared.types.Reply.TheVariants.{Refused};
+ghost use Rattle.ymx_machine.specs.declared.types.Reply.{Reply};
+ghost use Rattle.ymx_machine.specs.declared.types.Side.TheVariants.{A, B};
+ghost use Rattle.ymx_machine.specs.declared.types.Step.{Step};
+ghost use Rattle.ymx_machine.specs.machine.FreeMoves.{FreeMove, moved_by};
+ghost use Rattle.ymx_machine.specs.shared.Limits.{first_credit};
+ghost use Rattle.ymx_machine.specs.machine.CallRules.{Rule};
+ghost use Rattle.ymx_machine.specs.machine.Runs.{IsStillMachine, MachineRun, MachineStep};
+ghost use Rattle.ymx_machine.specs.machine.Machines.{Machine, new_machine};
+ghost use Rattle.ymx_machine.specs.shared.Lists.{look};
 ghost use Rattle.ymx_law_machine.specs.Examples.{HasCome, crossing_answers, crossing_steps, forgotten_answers, forgotten_steps, first_machine, vanishing_answers, vanishing_steps};
 ghost use Rattle.ymx_law_machine.specs.Numbers.{HasBothParities, HasOrder};
 ghost use Rattle.ymx_law_machine.specs.Others.{needs_memory, touched, touched_by};
-ghost use Rattle.ymx_law_machine.specs.Runs.{is_live_at_a, is_live_at_b, ObeysAt};
+ghost use Rattle.ymx_law_machine.specs.Runs.{ObeysAt};
 ghost use Rattle.ymx_law_machine.specs.Faces.{IsFaceWithin};
 
 /// The law of a lane (flow control): in every run from a new machine, the bytes on their way, the
@@ -32,13 +32,12 @@ pub fn lane_law()
 
 /// The face: in every run of a side with odd stream numbers and one with even ones, what one side got
 /// of a stream is a beginning of what the other wrote to it, and all of it once a read was answered
-/// with the end.
+/// with the end. What was written and not got is never more than the reader's window.
 pub fn face()
     ensures both_directions { (window_a first_a window_b first_b : ℕ) (steps : List Step) (answers : List Answer) (m : Machine) (id : ℕ) →
         first_credit ≤ window_a → first_credit ≤ window_b → first_a % 2 ≡ 1 → first_b % 2 ≡ 0 →
         MachineRun steps answers (new_machine window_a first_a window_b first_b) m →
-        IsFaceWithin window_b (is_live_at_b (look id m.streams)) A B id steps answers
-        × IsFaceWithin window_a (is_live_at_a (look id m.streams)) B A id steps answers }
+        IsFaceWithin window_b A B id steps answers × IsFaceWithin window_a B A id steps answers }
 {}
 
 /// Stream identifiers: in every run each number stands once, below its opener's next number and odd or

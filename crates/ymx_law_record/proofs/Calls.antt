@@ -3,19 +3,19 @@ use Rattle.std.proofs.Common.{◌≡◌, ◌≢◌, inl, inr, ℕ, ◌+◌, List
 use Rattle.std.specs.Prelude.{is_some}
 use Rattle.std.proofs.lemmas.Grind.{common_steps}
 use Rattle.std.proofs.lemmas.Bool.Decides.{nat_tests}
-use Rattle.ymx_model.specs.declared.types.Reply.{Reply}
-use Rattle.ymx_model.specs.declared.types.Reply.TheVariants.{Refused}
-use Rattle.ymx_model.specs.declared.types.CallFault.TheVariants.{OutOfMemory}
-use Rattle.ymx_model.specs.shared.Limits.{first_credit}
-use Rattle.ymx_model.specs.shared.Phases.{Phase, is_lingering, is_live, is_reset}
-use Rattle.ymx_model.specs.shared.Phases.Phase.{WasReset, Lingering}
-use Rattle.ymx_model.specs.stream.StreamRules.{StreamCall}
-use Rattle.ymx_model.specs.shared.Replies.{write_reply, read_reply, finish_reply, reset_reply, forget_reply, bytes_moved, is_done}
-use Rattle.ymx_model.specs.stream.StreamRules.StreamCall.{Writes, Reads, Finishes, Resets, Forgets}
+use Rattle.ymx_machine.specs.declared.types.Reply.{Reply}
+use Rattle.ymx_machine.specs.declared.types.Reply.TheVariants.{Refused}
+use Rattle.ymx_machine.specs.declared.types.CallFault.TheVariants.{OutOfMemory}
+use Rattle.ymx_machine.specs.shared.Limits.{first_credit}
+use Rattle.ymx_machine.specs.shared.Phases.{Phase, is_lingering, is_live, is_reset}
+use Rattle.ymx_machine.specs.shared.Phases.Phase.{WasReset, Lingering}
+use Rattle.ymx_machine.specs.stream.StreamRules.{StreamCall}
+use Rattle.ymx_machine.specs.shared.Replies.{write_reply, read_reply, finish_reply, reset_reply, forget_reply, bytes_moved, is_done}
+use Rattle.ymx_machine.specs.stream.StreamRules.StreamCall.{Writes, Reads, Finishes, Resets, Forgets}
 use Rattle.ymx_model.specs.session.Records.{End, end_write, end_read, end_finish, end_reset, end_forget}
 use Rattle.ymx_model.specs.declared.types.FrameKind.{FrameKind}
 use Rattle.ymx_model.specs.session.FramesDue.{next_kind, is_due}
-use Rattle.ymx_model.specs.shared.Lists.{look, Distinct}
+use Rattle.ymx_machine.specs.shared.Lists.{look, Distinct}
 use Rattle.ymx_model.specs.session.Tables.{remove_record}
 use Rattle.ymx_model.specs.session.Sessions.{Session, is_lost, is_closed, belongs_to, is_spent, on_stream, settle}
 use Rattle.ymx_model.specs.session.Calls.{Outcome, outcome, at_stream, write_outcome, read_outcome, if_done, finish_outcome, reset_outcome, forget_outcome, takes_memory, unsent_count, write_to}
@@ -23,8 +23,8 @@ use Rattle.ymx_model.specs.session.Histories.{CallGives}
 use Rattle.ymx_model.specs.session.Histories.CallGives.{Outcome as HasOutcome, NoMemory}
 use Rattle.ymx_law_stream.specs.Answers.{EndRule}
 use Rattle.ymx_law_session.specs.Limits.{IsWithin}
-use Rattle.ymx_model.proofs.Tests.{split, both_of}
-use Rattle.ymx_model.proofs.Lists.{look-change_same, look-without_same, distinct-change}
+use Rattle.ymx_machine.proofs.Tests.{split, both_of}
+use Rattle.ymx_machine.proofs.Lists.{look-change_same, look-without_same, distinct-change}
 use Rattle.ymx_law_session.proofs.due.Ready.{due-kind}
 use Rattle.ymx_law_record.specs.Sides.{call_on, Has}
 

@@ -8,22 +8,22 @@ use Rattle.ymx_header.specs.Headers.{has_syn, has_ack, has_fin, has_rst}
 use Rattle.ymx_model.specs.declared.types.Status.TheVariants.{Running}
 use Rattle.ymx_model.specs.declared.types.GoAwayMark.TheVariants.{Unsaid}
 use Rattle.ymx_model.specs.declared.types.Response.TheVariants.{Reject}
-use Rattle.ymx_model.specs.shared.Phases.{Phase, is_offered, struck}
-use Rattle.ymx_model.specs.shared.Phases.Phase.{Gone}
+use Rattle.ymx_machine.specs.shared.Phases.{Phase, is_offered, struck}
+use Rattle.ymx_machine.specs.shared.Phases.Phase.{Gone}
 use Rattle.ymx_model.specs.session.Records.{End, receive_data, receive_credit, receive_fin, receive_ack, receive_rst, receive_piece}
 use Rattle.ymx_model.specs.session.Parts.{Part}
 use Rattle.ymx_model.specs.session.Parts.Part.{Syn, Ack, Data, Credit, Fin, Rst}
-use Rattle.ymx_model.specs.shared.Lists.{look, Distinct, drop_id}
+use Rattle.ymx_machine.specs.shared.Lists.{look, Distinct, drop_id}
 use Rattle.ymx_model.specs.session.Tables.{insert_record, remove_record}
-use Rattle.ymx_model.specs.shared.Limits.{most_records, most_offered}
+use Rattle.ymx_machine.specs.shared.Limits.{most_records, most_offered}
 use Rattle.ymx_model.specs.session.Sessions.{Session, nothing_outgoing, is_own, is_spent, on_stream, settle, breaks}
 use Rattle.ymx_model.specs.session.Emissions.{moves_on, settles}
 use Rattle.ymx_model.specs.session.Sessions.Incoming.{Head, Payload}
 use Rattle.ymx_model.specs.session.Arrivals.{answers_with, offer, session_refuses, is_data, payload, delta, expects, record_fault, reset_comes, acknowledges, take_head, meets, meets_some, unless_fault, header_fault, head_comes, piece_comes}
 use Rattle.ymx_law_session.specs.Frames.{frame_comes, payload_comes}
 use Rattle.ymx_law_session.specs.Limits.{IsWithin}
-use Rattle.ymx_model.proofs.Tests.{split, agrees, both_of, same_or_not, or_true}
-use Rattle.ymx_model.proofs.Lists.{look-change_same, look-added_same, look-without_same, distinct-change}
+use Rattle.ymx_machine.proofs.Tests.{split, agrees, both_of, same_or_not, or_true}
+use Rattle.ymx_machine.proofs.Lists.{look-change_same, look-added_same, look-without_same, distinct-change}
 use Rattle.ymx_law_session.specs.Offers.{IsGoodSyn, HasCause}
 use Rattle.ymx_law_session.proofs.nothing_else.Others.{others-settled}
 use Rattle.ymx_law_session.proofs.offers.SynCauses.{good-syn, not_own, no_cause, causes}

@@ -1,20 +1,20 @@
 -- The frames of a stream that a session sends, and what they say.
 use Rattle.std.proofs.Common.{◌≡◌, ℕ, ◌^◌, ◌<◌, ◌||◌, ◌==◌, nat_lt, Option, None, Some, refl, ◌∙◌, subst, arith}
 use Rattle.std.proofs.lemmas.Grind.{common_steps}
-use Rattle.ymx_model.specs.shared.Limits.{first_credit}
+use Rattle.ymx_machine.specs.shared.Limits.{first_credit}
 use Rattle.ymx_model.specs.session.Records.{End}
 use Rattle.ymx_model.specs.declared.types.FrameKind.{FrameKind}
 use Rattle.ymx_model.specs.session.FramesDue.{next_kind, begin_frame, spelled}
 use Rattle.ymx_model.specs.declared.types.FrameKind.TheVariants.{Open, OpenWith, Accept, Reset, Credit, Data, Fin}
 use Rattle.ymx_model.specs.session.Parts.{parts_of}
-use Rattle.ymx_model.specs.shared.Lists.{look}
+use Rattle.ymx_machine.specs.shared.Lists.{look}
 use Rattle.ymx_model.specs.session.Sessions.{Session, is_running}
 use Rattle.ymx_model.specs.session.Emissions.{begin, begin_stream, begin_kind}
 use Rattle.ymx_model.specs.session.Emissions.Choice.{AStream}
 use Rattle.ymx_law_session.proofs.limits.EmissionsKeep.{none_if, if_some}
-use Rattle.ymx_model.proofs.Lists.{look-change_same}
+use Rattle.ymx_machine.proofs.Lists.{look-change_same}
 use Rattle.ymx_law_record.specs.Sides.{bytes_say}
-use Rattle.ymx_model.proofs.Tests.{one_some}
+use Rattle.ymx_machine.proofs.Tests.{one_some}
 
 -- ---- what goes out
 

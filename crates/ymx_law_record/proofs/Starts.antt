@@ -2,19 +2,19 @@
 use Rattle.std.proofs.Common.{◌≡◌, ℕ, List, [], ◌∷◌, length, take, min, Bool, true, false, nat_le, if◌then◌else◌, Option, None, Some, refl, sym, ◌∙◌, arith, length-take}
 use Rattle.std.specs.Prelude.{count_by}
 use Rattle.std.proofs.lemmas.Bool.Decides.{nat_tests}
-use Rattle.ymx_model.specs.declared.types.Reply.TheVariants.{Opened, OpenedWith, Accepted, Refused}
-use Rattle.ymx_model.specs.declared.types.CallFault.TheVariants.{Lost}
-use Rattle.ymx_model.specs.declared.types.Call.TheVariants as call
-use Rattle.ymx_model.specs.shared.Limits.{first_credit, most_records, most_unacknowledged}
-use Rattle.ymx_model.specs.shared.Phases.{Phase, is_offered}
-use Rattle.ymx_model.specs.shared.Phases.Phase.{Offered, Live}
+use Rattle.ymx_machine.specs.declared.types.Reply.TheVariants.{Opened, OpenedWith, Accepted, Refused}
+use Rattle.ymx_machine.specs.declared.types.CallFault.TheVariants.{Lost}
+use Rattle.ymx_machine.specs.declared.types.Call.TheVariants as call
+use Rattle.ymx_machine.specs.shared.Limits.{first_credit, most_records, most_unacknowledged}
+use Rattle.ymx_machine.specs.shared.Phases.{Phase, is_offered}
+use Rattle.ymx_machine.specs.shared.Phases.Phase.{Offered, Live}
 use Rattle.ymx_model.specs.session.Records.{End, new_end, end_write, end_accept}
-use Rattle.ymx_model.specs.shared.Lists.{look}
+use Rattle.ymx_machine.specs.shared.Lists.{look}
 use Rattle.ymx_model.specs.session.Sessions.{Session, is_lost, is_closed}
 use Rattle.ymx_model.specs.session.Calls.{Outcome, outcome, answers, refused, open_or, accept_of, is_unacknowledged}
 use Rattle.ymx_law_session.specs.Limits.{IsWithin, is_listed, is_offered_at}
-use Rattle.ymx_model.proofs.Tests.{split}
-use Rattle.ymx_model.proofs.Lists.{look-change_same, look-added_same}
+use Rattle.ymx_machine.proofs.Tests.{split}
+use Rattle.ymx_machine.proofs.Lists.{look-change_same, look-added_same}
 use Rattle.ymx_law_session.proofs.limits.CallsKeep.{next_free}
 
 -- an open that isn't refused has this outcome

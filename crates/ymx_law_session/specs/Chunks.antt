@@ -1,7 +1,7 @@
 -- Feeds that follow each other (framing).
 use Rattle.std.specs.Prelude.{◌≡◌, ◌+◌, ℕ, List, length, min}
-use Rattle.ymx_model.specs.shared.Limits.{greatest_number}
-use Rattle.ymx_model.specs.declared.types.Fed.{Fed}
+use Rattle.ymx_machine.specs.shared.Limits.{greatest_number}
+use Rattle.ymx_machine.specs.declared.types.Fed.{Fed}
 use Rattle.ymx_model.specs.session.Sessions.{Session}
 use Rattle.ymx_model.specs.session.Feeds.{Feeds}
 

@@ -2,12 +2,12 @@
 use Rattle.std.specs.Prelude.{◌≡◌, ◌<◌, ◌≤◌, ℕ, ◌^◌, List, [], ◌∷◌, length, Bool, true, false, not, ◌||◌, ◌==◌, Option, None, Some, count_by}
 use Rattle.ymx_model.specs.declared.types.Role.{Role}
 use Rattle.ymx_model.specs.declared.types.Response.{Response}
-use Rattle.ymx_model.specs.shared.Limits.{first_credit, most_pings, most_records, most_offered, most_answers, most_unacknowledged, widest_window, greatest_number}
-use Rattle.ymx_model.specs.shared.Phases.{takes, is_offered, is_recorded}
+use Rattle.ymx_machine.specs.shared.Limits.{first_credit, most_pings, most_records, most_offered, most_answers, most_unacknowledged, widest_window, greatest_number}
+use Rattle.ymx_machine.specs.shared.Phases.{takes, is_offered, is_recorded}
 use Rattle.ymx_model.specs.session.Records.{End, window_held, takes_payload}
 use Rattle.ymx_model.specs.session.Pings.{Ping, Pings, is_pending}
 use Rattle.ymx_model.specs.session.Tables.{Table}
-use Rattle.ymx_model.specs.shared.Lists.{look, Distinct}
+use Rattle.ymx_machine.specs.shared.Lists.{look, Distinct}
 use Rattle.ymx_model.specs.session.Sessions.{Session, Incoming, is_own}
 use Rattle.ymx_model.specs.session.Calls.{is_unacknowledged}
 use Rattle.ymx_model.specs.session.Sessions.Incoming.{Head, Payload}

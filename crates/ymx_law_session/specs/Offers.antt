@@ -4,7 +4,7 @@ use Rattle.ymx_header.specs.declared.header.Header.{Header}
 use Rattle.ymx_header.specs.Headers.{has_syn}
 use Rattle.ymx_model.specs.declared.types.GoAwayMark.TheVariants.{Unsaid}
 use Rattle.ymx_model.specs.declared.types.Response.TheVariants.{Reject}
-use Rattle.ymx_model.specs.shared.Limits.{most_records, most_offered}
+use Rattle.ymx_machine.specs.shared.Limits.{most_records, most_offered}
 use Rattle.ymx_model.specs.session.Tables.{insert_record}
 use Rattle.ymx_model.specs.session.Sessions.{Session}
 use Rattle.ymx_model.specs.session.Arrivals.{header_fault, syn_fault, take_head, offer}

@@ -1,9 +1,9 @@
 -- Records that were given up go as soon as nothing of them is left to send (this project's own).
 use Rattle.std.specs.Prelude.{◌≡◌, ℕ, true, false, None, Some}
-use Rattle.ymx_model.specs.shared.Phases.{is_lingering}
+use Rattle.ymx_machine.specs.shared.Phases.{is_lingering}
 use Rattle.ymx_model.specs.session.Records.{End}
 use Rattle.ymx_model.specs.session.FramesDue.{is_empty}
-use Rattle.ymx_model.specs.shared.Lists.{look}
+use Rattle.ymx_machine.specs.shared.Lists.{look}
 use Rattle.ymx_model.specs.session.Sessions.{Session, is_closed, is_spent}
 
 -- Until the session is closed no record is spent: of one that was given up a frame is due, or its frame

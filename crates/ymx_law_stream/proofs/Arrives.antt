@@ -1,11 +1,11 @@
 -- A part that comes is moves of the machine.
 use Rattle.std.proofs.Common.{◌≡◌, ℕ, List, [], ◌∷◌, ◌++◌, length, true, false, refl, append_assoc, zero-add, arith}
-use Rattle.ymx_model.specs.stream.Lanes.{lane_arrive, lane_vanish, lane_return, lane_fin}
-use Rattle.ymx_model.specs.stream.Lanes.Mark.{Here}
-use Rattle.ymx_model.specs.stream.Streams.{Stream, Allowed, after_move}
-use Rattle.ymx_model.specs.shared.Phases.{takes, is_up}
-use Rattle.ymx_model.specs.shared.Phases.Phase.{Unborn, Offered}
-use Rattle.ymx_model.specs.stream.Streams.Move.{EndArrives, SynOffered, SynRefused, AckArrives, ResetArrives}
+use Rattle.ymx_machine.specs.stream.Lanes.{lane_arrive, lane_vanish, lane_return, lane_fin}
+use Rattle.ymx_machine.specs.stream.Lanes.Mark.{Here}
+use Rattle.ymx_machine.specs.stream.Streams.{Stream, Allowed, after_move}
+use Rattle.ymx_machine.specs.shared.Phases.{takes, is_up}
+use Rattle.ymx_machine.specs.shared.Phases.Phase.{Unborn, Offered}
+use Rattle.ymx_machine.specs.stream.Streams.Move.{EndArrives, SynOffered, SynRefused, AckArrives, ResetArrives}
 use Rattle.ymx_model.specs.session.Records.{End, new_end, reader_arrive, writer_grant, reader_end, receive_ack, receive_rst}
 use Rattle.ymx_model.specs.session.Parts.{Part}
 use Rattle.ymx_model.specs.session.Parts.Part.{Syn, Ack, Data, Credit, Fin, Rst}

@@ -1,11 +1,11 @@
 -- What a call does to an end is what the machine's rule does to the stream.
 use Rattle.std.proofs.Common.{◌≡◌, ℕ, ◌≤◌, List, [], length, Bool, true, false, not, ◌&&◌, ◌⊎◌, inl, inr, if◌then◌else◌, None, refl, ap, subst, arith}
-use Rattle.ymx_model.specs.stream.Lanes.{Mark, taken_back}
-use Rattle.ymx_model.specs.stream.Lanes.Mark.{Said}
-use Rattle.ymx_model.specs.shared.Phases.{Phase, is_up, is_live}
-use Rattle.ymx_model.specs.stream.Streams.{Stream, flip, TakesBack, after_move, stream_write, stream_read, stream_finish, stream_accept, stream_reset, stream_forget}
-use Rattle.ymx_model.specs.shared.Phases.Phase.{Offered, Live, Lingering, Gone}
-use Rattle.ymx_model.specs.stream.Streams.Move.{Released}
+use Rattle.ymx_machine.specs.stream.Lanes.{Mark, taken_back}
+use Rattle.ymx_machine.specs.stream.Lanes.Mark.{Said}
+use Rattle.ymx_machine.specs.shared.Phases.{Phase, is_up, is_live}
+use Rattle.ymx_machine.specs.stream.Streams.{Stream, flip, TakesBack, after_move, stream_write, stream_read, stream_finish, stream_accept, stream_reset, stream_forget}
+use Rattle.ymx_machine.specs.shared.Phases.Phase.{Offered, Live, Lingering, Gone}
+use Rattle.ymx_machine.specs.stream.Streams.Move.{Released}
 use Rattle.ymx_model.specs.session.Records.{End, Reader, dead_reader, writer_write, writer_finish, end_write, end_read, end_finish, end_accept, end_reset}
 use Rattle.ymx_model.specs.session.FramesDue.{next_kind}
 use Rattle.ymx_model.specs.session.Parts.{Part}

@@ -1,10 +1,10 @@
 -- Whatever part comes, whatever state the stream is in: moves of the machine.
 use Rattle.std.proofs.Common.{◌≡◌, ℕ, List, [], ◌∷◌, ◌++◌, length, Bool, true, false, ◌⊎◌, inl, inr, refl, ◌∙◌, subst, append-nil, arith}
-use Rattle.ymx_model.specs.stream.Lanes.{lane_arrive, lane_vanish}
-use Rattle.ymx_model.specs.stream.Streams.{Stream, flip, Allowed, after_move}
-use Rattle.ymx_model.specs.shared.Phases.{takes}
-use Rattle.ymx_model.specs.shared.Phases.Phase.{Unborn, Offered}
-use Rattle.ymx_model.specs.stream.Streams.Move.{Arrive, EndArrives, Return, SynOffered, SynRefused, AckArrives, ResetArrives}
+use Rattle.ymx_machine.specs.stream.Lanes.{lane_arrive, lane_vanish}
+use Rattle.ymx_machine.specs.stream.Streams.{Stream, flip, Allowed, after_move}
+use Rattle.ymx_machine.specs.shared.Phases.{takes}
+use Rattle.ymx_machine.specs.shared.Phases.Phase.{Unborn, Offered}
+use Rattle.ymx_machine.specs.stream.Streams.Move.{Arrive, EndArrives, Return, SynOffered, SynRefused, AckArrives, ResetArrives}
 use Rattle.ymx_model.specs.session.Records.{End, new_end, reader_arrive, reader_end, takes_payload, receive_data, receive_credit, receive_ack, receive_fin}
 use Rattle.ymx_model.specs.session.Parts.{Part}
 use Rattle.ymx_model.specs.session.Parts.Part.{Syn, Ack, Data, Credit, Fin, Rst}

@@ -1,9 +1,9 @@
 -- Each event of one direction is a move of the machine's lane, or none.
 use Rattle.std.proofs.Common.{◌≡◌, ℕ, ◌+◌, ◌-◌, ◌<◌, ◌≤◌, List, [], ◌∷◌, ◌++◌, length, take, drop, Bool, true, false, not, ◌&&◌, ◌||◌, if◌then◌else◌, refl, ap, append_assoc, append-nil, arith, length-append, length-drop}
 use Rattle.std.proofs.lemmas.Grind.{common_steps}
-use Rattle.ymx_model.specs.stream.Lanes.{Mark, Lane, taken_back, lane_write, lane_arrive, lane_vanish, lane_read, lane_return, lane_empty, lane_cut}
-use Rattle.ymx_model.specs.stream.Lanes.Mark.{Said, Here}
-use Rattle.ymx_model.specs.shared.Phases.{Phase, is_up, takes}
+use Rattle.ymx_machine.specs.stream.Lanes.{Mark, Lane, taken_back, lane_write, lane_arrive, lane_vanish, lane_read, lane_return, lane_empty, lane_cut}
+use Rattle.ymx_machine.specs.stream.Lanes.Mark.{Said, Here}
+use Rattle.ymx_machine.specs.shared.Phases.{Phase, is_up, takes}
 use Rattle.ymx_model.specs.session.Records.{Writer, Reader, dead_writer, writer_write, writer_send, writer_grant, writer_finish, writer_begin_fin, reader_arrive, reader_read, reader_announce, reader_end}
 use Rattle.ymx_law_stream.specs.Directions.{LaneHolds, LaneEnds, fin_waits}
 

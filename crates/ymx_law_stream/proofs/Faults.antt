@@ -1,9 +1,9 @@
 -- What comes over a link breaks no rule of windows, ids or flags.
 use Rattle.std.proofs.Common.{◌≡◌, ℕ, ◌+◌, ◌≤◌, List, [], ◌∷◌, length, true, inl, inr, refl, append-nil, arith}
-use Rattle.ymx_model.specs.shared.Limits.{first_credit}
-use Rattle.ymx_model.specs.stream.Streams.{Stream, flip}
-use Rattle.ymx_model.specs.shared.Phases.{takes}
-use Rattle.ymx_model.specs.shared.Phases.Phase.{Unborn}
+use Rattle.ymx_machine.specs.shared.Limits.{first_credit}
+use Rattle.ymx_machine.specs.stream.Streams.{Stream, flip}
+use Rattle.ymx_machine.specs.shared.Phases.{takes}
+use Rattle.ymx_machine.specs.shared.Phases.Phase.{Unborn}
 use Rattle.ymx_model.specs.session.Records.{End, takes_payload}
 use Rattle.ymx_model.specs.session.Parts.{Part}
 use Rattle.ymx_model.specs.session.Parts.Part.{Syn, Ack, Data, Credit, Fin, Rst}

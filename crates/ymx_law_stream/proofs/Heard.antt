@@ -1,9 +1,9 @@
 -- After a reset has arrived nothing of the other direction means anything.
 use Rattle.std.proofs.Common.{◌≡◌, ℕ, List, [], ◌∷◌, ◌++◌, true, false, Some, arith}
-use Rattle.ymx_model.specs.stream.Streams.{Stream, flip, after_move, stream_forget}
-use Rattle.ymx_model.specs.shared.Phases.{is_up, is_live}
-use Rattle.ymx_model.specs.shared.Phases.Phase.{Lingering, Gone}
-use Rattle.ymx_model.specs.stream.Streams.Move.{Released}
+use Rattle.ymx_machine.specs.stream.Streams.{Stream, flip, after_move, stream_forget}
+use Rattle.ymx_machine.specs.shared.Phases.{is_up, is_live}
+use Rattle.ymx_machine.specs.shared.Phases.Phase.{Lingering, Gone}
+use Rattle.ymx_machine.specs.stream.Streams.Move.{Released}
 use Rattle.ymx_model.specs.session.Records.{End, Reader, receive_data, receive_credit, receive_ack, receive_fin, receive_rst}
 use Rattle.ymx_model.specs.declared.types.FrameKind.{FrameKind}
 use Rattle.ymx_model.specs.session.FramesDue.{next_kind, begin_frame}

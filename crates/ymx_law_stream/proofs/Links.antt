@@ -1,8 +1,8 @@
 -- Both sides see one stream, and a stream begins.
 use Rattle.std.proofs.Common.{◌≡◌, ℕ, ◌≤◌, List, [], length, Bool, true, false, not, ◌⊎◌, inl, inr, arith}
-use Rattle.ymx_model.specs.shared.Limits.{first_credit}
-use Rattle.ymx_model.specs.stream.Streams.{Stream, flip, opened_stream, stream_write}
-use Rattle.ymx_model.specs.shared.Phases.Phase.{Unborn, Live}
+use Rattle.ymx_machine.specs.shared.Limits.{first_credit}
+use Rattle.ymx_machine.specs.stream.Streams.{Stream, flip, opened_stream, stream_write}
+use Rattle.ymx_machine.specs.shared.Phases.Phase.{Unborn, Live}
 use Rattle.ymx_model.specs.session.Records.{End, new_end, end_write}
 use Rattle.ymx_model.specs.session.Parts.{Part}
 use Rattle.ymx_law_stream.specs.Links.{Alive, Related}

@@ -1,10 +1,10 @@
 -- What an end has said of its SYN, ACK and RST, as its frames come and go.
 use Rattle.std.proofs.Common.{◌≡◌, ℕ, List, [], ◌∷◌, ◌++◌, Bool, true, false, not, ◌||◌, if◌then◌else◌, Some, subst, arith}
-use Rattle.ymx_model.specs.stream.Lanes.{Mark, taken_back}
-use Rattle.ymx_model.specs.stream.Lanes.Mark.{Said, Here}
-use Rattle.ymx_model.specs.shared.Phases.{Phase, is_up, is_unborn}
-use Rattle.ymx_model.specs.stream.Streams.{Stream}
-use Rattle.ymx_model.specs.shared.Phases.Phase.{Unborn, Offered, Live}
+use Rattle.ymx_machine.specs.stream.Lanes.{Mark, taken_back}
+use Rattle.ymx_machine.specs.stream.Lanes.Mark.{Said, Here}
+use Rattle.ymx_machine.specs.shared.Phases.{Phase, is_up, is_unborn}
+use Rattle.ymx_machine.specs.stream.Streams.{Stream}
+use Rattle.ymx_machine.specs.shared.Phases.Phase.{Unborn, Offered, Live}
 use Rattle.ymx_model.specs.session.Records.{End, Writer, dead_writer, new_end}
 use Rattle.ymx_model.specs.declared.types.FrameKind.{FrameKind}
 use Rattle.ymx_model.specs.session.FramesDue.{next_kind}

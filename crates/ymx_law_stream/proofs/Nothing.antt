@@ -1,12 +1,12 @@
 -- What changes nothing: no bytes, and a call on a stream that no caller has.
 use Rattle.std.proofs.Common.{◌≡◌, Bool, false, ◌||◌, inl, arith}
-use Rattle.ymx_model.specs.stream.Streams.{Stream}
-use Rattle.ymx_model.specs.shared.Phases.{is_live, is_reset}
-use Rattle.ymx_model.specs.stream.StreamRules.{StreamCall, StreamRule}
-use Rattle.ymx_model.specs.stream.StreamRules.StreamCall.{Writes, Reads, Finishes, Resets, Forgets}
-use Rattle.ymx_model.specs.declared.types.Reply.{Reply}
-use Rattle.ymx_model.specs.declared.types.Reply.TheVariants.{Refused}
-use Rattle.ymx_model.specs.declared.types.CallFault.TheVariants.{NoStream}
+use Rattle.ymx_machine.specs.stream.Streams.{Stream}
+use Rattle.ymx_machine.specs.shared.Phases.{is_live, is_reset}
+use Rattle.ymx_machine.specs.stream.StreamRules.{StreamCall, StreamRule}
+use Rattle.ymx_machine.specs.stream.StreamRules.StreamCall.{Writes, Reads, Finishes, Resets, Forgets}
+use Rattle.ymx_machine.specs.declared.types.Reply.{Reply}
+use Rattle.ymx_machine.specs.declared.types.Reply.TheVariants.{Refused}
+use Rattle.ymx_machine.specs.declared.types.CallFault.TheVariants.{NoStream}
 use Rattle.ymx_model.specs.session.Records.{End}
 use Rattle.ymx_law_stream.specs.Answers.{EndRule}
 use Rattle.ymx_law_stream.proofs.Directions.{lists}

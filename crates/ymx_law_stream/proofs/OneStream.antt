@@ -1,13 +1,13 @@
 -- The law of one stream, also where a side is lost or closed.
 use Rattle.std.proofs.Common.{◌≡◌, ℕ, ◌≤◌, List, [], ◌∷◌, ◌++◌, length, Bool, true, false, ◌||◌, ◌⊎◌, inl, inr, None, Some, refl, sym, ap, subst, ◌∙◌, arith}
-use Rattle.ymx_model.specs.shared.Phases.{Phase, is_live, is_reset, takes}
-use Rattle.ymx_model.specs.stream.Streams.{Stream, flip, Allowed, after_move, IsStill, opened_stream, stream_write, stream_forget, stream_accept}
-use Rattle.ymx_model.specs.shared.Phases.Phase.{Unborn, Offered, Live, Lingering, Gone}
-use Rattle.ymx_model.specs.stream.Streams.Move.{Released}
-use Rattle.ymx_model.specs.stream.StreamRules.{StreamCall, StreamRule}
-use Rattle.ymx_model.specs.shared.Replies.{forget_reply, is_done}
-use Rattle.ymx_model.specs.stream.StreamRules.StreamCall.{Forgets}
-use Rattle.ymx_model.specs.declared.types.Reply.{Reply}
+use Rattle.ymx_machine.specs.shared.Phases.{Phase, is_live, is_reset, takes}
+use Rattle.ymx_machine.specs.stream.Streams.{Stream, flip, Allowed, after_move, IsStill, opened_stream, stream_write, stream_forget, stream_accept}
+use Rattle.ymx_machine.specs.shared.Phases.Phase.{Unborn, Offered, Live, Lingering, Gone}
+use Rattle.ymx_machine.specs.stream.Streams.Move.{Released}
+use Rattle.ymx_machine.specs.stream.StreamRules.{StreamCall, StreamRule}
+use Rattle.ymx_machine.specs.shared.Replies.{forget_reply, is_done}
+use Rattle.ymx_machine.specs.stream.StreamRules.StreamCall.{Forgets}
+use Rattle.ymx_machine.specs.declared.types.Reply.{Reply}
 use Rattle.ymx_model.specs.session.Records.{End, new_end, reader_empty, end_accept, end_write, end_forget, receive_data}
 use Rattle.ymx_model.specs.declared.types.FrameKind.{FrameKind}
 use Rattle.ymx_model.specs.session.FramesDue.{next_kind, begin_frame}
@@ -24,7 +24,7 @@ use Rattle.ymx_law_stream.proofs.Calls.{none-done, related-accepts, related-goes
 use Rattle.ymx_law_stream.proofs.Sends.{related-sends}
 use Rattle.ymx_law_stream.proofs.Faults.{related-breaks, related-within}
 use Rattle.ymx_law_stream.specs.Faults.{BreaksNothing}
-use Rattle.ymx_model.specs.shared.Limits.{first_credit}
+use Rattle.ymx_machine.specs.shared.Limits.{first_credit}
 use Rattle.ymx_law_stream.proofs.Still.{related-still}
 use Rattle.ymx_law_stream.proofs.Comes.{part-comes, piece-comes, payload-over}
 

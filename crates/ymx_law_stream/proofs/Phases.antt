@@ -1,7 +1,7 @@
 -- What the phase of an end excludes.
 use Rattle.std.proofs.Common.{◌≡◌, true, false, refl, arith}
-use Rattle.ymx_model.specs.shared.Phases.{Phase, takes, is_unborn, is_up, is_live, is_reset}
-use Rattle.ymx_model.specs.shared.Phases.Phase.{Unborn, Offered, Live, WasReset, Refused, Lingering, Gone}
+use Rattle.ymx_machine.specs.shared.Phases.{Phase, takes, is_unborn, is_up, is_live, is_reset}
+use Rattle.ymx_machine.specs.shared.Phases.Phase.{Unborn, Offered, Live, WasReset, Refused, Lingering, Gone}
 
 pub takes-born : (p : Phase) → takes p ≡ true → p ≡ Unborn → ⊥
 takes-born p t h = grind arith

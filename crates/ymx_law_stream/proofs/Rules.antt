@@ -2,15 +2,15 @@
 use Rattle.std.proofs.Common.{◌≡◌, ◌≢◌, ℕ, ◌≤◌, List, [], length, take, Bool, true, false, not, ◌&&◌, ◌⊎◌, inl, inr, refl, sym, ap, ◌∙◌, arith}
 use Rattle.std.proofs.lemmas.Grind.{common_steps}
 use Rattle.std.proofs.lemmas.Bool.Decides.{nat_tests}
-use Rattle.ymx_model.specs.stream.Lanes.{is_unsaid, is_here}
-use Rattle.ymx_model.specs.shared.Phases.{Phase, is_live, is_reset}
-use Rattle.ymx_model.specs.stream.Streams.{Stream, flip, stream_write, stream_read, stream_finish, stream_reset, stream_forget}
-use Rattle.ymx_model.specs.shared.Phases.Phase.{Live, WasReset, Lingering}
-use Rattle.ymx_model.specs.stream.StreamRules.{StreamCall, ResetsTo, forgets_quietly, StreamRule}
-use Rattle.ymx_model.specs.shared.Replies.{write_reply, read_reply, finish_reply, reset_reply, forget_reply, bytes_moved, is_done}
+use Rattle.ymx_machine.specs.stream.Lanes.{is_unsaid, is_here}
+use Rattle.ymx_machine.specs.shared.Phases.{Phase, is_live, is_reset}
+use Rattle.ymx_machine.specs.stream.Streams.{Stream, flip, stream_write, stream_read, stream_finish, stream_reset, stream_forget}
+use Rattle.ymx_machine.specs.shared.Phases.Phase.{Live, WasReset, Lingering}
+use Rattle.ymx_machine.specs.stream.StreamRules.{StreamCall, ResetsTo, forgets_quietly, StreamRule}
+use Rattle.ymx_machine.specs.shared.Replies.{write_reply, read_reply, finish_reply, reset_reply, forget_reply, bytes_moved, is_done}
 use Rattle.std.specs.Prelude.{MatchBool}
-use Rattle.ymx_model.specs.stream.StreamRules.StreamCall.{Writes, Reads, Finishes, Resets, Forgets}
-use Rattle.ymx_model.specs.declared.types.Reply.{Reply}
+use Rattle.ymx_machine.specs.stream.StreamRules.StreamCall.{Writes, Reads, Finishes, Resets, Forgets}
+use Rattle.ymx_machine.specs.declared.types.Reply.{Reply}
 use Rattle.ymx_model.specs.session.Records.{End, Reader, reader_empty, end_write, end_read, end_reset, end_forget}
 use Rattle.ymx_model.specs.session.Parts.{Part}
 use Rattle.ymx_law_stream.specs.Flight.{loads}

@@ -1,10 +1,10 @@
 -- A frame that goes out is no move of the machine.
 use Rattle.std.proofs.Common.{◌≡◌, ℕ, ◌+◌, ◌-◌, List, [], ◌∷◌, ◌++◌, take, Bool, true, false, ◌||◌, inl, inr, Some, refl, sym, subst, append-nil, add-zero, arith}
-use Rattle.ymx_model.specs.shared.Limits.{first_credit}
-use Rattle.ymx_model.specs.stream.Lanes.{Lane}
-use Rattle.ymx_model.specs.stream.Streams.{Stream}
-use Rattle.ymx_model.specs.shared.Phases.{Phase, is_live}
-use Rattle.ymx_model.specs.shared.Phases.Phase.{Unborn}
+use Rattle.ymx_machine.specs.shared.Limits.{first_credit}
+use Rattle.ymx_machine.specs.stream.Lanes.{Lane}
+use Rattle.ymx_machine.specs.stream.Streams.{Stream}
+use Rattle.ymx_machine.specs.shared.Phases.{Phase, is_live}
+use Rattle.ymx_machine.specs.shared.Phases.Phase.{Unborn}
 use Rattle.ymx_model.specs.session.Records.{End, Writer, Reader, reader_announce, writer_send, writer_begin_fin}
 use Rattle.ymx_model.specs.declared.types.FrameKind.{FrameKind}
 use Rattle.ymx_model.specs.session.FramesDue.{next_kind, begin_frame, is_empty}

@@ -1,11 +1,11 @@
 -- Where nothing is due and nothing under way, the stream is still.
 use Rattle.std.proofs.Common.{◌≡◌, ℕ, ◌*◌, ◌<◌, [], Bool, false, inl, inr, None, sym, ap, ◌∙◌, arith}
 use Rattle.std.proofs.lemmas.Bool.Decides.{nat_tests}
-use Rattle.ymx_model.specs.stream.Lanes.{Lane}
-use Rattle.ymx_model.specs.stream.Lanes.Mark.{Unsaid}
-use Rattle.ymx_model.specs.shared.Phases.{Phase, is_lingering}
-use Rattle.ymx_model.specs.stream.Streams.{Stream, flip, IsStill}
-use Rattle.ymx_model.specs.shared.Phases.Phase.{Live}
+use Rattle.ymx_machine.specs.stream.Lanes.{Lane}
+use Rattle.ymx_machine.specs.stream.Lanes.Mark.{Unsaid}
+use Rattle.ymx_machine.specs.shared.Phases.{Phase, is_lingering}
+use Rattle.ymx_machine.specs.stream.Streams.{Stream, flip, IsStill}
+use Rattle.ymx_machine.specs.shared.Phases.Phase.{Live}
 use Rattle.ymx_model.specs.session.Records.{End, Writer, Reader}
 use Rattle.ymx_model.specs.session.FramesDue.{next_kind, is_due, credit_due}
 use Rattle.ymx_law_stream.specs.Directions.{LaneHolds, LaneEnds}

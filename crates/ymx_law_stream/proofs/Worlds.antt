@@ -2,13 +2,13 @@
 use Rattle.std.proofs.Common.{◌≡◌, ◌≢◌, ℕ, ◌≤◌, List, [], ◌∷◌, ◌++◌, take, drop, Bool, true, false, not, ◌||◌, ◌==◌, ◌⊎◌, inl, inr, Option, None, Some, refl, sym, ap, subst, ◌∙◌, append-nil, arith}
 use Rattle.std.proofs.lemmas.Grind.{common_steps}
 use Rattle.std.proofs.lemmas.Bool.Decides.{nat_tests}
-use Rattle.ymx_model.specs.shared.Limits.{first_credit}
-use Rattle.ymx_model.specs.shared.Phases.{Phase, is_live, is_reset, is_early}
-use Rattle.ymx_model.specs.stream.Streams.{Stream, flip, after_move, opened_stream, stream_write, stream_accept}
-use Rattle.ymx_model.specs.shared.Phases.Phase.{Unborn, Offered, Live, Lingering}
-use Rattle.ymx_model.specs.stream.Streams.Move.{Released}
-use Rattle.ymx_model.specs.stream.StreamRules.{StreamCall}
-use Rattle.ymx_model.specs.declared.types.Reply.{Reply}
+use Rattle.ymx_machine.specs.shared.Limits.{first_credit}
+use Rattle.ymx_machine.specs.shared.Phases.{Phase, is_live, is_reset, is_early}
+use Rattle.ymx_machine.specs.stream.Streams.{Stream, flip, after_move, opened_stream, stream_write, stream_accept}
+use Rattle.ymx_machine.specs.shared.Phases.Phase.{Unborn, Offered, Live, Lingering}
+use Rattle.ymx_machine.specs.stream.Streams.Move.{Released}
+use Rattle.ymx_machine.specs.stream.StreamRules.{StreamCall}
+use Rattle.ymx_machine.specs.declared.types.Reply.{Reply}
 use Rattle.ymx_model.specs.session.Records.{End, new_end, end_write, end_accept, receive_data}
 use Rattle.ymx_model.specs.declared.types.FrameKind.{FrameKind}
 use Rattle.ymx_model.specs.session.FramesDue.{next_kind, begin_frame}

@@ -1,13 +1,13 @@
 -- What an end answers to a call by itself, and what it is then (this project's own, after the Go package's Stream).
 use Rattle.std.specs.Prelude.{◌≡◌, ◌≢◌, ◌⊎◌, take, Bool, false, if◌then◌else◌}
-use Rattle.ymx_model.specs.shared.Phases.Phase.{WasReset, Gone}
+use Rattle.ymx_machine.specs.shared.Phases.Phase.{WasReset, Gone}
 use Rattle.ymx_model.specs.session.Records.{End, dead_writer, dead_reader, only_due, end_write, end_read, end_finish, end_reset, end_forget}
-use Rattle.ymx_model.specs.stream.StreamRules.{StreamCall}
-use Rattle.ymx_model.specs.shared.Replies.{write_reply, read_reply, finish_reply, reset_reply, forget_reply, bytes_moved, is_done}
-use Rattle.ymx_model.specs.stream.StreamRules.StreamCall.{Writes, Reads, Finishes, Resets, Forgets}
-use Rattle.ymx_model.specs.declared.types.Reply.{Reply}
-use Rattle.ymx_model.specs.declared.types.Reply.TheVariants.{Refused}
-use Rattle.ymx_model.specs.declared.types.CallFault.TheVariants.{OutOfMemory}
+use Rattle.ymx_machine.specs.stream.StreamRules.{StreamCall}
+use Rattle.ymx_machine.specs.shared.Replies.{write_reply, read_reply, finish_reply, reset_reply, forget_reply, bytes_moved, is_done}
+use Rattle.ymx_machine.specs.stream.StreamRules.StreamCall.{Writes, Reads, Finishes, Resets, Forgets}
+use Rattle.ymx_machine.specs.declared.types.Reply.{Reply}
+use Rattle.ymx_machine.specs.declared.types.Reply.TheVariants.{Refused}
+use Rattle.ymx_machine.specs.declared.types.CallFault.TheVariants.{OutOfMemory}
 
 -- With this reply the end e becomes f. It answers from its own phase, credit, bytes and ends; a write
 -- that would take bytes may want memory instead.

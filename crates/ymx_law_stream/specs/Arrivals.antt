@@ -1,8 +1,8 @@
 -- What a part of a frame that comes does to an end of its stream (flags, flow control).
 use Rattle.std.specs.Prelude.{ℕ, ◌≡◌, ◌⊎◌, List, [], ◌∷◌, length, Bool, true, false, if◌then◌else◌}
-use Rattle.ymx_model.specs.stream.Streams.{Stream, Move, Moves}
-use Rattle.ymx_model.specs.stream.Streams.Move.{Arrive, EndArrives, Return, SynOffered, SynRefused, AckArrives, ResetArrives}
-use Rattle.ymx_model.specs.shared.Phases.Phase.{Offered, Refused}
+use Rattle.ymx_machine.specs.stream.Streams.{Stream, Move, Moves}
+use Rattle.ymx_machine.specs.stream.Streams.Move.{Arrive, EndArrives, Return, SynOffered, SynRefused, AckArrives, ResetArrives}
+use Rattle.ymx_machine.specs.shared.Phases.Phase.{Offered, Refused}
 use Rattle.ymx_model.specs.session.Records.{End, dead_writer, dead_reader, new_end, receive_data, receive_credit, receive_fin, receive_ack, receive_rst}
 use Rattle.ymx_model.specs.session.Parts.{Part}
 use Rattle.ymx_model.specs.session.Parts.Part.{Syn, Ack, Data, Credit, Fin, Rst}

@@ -1,9 +1,9 @@
 -- One direction of one stream: the machine's lane, told by its two ends and by what is under way (flow control).
 use Rattle.std.specs.Prelude.{ℕ, ◌+◌, ◌-◌, ◌≤◌, ◌≡◌, List, [], ◌++◌, length, Bool, true, false, not, ◌&&◌, ◌||◌, if◌then◌else◌}
-use Rattle.ymx_model.specs.stream.Lanes.{Mark, Lane, is_unsaid, is_said, is_here, lane_total}
-use Rattle.ymx_model.specs.shared.Limits.{first_credit}
-use Rattle.ymx_model.specs.stream.Lanes.Mark.{Unsaid, Said}
-use Rattle.ymx_model.specs.shared.Phases.{Phase, is_up, takes, is_early}
+use Rattle.ymx_machine.specs.stream.Lanes.{Mark, Lane, is_unsaid, is_said, is_here, lane_total}
+use Rattle.ymx_machine.specs.shared.Limits.{first_credit}
+use Rattle.ymx_machine.specs.stream.Lanes.Mark.{Unsaid, Said}
+use Rattle.ymx_machine.specs.shared.Phases.{Phase, is_up, takes, is_early}
 use Rattle.ymx_model.specs.session.Records.{Writer, Reader}
 
 -- under way exactly if so

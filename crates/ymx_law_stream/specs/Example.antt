@@ -1,10 +1,10 @@
 -- A run that can happen: side A opens stream 1 and writes two bytes; the first comes to side B, which
 -- accepts the stream, reads the byte and resets; the reset comes to A.
 use Rattle.std.specs.Prelude.{List, [], ◌∷◌, ◌++◌, false}
-use Rattle.ymx_model.specs.shared.Phases.Phase.{WasReset}
-use Rattle.ymx_model.specs.stream.StreamRules.StreamCall.{Writes, Reads, Resets}
-use Rattle.ymx_model.specs.declared.types.Reply.TheVariants.{Wrote as WroteReply, Read as ReadReply, Done}
-use Rattle.ymx_model.specs.declared.types.Wrote.TheVariants.{Took}
+use Rattle.ymx_machine.specs.shared.Phases.Phase.{WasReset}
+use Rattle.ymx_machine.specs.stream.StreamRules.StreamCall.{Writes, Reads, Resets}
+use Rattle.ymx_machine.specs.declared.types.Reply.TheVariants.{Wrote as WroteReply, Read as ReadReply, Done}
+use Rattle.ymx_machine.specs.declared.types.Wrote.TheVariants.{Took}
 use Rattle.ymx_model.specs.session.Records.{end_write, end_read, end_reset}
 use Rattle.ymx_model.specs.declared.types.FrameKind.TheVariants.{Open, Data as DataFrame, Reset}
 use Rattle.ymx_law_stream.specs.Worlds.{StreamWorld, new_streams, Happening, happens, CanHappen}

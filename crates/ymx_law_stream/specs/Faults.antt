@@ -1,9 +1,9 @@
 -- What a part that comes must not break: windows, ids, flags (flow control, flags).
 use Rattle.std.specs.Prelude.{ℕ, ◌+◌, ◌≤◌, ◌≡◌, List, [], ◌∷◌, length, Bool, true, false}
-use Rattle.ymx_model.specs.shared.Limits.{first_credit}
-use Rattle.ymx_model.specs.shared.Phases.{takes, is_unborn}
+use Rattle.ymx_machine.specs.shared.Limits.{first_credit}
+use Rattle.ymx_machine.specs.shared.Phases.{takes, is_unborn}
 use Rattle.ymx_model.specs.session.Records.{End, takes_payload}
-use Rattle.ymx_model.specs.shared.Phases.Phase.{Unborn}
+use Rattle.ymx_machine.specs.shared.Phases.Phase.{Unborn}
 use Rattle.ymx_model.specs.session.Parts.{Part}
 use Rattle.ymx_model.specs.session.Parts.Part.{Syn, Ack, Data, Credit, Fin, Rst}
 

@@ -1,10 +1,10 @@
 -- One stream: its two ends, the frames under way between them, and the machine's stream (flags, flow control).
 use Rattle.std.specs.Prelude.{ℕ, ◌≤◌, ◌≡◌, ◌⊎◌, List, [], Bool, true, false, ◌||◌, if◌then◌else◌}
-use Rattle.ymx_model.specs.stream.Lanes.{Mark, is_said, lane_total}
-use Rattle.ymx_model.specs.stream.Lanes.Mark.{Here}
-use Rattle.ymx_model.specs.shared.Phases.{Phase, is_up, is_unborn, is_early}
-use Rattle.ymx_model.specs.stream.Streams.{Stream, flip}
-use Rattle.ymx_model.specs.shared.Phases.Phase.{Unborn}
+use Rattle.ymx_machine.specs.stream.Lanes.{Mark, is_said, lane_total}
+use Rattle.ymx_machine.specs.stream.Lanes.Mark.{Here}
+use Rattle.ymx_machine.specs.shared.Phases.{Phase, is_up, is_unborn, is_early}
+use Rattle.ymx_machine.specs.stream.Streams.{Stream, flip}
+use Rattle.ymx_machine.specs.shared.Phases.Phase.{Unborn}
 use Rattle.ymx_model.specs.session.Records.{End, Writer, new_end}
 use Rattle.ymx_model.specs.session.Parts.{Part}
 use Rattle.ymx_law_stream.specs.Flight.{loads, gifts, holds_syn, holds_ack, holds_fin, holds_rst, Ordered}

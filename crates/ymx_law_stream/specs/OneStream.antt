@@ -1,9 +1,9 @@
 -- Two ends and what is under way between them are one stream of the machine, also where a side is lost or closed (this project's own).
 use Rattle.std.specs.Prelude.{ℕ, ◌≡◌, ◌⊎◌, List, Bool, true, false, not}
-use Rattle.ymx_model.specs.stream.Lanes.{is_unsaid, is_here}
-use Rattle.ymx_model.specs.shared.Phases.{Phase, is_live, is_lingering, takes}
-use Rattle.ymx_model.specs.stream.Streams.{Stream}
-use Rattle.ymx_model.specs.shared.Phases.Phase.{Lingering, Gone}
+use Rattle.ymx_machine.specs.stream.Lanes.{is_unsaid, is_here}
+use Rattle.ymx_machine.specs.shared.Phases.{Phase, is_live, is_lingering, takes}
+use Rattle.ymx_machine.specs.stream.Streams.{Stream}
+use Rattle.ymx_machine.specs.shared.Phases.Phase.{Lingering, Gone}
 use Rattle.ymx_model.specs.session.Records.{End}
 use Rattle.ymx_model.specs.session.FramesDue.{is_due}
 use Rattle.ymx_model.specs.session.Parts.{Part}

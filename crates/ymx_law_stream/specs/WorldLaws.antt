@@ -1,6 +1,6 @@
 -- The law of all streams: whatever happens at the two sides, in any order, is a run of the machine's streams.
 use Rattle.std.specs.Prelude.{ℕ, ◌≡◌, ◌≤◌, List, false}
-use Rattle.ymx_model.specs.shared.Limits.{first_credit}
+use Rattle.ymx_machine.specs.shared.Limits.{first_credit}
 use Rattle.ymx_law_stream.specs.Worlds.{StreamWorld, Streams, new_streams, no_streams, Refines, Happening, CanHappen, happens, StreamStepsAt, IsQuietWorld, AllStill, RunsBeside, touches_at, SameStream}
 
 -- Where no stream was opened, the machine has none.

@@ -1,13 +1,13 @@
 -- All streams at once: the ends of both sides and what is under way, by number, beside the machine's streams (this project's own).
 use Rattle.std.specs.Prelude.{ℕ, ◌≡◌, ◌≢◌, ◌≤◌, ◌⊎◌, List, [], ◌∷◌, ◌++◌, length, take, drop, Bool, true, false, ◌==◌, if◌then◌else◌, Option, None, Some}
-use Rattle.ymx_model.specs.shared.Limits.{first_credit}
-use Rattle.ymx_model.specs.stream.Streams.{Stream, flip, Allowed, after_move, IsStill, opened_stream, stream_write, stream_accept}
-use Rattle.ymx_model.specs.shared.Phases.Phase.{Unborn, Offered, Live, Lingering}
-use Rattle.ymx_model.specs.stream.Streams.Move.{Released}
-use Rattle.ymx_model.specs.stream.StreamRules.{StreamCall, StreamRule}
-use Rattle.ymx_model.specs.declared.types.Reply.{Reply}
-use Rattle.ymx_model.specs.declared.types.Reply.TheVariants.{Refused}
-use Rattle.ymx_model.specs.declared.types.CallFault.TheVariants.{NoStream}
+use Rattle.ymx_machine.specs.shared.Limits.{first_credit}
+use Rattle.ymx_machine.specs.stream.Streams.{Stream, flip, Allowed, after_move, IsStill, opened_stream, stream_write, stream_accept}
+use Rattle.ymx_machine.specs.shared.Phases.Phase.{Unborn, Offered, Live, Lingering}
+use Rattle.ymx_machine.specs.stream.Streams.Move.{Released}
+use Rattle.ymx_machine.specs.stream.StreamRules.{StreamCall, StreamRule}
+use Rattle.ymx_machine.specs.declared.types.Reply.{Reply}
+use Rattle.ymx_machine.specs.declared.types.Reply.TheVariants.{Refused}
+use Rattle.ymx_machine.specs.declared.types.CallFault.TheVariants.{NoStream}
 use Rattle.ymx_model.specs.session.Records.{End, new_end, end_write, end_accept, receive_data}
 use Rattle.ymx_model.specs.declared.types.FrameKind.{FrameKind}
 use Rattle.ymx_model.specs.session.FramesDue.{next_kind, begin_frame}

@@ -1,18 +1,18 @@
 -- A call leaves what has come of a frame, and but for a close the rest of a frame begun.
 use Rattle.std.proofs.Common.{◌≡◌, ℕ, List, [], ◌∷◌, take, false, ◌==◌, nat_le, Option, None, Some, length, refl}
 use Rattle.std.specs.Prelude.{count_by}
-use Rattle.ymx_model.specs.declared.types.Call.{Call}
-use Rattle.ymx_model.specs.declared.types.Call.TheVariants as call
-use Rattle.ymx_model.specs.declared.types.Reply.{Reply}
+use Rattle.ymx_machine.specs.declared.types.Call.{Call}
+use Rattle.ymx_machine.specs.declared.types.Call.TheVariants as call
+use Rattle.ymx_machine.specs.declared.types.Reply.{Reply}
 use Rattle.ymx_model.specs.session.Records.{End, end_write, end_read, end_finish, end_reset, end_forget}
-use Rattle.ymx_model.specs.shared.Phases.Phase.{WasReset}
-use Rattle.ymx_model.specs.shared.Replies.{write_reply, read_reply, finish_reply, reset_reply, forget_reply, bytes_moved, is_done}
-use Rattle.ymx_model.specs.shared.Limits.{most_pings, most_records, most_unacknowledged}
+use Rattle.ymx_machine.specs.shared.Phases.Phase.{WasReset}
+use Rattle.ymx_machine.specs.shared.Replies.{write_reply, read_reply, finish_reply, reset_reply, forget_reply, bytes_moved, is_done}
+use Rattle.ymx_machine.specs.shared.Limits.{most_pings, most_records, most_unacknowledged}
 use Rattle.ymx_model.specs.session.Pings.{has_back}
-use Rattle.ymx_model.specs.shared.Lists.{look}
+use Rattle.ymx_machine.specs.shared.Lists.{look}
 use Rattle.ymx_model.specs.session.Sessions.{Session, is_lost, is_closed, on_stream, settle}
 use Rattle.ymx_model.specs.session.Calls.{Outcome, outcome, open_or, accept, accept_of, at_record, at_stream, write_outcome, read_outcome, if_done, finish_outcome, reset_outcome, forget_outcome, is_unacknowledged}
-use Rattle.ymx_model.proofs.Tests.{split}
+use Rattle.ymx_machine.proofs.Tests.{split}
 use Rattle.ymx_law_world.proofs.Emitted.{settled-begun}
 
 abbrev Leaves : Session → Session → Type 0

@@ -7,20 +7,20 @@ use Rattle.std.proofs.lemmas.List.{append-nil}
 use Rattle.std.proofs.lemmas.List.Elements.{All-nil, All-cons}
 use Rattle.ymx_model.specs.declared.types.Response.{Response}
 use Rattle.ymx_model.specs.declared.types.Response.TheVariants.{Pong, Reject}
-use Rattle.ymx_model.specs.shared.Limits.{first_credit}
+use Rattle.ymx_machine.specs.shared.Limits.{first_credit}
 use Rattle.ymx_model.specs.session.Records.{End}
 use Rattle.ymx_model.specs.declared.types.FrameKind.{FrameKind}
 use Rattle.ymx_model.specs.session.FramesDue.{is_empty, frame, spelled, next_kind}
 use Rattle.ymx_model.specs.declared.types.FrameKind.TheVariants.{Open, OpenWith, Accept, Reset, Credit, Data, Fin}
 use Rattle.ymx_model.specs.session.Pings.{has_asked, begin_ping}
 use Rattle.ymx_model.specs.session.GoAway.{away_due, begin_away}
-use Rattle.ymx_model.specs.shared.Lists.{look}
+use Rattle.ymx_machine.specs.shared.Lists.{look}
 use Rattle.ymx_model.specs.session.Tables.{remove_record}
 use Rattle.ymx_model.specs.session.Sessions.{Session, nothing_outgoing, is_running, is_broken, is_spent, settle}
 use Rattle.ymx_model.specs.session.Emissions.{Choice, begin, begin_answer, begin_stream, begin_kind, begins, alarm_frame, go_away_frame, answer_frame, ping_frame, moves_on, settles, Flows}
 use Rattle.ymx_model.specs.session.Emissions.Choice.{TheAlarm, TheGoAway, TheAnswer, ThePing, AStream}
 use Rattle.ymx_model.specs.world.UnderWay.{IsOneFrame}
-use Rattle.ymx_model.proofs.Tests.{split, none_of, not_lt, one_some}
+use Rattle.ymx_machine.proofs.Tests.{split, none_of, not_lt, one_some}
 use Rattle.ymx_law_session.proofs.limits.EmissionsKeep.{some_if, none_if, if_some}
 use Rattle.ymx_law_world.proofs.Frames.{data-frame, short-frame}
 

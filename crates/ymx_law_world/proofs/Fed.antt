@@ -10,10 +10,10 @@ use Rattle.ymx_header.specs.Headers.{header_of, has_syn, has_rst}
 use Rattle.ymx_model.specs.declared.types.Status.{Status}
 use Rattle.ymx_model.specs.declared.types.Status.TheVariants.{Running, Lost, Broken, Closed}
 use Rattle.ymx_model.specs.declared.types.Response.TheVariants.{Pong, Reject}
-use Rattle.ymx_model.specs.shared.Phases.{is_offered}
+use Rattle.ymx_machine.specs.shared.Phases.{is_offered}
 use Rattle.ymx_model.specs.session.Records.{End, receive_rst}
 use Rattle.ymx_model.specs.session.Pings.{receive_answer}
-use Rattle.ymx_model.specs.shared.Lists.{look, drop_id}
+use Rattle.ymx_machine.specs.shared.Lists.{look, drop_id}
 use Rattle.ymx_model.specs.session.Tables.{insert_record, remove_record}
 use Rattle.ymx_model.specs.session.Sessions.{Session, Incoming, is_own, is_deaf, is_closed, on_stream, settle}
 use Rattle.ymx_model.specs.session.Sessions.Incoming.{Head, Payload}
@@ -21,7 +21,7 @@ use Rattle.ymx_model.specs.session.Arrivals.{answers_with, ping_comes, go_away_c
 use Rattle.ymx_model.specs.session.Feeds.{Takes, byte_comes, byte_in}
 use Rattle.ymx_model.specs.world.UnderWay.{IsOneFrame, held_bytes, lacking}
 use Rattle.ymx_law_session.specs.Limits.{IsWithin}
-use Rattle.ymx_model.proofs.Tests.{split, agrees}
+use Rattle.ymx_machine.proofs.Tests.{split, agrees}
 use Rattle.ymx_law_session.proofs.pieces.Frames.{Awaits, head-awaits}
 use Rattle.ymx_law_session.proofs.limits.FramesKeep.{unless_fault-keeps}
 use Rattle.ymx_law_session.proofs.limits.FeedsKeep.{header_few, payload_some, byte-keeps}

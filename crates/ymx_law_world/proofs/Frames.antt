@@ -7,7 +7,7 @@ use Rattle.ymx_header.proofs.Frames.{wider, no-fault as no-fault-under}
 use Rattle.std.proofs.lemmas.List.{get_or_append_left}
 use Rattle.ymx_header.specs.declared.fault.Fault.{Fault}
 use Rattle.ymx_header.specs.declared.fault.Fault.TheVariants.{BadVersion, UnknownType, WindowExceeded}
-use Rattle.ymx_model.specs.shared.Limits.{first_credit}
+use Rattle.ymx_machine.specs.shared.Limits.{first_credit}
 use Rattle.ymx_model.specs.session.FramesDue.{frame}
 use Rattle.ymx_model.specs.session.Arrivals.{payload, header_fault}
 use Rattle.ymx_model.specs.session.Sessions.{Session}

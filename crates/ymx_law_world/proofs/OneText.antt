@@ -2,7 +2,7 @@
 use Rattle.std.proofs.Common.{◌≡◌, List, ℕ, sym, ◌∙◌}
 use Rattle.std.specs.List.{concat}
 use Rattle.ymx_header.proofs.Frames.{same-front, one-text as one-text-of}
-use Rattle.ymx_model.specs.shared.Limits.{first_credit}
+use Rattle.ymx_machine.specs.shared.Limits.{first_credit}
 use Rattle.ymx_model.specs.session.Sessions.{Session}
 use Rattle.ymx_model.specs.world.Worlds.{Pipe}
 use Rattle.ymx_model.specs.world.UnderWay.{IsUnderWay}

@@ -8,7 +8,7 @@ use Rattle.ymx_model.specs.session.Emissions.{is_ready}
 use Rattle.ymx_model.specs.world.Worlds.{World, Pipe, is_quiet, is_quiet_pipe}
 use Rattle.ymx_model.specs.world.UnderWay.{IsOneFrame, held_bytes, lacking}
 use Rattle.ymx_law_session.specs.Limits.{IsWithin}
-use Rattle.ymx_model.proofs.Tests.{both_of}
+use Rattle.ymx_machine.proofs.Tests.{both_of}
 use Rattle.ymx_law_session.proofs.limits.FeedsKeep.{header_few, payload_some}
 use Rattle.ymx_law_world.specs.Texts.{AreFrames, AreWithin, HasFrames}
 use Rattle.ymx_law_world.proofs.Emitted.{empty-bytes}

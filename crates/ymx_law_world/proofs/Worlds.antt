@@ -7,14 +7,14 @@ use Rattle.std.proofs.lemmas.List.Elements.{All-nil, All-append}
 use Rattle.std.proofs.lemmas.List.Folds.{concat-append}
 use Rattle.ymx_model.specs.declared.types.Status.{Status}
 use Rattle.ymx_model.specs.declared.types.Status.TheVariants.{Running, Lost, Broken, Closed}
-use Rattle.ymx_model.specs.declared.types.Fed.{Fed}
-use Rattle.ymx_model.specs.declared.types.Call.{Call}
+use Rattle.ymx_machine.specs.declared.types.Fed.{Fed}
+use Rattle.ymx_machine.specs.declared.types.Call.{Call}
 use Rattle.ymx_model.specs.declared.types.Event.TheVariants as event
-use Rattle.ymx_model.specs.declared.types.Reply.{Reply}
-use Rattle.ymx_model.specs.declared.types.Reply.TheVariants as reply
-use Rattle.ymx_model.specs.declared.types.Step.{Step}
-use Rattle.ymx_model.specs.declared.types.Step.TheVariants as step
-use Rattle.ymx_model.specs.declared.types.Answer.{Answer}
+use Rattle.ymx_machine.specs.declared.types.Reply.{Reply}
+use Rattle.ymx_machine.specs.declared.types.Reply.TheVariants as reply
+use Rattle.ymx_machine.specs.declared.types.Step.{Step}
+use Rattle.ymx_machine.specs.declared.types.Step.TheVariants as step
+use Rattle.ymx_machine.specs.declared.types.Answer.{Answer}
 use Rattle.std.specs.Prelude.{MatchBool}
 use Rattle.ymx_model.specs.session.Sessions.{Session, is_running, is_closed}
 use Rattle.ymx_model.specs.session.Sessions.Incoming.{Head}
@@ -25,9 +25,9 @@ use Rattle.ymx_model.specs.session.Histories.{CallGives}
 use Rattle.ymx_model.specs.session.Histories.CallGives.{Outcome, NoMemory}
 use Rattle.ymx_model.specs.world.Worlds.{World, Pipe, pushed, without_front, fed_count, StepOfA, Steps, Runs, mirror_world}
 use Rattle.ymx_model.specs.world.UnderWay.{IsUnderWay, IsOneFrame, held_bytes}
-use Rattle.ymx_model.specs.shared.Steps.{is_of_a}
+use Rattle.ymx_machine.specs.shared.Steps.{is_of_a}
 use Rattle.ymx_law_session.specs.Limits.{IsWithin}
-use Rattle.ymx_model.proofs.Tests.{both_of}
+use Rattle.ymx_machine.proofs.Tests.{both_of}
 use Rattle.ymx_law_session.proofs.limits.HistoriesKeep.{gives-keep}
 use Rattle.ymx_law_world.specs.Texts.{is_open, HasFrames, AreFrames, AreWithin, IsLater, IsDelivered}
 use Rattle.ymx_law_world.proofs.Emitted.{SameInput, flows-sent}

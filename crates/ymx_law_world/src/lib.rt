@@ -5,12 +5,12 @@
 
 ghost use Rattle.std.specs.Prelude.{◌≡◌, ◌^◌, ◌<◌, ◌≤◌, [], ℕ, List, Bool, true, false, take, None};
 ghost use Rattle.ymx_header.specs.Headers.{header_of};
-ghost use Rattle.ymx_model.specs.declared.types.Answer.{Answer};
-ghost use Rattle.ymx_model.specs.declared.types.Fed.{Fed};
+ghost use Rattle.ymx_machine.specs.declared.types.Answer.{Answer};
+ghost use Rattle.ymx_machine.specs.declared.types.Fed.{Fed};
 ghost use Rattle.ymx_model.specs.declared.types.Role.TheVariants.{Client, Server};
 ghost use Rattle.ymx_model.specs.declared.types.Status.TheVariants.{Running};
-ghost use Rattle.ymx_model.specs.declared.types.Step.{Step};
-ghost use Rattle.ymx_model.specs.shared.Limits.{first_credit, widest_window};
+ghost use Rattle.ymx_machine.specs.declared.types.Step.{Step};
+ghost use Rattle.ymx_machine.specs.shared.Limits.{first_credit, widest_window};
 ghost use Rattle.ymx_model.specs.session.Sessions.{Session, is_own};
 ghost use Rattle.ymx_model.specs.session.Sessions.Incoming.{Head};
 ghost use Rattle.ymx_model.specs.session.Arrivals.{header_fault};

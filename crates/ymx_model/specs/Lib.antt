@@ -1,10 +1,4 @@
 -- The definitions, in reading order.
--- What machine and session share on purpose.
-pub mod shared
--- One stream of the queue machine.
-pub mod stream
--- The queue machine: it reads the two folders above, and no frames.
-pub mod machine
 -- One session by itself.
 pub mod session
 -- Two sessions joined by pipes.

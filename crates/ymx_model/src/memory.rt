@@ -10,7 +10,7 @@ use std::alloc::Global;
 use std::marker::Model;
 
 /// Bytes in memory as an inlet, for tests: it may give few bytes a call, and fail at one of them.
-#[derive(Debug, Drop)]
+#[derive(Drop)]
 pub struct MemoryInlet<'a> {
     bytes: &'a [u8],
     most: usize,
@@ -92,7 +92,7 @@ impl Inlet for MemoryInlet<'_> {
 }
 
 /// An outlet into memory, for tests: it may take few bytes a call, and fail at one of them.
-#[derive(Debug, Drop)]
+#[derive(Drop)]
 pub struct MemoryOutlet {
     bytes: Vec<u8>,
     most: usize,

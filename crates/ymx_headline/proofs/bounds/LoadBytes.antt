@@ -16,7 +16,7 @@ use Rattle.ymx_law_session.specs.Limits.{IsWithin}
 use Rattle.ymx_law_session.proofs.limits.FeedsKeep.{byte-keeps, payload_some}
 use Rattle.ymx_law_session.proofs.pieces.Frames.{Awaits, head-awaits}
 use Rattle.ymx_law_session.proofs.pieces.Pieces.{piece-status}
-use Rattle.ymx_model.proofs.Tests.{agrees, none_of}
+use Rattle.ymx_machine.proofs.Tests.{agrees, none_of}
 use Rattle.ymx_law_world.proofs.Fed.{Follow, no-tail, all-first, all-rest, assoc, behind, same-header, drop-length, piece-incoming}
 use Rattle.ymx_law_world.proofs.Frames.{no-fault}
 use Rattle.ymx_headline.specs.Laws.{begins_payload, after_byte, made_whole}
@@ -56,25 +56,25 @@ ends-with h = of (payload h == 0)
 
 -- ---- one byte
 
-pub record Byte (b : ℕ) (rest : List ℕ) (frames : List (List ℕ)) (s t : Session) : Type 0 where
+pub record Byte (least : ℕ) (b : ℕ) (rest : List ℕ) (frames : List (List ℕ)) (s t : Session) : Type 0 where
   pub left : List (List ℕ)
   pub follow : t.status ≡ Running → Follow t.incoming rest left
   pub awake : is_deaf t.status ≡ false
   pub alike : t.status ≡ Running → Alike t.incoming (after_byte b s.incoming)
-  pub worth : 2 * effort t + weights left ≤ 2 * effort s + weights frames
-  pub effort : effort t + one_if (is_inside t.incoming) + weights left + one_if (is_between (after_byte b s.incoming)) ≤ effort s + one_if (is_inside s.incoming) + weights frames
+  pub worth : 2 * effort least t + weights left ≤ 2 * effort least s + weights frames
+  pub effort : effort least t + one_if (is_inside t.incoming) + weights left + one_if (is_between (after_byte b s.incoming)) ≤ effort least s + one_if (is_inside s.incoming) + weights frames
 
 not-between : (xs : List ℕ) (b : ℕ) → is_between (Head (xs ++ b ∷ [])) ≡ false
 not-between [] b = refl
 not-between (x ∷ xs) b = refl
 
 -- the receiver, at what it holds
-abbrev ByteIn : ℕ → List ℕ → List (List ℕ) → Session → Incoming → Session → Type 0
-ByteIn b rest frames s i t = Byte b rest frames (record s { incoming = i }) t
+abbrev ByteIn : (least : ℕ) → ℕ → List ℕ → List (List ℕ) → Session → Incoming → Session → Type 0
+ByteIn least b rest frames s i t = Byte least b rest frames (record s { incoming = i }) t
 
-early-byte : (b : ℕ) (seen rest : List ℕ) (frames : List (List ℕ)) (s : Session) → is_deaf s.status ≡ false → (length seen == 11) ≡ false → Follow (Head seen) (b ∷ rest) frames →
-    ByteIn b rest frames s (Head seen) (record s { incoming = Head (seen ++ b ∷ []) })
-early-byte b seen rest frames s awake early u =
+early-byte : (least : ℕ) (b : ℕ) (seen rest : List ℕ) (frames : List (List ℕ)) (s : Session) → is_deaf s.status ≡ false → (length seen == 11) ≡ false → Follow (Head seen) (b ∷ rest) frames →
+    ByteIn least b rest frames s (Head seen) (record s { incoming = Head (seen ++ b ∷ []) })
+early-byte least b seen rest frames s awake early u =
     let none = no-tail u.tail u.missing in
     let e : seen ++ b ∷ rest ≡ concat frames = rw none at u.text in
     let step : after_byte b (Head seen) ≡ Head (seen ++ b ∷ []) = rw early refl in
@@ -88,9 +88,9 @@ early-byte b seen rest frames s awake early u =
       worth = omega arith;
     }
 
-twelfth-byte : (no_memory : Bool) (b : ℕ) (seen rest : List ℕ) (frames : List (List ℕ)) (s : Session) → IsWithin s → is_deaf s.status ≡ false → (length seen == 11) ≡ true → Follow (Head seen) (b ∷ rest) frames →
-    ByteIn b rest frames s (Head seen) (head_comes no_memory (header_of (seen ++ b ∷ [])) (record s { incoming = Head [] }))
-twelfth-byte no_memory b seen rest frames s w awake late u =
+twelfth-byte : (least : ℕ) (no_memory : Bool) (b : ℕ) (seen rest : List ℕ) (frames : List (List ℕ)) (s : Session) → IsWithin s → is_deaf s.status ≡ false → (length seen == 11) ≡ true → Follow (Head seen) (b ∷ rest) frames →
+    ByteIn least b rest frames s (Head seen) (head_comes no_memory (header_of (seen ++ b ∷ [])) (record s { incoming = Head [] }))
+twelfth-byte least no_memory b seen rest frames s w awake late u =
     let none = no-tail u.tail u.missing in
     of frames u.each (assoc seen b rest ∙ rw none at u.text)
   where
@@ -100,7 +100,7 @@ twelfth-byte no_memory b seen rest frames s w awake late u =
     long : length (seen ++ b ∷ []) ≡ 12
     long = omega (arith, agrees (length seen) 11 late, length-append seen (b ∷ []))
 
-    of : (frames : List (List ℕ)) → All IsOneFrame frames → (seen ++ b ∷ []) ++ rest ≡ concat frames → ByteIn b rest frames s (Head seen) (head_comes no_memory (header_of (seen ++ b ∷ [])) (record s { incoming = Head [] }))
+    of : (frames : List (List ℕ)) → All IsOneFrame frames → (seen ++ b ∷ []) ++ rest ≡ concat frames → ByteIn least b rest frames s (Head seen) (head_comes no_memory (header_of (seen ++ b ∷ [])) (record s { incoming = Head [] }))
     of [] a e = absurd (omega (arith, long, length-append (seen ++ b ∷ []) rest, ap length e))
     of (f ∷ fs) a e =
         let h = header_of (seen ++ b ∷ []) in
@@ -109,7 +109,7 @@ twelfth-byte no_memory b seen rest frames s w awake late u =
         let one = all-first f fs a in
         let same : header_of f ≡ h = same-header (seen ++ b ∷ []) rest f (concat fs) long one.header e in
         let sound : header_fault h before ≡ None = subst (λ x. header_fault x before ≡ None) same (no-fault f s one w) in
-        let heads = head-heads no_memory h before refl sound in
+        let heads = head-heads least no_memory h before refl sound in
         let k = heads.effort in
         let r = heads.rise in
         let o = one_if-most (may_answer h) in
@@ -130,12 +130,12 @@ twelfth-byte no_memory b seen rest frames s w awake late u =
         behind-head f fs h t n a e (inl (none, now)) = let z = no-tail (drop 12 f) (n ∙ none) in rw now (record { tail = []; missing = refl; each = a; text = rw z at e })
         behind-head f fs h t n a e (inr (stray, some, now)) = rw now (record { tail = drop 12 f; missing = n; each = a; text = e })
 
-payload-byte : (b id n : ℕ) (fin stray : Bool) (rest : List ℕ) (frames : List (List ℕ)) (s : Session) → is_deaf s.status ≡ false → 0 < n → Follow (Payload id n fin stray) (b ∷ rest) frames →
-    ByteIn b rest frames s (Payload id n fin stray) (piece_comes (b ∷ []) id n fin stray s)
-payload-byte b id n fin stray rest frames s awake some u =
+payload-byte : (least : ℕ) (b id n : ℕ) (fin stray : Bool) (rest : List ℕ) (frames : List (List ℕ)) (s : Session) → is_deaf s.status ≡ false → 0 < n → Follow (Payload id n fin stray) (b ∷ rest) frames →
+    ByteIn least b rest frames s (Payload id n fin stray) (piece_comes (b ∷ []) id n fin stray s)
+payload-byte least b id n fin stray rest frames s awake some u =
     let t = piece_comes (b ∷ []) id n fin stray s in
     let now = piece-incoming b id n fin stray s in
-    let l = piece-eases (b ∷ []) id n fin stray s in
+    let l = piece-eases least (b ∷ []) id n fin stray s in
     let m = inside-or (nat_lt 1 n) in
     let k : one_if (is_inside t.incoming) ≡ one_if (is_inside (if nat_lt 1 n then Payload id (n - 1) fin stray else Head [])) = ap (λ i. one_if (is_inside i)) now in
     record {
@@ -157,14 +157,14 @@ payload-byte b id n fin stray rest frames s awake some u =
     of false m (x ∷ []) l e = record { tail = []; missing = refl; each = u.each; text = cc }
     of false m (x ∷ y ∷ tail) l e = absurd (grind (arith, nat_tests))
 
-in-byte : (no_memory : Bool) (b : ℕ) (rest : List ℕ) (frames : List (List ℕ)) (s : Session) (i : Incoming) → s.incoming ≡ i → IsWithin s → is_deaf s.status ≡ false → Follow i (b ∷ rest) frames → ByteIn b rest frames s i (byte_in no_memory b s i)
-in-byte no_memory b rest frames s (Head seen) e w awake u = of (length seen == 11) refl
+in-byte : (least : ℕ) (no_memory : Bool) (b : ℕ) (rest : List ℕ) (frames : List (List ℕ)) (s : Session) (i : Incoming) → s.incoming ≡ i → IsWithin s → is_deaf s.status ≡ false → Follow i (b ∷ rest) frames → ByteIn least b rest frames s i (byte_in no_memory b s i)
+in-byte least no_memory b rest frames s (Head seen) e w awake u = of (length seen == 11) refl
   where
     of : (late : Bool) → (length seen == 11) ≡ late →
-        ByteIn b rest frames s (Head seen) (if late then head_comes no_memory (header_of (seen ++ b ∷ [])) (record s { incoming = Head [] }) else record s { incoming = Head (seen ++ b ∷ []) })
-    of true q = twelfth-byte no_memory b seen rest frames s w awake q u
-    of false q = early-byte b seen rest frames s awake q u
-in-byte no_memory b rest frames s (Payload id n fin stray) e w awake u = payload-byte b id n fin stray rest frames s awake (payload_some id n fin stray s e w) u
+        ByteIn least b rest frames s (Head seen) (if late then head_comes no_memory (header_of (seen ++ b ∷ [])) (record s { incoming = Head [] }) else record s { incoming = Head (seen ++ b ∷ []) })
+    of true q = twelfth-byte least no_memory b seen rest frames s w awake q u
+    of false q = early-byte least b seen rest frames s awake q u
+in-byte least no_memory b rest frames s (Payload id n fin stray) e w awake u = payload-byte least b id n fin stray rest frames s awake (payload_some id n fin stray s e w) u
 
 runs : (s : Session) → is_deaf s.status ≡ false → is_stuck s ≡ false → s.status ≡ Running
 runs s awake free = of s.status awake (none_of (is_broken s.status) _ free).0
@@ -175,27 +175,27 @@ runs s awake free = of s.status awake (none_of (is_broken s.status) _ free).0
     of (Broken f) a b = absurd cc
     of Closed a b = absurd cc
 
-pub one-byte : (no_memory : Bool) (b : ℕ) (rest : List ℕ) (frames : List (List ℕ)) (s : Session) → IsWithin s → is_deaf s.status ≡ false → Follow s.incoming (b ∷ rest) frames → Byte b rest frames s (byte_comes no_memory b s)
-one-byte no_memory b rest frames s w awake u =
+pub one-byte : (least : ℕ) (no_memory : Bool) (b : ℕ) (rest : List ℕ) (frames : List (List ℕ)) (s : Session) → IsWithin s → is_deaf s.status ≡ false → Follow s.incoming (b ∷ rest) frames → Byte least b rest frames s (byte_comes no_memory b s)
+one-byte least no_memory b rest frames s w awake u =
     let same : byte_comes no_memory b s ≡ byte_in no_memory b s s.incoming = rw awake refl in
-    subst (Byte b rest frames s) (sym same) (in-byte no_memory b rest frames s s.incoming refl w awake u)
+    subst (Byte least b rest frames s) (sym same) (in-byte least no_memory b rest frames s s.incoming refl w awake u)
 
 -- ---- many bytes
 
-pub record Bytes (bytes rest : List ℕ) (frames : List (List ℕ)) (s t : Session) : Type 0 where
+pub record Bytes (least : ℕ) (bytes rest : List ℕ) (frames : List (List ℕ)) (s t : Session) : Type 0 where
   pub left : List (List ℕ)
   pub follow : t.status ≡ Running → Follow t.incoming rest left
   pub awake : is_deaf t.status ≡ false
-  pub worth : 2 * effort t + weights left ≤ 2 * effort s + weights frames
-  pub effort : effort t + one_if (is_inside t.incoming) + weights left + made_whole bytes s.incoming ≤ effort s + one_if (is_inside s.incoming) + weights frames
+  pub worth : 2 * effort least t + weights left ≤ 2 * effort least s + weights frames
+  pub effort : effort least t + one_if (is_inside t.incoming) + weights left + made_whole bytes s.incoming ≤ effort least s + one_if (is_inside s.incoming) + weights frames
 
-pub takes-bytes : (bytes rest : List ℕ) (frames : List (List ℕ)) (s t : Session) (starved : ℕ) → Takes bytes s t starved → IsWithin s → is_deaf s.status ≡ false → (s.status ≡ Running → Follow s.incoming (bytes ++ rest) frames) →
-    Bytes bytes rest frames s t
-takes-bytes [] rest frames s t starved p w awake u = subst (Bytes [] rest frames s) (sym p.0) (record { left = frames; follow = u; awake = awake; effort = omega arith; worth = omega arith })
-takes-bytes (b ∷ bytes) rest frames s t starved (no_memory, more, free, e, p) w awake u =
+pub takes-bytes : (least : ℕ) (bytes rest : List ℕ) (frames : List (List ℕ)) (s t : Session) (starved : ℕ) → Takes bytes s t starved → IsWithin s → is_deaf s.status ≡ false → (s.status ≡ Running → Follow s.incoming (bytes ++ rest) frames) →
+    Bytes least bytes rest frames s t
+takes-bytes least [] rest frames s t starved p w awake u = subst (Bytes least [] rest frames s) (sym p.0) (record { left = frames; follow = u; awake = awake; effort = omega arith; worth = omega arith })
+takes-bytes least (b ∷ bytes) rest frames s t starved (no_memory, more, free, e, p) w awake u =
     let next = byte_comes no_memory b s in
-    let one = one-byte no_memory b (bytes ++ rest) frames s w awake (u (runs s awake free)) in
-    let k = takes-bytes bytes rest one.left next t more p (byte-keeps no_memory b s free w) one.awake one.follow in
+    let one = one-byte least no_memory b (bytes ++ rest) frames s w awake (u (runs s awake free)) in
+    let k = takes-bytes least bytes rest one.left next t more p (byte-keeps no_memory b s free w) one.awake one.follow in
     let same = of bytes p one.awake one.alike in
     let x = one.effort in
     let y = k.effort in

@@ -1,6 +1,8 @@
 -- What a session may still send: a frame that begins takes its part of it.
-use Rattle.std.proofs.Common.{◌≡◌, ◌≢◌, ℕ, ◌+◌, ◌-◌, ◌*◌, ◌<◌, ◌≤◌, List, [], ◌∷◌, ◌++◌, length, take, drop, length-drop, Bool, true, false, not, ◌&&◌, ◌||◌, ◌==◌, nat_lt, nat_le, if◌then◌else◌, Option, None, Some, refl, sym, ap, subst, ◌∙◌, arith}
-use Rattle.std.specs.Prelude.{count_by}
+use Rattle.std.proofs.Common.{◌≡◌, ◌≢◌, ℕ, zero, suc, ◌+◌, ◌-◌, ◌*◌, ◌/◌, ◌<◌, ◌≤◌, List, [], ◌∷◌, ◌++◌, length, take, drop, length-drop, Bool, true, false, not, ◌&&◌, ◌||◌, ◌==◌, nat_lt, nat_le, if◌then◌else◌, Option, None, Some, refl, sym, ap, subst, ◌∙◌, arith}
+use Rattle.std.specs.Prelude.{count_by, is_some}
+use Rattle.std.proofs.lemmas.Nat.{le-div}
+use Rattle.std.proofs.Math.Nat.{div-mul-le_self, add-div_right}
 use Rattle.std.proofs.lemmas.Bool.Decides.{nat_tests}
 use Rattle.std.proofs.lemmas.Grind.{common_steps}
 use Rattle.std.proofs.lemmas.List.Recursion.{is_sum_by, is_count_by}
@@ -9,32 +11,32 @@ use Rattle.ymx_header.specs.Headers.{header_of, has_syn, has_rst}
 use Rattle.ymx_model.specs.declared.types.Response.{Response}
 use Rattle.ymx_model.specs.declared.types.Response.TheVariants.{Pong, Reject}
 use Rattle.ymx_model.specs.declared.types.PingStage.TheVariants.{Sent, Back}
-use Rattle.ymx_model.specs.shared.Limits.{first_credit}
-use Rattle.ymx_model.specs.shared.Phases.{is_live}
+use Rattle.ymx_machine.specs.shared.Limits.{first_credit, data_limit}
+use Rattle.ymx_machine.specs.shared.Phases.{is_live}
 use Rattle.ymx_model.specs.session.Records.{End}
 use Rattle.ymx_model.specs.declared.types.FrameKind.{FrameKind}
 use Rattle.ymx_model.specs.session.FramesDue.{next_kind, begin_frame, frame, spelled, credit_due, fin_due, is_empty}
 use Rattle.ymx_model.specs.declared.types.FrameKind.TheVariants.{Open, OpenWith, Accept, Reset, Credit, Data, Fin}
-use Rattle.ymx_model.specs.session.Pings.{Ping, ping_is_asked, has_asked, staged, begin_ping}
+use Rattle.ymx_model.specs.session.Pings.{Ping, ping_is_asked, has_asked, staged, begin_ping, first_asked}
 use Rattle.ymx_model.specs.session.GoAway.{away_due, begin_away}
-use Rattle.ymx_model.specs.shared.Lists.{look, change, without}
-use Rattle.ymx_model.specs.session.Tables.{with_record, pass_turn, remove_record}
+use Rattle.ymx_machine.specs.shared.Lists.{look, change, without}
+use Rattle.ymx_model.specs.session.Tables.{with_record, pass_turn, remove_record, round}
 use Rattle.ymx_model.specs.session.Sessions.{Session, nothing_outgoing, is_broken, is_running, is_spent, settle}
-use Rattle.ymx_model.specs.session.Emissions.{Choice, begin, begins, begin_answer, begin_stream, begin_kind, alarm_frame, go_away_frame, answer_frame, ping_frame, moves_on, settles}
+use Rattle.ymx_model.specs.session.Emissions.{Choice, begin, begins, begin_answer, begin_stream, begin_kind, alarm_frame, go_away_frame, answer_frame, ping_frame, moves_on, settles, in_turn, is_first, no_answers}
 use Rattle.ymx_model.specs.session.Emissions.Choice.{TheAlarm, TheGoAway, TheAnswer, ThePing, AStream}
 use Rattle.ymx_model.specs.world.UnderWay.{IsOneFrame}
-use Rattle.ymx_model.specs.world.Load.{record_load, session_load, one_if}
+use Rattle.ymx_model.specs.world.Load.{frames_of, record_load, session_load, one_if}
 use Rattle.ymx_law_session.specs.Limits.{IsWithin}
 use Rattle.ymx_law_session.proofs.limits.EmissionsKeep.{some_if, none_if, if_some}
-use Rattle.ymx_model.proofs.Tests.{split, differs, both_of, none_of, not_lt}
+use Rattle.ymx_machine.proofs.Tests.{split, agrees, differs, both_of, none_of, not_lt}
 use Rattle.ymx_law_world.proofs.Frames.{data-frame, short-frame}
 use Rattle.ymx_law_world.proofs.Emitted.{first_and_rest, only_one}
 
 -- ---- sums
 
-abbrev pub loads : (window : ℕ) → List (ℕ × End) → ℕ
-loads window [] = 0
-loads window (p ∷ ps) = record_load window p.1 + loads window ps
+abbrev pub loads : (least : ℕ) (window : ℕ) → List (ℕ × End) → ℕ
+loads least window [] = 0
+loads least window (p ∷ ps) = record_load least window p.1 + loads least window ps
 
 abbrev pub asked : List Ping → ℕ
 asked [] = 0
@@ -44,34 +46,34 @@ pub one_if-most : (b : Bool) → one_if b ≤ 1
 one_if-most true = omega arith
 one_if-most false = omega arith
 
-loads-less : (window id k : ℕ) (g : End → End) (e : End) (xs : List (ℕ × End)) → look id xs ≡ Some e → record_load window (g e) + k ≤ record_load window e → loads window (change id g xs) + k ≤ loads window xs
-loads-less window id k g e [] l h = absurd cc
-loads-less window id k g e (p ∷ ps) l h = of (p.0 == id) refl l (loads-less window id k g e ps)
+loads-less : (least : ℕ) (window id k : ℕ) (g : End → End) (e : End) (xs : List (ℕ × End)) → look id xs ≡ Some e → record_load least window (g e) + k ≤ record_load least window e → loads least window (change id g xs) + k ≤ loads least window xs
+loads-less least window id k g e [] l h = absurd cc
+loads-less least window id k g e (p ∷ ps) l h = of (p.0 == id) refl l (loads-less least window id k g e ps)
   where
-    of : (b : Bool) → (p.0 == id) ≡ b → (if b then Some p.1 else look id ps) ≡ Some e → (look id ps ≡ Some e → record_load window (g e) + k ≤ record_load window e → loads window (change id g ps) + k ≤ loads window ps) →
-        loads window (if b then (p.0, g p.1) ∷ ps else p ∷ change id g ps) + k ≤ record_load window p.1 + loads window ps
-    of true b q i = let same : p.1 ≡ e = cc in let j : record_load window (g p.1) + k ≤ record_load window p.1 = rw same h in omega (arith, j)
+    of : (b : Bool) → (p.0 == id) ≡ b → (if b then Some p.1 else look id ps) ≡ Some e → (look id ps ≡ Some e → record_load least window (g e) + k ≤ record_load least window e → loads least window (change id g ps) + k ≤ loads least window ps) →
+        loads least window (if b then (p.0, g p.1) ∷ ps else p ∷ change id g ps) + k ≤ record_load least window p.1 + loads least window ps
+    of true b q i = let same : p.1 ≡ e = cc in let j : record_load least window (g p.1) + k ≤ record_load least window p.1 = rw same h in omega (arith, j)
     of false b q i = let j = i q h in omega (arith, j)
 
-pub loads-change : (window id : ℕ) (g : End → End) (xs : List (ℕ × End)) → ((e : End) → record_load window (g e) ≤ record_load window e) → loads window (change id g xs) ≤ loads window xs
-loads-change window id g [] h = omega arith
-loads-change window id g (p ∷ ps) h = of (p.0 == id) (loads-change window id g ps h)
+pub loads-change : (least : ℕ) (window id : ℕ) (g : End → End) (xs : List (ℕ × End)) → ((e : End) → record_load least window (g e) ≤ record_load least window e) → loads least window (change id g xs) ≤ loads least window xs
+loads-change least window id g [] h = omega arith
+loads-change least window id g (p ∷ ps) h = of (p.0 == id) (loads-change least window id g ps h)
   where
-    of : (b : Bool) → loads window (change id g ps) ≤ loads window ps → loads window (if b then (p.0, g p.1) ∷ ps else p ∷ change id g ps) ≤ record_load window p.1 + loads window ps
+    of : (b : Bool) → loads least window (change id g ps) ≤ loads least window ps → loads least window (if b then (p.0, g p.1) ∷ ps else p ∷ change id g ps) ≤ record_load least window p.1 + loads least window ps
     of true i = let j = h p.1 in omega (arith, j)
     of false i = omega (arith, i)
 
-pub loads-without : (window id : ℕ) (xs : List (ℕ × End)) → loads window (without id xs) ≤ loads window xs
-loads-without window id [] = omega arith
-loads-without window id (p ∷ ps) = of (p.0 == id) (loads-without window id ps)
+pub loads-without : (least : ℕ) (window id : ℕ) (xs : List (ℕ × End)) → loads least window (without id xs) ≤ loads least window xs
+loads-without least window id [] = omega arith
+loads-without least window id (p ∷ ps) = of (p.0 == id) (loads-without least window id ps)
   where
-    of : (b : Bool) → loads window (without id ps) ≤ loads window ps → loads window (if b then ps else p ∷ without id ps) ≤ record_load window p.1 + loads window ps
+    of : (b : Bool) → loads least window (without id ps) ≤ loads least window ps → loads least window (if b then ps else p ∷ without id ps) ≤ record_load least window p.1 + loads least window ps
     of true i = omega arith
     of false i = omega (arith, i)
 
-pub loads-added : (window id : ℕ) (e : End) (xs : List (ℕ × End)) → loads window (xs ++ (id, e) ∷ []) ≡ loads window xs + record_load window e
-loads-added window id e [] = omega arith
-loads-added window id e (p ∷ ps) = let i = loads-added window id e ps in omega (arith, i)
+pub loads-added : (least : ℕ) (window id : ℕ) (e : End) (xs : List (ℕ × End)) → loads least window (xs ++ (id, e) ∷ []) ≡ loads least window xs + record_load least window e
+loads-added least window id e [] = omega arith
+loads-added least window id e (p ∷ ps) = let i = loads-added least window id e ps in omega (arith, i)
 
 asked-goes : (n : ℕ) (ps : List Ping) → has_asked n ps ≡ true → asked (staged Sent n ps) + 1 ≡ asked ps
 asked-goes n [] h = absurd cc
@@ -89,6 +91,25 @@ asked-answered n (p ∷ ps) = of (p.number == n) (asked-answered n ps)
     of : (b : Bool) → asked (staged Back n ps) ≤ asked ps → asked (if b then record { number = p.number; stage = Back } ∷ ps else p ∷ staged Back n ps) ≤ one_if (ping_is_asked p.stage) + asked ps
     of true i = omega arith
     of false i = omega (arith, i)
+
+-- ---- an order of frames
+
+-- in this order each frame of Data carries at least so many bytes, unless fewer are unsent
+pub record SendsAtLeast (least : ℕ) (may : Choice → Session → Bool) : Type 0 where
+  pub some : 0 < least
+  pub each : (id limit : ℕ) (s : Session) → may (AStream id limit) s ≡ true → (limit == 0) ≡ false → least ≤ limit
+
+-- in any order it carries a byte
+pub any-order : (may : Choice → Session → Bool) → SendsAtLeast 1 may
+any-order may = record { some = omega arith; each = λ id limit s ok n. (let z : limit ≢ 0 = differs limit 0 n in omega arith) }
+
+-- and in turn 16,384
+pub turn-order : SendsAtLeast data_limit in_turn
+turn-order = record {
+  some = omega arith;
+  each = λ id limit s ok n. (let e = agrees limit data_limit
+      (both_of (not (away_due s.away.here) && no_answers s.answers && not (is_some (first_asked s.pings.pending)) && is_first id (round s.table)) (limit == data_limit) ok).1 in omega (arith, e));
+}
 
 -- ---- a frame of a stream
 
@@ -128,35 +149,57 @@ fin-gone : (a : Bool) → (a && not true) ≡ false
 fin-gone true = refl
 fin-gone false = refl
 
-sent-less : (limit : ℕ) (xs : List ℕ) → (limit == 0) ≡ false → not (is_empty xs) ≡ true → length (drop limit xs) + 1 ≤ length xs
-sent-less limit [] l h = absurd cc
-sent-less limit (x ∷ xs) l h = let z : limit ≢ 0 = differs limit 0 l in omega (arith, length-drop limit (x ∷ xs))
+-- fewer bytes need no more frames
+fewer-frames : (least m n : ℕ) → 0 < least → m ≤ n → m / least ≤ n / least
+fewer-frames least m n some l = let k = div-mul-le_self m least in le-div (m / least) n least some (omega (arith, k, l))
 
-fewer-left : (limit : ℕ) (xs : List ℕ) → length (drop limit xs) ≤ length xs
-fewer-left limit xs = omega (arith, length-drop limit xs)
-
-sends-less : (window limit : ℕ) (k : FrameKind) (e : End) → 0 < window → (limit == 0) ≡ false → next_kind window e ≡ Some k → record_load window (begin_frame window limit k e) + 1 ≤ record_load window e
-sends-less window limit k e w l n = of k (cause e.marks.syn e.marks.with_data e.marks.ack e.marks.rst (credit_due window e) (not (is_empty e.writer.unsent)) (fin_due e) k n)
+-- a frame that carries all, or at least so many bytes, leaves one frame less
+sent-less : (least limit : ℕ) (xs : List ℕ) → 0 < least → least ≤ limit → not (is_empty xs) ≡ true → frames_of least (drop limit xs) + 1 ≤ frames_of least xs
+sent-less least limit [] some low h = absurd cc
+sent-less least limit (x ∷ xs) some low h = of (drop limit (x ∷ xs)) (length-drop limit (x ∷ xs))
   where
-    of : (k : FrameKind) → Cause e.marks.syn e.marks.ack e.marks.rst (credit_due window e) (not (is_empty e.writer.unsent)) (fin_due e) k → record_load window (begin_frame window limit k e) + 1 ≤ record_load window e
+    of : (left : List ℕ) → length left ≡ length (x ∷ xs) - limit → frames_of least left + 1 ≤ length xs / least + 1
+    of [] e = omega arith
+    of (y ∷ ys) e =
+        let long : length ys + least ≤ length xs = omega (arith, e) in
+        let k = fewer-frames least (length ys + least) (length xs) some long in
+        let one = add-div_right (length ys) some in
+        omega (arith, k, one)
+
+fewer-left : (least limit : ℕ) (xs : List ℕ) → 0 < least → frames_of least (drop limit xs) ≤ frames_of least xs
+fewer-left least limit [] some = of limit
+  where
+    of : (n : ℕ) → frames_of least (drop n []) ≤ 0
+    of zero = omega arith
+    of (suc n) = omega arith
+fewer-left least limit (x ∷ xs) some = of (drop limit (x ∷ xs)) (length-drop limit (x ∷ xs))
+  where
+    of : (left : List ℕ) → length left ≡ length (x ∷ xs) - limit → frames_of least left ≤ length xs / least + 1
+    of [] e = omega arith
+    of (y ∷ ys) e = let long : length ys ≤ length xs = omega (arith, e) in let k = fewer-frames least (length ys) (length xs) some long in omega (arith, k)
+
+sends-less : (least : ℕ) (window limit : ℕ) (k : FrameKind) (e : End) → 0 < window → 0 < least → least ≤ limit → next_kind window e ≡ Some k → record_load least window (begin_frame window limit k e) + 1 ≤ record_load least window e
+sends-less least window limit k e w some low n = of k (cause e.marks.syn e.marks.with_data e.marks.ack e.marks.rst (credit_due window e) (not (is_empty e.writer.unsent)) (fin_due e) k n)
+  where
+    of : (k : FrameKind) → Cause e.marks.syn e.marks.ack e.marks.rst (credit_due window e) (not (is_empty e.writer.unsent)) (fin_due e) k → record_load least window (begin_frame window limit k e) + 1 ≤ record_load least window e
     of Open c = let q = one_if-most (credit_due window (begin_frame window limit Open e) && not false && not e.marks.ack) in rw c (omega (arith, q))
     of OpenWith c =
         let q = one_if-most (credit_due window (begin_frame window limit OpenWith e) && not false && not e.marks.ack) in
-        let r = fewer-left limit e.writer.unsent in rw c (omega (arith, q, r))
+        let r = fewer-left least limit e.writer.unsent some in rw c (omega (arith, q, r))
     of Accept c = let q = one_if-most (credit_due window (begin_frame window limit Accept e) && not e.marks.syn && not false) in rw c.1 (omega (arith, q))
     of Reset c = rw c (omega arith)
     of Credit c =
         let z : credit_due window (begin_frame window limit Credit e) ≡ false = none-owed window (is_live e.phase && not e.reader.ended) e.reader.owed w in
         rw (z, c.2, c.0, c.1) (omega arith)
-    of Data c = let r = sent-less limit e.writer.unsent l c in omega (arith, r)
+    of Data c = let r = sent-less least limit e.writer.unsent some low c in omega (arith, r)
     of Fin c = let z = fin-gone e.writer.finished in rw (c, z) (omega arith)
 
 -- ---- a session
 
 -- What a session may still send, and may make the other side answer: twice each frame that is due, but an
 -- answer once, since nothing answers it.
-abbrev pub effort : Session → ℕ
-effort s = 2 * (loads s.table.window s.table.entries + one_if (away_due s.away.here) + asked s.pings.pending) + length s.answers + one_if (s.alarm && is_broken s.status)
+abbrev pub effort : (least : ℕ) → Session → ℕ
+effort least s = 2 * (loads least s.table.window s.table.entries + one_if (away_due s.away.here) + asked s.pings.pending) + length s.answers + one_if (s.alarm && is_broken s.status)
 
 -- whether a frame may be answered: by a pong, a rejection, or an alarm
 abbrev pub may_answer : Header → Bool
@@ -180,9 +223,9 @@ pub weights-append : (a b : List (List ℕ)) → weights (a ++ b) ≡ weights a 
 weights-append [] b = omega arith
 weights-append (f ∷ fs) b = let i = weights-append fs b in omega (arith, i)
 
-pub effort-most : (s : Session) → effort s ≤ 2 * session_load s
-effort-most s =
-    let a = is_sum_by (loads s.table.window) (λ p. record_load s.table.window p.1) refl (λ p ps. refl) s.table.entries in
+pub effort-most : (least : ℕ) (s : Session) → effort least s ≤ 2 * session_load least s
+effort-most least s =
+    let a = is_sum_by (loads least s.table.window) (λ p. record_load least s.table.window p.1) refl (λ p ps. refl) s.table.entries in
     let b = counted s.pings.pending in
     let c = alarm-most s.alarm (is_broken s.status) in
     omega (arith, a, b, c)
@@ -200,27 +243,27 @@ effort-most s =
 
 -- ---- a frame begins
 
-pub record Starts (s t : Session) : Type 0 where
+pub record Starts (least : ℕ) (s t : Session) : Type 0 where
   pub one : IsOneFrame t.outgoing.bytes
-  pub effort : effort t + weight t.outgoing.bytes ≤ effort s
+  pub effort : effort least t + weight t.outgoing.bytes ≤ effort least s
   pub status : t.status ≡ s.status
   pub incoming : t.incoming ≡ s.incoming
 
-starts-is : (s u t : Session) → t ≡ u → Starts s u → Starts s t
-starts-is s u t e h = subst (Starts s) (sym e) h
+starts-is : (least : ℕ) (s u t : Session) → t ≡ u → Starts least s u → Starts least s t
+starts-is least s u t e h = subst (Starts least s) (sym e) h
 
 some-is : (a b : Session) → Some a ≡ Some b → b ≡ a
 some-is a b e = cc
 
-answer-starts : (rs : List Response) (s t : Session) → s.answers ≡ rs → begin_answer rs s ≡ Some t → Starts s t
-answer-starts [] s t e b = absurd cc
-answer-starts (Pong n ∷ more) s t e b =
+answer-starts : (least : ℕ) (rs : List Response) (s t : Session) → s.answers ≡ rs → begin_answer rs s ≡ Some t → Starts least s t
+answer-starts least [] s t e b = absurd cc
+answer-starts least (Pong n ∷ more) s t e b =
     let l : length s.answers ≡ length more + 1 = ap length e ∙ omega arith in
-    starts-is s _ t (some-is (begins (answer_frame (Pong n)) (record s { answers = more })) t b)
+    starts-is least s _ t (some-is (begins (answer_frame (Pong n)) (record s { answers = more })) t b)
     (record { one = short-frame 2 2 0 n (omega arith) (omega arith); effort = omega (arith, l); status = refl; incoming = refl })
-answer-starts (Reject id ∷ more) s t e b =
+answer-starts least (Reject id ∷ more) s t e b =
     let l : length s.answers ≡ length more + 1 = ap length e ∙ omega arith in
-    starts-is s _ t (some-is (begins (answer_frame (Reject id)) (record s { answers = more })) t b)
+    starts-is least s _ t (some-is (begins (answer_frame (Reject id)) (record s { answers = more })) t b)
     (record { one = short-frame 1 8 id 0 (omega arith) (omega arith); effort = omega (arith, l); status = refl; incoming = refl })
 
 data-one : (flags id limit : ℕ) (unsent : List ℕ) → limit ≤ first_credit → IsOneFrame (frame 0 flags id (length (take limit unsent)) (take limit unsent))
@@ -235,78 +278,78 @@ spelled-one Credit window limit id e few = short-frame 1 0 id e.reader.owed (ome
 spelled-one Data window limit id e few = data-one 0 id limit e.writer.unsent few
 spelled-one Fin window limit id e few = short-frame 1 4 id 0 (omega arith) (omega arith)
 
-stream-starts : (id limit : ℕ) (s t : Session) → IsWithin s → (o : Option End) → look id s.table.entries ≡ o → begin_stream id limit o s ≡ Some t → Starts s t
-stream-starts id limit s t w None l b = absurd cc
-stream-starts id limit s t w (Some e) l b =
+stream-starts : (least : ℕ) (id limit : ℕ) (s t : Session) → IsWithin s → 0 < least → ((limit == 0) ≡ false → least ≤ limit) → (o : Option End) → look id s.table.entries ≡ o → begin_stream id limit o s ≡ Some t → Starts least s t
+stream-starts least id limit s t w pos low None l b = absurd cc
+stream-starts least id limit s t w pos low (Some e) l b =
     let n = none_if (limit == 0 || nat_lt first_credit limit) (begin_kind id limit e (next_kind s.table.window e) s) t b in
     let p = none_of (limit == 0) (nat_lt first_credit limit) n.0 in
     at-kind (not_lt first_credit limit p.1) p.0 (next_kind s.table.window e) refl n.1
   where
-    at-kind : limit ≤ first_credit → (limit == 0) ≡ false → (k : Option FrameKind) → next_kind s.table.window e ≡ k → begin_kind id limit e k s ≡ Some t → Starts s t
+    at-kind : limit ≤ first_credit → (limit == 0) ≡ false → (k : Option FrameKind) → next_kind s.table.window e ≡ k → begin_kind id limit e k s ≡ Some t → Starts least s t
     at-kind few some None q c = absurd cc
     at-kind few some (Some k) q c =
         let win = s.table.window in
-        let less = loads-less win id 1 (begin_frame win limit k) e s.table.entries l (sends-less win limit k e (omega (arith, w.table.narrowest)) some q) in
+        let less = loads-less least win id 1 (begin_frame win limit k) e s.table.entries l (sends-less least win limit k e (omega (arith, w.table.narrowest)) pos (low some) q) in
         let u : Session = record s { table = pass_turn id (with_record id (begin_frame win limit k) s.table); outgoing = record { bytes = spelled k win limit id e; of = Some id } } in
         let most = weight-most (spelled k win limit id e) in
-        starts-is s u t (some-is u t c) (record { one = spelled-one k win limit id e few; effort = omega (arith, less, most); status = refl; incoming = refl })
+        starts-is least s u t (some-is u t c) (record { one = spelled-one k win limit id e few; effort = omega (arith, less, most); status = refl; incoming = refl })
 
-pub begin-starts : (c : Choice) (s t : Session) → IsWithin s → begin c s ≡ Some t → Starts s t
-begin-starts TheAlarm s t w b =
+pub begin-starts : (least : ℕ) (c : Choice) (s t : Session) → IsWithin s → 0 < least → ((id limit : ℕ) → c ≡ AStream id limit → (limit == 0) ≡ false → least ≤ limit) → begin c s ≡ Some t → Starts least s t
+begin-starts least TheAlarm s t w pos low b =
     let p = some_if (s.alarm && is_broken s.status) (begins alarm_frame (record s { alarm = false })) t b in
     let z : one_if (s.alarm && is_broken s.status) ≡ 1 = ap one_if p.0 in
-    starts-is s _ t p.1 (record { one = short-frame 3 0 0 1 (omega arith) (omega arith); effort = omega (arith, z); status = refl; incoming = refl })
-begin-starts TheGoAway s t w b =
+    starts-is least s _ t p.1 (record { one = short-frame 3 0 0 1 (omega arith) (omega arith); effort = omega (arith, z); status = refl; incoming = refl })
+begin-starts least TheGoAway s t w pos low b =
     let p = some_if (is_running s.status && away_due s.away.here) (begins go_away_frame (record s { away = begin_away s.away })) t b in
     let q = both_of (is_running s.status) (away_due s.away.here) p.0 in
     let z : one_if (away_due s.away.here) ≡ 1 = ap one_if q.1 in
-    starts-is s _ t p.1 (record { one = short-frame 3 0 0 0 (omega arith) (omega arith); effort = omega (arith, z); status = refl; incoming = refl })
-begin-starts TheAnswer s t w b = let p = if_some (is_running s.status) (begin_answer s.answers s) t b in answer-starts s.answers s t refl p.1
-begin-starts (ThePing n) s t w b =
+    starts-is least s _ t p.1 (record { one = short-frame 3 0 0 0 (omega arith) (omega arith); effort = omega (arith, z); status = refl; incoming = refl })
+begin-starts least TheAnswer s t w pos low b = let p = if_some (is_running s.status) (begin_answer s.answers s) t b in answer-starts least s.answers s t refl p.1
+begin-starts least (ThePing n) s t w pos low b =
     let p = some_if (is_running s.status && has_asked n s.pings.pending) (begins (ping_frame n) (record s { pings = begin_ping n s.pings })) t b in
     let q = both_of (is_running s.status) (has_asked n s.pings.pending) p.0 in
     let z = asked-goes n s.pings.pending q.1 in
     let most = weight-most (ping_frame n) in
-    starts-is s _ t p.1 (record { one = short-frame 2 1 0 n (omega arith) (omega arith); effort = omega (arith, z, most); status = refl; incoming = refl })
-begin-starts (AStream id limit) s t w b =
-    let p = if_some (is_running s.status) (begin_stream id limit (look id s.table.entries) s) t b in stream-starts id limit s t w (look id s.table.entries) refl p.1
+    starts-is least s _ t p.1 (record { one = short-frame 2 1 0 n (omega arith) (omega arith); effort = omega (arith, z, most); status = refl; incoming = refl })
+begin-starts least (AStream id limit) s t w pos low b =
+    let p = if_some (is_running s.status) (begin_stream id limit (look id s.table.entries) s) t b in stream-starts least id limit s t w pos (low id limit refl) (look id s.table.entries) refl p.1
 
 -- ---- a byte goes out
 
 -- a session that may send no more than before
-pub record Eases (s t : Session) : Type 0 where
-  pub effort : effort t ≤ effort s
+pub record Eases (least : ℕ) (s t : Session) : Type 0 where
+  pub effort : effort least t ≤ effort least s
   pub status : t.status ≡ s.status
   pub incoming : t.incoming ≡ s.incoming
   pub outgoing : t.outgoing ≡ s.outgoing
 
-pub eases-same : (s : Session) → Eases s s
-eases-same s = record { effort = omega arith; status = refl; incoming = refl; outgoing = refl }
+pub eases-same : (least : ℕ) (s : Session) → Eases least s s
+eases-same least s = record { effort = omega arith; status = refl; incoming = refl; outgoing = refl }
 
-pub eases-then : (s t u : Session) → Eases s t → Eases t u → Eases s u
-eases-then s t u p q = let a = p.effort in let b = q.effort in record { effort = omega (arith, a, b); status = q.status ∙ p.status; incoming = q.incoming ∙ p.incoming; outgoing = q.outgoing ∙ p.outgoing }
+pub eases-then : (least : ℕ) (s t u : Session) → Eases least s t → Eases least t u → Eases least s u
+eases-then least s t u p q = let a = p.effort in let b = q.effort in record { effort = omega (arith, a, b); status = q.status ∙ p.status; incoming = q.incoming ∙ p.incoming; outgoing = q.outgoing ∙ p.outgoing }
 
-pub removed-eases : (id : ℕ) (s : Session) (offered : List ℕ) → Eases s (record s { table = remove_record id s.table; offered = offered })
-removed-eases id s offered = let l = loads-without s.table.window id s.table.entries in record { effort = omega (arith, l); status = refl; incoming = refl; outgoing = refl }
+pub removed-eases : (least : ℕ) (id : ℕ) (s : Session) (offered : List ℕ) → Eases least s (record s { table = remove_record id s.table; offered = offered })
+removed-eases least id s offered = let l = loads-without least s.table.window id s.table.entries in record { effort = omega (arith, l); status = refl; incoming = refl; outgoing = refl }
 
-pub settled-eases : (id : ℕ) (s : Session) → Eases s (settle id s)
-settled-eases id s =
-    split (Eases s) (is_spent s.table.window s.outgoing id (look id s.table.entries)) (record s { table = remove_record id s.table }) s (λ t. removed-eases id s s.offered) (λ f. eases-same s)
+pub settled-eases : (least : ℕ) (id : ℕ) (s : Session) → Eases least s (settle id s)
+settled-eases least id s =
+    split (Eases least s) (is_spent s.table.window s.outgoing id (look id s.table.entries)) (record s { table = remove_record id s.table }) s (λ t. removed-eases least id s s.offered) (λ f. eases-same least s)
 
-settles-eases : (of : Option ℕ) (s : Session) → Eases s (settles of s)
-settles-eases None s = eases-same s
-settles-eases (Some id) s = settled-eases id s
+settles-eases : (least : ℕ) (of : Option ℕ) (s : Session) → Eases least s (settles of s)
+settles-eases least None s = eases-same least s
+settles-eases least (Some id) s = settled-eases least id s
 
 -- a byte has gone out: the first of the frame begun
-pub record Sheds (b : ℕ) (s t : Session) : Type 0 where
+pub record Sheds (least : ℕ) (b : ℕ) (s t : Session) : Type 0 where
   pub bytes : s.outgoing.bytes ≡ b ∷ t.outgoing.bytes
-  pub effort : effort t ≤ effort s
+  pub effort : effort least t ≤ effort least s
   pub status : t.status ≡ s.status
   pub incoming : t.incoming ≡ s.incoming
 
-pub sheds : (b : ℕ) (s : Session) → take 1 s.outgoing.bytes ≡ b ∷ [] → Sheds b s (moves_on 1 s)
-sheds b s e =
-    split (Sheds b s) (nat_lt 1 (length s.outgoing.bytes)) (record s { outgoing = record { bytes = drop 1 s.outgoing.bytes; of = s.outgoing.of } }) (settles s.outgoing.of (record s { outgoing = nothing_outgoing }))
+pub sheds : (least : ℕ) (b : ℕ) (s : Session) → take 1 s.outgoing.bytes ≡ b ∷ [] → Sheds least b s (moves_on 1 s)
+sheds least b s e =
+    split (Sheds least b s) (nat_lt 1 (length s.outgoing.bytes)) (record s { outgoing = record { bytes = drop 1 s.outgoing.bytes; of = s.outgoing.of } }) (settles s.outgoing.of (record s { outgoing = nothing_outgoing }))
     (λ t. record { bytes = first_and_rest b s.outgoing.bytes e; effort = omega arith; status = refl; incoming = refl })
-    (λ f. let r = settles-eases s.outgoing.of (record s { outgoing = nothing_outgoing }) in
+    (λ f. let r = settles-eases least s.outgoing.of (record s { outgoing = nothing_outgoing }) in
     record { bytes = only_one b s.outgoing.bytes e f ∙ ap (λ z. b ∷ z.bytes) (sym r.outgoing); effort = r.effort; status = r.status; incoming = r.incoming })

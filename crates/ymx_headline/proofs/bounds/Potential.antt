@@ -7,23 +7,24 @@ use Rattle.ymx_header.specs.Frames.{payload_length}
 use Rattle.ymx_header.proofs.Frames.{header_of-append}
 use Rattle.ymx_model.specs.declared.types.Status.{Status}
 use Rattle.ymx_model.specs.declared.types.Status.TheVariants.{Running, Lost, Broken, Closed}
-use Rattle.ymx_model.specs.declared.types.Step.{Step}
-use Rattle.ymx_model.specs.declared.types.Step.TheVariants as step
-use Rattle.ymx_model.specs.declared.types.Answer.{Answer}
-use Rattle.ymx_model.specs.declared.types.Answer.TheVariants as answer
-use Rattle.ymx_model.specs.shared.Steps.{answer_of, is_of_a}
+use Rattle.ymx_machine.specs.declared.types.Step.{Step}
+use Rattle.ymx_machine.specs.declared.types.Step.TheVariants as step
+use Rattle.ymx_machine.specs.declared.types.Answer.{Answer}
+use Rattle.ymx_machine.specs.declared.types.Answer.TheVariants as answer
+use Rattle.ymx_machine.specs.shared.Steps.{answer_of, is_of_a}
 use Rattle.ymx_model.specs.session.Sessions.{Session, Incoming, is_deaf, is_running}
 use Rattle.ymx_model.specs.session.Feeds.{why_of}
 use Rattle.ymx_model.specs.session.Emissions.{Choice}
-use Rattle.ymx_model.specs.machine.Runs.{why_is_broken}
+use Rattle.ymx_machine.specs.machine.Runs.{why_is_broken}
 use Rattle.ymx_model.specs.world.Worlds.{World, StepOfA, Steps, pushed, mirror_world}
 use Rattle.ymx_model.specs.world.UnderWay.{IsOneFrame, IsUnderWay, held_bytes, lacking}
-use Rattle.ymx_model.proofs.Tests.{when}
+use Rattle.ymx_machine.proofs.Tests.{when}
 use Rattle.ymx_law_machine.proofs.lanes.StreamFacts.{if-so_true, if-so_false}
 use Rattle.ymx_law_session.specs.Limits.{IsWithin}
 use Rattle.ymx_law_world.specs.Texts.{AreWithin}
 use Rattle.ymx_law_world.proofs.Fed.{Follow, all-first, all-rest}
 use Rattle.ymx_headline.specs.Laws.{IsOpenWorld, IsOpenPipe, is_carriage, carries_bytes, breaks_off}
+use Rattle.ymx_headline.proofs.bounds.Loads.{any-order}
 use Rattle.ymx_headline.proofs.bounds.Bound.{Under, potential, carried, falls, gave, under-open, pushed-open}
 
 -- ---- the frames of a text
@@ -76,7 +77,7 @@ toward-is i rest frames f =
 
 -- the potential of a world, with the frames that its bytes tell
 pub potential_of : World → ℕ
-potential_of w = potential w (toward w.b.incoming (w.ab.bytes ++ w.a.outgoing.bytes)) (toward w.a.incoming (w.ba.bytes ++ w.b.outgoing.bytes))
+potential_of w = potential 1 w (toward w.b.incoming (w.ab.bytes ++ w.a.outgoing.bytes)) (toward w.a.incoming (w.ba.bytes ++ w.b.outgoing.bytes))
 
 is-running : (st : Status) → is_running st ≡ true → st ≡ Running
 is-running Running e = refl
@@ -84,11 +85,11 @@ is-running Lost e = absurd cc
 is-running (Broken f) e = absurd cc
 is-running Closed e = absurd cc
 
-potential-is : (w : World) (ab ba : List (List ℕ)) → IsOpenWorld w → Under w ab ba → potential_of w ≡ potential w ab ba
+potential-is : (w : World) (ab ba : List (List ℕ)) → IsOpenWorld w → Under w ab ba → potential_of w ≡ potential 1 w ab ba
 unfolding potential_of
 potential-is w ab ba o u =
-    ap (λ z. potential w z (toward w.a.incoming (w.ba.bytes ++ w.b.outgoing.bytes))) (toward-is w.b.incoming (w.ab.bytes ++ w.a.outgoing.bytes) ab (u.text_ab (is-running w.b.status o.b)))
-    ∙ ap (λ z. potential w ab z) (toward-is w.a.incoming (w.ba.bytes ++ w.b.outgoing.bytes) ba (u.text_ba (is-running w.a.status o.a)))
+    ap (λ z. potential 1 w z (toward w.a.incoming (w.ba.bytes ++ w.b.outgoing.bytes))) (toward-is w.b.incoming (w.ab.bytes ++ w.a.outgoing.bytes) ab (u.text_ab (is-running w.b.status o.b)))
+    ∙ ap (λ z. potential 1 w ab z) (toward-is w.a.incoming (w.ba.bytes ++ w.b.outgoing.bytes) ba (u.text_ba (is-running w.a.status o.a)))
 
 -- ---- an open world stays open
 
@@ -106,7 +107,7 @@ stays-open may (step.At side call) given w v c h o d sound s = absurd cc
 stays-open may (step.Stop direction) given w v c h o d sound s = absurd cc
 stays-open may (step.End direction) given w v c h o d sound s = absurd cc
 stays-open may (step.Emit side room) given w v c h o d sound s =
-    let g = gave may s.2.0 w.a s.1 h s.2.2.flows in
+    let g = gave 1 may (any-order may) s.2.0 w.a s.1 h s.2.2.flows in
     let on : IsOpenPipe (pushed s.0 w.ab) = subst IsOpenPipe (sym (pushed-open s.0 w.ab o.ab.on)) (record { on = o.ab.on; untold = o.ab.untold }) in
     subst IsOpenWorld (sym s.4) (record { a = ap is_running g.status ∙ o.a; b = o.b; ab = on; ba = o.ba })
 stays-open may (step.Deliver direction n) given w v c h o d sound s =
@@ -129,7 +130,7 @@ pub lowers : (may : Choice → Session → Bool) (st : Step) (given : Answer) (w
     is_carriage st ≡ true → breaks_off given ≡ false → Steps may st given w v → Lowers st given w v
 lowers may st given w v ab ba h o p q c sound s =
     let u = under-open w ab ba h o p q in
-    let f = falls may st given w v ab ba c u s in
+    let f = falls 1 may (any-order may) st given w v ab ba c u s in
     let on : IsOpenWorld v = elim (when (is_of_a st)) [
       | inl t ↦ stays-open may st given w v c h.a o f.under.awake_b sound (if-so_true _ _ _ t s)
       | inr t ↦ open-mirror (mirror_world v) (stays-open may st given (mirror_world w) (mirror_world v) c h.b (open-mirror w o) f.under.awake_a sound (if-so_false _ _ _ t s))

@@ -3,33 +3,33 @@ use Rattle.std.proofs.Common.{◌≡◌, ℕ, List, [], ◌∷◌, true, false, 
 use Rattle.std.specs.Prelude.{option_map}
 use Rattle.std.proofs.lemmas.Bool.Decides.{nat_tests}
 use Rattle.ymx_model.specs.declared.types.Role.{Role}
-use Rattle.ymx_model.specs.declared.types.Call.TheVariants as call
-use Rattle.ymx_model.specs.declared.types.Reply.{Reply}
-use Rattle.ymx_model.specs.declared.types.Reply.TheVariants.{Accepted}
-use Rattle.ymx_model.specs.declared.types.CallFault.TheVariants.{Lost, Closed}
+use Rattle.ymx_machine.specs.declared.types.Call.TheVariants as call
+use Rattle.ymx_machine.specs.declared.types.Reply.{Reply}
+use Rattle.ymx_machine.specs.declared.types.Reply.TheVariants.{Accepted}
+use Rattle.ymx_machine.specs.declared.types.CallFault.TheVariants.{Lost, Closed}
 use Rattle.ymx_model.specs.declared.types.Event.TheVariants as event
-use Rattle.ymx_model.specs.shared.Phases.{Phase, is_offered}
-use Rattle.ymx_model.specs.stream.Streams.{stream_accept}
-use Rattle.ymx_model.specs.shared.Phases.Phase.{Offered}
+use Rattle.ymx_machine.specs.shared.Phases.{Phase, is_offered}
+use Rattle.ymx_machine.specs.stream.Streams.{stream_accept}
+use Rattle.ymx_machine.specs.shared.Phases.Phase.{Offered}
 use Rattle.ymx_model.specs.session.Records.{End, end_accept}
-use Rattle.ymx_model.specs.shared.Lists.{look, change}
+use Rattle.ymx_machine.specs.shared.Lists.{look, change}
 use Rattle.ymx_model.specs.session.Tables.{with_record}
 use Rattle.ymx_model.specs.session.Sessions.{Session, is_lost, is_closed, on_stream}
 use Rattle.ymx_model.specs.session.Calls.{Outcome, outcome, refused, answers, accept_of}
 use Rattle.ymx_model.specs.session.Histories.{CallGives}
 use Rattle.ymx_model.specs.session.Histories.CallGives.{Outcome as HasOutcome, NoMemory}
 use Rattle.ymx_model.specs.world.Worlds.{World}
-use Rattle.ymx_model.specs.machine.Machines.{Machine}
-use Rattle.ymx_model.specs.machine.CallRules.{Rule, AcceptRule}
+use Rattle.ymx_machine.specs.machine.Machines.{Machine}
+use Rattle.ymx_machine.specs.machine.CallRules.{Rule, AcceptRule}
 use Rattle.ymx_law_stream.specs.Worlds.{Can, put}
 use Rattle.ymx_law_stream.specs.Worlds.Act.{Accepts}
 use Rattle.ymx_law_stream.proofs.Worlds.{step}
 use Rattle.ymx_law_session.specs.Limits.{IsWithin, is_listed, is_offered_at}
 use Rattle.ymx_law_session.specs.Settled.{IsSettled}
-use Rattle.ymx_model.proofs.Lists.{look-change_same, look-change_other}
+use Rattle.ymx_machine.proofs.Lists.{look-change_same, look-change_other}
 use Rattle.ymx_law_session.proofs.limits.HistoriesKeep.{gives-keep}
 use Rattle.ymx_law_session.proofs.given_up.SettledFrames.{gives-settled}
-use Rattle.ymx_model.proofs.Tests.{when}
+use Rattle.ymx_machine.proofs.Tests.{when}
 use Rattle.ymx_headline.specs.Agrees.{AgreesAs, IsNumbered, Keeps, found}
 use Rattle.ymx_headline.proofs.relation.Mirrors.{refines-same, order-call, parity}
 use Rattle.ymx_headline.proofs.relation.Tables.{change-found, keeps-put, table-changes, over-is}

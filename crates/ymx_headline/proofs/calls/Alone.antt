@@ -1,22 +1,22 @@
 -- What a call on a stream leaves of its session.
 use Rattle.std.proofs.Common.{◌≡◌, ℕ, Bool, true, false, not, ◌&&◌, ◌==◌, Option, None, Some, refl, sym, ap, subst, ◌∙◌}
-use Rattle.ymx_model.specs.declared.types.Reply.{Reply}
-use Rattle.ymx_model.specs.declared.types.Reply.TheVariants.{Refused}
-use Rattle.ymx_model.specs.declared.types.CallFault.{CallFault}
-use Rattle.ymx_model.specs.declared.types.CallFault.TheVariants.{NoStream, Closed}
-use Rattle.ymx_model.specs.shared.Phases.Phase.{WasReset}
-use Rattle.ymx_model.specs.stream.StreamRules.{StreamCall}
-use Rattle.ymx_model.specs.shared.Replies.{write_reply, read_reply, finish_reply, reset_reply, forget_reply, bytes_moved, is_done}
-use Rattle.ymx_model.specs.stream.StreamRules.StreamCall.{Writes, Reads, Finishes, Resets, Forgets}
+use Rattle.ymx_machine.specs.declared.types.Reply.{Reply}
+use Rattle.ymx_machine.specs.declared.types.Reply.TheVariants.{Refused}
+use Rattle.ymx_machine.specs.declared.types.CallFault.{CallFault}
+use Rattle.ymx_machine.specs.declared.types.CallFault.TheVariants.{NoStream, Closed}
+use Rattle.ymx_machine.specs.shared.Phases.Phase.{WasReset}
+use Rattle.ymx_machine.specs.stream.StreamRules.{StreamCall}
+use Rattle.ymx_machine.specs.shared.Replies.{write_reply, read_reply, finish_reply, reset_reply, forget_reply, bytes_moved, is_done}
+use Rattle.ymx_machine.specs.stream.StreamRules.StreamCall.{Writes, Reads, Finishes, Resets, Forgets}
 use Rattle.ymx_model.specs.session.Records.{End, end_finish, end_reset, end_forget}
-use Rattle.ymx_model.specs.shared.Lists.{look}
+use Rattle.ymx_machine.specs.shared.Lists.{look}
 use Rattle.ymx_model.specs.session.Tables.{remove_record}
 use Rattle.ymx_model.specs.session.Sessions.{Session, is_lost, is_closed, is_spent, on_stream, settle}
 use Rattle.ymx_model.specs.session.Calls.{Outcome, outcome, refused, at_record, at_stream, write_outcome, read_outcome, if_done, finish_outcome, reset_outcome, forget_outcome, takes_memory}
 use Rattle.ymx_model.specs.session.Histories.{CallGives}
 use Rattle.ymx_model.specs.session.Histories.CallGives.{Outcome as HasOutcome, NoMemory}
 use Rattle.ymx_law_session.specs.Refusals.{OthersSame, OnlyTable}
-use Rattle.ymx_model.proofs.Tests.{split}
+use Rattle.ymx_machine.proofs.Tests.{split}
 use Rattle.ymx_law_session.proofs.nothing_else.Others.{write-others, read-others, finish-others, reset-others, forget-others}
 use Rattle.ymx_law_session.proofs.nothing_else.Alone.{write-alone, read-alone, finish-alone, reset-alone, forget-alone}
 use Rattle.ymx_law_record.specs.Sides.{call_on}

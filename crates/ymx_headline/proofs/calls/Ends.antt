@@ -3,23 +3,23 @@ use Rattle.std.proofs.Common.{◌≡◌, ◌≢◌, ℕ, ◌%◌, List, Bool, tr
 use Rattle.ymx_model.specs.declared.types.Role.{Role}
 use Rattle.ymx_model.specs.declared.types.Status.{Status}
 use Rattle.ymx_model.specs.declared.types.Status.TheVariants.{Running, Lost, Broken, Closed}
-use Rattle.ymx_model.specs.declared.types.Direction.{Direction}
-use Rattle.ymx_model.specs.declared.types.Step.TheVariants as step
-use Rattle.ymx_model.specs.declared.types.Answer.{Answer}
+use Rattle.ymx_machine.specs.declared.types.Direction.{Direction}
+use Rattle.ymx_machine.specs.declared.types.Step.TheVariants as step
+use Rattle.ymx_machine.specs.declared.types.Answer.{Answer}
 use Rattle.ymx_model.specs.declared.types.Event.TheVariants as event
-use Rattle.ymx_model.specs.declared.types.Reply.TheVariants as reply
+use Rattle.ymx_machine.specs.declared.types.Reply.TheVariants as reply
 use Rattle.ymx_model.specs.session.Parts.{Part}
 use Rattle.ymx_model.specs.session.Sessions.{Session, is_running, is_lost, is_broken, is_closed}
 use Rattle.ymx_model.specs.session.Calls.{feed_end, status_input_ends}
 use Rattle.ymx_model.specs.session.Emissions.{Choice}
 use Rattle.ymx_model.specs.world.Worlds.{World, Pipe, StepOfA, stopped_now}
-use Rattle.ymx_model.specs.machine.Machines.{Machine, SideState}
-use Rattle.ymx_model.specs.machine.Runs.{MachineStepOfA, side_input_ends as side_ends}
+use Rattle.ymx_machine.specs.machine.Machines.{Machine, SideState}
+use Rattle.ymx_machine.specs.machine.Runs.{MachineStepOfA, side_input_ends as side_ends}
 use Rattle.ymx_law_stream.specs.Worlds.{StreamWorld as Streams, StreamSide as Ends, Streams as Found, flip_some, Refines, happens}
 use Rattle.ymx_law_stream.specs.Worlds.Act.{Ends as ActEnds}
 use Rattle.ymx_law_stream.specs.Worlds.Happening.{AtB}
 use Rattle.ymx_law_stream.proofs.Worlds.{step_at, mirrored-back}
-use Rattle.ymx_model.proofs.Tests.{split, when}
+use Rattle.ymx_machine.proofs.Tests.{split, when}
 use Rattle.ymx_law_session.proofs.limits.HistoriesKeep.{gives-keep}
 use Rattle.ymx_law_session.proofs.given_up.SettledFrames.{gives-settled}
 use Rattle.ymx_law_machine.proofs.lanes.StreamFacts.{if-so_true, if-so_false}

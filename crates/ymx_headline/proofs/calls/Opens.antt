@@ -5,38 +5,38 @@ use Rattle.std.proofs.lemmas.Grind.{common_steps}
 use Rattle.ymx_model.specs.declared.types.Role.{Role}
 use Rattle.ymx_model.specs.declared.types.Status.{Status}
 use Rattle.ymx_model.specs.declared.types.Status.TheVariants.{Running, Lost as LostStatus, Broken, Closed as ClosedStatus}
-use Rattle.ymx_model.specs.declared.types.Call.{Call}
-use Rattle.ymx_model.specs.declared.types.Call.TheVariants as call
-use Rattle.ymx_model.specs.declared.types.Reply.{Reply}
-use Rattle.ymx_model.specs.declared.types.Reply.TheVariants.{Opened, OpenedWith, Refused}
-use Rattle.ymx_model.specs.declared.types.CallFault.{CallFault}
-use Rattle.ymx_model.specs.declared.types.CallFault.TheVariants.{Lost, Closed, PeerAway, OpensPending, TooMany, Exhausted}
+use Rattle.ymx_machine.specs.declared.types.Call.{Call}
+use Rattle.ymx_machine.specs.declared.types.Call.TheVariants as call
+use Rattle.ymx_machine.specs.declared.types.Reply.{Reply}
+use Rattle.ymx_machine.specs.declared.types.Reply.TheVariants.{Opened, OpenedWith, Refused}
+use Rattle.ymx_machine.specs.declared.types.CallFault.{CallFault}
+use Rattle.ymx_machine.specs.declared.types.CallFault.TheVariants.{Lost, Closed, PeerAway, OpensPending, TooMany, Exhausted}
 use Rattle.ymx_model.specs.declared.types.Event.TheVariants as event
 use Rattle.ymx_model.specs.declared.types.Response.{Response}
-use Rattle.ymx_model.specs.shared.Limits.{first_credit, most_records, most_unacknowledged}
-use Rattle.ymx_model.specs.stream.Lanes.{is_here}
-use Rattle.ymx_model.specs.stream.Streams.{Stream, opened_stream, stream_write}
-use Rattle.ymx_model.specs.shared.Phases.Phase.{Unborn, Live}
+use Rattle.ymx_machine.specs.shared.Limits.{first_credit, most_records, most_unacknowledged}
+use Rattle.ymx_machine.specs.stream.Lanes.{is_here}
+use Rattle.ymx_machine.specs.stream.Streams.{Stream, opened_stream, stream_write}
+use Rattle.ymx_machine.specs.shared.Phases.Phase.{Unborn, Live}
 use Rattle.ymx_model.specs.session.Records.{End, new_end, end_write}
-use Rattle.ymx_model.specs.shared.Lists.{look}
+use Rattle.ymx_machine.specs.shared.Lists.{look}
 use Rattle.ymx_model.specs.session.Sessions.{Session, is_running, is_lost, is_closed}
 use Rattle.ymx_model.specs.session.Calls.{Outcome, outcome, refused, answers, open_or, session_opened, reply_opens, is_unacknowledged, takes_memory}
 use Rattle.ymx_model.specs.session.Histories.{CallGives}
 use Rattle.ymx_model.specs.session.Histories.CallGives.{Outcome as HasOutcome, NoMemory}
 use Rattle.ymx_model.specs.world.Worlds.{World}
-use Rattle.ymx_model.specs.machine.Machines.{Machine, recorded, unacknowledged}
-use Rattle.ymx_model.specs.machine.CallRules.{Rule, OpenSideRule, OpenRule, is_close, open_refusal, machine_opened as machine_opened}
+use Rattle.ymx_machine.specs.machine.Machines.{Machine, recorded, unacknowledged}
+use Rattle.ymx_machine.specs.machine.CallRules.{Rule, OpenSideRule, OpenRule, is_close, open_refusal, machine_opened as machine_opened}
 use Rattle.ymx_law_stream.specs.Worlds.{StreamWorld as Streams, Adds, Can, put}
 use Rattle.ymx_law_stream.specs.Worlds.Act.{Opens}
 use Rattle.ymx_law_stream.proofs.Worlds.{step}
 use Rattle.ymx_law_session.specs.Limits.{IsWithin}
 use Rattle.ymx_law_session.specs.Settled.{IsSettled}
-use Rattle.ymx_model.proofs.Lists.{look-added_same, look-added_other}
+use Rattle.ymx_machine.proofs.Lists.{look-added_same, look-added_other}
 use Rattle.ymx_law_session.proofs.limits.HistoriesKeep.{gives-keep}
 use Rattle.ymx_law_session.proofs.given_up.SettledFrames.{gives-settled}
 use Rattle.ymx_law_machine.proofs.order.Openers.{free}
 use Rattle.ymx_law_machine.proofs.order.Cores.{core}
-use Rattle.ymx_model.proofs.Tests.{when}
+use Rattle.ymx_machine.proofs.Tests.{when}
 use Rattle.ymx_headline.specs.Agrees.{AgreesAs, IsNumbered, Keeps, found, is_rejected}
 use Rattle.ymx_headline.proofs.relation.Mirrors.{refines-same, orders, order-call, parity}
 use Rattle.ymx_headline.proofs.relation.Tables.{add-found, keeps-put, table-changes}
@@ -78,7 +78,7 @@ open-is s o = ifs (is_closed s.status) (is_lost s.status) s.away.there (nat_le 4
 
 same-refusal : (x y : Role) (w : World) (m : Machine) (h : AgreesAs x y w m) → is_closed w.a.status ≡ false → open_refusal m ≡ refusal w.a
 same-refusal x y w m h c =
-    of m.me.closed m.me.lost (is_here m.you.away) m.me.next (unacknowledged m) (recorded m) h.a.whole.closed (h.a.whole.lost c) h.b.away.arrived h.a.whole.next (same-unacknowledged x y w m h) (same-recorded x y w m h)
+    of false m.me.lost (is_here m.you.away) m.me.next (unacknowledged m) (recorded m) (sym c) (h.a.whole.lost c) h.b.away.arrived h.a.whole.next (same-unacknowledged x y w m h) (same-recorded x y w m h)
   where
     of : (a b c : Bool) (d e f : ℕ) → a ≡ is_closed w.a.status → b ≡ is_lost w.a.status → c ≡ w.a.away.there → d ≡ w.a.next →
         e ≡ count_by (is_unacknowledged w.a.role) w.a.table.entries → f ≡ length w.a.table.entries → first_refusal a b c d e f ≡ refusal w.a

@@ -3,32 +3,32 @@ use Rattle.std.proofs.Common.{◌≡◌, ◌≢◌, ℕ, ◌+◌, ◌<◌, ◌^�
 use Rattle.std.specs.Prelude.{is_some}
 use Rattle.std.proofs.lemmas.List.{map-append, length-map}
 use Rattle.ymx_model.specs.declared.types.Role.{Role}
-use Rattle.ymx_model.specs.declared.types.Call.{Call}
-use Rattle.ymx_model.specs.declared.types.Call.TheVariants as call
-use Rattle.ymx_model.specs.declared.types.Reply.{Reply}
-use Rattle.ymx_model.specs.declared.types.Reply.TheVariants.{Pinged, Ponged}
-use Rattle.ymx_model.specs.declared.types.CallFault.TheVariants.{Lost, Closed, PingsPending}
+use Rattle.ymx_machine.specs.declared.types.Call.{Call}
+use Rattle.ymx_machine.specs.declared.types.Call.TheVariants as call
+use Rattle.ymx_machine.specs.declared.types.Reply.{Reply}
+use Rattle.ymx_machine.specs.declared.types.Reply.TheVariants.{Pinged, Ponged}
+use Rattle.ymx_machine.specs.declared.types.CallFault.TheVariants.{Lost, Closed, PingsPending}
 use Rattle.ymx_model.specs.declared.types.Event.TheVariants as event
 use Rattle.ymx_model.specs.declared.types.PingStage.TheVariants.{Asked as AskedStage}
 use Rattle.ymx_model.specs.session.Parts.{Part}
 use Rattle.ymx_model.specs.session.Pings.{Ping, Pings, free_from, is_pending, has_asked, has_back, next_number, ask, collect}
-use Rattle.ymx_model.specs.shared.Limits.{most_pings}
-use Rattle.ymx_model.specs.shared.Lists.{look, without, Distinct}
+use Rattle.ymx_machine.specs.shared.Limits.{most_pings}
+use Rattle.ymx_machine.specs.shared.Lists.{look, without, Distinct}
 use Rattle.ymx_model.specs.session.Sessions.{Session, is_lost, is_closed}
 use Rattle.ymx_model.specs.session.Calls.{Outcome, outcome, refused, answers}
 use Rattle.ymx_model.specs.session.Histories.{CallGives}
 use Rattle.ymx_model.specs.session.Histories.CallGives.{Outcome as HasOutcome, NoMemory}
 use Rattle.ymx_model.specs.world.Worlds.{World}
-use Rattle.ymx_model.specs.machine.Machines.{Machine, PingPlace}
-use Rattle.ymx_model.specs.machine.Machines.PingPlace.{Asked, There, Back}
-use Rattle.ymx_model.specs.machine.CallRules.{Rule, PingRule, PongedRule, ask_number, free_number, found_back}
+use Rattle.ymx_machine.specs.machine.Machines.{Machine, PingPlace}
+use Rattle.ymx_machine.specs.machine.Machines.PingPlace.{Asked, There, Back}
+use Rattle.ymx_machine.specs.machine.CallRules.{Rule, PingRule, PongedRule, ask_number, free_number, found_back}
 use Rattle.ymx_law_session.specs.Limits.{IsWithin, OncePending}
 use Rattle.ymx_law_session.specs.Settled.{IsSettled}
-use Rattle.ymx_model.proofs.Lists.{look-without_same, look-without_other, look-added_same, look-added_other, look-added_there}
+use Rattle.ymx_machine.proofs.Lists.{look-without_same, look-without_other, look-added_same, look-added_other, look-added_there}
 use Rattle.ymx_law_session.proofs.limits.HistoriesKeep.{gives-keep}
 use Rattle.ymx_law_session.proofs.limits.Pings.{pending-added, number-free}
 use Rattle.ymx_law_session.proofs.given_up.SettledFrames.{gives-settled}
-use Rattle.ymx_model.proofs.Tests.{same_or_not, agrees, when}
+use Rattle.ymx_machine.proofs.Tests.{same_or_not, agrees, when}
 use Rattle.ymx_headline.specs.Agrees.{AgreesAs, IsNumbered, SamePings, Sender, Receiver, Text, PingsUnderWay, sending, hearing, entry_number, number_of, count_in, asks, is_asked_at, is_there_at}
 use Rattle.ymx_headline.proofs.relation.Mirrors.{order-call, parity}
 use Rattle.ymx_headline.proofs.relation.Texts.{same-text, text-changes}

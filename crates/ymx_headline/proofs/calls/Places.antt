@@ -5,11 +5,11 @@ use Rattle.std.proofs.lemmas.Bool.Decides.{nat_tests}
 use Rattle.ymx_model.specs.declared.types.PingStage.{PingStage}
 use Rattle.ymx_model.specs.declared.types.PingStage.TheVariants.{Asked, Sent, Back}
 use Rattle.ymx_model.specs.session.Pings.{Ping, ping_is_asked, ping_is_back, is_pending, has_asked, has_back, staged, without_ping, number_after, free_from}
-use Rattle.ymx_model.specs.shared.Lists.{look, without, Distinct}
-use Rattle.ymx_model.specs.machine.Machines.{PingPlace}
-use Rattle.ymx_model.specs.machine.CallRules.{free_number}
+use Rattle.ymx_machine.specs.shared.Lists.{look, without, Distinct}
+use Rattle.ymx_machine.specs.machine.Machines.{PingPlace}
+use Rattle.ymx_machine.specs.machine.CallRules.{free_number}
 use Rattle.ymx_law_session.specs.Limits.{OncePending}
-use Rattle.ymx_model.proofs.Tests.{split, same_or_not}
+use Rattle.ymx_machine.proofs.Tests.{split, same_or_not}
 use Rattle.ymx_headline.specs.Agrees.{number_of, entry_number}
 
 pub placed : (places : List (ℕ × PingPlace)) (ps : List Ping) → map entry_number places ≡ map number_of ps → (n : ℕ) → is_some (look n places) ≡ is_pending n ps

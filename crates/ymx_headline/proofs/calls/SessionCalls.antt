@@ -2,15 +2,15 @@
 use Rattle.std.proofs.Common.{◌≡◌, ℕ, List, [], ◌++◌, Bool, true, false, not, ◌&&◌, ◌||◌, nat_lt, refl, sym, ap, subst, ◌∙◌, inl, inr}
 use Rattle.ymx_model.specs.declared.types.Role.{Role}
 use Rattle.ymx_model.specs.declared.types.Status.TheVariants.{Closed as ClosedStatus}
-use Rattle.ymx_model.specs.declared.types.Call.TheVariants as call
-use Rattle.ymx_model.specs.declared.types.Reply.{Reply}
-use Rattle.ymx_model.specs.declared.types.Reply.TheVariants.{Done}
-use Rattle.ymx_model.specs.declared.types.CallFault.TheVariants.{Lost, Closed}
+use Rattle.ymx_machine.specs.declared.types.Call.TheVariants as call
+use Rattle.ymx_machine.specs.declared.types.Reply.{Reply}
+use Rattle.ymx_machine.specs.declared.types.Reply.TheVariants.{Done}
+use Rattle.ymx_machine.specs.declared.types.CallFault.TheVariants.{Lost, Closed}
 use Rattle.ymx_model.specs.declared.types.Event.TheVariants as event
 use Rattle.ymx_model.specs.declared.types.GoAwayMark.{GoAwayMark}
 use Rattle.ymx_model.specs.declared.types.GoAwayMark.TheVariants.{Unsaid as NotSaid, Due, Sent}
-use Rattle.ymx_model.specs.stream.Lanes.{Mark, is_said}
-use Rattle.ymx_model.specs.stream.Lanes.Mark.{Unsaid, Said, Here}
+use Rattle.ymx_machine.specs.stream.Lanes.{Mark, is_said}
+use Rattle.ymx_machine.specs.stream.Lanes.Mark.{Unsaid, Said, Here}
 use Rattle.ymx_model.specs.session.Parts.{Part}
 use Rattle.ymx_model.specs.session.GoAway.{away_due, mark_said, say_away as session_says}
 use Rattle.ymx_model.specs.session.Sessions.{Session, is_running, is_lost, is_closed}
@@ -18,8 +18,8 @@ use Rattle.ymx_model.specs.session.Calls.{Outcome, outcome, refused, answers, cl
 use Rattle.ymx_model.specs.session.Histories.{CallGives}
 use Rattle.ymx_model.specs.session.Histories.CallGives.{Outcome as HasOutcome, NoMemory}
 use Rattle.ymx_model.specs.world.Worlds.{World, Pipe}
-use Rattle.ymx_model.specs.machine.Machines.{Machine}
-use Rattle.ymx_model.specs.machine.CallRules.{Rule, OpenSideRule, said_once}
+use Rattle.ymx_machine.specs.machine.Machines.{Machine}
+use Rattle.ymx_machine.specs.machine.CallRules.{Rule, OpenSideRule, said_once}
 use Rattle.ymx_law_stream.specs.Worlds.{StreamWorld as Streams, Streams as Found, Refines, acts}
 use Rattle.ymx_law_stream.specs.Worlds.Act.{Ends}
 use Rattle.ymx_law_stream.proofs.Worlds.{step}
@@ -27,7 +27,7 @@ use Rattle.ymx_law_session.specs.Limits.{IsWithin}
 use Rattle.ymx_law_session.specs.Settled.{IsSettled}
 use Rattle.ymx_law_session.proofs.limits.HistoriesKeep.{gives-keep}
 use Rattle.ymx_law_session.proofs.given_up.SettledFrames.{gives-settled}
-use Rattle.ymx_model.proofs.Tests.{both_of, when}
+use Rattle.ymx_machine.proofs.Tests.{both_of, when}
 use Rattle.ymx_headline.specs.Agrees.{AgreesAs, IsNumbered, SameAway, Sender, Receiver, Text, AwayUnderWay, sending, hearing, arrives, found, count_in, is_go_away}
 use Rattle.ymx_headline.proofs.relation.Mirrors.{refines-same, order-call, parity}
 use Rattle.ymx_headline.proofs.relation.Texts.{same-text, text-changes}

@@ -1,27 +1,27 @@
 -- A call on a stream is the machine's call, and a record that went is a release.
 use Rattle.std.proofs.Common.{◌≡◌, ℕ, List, [], ◌∷◌, Bool, true, false, not, ◌&&◌, ◌||◌, Option, None, Some, refl, sym, ap, subst, ◌∙◌, if◌then◌else◌, arith, inl, inr}
 use Rattle.ymx_model.specs.declared.types.Role.{Role}
-use Rattle.ymx_model.specs.declared.types.Call.{Call}
-use Rattle.ymx_model.specs.declared.types.Reply.{Reply}
-use Rattle.ymx_model.specs.declared.types.CallFault.TheVariants.{Closed}
+use Rattle.ymx_machine.specs.declared.types.Call.{Call}
+use Rattle.ymx_machine.specs.declared.types.Reply.{Reply}
+use Rattle.ymx_machine.specs.declared.types.CallFault.TheVariants.{Closed}
 use Rattle.ymx_model.specs.declared.types.Event.TheVariants as event
-use Rattle.ymx_model.specs.shared.Phases.{Phase, is_recorded, is_live, is_reset}
-use Rattle.ymx_model.specs.stream.Streams.{Stream, after_move}
-use Rattle.ymx_model.specs.shared.Phases.Phase.{WasReset, Lingering, Gone}
-use Rattle.ymx_model.specs.stream.Streams.Move.{Released}
-use Rattle.ymx_model.specs.stream.StreamRules.{StreamCall}
+use Rattle.ymx_machine.specs.shared.Phases.{Phase, is_recorded, is_live, is_reset}
+use Rattle.ymx_machine.specs.stream.Streams.{Stream, after_move}
+use Rattle.ymx_machine.specs.shared.Phases.Phase.{WasReset, Lingering, Gone}
+use Rattle.ymx_machine.specs.stream.Streams.Move.{Released}
+use Rattle.ymx_machine.specs.stream.StreamRules.{StreamCall}
 use Rattle.std.specs.Prelude.{MatchBool}
-use Rattle.ymx_model.specs.shared.Replies.{is_done}
-use Rattle.ymx_model.specs.stream.StreamRules.StreamCall.{Writes, Reads, Finishes, Resets, Forgets}
+use Rattle.ymx_machine.specs.shared.Replies.{is_done}
+use Rattle.ymx_machine.specs.stream.StreamRules.StreamCall.{Writes, Reads, Finishes, Resets, Forgets}
 use Rattle.ymx_model.specs.session.Records.{End, end_finish, end_reset, end_forget}
 use Rattle.ymx_model.specs.session.FramesDue.{next_kind}
-use Rattle.ymx_model.specs.shared.Lists.{look, change}
+use Rattle.ymx_machine.specs.shared.Lists.{look, change}
 use Rattle.ymx_model.specs.session.Sessions.{Session, is_lost, is_closed}
 use Rattle.ymx_model.specs.session.Histories.{CallGives}
 use Rattle.ymx_model.specs.world.Worlds.{World}
-use Rattle.ymx_model.specs.machine.Machines.{Machine}
-use Rattle.ymx_model.specs.machine.CallRules.{Rule, RefusedWith, OpenSideRule, OnStream, is_close}
-use Rattle.ymx_model.specs.machine.FreeMoves.{Releases as ReleasesOf}
+use Rattle.ymx_machine.specs.machine.Machines.{Machine}
+use Rattle.ymx_machine.specs.machine.CallRules.{Rule, RefusedWith, OpenSideRule, OnStream, is_close}
+use Rattle.ymx_machine.specs.machine.FreeMoves.{Releases as ReleasesOf}
 use Rattle.ymx_law_stream.specs.Answers.{EndRule, end_released}
 use Rattle.ymx_law_stream.specs.Worlds.{StreamWorld as Streams, Can, acts, put}
 use Rattle.ymx_law_stream.specs.Worlds.Act.{Calls, Releases}
@@ -29,7 +29,7 @@ use Rattle.ymx_law_stream.proofs.Nothing.{absent-end}
 use Rattle.ymx_law_stream.proofs.Worlds.{step, put-same, put-other}
 use Rattle.ymx_law_session.specs.Limits.{IsWithin}
 use Rattle.ymx_law_session.specs.Settled.{IsSettled}
-use Rattle.ymx_model.proofs.Tests.{split, when}
+use Rattle.ymx_machine.proofs.Tests.{split, when}
 use Rattle.ymx_law_session.proofs.limits.HistoriesKeep.{gives-keep}
 use Rattle.ymx_law_session.proofs.given_up.SettledFrames.{gives-settled}
 use Rattle.ymx_law_record.specs.Sides.{call_on, Has}

@@ -6,24 +6,24 @@ use Rattle.ymx_model.specs.declared.types.Role.{Role}
 use Rattle.ymx_model.specs.declared.types.Response.{Response}
 use Rattle.ymx_model.specs.declared.types.Status.{Status}
 use Rattle.ymx_model.specs.declared.types.Status.TheVariants.{Running}
-use Rattle.ymx_model.specs.shared.Phases.{Phase, takes}
+use Rattle.ymx_machine.specs.shared.Phases.{Phase, takes}
 use Rattle.ymx_model.specs.session.Records.{End, receive_piece}
 use Rattle.ymx_model.specs.session.Parts.{Part}
 use Rattle.ymx_model.specs.session.Parts.Part.{Data, Fin}
 use Rattle.ymx_model.specs.session.Tables.{Table, with_record}
-use Rattle.ymx_model.specs.shared.Lists.{look, change}
+use Rattle.ymx_machine.specs.shared.Lists.{look, change}
 use Rattle.ymx_model.specs.session.Sessions.{Session, Incoming, is_running, is_lost, is_closed}
 use Rattle.ymx_model.specs.session.Sessions.Incoming.{Head, Payload}
 use Rattle.ymx_model.specs.session.Feeds.{Takes, is_stuck, byte_comes, byte_in, starves}
 use Rattle.ymx_model.specs.world.Worlds.{World, Pipe}
 use Rattle.ymx_model.specs.world.UnderWay.{held_bytes, lacking}
-use Rattle.ymx_model.specs.machine.Machines.{Machine, hears}
-use Rattle.ymx_model.specs.machine.FreeMoves.{FreeMove, FreeMoves}
+use Rattle.ymx_machine.specs.machine.Machines.{Machine, hears}
+use Rattle.ymx_machine.specs.machine.FreeMoves.{FreeMove, FreeMoves}
 use Rattle.ymx_law_stream.specs.Worlds.{StreamWorld as Streams, put, put_end, tagged}
 use Rattle.ymx_law_session.specs.Limits.{IsWithin}
 use Rattle.ymx_law_session.specs.Settled.{IsSettled}
-use Rattle.ymx_model.proofs.Tests.{split, not_lt}
-use Rattle.ymx_model.proofs.Lists.{look-change_same, look-change_other}
+use Rattle.ymx_machine.proofs.Tests.{split, not_lt}
+use Rattle.ymx_machine.proofs.Lists.{look-change_same, look-change_other}
 use Rattle.ymx_law_session.proofs.limits.FeedsKeep.{takes-keep}
 use Rattle.ymx_law_session.proofs.given_up.SettledFrames.{takes-settled}
 use Rattle.ymx_law_record.specs.Sides.{all_come}

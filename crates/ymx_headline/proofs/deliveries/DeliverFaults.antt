@@ -4,17 +4,17 @@ use Rattle.std.proofs.lemmas.Bool.Decides.{nat_tests}
 use Rattle.ymx_header.proofs.Frames.{no-fault-here}
 use Rattle.ymx_header.specs.declared.header.Header.{Header}
 use Rattle.ymx_header.specs.Headers.{has_syn, has_ack, has_fin, has_rst}
-use Rattle.ymx_model.specs.shared.Limits.{first_credit}
-use Rattle.ymx_model.specs.shared.Phases.{takes}
+use Rattle.ymx_machine.specs.shared.Limits.{first_credit}
+use Rattle.ymx_machine.specs.shared.Phases.{takes}
 use Rattle.ymx_model.specs.session.Records.{End, takes_payload, receive_credit, receive_ack}
 use Rattle.ymx_model.specs.session.Parts.{Part}
 use Rattle.ymx_model.specs.session.Parts.Part.{Ack, Data, Credit, Fin}
-use Rattle.ymx_model.specs.shared.Lists.{look}
+use Rattle.ymx_machine.specs.shared.Lists.{look}
 use Rattle.ymx_model.specs.session.Sessions.{Session, is_own}
 use Rattle.ymx_model.specs.session.Arrivals.{is_data, payload, delta, record_fault, header_fault, syn_fault, offer}
 use Rattle.ymx_law_record.specs.Sides.{frame_says}
 use Rattle.ymx_law_record.proofs.Comes.{data-delta, no-delta}
-use Rattle.ymx_model.proofs.Tests.{both_of}
+use Rattle.ymx_machine.proofs.Tests.{both_of}
 use Rattle.ymx_headline.proofs.deliveries.DeliverMoves.{AllBreakNothing}
 
 -- ---- a header by itself

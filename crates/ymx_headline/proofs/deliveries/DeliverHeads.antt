@@ -13,7 +13,7 @@ use Rattle.ymx_law_stream.specs.Arrivals.{comes_to}
 use Rattle.ymx_law_stream.specs.Worlds.{tagged}
 use Rattle.ymx_law_record.specs.Sides.{opening, rest_parts, all_come}
 use Rattle.ymx_law_record.proofs.Comes.{credited, come-append, opening-comes, rest-if, head-alone, head-before, no-payload, no-bytes, own-ack}
-use Rattle.ymx_model.proofs.Tests.{split, agrees}
+use Rattle.ymx_machine.proofs.Tests.{split, agrees}
 use Rattle.ymx_headline.specs.Agrees.{parts_left, is_absent, OnlyRejects}
 use Rattle.ymx_headline.proofs.deliveries.DeliverMoves.{Plain}
 use Rattle.ymx_headline.proofs.deliveries.DeliverTexts.{awaited}

@@ -1,18 +1,18 @@
 -- What comes of a stream is moves of the machine.
-use Rattle.std.proofs.Common.{◌≡◌, ℕ, ◌+◌, List, [], ◌∷◌, ◌++◌, map, take, Bool, true, false, ◌||◌, if◌then◌else◌, None, Some, refl, sym, ap, subst, ◌∙◌, inl, inr, arith}
+use Rattle.std.proofs.Common.{◌≡◌, ℕ, ◌+◌, List, [], ◌∷◌, ◌++◌, map, take, Bool, true, false, ◌&&◌, ◌||◌, if◌then◌else◌, None, Some, refl, sym, ap, subst, ◌∙◌, inl, inr, arith}
 use Rattle.std.proofs.lemmas.Bool.Decides.{nat_tests}
-use Rattle.ymx_model.specs.shared.Phases.{Phase, struck, is_offered}
-use Rattle.ymx_model.specs.stream.Streams.{Stream, Move, after_move, Moves}
-use Rattle.ymx_model.specs.stream.Streams.Move.{Arrive, EndArrives, Return, SynOffered, SynRefused, AckArrives, ResetArrives, Released}
-use Rattle.ymx_model.specs.shared.Phases.Phase.{Lingering}
+use Rattle.ymx_machine.specs.shared.Phases.{Phase, struck, is_offered}
+use Rattle.ymx_machine.specs.stream.Streams.{Stream, Move, after_move, Moves}
+use Rattle.ymx_machine.specs.stream.Streams.Move.{Arrive, EndArrives, Return, SynOffered, SynRefused, AckArrives, ResetArrives, Released}
+use Rattle.ymx_machine.specs.shared.Phases.Phase.{Lingering}
 use Rattle.ymx_model.specs.session.Records.{End, receive_data}
 use Rattle.ymx_model.specs.session.FramesDue.{next_kind}
 use Rattle.ymx_model.specs.session.Parts.{Part}
 use Rattle.ymx_model.specs.session.Parts.Part.{Syn, Ack, Data, Credit, Fin, Rst}
-use Rattle.ymx_model.specs.shared.Lists.{look, change, drop_id}
-use Rattle.ymx_model.specs.machine.Machines.{Machine, hears}
-use Rattle.ymx_model.specs.machine.FreeMoves.{FreeMove, FreeMoves, moved_by, counted_by, move_is_syn as is_syn_move, is_reset_arriving, machine_refuses}
-use Rattle.ymx_model.specs.machine.FreeMoves.FreeMove.{OfStream, SynArrives}
+use Rattle.ymx_machine.specs.shared.Lists.{look, change, drop_id}
+use Rattle.ymx_machine.specs.machine.Machines.{Machine, hears}
+use Rattle.ymx_machine.specs.machine.FreeMoves.{FreeMove, FreeMoves, moved_by, counted_by, move_is_syn as is_syn_move, is_reset_arriving, machine_refuses}
+use Rattle.ymx_machine.specs.machine.FreeMoves.FreeMove.{OfStream, SynArrives}
 use Rattle.ymx_law_stream.specs.Flight.{load, part_is_syn, part_is_rst}
 use Rattle.ymx_law_stream.specs.Arrivals.{comes_to, MovesOf}
 use Rattle.ymx_law_stream.specs.Faults.{BreaksNothing}
@@ -22,7 +22,7 @@ use Rattle.ymx_law_stream.specs.Worlds.Act.{Comes, ComesIn, Releases as ActRelea
 use Rattle.ymx_law_stream.proofs.Worlds.{step, put-same, put-other}
 use Rattle.ymx_law_stream.proofs.OneStream.{one-shows}
 use Rattle.ymx_law_session.specs.Limits.{is_listed}
-use Rattle.ymx_model.proofs.Tests.{same_or_not}
+use Rattle.ymx_machine.proofs.Tests.{same_or_not}
 use Rattle.ymx_law_record.specs.Sides.{all_come}
 use Rattle.ymx_law_machine.proofs.order.Maps.{look-change, look-change_other}
 use Rattle.ymx_headline.specs.Agrees.{found}
@@ -343,9 +343,9 @@ one-change id f was now m n c e i = elim (same_or_not i id) [
   | inr d ↦ look-change_other i id f m.streams d ∙ sym (c.others i d)
 ]
 
-pub syn-refused : (counted : Bool) (id d : ℕ) (more : List (ℕ × Part)) (g : Streams) (m : Machine) → hears m ≡ true → (machine_refuses m || counted) ≡ true → LawStep true id (Syn d) more g m →
+pub syn-refused : (counted : Bool) (id d : ℕ) (more : List (ℕ × Part)) (g : Streams) (m : Machine) → hears m ≡ true → (machine_refuses m || counted) ≡ true → (counted && machine_refuses m) ≡ false → LawStep true id (Syn d) more g m →
     Arrives (syn_came true id d more g) m (counted_by (SynArrives id counted)) m.me.offered
-syn-refused counted id d more g m h refused k =
+syn-refused counted id d more g m h refused alone k =
     let went : Moves (SynRefused ∷ []) k.was k.now = subst (λ z. Moves z k.was k.now) k.are k.went in
     let streams : List (ℕ × Stream) = change id (after_move SynRefused) m.streams in
     let n : Machine = record m { streams = streams } in
@@ -353,7 +353,7 @@ syn-refused counted id d more g m h refused k =
     record {
       streams = streams;
       moves = SynArrives id counted ∷ [];
-      did = ((h, (k.was, k.there, went.0)), (0, omega arith, (sym is, refl)));
+      did = ((h, (k.was, k.there, went.0), alone), (0, omega arith, (sym is, refl)));
       refines = refines-same _ k.later _ (one-change id (after_move SynRefused) k.was k.now m k.later k.changes went.1) k.refines;
     }
 
@@ -374,7 +374,7 @@ syn-offered id d more g m h room k =
     record {
       streams = s.streams;
       moves = SynArrives id false ∷ OfStream id (Return d) ∷ [];
-      did = ((h, (k.was, k.there, went.0)), (0, refl, subst (λ z. FreeMoves (OfStream id (Return d) ∷ []) z 0 last) (sym is) s.did));
+      did = ((h, (k.was, k.there, went.0), refl), (0, refl, subst (λ z. FreeMoves (OfStream id (Return d) ∷ []) z 0 last) (sym is) s.did));
       refines = refines-same _ k.later _ (changes-same id k.was k.now (found m) k.later _ k.changes changed) k.refines;
     }
 

@@ -10,19 +10,19 @@ use Rattle.ymx_model.specs.declared.types.Response.TheVariants.{Pong, Reject}
 use Rattle.ymx_model.specs.declared.types.PingStage.TheVariants.{Back as BackStage}
 use Rattle.ymx_model.specs.session.Parts.{Part}
 use Rattle.ymx_model.specs.session.Pings.{Ping, Pings, is_pending, has_back, has_asked, staged, receive_answer}
-use Rattle.ymx_model.specs.shared.Lists.{look, change}
+use Rattle.ymx_machine.specs.shared.Lists.{look, change}
 use Rattle.ymx_model.specs.session.Sessions.{Session}
 use Rattle.ymx_model.specs.session.Sessions.Incoming.{Head}
 use Rattle.ymx_model.specs.session.Arrivals.{head_comes}
 use Rattle.ymx_model.specs.session.Feeds.{byte_comes, starves}
 use Rattle.ymx_model.specs.world.Worlds.{World}
-use Rattle.ymx_model.specs.machine.Machines.{Machine, PingPlace}
-use Rattle.ymx_model.specs.machine.Machines.PingPlace.{Asked, There, Back}
-use Rattle.ymx_model.specs.machine.CallRules.{found_back}
-use Rattle.ymx_model.specs.machine.FreeMoves.FreeMove.{PingThere, PingBack}
+use Rattle.ymx_machine.specs.machine.Machines.{Machine, PingPlace}
+use Rattle.ymx_machine.specs.machine.Machines.PingPlace.{Asked, There, Back}
+use Rattle.ymx_machine.specs.machine.CallRules.{found_back}
+use Rattle.ymx_machine.specs.machine.FreeMoves.FreeMove.{PingThere, PingBack}
 use Rattle.ymx_law_session.specs.Limits.{IsWithin}
 use Rattle.ymx_law_session.specs.Settled.{IsSettled}
-use Rattle.ymx_model.proofs.Tests.{same_or_not}
+use Rattle.ymx_machine.proofs.Tests.{same_or_not}
 use Rattle.ymx_law_session.proofs.limits.Pings.{pending-staged}
 use Rattle.ymx_law_machine.proofs.order.Maps.{look-change, look-change_other}
 use Rattle.ymx_headline.specs.Agrees.{AgreesAs, RejectsOnce, SamePings, Sender, Receiver, Text, PingsUnderWay, PongsUnderWay, pongs_of, sending, hearing, is_rejected, is_asked_at, is_there_at, number_of, entry_number, asks, replies, is_go_away, count_in, pongs}

@@ -5,24 +5,24 @@ use Rattle.ymx_header.specs.declared.header.Header.{Header}
 use Rattle.ymx_header.specs.Headers.{header_of, has_syn, has_ack, has_rst}
 use Rattle.ymx_model.specs.declared.types.Role.{Role}
 use Rattle.ymx_model.specs.declared.types.Response.{Response}
-use Rattle.ymx_model.specs.shared.Phases.{Phase, is_offered, is_lingering, is_refused, struck}
-use Rattle.ymx_model.specs.shared.Phases.Phase.{Refused, Gone}
+use Rattle.ymx_machine.specs.shared.Phases.{Phase, is_offered, is_lingering, is_refused, struck}
+use Rattle.ymx_machine.specs.shared.Phases.Phase.{Refused, Gone}
 use Rattle.ymx_model.specs.session.Records.{End, Writer, Marks, dead_writer, only_due, receive_rst}
 use Rattle.ymx_model.specs.session.FramesDue.{is_due, next_kind}
 use Rattle.ymx_model.specs.session.Parts.Part.{Rst}
 use Rattle.ymx_model.specs.session.Tables.{Table, with_record, remove_record}
-use Rattle.ymx_model.specs.shared.Lists.{look, change, without, drop_id}
+use Rattle.ymx_machine.specs.shared.Lists.{look, change, without, drop_id}
 use Rattle.ymx_model.specs.session.Sessions.{Session, is_own, belongs_to, is_spent, on_stream, settle}
 use Rattle.ymx_model.specs.session.Sessions.Incoming.{Head}
 use Rattle.ymx_model.specs.session.Arrivals.{expects, acknowledges, meets, meets_some, head_comes, reset_comes, record_fault}
 use Rattle.ymx_model.specs.session.Feeds.{byte_comes, starves}
 use Rattle.ymx_model.specs.world.Worlds.{World}
-use Rattle.ymx_model.specs.machine.Machines.{Machine}
+use Rattle.ymx_machine.specs.machine.Machines.{Machine}
 use Rattle.ymx_law_stream.specs.Answers.{end_released}
 use Rattle.ymx_law_stream.specs.Worlds.{StreamWorld as Streams, put, put_end, tagged}
 use Rattle.ymx_law_session.specs.Limits.{is_offered_at, is_listed}
-use Rattle.ymx_model.proofs.Tests.{both_of, when}
-use Rattle.ymx_model.proofs.Lists.{look-change_same, look-change_other, look-without_same, look-without_other, distinct-change}
+use Rattle.ymx_machine.proofs.Tests.{both_of, when}
+use Rattle.ymx_machine.proofs.Lists.{look-change_same, look-change_other, look-without_same, look-without_other, distinct-change}
 use Rattle.ymx_law_record.specs.Sides.{frame_says}
 use Rattle.ymx_headline.specs.Agrees.{AgreesAs, Keeps, OnlyRejects, IsPlain, all_parts, is_absent, is_rejected}
 use Rattle.ymx_headline.proofs.relation.Tables.{keeps-put}

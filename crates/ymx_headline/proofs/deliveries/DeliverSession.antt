@@ -6,21 +6,21 @@ use Rattle.ymx_header.specs.Headers.{header_of}
 use Rattle.ymx_model.specs.declared.types.Role.{Role}
 use Rattle.ymx_model.specs.declared.types.Response.{Response}
 use Rattle.ymx_model.specs.declared.types.GoAwayMark.TheVariants.{Sent}
-use Rattle.ymx_model.specs.stream.Lanes.{Mark, is_unsaid}
-use Rattle.ymx_model.specs.stream.Lanes.Mark.{Said, Here}
+use Rattle.ymx_machine.specs.stream.Lanes.{Mark, is_unsaid}
+use Rattle.ymx_machine.specs.stream.Lanes.Mark.{Said, Here}
 use Rattle.ymx_model.specs.session.Records.{End}
 use Rattle.ymx_model.specs.session.Parts.{Part}
 use Rattle.ymx_model.specs.session.Pings.{Pings}
 use Rattle.ymx_model.specs.session.GoAway.{Away, receive_away}
-use Rattle.ymx_model.specs.shared.Lists.{look}
+use Rattle.ymx_machine.specs.shared.Lists.{look}
 use Rattle.ymx_model.specs.session.Sessions.{Session}
 use Rattle.ymx_model.specs.session.Sessions.Incoming.{Head}
 use Rattle.ymx_model.specs.session.Arrivals.{payload, head_comes}
 use Rattle.ymx_model.specs.session.Feeds.{byte_comes, starves}
 use Rattle.ymx_model.specs.world.Worlds.{World}
-use Rattle.ymx_model.specs.machine.Machines.{Machine, PingPlace}
-use Rattle.ymx_model.specs.machine.FreeMoves.{FreeMove, FreeMoves}
-use Rattle.ymx_model.specs.machine.FreeMoves.FreeMove.{AwayArrives}
+use Rattle.ymx_machine.specs.machine.Machines.{Machine, PingPlace}
+use Rattle.ymx_machine.specs.machine.FreeMoves.{FreeMove, FreeMoves}
+use Rattle.ymx_machine.specs.machine.FreeMoves.FreeMove.{AwayArrives}
 use Rattle.ymx_law_session.specs.Limits.{IsWithin}
 use Rattle.ymx_law_session.specs.Settled.{IsSettled}
 use Rattle.ymx_headline.specs.Agrees.{AgreesAs, Keeps, OnlyRejects, RejectsOnce, SamePings, SameAway, IsPlain, Sender, Text, AwayUnderWay, PingsUnderWay, PongsUnderWay, sending, hearing, parts_in, all_parts, parts_left, is_rejected, is_go_away, count_in, pongs}

@@ -5,24 +5,24 @@ use Rattle.std.proofs.lemmas.List.{take-take}
 use Rattle.ymx_header.specs.declared.header.Header.{Header}
 use Rattle.ymx_header.specs.Headers.{header_of, has_syn, has_rst}
 use Rattle.ymx_model.specs.declared.types.Role.{Role}
-use Rattle.ymx_model.specs.declared.types.Direction.{Direction}
-use Rattle.ymx_model.specs.declared.types.Step.TheVariants as step
-use Rattle.ymx_model.specs.declared.types.Answer.{Answer}
+use Rattle.ymx_machine.specs.declared.types.Direction.{Direction}
+use Rattle.ymx_machine.specs.declared.types.Step.TheVariants as step
+use Rattle.ymx_machine.specs.declared.types.Answer.{Answer}
 use Rattle.ymx_model.specs.declared.types.Status.{Status}
 use Rattle.ymx_model.specs.declared.types.Status.TheVariants.{Running, Lost, Broken, Closed}
-use Rattle.ymx_model.specs.declared.types.Fed.{Fed}
+use Rattle.ymx_machine.specs.declared.types.Fed.{Fed}
 use Rattle.ymx_model.specs.session.Records.{End}
-use Rattle.ymx_model.specs.shared.Lists.{look}
+use Rattle.ymx_machine.specs.shared.Lists.{look}
 use Rattle.ymx_model.specs.session.Sessions.{Session, Incoming, is_deaf, is_running, is_broken}
 use Rattle.ymx_model.specs.session.Sessions.Incoming.{Head, Payload}
 use Rattle.ymx_model.specs.session.Feeds.{Takes, Feeds, is_stuck, byte_comes, starves, why_of}
 use Rattle.ymx_model.specs.session.Emissions.{Choice}
 use Rattle.ymx_model.specs.world.Worlds.{World, Steps, fed_count, without_front, mirror_world as world_mirror}
-use Rattle.ymx_model.specs.shared.Steps.{answer_of}
-use Rattle.ymx_model.specs.machine.Machines.{Machine, mirror_machine}
-use Rattle.ymx_model.specs.machine.Runs.{why_is_broken as is_broken_why}
-use Rattle.ymx_model.specs.machine.FreeMoves.{FreeMoves}
-use Rattle.ymx_model.proofs.Tests.{differs, agrees, when}
+use Rattle.ymx_machine.specs.shared.Steps.{answer_of}
+use Rattle.ymx_machine.specs.machine.Machines.{Machine, mirror_machine}
+use Rattle.ymx_machine.specs.machine.Runs.{why_is_broken as is_broken_why}
+use Rattle.ymx_machine.specs.machine.FreeMoves.{FreeMoves}
+use Rattle.ymx_machine.proofs.Tests.{differs, agrees, when}
 use Rattle.ymx_law_session.proofs.limits.FeedsKeep.{payload_some}
 use Rattle.ymx_headline.specs.Agrees.{Agrees, AgreesAs, Follows}
 use Rattle.ymx_headline.proofs.relation.Mirrors.{mirrors-agree}

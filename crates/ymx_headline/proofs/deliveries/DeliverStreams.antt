@@ -7,22 +7,22 @@ use Rattle.ymx_header.specs.Headers.{header_of, has_syn, has_fin, has_rst}
 use Rattle.ymx_header.specs.declared.fault.Fault.{Fault}
 use Rattle.ymx_model.specs.declared.types.Role.{Role}
 use Rattle.ymx_model.specs.declared.types.Response.{Response}
-use Rattle.ymx_model.specs.shared.Limits.{first_credit}
+use Rattle.ymx_machine.specs.shared.Limits.{first_credit}
 use Rattle.ymx_model.specs.session.Records.{End}
 use Rattle.ymx_model.specs.session.Parts.{Part}
 use Rattle.ymx_model.specs.session.Tables.{Table, with_record}
-use Rattle.ymx_model.specs.shared.Lists.{look, change}
+use Rattle.ymx_machine.specs.shared.Lists.{look, change}
 use Rattle.ymx_model.specs.session.Sessions.{Session, is_own, on_stream}
 use Rattle.ymx_model.specs.session.Sessions.Incoming.{Head, Payload}
 use Rattle.ymx_model.specs.session.Arrivals.{payload, expects, take_head, meets, meets_some, unless_fault, header_fault, head_comes, is_starved, record_fault}
 use Rattle.ymx_model.specs.session.Feeds.{byte_comes, starves}
 use Rattle.ymx_model.specs.world.Worlds.{World}
-use Rattle.ymx_model.specs.machine.Machines.{Machine}
+use Rattle.ymx_machine.specs.machine.Machines.{Machine}
 use Rattle.ymx_law_stream.specs.Worlds.{put, put_end, tagged}
 use Rattle.ymx_law_session.specs.Limits.{IsWithin}
 use Rattle.ymx_law_session.specs.Settled.{IsSettled}
-use Rattle.ymx_model.proofs.Tests.{agrees}
-use Rattle.ymx_model.proofs.Lists.{look-change_same, look-change_other}
+use Rattle.ymx_machine.proofs.Tests.{agrees}
+use Rattle.ymx_machine.proofs.Lists.{look-change_same, look-change_other}
 use Rattle.ymx_law_record.specs.Sides.{opening, rest_parts, frame_says, all_come}
 use Rattle.ymx_headline.specs.Agrees.{AgreesAs, Keeps, RejectsOnce, Text, sending, hearing, parts_in, all_parts, parts_left, pongs, is_rejected}
 use Rattle.ymx_headline.proofs.relation.Tables.{keeps-put}

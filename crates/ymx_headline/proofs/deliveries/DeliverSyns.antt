@@ -6,31 +6,31 @@ use Rattle.ymx_header.specs.Headers.{header_of, has_syn, has_fin, has_rst}
 use Rattle.ymx_model.specs.declared.types.Role.{Role}
 use Rattle.ymx_model.specs.declared.types.Response.{Response}
 use Rattle.ymx_model.specs.declared.types.Response.TheVariants.{Pong, Reject}
-use Rattle.ymx_model.specs.stream.Lanes.{is_unsaid}
-use Rattle.ymx_model.specs.shared.Limits.{first_credit}
-use Rattle.ymx_model.specs.stream.Streams.{Stream}
-use Rattle.ymx_model.specs.shared.Phases.{is_recorded}
-use Rattle.ymx_model.specs.shared.Phases.Phase.{Unborn, Offered, Refused}
+use Rattle.ymx_machine.specs.stream.Lanes.{is_unsaid}
+use Rattle.ymx_machine.specs.shared.Limits.{first_credit}
+use Rattle.ymx_machine.specs.stream.Streams.{Stream}
+use Rattle.ymx_machine.specs.shared.Phases.{is_recorded}
+use Rattle.ymx_machine.specs.shared.Phases.Phase.{Unborn, Offered, Refused}
 use Rattle.ymx_model.specs.session.Records.{End, new_end, receive_credit}
 use Rattle.ymx_model.specs.session.Parts.{Part}
 use Rattle.ymx_model.specs.session.Parts.Part.{Syn, Data, Fin}
 use Rattle.ymx_model.specs.session.GoAway.{was_said}
 use Rattle.ymx_model.specs.session.Tables.{Table, with_record, insert_record}
-use Rattle.ymx_model.specs.shared.Lists.{look, change}
+use Rattle.ymx_machine.specs.shared.Lists.{look, change}
 use Rattle.ymx_model.specs.session.Sessions.{Session, is_own, is_deaf}
 use Rattle.ymx_model.specs.session.Sessions.Incoming.{Head}
 use Rattle.ymx_model.specs.session.Arrivals.{answers_with, is_data, payload, delta, expects, take_head, meets, head_comes, offer, session_refuses, is_starved}
 use Rattle.ymx_model.specs.session.Feeds.{byte_comes, starves}
 use Rattle.ymx_model.specs.world.Worlds.{World}
-use Rattle.ymx_model.specs.machine.Machines.{Machine, hears}
-use Rattle.ymx_model.specs.machine.FreeMoves.{FreeMoves, counted_by, machine_refuses as refuses_syn}
-use Rattle.ymx_model.specs.machine.FreeMoves.FreeMove.{SynArrives}
+use Rattle.ymx_machine.specs.machine.Machines.{Machine, hears}
+use Rattle.ymx_machine.specs.machine.FreeMoves.{FreeMoves, counted_by, machine_refuses as refuses_syn}
+use Rattle.ymx_machine.specs.machine.FreeMoves.FreeMove.{SynArrives}
 use Rattle.ymx_law_stream.specs.Arrivals.{refused_end}
 use Rattle.ymx_law_stream.specs.Worlds.{StreamWorld as Streams, put, put_end, tagged}
 use Rattle.ymx_law_stream.proofs.Worlds.{put-same, put-other}
 use Rattle.ymx_law_session.specs.Offers.{IsGoodSyn}
-use Rattle.ymx_model.proofs.Tests.{same_or_not, agrees, none_of, when}
-use Rattle.ymx_model.proofs.Lists.{look-change_same, look-change_other, look-added_same, look-added_other}
+use Rattle.ymx_machine.proofs.Tests.{same_or_not, agrees, none_of, when}
+use Rattle.ymx_machine.proofs.Lists.{look-change_same, look-change_other, look-added_same, look-added_other}
 use Rattle.ymx_law_session.proofs.offers.SynCauses.{good-syn}
 use Rattle.ymx_law_record.specs.Sides.{rest_parts, rest_parts as rest_of, frame_says, all_come}
 use Rattle.ymx_law_record.proofs.Comes.{syn-opens}
@@ -196,6 +196,11 @@ refused-so true l e = refl
 refused-so false true e = refl
 refused-so false false e = cc
 
+counted-alone : (n r : Bool) → ((n && not r) && r) ≡ false
+counted-alone true true = refl
+counted-alone true false = refl
+counted-alone false r = refl
+
 syn-starves : (no_memory : Bool) (b : ℕ) (seen : List ℕ) (s : Session) → s.incoming ≡ Head seen → (length seen == 11) ≡ true → is_deaf s.status ≡ false → IsGoodSyn (header_of (seen ++ b ∷ [])) (record s { incoming = Head [] }) →
     starves no_memory b s s.incoming ≡ counted_by (SynArrives (header_of (seen ++ b ∷ [])).id (no_memory && not (session_refuses s)))
 syn-starves no_memory b seen s inc eleven hears_it good =
@@ -222,7 +227,8 @@ refused-arrives x y no_memory b seen rest_ w m h k f kind refused =
     let counted = no_memory && not (session_refuses w.a) in
     let no_room : (refuses_syn m || counted) ≡ true = rw (same-refuses x y w m h) (refused-so (session_refuses w.a) no_memory refused) in
     let law = law-step true id (Syn (delta hd)) (tagged id (rest_of hd body) ++ frames) g m k.taking.over k.taking.going f.ba h.refines in
-    let one = syn-refused counted id (delta hd) (tagged id (rest_of hd body) ++ frames) g m k.taking.hears_it no_room law in
+    let alone : (counted && refuses_syn m) ≡ false = rw (same-refuses x y w m h) (counted-alone no_memory (session_refuses w.a)) in
+    let one = syn-refused counted id (delta hd) (tagged id (rest_of hd body) ++ frames) g m k.taking.hears_it no_room alone law in
     let all = arrives-then id refused_end (rest_of hd body) frames m.me.offered (counted_by (SynArrives id counted)) g m (plain-rest hd body) k.taking.hears_it k.taking.over k.taking.going one in
     let answers : List Response = w.a.answers ++ Reject id ∷ [] in
     let head : head_comes no_memory hd s ≡ expects hd true (answers_with (Reject id) s) = good-syn no_memory hd s f.good ∙ rw refused refl in

@@ -9,8 +9,8 @@ use Rattle.ymx_header.specs.Headers.{header_of}
 use Rattle.ymx_model.specs.declared.types.Role.{Role}
 use Rattle.ymx_model.specs.declared.types.Status.{Status}
 use Rattle.ymx_model.specs.declared.types.Status.TheVariants.{Running, Lost, Broken, Closed}
-use Rattle.ymx_model.specs.shared.Limits.{first_credit}
-use Rattle.ymx_model.specs.stream.Streams.{Stream}
+use Rattle.ymx_machine.specs.shared.Limits.{first_credit}
+use Rattle.ymx_machine.specs.stream.Streams.{Stream}
 use Rattle.ymx_model.specs.session.Records.{End}
 use Rattle.ymx_model.specs.declared.types.FrameKind.{FrameKind}
 use Rattle.ymx_model.specs.session.FramesDue.{next_kind, begin_frame, frame, spelled}
@@ -18,19 +18,19 @@ use Rattle.ymx_model.specs.declared.types.FrameKind.TheVariants.{Open, OpenWith,
 use Rattle.ymx_model.specs.session.Parts.{Part, parts_of}
 use Rattle.ymx_model.specs.declared.types.Response.{Response}
 use Rattle.ymx_model.specs.session.Tables.{Table, pass_turn, with_record}
-use Rattle.ymx_model.specs.shared.Lists.{look, change}
+use Rattle.ymx_machine.specs.shared.Lists.{look, change}
 use Rattle.ymx_model.specs.session.Sessions.{Session, Outgoing, is_running, is_closed}
 use Rattle.ymx_model.specs.world.Worlds.{World, Pipe, pushed}
 use Rattle.ymx_model.specs.world.UnderWay.{IsOneFrame, held_bytes}
-use Rattle.ymx_model.specs.machine.Machines.{Machine}
+use Rattle.ymx_machine.specs.machine.Machines.{Machine}
 use Rattle.ymx_law_stream.specs.Worlds.{StreamWorld as Streams, Refines, Can, acts, tagged}
 use Rattle.ymx_law_stream.specs.Worlds.Act.{Sends}
 use Rattle.ymx_law_stream.proofs.Worlds.{step}
 use Rattle.ymx_law_session.specs.Limits.{IsWithin}
 use Rattle.ymx_law_session.specs.Settled.{IsSettled}
-use Rattle.ymx_model.proofs.Tests.{split}
+use Rattle.ymx_machine.proofs.Tests.{split}
 use Rattle.ymx_law_machine.specs.Numbers.{HasNumber, HasNumberAt}
-use Rattle.ymx_model.proofs.Lists.{look-change_same, look-change_other}
+use Rattle.ymx_machine.proofs.Lists.{look-change_same, look-change_other}
 use Rattle.ymx_law_record.specs.Sides.{bytes_say}
 use Rattle.ymx_law_record.proofs.Frames.{said}
 use Rattle.ymx_law_world.proofs.Frames.{data-frame, short-frame}

@@ -2,30 +2,30 @@
 use Rattle.std.proofs.Common.{◌≡◌, ℕ, ◌≤◌, List, [], ◌∷◌, ◌++◌, length, take, drop, Bool, true, false, not, ◌&&◌, ◌||◌, ◌==◌, nat_lt, Option, None, Some, refl, sym, ap, subst, ◌∙◌, inl, inr}
 use Rattle.std.proofs.lemmas.List.{append-nil, append_assoc}
 use Rattle.ymx_model.specs.declared.types.Role.{Role}
-use Rattle.ymx_model.specs.shared.Limits.{first_credit}
-use Rattle.ymx_model.specs.shared.Phases.{is_lingering}
-use Rattle.ymx_model.specs.stream.Streams.{Stream, after_move}
-use Rattle.ymx_model.specs.stream.Streams.Move.{Released}
+use Rattle.ymx_machine.specs.shared.Limits.{first_credit}
+use Rattle.ymx_machine.specs.shared.Phases.{is_lingering}
+use Rattle.ymx_machine.specs.stream.Streams.{Stream, after_move}
+use Rattle.ymx_machine.specs.stream.Streams.Move.{Released}
 use Rattle.ymx_model.specs.session.Records.{End}
 use Rattle.ymx_model.specs.declared.types.FrameKind.{FrameKind}
 use Rattle.ymx_model.specs.session.FramesDue.{next_kind, is_due, is_empty}
-use Rattle.ymx_model.specs.shared.Lists.{look, change, without}
+use Rattle.ymx_machine.specs.shared.Lists.{look, change, without}
 use Rattle.ymx_model.specs.session.Tables.{remove_record}
 use Rattle.ymx_model.specs.session.Sessions.{Session, Outgoing, nothing_outgoing, is_running, is_broken, belongs_to, is_spent, settle}
 use Rattle.ymx_model.specs.session.Emissions.{Choice, begin, begins, alarm_frame, begin_stream, begin_kind, moves_on, settles, Ready, Flows}
 use Rattle.ymx_model.specs.session.Emissions.Choice.{TheAlarm, AStream}
 use Rattle.ymx_model.specs.world.Worlds.{World, Pipe, pushed}
-use Rattle.ymx_model.specs.machine.Machines.{Machine}
-use Rattle.ymx_model.specs.machine.FreeMoves.{moved_by, Releases}
-use Rattle.ymx_model.specs.machine.FreeMoves.FreeMove.{OfStream}
+use Rattle.ymx_machine.specs.machine.Machines.{Machine}
+use Rattle.ymx_machine.specs.machine.FreeMoves.{moved_by, Releases}
+use Rattle.ymx_machine.specs.machine.FreeMoves.FreeMove.{OfStream}
 use Rattle.ymx_law_stream.specs.Answers.{end_released}
 use Rattle.ymx_law_stream.specs.Worlds.{Can, put}
 use Rattle.ymx_law_stream.specs.Worlds.Act.{Releases as ActReleases}
 use Rattle.ymx_law_stream.proofs.Worlds.{step}
 use Rattle.ymx_law_session.specs.Limits.{IsWithin}
 use Rattle.ymx_law_session.specs.Settled.{IsSettled}
-use Rattle.ymx_model.proofs.Tests.{split, both_of, none_of, not_lt}
-use Rattle.ymx_model.proofs.Lists.{look-without_same, look-without_other}
+use Rattle.ymx_machine.proofs.Tests.{split, both_of, none_of, not_lt}
+use Rattle.ymx_machine.proofs.Lists.{look-without_same, look-without_other}
 use Rattle.ymx_law_session.proofs.limits.EmissionsKeep.{some_if, none_if, if_some, begin-keeps, moves-keep}
 use Rattle.ymx_law_session.proofs.given_up.SettledFrames.{begin-settled, moves-settled}
 use Rattle.ymx_law_record.proofs.Calls.{lingers, none_due}

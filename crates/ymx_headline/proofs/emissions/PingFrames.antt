@@ -13,14 +13,14 @@ use Rattle.ymx_model.specs.session.FramesDue.{frame}
 use Rattle.ymx_model.specs.session.Sessions.{Session, is_running, is_closed}
 use Rattle.ymx_model.specs.session.Emissions.{begins, begin_answer, answer_frame, ping_frame}
 use Rattle.ymx_model.specs.session.Emissions.Choice.{TheAnswer, ThePing}
-use Rattle.ymx_model.specs.shared.Lists.{look}
+use Rattle.ymx_machine.specs.shared.Lists.{look}
 use Rattle.ymx_model.specs.world.Worlds.{World}
-use Rattle.ymx_model.specs.machine.Machines.{Machine, PingPlace}
-use Rattle.ymx_model.specs.machine.Machines.PingPlace.{Asked, There, Back}
+use Rattle.ymx_machine.specs.machine.Machines.{Machine, PingPlace}
+use Rattle.ymx_machine.specs.machine.Machines.PingPlace.{Asked, There, Back}
 use Rattle.ymx_law_session.specs.Limits.{IsWithin}
 use Rattle.ymx_law_session.specs.Settled.{IsSettled}
 use Rattle.ymx_law_session.proofs.limits.Pings.{pending-staged}
-use Rattle.ymx_model.proofs.Tests.{both_of, same_or_not}
+use Rattle.ymx_machine.proofs.Tests.{both_of, same_or_not}
 use Rattle.ymx_law_session.proofs.limits.EmissionsKeep.{some_if, if_some, begin-keeps}
 use Rattle.ymx_law_session.proofs.given_up.SettledFrames.{begin-settled}
 use Rattle.ymx_law_world.proofs.Emitted.{empty-bytes}

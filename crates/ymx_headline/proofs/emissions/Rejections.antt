@@ -4,24 +4,24 @@ use Rattle.std.proofs.lemmas.Bool.Decides.{nat_tests}
 use Rattle.ymx_model.specs.declared.types.Role.{Role}
 use Rattle.ymx_model.specs.declared.types.Response.{Response}
 use Rattle.ymx_model.specs.declared.types.Response.TheVariants.{Reject}
-use Rattle.ymx_model.specs.stream.Streams.{Stream}
+use Rattle.ymx_machine.specs.stream.Streams.{Stream}
 use Rattle.ymx_model.specs.session.Records.{End, new_end}
-use Rattle.ymx_model.specs.shared.Phases.Phase.{Unborn}
+use Rattle.ymx_machine.specs.shared.Phases.Phase.{Unborn}
 use Rattle.ymx_model.specs.session.FramesDue.{next_kind, begin_frame}
 use Rattle.ymx_model.specs.declared.types.FrameKind.TheVariants.{Reset}
 use Rattle.ymx_model.specs.session.Parts.{Part}
 use Rattle.ymx_model.specs.session.Parts.Part.{Rst}
-use Rattle.ymx_model.specs.shared.Lists.{look}
+use Rattle.ymx_machine.specs.shared.Lists.{look}
 use Rattle.ymx_model.specs.session.Sessions.{is_running}
 use Rattle.ymx_model.specs.session.Emissions.{begins, answer_frame}
 use Rattle.ymx_model.specs.world.Worlds.{World}
-use Rattle.ymx_model.specs.machine.Machines.{Machine}
+use Rattle.ymx_machine.specs.machine.Machines.{Machine}
 use Rattle.ymx_law_stream.specs.Worlds.{StreamWorld as Streams, Refines, Can, acts, put}
 use Rattle.ymx_law_stream.specs.Worlds.Act.{Sends}
 use Rattle.ymx_law_stream.proofs.Worlds.{step, put-same, put-other}
 use Rattle.ymx_law_session.specs.Limits.{IsWithin}
 use Rattle.ymx_law_session.specs.Settled.{IsSettled}
-use Rattle.ymx_model.proofs.Tests.{same_or_not}
+use Rattle.ymx_machine.proofs.Tests.{same_or_not}
 use Rattle.ymx_headline.specs.Agrees.{AgreesAs, Keeps, OnlyRejects, RejectsOnce, Sender, Receiver, Text, sending, hearing, found, is_absent, is_rejected, pongs}
 use Rattle.ymx_headline.proofs.relation.Mirrors.{refines-same}
 use Rattle.ymx_headline.proofs.relation.Counts.{Stands, stands}

@@ -6,15 +6,15 @@ use Rattle.std.proofs.lemmas.List.{append-nil}
 use Rattle.std.proofs.lemmas.List.Elements.{All-nil, All-cons, All-append}
 use Rattle.ymx_model.specs.declared.types.GoAwayMark.{GoAwayMark}
 use Rattle.ymx_model.specs.declared.types.GoAwayMark.TheVariants.{Unsaid as NotSaid, Due, Sent}
-use Rattle.ymx_model.specs.stream.Lanes.{Mark, is_said}
-use Rattle.ymx_model.specs.stream.Lanes.Mark.{Unsaid, Said, Here}
+use Rattle.ymx_machine.specs.stream.Lanes.{Mark, is_said}
+use Rattle.ymx_machine.specs.stream.Lanes.Mark.{Unsaid, Said, Here}
 use Rattle.ymx_model.specs.session.Parts.{Part}
 use Rattle.ymx_model.specs.session.GoAway.{away_due, begin_away, was_said}
 use Rattle.ymx_model.specs.session.Sessions.{Session, is_running, is_closed}
 use Rattle.ymx_model.specs.session.Emissions.{begins, go_away_frame}
 use Rattle.ymx_model.specs.session.Emissions.Choice.{TheGoAway}
 use Rattle.ymx_model.specs.world.UnderWay.{IsOneFrame, held_bytes}
-use Rattle.ymx_model.proofs.Tests.{both_of}
+use Rattle.ymx_machine.proofs.Tests.{both_of}
 use Rattle.ymx_law_session.specs.Limits.{IsWithin}
 use Rattle.ymx_law_session.specs.Settled.{IsSettled}
 use Rattle.ymx_law_session.proofs.limits.EmissionsKeep.{some_if, begin-keeps}

@@ -1,4 +1,7 @@
 use Rattle.ymx_headline.proofs.nothing_sticks.Goals as goal
+use Rattle.ymx_machine.specs.shared.Limits.{data_limit}
+use Rattle.ymx_model.specs.session.Emissions.{in_turn}
+use Rattle.ymx_headline.proofs.bounds.Loads.{any-order, turn-order}
 use Rattle.ymx_headline.proofs.bounds.Bound.{bound}
 use Rattle.ymx_headline.proofs.bounds.OneAnswer.{one-answer, none-to-an_answer}
 use Rattle.ymx_headline.proofs.bounds.Progress.{goes-on}
@@ -9,7 +12,10 @@ pub returns-clause-goes_on : goal.returns-clause-goes_on
 returns-clause-goes_on c = λ w h o n. let k = goes-on w h o n in (k.st, k.given, k.next, k.steps, k.bytes_carried)
 
 pub returns-clause-bounded : goal.returns-clause-bounded
-returns-clause-bounded c = bound
+returns-clause-bounded c = λ may. bound 1 may (any-order may)
+
+pub returns-clause-bounded_in_turn : goal.returns-clause-bounded_in_turn
+returns-clause-bounded_in_turn c = bound data_limit in_turn turn-order
 
 pub returns-clause-one_answer : goal.returns-clause-one_answer
 returns-clause-one_answer c = one-answer

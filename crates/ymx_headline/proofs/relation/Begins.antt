@@ -3,13 +3,13 @@ use Rattle.std.proofs.Common.{◌≡◌, ℕ, [], ◌≤◌, ◌<◌, ◌^◌, t
 use Rattle.std.proofs.lemmas.List.Elements.{All-nil}
 use Rattle.ymx_model.specs.declared.types.Role.{Role}
 use Rattle.ymx_model.specs.declared.types.Role.TheVariants.{Client, Server}
-use Rattle.ymx_model.specs.shared.Limits.{first_credit}
-use Rattle.ymx_model.specs.shared.Phases.Phase.{Unborn}
+use Rattle.ymx_machine.specs.shared.Limits.{first_credit}
+use Rattle.ymx_machine.specs.shared.Phases.Phase.{Unborn}
 use Rattle.ymx_model.specs.session.Records.{new_end}
 use Rattle.ymx_model.specs.session.Sessions.{new_session, is_own}
 use Rattle.ymx_model.specs.world.UnderWay.{IsOneFrame}
 use Rattle.ymx_model.specs.world.Worlds.{new_world, new_pipe}
-use Rattle.ymx_model.specs.machine.Machines.{new_side, new_machine}
+use Rattle.ymx_machine.specs.machine.Machines.{new_side, new_machine}
 use Rattle.ymx_law_stream.specs.Worlds.{new_streams as new_streams}
 use Rattle.ymx_law_stream.proofs.Worlds.{new-refines}
 use Rattle.ymx_law_machine.specs.Numbers.{HasOrder}

@@ -6,21 +6,21 @@ use Rattle.std.proofs.lemmas.List.Recursion.{is_count_by}
 use Rattle.ymx_model.specs.declared.types.Role.{Role}
 use Rattle.ymx_model.specs.declared.types.Role.TheVariants.{Client, Server}
 use Rattle.ymx_model.specs.declared.types.Response.{Response}
-use Rattle.ymx_model.specs.stream.Lanes.{is_here}
-use Rattle.ymx_model.specs.shared.Phases.{Phase, is_live, is_recorded}
-use Rattle.ymx_model.specs.stream.Streams.{Stream}
-use Rattle.ymx_model.specs.shared.Phases.Phase.{Unborn}
+use Rattle.ymx_machine.specs.stream.Lanes.{is_here}
+use Rattle.ymx_machine.specs.shared.Phases.{Phase, is_live, is_recorded}
+use Rattle.ymx_machine.specs.stream.Streams.{Stream}
+use Rattle.ymx_machine.specs.shared.Phases.Phase.{Unborn}
 use Rattle.ymx_model.specs.session.Records.{End}
-use Rattle.ymx_model.specs.shared.Lists.{look, without, Distinct}
+use Rattle.ymx_machine.specs.shared.Lists.{look, without, Distinct}
 use Rattle.ymx_model.specs.session.Sessions.{is_own}
 use Rattle.ymx_model.specs.session.Calls.{is_unacknowledged}
 use Rattle.ymx_model.specs.world.Worlds.{World}
-use Rattle.ymx_model.specs.machine.Machines.{Machine, recorded, unacknowledged}
+use Rattle.ymx_machine.specs.machine.Machines.{Machine, recorded, unacknowledged}
 use Rattle.ymx_law_stream.specs.Worlds.{StreamWorld as Streams, AreOne, parts_of_stream}
 use Rattle.ymx_law_stream.proofs.OneStream.{one-shows}
 use Rattle.ymx_law_machine.specs.Numbers.{NumbersOnce, HasNumber, HasNumberAt}
-use Rattle.ymx_model.proofs.Lists.{look-without_other, look-without_same, distinct-without}
-use Rattle.ymx_model.proofs.Tests.{same_or_not, agrees, when}
+use Rattle.ymx_machine.proofs.Lists.{look-without_other, look-without_same, distinct-without}
+use Rattle.ymx_machine.proofs.Tests.{same_or_not, agrees, when}
 use Rattle.ymx_headline.specs.Agrees.{AgreesAs, Keeps, is_absent}
 
 -- ---- counting by number

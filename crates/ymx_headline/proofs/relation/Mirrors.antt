@@ -4,25 +4,25 @@ use Rattle.std.specs.Prelude.{option_map}
 use Rattle.std.proofs.lemmas.Bool.Decides.{nat_tests}
 use Rattle.ymx_model.specs.declared.types.Role.{Role}
 use Rattle.ymx_model.specs.declared.types.Role.TheVariants.{Client, Server}
-use Rattle.ymx_model.specs.declared.types.Call.{Call}
-use Rattle.ymx_model.specs.declared.types.Reply.{Reply}
-use Rattle.ymx_model.specs.stream.Streams.{Stream, after_move}
-use Rattle.ymx_model.specs.stream.Streams.Move.{SynOffered, SynRefused}
+use Rattle.ymx_machine.specs.declared.types.Call.{Call}
+use Rattle.ymx_machine.specs.declared.types.Reply.{Reply}
+use Rattle.ymx_machine.specs.stream.Streams.{Stream, after_move}
+use Rattle.ymx_machine.specs.stream.Streams.Move.{SynOffered, SynRefused}
 use Rattle.ymx_model.specs.session.Sessions.{is_own}
-use Rattle.ymx_model.specs.shared.Lists.{drop_id, look, change}
+use Rattle.ymx_machine.specs.shared.Lists.{drop_id, look, change}
 use Rattle.ymx_model.specs.world.Worlds.{World, mirror_world as world_mirror}
-use Rattle.ymx_model.specs.machine.Machines.{Machine, SideState, mirror_machine}
-use Rattle.ymx_model.specs.machine.CallRules.{Rule}
-use Rattle.ymx_model.specs.machine.FreeMoves.{FreeMove, MayMove, moved_by, FreeMoves, Releases, is_reset_arriving, machine_refuses}
-use Rattle.ymx_model.specs.machine.FreeMoves.FreeMove.{OfStream, SynArrives, AwayArrives, PingThere, PingBack}
+use Rattle.ymx_machine.specs.machine.Machines.{Machine, SideState, mirror_machine}
+use Rattle.ymx_machine.specs.machine.CallRules.{Rule}
+use Rattle.ymx_machine.specs.machine.FreeMoves.{FreeMove, MayMove, moved_by, FreeMoves, Releases, is_reset_arriving, machine_refuses}
+use Rattle.ymx_machine.specs.machine.FreeMoves.FreeMove.{OfStream, SynArrives, AwayArrives, PingThere, PingBack}
 use Rattle.ymx_law_stream.specs.Worlds.{StreamWorld as Streams, Streams as Found, stream_mirror as streams_mirror, mirrored, flip_some, AreOne, Refines, Same}
 use Rattle.ymx_law_stream.proofs.Worlds.{mirrors}
 use Rattle.ymx_law_machine.specs.Numbers.{NumbersOnce, HasNumberAt, IsOfferedList, offered_here, offered_there}
-use Rattle.ymx_model.proofs.Tests.{same_or_not, split}
+use Rattle.ymx_machine.proofs.Tests.{same_or_not, split}
 use Rattle.ymx_law_machine.proofs.order.Maps.{look-add_other, look-mirror, flipped}
 use Rattle.ymx_law_machine.proofs.faces.Effects.{Effect, effect}
 use Rattle.ymx_law_machine.proofs.faces.Effects.Effect.{Idles, OpensOne, AcceptsOne, TouchesOne}
-use Rattle.ymx_model.proofs.Lists.{look-change_same, look-change_other}
+use Rattle.ymx_machine.proofs.Lists.{look-change_same, look-change_other}
 use Rattle.ymx_law_machine.proofs.order.Cores.{Core, core, core-unmoved, kept-moves, kept-releases, Sound, sound-effect, sound-move, sound-mirror}
 use Rattle.ymx_law_machine.proofs.order.Openers.{Numbered, numbered-effect, numbered-move, numbered-mirror}
 use Rattle.ymx_headline.specs.Agrees.{AgreesAs, IsNumbered, found}

@@ -7,24 +7,24 @@ use Rattle.std.proofs.lemmas.List.{append-nil}
 use Rattle.std.proofs.lemmas.List.Elements.{All-nil, All-cons, All-head}
 use Rattle.ymx_model.specs.declared.types.Role.{Role}
 use Rattle.ymx_model.specs.declared.types.Response.{Response}
-use Rattle.ymx_model.specs.stream.Lanes.{is_said}
-use Rattle.ymx_model.specs.shared.Phases.{Phase, is_live, is_lingering}
-use Rattle.ymx_model.specs.stream.Streams.{Stream, IsStill}
+use Rattle.ymx_machine.specs.stream.Lanes.{is_said}
+use Rattle.ymx_machine.specs.shared.Phases.{Phase, is_live, is_lingering}
+use Rattle.ymx_machine.specs.stream.Streams.{Stream, IsStill}
 use Rattle.ymx_model.specs.session.Records.{End}
 use Rattle.ymx_model.specs.session.FramesDue.{is_due, is_empty}
 use Rattle.ymx_model.specs.session.Parts.{Part}
 use Rattle.ymx_model.specs.session.Pings.{has_asked, first_asked}
 use Rattle.ymx_model.specs.session.GoAway.{away_due}
-use Rattle.ymx_model.specs.shared.Lists.{look, Distinct}
+use Rattle.ymx_machine.specs.shared.Lists.{look, Distinct}
 use Rattle.ymx_model.specs.session.Tables.{any_due}
 use Rattle.ymx_model.specs.session.Sessions.{Session, Incoming, is_running, is_broken}
 use Rattle.ymx_model.specs.session.Sessions.Incoming.{Head, Payload}
 use Rattle.ymx_model.specs.session.Emissions.{is_ready, no_answers}
 use Rattle.ymx_model.specs.world.Worlds.{World, Pipe, is_quiet, is_quiet_pipe, mirror_world as world_mirror}
 use Rattle.ymx_model.specs.world.UnderWay.{IsOneFrame, held_bytes, lacking}
-use Rattle.ymx_model.specs.machine.Machines.{Machine, PingPlace, mirror_machine}
-use Rattle.ymx_model.specs.machine.Machines.PingPlace.{Asked, There, Back}
-use Rattle.ymx_model.specs.machine.Runs.{IsStillMachine, place_is_back}
+use Rattle.ymx_machine.specs.machine.Machines.{Machine, PingPlace, mirror_machine}
+use Rattle.ymx_machine.specs.machine.Machines.PingPlace.{Asked, There, Back}
+use Rattle.ymx_machine.specs.machine.Runs.{IsStillMachine, place_is_back}
 use Rattle.ymx_law_stream.specs.Worlds.{IsQuietWorld, StillIf}
 use Rattle.ymx_law_stream.specs.OneStream.{IsQuiet}
 use Rattle.ymx_law_stream.proofs.Worlds.{all-still}
@@ -34,7 +34,7 @@ use Rattle.ymx_law_session.proofs.limits.FeedsKeep.{header_few, payload_some}
 use Rattle.ymx_law_session.proofs.limits.Pings.{asked-some}
 use Rattle.ymx_law_session.proofs.due.Ready.{any-of}
 use Rattle.ymx_law_session.proofs.given_up.SettledFrames.{none-linger}
-use Rattle.ymx_model.proofs.Tests.{none_of, both_of, same_or_not}
+use Rattle.ymx_machine.proofs.Tests.{none_of, both_of, same_or_not}
 use Rattle.ymx_law_world.proofs.Emitted.{empty-bytes}
 use Rattle.ymx_headline.specs.Agrees.{AgreesAs, Keeps, OnlyRejects, Text, sending, hearing, found, is_absent, is_rejected, parts_left, count_in, is_go_away, asks, replies, is_asked_at, is_there_at}
 use Rattle.ymx_headline.proofs.emissions.Begun.{runs-open}

@@ -1,16 +1,14 @@
 -- Runs that tell when they are quiet: the machine is still wherever they do.
 use Rattle.std.proofs.Common.{List, [], ◌∷◌, Bool, refl, sym, ◌∙◌}
-use Rattle.ymx_model.specs.declared.types.Role.TheVariants.{Client, Server}
-use Rattle.ymx_model.specs.declared.types.Step.{Step}
-use Rattle.ymx_model.specs.declared.types.Answer.{Answer}
+use Rattle.ymx_machine.specs.declared.types.Step.{Step}
+use Rattle.ymx_machine.specs.declared.types.Answer.{Answer}
 use Rattle.ymx_model.specs.session.Sessions.{Session}
 use Rattle.ymx_model.specs.session.Emissions.{Choice}
 use Rattle.ymx_model.specs.world.Worlds.{World, Runs}
-use Rattle.ymx_model.specs.machine.Machines.{Machine}
+use Rattle.ymx_machine.specs.machine.Machines.{Machine}
 use Rattle.ymx_law_machine.specs.Runs.{StillRun}
 use Rattle.ymx_headline.specs.Agrees.{Agrees}
 use Rattle.ymx_headline.specs.QuietRuns.{QuietRuns}
-use Rattle.ymx_headline.proofs.relation.Still.{still}
 use Rattle.ymx_headline.proofs.runs.Runs.{follows}
 
 -- the machine has a run with the same answers
@@ -20,7 +18,7 @@ still-run may [] [] [] w v m r h = (m, refl)
 still-run may (st ∷ sts) (given ∷ more) (quiet ∷ rest) w v m r h =
     let k = follows may st given w r.0 m r.1 h in
     let on = still-run may sts more rest r.0 v k.0 r.3 k.2 in
-    (on.0, (k.0, k.1, λ e. still Client Server r.0 k.0 k.2 (sym r.2 ∙ e), on.1))
+    (on.0, (k.0, k.1, λ e. k.3 (sym r.2 ∙ e), on.1))
 still-run may _ _ _ w v m r h = absurd r
 
 -- it is a run

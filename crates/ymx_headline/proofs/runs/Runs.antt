@@ -1,53 +1,52 @@
 -- Runs of a world: step by step a run of the machine, and what follows from the machine's laws.
-use Rattle.std.proofs.Common.{◌≡◌, ℕ, ◌%◌, List, [], ◌∷◌, length, Bool, true, false, not, ◌&&◌, ◌||◌, ◌==◌, nat_le, Option, None, Some, refl, sym, ap, subst, ◌∙◌, inl, inr, arith}
+use Rattle.std.proofs.Common.{◌≡◌, ℕ, zero, suc, ◌%◌, List, [], ◌∷◌, length, take, Bool, true, false, not, ◌&&◌, ◌||◌, ◌==◌, nat_le, Option, None, Some, refl, sym, ap, subst, ◌∙◌, inl, inr, arith}
 use Rattle.std.specs.Prelude.{count_by}
 use Rattle.std.specs.List.{All}
 use Rattle.std.proofs.lemmas.Bool.Decides.{nat_tests}
 use Rattle.std.proofs.lemmas.List.Elements.{All-nil, All-cons}
 use Rattle.ymx_model.specs.declared.types.Role.{Role}
 use Rattle.ymx_model.specs.declared.types.Role.TheVariants.{Client, Server}
-use Rattle.ymx_model.specs.declared.types.Side.TheVariants.{A, B}
-use Rattle.ymx_model.specs.declared.types.Step.{Step}
-use Rattle.ymx_model.specs.declared.types.Step.TheVariants as step
-use Rattle.ymx_model.specs.declared.types.Answer.{Answer}
-use Rattle.ymx_model.specs.declared.types.Reply.{Reply}
-use Rattle.ymx_model.specs.declared.types.Reply.TheVariants.{Done}
-use Rattle.ymx_model.specs.declared.types.Call.{Call}
-use Rattle.ymx_model.specs.declared.types.Call.TheVariants as call
+use Rattle.ymx_machine.specs.declared.types.Side.TheVariants.{A, B}
+use Rattle.ymx_machine.specs.declared.types.Step.{Step}
+use Rattle.ymx_machine.specs.declared.types.Step.TheVariants as step
+use Rattle.ymx_machine.specs.declared.types.Answer.{Answer}
+use Rattle.ymx_machine.specs.declared.types.Reply.{Reply}
+use Rattle.ymx_machine.specs.declared.types.Reply.TheVariants.{Done}
+use Rattle.ymx_machine.specs.declared.types.Call.{Call}
+use Rattle.ymx_machine.specs.declared.types.Call.TheVariants as call
 use Rattle.ymx_model.specs.declared.types.Response.{Response}
-use Rattle.ymx_model.specs.shared.Phases.{Phase, is_live, is_reset}
-use Rattle.ymx_model.specs.stream.Streams.{Stream}
-use Rattle.ymx_model.specs.shared.Replies.{unless_refused, write_reply, read_reply}
-use Rattle.ymx_model.specs.shared.Limits.{most_pings, most_records, most_unacknowledged}
+use Rattle.ymx_machine.specs.shared.Phases.{Phase, is_live, is_reset}
+use Rattle.ymx_machine.specs.stream.Streams.{Stream}
+use Rattle.ymx_machine.specs.shared.Replies.{unless_refused, write_reply, read_reply}
+use Rattle.ymx_machine.specs.shared.Limits.{most_pings, most_records, most_unacknowledged}
 use Rattle.ymx_model.specs.session.Pings.{has_back}
 use Rattle.ymx_model.specs.session.Records.{End}
-use Rattle.ymx_model.specs.shared.Lists.{look}
+use Rattle.ymx_machine.specs.shared.Lists.{look}
 use Rattle.ymx_model.specs.session.Sessions.{Session, is_own, is_lost, is_closed}
 use Rattle.ymx_model.specs.session.Calls.{Outcome, outcome, open_or, accept_of, at_stream, at_record, is_unacknowledged}
 use Rattle.ymx_model.specs.session.Histories.{CallGives}
 use Rattle.ymx_model.specs.session.Histories.CallGives.{Outcome as HasOutcome, NoMemory}
-use Rattle.ymx_model.proofs.Tests.{split, when}
+use Rattle.ymx_machine.proofs.Tests.{split, when}
 use Rattle.ymx_model.specs.session.Emissions.{Choice}
 use Rattle.ymx_model.specs.world.Worlds.{World, Steps, Runs, StepOfA, new_world, mirror_world as world_mirror}
-use Rattle.ymx_model.specs.shared.Steps.{answer_of, is_of_a}
-use Rattle.ymx_model.specs.machine.Machines.{Machine, mirror_machine, new_machine}
-use Rattle.ymx_model.specs.machine.Runs.{MachineStep, MachineStepOfA}
+use Rattle.ymx_machine.specs.shared.Steps.{answer_of, is_of_a}
+use Rattle.ymx_machine.specs.machine.Machines.{Machine, mirror_machine, new_machine}
+use Rattle.ymx_machine.specs.machine.Runs.{MachineStep, MachineStepOfA}
 use Rattle.ymx_law_stream.specs.Worlds.{StreamWorld as Streams}
 use Rattle.ymx_law_stream.proofs.OneStream.{one-shows}
-use Rattle.ymx_law_machine.specs.Runs.{is_live_at_a, is_live_at_b, ObeysAt}
-use Rattle.ymx_law_machine.specs.Faces.{IsFaceWithin, AreFaces}
+use Rattle.ymx_law_machine.specs.Runs.{ObeysAt}
+use Rattle.ymx_law_machine.specs.Faces.{IsFaceWithin, AreFaces, FitWindows}
 use Rattle.ymx_law_machine.proofs.order.Maps.{look-mirror, flipped}
 use Rattle.ymx_law_machine.proofs.lanes.MachineLaws.{law}
 use Rattle.ymx_law_machine.proofs.faces.RunFaces.{face, odd-even}
 use Rattle.ymx_law_machine.proofs.lanes.StreamFacts.{if-so_true, if-so_false}
-use Rattle.ymx_headline.specs.Agrees.{RunsAlike, Agrees, AgreesAs, Follows, is_absent}
-use Rattle.ymx_headline.specs.Laws.{AreGood, HasRun, breaks_off, is_live_in}
+use Rattle.ymx_headline.specs.Agrees.{RunsAlike, Agrees, Follows}
+use Rattle.ymx_headline.specs.Laws.{AreGood, HasRun, breaks_off}
 use Rattle.ymx_headline.proofs.relation.Begins.{begins}
 use Rattle.ymx_headline.proofs.relation.Counts.{Stands, stands, no-record}
 use Rattle.ymx_headline.proofs.relation.Mirrors.{mirrors-agree}
 use Rattle.ymx_headline.proofs.deliveries.DeliverStep.{delivers}
 use Rattle.ymx_headline.proofs.runs.Steps.{calls, emissions, stops, ends, both-runs}
-use Rattle.ymx_headline.proofs.relation.Still.{still}
 
 -- ---- every step
 
@@ -65,7 +64,7 @@ runs-alike may [] [] w v m r h = (m, (r, refl), subst (λ z. Agrees z m) (sym r)
 runs-alike may (st ∷ sts) (given ∷ more) w v m r h =
     let k = follows may st given w r.0 m r.1 h in
     let rest = runs-alike may sts more r.0 v k.0 r.2 k.2 in
-    (rest.0, (r.0, k.0, r.1, k.1, still Client Server r.0 k.0 k.2, rest.1), rest.2)
+    (rest.0, (r.0, k.0, r.1, k.1, k.3, rest.1), rest.2)
 runs-alike may [] (given ∷ more) w v m r h = absurd r
 runs-alike may (st ∷ sts) [] w v m r h = absurd r
 
@@ -160,28 +159,6 @@ none-breaks may (st ∷ sts) (given ∷ more) w v m n r =
 none-breaks may [] (given ∷ more) w v m n r = absurd r
 none-breaks may (st ∷ sts) [] w v m n r = absurd r
 
--- ---- a record is live where the machine's end is
-
-live-stands : (mine yours : ℕ) (answers : List Response) (id : ℕ) (g : Streams) (o : Option Stream) (r : Option End) → Stands mine yours answers id g o r → is_live_at_a o ≡ is_live_in r
-live-stands mine yours answers id g None None h = refl
-live-stands mine yours answers id g None (Some e) h = absurd (no-record e.phase (ap (λ (z : End). z.phase) (h.keeps.0 ∙ h.one.mine)) (h.recorded e refl))
-live-stands mine yours answers id g (Some s) None h = ap is_live (one-shows _ _ _ _ _ _ _ _ s h.one).phase ∙ not-live (g.a.ends id).phase h.keeps.0
-  where
-    not-live : (p : Phase) → is_absent p ≡ true → is_live p ≡ false
-    not-live p e = grind arith
-live-stands mine yours answers id g (Some s) (Some e) h = ap is_live ((one-shows _ _ _ _ _ _ _ _ s h.one).phase ∙ ap (λ (z : End). z.phase) (sym h.keeps.0))
-
-pub live-at_a : (x y : Role) (w : World) (m : Machine) → AgreesAs x y w m → (id : ℕ) → is_live_at_a (look id m.streams) ≡ is_live_in (look id w.a.table.entries)
-live-at_a x y w m h id = live-stands _ _ w.a.answers id h.streams (look id m.streams) (look id w.a.table.entries) (stands x y w m h id)
-
-flipped-live : (o : Option Stream) → is_live_at_a (flipped o) ≡ is_live_at_b o
-flipped-live None = refl
-flipped-live (Some s) = refl
-
-pub live-at_b : (x y : Role) (w : World) (m : Machine) → AgreesAs x y w m → (id : ℕ) → is_live_at_b (look id m.streams) ≡ is_live_in (look id w.b.table.entries)
-live-at_b x y w m h id =
-    sym (flipped-live (look id m.streams)) ∙ (ap is_live_at_a (sym (look-mirror id m.streams)) ∙ live-at_a y x (world_mirror w) (mirror_machine m) (mirrors-agree x y w m h) id)
-
 -- ---- runs from a new world
 
 client-odd : (n : ℕ) → is_own Client n ≡ true → n % 2 ≡ 1
@@ -196,15 +173,33 @@ run-alike may sts given wa fa wb fb w g r =
     runs-alike may sts given (new_world wa fa wb fb) w (new_machine wa fa wb fb) r (begins wa fa wb fb g.low_a g.high_a g.low_b g.high_b g.client g.server g.small_a g.some_b g.small_b)
 
 pub run-face : (may : Choice → Session → Bool) (sts : List Step) (given : List Answer) (wa fa wb fb : ℕ) (w : World) → AreGood wa fa wb fb → Runs may sts given (new_world wa fa wb fb) w → (id : ℕ) →
-    IsFaceWithin wb (is_live_in (look id w.b.table.entries)) A B id sts given × IsFaceWithin wa (is_live_in (look id w.a.table.entries)) B A id sts given
+    IsFaceWithin wb A B id sts given × IsFaceWithin wa B A id sts given
 run-face may sts given wa fa wb fb w g r id =
     let k = run-alike may sts given wa fa wb fb w g r in
     let both = both-runs may sts given (new_world wa fa wb fb) w (new_machine wa fa wb fb) k.0 k.1 in
-    let p = face wa fa wb fb sts given k.0 id g.low_a g.low_b (odd-even fa fb (client-odd fa g.client) (server-even fb g.server)) both.1 in
-    (subst (λ b. IsFaceWithin wb b A B id sts given) (live-at_b Client Server w k.0 k.2 id) p.0, subst (λ b. IsFaceWithin wa b B A id sts given) (live-at_a Client Server w k.0 k.2 id) p.1)
+    face wa fa wb fb sts given k.0 id g.low_a g.low_b (odd-even fa fb (client-odd fa g.client) (server-even fb g.server)) both.1
 
-pub run-faces : (may : Choice → Session → Bool) (sts : List Step) (given : List Answer) (wa fa wb fb : ℕ) (w : World) → AreGood wa fa wb fb → Runs may sts given (new_world wa fa wb fb) w → AreFaces sts given
-run-faces may sts given wa fa wb fb w g r = λ id. (let both = run-face may sts given wa fa wb fb w g r id in (both.0.face, both.1.face))
+-- the first steps of a run are one
+first-run : (may : Choice → Session → Bool) (made : ℕ) (sts : List Step) (given : List Answer) (w v : World) → Runs may sts given w v → (x : World) × Runs may (take made sts) (take made given) w x
+first-run may zero sts given w v r = (w, refl)
+first-run may (suc made) [] [] w v r = (w, refl)
+first-run may (suc made) (st ∷ sts) (given ∷ more) w v r = let k = first-run may made sts more r.0 v r.2 in (k.0, (r.0, r.1, k.1))
+first-run may (suc made) [] (given ∷ more) w v r = absurd r
+first-run may (suc made) (st ∷ sts) [] w v r = absurd r
+
+-- at every moment of a run
+pub record FacesWithin (wa wb : ℕ) (sts : List Step) (given : List Answer) : Type 0 where
+  pub faces : AreFaces sts given
+  pub windows : FitWindows wa wb sts given
+
+pub run-faces : (may : Choice → Session → Bool) (sts : List Step) (given : List Answer) (wa fa wb fb : ℕ) (w : World) → AreGood wa fa wb fb → Runs may sts given (new_world wa fa wb fb) w → FacesWithin wa wb sts given
+run-faces may sts given wa fa wb fb w g r =
+    let at : (made id : ℕ) → IsFaceWithin wb A B id (take made sts) (take made given) × IsFaceWithin wa B A id (take made sts) (take made given) =
+    λ made id. (let first = first-run may made sts given (new_world wa fa wb fb) w r in run-face may (take made sts) (take made given) wa fa wb fb first.0 g first.1 id) in
+    record {
+      faces = λ made id. ((at made id).0.face, (at made id).1.face);
+      windows = λ made id. ((at made id).0.within_window, (at made id).1.within_window);
+    }
 
 pub run-lanes : (may : Choice → Session → Bool) (sts : List Step) (given : List Answer) (wa fa wb fb : ℕ) (w : World) → AreGood wa fa wb fb → Runs may sts given (new_world wa fa wb fb) w →
     (n : Machine) × RunsAlike may sts given (new_world wa fa wb fb) (new_machine wa fa wb fb) w n × Agrees w n × ((id : ℕ) → ObeysAt wa wb (look id n.streams))

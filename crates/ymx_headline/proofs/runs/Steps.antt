@@ -2,29 +2,30 @@
 use Rattle.std.proofs.Common.{◌≡◌, ℕ, List, [], ◌∷◌, length, Bool, true, false, not, map, refl, sym, subst, inl, inr}
 use Rattle.ymx_model.specs.declared.types.Role.{Role}
 use Rattle.ymx_model.specs.declared.types.Role.TheVariants.{Client, Server}
-use Rattle.ymx_model.specs.declared.types.Direction.{Direction}
-use Rattle.ymx_model.specs.declared.types.Step.{Step}
-use Rattle.ymx_model.specs.declared.types.Step.TheVariants as step
-use Rattle.ymx_model.specs.declared.types.Answer.{Answer}
-use Rattle.ymx_model.specs.stream.Streams.{Stream, flip}
-use Rattle.ymx_model.specs.declared.types.Side.{Side}
-use Rattle.ymx_model.specs.declared.types.Call.{Call}
-use Rattle.ymx_model.specs.declared.types.Call.TheVariants as call
-use Rattle.ymx_model.specs.declared.types.Reply.{Reply}
+use Rattle.ymx_machine.specs.declared.types.Direction.{Direction}
+use Rattle.ymx_machine.specs.declared.types.Step.{Step}
+use Rattle.ymx_machine.specs.declared.types.Step.TheVariants as step
+use Rattle.ymx_machine.specs.declared.types.Answer.{Answer}
+use Rattle.ymx_machine.specs.stream.Streams.{Stream, flip}
+use Rattle.ymx_machine.specs.declared.types.Side.{Side}
+use Rattle.ymx_machine.specs.declared.types.Call.{Call}
+use Rattle.ymx_machine.specs.declared.types.Call.TheVariants as call
+use Rattle.ymx_machine.specs.declared.types.Reply.{Reply}
 use Rattle.ymx_model.specs.session.Histories.{CallGives}
-use Rattle.ymx_model.specs.stream.StreamRules.StreamCall.{Writes, Reads, Finishes, Resets, Forgets}
+use Rattle.ymx_machine.specs.stream.StreamRules.StreamCall.{Writes, Reads, Finishes, Resets, Forgets}
 use Rattle.ymx_model.specs.session.Sessions.{Session}
-use Rattle.ymx_model.specs.declared.types.Reply.TheVariants.{Emitted as EmittedReply}
+use Rattle.ymx_machine.specs.declared.types.Reply.TheVariants.{Emitted as EmittedReply}
 use Rattle.ymx_model.specs.session.Emissions.{Choice, Flows}
 use Rattle.ymx_model.specs.session.Emissions.Choice.{TheAlarm, TheGoAway, TheAnswer, ThePing, AStream}
 use Rattle.ymx_model.specs.world.Worlds.{World, StepOfA, Steps, Runs, mirror_world as world_mirror}
-use Rattle.ymx_model.specs.shared.Steps.{is_of_a}
-use Rattle.ymx_model.specs.machine.Machines.{Machine, mirror_machine, flip_entry}
-use Rattle.ymx_model.specs.machine.Runs.{MachineStepOfA, MachineRun}
-use Rattle.ymx_model.proofs.Tests.{when}
+use Rattle.ymx_machine.specs.shared.Steps.{is_of_a}
+use Rattle.ymx_machine.specs.machine.Machines.{Machine, mirror_machine, flip_entry}
+use Rattle.ymx_machine.specs.machine.Runs.{MachineStepOfA, MachineRun}
+use Rattle.ymx_machine.proofs.Tests.{when}
 use Rattle.ymx_law_machine.proofs.lanes.StreamFacts.{if-so_true, if-so_false}
 use Rattle.ymx_headline.specs.Agrees.{RunsAlike, Agrees, AgreesAs, Follows}
 use Rattle.ymx_headline.proofs.relation.Mirrors.{mirrors-agree}
+use Rattle.ymx_headline.proofs.relation.Still.{still}
 use Rattle.ymx_headline.proofs.calls.StreamCalls.{so-true, so-false, Called, stream-called}
 use Rattle.ymx_headline.proofs.calls.Opens.{opens-called, opens_with-called}
 use Rattle.ymx_headline.proofs.calls.Accepts.{accept-called}
@@ -64,9 +65,10 @@ AtA may st given = (x y : Role) (w v : World) (m : Machine) → StepOfA may st g
 
 pub at-either : (may : Choice → Session → Bool) (st : Step) (given : Answer) (w v : World) (m : Machine) → AtA may st given → Steps may st given w v → Agrees w m → Follows st given v m
 at-either may st given w v m f s h = elim (when (is_of_a st)) [
-  | inl t ↦ (let k = f Client Server w v m (if-so_true _ _ _ t s) h in (k.0, so-true _ _ _ t k.1, k.2))
+  | inl t ↦ (let k = f Client Server w v m (if-so_true _ _ _ t s) h in (k.0, so-true _ _ _ t k.1, k.2, still Client Server v k.0 k.2))
   | inr t ↦ (let k = f Server Client (world_mirror w) (world_mirror v) (mirror_machine m) (if-so_false _ _ _ t s) (mirrors-agree Client Server w m h) in
-      (mirror_machine k.0, so-false _ _ _ t (subst (MachineStepOfA st given (mirror_machine m)) (sym (mirror-back k.0)) k.1), mirrors-agree Server Client (world_mirror v) k.0 k.2))
+      let agrees = mirrors-agree Server Client (world_mirror v) k.0 k.2 in
+      (mirror_machine k.0, so-false _ _ _ t (subst (MachineStepOfA st given (mirror_machine m)) (sym (mirror-back k.0)) k.1), agrees, still Client Server v (mirror_machine k.0) agrees))
 ]
 
 pub stops : (may : Choice → Session → Bool) (d : Direction) (given : Answer) (w v : World) (m : Machine) → Steps may (step.Stop d) given w v → Agrees w m → Follows (step.Stop d) given v m

@@ -1,6 +1,6 @@
 use Rattle.ymx_model.specs.declared.types.Role.TheVariants.{Client, Server}
 use Rattle.ymx_model.specs.session.Sessions.{new_session}
-use Rattle.ymx_model.specs.machine.Machines.{new_machine}
+use Rattle.ymx_machine.specs.machine.Machines.{new_machine}
 use Rattle.ymx_headline.proofs.relation.Begins.{begins}
 use Rattle.ymx_law_audit.proofs.Orders.{are-answered}
 use Rattle.ymx_law_audit.proofs.replies_are_answers.Goals as goal

@@ -1,19 +1,19 @@
 -- What a call does to the machine, and what it tells of the streams.
 use Rattle.std.proofs.Common.{◌≡◌, ◌≢◌, inl, inr, ℕ, ◌≤◌, List, [], ◌∷◌, length, take, min, Bool, true, false, not, ◌&&◌, ◌==◌, nat_le, if◌then◌else◌, Option, None, Some, refl, sym, ap, subst, append-nil, arith}
-use Rattle.ymx_model.specs.declared.types.Reply.{Reply}
-use Rattle.ymx_model.specs.declared.types.Reply.TheVariants as reply
-use Rattle.ymx_model.specs.declared.types.CallFault.{CallFault}
-use Rattle.ymx_model.specs.declared.types.CallFault.TheVariants.{NoStream, Lost, Closed, OutOfMemory, PingsPending}
-use Rattle.ymx_model.specs.declared.types.Call.{Call}
-use Rattle.ymx_model.specs.declared.types.Call.TheVariants as call
-use Rattle.ymx_model.specs.shared.Limits.{first_credit}
-use Rattle.ymx_model.specs.stream.Streams.{Stream, stream_accept}
-use Rattle.ymx_model.specs.stream.StreamRules.{StreamCall, StreamRule}
-use Rattle.ymx_model.specs.stream.StreamRules.StreamCall.{Writes, Reads, Finishes, Resets, Forgets}
-use Rattle.ymx_model.specs.shared.Lists.{look, change}
-use Rattle.ymx_model.specs.machine.Machines.{Machine}
-use Rattle.ymx_model.specs.machine.CallRules.{RefusedWith, open_refusal, machine_opened, OpenRule, AcceptRule, OnStream, PingRule, PongedRule, OpenSideRule, is_close, Rule, found_back}
-use Rattle.ymx_model.proofs.Tests.{when, is-self, is-other}
+use Rattle.ymx_machine.specs.declared.types.Reply.{Reply}
+use Rattle.ymx_machine.specs.declared.types.Reply.TheVariants as reply
+use Rattle.ymx_machine.specs.declared.types.CallFault.{CallFault}
+use Rattle.ymx_machine.specs.declared.types.CallFault.TheVariants.{NoStream, Lost, Closed, OutOfMemory, PingsPending}
+use Rattle.ymx_machine.specs.declared.types.Call.{Call}
+use Rattle.ymx_machine.specs.declared.types.Call.TheVariants as call
+use Rattle.ymx_machine.specs.shared.Limits.{first_credit}
+use Rattle.ymx_machine.specs.stream.Streams.{Stream, stream_accept}
+use Rattle.ymx_machine.specs.stream.StreamRules.{StreamCall, StreamRule}
+use Rattle.ymx_machine.specs.stream.StreamRules.StreamCall.{Writes, Reads, Finishes, Resets, Forgets}
+use Rattle.ymx_machine.specs.shared.Lists.{look, change}
+use Rattle.ymx_machine.specs.machine.Machines.{Machine}
+use Rattle.ymx_machine.specs.machine.CallRules.{RefusedWith, open_refusal, machine_opened, OpenRule, AcceptRule, OnStream, PingRule, PongedRule, OpenSideRule, is_close, Rule, found_back}
+use Rattle.ymx_machine.proofs.Tests.{when, is-self, is-other}
 use Rattle.ymx_law_machine.proofs.faces.Pasts.{Past}
 use Rattle.ymx_law_machine.specs.Others.{front, touched}
 use Rattle.ymx_law_machine.proofs.lanes.LaneLaws.{lists}

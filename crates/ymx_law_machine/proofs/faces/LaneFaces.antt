@@ -1,9 +1,9 @@
 -- What happens to a lane keeps its face.
 use Rattle.std.proofs.Common.{◌≡◌, ◌⊎◌, ℕ, ◌<◌, ◌≤◌, List, [], ◌++◌, length, take, drop, true, false, sym, ◌∙◌, ap, append_assoc, arith}
-use Rattle.ymx_model.specs.stream.Lanes.{Mark, is_unsaid, is_here, taken_back, Lane, new_lane, lane_write, lane_arrive, lane_vanish, lane_read, lane_return, lane_fin, lane_empty, lane_cut, lane_struck}
-use Rattle.ymx_model.specs.shared.Limits.{first_credit}
-use Rattle.ymx_model.specs.stream.Lanes.Mark.{Said, Here}
-use Rattle.ymx_model.specs.shared.Phases.{Phase, is_up}
+use Rattle.ymx_machine.specs.stream.Lanes.{Mark, is_unsaid, is_here, taken_back, Lane, new_lane, lane_write, lane_arrive, lane_vanish, lane_read, lane_return, lane_fin, lane_empty, lane_cut, lane_struck}
+use Rattle.ymx_machine.specs.shared.Limits.{first_credit}
+use Rattle.ymx_machine.specs.stream.Lanes.Mark.{Said, Here}
+use Rattle.ymx_machine.specs.shared.Phases.{Phase, is_up}
 use Rattle.ymx_law_machine.proofs.faces.Pasts.{Past, Faces}
 use Rattle.ymx_law_machine.proofs.lanes.LaneLaws.{lists, parts}
 

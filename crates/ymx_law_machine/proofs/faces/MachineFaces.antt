@@ -1,16 +1,16 @@
 -- The faces of one stream, over the steps of the machine.
 use Rattle.std.proofs.Common.{◌≡◌, ◌≢◌, ◌⊎◌, inl, inr, ℕ, ◌≤◌, List, [], ◌∷◌, ◌++◌, length, Bool, true, false, ◌||◌, Option, None, Some, refl, sym, ◌∙◌, ap, subst}
-use Rattle.ymx_model.specs.declared.types.Reply.{Reply}
-use Rattle.ymx_model.specs.declared.types.Call.{Call}
-use Rattle.ymx_model.specs.shared.Limits.{first_credit}
-use Rattle.ymx_model.specs.stream.Streams.{Stream, after_move, opened_stream, stream_write, stream_accept}
-use Rattle.ymx_model.specs.stream.Streams.Move.{SynOffered, SynRefused}
-use Rattle.ymx_model.specs.shared.Phases.Phase.{Unborn}
-use Rattle.ymx_model.specs.shared.Lists.{look, change}
-use Rattle.ymx_model.specs.machine.Machines.{Machine, mirror_machine}
-use Rattle.ymx_model.specs.machine.FreeMoves.{FreeMove, MayMove, moved_by, machine_refuses}
-use Rattle.ymx_model.specs.machine.FreeMoves.FreeMove.{OfStream, SynArrives, AwayArrives, PingThere, PingBack}
-use Rattle.ymx_model.proofs.Tests.{when, same_or_not}
+use Rattle.ymx_machine.specs.declared.types.Reply.{Reply}
+use Rattle.ymx_machine.specs.declared.types.Call.{Call}
+use Rattle.ymx_machine.specs.shared.Limits.{first_credit}
+use Rattle.ymx_machine.specs.stream.Streams.{Stream, after_move, opened_stream, stream_write, stream_accept}
+use Rattle.ymx_machine.specs.stream.Streams.Move.{SynOffered, SynRefused}
+use Rattle.ymx_machine.specs.shared.Phases.Phase.{Unborn}
+use Rattle.ymx_machine.specs.shared.Lists.{look, change}
+use Rattle.ymx_machine.specs.machine.Machines.{Machine, mirror_machine}
+use Rattle.ymx_machine.specs.machine.FreeMoves.{FreeMove, MayMove, moved_by, machine_refuses}
+use Rattle.ymx_machine.specs.machine.FreeMoves.FreeMove.{OfStream, SynArrives, AwayArrives, PingThere, PingBack}
+use Rattle.ymx_machine.proofs.Tests.{when, same_or_not}
 use Rattle.ymx_law_machine.proofs.faces.Pasts.{Past, HasFaces}
 use Rattle.ymx_law_machine.proofs.faces.LaneFaces.{wrote}
 use Rattle.ymx_law_machine.proofs.faces.StreamFaces.{past_out, faces-flip, faces-unflip, faces-move, faces-rule, faces-new, faces-accept}

@@ -1,8 +1,8 @@
 -- What one side wrote and what the other got (this project's own).
 use Rattle.std.specs.Prelude.{ℕ, ◌+◌, ◌≡◌, ◌≤◌, List, [], ◌++◌, length, Bool, true, false}
-use Rattle.ymx_model.specs.stream.Lanes.{Lane, is_unsaid, is_here}
-use Rattle.ymx_model.specs.shared.Phases.{Phase, is_up}
-use Rattle.ymx_model.specs.stream.Streams.{Stream}
+use Rattle.ymx_machine.specs.stream.Lanes.{Lane, is_unsaid, is_here}
+use Rattle.ymx_machine.specs.shared.Phases.{Phase, is_up}
+use Rattle.ymx_machine.specs.stream.Streams.{Stream}
 
 -- What has happened to a lane so far: the bytes written, the bytes got, whether its writer's Finish was
 -- done, and whether a read of it was answered with the end.
@@ -23,7 +23,7 @@ pub record Faces (window : ℕ) (writer reader : Phase) (l : Lane) (h : Past) (r
   pub over_fin : h.ended ≡ true → is_here l.fin ≡ true
   pub over_here : h.ended ≡ true → l.here ≡ []
   pub over_rest : h.ended ≡ true → rest ≡ []
-  pub near : is_up reader ≡ true → (length rest + l.credit) + l.owed ≤ window
+  pub near : (length rest + l.credit) + l.owed ≤ window
 
 abbrev pub HasFace : (window : ℕ) → (writer reader : Phase) → Lane → Past → Type 0
 HasFace window writer reader l h = (rest : List ℕ) × (back : List ℕ) × Faces window writer reader l h rest back

@@ -1,27 +1,25 @@
 -- The faces of one stream, over all runs.
 use Rattle.std.proofs.Common.{◌≡◌, ◌≢◌, inl, inr, ℕ, ◌+◌, ◌%◌, ◌≤◌, List, [], ◌∷◌, ◌++◌, take, length, Bool, true, false, ◌||◌, ◌==◌, if◌then◌else◌, Option, None, Some, refl, sym, ◌∙◌, ap, subst, append_assoc, append-nil, length-append, arith}
-use Rattle.ymx_model.specs.declared.types.Side.{Side}
-use Rattle.ymx_model.specs.declared.types.Side.TheVariants.{A, B}
-use Rattle.ymx_model.specs.declared.types.Reply.{Reply}
-use Rattle.ymx_model.specs.declared.types.Reply.TheVariants as reply
-use Rattle.ymx_model.specs.declared.types.Call.{Call}
-use Rattle.ymx_model.specs.declared.types.Call.TheVariants as call
-use Rattle.ymx_model.specs.declared.types.Step.{Step}
-use Rattle.ymx_model.specs.declared.types.Step.TheVariants as step
-use Rattle.ymx_model.specs.declared.types.Answer.{Answer}
-use Rattle.ymx_model.specs.declared.types.Wrote.TheVariants.{Took}
-use Rattle.ymx_model.specs.stream.Lanes.{Mark, Lane, is_unsaid, is_here}
-use Rattle.ymx_model.specs.shared.Limits.{first_credit}
-use Rattle.ymx_model.specs.shared.Phases.{Phase, is_up, is_live}
-use Rattle.ymx_model.specs.stream.Streams.{Stream}
-use Rattle.ymx_model.specs.shared.Phases.Phase.{Live}
-use Rattle.ymx_model.specs.shared.Lists.{look}
-use Rattle.ymx_model.specs.shared.Steps.{is_of_a, answer_of, is_same_side}
-use Rattle.ymx_model.specs.machine.Machines.{Machine, mirror_machine, new_machine}
-use Rattle.ymx_model.specs.machine.Runs.{MachineStepOfA, MachineStep, MachineRun, written_by, got_by, written, got}
-use Rattle.ymx_model.proofs.Tests.{when, or_true}
+use Rattle.ymx_machine.specs.declared.types.Side.{Side}
+use Rattle.ymx_machine.specs.declared.types.Side.TheVariants.{A, B}
+use Rattle.ymx_machine.specs.declared.types.Reply.{Reply}
+use Rattle.ymx_machine.specs.declared.types.Reply.TheVariants as reply
+use Rattle.ymx_machine.specs.declared.types.Call.{Call}
+use Rattle.ymx_machine.specs.declared.types.Call.TheVariants as call
+use Rattle.ymx_machine.specs.declared.types.Step.{Step}
+use Rattle.ymx_machine.specs.declared.types.Step.TheVariants as step
+use Rattle.ymx_machine.specs.declared.types.Answer.{Answer}
+use Rattle.ymx_machine.specs.declared.types.Wrote.TheVariants.{Took}
+use Rattle.ymx_machine.specs.stream.Lanes.{Mark, Lane, is_unsaid, is_here}
+use Rattle.ymx_machine.specs.shared.Limits.{first_credit}
+use Rattle.ymx_machine.specs.shared.Phases.{Phase, is_up}
+use Rattle.ymx_machine.specs.stream.Streams.{Stream}
+use Rattle.ymx_machine.specs.shared.Lists.{look}
+use Rattle.ymx_machine.specs.shared.Steps.{is_of_a, answer_of, is_same_side}
+use Rattle.ymx_machine.specs.machine.Machines.{Machine, mirror_machine, new_machine}
+use Rattle.ymx_machine.specs.machine.Runs.{MachineStepOfA, MachineStep, MachineRun, written_by, got_by, written, got}
+use Rattle.ymx_machine.proofs.Tests.{when, or_true}
 use Rattle.ymx_law_machine.proofs.faces.Pasts.{Past, Faces, HasFace}
-use Rattle.ymx_law_machine.specs.Runs.{is_live_at_a, is_live_at_b}
 use Rattle.ymx_law_machine.specs.Faces.{finished_by, ended_by, finished, ended, IsFaceWithin}
 use Rattle.ymx_law_machine.proofs.faces.LaneFaces.{wrote, gave}
 use Rattle.ymx_law_machine.proofs.lanes.StreamFacts.{if-so_true, if-so_false}
@@ -216,9 +214,9 @@ faced-run mine yours i po pi (st ∷ sts) [] m n w v h k = absurd h
 
 -- ---- what the faces say
 
-lane-within_window : (w : ℕ) (p q : Phase) (l : Lane) (h : Past) (r b : List ℕ) → q ≡ Live → Faces w p q l h r b → length h.written ≤ length h.got + w
-lane-within_window w p q l h r b e c =
-    let n = c.near (ap is_up e) in
+lane-within_window : (w : ℕ) (p q : Phase) (l : Lane) (h : Past) (r b : List ℕ) → Faces w p q l h r b → length h.written ≤ length h.got + w
+lane-within_window w p q l h r b c =
+    let n = c.near in
     let k : length h.written ≡ length h.got + length r = ap length c.begins ∙ length-append h.got r in omega arith
 
 lane-whole : (w : ℕ) (p q : Phase) (l : Lane) (h : Past) (r b : List ℕ) → h.ended ≡ true → Faces w p q l h r b → h.written ≡ h.got
@@ -230,37 +228,34 @@ here-said m e = grind arith
 lane-finish : (w : ℕ) (p q : Phase) (l : Lane) (h : Past) (r b : List ℕ) → h.ended ≡ true → Faces w p q l h r b → h.finished ≡ true
 lane-finish w p q l h r b e c = c.said (here-said l.fin (c.over_fin e))
 
-is-live : (p : Phase) → is_live p ≡ true → p ≡ Live
-is-live p e = grind arith
-
 -- a lane's face, as a fact about its past
-record Says (w : ℕ) (live : Bool) (h : Past) : Type 0 where
+record Says (w : ℕ) (h : Past) : Type 0 where
   begins : (rest : List ℕ) × (h.written ≡ h.got ++ rest)
   whole : h.ended ≡ true → h.written ≡ h.got
   finish : h.ended ≡ true → h.finished ≡ true
-  within_window : live ≡ true → length h.written ≤ length h.got + w
+  within_window : length h.written ≤ length h.got + w
 
-says : (w : ℕ) (p q : Phase) (l : Lane) (h : Past) → HasFace w p q l h → Says w (is_live q) h
+says : (w : ℕ) (p q : Phase) (l : Lane) (h : Past) → HasFace w p q l h → Says w h
 says w p q l h f = record {
   begins = (f.0, f.2.begins);
   whole = λ e. lane-whole w p q l h f.0 f.1 e f.2;
   finish = λ e. lane-finish w p q l h f.0 f.1 e f.2;
-  within_window = λ e. lane-within_window w p q l h f.0 f.1 (is-live q e) f.2;
+  within_window = lane-within_window w p q l h f.0 f.1 f.2;
 }
 
-says-blank : (w : ℕ) (h : Past) → IsBlank h → Says w false h
+says-blank : (w : ℕ) (h : Past) → IsBlank h → Says w h
 says-blank w h b = record {
   begins = ([], b.written ∙ sym (append-nil h.got ∙ b.got));
   whole = λ e. b.written ∙ sym b.got;
   finish = λ e. (let k : true ≡ false = sym e ∙ b.ended in absurd (cc));
-  within_window = λ e. absurd (cc);
+  within_window = (let n : length h.written ≡ 0 = ap length b.written in omega (arith, n));
 }
 
-says-a : (wa wb : ℕ) (po pi : Past) (o : Option Stream) → FaceAt wa wb po pi o → Says wb (is_live_at_b o) po
+says-a : (wa wb : ℕ) (po pi : Past) (o : Option Stream) → FaceAt wa wb po pi o → Says wb po
 says-a wa wb po pi None f = says-blank wb po f.0
 says-a wa wb po pi (Some s) f = says wb s.me s.you s.outbound po f.outbound
 
-says-b : (wa wb : ℕ) (po pi : Past) (o : Option Stream) → FaceAt wa wb po pi o → Says wa (is_live_at_a o) pi
+says-b : (wa wb : ℕ) (po pi : Past) (o : Option Stream) → FaceAt wa wb po pi o → Says wa pi
 says-b wa wb po pi None f = says-blank wa pi f.1
 says-b wa wb po pi (Some s) f = says wa s.you s.me s.inbound pi f.inbound
 
@@ -278,7 +273,7 @@ faced-new wa fa wb fb i p = record {
 -- every stream of every run, in both directions
 pub face : (wa fa wb fb : ℕ) (sts : List Step) (given : List Answer) (n : Machine) (i : ℕ) → first_credit ≤ wa → first_credit ≤ wb → fa % 2 ≢ fb % 2 →
     MachineRun sts given (new_machine wa fa wb fb) n →
-    IsFaceWithin wb (is_live_at_b (look i n.streams)) A B i sts given × IsFaceWithin wa (is_live_at_a (look i n.streams)) B A i sts given
+    IsFaceWithin wb A B i sts given × IsFaceWithin wa B A i sts given
 face wa fa wb fb sts given n i w v p h =
     let k = faced-run wa wb i blank blank sts given (new_machine wa fa wb fb) n w v h (faced-new wa fa wb fb i p) in
     let x = says-a wa wb _ _ (look i n.streams) k.face in

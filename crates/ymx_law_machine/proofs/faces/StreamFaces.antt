@@ -1,21 +1,21 @@
 -- What happens to a stream keeps the faces of its lanes.
 use Rattle.std.proofs.Common.{◌≡◌, ◌⊎◌, inl, inr, ℕ, ◌≤◌, List, [], ◌∷◌, ◌++◌, length, take, drop, Bool, true, false, not, ◌==◌, if◌then◌else◌, refl, sym, ◌∙◌, ap, subst, append-nil, arith}
 use Rattle.std.proofs.lemmas.Bool.Decides.{nat_tests}
-use Rattle.ymx_model.specs.declared.types.Reply.{Reply}
-use Rattle.ymx_model.specs.declared.types.Reply.TheVariants as reply
-use Rattle.ymx_model.specs.declared.types.Wrote.TheVariants.{Took}
-use Rattle.ymx_model.specs.stream.Lanes.{Mark, new_lane, is_unsaid, is_here, lane_struck}
-use Rattle.ymx_model.specs.shared.Limits.{first_credit}
-use Rattle.ymx_model.specs.stream.Lanes.Mark.{Said}
-use Rattle.ymx_model.specs.shared.Phases.{Phase, struck, is_up, takes, is_unborn}
-use Rattle.ymx_model.specs.stream.Streams.{Stream, flip, opened_stream, Move, Allowed, after_move, stream_write, stream_read, stream_finish, stream_accept, stream_forget, stream_reset}
-use Rattle.ymx_model.specs.stream.Streams.Move.{Arrive, EndArrives, Return, SynOffered, SynRefused, AckArrives, ResetArrives, Released}
-use Rattle.ymx_model.specs.shared.Phases.Phase.{Live, Offered, WasReset, Lingering, Refused, Gone, Unborn}
-use Rattle.ymx_model.specs.stream.StreamRules.{StreamCall, StreamRule, ResetsTo, forgets_quietly}
+use Rattle.ymx_machine.specs.declared.types.Reply.{Reply}
+use Rattle.ymx_machine.specs.declared.types.Reply.TheVariants as reply
+use Rattle.ymx_machine.specs.declared.types.Wrote.TheVariants.{Took}
+use Rattle.ymx_machine.specs.stream.Lanes.{Mark, new_lane, is_unsaid, is_here, lane_struck}
+use Rattle.ymx_machine.specs.shared.Limits.{first_credit}
+use Rattle.ymx_machine.specs.stream.Lanes.Mark.{Said}
+use Rattle.ymx_machine.specs.shared.Phases.{Phase, struck, is_up, takes, is_unborn}
+use Rattle.ymx_machine.specs.stream.Streams.{Stream, flip, opened_stream, Move, Allowed, after_move, stream_write, stream_read, stream_finish, stream_accept, stream_forget, stream_reset}
+use Rattle.ymx_machine.specs.stream.Streams.Move.{Arrive, EndArrives, Return, SynOffered, SynRefused, AckArrives, ResetArrives, Released}
+use Rattle.ymx_machine.specs.shared.Phases.Phase.{Live, Offered, WasReset, Lingering, Refused, Gone, Unborn}
+use Rattle.ymx_machine.specs.stream.StreamRules.{StreamCall, StreamRule, ResetsTo, forgets_quietly}
 use Rattle.std.specs.Prelude.{MatchBool}
-use Rattle.ymx_model.specs.shared.Replies.{bytes_moved, is_done, write_reply, read_reply, forget_reply}
-use Rattle.ymx_model.specs.stream.StreamRules.StreamCall.{Writes, Reads, Finishes, Resets, Forgets}
-use Rattle.ymx_model.proofs.Tests.{when}
+use Rattle.ymx_machine.specs.shared.Replies.{bytes_moved, is_done, write_reply, read_reply, forget_reply}
+use Rattle.ymx_machine.specs.stream.StreamRules.StreamCall.{Writes, Reads, Finishes, Resets, Forgets}
+use Rattle.ymx_machine.proofs.Tests.{when}
 use Rattle.ymx_law_machine.proofs.faces.Pasts.{Past, HasFaces}
 use Rattle.ymx_law_machine.proofs.lanes.LaneLaws.{lists}
 use Rattle.ymx_law_machine.proofs.faces.LaneFaces.{wrote, gave, face-new, face-write, face-arrive, face-vanish, face-end, face-read, face-return, face-finish, face-over, face-empty, face-cut, face-struck, face-phases}

@@ -1,9 +1,9 @@
 -- What happens to a lane keeps its law.
 use Rattle.std.proofs.Common.{◌≡◌, ℕ, ◌+◌, ◌-◌, ◌<◌, ◌≤◌, List, [], ◌∷◌, ◌++◌, length, take, drop, Bool, true, false, refl, append_assoc, append-nil, arith, length-append, length-drop}
 use Rattle.std.proofs.lemmas.Grind.{common_steps}
-use Rattle.ymx_model.specs.stream.Lanes.{Mark, Lane, new_lane, lane_write, lane_arrive, lane_vanish, lane_read, lane_return, lane_fin, lane_empty, lane_cut, lane_struck}
-use Rattle.ymx_model.specs.shared.Limits.{first_credit}
-use Rattle.ymx_model.specs.shared.Phases.{Phase, is_up, takes}
+use Rattle.ymx_machine.specs.stream.Lanes.{Mark, Lane, new_lane, lane_write, lane_arrive, lane_vanish, lane_read, lane_return, lane_fin, lane_empty, lane_cut, lane_struck}
+use Rattle.ymx_machine.specs.shared.Limits.{first_credit}
+use Rattle.ymx_machine.specs.shared.Phases.{Phase, is_up, takes}
 use Rattle.ymx_law_machine.specs.LaneLaws.{IsBounded}
 
 pub ruleset lists = (common_steps, append_assoc, length-append, append-nil)

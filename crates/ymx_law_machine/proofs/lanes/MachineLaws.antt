@@ -1,21 +1,21 @@
 -- The law of a lane, over all runs.
 use Rattle.std.proofs.Common.{◌≡◌, ◌⊎◌, inl, inr, ℕ, ◌≤◌, List, [], ◌∷◌, ◌++◌, Bool, true, false, ◌||◌, Option, None, Some, refl, sym, ◌∙◌, ap, subst}
-use Rattle.ymx_model.specs.declared.types.Reply.{Reply}
-use Rattle.ymx_model.specs.declared.types.Call.{Call}
-use Rattle.ymx_model.specs.declared.types.Step.{Step}
-use Rattle.ymx_model.specs.declared.types.Step.TheVariants as step
-use Rattle.ymx_model.specs.declared.types.Answer.{Answer}
-use Rattle.ymx_model.specs.shared.Limits.{first_credit}
-use Rattle.ymx_model.specs.shared.Phases.Phase.{Unborn}
-use Rattle.ymx_model.specs.stream.Streams.{Stream, after_move, opened_stream, stream_write, stream_accept}
-use Rattle.ymx_model.specs.stream.Streams.Move.{SynOffered, SynRefused}
-use Rattle.ymx_model.specs.shared.Lists.{look, change}
-use Rattle.ymx_model.specs.shared.Steps.{is_of_a}
-use Rattle.ymx_model.specs.machine.Machines.{Machine, mirror_machine, new_machine}
-use Rattle.ymx_model.specs.machine.FreeMoves.{FreeMove, MayMove, moved_by, machine_refuses}
-use Rattle.ymx_model.specs.machine.FreeMoves.FreeMove.{OfStream, SynArrives, AwayArrives, PingThere, PingBack}
-use Rattle.ymx_model.specs.machine.Runs.{MachineStepOfA, MachineStep, MachineRun}
-use Rattle.ymx_model.proofs.Tests.{when, same_or_not}
+use Rattle.ymx_machine.specs.declared.types.Reply.{Reply}
+use Rattle.ymx_machine.specs.declared.types.Call.{Call}
+use Rattle.ymx_machine.specs.declared.types.Step.{Step}
+use Rattle.ymx_machine.specs.declared.types.Step.TheVariants as step
+use Rattle.ymx_machine.specs.declared.types.Answer.{Answer}
+use Rattle.ymx_machine.specs.shared.Limits.{first_credit}
+use Rattle.ymx_machine.specs.shared.Phases.Phase.{Unborn}
+use Rattle.ymx_machine.specs.stream.Streams.{Stream, after_move, opened_stream, stream_write, stream_accept}
+use Rattle.ymx_machine.specs.stream.Streams.Move.{SynOffered, SynRefused}
+use Rattle.ymx_machine.specs.shared.Lists.{look, change}
+use Rattle.ymx_machine.specs.shared.Steps.{is_of_a}
+use Rattle.ymx_machine.specs.machine.Machines.{Machine, mirror_machine, new_machine}
+use Rattle.ymx_machine.specs.machine.FreeMoves.{FreeMove, MayMove, moved_by, machine_refuses}
+use Rattle.ymx_machine.specs.machine.FreeMoves.FreeMove.{OfStream, SynArrives, AwayArrives, PingThere, PingBack}
+use Rattle.ymx_machine.specs.machine.Runs.{MachineStepOfA, MachineStep, MachineRun}
+use Rattle.ymx_machine.proofs.Tests.{when, same_or_not}
 use Rattle.ymx_law_machine.specs.LaneLaws.{ObeysWindows}
 use Rattle.ymx_law_machine.specs.Runs.{ObeysAt}
 use Rattle.ymx_law_machine.proofs.lanes.StreamFacts.{if-so_true, if-so_false}

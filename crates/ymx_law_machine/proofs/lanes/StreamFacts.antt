@@ -1,11 +1,11 @@
 -- What the rules of a stream's calls say.
 use Rattle.std.proofs.Common.{◌≡◌, ℕ, ◌≤◌, List, length, take, Bool, true, false, ◌==◌, subst, arith}
 use Rattle.std.proofs.lemmas.Bool.Decides.{nat_tests}
-use Rattle.ymx_model.specs.declared.types.Reply.TheVariants.{ReadEnd}
-use Rattle.ymx_model.specs.shared.Phases.{Phase, is_up, takes, is_unborn}
-use Rattle.ymx_model.specs.shared.Phases.Phase.{Live}
+use Rattle.ymx_machine.specs.declared.types.Reply.TheVariants.{ReadEnd}
+use Rattle.ymx_machine.specs.shared.Phases.{Phase, is_up, takes, is_unborn}
+use Rattle.ymx_machine.specs.shared.Phases.Phase.{Live}
 use Rattle.std.specs.Prelude.{MatchBool}
-use Rattle.ymx_model.specs.shared.Replies.{bytes_moved, is_done, write_reply, read_reply, finish_reply, reset_reply}
+use Rattle.ymx_machine.specs.shared.Replies.{bytes_moved, is_done, write_reply, read_reply, finish_reply, reset_reply}
 use Rattle.ymx_law_machine.proofs.lanes.LaneLaws.{lists}
 
 pub if-so_true : (b : Bool) (P Q : Type 0) → b ≡ true → MatchBool b P Q → P

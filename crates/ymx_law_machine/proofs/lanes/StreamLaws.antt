@@ -1,17 +1,17 @@
 -- What happens to a stream keeps the law of its lanes.
 use Rattle.std.proofs.Common.{◌≡◌, ◌⊎◌, inl, inr, ℕ, ◌≤◌, List, length, take, Bool, true, false, not, refl, sym, ap, subst, arith}
-use Rattle.ymx_model.specs.declared.types.Reply.{Reply}
-use Rattle.ymx_model.specs.stream.Lanes.{Mark, new_lane, is_unsaid}
-use Rattle.ymx_model.specs.shared.Limits.{first_credit}
-use Rattle.ymx_model.specs.shared.Phases.{Phase, struck, is_up, takes, is_unborn}
-use Rattle.ymx_model.specs.stream.Streams.{Stream, flip, opened_stream, Move, Allowed, after_move, stream_write, stream_accept, stream_forget, stream_reset}
-use Rattle.ymx_model.specs.stream.Streams.Move.{Arrive, EndArrives, Return, SynOffered, SynRefused, AckArrives, ResetArrives, Released}
-use Rattle.ymx_model.specs.shared.Phases.Phase.{Live, Offered, WasReset, Lingering, Refused, Gone, Unborn}
-use Rattle.ymx_model.specs.stream.StreamRules.{StreamCall, StreamRule, ResetsTo, forgets_quietly}
+use Rattle.ymx_machine.specs.declared.types.Reply.{Reply}
+use Rattle.ymx_machine.specs.stream.Lanes.{Mark, new_lane, is_unsaid}
+use Rattle.ymx_machine.specs.shared.Limits.{first_credit}
+use Rattle.ymx_machine.specs.shared.Phases.{Phase, struck, is_up, takes, is_unborn}
+use Rattle.ymx_machine.specs.stream.Streams.{Stream, flip, opened_stream, Move, Allowed, after_move, stream_write, stream_accept, stream_forget, stream_reset}
+use Rattle.ymx_machine.specs.stream.Streams.Move.{Arrive, EndArrives, Return, SynOffered, SynRefused, AckArrives, ResetArrives, Released}
+use Rattle.ymx_machine.specs.shared.Phases.Phase.{Live, Offered, WasReset, Lingering, Refused, Gone, Unborn}
+use Rattle.ymx_machine.specs.stream.StreamRules.{StreamCall, StreamRule, ResetsTo, forgets_quietly}
 use Rattle.std.specs.Prelude.{MatchBool}
-use Rattle.ymx_model.specs.shared.Replies.{bytes_moved, is_done}
-use Rattle.ymx_model.specs.stream.StreamRules.StreamCall.{Writes, Reads, Finishes, Resets, Forgets}
-use Rattle.ymx_model.proofs.Tests.{when}
+use Rattle.ymx_machine.specs.shared.Replies.{bytes_moved, is_done}
+use Rattle.ymx_machine.specs.stream.StreamRules.StreamCall.{Writes, Reads, Finishes, Resets, Forgets}
+use Rattle.ymx_machine.proofs.Tests.{when}
 use Rattle.ymx_law_machine.specs.LaneLaws.{ObeysWindows}
 use Rattle.ymx_law_machine.proofs.lanes.LaneLaws.{law-new, law-write, law-arrive, law-vanish, law-read, law-return, law-fin, law-empty, law-cut, law-struck_writer, law-struck_reader, law-phases}
 use Rattle.ymx_law_machine.proofs.lanes.StreamFacts.{if-so_true, if-so_false, write-fits, born-up}

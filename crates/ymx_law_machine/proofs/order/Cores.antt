@@ -1,21 +1,21 @@
 -- What the laws see of a machine, and its offered lists.
 use Rattle.std.proofs.Common.{◌≡◌, ◌≢◌, ◌⊎◌, inl, inr, ℕ, List, [], ◌∷◌, ◌++◌, Bool, true, false, ◌||◌, if◌then◌else◌, map, Option, None, Some, refl, sym, ◌∙◌, ap, subst, arith}
-use Rattle.ymx_model.specs.declared.types.Reply.{Reply}
-use Rattle.ymx_model.specs.declared.types.Call.{Call}
-use Rattle.ymx_model.specs.stream.Lanes.{Mark}
-use Rattle.ymx_model.specs.shared.Phases.{Phase, struck, is_offered}
-use Rattle.ymx_model.specs.stream.Streams.{Stream, Move, Allowed, after_move, stream_accept}
-use Rattle.ymx_model.specs.shared.Phases.Phase.{Offered, Unborn, WasReset, Lingering}
-use Rattle.ymx_model.specs.stream.Streams.Move.{Arrive, EndArrives, Return, SynOffered, SynRefused, AckArrives, ResetArrives, Released}
-use Rattle.ymx_model.specs.stream.StreamRules.{StreamCall, StreamRule, ResetsTo, forgets_quietly}
-use Rattle.ymx_model.specs.shared.Replies.{is_done, reset_reply, forget_reply}
-use Rattle.ymx_model.specs.stream.StreamRules.StreamCall.{Writes, Reads, Finishes, Resets, Forgets}
-use Rattle.ymx_model.specs.shared.Lists.{look, change, drop_id}
-use Rattle.ymx_model.specs.machine.Machines.{Machine, SideState, flip_entry, mirror_machine, new_machine}
-use Rattle.ymx_model.specs.machine.FreeMoves.{FreeMove, MayMove, moved_by, FreeMoves, Releases, move_is_syn, is_reset_arriving, machine_refuses}
-use Rattle.ymx_model.specs.machine.FreeMoves.FreeMove.{OfStream, SynArrives, AwayArrives, PingThere, PingBack}
-use Rattle.ymx_model.specs.machine.Runs.{side_input_ends}
-use Rattle.ymx_model.proofs.Tests.{when, same_or_not}
+use Rattle.ymx_machine.specs.declared.types.Reply.{Reply}
+use Rattle.ymx_machine.specs.declared.types.Call.{Call}
+use Rattle.ymx_machine.specs.stream.Lanes.{Mark}
+use Rattle.ymx_machine.specs.shared.Phases.{Phase, struck, is_offered}
+use Rattle.ymx_machine.specs.stream.Streams.{Stream, Move, Allowed, after_move, stream_accept}
+use Rattle.ymx_machine.specs.shared.Phases.Phase.{Offered, Unborn, WasReset, Lingering}
+use Rattle.ymx_machine.specs.stream.Streams.Move.{Arrive, EndArrives, Return, SynOffered, SynRefused, AckArrives, ResetArrives, Released}
+use Rattle.ymx_machine.specs.stream.StreamRules.{StreamCall, StreamRule, ResetsTo, forgets_quietly}
+use Rattle.ymx_machine.specs.shared.Replies.{is_done, reset_reply, forget_reply}
+use Rattle.ymx_machine.specs.stream.StreamRules.StreamCall.{Writes, Reads, Finishes, Resets, Forgets}
+use Rattle.ymx_machine.specs.shared.Lists.{look, change, drop_id}
+use Rattle.ymx_machine.specs.machine.Machines.{Machine, SideState, flip_entry, mirror_machine, new_machine}
+use Rattle.ymx_machine.specs.machine.FreeMoves.{FreeMove, MayMove, moved_by, FreeMoves, Releases, move_is_syn, is_reset_arriving, machine_refuses}
+use Rattle.ymx_machine.specs.machine.FreeMoves.FreeMove.{OfStream, SynArrives, AwayArrives, PingThere, PingBack}
+use Rattle.ymx_machine.specs.machine.Runs.{side_input_ends}
+use Rattle.ymx_machine.proofs.Tests.{when, same_or_not}
 use Rattle.ymx_law_machine.proofs.lanes.StreamFacts.{if-so_true, if-so_false}
 use Rattle.ymx_law_machine.proofs.order.Maps.{look-change, look-change_other, look-add, look-add_other, look-add_there, flipped, look-mirror, all-pass, pass-at, all-add, all-drop, in-drop, in-add, in-added, in-rest}
 use Rattle.ymx_law_machine.specs.Numbers.{is_in, AllOnce, offered_here, offered_there, IsOfferedList}

@@ -1,12 +1,12 @@
 -- What stands under a number after a change, as the machine's laws ask for it, and lists of numbers that pass a test.
 use Rattle.std.proofs.Common.{◌≡◌, ◌≢◌, inl, inr, ℕ, List, [], ◌∷◌, ◌++◌, Bool, true, false, ◌==◌, map, Option, None, Some, refl, subst, arith}
 use Rattle.std.proofs.lemmas.Bool.Decides.{nat_tests}
-use Rattle.ymx_model.specs.stream.Streams.{Stream, flip}
-use Rattle.ymx_model.specs.shared.Lists.{look, change, drop_id}
-use Rattle.ymx_model.specs.machine.Machines.{flip_entry}
+use Rattle.ymx_machine.specs.stream.Streams.{Stream, flip}
+use Rattle.ymx_machine.specs.shared.Lists.{look, change, drop_id}
+use Rattle.ymx_machine.specs.machine.Machines.{flip_entry}
 use Rattle.ymx_law_machine.specs.Numbers.{is_in, AllOnce}
-use Rattle.ymx_model.proofs.Tests.{when, is-self, is-other}
-use Rattle.ymx_model.proofs.Lists.{look-change_there, look-change_other as others-change, look-added_same, look-added_other, look-added_there}
+use Rattle.ymx_machine.proofs.Tests.{when, is-self, is-other}
+use Rattle.ymx_machine.proofs.Lists.{look-change_there, look-change_other as others-change, look-added_same, look-added_other, look-added_there}
 
 pub look-change : {X : Type 0} (i : ℕ) (f : X → X) (xs : List (ℕ × X)) (x : X) → look i xs ≡ Some x → look i (change i f xs) ≡ Some (f x)
 look-change i f xs x e = look-change_there i f xs x e

@@ -1,18 +1,18 @@
 -- A stream's number is below its opener's next and of its kind, so no number comes again.
 use Rattle.std.proofs.Common.{◌≡◌, ◌≢◌, ◌⊎◌, inl, inr, ℕ, ◌+◌, ◌%◌, List, [], ◌∷◌, ◌++◌, Bool, true, false, not, ◌||◌, map, Option, None, Some, refl, sym, ◌∙◌, ap, subst, arith}
-use Rattle.ymx_model.specs.declared.types.Reply.{Reply}
-use Rattle.ymx_model.specs.declared.types.Call.{Call}
-use Rattle.ymx_model.specs.stream.Streams.{Stream, Move, after_move, stream_accept}
-use Rattle.ymx_model.specs.stream.Streams.Move.{Arrive, EndArrives, Return, SynOffered, SynRefused, AckArrives, ResetArrives, Released}
-use Rattle.ymx_model.specs.stream.StreamRules.{StreamCall, StreamRule, forgets_quietly}
-use Rattle.ymx_model.specs.shared.Replies.{is_done}
-use Rattle.ymx_model.specs.stream.StreamRules.StreamCall.{Writes, Reads, Finishes, Resets, Forgets}
-use Rattle.ymx_model.specs.shared.Lists.{look, change}
-use Rattle.ymx_model.specs.machine.Machines.{Machine, flip_entry, mirror_machine}
-use Rattle.ymx_model.specs.machine.FreeMoves.{FreeMove, MayMove, moved_by, is_reset_arriving, machine_refuses}
-use Rattle.ymx_model.specs.machine.FreeMoves.FreeMove.{OfStream, SynArrives, AwayArrives, PingThere, PingBack}
-use Rattle.ymx_model.proofs.Tests.{when, same_or_not}
-use Rattle.ymx_model.proofs.Lists.{distinct-change, distinct-added}
+use Rattle.ymx_machine.specs.declared.types.Reply.{Reply}
+use Rattle.ymx_machine.specs.declared.types.Call.{Call}
+use Rattle.ymx_machine.specs.stream.Streams.{Stream, Move, after_move, stream_accept}
+use Rattle.ymx_machine.specs.stream.Streams.Move.{Arrive, EndArrives, Return, SynOffered, SynRefused, AckArrives, ResetArrives, Released}
+use Rattle.ymx_machine.specs.stream.StreamRules.{StreamCall, StreamRule, forgets_quietly}
+use Rattle.ymx_machine.specs.shared.Replies.{is_done}
+use Rattle.ymx_machine.specs.stream.StreamRules.StreamCall.{Writes, Reads, Finishes, Resets, Forgets}
+use Rattle.ymx_machine.specs.shared.Lists.{look, change}
+use Rattle.ymx_machine.specs.machine.Machines.{Machine, flip_entry, mirror_machine}
+use Rattle.ymx_machine.specs.machine.FreeMoves.{FreeMove, MayMove, moved_by, is_reset_arriving, machine_refuses}
+use Rattle.ymx_machine.specs.machine.FreeMoves.FreeMove.{OfStream, SynArrives, AwayArrives, PingThere, PingBack}
+use Rattle.ymx_machine.proofs.Tests.{when, same_or_not}
+use Rattle.ymx_machine.proofs.Lists.{distinct-change, distinct-added}
 use Rattle.ymx_law_machine.specs.Numbers.{NumbersOnce, HasNumber, HasNumberAt}
 use Rattle.ymx_law_machine.proofs.lanes.StreamFacts.{if-so_true, if-so_false}
 use Rattle.ymx_law_machine.proofs.order.Maps.{look-change, look-change_other, look-add, look-add_other, flipped, look-mirror}

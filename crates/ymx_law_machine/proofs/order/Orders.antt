@@ -1,14 +1,14 @@
 -- Each step keeps the order of the numbers.
 use Rattle.std.proofs.Common.{◌≡◌, ◌≢◌, ◌%◌, inl, inr, ℕ, None, refl, sym, ◌∙◌, ap, subst, [], ◌∷◌, List}
-use Rattle.ymx_model.specs.declared.types.Step.{Step}
-use Rattle.ymx_model.specs.declared.types.Step.TheVariants as step
-use Rattle.ymx_model.specs.declared.types.Answer.{Answer}
-use Rattle.ymx_model.specs.shared.Lists.{look}
-use Rattle.ymx_model.specs.machine.Machines.{Machine, mirror_machine, new_machine}
-use Rattle.ymx_model.specs.machine.FreeMoves.{FreeMove, MayMove, moved_by}
-use Rattle.ymx_model.specs.machine.Runs.{MachineStep, MachineStepOfA, MachineRun}
-use Rattle.ymx_model.specs.shared.Steps.{is_of_a}
-use Rattle.ymx_model.proofs.Tests.{when}
+use Rattle.ymx_machine.specs.declared.types.Step.{Step}
+use Rattle.ymx_machine.specs.declared.types.Step.TheVariants as step
+use Rattle.ymx_machine.specs.declared.types.Answer.{Answer}
+use Rattle.ymx_machine.specs.shared.Lists.{look}
+use Rattle.ymx_machine.specs.machine.Machines.{Machine, mirror_machine, new_machine}
+use Rattle.ymx_machine.specs.machine.FreeMoves.{FreeMove, MayMove, moved_by}
+use Rattle.ymx_machine.specs.machine.Runs.{MachineStep, MachineStepOfA, MachineRun}
+use Rattle.ymx_machine.specs.shared.Steps.{is_of_a}
+use Rattle.ymx_machine.proofs.Tests.{when}
 use Rattle.ymx_law_machine.specs.Numbers.{HasOrder, HasBothParities}
 use Rattle.ymx_law_machine.proofs.lanes.StreamFacts.{if-so_true, if-so_false}
 use Rattle.ymx_law_machine.proofs.faces.Effects.{effect}

@@ -2,26 +2,26 @@
 use Rattle.std.proofs.Common.{◌≡◌, ◌≢◌, ◌⊎◌, inl, inr, ℕ, zero, suc, List, [], ◌∷◌, length, min, Bool, true, false, not, ◌||◌, ◌&&◌, nat_le, if◌then◌else◌, Option, None, Some, refl, sym, ◌∙◌, ap, arith}
 use Rattle.std.proofs.lemmas.Grind.{common_steps}
 use Rattle.std.proofs.lemmas.Bool.Decides.{nat_tests}
-use Rattle.ymx_model.specs.declared.types.Call.{Call}
-use Rattle.ymx_model.specs.declared.types.Call.TheVariants as call
-use Rattle.ymx_model.specs.declared.types.CallFault.{CallFault}
-use Rattle.ymx_model.specs.declared.types.CallFault.TheVariants as fault
-use Rattle.ymx_model.specs.declared.types.Reply.{Reply}
-use Rattle.ymx_model.specs.declared.types.Reply.TheVariants as reply
-use Rattle.ymx_model.specs.declared.types.Wrote.TheVariants.{Took}
-use Rattle.ymx_model.specs.shared.Limits.{first_credit}
-use Rattle.ymx_model.specs.stream.Lanes.{is_unsaid, is_here}
-use Rattle.ymx_model.specs.stream.Streams.{Stream, after_move, stream_accept}
-use Rattle.ymx_model.specs.stream.Streams.Move.{SynOffered, SynRefused}
-use Rattle.ymx_model.specs.stream.StreamRules.{StreamCall, StreamRule}
-use Rattle.ymx_model.specs.shared.Replies.{bytes_moved, write_reply, read_reply, finish_reply, reset_reply, forget_reply}
-use Rattle.ymx_model.specs.stream.StreamRules.StreamCall.{Writes, Reads, Finishes, Resets, Forgets}
-use Rattle.ymx_model.specs.shared.Lists.{look}
-use Rattle.ymx_model.specs.machine.Machines.{Machine}
-use Rattle.ymx_model.specs.machine.CallRules.{open_refusal, OpenRule, AcceptRule, OnStream, PingRule, PongedRule, OpenSideRule, Rule, is_close, found_back, free_number}
-use Rattle.ymx_model.specs.machine.FreeMoves.{FreeMove, moved_by, machine_refuses}
-use Rattle.ymx_model.specs.machine.FreeMoves.FreeMove.{OfStream, SynArrives, AwayArrives, PingThere, PingBack}
-use Rattle.ymx_model.proofs.Tests.{when}
+use Rattle.ymx_machine.specs.declared.types.Call.{Call}
+use Rattle.ymx_machine.specs.declared.types.Call.TheVariants as call
+use Rattle.ymx_machine.specs.declared.types.CallFault.{CallFault}
+use Rattle.ymx_machine.specs.declared.types.CallFault.TheVariants as fault
+use Rattle.ymx_machine.specs.declared.types.Reply.{Reply}
+use Rattle.ymx_machine.specs.declared.types.Reply.TheVariants as reply
+use Rattle.ymx_machine.specs.declared.types.Wrote.TheVariants.{Took}
+use Rattle.ymx_machine.specs.shared.Limits.{first_credit}
+use Rattle.ymx_machine.specs.stream.Lanes.{is_unsaid, is_here}
+use Rattle.ymx_machine.specs.stream.Streams.{Stream, after_move, stream_accept}
+use Rattle.ymx_machine.specs.stream.Streams.Move.{SynOffered, SynRefused}
+use Rattle.ymx_machine.specs.stream.StreamRules.{StreamCall, StreamRule}
+use Rattle.ymx_machine.specs.shared.Replies.{bytes_moved, write_reply, read_reply, finish_reply, reset_reply, forget_reply}
+use Rattle.ymx_machine.specs.stream.StreamRules.StreamCall.{Writes, Reads, Finishes, Resets, Forgets}
+use Rattle.ymx_machine.specs.shared.Lists.{look}
+use Rattle.ymx_machine.specs.machine.Machines.{Machine}
+use Rattle.ymx_machine.specs.machine.CallRules.{open_refusal, OpenRule, AcceptRule, OnStream, PingRule, PongedRule, OpenSideRule, Rule, is_close, found_back, free_number}
+use Rattle.ymx_machine.specs.machine.FreeMoves.{FreeMove, moved_by, machine_refuses}
+use Rattle.ymx_machine.specs.machine.FreeMoves.FreeMove.{OfStream, SynArrives, AwayArrives, PingThere, PingBack}
+use Rattle.ymx_machine.proofs.Tests.{when}
 use Rattle.ymx_law_machine.specs.Others.{touched, touched_by, needs_memory}
 use Rattle.ymx_law_machine.proofs.lanes.StreamFacts.{if-so_true, if-so_false}
 use Rattle.ymx_law_machine.proofs.order.Maps.{look-change_other, look-add_other}

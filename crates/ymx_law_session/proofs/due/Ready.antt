@@ -5,7 +5,7 @@ use Rattle.std.proofs.lemmas.Grind.{common_steps}
 use Rattle.std.proofs.lemmas.Bool.Decides.{nat_tests}
 use Rattle.ymx_model.specs.declared.types.Response.{Response}
 use Rattle.ymx_model.specs.declared.types.Response.TheVariants.{Pong, Reject}
-use Rattle.ymx_model.specs.shared.Limits.{first_credit, data_limit}
+use Rattle.ymx_machine.specs.shared.Limits.{first_credit, data_limit}
 use Rattle.ymx_model.specs.session.Records.{End}
 use Rattle.ymx_model.specs.declared.types.FrameKind.{FrameKind}
 use Rattle.ymx_model.specs.session.FramesDue.{next_kind, is_due, is_empty, spelled}
@@ -13,12 +13,12 @@ use Rattle.ymx_model.specs.declared.types.FrameKind.TheVariants.{Open, OpenWith,
 use Rattle.ymx_model.specs.session.Pings.{first_asked, has_asked, begin_ping}
 use Rattle.ymx_model.specs.session.GoAway.{away_due, begin_away}
 use Rattle.ymx_model.specs.session.Tables.{Table, any_due, due_ids, round}
-use Rattle.ymx_model.specs.shared.Lists.{look, Distinct}
+use Rattle.ymx_machine.specs.shared.Lists.{look, Distinct}
 use Rattle.ymx_model.specs.session.Sessions.{Session, is_running, is_broken}
 use Rattle.ymx_model.specs.session.Emissions.{Choice, begin, begin_answer, begin_stream, begin_kind, begins, alarm_frame, go_away_frame, ping_frame, Ready, Flows, Emits, moves_on, is_ready, no_answers, in_turn, is_first, freely}
 use Rattle.ymx_model.specs.session.Emissions.Choice.{TheAlarm, TheGoAway, TheAnswer, ThePing, AStream}
 use Rattle.ymx_law_session.specs.Limits.{IsWithin}
-use Rattle.ymx_model.proofs.Tests.{both_of, none_of, or_true}
+use Rattle.ymx_machine.proofs.Tests.{both_of, none_of, or_true}
 use Rattle.ymx_law_session.proofs.limits.Pings.{asked-first, asked-some}
 use Rattle.ymx_law_session.proofs.due.Goes.{emits-freely}
 use Rattle.ymx_law_session.proofs.limits.EmissionsKeep.{some_if, none_if, if_some, ready-keeps, moves-keep}

@@ -2,9 +2,9 @@
 use Rattle.std.proofs.Common.{◌≡◌, ℕ, suc, ◌+◌, ◌<◌, ◌≤◌, List, [], ◌∷◌, length, take, min, Bool, true, false, ◌==◌, refl, arith}
 use Rattle.ymx_model.specs.declared.types.Event.{Event}
 use Rattle.ymx_model.specs.declared.types.Event.TheVariants as event
-use Rattle.ymx_model.specs.declared.types.Fed.{Fed}
-use Rattle.ymx_model.specs.declared.types.Reply.{Reply}
-use Rattle.ymx_model.specs.declared.types.Reply.TheVariants.{Fed as FedReply, Emitted, Done}
+use Rattle.ymx_machine.specs.declared.types.Fed.{Fed}
+use Rattle.ymx_machine.specs.declared.types.Reply.{Reply}
+use Rattle.ymx_machine.specs.declared.types.Reply.TheVariants.{Fed as FedReply, Emitted, Done}
 use Rattle.ymx_model.specs.session.Sessions.{Session}
 use Rattle.ymx_model.specs.session.Calls.{outcome, feed_end}
 use Rattle.ymx_model.specs.session.Feeds.{Feeds, Takes, is_stuck, byte_comes, starves, why_of}

@@ -1,22 +1,22 @@
 -- Every event leaves no spent record.
 use Rattle.std.proofs.Common.{◌≡◌, ◌≢◌, ◌⊎◌, inl, inr, ℕ, List, [], ◌∷◌, ◌++◌, length, take, Bool, true, false, not, ◌&&◌, ◌==◌, nat_le, if◌then◌else◌, None, Some, refl, sym, ap, ◌∙◌, subst, arith}
-use Rattle.ymx_model.specs.declared.types.Reply.{Reply}
-use Rattle.ymx_model.specs.declared.types.Call.{Call}
-use Rattle.ymx_model.specs.declared.types.Call.TheVariants as call
-use Rattle.ymx_model.specs.shared.Limits.{first_credit, most_pings}
-use Rattle.ymx_model.specs.shared.Phases.{Phase, is_lingering}
-use Rattle.ymx_model.specs.shared.Replies.{forget_reply, bytes_moved, is_done, unless_refused}
+use Rattle.ymx_machine.specs.declared.types.Reply.{Reply}
+use Rattle.ymx_machine.specs.declared.types.Call.{Call}
+use Rattle.ymx_machine.specs.declared.types.Call.TheVariants as call
+use Rattle.ymx_machine.specs.shared.Limits.{first_credit, most_pings}
+use Rattle.ymx_machine.specs.shared.Phases.{Phase, is_lingering}
+use Rattle.ymx_machine.specs.shared.Replies.{forget_reply, bytes_moved, is_done, unless_refused}
 use Rattle.ymx_model.specs.session.Records.{End, end_accept, end_forget}
 use Rattle.ymx_model.specs.session.FramesDue.{is_due, is_empty}
 use Rattle.ymx_model.specs.session.Pings.{has_back}
-use Rattle.ymx_model.specs.shared.Lists.{look, Distinct}
+use Rattle.ymx_machine.specs.shared.Lists.{look, Distinct}
 use Rattle.ymx_model.specs.session.Tables.{remove_record}
 use Rattle.ymx_model.specs.session.Sessions.{Session, Outgoing, belongs_to, is_lost, is_closed, is_spent, on_stream, settle}
 use Rattle.ymx_model.specs.session.Calls.{Outcome, outcome, session_opened, accept_of, write_outcome, read_outcome, finish_outcome, reset_outcome, forget_outcome}
 use Rattle.ymx_law_session.specs.Limits.{IsWithin}
 use Rattle.ymx_law_session.specs.Settled.{IsSettled}
-use Rattle.ymx_model.proofs.Tests.{split, same_or_not, one_some}
-use Rattle.ymx_model.proofs.Lists.{look_before, look-added_before, look-change_other, look-without_before, distinct-change}
+use Rattle.ymx_machine.proofs.Tests.{split, same_or_not, one_some}
+use Rattle.ymx_machine.proofs.Lists.{look_before, look-added_before, look-change_other, look-without_before, distinct-change}
 use Rattle.ymx_law_session.proofs.limits.CallsKeep.{open_or-keeps, with-keeps}
 
 -- ---- one record changes

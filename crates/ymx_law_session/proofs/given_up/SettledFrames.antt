@@ -12,17 +12,17 @@ use Rattle.ymx_model.specs.declared.types.Response.TheVariants.{Pong, Reject}
 use Rattle.ymx_model.specs.declared.types.Event.{Event}
 use Rattle.ymx_model.specs.declared.types.Event.TheVariants as event
 use Rattle.ymx_model.specs.declared.types.Entry.{Entry}
-use Rattle.ymx_model.specs.declared.types.Reply.{Reply}
-use Rattle.ymx_model.specs.declared.types.Call.{Call}
+use Rattle.ymx_machine.specs.declared.types.Reply.{Reply}
+use Rattle.ymx_machine.specs.declared.types.Call.{Call}
 use Rattle.ymx_model.specs.declared.types.Role.{Role}
-use Rattle.ymx_model.specs.shared.Limits.{first_credit}
-use Rattle.ymx_model.specs.shared.Phases.{Phase, is_offered, is_lingering, takes}
+use Rattle.ymx_machine.specs.shared.Limits.{first_credit}
+use Rattle.ymx_machine.specs.shared.Phases.{Phase, is_offered, is_lingering, takes}
 use Rattle.ymx_model.specs.session.Records.{End, takes_payload, receive_data, receive_credit, receive_fin, receive_ack, receive_rst, receive_piece}
 use Rattle.ymx_model.specs.declared.types.FrameKind.{FrameKind}
 use Rattle.ymx_model.specs.session.FramesDue.{is_due, is_empty, begin_frame, spelled, next_kind}
 use Rattle.ymx_model.specs.session.Pings.{receive_answer, has_asked, begin_ping, first_asked}
 use Rattle.ymx_model.specs.session.GoAway.{away_due, begin_away}
-use Rattle.ymx_model.specs.shared.Lists.{look, change, Distinct, drop_id}
+use Rattle.ymx_machine.specs.shared.Lists.{look, change, Distinct, drop_id}
 use Rattle.ymx_model.specs.session.Tables.{insert_record, remove_record, with_record, pass_turn}
 use Rattle.ymx_model.specs.session.Sessions.{Session, Incoming, new_session, nothing_outgoing, is_own, belongs_to, is_closed, is_deaf, is_running, is_broken, is_spent, on_stream, settle, breaks}
 use Rattle.ymx_model.specs.session.Sessions.Incoming.{Head, Payload}
@@ -35,8 +35,8 @@ use Rattle.ymx_model.specs.session.Histories.{CallGives, Gives, ReplaysFrom}
 use Rattle.ymx_model.specs.session.Histories.CallGives.{Outcome, NoMemory}
 use Rattle.ymx_law_session.specs.Limits.{IsWithin}
 use Rattle.ymx_law_session.specs.Settled.{IsSettled, NoneLingers}
-use Rattle.ymx_model.proofs.Tests.{split, both_of, none_of, same_or_not, or_true, one_some}
-use Rattle.ymx_model.proofs.Lists.{look-change_other, look-without_before, distinct-change, distinct-added}
+use Rattle.ymx_machine.proofs.Tests.{split, both_of, none_of, same_or_not, or_true, one_some}
+use Rattle.ymx_machine.proofs.Lists.{look-change_other, look-without_before, distinct-change, distinct-added}
 use Rattle.ymx_law_session.proofs.limits.FramesKeep.{unless_fault-keeps, none_of_look, syn_chain}
 use Rattle.ymx_law_session.proofs.limits.FeedsKeep.{byte-keeps}
 use Rattle.ymx_law_session.proofs.limits.HistoriesKeep.{gives-keep}

@@ -4,22 +4,22 @@ use Rattle.std.specs.Prelude.{count_by}
 use Rattle.std.proofs.lemmas.Bool.Decides.{nat_tests}
 use Rattle.ymx_model.specs.declared.types.Role.{Role}
 use Rattle.ymx_model.specs.declared.types.Role.TheVariants.{Client, Server}
-use Rattle.ymx_model.specs.declared.types.Reply.{Reply}
-use Rattle.ymx_model.specs.declared.types.Call.{Call}
-use Rattle.ymx_model.specs.declared.types.Call.TheVariants as call
-use Rattle.ymx_model.specs.shared.Limits.{first_credit, most_pings, most_records, most_unacknowledged}
-use Rattle.ymx_model.specs.shared.Phases.{is_offered, is_live, is_reset, is_lingering, takes, Phase}
-use Rattle.ymx_model.specs.shared.Phases.Phase.{Live, WasReset}
-use Rattle.ymx_model.specs.shared.Replies.{write_reply, read_reply, finish_reply, reset_reply, forget_reply, bytes_moved, is_done, unless_refused}
+use Rattle.ymx_machine.specs.declared.types.Reply.{Reply}
+use Rattle.ymx_machine.specs.declared.types.Call.{Call}
+use Rattle.ymx_machine.specs.declared.types.Call.TheVariants as call
+use Rattle.ymx_machine.specs.shared.Limits.{first_credit, most_pings, most_records, most_unacknowledged}
+use Rattle.ymx_machine.specs.shared.Phases.{is_offered, is_live, is_reset, is_lingering, takes, Phase}
+use Rattle.ymx_machine.specs.shared.Phases.Phase.{Live, WasReset}
+use Rattle.ymx_machine.specs.shared.Replies.{write_reply, read_reply, finish_reply, reset_reply, forget_reply, bytes_moved, is_done, unless_refused}
 use Rattle.ymx_model.specs.session.Records.{End, takes_payload, new_end, end_write, end_read, end_finish, end_accept, end_reset, end_forget}
 use Rattle.ymx_model.specs.session.Pings.{Pings, ask, has_back, collect}
-use Rattle.ymx_model.specs.shared.Lists.{look}
+use Rattle.ymx_machine.specs.shared.Lists.{look}
 use Rattle.ymx_model.specs.session.Sessions.{Session, Incoming, is_own, is_lost, is_closed, on_stream, settle}
 use Rattle.ymx_model.specs.session.Sessions.Incoming.{Head, Payload}
 use Rattle.ymx_model.specs.session.Calls.{Outcome, outcome, open_or, session_opened, accept, accept_of, at_stream, at_record, write_outcome, read_outcome, finish_outcome, reset_outcome, forget_outcome, is_unacknowledged}
 use Rattle.ymx_law_session.specs.Limits.{IsEndWithin, IsOfferedWithin, HasBegunRecord, IsIncomingWithin, IsPingsWithin, IsWithin, is_offered_at, is_listed}
-use Rattle.ymx_model.proofs.Tests.{split, both_of, not_le, one_some}
-use Rattle.ymx_model.proofs.Lists.{look-added_before}
+use Rattle.ymx_machine.proofs.Tests.{split, both_of, not_le, one_some}
+use Rattle.ymx_machine.proofs.Lists.{look-added_before}
 use Rattle.ymx_law_session.proofs.limits.Ends.{takes_offered, new-within, write-within, read-within, finish-within, accept-within, reset-within, forget-within}
 use Rattle.ymx_law_session.proofs.limits.Offers.{taken-added, offered-added_other, offered-accepted}
 use Rattle.ymx_law_session.proofs.limits.Pings.{pinged-within, collected-within}

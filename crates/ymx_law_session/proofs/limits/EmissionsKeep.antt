@@ -2,22 +2,22 @@
 use Rattle.std.proofs.Common.{◌≡◌, inl, inr, ℕ, ◌≤◌, List, [], ◌∷◌, length, Bool, true, false, not, ◌&&◌, ◌||◌, ◌==◌, nat_lt, if◌then◌else◌, Option, None, Some, refl, sym, ◌∙◌, subst, arith}
 use Rattle.ymx_model.specs.declared.types.Response.{Response}
 use Rattle.ymx_model.specs.declared.types.PingStage.TheVariants.{Sent}
-use Rattle.ymx_model.specs.shared.Limits.{first_credit}
-use Rattle.ymx_model.specs.shared.Phases.{is_offered, is_live, Phase}
+use Rattle.ymx_machine.specs.shared.Limits.{first_credit}
+use Rattle.ymx_machine.specs.shared.Phases.{is_offered, is_live, Phase}
 use Rattle.ymx_model.specs.session.Records.{End, takes_payload}
 use Rattle.ymx_model.specs.declared.types.FrameKind.{FrameKind}
 use Rattle.ymx_model.specs.session.FramesDue.{begin_frame, spelled, next_kind}
 use Rattle.ymx_model.specs.declared.types.FrameKind.TheVariants.{Open, OpenWith, Accept, Reset, Credit, Data, Fin}
 use Rattle.ymx_model.specs.session.Pings.{begin_ping, has_asked}
 use Rattle.ymx_model.specs.session.GoAway.{away_due, begin_away}
-use Rattle.ymx_model.specs.shared.Lists.{look, change}
+use Rattle.ymx_machine.specs.shared.Lists.{look, change}
 use Rattle.ymx_model.specs.session.Tables.{with_record, pass_turn}
 use Rattle.ymx_model.specs.session.Sessions.{Session, nothing_outgoing, is_running, is_broken}
 use Rattle.ymx_model.specs.session.Emissions.{Choice, begin, begin_answer, begin_stream, begin_kind, begins, alarm_frame, go_away_frame, answer_frame, ping_frame, moves_on, settles, Ready, Flows}
 use Rattle.ymx_model.specs.session.Emissions.Choice.{TheAlarm, TheGoAway, TheAnswer, ThePing, AStream}
 use Rattle.ymx_law_session.specs.Limits.{IsEndWithin, IsSilent, IsWithin, IsAnswersWithin}
-use Rattle.ymx_model.proofs.Tests.{split, one_some}
-use Rattle.ymx_model.proofs.Lists.{look-change_same}
+use Rattle.ymx_machine.proofs.Tests.{split, one_some}
+use Rattle.ymx_machine.proofs.Lists.{look-change_same}
 use Rattle.ymx_law_session.proofs.limits.Ends.{sends-within}
 use Rattle.ymx_law_session.proofs.limits.Offers.{offered-on}
 use Rattle.ymx_law_session.proofs.limits.Records.{table-on, table-served, incoming-on, within-settled}

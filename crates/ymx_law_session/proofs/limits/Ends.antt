@@ -1,14 +1,14 @@
 -- What calls and frames do to a record keeps it within its limits.
 use Rattle.std.proofs.Common.{◌≡◌, ℕ, ◌+◌, ◌≤◌, List, length, drop, min, Bool, true, false, ◌&&◌, refl, sym, ◌∙◌, arith, length-append, length-drop}
-use Rattle.ymx_model.specs.shared.Limits.{first_credit}
-use Rattle.ymx_model.specs.shared.Phases.{Phase, takes, is_offered, is_reset, is_recorded, struck}
-use Rattle.ymx_model.specs.shared.Phases.Phase.{Lingering}
+use Rattle.ymx_machine.specs.shared.Limits.{first_credit}
+use Rattle.ymx_machine.specs.shared.Phases.{Phase, takes, is_offered, is_reset, is_recorded, struck}
+use Rattle.ymx_machine.specs.shared.Phases.Phase.{Lingering}
 use Rattle.ymx_model.specs.session.Records.{End, Reader, window_held, new_end, end_write, end_read, end_finish, end_accept, end_reset, end_forget, takes_payload, receive_data, receive_credit, receive_fin, receive_piece, receive_ack, receive_rst, reader_announce}
 use Rattle.ymx_model.specs.declared.types.FrameKind.{FrameKind}
 use Rattle.ymx_model.specs.session.FramesDue.{begin_frame}
 use Rattle.ymx_model.specs.declared.types.FrameKind.TheVariants.{Open, OpenWith, Accept, Reset, Credit, Data, Fin}
 use Rattle.ymx_law_session.specs.Limits.{IsEndWithin, IsSilent}
-use Rattle.ymx_model.proofs.Tests.{split}
+use Rattle.ymx_machine.proofs.Tests.{split}
 
 new_silent : (window : ℕ) (p : Phase) (syn with_data : Bool) → (is_offered p ≡ true → syn ≡ false) → is_offered p ≡ true → IsSilent (new_end window p syn with_data)
 new_silent window p syn with_data q o = record { syn = q o; ack = refl; rst = refl; unsent = refl; finished = refl }

@@ -1,14 +1,14 @@
 -- Every feed keeps the limits.
 use Rattle.std.proofs.Common.{◌≡◌, ℕ, ◌<◌, List, [], ◌∷◌, ◌++◌, length, take, Bool, true, false, not, ◌&&◌, ◌==◌, nat_le, refl, sym, subst, arith, length-append}
 use Rattle.ymx_header.specs.Headers.{header_of}
-use Rattle.ymx_model.specs.declared.types.Fed.{Fed}
+use Rattle.ymx_machine.specs.declared.types.Fed.{Fed}
 use Rattle.ymx_model.specs.session.Sessions.{Session, Incoming, is_deaf, is_broken}
-use Rattle.ymx_model.specs.shared.Limits.{most_answers}
+use Rattle.ymx_machine.specs.shared.Limits.{most_answers}
 use Rattle.ymx_model.specs.session.Sessions.Incoming.{Head, Payload}
 use Rattle.ymx_model.specs.session.Arrivals.{head_comes}
 use Rattle.ymx_model.specs.session.Feeds.{Takes, Feeds, is_stuck, is_between, byte_comes, byte_in}
 use Rattle.ymx_law_session.specs.Limits.{IsWithin, IsIncomingWithin, IsPayloadWithin}
-use Rattle.ymx_model.proofs.Tests.{split, none_of, not_le, differs}
+use Rattle.ymx_machine.proofs.Tests.{split, none_of, not_le, differs}
 use Rattle.ymx_law_session.proofs.limits.FramesKeep.{head-keeps, piece-keeps}
 
 -- a session that takes a byte of a header finds room for an answer

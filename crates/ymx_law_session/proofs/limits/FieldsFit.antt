@@ -6,25 +6,25 @@ use Rattle.std.proofs.lemmas.Bool.Decides.{nat_tests}
 use Rattle.std.proofs.lemmas.List.Elements.{All-nil, All-cons, All-head, All-tail, All-push, All-take}
 use Rattle.ymx_header.specs.declared.header.Header.{Header}
 use Rattle.ymx_header.specs.Headers.{header_of, has_syn, has_fin, has_rst}
-use Rattle.ymx_model.specs.declared.types.Call.{Call}
-use Rattle.ymx_model.specs.declared.types.Call.TheVariants as call
+use Rattle.ymx_machine.specs.declared.types.Call.{Call}
+use Rattle.ymx_machine.specs.declared.types.Call.TheVariants as call
 use Rattle.ymx_model.specs.declared.types.Entry.{Entry}
 use Rattle.ymx_model.specs.declared.types.Event.{Event}
 use Rattle.ymx_model.specs.declared.types.Event.TheVariants as event
 use Rattle.ymx_model.specs.declared.types.PingStage.{PingStage}
 use Rattle.ymx_model.specs.declared.types.PingStage.TheVariants.{Asked, Sent, Back}
-use Rattle.ymx_model.specs.declared.types.Reply.{Reply}
+use Rattle.ymx_machine.specs.declared.types.Reply.{Reply}
 use Rattle.ymx_model.specs.declared.types.Response.{Response}
 use Rattle.ymx_model.specs.declared.types.Response.TheVariants.{Pong, Reject}
 use Rattle.ymx_model.specs.declared.types.Role.{Role}
-use Rattle.ymx_model.specs.shared.Limits.{first_credit, most_pings}
-use Rattle.ymx_model.specs.shared.Phases.{is_offered}
+use Rattle.ymx_machine.specs.shared.Limits.{first_credit, most_pings}
+use Rattle.ymx_machine.specs.shared.Phases.{is_offered}
 use Rattle.ymx_model.specs.session.Records.{End, end_accept, receive_rst, receive_piece}
 use Rattle.ymx_model.specs.declared.types.FrameKind.{FrameKind}
 use Rattle.ymx_model.specs.session.FramesDue.{next_kind, begin_frame, spelled}
 use Rattle.ymx_model.specs.session.Pings.{Ping, is_pending, has_back, has_asked, staged, without_ping, number_after, free_from, next_number, ask, begin_ping}
 use Rattle.ymx_model.specs.session.GoAway.{away_due, begin_away}
-use Rattle.ymx_model.specs.shared.Lists.{look, change, without, drop_id}
+use Rattle.ymx_machine.specs.shared.Lists.{look, change, without, drop_id}
 use Rattle.ymx_model.specs.session.Tables.{insert_record, remove_record, with_record, pass_turn}
 use Rattle.ymx_model.specs.session.Sessions.{Session, Incoming, new_session, nothing_outgoing, is_running, is_lost, is_closed, is_broken, is_deaf, is_own, is_spent, on_stream, settle}
 use Rattle.ymx_model.specs.session.Sessions.Incoming.{Head, Payload}
@@ -37,7 +37,7 @@ use Rattle.ymx_model.specs.session.Histories.{CallGives, Gives, ReplaysFrom}
 use Rattle.ymx_model.specs.session.Histories.CallGives.{Outcome as HasOutcome, NoMemory}
 use Rattle.ymx_law_session.specs.Limits.{IsWithin, is_listed, is_offered_at}
 use Rattle.ymx_law_session.specs.Fields.{Fits, IsByte, IdFits, PingFits, ResponseFits, IncomingFits, PartsFit, NumbersFit, HalvesFit, FeedsBytes}
-use Rattle.ymx_model.proofs.Tests.{split, agrees}
+use Rattle.ymx_machine.proofs.Tests.{split, agrees}
 use Rattle.ymx_law_session.proofs.limits.CallsKeep.{open_or-keeps}
 use Rattle.ymx_law_session.proofs.nothing_else.StreamCalls.{StaysAt, write-stays, read-stays, finish-stays, reset-stays, forget-stays}
 use Rattle.ymx_law_session.proofs.limits.FramesKeep.{unless_fault-keeps}

@@ -10,20 +10,20 @@ use Rattle.ymx_model.specs.declared.types.Role.{Role}
 use Rattle.ymx_model.specs.declared.types.Response.{Response}
 use Rattle.ymx_model.specs.declared.types.Response.TheVariants.{Pong, Reject}
 use Rattle.ymx_model.specs.declared.types.PingStage.TheVariants.{Back}
-use Rattle.ymx_model.specs.shared.Phases.{is_offered, is_live, is_recorded, takes, struck, Phase}
-use Rattle.ymx_model.specs.shared.Phases.Phase.{Offered}
+use Rattle.ymx_machine.specs.shared.Phases.{is_offered, is_live, is_recorded, takes, struck, Phase}
+use Rattle.ymx_machine.specs.shared.Phases.Phase.{Offered}
 use Rattle.ymx_model.specs.session.Records.{End, takes_payload, receive_data, receive_credit, receive_fin, receive_ack, receive_rst, receive_piece}
 use Rattle.ymx_model.specs.session.Pings.{receive_answer}
-use Rattle.ymx_model.specs.shared.Lists.{look, change, without, drop_id}
+use Rattle.ymx_machine.specs.shared.Lists.{look, change, without, drop_id}
 use Rattle.ymx_model.specs.session.Tables.{insert_record, remove_record}
-use Rattle.ymx_model.specs.shared.Limits.{most_records, most_offered, most_answers}
+use Rattle.ymx_machine.specs.shared.Limits.{most_records, most_offered, most_answers}
 use Rattle.ymx_model.specs.session.GoAway.{was_said}
 use Rattle.ymx_model.specs.session.Sessions.{Session, Incoming, is_own, breaks, on_stream, settle}
 use Rattle.ymx_model.specs.session.Sessions.Incoming.{Head, Payload}
 use Rattle.ymx_model.specs.session.Arrivals.{answers_with, ping_comes, go_away_comes, payload, delta, expects, record_fault, reset_comes, ends_now, acknowledges, take_head, meets, unless_fault, meets_some, offer, session_refuses, syn_fault, syn_comes, header_fault, head_comes, piece_comes}
 use Rattle.ymx_law_session.specs.Limits.{IsEndWithin, HasBegunRecord, IsIncomingWithin, IsPayloadWithin, IsWithin, is_taken_at, is_in_header}
-use Rattle.ymx_model.proofs.Tests.{split, same_or_not, both_of, none_of, not_le, not_lt, is_lt}
-use Rattle.ymx_model.proofs.Lists.{look_before, look-added_same, look-without_other, look-change_there}
+use Rattle.ymx_machine.proofs.Tests.{split, same_or_not, both_of, none_of, not_le, not_lt, is_lt}
+use Rattle.ymx_machine.proofs.Lists.{look_before, look-added_same, look-without_other, look-change_there}
 use Rattle.ymx_law_session.proofs.limits.Ends.{new-within, credit-within, fin-within, piece-within, ack-within, rst-within}
 use Rattle.ymx_law_session.proofs.limits.Offers.{offered-on, offered-added, offered-removed}
 use Rattle.ymx_law_session.proofs.limits.Owns.{next-on, next-removed, next-offered}

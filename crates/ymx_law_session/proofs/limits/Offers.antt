@@ -3,13 +3,13 @@ use Rattle.std.proofs.Common.{◌≡◌, ◌≢◌, ◌⊎◌, inl, inr, ℕ, �
 use Rattle.std.specs.Prelude.{option_map}
 use Rattle.std.proofs.lemmas.Grind.{common_steps}
 use Rattle.std.proofs.lemmas.Bool.Decides.{nat_tests}
-use Rattle.ymx_model.specs.shared.Phases.{is_offered}
+use Rattle.ymx_machine.specs.shared.Phases.{is_offered}
 use Rattle.ymx_model.specs.session.Records.{End}
-use Rattle.ymx_model.specs.shared.Lists.{look, change, without, Distinct, drop_id}
-use Rattle.ymx_model.specs.shared.Limits.{most_offered}
+use Rattle.ymx_machine.specs.shared.Lists.{look, change, without, Distinct, drop_id}
+use Rattle.ymx_machine.specs.shared.Limits.{most_offered}
 use Rattle.ymx_law_session.specs.Limits.{is_listed, Once, is_offered_at, is_taken_at, IsOfferedWithin}
-use Rattle.ymx_model.proofs.Tests.{split, differs, same_or_not}
-use Rattle.ymx_model.proofs.Lists.{look-change_same, look-change_other, look-added_same, look-added_other, look-added_there, look-without_other, look-without_same}
+use Rattle.ymx_machine.proofs.Tests.{split, differs, same_or_not}
+use Rattle.ymx_machine.proofs.Lists.{look-change_same, look-change_other, look-added_same, look-added_other, look-added_there, look-without_other, look-without_same}
 
 -- ---- the list
 

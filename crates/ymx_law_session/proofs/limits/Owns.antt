@@ -4,15 +4,15 @@ use Rattle.std.specs.Prelude.{count_by}
 use Rattle.std.proofs.lemmas.List.Recursion.{is_count_by}
 use Rattle.std.proofs.lemmas.Bool.Decides.{nat_tests}
 use Rattle.ymx_model.specs.declared.types.Role.{Role}
-use Rattle.ymx_model.specs.shared.Phases.{is_offered, is_live}
+use Rattle.ymx_machine.specs.shared.Phases.{is_offered, is_live}
 use Rattle.ymx_model.specs.session.Records.{End}
-use Rattle.ymx_model.specs.shared.Lists.{look, change, without, Distinct}
+use Rattle.ymx_machine.specs.shared.Lists.{look, change, without, Distinct}
 use Rattle.ymx_model.specs.session.Sessions.{is_own}
-use Rattle.ymx_model.specs.shared.Limits.{most_unacknowledged}
+use Rattle.ymx_machine.specs.shared.Limits.{most_unacknowledged}
 use Rattle.ymx_model.specs.session.Calls.{is_unacknowledged}
 use Rattle.ymx_law_session.specs.Limits.{IsNextWithin}
-use Rattle.ymx_model.proofs.Tests.{agrees, both_of}
-use Rattle.ymx_model.proofs.Lists.{look_before, look-added_before, look-without_before}
+use Rattle.ymx_machine.proofs.Tests.{agrees, both_of}
+use Rattle.ymx_machine.proofs.Lists.{look_before, look-added_before, look-without_before}
 
 -- the count, by recursion
 abbrev pending : Role → List (ℕ × End) → ℕ

@@ -5,9 +5,9 @@ use Rattle.std.proofs.lemmas.Bool.Decides.{nat_tests}
 use Rattle.ymx_model.specs.declared.types.PingStage.{PingStage}
 use Rattle.ymx_model.specs.declared.types.PingStage.TheVariants.{Asked}
 use Rattle.ymx_model.specs.session.Pings.{Ping, Pings, is_pending, ping_is_asked, has_asked, staged, without_ping, number_after, free_from, next_number, ask, collect, first_asked}
-use Rattle.ymx_model.specs.shared.Limits.{most_pings}
+use Rattle.ymx_machine.specs.shared.Limits.{most_pings}
 use Rattle.ymx_law_session.specs.Limits.{OncePending, IsPingsWithin}
-use Rattle.ymx_model.proofs.Tests.{split, differs}
+use Rattle.ymx_machine.proofs.Tests.{split, differs}
 
 -- ---- which numbers are pending
 

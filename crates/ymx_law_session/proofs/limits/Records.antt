@@ -3,17 +3,17 @@ use Rattle.std.proofs.Common.{◌≡◌, ◌≢◌, ◌⊎◌, inl, inr, ℕ, �
 use Rattle.std.specs.Prelude.{is_some}
 use Rattle.std.proofs.lemmas.Bool.Decides.{nat_tests}
 use Rattle.ymx_model.specs.declared.types.Role.{Role}
-use Rattle.ymx_model.specs.shared.Phases.{is_offered, is_live, is_lingering, Phase}
+use Rattle.ymx_machine.specs.shared.Phases.{is_offered, is_live, is_lingering, Phase}
 use Rattle.ymx_model.specs.session.Records.{End, takes_payload}
 use Rattle.ymx_model.specs.session.FramesDue.{is_due}
 use Rattle.ymx_model.specs.session.Tables.{Table, with_record, insert_record, remove_record, pass_turn}
-use Rattle.ymx_model.specs.shared.Lists.{look, change, without, place, Distinct}
-use Rattle.ymx_model.specs.shared.Limits.{most_records}
+use Rattle.ymx_machine.specs.shared.Lists.{look, change, without, place, Distinct}
+use Rattle.ymx_machine.specs.shared.Limits.{most_records}
 use Rattle.ymx_model.specs.session.Sessions.{Session, Outgoing, Incoming, belongs_to, is_spent, settle, on_stream}
 use Rattle.ymx_model.specs.session.Sessions.Incoming.{Head, Payload}
 use Rattle.ymx_law_session.specs.Limits.{IsEndWithin, IsTableWithin, HasBegunRecord, IsIncomingWithin, IsPayloadWithin, IsWithin, is_offered_at}
-use Rattle.ymx_model.proofs.Tests.{split, differs, both_of, negated}
-use Rattle.ymx_model.proofs.Lists.{look_before, length-change, distinct-change, look-added_before, distinct-added, look-without_other, look-without_before, distinct-without, length-without, length-without_there, place-within}
+use Rattle.ymx_machine.proofs.Tests.{split, differs, both_of, negated}
+use Rattle.ymx_machine.proofs.Lists.{look_before, length-change, distinct-change, look-added_before, distinct-added, look-without_other, look-without_before, distinct-without, length-without, length-without_there, place-within}
 use Rattle.ymx_law_session.proofs.limits.Owns.{next-on, next-removed}
 use Rattle.ymx_law_session.proofs.limits.Offers.{offered-on, taken-change, offered-removed_other}
 

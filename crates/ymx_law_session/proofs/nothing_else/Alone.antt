@@ -7,18 +7,18 @@ use Rattle.ymx_header.specs.declared.fault.Fault.TheVariants.{BadGoAwayCode, Pee
 use Rattle.ymx_header.specs.Headers.{has_syn, has_rst, has_fin}
 use Rattle.ymx_header.proofs.Frames.{good}
 use Rattle.ymx_model.specs.declared.types.Response.TheVariants.{Pong, Reject}
-use Rattle.ymx_model.specs.declared.types.Call.TheVariants as call
-use Rattle.ymx_model.specs.shared.Phases.{is_offered}
+use Rattle.ymx_machine.specs.declared.types.Call.TheVariants as call
+use Rattle.ymx_machine.specs.shared.Phases.{is_offered}
 use Rattle.ymx_model.specs.session.Records.{End, receive_rst}
 use Rattle.ymx_model.specs.session.Pings.{receive_answer}
-use Rattle.ymx_model.specs.shared.Lists.{look, change, without, drop_id}
+use Rattle.ymx_machine.specs.shared.Lists.{look, change, without, drop_id}
 use Rattle.ymx_model.specs.session.Tables.{insert_record, remove_record}
 use Rattle.ymx_model.specs.session.Sessions.{Session, is_own, is_spent, on_stream, settle, breaks}
 use Rattle.ymx_model.specs.session.Sessions.Incoming.{Payload}
 use Rattle.ymx_model.specs.session.Calls.{outcome}
 use Rattle.ymx_model.specs.session.Arrivals.{answers_with, ping_comes, go_away_comes, payload, expects, record_fault, reset_comes, acknowledges, take_head, meets, meets_some, offer, session_refuses, syn_fault, syn_comes, header_fault, head_comes, piece_comes}
 use Rattle.ymx_law_session.specs.Refusals.{others, OnlyTable, OnlyRecord, OnlyArrived, KeepsOwn, KeepsStreams}
-use Rattle.ymx_model.proofs.Tests.{split}
+use Rattle.ymx_machine.proofs.Tests.{split}
 use Rattle.ymx_law_session.proofs.nothing_else.StreamCalls.{StaysAt, write-stays, read-stays, finish-stays, reset-stays, forget-stays}
 use Rattle.ymx_law_session.proofs.limits.FramesKeep.{unless_fault-keeps}
 

@@ -1,21 +1,21 @@
 -- A stream that is opened or accepted, and a frame of a stream that goes out, leave every other record as it was.
 use Rattle.std.proofs.Common.{◌≡◌, ℕ, List, [], ◌∷◌, length, min, take, drop, Bool, true, false, ◌||◌, ◌==◌, nat_lt, nat_le, if◌then◌else◌, Option, None, Some, count_by, refl, sym, subst}
-use Rattle.ymx_model.specs.declared.types.Call.TheVariants as call
-use Rattle.ymx_model.specs.declared.types.Reply.TheVariants.{Accepted, Opened, OpenedWith}
-use Rattle.ymx_model.specs.declared.types.CallFault.TheVariants as fault
-use Rattle.ymx_model.specs.shared.Limits.{first_credit, most_records, most_unacknowledged}
+use Rattle.ymx_machine.specs.declared.types.Call.TheVariants as call
+use Rattle.ymx_machine.specs.declared.types.Reply.TheVariants.{Accepted, Opened, OpenedWith}
+use Rattle.ymx_machine.specs.declared.types.CallFault.TheVariants as fault
+use Rattle.ymx_machine.specs.shared.Limits.{first_credit, most_records, most_unacknowledged}
 use Rattle.ymx_model.specs.session.Records.{End, end_accept}
 use Rattle.ymx_model.specs.declared.types.FrameKind.{FrameKind}
 use Rattle.ymx_model.specs.session.FramesDue.{next_kind, begin_frame, spelled}
-use Rattle.ymx_model.specs.shared.Lists.{look}
+use Rattle.ymx_machine.specs.shared.Lists.{look}
 use Rattle.ymx_model.specs.session.Tables.{with_record, pass_turn}
 use Rattle.ymx_model.specs.session.Sessions.{Session, nothing_outgoing, is_running, is_lost, is_closed, on_stream}
 use Rattle.ymx_model.specs.session.Calls.{Outcome, outcome, answers, accept_of, open_or, session_opened, refused, is_unacknowledged}
 use Rattle.ymx_model.specs.session.Emissions.{begin, begin_stream, begin_kind, moves_on, settles}
 use Rattle.ymx_model.specs.session.Emissions.Choice.{AStream}
 use Rattle.ymx_law_session.specs.Refusals.{OthersSame}
-use Rattle.ymx_model.proofs.Tests.{split}
-use Rattle.ymx_model.proofs.Lists.{look-change_other, look-added_other}
+use Rattle.ymx_machine.proofs.Tests.{split}
+use Rattle.ymx_machine.proofs.Lists.{look-change_other, look-added_other}
 use Rattle.ymx_law_session.proofs.limits.EmissionsKeep.{if_some, none_if}
 use Rattle.ymx_law_session.proofs.nothing_else.Others.{OthersIn, others-settled}
 

@@ -2,19 +2,19 @@
 use Rattle.std.proofs.Common.{◌≡◌, ℕ, List, [], ◌∷◌, length, Bool, true, false, ◌==◌, nat_le, if◌then◌else◌, Option, None, Some, refl, sym, arith}
 use Rattle.std.specs.Prelude.{count_by}
 use Rattle.std.proofs.lemmas.Bool.Decides.{nat_tests}
-use Rattle.ymx_model.specs.declared.types.Reply.{Reply}
-use Rattle.ymx_model.specs.declared.types.Reply.TheVariants.{Opened, OpenedWith, Accepted, Done, Pinged, Ponged, Refused, Wrote, Read, ReadEnd, ReadWait, Fed, Emitted}
-use Rattle.ymx_model.specs.declared.types.Call.{Call}
-use Rattle.ymx_model.specs.declared.types.Call.TheVariants as call
-use Rattle.ymx_model.specs.shared.Replies.{bytes_moved, is_done}
+use Rattle.ymx_machine.specs.declared.types.Reply.{Reply}
+use Rattle.ymx_machine.specs.declared.types.Reply.TheVariants.{Opened, OpenedWith, Accepted, Done, Pinged, Ponged, Refused, Wrote, Read, ReadEnd, ReadWait, Fed, Emitted}
+use Rattle.ymx_machine.specs.declared.types.Call.{Call}
+use Rattle.ymx_machine.specs.declared.types.Call.TheVariants as call
+use Rattle.ymx_machine.specs.shared.Replies.{bytes_moved, is_done}
 use Rattle.ymx_model.specs.session.Records.{End}
-use Rattle.ymx_model.specs.shared.Limits.{most_pings, most_records, most_unacknowledged}
+use Rattle.ymx_machine.specs.shared.Limits.{most_pings, most_records, most_unacknowledged}
 use Rattle.ymx_model.specs.session.Pings.{has_back}
-use Rattle.ymx_model.specs.shared.Lists.{look}
+use Rattle.ymx_machine.specs.shared.Lists.{look}
 use Rattle.ymx_model.specs.session.Sessions.{Session, is_lost, is_closed}
 use Rattle.ymx_model.specs.session.Calls.{Outcome, outcome, open_or, accept_of, at_stream, at_record, write_outcome, read_outcome, finish_outcome, reset_outcome, forget_outcome, is_unacknowledged}
 use Rattle.ymx_law_session.specs.Refusals.{reply_is_refused}
-use Rattle.ymx_model.proofs.Tests.{split}
+use Rattle.ymx_machine.proofs.Tests.{split}
 
 -- a refusal of this outcome leaves s
 abbrev pub Leaves : Session → Outcome → Type 0

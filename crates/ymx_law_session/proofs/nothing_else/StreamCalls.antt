@@ -1,12 +1,12 @@
 -- What the change of one record keeps, and its going, every call on its stream keeps.
 use Rattle.std.proofs.Common.{ℕ, List, take, ◌==◌}
-use Rattle.ymx_model.specs.declared.types.Call.TheVariants as call
-use Rattle.ymx_model.specs.shared.Phases.Phase.{WasReset}
-use Rattle.ymx_model.specs.shared.Replies.{write_reply, read_reply, finish_reply, reset_reply, forget_reply, bytes_moved, is_done}
+use Rattle.ymx_machine.specs.declared.types.Call.TheVariants as call
+use Rattle.ymx_machine.specs.shared.Phases.Phase.{WasReset}
+use Rattle.ymx_machine.specs.shared.Replies.{write_reply, read_reply, finish_reply, reset_reply, forget_reply, bytes_moved, is_done}
 use Rattle.ymx_model.specs.session.Records.{End, end_write, end_read, end_finish, end_reset, end_forget}
 use Rattle.ymx_model.specs.session.Sessions.{Session, is_lost, on_stream, settle}
 use Rattle.ymx_model.specs.session.Calls.{outcome, write_outcome, read_outcome, finish_outcome, reset_outcome, forget_outcome}
-use Rattle.ymx_model.proofs.Tests.{split}
+use Rattle.ymx_machine.proofs.Tests.{split}
 use Rattle.ymx_law_session.proofs.limits.CallsKeep.{with-keeps}
 
 -- it holds now, after any change of the record, and after one behind which the record may go

@@ -11,15 +11,15 @@ use Rattle.ymx_model.specs.declared.types.Response.TheVariants.{Reject}
 use Rattle.ymx_model.specs.session.GoAway.{was_said}
 use Rattle.ymx_model.specs.session.Records.{End}
 use Rattle.ymx_model.specs.session.Tables.{Table, with_record, insert_record, remove_record}
-use Rattle.ymx_model.specs.shared.Lists.{look, drop_id}
-use Rattle.ymx_model.specs.shared.Limits.{most_records, most_offered}
+use Rattle.ymx_machine.specs.shared.Lists.{look, drop_id}
+use Rattle.ymx_machine.specs.shared.Limits.{most_records, most_offered}
 use Rattle.ymx_model.specs.session.Sessions.{Session, is_own, on_stream}
 use Rattle.ymx_model.specs.session.Sessions.Incoming.{Payload}
 use Rattle.ymx_model.specs.session.Arrivals.{answers_with, payload, expects, record_fault, syn_fault, acknowledges, take_head, meets, offer, session_refuses, head_comes}
 use Rattle.ymx_law_session.specs.Offers.{IsGoodSyn, HasCause, IsOffered, IsRejected, LeavesNoTrace}
 use Rattle.ymx_law_session.specs.Limits.{IsWithin, is_listed}
-use Rattle.ymx_model.proofs.Tests.{split, none_of, or_true}
-use Rattle.ymx_model.proofs.Lists.{change-added, without-added, place-added}
+use Rattle.ymx_machine.proofs.Tests.{split, none_of, or_true}
+use Rattle.ymx_machine.proofs.Lists.{change-added, without-added, place-added}
 use Rattle.ymx_law_session.proofs.limits.FramesKeep.{syn_chain, none_of_look}
 
 -- ---- such a head is judged as a SYN

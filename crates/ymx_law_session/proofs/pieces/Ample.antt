@@ -5,9 +5,9 @@ use Rattle.ymx_header.specs.declared.header.Header.{Header}
 use Rattle.ymx_header.specs.declared.fault.Fault.{Fault}
 use Rattle.ymx_header.specs.Headers.{header_of, has_syn}
 use Rattle.ymx_header.proofs.Frames.{good}
-use Rattle.ymx_model.specs.declared.types.Fed.{Fed}
+use Rattle.ymx_machine.specs.declared.types.Fed.{Fed}
 use Rattle.ymx_model.specs.declared.types.Response.TheVariants.{Reject}
-use Rattle.ymx_model.specs.shared.Lists.{look}
+use Rattle.ymx_machine.specs.shared.Lists.{look}
 use Rattle.ymx_model.specs.session.Tables.{insert_record}
 use Rattle.ymx_model.specs.session.Sessions.{Session, Incoming, is_deaf}
 use Rattle.ymx_model.specs.session.Sessions.Incoming.{Head, Payload}

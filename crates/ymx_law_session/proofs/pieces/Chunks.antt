@@ -2,8 +2,8 @@
 use Rattle.std.proofs.Common.{◌≡◌, ℕ, ◌+◌, ◌-◌, ◌<◌, ◌≤◌, List, [], ◌∷◌, ◌++◌, length, take, min, true, ◌==◌, refl, sym, ap, ◌∙◌, subst, arith, length-append, zero-add, suc-add}
 use Rattle.std.proofs.lemmas.Grind.{common_steps}
 use Rattle.std.proofs.lemmas.Bool.Decides.{nat_tests}
-use Rattle.ymx_model.specs.declared.types.Fed.{Fed}
-use Rattle.ymx_model.specs.declared.types.Why.{Why}
+use Rattle.ymx_machine.specs.declared.types.Fed.{Fed}
+use Rattle.ymx_machine.specs.declared.types.Why.{Why}
 use Rattle.ymx_model.specs.declared.types.Status.{Status}
 use Rattle.ymx_model.specs.session.Sessions.{Session}
 use Rattle.ymx_model.specs.session.Feeds.{Takes, Feeds, byte_comes, starves, why_of}

@@ -8,17 +8,17 @@ use Rattle.ymx_header.proofs.Spellings.{header_of-spelling}
 use Rattle.ymx_model.specs.declared.types.Status.{Status}
 use Rattle.ymx_model.specs.declared.types.Status.TheVariants.{Running, Lost, Broken, Closed}
 use Rattle.ymx_model.specs.declared.types.Response.TheVariants.{Pong, Reject}
-use Rattle.ymx_model.specs.shared.Phases.{is_offered}
+use Rattle.ymx_machine.specs.shared.Phases.{is_offered}
 use Rattle.ymx_model.specs.session.Records.{End, receive_rst}
 use Rattle.ymx_model.specs.session.Pings.{receive_answer}
-use Rattle.ymx_model.specs.shared.Lists.{look, drop_id}
+use Rattle.ymx_machine.specs.shared.Lists.{look, drop_id}
 use Rattle.ymx_model.specs.session.Tables.{insert_record, remove_record}
 use Rattle.ymx_model.specs.session.Sessions.{Session, Incoming, is_own, is_spent, is_deaf, on_stream, settle}
 use Rattle.ymx_model.specs.session.Sessions.Incoming.{Head, Payload}
 use Rattle.ymx_model.specs.session.Arrivals.{answers_with, ping_comes, go_away_comes, payload, expects, record_fault, reset_comes, acknowledges, take_head, meets, meets_some, offer, session_refuses, syn_fault, syn_comes, header_fault, head_comes, piece_comes}
 use Rattle.ymx_model.specs.session.Feeds.{Takes, is_stuck, byte_comes, starves}
 use Rattle.ymx_law_session.specs.Frames.{frame_comes, payload_comes, starved_by}
-use Rattle.ymx_model.proofs.Tests.{split, agrees}
+use Rattle.ymx_machine.proofs.Tests.{split, agrees}
 use Rattle.ymx_law_session.proofs.pieces.Chunks.{takes-join}
 use Rattle.ymx_law_session.proofs.pieces.Pieces.{head-whole, piece-takes}
 use Rattle.ymx_law_session.proofs.limits.FramesKeep.{unless_fault-keeps}

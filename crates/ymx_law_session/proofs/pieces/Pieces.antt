@@ -5,7 +5,7 @@ use Rattle.std.proofs.lemmas.Bool.Decides.{nat_tests}
 use Rattle.ymx_header.specs.Headers.{header_of}
 use Rattle.ymx_model.specs.declared.types.Status.TheVariants.{Running}
 use Rattle.ymx_model.specs.session.Records.{End, receive_data, receive_piece, receive_fin}
-use Rattle.ymx_model.specs.shared.Lists.{change}
+use Rattle.ymx_machine.specs.shared.Lists.{change}
 use Rattle.ymx_model.specs.session.Sessions.{Session}
 use Rattle.ymx_model.specs.session.Sessions.Incoming.{Head, Payload}
 use Rattle.ymx_model.specs.session.Arrivals.{head_comes, piece_comes, is_starved}

@@ -2,8 +2,8 @@
 use Rattle.std.specs.Prelude.{ℕ, ◌+◌, ◌∷◌, ◌++◌, if◌then◌else◌, ◌==◌, ◌&&◌, ◌||◌, ◌-◌, [], nat_lt, Bool, Option, None, Some, true, false, length, nat_le, is_some, not, is_none, List}
 use Rattle.ymx_model.specs.declared.types.Response.{Response}
 use Rattle.ymx_model.specs.session.Sessions.{Session, breaks, on_stream, settle, is_own}
-use Rattle.ymx_model.specs.shared.Lists.{drop_id, look}
-use Rattle.ymx_model.specs.shared.Limits.{most_offered, most_records, greatest_number}
+use Rattle.ymx_machine.specs.shared.Lists.{drop_id, look}
+use Rattle.ymx_machine.specs.shared.Limits.{most_offered, most_records, greatest_number}
 use Rattle.ymx_header.specs.declared.header.Header.{Header}
 use Rattle.ymx_header.specs.Headers.{has_syn, has_fin, has_rst, has_ack}
 use Rattle.ymx_model.specs.declared.types.Response.TheVariants.{Pong, Reject}
@@ -13,10 +13,10 @@ use Rattle.ymx_model.specs.session.GoAway.{receive_away, was_said}
 use Rattle.ymx_header.specs.Frames.{payload_length, fault_of}
 use Rattle.ymx_model.specs.session.Sessions.Incoming.{Payload, Head}
 use Rattle.ymx_header.specs.declared.fault.Fault.{Fault}
-use Rattle.ymx_model.specs.shared.Phases.{takes, is_offered}
+use Rattle.ymx_machine.specs.shared.Phases.{takes, is_offered}
 use Rattle.ymx_model.specs.session.Records.{End, takes_payload, receive_rst, receive_ack, receive_head as head_of, new_end, receive_piece}
 use Rattle.ymx_model.specs.session.Tables.{remove_record, insert_record}
-use Rattle.ymx_model.specs.shared.Phases.Phase.{Offered}
+use Rattle.ymx_machine.specs.shared.Phases.Phase.{Offered}
 
 -- an answer is put at the back of the row
 abbrev pub answers_with : Response → Session → Session

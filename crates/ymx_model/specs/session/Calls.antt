@@ -1,24 +1,24 @@
 -- Each call as a function of what the session remembers (this project's own, after the Go package).
 use Rattle.std.specs.Prelude.{ℕ, ◌&&◌, if◌then◌else◌, ◌+◌, ◌∷◌, ◌==◌, Bool, not, length, nat_le, count_by, List, true, [], false, take, min, None, Some, Option, nat_lt}
-use Rattle.ymx_model.specs.declared.types.Reply.{Reply}
+use Rattle.ymx_machine.specs.declared.types.Reply.{Reply}
 use Rattle.ymx_model.specs.session.Sessions.{Session, is_own, is_lost, is_closed, on_stream, settle, nothing_outgoing}
-use Rattle.ymx_model.specs.shared.Limits.{most_unacknowledged, most_records, first_credit, most_pings, first_exhausted}
-use Rattle.ymx_model.specs.declared.types.Reply.TheVariants.{Refused, Opened, OpenedWith, Accepted, Pinged, Ponged, Done}
-use Rattle.ymx_model.specs.declared.types.CallFault.{CallFault}
+use Rattle.ymx_machine.specs.shared.Limits.{most_unacknowledged, most_records, first_credit, most_pings, first_exhausted}
+use Rattle.ymx_machine.specs.declared.types.Reply.TheVariants.{Refused, Opened, OpenedWith, Accepted, Pinged, Ponged, Done}
+use Rattle.ymx_machine.specs.declared.types.CallFault.{CallFault}
 use Rattle.ymx_model.specs.declared.types.Role.{Role}
-use Rattle.ymx_model.specs.shared.Phases.{is_live}
+use Rattle.ymx_machine.specs.shared.Phases.{is_live}
 use Rattle.ymx_model.specs.session.Records.{End, new_end, end_write, end_accept, end_read, end_finish, end_reset, end_forget}
-use Rattle.ymx_model.specs.declared.types.CallFault.TheVariants.{Lost, Closed, PeerAway, OpensPending, TooMany, Exhausted, NoStream, PingsPending}
+use Rattle.ymx_machine.specs.declared.types.CallFault.TheVariants.{Lost, Closed, PeerAway, OpensPending, TooMany, Exhausted, NoStream, PingsPending}
 use Rattle.ymx_model.specs.session.Tables.{insert_record}
-use Rattle.ymx_model.specs.shared.Lists.{look}
-use Rattle.ymx_model.specs.shared.Phases.Phase.{Live, WasReset}
-use Rattle.ymx_model.specs.shared.Replies.{write_reply, bytes_moved, read_reply, is_done, finish_reply, reset_reply, forget_reply}
+use Rattle.ymx_machine.specs.shared.Lists.{look}
+use Rattle.ymx_machine.specs.shared.Phases.Phase.{Live, WasReset}
+use Rattle.ymx_machine.specs.shared.Replies.{write_reply, bytes_moved, read_reply, is_done, finish_reply, reset_reply, forget_reply}
 use Rattle.ymx_model.specs.session.Pings.{next_number, ask, has_back, collect}
 use Rattle.ymx_model.specs.session.GoAway.{say_away}
 use Rattle.ymx_model.specs.declared.types.Status.TheVariants.{Closed as ClosedStatus, Running, Lost as LostStatus, Broken}
 use Rattle.ymx_model.specs.declared.types.Status.{Status}
-use Rattle.ymx_model.specs.declared.types.Call.{Call}
-use Rattle.ymx_model.specs.declared.types.Call.TheVariants as call
+use Rattle.ymx_machine.specs.declared.types.Call.{Call}
+use Rattle.ymx_machine.specs.declared.types.Call.TheVariants as call
 
 -- what a call answers, and the session after it
 pub record Outcome : Type 0 where

@@ -7,8 +7,8 @@ use Rattle.ymx_model.specs.declared.types.Response.TheVariants.{Pong, Reject}
 use Rattle.ymx_model.specs.session.Sessions.{Session, is_running, is_broken, settle, nothing_outgoing}
 use Rattle.ymx_model.specs.session.Records.{End}
 use Rattle.ymx_model.specs.session.Tables.{with_record, pass_turn, any_due, round}
-use Rattle.ymx_model.specs.shared.Lists.{look}
-use Rattle.ymx_model.specs.shared.Limits.{first_credit, data_limit}
+use Rattle.ymx_machine.specs.shared.Lists.{look}
+use Rattle.ymx_machine.specs.shared.Limits.{first_credit, data_limit}
 use Rattle.ymx_model.specs.session.Pings.{has_asked, begin_ping, first_asked}
 use Rattle.ymx_model.specs.session.GoAway.{away_due, begin_away}
 

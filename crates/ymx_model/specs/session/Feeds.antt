@@ -1,15 +1,15 @@
 -- Bytes that are fed, one after the other (framing).
 use Rattle.std.specs.Prelude.{ℕ, ◌∷◌, ◌&&◌, ◌||◌, ◌+◌, ◌++◌, ◌==◌, if◌then◌else◌, ◌≡◌, ◌<◌, ◌≤◌, [], Bool, true, false, length, not, nat_le, List, take, min}
 use Rattle.ymx_model.specs.session.Sessions.{Incoming, Session, is_deaf, is_broken}
-use Rattle.ymx_model.specs.shared.Limits.{most_answers, greatest_number}
+use Rattle.ymx_machine.specs.shared.Limits.{most_answers, greatest_number}
 use Rattle.ymx_model.specs.session.Sessions.Incoming.{Head, Payload}
 use Rattle.ymx_header.specs.Headers.{header_of}
 use Rattle.ymx_model.specs.session.Arrivals.{head_comes, piece_comes, is_starved}
 use Rattle.ymx_model.specs.declared.types.Status.{Status}
 use Rattle.ymx_model.specs.declared.types.Status.TheVariants.{Running, Lost, Broken as BrokenStatus, Closed}
-use Rattle.ymx_model.specs.declared.types.Why.{Why}
-use Rattle.ymx_model.specs.declared.types.Why.TheVariants.{All, Held, Broken}
-use Rattle.ymx_model.specs.declared.types.Fed.{Fed}
+use Rattle.ymx_machine.specs.declared.types.Why.{Why}
+use Rattle.ymx_machine.specs.declared.types.Why.TheVariants.{All, Held, Broken}
+use Rattle.ymx_machine.specs.declared.types.Fed.{Fed}
 
 -- nothing has come of the next frame
 abbrev pub is_between : Incoming → Bool

@@ -1,10 +1,10 @@
 -- What is due of one stream, and how its frames are spelled (framing, flags, flow control).
 use Rattle.std.specs.Prelude.{ℕ, ◌∷◌, ◌*◌, ◌&&◌, ◌||◌, if◌then◌else◌, ◌-◌, List, [], Bool, true, false, not, nat_le, Option, None, Some, length, take}
-use Rattle.ymx_model.specs.shared.Phases.{is_live}
+use Rattle.ymx_machine.specs.shared.Phases.{is_live}
 use Rattle.ymx_model.specs.session.Records.{End, writer_send, writer_begin_fin, reader_announce}
 use Rattle.ymx_model.specs.declared.types.FrameKind.{FrameKind}
 use Rattle.ymx_model.specs.declared.types.FrameKind.TheVariants.{Open, OpenWith, Accept, Reset, Credit, Data, Fin}
-use Rattle.ymx_model.specs.shared.Limits.{first_credit}
+use Rattle.ymx_machine.specs.shared.Limits.{first_credit}
 use Rattle.ymx_header.specs.Frames.{frame_spelling}
 
 abbrev pub is_empty : List ℕ → Bool

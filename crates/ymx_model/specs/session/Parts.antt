@@ -1,6 +1,6 @@
 -- The frames of one stream under way, by what they do: a frame of Data with SYN is a SYN, then Data (flags).
 use Rattle.std.specs.Prelude.{ℕ, ◌-◌, ◌∷◌, List, [], take}
-use Rattle.ymx_model.specs.shared.Limits.{first_credit}
+use Rattle.ymx_machine.specs.shared.Limits.{first_credit}
 use Rattle.ymx_model.specs.session.Records.{End}
 use Rattle.ymx_model.specs.declared.types.FrameKind.{FrameKind}
 use Rattle.ymx_model.specs.declared.types.FrameKind.TheVariants.{Open, OpenWith, Accept, Reset, Credit as CreditFrame, Data as DataFrame, Fin as FinFrame}

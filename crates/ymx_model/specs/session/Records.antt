@@ -1,8 +1,8 @@
 -- What a session remembers of one stream, and what calls and frames do to it (flow control, flags).
 use Rattle.std.specs.Prelude.{ℕ, ◌+◌, ◌&&◌, ◌-◌, ◌++◌, if◌then◌else◌, List, Bool, length, [], false, nat_lt, drop, true, min, not}
-use Rattle.ymx_model.specs.shared.Phases.{Phase, is_reset, takes, is_refused, struck}
-use Rattle.ymx_model.specs.shared.Limits.{first_credit}
-use Rattle.ymx_model.specs.shared.Phases.Phase.{Live, Lingering}
+use Rattle.ymx_machine.specs.shared.Phases.{Phase, is_reset, takes, is_refused, struck}
+use Rattle.ymx_machine.specs.shared.Limits.{first_credit}
+use Rattle.ymx_machine.specs.shared.Phases.Phase.{Live, Lingering}
 
 -- The sending half: the bytes that may still be written, the bytes written that belong to no frame
 -- yet, whether the stream was finished here, whether the frame with FIN has begun.

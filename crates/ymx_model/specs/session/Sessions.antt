@@ -6,13 +6,13 @@ use Rattle.ymx_model.specs.declared.types.Response.{Response}
 use Rattle.ymx_model.specs.session.Pings.{Pings, no_pings}
 use Rattle.ymx_model.specs.session.GoAway.{Away, not_away}
 use Rattle.ymx_model.specs.session.Tables.{Table, new_table, with_record, remove_record}
-use Rattle.ymx_model.specs.shared.Lists.{look}
+use Rattle.ymx_machine.specs.shared.Lists.{look}
 use Rattle.ymx_model.specs.declared.types.Status.TheVariants.{Running, Lost, Broken, Closed}
 use Rattle.ymx_model.specs.declared.types.Role.TheVariants.{Client, Server}
 use Rattle.ymx_header.specs.declared.fault.Fault.{Fault}
 use Rattle.ymx_header.specs.declared.fault.Fault.TheVariants.{PeerSawProtocolError, PeerSawInternalError}
 use Rattle.ymx_model.specs.session.Records.{End}
-use Rattle.ymx_model.specs.shared.Phases.{is_lingering}
+use Rattle.ymx_machine.specs.shared.Phases.{is_lingering}
 use Rattle.ymx_model.specs.session.FramesDue.{is_due}
 
 -- What has come of a frame that isn't whole: the first bytes of its header; or how much of its payload

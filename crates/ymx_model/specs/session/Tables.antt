@@ -1,7 +1,7 @@
 -- The records of a session by stream id, in an order (this project's own).
 use Rattle.std.specs.Prelude.{ℕ, ◌+◌, ◌∷◌, ◌++◌, ◌-◌, if◌then◌else◌, ◌||◌, List, [], nat_lt, Bool, false, count_by, drop, take}
 use Rattle.ymx_model.specs.session.Records.{End}
-use Rattle.ymx_model.specs.shared.Lists.{change, place, without}
+use Rattle.ymx_machine.specs.shared.Lists.{change, place, without}
 use Rattle.ymx_model.specs.session.FramesDue.{is_due}
 
 -- The window of the session, the records with their ids in order, and the place in that order from

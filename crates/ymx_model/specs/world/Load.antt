@@ -1,5 +1,5 @@
 -- Load: what two sessions have still to send (this project's own).
-use Rattle.std.specs.Prelude.{ℕ, ◌+◌, ◌&&◌, Bool, true, false, length, not, sum_by, count_by, List}
+use Rattle.std.specs.Prelude.{ℕ, ◌+◌, ◌/◌, ◌&&◌, Bool, true, false, length, not, sum_by, count_by, List, [], ◌∷◌}
 use Rattle.ymx_model.specs.session.Records.{End}
 use Rattle.ymx_model.specs.session.FramesDue.{credit_due, fin_due}
 use Rattle.ymx_model.specs.session.Pings.{ping_is_asked}
@@ -12,15 +12,21 @@ abbrev pub one_if : Bool → ℕ
 one_if true = 1
 one_if false = 0
 
--- of a record: its unsent bytes and each mark that is due; a SYN or ACK may be followed by a credit
-abbrev pub record_load : (window : ℕ) → End → ℕ
-record_load window e =
-    length e.writer.unsent + one_if e.marks.syn + one_if e.marks.syn + one_if e.marks.ack + one_if e.marks.ack + one_if e.marks.rst
+-- How many frames carry these unsent bytes, each but the last so many: a byte, where frames go in any order, or
+-- 16,384, where they go in turn.
+abbrev pub frames_of : (least : ℕ) → List ℕ → ℕ
+frames_of least [] = 0
+frames_of least (b ∷ bs) = length bs / least + 1
+
+-- of a record: the frames of its unsent bytes, and each mark that is due; a SYN or ACK may be followed by a credit
+abbrev pub record_load : (least window : ℕ) → End → ℕ
+record_load least window e =
+    frames_of least e.writer.unsent + one_if e.marks.syn + one_if e.marks.syn + one_if e.marks.ack + one_if e.marks.ack + one_if e.marks.rst
     + one_if (credit_due window e && not e.marks.syn && not e.marks.ack) + one_if (fin_due e)
 
-abbrev pub session_load : Session → ℕ
-session_load s =
-    sum_by (λ p. record_load s.table.window p.1) s.table.entries
+abbrev pub session_load : (least : ℕ) → Session → ℕ
+session_load least s =
+    sum_by (λ p. record_load least s.table.window p.1) s.table.entries
     + length s.answers + one_if (away_due s.away.here) + count_by (λ p. ping_is_asked p.stage) s.pings.pending + one_if s.alarm
 
 -- inside the payload of a frame
@@ -29,7 +35,7 @@ is_inside (Head bytes) = false
 is_inside (Payload id missing fin stray) = true
 
 -- of the world, in which these frames are under way: also each frame begun and not yet wholly fed
-abbrev pub world_load : World → (frames_ab frames_ba : List (List ℕ)) → ℕ
-world_load w frames_ab frames_ba =
-    session_load w.a + session_load w.b + length frames_ab + length frames_ba
+abbrev pub world_load : (least : ℕ) → World → (frames_ab frames_ba : List (List ℕ)) → ℕ
+world_load least w frames_ab frames_ba =
+    session_load least w.a + session_load least w.b + length frames_ab + length frames_ba
     + one_if (is_inside w.a.incoming) + one_if (is_inside w.b.incoming)

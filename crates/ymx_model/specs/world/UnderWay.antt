@@ -4,7 +4,7 @@ use Rattle.std.specs.List.{concat}
 use Rattle.ymx_model.specs.session.Sessions.{Incoming, Session}
 use Rattle.ymx_model.specs.session.Sessions.Incoming.{Head, Payload}
 use Rattle.ymx_header.specs.Frames.{IsFrame}
-use Rattle.ymx_model.specs.shared.Limits.{first_credit}
+use Rattle.ymx_machine.specs.shared.Limits.{first_credit}
 use Rattle.ymx_model.specs.world.Worlds.{Pipe}
 
 -- what the receiver holds of a frame, as bytes; a payload is known by what lacks

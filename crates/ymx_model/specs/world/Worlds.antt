@@ -2,17 +2,17 @@
 use Rattle.std.specs.Prelude.{ℕ, ◌+◌, ◌++◌, if◌then◌else◌, ◌≡◌, ◌∷◌, ◌&&◌, List, Bool, [], false, drop, true, length, take, not, MatchBool}
 use Rattle.ymx_model.specs.session.Sessions.{Session, new_session, is_running}
 use Rattle.ymx_model.specs.declared.types.Role.TheVariants.{Client, Server}
-use Rattle.ymx_model.specs.declared.types.Reply.{Reply}
-use Rattle.ymx_model.specs.declared.types.Step.{Step}
-use Rattle.ymx_model.specs.declared.types.Answer.{Answer}
+use Rattle.ymx_machine.specs.declared.types.Reply.{Reply}
+use Rattle.ymx_machine.specs.declared.types.Step.{Step}
+use Rattle.ymx_machine.specs.declared.types.Answer.{Answer}
 use Rattle.ymx_model.specs.session.Calls.{feed_end}
 use Rattle.ymx_model.specs.session.Emissions.{Choice, is_ready}
 use Rattle.ymx_model.specs.session.Histories.{Gives}
-use Rattle.ymx_model.specs.shared.Steps.{answer_of, is_of_a}
+use Rattle.ymx_machine.specs.shared.Steps.{answer_of, is_of_a}
 use Rattle.ymx_model.specs.session.FramesDue.{is_empty}
-use Rattle.ymx_model.specs.declared.types.Reply.TheVariants as reply
-use Rattle.ymx_model.specs.declared.types.Step.TheVariants as step
-use Rattle.ymx_model.specs.declared.types.Answer.TheVariants as answer
+use Rattle.ymx_machine.specs.declared.types.Reply.TheVariants as reply
+use Rattle.ymx_machine.specs.declared.types.Step.TheVariants as step
+use Rattle.ymx_machine.specs.declared.types.Answer.TheVariants as answer
 use Rattle.ymx_model.specs.declared.types.Event.TheVariants as event
 
 -- One direction: the bytes emitted and not delivered, whether it was stopped, whether its end was told.

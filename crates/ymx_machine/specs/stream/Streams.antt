@@ -1,9 +1,9 @@
 -- A stream of the queue machine: two lanes and a few marks (this project's own, after the flags SYN, ACK, FIN and RST).
 use Rattle.std.specs.Prelude.{ℕ, ◌≤◌, ◌≡◌, if◌then◌else◌, ◌∷◌, ◌<◌, ◌⊎◌, ◌*◌, Bool, not, true, [], length, false, List}
-use Rattle.ymx_model.specs.stream.Lanes.{Mark, Lane, new_lane, taken_back, lane_arrive, lane_vanish, lane_return, lane_fin, lane_empty, lane_struck, lane_write, lane_read, lane_cut, is_said}
-use Rattle.ymx_model.specs.shared.Phases.{Phase, is_unborn, takes, struck, is_lingering}
-use Rattle.ymx_model.specs.stream.Lanes.Mark.{Unsaid, Said, Here}
-use Rattle.ymx_model.specs.shared.Phases.Phase.{Unborn, Live, Lingering, Offered, Refused, Gone}
+use Rattle.ymx_machine.specs.stream.Lanes.{Mark, Lane, new_lane, taken_back, lane_arrive, lane_vanish, lane_return, lane_fin, lane_empty, lane_struck, lane_write, lane_read, lane_cut, is_said}
+use Rattle.ymx_machine.specs.shared.Phases.{Phase, is_unborn, takes, struck, is_lingering}
+use Rattle.ymx_machine.specs.stream.Lanes.Mark.{Unsaid, Said, Here}
+use Rattle.ymx_machine.specs.shared.Phases.Phase.{Unborn, Live, Lingering, Offered, Refused, Gone}
 
 -- A stream as one side sees it: whether it opened the stream, its own end and the other's, the lane
 -- that it writes and the lane that it reads, the acknowledgement (which the acceptor says), its own

@@ -1,9 +1,9 @@
 -- The queue machine: streams by number, a few marks of each side, and no frames (this project's own).
 use Rattle.std.specs.Prelude.{ℕ, ◌&&◌, List, Bool, [], false, map, not, count_by}
-use Rattle.ymx_model.specs.stream.Lanes.{Mark, is_here}
-use Rattle.ymx_model.specs.stream.Streams.{Stream, flip}
-use Rattle.ymx_model.specs.shared.Phases.{is_live, is_recorded}
-use Rattle.ymx_model.specs.stream.Lanes.Mark.{Unsaid}
+use Rattle.ymx_machine.specs.stream.Lanes.{Mark, is_here}
+use Rattle.ymx_machine.specs.stream.Streams.{Stream, flip}
+use Rattle.ymx_machine.specs.shared.Phases.{is_live, is_recorded}
+use Rattle.ymx_machine.specs.stream.Lanes.Mark.{Unsaid}
 
 -- how far an own ping has come: under way, at the other side, its answer back
 pub data PingPlace : Type 0 where

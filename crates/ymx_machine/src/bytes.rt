@@ -7,7 +7,7 @@ use std::marker::Model;
 
 /// Some bytes. A contract sees the list of them and nothing else: not where they lie, nor how many
 /// more would fit.
-#[derive(Debug, Drop)]
+#[derive(Drop)]
 pub struct Bytes {
     items: Vec<u8>,
 }

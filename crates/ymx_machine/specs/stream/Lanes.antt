@@ -1,6 +1,6 @@
 -- One direction of one stream (flow control).
 use Rattle.std.specs.Prelude.{ℕ, ◌-◌, ◌+◌, ◌++◌, Bool, true, false, List, [], length, take, drop}
-use Rattle.ymx_model.specs.shared.Limits.{first_credit}
+use Rattle.ymx_machine.specs.shared.Limits.{first_credit}
 
 -- how far something that one side says has come: not said, under way, arrived at the other side
 pub data Mark : Type 0 where

@@ -1,13 +1,13 @@
 -- What a call on one stream answers, and what it does (this project's own, after the Go package's Stream).
 use Rattle.std.specs.Prelude.{ℕ, ◌≡◌, ◌&&◌, ◌||◌, ◌≢◌, ◌⊎◌, if◌then◌else◌, List, Bool, not, take, MatchBool}
-use Rattle.ymx_model.specs.stream.Lanes.{Mark, is_unsaid, is_here}
-use Rattle.ymx_model.specs.shared.Phases.{Phase, is_reset}
-use Rattle.ymx_model.specs.stream.Streams.{Stream, TakesBack, stream_reset, stream_write, stream_read, stream_finish, stream_forget}
-use Rattle.ymx_model.specs.shared.Phases.Phase.{WasReset, Lingering}
-use Rattle.ymx_model.specs.declared.types.Reply.{Reply}
-use Rattle.ymx_model.specs.declared.types.Reply.TheVariants.{Refused}
-use Rattle.ymx_model.specs.declared.types.CallFault.TheVariants.{OutOfMemory}
-use Rattle.ymx_model.specs.shared.Replies.{forget_reply, reset_reply, is_done, bytes_moved, finish_reply, write_reply, read_reply}
+use Rattle.ymx_machine.specs.stream.Lanes.{Mark, is_unsaid, is_here}
+use Rattle.ymx_machine.specs.shared.Phases.{Phase, is_reset}
+use Rattle.ymx_machine.specs.stream.Streams.{Stream, TakesBack, stream_reset, stream_write, stream_read, stream_finish, stream_forget}
+use Rattle.ymx_machine.specs.shared.Phases.Phase.{WasReset, Lingering}
+use Rattle.ymx_machine.specs.declared.types.Reply.{Reply}
+use Rattle.ymx_machine.specs.declared.types.Reply.TheVariants.{Refused}
+use Rattle.ymx_machine.specs.declared.types.CallFault.TheVariants.{OutOfMemory}
+use Rattle.ymx_machine.specs.shared.Replies.{forget_reply, reset_reply, is_done, bytes_moved, finish_reply, write_reply, read_reply}
 
 -- a call on a stream
 pub data StreamCall : Type 0 where

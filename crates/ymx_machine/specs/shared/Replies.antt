@@ -1,10 +1,10 @@
 -- What a call on a stream answers, by the state of its end (this project's own, after the Go package's Stream).
 use Rattle.std.specs.Prelude.{ℕ, ◌&&◌, if◌then◌else◌, ◌==◌, ◌||◌, Bool, not, List, length, min, true, [], take, false}
-use Rattle.ymx_model.specs.shared.Phases.{Phase, is_live, is_reset}
-use Rattle.ymx_model.specs.declared.types.Reply.{Reply}
-use Rattle.ymx_model.specs.declared.types.Reply.TheVariants.{Refused, Wrote as WroteReply, Read as ReadReply, ReadEnd, ReadWait, Done}
-use Rattle.ymx_model.specs.declared.types.CallFault.TheVariants.{NoStream, Finished, Reset, Lost}
-use Rattle.ymx_model.specs.declared.types.Wrote.TheVariants.{Took, Wait}
+use Rattle.ymx_machine.specs.shared.Phases.{Phase, is_live, is_reset}
+use Rattle.ymx_machine.specs.declared.types.Reply.{Reply}
+use Rattle.ymx_machine.specs.declared.types.Reply.TheVariants.{Refused, Wrote as WroteReply, Read as ReadReply, ReadEnd, ReadWait, Done}
+use Rattle.ymx_machine.specs.declared.types.CallFault.TheVariants.{NoStream, Finished, Reset, Lost}
+use Rattle.ymx_machine.specs.declared.types.Wrote.TheVariants.{Took, Wait}
 
 -- The first refusal that applies, or else this reply: an end that no caller has is NoStream, one that
 -- was reset is Reset; where the call needs it, one whose end was said is Finished; a lost session is Lost.

@@ -2,8 +2,8 @@
 use Rattle.std.proofs.Common.{◌≡◌, ◌≢◌, ◌⊎◌, inl, inr, ℕ, ◌+◌, ◌<◌, ◌≤◌, List, [], ◌∷◌, ◌++◌, length, Bool, true, false, ◌==◌, if◌then◌else◌, Option, None, Some, refl, sym, ap, ◌∙◌, arith}
 use Rattle.std.specs.Prelude.{is_some, option_map}
 use Rattle.std.proofs.lemmas.Bool.Decides.{nat_tests}
-use Rattle.ymx_model.specs.shared.Lists.{look, change, without, place, Distinct}
-use Rattle.ymx_model.proofs.Tests.{split, differs, agrees, same_or_not}
+use Rattle.ymx_machine.specs.shared.Lists.{look, change, without, place, Distinct}
+use Rattle.ymx_machine.proofs.Tests.{split, differs, agrees, same_or_not}
 
 -- ---- change
 

@@ -1,13 +1,13 @@
 -- What may arrive at this side of the queue machine, at any time (this project's own).
-use Rattle.std.specs.Prelude.{ℕ, ◌||◌, ◌≡◌, ◌+◌, ◌∷◌, ◌++◌, if◌then◌else◌, Bool, true, false, length, not, nat_le, Some, [], List}
-use Rattle.ymx_model.specs.shared.Limits.{most_offered, most_records}
-use Rattle.ymx_model.specs.stream.Streams.{Move, Stream, Allowed, after_move}
-use Rattle.ymx_model.specs.stream.Streams.Move.{SynOffered, SynRefused, Released, ResetArrives}
-use Rattle.ymx_model.specs.stream.Lanes.{is_unsaid}
-use Rattle.ymx_model.specs.machine.Machines.{Machine, recorded, hears}
-use Rattle.ymx_model.specs.stream.Lanes.Mark.{Said, Here}
-use Rattle.ymx_model.specs.shared.Lists.{look, change, drop_id}
-use Rattle.ymx_model.specs.machine.Machines.PingPlace.{Asked, There, Back}
+use Rattle.std.specs.Prelude.{ℕ, ◌&&◌, ◌||◌, ◌≡◌, ◌+◌, ◌∷◌, ◌++◌, if◌then◌else◌, Bool, true, false, length, not, nat_le, Some, [], List}
+use Rattle.ymx_machine.specs.shared.Limits.{most_offered, most_records}
+use Rattle.ymx_machine.specs.stream.Streams.{Move, Stream, Allowed, after_move}
+use Rattle.ymx_machine.specs.stream.Streams.Move.{SynOffered, SynRefused, Released, ResetArrives}
+use Rattle.ymx_machine.specs.stream.Lanes.{is_unsaid}
+use Rattle.ymx_machine.specs.machine.Machines.{Machine, recorded, hears}
+use Rattle.ymx_machine.specs.stream.Lanes.Mark.{Said, Here}
+use Rattle.ymx_machine.specs.shared.Lists.{look, change, drop_id}
+use Rattle.ymx_machine.specs.machine.Machines.PingPlace.{Asked, There, Back}
 
 -- Of one stream or of one mark. `counted`: the stream is refused because there was no memory for it.
 pub data FreeMove : Type 0 where
@@ -31,11 +31,12 @@ is_released _ = false
 abbrev pub machine_refuses : Machine → Bool
 machine_refuses m = not (is_unsaid m.me.away) || nat_le most_offered (length m.me.offered) || nat_le most_records (recorded m)
 
--- When it may: what comes from the other side only while this side hears.
+-- When it may: what comes from the other side only while this side hears. A refusal is counted only where nothing
+-- but memory lacks.
 abbrev pub MayMove : FreeMove → Machine → Type 0
 MayMove (OfStream id move) m =
     ((is_released move || hears m) ≡ true) × (move_is_syn move ≡ false) × ((s : Stream) × (look id m.streams ≡ Some s) × Allowed move s)
-MayMove (SynArrives id counted) m = (hears m ≡ true) × ((s : Stream) × (look id m.streams ≡ Some s) × Allowed SynOffered s)
+MayMove (SynArrives id counted) m = (hears m ≡ true) × ((s : Stream) × (look id m.streams ≡ Some s) × Allowed SynOffered s) × ((counted && machine_refuses m) ≡ false)
 MayMove AwayArrives m = (hears m ≡ true) × (m.you.away ≡ Said)
 MayMove (PingThere number) m = (hears m ≡ true) × (look number m.you.pings ≡ Some Asked)
 MayMove (PingBack number) m = (hears m ≡ true) × (look number m.me.pings ≡ Some There)

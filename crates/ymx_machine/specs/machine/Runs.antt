@@ -1,24 +1,24 @@
 -- Runs of the queue machine beside the steps of a world, and what was written and got (this project's own).
 use Rattle.std.specs.Prelude.{ℕ, if◌then◌else◌, ◌≡◌, ◌∷◌, ◌==◌, ◌&&◌, ◌++◌, Bool, true, false, List, min, [], take, All, MatchBool}
-use Rattle.ymx_model.specs.shared.Limits.{greatest_number}
-use Rattle.ymx_model.specs.declared.types.Why.{Why}
-use Rattle.ymx_model.specs.machine.Machines.{SideState, Machine, mirror_machine, PingPlace}
-use Rattle.ymx_model.specs.declared.types.Fed.{Fed}
-use Rattle.ymx_model.specs.declared.types.Step.{Step}
-use Rattle.ymx_model.specs.declared.types.Answer.{Answer}
-use Rattle.ymx_model.specs.declared.types.Reply.{Reply}
-use Rattle.ymx_model.specs.shared.Steps.{answer_of, is_of_a, is_same_side}
-use Rattle.ymx_model.specs.machine.CallRules.{Rule}
-use Rattle.ymx_model.specs.machine.FreeMoves.{FreeMove, FreeMoves, Releases}
-use Rattle.ymx_model.specs.declared.types.Side.{Side}
-use Rattle.ymx_model.specs.declared.types.Wrote.TheVariants.{Took}
-use Rattle.ymx_model.specs.machine.Machines.PingPlace.{Asked, There, Back}
-use Rattle.ymx_model.specs.stream.Lanes.{is_said}
-use Rattle.ymx_model.specs.stream.Streams.{IsStill}
-use Rattle.ymx_model.specs.declared.types.Why.TheVariants as why
-use Rattle.ymx_model.specs.declared.types.Step.TheVariants as step
-use Rattle.ymx_model.specs.declared.types.Answer.TheVariants as answer
-use Rattle.ymx_model.specs.declared.types.Call.TheVariants as call
+use Rattle.ymx_machine.specs.shared.Limits.{greatest_number}
+use Rattle.ymx_machine.specs.declared.types.Why.{Why}
+use Rattle.ymx_machine.specs.machine.Machines.{SideState, Machine, mirror_machine, PingPlace}
+use Rattle.ymx_machine.specs.declared.types.Fed.{Fed}
+use Rattle.ymx_machine.specs.declared.types.Step.{Step}
+use Rattle.ymx_machine.specs.declared.types.Answer.{Answer}
+use Rattle.ymx_machine.specs.declared.types.Reply.{Reply}
+use Rattle.ymx_machine.specs.shared.Steps.{answer_of, is_of_a, is_same_side}
+use Rattle.ymx_machine.specs.machine.CallRules.{Rule}
+use Rattle.ymx_machine.specs.machine.FreeMoves.{FreeMove, FreeMoves, Releases}
+use Rattle.ymx_machine.specs.declared.types.Side.{Side}
+use Rattle.ymx_machine.specs.declared.types.Wrote.TheVariants.{Took}
+use Rattle.ymx_machine.specs.machine.Machines.PingPlace.{Asked, There, Back}
+use Rattle.ymx_machine.specs.stream.Lanes.{is_said}
+use Rattle.ymx_machine.specs.stream.Streams.{IsStill}
+use Rattle.ymx_machine.specs.declared.types.Why.TheVariants as why
+use Rattle.ymx_machine.specs.declared.types.Step.TheVariants as step
+use Rattle.ymx_machine.specs.declared.types.Answer.TheVariants as answer
+use Rattle.ymx_machine.specs.declared.types.Call.TheVariants as call
 
 abbrev pub why_is_broken : Why → Bool
 why_is_broken why.All = false

@@ -1,20 +1,20 @@
 -- The queue machine's rules of calls (this project's own, after the Go package's Session and Stream).
 use Rattle.std.specs.Prelude.{ℕ, ◌≡◌, if◌then◌else◌, ◌+◌, ◌∷◌, ◌++◌, ◌⊎◌, ◌%◌, ◌^◌, ◌&&◌, nat_le, Option, None, Some, List, [], zero, suc, is_some, length, Bool, true, false, take, min, not, MatchBool}
-use Rattle.ymx_model.specs.declared.types.Reply.{Reply}
-use Rattle.ymx_model.specs.declared.types.Reply.TheVariants.{Refused, Accepted, Pinged, Ponged, Opened, OpenedWith, Done}
-use Rattle.ymx_model.specs.declared.types.CallFault.{CallFault}
-use Rattle.ymx_model.specs.machine.Machines.{Machine, unacknowledged, recorded, PingPlace, SideState}
-use Rattle.ymx_model.specs.declared.types.CallFault.TheVariants.{Lost, Closed, PeerAway, OpensPending, TooMany, Exhausted, OutOfMemory, NoStream, PingsPending}
-use Rattle.ymx_model.specs.stream.Lanes.{is_here, Mark, is_unsaid}
-use Rattle.ymx_model.specs.shared.Limits.{first_credit, first_exhausted, most_unacknowledged, most_records, most_pings}
-use Rattle.ymx_model.specs.stream.Streams.{opened_stream, stream_write, stream_accept, Stream}
-use Rattle.ymx_model.specs.stream.StreamRules.{StreamCall, StreamRule}
-use Rattle.ymx_model.specs.shared.Lists.{change, look, without}
-use Rattle.ymx_model.specs.machine.Machines.PingPlace.{Asked, Back}
-use Rattle.ymx_model.specs.stream.Lanes.Mark.{Said}
-use Rattle.ymx_model.specs.declared.types.Call.{Call}
-use Rattle.ymx_model.specs.stream.StreamRules.StreamCall.{Writes, Reads, Finishes, Resets, Forgets}
-use Rattle.ymx_model.specs.declared.types.Call.TheVariants as call
+use Rattle.ymx_machine.specs.declared.types.Reply.{Reply}
+use Rattle.ymx_machine.specs.declared.types.Reply.TheVariants.{Refused, Accepted, Pinged, Ponged, Opened, OpenedWith, Done}
+use Rattle.ymx_machine.specs.declared.types.CallFault.{CallFault}
+use Rattle.ymx_machine.specs.machine.Machines.{Machine, unacknowledged, recorded, PingPlace, SideState}
+use Rattle.ymx_machine.specs.declared.types.CallFault.TheVariants.{Lost, Closed, PeerAway, OpensPending, TooMany, Exhausted, OutOfMemory, NoStream, PingsPending}
+use Rattle.ymx_machine.specs.stream.Lanes.{is_here, Mark, is_unsaid}
+use Rattle.ymx_machine.specs.shared.Limits.{first_credit, first_exhausted, most_unacknowledged, most_records, most_pings}
+use Rattle.ymx_machine.specs.stream.Streams.{opened_stream, stream_write, stream_accept, Stream}
+use Rattle.ymx_machine.specs.stream.StreamRules.{StreamCall, StreamRule}
+use Rattle.ymx_machine.specs.shared.Lists.{change, look, without}
+use Rattle.ymx_machine.specs.machine.Machines.PingPlace.{Asked, Back}
+use Rattle.ymx_machine.specs.stream.Lanes.Mark.{Said}
+use Rattle.ymx_machine.specs.declared.types.Call.{Call}
+use Rattle.ymx_machine.specs.stream.StreamRules.StreamCall.{Writes, Reads, Finishes, Resets, Forgets}
+use Rattle.ymx_machine.specs.declared.types.Call.TheVariants as call
 
 -- a call that is refused changes nothing
 abbrev pub RefusedWith : CallFault → Machine → Reply → Machine → Type 0
@@ -26,11 +26,10 @@ Answers reply next r n = (r ≡ reply) × (n ≡ next)
 
 -- ---- opening
 
--- the first refusal of an open that applies
+-- the first refusal of an open that applies, at a side that isn't closed
 abbrev pub open_refusal : Machine → Option CallFault
 open_refusal m =
-    if m.me.closed then Some Closed
-    else if m.me.lost then Some Lost
+    if m.me.lost then Some Lost
     else if is_here m.you.away then Some PeerAway
     else if nat_le first_exhausted m.me.next then Some Exhausted
     else if nat_le most_unacknowledged (unacknowledged m) then Some OpensPending
