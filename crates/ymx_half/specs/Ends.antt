@@ -1,6 +1,6 @@
 -- A record of a stream as one end of it (flow control, flags).
 use Rattle.std.specs.Prelude.{◌≡◌, true, false}
-use Rattle.ymx_model.specs.shared.Phases.{takes}
+use Rattle.ymx_machine.specs.shared.Phases.{takes}
 use Rattle.ymx_model.specs.session.Records.{End, Marks}
 use Rattle.ymx_half.specs.declared.directions.Sending.{Sending}
 use Rattle.ymx_half.specs.declared.directions.Receiving.{Receiving}

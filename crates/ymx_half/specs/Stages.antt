@@ -1,6 +1,6 @@
 -- The stages of a record among the states of an end (flags).
-use Rattle.ymx_model.specs.shared.Phases.{Phase}
-use Rattle.ymx_model.specs.shared.Phases.Phase.{Offered as OfferedPhase, Live as LivePhase, WasReset, Lingering as LingeringPhase}
+use Rattle.ymx_machine.specs.shared.Phases.{Phase}
+use Rattle.ymx_machine.specs.shared.Phases.Phase.{Offered as OfferedPhase, Live as LivePhase, WasReset, Lingering as LingeringPhase}
 use Rattle.ymx_half.specs.declared.stream.Stage.{Stage}
 use Rattle.ymx_half.specs.declared.stream.Stage.TheVariants.{Offered, Live, Reset, Lingering}
 

@@ -1,6 +1,6 @@
 -- The window of one direction of a stream at its reader: what is unread, granted and owed (flow control).
 use Rattle.std.specs.Prelude.{ℕ, ◌≡◌, ◌+◌, ◌≤◌, length, Bool}
-use Rattle.ymx_model.specs.shared.Limits.{greatest_number}
+use Rattle.ymx_machine.specs.shared.Limits.{greatest_number}
 use Rattle.ymx_ring.specs.Ring.{Contents}
 use Rattle.ymx_credit.specs.Debts.{Owing}
 use Rattle.ymx_model.specs.session.Records.{Reader}

@@ -1,7 +1,7 @@
 //! The two directions of a stream, by the halves that hold them.
 
 ghost use Rattle.std.specs.Prelude.{◌≡◌, ◌+◌, ◌<◌, ◌≤◌, ◌++◌, ◌&&◌, [], true, false, not, length, take, drop, min, IsOk, IfOk, OnErr};
-ghost use Rattle.ymx_model.specs.shared.Limits.{first_credit, greatest_number};
+ghost use Rattle.ymx_machine.specs.shared.Limits.{first_credit, greatest_number};
 ghost use Rattle.ymx_model.specs.session.Records.{writer_write, writer_send, writer_grant, writer_finish, writer_begin_fin, reader_arrive, reader_read, reader_announce, reader_end, reader_empty};
 ghost use Rattle.ymx_model.specs.session.FramesDue.{is_empty};
 

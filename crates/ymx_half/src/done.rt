@@ -1,7 +1,7 @@
 //! A sending half that was finished.
 
 ghost use Rattle.std.specs.Prelude.{◌≡◌, ◌+◌, ◌≤◌, ◌++◌, [], true, false, length, take, drop, min};
-ghost use Rattle.ymx_model.specs.shared.Limits.{greatest_number};
+ghost use Rattle.ymx_machine.specs.shared.Limits.{greatest_number};
 ghost use Rattle.ymx_model.specs.session.Records.{writer_send, writer_grant, writer_begin_fin};
 
 use crate::DeadHalf;

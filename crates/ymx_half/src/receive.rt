@@ -1,7 +1,7 @@
 //! A receiving half that is open.
 
 ghost use Rattle.std.specs.Prelude.{◌≡◌, ◌+◌, ◌<◌, ◌≤◌, ◌++◌, length, take, drop, min, IfOk};
-ghost use Rattle.ymx_model.specs.shared.Limits.{first_credit};
+ghost use Rattle.ymx_machine.specs.shared.Limits.{first_credit};
 ghost use Rattle.ymx_model.specs.session.Records.{new_reader, reader_arrive, reader_read, reader_announce, reader_end};
 
 use crate::{DeadHalf, EndedHalf, FIRST_CREDIT};

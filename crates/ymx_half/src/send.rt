@@ -1,7 +1,7 @@
 //! A sending half that is open.
 
 ghost use Rattle.std.specs.Prelude.{◌≡◌, ◌+◌, ◌≤◌, ◌++◌, length, take, drop, min, IsOk, IfOk, OnErr};
-ghost use Rattle.ymx_model.specs.shared.Limits.{first_credit, greatest_number};
+ghost use Rattle.ymx_machine.specs.shared.Limits.{first_credit, greatest_number};
 ghost use Rattle.ymx_model.specs.session.Records.{new_writer, writer_write, writer_send, writer_grant, writer_finish};
 
 use crate::{DeadHalf, DoneHalf, FIRST_CREDIT};
@@ -22,7 +22,7 @@ pub struct SendHalf {
 
 impl Model for SendHalf {
     ghost use Rattle.std.specs.Prelude.{◌≤◌, false};
-    ghost use Rattle.ymx_model.specs.shared.Limits.{first_credit};
+    ghost use Rattle.ymx_machine.specs.shared.Limits.{first_credit};
     ghost use Rattle.ymx_model.specs.session.Records.{Writer};
 
     ghost Value = { Writer };

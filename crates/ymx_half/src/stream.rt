@@ -2,10 +2,10 @@
 
 ghost use Rattle.std.specs.Prelude.{◌≡◌, ◌+◌, ◌<◌, ◌≤◌, ◌++◌, ℕ, true, false, length, take, drop, min, is_some, Some, IsOk, IfOk, OnErr};
 ghost use Rattle.std.specs.Option.{option_map};
-ghost use Rattle.ymx_model.specs.shared.Limits.{first_credit, greatest_number};
+ghost use Rattle.ymx_machine.specs.shared.Limits.{first_credit, greatest_number};
 ghost use Rattle.ymx_header.specs.Headers.{spelling};
-ghost use Rattle.ymx_model.specs.shared.Phases.{takes, is_offered, is_lingering};
-ghost use Rattle.ymx_model.specs.shared.Phases.Phase.{Live as LivePhase, Offered as OfferedPhase};
+ghost use Rattle.ymx_machine.specs.shared.Phases.{takes, is_offered, is_lingering};
+ghost use Rattle.ymx_machine.specs.shared.Phases.Phase.{Live as LivePhase, Offered as OfferedPhase};
 ghost use Rattle.ymx_model.specs.session.Records.{new_end, dead_writer, dead_reader, only_due, writer_send, takes_payload, end_write, end_read, end_finish, end_accept, end_reset, end_forget, receive_data, receive_piece, receive_credit, receive_fin, receive_head, receive_rst};
 ghost use Rattle.ymx_model.specs.session.FramesDue.{is_due, credit_due, next_kind, begin_frame, spelled};
 

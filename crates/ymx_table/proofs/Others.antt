@@ -5,7 +5,7 @@ use Rattle.std.specs.List.{IsDistinct, AllByRecursion}
 use Rattle.std.specs.Option.{option_map}
 use Rattle.std.specs.Map.{keys_of}
 use Rattle.std.proofs.lemmas.Bool.Decides.{nat_tests}
-use Rattle.ymx_model.specs.shared.Lists.{look, change, without, place}
+use Rattle.ymx_machine.specs.shared.Lists.{look, change, without, place}
 
 module _ {X : Type 0} (id : ℕ) where
   -- the changed record is the function of what it was

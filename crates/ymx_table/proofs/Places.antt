@@ -1,11 +1,12 @@
 -- Where a record stands: the kit's words on a map's entries are the table's own.
-use Rattle.std.proofs.Common.{◌≡◌, ℕ, ◌<◌, List, [], ◌∷◌, ◌++◌, length, Bool, true, false, eqb, None, Some, refl, ap, arith, add-one, remove, position, slice_get}
+use Rattle.std.proofs.Common.{◌≡◌, ℕ, zero, suc, sym, ◌∙◌, ◌<◌, List, [], ◌∷◌, ◌++◌, length, Bool, true, false, eqb, None, Some, refl, ap, arith, add-one, remove, position, slice_get}
 use Rattle.std.specs.Prelude.{IsSome, nat_eq}
 use Rattle.std.specs.Map.{keys_of, values_of, lookup, remove_entry}
-use Rattle.std.specs.List.{position_or_len}
+use Rattle.std.specs.List.{position_or_len, IsDistinct, AllByRecursion}
+use Rattle.std.proofs.lemmas.Option.{same_Some}
 use Rattle.std.proofs.lemmas.Bool.Decides.{nat_tests}
 use Rattle.indexmap.specs.IndexMap.{set_value_at, insert_entry}
-use Rattle.ymx_model.specs.shared.Lists.{look, change, without, place}
+use Rattle.ymx_machine.specs.shared.Lists.{look, change, without, place}
 
 module _ {X : Type 0} (id : ℕ) where
   -- the map's look-up by key is `look`
@@ -54,3 +55,27 @@ module _ {X : Type 0} (id : ℕ) where
       by : (b : Bool) → eqb p.0 id ≡ b → (IsSome (look id ps) → remove ps (place id ps) ≡ without id ps) → remove (p ∷ ps) (place id (p ∷ ps)) ≡ without id (p ∷ ps)
       by true e rest = rw e refl
       by false e rest = rw (e, add-one) (ap (λ qs. p ∷ qs) (rest (rw e at h)))
+
+-- an id that is apart from all these is apart from the one at a place
+apart-at : {X : Type 0} (j : ℕ) (ps : List (ℕ × X)) (at : ℕ) (p : ℕ × X) → AllByRecursion (λ i. nat_eq j i ≡ false) (keys_of ps)
+    → slice_get ps at ≡ Some p → nat_eq j p.0 ≡ false
+apart-at j [] at p d h = cc
+apart-at j (q ∷ ps) zero p d h = let e : q ≡ p = same_Some q p h in ap (λ (r : ℕ × _). nat_eq j r.0) (sym e) ∙ d.0
+apart-at j (q ∷ ps) (suc at) p d h = apart-at j ps at p d.1 h
+
+module _ {X : Type 0} (id : ℕ) where
+  -- what stands at a place under this id is there
+  pub look-at : (ps : List (ℕ × X)) (at : ℕ) (p : ℕ × X) → slice_get ps at ≡ Some p → p.0 ≡ id → IsSome (look id ps)
+  look-at [] at p h e = cc
+  look-at (q ∷ ps) zero p h e = let s : q ≡ p = same_Some q p h in let t : q.0 ≡ id = ap (λ (r : ℕ × X). r.0) s ∙ e in grind (arith, nat_tests)
+  look-at (q ∷ ps) (suc at) p h e = let i = look-at ps at p h e in grind (arith, nat_tests)
+
+  -- where ids are distinct, a record stands at no place but its own
+  pub place-only : (ps : List (ℕ × X)) (at : ℕ) (p : ℕ × X) → IsDistinct nat_eq (keys_of ps) → slice_get ps at ≡ Some p → p.0 ≡ id → at ≡ place id ps
+  unfolding IsDistinct
+  place-only [] at p d h e = cc
+  place-only (q ∷ ps) zero p d h e = let s : q ≡ p = same_Some q p h in let t : q.0 ≡ id = ap (λ (r : ℕ × X). r.0) s ∙ e in grind (arith, nat_tests)
+  place-only (q ∷ ps) (suc at) p d h e =
+      let i = place-only ps at p d.1 h e in
+      let n = apart-at q.0 ps at p d.0 h in
+      grind (arith, nat_tests)

@@ -1,6 +1,7 @@
 -- A table after one record was written at its place.
 use Rattle.std.proofs.Common.{◌≡◌, ℕ, zero, suc, map, set, take, drop, ◌+◌, ◌<◌, ◌^◌, List, [], ◌∷◌, ◌++◌, length, Bool, false, if◌then◌else◌, Option, None, Some, is_some, position, refl, sym, ap, ◌∙◌, subst, arith, slice_get, ◌-◌, remove, nat_lt, nat_eq, length-append}
 use Rattle.std.specs.Prelude.{IsSome, All, MatchOption}
+use Rattle.std.specs.List.{IsDistinct}
 use Rattle.std.specs.Map.{values_of, keys_of}
 use Rattle.std.proofs.lemmas.Bool.Decides.{nat_tests}
 use Rattle.std.proofs.lemmas.List.{map-append, length-map, take-map, drop-map}
@@ -10,12 +11,12 @@ use Rattle.indexmap.specs.IndexMap.{set_value_at, insert_entry}
 use Rattle.ymx_model.specs.session.Records.{End}
 use Rattle.ymx_model.specs.session.FramesDue.{is_due}
 use Rattle.ymx_model.specs.session.Tables.{Table, with_record, pass_turn, remove_record, insert_record}
-use Rattle.ymx_model.specs.shared.Lists.{look, change, without, place}
-use Rattle.ymx_model.specs.shared.Limits.{most_records}
+use Rattle.ymx_machine.specs.shared.Lists.{look, change, without, place}
+use Rattle.ymx_machine.specs.shared.Limits.{most_records}
 use Rattle.ymx_table.specs.Kept.{IsKept}
 use Rattle.ymx_table.specs.Changes.{ChangesRecord}
 use Rattle.ymx_table.specs.Standing.{StandsAt}
-use Rattle.ymx_table.proofs.Places.{set_value_at-place, look-place, place-lt, remove-place, remove_entry_is, insert_entry-new, place-position}
+use Rattle.ymx_table.proofs.Places.{look-at, place-only, set_value_at-place, look-place, place-lt, remove-place, remove_entry_is, insert_entry-new, place-position}
 use Rattle.ymx_table.proofs.Others.{change-none, change-known, change-nothing, length-change, keys-change, place-change, length-without}
 
 -- the flags of a table's records, after one is written or removed
@@ -37,6 +38,10 @@ stands-at t id at there p = record {
   within = rw p (place-lt id t.entries there);
   stands = ap (slice_get (values_of t.entries)) p ∙ look-place id t.entries;
 }
+
+-- a record whose id is found at a place stands there
+pub stands-there : (t : Table) (id at : ℕ) (p : ℕ × End) → IsDistinct nat_eq (keys_of t.entries) → slice_get t.entries at ≡ Some p → p.0 ≡ id → StandsAt id t at
+stands-there t id at p d here same = stands-at t id at (look-at id t.entries at p here same) (place-only id t.entries at p d here same)
 
 -- what a search for the place of a record finds
 pub stands-found : (t : Table) (id : ℕ) (o : Option ℕ) → is_some o ≡ is_some (look id t.entries) → o ≡ position (nat_eq id) (keys_of t.entries)

@@ -2,7 +2,7 @@
 use Rattle.std.specs.Prelude.{ℕ, ◌≡◌, ◌/◌, ◌%◌, ◌<◌, ◌≤◌, ◌==◌, Bool, true, false, List, map, slice_index, count_by}
 use Rattle.std.specs.List.{range_with_len}
 use Rattle.std.specs.Int.{bit_at}
-use Rattle.ymx_model.specs.shared.Limits.{most_records}
+use Rattle.ymx_machine.specs.shared.Limits.{most_records}
 
 -- whether bit k of a word is set, counted from the lowest
 abbrev pub bit : ℕ → ℕ → Bool

@@ -1,7 +1,7 @@
 -- What is true of every table (this project's own).
 use Rattle.std.specs.Prelude.{◌≡◌, ◌<◌, ◌≤◌, ◌^◌, Bool, List, length, map, All}
 use Rattle.std.specs.Map.{keys_of}
-use Rattle.ymx_model.specs.shared.Limits.{first_credit, most_records, widest_window}
+use Rattle.ymx_machine.specs.shared.Limits.{first_credit, most_records, widest_window}
 use Rattle.ymx_model.specs.session.FramesDue.{is_due}
 use Rattle.ymx_model.specs.session.Tables.{Table}
 

@@ -2,7 +2,7 @@
 use Rattle.std.specs.Prelude.{ℕ, ◌≡◌, ◌<◌, length, slice_get}
 use Rattle.std.specs.Map.{values_of}
 use Rattle.ymx_model.specs.session.Tables.{Table}
-use Rattle.ymx_model.specs.shared.Lists.{look, place}
+use Rattle.ymx_machine.specs.shared.Lists.{look, place}
 
 -- the record of the stream stands at `at`
 pub record StandsAt (id : ℕ) (t : Table) (at : ℕ) : Type 0 where

@@ -3,7 +3,7 @@ use Rattle.std.specs.Prelude.{ℕ, ◌≡◌, length, true, Some, slice_get}
 use Rattle.ymx_model.specs.session.Records.{End}
 use Rattle.ymx_model.specs.session.FramesDue.{is_due, next_kind, spelled}
 use Rattle.ymx_model.specs.session.Tables.{Table, round}
-use Rattle.ymx_model.specs.shared.Lists.{look}
+use Rattle.ymx_machine.specs.shared.Lists.{look}
 use Rattle.ymx_model.specs.session.Emissions.{is_first}
 use Rattle.ymx_table.specs.declared.turn.NextFrame.{NextFrame}
 

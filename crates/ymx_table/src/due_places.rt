@@ -2,7 +2,7 @@
 
 ghost use Rattle.std.specs.Prelude.{◌≡◌, ◌+◌, ◌<◌, ◌≤◌, ◌++◌, ◌∷◌, [], if◌then◌else◌, length, false, slice_set, slice_index_or, IsTrue, MatchOption};
 ghost use Rattle.std.specs.List.{remove};
-ghost use Rattle.ymx_model.specs.shared.Limits.{most_records};
+ghost use Rattle.ymx_machine.specs.shared.Limits.{most_records};
 ghost use Rattle.ymx_table.specs.Flags.{set_count, IsFirst, IsNoneFrom};
 
 use crate::flags::{WORDS, first_flag, has_flag, put_flag, take_flag_out};

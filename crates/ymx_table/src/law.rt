@@ -6,7 +6,7 @@ ghost use Rattle.std.specs.Map.{keys_of};
 ghost use Rattle.std.specs.Option.{option_map};
 ghost use Rattle.ymx_model.specs.session.Records.{End};
 ghost use Rattle.ymx_model.specs.session.Tables.{Table as Records, with_record, insert_record, remove_record};
-ghost use Rattle.ymx_model.specs.shared.Lists.{look};
+ghost use Rattle.ymx_machine.specs.shared.Lists.{look};
 ghost use Rattle.ymx_table.specs.Others.{SameOthers};
 
 /// A write to one stream, an insertion and a removal leave all other records as they were, in the same

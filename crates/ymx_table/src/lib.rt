@@ -9,8 +9,8 @@ ghost use Rattle.std.specs.List.{IsDistinct};
 ghost use Rattle.std.specs.Map.{keys_of};
 ghost use Rattle.std.specs.Option.{option_copied};
 ghost use Rattle.ymx_model.specs.session.Records.{window_held};
-ghost use Rattle.ymx_model.specs.shared.Limits.{first_credit, most_records, widest_window};
-ghost use Rattle.ymx_model.specs.shared.Lists.{look};
+ghost use Rattle.ymx_machine.specs.shared.Limits.{first_credit, most_records, widest_window};
+ghost use Rattle.ymx_machine.specs.shared.Lists.{look};
 ghost use Rattle.ymx_model.specs.session.Tables.{new_table, insert_record, remove_record};
 ghost use Rattle.ymx_table.specs.Standing.{StandsAt};
 
@@ -44,6 +44,8 @@ pub struct Table {
     records: IndexMap<u32, StreamRec>,
     turn: usize,
     due: DuePlaces,
+    /// Where a record was found last. A following call on the same stream finds it there, and hashes no id.
+    last: usize,
 }
 
 impl Model for Table {
@@ -70,6 +72,7 @@ impl Table {
             records: IndexMap::new(alloc),
             turn: 0,
             due: DuePlaces::new(),
+            last: 0,
         }
     }
 
@@ -118,7 +121,18 @@ impl Table {
     pub fn get(&self, id: u32) -> Option<&StreamRec>
         ensures { option_copied result ≡ look id self.now.entries }
     {
-        self.records.get(&id)
+        let place = self.find(id)?;
+        Some(&self.records[place])
+    }
+
+    /// Looks a record up for the calls on its stream that follow: as long as they are on this stream alone, none
+    /// of them hashes its id. The table stays as it was, whether or not there is such a record.
+    pub fn seek(&mut self, id: u32)
+        ensures { self.new ≡ self.old }
+    {
+        if let Some(place) = self.find(id) {
+            self.last = place;
+        }
     }
 
     /// Inserts the record of a new stream behind the others. There has to be room for it, and no record
@@ -158,7 +172,28 @@ impl Table {
     fn find(&self, id: u32) -> Option<usize>
         ensures { MatchOption result (look id self.now.entries ≡ None) (StandsAt id self.now) }
     {
+        self.find_near(id, self.last)
+    }
+
+    /// The same, where the record may well stand at the place `near`: if it does, no id is hashed.
+    fn find_near(&self, id: u32, near: usize) -> Option<usize>
+        ensures { MatchOption result (look id self.now.entries ≡ None) (StandsAt id self.now) }
+    {
+        if self.stands_at(id, near) {
+            return Some(near);
+        }
         self.records.get_index_of(&id)
+    }
+
+    /// Whether the record under this id stands at this place.
+    fn stands_at(&self, id: u32, at: usize) -> bool
+        ensures { IsTrue result → StandsAt id self.now at }
+    {
+        if at >= self.records.len() {
+            return false;
+        }
+        let (key, _) = self.records.get_index(at).unwrap();
+        *key == id
     }
 
     /// The place of a record that is there.
@@ -167,5 +202,13 @@ impl Table {
         ensures { StandsAt id self.now result }
     {
         self.find(id).unwrap()
+    }
+
+    /// The place of a record that is there, and may well stand at the place `near`.
+    fn place_near(&self, id: u32, near: usize) -> usize
+        requires { IsSome (look id self.now.entries) }
+        ensures { StandsAt id self.now result }
+    {
+        self.find_near(id, near).unwrap()
     }
 }

@@ -4,11 +4,11 @@
 ghost use Rattle.std.specs.Prelude.{◌≡◌, ◌+◌, ◌≤◌, ◌++◌, length, take, drop, min, true, false, Some, IsSome, IfSome, IsOk, IfOk, OnErr};
 ghost use Rattle.std.specs.Option.{ForSome};
 ghost use Rattle.std.specs.Fn.{FnOnceTakesAtMut, FnOnceReturnsAtMut};
-ghost use Rattle.ymx_model.specs.shared.Limits.{first_credit, greatest_number};
+ghost use Rattle.ymx_machine.specs.shared.Limits.{first_credit, greatest_number};
 ghost use Rattle.ymx_table.specs.Changes.{ChangesRecord};
-ghost use Rattle.ymx_model.specs.shared.Phases.{takes, is_offered, is_lingering};
+ghost use Rattle.ymx_machine.specs.shared.Phases.{takes, is_offered, is_lingering};
 ghost use Rattle.ymx_model.specs.session.Records.{takes_payload, end_write, end_read, end_finish, end_accept, end_reset, end_forget, receive_piece, receive_head, receive_rst};
-ghost use Rattle.ymx_model.specs.shared.Lists.{look};
+ghost use Rattle.ymx_machine.specs.shared.Lists.{look};
 ghost use Rattle.ymx_model.specs.session.Tables.{with_record};
 ghost use Rattle.ymx_half.specs.Stages.{phase_of};
 
@@ -33,6 +33,7 @@ impl Table {
         ensures refused_unchanged { OnErr result (self.new ≡ self.old) }
     {
         let place = self.place_of(id);
+        self.last = place;
         let stream = &mut self.records[place];
         let wrote = stream.write(bytes);
         let is_due = stream.is_due(self.window);
@@ -49,6 +50,7 @@ impl Table {
         ensures after { self.new ≡ with_record id (end_read result) self.old }
     {
         let place = self.place_of(id);
+        self.last = place;
         let stream = &mut self.records[place];
         let count = stream.read(buffer);
         let is_due = stream.is_due(self.window);
@@ -64,6 +66,7 @@ impl Table {
         ensures after { self.new ≡ with_record id (end_read result) self.old }
     {
         let place = self.place_of(id);
+        self.last = place;
         let stream = &mut self.records[place];
         let taken = stream.consume(count);
         let is_due = stream.is_due(self.window);
@@ -148,6 +151,7 @@ impl Table {
         ensures { ChangesRecord (FnOnceReturnsAtMut F.FnOnce change) id self.old result self.new }
     {
         let place = self.find(id)?;
+        self.last = place;
         let stream = &mut self.records[place];
         let answer = change(stream);
         let is_due = stream.is_due(self.window);

@@ -3,7 +3,7 @@
 ghost use Rattle.std.specs.Prelude.{◌≡◌, ◌≤◌, ◌++◌, length, drop, true, false, IfSome, IfNone, MatchOption};
 ghost use Rattle.std.specs.Option.{ForSome};
 ghost use Rattle.ymx_model.specs.session.FramesDue.{begin_frame, spelled};
-ghost use Rattle.ymx_model.specs.shared.Lists.{look};
+ghost use Rattle.ymx_machine.specs.shared.Lists.{look};
 ghost use Rattle.ymx_model.specs.session.Tables.{with_record, pass_turn, any_due, round};
 ghost use Rattle.ymx_model.specs.session.Emissions.{is_first};
 ghost use Rattle.ymx_table.specs.Turns.{IsTurn, IsNextFrame};
@@ -20,6 +20,8 @@ pub struct NextFrame {
     pub kind: FrameKind,
     /// How many bytes it has, header and payload.
     pub length: usize,
+    /// Where the record of the stream stands, so that nobody searches for it again.
+    pub place: usize,
 }
 
 impl Table {
@@ -41,6 +43,7 @@ impl Table {
             id: *id,
             kind,
             length: stream.frame_len(kind, limit),
+            place,
         })
     }
 
@@ -54,12 +57,13 @@ impl Table {
         ensures written { ForSome (look next.id self.old.entries) (λ e. buffer.new ≡ spelled next.kind self.old.window limit next.id e ++ drop result buffer.old) }
         ensures goes { self.new ≡ pass_turn next.id (with_record next.id (begin_frame self.old.window limit next.kind) self.old) }
     {
-        let place = self.place_of(next.id);
+        let place = self.place_near(next.id, next.place);
         let stream = &mut self.records[place];
         let count = stream.begin_frame(next.kind, self.window, limit, next.id, buffer);
         let is_due = stream.is_due(self.window);
         self.due.set(place, is_due);
         self.turn = place + 1;
+        self.last = place;
         count
     }
 

@@ -1,7 +1,7 @@
 -- The kit's look-up by key is `look`.
 use Rattle.std.proofs.Common.{ap, ◌∙◌, is_some}
 use Rattle.ymx_model.specs.session.Tables.{Table}
-use Rattle.ymx_model.specs.shared.Lists.{look}
+use Rattle.ymx_machine.specs.shared.Lists.{look}
 use Rattle.ymx_table.proofs.Places.{lookup_is}
 use Rattle.ymx_table.proofs.Table.contains.Goals as goal
 

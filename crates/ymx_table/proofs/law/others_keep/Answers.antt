@@ -1,6 +1,6 @@
 -- The law, clause by clause.
 use Rattle.std.proofs.Common.{sym, ◌∙◌, ap}
-use Rattle.ymx_model.specs.shared.Lists.{look}
+use Rattle.ymx_machine.specs.shared.Lists.{look}
 use Rattle.ymx_table.proofs.Others.{look-change_same, keys-change, look-without_other, look-without_same, look-added_same, without-change, without-added, without-without}
 use Rattle.ymx_table.proofs.law.others_keep.Goals as goal
 

@@ -2,11 +2,11 @@
 use Rattle.std.proofs.Common.{is_some, ap, ◌∙◌, subst, None}
 use Rattle.std.specs.Prelude.{◌≡◌, MatchOption}
 use Rattle.ymx_model.specs.session.Tables.{Table}
-use Rattle.ymx_model.specs.shared.Lists.{look}
+use Rattle.ymx_machine.specs.shared.Lists.{look}
 use Rattle.ymx_table.specs.Standing.{StandsAt}
 use Rattle.ymx_table.proofs.Writes.{stands-found}
 use Rattle.ymx_table.proofs.Places.{lookup_is}
-use Rattle.ymx_table.proofs.Table.find.Goals as goal
+use Rattle.ymx_table.proofs.Table.find_near.Goals as goal
 
 pub returns : goal.returns
 returns c =
