@@ -1,19 +1,19 @@
 -- What the head of a frame is to a session in which its payload is awaited already.
 use Rattle.std.proofs.Common.{◌≡◌, ℕ, ◌+◌, ◌≤◌, ◌==◌, List, [], ◌∷◌, ◌++◌, Bool, true, false, ◌&&◌, if◌then◌else◌, Option, None, Some, refl, sym, ap, ◌∙◌, subst, arith, rules}
 use Rattle.std.specs.Prelude.{IsSome, IfSome, option_map}
-use Rattle.ymx_model.proofs.Tests.{split}
+use Rattle.ymx_machine.proofs.Tests.{split}
 use Rattle.std.proofs.lemmas.Bool.Decides.{nat_tests}
 use Rattle.ymx_header.specs.declared.header.Header.{Header}
 use Rattle.ymx_header.specs.Headers.{has_ack, has_fin, has_rst}
-use Rattle.ymx_model.specs.shared.Phases.{is_offered, takes}
+use Rattle.ymx_machine.specs.shared.Phases.{is_offered, takes}
 use Rattle.ymx_model.specs.session.Records.{End, receive_ack, receive_rst, receive_head as head_of}
 use Rattle.ymx_model.specs.session.Tables.{Table, with_record, insert_record, remove_record}
-use Rattle.ymx_model.specs.shared.Lists.{look, change, without, drop_id}
+use Rattle.ymx_machine.specs.shared.Lists.{look, change, without, drop_id}
 use Rattle.ymx_model.specs.session.Sessions.{Session, Incoming, is_own, on_stream, settle, is_spent}
 use Rattle.ymx_model.specs.session.Sessions.Incoming.{Head, Payload}
 use Rattle.ymx_model.specs.session.Arrivals.{expects, payload, delta, ends_now, acknowledges, take_head, reset_comes, meets, offer, syn_comes, syn_fault, session_refuses}
 use Rattle.ymx_law_session.specs.Limits.{IsWithin}
-use Rattle.ymx_model.proofs.Lists.{place-change, look-change_same, change-added}
+use Rattle.ymx_machine.proofs.Lists.{place-change, look-change_same, change-added}
 use Rattle.ymx_law_session.proofs.offers.SynCauses.{syn-free, gone, unlisted, drop-last}
 use Rattle.ymx_session.specs.Arriving.{awaited, kept}
 use Rattle.ymx_session.specs.Offers.{with_offer}

@@ -1,23 +1,20 @@
 -- What is noted of the streams that what comes changes.
 use Rattle.std.proofs.Common.{◌≡◌, ◌≢◌, ◌⊎◌, ℕ, ◌+◌, ◌<◌, ◌≤◌, ◌==◌, nat_eq, nat_lt, List, [], ◌∷◌, ◌++◌, length, Bool, true, false, ◌||◌, if◌then◌else◌, Option, None, Some, refl, sym, ap, ◌∙◌, inl, inr, append_assoc, append-nil, length-append, arith}
-use Rattle.std.proofs.lemmas.Grind.{common_steps}
 use Rattle.std.proofs.lemmas.Bool.Decides.{nat_tests}
 use Rattle.std.proofs.lemmas.List.Folds.{list_any-append}
 use Rattle.std.specs.List.{list_any}
 use Rattle.ymx_header.specs.declared.header.Header.{Header}
 use Rattle.ymx_header.specs.declared.fault.Fault.{Fault}
 use Rattle.ymx_header.specs.Headers.{has_syn}
-use Rattle.ymx_model.specs.declared.types.Response.TheVariants.{Pong}
-use Rattle.ymx_model.specs.shared.Limits.{most_records}
-use Rattle.ymx_model.specs.shared.Lists.{look}
+use Rattle.ymx_machine.specs.shared.Limits.{most_records}
+use Rattle.ymx_machine.specs.shared.Lists.{look}
 use Rattle.ymx_model.specs.session.Records.{receive_piece}
-use Rattle.ymx_model.specs.session.Pings.{receive_answer}
 use Rattle.ymx_model.specs.session.Tables.{Table, with_record}
-use Rattle.ymx_model.specs.session.Sessions.{Session, Incoming, breaks}
+use Rattle.ymx_model.specs.session.Sessions.{Session, Incoming}
 use Rattle.ymx_model.specs.session.Sessions.Incoming.{Head}
-use Rattle.ymx_model.specs.session.Arrivals.{answers_with, ping_comes, go_away_comes, header_fault, head_comes}
-use Rattle.ymx_model.proofs.Tests.{split}
-use Rattle.ymx_model.proofs.Lists.{look-change_other}
+use Rattle.ymx_model.specs.session.Arrivals.{header_fault, head_comes}
+use Rattle.ymx_machine.proofs.Tests.{split}
+use Rattle.ymx_machine.proofs.Lists.{look-change_other}
 use Rattle.ymx_law_session.proofs.limits.FramesKeep.{unless_fault-keeps}
 use Rattle.ymx_law_session.proofs.nothing_else.Others.{head-others}
 use Rattle.ymx_law_session.proofs.nothing_else.Alone.{stream_frame, session_frame}

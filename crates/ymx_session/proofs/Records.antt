@@ -1,16 +1,16 @@
 -- What calls on the records of a table are to a session.
-use Rattle.std.proofs.Common.{◌≡◌, ℕ, ◌+◌, ◌<◌, ◌==◌, min, List, [], ◌∷◌, ◌++◌, length, take, drop, Bool, true, false, None, Some, refl, sym, ap, ◌∙◌, arith}
+use Rattle.std.proofs.Common.{◌≡◌, ℕ, ◌+◌, ◌<◌, ◌≤◌, ◌==◌, min, List, [], ◌∷◌, ◌++◌, length, take, drop, Bool, true, false, None, Some, refl, sym, ap, ◌∙◌, arith}
 use Rattle.std.proofs.lemmas.Grind.{common_steps}
 use Rattle.std.proofs.lemmas.Bool.Decides.{nat_tests}
-use Rattle.ymx_model.specs.declared.types.Reply.TheVariants.{Read}
-use Rattle.ymx_model.specs.declared.types.CallFault.TheVariants.{Closed}
-use Rattle.ymx_model.specs.shared.Limits.{first_credit}
-use Rattle.ymx_model.specs.shared.Phases.{Phase, is_live, is_reset}
-use Rattle.ymx_model.specs.shared.Phases.Phase.{Live}
-use Rattle.ymx_model.specs.shared.Replies.{read_reply}
+use Rattle.ymx_machine.specs.declared.types.Reply.TheVariants.{Read}
+use Rattle.ymx_machine.specs.declared.types.CallFault.TheVariants.{Closed}
+use Rattle.ymx_machine.specs.shared.Limits.{first_credit}
+use Rattle.ymx_machine.specs.shared.Phases.{Phase, is_live, is_reset}
+use Rattle.ymx_machine.specs.shared.Phases.Phase.{Live}
+use Rattle.ymx_machine.specs.shared.Replies.{read_reply}
 use Rattle.ymx_model.specs.session.Records.{End, new_end, end_write, end_read}
 use Rattle.ymx_model.specs.session.Tables.{Table, insert_record, with_record}
-use Rattle.ymx_model.specs.shared.Lists.{look, change}
+use Rattle.ymx_machine.specs.shared.Lists.{look, change}
 use Rattle.ymx_model.specs.session.Sessions.{Session, is_closed, is_lost, on_stream}
 use Rattle.ymx_model.specs.session.Calls.{session_opened, read_from}
 use Rattle.ymx_session.specs.Replies.{stream_fault, end_fault}
@@ -109,6 +109,13 @@ consume-gives id n count e s f l a b k =
     let r = read-reply count e s a b c.live c.reset in
     let same : take n (take count e.reader.unread) ≡ take count e.reader.unread = grind (arith, common_steps) in
     rw (waiting-is id e s f l, same, c.closed, l, r) refl
+
+-- no more is taken out than waits
+pub consume-within : (id n count : ℕ) (e : End) (s : Session) → stream_fault id s ≡ None → look id s.table.entries ≡ Some e →
+    n ≡ min count (length e.reader.unread) → n ≤ length (waiting id s)
+consume-within id n count e s f l k =
+    let few : n ≤ length e.reader.unread = grind (arith, common_steps) in
+    rw (waiting-is id e s f l) few
 
 -- a read changes the same, whatever is in its buffer
 pub consume-leaves : (id n count : ℕ) (e : End) (table : Table) (v s : Session) → v ≡ s → stream_fault id s ≡ None → look id s.table.entries ≡ Some e → 0 < count → 0 < length e.reader.unread →

@@ -1,21 +1,21 @@
 -- Every event keeps what holds of every session.
-use Rattle.std.proofs.Common.{◌≡◌, ℕ, ◌+◌, ◌<◌, ◌≤◌, ◌^◌, ◌==◌, List, length, Bool, true, false, not, nat_lt, Option, None, Some, refl, arith}
-use Rattle.std.specs.Prelude.{Result, Ok, Err}
+use Rattle.std.proofs.Common.{◌≡◌, ℕ, ◌+◌, ◌<◌, ◌≤◌, ◌^◌, ◌==◌, List, length, Bool, true, false, not, nat_lt, Option, None, Some, refl, sym, ap, ◌∙◌, subst, arith}
+use Rattle.std.specs.Prelude.{Result, Ok, Err, OnErr}
 use Rattle.std.proofs.lemmas.Bool.Decides.{nat_tests}
 use Rattle.ymx_model.specs.declared.types.Role.{Role}
-use Rattle.ymx_model.specs.declared.types.Call.{Call}
-use Rattle.ymx_model.specs.declared.types.Call.TheVariants as call
+use Rattle.ymx_machine.specs.declared.types.Call.{Call}
+use Rattle.ymx_machine.specs.declared.types.Call.TheVariants as call
 use Rattle.ymx_model.specs.declared.types.Event.{Event}
 use Rattle.ymx_model.specs.declared.types.Event.TheVariants as event
-use Rattle.ymx_model.specs.declared.types.Reply.{Reply}
-use Rattle.ymx_model.specs.declared.types.Reply.TheVariants.{Refused}
-use Rattle.ymx_model.specs.declared.types.CallFault.{CallFault}
-use Rattle.ymx_model.specs.declared.types.CallFault.TheVariants.{OutOfMemory}
-use Rattle.ymx_model.specs.shared.Limits.{first_credit}
-use Rattle.ymx_model.specs.shared.Phases.{Phase, is_live, is_reset}
-use Rattle.ymx_model.specs.shared.Replies.{write_reply, bytes_moved}
+use Rattle.ymx_machine.specs.declared.types.Reply.{Reply}
+use Rattle.ymx_machine.specs.declared.types.Reply.TheVariants.{Refused}
+use Rattle.ymx_machine.specs.declared.types.CallFault.{CallFault}
+use Rattle.ymx_machine.specs.declared.types.CallFault.TheVariants.{OutOfMemory}
+use Rattle.ymx_machine.specs.shared.Limits.{first_credit}
+use Rattle.ymx_machine.specs.shared.Phases.{Phase, is_live, is_reset}
+use Rattle.ymx_machine.specs.shared.Replies.{write_reply, bytes_moved}
 use Rattle.ymx_model.specs.session.Records.{End}
-use Rattle.ymx_model.specs.shared.Lists.{look}
+use Rattle.ymx_machine.specs.shared.Lists.{look}
 use Rattle.ymx_model.specs.session.Sessions.{Session, new_session, is_own, is_closed, is_lost}
 use Rattle.ymx_model.specs.session.Calls.{Outcome, outcome, takes_memory, write_to, at_record, write_outcome, unsent_count}
 use Rattle.ymx_model.specs.session.Emissions.{in_turn}
@@ -23,7 +23,9 @@ use Rattle.ymx_model.specs.session.Histories.{Gives, CallGives}
 use Rattle.ymx_model.specs.session.Histories.CallGives.{Outcome as HasOutcome, NoMemory}
 use Rattle.ymx_law_session.proofs.limits.HistoriesKeep.{gives-keep, new-keeps}
 use Rattle.ymx_law_session.proofs.given_up.SettledFrames.{gives-settled, new-settled}
-use Rattle.ymx_model.proofs.Tests.{split}
+use Rattle.ymx_law_session.specs.Refusals.{reply_is_refused}
+use Rattle.ymx_law_session.proofs.nothing_else.Refusals.{refusals}
+use Rattle.ymx_machine.proofs.Tests.{split}
 use Rattle.ymx_session.specs.Sound.{IsSound}
 use Rattle.ymx_session.specs.Replies.{is_out_of_memory}
 
@@ -56,6 +58,26 @@ memory-gives {A} r c told s t found lack f = of (is_out_of_memory r) refl
     of : (b : Bool) → is_out_of_memory r ≡ b → CallGives s c told t
     of true e = let k = lack e in NoMemory k.0 (wants_memory r e told f) k.1
     of false e = let k = found e in HasOutcome k.0 k.1
+
+-- ---- a refusal
+
+refused-same : {A : Type 0} (r : Result A CallFault) (c : Call) (told : Reply) (s t : Session) → CallGives s c told t → ((fault : CallFault) → r ≡ Err fault → told ≡ Refused fault) → OnErr r (t ≡ s)
+refused-same {A} (Ok x) c told s t g f = tt
+refused-same {A} (Err fault) c told s t (HasOutcome answer state) f =
+    let e : (outcome c s).reply ≡ Refused fault = sym answer ∙ f fault refl in
+    state ∙ refusals c s (ap reply_is_refused e)
+refused-same {A} (Err fault) c told s t (NoMemory needs answer state) f = state
+
+-- it changes nothing
+pub call-refused : {A : Type 0} (r : Result A CallFault) (c : Call) (told : Reply) (v s t : Session) → v ≡ s → told ≡ (outcome c v).reply → t ≡ (outcome c v).next →
+    ((fault : CallFault) → r ≡ Err fault → told ≡ Refused fault) → OnErr r (t ≡ s)
+call-refused {A} r c told v s t e answer state f = subst (λ (x : Session). OnErr r (t ≡ x)) e (refused-same r c told v t (HasOutcome answer state) f)
+
+pub memory-refused : {A : Type 0} (r : Result A CallFault) (c : Call) (told : Reply) (v s t : Session) → v ≡ s →
+    (is_out_of_memory r ≡ false → (told ≡ (outcome c v).reply) × (t ≡ (outcome c v).next)) →
+    (is_out_of_memory r ≡ true → (takes_memory c v ≡ true) × (t ≡ v)) →
+    ((fault : CallFault) → r ≡ Err fault → told ≡ Refused fault) → OnErr r (t ≡ s)
+memory-refused {A} r c told v s t e found lack f = subst (λ (x : Session). OnErr r (t ≡ x)) e (refused-same r c told v t (memory-gives r c told v t found lack f) f)
 
 -- ---- a write that takes no memory
 

@@ -1,29 +1,29 @@
 -- A frame begun for another stream brings the turn nearer, and nothing else changes it.
-use Rattle.std.proofs.Common.{◌≡◌, ◌≢◌, ◌⊎◌, inl, inr, ℕ, suc, ◌+◌, ◌<◌, ◌≤◌, ◌==◌, nat_lt, List, [], ◌∷◌, length, Bool, true, false, not, ◌&&◌, ◌||◌, cond, Option, None, Some, refl, sym, ap, ◌∙◌, subst, arith}
+use Rattle.std.proofs.Common.{◌≡◌, ◌≢◌, ◌⊎◌, inl, inr, ℕ, suc, ◌+◌, ◌<◌, ◌==◌, nat_lt, List, [], ◌∷◌, length, Bool, true, false, not, ◌&&◌, ◌||◌, cond, Option, None, Some, refl, sym, ap, ◌∙◌, subst, arith}
 use Rattle.std.specs.Prelude.{count_by, is_some}
 use Rattle.std.proofs.lemmas.List.Recursion.{is_count_by}
 use Rattle.ymx_model.specs.declared.types.Status.{Status}
 use Rattle.ymx_model.specs.declared.types.Status.TheVariants.{Running, Lost, Broken, Closed}
 use Rattle.ymx_model.specs.declared.types.PingStage.TheVariants.{Sent}
 use Rattle.ymx_model.specs.declared.types.Response.{Response}
-use Rattle.ymx_model.specs.shared.Limits.{first_credit, data_limit}
-use Rattle.ymx_model.specs.shared.Phases.{is_lingering}
+use Rattle.ymx_machine.specs.shared.Limits.{first_credit, data_limit}
+use Rattle.ymx_machine.specs.shared.Phases.{is_lingering}
 use Rattle.ymx_model.specs.session.Records.{End}
 use Rattle.ymx_model.specs.declared.types.FrameKind.{FrameKind}
-use Rattle.ymx_model.specs.session.FramesDue.{is_due, next_kind, begin_frame, is_empty}
+use Rattle.ymx_model.specs.session.FramesDue.{is_due, next_kind, begin_frame}
 use Rattle.ymx_model.specs.session.Pings.{Ping, ping_is_asked, has_asked, staged, first_asked, begin_ping}
 use Rattle.ymx_model.specs.session.GoAway.{away_due, begin_away}
-use Rattle.ymx_model.specs.session.Tables.{Table, remove_record, round}
-use Rattle.ymx_model.specs.shared.Lists.{look, Distinct}
+use Rattle.ymx_model.specs.session.Tables.{remove_record, round}
+use Rattle.ymx_machine.specs.shared.Lists.{look, Distinct}
 use Rattle.ymx_model.specs.session.Sessions.{Session, Outgoing, is_running, is_broken, is_spent, belongs_to, nothing_outgoing}
 use Rattle.ymx_model.specs.session.Emissions.{Choice, begin, begins, begin_answer, begin_stream, begin_kind, alarm_frame, go_away_frame, ping_frame, answer_frame, moves_on, settles, in_turn, is_first, no_answers}
 use Rattle.ymx_model.specs.session.Emissions.Choice.{TheAlarm, TheGoAway, TheAnswer, ThePing, AStream}
 use Rattle.ymx_law_session.specs.Limits.{IsWithin}
-use Rattle.ymx_model.proofs.Tests.{split, both_of, agrees, differs, same_or_not}
-use Rattle.ymx_model.proofs.Lists.{look-change_other, look-without_other}
+use Rattle.ymx_machine.proofs.Tests.{split, both_of, agrees, differs, same_or_not}
+use Rattle.ymx_machine.proofs.Lists.{look-change_other, look-without_other}
 use Rattle.ymx_law_session.proofs.limits.EmissionsKeep.{some_if, none_if, if_some, begin-keeps, moves-keep}
 use Rattle.ymx_law_session.proofs.due.Ready.{due-kind}
-use Rattle.ymx_session.specs.Turns.{own_frames, counted, before, turn, HasDue, is_of_stream, ReadyPast, FlowsPast}
+use Rattle.ymx_session.specs.Turns.{own_frames, counted, before, turn, HasDue, is_of_stream, ReadyPast, FlowsPast, IsNearerBy}
 use Rattle.ymx_session.proofs.Waits.{served-round, served-before, listed-round, removed-round}
 
 -- the turn is nearer, and the stream still has something due
@@ -196,24 +196,28 @@ moves-near id n s d h =
 
 -- ---- an emission
 
-pub past : (id : ℕ) (bytes : List ℕ) (frames : ℕ) (s t : Session) → IsWithin s → HasDue id s → FlowsPast id bytes frames s t → frames + turn id t ≤ turn id s
-past id [] frames s t w h (e, z) = let k : turn id t ≡ turn id s = ap (turn id) e in omega (arith, k, z)
+pub past : (id : ℕ) (bytes : List ℕ) (frames : ℕ) (s t : Session) → IsWithin s → HasDue id s → FlowsPast id bytes frames s t → IsNearerBy frames id s t
+past id [] frames s t w h (e, z) =
+    let k : turn id t ≡ turn id s = ap (turn id) e in
+    record { nearer = omega (arith, k, z); due = subst (HasDue id) (sym e) h }
 past id (b ∷ bs) frames s t w h (ready, first, more, sum, r, byte, rest) = of first sum r (λ wm hm. past id bs more (moves_on 1 ready) t wm hm rest)
   where
-    of : (m : ℕ) → frames ≡ m + more → ReadyPast id m s ready → (IsWithin (moves_on 1 ready) → HasDue id (moves_on 1 ready) → more + turn id t ≤ turn id (moves_on 1 ready)) → frames + turn id t ≤ turn id s
+    of : (m : ℕ) → frames ≡ m + more → ReadyPast id m s ready → (IsWithin (moves_on 1 ready) → HasDue id (moves_on 1 ready) → IsNearerBy more id (moves_on 1 ready) t) → IsNearerBy frames id s t
     of m e (inl (some, same, z)) go =
         let wr = subst IsWithin (sym same) w in
         let hr = subst (HasDue id) (sym same) h in
         let k : turn id ready ≡ turn id s = ap (turn id) same in
         let a = moves-near id 1 ready wr.table.distinct hr in
         let x = go (moves-keep 1 ready wr) a.due in
+        let n = x.nearer in
         let y = a.same in
-        omega (arith, x, y, k, z, e)
+        record { nearer = omega (arith, n, y, k, z, e); due = x.due }
     of m e (inr (choice, i, n, g, z)) go =
         let l = nearer id choice s ready w.table.distinct h i n g in
         let wr = begin-keeps choice s ready g w in
         let a = moves-near id 1 ready wr.table.distinct l.due in
         let x = go (moves-keep 1 ready wr) a.due in
+        let f = x.nearer in
         let y = a.same in
         let k = l.less in
-        omega (arith, x, y, k, z, e)
+        record { nearer = omega (arith, f, y, k, z, e); due = x.due }

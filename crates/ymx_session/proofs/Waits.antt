@@ -14,14 +14,14 @@ use Rattle.ymx_model.specs.session.FramesDue.{is_empty, is_due, next_kind, begin
 use Rattle.ymx_model.specs.session.Pings.{Ping, ping_is_asked, has_asked, staged, first_asked}
 use Rattle.ymx_model.specs.session.GoAway.{away_due}
 use Rattle.ymx_model.specs.session.Tables.{Table, with_record, remove_record, pass_turn, due_ids, due_count, round}
-use Rattle.ymx_model.specs.shared.Lists.{look, change, without, place, Distinct}
+use Rattle.ymx_machine.specs.shared.Lists.{look, change, without, place, Distinct}
 use Rattle.ymx_model.specs.session.Sessions.{Session, is_running, is_broken, settle, is_spent, nothing_outgoing}
 use Rattle.ymx_model.specs.session.Emissions.{Choice, begin, begin_answer, begin_stream, begin_kind, moves_on, settles, in_turn, is_first, no_answers, is_some_of}
-use Rattle.ymx_model.specs.shared.Limits.{data_limit}
+use Rattle.ymx_machine.specs.shared.Limits.{data_limit}
 use Rattle.ymx_model.specs.session.Emissions.Choice.{TheAlarm, TheGoAway, TheAnswer, ThePing, AStream}
 use Rattle.ymx_law_session.specs.Limits.{IsWithin, is_listed}
-use Rattle.ymx_model.proofs.Tests.{split, both_of, agrees, differs, is_lt, not_lt}
-use Rattle.ymx_model.proofs.Lists.{look-change_other, look-without_other, place-change}
+use Rattle.ymx_machine.proofs.Tests.{split, both_of, agrees, differs, is_lt, not_lt}
+use Rattle.ymx_machine.proofs.Lists.{look-change_other, look-without_other, place-change}
 use Rattle.ymx_law_session.proofs.limits.EmissionsKeep.{some_if, if_some, begin-keeps, moves-keep}
 use Rattle.ymx_law_session.proofs.due.Ready.{due-kind}
 use Rattle.ymx_session.specs.Turns.{own_frames, counted, before, turn, HasDue, is_of_stream, ReadyPast, FlowsPast}

@@ -1,7 +1,7 @@
 -- What a stream of the caller's can give and take now (flow control).
-use Rattle.std.specs.Prelude.{ℕ, List, [], Bool, true, false, ◌||◌, is_some, if◌then◌else◌, Option, None, Some}
+use Rattle.std.specs.Prelude.{ℕ, List, [], ◌||◌, is_some, if◌then◌else◌, Option, None, Some}
 use Rattle.ymx_model.specs.session.Records.{End}
-use Rattle.ymx_model.specs.shared.Lists.{look}
+use Rattle.ymx_machine.specs.shared.Lists.{look}
 use Rattle.ymx_model.specs.session.Sessions.{Session, is_lost}
 use Rattle.ymx_session.specs.Replies.{stream_fault}
 

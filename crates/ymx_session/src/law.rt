@@ -4,10 +4,10 @@ ghost use Rattle.std.specs.Prelude.{◌≡◌, ◌+◌, ◌<◌, ◌≤◌, ℕ,
 ghost use Rattle.ymx_model.specs.session.Tables.{due_count};
 ghost use Rattle.ymx_model.specs.session.Sessions.{Session};
 ghost use Rattle.ymx_model.specs.session.Emissions.{Choice, begin, moves_on, in_turn};
-ghost use Rattle.ymx_model.specs.shared.Limits.{data_limit};
+ghost use Rattle.ymx_machine.specs.shared.Limits.{data_limit};
 ghost use Rattle.ymx_model.specs.session.Emissions.Choice.{AStream};
 ghost use Rattle.ymx_law_session.specs.Limits.{IsWithin};
-ghost use Rattle.ymx_session.specs.Turns.{turn, own_frames, HasDue, is_of_stream, FlowsPast};
+ghost use Rattle.ymx_session.specs.Turns.{turn, own_frames, HasDue, is_of_stream, FlowsPast, IsNearerBy};
 
 /// A stream with something due waits for at most as many frames as its turn says, while no call and no feed
 /// comes between: each frame that begins for another brings it nearer, bytes that go out leave it as it is, and
@@ -20,5 +20,5 @@ pub fn turns_are_bounded()
     ensures due_behind { (id n : ℕ) (s : Session) → IsWithin s → HasDue id s → HasDue id (moves_on n s) }
     ensures own_next { (id : ℕ) (c : Choice) (s t : Session) → IsWithin s → HasDue id s → turn id s ≡ 0 → in_turn c s ≡ true → begin c s ≡ Some t → c ≡ AStream id data_limit }
     ensures few { (id : ℕ) (s : Session) → HasDue id s → turn id s < own_frames s + due_count s.table }
-    ensures among { (id : ℕ) (bytes : List ℕ) (frames : ℕ) (s t : Session) → IsWithin s → HasDue id s → FlowsPast id bytes frames s t → frames ≤ turn id s }
+    ensures among { (id : ℕ) (bytes : List ℕ) (frames : ℕ) (s t : Session) → IsWithin s → HasDue id s → FlowsPast id bytes frames s t → IsNearerBy frames id s t }
 {}

@@ -1,7 +1,7 @@
 //! All that a session remembers.
 
 ghost use Rattle.std.specs.Prelude.{◌≡◌, ◌≤◌, IfOk};
-ghost use Rattle.ymx_model.specs.shared.Limits.{first_credit, widest_window};
+ghost use Rattle.ymx_machine.specs.shared.Limits.{first_credit, widest_window};
 ghost use Rattle.ymx_model.specs.session.Sessions.{new_session, breaks, is_lost};
 
 use crate::arriving::Arriving;

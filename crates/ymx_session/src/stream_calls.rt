@@ -1,9 +1,9 @@
 //! Calls on one stream.
 
-ghost use Rattle.std.specs.Prelude.{◌≡◌, ◌<◌, ◌≤◌, ◌↔◌, ◌++◌, length, take, drop, true, false, None, Some, IsTrue, IfOk, IfErr};
-ghost use Rattle.ymx_model.specs.declared.types.Call.TheVariants as call;
-ghost use Rattle.ymx_model.specs.declared.types.Reply.TheVariants.{ReadEnd};
-ghost use Rattle.ymx_model.specs.shared.Lists.{look};
+ghost use Rattle.std.specs.Prelude.{◌≡◌, ◌<◌, ◌≤◌, ◌↔◌, ◌++◌, [], ◌∷◌, length, take, drop, true, false, None, Some, IsTrue, IfOk, IfErr};
+ghost use Rattle.ymx_machine.specs.declared.types.Call.TheVariants as call;
+ghost use Rattle.ymx_machine.specs.declared.types.Reply.TheVariants.{ReadEnd, ReadWait, Wrote as WroteReply};
+ghost use Rattle.ymx_machine.specs.shared.Lists.{look};
 ghost use Rattle.ymx_model.specs.session.Calls.{write_to, read_from, finish, reset, forget, takes_memory};
 ghost use Rattle.ymx_law_session.specs.Limits.{IsWithin};
 ghost use Rattle.ymx_session.specs.Streams.{waiting, room_of};
@@ -38,6 +38,7 @@ impl State {
         ensures outcome { is_out_of_memory result ≡ false → (wrote_or result ≡ (write_to id bytes.now self.old).reply) × (self.new ≡ (write_to id bytes.now self.old).next) }
         ensures out_of_memory { is_out_of_memory result ≡ true → (takes_memory (call.Write id bytes.now) self.old ≡ true) × (self.new ≡ self.old) }
     {
+        self.table.seek(id);
         let stream = self.stream(id)?;
         if stream.is_finished() {
             return Err(CallFault::Finished);
@@ -64,6 +65,7 @@ impl State {
         ensures within { count_of result ≤ length buffer.old }
         ensures rest { buffer.new ≡ take (count_of result) buffer.new ++ drop (count_of result) buffer.old }
     {
+        self.table.seek(id);
         let stream = self.stream(id)?;
         if buffer.is_empty() {
             return Ok(Got::Bytes(0));
@@ -97,7 +99,9 @@ impl State {
         ensures reply { read_or result (take count (waiting id self.old)) ≡ (read_from id count self.old).reply }
         ensures state { self.new ≡ (read_from id count self.old).next }
         ensures within { count_of result ≤ count }
+        ensures there { count_of result ≤ length (waiting id self.old) }
     {
+        self.table.seek(id);
         let stream = self.stream(id)?;
         if count == 0 {
             return Ok(Got::Bytes(0));
@@ -135,6 +139,26 @@ impl State {
     {
         match self.stream(id) {
             Ok(stream) => stream.has_ended() && stream.unread_len() == 0,
+            Err(_) => false,
+        }
+    }
+
+    /// Whether a read finds neither bytes nor the end, nor a refusal.
+    pub(crate) fn read_waits(&self, id: u32) -> bool
+        ensures { IsTrue result ↔ ((read_from id 1 self.now).reply ≡ ReadWait) }
+    {
+        match self.stream(id) {
+            Ok(stream) => { stream.unread_len() == 0 && !stream.has_ended() && !self.is_lost() }
+            Err(_) => false,
+        }
+    }
+
+    /// Whether a write of one byte finds no credit, and no refusal.
+    pub(crate) fn write_waits(&self, id: u32) -> bool
+        ensures { IsTrue result ↔ ((write_to id (0 ∷ []) self.now).reply ≡ WroteReply Wrote.Wait) }
+    {
+        match self.stream(id) {
+            Ok(stream) => { stream.credit() == 0 && !stream.is_finished() && !self.is_lost() }
             Err(_) => false,
         }
     }

@@ -2,7 +2,7 @@
 
 ghost use Rattle.std.specs.Prelude.{◌≡◌, ◌≤◌, length, nat_eq, true, false, IfOk};
 ghost use Rattle.std.specs.List.{IsDistinct};
-ghost use Rattle.ymx_model.specs.shared.Limits.{most_records};
+ghost use Rattle.ymx_machine.specs.shared.Limits.{most_records};
 ghost use Rattle.ymx_session.specs.Touched.{nothing_noted, note, note_head};
 
 use indexmap::IndexSet;

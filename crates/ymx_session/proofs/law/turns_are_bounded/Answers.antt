@@ -1,4 +1,3 @@
-use Rattle.std.proofs.Common.{arith}
 use Rattle.ymx_session.proofs.Waits.{turn-few}
 use Rattle.ymx_session.proofs.TurnLaws.{nearer, own-next, moves-near, past}
 use Rattle.ymx_session.proofs.law.turns_are_bounded.Goals as goal
@@ -11,5 +10,5 @@ returns c = record {
   due_behind = λ id n s w h. (moves-near id n s w.table.distinct h).due;
   own_next = λ id x s t w h. own-next id x s t w.table.distinct h;
   few = turn-few;
-  among = λ id bytes frames s t w h p. let l = past id bytes frames s t w h p in omega (arith, l);
+  among = past;
 }

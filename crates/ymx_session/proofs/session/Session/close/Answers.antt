@@ -1,4 +1,4 @@
-use Rattle.ymx_model.specs.declared.types.Call.TheVariants as call
+use Rattle.ymx_machine.specs.declared.types.Call.TheVariants as call
 use Rattle.ymx_session.proofs.Sounds.{call-sound}
 use Rattle.ymx_session.proofs.session.Session.close.Goals as goal
 
