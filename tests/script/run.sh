@@ -4,13 +4,9 @@
 # printed is that of a mistake, and else 0.
 set -eu
 here=$(cd "$(dirname "$0")" && pwd)
-root=$(cd "$here/../.." && pwd)
-scratch=$(mktemp -d)
-trap 'rm -rf "$scratch"' EXIT
-"$root/ymx" script < /dev/null
+. "$here/../over.sh"
+find_program
 cd "$scratch"
-passed=0
-failed=0
 
 # plays NAME SCRIPT WANTED: the script prints what is wanted, with its status, and says nothing else
 plays() {
@@ -19,14 +15,12 @@ plays() {
     'error line '*) wanted=1 ;;
     esac
     status=0
-    "$root/out/ymx" script < "$2" > out 2> err || status=$?
+    "$ymx" script < "$2" > out 2> err || status=$?
     if [ "$status" = "$wanted" ] && cmp -s out "$3" && [ ! -s err ]; then
-        passed=$((passed + 1))
+        good
     else
-        failed=$((failed + 1))
-        echo "FAIL  $1: status $status, and not $wanted, or another text:"
-        diff "$3" out | head -n 20
-        cat err
+        diff "$3" out | head -n 20 > differs
+        bad "$1: status $status, and not $wanted, or another text:" differs err
     fi
 }
 
@@ -158,5 +152,4 @@ awk 'BEGIN { print "ok"; for (n = 0; n < 1024; n++) printf "opened %d\nok\nemitt
     print "opened 2049\nok\nemitted 24\nheld 0\nemitted 12\nheld 0\nemitted 12\nfed 24\nemitted 12\nfed 12" }' > wanted
 plays 'a full row of answers' script wanted
 
-echo "$passed passed, $failed failed"
-[ "$failed" = 0 ]
+counted

@@ -4,5 +4,5 @@
 # With --refuse-each the rows are played again with each allocation refused in turn, which takes half a minute each.
 set -eu
 here=$(cd "$(dirname "$0")" && pwd)
-below=$(sed -n 's/^ymx_world: //p' "$here/../../crates.txt")
-exec "$here/../try_crate.sh" "$here" "world_examples: ymx_world $below" "$@"
+. "$here/../over.sh"
+"$here/../try_crate.sh" "$here" "world_examples: ymx_world $(below ymx_world)" "$@"

@@ -1,8 +1,8 @@
 -- What a line of a script says (this project's own).
 use Rattle.std.specs.Prelude.{ℕ, List, [], ◌∷◌, ◌==◌, if◌then◌else◌, Option, None, Some, codes, replicate}
-use Rattle.ymx_model.specs.declared.types.Call.TheVariants.{Open, OpenWith, Accept, Write, Read, Finish, Reset, Forget, Ping, Ponged, GoAway, Close}
-use Rattle.ymx_model.specs.declared.types.Side.{Side}
-use Rattle.ymx_model.specs.declared.types.Step.TheVariants.{At, Emit, Deliver, Stop, End}
+use Rattle.ymx_machine.specs.declared.types.Call.TheVariants.{Open, OpenWith, Accept, Write, Read, Finish, Reset, Forget, Ping, Ponged, GoAway, Close}
+use Rattle.ymx_machine.specs.declared.types.Side.{Side}
+use Rattle.ymx_machine.specs.declared.types.Step.TheVariants.{At, Emit, Deliver, Stop, End}
 use Rattle.ymx_script.specs.declared.command.Command.{Command}
 use Rattle.ymx_script.specs.declared.command.Command.TheVariants.{Nothing, First, Window, Do, Skip, Quiet, Due, Show}
 use Rattle.ymx_script.specs.Words.{words, is, side, direction, number, count, payload_word}

@@ -2,15 +2,15 @@
 use Rattle.std.specs.Prelude.{ℕ, List, [], ◌++◌, length, take, Bool, true, false, ◌==◌, nat_lt, if◌then◌else◌, Option, None, Some, codes, decimal}
 use Rattle.hex.specs.Hex.{encode_lower}
 use Rattle.ymx_header.specs.Faults.{fault_number}
-use Rattle.ymx_model.specs.declared.types.Answer.{Answer}
-use Rattle.ymx_model.specs.declared.types.Answer.TheVariants as answer
-use Rattle.ymx_model.specs.declared.types.CallFault.{CallFault}
-use Rattle.ymx_model.specs.declared.types.CallFault.TheVariants as refusal
-use Rattle.ymx_model.specs.declared.types.Fed.{Fed}
-use Rattle.ymx_model.specs.declared.types.Why.{Why}
-use Rattle.ymx_model.specs.declared.types.Why.TheVariants.{All, Held, Broken}
-use Rattle.ymx_model.specs.declared.types.Wrote.{Wrote}
-use Rattle.ymx_model.specs.declared.types.Wrote.TheVariants.{Took, Wait}
+use Rattle.ymx_machine.specs.declared.types.Answer.{Answer}
+use Rattle.ymx_machine.specs.declared.types.Answer.TheVariants as answer
+use Rattle.ymx_machine.specs.declared.types.CallFault.{CallFault}
+use Rattle.ymx_machine.specs.declared.types.CallFault.TheVariants as refusal
+use Rattle.ymx_machine.specs.declared.types.Fed.{Fed}
+use Rattle.ymx_machine.specs.declared.types.Why.{Why}
+use Rattle.ymx_machine.specs.declared.types.Why.TheVariants.{All, Held, Broken}
+use Rattle.ymx_machine.specs.declared.types.Wrote.{Wrote}
+use Rattle.ymx_machine.specs.declared.types.Wrote.TheVariants.{Took, Wait}
 
 -- the number of a refusal and its name
 abbrev pub refusal_text : CallFault → List ℕ

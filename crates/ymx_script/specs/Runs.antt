@@ -1,7 +1,7 @@
 -- The run of a world that a script is (this project's own).
 use Rattle.std.specs.Prelude.{List, [], ◌∷◌, ℕ, Option, None, Some}
 use Rattle.std.specs.List.{flat_map}
-use Rattle.ymx_model.specs.declared.types.Step.{Step}
+use Rattle.ymx_machine.specs.declared.types.Step.{Step}
 use Rattle.ymx_model.specs.world.Worlds.{World}
 use Rattle.ymx_script.specs.declared.command.Command.{Command}
 use Rattle.ymx_script.specs.declared.command.Command.TheVariants.{Nothing, First, Window, Do, Skip, Quiet, Due, Show}

@@ -1,11 +1,11 @@
 -- What a script prints, line after line (this project's own).
 use Rattle.std.specs.Prelude.{◌≡◌, ℕ, ◌+◌, ◌-◌, ◌^◌, ◌<◌, ◌≤◌, min, List, [], ◌∷◌, ◌++◌, length, take, drop, Bool, true, false, ◌||◌, ◌==◌, if◌then◌else◌, Option, None, Some, is_none, codes}
 use Rattle.std.specs.List.{flat_map}
-use Rattle.ymx_model.specs.declared.types.Answer.{Answer}
+use Rattle.ymx_machine.specs.declared.types.Answer.{Answer}
 use Rattle.ymx_model.specs.declared.types.Config.{Config}
 use Rattle.ymx_model.specs.declared.types.Role.TheVariants.{Client, Server}
-use Rattle.ymx_model.specs.declared.types.Side.{Side}
-use Rattle.ymx_model.specs.declared.types.Side.TheVariants.{A, B}
+use Rattle.ymx_machine.specs.declared.types.Side.{Side}
+use Rattle.ymx_machine.specs.declared.types.Side.TheVariants.{A, B}
 use Rattle.ymx_model.specs.session.Emissions.{in_turn, is_ready}
 use Rattle.ymx_model.specs.world.Worlds.{World, Steps, new_world, is_quiet}
 use Rattle.ymx_session.specs.NewSessions.{first_id, new_fault}

@@ -8,7 +8,7 @@ use std::alloc::{AllocError, Global};
 use ymx_model::{Bytes, Call, Direction, Side, Step};
 
 /// What a line says.
-#[derive(Debug, Drop)]
+#[derive(Drop)]
 pub enum Command {
     /// Nothing: it is empty, or a comment.
     Nothing,

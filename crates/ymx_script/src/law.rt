@@ -1,7 +1,7 @@
 //! What holds of every script.
 
 ghost use Rattle.std.specs.Prelude.{ℕ, List};
-ghost use Rattle.ymx_model.specs.declared.types.Answer.{Answer};
+ghost use Rattle.ymx_machine.specs.declared.types.Answer.{Answer};
 ghost use Rattle.ymx_model.specs.session.Emissions.{in_turn};
 ghost use Rattle.ymx_model.specs.world.Worlds.{Runs};
 ghost use Rattle.ymx_script.specs.Runs.{steps_said, world_of_settings};

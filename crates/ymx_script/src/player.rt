@@ -3,7 +3,7 @@
 ghost use Rattle.std.specs.Prelude.{◌≡◌, ◌==◌, [], ◌≤◌, ◌++◌, length, MatchOption, ℕ, List, true, false, Some, None, is_none, take, IfOk, OnOk, OnErr, codes};
 ghost use Rattle.std.specs.Io.{StartsWith};
 ghost use Rattle.std.specs.List.{position};
-ghost use Rattle.ymx_model.specs.declared.types.Answer.{Answer as AnswerValue};
+ghost use Rattle.ymx_machine.specs.declared.types.Answer.{Answer as AnswerValue};
 ghost use Rattle.ymx_model.specs.session.Emissions.{in_turn};
 ghost use Rattle.ymx_model.specs.world.Worlds.{Steps};
 ghost use Rattle.ymx_session.specs.NewSessions.{new_fault};

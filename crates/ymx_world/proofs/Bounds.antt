@@ -2,11 +2,13 @@
 use Rattle.std.proofs.Common.{◌≡◌, ℕ, ◌+◌, List, [], ◌∷◌, true, refl}
 use Rattle.std.specs.List.{All}
 use Rattle.std.proofs.lemmas.List.Elements.{All-head, All-tail}
-use Rattle.ymx_model.specs.declared.types.Step.{Step}
-use Rattle.ymx_model.specs.declared.types.Answer.{Answer}
+use Rattle.ymx_machine.specs.declared.types.Step.{Step}
+use Rattle.ymx_machine.specs.declared.types.Answer.{Answer}
 use Rattle.ymx_model.specs.session.Emissions.{in_turn}
 use Rattle.ymx_model.specs.world.Worlds.{World, Runs}
 use Rattle.ymx_headline.specs.Laws.{IsOpenWorld, Carries, is_carriage, fed_by}
+use Rattle.ymx_machine.specs.shared.Limits.{data_limit}
+use Rattle.ymx_headline.proofs.bounds.Loads.{turn-order}
 use Rattle.ymx_headline.proofs.bounds.Bound.{bound}
 use Rattle.ymx_headline.proofs.emissions.Begun.{runs-open}
 use Rattle.ymx_law_world.specs.Texts.{is_open}
@@ -38,5 +40,5 @@ is-bounded steps answers w v reached on each run =
     record {
       frames = (ab.0, ba.0, record { ab = ab.1; ba = ba.1 });
       fed = counts steps answers w v each run;
-      most = λ frames_ab frames_ba count under c. bound in_turn steps answers w v frames_ab frames_ba count h.0 on under.ab under.ba c;
+      most = λ frames_ab frames_ba count under c. bound data_limit in_turn turn-order steps answers w v frames_ab frames_ba count h.0 on under.ab under.ba c;
     }

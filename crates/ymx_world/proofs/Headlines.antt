@@ -4,8 +4,8 @@ use Rattle.std.specs.List.{All}
 use Rattle.ymx_model.specs.declared.types.Role.TheVariants.{Client, Server}
 use Rattle.ymx_model.specs.session.Emissions.{in_turn}
 use Rattle.ymx_model.specs.world.Worlds.{World, Steps, Runs, new_world}
-use Rattle.ymx_model.specs.declared.types.Step.{Step}
-use Rattle.ymx_model.specs.declared.types.Answer.{Answer}
+use Rattle.ymx_machine.specs.declared.types.Step.{Step}
+use Rattle.ymx_machine.specs.declared.types.Answer.{Answer}
 use Rattle.ymx_headline.specs.Laws.{breaks_off}
 use Rattle.ymx_headline.proofs.runs.Runs.{run-alike, runs-alike, none-breaks}
 use Rattle.ymx_law_session.proofs.limits.HistoriesKeep.{new-keeps, odd_some}

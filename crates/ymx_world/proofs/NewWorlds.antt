@@ -4,12 +4,12 @@ use Rattle.std.proofs.lemmas.Bool.Decides.{nat_tests}
 use Rattle.ymx_model.specs.declared.types.Config.{Config}
 use Rattle.ymx_model.specs.declared.types.Role.{Role}
 use Rattle.ymx_model.specs.declared.types.Role.TheVariants.{Client, Server}
-use Rattle.ymx_model.specs.shared.Limits.{first_credit}
+use Rattle.ymx_machine.specs.shared.Limits.{first_credit}
 use Rattle.ymx_model.specs.session.Sessions.{Session, new_session, is_own}
 use Rattle.ymx_model.specs.world.Worlds.{World, new_world, new_pipe}
 use Rattle.ymx_session.specs.declared.new_fault.NewFault.TheVariants.{BadWindow, BadFirst}
 use Rattle.ymx_session.specs.NewSessions.{first_id, new_fault}
-use Rattle.ymx_model.specs.machine.Machines.{new_machine}
+use Rattle.ymx_machine.specs.machine.Machines.{new_machine}
 use Rattle.ymx_headline.specs.Agrees.{Agrees}
 use Rattle.ymx_headline.specs.Laws.{AreGood}
 use Rattle.ymx_headline.proofs.relation.Begins.{begins}

@@ -3,14 +3,14 @@ use Rattle.std.proofs.Common.{◌≡◌, ℕ, ◌+◌, ◌<◌, ◌≤◌, ◌^�
 use Rattle.std.proofs.lemmas.Grind.{common_steps}
 use Rattle.ymx_model.specs.declared.types.Config.{Config}
 use Rattle.ymx_model.specs.declared.types.Role.TheVariants.{Client, Server}
-use Rattle.ymx_model.specs.declared.types.Step.{Step}
-use Rattle.ymx_model.specs.declared.types.Answer.{Answer}
+use Rattle.ymx_machine.specs.declared.types.Step.{Step}
+use Rattle.ymx_machine.specs.declared.types.Answer.{Answer}
 use Rattle.ymx_model.specs.session.Sessions.{Session}
 use Rattle.ymx_model.specs.session.Emissions.{Choice, in_turn}
 use Rattle.ymx_model.specs.world.Worlds.{World, Steps, is_quiet}
-use Rattle.ymx_model.specs.machine.Machines.{Machine}
+use Rattle.ymx_machine.specs.machine.Machines.{Machine}
 use Rattle.ymx_session.specs.NewSessions.{first_id, new_fault}
-use Rattle.ymx_law_machine.specs.Faces.{AreFaces}
+use Rattle.ymx_law_machine.specs.Faces.{AreFaces, FitWindows}
 use Rattle.ymx_law_machine.specs.Runs.{StillRun}
 use Rattle.ymx_headline.specs.QuietRuns.{QuietRuns}
 use Rattle.ymx_headline.proofs.relation.Begins.{begins}
@@ -51,6 +51,7 @@ played_on steps w i st p q within is so one =
 -- what holds of such a run
 pub record IsTopRun (a b : Config) (steps : List Step) (answers : List Answer) (quiet : List Bool) : Type 0 where
   pub face : AreFaces steps answers
+  pub windows : FitWindows a.window b.window steps answers
   pub queues : (m : Machine) × StillRun steps answers quiet (machine_of a b) m
 
 pub top_run : (a b : Config) → new_fault Client a ≡ None → new_fault Server b ≡ None → a.first < 2 ^ 32 → b.first < 2 ^ 32 → (steps : List Step) (answers : List Answer) (quiet : List Bool) (w : World) →
@@ -59,8 +60,10 @@ top_run a b fine_a fine_b small_a small_b steps answers quiet w run =
     let g = good_world a b fine_a fine_b small_a small_b in
     let fa = first_id Client a.first in
     let fb = first_id Server b.first in
+    let within = run-faces in_turn steps answers a.window fa b.window fb w g (told-run in_turn steps answers quiet (world_of a b) w run) in
     record {
-      face = run-faces in_turn steps answers a.window fa b.window fb w g (told-run in_turn steps answers quiet (world_of a b) w run);
+      face = within.faces;
+      windows = within.windows;
       queues = still-run in_turn steps answers quiet (world_of a b) w (machine_of a b) run (begins a.window fa b.window fb g.low_a g.high_a g.low_b g.high_b g.client g.server g.small_a g.some_b g.small_b);
     }
 

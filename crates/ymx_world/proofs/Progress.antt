@@ -3,25 +3,25 @@ use Rattle.std.proofs.Common.{◌≡◌, ℕ, zero, suc, ◌<◌, ◌⊎◌, ◌
 use Rattle.std.specs.Prelude.{nat_lt, nat_le}
 use Rattle.ymx_model.specs.declared.types.Status.{Status}
 use Rattle.ymx_model.specs.declared.types.Status.TheVariants.{Running, Lost, Broken, Closed}
-use Rattle.ymx_model.specs.declared.types.Side.TheVariants.{A, B}
-use Rattle.ymx_model.specs.declared.types.Direction.{Direction}
-use Rattle.ymx_model.specs.declared.types.Direction.TheVariants.{AB, BA}
-use Rattle.ymx_model.specs.declared.types.Step.{Step}
-use Rattle.ymx_model.specs.declared.types.Step.TheVariants as step
-use Rattle.ymx_model.specs.declared.types.Answer.{Answer}
-use Rattle.ymx_model.specs.declared.types.Answer.TheVariants as answer
-use Rattle.ymx_model.specs.declared.types.Reply.{Reply}
-use Rattle.ymx_model.specs.declared.types.Reply.TheVariants as reply
+use Rattle.ymx_machine.specs.declared.types.Side.TheVariants.{A, B}
+use Rattle.ymx_machine.specs.declared.types.Direction.{Direction}
+use Rattle.ymx_machine.specs.declared.types.Direction.TheVariants.{AB, BA}
+use Rattle.ymx_machine.specs.declared.types.Step.{Step}
+use Rattle.ymx_machine.specs.declared.types.Step.TheVariants as step
+use Rattle.ymx_machine.specs.declared.types.Answer.{Answer}
+use Rattle.ymx_machine.specs.declared.types.Answer.TheVariants as answer
+use Rattle.ymx_machine.specs.declared.types.Reply.{Reply}
+use Rattle.ymx_machine.specs.declared.types.Reply.TheVariants as reply
 use Rattle.ymx_model.specs.declared.types.Response.{Response}
-use Rattle.ymx_model.specs.declared.types.Fed.{Fed}
-use Rattle.ymx_model.specs.declared.types.Why.TheVariants as why
+use Rattle.ymx_machine.specs.declared.types.Fed.{Fed}
+use Rattle.ymx_machine.specs.declared.types.Why.TheVariants as why
 use Rattle.ymx_model.specs.session.Sessions.{Session, is_running, is_broken}
 use Rattle.ymx_model.specs.session.Feeds.{Feeds, Takes, is_stuck, is_between, why_of}
 use Rattle.ymx_model.specs.session.Emissions.{Emits, in_turn, is_ready}
-use Rattle.ymx_model.specs.shared.Steps.{answer_of}
-use Rattle.ymx_model.specs.machine.Runs.{why_is_broken}
+use Rattle.ymx_machine.specs.shared.Steps.{answer_of}
+use Rattle.ymx_machine.specs.machine.Runs.{why_is_broken}
 use Rattle.ymx_model.specs.world.Worlds.{World, Steps}
-use Rattle.ymx_model.proofs.Tests.{when, both_of}
+use Rattle.ymx_machine.proofs.Tests.{when, both_of}
 use Rattle.ymx_law_session.proofs.due.Ready.{always-gives}
 use Rattle.ymx_headline.proofs.relation.Still.{idle}
 use Rattle.ymx_headline.specs.Laws.{breaks_off, carries_bytes}

@@ -2,8 +2,8 @@
 use Rattle.std.proofs.Common.{◌≡◌, ℕ, ◌+◌, ◌<◌, List, [], ◌∷◌, ◌++◌, length, take, get_or, Bool, Result, Ok, Err, IfOk, OnErr, refl, subst, sym, arith}
 use Rattle.std.proofs.lemmas.Grind.{common_steps}
 use Rattle.std.specs.declared.alloc.AllocError.{AllocError}
-use Rattle.ymx_model.specs.declared.types.Step.{Step}
-use Rattle.ymx_model.specs.declared.types.Answer.{Answer}
+use Rattle.ymx_machine.specs.declared.types.Step.{Step}
+use Rattle.ymx_machine.specs.declared.types.Answer.{Answer}
 use Rattle.ymx_model.specs.session.Sessions.{Session}
 use Rattle.ymx_model.specs.session.Emissions.{Choice, in_turn}
 use Rattle.ymx_model.specs.world.Worlds.{World, Steps, Runs}

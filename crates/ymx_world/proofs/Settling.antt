@@ -2,16 +2,16 @@
 use Rattle.std.proofs.Common.{◌≡◌, ◌<◌, [], ◌∷◌, ◌++◌, Bool, true, false, not, ◌&&◌, refl, sym, ◌∙◌, inl, inr, arith}
 use Rattle.std.specs.List.{All}
 use Rattle.std.proofs.lemmas.List.Elements.{All-nil, All-cons, All-append}
-use Rattle.ymx_model.specs.declared.types.Step.{Step}
-use Rattle.ymx_model.specs.declared.types.Step.TheVariants as step
-use Rattle.ymx_model.specs.declared.types.Answer.{Answer}
+use Rattle.ymx_machine.specs.declared.types.Step.{Step}
+use Rattle.ymx_machine.specs.declared.types.Step.TheVariants as step
+use Rattle.ymx_machine.specs.declared.types.Answer.{Answer}
 use Rattle.ymx_model.specs.session.Sessions.{is_running}
 use Rattle.ymx_model.specs.session.Emissions.{in_turn, is_ready}
 use Rattle.ymx_model.specs.world.Worlds.{World, Pipe, Steps}
-use Rattle.ymx_model.proofs.Tests.{both_of}
+use Rattle.ymx_machine.proofs.Tests.{both_of}
 use Rattle.ymx_model.specs.declared.types.Role.TheVariants.{Client, Server}
-use Rattle.ymx_model.specs.machine.Machines.{Machine}
-use Rattle.ymx_model.specs.machine.Runs.{IsStillMachine}
+use Rattle.ymx_machine.specs.machine.Machines.{Machine}
+use Rattle.ymx_machine.specs.machine.Runs.{IsStillMachine}
 use Rattle.ymx_headline.specs.Agrees.{Agrees}
 use Rattle.ymx_headline.proofs.relation.Still.{still}
 use Rattle.ymx_headline.proofs.runs.Runs.{runs-alike}

@@ -1,12 +1,12 @@
 -- Runs from two new sessions, and why there is none (this project's own).
 use Rattle.std.specs.Prelude.{◌≡◌, ◌⊎◌, ◌++◌, ◌∷◌, [], None}
-use Rattle.ymx_model.specs.declared.types.Step.{Step}
-use Rattle.ymx_model.specs.declared.types.Answer.{Answer}
+use Rattle.ymx_machine.specs.declared.types.Step.{Step}
+use Rattle.ymx_machine.specs.declared.types.Answer.{Answer}
 use Rattle.ymx_model.specs.declared.types.Config.{Config}
 use Rattle.ymx_model.specs.declared.types.Role.TheVariants.{Client, Server}
 use Rattle.ymx_model.specs.session.Emissions.{in_turn}
 use Rattle.ymx_model.specs.world.Worlds.{World, Steps, new_world, is_quiet}
-use Rattle.ymx_model.specs.machine.Machines.{Machine, new_machine}
+use Rattle.ymx_machine.specs.machine.Machines.{Machine, new_machine}
 use Rattle.ymx_session.specs.NewSessions.{first_id, new_fault, IsNewFault}
 use Rattle.ymx_world.specs.declared.played.Played.{Played}
 use Rattle.ymx_world.specs.declared.played.PlayFault.{PlayFault}

@@ -1,7 +1,7 @@
 -- Worlds that can be: made of two configs, and reached by steps (this project's own).
 use Rattle.std.specs.Prelude.{ℕ, List}
-use Rattle.ymx_model.specs.declared.types.Step.{Step}
-use Rattle.ymx_model.specs.declared.types.Answer.{Answer}
+use Rattle.ymx_machine.specs.declared.types.Step.{Step}
+use Rattle.ymx_machine.specs.declared.types.Answer.{Answer}
 use Rattle.ymx_model.specs.session.Emissions.{in_turn}
 use Rattle.ymx_model.specs.world.Worlds.{World, Runs, new_world}
 use Rattle.ymx_headline.specs.Laws.{AreGood}

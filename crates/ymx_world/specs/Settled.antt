@@ -1,12 +1,12 @@
 -- What settles a world: emissions and deliveries alone, each of which carries bytes (this project's own).
 use Rattle.std.specs.Prelude.{◌≡◌, ◌<◌, ◌&&◌, List, length, All, Bool, true, false, not}
-use Rattle.ymx_model.specs.declared.types.Step.{Step}
-use Rattle.ymx_model.specs.declared.types.Step.TheVariants as step
-use Rattle.ymx_model.specs.declared.types.Answer.{Answer}
+use Rattle.ymx_machine.specs.declared.types.Step.{Step}
+use Rattle.ymx_machine.specs.declared.types.Step.TheVariants as step
+use Rattle.ymx_machine.specs.declared.types.Answer.{Answer}
 use Rattle.ymx_model.specs.session.Sessions.{is_running}
 use Rattle.ymx_model.specs.session.Emissions.{in_turn, is_ready}
 use Rattle.ymx_model.specs.world.Worlds.{World, Pipe, Runs}
-use Rattle.ymx_model.specs.machine.Machines.{Machine}
+use Rattle.ymx_machine.specs.machine.Machines.{Machine}
 use Rattle.ymx_headline.specs.Agrees.{Agrees}
 use Rattle.ymx_headline.specs.Laws.{HasRun, IsOpenWorld, is_carriage}
 use Rattle.ymx_world.specs.Acts.{session_of, pipe_of}

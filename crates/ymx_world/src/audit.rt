@@ -1,7 +1,7 @@
 //! A joint order of the histories of two sessions.
 
 ghost use Rattle.std.specs.Prelude.{◌≡◌, ◌<◌, ◌+◌, ◌++◌, length, drop, List, true, false, IfOk, IfSome, IfNone};
-ghost use Rattle.ymx_model.specs.declared.types.Step.{Step as TheStep};
+ghost use Rattle.ymx_machine.specs.declared.types.Step.{Step as TheStep};
 ghost use Rattle.ymx_model.specs.world.Worlds.{Pipe as PipeValue};
 ghost use Rattle.ymx_law_audit.specs.Joints.{into, sent_into, Gets, world_steps, Advances, IsStuck, IsJointOrder};
 

@@ -1,8 +1,8 @@
 //! A call on one session of the world, and its answer.
 
 ghost use Rattle.std.specs.Prelude.{◌≡◌, IfOk, OnErr};
-ghost use Rattle.ymx_model.specs.shared.Steps.{answer_of};
-ghost use Rattle.ymx_model.specs.declared.types.Call.TheVariants as call;
+ghost use Rattle.ymx_machine.specs.shared.Steps.{answer_of};
+ghost use Rattle.ymx_machine.specs.declared.types.Call.TheVariants as call;
 ghost use Rattle.ymx_session.specs.Replies.{done_or, opened_or, opened_with_or, accepted_or, wrote_or, pinged_or, ponged_or};
 ghost use Rattle.ymx_world.specs.Acts.{IsCalled};
 

@@ -1,8 +1,8 @@
 //! Two sessions and the pipes between them.
 
 ghost use Rattle.std.specs.Prelude.{◌≡◌, ◌<◌, length, take, IfOk, IfErr, OnErr};
-ghost use Rattle.ymx_model.specs.declared.types.Answer.TheVariants as answer;
-ghost use Rattle.ymx_model.specs.declared.types.Step.TheVariants as step;
+ghost use Rattle.ymx_machine.specs.declared.types.Answer.TheVariants as answer;
+ghost use Rattle.ymx_machine.specs.declared.types.Step.TheVariants as step;
 ghost use Rattle.ymx_model.specs.session.Emissions.{in_turn, is_ready};
 ghost use Rattle.ymx_model.specs.world.Worlds.{Steps, Runs, new_pipe, is_quiet};
 ghost use Rattle.ymx_world.specs.Acts.{session_of, pipe_of};

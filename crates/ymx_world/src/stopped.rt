@@ -1,10 +1,18 @@
 //! A run that stopped.
 
+use std::fmt;
 use ymx_model::Answer;
 
 /// There was no memory of the world's own for a step of a run.
-#[derive(Debug, Drop)]
+#[derive(Drop)]
 pub struct Stopped {
     /// The answers of the steps before it. It did nothing, and no later one was made.
     pub answers: Vec<Answer>,
+}
+
+/// It prints its name alone.
+impl fmt::Debug for Stopped {
+    fn fmt<W: fmt::Write>(&self, f: &mut fmt::Formatter<W>) -> fmt::Result {
+        f.write_str("Stopped")
+    }
 }

@@ -4,13 +4,13 @@ ghost use Rattle.std.specs.Prelude.{◌≡◌, ◌⊎◌, ◌<◌, ◌↔◌, []
 ghost use Rattle.ymx_model.specs.declared.types.Role.TheVariants.{Client, Server};
 ghost use Rattle.ymx_model.specs.session.Emissions.{in_turn, is_ready};
 ghost use Rattle.ymx_model.specs.world.Worlds.{World as TheWorld, Steps, Runs, new_world, is_quiet};
-ghost use Rattle.ymx_model.specs.machine.Machines.{Machine, new_machine};
-ghost use Rattle.ymx_model.specs.machine.Runs.{IsStillMachine};
+ghost use Rattle.ymx_machine.specs.machine.Machines.{Machine, new_machine};
+ghost use Rattle.ymx_machine.specs.machine.Runs.{IsStillMachine};
 ghost use Rattle.ymx_headline.specs.Agrees.{Agrees, Follows};
 ghost use Rattle.ymx_headline.specs.Laws.{HasRun, IsOpenWorld, breaks_off, carries_bytes, is_carriage};
 ghost use Rattle.ymx_session.specs.NewSessions.{first_id, new_fault, IsNewFault};
-ghost use Rattle.ymx_model.specs.declared.types.Step.{Step as TheStep};
-ghost use Rattle.ymx_model.specs.declared.types.Answer.{Answer as TheAnswer};
+ghost use Rattle.ymx_machine.specs.declared.types.Step.{Step as TheStep};
+ghost use Rattle.ymx_machine.specs.declared.types.Answer.{Answer as TheAnswer};
 ghost use Rattle.ymx_law_audit.specs.Joints.{IsJointOrder};
 ghost use Rattle.ymx_law_audit.specs.Told.{AreAnswered, AreOneRun};
 ghost use Rattle.ymx_world.specs.Bounds.{IsBoundedRun};
@@ -18,7 +18,7 @@ ghost use Rattle.ymx_world.specs.Acts.{session_of, pipe_of};
 ghost use Rattle.ymx_world.specs.Progress.{GoesForward};
 ghost use Rattle.ymx_world.specs.Settled.{IsCarriedOn, IsDueCarriage};
 ghost use Rattle.ymx_world.specs.Played.{machine_of, world_of, WhereStopped, IsPlayFault};
-ghost use Rattle.ymx_law_machine.specs.Faces.{AreFaces};
+ghost use Rattle.ymx_law_machine.specs.Faces.{AreFaces, FitWindows};
 ghost use Rattle.ymx_law_machine.specs.Runs.{StillRun};
 ghost use Rattle.ymx_headline.specs.QuietRuns.{QuietRuns};
 
@@ -99,7 +99,7 @@ impl World {
     ///
     /// No delivery among them finds a fault. Where nothing was stopped, ended, closed or broken, emissions and
     /// deliveries alone feed wholly at most twice as many frames as the load of the world: driving the bytes
-    /// comes to an end. The load (`world_load` of `ymx_model`) counts the unsent bytes of no frame, what else is
+    /// comes to an end. The load (`world_load` of `ymx_model`) counts the frames of the unsent bytes, what else is
     /// due, and the frames under way.
     pub fn run(&mut self, steps: &[Step]) -> Result<Vec<Answer>, Stopped>
         ensures runs { IfOk result (λ answers. Runs in_turn steps.now answers.items self.old self.new) }
@@ -122,8 +122,9 @@ impl World {
     /// A run from two new sessions: the steps one after another, their answers, and after which of them the
     /// world was quiet. The configs are the client's and the server's.
     ///
-    /// What one side read of a stream is a beginning of what the other wrote to it. Once a read was answered with
-    /// the end it is all of it, and the other finished before (clause `face`). The answers are those of a run of
+    /// At every moment, what one side read of a stream is a beginning of what the other wrote to it. Once a read was
+    /// answered with the end it is all of it, and the other finished before (clause `face`). What was written and
+    /// not read is never more than the reader's window (clause `windows`). The answers are those of a run of
     /// the queue machine, which has two queues a stream and no frames, and is still wherever `quiet` says so
     /// (clause `queues`). So it is however the steps cut the bytes and wherever they stop them, with no premise.
     ///
@@ -136,6 +137,7 @@ impl World {
         steps: &[Step],
     ) -> Result<Played, PlayFault>
         ensures face { IfOk result (λ played. AreFaces steps.now played.answers.items) }
+        ensures windows { IfOk result (λ played. FitWindows config_a.window config_b.window steps.now played.answers.items) }
         ensures queues { IfOk result (λ played. (m : Machine) × StillRun steps.now played.answers.items played.quiet.items (machine_of config_a config_b) m) }
         // It was done by two sessions and the pipes between them. No other clause names these.
         ensures real { IfOk result (λ played. QuietRuns in_turn steps.now played.answers.items played.quiet.items (world_of config_a config_b) played.world) }
@@ -143,6 +145,8 @@ impl World {
         ensures refused { IfErr result (λ fault. IsPlayFault config_a config_b fault) }
         ensures before { IfErr result (WhereStopped (λ played. length played.answers.items < length steps.now)) }
         ensures face_so_far { IfErr result (WhereStopped (λ played. AreFaces (take (length played.answers.items) steps.now) played.answers.items)) }
+        ensures windows_so_far { IfErr result (WhereStopped (λ played.
+            FitWindows config_a.window config_b.window (take (length played.answers.items) steps.now) played.answers.items)) }
         ensures queues_so_far { IfErr result (WhereStopped (λ played.
             (m : Machine) × StillRun (take (length played.answers.items) steps.now) played.answers.items played.quiet.items (machine_of config_a config_b) m)) }
         ensures real_so_far { IfErr result (WhereStopped (λ played.

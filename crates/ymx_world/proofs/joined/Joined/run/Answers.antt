@@ -1,7 +1,7 @@
 use Rattle.std.proofs.Common.{◌+◌, List, take, subst, sym, ◌∙◌, ap, ◌++◌, ◌∷◌, [], arith}
 use Rattle.std.proofs.lemmas.Grind.{common_steps}
 use Rattle.ymx_model.specs.session.Emissions.{in_turn}
-use Rattle.ymx_model.specs.declared.types.Answer.{Answer}
+use Rattle.ymx_machine.specs.declared.types.Answer.{Answer}
 use Rattle.ymx_model.specs.world.Worlds.{Runs}
 use Rattle.ymx_world.proofs.Runs.{run_at}
 use Rattle.ymx_world.proofs.joined.Joined.run.Goals as goal

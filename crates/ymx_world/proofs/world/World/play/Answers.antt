@@ -14,6 +14,13 @@ returns-in_default-clause-face_so_far c =
     (take (length c.play_step.new.self.answers.items) c.args.steps.now) c.play_step.new.self.answers.items c.play_step.new.self.quiet.items c.play_step.new.self.world
     (played_so_far c.args.steps.now _ c.loop-step.step-index c.loop-step.played c.play_step.new.self c.loop-step.invariant same)).face
 
+pub returns-in_default-clause-windows_so_far : goal.returns-in_default-clause-windows_so_far
+returns-in_default-clause-windows_so_far c =
+    let same : IsSamePlay c.loop-step.played c.play_step.new.self = search rules in
+    (top_run c.args.config_a c.args.config_b c.in-Ok.ensures.may_a c.in-Ok.ensures.may_b (search rules) (search rules)
+    (take (length c.play_step.new.self.answers.items) c.args.steps.now) c.play_step.new.self.answers.items c.play_step.new.self.quiet.items c.play_step.new.self.world
+    (played_so_far c.args.steps.now _ c.loop-step.step-index c.loop-step.played c.play_step.new.self c.loop-step.invariant same)).windows
+
 pub returns-in_default-clause-queues_so_far : goal.returns-in_default-clause-queues_so_far
 returns-in_default-clause-queues_so_far c =
     let same : IsSamePlay c.loop-step.played c.play_step.new.self = search rules in
@@ -26,6 +33,12 @@ returns-clause-face c =
     (top_run c.args.config_a c.args.config_b c.in-Ok.ensures.may_a c.in-Ok.ensures.may_b (search rules) (search rules)
     c.args.steps.now c.loop-step.played.answers.items c.loop-step.played.quiet.items c.loop-step.played.world
     (played_all c.args.steps.now _ c.loop-step.step-index c.loop-step.played c.loop-step-test.false c.loop-step.invariant)).face
+
+pub returns-clause-windows : goal.returns-clause-windows
+returns-clause-windows c =
+    (top_run c.args.config_a c.args.config_b c.in-Ok.ensures.may_a c.in-Ok.ensures.may_b (search rules) (search rules)
+    c.args.steps.now c.loop-step.played.answers.items c.loop-step.played.quiet.items c.loop-step.played.world
+    (played_all c.args.steps.now _ c.loop-step.step-index c.loop-step.played c.loop-step-test.false c.loop-step.invariant)).windows
 
 pub returns-clause-queues : goal.returns-clause-queues
 returns-clause-queues c =
