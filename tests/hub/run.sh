@@ -3,5 +3,6 @@
 # audited steps run by `World`.
 set -eu
 here=$(cd "$(dirname "$0")" && pwd)
-below=$(sed -nE 's/^(ymx_pumps|ymx_world)[^:]*: //p' "$here/../../crates.txt" | tr ' ' '\n' | sort -u | tr '\n' ' ')
-exec "$here/../try_crate.sh" "$here" "hub_tests tests_may=Threads+Wait: ymx_pumps ymx_world $below"
+. "$here/../over.sh"
+below=$({ below ymx_pumps; below ymx_world; } | tr ' ' '\n' | sort -u | tr '\n' ' ')
+"$here/../try_crate.sh" "$here" "hub_tests tests_may=Threads+Wait: ymx_pumps ymx_world $below"

@@ -4,22 +4,16 @@
 # itself, that it ran. Nothing is proved here, and the repository is left alone.
 set -eu
 here=$(cd "$(dirname "$0")" && pwd)
-root=$(cd "$here/../.." && pwd)
-scratch=$(mktemp -d)
-trap 'rm -rf "$scratch"' EXIT
+. "$here/../over.sh"
 
-(cd "$root" && find crates -name out -prune -o -type f -print | tar -cf - -T - crates.txt HANDLES) | tar -xf - -C "$scratch"
+copy_repository
 mkdir -p "$scratch/crates/misuse/src" "$scratch/crates/misuse_of_hubs/src" "$scratch/crates/misuse_of_the_door/src"
-below() {
-    sed -n "s/^$1 may_wait=[0-9]*: //p" "$root/crates.txt"
-}
 {
     echo "misuse: ymx_half"
     echo "misuse_of_hubs: ymx_hub $(below ymx_hub)"
     echo "misuse_of_the_door: ymx_connect $(below ymx_connect)"
 } >> "$scratch/crates.txt"
 
-failed=0
 for program in "$here"/*.rattle; do
     name=$(basename "$program" .rattle)
     want=$(sed -n '2s,^// ,,p' "$program")
@@ -29,10 +23,11 @@ for program in "$here"/*.rattle; do
     cp "$program" "$scratch/crates/$crate/src/main.rt"
     answer=$(cd "$scratch/crates/$crate" && rt try 2>&1 || true)
     if printf '%s\n' "$answer" | grep -qF -- "$want"; then
+        good
         echo "ok    $name"
     else
-        failed=1
-        printf 'FAIL  %s\nwanted: %s\n%s\n' "$name" "$want" "$answer"
+        printf 'wanted: %s\n%s\n' "$want" "$answer" > "$scratch/said"
+        bad "$name" "$scratch/said"
     fi
 done
-exit $failed
+counted

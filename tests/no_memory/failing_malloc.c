@@ -1,18 +1,21 @@
 /* Loaded before the C library (LD_PRELOAD), this makes one allocation of a program fail: the one whose
    number, counted from 1, the variable FAIL_AT gives. Or it refuses one thread: the one whose number
-   FAIL_THREAD_AT gives. If it came to that, the file that the variable FAILED names is there afterwards. */
+   FAIL_THREAD_AT gives; or one call about the readiness of descriptors, to make a set, to change it or to wait
+   for it: the one whose number FAIL_POLL_AT gives. If it came to that, the file that the variable FAILED names
+   is there afterwards. */
 #define _GNU_SOURCE
 #include <dlfcn.h>
 #include <errno.h>
 #include <fcntl.h>
 #include <pthread.h>
 #include <stdlib.h>
+#include <sys/epoll.h>
 #include <unistd.h>
 
 extern void *__libc_malloc(size_t size);
 extern void *__libc_realloc(void *block, size_t size);
 
-static long calls, fail_at, threads, fail_thread_at;
+static long calls, fail_at, threads, fail_thread_at, polls, fail_poll_at;
 
 static long number_in(const char *variable)
 {
@@ -24,6 +27,7 @@ __attribute__((constructor)) static void begin(void)
 {
     fail_at = number_in("FAIL_AT");
     fail_thread_at = number_in("FAIL_THREAD_AT");
+    fail_poll_at = number_in("FAIL_POLL_AT");
     calls = 0;
 }
 
@@ -38,9 +42,9 @@ static int is_reached(long *count, long wanted)
     return 1;
 }
 
-static int fails(void)
+static int fails(long *count, long wanted)
 {
-    if (!is_reached(&calls, fail_at))
+    if (!is_reached(count, wanted))
         return 0;
     errno = ENOMEM;
     return 1;
@@ -48,12 +52,12 @@ static int fails(void)
 
 void *malloc(size_t size)
 {
-    return fails() ? NULL : __libc_malloc(size);
+    return fails(&calls, fail_at) ? NULL : __libc_malloc(size);
 }
 
 void *realloc(void *block, size_t size)
 {
-    return fails() ? NULL : __libc_realloc(block, size);
+    return fails(&calls, fail_at) ? NULL : __libc_realloc(block, size);
 }
 
 int pthread_create(pthread_t *thread, const pthread_attr_t *with, void *(*run)(void *), void *given)
@@ -63,4 +67,31 @@ int pthread_create(pthread_t *thread, const pthread_attr_t *with, void *(*run)(v
         return EAGAIN;
     *(void **)&create = dlsym(RTLD_NEXT, "pthread_create");
     return create(thread, with, run, given);
+}
+
+int epoll_create1(int flags)
+{
+    int (*create)(int);
+    if (fails(&polls, fail_poll_at))
+        return -1;
+    *(void **)&create = dlsym(RTLD_NEXT, "epoll_create1");
+    return create(flags);
+}
+
+int epoll_ctl(int set, int how, int descriptor, struct epoll_event *event)
+{
+    int (*change)(int, int, int, struct epoll_event *);
+    if (fails(&polls, fail_poll_at))
+        return -1;
+    *(void **)&change = dlsym(RTLD_NEXT, "epoll_ctl");
+    return change(set, how, descriptor, event);
+}
+
+int epoll_wait(int set, struct epoll_event *events, int most, int timeout)
+{
+    int (*wait)(int, struct epoll_event *, int, int);
+    if (fails(&polls, fail_poll_at))
+        return -1;
+    *(void **)&wait = dlsym(RTLD_NEXT, "epoll_wait");
+    return wait(set, events, most, timeout);
 }

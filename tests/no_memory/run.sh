@@ -5,11 +5,9 @@
 # sessions, a test holds: what was refused changed nothing.
 set -eu
 here=$(cd "$(dirname "$0")" && pwd)
-root=$(cd "$here/../.." && pwd)
-scratch=$(mktemp -d)
-trap 'rm -rf "$scratch"' EXIT
+. "$here/../over.sh"
 
-"$root/ymx" frames < /dev/null
+find_program
 "${CC:-cc}" -O2 -Wall -shared -fPIC -o "$scratch/failing_malloc.so" "$here/failing_malloc.c"
 cd "$scratch"
 echo 'ymx: out of memory' > no_memory
@@ -22,7 +20,7 @@ run() {
     shift
     rm -f failed
     status=0
-    FAIL_AT=$number FAILED=failed LD_PRELOAD=./failing_malloc.so "$root/out/ymx" "$@" < input > out 2> err || status=$?
+    FAIL_AT=$number FAILED=failed LD_PRELOAD=./failing_malloc.so "$ymx" "$@" < input > out 2> err || status=$?
 }
 
 # each STATUS INPUT WORDS..: the program ends so where no allocation fails; then each fails in turn
@@ -31,7 +29,7 @@ each() {
     cp "$2" input
     shift 2
     run 0 "$@"
-    [ "$status" = "$wanted" ] || { echo "FAIL  ymx $*: status $status"; exit 1; }
+    [ "$status" = "$wanted" ] || fail "ymx $*: status $status"
     mv out all_out
     mv err all_err
     number=0 told=0
@@ -39,11 +37,10 @@ each() {
         if [ "$status" = 1 ] && cmp -s err no_memory && head -c "$(wc -c < out)" all_out | cmp -s - out; then
             told=$((told + 1))
         elif [ "$status" != "$wanted" ] || ! cmp -s out all_out || ! cmp -s err all_err; then
-            echo "FAIL  ymx $*: allocation $number: status $status: $(cat err)"
-            exit 1
+            fail "ymx $*: allocation $number: status $status" err
         fi
     done
-    [ $told -gt 0 ] || { echo "FAIL  ymx $*: no run was out of memory"; exit 1; }
+    [ $told -gt 0 ] || fail "ymx $*: no run was out of memory"
     echo "ok    ymx $*: $((number - 1)) allocations, $told runs were out of memory"
 }
 
@@ -55,13 +52,13 @@ each 2 /dev/null frames --limit 5
 each 2 /dev/null local
 
 # Scripts of two sessions: what was refused changed nothing, and a stream without memory is rejected.
-python3 "$here/scripts.py" "$root/out/ymx" "$scratch/failing_malloc.so" "$root/tests/script/bytes_one_by_one.script" \
+python3 "$here/scripts.py" "$ymx" "$scratch/failing_malloc.so" "$root/tests/script/bytes_one_by_one.script" \
     "$root/tests/script/window.script" "$root/tests/script/half_close.script" "$root/tests/script/reset.script" \
     "$root/tests/script/go_away.script" "$root/tests/script/open_with_data.script"
 
-# Both ends of the tunnel, and one connection through them: each that is refused says so, and both end. And the
-# selftest, which ends too.
-python3 "$here/tunnel.py" "$root/out/ymx" "$scratch/failing_malloc.so"
+# Both ends of the tunnel, and one connection through them: each that is refused memory, or a call about the readiness
+# of its descriptors, says so, and both end. And the selftest, which ends too.
+python3 "$here/tunnel.py" "$ymx" "$scratch/failing_malloc.so"
 
 # What a part of a session, a session and two running sessions do: each test holds whichever allocation fails.
 if [ "${YMX_FROM_GATE-}" != yes ]; then
@@ -73,11 +70,11 @@ holds() {
     number=0
     while number=$((number + 1)) && rm -f failed; do
         FAIL_AT=$number FAILED=failed LD_PRELOAD=./failing_malloc.so "$root/crates/ymx_no_memory/out/ymx_no_memory_tests" \
-            "$1::holds_under_each_refusal" > out 2>&1 || { echo "FAIL  $1: allocation $number: $(cat out)"; exit 1; }
+            "$1::holds_under_each_refusal" > out 2>&1 || fail "$1: allocation $number" out
         [ -e failed ] || break
     done
-    grep -q 'test result: ok' out || { echo "FAIL  $1: $(cat out)"; exit 1; }
-    [ $number -gt 1 ] || { echo "FAIL  $1: it takes no memory"; exit 1; }
+    grep -q 'test result: ok' out || fail "$1" out
+    [ $number -gt 1 ] || fail "$1: it takes no memory"
     echo "ok    $1: $((number - 1)) allocations"
 }
 

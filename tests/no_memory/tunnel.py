@@ -1,18 +1,18 @@
-"""Refuses the tunnel, and `ymx selftest`, an allocation or a thread at a time. Its words: the program, and the library
-that refuses.
+"""Refuses the tunnel, and `ymx selftest`, an allocation at a time, a thread, or a call about the readiness of
+descriptors. Its words: the program, and the library that refuses.
 
 One small connection goes through `ymx local --count 1` and `ymx remote` to a target: the client sends some bytes and
 ends its side, and the target then answers some and ends its own. In each run one of the two is refused one allocation
-or the start of one thread: the first, the second and so on, up to the first number that a run doesn't come to.
+or one call about readiness: the first, the second and so on, up to the first number that a run doesn't come to.
 
 Whichever it is, both end within 10 seconds of what they wait for. A status is 0, and nothing is said, or it is 1 and
 one text is said: of the side that was refused `ymx: out of memory`, of `ymx local` also that it can't reach a
 `ymx remote` that has gone. What arrives is a beginning of what was sent, and all of it where both statuses are 0. So a
 `ymx remote` that rejects the stream, as it has no memory for it, says so too.
 
-`ymx selftest` is refused each in the same way. It ends within 10 seconds too: with status 0 and its three lines, or
-with status 1 and one text: that there was no memory, that it can't listen, or which connection failed, behind the
-lines of those before.
+`ymx selftest` is refused each in the same way, and the start of each thread. It ends within 10 seconds too: with status
+0 and its three lines, or with status 1 and one text: that there was no memory, that it can't listen, or which connection
+failed, behind the lines of those before.
 """
 
 import collections
@@ -263,7 +263,8 @@ def main():
         runs["selftest"] = tunnel.run_selftest
         for name, run in runs.items():
             try_all(run, name, "FAIL_AT")
-            try_all(run, name, "FAIL_THREAD_AT")
+            try_all(run, name, "FAIL_POLL_AT")
+        try_all(tunnel.run_selftest, "selftest", "FAIL_THREAD_AT")
 
 
 main()

@@ -2,6 +2,8 @@
 
 ghost use Rattle.std.specs.Prelude.{ℕ, List, ◌≡◌, ◌++◌, [], take, OnOk, OnErr};
 ghost use Rattle.std.specs.Io.{StartsWith};
+ghost use Rattle.hex.specs.Hex.{encode_lower};
+ghost use Rattle.std.specs.Int.{bytes_high_first};
 ghost use Rattle.ymx_frames.specs.Lines.{fault_line, fields_text, flags_text, kind_word, line_text, preview, preview_text, rest_line};
 
 use arrayvec::ArrayVec;
@@ -81,22 +83,35 @@ fn write_number<N: Integer>(text: &mut Vec<u8>, name: &[u8], number: N) -> Resul
     text.extend_from_slice(buffer.format(number).as_bytes())
 }
 
+/// The word for a type of frame. A header of another type is never printed.
+fn word_of(kind: u8) -> &'static [u8]
+    ensures { result.now ≡ kind_word kind }
+{
+    match kind {
+        TYPE_DATA => b"data",
+        TYPE_WINDOW_UPDATE => b"window",
+        TYPE_PING => b"ping",
+        _ => b"away",
+    }
+}
+
+/// The four digits of the flags of a header.
+fn digits_of(flags: u16) -> [u8; 4]
+    ensures { result ≡ encode_lower (bytes_high_first 2 flags) }
+{
+    let mut digits = [0; 4];
+    let _ = hex::encode_to_slice(flags.to_be_bytes(), &mut digits);
+    digits
+}
+
 /// Appends the type and the flags of a header.
 fn write_kind(text: &mut Vec<u8>, header: &Header) -> Result<(), AllocError>
     ensures ok { OnOk result (text.new.items ≡ text.old.items ++ (kind_word header.now.kind ++ flags_text header.now.flags)) }
     ensures kept { StartsWith text.new.items text.old.items }
 {
-    let word: &[u8] = match header.kind {
-        TYPE_DATA => b"data",
-        TYPE_WINDOW_UPDATE => b"window",
-        TYPE_PING => b"ping",
-        _ => b"away",
-    };
-    let mut flags = [0; 4];
-    let _ = hex::encode_to_slice(header.flags.to_be_bytes(), &mut flags);
-    text.extend_from_slice(word)?;
+    text.extend_from_slice(word_of(header.kind))?;
     text.extend_from_slice(b" flags=")?;
-    text.extend_from_slice(&flags)
+    text.extend_from_slice(&digits_of(header.flags))
 }
 
 /// Appends the fields of a header.

@@ -1,9 +1,9 @@
 -- What is added to the list of a seat.
 use Rattle.std.proofs.Common.{◌≡◌, ℕ, List, [], ◌∷◌, ◌++◌, Bool, true, false, refl, ap, ◌∙◌, append_assoc, Result, Ok, Err, inl, inr}
 use Rattle.ymx_model.specs.declared.types.Entry.{Entry}
-use Rattle.ymx_model.specs.declared.types.CallFault.{CallFault}
+use Rattle.ymx_machine.specs.declared.types.CallFault.{CallFault}
 use Rattle.ymx_model.specs.declared.types.Event.{Event}
-use Rattle.ymx_model.specs.declared.types.Reply.{Reply}
+use Rattle.ymx_machine.specs.declared.types.Reply.{Reply}
 use Rattle.ymx_seats.specs.Views.{kept_entries, entry}
 use Rattle.ymx_held.specs.Answers.{hub_answer}
 use Rattle.ymx_session.specs.Replies.{done_or}

@@ -1,23 +1,23 @@
--- A read with room in its buffer gives no empty list of bytes.
-use Rattle.std.proofs.Common.{◌≡◌, ℕ, ◌<◌, List, take, length, Bool, true, false, not, ◌==◌, Option, None, Some, Result, Ok, Err, refl, ap, ◌∙◌, arith}
+-- What a read gives: no empty list of bytes where its buffer has room, and nothing behind them.
+use Rattle.std.proofs.Common.{◌≡◌, ℕ, ◌<◌, ◌≤◌, List, take, drop, ◌++◌, length, Bool, true, false, not, ◌==◌, Option, None, Some, Result, Ok, Err, refl, ap, ◌∙◌, arith}
 use Rattle.std.proofs.lemmas.Grind.{common_steps}
 use Rattle.std.proofs.lemmas.Bool.Decides.{nat_tests}
 use Rattle.ymx_model.specs.declared.types.Got.{Got}
 use Rattle.ymx_model.specs.declared.types.Got.TheVariants.{Bytes, End as EndGot, Wait}
-use Rattle.ymx_model.specs.declared.types.Reply.{Reply}
-use Rattle.ymx_model.specs.declared.types.Reply.TheVariants.{Read}
-use Rattle.ymx_model.specs.declared.types.CallFault.{CallFault}
-use Rattle.ymx_model.specs.shared.Phases.{Phase, is_live, is_reset}
-use Rattle.ymx_model.specs.shared.Replies.{read_reply}
+use Rattle.ymx_machine.specs.declared.types.Reply.{Reply}
+use Rattle.ymx_machine.specs.declared.types.Reply.TheVariants.{Read}
+use Rattle.ymx_machine.specs.declared.types.CallFault.{CallFault}
+use Rattle.ymx_machine.specs.shared.Phases.{Phase, is_live, is_reset}
+use Rattle.ymx_machine.specs.shared.Replies.{read_reply}
 use Rattle.ymx_model.specs.session.Records.{End}
-use Rattle.ymx_model.specs.shared.Lists.{look}
+use Rattle.ymx_machine.specs.shared.Lists.{look}
 use Rattle.ymx_model.specs.session.Sessions.{Session, is_closed, is_lost}
 use Rattle.ymx_model.specs.session.Calls.{Outcome, at_record, read_outcome, read_from}
-use Rattle.ymx_session.specs.Replies.{read_or}
-use Rattle.ymx_model.proofs.Tests.{split}
+use Rattle.ymx_session.specs.Replies.{read_or, got_count, count_of}
+use Rattle.ymx_machine.proofs.Tests.{split}
 use Rattle.ymx_held.specs.declared.faults.HubFault.{HubFault}
 use Rattle.ymx_held.specs.Answers.{hub_answer, GivesSome}
-use Rattle.std.specs.Prelude.{IfOk}
+use Rattle.std.specs.Prelude.{IfOk, MatchResult}
 
 -- a reply that gives no bytes, and yet gives them
 abbrev is_empty_read : Reply → Bool
@@ -56,3 +56,12 @@ got_some Wait buffer e = tt
 pub read_some : (id max : ℕ) (s : Session) (buffer : List ℕ) (given : Result Got CallFault) (result : Result Got HubFault) → read_or given buffer ≡ (read_from id max s).reply → result ≡ hub_answer given → 0 < max → IfOk result GivesSome
 read_some id max s buffer (Ok got) result r e m = rw e (got_some got buffer (ap is_empty_read r ∙ read_gives id max s m))
 read_some id max s buffer (Err fault) result r e m = rw e tt
+
+-- bytes that stand before the rest
+rest_of : (n : ℕ) (old new : List ℕ) → n ≤ length old → new ≡ take n new ++ drop n old → drop n new ≡ drop n old
+rest_of n old new l e = grind (arith, common_steps)
+
+pub read_rest : (old new : List ℕ) (given : Result Got CallFault) (result : Result Got HubFault) → count_of given ≤ length old → new ≡ take (count_of given) new ++ drop (count_of given) old → result ≡ hub_answer given →
+    MatchResult result (λ got. drop (got_count got) new ≡ drop (got_count got) old) (λ fault. new ≡ old)
+read_rest old new (Ok got) result l e a = rw a (rest_of (got_count got) old new l e)
+read_rest old new (Err fault) result l e a = rw a (grind (arith, common_steps))

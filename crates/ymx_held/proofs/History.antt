@@ -1,7 +1,7 @@
 -- One more entry keeps the history.
-use Rattle.std.proofs.Common.{◌≡◌, ℕ, ◌+◌, List, [], ◌∷◌, ◌++◌, length, Bool, true, false, refl, sym, subst, arith}
+use Rattle.std.proofs.Common.{◌≡◌, ℕ, ◌+◌, List, [], ◌∷◌, ◌++◌, length, Bool, true, false, refl, sym, subst, ◌∙◌, append-nil, arith}
 use Rattle.ymx_model.specs.declared.types.Event.{Event}
-use Rattle.ymx_model.specs.declared.types.Reply.{Reply}
+use Rattle.ymx_machine.specs.declared.types.Reply.{Reply}
 use Rattle.ymx_model.specs.declared.types.Entry.{Entry}
 use Rattle.ymx_model.specs.declared.types.Role.{Role}
 use Rattle.ymx_model.specs.declared.types.Config.{Config}
@@ -22,12 +22,12 @@ of_new s n = subst (λ (z : Session). z ≡ new_session z.role z.table.window z.
 
 pub kept_new : (keeps : Bool) (role : Role) (config : Config) (es : List Entry) (s : Session) → IsNew s → es ≡ [] → role ≡ s.role → config.window ≡ s.table.window → config.first ≡ s.next → Kept keeps false role config es s
 kept_new true role config es s n e r w f = rw (e, r, w, f) (of_new s n)
-kept_new false role config es s n e r w f = tt
+kept_new false role config es s n e r w f = e
 
 pub kept_after : (keeps over : Bool) (role : Role) (config : Config) (es : List Entry) (s t : Session) (n : ℕ) (a : Event) (r : Reply) → Kept keeps over role config es s → Gives in_turn s a r t → Kept keeps over role config (es ++ kept_entries keeps (entry (length es) n a r)) t
 kept_after true true role config es s t n a r k h = tt
 kept_after true false role config es s t n a r k h = replays_more 0 es (entry (length es) n a r) (new_session role config.window config.first) s t k (omega arith) h
-kept_after false over role config es s t n a r k h = tt
+kept_after false over role config es s t n a r k h = append-nil es ∙ k
 
 pub kept_twice : (keeps over : Bool) (role : Role) (config : Config) (es mid last : List Entry) (s t u : Session) (n : ℕ) (a : Event) (r : Reply) (m : ℕ) (b : Event) (q : Reply) → Kept keeps over role config es s → Gives in_turn s a r t → mid ≡ es ++ kept_entries keeps (entry (length es) n a r) → Gives in_turn t b q u → last ≡ mid ++ kept_entries keeps (entry (length mid) m b q) → Kept keeps over role config last u
 kept_twice keeps over role config es mid last s t u n a r m b q k g e h d =
@@ -35,9 +35,20 @@ kept_twice keeps over role config es mid last s t u n a r m b q k g e h d =
     (kept_after keeps over role config mid t u m b q (subst (λ (xs : List Entry). Kept keeps over role config xs t) (sym e) (kept_after keeps over role config es s t n a r k g)) h)
 
 -- no entries are the history of a session that has done nothing
-pub no_entries : (role : Role) (config : Config) (es : List Entry) → es ≡ [] → IsGood role config → IsReplayable (record { role = role; config = config; entries = es })
+no_entries : (role : Role) (config : Config) (es : List Entry) → es ≡ [] → IsGood role config → IsReplayable (record { role = role; config = config; entries = es })
 no_entries role config es e g = record {
   good = g;
   session = new_session role config.window config.first;
   history = rw e refl;
 }
+
+-- what is kept until the end can be replayed
+pub kept_replays : (keeps over : Bool) (role : Role) (config : Config) (es : List Entry) (s : Session) → Kept keeps over role config es s → over ≡ false → IsGood role config → IsReplayable (record { role = role; config = config; entries = es })
+kept_replays true true role config es s k o g = cc
+kept_replays true false role config es s k o g = record { good = g; session = s; history = k }
+kept_replays false over role config es s k o g = no_entries role config es k g
+
+-- once the entries are moved out, none are kept
+pub kept_none : (keeps : Bool) (role : Role) (config : Config) (es : List Entry) (s : Session) → es ≡ [] → Kept keeps true role config es s
+kept_none true role config es s e = tt
+kept_none false role config es s e = e

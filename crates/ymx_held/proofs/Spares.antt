@@ -1,19 +1,19 @@
 -- Calls that take no memory, and so never answer that there is none.
 use Rattle.std.proofs.Common.{◌≡◌, ℕ, length, Bool, true, false, not, ◌&&◌, nat_le, Option, None, Some, Result, Ok, Err, refl, sym, ap, ◌∙◌}
-use Rattle.ymx_model.specs.declared.types.Reply.{Reply}
-use Rattle.ymx_model.specs.declared.types.Reply.TheVariants.{Done, Refused}
-use Rattle.ymx_model.specs.declared.types.CallFault.{CallFault}
-use Rattle.ymx_model.specs.declared.types.CallFault.TheVariants.{NoStream, Finished, Reset, Lost, Closed, PeerAway, OpensPending, TooMany, Exhausted, PingsPending, OutOfMemory}
-use Rattle.ymx_model.specs.shared.Phases.{Phase, is_live, is_reset}
-use Rattle.ymx_model.specs.shared.Replies.{unless_refused}
+use Rattle.ymx_machine.specs.declared.types.Reply.{Reply}
+use Rattle.ymx_machine.specs.declared.types.Reply.TheVariants.{Done, Refused}
+use Rattle.ymx_machine.specs.declared.types.CallFault.{CallFault}
+use Rattle.ymx_machine.specs.declared.types.CallFault.TheVariants.{NoStream, Finished, Reset, Lost, Closed, PeerAway, OpensPending, TooMany, Exhausted, PingsPending, OutOfMemory}
+use Rattle.ymx_machine.specs.shared.Phases.{Phase, is_live, is_reset}
+use Rattle.ymx_machine.specs.shared.Replies.{unless_refused}
 use Rattle.ymx_model.specs.session.Records.{End}
-use Rattle.ymx_model.specs.shared.Limits.{most_pings}
+use Rattle.ymx_machine.specs.shared.Limits.{most_pings}
 use Rattle.ymx_model.specs.session.Pings.{has_back}
-use Rattle.ymx_model.specs.shared.Lists.{look}
+use Rattle.ymx_machine.specs.shared.Lists.{look}
 use Rattle.ymx_model.specs.session.Sessions.{Session, is_closed, is_lost}
 use Rattle.ymx_model.specs.session.Calls.{Outcome, at_record, at_stream, finish_outcome, reset_outcome, finish, reset, ping, ponged, go_away}
 use Rattle.ymx_session.specs.Replies.{done_or, pinged_or, ponged_or, is_of_memory, is_out_of_memory}
-use Rattle.ymx_model.proofs.Tests.{split}
+use Rattle.ymx_machine.proofs.Tests.{split}
 use Rattle.ymx_held.specs.declared.faults.HubFault.{HubFault}
 use Rattle.ymx_held.specs.declared.faults.HubFault.TheVariants.{Memory}
 use Rattle.ymx_held.specs.Answers.{hub_fault_of, hub_answer, IsNotMemory}

@@ -1,11 +1,11 @@
 -- What a hub answers for what its session answered (this project's own).
 use Rattle.std.specs.Prelude.{◌≡◌, ℕ, ◌<◌, Result, Ok, Err, IfErr}
-use Rattle.ymx_model.specs.declared.types.CallFault.{CallFault}
-use Rattle.ymx_model.specs.declared.types.CallFault.TheVariants.{OutOfMemory}
+use Rattle.ymx_machine.specs.declared.types.CallFault.{CallFault}
+use Rattle.ymx_machine.specs.declared.types.CallFault.TheVariants.{OutOfMemory}
 use Rattle.ymx_model.specs.declared.types.Got.{Got}
 use Rattle.ymx_model.specs.declared.types.Got.TheVariants as got
-use Rattle.ymx_model.specs.declared.types.Wrote.{Wrote}
-use Rattle.ymx_model.specs.declared.types.Wrote.TheVariants as wrote
+use Rattle.ymx_machine.specs.declared.types.Wrote.{Wrote}
+use Rattle.ymx_machine.specs.declared.types.Wrote.TheVariants as wrote
 use Rattle.ymx_held.specs.declared.faults.HubFault.{HubFault}
 use Rattle.ymx_held.specs.declared.faults.HubFault.TheVariants.{Call, Memory}
 

@@ -1,20 +1,44 @@
 -- What is under the lock of a hub (this project's own).
-use Rattle.std.specs.Prelude.{ℕ, List, Bool, true, false}
+use Rattle.std.specs.Prelude.{◌≡◌, ℕ, ◌==◌, ◌-◌, ◌++◌, ◌∷◌, List, [], position, swap_remove, nat_eq, Bool, true, false, if◌then◌else◌}
+use Rattle.std.specs.List.{list_any}
+use Rattle.std.specs.Option.{option_map_or}
 use Rattle.ymx_model.specs.declared.types.Role.{Role}
 use Rattle.ymx_model.specs.declared.types.Config.{Config}
 use Rattle.ymx_model.specs.declared.types.Entry.{Entry}
 use Rattle.ymx_model.specs.session.Sessions.{Session}
 use Rattle.ymx_seats.specs.Transcripts.{IsHistory}
 
--- the session, the entries so far, how many seats were given, and whether the transcript was handed out
+-- The session, with the role and config with which it was made; the entries so far; how many seats were given; how many
+-- streams that were handed out have both halves unspent; those with one half spent; whether the transcript was handed out.
 pub record HeldView : Type 0 where
+  pub role : Role
+  pub config : Config
   pub session : Session
   pub entries : List Entry
   pub given : ℕ
+  pub unspent : ℕ
+  pub half_spent : List ℕ
   pub ended : Bool
 
--- until they are moved out, the entries that are kept are the history of the session, which was made with this
--- role and config
+-- one half of this stream is spent
+abbrev pub is_half_spent : ℕ → HeldView → Bool
+is_half_spent id h = list_any (nat_eq id) h.half_spent
+
+-- the ids but this one, in whose place the last comes
+abbrev pub without : ℕ → List ℕ → List ℕ
+without id [] = []
+without id (x ∷ xs) = option_map_or (λ at. swap_remove (x ∷ xs) at x) (position (nat_eq id) (x ∷ xs)) (x ∷ xs)
+
+-- One more half of this stream is spent: where the other half was spent, no half of it is left to be spent.
+abbrev pub spent : ℕ → HeldView → HeldView
+spent id h =
+    if is_half_spent id h then record h { half_spent = without id h.half_spent }
+    else if h.unspent == 0 then h
+    else record h { unspent = h.unspent - 1; half_spent = h.half_spent ++ id ∷ [] }
+
+-- Until they are moved out, the entries that are kept are the history of the session, which was made with this
+-- role and config. A recorder that keeps nothing has none.
 abbrev pub Kept : (keeps ended : Bool) → Role → Config → List Entry → Session → Type 0
 Kept true false role config entries s = IsHistory role config entries s
-Kept _ _ role config entries s = Unit {0}
+Kept true true role config entries s = Unit {0}
+Kept false ended role config entries s = entries ≡ []

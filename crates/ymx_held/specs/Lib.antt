@@ -1,3 +1,4 @@
 pub mod Answers
 pub mod Booked
 pub mod Held
+pub mod Steps

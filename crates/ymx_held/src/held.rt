@@ -1,7 +1,10 @@
 //! The value under the lock of a hub.
 
-ghost use Rattle.std.specs.Prelude.{◌≡◌, ◌≢◌, ◌⊎◌, ◌+◌, ◌^◌, List, [], length, true, false, IfOk, IfErr, OnOk, OnErr, MatchResult};
+ghost use Rattle.std.specs.Prelude.{◌≡◌, ◌≢◌, ◌⊎◌, ◌+◌, ◌^◌, ◌<◌, ◌↔◌, List, [], ◌∷◌, length, true, false, IsTrue, IfOk, IfErr, OnOk, OnErr, MatchResult};
 ghost use Rattle.std.specs.List.Sorted.{IsPermutation};
+ghost use Rattle.ymx_machine.specs.declared.types.Reply.TheVariants as reply;
+ghost use Rattle.ymx_machine.specs.declared.types.Wrote.TheVariants as wrote;
+ghost use Rattle.ymx_model.specs.session.Calls.{read_from, write_to};
 ghost use Rattle.ymx_model.specs.session.Emissions.{is_ready};
 ghost use Rattle.ymx_seats.specs.Tallies.{Tallies};
 ghost use Rattle.ymx_seats.specs.Transcripts.{IsNew};
@@ -11,6 +14,7 @@ ghost use Rattle.ymx_held.specs.declared.end_fault.EndWhy.TheVariants.{SeatsOut,
 
 use crate::end_fault::{EndFault, EndWhy};
 use crate::faults::HubFault;
+use indexmap::IndexSet;
 use std::alloc::Global;
 use std::marker::Model;
 use std::mem;
@@ -19,9 +23,9 @@ use ymx_seats::{Log, Recorder, Seat, Transcript, agree, let_go};
 use ymx_session::Session;
 
 /// A session, with what it was made, the log of its events, how many seats were given, how many streams have both
-/// halves unspent, and the ids of those with one half spent. A contract sees the session, the log, how many seats
-/// were given, and whether the transcript was handed out. Until then the log is the history of the session, from the
-/// one of this role and config that has done nothing.
+/// halves unspent, and the ids of those with one half spent. A contract sees all of these, and whether the transcript
+/// was handed out. Until then the log is the history of the session, from the one of this role and config that has done
+/// nothing.
 #[derive(Drop)]
 pub struct Held<R: Recorder> {
     pub(crate) alloc: Global,
@@ -31,27 +35,37 @@ pub struct Held<R: Recorder> {
     pub(crate) log: Log<R>,
     pub(crate) given: u32,
     pub(crate) unspent: usize,
-    pub(crate) half_spent: Vec<u32>,
+    pub(crate) half_spent: IndexSet<u32>,
     pub(crate) ended: bool,
 }
 
 impl<R: Recorder> Model for Held<R> {
-    ghost use Rattle.std.specs.Prelude.{vec_len, vec_capacity, ◌+◌, ◌≤◌};
+    ghost use Rattle.std.specs.Prelude.{◌≤◌};
+    ghost use Rattle.indexmap.specs.IndexSet.{spare};
     ghost use Rattle.ymx_seats.specs.Transcripts.{IsGood};
     ghost use Rattle.ymx_held.specs.Held.{HeldView, Kept};
 
     ghost Value = { HeldView };
 
-    ghost view = { λ s. record { session = s.session; entries = s.log.entries; given = s.given; ended = s.ended } };
+    ghost view = { λ s. record {
+      role = s.role;
+      config = s.config;
+      session = s.session;
+      entries = s.log.entries;
+      given = s.given;
+      unspent = s.unspent;
+      half_spent = s.half_spent.keys;
+      ended = s.ended;
+    } };
 
-    ghost invariant = { λ s. Kept R.KEEPS s.ended s.role s.config s.log.entries s.session × (s.unspent + vec_len s.half_spent ≤ vec_capacity s.half_spent) × (s.unspent ≤ s.given) × IsGood s.role s.config };
+    ghost invariant = { λ s. Kept R.KEEPS s.ended s.role s.config s.log.entries s.session × (s.unspent ≤ spare s.half_spent) × (s.unspent ≤ s.given) × IsGood s.role s.config };
 }
 
 impl<R: Recorder> Held<R> {
     /// Holds a session that has done nothing, with no entries and no seats. Takes no memory.
     pub fn new(alloc: Global, session: Session) -> Held<R>
         requires { IsNew session }
-        ensures { result ≡ record { session = session; entries = []; given = 0; ended = false } }
+        ensures { result ≡ record { role = session.role; config = record { window = session.table.window; first = session.next }; session = session; entries = []; given = 0; unspent = 0; half_spent = []; ended = false } }
     {
         let config = Config {
             window: session.window(),
@@ -65,7 +79,7 @@ impl<R: Recorder> Held<R> {
             log: Log::new(alloc),
             given: 0,
             unspent: 0,
-            half_spent: Vec::new(alloc),
+            half_spent: IndexSet::new(alloc),
             ended: false,
         }
     }
@@ -76,7 +90,8 @@ impl<R: Recorder> Held<R> {
         ensures spares { IsNotMemory result }
         ensures new { IfOk result (λ seat. (seat.number ≡ self.old.given) × (seat.entries ≡ []) × (seat.start ≡ length self.old.entries)) }
         ensures counted { MatchResult result (λ seat. self.new ≡ record self.old { given = self.old.given + 1 }) (λ fault. self.new ≡ self.old) }
-        ensures refused { IfErr result (λ fault. (fault ≡ HubFault.Call CallFault.Closed) ⊎ ((fault ≡ HubFault.Seats) × (self.old.given + 1 ≡ 2 ^ 32))) }
+        ensures goes_on { OnOk result ((self.old.ended ≡ false) × (self.old.given + 1 < 2 ^ 32)) }
+        ensures refused { IfErr result (λ fault. ((fault ≡ HubFault.Call CallFault.Closed) × (self.old.ended ≡ true)) ⊎ ((fault ≡ HubFault.Seats) × (self.old.ended ≡ false) × (self.old.given + 1 ≡ 2 ^ 32))) }
     {
         if self.ended {
             return Err(HubFault::Call(CallFault::Closed));
@@ -96,6 +111,27 @@ impl<R: Recorder> Held<R> {
         self.session.due()
     }
 
+    /// Whether a read of a stream would have to wait.
+    pub fn read_waits(&self, id: u32) -> bool
+        ensures { IsTrue result ↔ ((read_from id 1 self.now.session).reply ≡ reply.ReadWait) }
+    {
+        self.session.read_waits(id)
+    }
+
+    /// Whether a write of one byte to a stream would have to wait.
+    pub fn write_waits(&self, id: u32) -> bool
+        ensures { IsTrue result ↔ ((write_to id (0 ∷ []) self.now.session).reply ≡ reply.Wrote wrote.Wait) }
+    {
+        self.session.write_waits(id)
+    }
+
+    /// How many streams of the peer's wait to be accepted: 256 at most.
+    pub fn offered_count(&self) -> usize
+        ensures { result ≡ length self.now.session.offered }
+    {
+        self.session.offered_count()
+    }
+
     /// The state of the session.
     pub fn status(&self) -> Status
         ensures { result ≡ self.now.session.status }
@@ -103,14 +139,15 @@ impl<R: Recorder> Held<R> {
         self.session.status()
     }
 
-    /// Hands the transcript out, once all seats that were given are handed in and their lists agree with it. Else
-    /// nothing changes, and the seats come back: with `SeatsOut` where there are more or fewer than were given, and
+    /// Hands the transcript out, which has the entries that were kept, once all seats that were given are handed in and
+    /// their lists agree with it. Else nothing changes, and the seats come back: with `SeatsOut` where there are more or fewer than were given, and
     /// where the transcript was handed out before; else with `OutOfOrder`. It takes no memory.
     pub fn end(&mut self, seats: Vec<Seat<R>>) -> Result<Transcript, EndFault<R>>
-        ensures ended { MatchResult result (λ transcript. R.KEEPS ≡ true → (all : List SeatView) × IsPermutation seats.items all × (length all ≡ self.old.given) × Tallies all transcript.entries) (λ fault. IsPermutation seats.items fault.seats.items) }
+        ensures ended { MatchResult result (λ transcript. (all : List SeatView) × IsPermutation seats.items all × (length all ≡ self.old.given) × Tallies all transcript.entries) (λ fault. IsPermutation seats.items fault.seats.items) }
         ensures seats_out { IfErr result (λ fault. fault.why ≡ SeatsOut → (self.old.ended ≡ true) ⊎ (length seats.items ≢ self.old.given)) }
         ensures out_of_order { IfErr result (λ fault. fault.why ≡ OutOfOrder → (self.old.ended ≡ false) × (length seats.items ≡ self.old.given) × ((order : List SeatView) → IsPermutation seats.items order → Tallies order self.old.entries → ⊥)) }
-        ensures spent { OnOk result ((self.old.ended ≡ false) × (self.new.ended ≡ true) × (length seats.items ≡ self.old.given)) }
+        ensures handed_out { IfOk result (λ transcript. transcript ≡ record { role = self.old.role; config = self.old.config; entries = self.old.entries }) }
+        ensures once { OnOk result ((self.old.ended ≡ false) × (self.new ≡ record self.old { entries = []; ended = true }) × (length seats.items ≡ self.old.given)) }
         ensures unchanged { OnErr result (self.new ≡ self.old) }
     {
         let mut seats = seats;
@@ -129,10 +166,6 @@ impl<R: Recorder> Held<R> {
         let_go(seats);
         self.ended = true;
         let log = mem::replace(&mut self.log, Log::new(self.alloc));
-        if !R::KEEPS {
-            let nothing = Vec::new(self.alloc);
-            return Ok(Transcript::new(self.role, self.config, nothing));
-        }
         Ok(Transcript::new(self.role, self.config, log.into_entries()))
     }
 }

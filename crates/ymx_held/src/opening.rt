@@ -4,6 +4,7 @@ ghost use Rattle.std.specs.Prelude.{◌≡◌, [], IfOk};
 ghost use Rattle.ymx_session.specs.Replies.{opened_or, opened_with_or, accepted_or};
 ghost use Rattle.ymx_seats.specs.Slips.{told_by, bytes_told};
 ghost use Rattle.ymx_held.specs.Booked.{Gains, Opens, OpensWith, AcceptsOnce};
+ghost use Rattle.ymx_held.specs.Steps.{StepsOpened, StepsOpenedWith, StepsAccepted};
 
 use crate::faults::{HubFault, hub_fault};
 use crate::held::Held;
@@ -19,6 +20,7 @@ impl<R: Recorder> Held<R> {
         ensures number { seat.new.number ≡ seat.old.number }
         ensures start { seat.new.start ≡ seat.old.start }
         ensures booked { Gains R.KEEPS seat.old.entries seat.new.entries (Opens seat.old.number result) }
+        ensures steps { StepsOpened R.KEEPS seat.old.number result self.old self.new }
         ensures empty { IfOk result (λ made. (made.1.entries ≡ []) × (made.2.entries ≡ [])) }
     {
         if self.given > u32::MAX - 2 {
@@ -57,6 +59,7 @@ impl<R: Recorder> Held<R> {
         ensures number { seat.new.number ≡ seat.old.number }
         ensures start { seat.new.start ≡ seat.old.start }
         ensures booked { Gains R.KEEPS seat.old.entries seat.new.entries (OpensWith bytes.now seat.old.number result) }
+        ensures steps { StepsOpenedWith bytes.now R.KEEPS seat.old.number result self.old self.new }
         ensures empty { IfOk result (λ made. (made.2.entries ≡ []) × (made.3.entries ≡ [])) }
     {
         if self.given > u32::MAX - 2 {
@@ -96,6 +99,7 @@ impl<R: Recorder> Held<R> {
         ensures number { seat.new.number ≡ seat.old.number }
         ensures start { seat.new.start ≡ seat.old.start }
         ensures booked { Gains R.KEEPS seat.old.entries seat.new.entries (AcceptsOnce seat.old.number result) }
+        ensures steps { StepsAccepted R.KEEPS seat.old.number result self.old self.new }
     {
         if self.given > u32::MAX - 2 {
             return Err(HubFault::Seats);

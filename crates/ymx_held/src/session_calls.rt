@@ -5,6 +5,7 @@ ghost use Rattle.ymx_session.specs.Replies.{done_or, pinged_or, ponged_or};
 ghost use Rattle.ymx_seats.specs.Slips.{told_by, bytes_told};
 ghost use Rattle.ymx_held.specs.Answers.{IsNotMemory};
 ghost use Rattle.ymx_held.specs.Booked.{Gains, Asks, to_ping, to_collect, to_go_away, to_close};
+ghost use Rattle.ymx_held.specs.Steps.{StepsAsked};
 
 use crate::faults::{HubFault, answered, tell_of_done};
 use crate::held::Held;
@@ -18,6 +19,7 @@ impl<R: Recorder> Held<R> {
         ensures number { seat.new.number ≡ seat.old.number }
         ensures start { seat.new.start ≡ seat.old.start }
         ensures booked { Gains R.KEEPS seat.old.entries seat.new.entries (Asks to_ping pinged_or seat.old.number result) }
+        ensures steps { StepsAsked R.KEEPS to_ping pinged_or seat.old.number result self.old self.new }
         ensures off { R.KEEPS ≡ false → IsNotMemory result }
     {
         let Ok(slip) = self.log.prepare(self.alloc, seat, Ask::Ping, 0, 1) else {
@@ -34,6 +36,7 @@ impl<R: Recorder> Held<R> {
         ensures number { seat.new.number ≡ seat.old.number }
         ensures start { seat.new.start ≡ seat.old.start }
         ensures booked { Gains R.KEEPS seat.old.entries seat.new.entries (Asks (to_collect number) ponged_or seat.old.number result) }
+        ensures steps { StepsAsked R.KEEPS (to_collect number) ponged_or seat.old.number result self.old self.new }
         ensures off { R.KEEPS ≡ false → IsNotMemory result }
     {
         let ask = Ask::Ponged(number);
@@ -51,6 +54,7 @@ impl<R: Recorder> Held<R> {
         ensures number { seat.new.number ≡ seat.old.number }
         ensures start { seat.new.start ≡ seat.old.start }
         ensures booked { Gains R.KEEPS seat.old.entries seat.new.entries (Asks to_go_away done_or seat.old.number result) }
+        ensures steps { StepsAsked R.KEEPS to_go_away done_or seat.old.number result self.old self.new }
         ensures off { R.KEEPS ≡ false → IsNotMemory result }
     {
         let Ok(slip) = self.log.prepare(self.alloc, seat, Ask::GoAway, 0, 1) else {
@@ -67,6 +71,7 @@ impl<R: Recorder> Held<R> {
         ensures number { seat.new.number ≡ seat.old.number }
         ensures start { seat.new.start ≡ seat.old.start }
         ensures booked { Gains R.KEEPS seat.old.entries seat.new.entries (Asks to_close done_or seat.old.number result) }
+        ensures steps { StepsAsked R.KEEPS to_close done_or seat.old.number result self.old self.new }
         ensures off { R.KEEPS ≡ false → IsNotMemory result }
     {
         let Ok(slip) = self.log.prepare(self.alloc, seat, Ask::Close, 0, 1) else {

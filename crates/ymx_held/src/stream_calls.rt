@@ -1,12 +1,14 @@
 //! Bytes of a stream, and its halves that are spent, with their entries.
 
-ghost use Rattle.std.specs.Prelude.{◌≡◌, ◌<◌, ◌≤◌, ◌++◌, length, take, drop, false, IfOk};
+ghost use Rattle.std.specs.Prelude.{◌≡◌, ◌<◌, ◌≤◌, ◌++◌, length, take, drop, false, IfOk, MatchResult};
 ghost use Rattle.ymx_model.specs.session.Emissions.{in_turn};
 ghost use Rattle.ymx_model.specs.session.Histories.{Gives};
 ghost use Rattle.ymx_session.specs.Replies.{done_or, is_out_of_memory, wrote_or, read_or, count_of, got_count};
 ghost use Rattle.ymx_seats.specs.Slips.{asked_by, told_by, bytes_told};
 ghost use Rattle.ymx_held.specs.Answers.{IsNotMemory, GivesSome, took_count};
 ghost use Rattle.ymx_held.specs.Booked.{Gains, Asks, Spends, Closes, to_write, to_read, to_finish, to_reset, to_end};
+ghost use Rattle.ymx_held.specs.Held.{is_half_spent, spent};
+ghost use Rattle.ymx_held.specs.Steps.{StepsAsked, StepsSpent, StepsClosed};
 
 use crate::faults::{HubFault, answered, tell_of_done};
 use crate::held::Held;
@@ -21,6 +23,7 @@ impl<R: Recorder> Held<R> {
         ensures number { seat.new.number ≡ seat.old.number }
         ensures start { seat.new.start ≡ seat.old.start }
         ensures booked { Gains R.KEEPS seat.old.entries seat.new.entries (Asks (to_write id bytes.now) wrote_or seat.old.number result) }
+        ensures steps { StepsAsked R.KEEPS (to_write id bytes.now) wrote_or seat.old.number result self.old self.new }
         ensures within { IfOk result (λ wrote. took_count wrote ≤ length bytes.now) }
     {
         let ask = Ask::Write(id, bytes);
@@ -33,14 +36,16 @@ impl<R: Recorder> Held<R> {
     }
 
     /// Moves the first unread bytes to the front of the buffer, as many as are there and fit: one at least, if it has
-    /// room.
+    /// room. The rest of the buffer stays as it was.
     #[tactic(auto, using(crate::proofs::History::kept_after))]
     pub fn read(&mut self, seat: &mut Seat<R>, id: u32, buffer: &mut [u8]) -> Result<Got, HubFault>
         ensures number { seat.new.number ≡ seat.old.number }
         ensures start { seat.new.start ≡ seat.old.start }
         ensures booked { Gains R.KEEPS seat.old.entries seat.new.entries (Asks (to_read id (length buffer.old)) (λ given. read_or given buffer.new) seat.old.number result) }
+        ensures steps { StepsAsked R.KEEPS (to_read id (length buffer.old)) (λ given. read_or given buffer.new) seat.old.number result self.old self.new }
         ensures within { IfOk result (λ got. got_count got ≤ length buffer.old) }
         ensures length { length buffer.new ≡ length buffer.old }
+        ensures rest { MatchResult result (λ got. drop (got_count got) buffer.new ≡ drop (got_count got) buffer.old) (λ fault. buffer.new ≡ buffer.old) }
         ensures some { 0 < length buffer.old → IfOk result GivesSome }
         ensures off { R.KEEPS ≡ false → IsNotMemory result }
     {
@@ -55,22 +60,17 @@ impl<R: Recorder> Held<R> {
 
     /// Notes that a half of a stream is spent. Whether the other half was spent before.
     fn spend(&mut self, id: u32) -> bool
-        ensures same { self.new ≡ self.old }
+        ensures second { result ≡ is_half_spent id self.old }
+        ensures noted { self.new ≡ spent id self.old }
     {
-        let found = self.half_spent.iter().position(|x| *x == id);
-        match found {
-            Some(at) => {
-                let _ = self.half_spent.swap_remove(at);
-                true
-            }
-            None => {
-                if self.unspent > 0 {
-                    self.unspent -= 1;
-                    self.half_spent.push_reserved(id);
-                }
-                false
-            }
+        if self.half_spent.swap_remove(&id) {
+            return true;
         }
+        if self.unspent > 0 {
+            self.unspent -= 1;
+            let _has_room = self.half_spent.insert(id);
+        }
+        false
     }
 
     /// Half-closes a stream, and gives it up if its other half was spent. The half counts as spent even if there is
@@ -79,6 +79,7 @@ impl<R: Recorder> Held<R> {
         ensures number { seat.new.number ≡ seat.old.number }
         ensures start { seat.new.start ≡ seat.old.start }
         ensures booked { Gains R.KEEPS seat.old.entries seat.new.entries (Spends (to_finish id) id seat.old.number result) }
+        ensures steps { StepsSpent (to_finish id) R.KEEPS seat.old.number id result self.old self.new }
         ensures off { R.KEEPS ≡ false → IsNotMemory result }
     {
         self.end_half(seat, id, Ending::Finish)
@@ -90,6 +91,7 @@ impl<R: Recorder> Held<R> {
         ensures number { seat.new.number ≡ seat.old.number }
         ensures start { seat.new.start ≡ seat.old.start }
         ensures booked { Gains R.KEEPS seat.old.entries seat.new.entries (Spends (to_reset id) id seat.old.number result) }
+        ensures steps { StepsSpent (to_reset id) R.KEEPS seat.old.number id result self.old self.new }
         ensures off { R.KEEPS ≡ false → IsNotMemory result }
     {
         self.end_half(seat, id, Ending::Reset)
@@ -101,6 +103,7 @@ impl<R: Recorder> Held<R> {
         ensures number { seat.new.number ≡ seat.old.number }
         ensures start { seat.new.start ≡ seat.old.start }
         ensures booked { Gains R.KEEPS seat.old.entries seat.new.entries (Spends (to_end ending id) id seat.old.number result) }
+        ensures steps { StepsSpent (to_end ending id) R.KEEPS seat.old.number id result self.old self.new }
         ensures off { R.KEEPS ≡ false → IsNotMemory result }
     {
         let second = self.spend(id);
@@ -133,6 +136,7 @@ impl<R: Recorder> Held<R> {
         ensures number { seat.new.number ≡ seat.old.number }
         ensures start { seat.new.start ≡ seat.old.start }
         ensures booked { Gains R.KEEPS seat.old.entries seat.new.entries (Closes id seat.old.number result) }
+        ensures steps { StepsClosed (is_half_spent id self.old) R.KEEPS seat.old.number id result self.old self.new }
         ensures off { R.KEEPS ≡ false → IsNotMemory result }
     {
         if !self.spend(id) {

@@ -2,7 +2,7 @@
 use Rattle.std.proofs.Common.{◌≡◌, ℕ, List, ◌++◌, Bool, refl, Ok}
 use Rattle.ymx_model.specs.declared.types.Entry.{Entry}
 use Rattle.ymx_model.specs.declared.types.Got.TheVariants as got
-use Rattle.ymx_model.specs.declared.types.Reply.TheVariants.{ReadWait, ReadEnd}
+use Rattle.ymx_machine.specs.declared.types.Reply.TheVariants.{ReadWait, ReadEnd}
 use Rattle.ymx_session.specs.Replies.{read_or}
 use Rattle.ymx_seats.specs.Views.{entry}
 use Rattle.ymx_held.specs.Booked.{Gains, One, Asks, to_read}

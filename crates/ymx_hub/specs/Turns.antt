@@ -1,12 +1,12 @@
 -- What a call of a hub that waits adds to the list of its seat (this project's own).
 use Rattle.std.specs.Prelude.{◌≡◌, ℕ, ◌+◌, ◌⊎◌, List, [], ◌∷◌, ◌++◌, length, take, drop, true, false, Option, Some, None, Result, Ok, Err}
-use Rattle.ymx_model.specs.declared.types.CallFault.{CallFault}
-use Rattle.ymx_model.specs.declared.types.CallFault.TheVariants.{Lost, Closed}
-use Rattle.ymx_model.specs.declared.types.Wrote.{Wrote}
-use Rattle.ymx_model.specs.declared.types.Wrote.TheVariants.{Took}
+use Rattle.ymx_machine.specs.declared.types.CallFault.{CallFault}
+use Rattle.ymx_machine.specs.declared.types.CallFault.TheVariants.{Lost, Closed}
+use Rattle.ymx_machine.specs.declared.types.Wrote.{Wrote}
+use Rattle.ymx_machine.specs.declared.types.Wrote.TheVariants.{Took}
 use Rattle.ymx_model.specs.declared.types.Event.{Event}
-use Rattle.ymx_model.specs.declared.types.Reply.{Reply}
-use Rattle.ymx_model.specs.declared.types.Reply.TheVariants as reply
+use Rattle.ymx_machine.specs.declared.types.Reply.{Reply}
+use Rattle.ymx_machine.specs.declared.types.Reply.TheVariants as reply
 use Rattle.ymx_model.specs.declared.types.Entry.{Entry}
 use Rattle.ymx_session.specs.Replies.{pinged_or}
 use Rattle.ymx_seats.specs.Views.{SeatView}

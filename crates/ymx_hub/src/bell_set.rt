@@ -49,6 +49,14 @@ impl BellSet {
         true
     }
 
+    /// Whether a bell is in the set.
+    pub(crate) fn has(&self, bell: u32) -> bool
+        requires { bell < 1_024 }
+    {
+        let place = bell / 64;
+        self.words[place as usize] & (1 << (bell % 64)) != 0
+    }
+
     /// Moves all its bells to another set.
     pub(crate) fn move_to(&mut self, other: &mut BellSet) {
         let mut filled = mem::take(&mut self.filled);

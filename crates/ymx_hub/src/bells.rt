@@ -6,11 +6,16 @@
 //! and no wake-up is lost: who waits has said so before its event could come.
 //!
 //! Those who wait for an offered stream are woken one by one. Each counts itself before it sleeps, and takes itself
-//! back once it has the lock again, so the count is never below the number of sleepers. A feed rings once for each
-//! SYN, but no more often than the count, and a ring wakes a sleeper if there is one. So for each offered stream an
-//! acceptor is awake or a ring is to come, or else a ring is to come for each sleeper. Who is woken and finds the
-//! stream taken by another sleeps again: nothing is offered then. Who is woken and refused leaves the stream, and
-//! rings once more.
+//! back once it has the lock again, so the count is never below the number of sleepers. A feed rings as often as more
+//! streams are offered behind it than before, but no more often than the count, and a ring wakes a sleeper if there is
+//! one. So for each offered stream an acceptor is awake or a ring is to come, or else a ring is to come for each
+//! sleeper. Who is woken and finds the stream taken by another sleeps again: nothing is offered then. Who is woken and
+//! refused leaves the stream, and rings once more.
+//!
+//! Whom a feed concerns the session says: a stream that a feed doesn't touch is as it was, so whoever waits for it
+//! would have to wait again. Of the streams that it touches, those are woken whose call would no longer wait: a reader
+//! where bytes, the end or a reset came, a writer where credit or a reset did. Who would still wait stays among the
+//! waiters, for the next feed. Once the session has stopped running, all are woken.
 
 ghost use Rattle.std.specs.Prelude.{◌<◌};
 
@@ -30,7 +35,7 @@ pub(crate) struct Waiters {
     /// The bells of those who write a stream.
     writers: BellSet,
     /// How many wait for a stream that is offered.
-    acceptors: u32,
+    acceptors: usize,
     /// Somebody waits for the answer to a ping.
     pub(crate) pingers: bool,
     /// Somebody waits until nothing is due, or until fewer answers are unsent.
@@ -69,6 +74,16 @@ impl Waiters {
         self.acceptors = self.acceptors.saturating_sub(1);
     }
 
+    /// Whether somebody may wait who reads this stream.
+    pub(crate) fn has_reader(&self, id: u32) -> bool {
+        self.readers.has(bell_of(id))
+    }
+
+    /// Whether somebody may wait who writes this stream.
+    pub(crate) fn has_writer(&self, id: u32) -> bool {
+        self.writers.has(bell_of(id))
+    }
+
     /// Moves who reads this stream to those who are woken.
     pub(crate) fn wake_reader(&mut self, id: u32, woken: &mut Waiters) {
         let bell = bell_of(id);
@@ -85,11 +100,9 @@ impl Waiters {
         }
     }
 
-    /// One more of those who wait for an offered stream is woken, if there is one more. It takes itself back.
-    pub(crate) fn wake_acceptor(&self, woken: &mut Waiters) {
-        if woken.acceptors < self.acceptors {
-            woken.acceptors += 1;
-        }
+    /// So many of those who wait for an offered stream are woken, or as many as wait. They take themselves back.
+    pub(crate) fn wake_acceptors(&self, count: usize, woken: &mut Waiters) {
+        woken.acceptors = count.min(self.acceptors);
     }
 
     /// Moves who waits for the answer to a ping to those who are woken.
@@ -104,11 +117,16 @@ impl Waiters {
         mem::take(&mut self.emptiers)
     }
 
-    /// Moves all to those who are woken. Those who wait for an offered stream take themselves back.
-    pub(crate) fn wake_all(&mut self, woken: &mut Waiters) {
+    /// Moves who reads or writes any stream to those who are woken.
+    pub(crate) fn wake_streams(&mut self, woken: &mut Waiters) {
         self.readers.move_to(&mut woken.readers);
         self.writers.move_to(&mut woken.writers);
-        woken.acceptors = self.acceptors;
+    }
+
+    /// Moves all to those who are woken. Those who wait for an offered stream take themselves back.
+    pub(crate) fn wake_all(&mut self, woken: &mut Waiters) {
+        self.wake_streams(woken);
+        self.wake_acceptors(self.acceptors, woken);
         self.wake_pingers(woken);
         if self.take_emptiers() {
             woken.emptiers = true;

@@ -1,7 +1,7 @@
 //! The two halves of a stream.
 
-ghost use Rattle.std.specs.Prelude.{◌≡◌, ◌<◌, ◌≤◌, length, false, IfOk, IfErr};
-ghost use Rattle.ymx_model.specs.declared.types.Reply.TheVariants as reply;
+ghost use Rattle.std.specs.Prelude.{◌≡◌, ◌<◌, ◌≤◌, length, drop, false, IfOk, IfErr, MatchResult};
+ghost use Rattle.ymx_machine.specs.declared.types.Reply.TheVariants as reply;
 ghost use Rattle.ymx_held.specs.Answers.{IsNotMemory};
 ghost use Rattle.ymx_held.specs.Booked.{Gains, Spends, Closes, to_finish, to_reset};
 ghost use Rattle.ymx_hub.specs.Turns.{ReadTurns, EndsIn, WriteTurns};
@@ -105,7 +105,7 @@ impl<R: Recorder> ReadHalf<R> {
     }
 
     /// Waits for bytes, and moves those that are there and fit to the front of the buffer. 0 is the end: the peer
-    /// has finished, and all was read.
+    /// has finished, and all was read. The rest of the buffer stays as it was, and all of it where the call is refused.
     ///
     /// Refused with `Closed` and with `Reset`, and with `Lost` once what was there is read, before it waits or while it
     /// does. `Memory` where there is none for an entry: no byte is read then.
@@ -116,6 +116,7 @@ impl<R: Recorder> ReadHalf<R> {
         ensures end { IfOk result (λ count. count ≡ 0 → Gains R.KEEPS self.old.seat.entries self.new.seat.entries (EndsIn (λ told. told ≡ reply.ReadEnd))) }
         ensures within { IfOk result (λ count. count ≤ length buffer.old) }
         ensures length { length buffer.new ≡ length buffer.old }
+        ensures rest { MatchResult result (λ count. drop count buffer.new ≡ drop count buffer.old) (λ fault. buffer.new ≡ buffer.old) }
         ensures off { R.KEEPS ≡ false → IsNotMemory result }
     {
         self.hub.read(rt, &mut self.seat, self.id, buffer)

@@ -16,7 +16,7 @@ use std::alloc::{AllocError, Global};
 use std::sync::{Arc, Mutex, MutexGuard, Wait};
 use ymx_held::{EndFault, Held, HubFault};
 use ymx_seats::{Recorder, Seat, Transcript};
-use ymx_session::Session;
+use ymx_session::{Session, Touched};
 
 /// A session under one lock. What its recorder keeps of it is, whenever the lock is free, the history of the session.
 #[derive(Drop)]
@@ -31,10 +31,11 @@ impl<R: Recorder> Hub<R> {
         requires { IsNew session }
     {
         let _ = recorder;
+        let touched = Touched::new(alloc)?;
         Ok(Arc::new(
             alloc,
             Hub {
-                desk: Mutex::new(Desk::new(Held::new(alloc, session))),
+                desk: Mutex::new(Desk::new(Held::new(alloc, session), touched)),
                 bells: Bells::new(),
             },
         )?)

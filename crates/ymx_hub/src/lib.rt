@@ -2,7 +2,7 @@
 //!
 //! `Hub` is the session under its lock. `Opener` and `Acceptor` hand out streams, each as a `WriteHalf` and a
 //! `ReadHalf`. Each caller has a seat, in which its calls are booked. `moving` has the turns of the pumps; `bells`
-//! and `news` say who wakes whom, and `awaiting` how.
+//! and `desk` say who wakes whom, and `awaiting` how.
 #![tactic(auto)]
 
 mod acceptor;
@@ -13,7 +13,6 @@ mod desk;
 mod halves;
 mod hub;
 mod moving;
-mod news;
 mod opener;
 mod status;
 mod waiting_calls;

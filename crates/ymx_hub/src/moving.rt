@@ -1,8 +1,8 @@
 //! What a pump does in one hold of the lock. No device is touched under it.
 
-ghost use Rattle.std.specs.Prelude.{◌≡◌, ◌≤◌, length, false, IfOk, IsOk};
+ghost use Rattle.std.specs.Prelude.{◌≡◌, ◌≤◌, length, drop, false, IfOk, IsOk, MatchResult};
 ghost use Rattle.ymx_model.specs.declared.types.Event.TheVariants as event;
-ghost use Rattle.ymx_model.specs.declared.types.Reply.TheVariants as reply;
+ghost use Rattle.ymx_machine.specs.declared.types.Reply.TheVariants as reply;
 ghost use Rattle.ymx_held.specs.Booked.{Gains, Does};
 ghost use Rattle.ymx_hub.specs.Pumped.{EmitsOnce, emitted_count};
 
@@ -34,19 +34,22 @@ impl<R: Recorder> Hub<R> {
         ensures within { IfOk result (λ fed. fed.taken ≤ length bytes.now) }
         ensures off { R.KEEPS ≡ false → IsOk result }
     {
-        let mut desk = take_lock(rt, &self.desk);
+        let mut guard = take_lock(rt, &self.desk);
+        let desk = &mut *guard;
         let was_due = desk.held.due();
-        let fed = desk.held.feed(seat, bytes)?;
+        let offered = desk.held.offered_count();
+        desk.touched.clear();
+        let fed = desk.held.feed(seat, bytes, &mut desk.touched)?;
         if fed.no_memory > 0 {
             desk.has_lacked_memory = true;
         }
         if desk.held.status() != Status::Running {
-            self.wake_all(desk);
+            self.wake_all(guard);
             return Ok(fed);
         }
         desk.is_full = fed.why == Why::Held;
-        let woken = desk.take_concerned(&bytes[..fed.taken]);
-        self.let_go(desk, was_due);
+        let woken = desk.take_concerned(offered);
+        self.let_go(guard, was_due);
         self.bells.ring(&woken);
         Ok(fed)
     }
@@ -75,7 +78,8 @@ impl<R: Recorder> Hub<R> {
         }
     }
 
-    /// Emits into the buffer if something is due. `Memory`, and nothing is done, where there is none for the entry.
+    /// Emits into the buffer if something is due. The rest of the buffer stays as it was. `Memory`, and nothing is done,
+    /// where there is none for the entry.
     pub fn emit_turn<W: Wait>(
         &self,
         rt: &W,
@@ -87,6 +91,7 @@ impl<R: Recorder> Hub<R> {
         ensures booked { Gains R.KEEPS seat.old.entries seat.new.entries (EmitsOnce (length buffer.old) buffer.new seat.old.number result) }
         ensures within { IfOk result (λ turn. emitted_count turn ≤ length buffer.old) }
         ensures length { length buffer.new ≡ length buffer.old }
+        ensures rest { MatchResult result (λ turn. drop (emitted_count turn) buffer.new ≡ drop (emitted_count turn) buffer.old) (λ fault. buffer.new ≡ buffer.old) }
         ensures off { R.KEEPS ≡ false → IsOk result }
     {
         let mut desk = take_lock(rt, &self.desk);

@@ -1,9 +1,9 @@
 //! Calls that wait. Each turn is one event, and so one entry.
 
-ghost use Rattle.std.specs.Prelude.{◌≡◌, ◌<◌, ◌≤◌, length, false, IfOk, IfErr};
+ghost use Rattle.std.specs.Prelude.{◌≡◌, ◌<◌, ◌≤◌, length, drop, false, IfOk, IfErr, MatchResult};
 ghost use Rattle.ymx_held.specs.Answers.{IsNotMemory};
 ghost use Rattle.ymx_held.specs.Booked.{Gains};
-ghost use Rattle.ymx_model.specs.declared.types.Reply.TheVariants as reply;
+ghost use Rattle.ymx_machine.specs.declared.types.Reply.TheVariants as reply;
 ghost use Rattle.ymx_hub.specs.Turns.{AcceptsInTurns, ReadTurns, EndsIn, PingTurns, WriteTurns};
 
 use crate::awaiting::{await_bell, take_lock};
@@ -69,6 +69,7 @@ impl<R: Recorder> Hub<R> {
         ensures end { IfOk result (λ count. count ≡ 0 → Gains R.KEEPS seat.old.entries seat.new.entries (EndsIn (λ told. told ≡ reply.ReadEnd))) }
         ensures within { IfOk result (λ count. count ≤ length buffer.old) }
         ensures length { length buffer.new ≡ length buffer.old }
+        ensures rest { MatchResult result (λ count. drop count buffer.new ≡ drop count buffer.old) (λ fault. buffer.new ≡ buffer.old) }
         ensures off { R.KEEPS ≡ false → IsNotMemory result }
     {
         let mut desk = take_lock(rt, &self.desk);

@@ -4,10 +4,10 @@ use Rattle.std.proofs.lemmas.Grind.{common_steps}
 use Rattle.std.proofs.lemmas.List.{take_all}
 use Rattle.std.proofs.Math.Seq.{take-append-add, take-add}
 use Rattle.std.specs.Io.KnownBytes.{Appends, Keeps}
-use Rattle.std.proofs.KnownBytes.{Appends-nil, Appends-trans, Appends-kept}
+use Rattle.std.proofs.KnownBytes.{Appends-nil, Appends-trans, Appends-kept, Keeps-refl}
 use Rattle.ymx_model.specs.devices.Devices.{has_failed, most_failures}
 use Rattle.ymx_model.specs.declared.types.Event.TheVariants as event
-use Rattle.ymx_model.specs.declared.types.Reply.TheVariants as reply
+use Rattle.ymx_machine.specs.declared.types.Reply.TheVariants as reply
 use Rattle.ymx_model.specs.declared.types.Entry.{Entry}
 use Rattle.ymx_seats.specs.Views.{entry}
 use Rattle.ymx_held.specs.declared.faults.HubFault.{HubFault}
@@ -129,6 +129,26 @@ pub turn_ends : (keeps : Bool) (size seat fails failed : ℕ) (why : PumpWhy) (b
     Gains keeps old new (EndsWrite seat why) → TurnWrote keeps size seat fails failed before after old new (Err (record { moved = 0; why = why }))
 turn_ends keeps size seat fails failed why before after old new k g =
     ([], refl, Appends-kept before before after [] (Appends-nil before) k, gains_weaker keeps old new _ (WriteAdds size seat (has_failed fails failed) [] why) (λ es o. adds_end size seat (has_failed fails failed) why es o) g)
+
+-- the gate ended the pump as nothing was due
+pub turn_gated : (keeps : Bool) (size seat fails : ℕ) (buffer : List ℕ) (before : Option (List ℕ)) (old new : List Entry) → Gains keeps old new (EmitsOnce size buffer seat (Ok Idle)) →
+    TurnWrote keeps size seat fails fails before before old new (Err (record { moved = 0; why = Gate }))
+turn_gated keeps size seat fails buffer before old new g =
+    turn_ends keeps size seat fails fails Gate before before old new (Keeps-refl before) (gains_weaker keeps old new (EmitsOnce size buffer seat (Ok Idle)) (EndsWrite seat Gate) (λ es o. o) g)
+
+-- there was no memory for the emission
+pub turn_lacked : (keeps : Bool) (size seat fails : ℕ) (fault : HubFault) (buffer : List ℕ) (before : Option (List ℕ)) (old new : List Entry) → Gains keeps old new (EmitsOnce size buffer seat (Err fault)) →
+    TurnWrote keeps size seat fails fails before before old new (Err (record { moved = 0; why = Memory }))
+turn_lacked keeps size seat fails fault buffer before old new g =
+    turn_ends keeps size seat fails fails Memory before before old new (Keeps-refl before) (gains_weaker keeps old new (EmitsOnce size buffer seat (Err fault)) (EndsWrite seat Memory) (λ es o. o.1) g)
+
+-- nothing more will be due, and then the writer was ended
+pub turn_over : (keeps : Bool) (size seat m fails failed : ℕ) (why : PumpWhy) (buffer : List ℕ) (before after : Option (List ℕ)) (old mid new : List Entry) → Keeps before after →
+    Gains keeps old mid (EmitsOnce size buffer seat (Ok Over)) → m ≡ seat → Gains keeps mid new (EndsWrite m why) → TurnWrote keeps size seat fails failed before after old new (Err (record { moved = 0; why = why }))
+turn_over keeps size seat m fails failed why buffer before after old mid new k g e h =
+    turn_ends keeps size seat fails failed why before after old new k
+    (gains_on keeps old mid new (EmitsOnce size buffer seat (Ok Over)) (EndsWrite m why) (EndsWrite seat why)
+    (λ es ds a b. subst (λ (v : List Entry). EndsWrite seat why (v ++ ds)) (sym a) (subst (λ (n : ℕ). EndsWrite n why ds) e b)) g h)
 
 -- the writer failed
 pub turn_failed : (keeps : Bool) (size seat m n moved fails failed : ℕ) (why : PumpWhy) (buffer : List ℕ) (before after : Option (List ℕ)) (old mid new : List Entry) → n ≤ length buffer → moved ≤ n →

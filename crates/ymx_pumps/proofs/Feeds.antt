@@ -1,14 +1,15 @@
 -- What a read pump reads and feeds.
-use Rattle.std.proofs.Common.{◌≡◌, ℕ, ◌+◌, ◌-◌, ◌^◌, ◌≤◌, List, [], ◌∷◌, ◌++◌, length, take, drop, min, Bool, true, false, Option, Result, Ok, Err, inl, inr, arith, refl, sym, ap, ◌∙◌, subst, append_assoc, append-nil, ◌⊎◌}
+use Rattle.std.proofs.Common.{◌≡◌, ℕ, ◌+◌, ◌-◌, ◌^◌, ◌≤◌, List, [], ◌∷◌, ◌++◌, length, take, drop, min, Bool, true, false, Option, None, Result, Ok, Err, inl, inr, arith, refl, sym, ap, ◌∙◌, subst, append_assoc, append-nil, ◌⊎◌}
 use Rattle.std.proofs.lemmas.Grind.{common_steps}
 use Rattle.std.proofs.lemmas.List.{take_all, take-append-drop}
 use Rattle.std.proofs.Math.Seq.{take-add}
 use Rattle.std.specs.Io.KnownBytes.{Consumes, Keeps}
 use Rattle.std.proofs.KnownBytes.{Consumes-nil, Consumes-trans, Consumes-kept}
+use Rattle.ymx_header.specs.declared.fault.Fault.{Fault}
 use Rattle.ymx_model.specs.devices.Devices.{has_failed}
-use Rattle.ymx_model.specs.declared.types.Fed.{Fed}
+use Rattle.ymx_machine.specs.declared.types.Fed.{Fed}
 use Rattle.ymx_model.specs.declared.types.Event.TheVariants as event
-use Rattle.ymx_model.specs.declared.types.Reply.TheVariants as reply
+use Rattle.ymx_machine.specs.declared.types.Reply.TheVariants as reply
 use Rattle.ymx_model.specs.declared.types.Entry.{Entry}
 use Rattle.ymx_seats.specs.Views.{entry}
 use Rattle.ymx_held.specs.declared.faults.HubFault.{HubFault}
@@ -17,8 +18,8 @@ use Rattle.ymx_hub.proofs.Waits.{gains_none, gains_on, gains_weaker}
 use Rattle.ymx_pumps.specs.declared.pump_end.PumpWhy.{PumpWhy}
 use Rattle.ymx_pumps.specs.declared.pump_end.PumpWhy.TheVariants.{End, Device, Broken, Memory, Gate}
 use Rattle.ymx_pumps.specs.declared.pump_end.Stop.{Stop}
-use Rattle.ymx_pumps.specs.Pumps.{byte_count, IsFeed, AreFeeds, IsLeft, EndsRead, ReadAdds, PumpRead}
-use Rattle.ymx_pumps.specs.Turns.{IsInside, SaysEnd, FeedsFirst, TurnFed, FedAll, TurnRead}
+use Rattle.ymx_pumps.specs.Pumps.{byte_count, IsFeed, AreFeeds, fault_of_feed, fault_told, fault_of_end, TellsLast, IsLeft, EndsRead, ReadAdds, PumpRead}
+use Rattle.ymx_pumps.specs.Turns.{IsInside, SaysEnd, FeedsTo, FeedsFirst, TurnFed, FedAll, TurnRead}
 use Rattle.ymx_pumps.proofs.Counts.{counted_on, counted_none}
 
 -- one feed, which took the first n of its bytes
@@ -71,9 +72,18 @@ feeds_on seat left first mid next last [] ds a b =
 feeds_on seat left first mid next last (e ∷ es) ds a b =
     (a.0, a.1 ++ next, a.2, ap (λ (v : List ℕ). v ++ next) a.3 ∙ append_assoc a.0 a.1 next, a.4, feeds_on seat a.2 a.1 mid next last es ds a.5 b)
 
--- no feeds
-feeds_none : (seat : ℕ) (left : List ℕ) → AreFeeds seat left [] left []
-feeds_none seat left = (refl, refl)
+-- ---- faults
+
+-- a feed whose reply tells this fault, or none
+one_tells : (seat : ℕ) (bytes : List ℕ) (fed : Fed) (fault : Option Fault) (es : List Entry) → fault_of_feed fed.why ≡ fault → One seat (event.Feed bytes) (reply.Fed fed) es → TellsLast fault es
+one_tells seat bytes fed fault es t o = subst (λ (xs : List Entry). TellsLast fault xs) (sym o.1) t
+
+-- entries that tell none, and then more
+tells_on : (fault : Option Fault) (es ds : List Entry) → TellsLast None es → TellsLast fault ds → TellsLast fault (es ++ ds)
+tells_on fault [] ds a b = b
+tells_on fault (e ∷ []) [] a b = a ∙ sym b
+tells_on fault (e ∷ []) (d ∷ ds) a b = (a, b)
+tells_on fault (e ∷ f ∷ fs) ds a b = (a.0, tells_on fault (f ∷ fs) ds a.1 b)
 
 -- ---- reasons
 
@@ -91,6 +101,12 @@ inside_ends seat (Broken fault) i = refl
 inside_ends seat Memory i = refl
 inside_ends seat Gate i = refl
 
+-- a pump that said that its input ended, or had no memory for it, ended with no fault
+ended_whole : (seat : ℕ) (why result : PumpWhy) (es : List Entry) → (why ≡ End) ⊎ (why ≡ Device) → SaysEnd seat why result es → fault_of_end result ≡ None
+ended_whole seat why result es (inl e) (inl s) = ap fault_of_end (s.0 ∙ e)
+ended_whole seat why result es (inr e) (inl s) = ap fault_of_end (s.0 ∙ e)
+ended_whole seat why result es w (inr s) = ap fault_of_end s.0
+
 none_left : (why : PumpWhy) → IsLeft why []
 none_left End = refl
 none_left Device = refl
@@ -101,50 +117,53 @@ none_left Gate = tt
 -- ---- a feed
 
 -- a feed under the lock
-pub fed_once : (keeps : Bool) (seat : ℕ) (old new : List Entry) (bytes : List ℕ) (fed : Fed) → fed.taken ≤ length bytes → Gains keeps old new (Does (event.Feed bytes) reply.Fed seat (Ok fed)) → FeedsFirst keeps seat old new bytes fed.taken
-fed_once keeps seat old new bytes fed l g =
-    (l, gains_weaker keeps old new _ (AreFeeds seat bytes (take fed.taken bytes) (drop fed.taken bytes)) (λ es o. one_feed seat bytes fed es l o) g)
+pub fed_once : (keeps : Bool) (seat : ℕ) (old new : List Entry) (bytes : List ℕ) (fed : Fed) (fault : Option Fault) → fault_of_feed fed.why ≡ fault → fed.taken ≤ length bytes → Gains keeps old new (Does (event.Feed bytes) reply.Fed seat (Ok fed)) → FeedsFirst keeps seat old new bytes fed.taken fault
+fed_once keeps seat old new bytes fed fault t l g =
+    (l, gains_weaker keeps old new _ (FeedsTo seat bytes (take fed.taken bytes) (drop fed.taken bytes) fault) (λ es o. (one_feed seat bytes fed es l o, one_tells seat bytes fed fault es t o)) g)
 
 -- there was no memory for it
-pub fed_none : (keeps : Bool) (seat : ℕ) (old new : List Entry) (bytes : List ℕ) (fault : HubFault) → Gains keeps old new (Does {A = Fed} (event.Feed bytes) reply.Fed seat (Err fault)) → FeedsFirst keeps seat old new bytes 0
+pub fed_none : (keeps : Bool) (seat : ℕ) (old new : List Entry) (bytes : List ℕ) (fault : HubFault) → Gains keeps old new (Does {A = Fed} (event.Feed bytes) reply.Fed seat (Err fault)) → FeedsFirst keeps seat old new bytes 0 None
 fed_none keeps seat old new bytes fault g =
-    (omega arith, gains_weaker keeps old new _ (AreFeeds seat bytes (take 0 bytes) (drop 0 bytes)) (λ es o. subst (λ (v : List Entry). AreFeeds seat bytes (take 0 bytes) (drop 0 bytes) v) (sym o.1) (grind (arith, common_steps), grind (arith, common_steps))) g)
+    (omega arith, gains_weaker keeps old new _ (FeedsTo seat bytes (take 0 bytes) (drop 0 bytes) None) (λ es o. subst (λ (v : List Entry). FeedsTo seat bytes (take 0 bytes) (drop 0 bytes) None v) (sym o.1) ((grind (arith, common_steps), grind (arith, common_steps)), refl)) g)
 
 drop_drop : (m n : ℕ) (xs : List ℕ) → drop n (drop m xs) ≡ drop (m + n) xs
 drop_drop m n xs = grind (arith, common_steps)
 
 -- feeds of what was left of these bytes
-pub first_on : (keeps : Bool) (seat m : ℕ) (old mid new : List Entry) (bytes rest : List ℕ) (at n : ℕ) → FeedsFirst keeps seat old mid bytes at → m ≡ seat → rest ≡ drop at bytes → FeedsFirst keeps m mid new rest n → FeedsFirst keeps seat old new bytes (at + n)
-first_on keeps seat m old mid new bytes rest at n f e r g =
-    let h : FeedsFirst keeps seat mid new (drop at bytes) n = subst (λ (v : List ℕ). FeedsFirst keeps seat mid new v n) r (subst (λ (k : ℕ). FeedsFirst keeps k mid new rest n) e g) in (
+pub first_on : (keeps : Bool) (seat m : ℕ) (old mid new : List Entry) (bytes rest : List ℕ) (at n : ℕ) (fault : Option Fault) → FeedsFirst keeps seat old mid bytes at None → m ≡ seat → rest ≡ drop at bytes → FeedsFirst keeps m mid new rest n fault → FeedsFirst keeps seat old new bytes (at + n) fault
+first_on keeps seat m old mid new bytes rest at n fault f e r g =
+    let h : FeedsFirst keeps seat mid new (drop at bytes) n fault = subst (λ (v : List ℕ). FeedsFirst keeps seat mid new v n fault) r (subst (λ (k : ℕ). FeedsFirst keeps k mid new rest n fault) e g) in (
       grind (arith, common_steps, f.0, h.0),
-      gains_on keeps old mid new _ _ (AreFeeds seat bytes (take (at + n) bytes) (drop (at + n) bytes))
-          (λ es ds a b. subst (λ (v : List ℕ). AreFeeds seat bytes v (drop (at + n) bytes) (es ++ ds)) (sym (take-add at n bytes))
-          (subst (λ (v : List ℕ). AreFeeds seat bytes (take at bytes ++ take n (drop at bytes)) v (es ++ ds)) (drop_drop at n bytes)
-          (feeds_on seat bytes (take at bytes) (drop at bytes) (take n (drop at bytes)) (drop n (drop at bytes)) es ds a b))) f.1 h.1,
+      gains_on keeps old mid new _ _ (FeedsTo seat bytes (take (at + n) bytes) (drop (at + n) bytes) fault)
+          (λ es ds a b. (
+            subst (λ (v : List ℕ). AreFeeds seat bytes v (drop (at + n) bytes) (es ++ ds)) (sym (take-add at n bytes))
+                (subst (λ (v : List ℕ). AreFeeds seat bytes (take at bytes ++ take n (drop at bytes)) v (es ++ ds)) (drop_drop at n bytes)
+                (feeds_on seat bytes (take at bytes) (drop at bytes) (take n (drop at bytes)) (drop n (drop at bytes)) es ds a.0 b.0)),
+            tells_on fault es ds a.1 b.1,
+          )) f.1 h.1,
     )
 
 -- the pump's end came in the feeds of what was left
-pub stop_on : (keeps : Bool) (seat m : ℕ) (old mid new : List Entry) (bytes rest : List ℕ) (at : ℕ) (stop : Stop) → FeedsFirst keeps seat old mid bytes at → m ≡ seat → rest ≡ drop at bytes → TurnFed keeps m mid new rest (Err stop) →
+pub stop_on : (keeps : Bool) (seat m : ℕ) (old mid new : List Entry) (bytes rest : List ℕ) (at : ℕ) (stop : Stop) → FeedsFirst keeps seat old mid bytes at None → m ≡ seat → rest ≡ drop at bytes → TurnFed keeps m mid new rest (Err stop) →
     FedAll keeps seat old new bytes (Err (record { moved = at + stop.moved; why = stop.why }))
-stop_on keeps seat m old mid new bytes rest at stop f e r t = (t.0, first_on keeps seat m old mid new bytes rest at stop.moved f e r t.1)
+stop_on keeps seat m old mid new bytes rest at stop f e r t = (t.0, first_on keeps seat m old mid new bytes rest at stop.moved (fault_of_end stop.why) f e r t.1)
 
-pub first_none : (keeps : Bool) (seat : ℕ) (old : List Entry) (bytes : List ℕ) → FeedsFirst keeps seat old old bytes 0
-first_none keeps seat old bytes = (omega arith, gains_none keeps old (AreFeeds seat bytes (take 0 bytes) (drop 0 bytes)) (grind (arith, common_steps), grind (arith, common_steps)))
+pub first_none : (keeps : Bool) (seat : ℕ) (old : List Entry) (bytes : List ℕ) → FeedsFirst keeps seat old old bytes 0 None
+first_none keeps seat old bytes = (omega arith, gains_none keeps old (FeedsTo seat bytes (take 0 bytes) (drop 0 bytes) None) ((grind (arith, common_steps), grind (arith, common_steps)), refl))
 
 -- all was taken
-pub first_all : (keeps : Bool) (seat : ℕ) (old new : List Entry) (bytes : List ℕ) (at : ℕ) → FeedsFirst keeps seat old new bytes at → at ≡ length bytes → Gains keeps old new (AreFeeds seat bytes bytes [])
+pub first_all : (keeps : Bool) (seat : ℕ) (old new : List Entry) (bytes : List ℕ) (at : ℕ) → FeedsFirst keeps seat old new bytes at None → at ≡ length bytes → Gains keeps old new (FeedsTo seat bytes bytes [] None)
 first_all keeps seat old new bytes at f e =
     let all : take at bytes ≡ bytes = take_all at bytes (omega (arith, e)) in
     let none : drop at bytes ≡ [] = grind (arith, common_steps) in
-    subst (λ (v : List ℕ). Gains keeps old new (AreFeeds seat bytes bytes v)) none (subst (λ (v : List ℕ). Gains keeps old new (AreFeeds seat bytes v (drop at bytes))) all f.1)
+    subst (λ (v : List ℕ). Gains keeps old new (FeedsTo seat bytes bytes v None)) none (subst (λ (v : List ℕ). Gains keeps old new (FeedsTo seat bytes v (drop at bytes) None)) all f.1)
 
 -- ---- a turn
 
 -- a pump that ends before anything was read
-pub turn_stops : (keeps : Bool) (seat fails failed : ℕ) (why : PumpWhy) (before after : Option (List ℕ)) (old : List Entry) → IsInside why → Consumes before after [] → TurnRead keeps seat fails failed before after old old (Err (record { moved = 0; why = why }))
-turn_stops keeps seat fails failed why before after old i k =
-    ([], [], [], refl, refl, none_left why, k, gains_none keeps old (ReadAdds seat [] [] [] why) (record { feeds = []; closing = []; parts = refl; fed = (refl, refl); ended = inside_ends seat why i }))
+pub turn_stops : (keeps : Bool) (seat fails failed : ℕ) (why : PumpWhy) (before after : Option (List ℕ)) (old : List Entry) → IsInside why → fault_of_end why ≡ None → Consumes before after [] → TurnRead keeps seat fails failed before after old old (Err (record { moved = 0; why = why }))
+turn_stops keeps seat fails failed why before after old i w k =
+    ([], [], [], refl, refl, none_left why, k, gains_none keeps old (ReadAdds seat [] [] [] why) (record { feeds = []; closing = []; parts = refl; fed = (refl, refl); broke = w; ended = inside_ends seat why i }))
 
 ended_adds : (seat : ℕ) (why result : PumpWhy) (es : List Entry) → (why ≡ End) ⊎ (why ≡ Device) → SaysEnd seat why result es → EndsRead seat result es
 ended_adds seat why result es (inl e) (inl s) = rw (s.0 ∙ e) s.1
@@ -162,7 +181,7 @@ turn_ends keeps seat fails failed why result before after old new w k g = (
   refl,
   none_left result,
   k,
-  gains_weaker keeps old new _ (ReadAdds seat [] [] [] result) (λ es s. record { feeds = []; closing = es; parts = refl; fed = (refl, refl); ended = ended_adds seat why result es w s }) g,
+  gains_weaker keeps old new _ (ReadAdds seat [] [] [] result) (λ es s. record { feeds = []; closing = es; parts = refl; fed = (refl, refl); broke = ended_whole seat why result es w s; ended = ended_adds seat why result es w s }) g,
 )
 
 -- all that was read was fed
@@ -170,8 +189,8 @@ pub turn_read : (keeps : Bool) (seat n fails failed : ℕ) (u : Unit {0}) (buffe
     FedAll keeps seat old new (take n buffer) (Ok u) → TurnRead keeps seat fails failed before after old new (Ok n)
 turn_read keeps seat n fails failed u buffer before after old new l f k g = (f, take n buffer, grind (arith, common_steps), k, g)
 
-inside_adds : (seat : ℕ) (given taken last : List ℕ) (why : PumpWhy) (es : List Entry) → IsInside why → AreFeeds seat given taken last es → ReadAdds seat given taken last why es
-inside_adds seat given taken last why es i a = record { feeds = es; closing = []; parts = sym (append-nil es); fed = a; ended = inside_ends seat why i }
+inside_adds : (seat : ℕ) (given taken last : List ℕ) (why : PumpWhy) (es : List Entry) → IsInside why → FeedsTo seat given taken last (fault_of_end why) es → ReadAdds seat given taken last why es
+inside_adds seat given taken last why es i a = record { feeds = es; closing = []; parts = sym (append-nil es); fed = a.0; broke = a.1; ended = inside_ends seat why i }
 
 -- the pump's end came while it was fed
 pub turn_broke : (keeps : Bool) (seat fails failed : ℕ) (stop : Stop) (bytes : List ℕ) (before after : Option (List ℕ)) (old new : List Entry) → Consumes before after bytes →
@@ -186,7 +205,7 @@ turn_broke keeps seat fails failed stop bytes before after old new k g =
       grind (arith, common_steps, g.1.0),
       inside_left stop.why last g.0,
       k,
-      gains_weaker keeps old new (AreFeeds seat bytes taken last) (ReadAdds seat bytes taken last stop.why) (λ es a. inside_adds seat bytes taken last stop.why es g.0 a) g.1.1,
+      gains_weaker keeps old new (FeedsTo seat bytes taken last (fault_of_end stop.why)) (ReadAdds seat bytes taken last stop.why) (λ es a. inside_adds seat bytes taken last stop.why es g.0 a) g.1.1,
     )
 
 -- ---- all turns
@@ -197,7 +216,7 @@ pub record AllFed (keeps : Bool) (seat fails failed : ℕ) (before after : Optio
   pub failures : failed ≡ fails
   pub gave : Consumes before after given
   pub amount : moved ≡ byte_count given
-  pub booked : Gains keeps old new (AreFeeds seat given given [])
+  pub booked : Gains keeps old new (FeedsTo seat given given [] None)
 
 pub fed_nothing : (keeps : Bool) (seat fails : ℕ) (before : Option (List ℕ)) (old : List Entry) → AllFed keeps seat fails fails before before old old 0
 fed_nothing keeps seat fails before old = record {
@@ -205,7 +224,7 @@ fed_nothing keeps seat fails before old = record {
   failures = refl;
   gave = Consumes-nil before;
   amount = counted_none;
-  booked = gains_none keeps old (AreFeeds seat [] [] []) (refl, refl);
+  booked = gains_none keeps old (FeedsTo seat [] [] [] None) ((refl, refl), refl);
 }
 
 -- feeds of all these bytes, and then of those behind
@@ -223,15 +242,16 @@ fed_more keeps seat m fails failed failing before mid after old between new move
       failures = u.0 ∙ w.failures;
       gave = Consumes-trans before mid after w.given u.1 w.gave u.3;
       amount = counted_on w.given u.1 moved n now w.amount u.2 k;
-      booked = gains_on keeps old between new _ _ (AreFeeds seat (w.given ++ u.1) (w.given ++ u.1) []) (λ es ds a b. feeds_behind seat w.given u.1 u.1 [] es ds a b) w.booked u.4;
+      booked = gains_on keeps old between new _ _ (FeedsTo seat (w.given ++ u.1) (w.given ++ u.1) [] None) (λ es ds a b. (feeds_behind seat w.given u.1 u.1 [] es ds a.0 b.0, tells_on None es ds a.1 b.1)) w.booked u.4;
     }
 
-adds_behind : (seat : ℕ) (xs given taken last : List ℕ) (why : PumpWhy) (es ds : List Entry) → AreFeeds seat xs xs [] es → ReadAdds seat given taken last why ds → ReadAdds seat (xs ++ given) (xs ++ taken) last why (es ++ ds)
+adds_behind : (seat : ℕ) (xs given taken last : List ℕ) (why : PumpWhy) (es ds : List Entry) → FeedsTo seat xs xs [] None es → ReadAdds seat given taken last why ds → ReadAdds seat (xs ++ given) (xs ++ taken) last why (es ++ ds)
 adds_behind seat xs given taken last why es ds a r = record {
   feeds = es ++ r.feeds;
   closing = r.closing;
   parts = ap (λ (v : List Entry). es ++ v) r.parts ∙ sym (append_assoc es r.feeds r.closing);
-  fed = feeds_behind seat xs given taken last es r.feeds a r.fed;
+  fed = feeds_behind seat xs given taken last es r.feeds a.0 r.fed;
+  broke = tells_on (fault_of_end why) es r.feeds a.1 r.broke;
   ended = r.ended;
 }
 

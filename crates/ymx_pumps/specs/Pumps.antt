@@ -1,13 +1,17 @@
 -- What a pump moved, and what it added to the list of its seat (this project's own).
-use Rattle.std.specs.Prelude.{◌≡◌, ℕ, ◌-◌, ◌^◌, List, [], ◌∷◌, ◌++◌, length, take, min, Bool, true, false, Option}
+use Rattle.std.specs.Prelude.{◌≡◌, ℕ, ◌-◌, ◌^◌, List, [], ◌∷◌, ◌++◌, length, take, min, Bool, true, false, Option, Some, None}
 use Rattle.std.specs.Io.KnownBytes.{Appends, Consumes}
-use Rattle.ymx_model.specs.declared.types.Fed.{Fed}
+use Rattle.ymx_header.specs.declared.fault.Fault.{Fault}
+use Rattle.ymx_machine.specs.declared.types.Fed.{Fed}
+use Rattle.ymx_machine.specs.declared.types.Why.{Why}
+use Rattle.ymx_machine.specs.declared.types.Why.TheVariants as feed
+use Rattle.ymx_machine.specs.declared.types.Reply.{Reply}
 use Rattle.ymx_model.specs.declared.types.Event.TheVariants as event
-use Rattle.ymx_model.specs.declared.types.Reply.TheVariants as reply
+use Rattle.ymx_machine.specs.declared.types.Reply.TheVariants as reply
 use Rattle.ymx_model.specs.declared.types.Entry.{Entry}
 use Rattle.ymx_held.specs.Booked.{Gains, One}
 use Rattle.ymx_pumps.specs.declared.pump_end.PumpWhy.{PumpWhy}
-use Rattle.ymx_pumps.specs.declared.pump_end.PumpWhy.TheVariants.{End, Device}
+use Rattle.ymx_pumps.specs.declared.pump_end.PumpWhy.TheVariants.{End, Device, Broken}
 
 -- a count of bytes stays at the greatest u64
 abbrev pub byte_count : List ℕ → ℕ
@@ -74,6 +78,27 @@ AreFeeds seat left taken last [] = (taken ≡ []) × (left ≡ last)
 AreFeeds seat left taken last (e ∷ es) =
     (first : List ℕ) × (more : List ℕ) × (rest : List ℕ) × (taken ≡ first ++ more) × IsFeed seat left first rest e × AreFeeds seat rest more last es
 
+-- the fault with which a feed stopped, if the session is broken
+abbrev pub fault_of_feed : Why → Option Fault
+fault_of_feed (feed.Broken fault) = Some fault
+fault_of_feed _ = None
+
+-- the fault that a reply tells, if it is that of a feed which stopped with one
+abbrev pub fault_told : Reply → Option Fault
+fault_told (reply.Fed fed) = fault_of_feed fed.why
+fault_told _ = None
+
+-- the fault with which a pump ended, if it ended with Broken
+abbrev pub fault_of_end : PumpWhy → Option Fault
+fault_of_end (Broken fault) = Some fault
+fault_of_end _ = None
+
+-- The last entry tells this fault, and those before it none. With no fault, none tells any.
+abbrev pub TellsLast : Option Fault → List Entry → Type 0
+TellsLast fault [] = fault ≡ None
+TellsLast fault (e ∷ []) = fault_told e.reply ≡ fault
+TellsLast fault (e ∷ f ∷ fs) = (fault_told e.reply ≡ None) × TellsLast fault (f ∷ fs)
+
 -- nothing is left where the reader ended or failed
 abbrev pub IsLeft : PumpWhy → List ℕ → Type 0
 IsLeft End last = last ≡ []
@@ -86,12 +111,14 @@ EndsRead seat End added = One seat event.FeedEnd reply.Done added
 EndsRead seat Device added = One seat event.FeedEnd reply.Done added
 EndsRead seat _ added = added ≡ []
 
--- the feeds of the bytes given, and then what the pump's end adds
+-- The feeds of the bytes given, and then what the pump's end adds. It ended with Broken exactly if the last feed told
+-- that fault, and no feed before it told any.
 pub record ReadAdds (seat : ℕ) (given taken last : List ℕ) (why : PumpWhy) (added : List Entry) : Type 0 where
   pub feeds : List Entry
   pub closing : List Entry
   pub parts : added ≡ feeds ++ closing
   pub fed : AreFeeds seat given taken last feeds
+  pub broke : TellsLast (fault_of_end why) feeds
   pub ended : EndsRead seat why closing
 
 -- What a read pump did. The reader gave the bytes given, of which the feeds took the first: all where it ended or failed.

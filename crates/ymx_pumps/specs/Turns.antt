@@ -1,15 +1,16 @@
 -- What one turn of a pump does (this project's own).
-use Rattle.std.specs.Prelude.{◌≡◌, ℕ, ◌≤◌, ◌⊎◌, List, [], ◌++◌, length, take, drop, Bool, true, Option, Result, Ok, Err}
+use Rattle.std.specs.Prelude.{◌≡◌, ℕ, ◌≤◌, ◌⊎◌, List, [], ◌++◌, length, take, drop, Bool, true, Option, None, Result, Ok, Err}
 use Rattle.std.specs.Io.KnownBytes.{Appends, Consumes}
+use Rattle.ymx_header.specs.declared.fault.Fault.{Fault}
 use Rattle.ymx_model.specs.devices.Devices.{has_failed}
 use Rattle.ymx_model.specs.declared.types.Event.TheVariants as event
-use Rattle.ymx_model.specs.declared.types.Reply.TheVariants as reply
+use Rattle.ymx_machine.specs.declared.types.Reply.TheVariants as reply
 use Rattle.ymx_model.specs.declared.types.Entry.{Entry}
 use Rattle.ymx_held.specs.Booked.{Gains, One}
 use Rattle.ymx_pumps.specs.declared.pump_end.PumpWhy.{PumpWhy}
 use Rattle.ymx_pumps.specs.declared.pump_end.PumpWhy.TheVariants.{End, Device, Memory}
 use Rattle.ymx_pumps.specs.declared.pump_end.Stop.{Stop}
-use Rattle.ymx_pumps.specs.Pumps.{AreEmits, WriteAdds, AreFeeds, IsLeft, ReadAdds}
+use Rattle.ymx_pumps.specs.Pumps.{AreEmits, WriteAdds, AreFeeds, TellsLast, fault_of_end, IsLeft, ReadAdds}
 
 -- the pump ended for no reason of its device
 abbrev pub IsInside : PumpWhy → Type 0
@@ -38,24 +39,28 @@ TurnWrote keeps size seat fails failed before after old new (Err stop) =
 
 -- ---- the read pump
 
+-- feeds of the bytes that are left, the last of which told this fault, if there is one
+abbrev pub FeedsTo : (seat : ℕ) → (left taken last : List ℕ) → Option Fault → List Entry → Type 0
+FeedsTo seat left taken last fault added = AreFeeds seat left taken last added × TellsLast fault added
+
 -- feeds of these bytes, which took the first n
-abbrev pub FeedsFirst : (keeps : Bool) → ℕ → (old new : List Entry) → List ℕ → ℕ → Type 0
-FeedsFirst keeps seat old new bytes n = (n ≤ length bytes) × Gains keeps old new (AreFeeds seat bytes (take n bytes) (drop n bytes))
+abbrev pub FeedsFirst : (keeps : Bool) → ℕ → (old new : List Entry) → List ℕ → ℕ → Option Fault → Type 0
+FeedsFirst keeps seat old new bytes n fault = (n ≤ length bytes) × Gains keeps old new (FeedsTo seat bytes (take n bytes) (drop n bytes) fault)
 
 -- feeds of these bytes took so many, or so many up to the pump's end
 abbrev pub TurnFed : (keeps : Bool) → ℕ → (old new : List Entry) → List ℕ → Result ℕ Stop → Type 0
-TurnFed keeps seat old new bytes (Ok n) = FeedsFirst keeps seat old new bytes n
-TurnFed keeps seat old new bytes (Err stop) = IsInside stop.why × FeedsFirst keeps seat old new bytes stop.moved
+TurnFed keeps seat old new bytes (Ok n) = FeedsFirst keeps seat old new bytes n None
+TurnFed keeps seat old new bytes (Err stop) = IsInside stop.why × FeedsFirst keeps seat old new bytes stop.moved (fault_of_end stop.why)
 
 -- feeds of these bytes took all, or so many up to the pump's end
 abbrev pub FedAll : (keeps : Bool) → ℕ → (old new : List Entry) → List ℕ → Result (Unit {0}) Stop → Type 0
-FedAll keeps seat old new bytes (Ok u) = Gains keeps old new (AreFeeds seat bytes bytes [])
-FedAll keeps seat old new bytes (Err stop) = IsInside stop.why × FeedsFirst keeps seat old new bytes stop.moved
+FedAll keeps seat old new bytes (Ok u) = Gains keeps old new (FeedsTo seat bytes bytes [] None)
+FedAll keeps seat old new bytes (Err stop) = IsInside stop.why × FeedsFirst keeps seat old new bytes stop.moved (fault_of_end stop.why)
 
 -- a turn that went well, or the last one
 abbrev pub TurnRead : (keeps : Bool) → (seat fails failed : ℕ) → (before after : Option (List ℕ)) → (old new : List Entry) → Result ℕ Stop → Type 0
 TurnRead keeps seat fails failed before after old new (Ok n) =
-    (failed ≡ fails) × (given : List ℕ) × (length given ≡ n) × Consumes before after given × Gains keeps old new (AreFeeds seat given given [])
+    (failed ≡ fails) × (given : List ℕ) × (length given ≡ n) × Consumes before after given × Gains keeps old new (FeedsTo seat given given [] None)
 TurnRead keeps seat fails failed before after old new (Err stop) =
     (given : List ℕ) × (taken : List ℕ) × (last : List ℕ) × (given ≡ taken ++ last) × (length taken ≡ stop.moved) × IsLeft stop.why last
     × Consumes before after given × Gains keeps old new (ReadAdds seat given taken last stop.why)

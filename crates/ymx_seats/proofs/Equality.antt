@@ -5,18 +5,18 @@ use Rattle.std.proofs.lemmas.Slice.Eq.{bytes_eq-Decides}
 use Rattle.std.proofs.lemmas.Bool.{and_parts, and_from, false_from_ne_true}
 use Rattle.ymx_header.specs.declared.fault.Fault.{Fault}
 use Rattle.ymx_header.specs.declared.fault.Fault.TheVariants as fault
-use Rattle.ymx_model.specs.declared.types.CallFault.{CallFault}
-use Rattle.ymx_model.specs.declared.types.CallFault.TheVariants as refusal
-use Rattle.ymx_model.specs.declared.types.Wrote.{Wrote}
-use Rattle.ymx_model.specs.declared.types.Wrote.TheVariants as wrote
-use Rattle.ymx_model.specs.declared.types.Why.{Why}
-use Rattle.ymx_model.specs.declared.types.Why.TheVariants as why
-use Rattle.ymx_model.specs.declared.types.Call.{Call}
-use Rattle.ymx_model.specs.declared.types.Call.TheVariants as call
+use Rattle.ymx_machine.specs.declared.types.CallFault.{CallFault}
+use Rattle.ymx_machine.specs.declared.types.CallFault.TheVariants as refusal
+use Rattle.ymx_machine.specs.declared.types.Wrote.{Wrote}
+use Rattle.ymx_machine.specs.declared.types.Wrote.TheVariants as wrote
+use Rattle.ymx_machine.specs.declared.types.Why.{Why}
+use Rattle.ymx_machine.specs.declared.types.Why.TheVariants as why
+use Rattle.ymx_machine.specs.declared.types.Call.{Call}
+use Rattle.ymx_machine.specs.declared.types.Call.TheVariants as call
 use Rattle.ymx_model.specs.declared.types.Event.{Event}
 use Rattle.ymx_model.specs.declared.types.Event.TheVariants as event
-use Rattle.ymx_model.specs.declared.types.Reply.{Reply}
-use Rattle.ymx_model.specs.declared.types.Reply.TheVariants as reply
+use Rattle.ymx_machine.specs.declared.types.Reply.{Reply}
+use Rattle.ymx_machine.specs.declared.types.Reply.TheVariants as reply
 use Rattle.ymx_model.specs.declared.types.Entry.{Entry}
 
 abbrev first : List ℕ → ℕ

@@ -2,13 +2,14 @@
 use Rattle.std.specs.Prelude.{◌≡◌, ℕ, ◌≤◌, [], length, Bool, true, false, Option, Some, None, vec_capacity}
 use Rattle.ymx_model.specs.declared.types.Event.{Event}
 use Rattle.ymx_model.specs.declared.types.Event.TheVariants as event
-use Rattle.ymx_model.specs.declared.types.Call.TheVariants as call
-use Rattle.ymx_model.specs.declared.types.Reply.{Reply}
-use Rattle.ymx_model.specs.declared.types.Reply.TheVariants as reply
+use Rattle.ymx_machine.specs.declared.types.Call.TheVariants as call
+use Rattle.ymx_machine.specs.declared.types.Reply.{Reply}
+use Rattle.ymx_machine.specs.declared.types.Reply.TheVariants as reply
 use Rattle.ymx_seats.specs.declared.slips.Ask.{Ask}
 use Rattle.ymx_seats.specs.declared.slips.Ask.TheVariants as ask
 use Rattle.ymx_seats.specs.declared.slips.Tell.{Tell}
 use Rattle.ymx_seats.specs.declared.slips.Tell.TheVariants as tell
+use Rattle.ymx_seats.specs.declared.slips.Copies.{Copies}
 use Rattle.ymx_seats.specs.declared.slips.Slip.{Slip}
 
 abbrev pub asked_by : Ask → Event
@@ -49,18 +50,22 @@ bytes_told (tell.Read b) = length b.now
 bytes_told (tell.Emitted b) = length b.now
 bytes_told _ = 0
 
--- the slip has this event twice, and room for a reply of so many bytes twice
-pub record Holds (slip : Slip) (asked : Event) (bytes : ℕ) : Type 0 where
-  pub mine : slip.mine ≡ asked
-  pub theirs : slip.theirs ≡ asked
-  pub empty : slip.my_bytes.items ≡ []
-  pub empty_too : slip.their_bytes.items ≡ []
-  pub room : bytes ≤ vec_capacity slip.my_bytes
-  pub room_too : bytes ≤ vec_capacity slip.their_bytes
+-- the copies have this event twice, and room for a reply of so many bytes twice
+pub record Hold (copies : Copies) (asked : Event) (bytes : ℕ) : Type 0 where
+  pub mine : copies.mine ≡ asked
+  pub theirs : copies.theirs ≡ asked
+  pub empty : copies.my_bytes.items ≡ []
+  pub empty_too : copies.their_bytes.items ≡ []
+  pub room : bytes ≤ vec_capacity copies.my_bytes
+  pub room_too : bytes ≤ vec_capacity copies.their_bytes
 
--- a recorder that keeps has a slip, another has none
-abbrev pub IsReady : Bool → Option Slip → Event → ℕ → Type 0
-IsReady true (Some s) asked bytes = Holds s asked bytes
-IsReady true None asked bytes = ⊥
-IsReady false (Some s) asked bytes = ⊥
-IsReady false None asked bytes = Unit {0}
+-- a recorder that keeps has the copies, another has none
+abbrev pub HoldIf : Bool → Option Copies → Event → ℕ → Type 0
+HoldIf true (Some c) asked bytes = Hold c asked bytes
+HoldIf true None asked bytes = ⊥
+HoldIf false (Some c) asked bytes = ⊥
+HoldIf false None asked bytes = Unit {0}
+
+-- the slip has what this recorder needs for the entry of such an event
+abbrev pub IsReady : Bool → Slip → Event → ℕ → Type 0
+IsReady keeps slip asked bytes = HoldIf keeps slip.copies asked bytes

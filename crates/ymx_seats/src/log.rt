@@ -2,9 +2,9 @@
 
 ghost use Rattle.std.specs.Prelude.{◌≡◌, ◌-◌, ◌+◌, ◌<◌, ◌≤◌, ◌++◌, ◌∷◌, [], true, false, vec_capacity, vec_len, length, IsOk, IfOk, OnOk, OnErr};
 
-use crate::recorder::Recorder;
+use crate::recorder::{Question, Recorder};
 use crate::seat::Seat;
-use crate::slips::{Ask, Slip, Tell, reply_of, slip_of};
+use crate::slips::{Ask, Copies, Slip, Tell, copies_of, reply_of};
 use std::alloc::{AllocError, Global};
 use std::marker::{Model, PhantomData};
 use ymx_model::Entry;
@@ -60,7 +60,7 @@ impl<R: Recorder> Log<R> {
         ask: Ask<'_>,
         bytes: usize,
         entries: usize,
-    ) -> Result<Option<Slip>, AllocError>
+    ) -> Result<Slip, AllocError>
         ensures entries { self.new.entries ≡ self.old.entries }
         ensures number { seat.new.number ≡ seat.old.number }
         ensures start { seat.new.start ≡ seat.old.start }
@@ -70,16 +70,18 @@ impl<R: Recorder> Log<R> {
         ensures grows { (self.old.room ≤ self.new.room) × (seat.old.room ≤ seat.new.room) }
         ensures off { R.KEEPS ≡ false → IsOk result }
     {
-        if !R::KEEPS {
-            return Ok(None);
+        if !R::keeps(Question::new()) {
+            return Ok(Slip { copies: None });
         }
         self.entries.reserve(entries)?;
         seat.make_room(entries)?;
-        Ok(Some(slip_of(alloc, ask, bytes)?))
+        Ok(Slip {
+            copies: Some(copies_of(alloc, ask, bytes)?),
+        })
     }
 
     /// Adds the entry of an event to the log and to its seat, in the memory of its slip.
-    pub fn add(&mut self, seat: &mut Seat<R>, slip: Option<Slip>, ask: Ask<'_>, tell: Tell<'_>)
+    pub fn add(&mut self, seat: &mut Seat<R>, slip: Slip, ask: Ask<'_>, tell: Tell<'_>)
         requires ready { IsReady R.KEEPS slip (asked_by ask) (bytes_told tell) }
         requires room { R.KEEPS ≡ true → (0 < self.old.room) × (0 < seat.old.room) }
         ensures number { seat.new.number ≡ seat.old.number }
@@ -88,17 +90,17 @@ impl<R: Recorder> Log<R> {
         ensures seat_entries { seat.new.entries ≡ seat.old.entries ++ kept_entries R.KEEPS (entry (length self.old.entries) seat.old.number (asked_by ask.entry) (told_by tell.entry)) }
         ensures left { R.KEEPS ≡ true → (self.new.room + 1 ≡ self.old.room) × (seat.new.room + 1 ≡ seat.old.room) }
     {
-        let Some(slip) = slip else {
+        let Some(copies) = slip.copies else {
             return;
         };
         let position = self.entries.len() as u64;
         let number = seat.number();
-        let Slip {
+        let Copies {
             mine,
             theirs,
             my_bytes,
             their_bytes,
-        } = slip;
+        } = copies;
         seat.add(Entry {
             position,
             seat: number,

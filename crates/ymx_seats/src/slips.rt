@@ -1,7 +1,7 @@
 //! The memory of an entry, which is found before its event.
 
 ghost use Rattle.std.specs.Prelude.{◌≡◌, ◌≤◌, [], length, vec_len, vec_capacity, IfOk};
-ghost use Rattle.ymx_seats.specs.Slips.{asked_by, told_by, bytes_told, Holds};
+ghost use Rattle.ymx_seats.specs.Slips.{asked_by, told_by, bytes_told, Hold};
 
 use std::alloc::{AllocError, Global};
 use ymx_model::{Bytes, Call, CallFault, Event, Fed, Reply, Wrote};
@@ -72,17 +72,23 @@ pub enum Tell<'a> {
     Emitted(&'a [u8]),
 }
 
-/// Memory for the two copies of an entry, one for the seat and one for the log.
+/// What was found for an entry: its memory, where the recorder keeps it. It shows nobody which.
 #[derive(Drop)]
 pub struct Slip {
+    pub(crate) copies: Option<Copies>,
+}
+
+/// Memory for the two copies of an entry, one for the seat and one for the log.
+#[derive(Drop)]
+pub(crate) struct Copies {
     /// The event, for the seat.
-    pub mine: Event,
+    pub(crate) mine: Event,
     /// The event, for the log.
-    pub theirs: Event,
+    pub(crate) theirs: Event,
     /// Room for the bytes of the reply, for the seat.
-    pub my_bytes: Vec<u8>,
+    pub(crate) my_bytes: Vec<u8>,
     /// The same, for the log.
-    pub their_bytes: Vec<u8>,
+    pub(crate) their_bytes: Vec<u8>,
 }
 
 /// The event as it is kept, with its bytes copied.
@@ -153,10 +159,10 @@ fn with_room(alloc: Global, count: usize) -> Result<Vec<u8>, AllocError>
 }
 
 /// Memory for an entry of this event whose reply has at most so many bytes.
-pub fn slip_of(alloc: Global, ask: Ask<'_>, count: usize) -> Result<Slip, AllocError>
-    ensures { IfOk result (λ s. Holds s (asked_by ask.entry) count) }
+pub(crate) fn copies_of(alloc: Global, ask: Ask<'_>, count: usize) -> Result<Copies, AllocError>
+    ensures { IfOk result (λ c. Hold c (asked_by ask.entry) count) }
 {
-    Ok(Slip {
+    Ok(Copies {
         mine: event_of(alloc, ask)?,
         theirs: event_of(alloc, ask)?,
         my_bytes: with_room(alloc, count)?,

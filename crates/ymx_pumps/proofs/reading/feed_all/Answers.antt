@@ -1,4 +1,4 @@
-use Rattle.std.proofs.Common.{arith, rules}
+use Rattle.std.proofs.Common.{None, arith, rules}
 use Rattle.std.proofs.lemmas.Grind.{common_steps}
 use Rattle.ymx_pumps.proofs.Feeds.{first_on, stop_on}
 use Rattle.ymx_pumps.proofs.reading.feed_all.Goals as goal
@@ -8,7 +8,7 @@ loop-preserved g c = record {
   next = (tt, tt);
   number = search rules;
   start = search rules;
-  fed = first_on g.R.Recorder.KEEPS c.args.seat.now.number c.loop.seat.number c.args.seat.now.entries c.loop.seat.entries c.feed_turn.new.seat.entries c.args.bytes.now _ c.loop.at c.in-Ok.taken c.loop.invariant.fed c.loop.invariant.number (grind (arith, common_steps)) c.in-Ok.ensures.fed;
+  fed = first_on g.R.Recorder.KEEPS c.args.seat.now.number c.loop.seat.number c.args.seat.now.entries c.loop.seat.entries c.feed_turn.new.seat.entries c.args.bytes.now _ c.loop.at c.in-Ok.taken None c.loop.invariant.fed c.loop.invariant.number (grind (arith, common_steps)) c.in-Ok.ensures.fed;
 }
 
 pub returns-in-Err-clause-fed : goal.returns-in-Err-clause-fed

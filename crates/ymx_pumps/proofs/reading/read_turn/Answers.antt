@@ -6,7 +6,7 @@ use Rattle.ymx_pumps.proofs.reading.read_turn.Goals as goal
 
 pub returns-then-not-before_read-clause-turned : goal.returns-then-not-before_read-clause-turned
 returns-then-not-before_read-clause-turned g c =
-    rw c.at_once.ensures (turn_stops g.R.Recorder.KEEPS c.args.seat.now.number (g.I.Inlet.failures c.args.reader.now) (g.I.Inlet.failures c.args.reader.now) Gate (g.I.Inlet.remaining c.args.reader.now) (g.I.Inlet.remaining c.args.reader.now) c.args.seat.now.entries tt (Consumes-nil (g.I.Inlet.remaining c.args.reader.now)))
+    rw c.at_once.ensures (turn_stops g.R.Recorder.KEEPS c.args.seat.now.number (g.I.Inlet.failures c.args.reader.now) (g.I.Inlet.failures c.args.reader.now) Gate (g.I.Inlet.remaining c.args.reader.now) (g.I.Inlet.remaining c.args.reader.now) c.args.seat.now.entries tt refl (Consumes-nil (g.I.Inlet.remaining c.args.reader.now)))
 
 pub returns-in-Err-feed_all-clause-turned : goal.returns-in-Err-feed_all-clause-turned
 returns-in-Err-feed_all-clause-turned g c =

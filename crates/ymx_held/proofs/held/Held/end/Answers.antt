@@ -1,5 +1,12 @@
-use Rattle.ymx_held.proofs.History.{no_entries}
+use Rattle.std.proofs.Common.{◌≡◌, List, subst}
+use Rattle.ymx_model.specs.declared.types.Entry.{Entry}
+use Rattle.ymx_held.specs.Held.{Kept}
+use Rattle.ymx_held.proofs.History.{kept_replays}
 use Rattle.ymx_held.proofs.held.Held.end.Goals as goal
 
-pub new-requires-then-not-KEEPS : goal.new-requires-then-not-KEEPS
-new-requires-then-not-KEEPS g c = no_entries c.self.inside.role c.self.inside.config _ c.new-nothing.ensures.items c.self.invariant.3
+pub new-requires-2 : goal.new-requires-2
+new-requires-2 g c =
+    let e : c.self.inside.log.entries ≡ c.into_entries.result.items = cc in
+    kept_replays g.R.Recorder.KEEPS c.self.inside.ended c.self.inside.role c.self.inside.config c.into_entries.result.items c.self.inside.session
+    (subst (λ (es : List Entry). Kept g.R.Recorder.KEEPS c.self.inside.ended c.self.inside.role c.self.inside.config es c.self.inside.session) e c.self.invariant.0)
+    (cc) c.self.invariant.3

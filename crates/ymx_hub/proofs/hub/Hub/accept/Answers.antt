@@ -1,5 +1,5 @@
 use Rattle.std.proofs.Common.{ℕ, Option, None, Ok, subst, rules}
-use Rattle.ymx_model.specs.declared.types.Reply.TheVariants.{Accepted}
+use Rattle.ymx_machine.specs.declared.types.Reply.TheVariants.{Accepted}
 use Rattle.ymx_seats.specs.Views.{SeatView}
 use Rattle.ymx_held.specs.Booked.{Gains, AcceptsOnce, to_accept}
 use Rattle.ymx_hub.proofs.Waits.{waits_on}

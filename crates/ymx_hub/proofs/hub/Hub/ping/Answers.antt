@@ -1,7 +1,7 @@
-use Rattle.std.proofs.Common.{Bool, false, Ok, Err, inl, subst, rules}
-use Rattle.ymx_model.specs.declared.types.Reply.TheVariants.{Ponged}
-use Rattle.ymx_session.specs.Replies.{ponged_or}
-use Rattle.ymx_held.specs.Booked.{Gains, Asks, to_collect}
+use Rattle.std.proofs.Common.{ℕ, Bool, false, Ok, Err, inl, inr, subst, rules}
+use Rattle.ymx_machine.specs.declared.types.Reply.TheVariants.{Ponged}
+use Rattle.ymx_session.specs.Replies.{pinged_or, ponged_or}
+use Rattle.ymx_held.specs.Booked.{Gains, Asks, to_ping, to_collect}
 use Rattle.ymx_hub.proofs.Waits.{waits_on, pinged, pong_back, pong_refused, gains_weaker}
 use Rattle.ymx_hub.specs.Turns.{IsPinged, PingTurns}
 use Rattle.ymx_hub.proofs.hub.Hub.ping.Goals as goal
@@ -24,3 +24,7 @@ returns-in-Err-ponged-clause-booked g c =
     gains_weaker g.R.Recorder.KEEPS _ _ (IsPinged c.args.seat.now.number (Err c.in-Err-ponged.fault)) (PingTurns c.args.seat.now.number (Err c.in-Err-ponged.fault)) (λ es p. inl p)
     (pinged g.R.Recorder.KEEPS _ _ _ _ c.args.seat.now.number c.ping.new.seat.number c.in-Ok.number (Err c.in-Err-ponged.fault) c.in-Ok.ensures.booked (search rules) c.loop.invariant.waits
     (pong_refused g.R.Recorder.KEEPS _ _ _ _ _ c.in-Err-ponged.fault c.loop.invariant.number c.in-Err-ponged.ensures.booked))
+
+pub returns-in-Err-clause-booked : goal.returns-in-Err-clause-booked
+returns-in-Err-clause-booked g c =
+    gains_weaker g.R.Recorder.KEEPS _ _ (Asks {A = ℕ} to_ping pinged_or c.args.seat.now.number (Err c.in-Err.fault)) (PingTurns c.args.seat.now.number (Err c.in-Err.fault)) (λ es p. inr p) c.in-Err.ensures.booked

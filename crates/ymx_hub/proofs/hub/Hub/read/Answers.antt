@@ -1,4 +1,4 @@
-use Rattle.std.proofs.Common.{length, Ok, subst, rules}
+use Rattle.std.proofs.Common.{length, Ok, ap, subst, rules}
 use Rattle.ymx_model.specs.declared.types.Got.{Got}
 use Rattle.ymx_session.specs.Replies.{read_or}
 use Rattle.ymx_held.specs.Booked.{Gains, Asks, to_read}
@@ -11,13 +11,13 @@ loop-preserved g c = record {
   next = (tt, tt);
   number = search rules;
   start = search rules;
-  room = search rules;
-  waits = read_waits g.R.Recorder.KEEPS _ _ _ _ _ c.args.id (length c.args.buffer.now) (length c.loop.buffer) c.read.new.buffer c.loop.invariant.waits c.loop.invariant.number c.loop.invariant.room (subst (λ (got : Got). Gains g.R.Recorder.KEEPS c.loop.seat.entries c.read.new.seat.entries (Asks (to_read c.args.id (length c.loop.buffer)) (λ given. read_or given c.read.new.buffer) c.loop.seat.number (Ok got))) c.in-Ok-Wait.field-0-is c.in-Ok-Wait.ensures.booked);
+  same = search rules;
+  waits = read_waits g.R.Recorder.KEEPS _ _ _ _ _ c.args.id (length c.args.buffer.now) (length c.loop.buffer) c.read.new.buffer c.loop.invariant.waits c.loop.invariant.number (ap length c.loop.invariant.same) (subst (λ (got : Got). Gains g.R.Recorder.KEEPS c.loop.seat.entries c.read.new.seat.entries (Asks (to_read c.args.id (length c.loop.buffer)) (λ given. read_or given c.read.new.buffer) c.loop.seat.number (Ok got))) c.in-Ok-Wait.field-0-is c.in-Ok-Wait.ensures.booked);
 }
 
 pub returns-in-Ok-End-clause-booked : goal.returns-in-Ok-End-clause-booked
 returns-in-Ok-End-clause-booked g c =
-    read_end g.R.Recorder.KEEPS _ _ _ _ _ c.args.id (length c.args.buffer.now) (length c.loop.buffer) c.read.new.buffer c.loop.invariant.waits c.loop.invariant.number c.loop.invariant.room (subst (λ (got : Got). Gains g.R.Recorder.KEEPS c.loop.seat.entries c.read.new.seat.entries (Asks (to_read c.args.id (length c.loop.buffer)) (λ given. read_or given c.read.new.buffer) c.loop.seat.number (Ok got))) c.in-Ok-End.field-0-is c.in-Ok-End.ensures.booked)
+    read_end g.R.Recorder.KEEPS _ _ _ _ _ c.args.id (length c.args.buffer.now) (length c.loop.buffer) c.read.new.buffer c.loop.invariant.waits c.loop.invariant.number (ap length c.loop.invariant.same) (subst (λ (got : Got). Gains g.R.Recorder.KEEPS c.loop.seat.entries c.read.new.seat.entries (Asks (to_read c.args.id (length c.loop.buffer)) (λ given. read_or given c.read.new.buffer) c.loop.seat.number (Ok got))) c.in-Ok-End.field-0-is c.in-Ok-End.ensures.booked)
 
 pub returns-in-Ok-End-clause-end : goal.returns-in-Ok-End-clause-end
 returns-in-Ok-End-clause-end g c = λ none.
