@@ -1,0 +1,337 @@
+-- How exchanges begin, and go on.
+use Rattle.std.proofs.Common.{◌≡◌, ◌⊎◌, inl, inr, ℕ, ◌+◌, ◌≤◌, ◌==◌, ◌||◌, List, [], ◌∷◌, ◌++◌, length, take, Bool, true, false, Option, None, Some, refl, sym, ap, ◌∙◌, subst, arith, append-nil, append_assoc, length-append}
+use Rattle.std.specs.Prelude.{option_map, IfSome}
+use Rattle.std.specs.Io.KnownBytes.{Appends, Consumes, IsAtEnd}
+use Rattle.std.proofs.KnownBytes.{Appends-nil, Appends-trans, Consumes-nil, Consumes-trans}
+use Rattle.std.proofs.Math.Bool.{or_assoc}
+use Rattle.std.proofs.lemmas.List.Folds.{list_all-append}
+use Rattle.std.proofs.lemmas.Grind.{common_steps}
+use Rattle.ymx_model.specs.declared.types.Event.{Event}
+use Rattle.ymx_model.specs.declared.types.Event.TheVariants as event
+use Rattle.ymx_machine.specs.declared.types.Call.TheVariants as call
+use Rattle.ymx_machine.specs.declared.types.Reply.{Reply}
+use Rattle.ymx_machine.specs.shared.Replies.{bytes_moved}
+use Rattle.ymx_model.specs.session.Sessions.{Session}
+use Rattle.ymx_model.specs.session.Emissions.{in_turn}
+use Rattle.ymx_model.specs.session.Histories.{Gives}
+use Rattle.ymx_engine.specs.declared.device.Pulled.{Pulled}
+use Rattle.ymx_engine.specs.declared.device.Pulled.TheVariants as pulled
+use Rattle.ymx_engine.specs.declared.device.Pushed.{Pushed}
+use Rattle.ymx_engine.specs.declared.device.Pushed.TheVariants as pushed
+use Rattle.ymx_engine.specs.Devices.{Seen, pulled_count, pushed_count, is_end, IsPulled, IsPushed, IsEnded, IsShut}
+use Rattle.ymx_engine.specs.Events.{Happen, is_on, taken_at, taken, bytes_of, given_at, given, is_read_end, ends_at, has_end, finishes_at, has_finish, resets_at, has_reset}
+use Rattle.ymx_engine.specs.Exchanges.{Exchange, Exchanges, ExchangesOnce}
+
+-- ---- lists of events
+
+pub happen_then : (es fs : List (Event × Reply)) (s t u : Session) → Happen es s t → Happen fs t u → Happen (es ++ fs) s u
+happen_then [] fs s t u h k = subst (λ (v : Session). Happen fs v u) h k
+happen_then (e ∷ es) fs s t u h k = (h.0, h.1, happen_then es fs h.0 t u h.2 k)
+
+taken_then : (id : ℕ) (es fs : List (Event × Reply)) → taken id (es ++ fs) ≡ taken id es ++ taken id fs
+taken_then id [] fs = refl
+taken_then id (e ∷ es) fs = ap (λ (xs : List ℕ). taken_at id e.0 e.1 ++ xs) (taken_then id es fs) ∙ sym (append_assoc (taken_at id e.0 e.1) (taken id es) (taken id fs))
+
+given_then : (id : ℕ) (es fs : List (Event × Reply)) → given id (es ++ fs) ≡ given id es ++ given id fs
+given_then id [] fs = refl
+given_then id (e ∷ es) fs = ap (λ (xs : List ℕ). given_at id e.0 e.1 ++ xs) (given_then id es fs) ∙ sym (append_assoc (given_at id e.0 e.1) (given id es) (given id fs))
+
+end_then : (id : ℕ) (es fs : List (Event × Reply)) → has_end id (es ++ fs) ≡ (has_end id es || has_end id fs)
+end_then id [] fs = refl
+end_then id (e ∷ es) fs = ap (λ (b : Bool). ends_at id e.0 e.1 || b) (end_then id es fs) ∙ sym (or_assoc (ends_at id e.0 e.1) (has_end id es) (has_end id fs))
+
+finish_then : (id : ℕ) (es fs : List (Event × Reply)) → has_finish id (es ++ fs) ≡ (has_finish id es || has_finish id fs)
+finish_then id [] fs = refl
+finish_then id (e ∷ es) fs = ap (λ (b : Bool). finishes_at id e.0 || b) (finish_then id es fs) ∙ sym (or_assoc (finishes_at id e.0) (has_finish id es) (has_finish id fs))
+
+reset_then : (id : ℕ) (es fs : List (Event × Reply)) → has_reset id (es ++ fs) ≡ (has_reset id es || has_reset id fs)
+reset_then id [] fs = refl
+reset_then id (e ∷ es) fs = ap (λ (b : Bool). resets_at id e.0 || b) (reset_then id es fs) ∙ sym (or_assoc (resets_at id e.0) (has_reset id es) (has_reset id fs))
+
+-- ---- tests and options
+
+or_none : (b : Bool) → (b || false) ≡ b
+or_none true = refl
+or_none false = refl
+
+or_right : (a b : Bool) → b ≡ true → (a || b) ≡ true
+or_right true b h = refl
+or_right false b h = h
+
+or_cases : (a b : Bool) → (a || b) ≡ true → (a ≡ true) ⊎ (b ≡ true)
+or_cases true b h = inl refl
+or_cases false b h = inr h
+
+pub or_same : (o : Option Bool) → o ≡ option_map (λ b. b || false) o
+or_same None = refl
+or_same (Some b) = ap (λ (x : Bool). Some x) (sym (or_none b))
+
+or_true : (o : Option Bool) → option_map (λ b. true) o ≡ option_map (λ b. b || true) o
+or_true None = refl
+or_true (Some true) = refl
+or_true (Some false) = refl
+
+pub or_twice : (x y : Bool) (o : Option Bool) → option_map (λ b. b || y) (option_map (λ b. b || x) o) ≡ option_map (λ b. b || (x || y)) o
+or_twice x y None = refl
+or_twice x y (Some b) = ap (λ (c : Bool). Some c) (or_assoc b x y)
+
+not_true : (b : Bool) → (b ≡ true → ⊥) → b ≡ false
+not_true true h = absurd (h refl)
+not_true false h = refl
+
+same_id : (n : ℕ) → (n == n) ≡ true
+same_id n = grind arith
+
+-- ---- known bytes
+
+no_bytes : (xs : List ℕ) → length xs ≡ 0 → xs ≡ []
+no_bytes [] e = refl
+no_bytes (x ∷ xs) e = grind (arith, common_steps)
+
+whole_before : (a b c : Option (List ℕ)) (t u : List ℕ) → Consumes a b t → Consumes b c u → IfSome a (λ all. all ≡ t) → IfSome a (λ all. all ≡ t ++ u)
+whole_before None b c t u p q e = tt
+whole_before (Some x) None c t u p q e = absurd p
+whole_before (Some x) (Some y) None t u p q e = absurd q
+whole_before (Some x) (Some y) (Some z) t u p q e =
+    let l : length x ≡ length t + length y = ap length p ∙ simp length-append in
+    let m : length y ≡ length u + length z = ap length q ∙ simp length-append in
+    let k : length x ≡ length t = ap length e in
+    let none : u ≡ [] = no_bytes u (omega arith) in
+    e ∙ sym (ap (λ (v : List ℕ). t ++ v) none ∙ append-nil t)
+
+whole_after : (a b : Option (List ℕ)) (t u : List ℕ) → Consumes a b t → IfSome b (λ all. all ≡ u) → IfSome a (λ all. all ≡ t ++ u)
+whole_after None b t u p e = tt
+whole_after (Some x) None t u p e = absurd p
+whole_after (Some x) (Some y) t u p e = p ∙ ap (λ (v : List ℕ). t ++ v) e
+
+pub same_consumes : (a b : Option (List ℕ)) → b ≡ a → Consumes a b []
+same_consumes a b e = subst (λ (o : Option (List ℕ)). Consumes a o []) (sym e) (Consumes-nil a)
+
+pub same_appends : (a b : Option (List ℕ)) → b ≡ a → Appends a b []
+same_appends a b e = subst (λ (o : Option (List ℕ)). Appends a o []) (sym e) (Appends-nil a)
+
+at_end : (a b : Option (List ℕ)) (t : List ℕ) → Consumes a b t → IsAtEnd b → IfSome a (λ all. all ≡ t)
+at_end None b t p e = tt
+at_end (Some x) None t p e = absurd p
+at_end (Some x) (Some y) t p e = p ∙ ap (λ (v : List ℕ). t ++ v) e ∙ append-nil t
+
+-- ---- exchanges
+
+-- one exchange behind another
+pub exchange_then : (id : ℕ) (s t u : Session) (a b c : Seen) (lost : List ℕ) → Exchange id s t a b [] → Exchange id t u b c lost → Exchange id s u a c lost
+exchange_then id s t u a b c lost x y =
+    let es = x.events in
+    let fs = y.events in
+    let all : (taken id es ++ []) ++ (taken id fs ++ lost) ≡ taken id (es ++ fs) ++ lost =
+    ap (λ (v : List ℕ). v ++ (taken id fs ++ lost)) (append-nil (taken id es)) ∙ sym (append_assoc (taken id es) (taken id fs) lost)
+    ∙ ap (λ (v : List ℕ). v ++ lost) (sym (taken_then id es fs)) in
+    record {
+      events = es ++ fs;
+      happen = happen_then es fs s t u x.happen y.happen;
+      own = rw (list_all-append (λ (e : Event × Reply). is_on id e.0) es fs, x.own, y.own) refl;
+      inward = subst (Consumes a.left c.left) all (Consumes-trans a.left b.left c.left _ _ x.inward y.inward);
+      outward = subst (Appends a.had c.had) (sym (given_then id es fs)) (Appends-trans a.had b.had c.had _ _ x.outward y.outward);
+      whole = λ h. subst (λ (v : List ℕ). IfSome a.left (λ w. w ≡ v)) all
+          (elim (or_cases (has_finish id es) (has_finish id fs) (sym (finish_then id es fs) ∙ h)) [
+            | inl first ↦ whole_before a.left b.left c.left _ _ x.inward y.inward (x.whole first)
+            | inr second ↦ whole_after a.left b.left _ _ x.inward (y.whole second)
+          ]);
+      over = y.over ∙ ap (option_map (λ b. b || has_finish id fs)) x.over ∙ or_twice (has_finish id es) (has_finish id fs) a.over
+          ∙ ap (λ (v : Bool). option_map (λ b. b || v) a.over) (sym (finish_then id es fs));
+      ended = y.ended ∙ ap (option_map (λ b. b || has_end id fs)) x.ended ∙ or_twice (has_end id es) (has_end id fs) a.ended
+          ∙ ap (λ (v : Bool). option_map (λ b. b || v) a.ended) (sym (end_then id es fs));
+      reset = elim (y.reset) [
+        | inl none ↦ inl none
+        | inr was ↦ inr (reset_then id es fs ∙ or_right (has_reset id es) (has_reset id fs) was)
+      ];
+    }
+
+-- nothing happened, and the device moved nothing
+pub exchange_none : (id : ℕ) (s : Session) (a b : Seen) → Consumes a.left b.left [] → Appends a.had b.had [] → b.over ≡ a.over → b.ended ≡ a.ended → Exchange id s s a b []
+exchange_none id s a b left had over ended = record {
+  events = [];
+  happen = refl;
+  own = refl;
+  inward = left;
+  outward = had;
+  whole = λ h. cc;
+  over = over ∙ or_same a.over;
+  ended = ended ∙ or_same a.ended;
+  reset = inl refl;
+}
+
+-- one event
+pub exchange_one : (id : ℕ) (e : Event) (told : Reply) (s t : Session) (a b : Seen) (lost : List ℕ) → Gives in_turn s e told t → is_on id e ≡ true →
+    Consumes a.left b.left (taken_at id e told ++ lost) → Appends a.had b.had (given_at id e told) →
+    (finishes_at id e ≡ true → IfSome a.left (λ all. all ≡ taken_at id e told ++ lost)) →
+    b.over ≡ option_map (λ x. x || finishes_at id e) a.over → b.ended ≡ option_map (λ x. x || ends_at id e told) a.ended → (lost ≡ []) ⊎ (resets_at id e ≡ true) → Exchange id s t a b lost
+exchange_one id e told s t a b lost g on inward outward whole over ended reset =
+    let same : taken_at id e told ≡ taken_at id e told ++ [] = sym (append-nil (taken_at id e told)) in
+    record {
+      events = (e, told) ∷ [];
+      happen = (t, g, refl);
+      own = rw on refl;
+      inward = subst (λ (v : List ℕ). Consumes a.left b.left (v ++ lost)) same inward;
+      outward = subst (Appends a.had b.had) (sym (append-nil (given_at id e told))) outward;
+      whole = λ h. subst (λ (v : List ℕ). IfSome a.left (λ all. all ≡ v ++ lost)) same (whole (sym (or_none (finishes_at id e)) ∙ h));
+      over = over ∙ ap (λ (v : Bool). option_map (λ x. x || v) a.over) (sym (or_none (finishes_at id e)));
+      ended = ended ∙ ap (λ (v : Bool). option_map (λ x. x || v) a.ended) (sym (or_none (ends_at id e told)));
+      reset = elim (reset) [
+        | inl none ↦ inl none
+        | inr was ↦ inr (or_none (resets_at id e) ∙ was)
+      ];
+    }
+
+-- ---- calls of a device beside what its stream says
+
+pub exchange_same : (id : ℕ) (s : Session) (a : Seen) → Exchange id s s a a []
+exchange_same id s a = exchange_none id s a a (Consumes-nil a.left) (Appends-nil a.had) refl refl
+
+still_over : (r : Pulled) (a b : Seen) → b.over ≡ option_map (λ x. x || is_end r) a.over → is_end r ≡ false → b.over ≡ a.over
+still_over r a b e more = e ∙ ap (λ (v : Bool). option_map (λ x. x || v) a.over) more ∙ sym (or_same a.over)
+
+-- nothing came
+pub pulled_none : (id : ℕ) (s : Session) (r : Pulled) (buffer : List ℕ) (a b : Seen) → IsPulled r buffer a b → pulled_count r ≡ 0 → is_end r ≡ false → Exchange id s s a b []
+pulled_none id s r buffer a b p n more =
+    exchange_none id s a b (subst (λ (k : ℕ). Consumes a.left b.left (take k buffer)) n p.gave) (same_appends a.had b.had p.had) (still_over r a b p.over more) p.ended
+
+-- nothing was taken
+pub pushed_none : (id : ℕ) (s : Session) (r : Pushed) (bytes : List ℕ) (a b : Seen) → IsPushed r bytes a b → pushed_count r ≡ 0 → Exchange id s s a b []
+pushed_none id s r bytes a b p n =
+    exchange_none id s a b (same_consumes a.left b.left p.left) (subst (λ (k : ℕ). Appends a.had b.had (take k bytes)) n p.took) p.over p.ended
+
+take_both : (n m : ℕ) (xs : List ℕ) → n ≤ m → take n (take m xs) ≡ take n xs
+take_both n m xs h = grind (arith, common_steps)
+
+-- bytes that waited were pushed, and are taken out
+pub pushed_some : (id n : ℕ) (told : Reply) (s t : Session) (bytes ring : List ℕ) (a b : Seen) → IsPushed (pushed.Took n) bytes a b → bytes ≡ take (length bytes) ring →
+    Gives in_turn s (event.Call (call.Read id n)) told t → bytes_of told ≡ take n ring → is_read_end told ≡ false → Exchange id s t a b []
+pushed_some id n told s t bytes ring a b p first g gave going =
+    let same : take n bytes ≡ bytes_of told = ap (take n) first ∙ take_both n (length bytes) ring p.within ∙ sym gave in
+    let i = same_id id in
+    exchange_one id (event.Call (call.Read id n)) told s t a b [] g i
+    (same_consumes a.left b.left p.left)
+    (rw i (subst (Appends a.had b.had) same p.took))
+    (λ h. cc)
+    (p.over ∙ or_same a.over)
+    (rw (i, going) (p.ended ∙ or_same a.ended))
+    (inl refl)
+
+-- a stream of which no byte waits said nothing of its end
+pub silent : (id n : ℕ) (told : Reply) (s t : Session) (a b : Seen) → b.left ≡ a.left → b.had ≡ a.had → b.over ≡ a.over → b.ended ≡ a.ended →
+    Gives in_turn s (event.Call (call.Read id n)) told t → bytes_of told ≡ [] → (is_read_end told ≡ true → ⊥) → Exchange id s t a b []
+silent id n told s t a b left had over ended g gave going =
+    let i = same_id id in
+    let no : is_read_end told ≡ false = not_true (is_read_end told) going in
+    exchange_one id (event.Call (call.Read id n)) told s t a b [] g i
+    (same_consumes a.left b.left left)
+    (rw (i, gave) (same_appends a.had b.had had))
+    (λ h. cc)
+    (over ∙ or_same a.over)
+    (rw (i, no) (ended ∙ or_same a.ended))
+    (inl refl)
+
+-- the stream's end was read, and its device ended
+pub ended : (id n : ℕ) (told : Reply) (s t : Session) (a b : Seen) → IsEnded a b →
+    Gives in_turn s (event.Call (call.Read id n)) told t → bytes_of told ≡ [] → is_read_end told ≡ true → Exchange id s t a b []
+ended id n told s t a b p g gave over =
+    let i = same_id id in
+    exchange_one id (event.Call (call.Read id n)) told s t a b [] g i
+    (same_consumes a.left b.left p.left)
+    (rw (i, gave) (same_appends a.had b.had p.had))
+    (λ h. cc)
+    (p.over ∙ or_same a.over)
+    (rw (i, over) (p.ended ∙ or_true a.ended))
+    (inl refl)
+
+-- the stream was reset, and its device shut
+pub reset_shut : (id : ℕ) (told : Reply) (s t : Session) (a b : Seen) → Gives in_turn s (event.Call (call.Reset id)) told t → IsShut a b → Exchange id s t a b []
+reset_shut id told s t a b g p =
+    exchange_one id (event.Call (call.Reset id)) told s t a b [] g (same_id id)
+    (same_consumes a.left b.left p.left)
+    (same_appends a.had b.had p.had)
+    (λ h. cc)
+    (p.over ∙ or_same a.over)
+    (p.ended ∙ or_same a.ended)
+    (inl refl)
+
+-- the device had no more, and the stream was finished
+pub finished : (id : ℕ) (told : Reply) (s t : Session) (buffer : List ℕ) (a b : Seen) → IsPulled pulled.Ended buffer a b → Gives in_turn s (event.Call (call.Finish id)) told t → Exchange id s t a b []
+finished id told s t buffer a b p g =
+    exchange_one id (event.Call (call.Finish id)) told s t a b [] g (same_id id)
+    p.gave
+    (same_appends a.had b.had p.had)
+    (λ h. at_end a.left b.left [] p.gave (p.end refl))
+    (rw (same_id id) p.over)
+    (p.ended ∙ or_same a.ended)
+    (inl refl)
+
+-- bytes came, and the stream took them
+pub pulled_some : (id n : ℕ) (told : Reply) (s t : Session) (buffer bytes : List ℕ) (a b : Seen) → IsPulled (pulled.Gave n) buffer a b → bytes ≡ take n buffer →
+    Gives in_turn s (event.Call (call.Write id bytes)) told t → take (bytes_moved told) bytes ≡ bytes → Exchange id s t a b []
+pulled_some id n told s t buffer bytes a b p same g all =
+    let i = same_id id in
+    exchange_one id (event.Call (call.Write id bytes)) told s t a b [] g i
+    (rw i (subst (Consumes a.left b.left) (sym same ∙ sym all ∙ sym (append-nil (take (bytes_moved told) bytes))) p.gave))
+    (same_appends a.had b.had p.had)
+    (λ h. cc)
+    p.over
+    (p.ended ∙ or_same a.ended)
+    (inl refl)
+
+-- a write that took nothing, beside a device that moved nothing
+pub stopped : (id : ℕ) (told : Reply) (s t : Session) (a b : Seen) → b.left ≡ a.left → b.had ≡ a.had → b.over ≡ a.over → b.ended ≡ a.ended →
+    Gives in_turn s (event.Call (call.Write id [])) told t → Exchange id s t a b []
+stopped id told s t a b left had over still g =
+    let i = same_id id in
+    let none : take {A = ℕ} (bytes_moved told) [] ≡ [] = grind (arith, common_steps) in
+    exchange_one id (event.Call (call.Write id [])) told s t a b [] g i
+    (rw (i, none) (same_consumes a.left b.left left))
+    (same_appends a.had b.had had)
+    (λ h. cc)
+    (over ∙ or_same a.over)
+    (still ∙ or_same a.ended)
+    (inl refl)
+
+-- bytes came for which there was no memory: the stream is reset, and its device shut
+pub bytes_lost : (id n : ℕ) (told last : Reply) (s t u : Session) (buffer bytes : List ℕ) (a b c : Seen) → IsPulled (pulled.Gave n) buffer a b →
+    Gives in_turn s (event.Call (call.Write id bytes)) told t → bytes_moved told ≡ 0 → Gives in_turn t (event.Call (call.Reset id)) last u → IsShut b c →
+    Exchange id s u a c (take n buffer)
+bytes_lost id n told last s t u buffer bytes a b c p g none r q =
+    let i = same_id id in record {
+      events = (event.Call (call.Write id bytes), told) ∷ (event.Call (call.Reset id), last) ∷ [];
+      happen = (t, g, (u, r, refl));
+      own = rw i refl;
+      inward = rw (i, none) (subst (λ (o : Option (List ℕ)). Consumes a.left o (take n buffer)) (sym q.left) p.gave);
+      outward = subst (λ (o : Option (List ℕ)). Appends a.had o []) (sym q.had) (same_appends a.had b.had p.had);
+      whole = λ h. cc;
+      over = q.over ∙ p.over;
+      ended = q.ended ∙ p.ended ∙ or_same a.ended;
+      reset = inr (rw i refl);
+    }
+
+-- the device failed at a call that moved nothing: the stream is reset, and the device shut
+pub pull_failed : (id : ℕ) (told : Reply) (s t : Session) (r : Pulled) (buffer : List ℕ) (a b c : Seen) → IsPulled r buffer a b → pulled_count r ≡ 0 → is_end r ≡ false →
+    Gives in_turn s (event.Call (call.Reset id)) told t → IsShut b c → Exchange id s t a c []
+pull_failed id told s t r buffer a b c p n more g q = exchange_then id s s t a b c [] (pulled_none id s r buffer a b p n more) (reset_shut id told s t b c g q)
+
+pub push_failed : (id : ℕ) (told : Reply) (s t : Session) (r : Pushed) (bytes : List ℕ) (a b c : Seen) → IsPushed r bytes a b → pushed_count r ≡ 0 →
+    Gives in_turn s (event.Call (call.Reset id)) told t → IsShut b c → Exchange id s t a c []
+push_failed id told s t r bytes a b c p n g q = exchange_then id s s t a b c [] (pushed_none id s r bytes a b p n) (reset_shut id told s t b c g q)
+
+-- ---- exchanges that may lose bytes
+
+pub once : (id : ℕ) (s t : Session) (a b : Seen) (more : Bool) → Exchange id s t a b [] → ExchangesOnce id s t a b more
+once id s t a b more x = ([], x, λ h. refl)
+
+pub loses : (id : ℕ) (s t : Session) (a b : Seen) (lost : List ℕ) → Exchange id s t a b lost → ExchangesOnce id s t a b false
+loses id s t a b lost x = (lost, x, λ h. cc)
+
+pub any : (id : ℕ) (s t : Session) (a b : Seen) (more : Bool) → ExchangesOnce id s t a b more → Exchanges id s t a b
+any id s t a b more x = (x.0, x.1)
+
+pub none_lost : (id : ℕ) (s t : Session) (a b : Seen) (more : Bool) → ExchangesOnce id s t a b more → more ≡ true → Exchange id s t a b []
+none_lost id s t a b more x m = subst (λ (lost : List ℕ). Exchange id s t a b lost) (x.2 m) x.1
+
+pub then_any : (id : ℕ) (s t u : Session) (a b c : Seen) → Exchange id s t a b [] → Exchanges id t u b c → Exchanges id s u a c
+then_any id s t u a b c x y = (y.0, exchange_then id s t u a b c y.0 x y.1)

@@ -1,0 +1,13 @@
+use Rattle.std.proofs.Common.{refl}
+use Rattle.ymx_engine.proofs.Exchanging.{stopped}
+use Rattle.ymx_engine.proofs.exchange.hear_stop.Goals as goal
+
+pub returns-then-is_stopped-clause-moved : goal.returns-then-is_stopped-clause-moved
+returns-then-is_stopped-clause-moved g c =
+    let h = c.is_stopped.ensures in
+    stopped _ h.0 _ _ _ _ c.shut.ensures.left c.shut.ensures.had c.shut.ensures.over c.shut.ensures.ended h.1
+
+pub returns-else-is_stopped-clause-moved : goal.returns-else-is_stopped-clause-moved
+returns-else-is_stopped-clause-moved g c =
+    let h = c.is_stopped.ensures in
+    stopped _ h.0 _ _ _ _ refl refl refl refl h.1

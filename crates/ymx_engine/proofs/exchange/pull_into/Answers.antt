@@ -1,0 +1,28 @@
+use Rattle.std.proofs.Common.{refl, arith}
+use Rattle.std.proofs.lemmas.Grind.{common_steps}
+use Rattle.ymx_engine.proofs.Exchanging.{pulled_none, pulled_some, pull_failed, bytes_lost, finished, once, loses}
+use Rattle.ymx_engine.proofs.exchange.pull_into.Goals as goal
+
+pub returns-then-write-clause-moved : goal.returns-then-write-clause-moved
+returns-then-write-clause-moved g c =
+    let h = c.write.ensures.took c.if-write.true in
+    once _ _ _ _ _ _ (pulled_some _ _ h.0 _ _ _ _ _ _ c.in-Gave.ensures (grind (arith, common_steps)) h.1 h.2)
+
+pub returns-else-write-clause-moved : goal.returns-else-write-clause-moved
+returns-else-write-clause-moved g c =
+    let h = c.write.ensures.refused c.if-write.false in
+    let k = c.give_up.ensures.reset in
+    loses _ _ _ _ _ _ (bytes_lost _ _ h.0 k.0 _ _ _ _ _ _ _ _ c.in-Gave.ensures h.1 h.2 k.1 c.give_up.ensures.shut)
+
+pub returns-in-NotNow-clause-moved : goal.returns-in-NotNow-clause-moved
+returns-in-NotNow-clause-moved g c = once _ _ _ _ _ _ (pulled_none _ _ _ _ _ _ c.in-NotNow.ensures refl refl)
+
+pub returns-in-Ended-clause-moved : goal.returns-in-Ended-clause-moved
+returns-in-Ended-clause-moved g c =
+    let h = c.finish.ensures in
+    once _ _ _ _ _ _ (finished _ h.0 _ _ _ _ _ c.in-Ended.ensures h.1)
+
+pub returns-in-Failed-clause-moved : goal.returns-in-Failed-clause-moved
+returns-in-Failed-clause-moved g c =
+    let h = c.give_up-in-Failed.ensures.reset in
+    once _ _ _ _ _ _ (pull_failed _ h.0 _ _ _ _ _ _ _ c.in-Failed.ensures refl refl h.1 c.give_up-in-Failed.ensures.shut)

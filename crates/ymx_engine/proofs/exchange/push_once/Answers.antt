@@ -1,0 +1,16 @@
+use Rattle.std.proofs.Common.{refl}
+use Rattle.ymx_engine.proofs.Exchanging.{pushed_none, pushed_some, push_failed}
+use Rattle.ymx_engine.proofs.exchange.push_once.Goals as goal
+
+pub returns-in-Took-clause-moved : goal.returns-in-Took-clause-moved
+returns-in-Took-clause-moved g c =
+    let h = c.take_out.ensures in
+    pushed_some _ _ h.0 _ _ _ _ _ _ c.in-Took.ensures c.unread-bytes.ensures.first h.1 h.2 h.3
+
+pub returns-in-NotNow-clause-moved : goal.returns-in-NotNow-clause-moved
+returns-in-NotNow-clause-moved g c = pushed_none _ _ _ _ _ _ c.in-NotNow.ensures refl
+
+pub returns-in-Failed-clause-moved : goal.returns-in-Failed-clause-moved
+returns-in-Failed-clause-moved g c =
+    let h = c.give_up.ensures.reset in
+    push_failed _ h.0 _ _ _ _ _ _ _ c.in-Failed.ensures refl h.1 c.give_up.ensures.shut

@@ -1,0 +1,15 @@
+-- What a contract sees of the tunnel of one end, and what its calls leave alone (this project's own).
+use Rattle.std.specs.Prelude.{ℕ, ◌≡◌, List}
+use Rattle.ymx_model.specs.session.Sessions.{Session}
+
+-- The session, the bytes that it emitted and the wire has not taken, and those that the wire gave and the session
+-- has not taken.
+pub record Engine : Type 0 where
+  pub session : Session
+  pub outgoing : List ℕ
+  pub incoming : List ℕ
+
+-- no byte came from the wire or went to it
+pub record KeepsWire (old new : Engine) : Type 0 where
+  pub outgoing : new.outgoing ≡ old.outgoing
+  pub incoming : new.incoming ≡ old.incoming

@@ -1,0 +1,79 @@
+-- Events of one session, one after another, and what a stream took and gave at them (this project's own).
+use Rattle.std.specs.Prelude.{ℕ, ◌≡◌, ◌==◌, if◌then◌else◌, ◌++◌, ◌∷◌, ◌||◌, ◌&&◌, List, [], take, Bool, true, false}
+use Rattle.ymx_machine.specs.declared.types.Call.TheVariants as call
+use Rattle.ymx_model.specs.declared.types.Event.{Event}
+use Rattle.ymx_model.specs.declared.types.Event.TheVariants as event
+use Rattle.ymx_machine.specs.declared.types.Reply.{Reply}
+use Rattle.ymx_machine.specs.declared.types.Reply.TheVariants as reply
+use Rattle.ymx_machine.specs.shared.Replies.{bytes_moved}
+use Rattle.ymx_model.specs.session.Sessions.{Session}
+use Rattle.ymx_model.specs.session.Emissions.{in_turn}
+use Rattle.ymx_model.specs.session.Histories.{Gives}
+
+-- From s each event gives its reply, and the last state is t.
+abbrev pub Happen : List (Event × Reply) → Session → Session → Type 0
+Happen [] s t = t ≡ s
+Happen (e ∷ es) s t = (next : Session) × Gives in_turn s e.0 e.1 next × Happen es next t
+
+-- ---- one stream
+
+-- a write, a read or an end of this stream
+abbrev pub is_on : ℕ → Event → Bool
+is_on id (event.Call (call.Write other bytes)) = other == id
+is_on id (event.Call (call.Read other room)) = other == id
+is_on id (event.Call (call.Finish other)) = other == id
+is_on id (event.Call (call.Reset other)) = other == id
+is_on id _ = false
+
+-- the bytes that the stream took at an event
+abbrev pub taken_at : ℕ → Event → Reply → List ℕ
+taken_at id (event.Call (call.Write other bytes)) told = if other == id then take (bytes_moved told) bytes else []
+taken_at id _ told = []
+
+abbrev pub taken : ℕ → List (Event × Reply) → List ℕ
+taken id [] = []
+taken id (e ∷ es) = taken_at id e.0 e.1 ++ taken id es
+
+abbrev pub bytes_of : Reply → List ℕ
+bytes_of (reply.Read bytes) = bytes
+bytes_of _ = []
+
+-- the bytes that the stream gave at an event
+abbrev pub given_at : ℕ → Event → Reply → List ℕ
+given_at id (event.Call (call.Read other room)) told = if other == id then bytes_of told else []
+given_at id _ told = []
+
+abbrev pub given : ℕ → List (Event × Reply) → List ℕ
+given id [] = []
+given id (e ∷ es) = given_at id e.0 e.1 ++ given id es
+
+abbrev pub is_read_end : Reply → Bool
+is_read_end reply.ReadEnd = true
+is_read_end _ = false
+
+-- the stream said that its end was read
+abbrev pub ends_at : ℕ → Event → Reply → Bool
+ends_at id (event.Call (call.Read other room)) told = (other == id) && is_read_end told
+ends_at id _ told = false
+
+abbrev pub has_end : ℕ → List (Event × Reply) → Bool
+has_end id [] = false
+has_end id (e ∷ es) = ends_at id e.0 e.1 || has_end id es
+
+-- the stream was finished, or this was refused
+abbrev pub finishes_at : ℕ → Event → Bool
+finishes_at id (event.Call (call.Finish other)) = other == id
+finishes_at id _ = false
+
+abbrev pub has_finish : ℕ → List (Event × Reply) → Bool
+has_finish id [] = false
+has_finish id (e ∷ es) = finishes_at id e.0 || has_finish id es
+
+-- the stream was reset, or this was refused
+abbrev pub resets_at : ℕ → Event → Bool
+resets_at id (event.Call (call.Reset other)) = other == id
+resets_at id _ = false
+
+abbrev pub has_reset : ℕ → List (Event × Reply) → Bool
+has_reset id [] = false
+has_reset id (e ∷ es) = resets_at id e.0 || has_reset id es

@@ -1,0 +1,100 @@
+-- What an engine and its wire move (this project's own).
+use Rattle.std.specs.Prelude.{ℕ, ◌≡◌, ◌+◌, ◌≤◌, ◌++◌, ◌∷◌, ◌||◌, List, [], take, drop, Bool, true, false, option_map}
+use Rattle.std.specs.List.{list_all}
+use Rattle.std.specs.Io.KnownBytes.{Appends, Consumes}
+use Rattle.ymx_model.specs.declared.types.Event.{Event}
+use Rattle.ymx_model.specs.declared.types.Event.TheVariants as event
+use Rattle.ymx_machine.specs.declared.types.Reply.{Reply}
+use Rattle.ymx_machine.specs.declared.types.Reply.TheVariants as reply
+use Rattle.ymx_engine.specs.declared.device.Pulled.{Pulled}
+use Rattle.ymx_engine.specs.declared.device.Pushed.{Pushed}
+use Rattle.ymx_engine.specs.Devices.{Seen, pulled_count, pushed_count, IsPulled, IsPushed}
+use Rattle.ymx_engine.specs.Events.{Happen}
+use Rattle.ymx_engine.specs.Engines.{Engine}
+
+-- the bytes that were emitted at an event
+abbrev pub emitted_at : Event → Reply → List ℕ
+emitted_at (event.Emit room) (reply.Emitted out) = out
+emitted_at _ told = []
+
+abbrev pub emitted : List (Event × Reply) → List ℕ
+emitted [] = []
+emitted (e ∷ es) = emitted_at e.0 e.1 ++ emitted es
+
+-- the bytes that the session took at an event
+abbrev pub fed_at : Event → Reply → List ℕ
+fed_at (event.Feed bytes) (reply.Fed fed) = take fed.taken bytes
+fed_at _ told = []
+
+abbrev pub fed : List (Event × Reply) → List ℕ
+fed [] = []
+fed (e ∷ es) = fed_at e.0 e.1 ++ fed es
+
+-- an emission, a feed, or that the peer's bytes have ended
+abbrev pub is_of_wire : Event → Bool
+is_of_wire (event.Call call) = false
+is_of_wire (event.Feed bytes) = true
+is_of_wire event.FeedEnd = true
+is_of_wire (event.Emit room) = true
+
+-- the session heard that the peer's bytes have ended
+abbrev pub ends_feed : Event → Bool
+ends_feed (event.Call call) = false
+ends_feed (event.Feed bytes) = false
+ends_feed event.FeedEnd = true
+ends_feed (event.Emit room) = false
+
+abbrev pub has_feed_end : List (Event × Reply) → Bool
+has_feed_end [] = false
+has_feed_end (e ∷ es) = ends_feed e.0 || has_feed_end es
+
+-- Nothing happened but these events of the wire. Of what waited for it and what was emitted the wire took a beginning,
+-- and the rest waits; of what waited to be fed and what the wire gave the session took a beginning, and the rest
+-- waits. The session heard of an end exactly if the wire said that no more bytes come, or failed.
+pub record Carries (old new : Engine) (before after : Seen) (calls : ℕ) : Type 0 where
+  pub events : List (Event × Reply)
+  pub happen : Happen events old.session new.session
+  pub own : list_all (λ e. is_of_wire e.0) events ≡ true
+  pub sent : List ℕ
+  pub took : Appends before.had after.had sent
+  pub outward : old.outgoing ++ emitted events ≡ sent ++ new.outgoing
+  pub came : List ℕ
+  pub gave : Consumes before.left after.left came
+  pub inward : old.incoming ++ came ≡ fed events ++ new.incoming
+  pub said_end : Bool
+  pub over : after.over ≡ option_map (λ b. b || said_end) before.over
+  pub failed : Bool
+  pub lost : has_feed_end events ≡ (said_end || failed)
+  pub ended : after.ended ≡ before.ended
+  pub few : after.calls ≤ before.calls + calls
+
+-- whether the wire said that no more bytes come, and whether it failed, is known
+abbrev pub CarriesSo : (said_end failed : Bool) → (old new : Engine) → (before after : Seen) → (calls : ℕ) → Type 0
+CarriesSo said_end failed old new before after calls =
+    (moved : Carries old new before after calls) × (moved.said_end ≡ said_end) × (moved.failed ≡ failed)
+
+-- ---- the parts of a turn
+
+-- Nothing happened but these events of the wire, which was not called. `lost` says whether the session heard of an end.
+pub record Handles (lost : Bool) (old new : Engine) : Type 0 where
+  pub events : List (Event × Reply)
+  pub happen : Happen events old.session new.session
+  pub own : list_all (λ e. is_of_wire e.0) events ≡ true
+  pub outward : old.outgoing ++ emitted events ≡ new.outgoing
+  pub inward : old.incoming ≡ fed events ++ new.incoming
+  pub heard : has_feed_end events ≡ lost
+
+-- the wire was called for bytes, and what it gave waits
+pub record TakesIn (result : Pulled) (old new : Engine) (before after : Seen) : Type 0 where
+  pub buffer : List ℕ
+  pub pulled : IsPulled result buffer before after
+  pub incoming : new.incoming ≡ take (pulled_count result) buffer
+  pub outgoing : new.outgoing ≡ old.outgoing
+  pub session : new.session ≡ old.session
+
+-- the wire was called with the bytes that waited, and what it didn't take waits
+pub record GivesOut (result : Pushed) (old new : Engine) (before after : Seen) : Type 0 where
+  pub pushed : IsPushed result old.outgoing before after
+  pub outgoing : new.outgoing ≡ drop (pushed_count result) old.outgoing
+  pub incoming : new.incoming ≡ old.incoming
+  pub session : new.session ≡ old.session

@@ -1,0 +1,83 @@
+//! Memory for bytes on their way to the peer or from it.
+
+ghost use Rattle.std.specs.Prelude.{ℕ, List, ◌≡◌, ◌≤◌, [], length, take, drop, IfOk};
+ghost use Rattle.ymx_model.specs.declared.types.Event.TheVariants as event;
+ghost use Rattle.ymx_machine.specs.declared.types.Reply.TheVariants as reply;
+ghost use Rattle.ymx_model.specs.session.Emissions.{in_turn};
+ghost use Rattle.ymx_model.specs.session.Histories.{Gives};
+ghost use Rattle.ymx_engine.specs.Devices.{IsPulled, pulled_count};
+
+use crate::device::{Device, Pulled};
+use std::alloc::{AllocError, Global};
+use std::marker::Model;
+use ymx_session::Session;
+
+/// Memory of which some bytes in a row wait. A contract sees those bytes.
+#[derive(Drop)]
+pub(crate) struct Block {
+    memory: Vec<u8>,
+    at: usize,
+    end: usize,
+}
+
+impl Model for Block {
+    ghost use Rattle.std.specs.Prelude.{List, ℕ, ◌≤◌, take, drop, vec_len};
+
+    ghost Value = { List ℕ };
+
+    ghost view = { λ b. drop b.at (take b.end b.memory.items) };
+
+    ghost invariant = { λ b. (b.at ≤ b.end) × (b.end ≤ vec_len b.memory) };
+}
+
+impl Block {
+    /// So much memory, in bytes, of which none waits.
+    pub(crate) fn new(alloc: Global, size: usize) -> Result<Block, AllocError>
+        ensures { IfOk result (λ block. block ≡ []) }
+    {
+        let memory = vec![in alloc; 0u8; size]?;
+        Ok(Block {
+            memory,
+            at: 0,
+            end: 0,
+        })
+    }
+
+    /// The bytes that wait.
+    pub(crate) fn waiting(&self) -> &[u8]
+        ensures { result.now ≡ self.now }
+    {
+        &self.memory[self.at..self.end]
+    }
+
+    /// The first `count` bytes are gone.
+    pub(crate) fn drop_front(&mut self, count: usize)
+        requires { count ≤ length self.old }
+        ensures { self.new ≡ drop count self.old }
+    {
+        self.at += count;
+    }
+
+    /// An emission of the session waits.
+    pub(crate) fn emit_from(&mut self, session: &mut Session)
+        requires { self.old ≡ [] }
+        ensures { (room : ℕ) × Gives in_turn session.old (event.Emit room) (reply.Emitted self.new) session.new }
+    {
+        self.at = 0;
+        self.end = session.emit(self.memory.as_mut_slice());
+    }
+
+    /// What a device gives waits.
+    pub(crate) fn pull_from<D: Device>(&mut self, device: &mut D) -> Pulled
+        requires { self.old ≡ [] }
+        ensures { (buffer : List ℕ) × IsPulled result buffer (D.seen device.old) (D.seen device.new) × (self.new ≡ take (pulled_count result) buffer) }
+    {
+        let pulled = device.pull(self.memory.as_mut_slice());
+        self.at = 0;
+        self.end = match pulled {
+            Pulled::Gave(count) => count,
+            _ => 0,
+        };
+        pulled
+    }
+}

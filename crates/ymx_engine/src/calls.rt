@@ -1,0 +1,78 @@
+//! Calls on one stream of a session, each with what its callers need to know.
+
+ghost use Rattle.std.specs.Prelude.{ℕ, ◌≡◌, ◌<◌, ◌≤◌, [], length, take, true, false};
+ghost use Rattle.ymx_model.specs.declared.types.Event.TheVariants as event;
+ghost use Rattle.ymx_machine.specs.declared.types.Call.TheVariants as call;
+ghost use Rattle.ymx_machine.specs.declared.types.Reply.{Reply};
+ghost use Rattle.ymx_machine.specs.shared.Replies.{bytes_moved};
+ghost use Rattle.ymx_model.specs.session.Emissions.{in_turn};
+ghost use Rattle.ymx_model.specs.session.Histories.{Gives};
+ghost use Rattle.ymx_session.specs.Streams.{waiting, room_of};
+ghost use Rattle.ymx_engine.specs.Events.{bytes_of, is_read_end};
+
+use ymx_model::{Got, Wrote};
+use ymx_session::Session;
+
+/// Writes bytes for which there is credit. Whether the stream took them: it takes none for want of memory.
+pub(crate) fn write(session: &mut Session, id: u32, bytes: &[u8]) -> bool
+    requires { length bytes.now ≤ room_of id session.old }
+    ensures took { result ≡ true → (told : Reply) × Gives in_turn session.old (event.Call (call.Write id bytes.now)) told session.new × (take (bytes_moved told) bytes.now ≡ bytes.now) }
+    ensures refused { result ≡ false → (told : Reply) × Gives in_turn session.old (event.Call (call.Write id bytes.now)) told session.new × (bytes_moved told ≡ 0) }
+{
+    match session.write(id, bytes) {
+        Ok(Wrote::Took(_)) => true,
+        _ => bytes.is_empty(),
+    }
+}
+
+/// Whether the stream takes no bytes any more.
+pub(crate) fn is_stopped(session: &mut Session, id: u32) -> bool
+    ensures { (told : Reply) × Gives in_turn session.old (event.Call (call.Write id [])) told session.new }
+{
+    session.write(id, &[]).is_err()
+}
+
+/// Takes out the first `count` of the bytes that wait.
+pub(crate) fn take_out(session: &mut Session, id: u32, count: usize)
+    requires { 0 < length (waiting id session.old) }
+    ensures { (told : Reply) × Gives in_turn session.old (event.Call (call.Read id count)) told session.new × (bytes_of told ≡ take count (waiting id session.old)) × (is_read_end told ≡ false) }
+{
+    let _ = session.consume(id, count);
+}
+
+/// What a stream says of which no byte waits.
+#[derive(Clone, Copy, Debug, PartialEq, Eq)]
+pub(crate) enum Silence {
+    /// More may come.
+    Wait,
+    /// Its end was read.
+    End,
+    /// It was reset, or the session is over.
+    Stopped,
+}
+
+/// Asks for a byte where none waits.
+pub(crate) fn ask(session: &mut Session, id: u32) -> Silence
+    requires { waiting id session.old ≡ [] }
+    ensures happened { (told : Reply) × Gives in_turn session.old (event.Call (call.Read id 1)) told session.new × (bytes_of told ≡ []) × (is_read_end told ≡ true → result ≡ Silence.End) × (result ≡ Silence.End → is_read_end told ≡ true) }
+{
+    match session.consume(id, 1) {
+        Ok(Got::End) => Silence::End,
+        Ok(_) => Silence::Wait,
+        Err(_) => Silence::Stopped,
+    }
+}
+
+/// Half-closes a stream.
+pub(crate) fn finish(session: &mut Session, id: u32)
+    ensures { (told : Reply) × Gives in_turn session.old (event.Call (call.Finish id)) told session.new }
+{
+    let _ = session.finish(id);
+}
+
+/// Resets a stream.
+pub(crate) fn reset(session: &mut Session, id: u32)
+    ensures { (told : Reply) × Gives in_turn session.old (event.Call (call.Reset id)) told session.new }
+{
+    let _ = session.reset(id);
+}

@@ -1,0 +1,127 @@
+//! The connections of an engine by stream id, and whose turn comes.
+
+use crate::connection::Connection;
+use indexmap::IndexMap;
+use std::alloc::{AllocError, Global};
+use std::collections::VecDeque;
+use ymx_session::Touched;
+
+/// Connections by stream id, those that may have something to move, each once, in the order in which they came to
+/// have it, and those that are held back while bytes wait for the wire.
+#[derive(Drop)]
+pub(crate) struct Connections {
+    by_id: IndexMap<u32, Connection>,
+    queue: VecDeque<u32>,
+    held: VecDeque<u32>,
+}
+
+impl Connections {
+    /// There are none.
+    pub(crate) fn new(alloc: Global) -> Connections {
+        Connections {
+            by_id: IndexMap::new(alloc),
+            queue: VecDeque::new(alloc),
+            held: VecDeque::new(alloc),
+        }
+    }
+
+    /// How many may have something to move.
+    pub(crate) fn queued_count(&self) -> usize {
+        self.queue.len()
+    }
+
+    /// Adds one, which has something to move if its device is ready. There is memory then for its turns.
+    pub(crate) fn add(&mut self, id: u32, ready: bool) -> Result<(), AllocError> {
+        let all = self.by_id.len().saturating_add(1);
+        self.queue.reserve(all)?;
+        self.held.reserve(all)?;
+        let added = self.by_id.insert(id, Connection::new(ready));
+        if added.is_err() {
+            return Err(AllocError);
+        }
+        self.enqueue(id);
+        Ok(())
+    }
+
+    /// It is there no more.
+    pub(crate) fn remove(&mut self, id: u32) {
+        let _ = self.by_id.swap_remove(&id);
+    }
+
+    /// What is known of one.
+    pub(crate) fn get(&self, id: u32) -> Option<Connection> {
+        match self.by_id.get(&id) {
+            Some(found) => Some(*found),
+            None => None,
+        }
+    }
+
+    /// What is known of one changes.
+    pub(crate) fn set(&mut self, id: u32, connection: Connection) {
+        if let Some(found) = self.by_id.get_mut(&id) {
+            *found = connection;
+        }
+    }
+
+    /// It may have something to move.
+    pub(crate) fn enqueue(&mut self, id: u32) {
+        if let Some(found) = self.by_id.get_mut(&id) {
+            if !found.is_queued {
+                found.is_queued = self.queue.push_back(id).is_ok();
+            }
+        }
+    }
+
+    /// It may have something to move once nothing waits for the wire.
+    pub(crate) fn hold(&mut self, id: u32) {
+        if let Some(found) = self.by_id.get_mut(&id) {
+            if !found.is_held {
+                found.is_held = self.held.push_back(id).is_ok();
+            }
+        }
+    }
+
+    /// Whose turn it is.
+    pub(crate) fn next(&mut self) -> Option<u32> {
+        let id = self.queue.pop_front()?;
+        if let Some(found) = self.by_id.get_mut(&id) {
+            found.is_queued = false;
+        }
+        Some(id)
+    }
+
+    /// Nothing waits for the wire: those that were held back have their turns.
+    pub(crate) fn release(&mut self) {
+        for _ in 0..self.held.len() {
+            let Some(id) = self.held.pop_front() else {
+                return;
+            };
+            if let Some(found) = self.by_id.get_mut(&id) {
+                found.is_held = false;
+            }
+            self.enqueue(id);
+        }
+    }
+
+    /// All have something to move.
+    pub(crate) fn enqueue_all(&mut self) {
+        for place in 0..self.by_id.len() {
+            let Some((id, _)) = self.by_id.get_index(place) else {
+                return;
+            };
+            let id = *id;
+            self.enqueue(id);
+        }
+    }
+
+    /// Those that bytes of the peer touched have something to move.
+    pub(crate) fn enqueue_touched(&mut self, touched: &mut Touched) {
+        for id in touched.ids() {
+            self.enqueue(*id);
+        }
+        if touched.is_all() {
+            self.enqueue_all();
+        }
+        touched.clear();
+    }
+}

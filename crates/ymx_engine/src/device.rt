@@ -1,0 +1,65 @@
+//! Devices that never wait.
+
+ghost use Rattle.std.specs.Prelude.{◌≡◌};
+ghost use Rattle.ymx_engine.specs.Devices.{Seen, IsPulled, IsPushed, IsEnded, IsShut, pushed_count};
+
+/// What a call for bytes answered.
+#[derive(Clone, Copy, Debug, PartialEq, Eq)]
+pub enum Pulled {
+    /// So many bytes came.
+    Gave(usize),
+    /// None are there yet.
+    NotNow,
+    /// No more will come.
+    Ended,
+    /// The device failed.
+    Failed,
+}
+
+/// What a call with bytes answered.
+#[derive(Clone, Copy, Debug, PartialEq, Eq)]
+pub enum Pushed {
+    /// So many bytes were taken.
+    Took(usize),
+    /// There is no room yet.
+    NotNow,
+    /// The device failed.
+    Failed,
+}
+
+impl Pushed {
+    /// How many bytes were taken.
+    pub fn count(self) -> usize
+        ensures { result ≡ pushed_count self }
+    {
+        match self {
+            Pushed::Took(count) => count,
+            Pushed::NotNow | Pushed::Failed => 0,
+        }
+    }
+}
+
+/// A connection whose calls never wait, as a socket that is not blocking.
+///
+/// A contract sees the bytes that it has still to give, those that it has taken, and whether it was ended, each
+/// where the device can tell (a socket cannot).
+pub trait Device {
+    /// What a contract sees.
+    ghost seen: { Self → Seen };
+
+    /// Moves the next bytes into the front of the buffer, and says how many.
+    fn pull(&mut self, buffer: &mut [u8]) -> Pulled
+        ensures { IsPulled result buffer.new (seen self.old) (seen self.new) };
+
+    /// Takes the first of these bytes, and says how many.
+    fn push(&mut self, bytes: &[u8]) -> Pushed
+        ensures { IsPushed result bytes.now (seen self.old) (seen self.new) };
+
+    /// No more bytes will be pushed. Bytes may still come.
+    fn end(&mut self)
+        ensures { IsEnded (seen self.old) (seen self.new) };
+
+    /// Shuts it both ways, without a word of good order.
+    fn shut(&mut self)
+        ensures { IsShut (seen self.old) (seen self.new) };
+}

@@ -1,0 +1,465 @@
+//! The type `Engine`, and its calls.
+
+ghost use Rattle.std.specs.Prelude.{◌≡◌, ◌≤◌, ◌+◌, ◌||◌, [], length, true, false, IfOk, IfErr, IfSome, IfNone, Some};
+ghost use Rattle.ymx_model.specs.declared.types.Event.TheVariants as event;
+ghost use Rattle.ymx_machine.specs.declared.types.Call.TheVariants as call;
+ghost use Rattle.ymx_machine.specs.declared.types.Reply.{Reply};
+ghost use Rattle.ymx_machine.specs.declared.types.Reply.TheVariants as reply;
+ghost use Rattle.ymx_model.specs.session.Emissions.{in_turn};
+ghost use Rattle.ymx_model.specs.session.Histories.{Gives};
+ghost use Rattle.ymx_engine.specs.Devices.{is_end, is_pull_failure, is_push_failure};
+ghost use Rattle.ymx_engine.specs.Engines.{KeepsWire};
+ghost use Rattle.ymx_engine.specs.Exchanges.{Exchanges};
+ghost use Rattle.ymx_engine.specs.Refusals.{GivesUp, OpensNone, OffersNone, AcceptsNone};
+ghost use Rattle.ymx_engine.specs.Wires.{Carries, CarriesSo, Handles, TakesIn, GivesOut};
+
+use crate::block::Block;
+use crate::connection::Connection;
+use crate::connections::Connections;
+use crate::device::{Device, Pulled, Pushed};
+use crate::exchange::serve;
+use std::alloc::{AllocError, Global};
+use std::marker::Model;
+use ymx_model::{CallFault, Status};
+use ymx_session::{Session, Touched};
+
+/// How many bytes are read from the peer, or from a device, at once.
+const BLOCK: usize = 131_072;
+
+/// How many bytes are written to the peer at once: eight whole frames of 16,384 bytes, so that none is cut.
+const FRAMES: usize = 131_168;
+
+/// The tunnel of one end: a session, its connections by stream id, and what each waits for.
+///
+/// It is driven by readiness. What an event says is noted by `note_wire` and `note_device`, and moves nothing. Then a
+/// round is `read_wire`, `serve` for each id that `next` gives, and `flush`. Each of these makes a bounded number of
+/// calls of devices, none of which waits. `has_work` says whether a further round would move anything with no event.
+///
+/// A contract sees the session, the bytes that it has emitted and the wire has not taken, and those that the wire gave
+/// and the session has not taken.
+#[derive(Drop)]
+pub struct Engine {
+    session: Session,
+    touched: Touched,
+    connections: Connections,
+    outgoing: Block,
+    incoming: Block,
+    buffer: Vec<u8>,
+    can_pull_wire: bool,
+    can_push_wire: bool,
+    is_wire_over: bool,
+    has_lacked_memory: bool,
+}
+
+impl Model for Engine {
+    ghost use Rattle.ymx_engine.specs.Devices.{is_end, is_pull_failure, is_push_failure};
+    ghost use Rattle.ymx_engine.specs.Engines.{Engine as EngineValue};
+
+    ghost Value = { EngineValue };
+
+    ghost view = { λ e. record { session = e.session; outgoing = e.outgoing; incoming = e.incoming } };
+}
+
+impl Engine {
+    /// Makes an engine of a session, with the memory for its buffers.
+    pub fn new(alloc: Global, session: Session) -> Result<Engine, AllocError>
+        ensures { IfOk result (λ engine. engine ≡ record { session = session; outgoing = []; incoming = [] }) }
+    {
+        Ok(Engine {
+            session,
+            touched: Touched::new(alloc)?,
+            connections: Connections::new(alloc),
+            outgoing: Block::new(alloc, FRAMES)?,
+            incoming: Block::new(alloc, BLOCK)?,
+            buffer: vec![in alloc; 0u8; BLOCK]?,
+            can_pull_wire: true,
+            can_push_wire: true,
+            is_wire_over: false,
+            has_lacked_memory: false,
+        })
+    }
+
+    // ---- what events say
+
+    /// What an event says of the wire: whether it may have bytes, and whether it may take some.
+    pub fn note_wire(&mut self, can_pull: bool, can_push: bool)
+        ensures { self.new ≡ self.old }
+    {
+        self.can_pull_wire |= can_pull;
+        self.can_push_wire |= can_push;
+    }
+
+    /// What an event says of a connection's device: whether it may have bytes, whether it may take some, and whether
+    /// its end is near.
+    pub fn note_device(&mut self, id: u32, can_pull: bool, can_push: bool, is_closing: bool)
+        ensures { self.new ≡ self.old }
+    {
+        if let Some(found) = self.connections.get(id) {
+            let mut connection = found;
+            connection.can_pull |= can_pull;
+            connection.can_push |= can_push;
+            connection.is_closing |= is_closing;
+            self.connections.set(id, connection);
+            self.connections.enqueue(id);
+        }
+    }
+
+    // ---- connections
+
+    /// Opens a stream for a connection that came, whose device may be used. The refusals are those of
+    /// `Session::open`, and change nothing; `OutOfMemory` comes also where there is no memory to keep the connection:
+    /// then the stream is reset and forgotten.
+    pub fn open(&mut self) -> Result<u32, CallFault>
+        ensures opened { IfOk result (λ id. Gives in_turn self.old.session (event.Call call.Open) (reply.Opened id) self.new.session) }
+        ensures refused { IfErr result (λ fault. OpensNone fault self.old.session self.new.session) }
+        ensures wire { KeepsWire self.old self.new }
+    {
+        let id = self.open_stream()?;
+        if self.connections.add(id, true).is_err() {
+            self.drop_stream(id);
+            return Err(CallFault::OutOfMemory);
+        }
+        Ok(id)
+    }
+
+    /// Opens a stream of the session.
+    fn open_stream(&mut self) -> Result<u32, CallFault>
+        ensures opened { IfOk result (λ id. Gives in_turn self.old.session (event.Call call.Open) (reply.Opened id) self.new.session) }
+        ensures refused { IfErr result (λ fault. Gives in_turn self.old.session (event.Call call.Open) (reply.Refused fault) self.new.session × (self.new.session ≡ self.old.session)) }
+        ensures wire { KeepsWire self.old self.new }
+    {
+        self.session.open()
+    }
+
+    /// Takes the offered stream that came first, and returns its id. Its device may be used once `note_device` says so.
+    /// `None` where none waits, where the session refuses, and where there is no memory to keep the connection: then the
+    /// stream is reset and forgotten.
+    pub fn accept(&mut self) -> Option<u32>
+        ensures accepted { IfSome result (λ id. Gives in_turn self.old.session (event.Call call.Accept) (reply.Accepted (Some id)) self.new.session) }
+        ensures none { IfNone result (AcceptsNone self.old.session self.new.session) }
+        ensures wire { KeepsWire self.old self.new }
+    {
+        let id = self.accept_stream()?;
+        if self.connections.add(id, false).is_err() {
+            self.drop_stream(id);
+            return None;
+        }
+        Some(id)
+    }
+
+    /// Takes the offered stream that came first. `None` where the session offers none, or refuses.
+    fn accept_stream(&mut self) -> Option<u32>
+        ensures accepted { IfSome result (λ id. Gives in_turn self.old.session (event.Call call.Accept) (reply.Accepted (Some id)) self.new.session) }
+        ensures none { IfNone result (OffersNone self.old.session self.new.session) }
+        ensures wire { KeepsWire self.old self.new }
+    {
+        match self.session.accept() {
+            Ok(offered) => offered,
+            Err(_) => None,
+        }
+    }
+
+    /// Resets a stream and forgets it.
+    fn drop_stream(&mut self, id: u32)
+        ensures given_up { GivesUp id self.old.session self.new.session }
+        ensures wire { KeepsWire self.old self.new }
+    {
+        let _ = self.session.reset(id);
+        let _ = self.session.forget(id);
+    }
+
+    /// Gives a connection up whose device can't be made: its stream is reset and forgotten.
+    pub fn refuse(&mut self, id: u32)
+        ensures given_up { GivesUp id self.old.session self.new.session }
+        ensures wire { KeepsWire self.old self.new }
+    {
+        self.connections.remove(id);
+        self.drop_stream(id);
+    }
+
+    /// Gives a connection up of which neither way is open: its stream is no stream of the caller's any more.
+    pub fn forget(&mut self, id: u32)
+        ensures forgotten { (told : Reply) × Gives in_turn self.old.session (event.Call (call.Forget id)) told self.new.session }
+        ensures wire { KeepsWire self.old self.new }
+    {
+        self.connections.remove(id);
+        let _ = self.session.forget(id);
+    }
+
+    /// What is known of a connection.
+    pub fn connection(&self, id: u32) -> Option<Connection> {
+        self.connections.get(id)
+    }
+
+    /// The connection whose turn it is, among those that may have something to move.
+    pub fn next(&mut self) -> Option<u32>
+        ensures { self.new ≡ self.old }
+    {
+        self.connections.next()
+    }
+
+    /// How many connections may have something to move.
+    pub fn queued_count(&self) -> usize {
+        self.connections.queued_count()
+    }
+
+    /// One turn of a connection, with its device: at most four writes to it, and then, unless bytes wait for the wire,
+    /// at most two reads from it. It makes at most 13 calls of the device.
+    ///
+    /// What the stream took is what the device gave, and what the device took is what the stream gave (clause `moved`).
+    pub fn serve<D: Device>(&mut self, id: u32, device: &mut D)
+        ensures moved { Exchanges id self.old.session self.new.session (D.seen device.old) (D.seen device.new) }
+        ensures calls { (D.seen device.new).calls ≤ (D.seen device.old).calls + 13 }
+        ensures wire { KeepsWire self.old self.new }
+    {
+        if let Some(found) = self.connections.get(id) {
+            let mut connection = found;
+            let may_pull = self.is_wire_over || self.outgoing.waiting().is_empty();
+            let buffer = self.buffer.as_mut_slice();
+            let more = serve(
+                &mut self.session,
+                id,
+                &mut connection,
+                device,
+                buffer,
+                may_pull,
+            );
+            self.connections.set(id, connection);
+            if more {
+                self.connections.enqueue(id);
+            } else if !may_pull && connection.may_pull() {
+                self.connections.hold(id);
+            }
+        }
+    }
+
+    // ---- the wire
+
+    /// Reads from the wire once, where all that it gave before was fed, and feeds what waits. It makes at most one call
+    /// of the wire. Once the wire has ended or failed the session is lost.
+    pub fn read_wire<D: Device>(&mut self, wire: &mut D)
+        ensures { Carries self.old self.new (D.seen wire.old) (D.seen wire.new) 1 }
+    {
+        if self.is_fed() {
+            if self.may_pull_wire() {
+                self.pull_wire(wire);
+            }
+            return;
+        }
+        self.feed();
+    }
+
+    /// Whether all that the wire gave was fed.
+    fn is_fed(&self) -> bool
+        ensures { result ≡ true → self.now.incoming ≡ [] }
+    {
+        self.incoming.waiting().is_empty()
+    }
+
+    /// Whether the wire has taken all that was emitted.
+    fn is_sent(&self) -> bool
+        ensures { result ≡ true → self.now.outgoing ≡ [] }
+    {
+        self.outgoing.waiting().is_empty()
+    }
+
+    /// Reads from the wire once, and feeds what came. What the wire said.
+    fn pull_wire<D: Device>(&mut self, wire: &mut D) -> Pulled
+        requires { self.old.incoming ≡ [] }
+        ensures { CarriesSo (is_end result) (is_pull_failure result) self.old self.new (D.seen wire.old) (D.seen wire.new) 1 }
+    {
+        let pulled = self.take_from_wire(wire);
+        self.hear_pulled(pulled);
+        pulled
+    }
+
+    /// What the wire gives waits to be fed.
+    fn take_from_wire<D: Device>(&mut self, wire: &mut D) -> Pulled
+        requires { self.old.incoming ≡ [] }
+        ensures { TakesIn result self.old self.new (D.seen wire.old) (D.seen wire.new) }
+    {
+        self.incoming.pull_from(wire)
+    }
+
+    /// What came is fed. Where no more will come the session is lost.
+    fn hear_pulled(&mut self, pulled: Pulled)
+        ensures { Handles (is_end pulled || is_pull_failure pulled) self.old self.new }
+    {
+        match pulled {
+            Pulled::Gave(count) => self.feed_came(count == BLOCK),
+            Pulled::NotNow => self.note_pulled(false),
+            Pulled::Ended => self.lose(),
+            Pulled::Failed => self.lose(),
+        }
+    }
+
+    /// Whether the wire may have more.
+    fn note_pulled(&mut self, more: bool)
+        ensures { self.new ≡ self.old }
+    {
+        self.can_pull_wire = more;
+    }
+
+    /// Feeds what came. `more` says whether the wire may have more.
+    fn feed_came(&mut self, more: bool)
+        ensures { Handles false self.old self.new }
+    {
+        self.note_pulled(more);
+        self.feed();
+    }
+
+    /// Feeds what waits, and queues the streams that it touches.
+    fn feed(&mut self)
+        ensures { Handles false self.old self.new }
+    {
+        let fed = self
+            .session
+            .feed_touching(self.incoming.waiting(), &mut self.touched);
+        self.incoming.drop_front(fed.taken);
+        self.has_lacked_memory |= fed.no_memory > 0;
+        self.connections.enqueue_touched(&mut self.touched);
+        if self.session.status() != Status::Running {
+            self.connections.enqueue_all();
+        }
+    }
+
+    /// The wire is no more: the session is lost.
+    fn lose(&mut self)
+        ensures { Handles true self.old self.new }
+    {
+        self.is_wire_over = true;
+        self.session.feed_end();
+        self.connections.enqueue_all();
+    }
+
+    /// Writes what is due to the wire, in at most four calls. Once the wire has failed the session is lost.
+    pub fn flush<D: Device>(&mut self, wire: &mut D)
+        ensures { Carries self.old self.new (D.seen wire.old) (D.seen wire.new) 4 }
+    {
+        'write: for turn in 0..4u64 {
+            if !self.write_once(wire) {
+                return;
+            }
+        }
+    }
+
+    /// Writes to the wire once, where it may take bytes. Whether more may be written.
+    fn write_once<D: Device>(&mut self, wire: &mut D) -> bool
+        ensures { Carries self.old self.new (D.seen wire.old) (D.seen wire.new) 1 }
+    {
+        if !self.can_push_wire {
+            return false;
+        }
+        self.fill_outgoing();
+        if self.is_sent() {
+            return false;
+        }
+        self.push_wire(wire);
+        self.can_push_wire
+    }
+
+    /// Where nothing waits, what is due waits.
+    fn fill_outgoing(&mut self)
+        ensures { Handles false self.old self.new }
+    {
+        if self.is_sent() {
+            self.emit();
+        }
+    }
+
+    /// What is due waits.
+    fn emit(&mut self)
+        requires { self.old.outgoing ≡ [] }
+        ensures { Handles false self.old self.new }
+    {
+        self.outgoing.emit_from(&mut self.session);
+    }
+
+    /// Writes what waits to the wire once. What the wire said.
+    fn push_wire<D: Device>(&mut self, wire: &mut D) -> Pushed
+        ensures { CarriesSo false (is_push_failure result) self.old self.new (D.seen wire.old) (D.seen wire.new) 1 }
+    {
+        let all = self.outgoing.waiting().len();
+        let pushed = self.give_to_wire(wire);
+        self.hear_pushed(pushed, all);
+        pushed
+    }
+
+    /// The wire takes the first of the bytes that wait.
+    fn give_to_wire<D: Device>(&mut self, wire: &mut D) -> Pushed
+        ensures { GivesOut result self.old self.new (D.seen wire.old) (D.seen wire.new) }
+    {
+        let pushed = wire.push(self.outgoing.waiting());
+        self.outgoing.drop_front(pushed.count());
+        pushed
+    }
+
+    /// What the wire said of so many bytes is heard. Where it failed the session is lost.
+    fn hear_pushed(&mut self, pushed: Pushed, all: usize)
+        ensures { Handles (is_push_failure pushed) self.old self.new }
+    {
+        self.note_pushed(pushed.count() == all);
+        match pushed {
+            Pushed::Took(_) => {}
+            Pushed::NotNow => {}
+            Pushed::Failed => self.lose(),
+        }
+    }
+
+    /// Whether the wire took all that waited, and may take more: then the connections that were held back go on.
+    fn note_pushed(&mut self, all: bool)
+        ensures { self.new ≡ self.old }
+    {
+        self.can_push_wire = all;
+        if all {
+            self.connections.release();
+        }
+    }
+
+    // ---- how it stands
+
+    /// Whether a further round would move anything with no further event.
+    pub fn has_work(&self) -> bool {
+        self.connections.queued_count() > 0
+            || self.may_read_wire()
+            || (self.can_push_wire && (self.session.due() || !self.outgoing.waiting().is_empty()))
+    }
+
+    /// Whether the wire may have bytes, or bytes of it may be fed now.
+    fn may_read_wire(&self) -> bool {
+        if self.incoming.waiting().is_empty() {
+            self.may_pull_wire()
+        } else {
+            self.outgoing.waiting().is_empty() && self.session.status() == Status::Running
+        }
+    }
+
+    /// Whether the wire may have bytes.
+    fn may_pull_wire(&self) -> bool {
+        self.can_pull_wire && !self.is_wire_over
+    }
+
+    /// Whether nothing is due, and the wire has taken all that was emitted.
+    pub fn is_flushed(&self) -> bool {
+        self.outgoing.waiting().is_empty() && !self.session.due()
+    }
+
+    /// Whether a stream of the peer's was ever rejected for want of memory.
+    pub fn has_lacked_memory(&self) -> bool {
+        self.has_lacked_memory
+    }
+
+    /// How many streams wait to be accepted.
+    pub fn offered_count(&self) -> usize
+        ensures { result ≡ length self.now.session.offered }
+    {
+        self.session.offered_count()
+    }
+
+    /// The state of the session.
+    pub fn status(&self) -> Status
+        ensures { result ≡ self.now.session.status }
+    {
+        self.session.status()
+    }
+}

@@ -1,0 +1,216 @@
+//! What moves between a stream and its device in one turn.
+
+ghost use Rattle.std.specs.Prelude.{◌≡◌, ◌≤◌, ◌+◌, [], length};
+ghost use Rattle.ymx_model.specs.declared.types.Event.TheVariants as event;
+ghost use Rattle.ymx_machine.specs.declared.types.Call.TheVariants as call;
+ghost use Rattle.ymx_machine.specs.declared.types.Reply.{Reply};
+ghost use Rattle.ymx_model.specs.session.Emissions.{in_turn};
+ghost use Rattle.ymx_model.specs.session.Histories.{Gives};
+ghost use Rattle.ymx_session.specs.Streams.{waiting, room_of};
+ghost use Rattle.ymx_engine.specs.Devices.{IsShut};
+ghost use Rattle.ymx_engine.specs.Exchanges.{Exchange, Exchanges, ExchangesOnce};
+
+use crate::calls::{Silence, ask, finish, is_stopped, reset, take_out, write};
+use crate::connection::{Connection, Way};
+use crate::device::{Device, Pulled, Pushed};
+use ymx_session::Session;
+
+/// One turn of a connection: at most four writes to its device, then, where `may_pull` says so, at most two reads from
+/// it. Whether more may be moved at once. It makes at most 13 calls of the device.
+pub(crate) fn serve<D: Device>(
+    session: &mut Session,
+    id: u32,
+    connection: &mut Connection,
+    device: &mut D,
+    buffer: &mut [u8],
+    may_pull: bool,
+) -> bool
+    ensures moved { Exchanges id session.old session.new (D.seen device.old) (D.seen device.new) }
+    ensures calls { (D.seen device.new).calls ≤ (D.seen device.old).calls + 13 }
+{
+    let more = deliver(session, id, connection, device);
+    hear_stop(session, id, connection, device);
+    if !may_pull {
+        return more;
+    }
+    collect(session, id, connection, device, buffer) || more
+}
+
+/// At most four writes to the device, out of the stream's ring. Whether more may be written at once.
+fn deliver<D: Device>(
+    session: &mut Session,
+    id: u32,
+    connection: &mut Connection,
+    device: &mut D,
+) -> bool
+    ensures moved { Exchange id session.old session.new (D.seen device.old) (D.seen device.new) [] }
+    ensures calls { (D.seen device.new).calls ≤ (D.seen device.old).calls + 8 }
+{
+    'push: for turn in 0..4u64 {
+        if !connection.may_push() {
+            return false;
+        }
+        if !push_once(session, id, connection, device) {
+            return false;
+        }
+    }
+    true
+}
+
+/// Writes to the device once. Whether more may be written.
+fn push_once<D: Device>(
+    session: &mut Session,
+    id: u32,
+    connection: &mut Connection,
+    device: &mut D,
+) -> bool
+    ensures moved { Exchange id session.old session.new (D.seen device.old) (D.seen device.new) [] }
+    ensures calls { (D.seen device.new).calls ≤ (D.seen device.old).calls + 2 }
+{
+    let bytes = session.unread(id);
+    if bytes.is_empty() {
+        hear_silence(session, id, connection, device);
+        return false;
+    }
+    let all = bytes.len();
+    match device.push(bytes) {
+        Pushed::Took(count) => {
+            take_out(session, id, count);
+            connection.can_push = count == all;
+            connection.can_push
+        }
+        Pushed::NotNow => {
+            connection.can_push = false;
+            false
+        }
+        Pushed::Failed => {
+            give_up(session, id, connection, device);
+            false
+        }
+    }
+}
+
+/// Nothing waits to be written: the device is ended at the stream's end, and shut where the stream is no more.
+fn hear_silence<D: Device>(
+    session: &mut Session,
+    id: u32,
+    connection: &mut Connection,
+    device: &mut D,
+)
+    requires { waiting id session.old ≡ [] }
+    ensures moved { Exchange id session.old session.new (D.seen device.old) (D.seen device.new) [] }
+    ensures calls { (D.seen device.new).calls ≤ (D.seen device.old).calls + 1 }
+{
+    match ask(session, id) {
+        Silence::Wait => {}
+        Silence::End => {
+            connection.outward = Way::Ended;
+            device.end();
+        }
+        Silence::Stopped => {
+            connection.break_off();
+            device.shut();
+        }
+    }
+}
+
+/// Nothing more goes to the device: it is shut once its stream takes nothing any more.
+fn hear_stop<D: Device>(session: &mut Session, id: u32, connection: &mut Connection, device: &mut D)
+    ensures moved { Exchange id session.old session.new (D.seen device.old) (D.seen device.new) [] }
+    ensures calls { (D.seen device.new).calls ≤ (D.seen device.old).calls + 1 }
+{
+    if !connection.is_half_over() {
+        return;
+    }
+    if is_stopped(session, id) {
+        connection.break_off();
+        device.shut();
+    }
+}
+
+/// The device failed: its stream is reset.
+fn give_up<D: Device>(session: &mut Session, id: u32, connection: &mut Connection, device: &mut D)
+    ensures reset { (told : Reply) × Gives in_turn session.old (event.Call (call.Reset id)) told session.new }
+    ensures shut { IsShut (D.seen device.old) (D.seen device.new) }
+{
+    reset(session, id);
+    connection.break_off();
+    device.shut();
+}
+
+/// At most two reads from the device. Whether more may be read at once.
+fn collect<D: Device>(
+    session: &mut Session,
+    id: u32,
+    connection: &mut Connection,
+    device: &mut D,
+    buffer: &mut [u8],
+) -> bool
+    ensures moved { Exchanges id session.old session.new (D.seen device.old) (D.seen device.new) }
+    ensures calls { (D.seen device.new).calls ≤ (D.seen device.old).calls + 4 }
+{
+    if !connection.may_pull() {
+        return false;
+    }
+    if !pull_once(session, id, connection, device, buffer) {
+        return false;
+    }
+    if !connection.may_pull() {
+        return false;
+    }
+    pull_once(session, id, connection, device, buffer)
+}
+
+/// Reads from the device once, as many bytes as the stream takes. Whether more may be read: not once bytes were lost.
+fn pull_once<D: Device>(
+    session: &mut Session,
+    id: u32,
+    connection: &mut Connection,
+    device: &mut D,
+    buffer: &mut [u8],
+) -> bool
+    ensures moved { ExchangesOnce id session.old session.new (D.seen device.old) (D.seen device.new) result }
+    ensures calls { (D.seen device.new).calls ≤ (D.seen device.old).calls + 2 }
+{
+    let room = session.room(id).min(buffer.len());
+    if room > 0 {
+        return pull_into(session, id, connection, device, &mut buffer[..room]);
+    }
+    if is_stopped(session, id) {
+        connection.break_off();
+        device.shut();
+    }
+    false
+}
+
+/// Reads from the device once into this buffer, all of which the stream would take.
+fn pull_into<D: Device>(
+    session: &mut Session,
+    id: u32,
+    connection: &mut Connection,
+    device: &mut D,
+    buffer: &mut [u8],
+) -> bool
+    requires fits { length buffer.old ≤ room_of id session.old }
+    ensures moved { ExchangesOnce id session.old session.new (D.seen device.old) (D.seen device.new) result }
+    ensures calls { (D.seen device.new).calls ≤ (D.seen device.old).calls + 2 }
+{
+    match device.pull(buffer) {
+        Pulled::Gave(count) => {
+            if count < buffer.len() && !connection.is_closing {
+                connection.can_pull = false;
+            }
+            if write(session, id, &buffer[..count]) {
+                return true;
+            }
+            give_up(session, id, connection, device);
+        }
+        Pulled::NotNow => connection.can_pull = false,
+        Pulled::Ended => {
+            finish(session, id);
+            connection.inward = Way::Ended;
+        }
+        Pulled::Failed => give_up(session, id, connection, device),
+    }
+    false
+}

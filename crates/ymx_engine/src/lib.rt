@@ -1,0 +1,15 @@
+//! The tunnel of one end as a value: a session, its streams, and what each waits for. It has no thread, no lock and
+//! no socket: devices are lent to its calls, none of which waits.
+#![tactic(auto)]
+
+mod block;
+mod calls;
+mod connection;
+mod connections;
+mod device;
+mod engine;
+mod exchange;
+
+pub use connection::{Connection, Way};
+pub use device::{Device, Pulled, Pushed};
+pub use engine::Engine;

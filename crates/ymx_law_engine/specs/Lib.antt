@@ -1,0 +1,2 @@
+pub mod Tunnels
+pub mod Example

@@ -1,0 +1,34 @@
+//! The law of two engines that are joined: what happened at both is one run of the queue machine. Each public function
+//! is a law: it does nothing, and its contract is the theorem.
+#![tactic(auto)]
+
+ghost use Rattle.std.specs.Prelude.{ℕ, List};
+ghost use Rattle.ymx_model.specs.declared.types.Event.{Event};
+ghost use Rattle.ymx_machine.specs.declared.types.Reply.{Reply};
+ghost use Rattle.ymx_machine.specs.declared.types.Step.{Step};
+ghost use Rattle.ymx_model.specs.session.Sessions.{Session};
+ghost use Rattle.ymx_model.specs.session.Emissions.{in_turn};
+ghost use Rattle.ymx_model.specs.session.Histories.{Replays};
+ghost use Rattle.ymx_law_audit.specs.Joints.{IsJointOrder};
+ghost use Rattle.ymx_law_audit.specs.Example.{joint_steps};
+ghost use Rattle.ymx_engine.specs.Events.{Happen};
+ghost use Rattle.ymx_law_engine.specs.Tunnels.{entries, AreJoined};
+ghost use Rattle.ymx_law_engine.specs.Example.{events_of_a, events_of_b};
+
+/// What happened at an engine is a history of its session, as the audit reads one.
+pub fn events_are_a_history()
+    ensures { (events : List (Event × Reply)) (s t : Session) → Happen events s t → Replays in_turn (entries events) s t }
+{}
+
+/// Two engines that are joined are one run of the queue machine. Where the events of a client's engine lead from its new
+/// session, those of a server's from its own, and the bytes that each was fed are those that the other emitted, in a joint
+/// order with these steps, the replies are the answers of a run of these two sessions from the new world, and the queue
+/// machine has a run that goes alike.
+pub fn joined_engines_are_one_run()
+    ensures { (events_a events_b : List (Event × Reply)) (steps : List Step) → AreJoined events_a events_b steps }
+{}
+
+/// The events of two engines that have a joint order, worked.
+pub fn worked_engines()
+    ensures { IsJointOrder (entries events_of_a) (entries events_of_b) joint_steps }
+{}
