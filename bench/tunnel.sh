@@ -77,7 +77,7 @@ def tunnel(kind, echo):
     if kind == "Go":
         far = Process([peer, "remote", "-at", ANY, "-to", echo.address])
         return Process([peer, "local", "-at", ANY, "-to", far.address]), far
-    far = Process([ymx, "remote", "--bind", free_address(), "--target", echo.address, "--workers", "64"], 3)
+    far = Process([ymx, "remote", "--bind", free_address(), "--target", echo.address], 3)
     return Process([ymx, "local", "--listen", free_address(), "--peer", far.address], 3), far
 
 

@@ -6,71 +6,23 @@
 # golang-github-hashicorp-yamux-dev. With a number it makes so many streams in place of 10,000.
 set -eu
 here=$(cd "$(dirname "$0")" && pwd)
-root=$(cd "$here/../.." && pwd)
+. "$here/../over.sh"
 count=${1-10000}
-library=/usr/share/gocode/src/github.com/hashicorp/yamux
-if ! command -v go > /dev/null || [ ! -d $library ]; then
-    echo "Go or its yamux is not here: apt-get install golang-go golang-github-hashicorp-yamux-dev"
-    exit 1
-fi
-"$root/ymx" --version > /dev/null
-scratch=$(mktemp -d)
-jobs=
-stop() {
-    # shellcheck disable=SC2086
-    [ -z "$jobs" ] || kill $jobs 2> /dev/null || true
-    jobs=
-}
-trap 'stop; rm -rf "$scratch"' EXIT
-trap 'exit 130' INT TERM
+has_go || fail "Go or its yamux is not here: apt-get install golang-go golang-github-hashicorp-yamux-dev"
+find_program
 cd "$scratch"
-GO111MODULE=off GOPATH=/usr/share/gocode go build -o peer "$here/peer.go"
-passed=0
-failed=0
-
-# begin NAME COMMAND..: starts it, and waits until it says where it listens
-begin() {
-    name=$1
-    shift
-    # What an earlier one said is gone before it is looked for.
-    : > "$name"
-    "$@" > "$name" 2>&1 &
-    jobs="$jobs $!"
-    tries=0
-    until address=$(sed -n 's/^.*listening at //p' "$name" | head -n 1) && [ -n "$address" ]; do
-        tries=$((tries + 1))
-        [ $tries -lt 100 ] || { echo "$name says nothing:"; cat "$name"; exit 1; }
-        sleep 0.1
-    done
-}
-
-# a port that nobody listens at
-free_port() {
-    python3 -c 'import socket; s = socket.socket(); s.bind(("127.0.0.1", 0)); print(s.getsockname()[1])'
-}
-
-# begin_ymx WORDS..: starts the program, and waits until it listens at $address
-begin_ymx() {
-    "$root/out/ymx" "$@" > ymx_said 2>&1 &
-    jobs="$jobs $!"
-    tries=0
-    until ss -ltn | grep -q " $address "; do
-        tries=$((tries + 1))
-        [ $tries -lt 100 ] || { echo "ymx $1 does not listen:"; cat ymx_said; exit 1; }
-        sleep 0.1
-    done
-}
+go_program "$here/peer.go" peer
 
 # ended NAME COMMAND..: the last line of what it says, as a test
 ended() {
     name=$1
     shift
     if timeout 600 "$@" > calls 2>&1; then
-        passed=$((passed + 1))
+        good
         echo "ok    $name: $(tail -n 1 calls)"
     else
-        failed=$((failed + 1))
-        echo "FAIL  $name: $(tail -n 3 calls)"
+        tail -n 3 calls > said
+        bad "$name" said
     fi
     stop
 }
@@ -78,18 +30,17 @@ ended() {
 any=127.0.0.1:0
 for ours in 262144 1048576; do
     for theirs in 262144 1048576; do
-        begin target ./peer serve-tcp -at $any
+        begin_anywhere target ./peer serve-tcp -at $any
         target=$address
         address=127.0.0.1:$(free_port)
-        begin_ymx remote --bind "$address" --target "$target" --window $ours --workers 64
+        begin ymx_said "$address" "$ymx" remote --bind "$address" --target "$target" --window $ours --workers 64
         ended "Go's client ($theirs) calls ymx remote ($ours)" \
             ./peer call-mux -at "$address" -window $theirs -count "$count" -at-once 64
-        begin server ./peer serve-mux -at $any -window $theirs
+        begin_anywhere server ./peer serve-mux -at $any -window $theirs
         peer=$address
         address=127.0.0.1:$(free_port)
-        begin_ymx local --listen "$address" --peer "$peer" --window $ours
+        begin ymx_said "$address" "$ymx" local --listen "$address" --peer "$peer" --window $ours
         ended "ymx local ($ours) calls Go's server ($theirs)" ./peer call-tcp -at "$address" -count "$count" -at-once 64
     done
 done
-echo "$passed passed, $failed failed"
-[ $failed = 0 ]
+counted

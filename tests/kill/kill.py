@@ -5,12 +5,11 @@ their place in the connection settles, and compares what comes: so what came is 
 
 1. At a random moment `ymx remote`, `ymx local`, the target or a client is killed, 100 times. Where the session is
    lost, the clients see an end, and the other `ymx` ends with its status, within 5 seconds. Where a client or the
-   target died, the same tunnel serves the next clients, holds no descriptor of the dead ones, and no more threads than
-   it keeps for the next connections.
+   target died, the same tunnel serves the next clients, holds no descriptor of the dead ones, and has one thread.
 2. The same for `ymx` and connections on which nothing moves: idle ones, ones of which one side has ended, ones of
    which nobody reads.
 3. Short connections, 64 at once: descriptors and threads after 1,000, 10,000 and 20,000. The second 10,000 must leave
-   threads and resident memory as they were.
+   resident memory as it was.
 4. 500 clients killed in the middle: descriptors and threads again.
 
 usage: kill.py YMX [KILLS [SEED]]
@@ -40,8 +39,6 @@ PATIENCE = 5.0
 # How much more resident memory 10,000 short connections may leave behind, in KiB: less than 1 KiB for each, where a
 # ring, a buffer or a stack that is left would be 4 at least.
 MOST_GROWTH = 8192
-# How many threads `ymx local` keeps for the next connections at most, with a partner for each.
-MOST_IDLE = 64
 
 
 def piece(number, from_target, place, count):
@@ -329,6 +326,14 @@ def descriptors(pid):
     return len(os.listdir(f"/proc/{pid}/fd"))
 
 
+def has_set(pid):
+    """Whether it has made the set of descriptors that it waits for."""
+    try:
+        return any(os.readlink(entry.path) == "anon_inode:[eventpoll]" for entry in os.scandir(f"/proc/{pid}/fd"))
+    except FileNotFoundError:
+        return False
+
+
 def threads(pid):
     return len(os.listdir(f"/proc/{pid}/task"))
 
@@ -373,11 +378,7 @@ class Ymx:
     def __init__(self, folder, words):
         self.said = open(os.path.join(folder, f"said{time.monotonic_ns()}"), "w+")
         self.words = words
-        # One heap for all threads: with one for each, memory that a thread left free would count as held.
-        heap = dict(os.environ, MALLOC_ARENA_MAX="1")
-        self.process = subprocess.Popen(
-            words, stdin=subprocess.DEVNULL, stdout=self.said, stderr=subprocess.STDOUT, env=heap
-        )
+        self.process = subprocess.Popen(words, stdin=subprocess.DEVNULL, stdout=self.said, stderr=subprocess.STDOUT)
         self.pid = self.process.pid
 
     def wait_until_it_listens(self, port):
@@ -420,28 +421,19 @@ class Tunnel:
         self.local = Ymx(folder, [program, "local", "--listen", f"127.0.0.1:{port}", "--peer", address])
         self.local.wait_until_it_listens(port)
         self.address = ("127.0.0.1", port)
-        # Threads that have not begun yet would be counted as missing: the pumps of both, and the remote side's workers.
-        wait_for(lambda: threads(self.local.pid) >= 3 and threads(self.remote.pid) >= workers + 2)
-        self.workers = workers
+        # The set of descriptors that each waits for is made last, once both are connected.
+        wait_for(lambda: all(has_set(one.pid) for one in (self.local, self.remote)))
         self.at_rest = self.holds()
 
     def holds(self):
         """Descriptors and threads of both."""
         return [(descriptors(one.pid), threads(one.pid)) for one in (self.local, self.remote)]
 
-    def check_rest(self, at_once):
-        """Both hold the descriptors that they held at first, and no threads but those and what they keep where so many
-        connections were open at once: `local` two for each, and `remote` a partner of each worker. In 5 seconds at
-        most."""
-        kept = 2 * min(at_once, MOST_IDLE), self.workers
-        most = [(held, count + more) for (held, count), more in zip(self.at_rest, kept)]
-
-        def rests():
-            pairs = zip(self.holds(), most)
-            return all(held == wanted and count <= limit for (held, count), (wanted, limit) in pairs)
-
-        if wait_for(rests) is None:
-            raise Fault(f"descriptors and threads of local and remote are {self.holds()}, and may be {most}")
+    def check_rest(self):
+        """Both hold the descriptors that they held at first, and have one thread. In 5 seconds at most."""
+        wanted = [(held, 1) for held, _ in self.at_rest]
+        if wait_for(lambda: self.holds() == wanted) is None:
+            raise Fault(f"descriptors and threads of local and remote are {self.holds()}, and were {wanted}")
 
     def kill(self):
         for one in self.local, self.remote:
@@ -610,7 +602,7 @@ class Killing:
     def goes_on(self):
         """The tunnel serves the next client, and holds nothing of those before."""
         self.client(4, self.chance.randrange(1 << 20)).check_whole(20)
-        self.tunnel.check_rest(16)
+        self.tunnel.check_rest()
 
 
 def call_until_it_ends(local, address):
@@ -688,13 +680,11 @@ def run_leaks(folder, program, tests):
         if status:
             raise Fault(f"{os.waitstatus_to_exitcode(status)} connections went wrong")
         target.check()
-        tunnel.check_rest(64)
-        held.append([(threads(one.pid), memory(one.pid)) for _, one in both])
+        tunnel.check_rest()
+        held.append([memory(one.pid) for _, one in both])
 
     def grown(before, after):
-        for (name, _), (few, less), (many, more) in zip(both, before, after):
-            if many > few:
-                raise Fault(f"{name} had {few} threads, and has {many}")
+        for (name, _), less, more in zip(both, before, after):
             if more - less >= MOST_GROWTH:
                 raise Fault(f"{name} grew from {less} to {more} KiB")
 
@@ -710,14 +700,14 @@ def run_leaks(folder, program, tests):
                 os.close(client.begun)
                 client.kill()
         target.check()
-        tunnel.check_rest(64)
+        tunnel.check_rest()
 
     try:
         print(f"      at rest: {told(tunnel, both)}", flush=True)
         for first, last in (0, 1000), (1000, 10_000), (10_000, 20_000):
             tests.attempt(f"{last} short connections", lambda: load(range(first, last)))
             print(f"      after {last:,} connections: {told(tunnel, both)}", flush=True)
-        tests.attempt("threads and resident memory after 20,000 connections", lambda: grown(*held[-2:]))
+        tests.attempt("resident memory after 20,000 connections", lambda: grown(*held[-2:]))
         tests.attempt("500 clients killed in the middle", killed)
         print(f"      after 500 killed clients: {told(tunnel, both)}", flush=True)
         tests.attempt("200 connections after that", lambda: load(range(200)))

@@ -4,9 +4,9 @@
 # With a number it makes so many kills in place of 100; with a second one it takes that seed.
 set -eu
 here=$(cd "$(dirname "$0")" && pwd)
-root=$(cd "$here/../.." && pwd)
-"$root/ymx" --version > /dev/null
+. "$here/../over.sh"
+find_program
 status=0
-python3 "$here/break.py" "$root/out/ymx" || status=1
-python3 "$here/kill.py" "$root/out/ymx" "$@" || status=1
+python3 "$here/break.py" "$ymx" || status=1
+python3 "$here/kill.py" "$ymx" "$@" || status=1
 exit $status

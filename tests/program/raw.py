@@ -141,13 +141,17 @@ def no_connections():
 
 
 def the_third_of_two():
-    """It ends once both streams have, and serves no third connection."""
+    """It ends once both streams have, and serves no third connection: it listens no more."""
     program, peer = local("--count", "2")
     place = program.place()
     users = [call(place), call(place)]
     opened = take(peer, 24)
     assert opened == frame(WINDOW, SYN, 1, 0) + frame(WINDOW, SYN, 3, 0), opened.hex()
-    third = call(place)
+    try:
+        call(place).close()
+        raise AssertionError("a third is connected")
+    except ConnectionRefusedError:
+        pass
     for stream in 1, 3:
         peer.sendall(frame(WINDOW, ACK | FIN, stream, 0))
     for user in users:
@@ -158,10 +162,6 @@ def the_third_of_two():
     peer.close()
     status, said = program.end()
     assert status == 0 and len(said.splitlines()) == 2, said
-    try:
-        assert has_ended(third), "the third was served"
-    except ConnectionResetError:
-        pass
 
 
 def window_of_local():
@@ -213,7 +213,7 @@ def workers(words, count):
     for stream in streams:
         peer.sendall(frame(WINDOW, SYN, stream, 0))
     served = [accept(target) for _ in range(count)]
-    # A byte goes through each: the workers are all at work, and none is left for the last stream.
+    # A byte goes through each: all places are taken, and none is left for the last stream.
     for connection in served:
         connection.sendall(b"!")
     accepted, answers = set(), 0
@@ -292,8 +292,9 @@ def local_cannot_listen():
 
 
 def an_accept_fails():
-    # Open are standard input, output and error, and where it listens; of `local` the session's connection too.
-    program, peer = local(files=5)
+    # Open are standard input, output and error, and where it listens; of `local` the session's connection too, and the
+    # set of what it waits for.
+    program, peer = local(files=6)
     program.place()
     assert has_ended(peer)
     peer.close()
@@ -302,9 +303,18 @@ def an_accept_fails():
     assert program.end() == (1, f"ymx: cannot listen at {ANY}\n")
 
 
+def no_set_to_wait_for():
+    """Without a descriptor for it nothing is done."""
+    program, peer = local(files=5)
+    program.place()
+    assert has_ended(peer)
+    peer.close()
+    assert program.end() == (1, "ymx: out of memory\n")
+
+
 def a_failed_accept_and_a_broken_session():
     """Of both the failed accept is told."""
-    program, peer = local(files=6)
+    program, peer = local(files=7)
     user = call(program.place())
     assert take(peer, 12) == frame(WINDOW, SYN, 1, 0)
     peer.sendall(BAD)
@@ -356,7 +366,7 @@ TESTS = (
     ("--window of local", window_of_local, ()),
     ("--window of remote", window_of_remote, ()),
     ("--workers 1", workers, (("--workers", "1"), 1)),
-    ("16 workers", workers, ((), 16)),
+    ("--workers 16", workers, (("--workers", "16"), 16)),
     ("a second peer", a_second_peer, ()),
     ("a broken session of local", a_broken_session_of_local, ()),
     ("a peer that says that it broke", the_peer_says_that_it_broke, ()),
@@ -364,6 +374,7 @@ TESTS = (
     ("a connection of local that breaks", the_connection_of_local_breaks, ()),
     ("local can't listen", local_cannot_listen, ()),
     ("an accept that fails", an_accept_fails, ()),
+    ("no set to wait for", no_set_to_wait_for, ()),
     ("a failed accept and a broken session", a_failed_accept_and_a_broken_session, ()),
     ("257 opens", too_many_opens, ()),
     ("bad words", bad_words, ()),
@@ -374,10 +385,11 @@ def hangs(_signal, _frame):
     raise TimeoutError(f"it still waits after {SECONDS} seconds")
 
 
-def main():
+def main(tests):
+    """Runs these tests, each with words of its own, and answers whether one failed."""
     signal.signal(signal.SIGALRM, hangs)
     failed = 0
-    for name, test, words in TESTS:
+    for name, test, words in tests:
         signal.alarm(SECONDS)
         try:
             test(*words)
@@ -396,4 +408,4 @@ def main():
 
 
 if __name__ == "__main__":
-    sys.exit(main())
+    sys.exit(main(TESTS))

@@ -4,13 +4,9 @@
 # minute, and fails.
 set -eu
 here=$(cd "$(dirname "$0")" && pwd)
-root=$(cd "$here/../.." && pwd)
-scratch=$(mktemp -d)
-trap 'rm -rf "$scratch"' EXIT
-"$root/ymx" frames < /dev/null
+. "$here/../over.sh"
+find_program
 cd "$scratch"
-passed=0
-failed=0
 : > nothing
 printf 'window flags=0001 id=1 len=0\ndata flags=0000 id=1 len=5 68656c6c6f\n' > lines
 cp "$root/examples/hello.yamux" hello
@@ -23,13 +19,11 @@ expect() {
     status=$1 output=$2 errors=$3 input=$4
     shift 4
     got=0
-    timeout 60 "$root/out/ymx" "$@" < "$input" > out 2> err || got=$?
+    timeout 60 "$ymx" "$@" < "$input" > out 2> err || got=$?
     if [ "$got" = "$status" ] && cmp -s out "$output" && cmp -s err "$errors"; then
-        passed=$((passed + 1))
+        good
     else
-        failed=$((failed + 1))
-        echo "FAIL  ymx $*: status $got, and not $status, or another text:"
-        cat out err
+        bad "ymx $*: status $got, and not $status, or another text:" out err
     fi
 }
 
@@ -57,16 +51,6 @@ expect 2 nothing "$(says 'ymx: bad address localhost:1')" nothing local --listen
 expect 2 nothing "$(says 'ymx: bad address 127.0.0.1')" nothing local --listen 127.0.0.1:1 --peer 127.0.0.1
 expect 2 nothing "$(says 'ymx: bad address 127.0.0.1:65536')" nothing remote --bind 127.0.0.1:65536 --target x
 
-# in_time COMMAND..: tries it until it succeeds, for at most 30 seconds
-in_time() {
-    tries=0
-    until "$@"; do
-        tries=$((tries + 1))
-        [ $tries -lt 300 ] || return 1
-        sleep 0.1
-    done
-}
-
 # port_of FILE: the port that a program has said in this file, once it has
 port_of() {
     in_time grep -qs '[0-9]$' "$1"
@@ -78,11 +62,9 @@ holds() {
     text=$1
     shift
     if "$@"; then
-        passed=$((passed + 1))
+        good
     else
-        failed=$((failed + 1))
-        echo "FAIL  $text"
-        tail -n +1 local_out local_err remote_out remote_err
+        bad "$text" local_out local_err remote_out remote_err
     fi
 }
 
@@ -97,7 +79,6 @@ both_end() {
     wait "$local" && wait "$remote" && cmp -s nothing local_out && cmp -s nothing remote_out
 }
 
-ymx=$root/out/ymx
 python3 "$here/ends.py" echo > echo_port &
 target=127.0.0.1:$(port_of echo_port)
 timeout 60 "$ymx" remote -v --bind 127.0.0.1:0 --target "$target" > remote_out 2> remote_err &
@@ -114,8 +95,8 @@ holds 'what remote -v says' cmp -s remote_err "$(says "ymx: listening at 127.0.0
 # without -v nothing is said
 python3 "$here/ends.py" echo > echo_port &
 target=127.0.0.1:$(port_of echo_port)
-peer=$(python3 "$here/ends.py" port)
-port=$(python3 "$here/ends.py" port)
+peer=$(free_port)
+port=$(free_port)
 timeout 60 "$ymx" remote --bind "127.0.0.1:$peer" --target "$target" > remote_out 2> remote_err &
 remote=$!
 reach() {
@@ -128,8 +109,8 @@ holds 'local says nothing' cmp -s local_err nothing
 holds 'remote says nothing' cmp -s remote_err nothing
 
 # nobody listens at the target
-peer=$(python3 "$here/ends.py" port)
-timeout 60 "$ymx" remote -v --bind "127.0.0.1:$peer" --target "127.0.0.1:$(python3 "$here/ends.py" port)" > remote_out 2> remote_err &
+peer=$(free_port)
+timeout 60 "$ymx" remote -v --bind "127.0.0.1:$peer" --target "127.0.0.1:$(free_port)" > remote_out 2> remote_err &
 remote=$!
 port_of remote_err > remote_port
 timeout 60 "$ymx" local -v --listen 127.0.0.1:0 --peer "127.0.0.1:$peer" --count 1 > local_out 2> local_err &
@@ -141,6 +122,7 @@ holds 'what remote -v says without a target' cmp -s remote_err "$(says "ymx: lis
 holds 'what local -v says without a target' grep -q '^ymx: connection 1: .* bytes to the peer (.*), 0 bytes from the peer (.*)$' local_err
 
 holds 'both ends, frame by frame' python3 "$here/raw.py" "$ymx"
+holds 'connections beside others' python3 -B "$here/beside.py" "$ymx"
 
 expect 0 "$here/help" nothing hello --help
 expect 0 "$here/local_help" nothing hello local --help
@@ -157,13 +139,11 @@ refuses() {
     beginning=$1
     shift
     got=0
-    timeout 60 "$root/out/ymx" "$@" < hello > out 2> err || got=$?
+    timeout 60 "$ymx" "$@" < hello > out 2> err || got=$?
     if [ "$got" = 2 ] && cmp -s out nothing && head -n 1 err | grep -q "^$beginning"; then
-        passed=$((passed + 1))
+        good
     else
-        failed=$((failed + 1))
-        echo "FAIL  ymx $*: status $got, and not 2, or another text:"
-        cat out err
+        bad "ymx $*: status $got, and not 2, or another text:" out err
     fi
 }
 
@@ -171,20 +151,27 @@ refuses 'error: '
 refuses 'error: ' frame
 refuses 'error: ' local
 refuses 'error: ' remote --bind 127.0.0.1:0
-for limit in 262143 16777217 x -1; do
+# a number is decimal digits alone: no sign, no blank, no empty text
+for limit in 262143 16777217 x -1 +262144 -262144 ' 262144' '262144 ' 262_144 0x40000 ''; do
+    refuses 'error: ' frames "--limit=$limit"
+    refuses 'error: ' local --listen 127.0.0.1:0 --peer 127.0.0.1:1 "--window=$limit"
+    refuses 'error: ' remote --bind 127.0.0.1:0 --target 127.0.0.1:1 "--window=$limit"
+done
+for count in 4294967296 x -1 +5 -0 +0 ' 5' '5 ' + ''; do
+    refuses 'error: ' local --listen 127.0.0.1:0 --peer 127.0.0.1:1 "--count=$count"
+done
+for workers in 0 1025 x +16 -16 ' 16' ''; do
+    refuses 'error: ' remote --bind 127.0.0.1:0 --target 127.0.0.1:1 "--workers=$workers"
+done
+refuses "error: invalid value '+5' for '--count': a number is decimal digits alone" local --listen 127.0.0.1:0 --peer 127.0.0.1:1 --count +5
+refuses "error: invalid value '+300000' for '--limit': a number is decimal digits alone" frames --limit +300000
+for limit in 262143 -1; do
     refuses 'error: ' frames --limit $limit
-    refuses 'error: ' local --listen 127.0.0.1:0 --peer 127.0.0.1:1 --window $limit
-    refuses 'error: ' remote --bind 127.0.0.1:0 --target 127.0.0.1:1 --window $limit
-done
-for count in 4294967296 x -1; do
-    refuses 'error: ' local --listen 127.0.0.1:0 --peer 127.0.0.1:1 --count $count
-done
-for workers in 0 1025 x; do
-    refuses 'error: ' remote --bind 127.0.0.1:0 --target 127.0.0.1:1 --workers $workers
 done
 expect 0 lines nothing hello frames --limit 16777216
 expect 1 nothing "$(says 'ymx: cannot reach 127.0.0.1:1')" nothing local --listen 127.0.0.1:0 --peer 127.0.0.1:1
 expect 1 nothing "$(says 'ymx: cannot reach 127.0.0.1:1')" nothing local --listen 127.0.0.1:0 --peer 127.0.0.1:1 --count 4294967295 --window 16777216
+expect 1 nothing "$(says 'ymx: cannot reach 127.0.0.1:1')" nothing local --listen 127.0.0.1:0 --peer 127.0.0.1:1 --count 005 --window=0262144
 # 192.0.2.7 is no address of this machine
 expect 1 nothing "$(says 'ymx: cannot listen at 192.0.2.7:1')" nothing remote --bind 192.0.2.7:1 --target 127.0.0.1:1
 for workers in 1 1024; do
@@ -192,7 +179,7 @@ for workers in 1 1024; do
 done
 
 # a peer whose first header has version 1
-port=$(python3 -c 'import socket; s = socket.socket(); s.bind(("127.0.0.1", 0)); print(s.getsockname()[1])')
+port=$(free_port)
 python3 - "$port" << 'END' &
 import socket, sys, time
 while True:
@@ -221,12 +208,11 @@ expect 1 nothing "$(says 'ymx: reading failed')" nothing script .
 # on_full SUBCOMMAND INPUT: a full device takes nothing
 on_full() {
     got=0
-    timeout 60 "$root/out/ymx" "$1" < "$2" > /dev/full 2> err || got=$?
+    timeout 60 "$ymx" "$1" < "$2" > /dev/full 2> err || got=$?
     if [ "$got" = 1 ] && cmp -s err "$(says 'ymx: writing failed')"; then
-        passed=$((passed + 1))
+        good
     else
-        failed=$((failed + 1))
-        echo "FAIL  ymx $1, on a full device: status $got: $(cat err)"
+        bad "ymx $1, on a full device: status $got" err
     fi
 }
 
@@ -234,5 +220,4 @@ if [ -e /dev/full ]; then
     on_full frames hello
     on_full script "$script"
 fi
-echo "$passed passed, $failed failed"
-[ "$failed" = 0 ]
+counted

@@ -4,14 +4,11 @@
 # these crates a second time.
 set -eu
 here=$(cd "$(dirname "$0")" && pwd)
-root=$(cd "$here/../.." && pwd)
-scratch=$(mktemp -d)
-trap 'rm -rf "$scratch"' EXIT
-trap 'exit 130' INT TERM
+. "$here/../over.sh"
 
 cd "$here"
 [ $# -gt 0 ] || set -- */
-(cd "$root" && find crates -name out -prune -o -type f -print | tar -cf - -T - crates.txt HANDLES) | tar -xf - -C "$scratch"
+copy_repository
 count=0
 for name in "$@"; do
     name=${name%/}
@@ -20,8 +17,8 @@ for name in "$@"; do
         cat "$file" >> "$scratch/crates/$name/src/$(basename "$file" .rattle).rt"
         wanted=$((wanted + $(grep -c '^ *#\[test\]$' "$file" || true)))
     done
-    (cd "$scratch/crates/$name" && rt try --test --seconds 900) > "$scratch/log" 2>&1 || { cat "$scratch/log"; exit 1; }
-    grep -q "^test result: ok. $wanted passed; 0 failed; 0 ignored; 0 filtered out" "$scratch/log" || { cat "$scratch/log"; exit 1; }
+    cd "$scratch/crates/$name"
+    all_pass "$wanted"
     count=$((count + wanted))
     # what stands above it is tried without its tests
     for file in "$here/$name"/*.rattle; do

@@ -1,5 +1,5 @@
 -- What clap makes of words that ask for frames or for a script.
-use Rattle.std.proofs.Common.{◌≡◌, ◌==◌, ◌++◌, ◌<◌, ◌≤◌, ◌^◌, ℕ, true, false, List, [], ◌∷◌, Option, Some, None, arith, rules, refl, ap, codes, decimal, inl, inr, get_or}
+use Rattle.std.proofs.Common.{◌≡◌, ◌==◌, ◌++◌, ◌<◌, ◌≤◌, ℕ, true, false, List, [], ◌∷◌, Option, Some, None, arith, rules, refl, ap, codes, decimal, inl, inr, get_or}
 use Rattle.std.specs.Prelude.{◌≢◌, pos, option_and_then, slice_get}
 use Rattle.std.specs.Fmt.{digits}
 use Rattle.std.specs.Str.{bytes_eq}
@@ -7,6 +7,7 @@ use Rattle.std.specs.Str.Parse.{IsNumeral, digits_value}
 use Rattle.std.proofs.lemmas.Bool.{ne_eqb}
 use Rattle.std.proofs.lemmas.Fmt.{decimal_is_IsNumeral, first_decimal}
 use Rattle.std.proofs.lemmas.Str.Parse.{digit_from_value}
+use Rattle.clap.specs.Faults.{is_simple_and_free}
 use Rattle.clap.specs.Lexer.{strip_byte}
 use Rattle.clap.specs.Words.{Accepts, Text, is_simple, subcommand_of, takes}
 use Rattle.clap.specs.ValueTests.{accepts}
@@ -17,6 +18,9 @@ use Rattle.ymx_cli.specs.CommandLine.{AsksFrames, AsksScript, GivesFile, GivesLi
 
 pub is_simple-ymx : is_simple ymx_app ≡ true
 is_simple-ymx = refl
+
+pub is_simple_and_free-ymx : is_simple_and_free ymx_app ≡ true
+is_simple_and_free-ymx = refl
 
 -- ---- what clap asks of a word
 
@@ -56,27 +60,27 @@ default_file name file p = (rw (p.0, p.1, p.0) refl, rw (p.0, p.1, p.0) refl)
 
 limit_input : (name text : Text) → IsPlain text → Passes text → IsTaken name (codes "--limit" ∷ text ∷ []) text None
 unfolding clap_on_literals
-limit_input name text p a = (rw (p.0, p.1, p.0, a) refl, rw (p.0, p.1, p.0, p.0) refl)
+limit_input name text p a = (rw (p.0, p.1, p.0, a) refl, rw (p.0, p.1, p.0) refl)
 
 limit_dash : (name text : Text) → IsPlain text → Passes text → IsTaken name (codes "--limit" ∷ text ∷ codes "-" ∷ []) text (Some (codes "-"))
 unfolding clap_on_literals
-limit_dash name text p a = (rw (p.0, p.1, p.0, a) refl, rw (p.0, p.1, p.0, p.0) refl)
+limit_dash name text p a = (rw (p.0, p.1, p.0, a) refl, rw (p.0, p.1, p.0) refl)
 
 limit_file : (name text file : Text) → IsPlain text → Passes text → IsPlain file → IsTaken name (codes "--limit" ∷ text ∷ file ∷ []) text (Some file)
 unfolding clap_on_literals
-limit_file name text file p a q = (rw (p.0, p.1, p.0, q.0, q.1, q.0, a) refl, rw (p.0, p.1, p.0, q.0, q.1, q.0, p.0) refl)
+limit_file name text file p a q = (rw (p.0, p.1, p.0, q.0, q.1, q.0, a) refl, rw (p.0, p.1, p.0, q.0, q.1, q.0) refl)
 
 attached_input : (name text : Text) → IsPlain text → Passes text → IsTaken name ((codes "--limit=" ++ text) ∷ []) text None
 unfolding clap_on_literals
-attached_input name text p a = (rw a refl, rw p.0 refl)
+attached_input name text p a = (rw a refl, refl)
 
 attached_dash : (name text : Text) → IsPlain text → Passes text → IsTaken name ((codes "--limit=" ++ text) ∷ codes "-" ∷ []) text (Some (codes "-"))
 unfolding clap_on_literals
-attached_dash name text p a = (rw a refl, rw p.0 refl)
+attached_dash name text p a = (rw a refl, refl)
 
 attached_file : (name text file : Text) → IsPlain text → Passes text → IsPlain file → IsTaken name ((codes "--limit=" ++ text) ∷ file ∷ []) text (Some file)
 unfolding clap_on_literals
-attached_file name text file p a q = (rw (a, q.0, q.1, q.0) refl, rw (q.0, q.1, q.0, p.0) refl)
+attached_file name text file p a q = (rw (a, q.0, q.1, q.0) refl, rw (q.0, q.1, q.0) refl)
 
 -- ---- a limit in decimal digits
 
@@ -155,17 +159,18 @@ words_read name limits files limit file (inl (e, is)) given = rw (e, is) (defaul
 words_read name limits files limit file (inr (inl e, low, high)) given = rw e (limit_read name files limit file low high given)
 words_read name limits files limit file (inr (inr e, low, high)) given = rw e (attached_read name files limit file low high given)
 
-small_limit : (words : List Text) (limit : ℕ) → GivesLimit words limit → limit < 2 ^ 32
-small_limit words limit (inl (e, is)) = omega (arith, is)
-small_limit words limit (inr (e, low, high)) = omega (arith, high)
+in_range : (words : List Text) (limit : ℕ) → GivesLimit words limit → (262144 ≤ limit) × (limit ≤ 16777216)
+in_range words limit (inl (e, is)) = rw is (omega arith, omega arith)
+in_range words limit (inr (e, low, high)) = (low, high)
 
 -- words that ask for frames are taken, and have their limit and their file
 pub asked_taken : (words : List Text) (limit : ℕ) (file : Option Text) → AsksFrames words limit file →
     (word : Option Text) × (option_and_then file_of word ≡ file) × (takes ymx_app words ≡ true)
-    × (named_words (subcommand_of ymx_app words) ≡ Some (codes "frames", Some (decimal limit), word)) × (limit < 2 ^ 32)
+    × (named_words (subcommand_of ymx_app words) ≡ Some (codes "frames", Some (decimal limit), word)) × (262144 ≤ limit) × (limit ≤ 16777216)
 asked_taken words limit file (name, limits, files, l, f, e) =
     let read = words_read name limits files limit file l f in
-    rw e (read.0, read.1, read.2.0, read.2.1, small_limit limits limit l)
+    let range = in_range limits limit l in
+    rw e (read.0, read.1, read.2.0, read.2.1, range.0, range.1)
 
 -- ---- words that ask for a script
 

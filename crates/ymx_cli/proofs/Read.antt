@@ -1,34 +1,53 @@
 -- What is read of the matches of a command line.
-use Rattle.std.proofs.Common.{◌≡◌, ◌<◌, ◌≤◌, ◌^◌, ℕ, List, Option, Some, None, Result, Ok, Err, option_map, arith, refl, ◌∙◌, ap, subst, codes, decimal}
-use Rattle.std.specs.Prelude.{IfSome, IsSomeAnd, option_and_then, pos, unwrap_or}
+use Rattle.std.proofs.Common.{◌≡◌, ◌≤◌, ℕ, List, Option, Some, None, option_map, arith, refl, sym, ◌∙◌, ap, subst, codes, decimal, get_or, inl, inr}
+use Rattle.std.specs.Prelude.{◌⊎◌, IfSome, IsSomeAnd, option_and_then, unwrap_or}
+use Rattle.std.specs.Str.Parse.{digits_value}
+use Rattle.std.proofs.lemmas.Fmt.{decimal_is_IsNumeral}
 use Rattle.clap.specs.declared.parser.matches.ArgMatches.{ArgMatches}
 use Rattle.clap.specs.declared.parser.matches.ArgMatches.TheViews.{out-ArgMatches}
-use Rattle.std.specs.Str.Parse.{ParsesUnsigned}
-use Rattle.std.proofs.lemmas.Fmt.{parse-decimal}
-use Rattle.clap.specs.Words.{IsSignedIn, ReadsOne, Row, Text, one_of, subcommand_name_of, subcommand_rows_of, without_minus}
+use Rattle.clap.specs.Words.{Row, Text, one_of, subcommand_name_of, subcommand_rows_of}
 use Rattle.clap.specs.Walk.{first_of}
-use Rattle.clap.proofs.CallerReads.{signed_reads}
-use Rattle.ymx_cli.specs.CommandLine.{IsNotSaid, named_words}
+use Rattle.ymx_cli.specs.CommandLine.{HasBadNumber, IsBad, IsBadEnd, IsNotSaid, IsNumberIn, ReadsAs, named_words}
 
 -- the rows of a subcommand that was met have its limit
 pub named_text : (rows : List Row) (met : Option (Text × List Row)) (name : Text) (text word : Option Text) → Some rows ≡ option_map (λ p. p.1) met →
-    named_words met ≡ Some (name, text, word) → (one_of (codes "limit") rows ≡ text) × (first_of (codes "file") rows ≡ word)
+    named_words met ≡ Some (name, text, word) → (first_of (codes "limit") rows ≡ text) × (first_of (codes "file") rows ≡ word)
 named_text rows None name text word e named = cc
 named_text rows (Some p) name text word e named =
     let has : rows ≡ p.1 = ap (λ (o : Option (List Row)). unwrap_or o rows) e in (
-      ap (one_of (codes "limit")) has ∙ ap (λ (o : Option (Text × Option Text × Option Text)). option_and_then (λ q. q.1) o) named,
+      ap (first_of (codes "limit")) has ∙ ap (λ (o : Option (Text × Option Text × Option Text)). option_and_then (λ q. q.1) o) named,
       ap (first_of (codes "file")) has ∙ ap (λ (o : Option (Text × Option Text × Option Text)). option_and_then (λ q. q.2) o) named,
     )
 
+-- ---- numbers
+
+given_is : (text other : Text) → Some text ≡ Some other → text ≡ other
+given_is text other e = ap (λ (o : Option Text). unwrap_or o text) e
+
 -- digits are read as their number
-pub read_number : (E : Type 0) (gives : Text → Result ℕ E → Type 0) (r : Option ℕ) (n : ℕ) → n < 2 ^ 32 →
-    ((t : Text) (x : Result ℕ E) → gives t x → ParsesUnsigned 32 10 t x) → ReadsOne gives (decimal n) r → r ≡ Some n
-read_number E gives (Some v) n small parses h =
-    let same : ◌≡◌ {A = Result ℕ E} (Ok v) (Ok n) = parse-decimal 32 n (decimal n) (Ok v) small (omega arith) refl (parses (decimal n) (Ok v) h) in
-    cc
-read_number E gives None n small parses (e, h) =
-    let same : ◌≡◌ {A = Result ℕ E} (Err e) (Ok n) = parse-decimal 32 n (decimal n) (Err e) small (omega arith) refl (parses (decimal n) (Err e) h) in
-    cc
+pub decimal_read : (limit : ℕ) (given : Option Text) (number : Option ℕ) → given ≡ Some (decimal limit) → limit ≤ 16777216 → ReadsAs 262144 16777216 given number → number ≡ Some limit
+decimal_read limit None number e high reads = cc
+decimal_read limit (Some text) number e high reads =
+    reads.1 ∙ ap Some (ap (digits_value 10) (given_is text (decimal limit) e) ∙ (decimal_is_IsNumeral limit (omega arith)).1)
+
+-- digits of a number in the range are good
+pub decimal_good : (limit : ℕ) (given : Option Text) → given ≡ Some (decimal limit) → 262144 ≤ limit → limit ≤ 16777216 → IsBad 262144 16777216 given → ⊥
+decimal_good limit None e low high bad = bad
+decimal_good limit (Some text) e low high bad =
+    let numeral = decimal_is_IsNumeral limit (omega arith) in
+    let value : digits_value 10 (decimal limit) ≡ limit = numeral.1 in
+    let good : IsNumberIn 262144 16777216 (decimal limit) = (numeral.0, omega arith, omega arith) in
+    bad (subst (IsNumberIn 262144 16777216) (sym (given_is text (decimal limit) e)) good)
+
+-- what is read isn't bad
+pub read_is_good : (least most : ℕ) (given : Option Text) (number : Option ℕ) → ReadsAs least most given number → IsBad least most given → ⊥
+read_is_good least most None number reads bad = bad
+read_is_good least most (Some text) number reads bad = bad reads.0
+
+-- a limit that is read, or the default one, is in the range
+pub limit_in_range : (given : Option Text) (number : Option ℕ) → ReadsAs 262144 16777216 given number → (262144 ≤ unwrap_or number 262144) × (unwrap_or number 262144 ≤ 16777216)
+limit_in_range None number reads = rw reads (omega arith, omega arith)
+limit_in_range (Some text) number reads = rw reads.1 (reads.0.1, reads.0.2)
 
 map_twice : {A B C : Type 0} (f : B → C) (g : A → B) (o : Option A) → option_map (λ x. f (g x)) o ≡ option_map f (option_map g o)
 map_twice f g None = refl
@@ -39,23 +58,45 @@ pub name_met : (m : ArgMatches) → subcommand_name_of m ≡ option_map (λ p. p
 name_met m = map_twice (λ (p : Text × List Row). p.0) _ (out-ArgMatches m).subcommand
 
 pub named_is : (rows : List Row) (met : Option (Text × List Row)) (name : Text) → Some name ≡ option_map (λ p. p.0) met → Some rows ≡ option_map (λ p. p.1) met →
-    named_words met ≡ Some (name, one_of (codes "limit") rows, first_of (codes "file") rows)
+    named_words met ≡ Some (name, first_of (codes "limit") rows, first_of (codes "file") rows)
 named_is rows None name n e = cc
 named_is rows (Some p) name n e =
     let named : name ≡ p.0 = ap (λ (o : Option Text). unwrap_or o name) n in
     let has : rows ≡ p.1 = ap (λ (o : Option (List Row)). unwrap_or o rows) e in
     rw (named, has) refl
 
--- a limit that is read of a text in the range, or is the default one, is in the range
-pub read_limit : (E : Type 0) (gives : Text → Result ℕ E → Type 0) (text : Option Text) (r : Option ℕ) → (text ≡ None → r ≡ None) →
-    ((t : Text) → text ≡ Some t → ReadsOne gives t r) → ((t : Text) (x : Result ℕ E) → gives t x → ParsesUnsigned 32 10 t x) →
-    ((t : Text) → text ≡ Some t → (u : Text) × (t ≡ without_minus u) × IsSignedIn (pos 262144) (pos 16777216) u) →
-    (262144 ≤ unwrap_or r 262144) × (unwrap_or r 262144 ≤ 16777216)
-read_limit E gives None r none reads parses good = rw (none refl) (omega arith, omega arith)
-read_limit E gives (Some t) r none reads parses good =
-    let given = good t refl in
-    let read = signed_reads E gives 32 262144 16777216 given.0 r (subst (λ (u : Text). ReadsOne gives u r) given.1 (reads t refl)) parses (omega arith) given.2 in
-    rw read.1 (read.2, read.3)
+-- what holds of the subcommand that was met holds of its name and its rows
+pub of_met : (P : Text × List Row → Type 0) (rows : List Row) (met : Option (Text × List Row)) (name : Text) → Some name ≡ option_map (λ p. p.0) met → Some rows ≡ option_map (λ p. p.1) met →
+    IsSomeAnd met P → P (name, rows)
+of_met P rows None name n e h = absurd h
+of_met P rows (Some p) name n e h =
+    let named : name ≡ p.0 = ap (λ (o : Option Text). unwrap_or o name) n in
+    let has : rows ≡ p.1 = ap (λ (o : Option (List Row)). unwrap_or o rows) e in
+    rw (named, has) h
+
+-- ---- names
+
+first_letter : (name other : Text) → name ≡ other → get_or name 0 0 ≡ get_or other 0 0
+first_letter name other e = ap (λ (t : Text). get_or t 0 0) e
+
+differ : (name other : Text) → name ≡ other → (get_or name 0 0 ≡ get_or other 0 0 → ⊥) → ⊥
+differ name other e apart = apart (first_letter name other e)
+
+-- the number of `frames` is its limit
+pub frames_numbers : (rows : List Row) → HasBadNumber (codes "frames", rows) → IsBad 262144 16777216 (first_of (codes "limit") rows)
+frames_numbers rows (inl h) = h.1
+frames_numbers rows (inr (inl h)) = absurd (differ (codes "frames") (codes "local") h.0 (λ e. omega arith))
+frames_numbers rows (inr (inr h)) = absurd (differ (codes "frames") (codes "remote") h.0 (λ e. omega arith))
+
+-- those of `local`
+pub local_numbers : (rows : List Row) → IsBadEnd (codes "local") rows → IsBad 0 4294967295 (first_of (codes "count") rows) ⊎ IsBad 262144 16777216 (first_of (codes "window") rows)
+local_numbers rows (inl h) = h.1
+local_numbers rows (inr h) = absurd (differ (codes "local") (codes "remote") h.0 (λ e. omega arith))
+
+-- those of `remote`
+pub remote_numbers : (rows : List Row) → IsBadEnd (codes "remote") rows → IsBad 262144 16777216 (first_of (codes "window") rows) ⊎ IsBad 1 1024 (first_of (codes "workers") rows)
+remote_numbers rows (inl h) = absurd (differ (codes "remote") (codes "local") h.0 (λ e. omega arith))
+remote_numbers rows (inr h) = h.1
 
 -- no subcommand was met
 pub none_met : (met : Option (Text × List Row)) (P : Text × List Row → Type 0) → None ≡ option_map (λ p. p.0) met → IsSomeAnd met P → ⊥

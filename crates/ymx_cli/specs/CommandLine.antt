@@ -1,10 +1,11 @@
 -- The command line of the program (this project's own).
-use Rattle.std.specs.Prelude.{◌≡◌, ◌≢◌, ⊤, ◌≤◌, ◌⊎◌, ◌++◌, ℕ, ℤ, List, [], ◌∷◌, Option, Some, None, true, false, IfSome, IsSomeAnd, if◌then◌else◌, option_map, codes, decimal, pos, slice_get}
+use Rattle.std.specs.Prelude.{◌≡◌, ◌≢◌, ⊤, ◌≤◌, ◌⊎◌, ◌++◌, ℕ, ℤ, List, [], ◌∷◌, Bool, Option, Some, None, true, false, IfSome, IsSomeAnd, if◌then◌else◌, option_map, codes, decimal, pos, slice_get, unwrap_or}
 use Rattle.std.specs.Str.{bytes_eq}
+use Rattle.std.specs.Str.Parse.{IsNumeral, digits_value}
 use Rattle.clap.specs.Kinds.{IsAmong}
 use Rattle.clap.specs.Faults.{fault_of}
 use Rattle.clap.specs.Walk.{first_of}
-use Rattle.clap.specs.Words.{App, IsSignedIn, Row, Rule, Shape, Text, new_app, new_rule, one_of, subcommand_of, with_rule, with_subcommand, without_minus}
+use Rattle.clap.specs.Words.{App, Row, Rule, Shape, Text, new_app, new_rule, one_of, subcommand_of, with_rule, with_subcommand}
 use Rattle.clap.specs.declared.builder.action.ArgAction.TheVariants.{Set, SetTrue}
 use Rattle.clap.specs.declared.builder.value_parser.ValueParser.TheVariants as parser
 use Rattle.clap.specs.declared.error.kind.ErrorKind.{ErrorKind}
@@ -97,7 +98,7 @@ window_rule = record (number_rule (codes "window") (pos 262144) (pos 16777216)) 
 
 -- `--workers`, whose value is a number in its range
 abbrev pub workers_rule : Rule
-workers_rule = record (number_rule (codes "workers") (pos 1) (pos 1024)) { defaults = codes "16" ∷ [] }
+workers_rule = record (number_rule (codes "workers") (pos 1) (pos 1024)) { defaults = codes "1024" ∷ [] }
 
 -- `--verbose`, or `-v`, a flag
 abbrev pub verbose_rule : Rule
@@ -140,17 +141,45 @@ ymx_app = with_subcommand (with_subcommand (with_subcommand (with_subcommand (wi
 
 -- of a subcommand that was met: its name, the text of its limit, and the word that names a file
 abbrev pub named_words : Option (Text × List Row) → Option (Text × Option Text × Option Text)
-named_words = option_map (λ p. (p.0, one_of (codes "limit") p.1, first_of (codes "file") p.1))
+named_words = option_map (λ p. (p.0, first_of (codes "limit") p.1, first_of (codes "file") p.1))
 
 -- the file of this word: `-` is none
 abbrev pub file_of : Text → Option Text
 file_of word = if bytes_eq word (codes "-") then None else Some word
 
--- the limit of `frames`, where there is one, was given as the text of a number from 262144 to 16777216; clap hands it on without a minus
-abbrev pub HasGoodLimit : Option (Text × List Row) → Type 0
-HasGoodLimit met =
-    (text : Text) (file : Option Text) → named_words met ≡ Some (codes "frames", Some text, file) →
-    (given : Text) × (text ≡ without_minus given) × IsSignedIn (pos 262144) (pos 16777216) given
+-- ---- numbers
+
+-- The text is a number of this range: decimal digits alone, at least one.
+abbrev pub IsNumberIn : (least most : ℕ) → Text → Type 0
+IsNumberIn least most text = IsNumeral 10 text × (least ≤ digits_value 10 text) × (digits_value 10 text ≤ most)
+
+-- What was given to an option is read so: no text as no number, and a number of the range as what it spells.
+abbrev pub ReadsAs : (least most : ℕ) → Option Text → Option ℕ → Type 0
+ReadsAs least most None number = number ≡ None
+ReadsAs least most (Some text) number = IsNumberIn least most text × (number ≡ Some (digits_value 10 text))
+
+-- The same, where no text is read as this default.
+abbrev pub ReadsOr : (least most default : ℕ) → Option Text → ℕ → Type 0
+ReadsOr least most default None number = number ≡ default
+ReadsOr least most default (Some text) number = IsNumberIn least most text × (number ≡ digits_value 10 text)
+
+-- A text was given that is no number of the range.
+abbrev pub IsBad : (least most : ℕ) → Option Text → Type 0
+IsBad least most given = IsSomeAnd given (λ text. IsNumberIn least most text → ⊥)
+
+-- of an end of a tunnel: a text was given to one of its options that is no number of its range
+abbrev pub IsBadEnd : Text → List Row → Type 0
+IsBadEnd name rows =
+    ((name ≡ codes "local") × (IsBad 0 4294967295 (first_of (codes "count") rows) ⊎ IsBad 262144 16777216 (first_of (codes "window") rows)))
+    ⊎ ((name ≡ codes "remote") × (IsBad 262144 16777216 (first_of (codes "window") rows) ⊎ IsBad 1 1024 (first_of (codes "workers") rows)))
+
+-- of a subcommand that was met: the same
+abbrev pub HasBadNumber : Text × List Row → Type 0
+HasBadNumber (name, rows) = ((name ≡ codes "frames") × IsBad 262144 16777216 (first_of (codes "limit") rows)) ⊎ IsBadEnd name rows
+
+-- The words name a subcommand, and give one of its options a text that is no number of its range.
+abbrev pub GivesBadNumber : List Text → Type 0
+GivesBadNumber words = IsSomeAnd (subcommand_of ymx_app words) HasBadNumber
 
 -- ---- words that print nothing on standard output
 
@@ -199,3 +228,28 @@ IsSilentTask (Script file) = ⊤
 -- the words of a subcommand, if they name one, have no `-v`
 abbrev pub AsksNoLines : List Text → Type 0
 AsksNoLines words = IfSome (subcommand_of ymx_app words) (λ p. IsNotSaid (one_of (codes "verbose") p.1))
+
+-- ---- what an end of a tunnel is asked
+
+-- a flag, of which clap keeps this text, is read so
+abbrev pub ReadsFlag : Option Text → Bool → Type 0
+ReadsFlag text flag = (IsNotSaid text → flag ≡ false) × (text ≡ Some (codes "true") → flag ≡ true)
+
+-- `local` is asked what its options say, of which each was given this text, or none: addresses as they stand, numbers as they are
+-- spelled, and defaults where nothing was given.
+abbrev pub IsLocalOf : (given : Text → Option Text) → (flag : Option Text) → Tunnel → Type 0
+IsLocalOf given flag (tunnel.Local listen peer count window verbose) =
+    (listen.now ≡ unwrap_or (given (codes "listen")) []) × (peer.now ≡ unwrap_or (given (codes "peer")) [])
+    × ReadsAs 0 4294967295 (given (codes "count")) count × ReadsOr 262144 16777216 262144 (given (codes "window")) window
+    × ReadsFlag flag verbose
+IsLocalOf given flag (tunnel.Remote bind target window workers verbose) = ⊥
+IsLocalOf given flag tunnel.Selftest = ⊥
+
+-- the same of `remote`
+abbrev pub IsRemoteOf : (given : Text → Option Text) → (flag : Option Text) → Tunnel → Type 0
+IsRemoteOf given flag (tunnel.Remote bind target window workers verbose) =
+    (bind.now ≡ unwrap_or (given (codes "bind")) []) × (target.now ≡ unwrap_or (given (codes "target")) [])
+    × ReadsOr 262144 16777216 262144 (given (codes "window")) window × ReadsOr 1 1024 1024 (given (codes "workers")) workers
+    × ReadsFlag flag verbose
+IsRemoteOf given flag (tunnel.Local listen peer count window verbose) = ⊥
+IsRemoteOf given flag tunnel.Selftest = ⊥

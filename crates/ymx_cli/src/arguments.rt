@@ -1,13 +1,13 @@
-//! What several subcommands have. A chain of builder calls is cut into short functions, since the proof of a long one
-//! costs much more than the proofs of its parts.
+//! What several subcommands have. A chain of builder calls is cut into short functions, each with a contract of its own.
 
-ghost use Rattle.std.specs.Prelude.{◌≡◌, false};
-ghost use Rattle.clap.specs.Words.{app_of, new_app, rule_of};
+ghost use Rattle.std.specs.Prelude.{◌≡◌, false, MatchOption, MatchResult};
+ghost use Rattle.std.specs.Str.Parse.{digits_value};
+ghost use Rattle.clap.specs.Words.{app_of, first_value, found_of, new_app, rule_of};
 ghost use Rattle.clap.specs.declared.builder.command.Command.TheViews.{out-Command as fields_of};
-ghost use Rattle.ymx_cli.specs.CommandLine.{number_rule};
+ghost use Rattle.ymx_cli.specs.CommandLine.{IsBad, IsNumberIn, ReadsAs, number_rule};
 
 use clap::builder::ValueParser;
-use clap::{Arg, ArgAction, Command};
+use clap::{Arg, ArgAction, ArgMatches, Command};
 use std::alloc::Global;
 
 /// A subcommand that takes nothing yet.
@@ -18,7 +18,7 @@ pub(crate) fn titled<'a>(alloc: Global, name: &'a str, about: &'a str, help: &'a
 }
 
 /// An argument `--NAME`, whose value is a number from `least` to `most`. Clap reads it as an `i64`, so that one parser
-/// serves every range of `u32`.
+/// serves every range of `u32`; it lets signs through, which `number_of` refuses.
 pub(crate) fn number_argument<'a>(
     alloc: Global,
     name: &'a str,
@@ -35,4 +35,45 @@ pub(crate) fn number_argument<'a>(
         .action(ArgAction::Set)
         .value_parser(ValueParser::signed(least, most))
         .help(help)
+}
+
+/// A text that is no number of its argument.
+#[derive(Clone, Copy)]
+pub(crate) struct BadNumber<'a> {
+    /// The name of the argument.
+    pub(crate) name: &'a str,
+    /// What was given.
+    pub(crate) text: &'a str,
+}
+
+/// The number that `--NAME` was given, if it was given one: decimal digits alone, with a value from `least` to `most`.
+pub(crate) fn number_of<'a>(
+    found: &ArgMatches<'a>,
+    name: &'a str,
+    least: u32,
+    most: u32,
+) -> Result<Option<u32>, BadNumber<'a>>
+    ensures { MatchResult result (ReadsAs least most (first_value (found_of found.now) name.now)) (λ _. IsBad least most (first_value (found_of found.now) name.now)) }
+{
+    let Some(text) = found.get_str(name) else {
+        return Ok(None);
+    };
+    match number_in(text, least, most) {
+        Some(number) => Ok(Some(number)),
+        None => Err(BadNumber { name, text }),
+    }
+}
+
+/// The number that this text spells: one decimal digit or more and nothing else, with a value from `least` to `most`.
+fn number_in(text: &str, least: u32, most: u32) -> Option<u32>
+    ensures { MatchOption result (IsNumberIn least most text.now → ⊥) (λ number. IsNumberIn least most text.now × (number ≡ digits_value 10 text.now)) }
+{
+    // `parse` takes a plus sign too
+    if text.starts_with('+') {
+        return None;
+    }
+    match text.parse::<u32>() {
+        Ok(number) if least <= number && number <= most => Some(number),
+        _ => None,
+    }
 }

@@ -1,15 +1,15 @@
 //! The command line of `ymx`.
 
-ghost use Rattle.std.specs.Prelude.{ℕ, List, Option, None, ◌≡◌, ◌≢◌, ◌≤◌, ◌↔◌, ◌⊎◌, ◌<◌, ◌^◌, Some, codes, decimal, true, false, map, option_and_then, option_map, IfErr, IfOk, IfSome, IsSomeAnd, IsTrue, MatchResult};
+ghost use Rattle.std.specs.Prelude.{ℕ, List, Option, None, ◌≡◌, ◌≢◌, ◌≤◌, ◌↔◌, ◌⊎◌, ◌<◌, ◌^◌, Some, codes, decimal, true, false, map, option_and_then, option_map, IfErr, IfOk, IfSome, IsErr, IsSomeAnd, IsTrue, MatchResult};
 ghost use Rattle.std.specs.IoError.{error_kind};
 ghost use Rattle.std.specs.declared.io.ErrorKind.TheVariants.{InvalidData};
 ghost use Rattle.std.specs.Io.KnownBytes.{Keeps};
 ghost use Rattle.clap.specs.Words.{app_of, first_value, found_of, kind_of, one_of, rule_of, shape_of, subcommand_rows_of, with_subcommand};
 ghost use Rattle.clap.specs.declared.builder.command.Command.TheViews.{out-Command as fields_of};
-ghost use Rattle.ymx_cli.specs.CommandLine.{AsksFrames, AsksNoHelp, AsksNoLines, AsksScript, HasGoodLimit, IsEndTask, IsFrames, IsMistake, IsNotSaid, IsScript, IsSilentTask, NamesAnother, bare_shape, file_of, file_rule, frames_shape, limit_rule, local_shape, named_words, remote_shape, script_shape, top_app, ymx_app};
+ghost use Rattle.ymx_cli.specs.CommandLine.{AsksFrames, AsksNoHelp, AsksNoLines, AsksScript, GivesBadNumber, HasBadNumber, IsEndTask, IsFrames, IsMistake, IsNotSaid, IsScript, IsSilentTask, NamesAnother, bare_shape, file_of, file_rule, frames_shape, limit_rule, local_shape, named_words, remote_shape, script_shape, top_app, ymx_app};
 ghost use Rattle.ymx_cli.specs.Messages.{IsUntouched, PlaysFile, PlaysScript, PrintsFile, PrintsFrames, Refuses, SaysText, Shows, TakesText, TakesPart, change_of, fails, not_text, out_of_memory, reason, script_reason, writing_failed};
 
-use crate::arguments::{number_argument, titled};
+use crate::arguments::{BadNumber, number_argument, number_of, titled};
 use crate::tunnel::{Tunnel, asked_tunnel, local_command, remote_command, run_tunnel};
 use clap::error::ErrorKind;
 use clap::{Arg, ArgAction, ArgMatches, Command, Error};
@@ -17,12 +17,12 @@ use std::alloc::{AllocError, Global};
 use std::convert::AsStr;
 use std::fmt::Display;
 use std::io;
+use std::net::{Net, TcpListener, TcpStream};
 use std::sync::Wait;
 use std::thread::Threads;
 use ymx_frames::{FramesEnd, frames, push_all};
 use ymx_model::{DeviceFault, Inlet, Outlet};
 use ymx_script::{ScriptEnd, script};
-use ymx_tunnel::Network;
 
 /// The longest payload of a Data frame that is accepted where the command line says nothing.
 const DEFAULT_LIMIT: u32 = 262_144;
@@ -62,20 +62,18 @@ pub trait FileOpener {
 /// `errors`, and what `-v` asks for on `lines`. Answers the exit status: 0 if all went well, 1 at a fault, 2 for a bad
 /// command line.
 pub fn ymx_main<
-    T: Threads + Wait + Sync,
+    T: Net<Stream = TcpStream, Listener = TcpListener> + Threads + Wait + Sync,
     S: AsStr,
     F: FileOpener,
-    N: Network,
     R: Inlet,
     W: Outlet,
     E: Outlet,
-    L: Outlet + Send,
+    L: Outlet,
 >(
     rt: &T,
     alloc: Global,
     words: &[S],
     files: &F,
-    network: &N,
     reader: &mut R,
     writer: &mut W,
     errors: &mut E,
@@ -118,6 +116,9 @@ pub fn ymx_main<
     // Words that name an end of a tunnel write nothing to the writer, unless they ask for help or the version.
     ensures silent { NamesAnother (map S.text words.now) → AsksNoHelp (map S.text words.now) →
         IsUntouched (change_of W.contents W.failures writer.old writer.new) }
+    // A number that isn't decimal digits alone, or is out of its range, is a mistake.
+    ensures numbers { GivesBadNumber (map S.text words.now) → AsksNoHelp (map S.text words.now) →
+        (result ≡ 2) ⊎ Refuses result (change_of W.contents W.failures writer.old writer.new) (change_of E.contents E.failures errors.old errors.new) out_of_memory }
     // Without `-v` no lines are said.
     ensures unsaid { AsksNoLines (map S.text words.now) → IsUntouched (change_of L.contents L.failures lines.old lines.new) }
     // At status 2 nothing is read, and nothing is written to the writer.
@@ -133,7 +134,7 @@ pub fn ymx_main<
         ) => print_file(rt, alloc, files, name, limit, writer, errors),
         Ok(Task::Script { file: None }) => play(rt, alloc, reader, writer, errors),
         Ok(Task::Script { file: Some(name) }) => play_file(rt, alloc, files, name, writer, errors),
-        Ok(Task::Tunnel(asked)) => run_tunnel(rt, alloc, network, asked, writer, errors, lines),
+        Ok(Task::Tunnel(asked)) => run_tunnel(rt, alloc, asked, writer, errors, lines),
         Err(error) => explain(alloc, &error, writer, errors),
     }
 }
@@ -236,33 +237,51 @@ fn parse<'a, S: AsStr>(alloc: Global, words: &'a [S]) -> Result<Task<'a>, Error>
     ensures other { NamesAnother (map S.text words.entry.now) → IfOk result IsEndTask }
     ensures mistake { AsksNoHelp (map S.text words.entry.now) → IfErr result (λ error. IsMistake (kind_of error)) }
     ensures silent { AsksNoLines (map S.text words.entry.now) → IfOk result IsSilentTask }
+    ensures numbers { GivesBadNumber (map S.text words.entry.now) → IsErr result }
 {
     let matches = command(alloc)?.try_get_matches_from(words)?;
-    Ok(asked(&matches))
+    match asked(&matches) {
+        Ok(task) => Ok(task),
+        Err(bad) => Err(bad_number(alloc, bad)?),
+    }
+}
+
+/// The mistake of a text that is no number of its argument, in the form of clap's mistakes.
+fn bad_number(alloc: Global, bad: BadNumber<'_>) -> Result<Error, AllocError>
+    ensures { IfOk result (λ error. kind_of error ≡ ErrorKind.ValueValidation) }
+{
+    let BadNumber { name, text } = bad;
+    let message = format!(in alloc;
+        "invalid value '{text}' for '--{name}': a number is decimal digits alone"
+    )?;
+    command(alloc)?.error(ErrorKind::ValueValidation, message.as_str())
 }
 
 /// What the matches of a command line ask for.
-fn asked<'a>(matches: &ArgMatches<'a>) -> Task<'a>
-    ensures frames { (limit : ℕ) (word : Option (List ℕ)) → limit < 2 ^ 32
+fn asked<'a>(matches: &ArgMatches<'a>) -> Result<Task<'a>, BadNumber<'a>>
+    ensures frames { (limit : ℕ) (word : Option (List ℕ)) → 262144 ≤ limit → limit ≤ 16777216
         → named_words (subcommand_rows_of matches.now) ≡ Some (codes "frames", Some (decimal limit), word)
-        → IsFrames limit (option_and_then file_of word) result }
+        → MatchResult result (IsFrames limit (option_and_then file_of word)) (λ _. ⊥) }
     ensures script { (word : Option (List ℕ)) → named_words (subcommand_rows_of matches.now) ≡ Some (codes "script", None, word)
-        → IsScript (option_and_then file_of word) result }
-    ensures other { IsSomeAnd (subcommand_rows_of matches.now) (λ p. (p.0 ≡ codes "local") ⊎ (p.0 ≡ codes "remote")) → IsEndTask result }
-    ensures limits { HasGoodLimit (subcommand_rows_of matches.now) → (limit : ℕ) (file : Option (List ℕ)) → IsFrames limit file result
-        → (262144 ≤ limit) × (limit ≤ 16777216) }
-    ensures silent { IfSome (subcommand_rows_of matches.now) (λ p. IsNotSaid (one_of (codes "verbose") p.1)) → IsSilentTask result }
+        → MatchResult result (IsScript (option_and_then file_of word)) (λ _. ⊥) }
+    ensures other { IsSomeAnd (subcommand_rows_of matches.now) (λ p. (p.0 ≡ codes "local") ⊎ (p.0 ≡ codes "remote")) → IfOk result IsEndTask }
+    ensures limits { IfOk result (λ task. (limit : ℕ) (file : Option (List ℕ)) → IsFrames limit file task → (262144 ≤ limit) × (limit ≤ 16777216)) }
+    ensures silent { IfSome (subcommand_rows_of matches.now) (λ p. IsNotSaid (one_of (codes "verbose") p.1)) → IfOk result IsSilentTask }
+    ensures numbers { IsSomeAnd (subcommand_rows_of matches.now) HasBadNumber → IsErr result }
 {
     match matches.subcommand() {
-        Some(("frames", found)) => Task::Frames {
-            limit: found.get_one("limit").unwrap_or(DEFAULT_LIMIT),
+        Some(("frames", found)) => {
+            let limit = number_of(found, "limit", 262_144, 16_777_216)?;
+            Ok(Task::Frames {
+                limit: limit.unwrap_or(DEFAULT_LIMIT),
+                file: named_file(found),
+            })
+        }
+        Some(("script", found)) => Ok(Task::Script {
             file: named_file(found),
-        },
-        Some(("script", found)) => Task::Script {
-            file: named_file(found),
-        },
-        Some((name, found)) => Task::Tunnel(asked_tunnel(name, found)),
-        None => Task::Tunnel(Tunnel::Selftest),
+        }),
+        Some((name, found)) => Ok(Task::Tunnel(asked_tunnel(name, found)?)),
+        None => Ok(Task::Tunnel(Tunnel::Selftest)),
     }
 }
 
@@ -492,7 +511,7 @@ fn explain<W: Outlet, E: Outlet>(alloc: Global, error: &Error, writer: &mut W, e
         Refuses result (change_of W.contents W.failures writer.old writer.new) (change_of E.contents E.failures errors.old errors.new) out_of_memory }
     ensures failed { let output = change_of W.contents W.failures writer.old writer.new in
         let says = change_of E.contents E.failures errors.old errors.new in
-        result ≡ 1 → Refuses result output says out_of_memory ⊎ (IsTrue (fails output) × SaysText says writing_failed) }
+        result ≡ 1 → Refuses result output says out_of_memory ⊎ ((IsMistake (kind_of error.now) → ⊥) × IsTrue (fails output) × SaysText says writing_failed) }
 {
     if error.kind() == ErrorKind::OutOfMemory {
         return refuse(errors, b"ymx: out of memory\n");

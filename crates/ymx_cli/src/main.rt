@@ -12,7 +12,6 @@ use std::alloc::Global;
 use std::process::ExitCode;
 use std::rt::Env;
 use std::{env, io};
-use ymx_tunnel::Sockets;
 
 fn main(rt: HostRuntime) -> ExitCode {
     let mut reader = ReaderInlet {
@@ -38,7 +37,6 @@ fn main(rt: HostRuntime) -> ExitCode {
             alloc,
             words.as_slice(),
             &Disk { rt: &rt },
-            &Sockets { rt: &rt },
             &mut reader,
             &mut writer,
             &mut errors,

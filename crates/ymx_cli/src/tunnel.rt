@@ -1,27 +1,26 @@
 //! The subcommands `local`, `remote` and `selftest`.
 
-ghost use Rattle.std.specs.Prelude.{◌≡◌, ◌⊎◌, ◌≤◌, codes, false, IfOk, IfSome};
-ghost use Rattle.clap.specs.Words.{app_of, found_of, one_text, rule_of, shape_of};
+ghost use Rattle.std.specs.Prelude.{◌≡◌, ◌⊎◌, ◌≤◌, codes, false, IfOk, IfSome, IsErr, MatchResult};
+ghost use Rattle.clap.specs.Words.{app_of, first_value, found_of, one_text, rows_of, rule_of, shape_of};
 ghost use Rattle.clap.specs.declared.builder.command.Command.TheViews.{out-Command as fields_of};
-ghost use Rattle.ymx_cli.specs.CommandLine.{IsEnd, IsNotSaid, IsNotVerbose, address_rule, count_rule, local_shape, local_start, remote_shape, remote_start, verbose_rule, window_rule, workers_rule};
+ghost use Rattle.ymx_cli.specs.CommandLine.{IsBad, IsBadEnd, IsEnd, IsLocalOf, IsNotSaid, IsNotVerbose, IsRemoteOf, ReadsOr, address_rule, count_rule, local_shape, local_start, remote_shape, remote_start, verbose_rule, window_rule, workers_rule};
 ghost use Rattle.ymx_cli.specs.Messages.{IsUntouched, change_of};
 
-use crate::arguments::{number_argument, titled};
+use crate::arguments::{BadNumber, number_argument, number_of, titled};
 use clap::{Arg, ArgAction, ArgMatches, Command};
 use std::alloc::{AllocError, Global};
-use std::net::{SocketAddr, SocketAddrV4};
+use std::net::{Net, SocketAddr, SocketAddrV4, TcpListener, TcpStream};
 use std::sync::Wait;
 use std::thread::Threads;
 use ymx_forward::{Local, Remote, run_local, run_remote, run_selftest};
 use ymx_frames::push_all;
 use ymx_model::Outlet;
-use ymx_tunnel::Network;
 
 /// How many bytes of a stream may be unread where the command line says nothing.
 const DEFAULT_WINDOW: u32 = 262_144;
 
 /// How many streams `remote` serves at once where the command line says nothing.
-const DEFAULT_WORKERS: u32 = 16;
+const DEFAULT_WORKERS: u32 = 1_024;
 
 /// What the words of a subcommand of the tunnel ask for. Addresses are not read yet.
 #[derive(Clone, Copy)]
@@ -47,27 +46,68 @@ pub(crate) enum Tunnel<'a> {
 }
 
 /// What the matches of this subcommand ask for.
-pub(crate) fn asked_tunnel<'a>(name: &str, found: &ArgMatches<'a>) -> Tunnel<'a>
-    ensures end { (name.now ≡ codes "local") ⊎ (name.now ≡ codes "remote") → IsEnd result }
-    ensures silent { IsNotSaid (one_text (found_of found.now) (codes "verbose")) → IsNotVerbose result }
+pub(crate) fn asked_tunnel<'a>(
+    name: &str,
+    found: &ArgMatches<'a>,
+) -> Result<Tunnel<'a>, BadNumber<'a>>
+    ensures end { (name.now ≡ codes "local") ⊎ (name.now ≡ codes "remote") → IfOk result IsEnd }
+    ensures silent { IsNotSaid (one_text (found_of found.now) (codes "verbose")) → IfOk result IsNotVerbose }
+    ensures numbers { IsBadEnd name.now (rows_of (found_of found.now)) → IsErr result }
 {
     match name {
-        "local" => Tunnel::Local {
-            listen: found.get_str("listen").unwrap_or(""),
-            peer: found.get_str("peer").unwrap_or(""),
-            count: found.get_one("count"),
-            window: found.get_one("window").unwrap_or(DEFAULT_WINDOW),
-            is_verbose: found.get_flag("verbose"),
-        },
-        "remote" => Tunnel::Remote {
-            bind: found.get_str("bind").unwrap_or(""),
-            target: found.get_str("target").unwrap_or(""),
-            window: found.get_one("window").unwrap_or(DEFAULT_WINDOW),
-            workers: found.get_one("workers").unwrap_or(DEFAULT_WORKERS),
-            is_verbose: found.get_flag("verbose"),
-        },
-        _ => Tunnel::Selftest,
+        "local" => asked_local(found),
+        "remote" => asked_remote(found),
+        _ => Ok(Tunnel::Selftest),
     }
+}
+
+/// What the matches of `local` ask for.
+fn asked_local<'a>(found: &ArgMatches<'a>) -> Result<Tunnel<'a>, BadNumber<'a>>
+    ensures end { IfOk result IsEnd }
+    ensures silent { IsNotSaid (one_text (found_of found.now) (codes "verbose")) → IfOk result IsNotVerbose }
+    ensures count { IsBad 0 4294967295 (first_value (found_of found.now) (codes "count")) → IsErr result }
+    ensures window { IsBad 262144 16777216 (first_value (found_of found.now) (codes "window")) → IsErr result }
+    ensures read { MatchResult result (IsLocalOf (first_value (found_of found.now)) (one_text (found_of found.now) (codes "verbose")))
+        (λ _. IsBad 0 4294967295 (first_value (found_of found.now) (codes "count")) ⊎ IsBad 262144 16777216 (first_value (found_of found.now) (codes "window"))) }
+{
+    let count = number_of(found, "count", 0, u32::MAX)?;
+    let window = window_of(found)?;
+    Ok(Tunnel::Local {
+        listen: found.get_str("listen").unwrap_or(""),
+        peer: found.get_str("peer").unwrap_or(""),
+        count,
+        window,
+        is_verbose: found.get_flag("verbose"),
+    })
+}
+
+/// What the matches of `remote` ask for.
+fn asked_remote<'a>(found: &ArgMatches<'a>) -> Result<Tunnel<'a>, BadNumber<'a>>
+    ensures end { IfOk result IsEnd }
+    ensures silent { IsNotSaid (one_text (found_of found.now) (codes "verbose")) → IfOk result IsNotVerbose }
+    ensures window { IsBad 262144 16777216 (first_value (found_of found.now) (codes "window")) → IsErr result }
+    ensures workers { IsBad 1 1024 (first_value (found_of found.now) (codes "workers")) → IsErr result }
+    ensures read { MatchResult result (IsRemoteOf (first_value (found_of found.now)) (one_text (found_of found.now) (codes "verbose")))
+        (λ _. IsBad 262144 16777216 (first_value (found_of found.now) (codes "window")) ⊎ IsBad 1 1024 (first_value (found_of found.now) (codes "workers"))) }
+{
+    let window = window_of(found)?;
+    let workers = number_of(found, "workers", 1, 1024)?;
+    Ok(Tunnel::Remote {
+        bind: found.get_str("bind").unwrap_or(""),
+        target: found.get_str("target").unwrap_or(""),
+        window,
+        workers: workers.unwrap_or(DEFAULT_WORKERS),
+        is_verbose: found.get_flag("verbose"),
+    })
+}
+
+/// The value of `--window`, or the default one.
+fn window_of<'a>(found: &ArgMatches<'a>) -> Result<u32, BadNumber<'a>>
+    ensures read { MatchResult result (ReadsOr 262144 16777216 262144 (first_value (found_of found.now) (codes "window"))) (λ _. IsBad 262144 16777216 (first_value (found_of found.now) (codes "window"))) }
+    ensures bad { IsBad 262144 16777216 (first_value (found_of found.now) (codes "window")) → IsErr result }
+{
+    let window = number_of(found, "window", 262_144, 16_777_216)?;
+    Ok(window.unwrap_or(DEFAULT_WINDOW))
 }
 
 /// The subcommand `local`.
@@ -175,7 +215,7 @@ fn workers_argument<'a>(alloc: Global) -> Arg<'a>
         1024,
         "How many streams are served at once, from 1 to 1024",
     )
-    .default_value("16")
+    .default_value("1024")
 }
 
 /// The argument `--verbose`, or `-v`.
@@ -206,20 +246,11 @@ Example:
 /// Does what was asked, and answers the exit status. A bad address is found before anything is connected or bound.
 /// Faults are said on `errors`, and what `-v` asks for on `lines`.
 pub(crate) fn run_tunnel<
-    R: Threads + Wait + Sync,
-    N: Network,
+    R: Net<Stream = TcpStream, Listener = TcpListener> + Threads + Wait + Sync,
     W: Outlet,
     E: Outlet,
-    L: Outlet + Send,
->(
-    rt: &R,
-    alloc: Global,
-    network: &N,
-    asked: Tunnel<'_>,
-    writer: &mut W,
-    errors: &mut E,
-    lines: &mut L,
-) -> u8
+    L: Outlet,
+>(rt: &R, alloc: Global, asked: Tunnel<'_>, writer: &mut W, errors: &mut E, lines: &mut L) -> u8
     ensures status { result ≤ 2 }
     ensures good { result ≡ 0 → IsUntouched (change_of E.contents E.failures errors.old errors.new) }
     ensures silent { IsEnd asked.entry → IsUntouched (change_of W.contents W.failures writer.old writer.new) }
@@ -247,7 +278,7 @@ pub(crate) fn run_tunnel<
                 window,
                 is_verbose,
             };
-            run_local(rt, alloc, network, local, errors, lines)
+            run_local(rt, alloc, local, errors, lines)
         }
         Tunnel::Remote {
             bind,
@@ -269,9 +300,9 @@ pub(crate) fn run_tunnel<
                 workers,
                 is_verbose,
             };
-            run_remote(rt, alloc, network, remote, errors, lines)
+            run_remote(rt, alloc, remote, errors, lines)
         }
-        Tunnel::Selftest => run_selftest(rt, alloc, network, writer, errors),
+        Tunnel::Selftest => run_selftest(rt, alloc, writer, errors),
     }
 }
 

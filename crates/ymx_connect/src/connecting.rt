@@ -186,7 +186,9 @@ fn work_and_close<W: Wait, T, F: FnOnce(&Handle) -> T>(rt: &W, handle: &Handle, 
 
 /// How both pumps ended.
 fn ended(read: PumpedIn, written: PumpedOut) -> Ended
-    ensures { IsSpared result }
+    ensures spared { IsSpared result }
+    ensures read { (result.read ≡ read.why) × (result.read_bytes ≡ read.moved) }
+    ensures written { (result.written ≡ written.why) × (result.written_bytes ≡ written.moved) }
 {
     Ended {
         read: read.why,

@@ -3,15 +3,14 @@
 ghost use Rattle.std.specs.Prelude.{◌≡◌, ◌≤◌, false};
 ghost use Rattle.std.specs.Io.KnownBytes.{Keeps};
 
-use crate::forwarding::{Forwarded, TunnelSide, forward};
+use crate::sockets::{connect, listen};
 use crate::tell::{cannot_listen, cannot_reach, lacks_memory, session_broken};
 use crate::watching::Notices;
 use std::alloc::Global;
-use std::net::{SocketAddr, TcpListener, TcpStream};
+use std::net::{Net, SocketAddr, TcpListener, TcpStream};
 use std::sync::Wait;
-use std::thread::Threads;
+use ymx_loop::{Forwarded, TunnelSide, Unwatched, Watcher, forward};
 use ymx_model::Outlet;
-use ymx_tunnel::{Network, Unwatched, Watcher};
 
 /// What `ymx local` is asked.
 #[derive(Clone, Copy, Debug, PartialEq, Eq)]
@@ -45,10 +44,9 @@ pub struct Remote {
 
 /// Connects to the peer, and forwards each connection that comes as a stream. Says faults on `errors`, and the lines
 /// that `is_verbose` asks for on `lines`. Answers the exit status.
-pub fn run_local<R: Threads + Wait + Sync, N: Network, E: Outlet, L: Outlet + Send>(
+pub fn run_local<R: Net<Stream = TcpStream, Listener = TcpListener> + Wait, E: Outlet, L: Outlet>(
     rt: &R,
     alloc: Global,
-    network: &N,
     asked: Local,
     errors: &mut E,
     lines: &mut L,
@@ -57,47 +55,36 @@ pub fn run_local<R: Threads + Wait + Sync, N: Network, E: Outlet, L: Outlet + Se
     ensures good { result ≡ 0 → Keeps (E.contents errors.old) (E.contents errors.new) }
     ensures silent { asked.is_verbose ≡ false → Keeps (L.contents lines.old) (L.contents lines.new) }
 {
-    let Some(connection) = network.connect(asked.peer) else {
+    let Some(connection) = connect(rt, asked.peer) else {
         return cannot_reach(alloc, asked.peer, errors);
     };
-    let Some(listener) = network.listen(asked.listen) else {
+    let Some(listener) = listen(rt, asked.listen) else {
         return cannot_listen(alloc, asked.listen, errors);
     };
     if !asked.is_verbose {
         return forward_out(
             rt,
             alloc,
-            network,
-            &connection,
-            &listener,
+            connection,
+            listener,
             asked,
-            &Unwatched,
+            &mut Unwatched,
             errors,
         );
     }
-    let watcher = Notices::new(lines);
-    watcher.listening(rt, &listener, asked.listen);
-    forward_out(
-        rt,
-        alloc,
-        network,
-        &connection,
-        &listener,
-        asked,
-        &watcher,
-        errors,
-    )
+    let mut watcher = Notices::new(lines);
+    watcher.listening(&listener, asked.listen);
+    forward_out(rt, alloc, connection, listener, asked, &mut watcher, errors)
 }
 
 /// Forwards each connection that comes as a stream. Answers the exit status.
-fn forward_out<R: Threads + Wait + Sync, N: Network, V: Watcher, E: Outlet>(
+fn forward_out<R: Net + Wait, V: Watcher, E: Outlet>(
     rt: &R,
     alloc: Global,
-    network: &N,
-    connection: &TcpStream,
-    listener: &TcpListener,
+    connection: TcpStream,
+    listener: TcpListener,
     asked: Local,
-    watcher: &V,
+    watcher: &mut V,
     errors: &mut E,
 ) -> u8
     ensures status { result ≤ 1 }
@@ -107,16 +94,15 @@ fn forward_out<R: Threads + Wait + Sync, N: Network, V: Watcher, E: Outlet>(
         listener,
         count: asked.count,
     };
-    let forwarded = forward(rt, alloc, network, connection, side, asked.window, watcher);
+    let forwarded = forward(rt, alloc, connection, side, asked.window, watcher);
     report(alloc, asked.listen, forwarded, errors)
 }
 
 /// Accepts one connection of a peer, and connects each of its streams to the target. Says faults on `errors`, and the
 /// lines that `is_verbose` asks for on `lines`. Answers the exit status.
-pub fn run_remote<R: Threads + Wait + Sync, N: Network, E: Outlet, L: Outlet + Send>(
+pub fn run_remote<R: Net<Stream = TcpStream, Listener = TcpListener> + Wait, E: Outlet, L: Outlet>(
     rt: &R,
     alloc: Global,
-    network: &N,
     asked: Remote,
     errors: &mut E,
     lines: &mut L,
@@ -125,26 +111,25 @@ pub fn run_remote<R: Threads + Wait + Sync, N: Network, E: Outlet, L: Outlet + S
     ensures good { result ≡ 0 → Keeps (E.contents errors.old) (E.contents errors.new) }
     ensures silent { asked.is_verbose ≡ false → Keeps (L.contents lines.old) (L.contents lines.new) }
 {
-    let Some(listener) = network.listen(asked.bind) else {
+    let Some(listener) = listen(rt, asked.bind) else {
         return cannot_listen(alloc, asked.bind, errors);
     };
     if !asked.is_verbose {
-        return forward_in(rt, alloc, network, listener, asked, &Unwatched, errors);
+        return forward_in(rt, alloc, listener, asked, &mut Unwatched, errors);
     }
-    let watcher = Notices::new(lines);
-    watcher.listening(rt, &listener, asked.bind);
-    forward_in(rt, alloc, network, listener, asked, &watcher, errors)
+    let mut watcher = Notices::new(lines);
+    watcher.listening(&listener, asked.bind);
+    forward_in(rt, alloc, listener, asked, &mut watcher, errors)
 }
 
 /// Accepts one connection of a peer, so that others are refused, and connects each of its streams to the target. Answers
 /// the exit status.
-fn forward_in<R: Threads + Wait + Sync, N: Network, V: Watcher, E: Outlet>(
+fn forward_in<R: Net + Wait, V: Watcher, E: Outlet>(
     rt: &R,
     alloc: Global,
-    network: &N,
     listener: TcpListener,
     asked: Remote,
-    watcher: &V,
+    watcher: &mut V,
     errors: &mut E,
 ) -> u8
     ensures status { result ≤ 1 }
@@ -154,12 +139,11 @@ fn forward_in<R: Threads + Wait + Sync, N: Network, V: Watcher, E: Outlet>(
         return cannot_listen(alloc, asked.bind, errors);
     };
     drop(listener);
-    let _ = connection.set_nodelay(true);
     let side = TunnelSide::Remote {
         target: asked.target,
         workers: asked.workers,
     };
-    let forwarded = forward(rt, alloc, network, &connection, side, asked.window, watcher);
+    let forwarded = forward(rt, alloc, connection, side, asked.window, watcher);
     report(alloc, asked.bind, forwarded, errors)
 }
 

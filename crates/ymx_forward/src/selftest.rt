@@ -7,18 +7,18 @@
 ghost use Rattle.std.specs.Prelude.{◌≡◌, ◌≤◌};
 ghost use Rattle.std.specs.Io.KnownBytes.{Keeps};
 
-use crate::forwarding::{TunnelSide, forward};
+use crate::sockets::{connect, listen};
 use crate::tell::{cannot_listen, lacks_memory, refuse};
 use crossbeam_channel::{Receiver, Sender, bounded};
 use std::alloc::Global;
 use std::io::{Read, Write};
-use std::net::{Ipv4Addr, Shutdown, SocketAddr, SocketAddrV4, TcpListener, TcpStream};
+use std::net::{Ipv4Addr, Net, Shutdown, SocketAddr, SocketAddrV4, TcpListener, TcpStream};
 use std::sync::Wait;
 use std::thread::Threads;
 use std::{io, thread};
 use ymx_frames::push_all;
+use ymx_loop::{TunnelSide, Unwatched, forward};
 use ymx_model::Outlet;
-use ymx_tunnel::{Network, Unwatched};
 
 /// How many bytes each connection sends.
 const SIZES: [u32; 3] = [0, 1, 300_000];
@@ -28,9 +28,6 @@ const CONNECTIONS: u32 = 3;
 
 /// The window of both sessions, in bytes.
 const WINDOW: u32 = 262_144;
-
-/// How many streams are served at once.
-const WORKERS: u32 = 16;
 
 /// Bytes that are written and read at once.
 const CHUNK: usize = 4_096;
@@ -76,23 +73,21 @@ enum Stop {
 
 /// Sends three connections through both ends of a tunnel to an echo server, all on 127.0.0.1, and prints a line for
 /// each. Answers the exit status.
-pub fn run_selftest<R: Threads + Wait + Sync, N: Network, W: Outlet, E: Outlet>(
-    rt: &R,
-    alloc: Global,
-    network: &N,
-    writer: &mut W,
-    errors: &mut E,
-) -> u8
+pub fn run_selftest<
+    R: Net<Stream = TcpStream, Listener = TcpListener> + Threads + Wait + Sync,
+    W: Outlet,
+    E: Outlet,
+>(rt: &R, alloc: Global, writer: &mut W, errors: &mut E) -> u8
     ensures status { result ≤ 1 }
     ensures good { result ≡ 0 → Keeps (E.contents errors.old) (E.contents errors.new) }
 {
-    let Some((places, owned)) = prepare(network) else {
+    let Some((places, owned)) = prepare(rt) else {
         return cannot_listen(alloc, any_port(), errors);
     };
     let Ok((sender, receiver)) = bounded::<Echoed, Global>(alloc, 3) else {
         return lacks_memory(errors);
     };
-    let whole = run_all(rt, alloc, network, places, owned, sender, &receiver);
+    let whole = run_all(rt, alloc, places, owned, sender, &receiver);
     match print_lines(alloc, whole, writer) {
         Ok(()) => 0,
         Err(Stop::Connection(number)) => failed(alloc, number, errors),
@@ -103,10 +98,9 @@ pub fn run_selftest<R: Threads + Wait + Sync, N: Network, W: Outlet, E: Outlet>(
 
 /// Runs the three servers and the client in threads, and says how many connections were whole before one failed; none
 /// was where a thread can't be made.
-fn run_all<R: Threads + Wait + Sync, N: Network>(
+fn run_all<R: Net<Stream = TcpStream, Listener = TcpListener> + Threads + Wait + Sync>(
     rt: &R,
     alloc: Global,
-    network: &N,
     places: Places,
     owned: Owned,
     sender: Sender<Echoed, Global>,
@@ -121,23 +115,23 @@ fn run_all<R: Threads + Wait + Sync, N: Network>(
     thread::scope(thread::scope_env(), rt, move |scope| {
         let has_echo = scope.spawn(move || serve_echoes(echo)).is_ok();
         let has_far = scope
-            .spawn(move || run_remote_end(rt, alloc, network, far, places.echo))
+            .spawn(move || run_remote_end(rt, alloc, far, places.echo))
             .is_ok();
         let has_near = scope
-            .spawn(move || run_local_end(rt, alloc, network, near, local))
+            .spawn(move || run_local_end(rt, alloc, near, local))
             .is_ok();
         let are_running = has_echo
             && has_far
             && has_near
             && scope
-                .spawn(move || run_client(rt, network, places.local, sender))
+                .spawn(move || run_client(rt, places.local, sender))
                 .is_ok();
         let whole = if are_running {
             receive_all(rt, receiver)
         } else {
             0
         };
-        release(network, places);
+        release(rt, places);
         whole
     })
 }
@@ -148,10 +142,10 @@ fn any_port() -> SocketAddr {
 }
 
 /// Listens at two ports, and connects both ends of the session, so that neither has to wait for the other.
-fn prepare<N: Network>(network: &N) -> Option<(Places, Owned)> {
-    let echo = network.listen(any_port())?;
-    let local = network.listen(any_port())?;
-    let (near, far) = connect_session(network)?;
+fn prepare<R: Net<Stream = TcpStream, Listener = TcpListener>>(rt: &R) -> Option<(Places, Owned)> {
+    let echo = listen(rt, any_port())?;
+    let local = listen(rt, any_port())?;
+    let (near, far) = connect_session(rt)?;
     let (Ok(echo_address), Ok(local_address)) = (echo.local_addr(), local.local_addr()) else {
         return None;
     };
@@ -169,16 +163,17 @@ fn prepare<N: Network>(network: &N) -> Option<(Places, Owned)> {
 }
 
 /// Both ends of a connection. The system makes it before it is accepted, so the accept doesn't wait.
-fn connect_session<N: Network>(network: &N) -> Option<(TcpStream, TcpStream)> {
-    let listener = network.listen(any_port())?;
+fn connect_session<R: Net<Stream = TcpStream, Listener = TcpListener>>(
+    rt: &R,
+) -> Option<(TcpStream, TcpStream)> {
+    let listener = listen(rt, any_port())?;
     let Ok(address) = listener.local_addr() else {
         return None;
     };
-    let near = network.connect(address)?;
+    let near = connect(rt, address)?;
     let Ok((far, _)) = listener.accept() else {
         return None;
     };
-    let _ = far.set_nodelay(true);
     Some((near, far))
 }
 
@@ -227,10 +222,10 @@ fn failed<E: Outlet>(alloc: Global, number: u32, errors: &mut E) -> u8
 
 /// Connects to each listener as often as its server accepts, so that none waits any longer. A listener that has closed
 /// refuses it.
-fn release<N: Network>(network: &N, places: Places) {
+fn release<R: Net<Stream = TcpStream, Listener = TcpListener>>(rt: &R, places: Places) {
     for _ in 0..CONNECTIONS {
-        let _ = network.connect(places.local);
-        let _ = network.connect(places.echo);
+        let _ = connect(rt, places.local);
+        let _ = connect(rt, places.echo);
     }
 }
 
@@ -246,46 +241,43 @@ fn serve_echoes(listener: TcpListener) {
 }
 
 /// The end of the tunnel at the echo server.
-fn run_remote_end<R: Threads + Wait + Sync, N: Network>(
+fn run_remote_end<R: Net<Stream = TcpStream, Listener = TcpListener> + Wait>(
     rt: &R,
     alloc: Global,
-    network: &N,
     connection: TcpStream,
     target: SocketAddr,
 ) {
     let side = TunnelSide::Remote {
         target,
-        workers: WORKERS,
+        workers: CONNECTIONS,
     };
-    let _ = forward(rt, alloc, network, &connection, side, WINDOW, &Unwatched);
+    let _ = forward(rt, alloc, connection, side, WINDOW, &mut Unwatched);
 }
 
 /// The end of the tunnel at the client.
-fn run_local_end<R: Threads + Wait + Sync, N: Network>(
+fn run_local_end<R: Net<Stream = TcpStream, Listener = TcpListener> + Wait>(
     rt: &R,
     alloc: Global,
-    network: &N,
     connection: TcpStream,
     listener: TcpListener,
 ) {
     let side = TunnelSide::Local {
-        listener: &listener,
+        listener,
         count: Some(CONNECTIONS),
     };
-    let _ = forward(rt, alloc, network, &connection, side, WINDOW, &Unwatched);
+    let _ = forward(rt, alloc, connection, side, WINDOW, &mut Unwatched);
 }
 
 /// Makes the three connections, one after the other, and sends what became of each.
-fn run_client<R: Wait, N: Network>(
+fn run_client<R: Net<Stream = TcpStream, Listener = TcpListener> + Wait>(
     rt: &R,
-    network: &N,
     address: SocketAddr,
     sender: Sender<Echoed, Global>,
 ) {
     let mut number = 0u32;
     for size in SIZES {
         number = number.saturating_add(1);
-        let is_whole = match network.connect(address) {
+        let is_whole = match connect(rt, address) {
             Some(stream) => is_echoed(&stream, size).unwrap_or(false),
             None => false,
         };

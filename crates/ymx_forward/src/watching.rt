@@ -1,13 +1,11 @@
-//! What `-v` asks for: lines about a tunnel while it runs, written by all of its threads.
+//! What `-v` asks for: lines about a tunnel while it runs.
 
 use arrayvec::ArrayString;
 use std::fmt::Write;
 use std::net::{SocketAddr, TcpListener};
-use std::sync::{Mutex, Wait};
 use ymx_frames::push_all;
-use ymx_hub::HubFault;
-use ymx_model::Outlet;
-use ymx_tunnel::{CopyWhy, EndedConnection, Watcher};
+use ymx_loop::{EndedConnection, Ending, Watcher};
+use ymx_model::{CallFault, Outlet};
 
 /// Room for the longest line, in bytes: that of a connection with the greatest numbers has 159.
 const LINE: usize = 192;
@@ -15,56 +13,51 @@ const LINE: usize = 192;
 /// A line, which takes no memory.
 type Line = ArrayString<LINE>;
 
-/// Says that a tunnel is ready, and how each of its connections ended, a line each. The device takes a line as a whole,
-/// whichever threads say one at once. Where it fails the line is lost, and nobody is told.
+/// Says that a tunnel is ready, and how each of its connections ended, a line each. Where the device fails the line is
+/// lost, and nobody is told.
 #[derive(Drop)]
 pub(crate) struct Notices<'a, L: Outlet> {
-    device: Mutex<&'a mut L>,
+    device: &'a mut L,
 }
 
 impl<'a, L: Outlet> Notices<'a, L> {
     /// Says its lines on this device.
     pub(crate) fn new(device: &'a mut L) -> Notices<'a, L> {
-        Notices {
-            device: Mutex::new(device),
-        }
+        Notices { device }
     }
 
     /// Says where a tunnel listens that was asked to listen at this address. At port 0 the system chose a port, which
     /// is said.
-    pub(crate) fn listening<W: Wait>(&self, rt: &W, listener: &TcpListener, asked: SocketAddr) {
+    pub(crate) fn listening(&mut self, listener: &TcpListener, asked: SocketAddr) {
         let address = listener.local_addr().unwrap_or(asked);
         let mut line = Line::new();
         let _ = writeln!(line, "ymx: listening at {address}");
-        self.say(rt, &line);
+        self.say(&line);
     }
 
     /// Says a line.
-    fn say<W: Wait>(&self, rt: &W, line: &Line) {
-        let mut device = self.device.lock(rt);
-        let _ = push_all(&mut **device, line.as_str().as_bytes());
+    fn say(&mut self, line: &Line) {
+        let _ = push_all(&mut *self.device, line.as_str().as_bytes());
     }
 }
 
-impl<L: Outlet + Send> Watcher for Notices<'_, L> {
-    fn ended<W: Wait>(&self, rt: &W, number: u64, joined: &EndedConnection) {
-        self.say(rt, &end_line(number, joined));
+impl<L: Outlet> Watcher for Notices<'_, L> {
+    fn ended(&mut self, number: u64, ended: &EndedConnection) {
+        self.say(&end_line(number, ended));
     }
 
-    fn refused<W: Wait>(&self, rt: &W, number: u64, fault: HubFault) {
-        let mut line = Line::new();
-        let _ = writeln!(line, "ymx: connection {number}: no stream: {fault}");
-        self.say(rt, &line);
+    fn refused(&mut self, number: u64, fault: CallFault) {
+        self.say(&refusal_line(number, fault));
     }
 }
 
 /// The line of a connection that has ended.
-fn end_line(number: u64, joined: &EndedConnection) -> Line {
-    let EndedConnection { inward, outward } = *joined;
+fn end_line(number: u64, ended: &EndedConnection) -> Line {
+    let EndedConnection { inward, outward } = *ended;
     let sent = inward.bytes;
-    let sent_why = inward_word(inward.why);
+    let sent_why = word_of(inward.ending);
     let got = outward.bytes;
-    let got_why = outward_word(outward.why);
+    let got_why = word_of(outward.ending);
     let mut line = Line::new();
     let _ = writeln!(
         line,
@@ -73,26 +66,24 @@ fn end_line(number: u64, joined: &EndedConnection) -> Line {
     line
 }
 
-/// Why the copy from a connection into its stream ended.
-fn inward_word(why: CopyWhy) -> &'static str {
-    match why {
-        CopyWhy::End => "ended",
-        CopyWhy::Source => "connection failed",
-        CopyWhy::Sink => "refused",
-        CopyWhy::Reset => "reset",
-        CopyWhy::Lost => "lost",
-        CopyWhy::Memory => "no memory",
-    }
+/// The line of a connection that was closed, as there was no stream for it.
+fn refusal_line(number: u64, fault: CallFault) -> Line {
+    let mut line = Line::new();
+    let _ = match fault {
+        CallFault::OutOfMemory => writeln!(line, "ymx: connection {number}: no stream: Memory"),
+        _ => writeln!(line, "ymx: connection {number}: no stream: {fault}"),
+    };
+    line
 }
 
-/// Why the copy from a stream out to its connection ended.
-fn outward_word(why: CopyWhy) -> &'static str {
-    match why {
-        CopyWhy::End => "ended",
-        CopyWhy::Source => "refused",
-        CopyWhy::Sink => "connection failed",
-        CopyWhy::Reset => "reset",
-        CopyWhy::Lost => "lost",
-        CopyWhy::Memory => "no memory",
+/// The words for why one way of a connection ended.
+fn word_of(ending: Ending) -> &'static str {
+    match ending {
+        Ending::Ended => "ended",
+        Ending::ConnectionFailed => "connection failed",
+        Ending::Reset => "reset",
+        Ending::Lost => "lost",
+        Ending::NoMemory => "no memory",
+        Ending::Refused => "refused",
     }
 }

@@ -1,5 +1,5 @@
 -- What a copy has moved, round by round.
-use Rattle.std.proofs.Common.{◌≡◌, ℕ, ◌+◌, ◌-◌, ◌^◌, ◌≤◌, ◌<◌, min, List, [], ◌++◌, length, take, drop, Option, None, Some, arith, refl, sym, ◌∙◌, ap, subst, append-nil, append_assoc, take-append-drop, IsTrue, Result, Ok}
+use Rattle.std.proofs.Common.{◌≡◌, ℕ, ◌+◌, ◌-◌, ◌^◌, ◌≤◌, ◌<◌, ◌⊎◌, inl, inr, min, List, [], ◌++◌, length, take, drop, Option, None, Some, arith, refl, sym, ◌∙◌, ap, subst, append-nil, append_assoc, take-append-drop, IsTrue, Result, Ok}
 use Rattle.std.specs.Io.{StartsWith}
 use Rattle.std.specs.Io.KnownBytes.{Appends, Consumes, Keeps, IsAtEnd}
 use Rattle.std.proofs.KnownBytes.{Appends-nil, Appends-trans, Appends-kept, Consumes-nil, Consumes-trans, Consumes-kept}
@@ -10,8 +10,8 @@ use Rattle.std.proofs.lemmas.Grind.{common_steps}
 use Rattle.ymx_model.specs.devices.Devices.{has_failed, most_failures}
 use Rattle.ymx_tunnel.specs.declared.copied.CopyWhy.{CopyWhy}
 use Rattle.ymx_tunnel.specs.declared.copied.CopyWhy.TheVariants.{End, Source, Sink, Reset, Lost, Memory}
-use Rattle.ymx_tunnel.specs.Copies.{IsMoved, CopiesIn, CopiesOut, copy_reason}
-use Rattle.ymx_model.specs.declared.types.CallFault.TheVariants as refusal
+use Rattle.ymx_tunnel.specs.Copies.{CopiesIn, CopiesOut, StopsFor, copy_reason}
+use Rattle.ymx_machine.specs.declared.types.CallFault.TheVariants as refusal
 use Rattle.ymx_held.specs.declared.faults.HubFault.{HubFault}
 use Rattle.ymx_held.specs.declared.faults.HubFault.TheVariants.{Call, Memory as NoMemory, Seats}
 
@@ -139,6 +139,40 @@ by_end Memory = Unit {0}
 pub sink_is_no_end : Sink ≡ End → ⊥
 unfolding by_end
 sink_is_no_end e = subst by_end e tt
+
+source_case : (fault : HubFault) → copy_reason fault Sink ≡ Source → ⊥
+source_case (Call refusal.Reset) e = cc
+source_case (Call refusal.Lost) e = cc
+source_case (Call _) e = cc
+source_case NoMemory e = cc
+source_case Seats e = cc
+
+-- no fault of a sink blames the reader
+pub no_source : (fault : HubFault) (why : CopyWhy) → why ≡ copy_reason fault Sink → why ≡ Source → ⊥
+no_source fault why e w = source_case fault (sym e ∙ w)
+
+sink_case : (fault : HubFault) → copy_reason fault Source ≡ Sink → ⊥
+sink_case (Call refusal.Reset) e = cc
+sink_case (Call refusal.Lost) e = cc
+sink_case (Call _) e = cc
+sink_case NoMemory e = cc
+sink_case Seats e = cc
+
+-- no fault of a source blames the writer
+pub no_sink : (fault : HubFault) (why : CopyWhy) → why ≡ copy_reason fault Source → why ≡ Sink → ⊥
+no_sink fault why e w = sink_case fault (sym e ∙ w)
+
+-- where it did not end, it was spent so
+pub unless_ended : (Ended Stops Spent : Type 0) → Ended ⊎ Stops → (Stops → Spent) → Ended ⊎ Spent
+unless_ended Ended Stops Spent (inl e) f = inl e
+unless_ended Ended Stops Spent (inr s) f = inr (f s)
+
+-- what was refused before is refused still
+pub still_stops : (Refused Before : HubFault → Type 0) (device own why : CopyWhy) → ((fault : HubFault) → Refused fault → Before fault) →
+    (why ≡ End) ⊎ StopsFor Refused device own why → (why ≡ End) ⊎ StopsFor Before device own why
+still_stops Refused Before device own why f (inl e) = inl e
+still_stops Refused Before device own why f (inr (inl d)) = inr (inl d)
+still_stops Refused Before device own why f (inr (inr (fault, e, r))) = inr (inr (fault, e, f fault r))
 
 -- it was finished so
 pub finished_by : (S : Type 0) (P : S → Result (Unit {0}) HubFault → Type 0) (s : S) (answer : Result (Unit {0}) HubFault) → P s answer → answer ≡ Ok tt → (last : S) × P last (Ok tt)

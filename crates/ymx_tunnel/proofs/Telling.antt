@@ -1,21 +1,20 @@
 -- What the calls of a half add to what its seat tells.
-use Rattle.std.proofs.Common.{◌≡◌, ℕ, ◌+◌, ◌≤◌, ◌⊎◌, inl, inr, List, [], ◌∷◌, ◌++◌, length, take, drop, Bool, true, false, Option, Some, None, Result, Ok, Err, MatchResult, IfOk, refl, sym, ap, ◌∙◌, append_assoc, append-nil, subst, arith}
-use Rattle.std.proofs.lemmas.Grind.{common_steps}
+use Rattle.std.proofs.Common.{◌≡◌, ℕ, inl, inr, List, [], ◌∷◌, ◌++◌, length, take, drop, true, Some, Result, Ok, Err, MatchResult, IfOk, IfErr, refl, sym, ap, ◌∙◌, append_assoc, append-nil, arith}
 use Rattle.std.proofs.lemmas.List.{take_all}
 use Rattle.std.proofs.Math.Seq.{take-add}
 use Rattle.std.specs.Io.KnownBytes.{Appends, Keeps, WriteAppends}
-use Rattle.ymx_model.specs.declared.types.CallFault.{CallFault}
+use Rattle.ymx_machine.specs.declared.types.CallFault.{CallFault}
 use Rattle.ymx_model.specs.declared.types.Event.{Event}
-use Rattle.ymx_model.specs.declared.types.Reply.{Reply}
-use Rattle.ymx_model.specs.declared.types.Reply.TheVariants as reply
+use Rattle.ymx_machine.specs.declared.types.Reply.{Reply}
+use Rattle.ymx_machine.specs.declared.types.Reply.TheVariants as reply
 use Rattle.ymx_model.specs.declared.types.Entry.{Entry}
 use Rattle.ymx_seats.specs.Views.{entry}
-use Rattle.ymx_session.specs.Replies.{done_or}
 use Rattle.ymx_held.specs.declared.faults.HubFault.{HubFault}
-use Rattle.ymx_held.specs.Booked.{Gains, One, Asks, Forgets, SpendsWith, Spends, Closes, to_write, to_read, to_finish, to_reset, to_forget}
+use Rattle.ymx_held.specs.Answers.{hub_fault_of}
+use Rattle.ymx_held.specs.Booked.{Gains, One, Forgets, SpendsWith, Spends, Closes, to_read, to_finish, to_reset, to_forget}
 use Rattle.ymx_hub.specs.declared.write_fault.WriteFault.{WriteFault}
-use Rattle.ymx_hub.specs.Turns.{took_of, total, AreWrites, WriteTurns, AreWaits, ReadTurns, ReadsLast}
-use Rattle.ymx_tunnel.specs.Told.{offered, bytes_written, read_of, read_bytes, GivesNone, HasSaidEnd}
+use Rattle.ymx_hub.specs.Turns.{took_of, total, EndsIn, AreWrites, WriteTurns, AreWaits, ReadTurns, ReadsLast}
+use Rattle.ymx_tunnel.specs.Told.{offered, bytes_written, read_of, read_bytes, GivesNone, HasSaidEnd, HasToldRefusal}
 
 pub written_append : (xs ys : List Entry) → bytes_written (xs ++ ys) ≡ bytes_written xs ++ bytes_written ys
 written_append [] ys = refl
@@ -150,3 +149,40 @@ close_keeps before after id seat result g = tells_same read_bytes before after _
 pub close_ended : (before after : List Entry) (Such : List Entry → Type 0) → Gains true before after Such → HasSaidEnd before → HasSaidEnd after
 close_ended before after Such (added, e, s) (front, x, back, f, none) =
     (front, x, back ++ added, e ∙ ap (λ (l : List Entry). l ++ added) f ∙ append_assoc front (x ∷ back) added, none)
+
+-- ---- refusals
+
+-- the last of these entries has such a reply
+abbrev Last : (Reply → Type 0) → List Entry → Type 0
+Last Such es = (front : List Entry) × (e : Entry) × (es ≡ front ++ e ∷ []) × Such e.reply
+
+last_later : (Such : Reply → Type 0) (e : Entry) (es : List Entry) → Last Such es → Last Such (e ∷ es)
+last_later Such e es (front, x, p, s) = (e ∷ front, x, ap (λ (l : List Entry). e ∷ l) p, s)
+
+last_of : (Such : Reply → Type 0) (es : List Entry) → EndsIn Such es → Last Such es
+last_of Such [] h = absurd h
+last_of Such (e ∷ []) h = ([], e, refl, h)
+last_of Such (e ∷ f ∷ fs) h = last_later Such e (f ∷ fs) (last_of Such (f ∷ fs) h)
+
+tells_refusal : (before added after : List Entry) (why : CallFault) (fault : HubFault) → after ≡ before ++ added → fault ≡ hub_fault_of why → Last (λ told. told ≡ reply.Refused why) added →
+    HasToldRefusal fault after
+tells_refusal before added after why fault e f (front, x, p, s) =
+    inr (why, f, before ++ front, x, [], e ∙ ap (λ (l : List Entry). before ++ l) p ∙ sym (append_assoc before front (x ∷ [])), s)
+
+pub write_refused : (before after : List Entry) (id seat : ℕ) (bytes : List ℕ) (result : Result (Unit {0}) WriteFault) → Gains true before after (WriteTurns id bytes seat result) →
+    IfErr result (λ stop. HasToldRefusal stop.fault after)
+write_refused before after id seat bytes (Ok u) g = tt
+write_refused before after id seat bytes (Err stop) (added, e, (w, (t, inl m))) = inl m.0
+write_refused before after id seat bytes (Err stop) (added, e, (w, (t, inr (why, f, ends)))) = tells_refusal before added after why stop.fault e f (last_of _ added ends)
+
+pub read_refused : (before after : List Entry) (id size : ℕ) (buffer : List ℕ) (seat : ℕ) (result : Result ℕ HubFault) → Gains true before after (ReadTurns id size buffer seat result) →
+    IfErr result (λ fault. HasToldRefusal fault after)
+read_refused before after id size buffer seat (Ok n) g = tt
+read_refused before after id size buffer seat (Err fault) (added, e, (waits, last, f, w, inl m)) = inl m.0
+read_refused before after id size buffer seat (Err fault) (added, e, (waits, last, f, w, inr (why, g, (p, h)))) =
+    tells_refusal before added after why fault e g (waits, entry p seat (to_read id size) (reply.Refused why), f ∙ ap (λ (l : List Entry). waits ++ l) h, refl)
+
+pub close_refused : (before after : List Entry) (Such : List Entry → Type 0) → Gains true before after Such → (fault : HubFault) → HasToldRefusal fault before → HasToldRefusal fault after
+close_refused before after Such (added, e, s) fault (inl m) = inl m
+close_refused before after Such (added, e, s) fault (inr (why, f, front, x, back, g, told)) =
+    inr (why, f, front, x, back ++ added, e ∙ ap (λ (l : List Entry). l ++ added) g ∙ append_assoc front (x ∷ back) added, told)

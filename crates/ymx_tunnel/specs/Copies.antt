@@ -1,9 +1,8 @@
 -- What a copy moves (this project's own).
-use Rattle.std.specs.Prelude.{◌≡◌, ℕ, ◌-◌, ◌^◌, min, List, length, Option}
+use Rattle.std.specs.Prelude.{◌≡◌, ℕ, ◌-◌, ◌^◌, ◌⊎◌, min, List, length, Option}
 use Rattle.std.specs.Io.{StartsWith}
 use Rattle.std.specs.Io.KnownBytes.{Appends, Consumes, IsAtEnd}
-use Rattle.ymx_model.specs.declared.types.CallFault.{CallFault}
-use Rattle.ymx_model.specs.declared.types.CallFault.TheVariants as refusal
+use Rattle.ymx_machine.specs.declared.types.CallFault.TheVariants as refusal
 use Rattle.ymx_held.specs.declared.faults.HubFault.{HubFault}
 use Rattle.ymx_held.specs.declared.faults.HubFault.TheVariants.{Call, Memory as NoMemory}
 use Rattle.ymx_tunnel.specs.declared.copied.CopyWhy.{CopyWhy}
@@ -31,3 +30,7 @@ CopiesIn reader after sink left bytes why =
 abbrev pub CopiesOut : (source left : Option (List ℕ)) (writer after : Option (List ℕ)) (bytes : ℕ) (why : CopyWhy) → Type 0
 CopiesOut source left writer after bytes why =
     (given : List ℕ) × (moved : List ℕ) × Appends source left given × Appends writer after moved × IsMoved given moved bytes why
+
+-- A copy stopped, for the device or for a fault by which the half refused. `own` names the half where the fault says no more.
+abbrev pub StopsFor : (Refused : HubFault → Type 0) → (device own why : CopyWhy) → Type 0
+StopsFor Refused device own why = (why ≡ device) ⊎ ((fault : HubFault) × (why ≡ copy_reason fault own) × Refused fault)

@@ -2,10 +2,14 @@
 use Rattle.std.specs.Prelude.{◌≡◌, ℕ, ◌⊎◌, List, [], ◌∷◌, ◌++◌, take}
 use Rattle.ymx_model.specs.declared.types.Event.{Event}
 use Rattle.ymx_model.specs.declared.types.Event.TheVariants as event
-use Rattle.ymx_model.specs.declared.types.Call.TheVariants as call
-use Rattle.ymx_model.specs.declared.types.Reply.{Reply}
-use Rattle.ymx_model.specs.declared.types.Reply.TheVariants as reply
+use Rattle.ymx_machine.specs.declared.types.Call.TheVariants as call
+use Rattle.ymx_machine.specs.declared.types.Reply.{Reply}
+use Rattle.ymx_machine.specs.declared.types.Reply.TheVariants as reply
 use Rattle.ymx_model.specs.declared.types.Entry.{Entry}
+use Rattle.ymx_machine.specs.declared.types.CallFault.{CallFault}
+use Rattle.ymx_held.specs.declared.faults.HubFault.{HubFault}
+use Rattle.ymx_held.specs.declared.faults.HubFault.TheVariants.{Memory}
+use Rattle.ymx_held.specs.Answers.{hub_fault_of}
 use Rattle.ymx_hub.specs.Turns.{took_of}
 
 -- the bytes of a write
@@ -35,3 +39,9 @@ GivesNone told = (told ≡ reply.ReadEnd) ⊎ (told ≡ reply.Read [])
 -- one of these entries is such a read
 abbrev pub HasSaidEnd : List Entry → Type 0
 HasSaidEnd entries = (before : List Entry) × (e : Entry) × (after : List Entry) × (entries ≡ before ++ e ∷ after) × GivesNone e.reply
+
+-- one of these entries was refused, which the fault says; or the fault is want of memory, which no entry need tell
+abbrev pub HasToldRefusal : HubFault → List Entry → Type 0
+HasToldRefusal fault entries =
+    (fault ≡ Memory)
+    ⊎ ((why : CallFault) × (fault ≡ hub_fault_of why) × (before : List Entry) × (e : Entry) × (after : List Entry) × (entries ≡ before ++ e ∷ after) × (e.reply ≡ reply.Refused why))

@@ -5,7 +5,7 @@ ghost use Rattle.std.specs.Io.{StartsWith};
 ghost use Rattle.std.specs.Io.KnownBytes.{Appends};
 ghost use Rattle.ymx_model.specs.devices.Devices.{has_failed};
 ghost use Rattle.ymx_held.specs.declared.faults.HubFault.{HubFault as Fault};
-ghost use Rattle.ymx_tunnel.specs.Copies.{CopiesIn, CopiesOut, copy_reason};
+ghost use Rattle.ymx_tunnel.specs.Copies.{CopiesIn, CopiesOut, StopsFor, copy_reason};
 
 use crate::copied::{Copied, CopyWhy, why_of_fault};
 use crate::ends::{Sink, Source};
@@ -29,8 +29,8 @@ pub fn copy_in<W: Wait, I: Inlet, S: Sink>(
     // The end was passed on at `End` alone, and a reader that failed left no end behind.
     ensures finished { result.why ≡ CopyWhy.End → (last : S) × S.Finishes last result.left (Ok tt) }
     ensures reset { result.why ≡ CopyWhy.Source → (last : S) × (answer : Result (Unit {0}) Fault) × S.Resets last result.left answer }
-    // At any other end it was reset, or its finish was refused for that reason.
-    ensures spent { (result.why ≡ CopyWhy.End) ⊎ ((last : S) × (answer : Result (Unit {0}) Fault) × S.Resets last result.left answer) ⊎ ((last : S) × (fault : Fault) × (result.why ≡ copy_reason fault CopyWhy.Sink) × S.Finishes last result.left (Err fault)) }
+    // At any other end it was reset, for the reader or for a fault by which it had refused; or its finish was refused for that reason.
+    ensures spent { (result.why ≡ CopyWhy.End) ⊎ ((last : S) × (answer : Result (Unit {0}) Fault) × StopsFor (S.HasRefused last) CopyWhy.Source CopyWhy.Sink result.why × S.Resets last result.left answer) ⊎ ((last : S) × (fault : Fault) × (result.why ≡ copy_reason fault CopyWhy.Sink) × S.Finishes last result.left (Err fault)) }
     // The reader is blamed if it failed, and only then.
     ensures source { result.why ≡ CopyWhy.Source → IsTrue (has_failed (I.failures reader.old) (I.failures reader.new)) }
     ensures reader_kept { (result.why ≡ CopyWhy.Source) ⊎ (I.failures reader.new ≡ I.failures reader.old) }
@@ -58,6 +58,7 @@ fn fill<W: Wait, I: Inlet, S: Sink>(
 ) -> (u64, CopyWhy)
     requires { 0 < length buffer.old }
     ensures moved { CopiesIn (I.remaining reader.old) (I.remaining reader.new) (S.taken sink.old) (S.taken sink.new) result.0 result.1 }
+    ensures why { (result.1 ≡ CopyWhy.End) ⊎ StopsFor (S.HasRefused sink.new) CopyWhy.Source CopyWhy.Sink result.1 }
     ensures source { result.1 ≡ CopyWhy.Source → IsTrue (has_failed (I.failures reader.old) (I.failures reader.new)) }
     ensures reader_kept { (result.1 ≡ CopyWhy.Source) ⊎ (I.failures reader.new ≡ I.failures reader.old) }
 {
@@ -95,6 +96,8 @@ pub fn copy_out<W: Wait, S: Source, O: Outlet>(
     // A beginning of what the source gave; at `End` all of it.
     ensures moved { CopiesOut (S.given source) (S.given_in_all result.left) (O.contents writer.old) (O.contents writer.new) result.bytes result.why }
     ensures ended { result.why ≡ CopyWhy.End → S.EndedBefore result.left }
+    // At any other end the writer failed, or the source had refused by a fault for that reason.
+    ensures why { (result.why ≡ CopyWhy.End) ⊎ StopsFor (S.RefusedBefore result.left) CopyWhy.Sink CopyWhy.Source result.why }
     // The writer is blamed if it failed, and only then.
     ensures sink { result.why ≡ CopyWhy.Sink → IsTrue (has_failed (O.failures writer.old) (O.failures writer.new)) }
     ensures writer_kept { (result.why ≡ CopyWhy.Sink) ⊎ (O.failures writer.new ≡ O.failures writer.old) }
@@ -122,6 +125,7 @@ fn empty<W: Wait, S: Source, O: Outlet>(
     requires { 0 < length buffer.old }
     ensures moved { CopiesOut (S.given source.old) (S.given source.new) (O.contents writer.old) (O.contents writer.new) result.0 result.1 }
     ensures ended { result.1 ≡ CopyWhy.End → S.HasEnded source.new }
+    ensures why { (result.1 ≡ CopyWhy.End) ⊎ StopsFor (S.HasRefused source.new) CopyWhy.Sink CopyWhy.Source result.1 }
     ensures sink { result.1 ≡ CopyWhy.Sink → IsTrue (has_failed (O.failures writer.old) (O.failures writer.new)) }
     ensures writer_kept { (result.1 ≡ CopyWhy.Sink) ⊎ (O.failures writer.new ≡ O.failures writer.old) }
 {

@@ -20,6 +20,9 @@ pub trait Sink {
     /// The bytes taken in all, if what is left can tell.
     ghost taken_in_all: { Self.Left → Option (List ℕ) };
 
+    /// A write of it was refused for this reason.
+    ghost HasRefused: { Self → Fault → Type 0 };
+
     /// It was finished, this is left of it, and this was answered.
     ghost Finishes: { Self → Self.Left → Result (Unit {0}) Fault → Type 0 };
 
@@ -30,7 +33,8 @@ pub trait Sink {
     fn write_all<W: Wait>(&mut self, rt: &W, bytes: &[u8]) -> Result<(), WriteFault>
         ensures within { IfErr result (λ stop. stop.taken ≤ length bytes.now) }
         ensures took { MatchResult result (λ _. Appends (taken self.old) (taken self.new) bytes.now)
-            (λ stop. Appends (taken self.old) (taken self.new) (take stop.taken bytes.now)) };
+            (λ stop. Appends (taken self.old) (taken self.new) (take stop.taken bytes.now)) }
+        ensures refused { IfErr result (λ stop. HasRefused self.new stop.fault) };
 
     /// No more bytes come: they were all.
     fn finish<W: Wait>(self, rt: &W) -> (Self::Left, Result<(), HubFault>)
@@ -62,15 +66,23 @@ pub trait Source {
     /// It had said so before it was closed, and this is left of it.
     ghost EndedBefore: { Self.Left → Type 0 };
 
+    /// A read of it was refused for this reason.
+    ghost HasRefused: { Self → Fault → Type 0 };
+
+    /// One was refused so before it was closed, and this is left of it.
+    ghost RefusedBefore: { Self.Left → Fault → Type 0 };
+
     /// Moves the next bytes to the front of the buffer, and answers how many. 0 is the end.
     fn read<W: Wait>(&mut self, rt: &W, buffer: &mut [u8]) -> Result<usize, HubFault>
         requires { 0 < length buffer.old }
         ensures within { IfOk result (λ count. count ≤ length buffer.old) }
         ensures gave { WriteAppends (given self.old) (given self.new) result buffer.new }
-        ensures ended { IfOk result (λ count. count ≡ 0 → HasEnded self.new) };
+        ensures ended { IfOk result (λ count. count ≡ 0 → HasEnded self.new) }
+        ensures refused { IfErr result (λ fault. HasRefused self.new fault) };
 
     /// No more bytes are wanted.
     fn close<W: Wait>(self, rt: &W) -> (Self::Left, Result<(), HubFault>)
         ensures kept { Keeps (given self) (given_in_all result.0) }
-        ensures ended { HasEnded self → EndedBefore result.0 };
+        ensures ended { HasEnded self → EndedBefore result.0 }
+        ensures refused { (fault : Fault) → HasRefused self fault → RefusedBefore result.0 fault };
 }

@@ -3,7 +3,7 @@
 
 ghost use Rattle.std.specs.Prelude.{Some, None, ⊤, true};
 ghost use Rattle.ymx_held.specs.Booked.{Gains, Spends, to_finish, to_reset};
-ghost use Rattle.ymx_tunnel.specs.Told.{bytes_written, read_bytes, HasSaidEnd};
+ghost use Rattle.ymx_tunnel.specs.Told.{bytes_written, read_bytes, HasSaidEnd, HasToldRefusal};
 
 use crate::ends::{Sink, Source};
 use std::sync::Wait;
@@ -15,6 +15,8 @@ impl Sink for WriteHalf<Full> {
     ghost taken = { λ half. Some (bytes_written half.seat.entries) };
 
     ghost taken_in_all = { λ seat. Some (bytes_written seat.entries) };
+
+    ghost HasRefused = { λ half fault. HasToldRefusal fault half.seat.entries };
 
     ghost Finishes = { λ half seat answer. Gains true half.seat.entries seat.entries (Spends (to_finish half.id) half.id half.seat.number answer) };
 
@@ -44,6 +46,10 @@ impl Source for ReadHalf<Full> {
 
     ghost EndedBefore = { λ seat. HasSaidEnd seat.entries };
 
+    ghost HasRefused = { λ half fault. HasToldRefusal fault half.seat.entries };
+
+    ghost RefusedBefore = { λ seat fault. HasToldRefusal fault seat.entries };
+
     fn read<W: Wait>(&mut self, rt: &W, buffer: &mut [u8]) -> Result<usize, HubFault> {
         ReadHalf::read(self, rt, buffer)
     }
@@ -59,6 +65,8 @@ impl Sink for WriteHalf<Off> {
     ghost taken = { λ _. None };
 
     ghost taken_in_all = { λ _. None };
+
+    ghost HasRefused = { λ _ _. ⊤ };
 
     ghost Finishes = { λ _ _ _. ⊤ };
 
@@ -87,6 +95,10 @@ impl Source for ReadHalf<Off> {
     ghost HasEnded = { λ _. ⊤ };
 
     ghost EndedBefore = { λ _. ⊤ };
+
+    ghost HasRefused = { λ _ _. ⊤ };
+
+    ghost RefusedBefore = { λ _ _. ⊤ };
 
     fn read<W: Wait>(&mut self, rt: &W, buffer: &mut [u8]) -> Result<usize, HubFault> {
         ReadHalf::read(self, rt, buffer)

@@ -1,8 +1,8 @@
-use Rattle.std.proofs.Common.{◌≡◌, ◌≤◌, Option, Some, None, [], rules, ap, subst, sym, inl, inr, refl}
-use Rattle.std.specs.Prelude.{unwrap_or}
+use Rattle.std.proofs.Common.{◌≡◌, ◌≤◌, ℕ, zero, suc, arith, Option, Some, None, [], rules, ap, subst, sym, inl, inr, refl, true≢false}
+use Rattle.std.specs.Prelude.{◌⊎◌, unwrap_or}
 use Rattle.std.specs.Io.KnownBytes.{Keeps}
-use Rattle.clap.specs.Words.{Text}
-use Rattle.ymx_cli.specs.CommandLine.{IsFrames, IsScript}
+use Rattle.clap.specs.Words.{Text, kind_of}
+use Rattle.ymx_cli.specs.CommandLine.{IsFrames, IsMistake, IsScript}
 use Rattle.ymx_cli.specs.declared.command.Task.TheVariants.{Frames, Script, Tunnel}
 use Rattle.ymx_cli.proofs.command.ymx_main.Goals as goal
 
@@ -173,3 +173,35 @@ returns-in-Err-clause-script_file g c = λ name asks.
     let memory = c.explain.ensures.memory (c.in-Err.ensures.script (Some name) asks) in
     let unread : Keeps (g.R.Inlet.remaining c.args.reader.now) (g.R.Inlet.remaining c.args.reader.now) = search rules in
     (unread, inr memory)
+
+-- a status that isn't 0
+by_status : (status : ℕ) (R : Type 0) → status ≤ 2 → (status ≡ 0 → ⊥) → (status ≡ 1 → R) → (status ≡ 2) ⊎ R
+by_status zero R small good bad = absurd (good refl)
+by_status (suc zero) R small good bad = inr (bad refl)
+by_status (suc (suc zero)) R small good bad = inl refl
+by_status (suc (suc (suc n))) R small good bad = absurd (omega arith)
+
+-- why, where there was a mistake
+by_reason : (A B C M : Type 0) → M → A ⊎ ((M → ⊥) × B × C) → A
+by_reason A B C M m (inl a) = a
+by_reason A B C M m (inr (none, b, c)) = absurd (none m)
+
+pub returns-in-Ok-Frames-default-None-clause-numbers : goal.returns-in-Ok-Frames-default-None-clause-numbers
+returns-in-Ok-Frames-default-None-clause-numbers g c = λ bad no_help. absurd (true≢false (sym (c.in-Ok-Frames-default-None.ensures.numbers bad)))
+
+pub returns-in-Ok-Frames-default-Some-clause-numbers : goal.returns-in-Ok-Frames-default-Some-clause-numbers
+returns-in-Ok-Frames-default-Some-clause-numbers g c = λ bad no_help. absurd (true≢false (sym (c.in-Ok-Frames-default-Some.ensures.numbers bad)))
+
+pub returns-in-Ok-Script-None-clause-numbers : goal.returns-in-Ok-Script-None-clause-numbers
+returns-in-Ok-Script-None-clause-numbers g c = λ bad no_help. absurd (true≢false (sym (c.in-Ok-Script-None.ensures.numbers bad)))
+
+pub returns-in-Ok-Script-Some-clause-numbers : goal.returns-in-Ok-Script-Some-clause-numbers
+returns-in-Ok-Script-Some-clause-numbers g c = λ bad no_help. absurd (true≢false (sym (c.in-Ok-Script-Some.ensures.numbers bad)))
+
+pub returns-in-Ok-Tunnel-clause-numbers : goal.returns-in-Ok-Tunnel-clause-numbers
+returns-in-Ok-Tunnel-clause-numbers g c = λ bad no_help. absurd (true≢false (sym (c.in-Ok-Tunnel.ensures.numbers bad)))
+
+pub returns-in-Err-clause-numbers : goal.returns-in-Err-clause-numbers
+returns-in-Err-clause-numbers g c = λ bad no_help.
+    let mistake : IsMistake (kind_of c.in-Err.error) = c.in-Err.ensures.mistake no_help in
+    by_status c.explain.result _ c.explain.ensures.status (λ e. (c.explain.ensures.help e).0 mistake) (λ e. by_reason _ _ _ _ mistake (c.explain.ensures.failed e))

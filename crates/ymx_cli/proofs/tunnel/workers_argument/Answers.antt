@@ -5,6 +5,6 @@ use Rattle.ymx_cli.proofs.tunnel.workers_argument.Goals as goal
 
 pub returns : goal.returns
 returns c = (
-  ap rule_of c.default_value.ensures ∙ ap (λ (r : Rule). record r { defaults = codes "16" ∷ [] }) c.number_argument.ensures.0,
+  ap rule_of c.default_value.ensures ∙ ap (λ (r : Rule). record r { defaults = codes "1024" ∷ [] }) c.number_argument.ensures.0,
   ap (λ (a : Arg). a.global) c.default_value.ensures ∙ c.number_argument.ensures.1,
 )

@@ -1,0 +1,15 @@
+//! The tunnel of one end over sockets, in one thread: an engine that is driven by what epoll says of its wire, its
+//! listener and its connections.
+#![tactic(auto)]
+
+mod accepting;
+mod closing;
+mod forwarding;
+mod sides;
+mod socket;
+mod tunnel;
+mod watching;
+
+pub use forwarding::forward;
+pub use sides::{Forwarded, TunnelSide};
+pub use watching::{EndedConnection, Ending, Passed, Unwatched, Watcher};

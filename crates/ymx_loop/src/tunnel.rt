@@ -1,0 +1,511 @@
+//! The type `Tunnel`: what is done between two looks at the events.
+
+use crate::accepting::Listening;
+use crate::sides::{Forwarded, TunnelSide};
+use crate::socket::Socket;
+use crate::watching::{EndedConnection, Ending, Watcher};
+use indexmap::IndexMap;
+use mio::event::Event;
+use mio::net::TcpStream;
+use mio::{Events, Interest, Poll, Token};
+use std::alloc::Global;
+use std::net::{Net, SocketAddr};
+use std::sync::Wait;
+use std::time::Duration;
+use std::{io, net};
+use ymx_engine::{Device, Engine};
+use ymx_model::{CallFault, Config, Role, Status};
+use ymx_session::Session;
+
+/// The wire's token.
+const WIRE: usize = 0;
+
+/// The listener's token.
+const LISTENER: usize = 1;
+
+/// The token of the stream 0, if there were one. An id is never given twice, so an event that comes late is of a stream
+/// that is no more.
+const STREAMS: usize = 2;
+
+/// How many connections are accepted at most before bytes move again.
+const ACCEPTS: u32 = 64;
+
+/// How many bytes of connections are taken at most before they are written to the wire.
+const UNWRITTEN: u64 = 131_072;
+
+/// Where connections come from, or where they go to.
+#[derive(Drop)]
+enum Side {
+    /// They come from a listener.
+    Local(Listening),
+    /// They go to a target, so many at once.
+    Remote { target: SocketAddr, places: usize },
+}
+
+/// A connection that is joined to a stream.
+#[derive(Drop)]
+struct Joined {
+    number: u64,
+    socket: Socket,
+}
+
+/// The tunnel of one end: its engine, and the sockets that are the engine's wire and devices.
+#[derive(Drop)]
+pub(crate) struct Tunnel {
+    engine: Engine,
+    poll: Poll,
+    wire: Socket,
+    side: Side,
+    joined: IndexMap<u32, Joined>,
+    /// How many connections have begun.
+    begun: u64,
+    /// How many bytes connections have given since the wire was last written to.
+    unwritten: u64,
+    /// The wire's end is near: a short read does not say that nothing is left.
+    is_wire_closing: bool,
+    /// The connections were told that the session was lost.
+    is_loss_told: bool,
+    /// Somewhere no memory was found.
+    lacked_memory: bool,
+}
+
+impl Tunnel {
+    // ---- how it begins
+
+    /// A tunnel that has moved nothing. None where there is no memory for it.
+    pub(crate) fn new<R: Net>(
+        rt: &R,
+        alloc: Global,
+        connection: net::TcpStream,
+        side: TunnelSide,
+        window: u32,
+    ) -> Option<Tunnel> {
+        let engine = new_engine(alloc, role_of(&side), window)?;
+        let poll = Poll::new(rt).ok()?;
+        let wire = wire_of(connection, &poll).ok()?;
+        let side = listen(side, &poll).ok()?;
+        Some(Tunnel {
+            engine,
+            poll,
+            wire,
+            side,
+            joined: IndexMap::new(alloc),
+            begun: 0,
+            unwritten: 0,
+            is_wire_closing: false,
+            is_loss_told: false,
+            lacked_memory: false,
+        })
+    }
+
+    // ---- how it goes on
+
+    /// Runs until this side and all its connections have ended, and the wire has taken all that is due or has failed.
+    pub(crate) fn run<R: Net + Wait, V: Watcher>(
+        &mut self,
+        rt: &R,
+        events: &mut Events,
+        watcher: &mut V,
+    ) {
+        for _ in rt.forever() {
+            if self.is_over() {
+                return;
+            }
+            if self.await_events(events).is_err() {
+                self.give_up_all(watcher);
+                return;
+            }
+            self.take_turn(rt, watcher);
+        }
+        unreachable!()
+    }
+
+    /// Waits for events, unless something can be done without one, and notes what they say.
+    fn await_events(&mut self, events: &mut Events) -> io::Result<()> {
+        let timeout = if self.has_work() {
+            Some(Duration::ZERO)
+        } else {
+            None
+        };
+        self.poll.poll(events, timeout)?;
+        for event in events.iter() {
+            self.note(event);
+        }
+        Ok(())
+    }
+
+    /// Does what can be done now.
+    fn take_turn<R: Net, V: Watcher>(&mut self, rt: &R, watcher: &mut V) {
+        self.accept_connections(watcher);
+        self.read_wire();
+        self.accept_streams(rt, watcher);
+        self.tell_loss();
+        self.serve_queued(watcher);
+        self.flush();
+        self.end_lost_wire();
+    }
+
+    /// Whether something can be done with no event.
+    fn has_work(&self) -> bool {
+        let accepts = match &self.side {
+            Side::Local(listening) => listening.may_accept(),
+            Side::Remote { places, .. } => {
+                self.joined.len() < *places && self.engine.offered_count() > 0
+            }
+        };
+        accepts || self.engine.has_work()
+    }
+
+    /// Whether this side and all its connections have ended, and nothing more goes over the wire.
+    fn is_over(&self) -> bool {
+        let is_side_over = match &self.side {
+            Side::Local(listening) => listening.is_over(),
+            Side::Remote { .. } => self.is_lost() && self.engine.offered_count() == 0,
+        };
+        is_side_over
+            && self.joined.is_empty()
+            && (self.engine.is_flushed() || self.wire.fault().is_some())
+    }
+
+    /// Whether the session is over.
+    fn is_lost(&self) -> bool {
+        self.engine.status() != Status::Running
+    }
+
+    // ---- events
+
+    /// Notes what an event says.
+    fn note(&mut self, event: &Event) {
+        let Token(token) = event.token();
+        if token == WIRE {
+            self.note_wire(event);
+        } else if token == LISTENER {
+            if let Side::Local(listening) = &mut self.side {
+                listening.note_event();
+            }
+        } else if let Ok(id) = u32::try_from(token - STREAMS) {
+            self.note_stream(id, event);
+        }
+    }
+
+    /// Notes what an event says of the wire.
+    fn note_wire(&mut self, event: &Event) {
+        if self.wire.fault().is_none() {
+            let ends = event.is_read_closed() || event.is_error();
+            self.is_wire_closing |= ends;
+            self.engine
+                .note_wire(event.is_readable() || ends, event.is_writable() || ends);
+        }
+    }
+
+    /// Notes what an event says of a connection. One that can't be made may be used at once, so that it fails.
+    fn note_stream(&mut self, id: u32, event: &Event) {
+        let Some(joined) = self.joined.get_mut(&id) else {
+            return;
+        };
+        joined.socket.note_event();
+        let ends = event.is_read_closed() || event.is_error();
+        let can_pull = event.is_readable() || ends;
+        let can_push = event.is_writable() || ends;
+        self.engine.note_device(id, can_pull, can_push, ends);
+    }
+
+    // ---- connections that come
+
+    /// Opens a stream for each connection that waits.
+    fn accept_connections<V: Watcher>(&mut self, watcher: &mut V) {
+        for _ in 0..ACCEPTS {
+            let Side::Local(listening) = &mut self.side else {
+                return;
+            };
+            if !listening.may_accept() {
+                return;
+            }
+            let Some(stream) = listening.accept() else {
+                return;
+            };
+            self.begin_local(stream, watcher);
+        }
+    }
+
+    /// Opens a stream for a connection. Once the session is lost the connection is closed, and it is the last one
+    /// unless others are counted on.
+    fn begin_local<V: Watcher>(&mut self, stream: TcpStream, watcher: &mut V) {
+        let number = self.next_number();
+        if self.is_lost() {
+            self.stop_endless();
+        }
+        let _ = stream.set_nodelay(true);
+        match self.open() {
+            Ok(id) => {
+                if !self.join(id, number, Socket::connected(stream)) {
+                    self.refuse(id);
+                    watcher.refused(number, CallFault::OutOfMemory);
+                }
+            }
+            Err(fault) => {
+                if fault == CallFault::OutOfMemory {
+                    self.lacked_memory = true;
+                }
+                watcher.refused(number, fault);
+            }
+        }
+    }
+
+    /// Accepts no more connections, if as many are accepted as come.
+    fn stop_endless(&mut self) {
+        if let Side::Local(listening) = &mut self.side {
+            if listening.is_endless() {
+                listening.stop();
+            }
+        }
+    }
+
+    // ---- streams that come
+
+    /// Begins a connection to the target for each stream that waits, as far as there are places.
+    fn accept_streams<R: Net, V: Watcher>(&mut self, rt: &R, watcher: &mut V) {
+        let Side::Remote { target, places } = self.side else {
+            return;
+        };
+        for _ in 0..self.engine.offered_count() {
+            if self.joined.len() >= places {
+                return;
+            }
+            match self.accept() {
+                Some(id) => self.begin_remote(rt, id, target, watcher),
+                None => self.lacked_memory = true,
+            }
+        }
+    }
+
+    /// Begins a connection to the target for a stream. If it can't begin, the stream is reset.
+    fn begin_remote<R: Net, V: Watcher>(
+        &mut self,
+        rt: &R,
+        id: u32,
+        target: SocketAddr,
+        watcher: &mut V,
+    ) {
+        let number = self.next_number();
+        let Ok(stream) = TcpStream::connect(rt, target) else {
+            self.engine_refuse(id);
+            let ended = EndedConnection::of_nothing(Ending::ConnectionFailed);
+            watcher.ended(number, &ended);
+            return;
+        };
+        let _ = stream.set_nodelay(true);
+        if !self.join(id, number, Socket::connecting(stream)) {
+            self.refuse(id);
+            let ended = EndedConnection::of_nothing(Ending::NoMemory);
+            watcher.ended(number, &ended);
+        }
+    }
+
+    /// The number of a connection that begins.
+    fn next_number(&mut self) -> u64 {
+        self.begun = self.begun.saturating_add(1);
+        self.begun
+    }
+
+    /// Joins a connection to its stream. False where there is no memory for it.
+    fn join(&mut self, id: u32, number: u64, socket: Socket) -> bool {
+        let mut socket = socket;
+        let token = Token((id as usize) + STREAMS);
+        let both = Interest::READABLE | Interest::WRITABLE;
+        let registered = self.poll.registry().register(socket.source(), token, both);
+        registered.is_ok() && self.joined.insert(id, Joined { number, socket }).is_ok()
+    }
+
+    /// Resets a stream for want of memory.
+    fn refuse(&mut self, id: u32) {
+        self.lacked_memory = true;
+        self.engine_refuse(id);
+    }
+
+    // ---- bytes
+
+    /// Serves each connection that has something to move now, once. What they gave is written to the wire as soon as
+    /// it is much.
+    fn serve_queued<V: Watcher>(&mut self, watcher: &mut V) {
+        for _ in 0..self.engine.queued_count() {
+            let Some(id) = self.next() else {
+                return;
+            };
+            if self.serve(id) {
+                self.forget(id, watcher);
+            }
+            if self.unwritten >= UNWRITTEN {
+                self.flush();
+            }
+        }
+    }
+
+    /// Serves a connection once. Whether it is over.
+    fn serve(&mut self, id: u32) -> bool {
+        let Some(joined) = self.joined.get_mut(&id) else {
+            return false;
+        };
+        let before = joined.socket.pulled();
+        joined.socket.begin_turn();
+        serve_device(&mut self.engine, id, &mut joined.socket);
+        let pulled = joined.socket.pulled().saturating_sub(before);
+        self.unwritten = self.unwritten.saturating_add(pulled);
+        match self.engine.connection(id) {
+            Some(connection) => connection.is_over(),
+            None => true,
+        }
+    }
+
+    /// Lets go of a connection that is over, and says how it ended.
+    fn forget<V: Watcher>(&mut self, id: u32, watcher: &mut V) {
+        let connection = self.engine.connection(id);
+        let is_lost = self.is_lost();
+        self.engine_forget(id);
+        let Some(joined) = self.joined.swap_remove(&id) else {
+            return;
+        };
+        let ended = match connection {
+            Some(connection) => EndedConnection::of(&joined.socket, connection, is_lost),
+            None => EndedConnection::of_nothing(Ending::Refused),
+        };
+        if ended.lacked_memory() {
+            self.lacked_memory = true;
+        }
+        watcher.ended(joined.number, &ended);
+    }
+
+    /// Once the session is lost, each connection is asked for bytes, so that it is shut, unless its end came before.
+    /// What waits for one that is still being made is written first.
+    fn tell_loss(&mut self) {
+        if self.is_loss_told || !self.is_lost() {
+            return;
+        }
+        self.is_loss_told = true;
+        for (id, joined) in self.joined.iter() {
+            if !joined.socket.is_connecting() {
+                self.engine.note_device(*id, true, false, false);
+            }
+        }
+    }
+
+    /// Once the session is lost and all that is due is sent, nothing more goes over the wire, though connections may
+    /// still come.
+    fn end_lost_wire(&mut self) {
+        if self.is_lost() && !self.wire.was_ended() && self.engine.is_flushed() {
+            self.wire.end();
+        }
+    }
+
+    /// Nothing can be waited for any more: lets go of all connections.
+    fn give_up_all<V: Watcher>(&mut self, watcher: &mut V) {
+        self.lacked_memory = true;
+        for place in 0..self.joined.len() {
+            if let Some((_, joined)) = self.joined.get_index(place) {
+                let ended = EndedConnection::of_nothing(Ending::NoMemory);
+                watcher.ended(joined.number, &ended);
+            }
+        }
+        self.joined.clear();
+    }
+
+    // ---- calls of the engine, of which callers need no clause
+
+    fn read_wire(&mut self) {
+        self.engine.read_wire(&mut self.wire);
+        if self.is_wire_closing && !self.wire.is_over() {
+            self.engine.note_wire(true, false);
+        }
+    }
+
+    fn flush(&mut self) {
+        self.unwritten = 0;
+        self.engine.flush(&mut self.wire);
+    }
+
+    fn open(&mut self) -> Result<u32, CallFault> {
+        self.engine.open()
+    }
+
+    fn accept(&mut self) -> Option<u32> {
+        self.engine.accept()
+    }
+
+    fn next(&mut self) -> Option<u32> {
+        self.engine.next()
+    }
+
+    fn engine_refuse(&mut self, id: u32) {
+        self.engine.refuse(id);
+    }
+
+    fn engine_forget(&mut self, id: u32) {
+        self.engine.forget(id);
+    }
+
+    // ---- how it ends
+
+    /// How it has ended.
+    pub(crate) fn forwarded(&self) -> Forwarded {
+        Forwarded {
+            accept_failed: match &self.side {
+                Side::Local(listening) => listening.has_failed(),
+                Side::Remote { .. } => false,
+            },
+            broken: match self.engine.status() {
+                Status::Broken(fault) => Some(fault),
+                _ => None,
+            },
+            lacked_memory: self.lacked_memory || self.engine.has_lacked_memory(),
+        }
+    }
+
+    /// The wire, with what waits for its events.
+    pub(crate) fn into_wire(self) -> (Poll, Socket) {
+        let Tunnel { poll, wire, .. } = self;
+        (poll, wire)
+    }
+}
+
+/// Serves a connection once.
+fn serve_device(engine: &mut Engine, id: u32, socket: &mut Socket) {
+    engine.serve(id, socket);
+}
+
+/// The role of a side in the session.
+fn role_of(side: &TunnelSide) -> Role {
+    match side {
+        TunnelSide::Local { .. } => Role::Client,
+        TunnelSide::Remote { .. } => Role::Server,
+    }
+}
+
+/// An engine of a new session. None where there is no memory for it.
+fn new_engine(alloc: Global, role: Role, window: u32) -> Option<Engine> {
+    let session = Session::new(alloc, role, Config { window, first: 0 }).ok()?;
+    Engine::new(alloc, session).ok()
+}
+
+/// The connection to the peer, which never waits from now on, and whose bytes go out at once.
+fn wire_of(connection: net::TcpStream, poll: &Poll) -> io::Result<Socket> {
+    let _ = connection.set_nodelay(true);
+    connection.set_nonblocking(true)?;
+    let mut wire = Socket::connected(TcpStream::from_std(connection));
+    let both = Interest::READABLE | Interest::WRITABLE;
+    poll.registry().register(wire.source(), Token(WIRE), both)?;
+    Ok(wire)
+}
+
+/// Where the connections of this side come from, or where they go to.
+fn listen(side: TunnelSide, poll: &Poll) -> io::Result<Side> {
+    match side {
+        TunnelSide::Local { listener, count } => {
+            let listening = Listening::new(listener, count, poll.registry(), Token(LISTENER))?;
+            Ok(Side::Local(listening))
+        }
+        TunnelSide::Remote { target, workers } => Ok(Side::Remote {
+            target,
+            places: (workers as usize).max(1),
+        }),
+    }
+}
