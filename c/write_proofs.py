@@ -1,8 +1,9 @@
 #!/usr/bin/env python3
-"""Writes the proofs of those exports of crates/ymx_c that take the session's address, proofs/ymx_core_NAME/Proof.antt.
+"""Writes the proofs of those exports of crates/ymx_c that take or write an address, proofs/ymx_core_NAME/Proof.antt.
 Usage: c/write_proofs.py [--same] crates/ymx_c [NAME..]; with --same it writes nothing, and says which files differ.
-All are one text; what differs is whether there is an id, and a slice that is read or written."""
-import os, sys
+Those that take one are one text, where what lies there differs, how many numbers there are, and a slice that is read or
+written. Those that write one are another."""
+import functools, os, re, sys
 same = sys.argv[1] == '--same'
 out, *only = sys.argv[2:] if same else sys.argv[1:]
 FNS = {
@@ -22,6 +23,15 @@ FNS = {
  'emit': ('', 'mut', 'Fills x (event.Emit (length s.now)) u w m'),
  'due': ('', '', '(u ≡ flag (is_ready x)) × (m ≡ x)'),
  'status': ('', '', '(u ≡ status_number x.status) × (m ≡ x)'),
+ 'offered_count': ('', '', 'CountsOffered x u × (m ≡ x)'),
+ 'consume': ('id count', '', 'Consumes i j x u m'),
+ 'unread': ('id', 'addresses', 'Shows i x u × (m ≡ x)'),
+ 'room': ('id', '', 'TellsRoom i x u × (m ≡ x)'),
+ 'is_at_end': ('id', '', 'TellsEnd i x u × (m ≡ x)'),
+ 'touched_ids': ('', 'ids', 'ListsIds x u s.now w × (m ≡ x)'),
+ 'touched_is_all': ('', '', '(u ≡ flag x.all) × (m ≡ x)'),
+ 'touched_has_pong': ('', '', '(u ≡ flag x.ponged) × (m ≡ x)'),
+ 'touched_clear': ('', '', 'IsCleared x u m'),
 }
 IMPORTS = {
 'Rattle.std.proofs.Common': '◌≡◌ ℕ List [] ◌∷◌ ◌++◌ length refl ap w32 w64 MutBor Bor ℤ',
@@ -40,31 +50,38 @@ IMPORTS = {
 'denote.Steps': 'nothing owned heard peeks', 'denote.Triple.Call': 'calls_at', 'denote.Triple.Clauses': 'lasts',
 'denote.Triple.Entry': 'on_entry', 'denote.Triple.Spec': 'triple_of', 'denote.Triple.Table': 'framed',
 'denote.Triple.Walked': 'says Stays walk_of stay_dropped Goes-dropped gave_slice Goes-gave_slice ends_at',
-'Rattle.ymx_session.specs.contracts.session.Session': 'the_row',
+'the row': 'the_row',
 'Rattle.ymx_model.specs.session.Sessions': 'Session', 'Rattle.ymx_model.specs.session.Emissions': 'is_ready',
+'Rattle.ymx_session.specs.Touched': 'Noted',
 'Rattle.ymx_c.specs.Answers': 'Answers Fills flag status_number',
+'Rattle.ymx_c.specs.Readiness': 'Shows Consumes CountsOffered TellsRoom TellsEnd ListsIds IsCleared',
 }
-def text(name, ident, sl, fact):
+# where the type of what lies at the pointer is defined
+ROWS = {'Session': 'Rattle.ymx_session.specs.contracts.session.Session', 'Noted': 'Rattle.ymx_session.specs.contracts.touched.Touched'}
+def nest(items):
+    return functools.reduce(lambda rest, item: f'({item}, {rest})', reversed(items), 'tt')
+def text(name, numbers, sl, fact):
     n = 1 if sl else 0
-    k = 1 + bool(ident) + bool(sl)          # the number of parameters, and of the last one's local
-    S = 'a.1.1.0' if ident else 'a.1.0'
-    P = ('are.1.1.0' if ident else 'are.1.0') + '.0.1.0'
+    # what lies at the pointer, the numbers' names, and the slice's elements
+    value = 'Noted' if name.startswith('touched_') else 'Session'
+    ints = 'i j'.split()[:len(numbers.split())]
+    elem = {'ids': 'u32', 'addresses': 'RawPtr'}.get(sl, 'u8')
+    sl = 'mut' if elem != 'u8' else sl
+    k = 1 + len(ints) + bool(sl)            # the number of parameters, and of the last one's local
+    at = lambda it, place: it + '.1' * (1 + place) + '.0'
+    S = at('a', len(ints))
+    P = at('are', len(ints)) + '.0.1.0'
     sty = f'(tt, (tt, (record {{ fits = {P} }}, tt)))'
-    ity = '(tt, record { fits = are.1.0.1 })'
-    slot = 'SliceRefOf (0 ∷ []) tt (plain (λ _. u8)) (λ κs. tt)'
+    itys = [f'(tt, record {{ fits = {at("are", it)}.1 }})' for it in range(len(ints))]
+    slot = f'SliceRefOf (0 ∷ []) tt (plain (λ _. {elem})) (λ κs. tt)'
     ref, vals, tells = {'shr': ('ShrSlice', 'shr_slice_vals', 'shr_slice_Tells'), 'mut': ('MutSlice', 'mut_slice_vals', 'mut_slice_Tells'), '': ('', '', '')}[sl]
-    def nest(items):
-        r = 'tt'
-        for i in reversed(items):
-            r = f'({i}, {r})'
-        return r
-    stay = nest(['stay_dropped _ yes'] + ['stay_dropped _ yes'] * bool(ident) + (['stay_dropped _ yes'] if sl == 'shr' else ['gave_slice (0 ∷ []) tt (plain (λ _. u8))'] if sl == 'mut' else []))
-    goes = nest([f'Goes-dropped 𝓛 {n} (plain (λ _. RawPtr)) yes (λ κs x w. refl)'] + [f'Goes-dropped 𝓛 {n} (plain (λ _. u32)) yes (λ κs x w. refl)'] * bool(ident)
-        + ([f'Goes-dropped 𝓛 {n} ({slot}) yes (λ κs x w. refl)'] if sl == 'shr' else [f'Goes-gave_slice 𝓛 {n} 0 tt (plain (λ _. u8))'] if sl == 'mut' else []))
-    spell = nest(['rawptr_vals'] + ['uint_vals w32'] * bool(ident) + [vals] * bool(sl))
-    tell = nest(['rawptr_Tells'] + ['uint_Tells w32'] * bool(ident) + [f'{tells} (named 0) κs.0 u8'] * bool(sl))
-    vss = lambda p: nest([p] + ['vint w32 i ∷ []'] * bool(ident) + ['ss'] * bool(sl))
-    flat = 'rawptr_vals p ++ (' + ('(vint w32 i ∷ []) ++ (' if ident else '') + ('ss ++ []' if sl else '[]') + (')' if ident else '') + ')'
+    stay = nest(['stay_dropped _ yes'] + ['stay_dropped _ yes'] * len(ints) + (['stay_dropped _ yes'] if sl == 'shr' else [f'gave_slice (0 ∷ []) tt (plain (λ _. {elem}))'] if sl == 'mut' else []))
+    goes = nest([f'Goes-dropped 𝓛 {n} (plain (λ _. RawPtr)) yes (λ κs x w. refl)'] + [f'Goes-dropped 𝓛 {n} (plain (λ _. u32)) yes (λ κs x w. refl)'] * len(ints)
+        + ([f'Goes-dropped 𝓛 {n} ({slot}) yes (λ κs x w. refl)'] if sl == 'shr' else [f'Goes-gave_slice 𝓛 {n} 0 tt (plain (λ _. {elem}))'] if sl == 'mut' else []))
+    spell = nest(['rawptr_vals'] + ['uint_vals w32'] * len(ints) + [vals] * bool(sl))
+    tell = nest(['rawptr_Tells'] + ['uint_Tells w32'] * len(ints) + [f'{tells} (named 0) κs.0 {elem}'] * bool(sl))
+    vss = lambda p: nest([p] + [f'vint w32 {it} ∷ []' for it in ints] + ['ss'] * bool(sl))
+    flat = 'rawptr_vals p ++ (' + ''.join(f'(vint w32 {it} ∷ []) ++ (' for it in ints) + ('ss ++ []' if sl else '[]') + ')' * len(ints) + ')'
     opens = 0
     L = []
     a = L.append
@@ -74,23 +91,23 @@ def text(name, ident, sl, fact):
     a(f'    proved 𝓛 f.ended stayed c 𝓜 𝓡 {goes}')
     a('    f.Key.name code.function (code.unfolded 𝓤 𝓛.H 𝓜 𝓡 wired)')
     a(f'    (λ κs. {spell}) (λ κs. {tell}) (λ κs qs bounds a x are.'); opens += 1
-    if ident: a('    let i = a.1.0 in')
+    for place, it in enumerate(ints): a(f'    let {it} = {at("a", place)} in')
     if sl: a(f'    let κ = κs.0 in let q = qs.0 in let s = {S} in let ss = {vals} s in')
     a(f'    let y : Ptr → W.Ghost = λ p. ((κs, qs, bounds, (p, a.1), {vss("rawptr_vals p")}), x) in')
     if sl:
-        chain = '‵ (RawPtr.own_val a.0 (rawptr_vals a.0)) ⊛ ' + ('‵ (u32.own_val i (vint w32 i ∷ [])) ⊛ ' if ident else '') + f'‵ (({ref} (named 0) κ u8).own_val s ss) ⊛ ‵ ftrue'
+        chain = '‵ (RawPtr.own_val a.0 (rawptr_vals a.0)) ⊛ ' + ('‵ (u32.own_val i (vint w32 i ∷ [])) ⊛ ' if ints else '') + f'‵ (({ref} (named 0) κ {elem}).own_val s ss) ⊛ ‵ ftrue'
         a(f'    qed 𝓛 (((‵ (flft κ q) ⊛ ‵ ftrue) ⊛ ({chain})) ∷ ‵ (lies_at the_row full_share a.0 x) ∷ []) ∵')
-        a('    split ! $ split ! $ move ! (2 ∷ []) $ split ! $ move ! (1 ∷ []) $ split ! $ ' + ('move ! (1 ∷ []) $ split ! $ keep ! (6 ∷ 0 ∷ 4 ∷ []) $' if ident else 'keep ! (5 ∷ 0 ∷ 3 ∷ []) $'))
+        a('    split ! $ split ! $ move ! (2 ∷ []) $ split ! $ move ! (1 ∷ []) $ split ! $ ' + ('move ! (1 ∷ []) $ split ! $ keep ! (6 ∷ 0 ∷ 4 ∷ []) $' if ints else 'keep ! (5 ∷ 0 ∷ 3 ∷ []) $'))
     else:
         a('    qed 𝓛 (raw (on_entry 𝓛 f.signature κs qs a (y a.0).0.4) ∷ ‵ (lies_at the_row full_share a.0 x) ∷ []) ∵ drop ! $')
     a('    -- what lies at the pointer' + (', the slice and its token' if sl else ''))
     a('    in_a_block ! a.0 (λ p. lies_at the_row full_share p x) (id⊢ 𝓤 _) (λ b o e.'); opens += 1
     a(f'    regoal ! (λ p. prop (WpFn 𝓤 𝓛.H 𝓣.C 𝓣.Λ code.function ({flat}) (W.post (y p)))) e refl $')
-    a(f'    enter ! _ _ _ _ _ $ alloc_all ! (λ l. pass_all ! refl {nest(["(tt, tt)"] + [ity] * bool(ident) + [sty] * bool(sl))} $'); opens += 1
+    a(f'    enter ! _ _ _ _ _ $ alloc_all ! (λ l. pass_all ! refl {nest(["(tt, tt)"] + itys + [sty] * bool(sl))} $'); opens += 1
     a('    first ! $ blocks ! $ sets ! (of_opd ! (get ! refl)) refl (tt, tt) $ sets ! (of_opd ! (get ! refl)) refl (tt, tt) $ sets_last ! (addr ! (through ! refl (stop !))) refl (tt, tt) $')
     a('    exec ! 𝓣.C 𝓣.Λ (env code.Mir.locals l) code.Mir.t-2 (at_ret _ (W.post (y (block_ptr b o)))) $')
     a('    sets ! (of_opd ! (get ! refl)) refl (tt, tt) $')
-    if ident: a(f'    sets ! (of_opd ! (get ! refl)) refl {ity} $')
+    for ity in itys: a(f'    sets ! (of_opd ! (get ! refl)) refl {ity} $')
     if sl == 'shr': a(f'    sets ! (of_opd ! (get ! refl)) refl {sty} $')
     if sl == 'mut':
         a(f'    sets ! (addr ! (from ! (fld ! refl (hop ! (look_in_at ! {k} (sub ! 0 refl (whole !))) (stop !))))) refl (tt, tt) $')
@@ -99,13 +116,13 @@ def text(name, ident, sl, fact):
     a('    lft_new ! tt (λ α. move ! (1 ∷ []) $'); opens += 1
     a('    use1 𝓛 (later (some (λ (δ : GName). ‵ ((MutRef (named 0) (α ∷ []) the_row).own_val (record { ref_ptr = (b, o); ghost_name = δ; now = x }) (vptr b o ∷ [])) ⊛ ‵ (flent (α ∷ []) (Body (mem the_row) b o δ)))))')
     a('    (lends_ref 𝓛 the_row (named 0) (α ∷ []) x b o) $ await ! tt $ pick ! (λ δ. split ! $'); opens += 1
-    a('    let r : MutBor Session = record { ref_ptr = (b, o); ghost_name = δ; now = x } in')
+    a(f'    let r : MutBor {value} = record {{ ref_ptr = (b, o); ghost_name = δ; now = x }} in')
     a('    let G = triple_of 𝓛 g.signature (g.spec 𝓛 𝓜.mem 𝓡.returns) in')
     lfts = '(α ∷ [], (κ, tt)), (full_share, (q, tt))' if sl else '(α ∷ [], tt), (full_share, tt)'
-    a(f'    let z : G.Ghost = (({lfts}, tt, {nest(["r"] + ["i"] * bool(ident) + ["s"] * bool(sl))}, {vss("vptr b o ∷ []")}), tt) in')
+    a(f'    let z : G.Ghost = (({lfts}, tt, {nest(["r"] + ints + ["s"] * bool(sl))}, {vss("vptr b o ∷ []")}), tt) in')
     line = '    nothing ! $ '
     if sl: line += 'move ! (4 ∷ []) $ join ! $ '
-    if ident: line += 'owned ! u32 _ (uint_Makes 𝓛 w32) i _ (refl, are.1.0.1) $ join ! $ '
+    for place, it in reversed([*enumerate(ints)]): line += f'owned ! u32 _ (uint_Makes 𝓛 w32) {it} _ (refl, {at("are", place)}.1) $ join ! $ '
     line += 'move ! (1 ∷ []) $ join ! $ nothing ! $ '
     if sl: line += 'move ! (4 ∷ []) $ join ! $ '
     a(line + 'move ! (3 ∷ []) $ join ! $ join ! $ nothing ! $ move ! (1 ∷ 0 ∷ []) $ use2 𝓛 (raw (G.pre z)) (id⊢ 𝓤 _) $')
@@ -114,10 +131,10 @@ def text(name, ident, sl, fact):
     a(f'    calls_at ! (framed 𝓤 𝓛.H 𝓜 𝓣) G (met 𝓤 𝓛 𝓜 𝓡 (code.calls-ymx_c::face::{name} 𝓡.env wired)) z {args} (λ v.'); opens += 1
     toks = '‵ (flft (α ∷ []) full_share) ⊛ ' + ('‵ (flft κ q) ⊛ ' if sl else '') + '‵ ftrue'
     wty = 'Unit {0}'
-    if sl: wty = ('List ℕ' if sl == 'mut' else 'Unit {0}') + f' × {wty}'
-    if ident: wty = f'Unit {{0}} × ({wty})' if sl else f'Unit {{0}} × {wty}'
-    wty = f'Session × ({wty})'
-    slast = ('ws.1.1.0' if ident else 'ws.1.0')
+    if sl: wty = ('Unit {0}' if sl == 'shr' else 'List Ptr' if elem == 'RawPtr' else 'List ℕ') + f' × {wty}'
+    for it in ints: wty = f'Unit {{0}} × ({wty})' if '×' in wty else f'Unit {{0}} × {wty}'
+    wty = f'{value} × ({wty})'
+    slast = at('ws', len(ints))
     F = lambda m: fact.replace(' m', f' {m}').replace('(m ', f'({m} ').replace(' w ', f' {slast} ')
     a(f'    use1 𝓛 (later (some (λ (u : ℤ). (({toks}) ⊛ ‵ (i64.own_val u (v ∷ []))) ⊛ some (λ (ws : {wty}). ‵ (lasts g.ended z.0.0 z.0.3 ws) ⊛ raw (fact 𝓤 ({F("ws.0")})))))) (id⊢ 𝓤 _) $')
     a('    await ! tt $ pick ! (λ u. split ! $ split ! $ split ! $ lft_end ! tt $'); opens += 1
@@ -126,44 +143,183 @@ def text(name, ident, sl, fact):
     a('    move ! (3 ∷ []) $ pick ! (λ ws. split ! $ fsplit ! $ fsplit ! $'); opens += 1
     a('    move ! (5 ∷ 7 ∷ 0 ∷ []) $ use3 𝓛 (later (‵ (part_at the_row full_share ws.0 b o))) (ref_back 𝓛 the_row (α ∷ []) δ ws.0 b o) $ await ! tt $')
     if sl == 'mut':
-        a('    move ! (2 ∷ []) $ fsplit ! $ ' + ('move ! (1 ∷ []) $ fsplit ! $ ' if ident else '') + 'fsplit ! $ fsplit ! $ move ! (1 ∷ []) $ feq_l ! (λ same. fjoin ! $'); opens += 1
-        keep = '(5 ∷ 6 ∷ 7 ∷ 0 ∷ 3 ∷ [])' if ident else '(4 ∷ 5 ∷ 6 ∷ 0 ∷ 2 ∷ [])'
+        a('    move ! (2 ∷ []) $ fsplit ! $ ' + ('move ! (1 ∷ []) $ fsplit ! $ ' if ints else '') + 'fsplit ! $ fsplit ! $ move ! (1 ∷ []) $ feq_l ! (λ same. fjoin ! $'); opens += 1
+        keep = '(5 ∷ 6 ∷ 7 ∷ 0 ∷ 3 ∷ [])' if ints else '(4 ∷ 5 ∷ 6 ∷ 0 ∷ 2 ∷ [])'
     else:
         keep = '(3 ∷ 4 ∷ 5 ∷ 0 ∷ [])'
     a(f'    returns ! (look_at ! 0 refl) $ free_all ! refl $ keep ! {keep} $ heard ! ({F("ws.0")}) (λ says_so.'); opens += 1
-    ends = nest(['tt'] + ['tt'] * bool(ident) + ([slast] if sl == 'mut' else ['tt'] if sl else []))
-    fits = nest(['tt'] + ['tt'] * bool(ident) + (['same'] if sl == 'mut' else ['tt'] if sl else []))
+    ends = nest(['tt'] + ['tt'] * len(ints) + ([slast] if sl == 'mut' else ['tt'] if sl else []))
+    fits = nest(['tt'] + ['tt'] * len(ints) + (['same'] if sl == 'mut' else ['tt'] if sl else []))
     a(f'    suffices ! _ (ends_at 𝓛 f.ended stayed c (y (block_ptr b o)) v u {ends} {fits}) $')
     line = '    nothing ! $ '
     if sl == 'mut': line += 'move ! (3 ∷ []) $ join ! $ '
     if sl == 'shr': line += 'nothing ! $ join ! $ '
-    if ident: line += 'nothing ! $ join ! $ '
+    line += 'nothing ! $ join ! $ ' * len(ints)
     a(line + 'nothing ! $ join ! $ move ! (2 ∷ 0 ∷ 1 ∷ []) $ group ! 3 $ frame ! $')
-    a(f'    show ! (λ (m : Session). sep 𝓤 (sem 𝓛 (lies_at the_row full_share (block_ptr b o) m)) (fact 𝓤 ({F("m")}))) ws.0 $ says ! says_so $ done !' + ')' * opens)
+    a(f'    show ! (λ (m : {value}). sep 𝓤 (sem 𝓛 (lies_at the_row full_share (block_ptr b o) m)) (fact 𝓤 ({F("m")}))) ws.0 $ says ! says_so $ done !' + ')' * opens)
     body = '\n'.join(L)
     head = [f'-- `ymx_core_{name}` meets its contract: what lies at the pointer is lent to `face::{name}` for a lifetime made for the call, and comes back.']
-    import re
     def used(w):
         core = w.replace('◌', '')
         return core in body or core in stay or w == 'Stays'
     for mod, names in IMPORTS.items():
+        mod = ROWS[value] if names == 'the_row' else mod
         ns = [w for w in names.split() if used(w)]
         if ns: head.append(f'use {mod}.{{{", ".join(ns)}}}')
     if 'event.' in fact: head.append('use Rattle.ymx_model.specs.declared.types.Event.TheVariants as event')
-    if 'call.' in fact: head.append('use Rattle.ymx_model.specs.declared.types.Call.TheVariants as call')
+    if 'call.' in fact: head.append('use Rattle.ymx_machine.specs.declared.types.Call.TheVariants as call')
     head += [f'use Rattle.ymx_c.specs.contracts.ymx_core_{name} as f', f'use Rattle.ymx_c.proofs.ymx_core_{name}.Statement.{{statement}}', f'use Rattle.ymx_c.proofs.ymx_core_{name}.Code as code',
              f'use Rattle.ymx_c.specs.contracts.face.{name} as g', f'use Rattle.ymx_c.proofs.face.{name}.Met.{{met}}', '',
              'abbrev stayed : Stays f.ended.signature.params f.ended.kept', f'stayed = {stay}', '']
     return '\n'.join(head) + '\n' + body + '\n'
+# What is made: what lies at the address, how many numbers there are, what is made, and when it is or isn't, with the
+# places of the fact on the address in these two.
+MAKERS = {
+ 'new': ('Session', 3, 'new_session (role_of i) j (first_id (role_of i) k)', 'IsMade i j k', 2, 'IsRefused i j k', 3),
+ 'touched_new': ('Noted', 0, 'nothing_noted false', 'IsNoteMade', 1, 'IsNoNote', 1),
+}
+MAKER = """-- `ymx_core_NAME` meets its contract: what `face::FACE` made is taken apart, and its address is written.
+use Rattle.std.proofs.Common.{◌≡◌, ◌⊎◌, inl, inr, ℕ, List, [], ◌∷◌, refl, ap, w32, w64}
+use Rattle.std.proofs.raw_atomic.Walks.{proved}
+use Rattle.std.proofs.alloc.Global.TheLaws as heap_laws
+use Rattle.std.specs.contracts.alloc.Global as heap
+use base.Fraction.{full_share}
+use base.Logic.{emp, id⊢}
+use base.Fml.{Fml, ftrue, flft}
+use mir.Syntax.{named}
+use mir.Val.{Val, vint, of_z}
+use contract.Monad.{fact, fact_i}
+use contract.Running.{tables}
+use types.Kit.{‵, raw, ◌⊛◌, some, later, ◌$◌, ◌∵◌, !, qed, done, move, keep, drop, use0, use1, use2, split, join, fsplit3, feq_i, feq_l, pick, await, rewrite, suffices, group}
+use types.Part.{sub, whole}
+use types.Run.{enter, of_opd, fld, store, stop, no_more, and_then, assigns, returns}
+use types.ByLocal.{alloc_all, pass_all, free_all, look_at, get, get_in, through, sets, lands_as}
+use denote.Builtin.{u32}
+use denote.Exit.{yes}
+use denote.Memory.{cell_at}
+use denote.Plain.{uint_vals, uint_Tells}
+use denote.RawPtr.{RawPtr, null_ptr, ptr_val, rawptr_Lawful}
+use denote.Ref.{MutRef, mut_vals, mut_Tells}
+use denote.Signature.{plain}
+use denote.Signed.{sint_Lawful}
+use denote.Steps.{nothing, heard, opens, closes, only}
+use denote.Struct.Laws.{val, tells}
+use denote.Triple.Call.{calls_at}
+use denote.Triple.Clauses.{lasts}
+use denote.Triple.Spec.{triple_of}
+use denote.Triple.Table.{framed}
+use denote.Triple.Walked.{Stays, stay_dropped, Goes-dropped, stay_ref, Goes-ref, walk_of, ends_at}
+use Rattle.std.specs.Prelude.{Some, None, false}
+use ROW.{the_row}
+use Rattle.ymx_model.specs.session.Sessions.{new_session}
+use Rattle.ymx_session.specs.NewSessions.{first_id}
+use Rattle.ymx_session.specs.Touched.{nothing_noted}
+use Rattle.ymx_c.specs.Answers.{role_of}
+use Rattle.ymx_c.specs.NewAnswers.{IsSomewhere, IsMade, IsRefused, IsNoteMade, IsNoNote}
+use Rattle.ymx_c.proofs.Handing.{made_out, made_typed, number, settled}
+use Rattle.ymx_c.specs.contracts.made.Made as made
+use Rattle.ymx_c.specs.contracts.ymx_core_NAME as f
+use Rattle.ymx_c.proofs.ymx_core_NAME.Statement.{statement}
+use Rattle.ymx_c.proofs.ymx_core_NAME.Code as code
+use Rattle.ymx_c.specs.contracts.face.FACE as g
+use Rattle.ymx_c.proofs.face.FACE.Met.{met}
+
+abbrev stayed : Stays f.ended.signature.params f.ended.kept
+stayed = STAYED
+
+-- what `face::FACE` says
+abbrev Told : TYPES(made.the_row the_row).Denot → Type 0
+Told INTS m = (MADE m.answer m.at × (m.value ≡ Some (VALUE))) ⊎ (REFUSED m.answer m.at × (m.value ≡ None))
+
+there : BINDERS(m : (made.the_row the_row).Denot) → Told INTS m → (IsSomewhere m.at × (m.value ≡ Some (VALUE))) ⊎ ((m.at ≡ null_ptr) × (m.value ≡ None))
+there INTS m (inl is) = inl (is.0.PLACE_MADE, is.1)
+there INTS m (inr is) = inr (is.0.PLACE_REFUSED, is.1)
+
+said : BINDERS(m : (made.the_row the_row).Denot) → Told INTS m → MADE m.answer m.at ⊎ REFUSED m.answer m.at
+said INTS m (inl is) = inl is.0
+said INTS m (inr is) = inr is.0
+
+abbrev spelled : (heap.the_row).Denot → List Val
+spelled a = val heap.the_type heap_laws.the_laws a ∷ []
+
+pub ymx_core_NAME_spec : {M : Type 1} → statement M
+ymx_core_NAME_spec 𝓤 𝓛 𝓜 𝓡 wired =
+    let c = f.clauses 𝓛 𝓜.mem 𝓡.returns in let 𝓣 = tables 𝓤 𝓛.H 𝓜 𝓡 𝓡.env in
+    proved 𝓛 f.ended stayed c 𝓜 𝓡 GOES
+    f.Key.name code.function (code.unfolded 𝓤 𝓛.H 𝓜 𝓡 wired)
+    (λ κs. SPELLS)
+    (λ κs. TELLS)
+    (λ κs qs bounds a x are.
+    let κ = κs.0 in let q = qs.0 in LETSlet r = OUT in let b = r.ref_ptr.0 in let o = r.ref_ptr.1 in
+    let y : (walk_of 𝓛 f.ended stayed c).Ghost = ((κs, qs, bounds, a, VSS), x) in
+    qed 𝓛 (((‵ (flft κ q) ⊛ ‵ ftrue) ⊛ (‵ ((heap.the_row).own_val a.0 (spelled a.0)) ⊛ OWNS‵ ((MutRef (named 0) κ RawPtr).own_val r (mut_vals r)) ⊛ ‵ ftrue)) ∷ ‵ ftrue ∷ []) ∵
+    split ! $ split ! $ move ! (2 ∷ []) $ split ! $ SPLITS
+    -- [the reference; nothing; the numbers, the last one first; the allocator; the token; nothing]
+    let G = triple_of 𝓛 g.signature (g.spec 𝓛 𝓜.mem 𝓡.returns) in
+    let z : G.Ghost = ((tt, tt, tt, ARGS, ARG_VALUES), tt) in
+    nothing ! $ JOINSnothing ! $ join ! $ nothing ! $ move ! (1 ∷ 0 ∷ []) $ use2 𝓛 (raw (G.pre z)) (id⊢ 𝓤 _) $
+    enter ! _ _ _ _ _ $ alloc_all ! (λ l. pass_all ! refl TYPED $
+    calls_at ! (framed 𝓤 𝓛.H 𝓜 𝓣) G (met 𝓤 𝓛 𝓜 𝓡 (code.calls-ymx_c::face::FACE 𝓡.env wired)) z PASSED (λ v.
+    use1 𝓛 (later (some (λ (m : (made.the_row the_row).Denot). (‵ ftrue ⊛ ‵ ((made.the_row the_row).own_val m (v ∷ []))) ⊛ some (λ (ws : LASTS). ‵ (lasts g.ended z.0.0 z.0.3 ws) ⊛ raw (fact 𝓤 (Told INTS m)))))) (id⊢ 𝓤 _) $
+    await ! tt $ pick ! (λ m. split ! $ split ! $ drop ! $ move ! (1 ∷ []) $ pick ! (λ ws. split ! $ drop ! $ heard ! (Told INTS m) (λ told. made_out the_row ! m (v ∷ []) (λ is e.
+    let typed = ((sint_Lawful 𝓛 w64).typed m.answer _ is).0 in let pointer = ((rawptr_Lawful 𝓛).typed m.at (ptr_val m.at ∷ []) refl).0 in
+    lands_as ! (ap only e) refl (made_typed the_row m.at (of_z w64 m.answer) typed.1) $
+    sets ! (of_opd ! (get_in ! (fld ! refl (stop !)) (sub ! 0 refl (whole !)))) refl pointer $ sets ! (of_opd ! (get_in ! (fld ! refl (stop !)) (sub ! 1 refl (whole !)))) refl typed $ sets ! (of_opd ! (get ! refl)) refl pointer $
+    -- the address is written
+    move ! (2 ∷ []) $ fsplit3 ! $ move ! (1 ∷ 2 ∷ 6 ∷ []) $ opens ! tt RawPtr b o (λ us. move ! (1 ∷ []) $ feq_l ! (λ was. rewrite ! 0 (λ (ws : List Val). ‵ (cell_at full_share RawPtr.mir ws b o)) was refl $
+    assigns ! (of_opd ! (get ! refl)) (through ! refl (stop !)) (store ! 0 refl pointer) $ sets ! (of_opd ! (get ! refl)) refl typed $
+    feq_i ! (List Val) (ptr_val m.at ∷ []) (ptr_val m.at ∷ []) refl $ move ! (1 ∷ 0 ∷ []) $ closes ! tt RawPtr m.at (ptr_val m.at ∷ []) b o $
+    returns ! (look_at ! 0 refl) $ free_all ! refl $ keep ! (3 ∷ 0 ∷ 1 ∷ 2 ∷ 4 ∷ 5 ∷ []) $
+    suffices ! _ (ends_at 𝓛 f.ended stayed c y (number m.answer) m.answer ENDS FITS) $
+    group ! 3 $ nothing ! $ move ! (1 ∷ 0 ∷ []) $ join ! $ DROPPEDnothing ! $ move ! (2 ∷ 0 ∷ []) $ join ! $ group ! 3 $
+    move ! (1 ∷ []) $ rewrite ! 0 (λ (F : Fml). ‵ F) (settled the_row m.at m.value (VALUE) (there INTS m told)) refl $
+    use0 𝓛 (raw (fact 𝓤 (MADE m.answer m.at ⊎ REFUSED m.answer m.at))) (fact_i 𝓤 (MADE m.answer m.at ⊎ REFUSED m.answer m.at) (emp 𝓤) (said INTS m told)) $ move ! (2 ∷ 0 ∷ 1 ∷ []) $ done !)))))))))
+"""
+# the text without the `use` lines, and the names in them, that it doesn't need
+def only_used(text):
+    uses, rest = text.split('\n\n', 1)
+    def line(it):
+        if '.{' not in it: return it
+        path, names = it[:-1].split('.{')
+        kept = [w for w in names.split(', ') if w.replace('◌', '') in rest]
+        return f'{path}.{{{", ".join(kept)}}}' if kept else None
+    return '\n'.join(filter(None, map(line, uses.split('\n')))) + '\n\n' + rest
+def maker(name):
+    value, n, made, if_made, place_made, if_refused, place_refused = MAKERS[name]
+    ints, face = 'ijk'[:n], name.replace('touched_new', 'make_touched').replace('new', 'make')
+    at = lambda it, place: it + '.1' * place + '.0'
+    words = [f'vint w32 {it} ∷ []' for it in ints]
+    each = lambda text: ''.join(text.replace('INT', it) for it in ints)
+    filled = {
+        'TYPES': 'ℕ → ' * n, 'BINDERS': each('(INT : ℕ) '), 'INTS': ' '.join(ints), 'VALUE': made,
+        'PLACE_MADE': str(place_made), 'PLACE_REFUSED': str(place_refused), 'MADE': if_made, 'REFUSED': if_refused,
+        'ROW': ROWS[value], 'NAME': name, 'FACE': face,
+        'STAYED': nest(['stay_dropped _ yes'] * (1 + n) + ['stay_ref (0 ∷ []) tt (plain (λ _. RawPtr))']),
+        'GOES': nest(['Goes-dropped 𝓛 1 (plain (λ _. heap.the_row)) yes (λ κs x w. refl)'] + ['Goes-dropped 𝓛 1 (plain (λ _. u32)) yes (λ κs x w. refl)'] * n + ['Goes-ref 𝓛 1 0 tt (plain (λ _. RawPtr))']),
+        'SPELLS': nest(['spelled'] + ['uint_vals w32'] * n + ['mut_vals']),
+        'TELLS': nest(['tells heap.the_type heap_laws.the_laws'] + ['uint_Tells w32'] * n + ['mut_Tells (named 0) κs.0 RawPtr']),
+        'LETS': ''.join(f'let {it} = {at("a", place + 1)} in ' for place, it in enumerate(ints)), 'OUT': at('a', n + 1),
+        'VSS': nest(['spelled a.0'] + words + ['mut_vals r']), 'OWNS': each('‵ (u32.own_val INT (vint w32 INT ∷ [])) ⊛ '),
+        'SPLITS': 'move ! (1 ∷ []) $ split ! $ ' * n + 'move ! (1 ∷ []) $ split ! $', 'JOINS': 'move ! (3 ∷ 0 ∷ []) $ join ! $ ' * (n + 1),
+        'ARGS': nest(['a.0', *ints]), 'ARG_VALUES': nest(['spelled a.0'] + words),
+        'TYPED': nest(['((heap_laws.the_row_laws.lawful 𝓛).typed a.0 _ are.0).0'] + [f'(tt, record {{ fits = {at("are", place + 1)}.1 }})' for place in range(n)] + ['(tt, tt)']),
+        'PASSED': functools.reduce(lambda rest, _: f'(and_then ! (get ! refl) {rest})', range(n + 1), '(no_more !)'),
+        'LASTS': functools.reduce(lambda rest, _: f'Unit {{0}} × ({rest})', range(n), 'Unit {0} × Unit {0}'),
+        'ENDS': nest(['tt'] * (n + 1) + ['m.at']), 'FITS': nest(['tt'] * (n + 2)), 'DROPPED': 'nothing ! $ join ! $ ' * (n + 1),
+    }
+    body = re.sub('|'.join(sorted(filled, key=len, reverse=True)), lambda it: filled[it[0]], MAKER)
+    body = re.sub('(Told|there|said)  m', r'\1 m', body)
+    return only_used(body)
+texts = {name: (lambda name=name, it=it: text(name, *it)) for name, it in FNS.items()} | {name: (lambda name=name: maker(name)) for name in MAKERS}
 differs = 0
-for name, (ident, sl, fact) in FNS.items():
+for name, write in texts.items():
     if only and name not in only: continue
     path = f'{out}/proofs/ymx_core_{name}/Proof.antt'
     if same:
-        if open(path).read() != text(name, ident, sl, fact):
+        if open(path).read() != write():
             print(f'{path} differs')
             differs = 1
         continue
     os.makedirs(os.path.dirname(path), exist_ok=True)
-    open(path, 'w').write(text(name, ident, sl, fact))
+    open(path, 'w').write(write())
 sys.exit(differs)

@@ -25,12 +25,25 @@ int64_t ymx_core_ponged(ymx_session *session, uint32_t number);
 int64_t ymx_core_go_away(ymx_session *session);
 int64_t ymx_core_close(ymx_session *session);
 int64_t ymx_core_status(ymx_session *session);
+int64_t ymx_core_feed_touching(ymx_session *session, const void *bytes, size_t len, ymx_touched *touched);
+int64_t ymx_core_offered_count(ymx_session *session);
+int64_t ymx_core_room(ymx_session *session, uint32_t id);
+int64_t ymx_core_is_at_end(ymx_session *session, uint32_t id);
+int64_t ymx_core_unread(ymx_session *session, uint32_t id, const void **places, size_t len);
+int64_t ymx_core_consume(ymx_session *session, uint32_t id, uint32_t count);
+int64_t ymx_core_touched_new(ymx_touched **out);
+void ymx_core_touched_drop(ymx_touched *touched);
+int64_t ymx_core_touched_ids(ymx_touched *touched, uint32_t *ids, size_t len);
+int64_t ymx_core_touched_is_all(ymx_touched *touched);
+int64_t ymx_core_touched_has_pong(ymx_touched *touched);
+int64_t ymx_core_touched_clear(ymx_touched *touched);
 
 /* The kit's free, the other half of its malloc. */
 void rattle_dealloc(void *block);
 
 /* Where a slice of no bytes lies. Nothing reads or writes it. */
 static unsigned char nowhere;
+static uint32_t no_ids;
 
 /* No session, or bytes that lie at NULL. */
 static int is_bad(const ymx_session *session, const void *bytes, size_t len) {
@@ -57,6 +70,11 @@ int64_t ymx_feed(ymx_session *session, const void *bytes, size_t len) {
 int64_t ymx_emit(ymx_session *session, void *buffer, size_t len) {
     if (is_bad(session, buffer, len)) return YMX_E_NULL;
     return ymx_core_emit(session, buffer == NULL ? &nowhere : buffer, len);
+}
+
+int64_t ymx_feed_touching(ymx_session *session, const void *bytes, size_t len, ymx_touched *touched) {
+    if (is_bad(session, bytes, len) || touched == NULL) return YMX_E_NULL;
+    return ymx_core_feed_touching(session, bytes == NULL ? &nowhere : bytes, len, touched);
 }
 
 int64_t ymx_write(ymx_session *session, uint32_t id, const void *bytes, size_t len) {
@@ -90,6 +108,35 @@ int64_t ymx_accept(ymx_session *session) {
     return session == NULL ? YMX_E_NULL : ymx_core_accept(session);
 }
 
+int64_t ymx_offered_count(const ymx_session *session) {
+    return session == NULL ? YMX_E_NULL : ymx_core_offered_count((ymx_session *)session);
+}
+
+int64_t ymx_room(const ymx_session *session, uint32_t id) {
+    return session == NULL ? YMX_E_NULL : ymx_core_room((ymx_session *)session, id);
+}
+
+int64_t ymx_is_at_end(const ymx_session *session, uint32_t id) {
+    return session == NULL ? YMX_E_NULL : ymx_core_is_at_end((ymx_session *)session, id);
+}
+
+/* The address of no bytes leads nowhere, so NULL is written for it. */
+int64_t ymx_unread(const ymx_session *session, uint32_t id, const void **bytes) {
+    int64_t count;
+    if (bytes == NULL) return YMX_E_NULL;
+    *bytes = NULL;
+    if (session == NULL) return YMX_E_NULL;
+    count = ymx_core_unread((ymx_session *)session, id, bytes, 1);
+    if (count == 0) *bytes = NULL;
+    return count;
+}
+
+/* No more bytes wait than YMX_WIDEST_WINDOW, so a larger count takes out the same. */
+int64_t ymx_consume(ymx_session *session, uint32_t id, size_t count) {
+    if (session == NULL) return YMX_E_NULL;
+    return ymx_core_consume(session, id, count > YMX_WIDEST_WINDOW ? YMX_WIDEST_WINDOW : (uint32_t)count);
+}
+
 int64_t ymx_finish(ymx_session *session, uint32_t id) {
     return session == NULL ? YMX_E_NULL : ymx_core_finish(session, id);
 }
@@ -116,6 +163,35 @@ int64_t ymx_go_away(ymx_session *session) {
 
 int64_t ymx_close(ymx_session *session) {
     return session == NULL ? YMX_E_NULL : ymx_core_close(session);
+}
+
+int64_t ymx_touched_new(ymx_touched **out) {
+    if (out == NULL) return YMX_E_NULL;
+    *out = NULL;
+    return ymx_core_touched_new(out);
+}
+
+void ymx_touched_free(ymx_touched *touched) {
+    if (touched == NULL) return;
+    ymx_core_touched_drop(touched);
+    rattle_dealloc(touched);
+}
+
+int64_t ymx_touched_ids(const ymx_touched *touched, uint32_t *ids, size_t len) {
+    if (touched == NULL || (ids == NULL && len > 0)) return YMX_E_NULL;
+    return ymx_core_touched_ids((ymx_touched *)touched, ids == NULL ? &no_ids : ids, len);
+}
+
+int64_t ymx_touched_is_all(const ymx_touched *touched) {
+    return touched == NULL ? YMX_E_NULL : ymx_core_touched_is_all((ymx_touched *)touched);
+}
+
+int64_t ymx_touched_has_pong(const ymx_touched *touched) {
+    return touched == NULL ? YMX_E_NULL : ymx_core_touched_has_pong((ymx_touched *)touched);
+}
+
+int64_t ymx_touched_clear(ymx_touched *touched) {
+    return touched == NULL ? YMX_E_NULL : ymx_core_touched_clear(touched);
 }
 
 const char *ymx_error_name(int64_t code) {

@@ -9,10 +9,10 @@
  * Threads. One thread at a time uses a session; it may be another one each time. Two sessions share nothing, and
  * the library has no variables of its own. No call belongs into a signal handler.
  *
- * Memory. Sessions come from malloc and go by free. Only ymx_new, ymx_open, ymx_feed (for streams that the peer
- * opens) and a ymx_write beyond 262,144 unsent bytes of one stream take memory. Bytes and buffers belong to the
- * caller: nothing else touches them during a call, and the session keeps no pointer to them. They may be NULL
- * where the length is 0. A length is at most PTRDIFF_MAX.
+ * Memory. Sessions come from malloc and go by free. Only ymx_new, ymx_touched_new, ymx_open, ymx_feed (for streams
+ * that the peer opens) and a ymx_write beyond 262,144 unsent bytes of one stream take memory. Bytes and buffers belong
+ * to the caller: nothing else touches them during a call, and the session keeps no pointer to them. They may be NULL
+ * where the length is 0. A length is at most PTRDIFF_MAX. What ymx_unread lends is the session's.
  */
 #ifndef YMX_H
 #define YMX_H
@@ -29,6 +29,10 @@
 #define YMX_LEAST_WINDOW 262144
 #define YMX_WIDEST_WINDOW 16777216
 
+/* How many streams a ymx_touched names at most. No more than these are touched by 12,276 bytes, as a frame has at least
+ * 12 (framing). */
+#define YMX_MOST_TOUCHED 1024
+
 #if defined(__GNUC__) && __GNUC__ >= 4
 #define YMX_API __attribute__((visibility("default")))
 #else
@@ -41,6 +45,9 @@ extern "C" {
 
 /* A session. Nobody looks into it. */
 typedef struct ymx_session ymx_session;
+
+/* A note of the streams that bytes have touched. Nobody looks into it. */
+typedef struct ymx_touched ymx_touched;
 
 /* Which side of the connection it is. The client is the side that called (stream identifiers). */
 typedef enum ymx_role { YMX_CLIENT = 0, YMX_SERVER = 1 } ymx_role;
@@ -95,6 +102,14 @@ YMX_API void ymx_free(ymx_session *session);
  * and drops it. It never fails for want of memory: a stream that the peer opens is then rejected. */
 YMX_API int64_t ymx_feed(ymx_session *session, const void *bytes, size_t len);
 
+/* Feeds bytes as ymx_feed does, and notes in `touched` the streams that they touch, and whether an answer to a ping
+ * came, behind what was noted before.
+ *
+ * A stream that isn't noted is as it was: what a ymx_read or ymx_write of it answers has not changed, as long as the
+ * session runs (ymx_status). So only the noted ones are tried again, and idle streams cost nothing. New streams of the
+ * peer's are told by ymx_accept. */
+YMX_API int64_t ymx_feed_touching(ymx_session *session, const void *bytes, size_t len, ymx_touched *touched);
+
 /* The connection has ended or failed: nothing more will come. Answers 0. Bytes that are there are still read; after
  * them calls answer YMX_E_LOST. */
 YMX_API int64_t ymx_feed_end(ymx_session *session);
@@ -119,6 +134,9 @@ YMX_API int64_t ymx_open(ymx_session *session);
  * Refused with YMX_E_CLOSED, and YMX_E_LOST once none waits. */
 YMX_API int64_t ymx_accept(ymx_session *session);
 
+/* How many streams of the peer's ymx_accept would give: 256 at most. */
+YMX_API int64_t ymx_offered_count(const ymx_session *session);
+
 /* Writes to a stream, and answers how many of the `len` bytes were taken: as many as the peer's credit allows, from
  * the first on (flow control). YMX_WAIT where there is no credit.
  *
@@ -131,6 +149,28 @@ YMX_API int64_t ymx_write(ymx_session *session, uint32_t id, const void *bytes, 
  *
  * Refused with YMX_E_CLOSED, YMX_E_NO_STREAM, YMX_E_RESET, YMX_E_LOST. */
 YMX_API int64_t ymx_read(ymx_session *session, uint32_t id, void *buffer, size_t len);
+
+/* How many bytes a ymx_write would take now, at most 4,294,967,295: the peer's credit (flow control). 0 where it would
+ * answer YMX_WAIT or be refused. It may still be refused with YMX_E_NO_MEMORY. */
+YMX_API int64_t ymx_room(const ymx_session *session, uint32_t id);
+
+/* 1 where a ymx_read would answer the end (half-close), else 0, also where it would be refused. */
+YMX_API int64_t ymx_is_at_end(const ymx_session *session, uint32_t id);
+
+/* Lends the first bytes that wait to be read on a stream, as they lie in the session: writes their address to *bytes,
+ * and answers how many there are. Nothing is copied or taken out. More may wait behind them, and come once these are
+ * consumed. Where nothing waits, at the end, and where a ymx_read would be refused, it answers 0, and *bytes is NULL.
+ *
+ * The bytes are the session's: they are only read, until the next call on this session whose parameter isn't const, and
+ * are not given to a call on it. With `bytes` NULL it answers YMX_E_NULL. */
+YMX_API int64_t ymx_unread(const ymx_session *session, uint32_t id, const void **bytes);
+
+/* Takes out the first `count` bytes that wait on a stream, or as many as are there: a ymx_read of bytes that the caller
+ * has seen by ymx_unread. The peer gets credit for them. Answers 0; YMX_WAIT where `count` is above 0 and nothing is
+ * there yet.
+ *
+ * Refused with YMX_E_CLOSED, YMX_E_NO_STREAM, YMX_E_RESET, YMX_E_LOST. */
+YMX_API int64_t ymx_consume(ymx_session *session, uint32_t id, size_t count);
 
 /* Half-closes a stream: nothing more is written to it, and its end goes out behind the last byte (half-close).
  * Answers 0. It may still be read.
@@ -173,6 +213,33 @@ YMX_API int64_t ymx_close(ymx_session *session);
 
 /* YMX_RUNNING, YMX_LOST, YMX_CLOSED, or YMX_BROKEN and the number of a fault. */
 YMX_API int64_t ymx_status(const ymx_session *session);
+
+/* ---- the streams that bytes have touched
+ *
+ * A ymx_touched belongs to no session, and may serve several in turn, if it is cleared between them. One thread at a
+ * time uses it. */
+
+/* Makes one that notes nothing, writes its address to *out, and answers 0. Whoever has it calls ymx_touched_free.
+ * Otherwise *out is NULL, and it answers YMX_E_NO_MEMORY; with `out` NULL, YMX_E_NULL. */
+YMX_API int64_t ymx_touched_new(ymx_touched **out);
+
+/* Gives its memory back. NULL is allowed, and does nothing. */
+YMX_API void ymx_touched_free(ymx_touched *touched);
+
+/* Writes the ids of the noted streams to `ids`, at most `len` of them, and answers how many are noted: each once, the
+ * first touched first, YMX_MOST_TOUCHED at most. The rest of `ids` stays as it was. The caller may have forgotten some,
+ * and not have accepted others: calls on those answer YMX_E_NO_STREAM. */
+YMX_API int64_t ymx_touched_ids(const ymx_touched *touched, uint32_t *ids, size_t len);
+
+/* 1 where more than YMX_MOST_TOUCHED streams were touched since ymx_touched_clear, so that any may have changed; else
+ * 0. */
+YMX_API int64_t ymx_touched_is_all(const ymx_touched *touched);
+
+/* 1 where an answer to a ping came, else 0: then ymx_ponged answers as before. */
+YMX_API int64_t ymx_touched_has_pong(const ymx_touched *touched);
+
+/* Notes nothing from here on, and keeps the memory. Answers 0. */
+YMX_API int64_t ymx_touched_clear(ymx_touched *touched);
 
 /* ---- texts */
 

@@ -1,5 +1,5 @@
 /* An echo server: one thread, one epoll, any number of connections, each with up to 1,024 streams. Whatever comes on
- * a stream goes back on it, until its end.
+ * a stream goes back on it, until its end. Idle streams cost nothing.
  *
  *     cc -o echo_server echo_server.c $(pkg-config --cflags --libs ymx) && ./echo_server 7000
  */
@@ -16,38 +16,67 @@
 #include <sys/socket.h>
 #include <unistd.h>
 
-enum { BLOCK = 8192, MOST_STREAMS = 1024 };
+/* So few bytes touch at most YMX_MOST_TOUCHED streams: a frame has at least 12. */
+enum { BLOCK = 65536, PIECE = 12276 };
 
-/* A stream, with bytes that were read from it and aren't written back yet. */
-struct stream {
-    uint32_t id;
-    size_t written, read;
-    unsigned char held[BLOCK];
-};
-
-/* A connection: its socket and session, bytes that came and aren't fed yet, bytes that were emitted and aren't sent
- * yet, and its streams. */
+/* A connection: its socket and session, bytes that came and aren't fed yet, and bytes that were emitted and aren't sent
+ * yet. Of its streams it keeps nothing: the session does. */
 struct connection {
     int socket;
     ymx_session *session;
     size_t fed, came, sent, emitted;
-    unsigned char in[65536], out[65536];
-    size_t streams;
-    struct stream *stream[MOST_STREAMS];
+    unsigned char in[BLOCK], out[BLOCK];
 };
+
+/* The streams that a piece has touched. One thread serves all connections, so one note does for all. */
+static ymx_touched *touched;
+
+/* ---- what the server does with the streams */
+
+/* Sends back what waits, as far as the peer has credit for it, and forgets the stream once it is over. */
+static void echo(ymx_session *session, uint32_t id) {
+    static unsigned char block[BLOCK];
+    int64_t room, count;
+    while ((room = ymx_room(session, id)) > 0) {
+        count = ymx_read(session, id, block, room < BLOCK ? (size_t)room : BLOCK);
+        if (count <= 0) break;
+        if (ymx_write(session, id, block, (size_t)count) != count) ymx_reset(session, id); /* there is no memory */
+    }
+    if (ymx_is_at_end(session, id) == 1)
+        ymx_finish(session, id);
+    else if (ymx_read(session, id, NULL, 0) >= 0)
+        return; /* it goes on */
+    ymx_forget(session, id);
+}
+
+/* Takes the streams that the peer has opened, and goes on with those that were touched. No other has changed. */
+static void serve(ymx_session *session) {
+    static uint32_t ids[YMX_MOST_TOUCHED];
+    int64_t id, count = ymx_touched_ids(touched, ids, YMX_MOST_TOUCHED);
+    ymx_touched_clear(touched);
+    while ((id = ymx_accept(session)) > 0) echo(session, (uint32_t)id);
+    for (int64_t i = 0; i < count; i++) echo(session, ids[i]);
+}
 
 /* ---- the loop's three helpers */
 
-/* Feeds what came. What the session doesn't take waits until some is sent. 0 once the connection has ended. */
+/* Feeds what came, piece by piece, and serves the streams. What the session doesn't take waits until some is sent. 0
+ * once the connection has ended. */
 static int receive(struct connection *c) {
     if (c->fed == c->came) {
-        ssize_t count = read(c->socket, c->in, sizeof c->in);
+        ssize_t count = read(c->socket, c->in, BLOCK);
         if (count < 0 && (errno == EAGAIN || errno == EINTR)) return 1;
         if (count <= 0) return 0;
         c->fed = 0;
         c->came = (size_t)count;
     }
-    c->fed += (size_t)ymx_feed(c->session, c->in + c->fed, c->came - c->fed);
+    while (c->fed < c->came) {
+        size_t rest = c->came - c->fed, piece = rest < PIECE ? rest : PIECE;
+        size_t taken = (size_t)ymx_feed_touching(c->session, c->in + c->fed, piece, touched);
+        c->fed += taken;
+        serve(c->session);
+        if (taken < piece) break;
+    }
     return 1;
 }
 
@@ -56,7 +85,7 @@ static int transmit(struct connection *c) {
     for (;;) {
         if (c->sent == c->emitted) {
             c->sent = 0;
-            c->emitted = (size_t)ymx_emit(c->session, c->out, sizeof c->out);
+            c->emitted = (size_t)ymx_emit(c->session, c->out, BLOCK);
             if (c->emitted == 0) return 1;
         }
         ssize_t count = write(c->socket, c->out + c->sent, c->emitted - c->sent);
@@ -68,49 +97,6 @@ static int transmit(struct connection *c) {
 /* What to wait for: room to send where bytes are unsent, and bytes where none are left to feed. */
 static uint32_t wanted(const struct connection *c) {
     return (c->sent < c->emitted ? EPOLLOUT : 0) | (c->fed == c->came ? EPOLLIN : 0);
-}
-
-/* ---- what the server does with the streams */
-
-/* Writes back what comes. 0 once the stream is over. */
-static int echo(ymx_session *session, struct stream *s) {
-    for (;;) {
-        if (s->written == s->read) {
-            int64_t count = ymx_read(session, s->id, s->held, BLOCK);
-            if (count == YMX_WAIT) return 1;
-            if (count == 0) ymx_finish(session, s->id);
-            if (count <= 0) return 0;
-            s->written = 0;
-            s->read = (size_t)count;
-        }
-        int64_t took = ymx_write(session, s->id, s->held + s->written, s->read - s->written);
-        if (took == YMX_WAIT) return 1;
-        if (took < 0) return 0;
-        s->written += (size_t)took;
-    }
-}
-
-/* Takes the streams that the peer opened, and goes on with each. */
-static void serve(struct connection *c) {
-    int64_t id;
-    while (c->streams < MOST_STREAMS && (id = ymx_accept(c->session)) > 0) {
-        struct stream *s = calloc(1, sizeof *s);
-        if (s == NULL) {
-            ymx_forget(c->session, (uint32_t)id);
-            break;
-        }
-        s->id = (uint32_t)id;
-        c->stream[c->streams++] = s;
-    }
-    for (size_t i = 0; i < c->streams;) {
-        if (echo(c->session, c->stream[i])) {
-            i++;
-            continue;
-        }
-        ymx_forget(c->session, c->stream[i]->id);
-        free(c->stream[i]);
-        c->stream[i] = c->stream[--c->streams];
-    }
 }
 
 /* ---- connections come, have their turns, and go */
@@ -130,7 +116,6 @@ static void begin(int epoll, int socket) {
 
 static void end(struct connection *c) {
     close(c->socket);
-    for (size_t i = 0; i < c->streams; i++) free(c->stream[i]);
     ymx_free(c->session);
     free(c);
 }
@@ -140,7 +125,6 @@ static void turn(int epoll, struct connection *c) {
     int alive;
     do {
         alive = receive(c);
-        serve(c);
         alive = transmit(c) && alive;
     } while (alive && c->fed < c->came && c->sent == c->emitted && ymx_status(c->session) < YMX_BROKEN);
     if (ymx_status(c->session) >= YMX_BROKEN && c->sent == c->emitted) alive = 0;
@@ -175,6 +159,7 @@ int main(int count, char **words) {
     struct epoll_event event = {EPOLLIN, {NULL}}, happened[64];
     epoll_ctl(epoll, EPOLL_CTL_ADD, listener, &event);
     signal(SIGPIPE, SIG_IGN);
+    if (ymx_touched_new(&touched) != 0) return 1;
     for (;;) {
         int events = epoll_wait(epoll, happened, 64, -1);
         for (int i = 0; i < events; i++) {

@@ -31,6 +31,23 @@ int main(void) {
     CHECK(ymx_finish(none, 1) == YMX_E_NULL && ymx_reset(none, 1) == YMX_E_NULL && ymx_forget(none, 1) == YMX_E_NULL);
     CHECK(ymx_ping(none) == YMX_E_NULL && ymx_ponged(none, 0) == YMX_E_NULL && ymx_go_away(none) == YMX_E_NULL);
     CHECK(ymx_close(none) == YMX_E_NULL && ymx_status(none) == YMX_E_NULL);
+
+    /* readiness: no session, no note, nowhere to write an address */
+    ymx_touched *touched, *no_note = NULL;
+    const void *bytes = &byte;
+    uint32_t id = 5;
+    CHECK(ymx_touched_new(NULL) == YMX_E_NULL && ymx_touched_new(&touched) == 0 && touched != NULL);
+    CHECK(ymx_feed_touching(none, &byte, 1, touched) == YMX_E_NULL && ymx_feed_touching(s, &byte, 1, no_note) == YMX_E_NULL);
+    CHECK(ymx_feed_touching(s, NULL, 1, touched) == YMX_E_NULL && ymx_feed_touching(s, NULL, 0, touched) == 0);
+    CHECK(ymx_unread(none, 1, &bytes) == YMX_E_NULL && bytes == NULL && ymx_unread(s, 1, NULL) == YMX_E_NULL);
+    CHECK(ymx_consume(none, 1, 1) == YMX_E_NULL && ymx_room(none, 1) == YMX_E_NULL && ymx_is_at_end(none, 1) == YMX_E_NULL);
+    CHECK(ymx_offered_count(none) == YMX_E_NULL && ymx_offered_count(s) == 0);
+    CHECK(ymx_touched_ids(no_note, &id, 1) == YMX_E_NULL && ymx_touched_ids(touched, NULL, 1) == YMX_E_NULL);
+    CHECK(ymx_touched_ids(touched, NULL, 0) == 0 && ymx_touched_ids(touched, &id, 1) == 0 && id == 5);
+    CHECK(ymx_touched_is_all(no_note) == YMX_E_NULL && ymx_touched_has_pong(no_note) == YMX_E_NULL);
+    CHECK(ymx_touched_clear(no_note) == YMX_E_NULL && ymx_touched_is_all(touched) == 0);
+    ymx_touched_free(no_note);
+    ymx_touched_free(touched);
     ymx_free(none);
     ymx_free(s);
     return 0;

@@ -45,6 +45,11 @@ static int exchange(void) {
     int refusals = 0;
     unsigned char wire[4096], in[64];
     ymx_session *client = make(YMX_CLIENT, &refusals), *server = make(YMX_SERVER, &refusals);
+    ymx_touched *touched;
+    if (ymx_touched_new(&touched) != 0) {
+        CHECK(touched == NULL && ymx_touched_new(&touched) == 0);
+        refusals++;
+    }
     int64_t id = ymx_open(client);
     if (id == YMX_E_NO_MEMORY) {
         refusals++;
@@ -52,7 +57,8 @@ static int exchange(void) {
     }
     CHECK(id == 1 && ymx_write(client, 1, "hello", 5) == 5);
     int64_t count = ymx_emit(client, wire, sizeof wire);
-    CHECK(ymx_feed(server, wire, (size_t)count) == count);
+    CHECK(ymx_feed_touching(server, wire, (size_t)count, touched) == count);
+    ymx_touched_free(touched);
     id = ymx_accept(server);
     if (id == 1) {
         CHECK(ymx_read(server, 1, in, sizeof in) == 5 && memcmp(in, "hello", 5) == 0);

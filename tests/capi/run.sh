@@ -1,7 +1,8 @@
 #!/bin/sh
 # Tries libymx as a C program gets it: ymx.h in C99 and C++11 without a warning, the libraries' names, each constant
-# against the proved crate's, NULL everywhere, bytes in pieces, each allocation refused, every byte over a
-# socketpair under the sanitizers, and an installed copy by pkg-config. It ends with a line that says the count.
+# against the proved crate's, NULL everywhere, bytes in pieces, touched streams and lent bytes, each allocation refused,
+# every byte over a socketpair under the sanitizers, an installed copy by pkg-config, and a copy of the repository that
+# builds it from the release with no toolchain but C's. It ends with a line that says the count.
 # c/build.sh says what it is built from.
 set -eu
 here=$(cd "$(dirname "$0")" && pwd)
@@ -94,10 +95,12 @@ is "the shared library needs libc alone" only_libc
 is "each constant is the proved crate's" same_numbers
 is "NULL" built_and_run nulls "$here/nulls.c" -fsanitize=address,undefined -fno-sanitize-recover=all
 is "bytes one by one and at once" built_and_run pieces "$here/pieces.c" -O1 -fsanitize=address,undefined -fno-sanitize-recover=all
+is "touched streams, lent bytes, room and the end" built_and_run touched "$here/touched.c" -O1 -fsanitize=address,undefined -fno-sanitize-recover=all
 is "each allocation refused" built_and_run refused_memory "$here/refused_memory.c" -Wl,--wrap=malloc,--wrap=realloc,--wrap=free
 is "every byte over a socketpair, with no leak" built_and_run pair "$root/examples/c/pair.c" -O1 -fsanitize=address,undefined -fno-sanitize-recover=all
 is "the echo server" in_c echo_server "$root/examples/c/echo_server.c"
 is "an installed copy, by pkg-config" by_pkg_config
+is "a copy with no toolchain builds it from the release" "$here/from_release.sh"
 is "the proofs are those that c/write_proofs.py writes" python3 "$root/c/write_proofs.py" --same "$root/crates/ymx_c"
 echo "$passed passed, $failed failed"
 [ $failed = 0 ]

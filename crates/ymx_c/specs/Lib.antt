@@ -1,2 +1,4 @@
 pub mod Answers
+pub mod Handed
 pub mod NewAnswers
+pub mod Readiness

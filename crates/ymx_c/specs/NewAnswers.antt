@@ -1,6 +1,6 @@
 -- What making a session answers to C.
 use Rattle.std.specs.Prelude.{◌≡◌, ℕ, ℤ, pos, negsuc, Option, None, Some}
-use denote.RawPtr.{Ptr, null_ptr}
+use denote.RawPtr.{Ptr, null_ptr, block_ptr}
 use Rattle.ymx_model.specs.declared.types.Config.{Config}
 use Rattle.ymx_session.specs.declared.new_fault.NewFault.{NewFault}
 use Rattle.ymx_session.specs.declared.new_fault.NewFault.TheVariants.{BadWindow, BadFirst, OutOfMemory}
@@ -22,6 +22,19 @@ abbrev pub IsRefused : ℕ → ℕ → ℕ → ℤ → Ptr → Type 0
 IsRefused role window first answer at =
     (fault : NewFault) × (answer ≡ new_refusal fault) × IsNewFault (role_of role) (config_of window first) fault × (at ≡ null_ptr)
 
--- a session was made: the answer is 0, and nothing is wrong with the configuration
-abbrev pub IsMade : ℕ → ℕ → ℕ → ℤ → Type 0
-IsMade role window first answer = (answer ≡ pos 0) × (new_fault (role_of role) (config_of window first) ≡ None)
+-- the address leads somewhere: it is not NULL
+abbrev pub IsSomewhere : Ptr → Type 0
+IsSomewhere at = (b : ℕ) × (o : ℕ) × (at ≡ block_ptr b o)
+
+-- A session was made: the answer is 0, nothing is wrong with the configuration, and an address was written.
+abbrev pub IsMade : ℕ → ℕ → ℕ → ℤ → Ptr → Type 0
+IsMade role window first answer at =
+    (answer ≡ pos 0) × (new_fault (role_of role) (config_of window first) ≡ None) × IsSomewhere at
+
+-- a note of touched streams was made, and its address was written
+abbrev pub IsNoteMade : ℤ → Ptr → Type 0
+IsNoteMade answer at = (answer ≡ pos 0) × IsSomewhere at
+
+-- there was no memory for a note, and NULL was written
+abbrev pub IsNoNote : ℤ → Ptr → Type 0
+IsNoNote answer at = (answer ≡ new_refusal OutOfMemory) × (at ≡ null_ptr)

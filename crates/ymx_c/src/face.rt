@@ -1,17 +1,21 @@
 //! The calls of a session, with numbers for answers.
 
-ghost use Rattle.std.specs.Prelude.{◌≡◌, ◌≤◌, ◌<◌, ◌^◌, length, pos, None, IfOk, IfErr};
+ghost use Rattle.std.specs.Prelude.{◌≡◌, ◌≤◌, ◌<◌, ◌^◌, length, min, ◌⊎◌, pos, false, Some, None, IfOk, IfErr};
+ghost use Rattle.std.specs.Ptr.{as_ptr};
 ghost use Rattle.ymx_model.specs.declared.types.Event.TheVariants as event;
-ghost use Rattle.ymx_model.specs.declared.types.Call.TheVariants as call;
+ghost use Rattle.ymx_machine.specs.declared.types.Call.TheVariants as call;
 ghost use Rattle.ymx_model.specs.session.Sessions.{new_session};
 ghost use Rattle.ymx_model.specs.session.Emissions.{is_ready};
 ghost use Rattle.ymx_session.specs.NewSessions.{first_id, new_fault, IsNewFault};
+ghost use Rattle.ymx_session.specs.Touched.{nothing_noted};
 ghost use Rattle.ymx_c.specs.Answers.{Answers, Fills, refusal, status_number, flag, role_of};
-ghost use Rattle.ymx_c.specs.NewAnswers.{new_refusal, config_of};
+ghost use Rattle.ymx_c.specs.NewAnswers.{new_refusal, config_of, IsMade, IsRefused, IsNoteMade, IsNoNote};
+ghost use Rattle.ymx_c.specs.Readiness.{Touches, Shows, Consumes, TellsEnd, TellsRoom, CountsOffered, ListsIds, IsCleared, number_limit};
 
-use std::alloc::Global;
+use crate::made::Made;
+use std::alloc::{AllocError, Global};
 use ymx_model::{CallFault, Config, Got, Role, Status, Wrote};
-use ymx_session::{NewFault, Session};
+use ymx_session::{NewFault, Session, Touched};
 
 /// There is nothing to do yet: no credit, or no bytes.
 const WAIT: i64 = -12;
@@ -36,7 +40,7 @@ fn refusal(fault: CallFault) -> i64
 }
 
 /// The number that says why no session was made.
-pub(crate) fn new_refusal(fault: NewFault) -> i64
+fn new_refusal(fault: NewFault) -> i64
     ensures { result ≡ new_refusal fault }
 {
     match fault {
@@ -58,7 +62,7 @@ fn role(number: u32) -> Role
 }
 
 /// A session in a block of its own.
-pub(crate) fn make(
+fn boxed(
     alloc: Global,
     number: u32,
     window: u32,
@@ -72,6 +76,37 @@ pub(crate) fn make(
     match Box::new(alloc, session) {
         Ok(whole) => Ok(whole),
         Err(_) => Err(NewFault::OutOfMemory),
+    }
+}
+
+/// A new session with its address, or NULL and why there is none.
+pub(crate) fn make(alloc: Global, number: u32, window: u32, first: u32) -> Made<Session>
+    ensures { (IsMade number window first result.answer result.at × (result.value ≡ Some (new_session (role_of number) window (first_id (role_of number) first)))) ⊎ (IsRefused number window first result.answer result.at × (result.value ≡ None)) }
+{
+    match boxed(alloc, number, window, first) {
+        Ok(whole) => Made::of(whole),
+        Err(fault) => Made::refused(new_refusal(fault)),
+    }
+}
+
+/// A note of touched streams in a block of its own, with nothing noted.
+fn boxed_touched(alloc: Global) -> Result<Box<Touched, Global>, AllocError>
+    ensures { IfOk result (λ whole. whole.value ≡ nothing_noted false) }
+{
+    let touched = Touched::new(alloc)?;
+    match Box::new(alloc, touched) {
+        Ok(whole) => Ok(whole),
+        Err(_) => Err(AllocError),
+    }
+}
+
+/// A new note of touched streams with its address, or NULL where there is no memory.
+pub(crate) fn make_touched(alloc: Global) -> Made<Touched>
+    ensures { (IsNoteMade result.answer result.at × (result.value ≡ Some (nothing_noted false))) ⊎ (IsNoNote result.answer result.at × (result.value ≡ None)) }
+{
+    match boxed_touched(alloc) {
+        Ok(whole) => Made::of(whole),
+        Err(_) => Made::refused(new_refusal(NewFault::OutOfMemory)),
     }
 }
 
@@ -137,6 +172,13 @@ pub(crate) fn close(session: &mut Session) -> i64
     0
 }
 
+/// How many offered streams wait to be accepted.
+pub(crate) fn offered_count(session: &mut Session) -> i64
+    ensures { CountsOffered session.old result × (session.new ≡ session.old) }
+{
+    limited(session.offered_count())
+}
+
 // ---- calls on a stream
 
 /// How many bytes were taken, `WAIT`, or the refusal.
@@ -160,6 +202,51 @@ pub(crate) fn read(session: &mut Session, id: u32, buffer: &mut [u8]) -> i64
         Ok(Got::Wait) => WAIT,
         Err(fault) => refusal(fault),
     }
+}
+
+/// How many bytes wait at the address that is written to `out`, where there is room for one; more may wait behind
+/// them.
+pub(crate) fn unread(session: &mut Session, id: u32, out: &mut [*const u8]) -> i64
+    ensures { Shows id session.old result × (session.new ≡ session.old) }
+{
+    let bytes = session.unread(id);
+    if out.len() > 0 {
+        out[0] = address(bytes);
+    }
+    limited(bytes.len())
+}
+
+/// Where the bytes lie.
+fn address(bytes: &[u8]) -> *const u8
+    ensures { result ≡ as_ptr bytes.entry }
+{
+    bytes.as_ptr()
+}
+
+/// 0, also at the end, `WAIT`, or the refusal.
+pub(crate) fn consume(session: &mut Session, id: u32, count: u32) -> i64
+    ensures { Consumes id count session.old result session.new }
+{
+    match session.consume(id, count as usize) {
+        Ok(Got::Bytes(_)) => 0,
+        Ok(Got::End) => 0,
+        Ok(Got::Wait) => WAIT,
+        Err(fault) => refusal(fault),
+    }
+}
+
+/// How many bytes a write would take.
+pub(crate) fn room(session: &mut Session, id: u32) -> i64
+    ensures { TellsRoom id session.old result × (session.new ≡ session.old) }
+{
+    limited(session.room(id))
+}
+
+/// 1 where a read would answer the end, else 0.
+pub(crate) fn is_at_end(session: &mut Session, id: u32) -> i64
+    ensures { TellsEnd id session.old result × (session.new ≡ session.old) }
+{
+    if session.is_at_end(id) { 1 } else { 0 }
 }
 
 /// 0, or the refusal.
@@ -202,6 +289,14 @@ pub(crate) fn feed(session: &mut Session, input: &[u8]) -> i64
     number(fed.taken)
 }
 
+/// How many bytes were taken. The streams that they touched are noted.
+pub(crate) fn feed_touching(session: &mut Session, input: &[u8], touched: &mut Touched) -> i64
+    ensures { Touches session.old touched.old input.now result session.new touched.new }
+{
+    let fed = session.feed_touching(input, touched);
+    number(fed.taken)
+}
+
 /// 0.
 pub(crate) fn feed_end(session: &mut Session) -> i64
     ensures { Answers session.old event.FeedEnd result session.new }
@@ -235,6 +330,54 @@ pub(crate) fn status(session: &mut Session) -> i64
         Status::Closed => 2,
         Status::Broken(fault) => 100 + fault.number() as i64,
     }
+}
+
+// ---- the streams that were touched
+
+/// How many ids are noted. As many of them as fit stand at the buffer's front.
+pub(crate) fn touched_ids(touched: &mut Touched, buffer: &mut [u32]) -> i64
+    ensures { ListsIds touched.old result buffer.old buffer.new × (touched.new ≡ touched.old) }
+{
+    let ids = touched.ids();
+    let count = ids.len().min(buffer.len());
+    buffer[..count].copy_from_slice(&ids[..count]);
+    number(ids.len())
+}
+
+/// 1 where any stream may have changed, else 0.
+pub(crate) fn touched_is_all(touched: &mut Touched) -> i64
+    ensures { (result ≡ flag touched.old.all) × (touched.new ≡ touched.old) }
+{
+    if touched.is_all() { 1 } else { 0 }
+}
+
+/// 1 where an answer to a ping came, else 0.
+pub(crate) fn touched_has_pong(touched: &mut Touched) -> i64
+    ensures { (result ≡ flag touched.old.ponged) × (touched.new ≡ touched.old) }
+{
+    if touched.has_pong() { 1 } else { 0 }
+}
+
+/// 0.
+pub(crate) fn touched_clear(touched: &mut Touched) -> i64
+    ensures { IsCleared touched.old result touched.new }
+{
+    touched.clear();
+    0
+}
+
+/// Gives back all that a note of touched streams keeps.
+pub(crate) fn end_touched(touched: Touched) {
+    let _ended = touched;
+}
+
+// ---- numbers
+
+/// A count as a number, and 4,294,967,295 for any that is larger.
+fn limited(count: usize) -> i64
+    ensures { result ≡ pos (min count number_limit) }
+{
+    count.min(u32::MAX as usize) as i64
 }
 
 /// A count as a number.

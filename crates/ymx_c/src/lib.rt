@@ -8,20 +8,27 @@
 #![tactic(auto)]
 
 mod face;
+mod made;
 
-ghost use Rattle.std.specs.Prelude.{◌≡◌, ◌⊎◌, length};
+ghost use Rattle.std.specs.Prelude.{◌≡◌, ◌⊎◌, false, length};
 ghost use Rattle.std.specs.Borrow.{full_share, sem};
 ghost use Rattle.std.specs.Ptr.{lies_at, room_at};
 ghost use Rattle.ymx_model.specs.declared.types.Event.TheVariants as event;
-ghost use Rattle.ymx_model.specs.declared.types.Call.TheVariants as call;
-ghost use Rattle.ymx_model.specs.session.Sessions.{Session as SessionValue};
+ghost use Rattle.ymx_machine.specs.declared.types.Call.TheVariants as call;
+ghost use Rattle.ymx_model.specs.session.Sessions.{Session as SessionValue, new_session};
 ghost use Rattle.ymx_model.specs.session.Emissions.{is_ready};
+ghost use Rattle.ymx_session.specs.NewSessions.{first_id};
+ghost use Rattle.ymx_session.specs.Touched.{Noted, nothing_noted};
 ghost use Rattle.ymx_session.specs.contracts.session.Session.{the_row};
-ghost use Rattle.ymx_c.specs.Answers.{Answers, Fills, status_number, flag};
-ghost use Rattle.ymx_c.specs.NewAnswers.{IsMade, IsRefused};
+ghost use Rattle.ymx_session.specs.contracts.touched.Touched.{the_row as touched_row};
+ghost use Rattle.ymx_c.specs.Answers.{Answers, Fills, status_number, flag, role_of};
+ghost use Rattle.ymx_c.specs.Handed.{handed};
+ghost use Rattle.ymx_c.specs.NewAnswers.{IsMade, IsRefused, IsNoteMade, IsNoNote};
+ghost use Rattle.ymx_c.specs.Readiness.{Touches, Shows, Consumes, TellsEnd, TellsRoom, CountsOffered, ListsIds, IsCleared};
 
+use crate::made::Made;
 use std::alloc::Global;
-use ymx_session::Session;
+use ymx_session::{Session, Touched};
 
 /// Makes a session that has done nothing, and writes its address to `out`. 0, or why there is none, and then
 /// NULL is written: -13 for a window below 262,144 or above 16,777,216 bytes (flow control), -14 for a first
@@ -35,19 +42,12 @@ pub extern "C" fn ymx_core_new(
     first: u32,
     out: &mut *mut u8,
 ) -> i64
-    ensures { IsMade role window first result ⊎ IsRefused role window first result out.new }
+    ensures answer { IsMade role window first result out.new ⊎ IsRefused role window first result out.new }
+    ensures* memory { sem 𝓛 (handed the_row out.new (new_session (role_of role) window (first_id (role_of role) first))) }
 {
-    match face::make(alloc, role, window, first) {
-        Ok(whole) => {
-            let place = Box::into_raw(whole);
-            *out = place.cast();
-            0
-        }
-        Err(fault) => {
-            *out = std::ptr::null_mut();
-            face::new_refusal(fault)
-        }
-    }
+    let Made { at, answer } = face::make(alloc, role, window, first);
+    *out = at as *mut u8;
+    answer
 }
 
 /// Ends a session and gives back all that it keeps. What it lay in is room again.
@@ -80,6 +80,16 @@ pub unsafe extern "C" fn ymx_core_accept(at: *mut u8) -> i64
     ensures* { ∃ₛ (λ (now : SessionValue). sem 𝓛 (lies_at the_row full_share at now) ∗ ⌜ Answers old (event.Call call.Accept) result now ⌝) }
 {
     face::accept(unsafe { &mut *(at as *mut Session) })
+}
+
+/// How many streams of the peer's wait to be accepted.
+#[unsafe(no_mangle)]
+pub unsafe extern "C" fn ymx_core_offered_count(at: *mut u8) -> i64
+    ghost old: { SessionValue }
+    requires* { sem 𝓛 (lies_at the_row full_share at old) }
+    ensures* { ∃ₛ (λ (now : SessionValue). sem 𝓛 (lies_at the_row full_share at now) ∗ ⌜ CountsOffered old result × (now ≡ old) ⌝) }
+{
+    face::offered_count(unsafe { &mut *(at as *mut Session) })
 }
 
 /// Asks the peer for a sign of life (ping): the number of the ping, or a refusal.
@@ -143,6 +153,48 @@ pub unsafe extern "C" fn ymx_core_read(at: *mut u8, id: u32, buffer: &mut [u8]) 
     face::read(unsafe { &mut *(at as *mut Session) }, id, buffer)
 }
 
+/// Shows the first bytes that wait on a stream, as they lie in its ring: writes their address to the first place of
+/// `out`, and answers how many they are, 0 if none waits. The address is good until the next call that changes the session.
+#[unsafe(no_mangle)]
+pub unsafe extern "C" fn ymx_core_unread(at: *mut u8, id: u32, out: &mut [*const u8]) -> i64
+    ghost old: { SessionValue }
+    requires* { sem 𝓛 (lies_at the_row full_share at old) }
+    ensures* { ∃ₛ (λ (now : SessionValue). sem 𝓛 (lies_at the_row full_share at now) ∗ ⌜ Shows id old result × (now ≡ old) ⌝) }
+{
+    face::unread(unsafe { &mut *(at as *mut Session) }, id, out)
+}
+
+/// Takes out the first `count` bytes that wait on a stream, or as many as are there, as a read of `count` bytes
+/// does: 0, also at the end, -12 where nothing is there yet, or a refusal.
+#[unsafe(no_mangle)]
+pub unsafe extern "C" fn ymx_core_consume(at: *mut u8, id: u32, count: u32) -> i64
+    ghost old: { SessionValue }
+    requires* { sem 𝓛 (lies_at the_row full_share at old) }
+    ensures* { ∃ₛ (λ (now : SessionValue). sem 𝓛 (lies_at the_row full_share at now) ∗ ⌜ Consumes id count old result now ⌝) }
+{
+    face::consume(unsafe { &mut *(at as *mut Session) }, id, count)
+}
+
+/// How many bytes a write to a stream would take now (flow control). 0 where it would be refused.
+#[unsafe(no_mangle)]
+pub unsafe extern "C" fn ymx_core_room(at: *mut u8, id: u32) -> i64
+    ghost old: { SessionValue }
+    requires* { sem 𝓛 (lies_at the_row full_share at old) }
+    ensures* { ∃ₛ (λ (now : SessionValue). sem 𝓛 (lies_at the_row full_share at now) ∗ ⌜ TellsRoom id old result × (now ≡ old) ⌝) }
+{
+    face::room(unsafe { &mut *(at as *mut Session) }, id)
+}
+
+/// Whether a read of a stream would answer the end (half-close): 1, or 0.
+#[unsafe(no_mangle)]
+pub unsafe extern "C" fn ymx_core_is_at_end(at: *mut u8, id: u32) -> i64
+    ghost old: { SessionValue }
+    requires* { sem 𝓛 (lies_at the_row full_share at old) }
+    ensures* { ∃ₛ (λ (now : SessionValue). sem 𝓛 (lies_at the_row full_share at now) ∗ ⌜ TellsEnd id old result × (now ≡ old) ⌝) }
+{
+    face::is_at_end(unsafe { &mut *(at as *mut Session) }, id)
+}
+
 /// Half-closes a stream (half-close): 0, or a refusal.
 #[unsafe(no_mangle)]
 pub unsafe extern "C" fn ymx_core_finish(at: *mut u8, id: u32) -> i64
@@ -183,6 +235,20 @@ pub unsafe extern "C" fn ymx_core_feed(at: *mut u8, input: &[u8]) -> i64
     face::feed(unsafe { &mut *(at as *mut Session) }, input)
 }
 
+/// Feeds bytes that came from the peer, as `ymx_core_feed` does, and notes at `noted` the streams that they touch.
+#[unsafe(no_mangle)]
+pub unsafe extern "C" fn ymx_core_feed_touching(at: *mut u8, input: &[u8], noted: *mut u8) -> i64
+    ghost old: { SessionValue × Noted }
+    requires* { sem 𝓛 (lies_at the_row full_share at old.0) ∗ sem 𝓛 (lies_at touched_row full_share noted old.1) }
+    ensures* { ∃ₛ (λ (now : SessionValue × Noted). sem 𝓛 (lies_at the_row full_share at now.0) ∗ sem 𝓛 (lies_at touched_row full_share noted now.1) ∗ ⌜ Touches old.0 old.1 input.now result now.0 now.1 ⌝) }
+{
+    face::feed_touching(
+        unsafe { &mut *(at as *mut Session) },
+        input,
+        unsafe { &mut *(noted as *mut Touched) },
+    )
+}
+
 /// The peer's bytes have ended: 0.
 #[unsafe(no_mangle)]
 pub unsafe extern "C" fn ymx_core_feed_end(at: *mut u8) -> i64
@@ -221,4 +287,68 @@ pub unsafe extern "C" fn ymx_core_status(at: *mut u8) -> i64
     ensures* { ∃ₛ (λ (now : SessionValue). sem 𝓛 (lies_at the_row full_share at now) ∗ ⌜ (result ≡ status_number old.status) × (now ≡ old) ⌝) }
 {
     face::status(unsafe { &mut *(at as *mut Session) })
+}
+
+// ---- the streams that were touched
+
+/// Makes a note of touched streams with nothing noted, and writes its address to `out`. 0, or -11 where there is no
+/// memory, and then NULL is written.
+#[unsafe(no_mangle)]
+pub extern "C" fn ymx_core_touched_new(alloc: Global, out: &mut *mut u8) -> i64
+    ensures answer { IsNoteMade result out.new ⊎ IsNoNote result out.new }
+    ensures* memory { sem 𝓛 (handed touched_row out.new (nothing_noted false)) }
+{
+    let Made { at, answer } = face::make_touched(alloc);
+    *out = at as *mut u8;
+    answer
+}
+
+/// Ends a note of touched streams and gives back all that it keeps. What it lay in is room again.
+#[unsafe(no_mangle)]
+pub unsafe extern "C" fn ymx_core_touched_drop(at: *mut u8)
+    ghost old: { Noted }
+    requires* { sem 𝓛 (lies_at touched_row full_share at old) }
+    ensures* { sem 𝓛 (room_at touched_row at) }
+{
+    face::end_touched(unsafe { (at as *mut Touched).read() });
+}
+
+/// The ids of the streams that are noted, as many as fit, at the buffer's front: how many are noted.
+#[unsafe(no_mangle)]
+pub unsafe extern "C" fn ymx_core_touched_ids(at: *mut u8, buffer: &mut [u32]) -> i64
+    ghost old: { Noted }
+    requires* { sem 𝓛 (lies_at touched_row full_share at old) }
+    ensures* { ∃ₛ (λ (now : Noted). sem 𝓛 (lies_at touched_row full_share at now) ∗ ⌜ ListsIds old result buffer.old buffer.new × (now ≡ old) ⌝) }
+{
+    face::touched_ids(unsafe { &mut *(at as *mut Touched) }, buffer)
+}
+
+/// Whether any stream may have been touched: 1, or 0.
+#[unsafe(no_mangle)]
+pub unsafe extern "C" fn ymx_core_touched_is_all(at: *mut u8) -> i64
+    ghost old: { Noted }
+    requires* { sem 𝓛 (lies_at touched_row full_share at old) }
+    ensures* { ∃ₛ (λ (now : Noted). sem 𝓛 (lies_at touched_row full_share at now) ∗ ⌜ (result ≡ flag old.all) × (now ≡ old) ⌝) }
+{
+    face::touched_is_all(unsafe { &mut *(at as *mut Touched) })
+}
+
+/// Whether an answer to a ping came: 1, or 0.
+#[unsafe(no_mangle)]
+pub unsafe extern "C" fn ymx_core_touched_has_pong(at: *mut u8) -> i64
+    ghost old: { Noted }
+    requires* { sem 𝓛 (lies_at touched_row full_share at old) }
+    ensures* { ∃ₛ (λ (now : Noted). sem 𝓛 (lies_at touched_row full_share at now) ∗ ⌜ (result ≡ flag old.ponged) × (now ≡ old) ⌝) }
+{
+    face::touched_has_pong(unsafe { &mut *(at as *mut Touched) })
+}
+
+/// Nothing is noted from here on: 0.
+#[unsafe(no_mangle)]
+pub unsafe extern "C" fn ymx_core_touched_clear(at: *mut u8) -> i64
+    ghost old: { Noted }
+    requires* { sem 𝓛 (lies_at touched_row full_share at old) }
+    ensures* { ∃ₛ (λ (now : Noted). sem 𝓛 (lies_at touched_row full_share at now) ∗ ⌜ IsCleared old result now ⌝) }
+{
+    face::touched_clear(unsafe { &mut *(at as *mut Touched) })
 }

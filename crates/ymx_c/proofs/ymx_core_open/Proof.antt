@@ -35,7 +35,7 @@ use Rattle.ymx_session.specs.contracts.session.Session.{the_row}
 use Rattle.ymx_model.specs.session.Sessions.{Session}
 use Rattle.ymx_c.specs.Answers.{Answers}
 use Rattle.ymx_model.specs.declared.types.Event.TheVariants as event
-use Rattle.ymx_model.specs.declared.types.Call.TheVariants as call
+use Rattle.ymx_machine.specs.declared.types.Call.TheVariants as call
 use Rattle.ymx_c.specs.contracts.ymx_core_open as f
 use Rattle.ymx_c.proofs.ymx_core_open.Statement.{statement}
 use Rattle.ymx_c.proofs.ymx_core_open.Code as code

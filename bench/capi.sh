@@ -1,0 +1,32 @@
+#!/bin/sh
+# Times two sessions that talk in one thread over a buffer of 64 KiB each way, from C over libymx and from Rattle, in
+# turn: the figures of bench/session.sh. Medians of five runs, and the ratio. Needs `rt` and a C compiler; proves and
+# builds the bench in Rattle over what the crates' out/ keep, in a temporary folder.
+set -eu
+top=$(cd "$(dirname "$0")/.." && pwd)
+work=$(mktemp -d)
+trap 'rm -rf "$work"' EXIT
+trap 'exit 130' INT TERM
+mkdir -p "$work/crates/session_bench/src"
+for crate in ymx_header ymx_cutter ymx_credit ymx_ring ymx_machine ymx_model ymx_law_session ymx_control ymx_half ymx_table ymx_session; do
+  cp -r "$top/crates/$crate" "$work/crates/$crate"
+  grep "^$crate:" "$top/crates.txt" >> "$work/crates.txt"
+done
+echo 'session_bench: ymx_session ymx_model anyhow' >> "$work/crates.txt"
+cp "$top/bench/session_bench.rattle" "$work/crates/session_bench/src/main.rt"
+cp "$top/HANDLES" "$work/HANDLES"
+echo "proving and building the bench (some minutes)" >&2
+"$top/c/build.sh" "$work/c" > "$work/log"
+cc -std=c99 -O2 -I"$work/c/include" -o "$work/capi_bench" "$top/bench/capi_bench.c" "$work/c/lib/libymx.a"
+cd "$work/crates/session_bench"
+for run in 1 2 3 4 5; do
+  rt run 2> "$work/log" || { tail -n 20 "$work/log" >&2; exit 1; }
+  "$work/capi_bench" | sed 's/^/c_/'
+done > "$work/figures"
+grep -E '^[a-z_0-9]+ [0-9]+ [0-9]+$' "$work/figures" | awk '{ printf "%s %.0f\n", $1, $2 / $3 * 1e9 }' | sort -k1,1 -k2,2n | awk '
+  { if (!($1 in n)) name[++names] = $1; value[$1, ++n[$1]] = $2 }
+  END {
+    for (i = 1; i <= names; i++) median[name[i]] = value[name[i], int((n[name[i]] + 1) / 2)]
+    for (i = 1; i <= names; i++)
+      if (name[i] !~ /^c_/) printf "%s %s a second, from C %s, ratio %.2f\n", name[i], median[name[i]], median["c_" name[i]], median["c_" name[i]] / median[name[i]]
+  }'
