@@ -1,27 +1,21 @@
 #!/bin/sh
 # Runs all tests that stand beside `rt ci`, a line each, and what a test that failed has to say. With --all it
-# refuses each allocation of two sessions too, proves and runs the programs of the guide, and tries the wrong bodies,
-# which takes an hour or more. Ends with 'N passed, M failed'.
+# refuses each allocation of two sessions too, proves and runs the programs of the guide, tries the wrong bodies, talks
+# to Go's yamux where that stands, and kills processes, which takes an hour or more. Ends with 'N passed, M failed'.
 set -eu
-root=$(cd "$(dirname "$0")/.." && pwd)
-log=$(mktemp)
-trap 'rm -f "$log"' EXIT
-trap 'exit 130' INT TERM
-passed=0
-failed=0
+here=$(cd "$(dirname "$0")" && pwd)
+. "$here/over.sh"
 
 # try NAME COMMAND..: one test
 try() {
     name=$1
     shift
     began=$(date +%s)
-    if "$@" > "$log" 2>&1 < /dev/null; then
-        passed=$((passed + 1))
-        echo "ok    $name: $(tail -n 1 "$log") ($(($(date +%s) - began)) seconds)"
+    if "$@" > "$scratch/log" 2>&1 < /dev/null; then
+        good
+        echo "ok    $name: $(tail -n 1 "$scratch/log") ($(($(date +%s) - began)) seconds)"
     else
-        failed=$((failed + 1))
-        echo "FAIL  $name"
-        cat "$log"
+        bad "$name" "$scratch/log"
     fi
 }
 
@@ -32,23 +26,35 @@ case ${1-} in
     exit 2
     ;;
 esac
+try 'what the documents quote' "$root/docs/quotes.py"
+try 'the picture of the speeds' "$root/docs/speeds.py" --same
 try 'the released program' "$root/tests/release/run.sh"
 try 'the program from outside' "$root/tests/program/run.sh"
 try 'scripts and what they print' "$root/tests/script/run.sh"
 try 'programs that must not compile' "$root/tests/must_not_compile/run.sh"
 try 'exchanges of two sessions' "$root/tests/session/run.sh"
 try 'worked examples of two sessions' "$root/tests/worlds/run.sh"
+try 'two engines and their devices' "$root/tests/engine/run.sh"
 try 'each allocation fails once' "$root/tests/no_memory/run.sh"
 try 'a running session in threads' "$root/tests/hub/run.sh"
 try 'copies that fail' "$root/tests/tunnel/run.sh"
 try 'the front door' "$root/tests/connect/run.sh"
 try 'unit tests of the program' "$root/tests/units/run.sh"
+try 'the C interface' "$root/tests/capi/run.sh"
 if [ "${1-}" = --all ]; then
     try 'each allocation of two sessions fails' "$root/tests/worlds/run.sh" --refuse-each
-    try 'the C interface' "$root/tests/capi/run.sh"
     try 'the programs of the guide' "$root/tests/examples/run.sh"
     try 'wrong bodies' "$root/tests/wrong_bodies.sh"
     try 'wrong statements' "$root/tests/refused.sh"
+    if has_go; then
+        try "the tunnel and Go's yamux" "$root/tests/interop/run.sh"
+    else
+        echo "--    the tunnel and Go's yamux: left out: no Go, or not its yamux"
+    fi
+    if command -v python3 > /dev/null; then
+        try 'processes that are killed' "$root/tests/kill/run.sh"
+    else
+        echo "--    processes that are killed: left out: no Python"
+    fi
 fi
-echo "$passed passed, $failed failed"
-[ "$failed" = 0 ]
+counted

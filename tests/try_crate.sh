@@ -9,12 +9,10 @@ folder=$1
 line=$2
 how=${3-}
 name=${line%%[ :]*}
-root=$(cd "$(dirname "$0")/.." && pwd)
-scratch=$(mktemp -d)
-trap 'rm -rf "$scratch"' EXIT
-trap 'exit 130' INT TERM
+here=$(cd "$(dirname "$0")" && pwd)
+. "$here/over.sh"
 
-(cd "$root" && find crates -name out -prune -o -type f -print | tar -cf - -T - crates.txt HANDLES) | tar -xf - -C "$scratch"
+copy_repository
 mkdir -p "$scratch/crates/$name/src"
 echo "$line" >> "$scratch/crates.txt"
 for file in "$folder"/*.rattle; do
@@ -23,15 +21,14 @@ done
 
 cd "$scratch/crates/$name"
 wanted=$(cat src/*.rt | grep -c '^ *#\[test\]$')
-rt try --test --seconds 900 > "$scratch/log" 2>&1 || { cat "$scratch/log"; exit 1; }
-grep -q "^test result: ok. $wanted passed; 0 failed; 0 ignored; 0 filtered out" "$scratch/log" || { cat "$scratch/log"; exit 1; }
+all_pass "$wanted"
 if [ "$how" = --refuse-each ]; then
     rows=$(grep -c '^test .*_holds \.\.\. ok$' "$scratch/log")
     number=0 is_refused=true
     while $is_refused; do
         number=$((number + 1))
         rt try --test --seconds 900 --fail-alloc $number > "$scratch/log" 2>&1 || true
-        [ "$(grep -c '^test .*_holds \.\.\. ok$' "$scratch/log")" = "$rows" ] || { echo "FAIL  allocation $number"; cat "$scratch/log"; exit 1; }
+        [ "$(grep -c '^test .*_holds \.\.\. ok$' "$scratch/log")" = "$rows" ] || fail "allocation $number" "$scratch/log"
         ! grep -q "^test result: ok. $wanted passed; 0 failed" "$scratch/log" || is_refused=false
     done
     echo "$wanted tests, and $((number - 1)) allocations refused in each of $rows"

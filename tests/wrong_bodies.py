@@ -2,6 +2,7 @@
 import importlib.machinery
 import importlib.util
 import os
+import re
 import shutil
 import subprocess
 import sys
@@ -24,9 +25,95 @@ def load_rt():
 
 
 def edits_of(folder):
-    wrong = f"{folder}/wrong"
+    wrong = f"{folder}/{shelf}"
     names = sorted(os.listdir(wrong)) if os.path.isdir(wrong) else []
     return [f"{wrong}/{it}" for it in names if it.endswith(".edit")]
+
+
+# ---- edits that can be tried together: each in the body of another function
+
+HEAD = re.compile(r'^([ \t]*)(?:pub(?:\([a-z]+\))? )?(?:const )?(?:unsafe )?(?:extern "C" )?fn (\w+)', re.M)
+NAMES = re.compile(r"(?:note: )?(?:\./)?proofs/.*(has no field|is not in scope|has no `|was not admitted)")
+
+
+class Change:
+    """What an edit changes: a part of one source file, and the function in whose body that part lies."""
+
+    def __init__(self, crate, edit):
+        self.edit, self.function = edit, None
+        texts, why = rt.read_edit(edit, crate.folder)
+        if why or len(texts) != 1:
+            return
+        self.path, new = next(iter(texts.items()))
+        with open(f"{crate.folder}/{self.path}", encoding="utf-8") as it:
+            old = it.read()
+        same = len(os.path.commonprefix([old, new]))
+        tail = len(os.path.commonprefix([old[same:][::-1], new[same:][::-1]]))
+        self.at, self.end, self.text = same, len(old) - tail, new[same : len(new) - tail]
+        self.function = function_at(old, self.at, self.end)
+
+
+def function_at(text, at, end):
+    """The name of the function in whose body this part of a source lies, or None."""
+    for head in HEAD.finditer(text):
+        opens = re.compile(r"\{$", re.M).search(text, head.end())
+        closes = opens and re.compile(rf"^{head[1]}\}}$", re.M).search(text, opens.end())
+        if not closes:
+            continue
+        following = HEAD.search(text, head.end())
+        if following and following.start() < opens.start():
+            # a declaration, which has no body
+            continue
+        if opens.end() <= at and end <= closes.start():
+            return head[2]
+    return None
+
+
+def together(crate, changes):
+    """The crate's sources with all these changes."""
+    texts = {}
+    for it in sorted(changes, key=lambda it: -it.at):
+        if it.path not in texts:
+            with open(f"{crate.folder}/{it.path}", encoding="utf-8") as file:
+                texts[it.path] = file.read()
+        texts[it.path] = texts[it.path][: it.at] + it.text + texts[it.path][it.end :]
+    return texts
+
+
+def batches_of(changes):
+    """The changes in as few batches as may be: in a batch each is in a function of another name."""
+    batches = []
+    for it in changes:
+        batch = next((batch for batch in batches if all(other.function != it.function for other in batch)), None)
+        if batch is None:
+            batches.append([it])
+        else:
+            batch.append(it)
+    return batches
+
+
+def judged(crate, batch, kept):
+    """Tries a batch at once, and returns the changes whose own function the prover refused, each with what it said.
+
+    A change is left out where its function is proved, where the function was not tried because it calls another that
+    isn't proved, and where only a proof file that names what the edit took away refuses it.
+    """
+    ran = rt.checked(crate, together(crate, batch), ["--jobs", "1"], kept)
+    lines = ran.stdout.rstrip("\n").split("\n")
+    if ran.returncode != 1 or not lines[-1].startswith("logic=not-proved") or rt.rtlib.STALE.search(ran.stdout):
+        if len(batch) == 1:
+            return []
+        half = len(batch) // 2
+        return judged(crate, batch[:half], kept) + judged(crate, batch[half:], kept)
+    said, found = {}, []
+    for name, words in re.findall(r"^fn (?:\S+::)?(\w+): (.*)$", ran.stdout, re.M):
+        if words.startswith(("no proof", "not proved")) and "it calls `" not in words:
+            said[name] = words
+    for it in batch:
+        own = [line for line in lines if re.search(rf"proofs/(\S+/)?{it.function}/", line) and ": error" in line]
+        if it.function in said and not (own and all(NAMES.match(line) for line in own)):
+            found.append((it, said[it.function]))
+    return found
 
 
 def one_job(crate):
@@ -54,8 +141,17 @@ def try_crate(crate):
         tell(f"{crate.name} isn't proved as it stands")
         return 0
     try:
-        refused = 0
-        for edit in edits_of(crate.folder):
+        refused, left = 0, edits_of(crate.folder)
+        changes = [it for it in (Change(crate, edit) for edit in left) if it.function]
+        # twice, as a function that calls a refused one is not tried beside it
+        for _ in range(2):
+            for batch in batches_of([it for it in changes if it.edit in left]):
+                for it, words in judged(crate, batch, kept):
+                    tell(f"{crate.name}/{os.path.basename(it.edit)}: refused, as it must be: {words[:160]}")
+                    left.remove(it.edit)
+                    refused += 1
+        # what was not refused so is tried by itself
+        for edit in left:
             well, text = rt.must_fail(crate, edit, ["--jobs", "1"], kept)
             tell(text.replace("must-fail ", "", 1))
             refused += well
@@ -74,10 +170,13 @@ def tell(text):
 
 
 def main(names):
+    global shelf
+    if names[:1] == ["--gate"]:
+        shelf, names = "must-fail", names[1:]
     crates = [it for it in rt.rtlib.crates_below(TOP) if edits_of(it.folder) and (not names or it.name in names)]
     unknown = set(names) - {it.name for it in crates}
     if unknown:
-        print(f"no folder crates/{sorted(unknown)[0]}/wrong", file=sys.stderr)
+        print(f"no folder crates/{sorted(unknown)[0]}/{shelf}", file=sys.stderr)
         return 2
     # the libraries first, as the edits of several crates stand on the same ones
     for crate in crates:
@@ -101,7 +200,7 @@ def start():
     os.chdir(TOP)
 
 
-rt, printing = None, threading.Lock()
+rt, shelf, printing = None, "wrong", threading.Lock()
 
 if __name__ == "__main__":
     start()

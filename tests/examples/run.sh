@@ -1,58 +1,70 @@
 #!/bin/sh
-# The two programs of docs/GUIDE.md: proves examples/server.rattle and examples/client.rattle, runs the server, and
-# the client against it over TCP on the loopback, and compares what both print. Each must have under 40 lines. The
-# repository is left alone: both are crates in a copy, which takes over what was proved before.
+# The programs of docs/GUIDE.md: proves those of examples/, runs each server, and its client against it over TCP on the
+# loopback, and compares what they print. Those that the guide shows must have under 40 lines, and those of examples/echo
+# under 40 together, without blank lines and comments. The history that two hubs keep must be one run. The repository is
+# left alone: the programs are crates in a copy, which takes over what was proved before.
 set -eu
 here=$(cd "$(dirname "$0")" && pwd)
-root=$(cd "$here/../.." && pwd)
-scratch=$(mktemp -d)
-server=
-stop() {
-    [ -z "$server" ] || kill "$server" 2> /dev/null || true
-    rm -rf "$scratch"
-}
-trap stop EXIT
-trap 'exit 130' INT TERM
-
-fail() {
-    echo "$1"
-    shift
-    cat "$@"
-    exit 1
-}
+. "$here/../over.sh"
 
 mkdir "$scratch/crates"
 cp "$root/crates.txt" "$root/HANDLES" "$scratch"
 for crate in "$root"/crates/*; do
     cp -R --reflink=auto "$crate" "$scratch/crates/"
 done
-below=$(sed -n 's/^ymx_connect may_wait=[0-9]*: //p' "$root/crates.txt")
+
+# prove NAME LIBRARY..: examples/NAME.rattle as a crate over these libraries; `crate` is its name then
+prove() {
+    source=$1
+    crate=example_$(echo "$source" | tr / _)
+    shift
+    mkdir -p "$scratch/crates/$crate/src"
+    cp "$root/examples/$source.rattle" "$scratch/crates/$crate/src/main.rt"
+    echo "$crate: $* anyhow" >> "$scratch/crates.txt"
+    (cd "$scratch/crates/$crate" && rt check > "$scratch/check" 2>&1) || fail "examples/$source.rattle isn't proved" "$scratch/check"
+    grep -q '^logic=proved ' "$scratch/check" || fail "examples/$source.rattle isn't proved" "$scratch/check"
+}
+
+# build: `program` is the program of this crate. `rt run` builds what is proved, and runs it: a client that finds nobody
+# to connect to ends with an error.
+build() {
+    program=$scratch/crates/$crate/out/$crate
+    (cd "$scratch/crates/$crate" && timeout 300 rt run < /dev/null > "$scratch/run" 2>&1) || true
+    [ -x "$program" ] || fail "$crate can't be built" "$scratch/run"
+}
+
+# pair SERVER CLIENT: proves both, and runs the client against the server until that can be reached
+pair() {
+    prove "$1" ymx_connect
+    server=$crate
+    prove "$2" ymx_connect
+    build
+    (cd "$scratch/crates/$server" && exec timeout 300 rt run < /dev/null > "$scratch/server.out" 2>&1) &
+    jobs=$!
+    until "$program" < "$scratch/input" > "$scratch/client.out" 2> /dev/null; do
+        kill -0 "$jobs" 2> /dev/null || fail 'the server failed' "$scratch/server.out"
+        sleep 0.2
+    done
+    wait "$jobs" || fail 'the server failed' "$scratch/server.out"
+    jobs=
+}
+
 for name in server client; do
-    [ "$(wc -l < "$root/examples/$name.rattle")" -lt 40 ] || fail "examples/$name.rattle has 40 lines or more" /dev/null
-    crate=$scratch/crates/example_$name
-    mkdir -p "$crate/src" "$crate/specs" "$crate/proofs"
-    : > "$crate/specs/Lib.antt"
-    : > "$crate/proofs/Lib.antt"
-    cp "$root/examples/$name.rattle" "$crate/src/main.rt"
-    echo "example_$name: ymx_connect $below anyhow" >> "$scratch/crates.txt"
-    (cd "$crate" && rt check > "$scratch/$name.check" 2>&1) || fail "examples/$name.rattle isn't proved" "$scratch/$name.check"
-    grep -q '^logic=proved ' "$scratch/$name.check" || fail "examples/$name.rattle isn't proved" "$scratch/$name.check"
+    [ "$(wc -l < "$root/examples/$name.rattle")" -lt 40 ] || fail "examples/$name.rattle has 40 lines or more"
 done
+[ "$(cat "$root"/examples/echo/*.rattle | grep -cv '^ *\(//.*\)\{0,1\}$')" -lt 40 ] || fail "examples/echo has 40 lines or more"
 
-# `rt run` builds a proved program, and runs it. Nothing listens yet, so this run of the client ends with an error.
-(cd "$scratch/crates/example_client" && timeout 300 rt run > "$scratch/client.run" 2>&1) || true
-client=$scratch/crates/example_client/out/example_client
-[ -x "$client" ] || fail "the client can't be built" "$scratch/client.run"
-
-(cd "$scratch/crates/example_server" && timeout 300 rt run > "$scratch/server.run" 2>&1) &
-server=$!
-until "$client" > "$scratch/client.out" 2> /dev/null; do
-    kill -0 "$server" 2> /dev/null || fail 'the server failed' "$scratch/server.run"
-    sleep 0.2
-done
+: > "$scratch/input"
+pair server client
 grep -qx 'the same came back: true' "$scratch/client.out" || fail 'the client printed something else' "$scratch/client.out"
-wait "$server" || fail 'the server failed' "$scratch/server.run"
-server=
-grep -q 'streams served: 1$' "$scratch/server.run" || fail 'the server printed something else' "$scratch/server.run"
-cat "$scratch/client.out"
-echo '2 programs proved and run'
+grep -q 'streams served: 1$' "$scratch/server.out" || fail 'the server printed something else' "$scratch/server.out"
+
+printf 'one\n\nthree\n' > "$scratch/input"
+pair echo/server echo/client
+cmp "$scratch/input" "$scratch/client.out" || fail 'the echo is another text' "$scratch/client.out"
+
+prove history/main ymx_pumps ymx_world ymx_hub ymx_session ymx_seats ymx_model
+build
+"$program" > "$scratch/history.out"
+printf 'the word has come: true\nboth histories are one run: true\n' | cmp - "$scratch/history.out" || fail 'the history is another' "$scratch/history.out"
+echo '5 programs proved and run'

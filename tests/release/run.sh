@@ -3,19 +3,13 @@
 # byte off is refused. And a copy of the repository in which nothing was built runs it within three seconds, with no
 # toolchain on the PATH.
 set -eu
-root=$(cd "$(dirname "$0")/../.." && pwd)
-scratch=$(mktemp -d)
-trap 'rm -rf "$scratch"' EXIT
+here=$(cd "$(dirname "$0")" && pwd)
+. "$here/../over.sh"
 # the launcher that is tried is that of a copy, in which no gate has built anything
 from_gate=${YMX_FROM_GATE-}
 unset YMX_FROM_GATE
 
-fail() {
-    echo "FAIL  $1"
-    exit 1
-}
-
-(cd "$root" && find ymx release crates.txt HANDLES examples crates -name out -prune -o -type f -print | tar -cf - -T -) | tar -xf - -C "$scratch"
+copy_repository ymx release examples
 cd "$scratch"
 printf 'window flags=0001 id=1 len=0\ndata flags=0000 id=1 len=5 68656c6c6f\n' > wanted
 
