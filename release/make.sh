@@ -1,7 +1,8 @@
 #!/bin/sh
-# Makes the release anew: proves the crates of the program and builds it, from nothing, and writes ymx.gz, RELEASE and
-# seconds. With --kept it takes over what was proved before. With the name of a file it takes that program, which
-# `rt ci` built from these sources. The sources have to be committed, since RELEASE names their commit.
+# Makes the release anew: proves the crates of the program and of the library for C and builds both, from nothing, and
+# writes ymx.gz, libymx_c.a.gz, RELEASE and seconds. With --kept it takes over what was proved before. With the name of a
+# file it takes that program, which `rt ci` built from these sources, and builds the library over what was proved before.
+# The sources have to be committed, since RELEASE names their commit.
 set -eu
 here=$(cd "$(dirname "$0")" && pwd)
 cd "$here/.."
@@ -11,19 +12,26 @@ if [ -n "$(git status --porcelain -- crates crates.txt HANDLES)" ]; then
 fi
 mkdir -p out
 case ${1-} in
-'') release/prove.py --seconds release/seconds out/built ;;
---kept) release/prove.py --kept out/built ;;
-*) cp "$1" out/built ;;
+'') release/prove.py --seconds release/seconds --library out/libymx_c.a out/built ;;
+--kept) release/prove.py --kept --library out/libymx_c.a out/built ;;
+*)
+    cp "$1" out/built
+    release/prove.py --kept --library out/libymx_c.a
+    ;;
 esac
 gzip -9nc out/built > release/ymx.gz
+gzip -9nc out/libymx_c.a > release/libymx_c.a.gz
 cat > release/RELEASE << TEXT
 The program ymx, packed as ymx.gz: proved and built from the sources of the repository, and nothing else.
 \`./ymx --prove\` at the top proves and builds it anew, and compares the bytes.
+So is the proved part of the library for C, packed as libymx_c.a.gz. \`c/build.sh --prove\` does the same with it.
 
 sources: $(release/sources.sh)
 commit: $(git log -1 --format=%h -- crates crates.txt HANDLES)
 kit: $(rt version)
 program: $(sha256sum < out/built | cut -d ' ' -f 1)
+library-sources: $(release/sources.sh ymx_c)
+library: $(sha256sum < out/libymx_c.a | cut -d ' ' -f 1)
 machine: x86_64 Linux with glibc 2.34 or later
 TEXT
 cat release/RELEASE

@@ -1,13 +1,15 @@
 #!/usr/bin/env python3
-"""Proves the crates of which the program ymx is made, from nothing, and builds it.
+"""Proves the crates of which the program ymx is made, from nothing, and builds it; or those of the library for C.
 
-usage: release/prove.py [--kept] [--seconds FILE] PROGRAM
+usage: release/prove.py [--kept] [--seconds FILE] [--library FILE] [PROGRAM]
 
 The program is written to the file PROGRAM. A crate begins as soon as those below it are proved, the one with the
 longest way to the program first, and takes processors that are left over. `rt` has to be on the PATH: the compiler
 is the one that belongs to it, and is called with the words that `rt ci` gives it.
 
 --kept           takes over what `rt check` and earlier runs with --kept proved: only what has changed is proved again
+--library FILE   proves and builds the library for C too, and writes its archive to FILE: the crate's code, and the
+                 kit's malloc and free. With no PROGRAM only the crates of the library are proved
 --seconds FILE   writes how many seconds of processor time each crate took, for the estimate of later runs
 """
 import argparse
@@ -16,11 +18,13 @@ import os
 import shutil
 import subprocess
 import sys
+import tempfile
 import threading
 import time
 
 TOP = os.path.dirname(os.path.dirname(os.path.realpath(__file__)))
 LAST = "ymx_cli"
+LIBRARY = "ymx_c"
 KNOWN_SECONDS = f"{TOP}/release/seconds"
 MEMORY_OF_A_CHECK = 3_000_000_000
 
@@ -61,6 +65,8 @@ class Crate:
         self.own = [it for it in self.uses if it in crates]
         self.below = needed(crates, name)
         self.is_program = os.path.isfile(f"{TOP}/crates/{name}/src/main.rt")
+        self.is_static = name == LIBRARY
+        self.ending = ".o" if self.is_program else ".a" if self.is_static else ".rlib"
         self.seconds = 60.0
         self.took = 0.0
 
@@ -80,13 +86,15 @@ class Crate:
             words += ["-L", f"dependency={self.room}/{it}"]
         words += ["--antt-project", f"{self.kit}/rattle/logic/antt-project.json"]
         words += ["--logic-built", f"{self.kit}/logic_built", "--jobs", str(jobs), "--links", f"{self.name}="]
-        if self.is_program:
+        if self.is_program or self.is_static:
             words += ["--toolchain", f"{self.kit}/toolchain"]
+        if self.is_static:
+            words += ["--crate-type", "staticlib", "--backend", "llvm"]
         if is_kept:
             words += ["--incremental", f"{TOP}/crates/{self.name}/out/incremental"]
-        elif not self.is_program:
+        elif not self.is_program and not self.is_static:
             words += ["--statements"]
-        return [*words, "-o", self.made(".o" if self.is_program else ".rlib")]
+        return [*words, "-o", self.made(self.ending)]
 
     def stamp(self, stamps):
         """A sum of all that the crate is made from."""
@@ -109,7 +117,7 @@ class Crate:
 
 
 class Work:
-    """All crates of the program: which are proved, which are under way, and which are left."""
+    """All crates that are wanted: which are proved, which are under way, and which are left."""
 
     def __init__(self, crates, is_kept, good):
         self.crates, self.is_kept = crates, is_kept
@@ -153,7 +161,8 @@ class Work:
             idle = lanes - sum(self.under_way.values())
             if idle <= 0:
                 return
-            jobs = max(1, min(4, idle // len(ready)))
+            # the first has the longest way, so what is left over is for it
+            jobs = max(1, min(4, idle - len(ready) + 1))
             crate = ready.pop(0)
             self.left.remove(crate)
             self.under_way[crate] = jobs
@@ -209,7 +218,7 @@ def take_over(crates):
                 is_same = kept.read() == stamps[it.name]
         except OSError:
             is_same = False
-        if is_same and os.path.exists(it.made(".o" if it.is_program else ".rlib")):
+        if is_same and os.path.exists(it.made(it.ending)):
             good.add(it.name)
     return stamps, good
 
@@ -226,17 +235,34 @@ def link(crate, program):
     return True
 
 
+def pack(crate, archive):
+    """Packs the library's archive: the crate's object and the kit's malloc and free, with no time in it."""
+    with tempfile.TemporaryDirectory() as folder:
+        for file, member in ((crate.made(".a"), f"{crate.name}.o"), (f"{crate.kit}/c/liblibc_c.a", "heap.pic.o")):
+            with open(f"{folder}/{member}", "wb") as it:
+                subprocess.run(["ar", "p", file, member], stdout=it, check=True)
+        subprocess.run(["ar", "rcsD", "new.a", f"{crate.name}.o", "heap.pic.o"], cwd=folder, check=True)
+        shutil.copyfile(f"{folder}/new.a", f"{archive}.new")
+    os.replace(f"{archive}.new", archive)
+
+
 def main():
     asked = argparse.ArgumentParser(add_help=False)
     asked.add_argument("--kept", action="store_true")
     asked.add_argument("--seconds")
-    asked.add_argument("program")
+    asked.add_argument("--library")
+    asked.add_argument("program", nargs="?")
     asked = asked.parse_args()
+    if not asked.library and not asked.program:
+        print(__doc__, end="", file=sys.stderr)
+        return 2
     kit = os.path.dirname(subprocess.run(["rt", "doc"], capture_output=True, text=True, check=True).stdout.strip())
     Crate.kit_line = subprocess.run(["rt", "version"], capture_output=True, text=True, check=True).stdout.strip()
     crates, seconds = listed(), known_seconds()
     room = f"{TOP}/out/{'kept' if asked.kept else 'proved'}"
-    own = [Crate(kit, room, crates, it) for it in [*needed(crates, LAST), LAST]]
+    wanted = [LAST] * bool(asked.program) + [LIBRARY] * bool(asked.library)
+    names = [it for last in wanted for it in [*needed(crates, last), last]]
+    own = [Crate(kit, room, crates, it) for it in dict.fromkeys(names)]
     for it in own:
         it.seconds = seconds.get(it.name, it.seconds)
     if not asked.kept:
@@ -255,7 +281,10 @@ def main():
     if asked.seconds:
         with open(asked.seconds, "w", encoding="ascii") as it:
             it.writelines(f"{crate.name} {crate.took:.0f}\n" for crate in own)
-    if not link(own[-1], asked.program):
+    made = {it.name: it for it in own}
+    if asked.library:
+        pack(made[LIBRARY], asked.library)
+    if asked.program and not link(made[LAST], asked.program):
         return 1
     spent, took = sum(it.took for it in own) / 60, (time.time() - work.began) / 60
     print(f"ymx: proved and built in {took:.1f} minutes, {spent:.1f} minutes of processor time", file=sys.stderr)

@@ -1,14 +1,15 @@
 #!/bin/sh
-# Prints a hash of all sources that the program ymx is made of: the crates below it, their lines of crates.txt, and
-# HANDLES. Tests, documents and crates beside the program don't count.
+# Prints a hash of all sources that the program ymx is made of, or with ymx_c those of the library for C: the crates below
+# it, their lines of crates.txt, and HANDLES. Tests, documents and crates beside it don't count.
 set -eu
+last=${1:-ymx_cli}
 cd "$(dirname "$0")/.."
 LC_ALL=C
 export LC_ALL
 
-# Prints the lines of crates.txt of the program's crate and of those below it.
-lines_of_program() {
-    awk -v last=ymx_cli '
+# Prints the lines of crates.txt of that crate and of those below it.
+lines_of_crates() {
+    awk -v last="$last" '
         function visit(name, words, count, i) {
             if (!(name in line) || name in seen) return
             seen[name] = 1
@@ -20,7 +21,7 @@ lines_of_program() {
         END { visit(last); for (name in seen) print line[name] }' crates.txt | sort
 }
 
-lines=$(lines_of_program)
+lines=$(lines_of_crates)
 {
     echo "$lines"
     folders=
