@@ -34,27 +34,23 @@ FNS = {
  'touched_clear': ('', '', 'IsCleared x u m'),
 }
 IMPORTS = {
-'Rattle.std.proofs.Common': '◌≡◌ ℕ List [] ◌∷◌ ◌++◌ length refl ap w32 w64 MutBor Bor ℤ',
+'Rattle.std.proofs.Common': '◌≡◌ ℕ List [] ◌∷◌ length refl w32 w64 MutBor',
 'Rattle.std.proofs.raw_atomic.Walks': 'proved',
-'base.Fraction': 'full_share', 'base.Logic': 'id⊢ sep', 'base.Fml': 'GName ftrue flft flent',
-'mir.Syntax': 'named', 'mir.Val': 'Val vint vptr', 'contract.Monad': 'fact', 'contract.Running': 'tables', 'prog.Wp': 'WpFn',
-'types.Logic': 'sem',
-'types.Kit': '‵ raw ◌⊛◌ some later prop at_ret ◌$◌ ◌∵◌ ! qed done drop move keep use1 use2 use3 split join fsplit fjoin feq_l await pick frame group regoal suffices show',
-'types.Tokens': 'lft_new lft_end', 'types.SemTy': 'Body', 'types.Part': 'agg sub whole',
+'base.Fraction': 'full_share', 'base.Logic': 'id⊢', 'base.Fml': 'GName',
+'mir.Syntax': 'named', 'mir.Val': 'vint vptr', 'contract.Running': 'tables', 'prog.Wp': 'WpFn',
+'types.Kit': '◌$◌ ◌∵◌ ! qed by at_ret', 'types.Part': 'agg sub whole',
 'types.Run': 'enter of_opd addr from fld hop stop no_more and_then first blocks exec returns',
 'types.ByLocal': 'alloc_all pass_all free_all look_at look_in_at get get_in through sets sets_last lands_as env',
-'denote.Builtin': 'u8 u32 i64 SliceRefOf', 'denote.Exit': 'yes', 'denote.Laws': 'Is shows', 'denote.Lend': 'lends_ref ref_back',
-'denote.Memory': 'part_at mem', 'denote.Plain': 'uint_vals uint_Tells uint_Makes', 'denote.Signed': 'sint_Lawful',
-'denote.RawPtr': 'Ptr RawPtr block_ptr rawptr_vals rawptr_Tells lies_at in_a_block', 'denote.Ref': 'MutRef mut_vals',
-'denote.Slice': 'ShrSlice shr_slice_vals shr_slice_Tells MutSlice mut_slice_vals mut_slice_Tells', 'denote.Signature': 'plain',
-'denote.Steps': 'nothing owned heard peeks', 'denote.Triple.Call': 'calls_at', 'denote.Triple.Clauses': 'lasts',
-'denote.Triple.Entry': 'on_entry', 'denote.Triple.Spec': 'triple_of', 'denote.Triple.Table': 'framed',
-'denote.Triple.Walked': 'says Stays walk_of stay_dropped Goes-dropped gave_slice Goes-gave_slice ends_at',
+'denote.Builtin': 'u8 u32', 'denote.Plain': 'uint_vals uint_Tells', 'denote.RattleType': 'flat Valss',
+'denote.RawPtr': 'Ptr RawPtr block_ptr rawptr_vals rawptr_Tells', 'denote.Signature': 'types_at', 'denote.Signed': 'sint_Lawful',
+'denote.Slice': 'shr_slice_vals shr_slice_Tells mut_slice_vals mut_slice_Tells',
+'denote.Triple.Spec': 'triple_of', 'denote.Triple.Table': 'framed enters', 'denote.Triple.Walked': 'walk_of ends_at',
 'the row': 'the_row',
 'Rattle.ymx_model.specs.session.Sessions': 'Session', 'Rattle.ymx_model.specs.session.Emissions': 'is_ready',
 'Rattle.ymx_session.specs.Touched': 'Noted',
 'Rattle.ymx_c.specs.Answers': 'Answers Fills flag status_number',
 'Rattle.ymx_c.specs.Readiness': 'Shows Consumes CountsOffered TellsRoom TellsEnd ListsIds IsCleared',
+'Rattle.ymx_c.proofs.Lending': 'all_left all_fit all_go behind at_block held calls_lent',
 }
 # where the type of what lies at the pointer is defined
 ROWS = {'Session': 'Rattle.ymx_session.specs.contracts.session.Session', 'Noted': 'Rattle.ymx_session.specs.contracts.touched.Touched'}
@@ -65,113 +61,49 @@ def text(name, numbers, sl, fact):
     # what lies at the pointer, the numbers' names, and the slice's elements
     value = 'Noted' if name.startswith('touched_') else 'Session'
     ints = 'i j'.split()[:len(numbers.split())]
-    elem = {'ids': 'u32', 'addresses': 'RawPtr'}.get(sl, 'u8')
+    elem = {'ids':'u32','addresses':'RawPtr'}.get(sl,'u8')
     sl = 'mut' if elem != 'u8' else sl
     k = 1 + len(ints) + bool(sl)            # the number of parameters, and of the last one's local
     at = lambda it, place: it + '.1' * (1 + place) + '.0'
-    S = at('a', len(ints))
-    P = at('are', len(ints)) + '.0.1.0'
+    P = at('are',len(ints))+'.0.1.0'
     sty = f'(tt, (tt, (record {{ fits = {P} }}, tt)))'
-    itys = [f'(tt, record {{ fits = {at("are", it)}.1 }})' for it in range(len(ints))]
-    slot = f'SliceRefOf (0 ∷ []) tt (plain (λ _. {elem})) (λ κs. tt)'
-    ref, vals, tells = {'shr': ('ShrSlice', 'shr_slice_vals', 'shr_slice_Tells'), 'mut': ('MutSlice', 'mut_slice_vals', 'mut_slice_Tells'), '': ('', '', '')}[sl]
-    stay = nest(['stay_dropped _ yes'] + ['stay_dropped _ yes'] * len(ints) + (['stay_dropped _ yes'] if sl == 'shr' else [f'gave_slice (0 ∷ []) tt (plain (λ _. {elem}))'] if sl == 'mut' else []))
-    goes = nest([f'Goes-dropped 𝓛 {n} (plain (λ _. RawPtr)) yes (λ κs x w. refl)'] + [f'Goes-dropped 𝓛 {n} (plain (λ _. u32)) yes (λ κs x w. refl)'] * len(ints)
-        + ([f'Goes-dropped 𝓛 {n} ({slot}) yes (λ κs x w. refl)'] if sl == 'shr' else [f'Goes-gave_slice 𝓛 {n} 0 tt (plain (λ _. {elem}))'] if sl == 'mut' else []))
-    spell = nest(['rawptr_vals'] + ['uint_vals w32'] * len(ints) + [vals] * bool(sl))
-    tell = nest(['rawptr_Tells'] + ['uint_Tells w32'] * len(ints) + [f'{tells} (named 0) κs.0 {elem}'] * bool(sl))
-    vss = lambda p: nest([p] + [f'vint w32 {it} ∷ []' for it in ints] + ['ss'] * bool(sl))
-    flat = 'rawptr_vals p ++ (' + ''.join(f'(vint w32 {it} ∷ []) ++ (' for it in ints) + ('ss ++ []' if sl else '[]') + ')' * len(ints) + ')'
-    opens = 0
-    L = []
-    a = L.append
-    a(f'pub ymx_core_{name}_spec : {{M : Type 1}} → statement M')
-    a(f'ymx_core_{name}_spec 𝓤 𝓛 𝓜 𝓡 wired =')
-    a('    let c = f.clauses 𝓛 𝓜.mem 𝓡.returns in let W = walk_of 𝓛 f.ended stayed c in let 𝓣 = tables 𝓤 𝓛.H 𝓜 𝓡 𝓡.env in')
-    a(f'    proved 𝓛 f.ended stayed c 𝓜 𝓡 {goes}')
-    a('    f.Key.name code.function (code.unfolded 𝓤 𝓛.H 𝓜 𝓡 wired)')
-    a(f'    (λ κs. {spell}) (λ κs. {tell}) (λ κs qs bounds a x are.'); opens += 1
-    for place, it in enumerate(ints): a(f'    let {it} = {at("a", place)} in')
-    if sl: a(f'    let κ = κs.0 in let q = qs.0 in let s = {S} in let ss = {vals} s in')
-    a(f'    let y : Ptr → W.Ghost = λ p. ((κs, qs, bounds, (p, a.1), {vss("rawptr_vals p")}), x) in')
-    if sl:
-        chain = '‵ (RawPtr.own_val a.0 (rawptr_vals a.0)) ⊛ ' + ('‵ (u32.own_val i (vint w32 i ∷ [])) ⊛ ' if ints else '') + f'‵ (({ref} (named 0) κ {elem}).own_val s ss) ⊛ ‵ ftrue'
-        a(f'    qed 𝓛 (((‵ (flft κ q) ⊛ ‵ ftrue) ⊛ ({chain})) ∷ ‵ (lies_at the_row full_share a.0 x) ∷ []) ∵')
-        a('    split ! $ split ! $ move ! (2 ∷ []) $ split ! $ move ! (1 ∷ []) $ split ! $ ' + ('move ! (1 ∷ []) $ split ! $ keep ! (6 ∷ 0 ∷ 4 ∷ []) $' if ints else 'keep ! (5 ∷ 0 ∷ 3 ∷ []) $'))
-    else:
-        a('    qed 𝓛 (raw (on_entry 𝓛 f.signature κs qs a (y a.0).0.4) ∷ ‵ (lies_at the_row full_share a.0 x) ∷ []) ∵ drop ! $')
-    a('    -- what lies at the pointer' + (', the slice and its token' if sl else ''))
-    a('    in_a_block ! a.0 (λ p. lies_at the_row full_share p x) (id⊢ 𝓤 _) (λ b o e.'); opens += 1
-    a(f'    regoal ! (λ p. prop (WpFn 𝓤 𝓛.H 𝓣.C 𝓣.Λ code.function ({flat}) (W.post (y p)))) e refl $')
-    a(f'    enter ! _ _ _ _ _ $ alloc_all ! (λ l. pass_all ! refl {nest(["(tt, tt)"] + itys + [sty] * bool(sl))} $'); opens += 1
-    a('    first ! $ blocks ! $ sets ! (of_opd ! (get ! refl)) refl (tt, tt) $ sets ! (of_opd ! (get ! refl)) refl (tt, tt) $ sets_last ! (addr ! (through ! refl (stop !))) refl (tt, tt) $')
-    a('    exec ! 𝓣.C 𝓣.Λ (env code.Mir.locals l) code.Mir.t-2 (at_ret _ (W.post (y (block_ptr b o)))) $')
-    a('    sets ! (of_opd ! (get ! refl)) refl (tt, tt) $')
-    for ity in itys: a(f'    sets ! (of_opd ! (get ! refl)) refl {ity} $')
-    if sl == 'shr': a(f'    sets ! (of_opd ! (get ! refl)) refl {sty} $')
+    itys = [f'(tt, record {{ fits = {at("are",p)}.1 }})' for p in range(len(ints))]
+    vals, tells = {'shr':('shr_slice_vals','shr_slice_Tells'),'mut':('mut_slice_vals','mut_slice_Tells'),'':('','')}[sl]
+    spell = nest(['rawptr_vals']+['uint_vals w32']*len(ints)+[vals]*bool(sl))
+    tell = nest(['rawptr_Tells']+['uint_Tells w32']*len(ints)+[f'{tells} (named 0) κs.0 {elem}']*bool(sl))
+    vss = nest([f'vint w32 {it} ∷ []' for it in ints]+[f'{vals} s']*bool(sl))
+    lets = ''.join(f'let {it} = {at("a",p)} in ' for p,it in enumerate(ints))+(f'let s = {at("a",len(ints))} in ' if sl else '')
+    last = 'w' + '.1' * len(ints) + '.0'
+    F = fact.replace(' w ', f' {last} ')
+    copies = ''.join(f' sets ! (of_opd ! (get ! refl)) refl {t} $' for t in ['(tt, tt)']+itys+([sty] if sl=='shr' else []))
     if sl == 'mut':
-        a(f'    sets ! (addr ! (from ! (fld ! refl (hop ! (look_in_at ! {k} (sub ! 0 refl (whole !))) (stop !))))) refl (tt, tt) $')
-        a(f'    sets ! (agg ! (and_then ! (get ! refl) (and_then ! (get_in ! (fld ! refl (stop !)) (sub ! 1 refl (whole !))) (no_more !)))) refl {sty} $')
-    a('    -- it is lent for a new lifetime')
-    a('    lft_new ! tt (λ α. move ! (1 ∷ []) $'); opens += 1
-    a('    use1 𝓛 (later (some (λ (δ : GName). ‵ ((MutRef (named 0) (α ∷ []) the_row).own_val (record { ref_ptr = (b, o); ghost_name = δ; now = x }) (vptr b o ∷ [])) ⊛ ‵ (flent (α ∷ []) (Body (mem the_row) b o δ)))))')
-    a('    (lends_ref 𝓛 the_row (named 0) (α ∷ []) x b o) $ await ! tt $ pick ! (λ δ. split ! $'); opens += 1
-    a(f'    let r : MutBor {value} = record {{ ref_ptr = (b, o); ghost_name = δ; now = x }} in')
-    a('    let G = triple_of 𝓛 g.signature (g.spec 𝓛 𝓜.mem 𝓡.returns) in')
-    lfts = '(α ∷ [], (κ, tt)), (full_share, (q, tt))' if sl else '(α ∷ [], tt), (full_share, tt)'
-    a(f'    let z : G.Ghost = (({lfts}, tt, {nest(["r"] + ints + ["s"] * bool(sl))}, {vss("vptr b o ∷ []")}), tt) in')
-    line = '    nothing ! $ '
-    if sl: line += 'move ! (4 ∷ []) $ join ! $ '
-    for place, it in reversed([*enumerate(ints)]): line += f'owned ! u32 _ (uint_Makes 𝓛 w32) {it} _ (refl, {at("are", place)}.1) $ join ! $ '
-    line += 'move ! (1 ∷ []) $ join ! $ nothing ! $ '
-    if sl: line += 'move ! (4 ∷ []) $ join ! $ '
-    a(line + 'move ! (3 ∷ []) $ join ! $ join ! $ nothing ! $ move ! (1 ∷ 0 ∷ []) $ use2 𝓛 (raw (G.pre z)) (id⊢ 𝓤 _) $')
-    args = '(no_more !)'
-    for _ in range(k): args = f'(and_then ! (get ! refl) {args})'
-    a(f'    calls_at ! (framed 𝓤 𝓛.H 𝓜 𝓣) G (met 𝓤 𝓛 𝓜 𝓡 (code.calls-ymx_c::face::{name} 𝓡.env wired)) z {args} (λ v.'); opens += 1
-    toks = '‵ (flft (α ∷ []) full_share) ⊛ ' + ('‵ (flft κ q) ⊛ ' if sl else '') + '‵ ftrue'
-    wty = 'Unit {0}'
-    if sl: wty = ('Unit {0}' if sl == 'shr' else 'List Ptr' if elem == 'RawPtr' else 'List ℕ') + f' × {wty}'
-    for it in ints: wty = f'Unit {{0}} × ({wty})' if '×' in wty else f'Unit {{0}} × {wty}'
-    wty = f'{value} × ({wty})'
-    slast = at('ws', len(ints))
-    F = lambda m: fact.replace(' m', f' {m}').replace('(m ', f'({m} ').replace(' w ', f' {slast} ')
-    a(f'    use1 𝓛 (later (some (λ (u : ℤ). (({toks}) ⊛ ‵ (i64.own_val u (v ∷ []))) ⊛ some (λ (ws : {wty}). ‵ (lasts g.ended z.0.0 z.0.3 ws) ⊛ raw (fact 𝓤 ({F("ws.0")})))))) (id⊢ 𝓤 _) $')
-    a('    await ! tt $ pick ! (λ u. split ! $ split ! $ split ! $ lft_end ! tt $'); opens += 1
-    a('    move ! (2 ∷ []) $ peeks ! i64 (Is i64) (shows 𝓛 i64) u (v ∷ []) (λ is. lands_as ! refl refl ((sint_Lawful 𝓛 w64).typed u _ is).0 $'); opens += 1
-    a('    -- and comes back')
-    a('    move ! (3 ∷ []) $ pick ! (λ ws. split ! $ fsplit ! $ fsplit ! $'); opens += 1
-    a('    move ! (5 ∷ 7 ∷ 0 ∷ []) $ use3 𝓛 (later (‵ (part_at the_row full_share ws.0 b o))) (ref_back 𝓛 the_row (α ∷ []) δ ws.0 b o) $ await ! tt $')
-    if sl == 'mut':
-        a('    move ! (2 ∷ []) $ fsplit ! $ ' + ('move ! (1 ∷ []) $ fsplit ! $ ' if ints else '') + 'fsplit ! $ fsplit ! $ move ! (1 ∷ []) $ feq_l ! (λ same. fjoin ! $'); opens += 1
-        keep = '(5 ∷ 6 ∷ 7 ∷ 0 ∷ 3 ∷ [])' if ints else '(4 ∷ 5 ∷ 6 ∷ 0 ∷ 2 ∷ [])'
-    else:
-        keep = '(3 ∷ 4 ∷ 5 ∷ 0 ∷ [])'
-    a(f'    returns ! (look_at ! 0 refl) $ free_all ! refl $ keep ! {keep} $ heard ! ({F("ws.0")}) (λ says_so.'); opens += 1
-    ends = nest(['tt'] + ['tt'] * len(ints) + ([slast] if sl == 'mut' else ['tt'] if sl else []))
-    fits = nest(['tt'] + ['tt'] * len(ints) + (['same'] if sl == 'mut' else ['tt'] if sl else []))
-    a(f'    suffices ! _ (ends_at 𝓛 f.ended stayed c (y (block_ptr b o)) v u {ends} {fits}) $')
-    line = '    nothing ! $ '
-    if sl == 'mut': line += 'move ! (3 ∷ []) $ join ! $ '
-    if sl == 'shr': line += 'nothing ! $ join ! $ '
-    line += 'nothing ! $ join ! $ ' * len(ints)
-    a(line + 'nothing ! $ join ! $ move ! (2 ∷ 0 ∷ 1 ∷ []) $ group ! 3 $ frame ! $')
-    a(f'    show ! (λ (m : {value}). sep 𝓤 (sem 𝓛 (lies_at the_row full_share (block_ptr b o) m)) (fact 𝓤 ({F("m")}))) ws.0 $ says ! says_so $ done !' + ')' * opens)
-    body = '\n'.join(L)
+        copies += f'\n    sets ! (addr ! (from ! (fld ! refl (hop ! (look_in_at ! {k} (sub ! 0 refl (whole !))) (stop !))))) refl (tt, tt) $ sets ! (agg ! (and_then ! (get ! refl) (and_then ! (get_in ! (fld ! refl (stop !)) (sub ! 1 refl (whole !))) (no_more !)))) refl {sty} $'
+    opds = functools.reduce(lambda r, _:f'(and_then ! (get ! refl) {r})', range(k), '(no_more !)')
+    at_rest = f'𝓛 the_row x {n} (behind f.ended.signature.params) f.ended.kept.1 κs qs a.1 vss'
+    body = f'''pub ymx_core_{name}_spec : {{M : Type 1}} → statement M
+ymx_core_{name}_spec 𝓤 𝓛 𝓜 𝓡 wired =
+    let c = f.clauses 𝓛 𝓜.mem 𝓡.returns in let hs = all_left f.ended.signature.params f.ended.kept in let W = walk_of 𝓛 f.ended hs c in let 𝓣 = tables 𝓤 𝓛.H 𝓜 𝓡 𝓡.env in let G = triple_of 𝓛 g.signature (g.spec 𝓛 𝓜.mem 𝓡.returns) in
+    proved 𝓛 f.ended hs c 𝓜 𝓡 (all_go 𝓛 {n} f.ended.signature.params f.ended.kept) f.Key.name code.function (code.unfolded 𝓤 𝓛.H 𝓜 𝓡 wired) (λ κs. {spell}) (λ κs. {tell}) (λ κs qs bounds a x are.
+    {lets}let vss : Valss (types_at (behind f.ended.signature.params) κs) = {vss} in let y : Ptr → W.Ghost = λ p. ((κs, qs, bounds, (p, a.1), (rawptr_vals p, vss)), x) in
+    at_block {at_rest} a.0 (λ p. WpFn 𝓤 𝓛.H 𝓣.C 𝓣.Λ code.function (flat (types_at f.ended.signature.params κs) (rawptr_vals p, vss)) (W.post (y p))) (λ b o.
+    let z : ℕ → GName → G.Ghost = λ α δ. let r : MutBor {value} = record {{ ref_ptr = (b, o); ghost_name = δ; now = x }} in (((α ∷ [], κs), (full_share, qs), tt, (r, a.1), (vptr b o ∷ [], vss)), tt) in
+    qed 𝓛 (held {at_rest} b o ∷ []) ∵ enter ! _ _ _ _ _ $ alloc_all ! (λ l. pass_all ! refl {nest(["(tt, tt)"]+itys+[sty]*bool(sl))} $ first ! $ blocks ! $ sets ! (of_opd ! (get ! refl)) refl (tt, tt) $ sets ! (of_opd ! (get ! refl)) refl (tt, tt) $ sets_last ! (addr ! (through ! refl (stop !))) refl (tt, tt) $
+    exec ! 𝓣.C 𝓣.Λ (env code.Mir.locals l) code.Mir.t-2 (at_ret _ (W.post (y (block_ptr b o)))) ${copies}
+    calls_lent {at_rest} (λ u m w. {F}) b o ! (framed 𝓤 𝓛.H 𝓜 𝓣) (enters 𝓤 𝓛.H 𝓜 𝓣 _) (flat (types_at (behind f.ended.signature.params) κs) vss) G (met 𝓤 𝓛 𝓜 𝓡 (code.calls-ymx_c::face::{name} 𝓡.env wired)) z (λ α δ. refl) (λ α δ. id⊢ 𝓤 _) (λ α δ v. id⊢ 𝓤 _) {opds} (λ v u w is.
+    lands_as ! refl refl ((sint_Lawful 𝓛 w64).typed u _ is).0 $ returns ! (look_at ! 0 refl) $ free_all ! refl $ by ! (ends_at 𝓛 f.ended hs c (y (block_ptr b o)) v u (tt, w) (all_fit κs f.ended.signature.params f.ended.kept a (tt, w)))))))
+'''
     head = [f'-- `ymx_core_{name}` meets its contract: what lies at the pointer is lent to `face::{name}` for a lifetime made for the call, and comes back.']
     def used(w):
-        core = w.replace('◌', '')
-        return core in body or core in stay or w == 'Stays'
-    for mod, names in IMPORTS.items():
-        mod = ROWS[value] if names == 'the_row' else mod
-        ns = [w for w in names.split() if used(w)]
-        if ns: head.append(f'use {mod}.{{{", ".join(ns)}}}')
+        core = w.replace('◌','')
+        return (re.search(r'(?<![\w])'+re.escape(core)+r'(?![\w])',body) if re.match(r'\w',core) else core in body)
+    for mod,names in IMPORTS.items():
+        mod = ROWS[value] if names=='the_row' else mod
+        nsx = [w for w in names.split() if used(w)]
+        if nsx: head.append(f'use {mod}.{{{", ".join(nsx)}}}')
     if 'event.' in fact: head.append('use Rattle.ymx_model.specs.declared.types.Event.TheVariants as event')
     if 'call.' in fact: head.append('use Rattle.ymx_machine.specs.declared.types.Call.TheVariants as call')
-    head += [f'use Rattle.ymx_c.specs.contracts.ymx_core_{name} as f', f'use Rattle.ymx_c.proofs.ymx_core_{name}.Statement.{{statement}}', f'use Rattle.ymx_c.proofs.ymx_core_{name}.Code as code',
-             f'use Rattle.ymx_c.specs.contracts.face.{name} as g', f'use Rattle.ymx_c.proofs.face.{name}.Met.{{met}}', '',
-             'abbrev stayed : Stays f.ended.signature.params f.ended.kept', f'stayed = {stay}', '']
-    return '\n'.join(head) + '\n' + body + '\n'
+    head += [f'use Rattle.ymx_c.specs.contracts.ymx_core_{name} as f', f'use Rattle.ymx_c.proofs.ymx_core_{name}.Statement.{{statement}}', f'use Rattle.ymx_c.proofs.ymx_core_{name}.Code as code', f'use Rattle.ymx_c.specs.contracts.face.{name} as g', f'use Rattle.ymx_c.proofs.face.{name}.Met.{{met}}','']
+    return '\n'.join(head)+'\n'+body
 # What is made: what lies at the address, how many numbers there are, what is made, and when it is or isn't, with the
 # places of the fact on the address in these two.
 MAKERS = {

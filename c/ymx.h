@@ -4,7 +4,8 @@
  * caller feeds it the bytes that came from the peer, and writes out the bytes that it emits. A call that would
  * have to wait says so. docs/C.md has a whole server, and says what is proved.
  *
- * Answers. A call answers a number: 0 or more is good, less than 0 is an ymx_error. A refusal changes nothing.
+ * Answers. A call answers a number: 0 or more is good, less than 0 is an ymx_error. A refusal changes nothing. Where a
+ * pointer is NULL that may not be, a call answers YMX_E_NULL and changes no session.
  *
  * Threads. One thread at a time uses a session; it may be another one each time. Two sessions share nothing, and
  * the library has no variables of its own. No call belongs into a signal handler.
@@ -106,8 +107,9 @@ YMX_API int64_t ymx_feed(ymx_session *session, const void *bytes, size_t len);
  * came, behind what was noted before.
  *
  * A stream that isn't noted is as it was: what a ymx_read or ymx_write of it answers has not changed, as long as the
- * session runs (ymx_status). So only the noted ones are tried again, and idle streams cost nothing. New streams of the
- * peer's are told by ymx_accept. */
+ * session runs (ymx_status). So only the noted ones are tried again, and idle streams cost nothing. One is noted anew
+ * only where a frame of it, or a part of one, was among the bytes that were taken. New streams of the peer's are told
+ * by ymx_accept. */
 YMX_API int64_t ymx_feed_touching(ymx_session *session, const void *bytes, size_t len, ymx_touched *touched);
 
 /* The connection has ended or failed: nothing more will come. Answers 0. Bytes that are there are still read; after

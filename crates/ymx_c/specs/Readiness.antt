@@ -10,18 +10,22 @@ use Rattle.ymx_model.specs.session.Calls.{read_from}
 use Rattle.ymx_model.specs.session.Emissions.{in_turn}
 use Rattle.ymx_model.specs.session.Histories.{Gives}
 use Rattle.ymx_session.specs.Streams.{waiting, room_of}
-use Rattle.ymx_session.specs.Touched.{Noted, NotesChanges, StaysNoted, nothing_noted}
+use Rattle.ymx_session.specs.Touched.{Noted, NotesChanges, NotesOnly, StaysNoted, nothing_noted}
 use Rattle.ymx_c.specs.Answers.{Answers, flag, code}
 
 -- The largest number of bytes or streams that is answered where the call moves none. No credit is above it (flow control).
 abbrev pub number_limit : ℕ
 number_limit = 4294967295
 
--- The bytes were fed, and the streams that they touched stand in the note, behind those that stood there before.
+-- The bytes were fed, and the streams that they touched stand in the note, behind those that stood there before. None
+-- is added that no frame among the bytes taken was of.
 pub record Touches (old : Session) (noted : Noted) (input : List ℕ) (n : ℤ) (new : Session) (noted_new : Noted) : Type 0 where
   pub feeds : Answers old (event.Feed input) n new
   pub notes : NotesChanges old new noted_new
   pub kept : StaysNoted noted noted_new
+  pub taken : ℕ
+  pub answer : n ≡ pos taken
+  pub only : NotesOnly (take taken input) old noted noted_new
 
 -- So many of the first bytes that wait on a stream are shown: some, if any byte waits.
 pub record Shows (id : ℕ) (s : Session) (n : ℤ) : Type 0 where
