@@ -1,4 +1,4 @@
-//! The law of two engines that are joined: what happened at both is one run of the queue machine. Each public function
+//! The laws of two engines that are joined: what happened at both is one run of the queue machine. Each public function
 //! is a law: it does nothing, and its contract is the theorem.
 #![tactic(auto)]
 
@@ -13,6 +13,7 @@ ghost use Rattle.ymx_law_audit.specs.Joints.{IsJointOrder};
 ghost use Rattle.ymx_law_audit.specs.Example.{joint_steps};
 ghost use Rattle.ymx_engine.specs.Events.{Happen};
 ghost use Rattle.ymx_law_engine.specs.Tunnels.{entries, AreJoined};
+ghost use Rattle.ymx_law_engine.specs.Pairs.{Turn, AreOnePipedRun};
 ghost use Rattle.ymx_law_engine.specs.Example.{events_of_a, events_of_b};
 
 /// What happened at an engine is a history of its session, as the audit reads one.
@@ -26,6 +27,14 @@ pub fn events_are_a_history()
 /// machine has a run that goes alike.
 pub fn joined_engines_are_one_run()
     ensures { (events_a events_b : List (Event × Reply)) (steps : List Step) → AreJoined events_a events_b steps }
+{}
+
+/// Two engines that are joined by two pipes in memory are one run of the queue machine. They are of new sessions, a
+/// client's and a server's, and have turns in any order: calls on streams, reads of the wire, flushes to it. What one's
+/// flush gave to its wire and the other has not read waits in the pipe. Then all that happened at both has a joint order,
+/// so that the replies are the answers of a run of these two sessions, and the queue machine has a run that goes alike.
+pub fn piped_engines_are_one_run()
+    ensures { (turns : List Turn) → AreOnePipedRun turns }
 {}
 
 /// The events of two engines that have a joint order, worked.
