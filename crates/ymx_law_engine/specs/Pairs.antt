@@ -49,6 +49,10 @@ pub record IsCalls (es : List (Event × Reply)) (old new : Engine) (to from to_n
   pub same_to : to_new ≡ to
   pub same_from : from_new ≡ from
 
+-- these calls happened, whatever the pipes carry
+abbrev pub HasCalls : List (Event × Reply) → Engine → Engine → Type 0
+HasCalls es old new = (to from : List ℕ) → IsCalls es old new to from to from
+
 -- a read from its wire, which gives the front of the pipe; it may also fail, or say that no more bytes come
 pub record IsRead (es : List (Event × Reply)) (old new : Engine) (to from to_new from_new : List ℕ) : Type 0 where
   pub before : Seen
