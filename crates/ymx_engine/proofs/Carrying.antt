@@ -1,9 +1,8 @@
 -- How an engine and its wire go on.
 use Rattle.std.proofs.Common.{◌≡◌, ℕ, ◌+◌, ◌≤◌, ◌==◌, List, [], ◌∷◌, ◌++◌, length, take, drop, Bool, true, false, ◌||◌, refl, sym, ap, ◌∙◌, subst, arith, append-nil, append_assoc, take-append-drop}
-use Rattle.std.specs.Prelude.{option_map}
 use Rattle.std.proofs.Math.Bool.{or_assoc}
 use Rattle.std.proofs.lemmas.Grind.{common_steps}
-use Rattle.std.proofs.KnownBytes.{Appends-nil, Appends-trans, Consumes-nil, Consumes-trans}
+use Rattle.std.proofs.KnownBytes.{Appends-nil, Appends-trans, Consumes-nil}
 use Rattle.std.proofs.lemmas.List.Folds.{list_all-append}
 use Rattle.ymx_model.specs.declared.types.Event.{Event}
 use Rattle.ymx_model.specs.declared.types.Event.TheVariants as event
@@ -18,86 +17,88 @@ use Rattle.ymx_engine.specs.declared.device.Pushed.{Pushed}
 use Rattle.ymx_engine.specs.Devices.{Seen, pulled_count, pushed_count, is_end, is_pull_failure, is_push_failure}
 use Rattle.ymx_engine.specs.Events.{Happen}
 use Rattle.ymx_engine.specs.Engines.{Engine}
-use Rattle.ymx_engine.specs.Wires.{emitted_at, emitted, fed_at, fed, is_of_wire, ends_feed, has_feed_end, Carries, CarriesSo, Handles, TakesIn, GivesOut}
-use Rattle.ymx_engine.proofs.Exchanging.{happen_then, same_consumes, same_appends, or_same, or_twice}
+use Rattle.ymx_engine.specs.Wires.{emitted_at, emitted, is_of_flush, ends_feed, has_feed_end, FeedsFront, ReadsWire, ReadsWireSo, FlushesWire, FlushesWireSo, HandlesIn, HandlesOut, TakesIn, GivesOut}
+use Rattle.ymx_engine.proofs.Exchanging.{happen_then, or_same}
 
 emitted_then : (es fs : List (Event × Reply)) → emitted (es ++ fs) ≡ emitted es ++ emitted fs
 emitted_then [] fs = refl
 emitted_then (e ∷ es) fs = ap (λ (xs : List ℕ). emitted_at e.0 e.1 ++ xs) (emitted_then es fs) ∙ sym (append_assoc (emitted_at e.0 e.1) (emitted es) (emitted fs))
 
-fed_then : (es fs : List (Event × Reply)) → fed (es ++ fs) ≡ fed es ++ fed fs
-fed_then [] fs = refl
-fed_then (e ∷ es) fs = ap (λ (xs : List ℕ). fed_at e.0 e.1 ++ xs) (fed_then es fs) ∙ sym (append_assoc (fed_at e.0 e.1) (fed es) (fed fs))
-
 feed_end_then : (es fs : List (Event × Reply)) → has_feed_end (es ++ fs) ≡ (has_feed_end es || has_feed_end fs)
 feed_end_then [] fs = refl
 feed_end_then (e ∷ es) fs = ap (λ (b : Bool). ends_feed e.0 || b) (feed_end_then es fs) ∙ sym (or_assoc (ends_feed e.0) (has_feed_end es) (has_feed_end fs))
-
-or_swap : (a b c d : Bool) → ((a || b) || (c || d)) ≡ ((a || c) || (b || d))
-or_swap true b c d = refl
-or_swap false true true d = refl
-or_swap false true false d = refl
-or_swap false false c d = refl
 
 -- what waited and came is what went and waits, twice
 waits_on : (a b c came went more gone : List ℕ) → a ++ came ≡ went ++ b → b ++ more ≡ gone ++ c → a ++ (came ++ more) ≡ (went ++ gone) ++ c
 waits_on a b c came went more gone p q =
     sym (append_assoc a came more) ∙ ap (λ (v : List ℕ). v ++ more) p ∙ append_assoc went b more ∙ ap (λ (v : List ℕ). went ++ v) q ∙ sym (append_assoc went gone c)
 
-pub carries_then : (a b c : Engine) (p q r : Seen) (n m : ℕ) → Carries a b p q n → Carries b c q r m → Carries a c p r (n + m)
-carries_then a b c p q r n m x y = record {
+pub flushes_then : (a b c : Engine) (p q r : Seen) (n m : ℕ) → FlushesWire a b p q n → FlushesWire b c q r m → FlushesWire a c p r (n + m)
+flushes_then a b c p q r n m x y = record {
   events = x.events ++ y.events;
   happen = happen_then x.events y.events _ _ _ x.happen y.happen;
-  own = rw (list_all-append (λ (e : Event × Reply). is_of_wire e.0) x.events y.events, x.own, y.own) refl;
+  own = rw (list_all-append (λ (e : Event × Reply). is_of_flush e.0) x.events y.events, x.own, y.own) refl;
   sent = x.sent ++ y.sent;
   took = Appends-trans p.had q.had r.had _ _ x.took y.took;
   outward = ap (λ (v : List ℕ). a.outgoing ++ v) (emitted_then x.events y.events) ∙ waits_on a.outgoing b.outgoing c.outgoing (emitted x.events) x.sent (emitted y.events) y.sent x.outward y.outward;
-  came = x.came ++ y.came;
-  gave = Consumes-trans p.left q.left r.left _ _ x.gave y.gave;
-  inward = waits_on a.incoming b.incoming c.incoming x.came (fed x.events) y.came (fed y.events) x.inward y.inward ∙ ap (λ (v : List ℕ). v ++ c.incoming) (sym (fed_then x.events y.events));
-  said_end = x.said_end || y.said_end;
-  over = y.over ∙ ap (option_map (λ b. b || y.said_end)) x.over ∙ or_twice x.said_end y.said_end p.over;
   failed = x.failed || y.failed;
-  lost = feed_end_then x.events y.events ∙ ap (λ (b : Bool). b || has_feed_end y.events) x.lost ∙ ap (λ (b : Bool). (x.said_end || x.failed) || b) y.lost
-      ∙ or_swap x.said_end x.failed y.said_end y.failed;
+  lost = feed_end_then x.events y.events ∙ ap (λ (b : Bool). b || has_feed_end y.events) x.lost ∙ ap (λ (b : Bool). x.failed || b) y.lost;
+  incoming = y.incoming ∙ x.incoming;
+  left = y.left ∙ x.left;
+  over = y.over ∙ x.over;
   ended = y.ended ∙ x.ended;
   few = let i = x.few in let j = y.few in omega arith;
 }
 
-pub carries_more : (a b : Engine) (p q : Seen) (n m : ℕ) → n ≤ m → Carries a b p q n → Carries a b p q m
-carries_more a b p q n m le x = record {
+pub flushes_more : (a b : Engine) (p q : Seen) (n m : ℕ) → n ≤ m → FlushesWire a b p q n → FlushesWire a b p q m
+flushes_more a b p q n m le x = record {
   events = x.events;
   happen = x.happen;
   own = x.own;
   sent = x.sent;
   took = x.took;
   outward = x.outward;
-  came = x.came;
-  gave = x.gave;
-  inward = x.inward;
-  said_end = x.said_end;
-  over = x.over;
   failed = x.failed;
   lost = x.lost;
+  incoming = x.incoming;
+  left = x.left;
+  over = x.over;
   ended = x.ended;
   few = let i = x.few in omega arith;
 }
 
-pub carries_same : (a : Engine) (d : Seen) (n : ℕ) → Carries a a d d n
-carries_same a d n = record {
+pub flushes_same : (a : Engine) (d : Seen) (n : ℕ) → FlushesWire a a d d n
+flushes_same a d n = record {
   events = [];
   happen = refl;
   own = refl;
   sent = [];
   took = Appends-nil d.had;
   outward = append-nil a.outgoing;
+  failed = false;
+  lost = refl;
+  incoming = refl;
+  left = refl;
+  over = refl;
+  ended = refl;
+  few = omega arith;
+}
+
+pub reads_same : (a : Engine) (d : Seen) (n : ℕ) → ReadsWire a a d d n
+reads_same a d n = record {
+  events = [];
+  happen = refl;
+  own = refl;
   came = [];
   gave = Consumes-nil d.left;
+  fronts = tt;
   inward = append-nil a.incoming;
   said_end = false;
   over = or_same d.over;
   failed = false;
   lost = refl;
+  outgoing = refl;
+  had = refl;
   ended = refl;
   few = omega arith;
 }
@@ -107,62 +108,91 @@ gives_from e told s t u same g = subst (λ (v : Session). Gives in_turn v e told
 
 -- ---- parts of a turn
 
-pub handles_none : (a : Engine) → Handles false a a
-handles_none a = record {
+pub handles_in_none : (a : Engine) → HandlesIn false a a
+handles_in_none a = record {
+  events = [];
+  happen = refl;
+  own = refl;
+  fronts = tt;
+  inward = refl;
+  outgoing = refl;
+  heard = refl;
+}
+
+pub handles_out_none : (a : Engine) → HandlesOut false a a
+handles_out_none a = record {
   events = [];
   happen = refl;
   own = refl;
   outward = append-nil a.outgoing;
-  inward = refl;
+  incoming = refl;
   heard = refl;
 }
 
 -- no bytes were called for
-pub carries_handled : (a b : Engine) (d : Seen) (n : ℕ) → Handles false a b → Carries a b d d n
-carries_handled a b d n x = record {
+pub reads_handled : (a b : Engine) (d : Seen) (n : ℕ) → HandlesIn false a b → ReadsWire a b d d n
+reads_handled a b d n x = record {
+  events = x.events;
+  happen = x.happen;
+  own = x.own;
+  came = [];
+  gave = Consumes-nil d.left;
+  fronts = subst (λ (v : List ℕ). FeedsFront v x.events) (sym (append-nil a.incoming)) x.fronts;
+  inward = append-nil a.incoming ∙ x.inward;
+  said_end = false;
+  over = or_same d.over;
+  failed = false;
+  lost = x.heard;
+  outgoing = x.outgoing;
+  had = refl;
+  ended = refl;
+  few = omega arith;
+}
+
+pub flushes_handled : (a b : Engine) (d : Seen) (n : ℕ) → HandlesOut false a b → FlushesWire a b d d n
+flushes_handled a b d n x = record {
   events = x.events;
   happen = x.happen;
   own = x.own;
   sent = [];
   took = Appends-nil d.had;
   outward = x.outward;
-  came = [];
-  gave = Consumes-nil d.left;
-  inward = append-nil a.incoming ∙ x.inward;
-  said_end = false;
-  over = or_same d.over;
   failed = false;
   lost = x.heard;
+  incoming = x.incoming;
+  left = refl;
+  over = refl;
   ended = refl;
   few = omega arith;
 }
 
 -- the wire was called for bytes, and what it said was heard
-pub pulled_heard : (r : Pulled) (a b c : Engine) (d e : Seen) → a.incoming ≡ [] → TakesIn r a b d e → Handles (is_end r || is_pull_failure r) b c → CarriesSo (is_end r) (is_pull_failure r) a c d e 1
+pub pulled_heard : (r : Pulled) (a b c : Engine) (d e : Seen) → a.incoming ≡ [] → TakesIn r a b d e → HandlesIn (is_end r || is_pull_failure r) b c → ReadsWireSo (is_end r) (is_pull_failure r) a c d e 1
 pulled_heard r a b c d e none t x =
-    let moved : Carries a c d e 1 = record {
+    let now : a.incoming ++ take (pulled_count r) t.buffer ≡ b.incoming = ap (λ (v : List ℕ). v ++ take (pulled_count r) t.buffer) none ∙ sym t.incoming in
+    let moved : ReadsWire a c d e 1 = record {
       events = x.events;
       happen = subst (λ (s : Session). Happen x.events s c.session) t.session x.happen;
       own = x.own;
-      sent = [];
-      took = same_appends d.had e.had t.pulled.had;
-      outward = ap (λ (v : List ℕ). v ++ emitted x.events) (sym t.outgoing) ∙ x.outward;
       came = take (pulled_count r) t.buffer;
       gave = t.pulled.gave;
-      inward = ap (λ (v : List ℕ). v ++ take (pulled_count r) t.buffer) none ∙ sym t.incoming ∙ x.inward;
+      fronts = subst (λ (v : List ℕ). FeedsFront v x.events) (sym now) x.fronts;
+      inward = now ∙ x.inward;
       said_end = is_end r;
       over = t.pulled.over;
       failed = is_pull_failure r;
       lost = x.heard;
+      outgoing = x.outgoing ∙ t.outgoing;
+      had = t.pulled.had;
       ended = t.pulled.ended;
       few = t.pulled.counted;
     } in (moved, refl, refl)
 
 -- the wire was called with bytes, and what it said was heard
-pub pushed_heard : (r : Pushed) (a b c : Engine) (d e : Seen) → GivesOut r a b d e → Handles (is_push_failure r) b c → CarriesSo false (is_push_failure r) a c d e 1
+pub pushed_heard : (r : Pushed) (a b c : Engine) (d e : Seen) → GivesOut r a b d e → HandlesOut (is_push_failure r) b c → FlushesWireSo (is_push_failure r) a c d e 1
 pushed_heard r a b c d e g x =
     let n = pushed_count r in
-    let moved : Carries a c d e 1 = record {
+    let moved : FlushesWire a c d e 1 = record {
       events = x.events;
       happen = subst (λ (s : Session). Happen x.events s c.session) g.session x.happen;
       own = x.own;
@@ -170,48 +200,58 @@ pushed_heard r a b c d e g x =
       took = g.pushed.took;
       outward = ap (λ (v : List ℕ). v ++ emitted x.events) (sym (take-append-drop n a.outgoing)) ∙ append_assoc (take n a.outgoing) (drop n a.outgoing) (emitted x.events)
           ∙ ap (λ (v : List ℕ). take n a.outgoing ++ (v ++ emitted x.events)) (sym g.outgoing) ∙ ap (λ (v : List ℕ). take n a.outgoing ++ v) x.outward;
-      came = [];
-      gave = same_consumes d.left e.left g.pushed.left;
-      inward = append-nil a.incoming ∙ sym g.incoming ∙ x.inward;
-      said_end = false;
-      over = g.pushed.over ∙ or_same d.over;
       failed = is_push_failure r;
       lost = x.heard;
+      incoming = x.incoming ∙ g.incoming;
+      left = g.pushed.left;
+      over = g.pushed.over;
       ended = g.pushed.ended;
       few = g.pushed.counted;
-    } in (moved, refl, refl)
+    } in (moved, refl)
 
-pub emits_one : (a b : Engine) (s : Session) (room : ℕ) → s ≡ a.session → a.outgoing ≡ [] → Gives in_turn s (event.Emit room) (reply.Emitted b.outgoing) b.session → b.incoming ≡ a.incoming → Handles false a b
+pub emits_one : (a b : Engine) (s : Session) (room : ℕ) → s ≡ a.session → a.outgoing ≡ [] → Gives in_turn s (event.Emit room) (reply.Emitted b.outgoing) b.session → b.incoming ≡ a.incoming → HandlesOut false a b
 emits_one a b s room same none h incoming = let g = gives_from (event.Emit room) (reply.Emitted b.outgoing) s b.session a.session same h in record {
   events = (event.Emit room, reply.Emitted b.outgoing) ∷ [];
   happen = (b.session, g, refl);
   own = refl;
   outward = ap (λ (v : List ℕ). v ++ (b.outgoing ++ [])) none ∙ append-nil b.outgoing;
-  inward = sym incoming;
+  incoming = incoming;
   heard = refl;
 }
 
 pub feeds_one : (a b : Engine) (told : Fed) (s : Session) (bytes : List ℕ) → s ≡ a.session → bytes ≡ a.incoming → Gives in_turn s (event.Feed bytes) (reply.Fed told) b.session →
-    b.incoming ≡ drop told.taken a.incoming → b.outgoing ≡ a.outgoing → Handles false a b
+    b.incoming ≡ drop told.taken a.incoming → b.outgoing ≡ a.outgoing → HandlesIn false a b
 feeds_one a b told s bytes same waits h incoming outgoing =
     let k : Gives in_turn a.session (event.Feed bytes) (reply.Fed told) b.session = gives_from (event.Feed bytes) (reply.Fed told) s b.session a.session same h in
     let g : Gives in_turn a.session (event.Feed a.incoming) (reply.Fed told) b.session = subst (λ (v : List ℕ). Gives in_turn a.session (event.Feed v) (reply.Fed told) b.session) waits k in record {
       events = (event.Feed a.incoming, reply.Fed told) ∷ [];
       happen = (b.session, g, refl);
       own = refl;
-      outward = append-nil a.outgoing ∙ sym outgoing;
+      fronts = (([], sym (append-nil a.incoming)), tt);
       inward = sym (take-append-drop told.taken a.incoming) ∙ ap (λ (v : List ℕ). v ++ drop told.taken a.incoming) (sym (append-nil (take told.taken a.incoming)))
           ∙ ap (λ (v : List ℕ). (take told.taken a.incoming ++ []) ++ v) (sym incoming);
+      outgoing = outgoing;
       heard = refl;
     }
 
-pub loses_one : (a b : Engine) (s : Session) → s ≡ a.session → Gives in_turn s event.FeedEnd reply.Done b.session → b.incoming ≡ a.incoming → b.outgoing ≡ a.outgoing → Handles true a b
-loses_one a b s same h incoming outgoing = let g = gives_from event.FeedEnd reply.Done s b.session a.session same h in record {
+pub loses_in : (a b : Engine) (s : Session) → s ≡ a.session → Gives in_turn s event.FeedEnd reply.Done b.session → b.incoming ≡ a.incoming → b.outgoing ≡ a.outgoing → HandlesIn true a b
+loses_in a b s same h incoming outgoing = let g = gives_from event.FeedEnd reply.Done s b.session a.session same h in record {
+  events = (event.FeedEnd, reply.Done) ∷ [];
+  happen = (b.session, g, refl);
+  own = refl;
+  fronts = (tt, tt);
+  inward = sym incoming;
+  outgoing = outgoing;
+  heard = refl;
+}
+
+pub loses_out : (a b : Engine) (s : Session) → s ≡ a.session → Gives in_turn s event.FeedEnd reply.Done b.session → b.incoming ≡ a.incoming → b.outgoing ≡ a.outgoing → HandlesOut true a b
+loses_out a b s same h incoming outgoing = let g = gives_from event.FeedEnd reply.Done s b.session a.session same h in record {
   events = (event.FeedEnd, reply.Done) ∷ [];
   happen = (b.session, g, refl);
   own = refl;
   outward = append-nil a.outgoing ∙ sym outgoing;
-  inward = sym incoming;
+  incoming = incoming;
   heard = refl;
 }
 

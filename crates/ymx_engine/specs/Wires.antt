@@ -1,5 +1,5 @@
 -- What an engine and its wire move (this project's own).
-use Rattle.std.specs.Prelude.{ℕ, ◌≡◌, ◌+◌, ◌≤◌, ◌++◌, ◌∷◌, ◌||◌, List, [], take, drop, Bool, true, false, option_map}
+use Rattle.std.specs.Prelude.{ℕ, ⊤, ◌≡◌, ◌+◌, ◌≤◌, ◌++◌, ◌∷◌, ◌||◌, List, [], length, take, drop, Bool, true, false, option_map}
 use Rattle.std.specs.List.{list_all}
 use Rattle.std.specs.Io.KnownBytes.{Appends, Consumes}
 use Rattle.ymx_model.specs.declared.types.Event.{Event}
@@ -30,12 +30,19 @@ abbrev pub fed : List (Event × Reply) → List ℕ
 fed [] = []
 fed (e ∷ es) = fed_at e.0 e.1 ++ fed es
 
--- an emission, a feed, or that the peer's bytes have ended
-abbrev pub is_of_wire : Event → Bool
-is_of_wire (event.Call call) = false
-is_of_wire (event.Feed bytes) = true
-is_of_wire event.FeedEnd = true
-is_of_wire (event.Emit room) = true
+-- a feed, or that the peer's bytes have ended
+abbrev pub is_of_read : Event → Bool
+is_of_read (event.Call call) = false
+is_of_read (event.Feed bytes) = true
+is_of_read event.FeedEnd = true
+is_of_read (event.Emit room) = false
+
+-- an emission, or that the peer's bytes have ended
+abbrev pub is_of_flush : Event → Bool
+is_of_flush (event.Call call) = false
+is_of_flush (event.Feed bytes) = false
+is_of_flush event.FeedEnd = true
+is_of_flush (event.Emit room) = true
 
 -- the session heard that the peer's bytes have ended
 abbrev pub ends_feed : Event → Bool
@@ -48,40 +55,82 @@ abbrev pub has_feed_end : List (Event × Reply) → Bool
 has_feed_end [] = false
 has_feed_end (e ∷ es) = ends_feed e.0 || has_feed_end es
 
--- Nothing happened but these events of the wire. Of what waited for it and what was emitted the wire took a beginning,
--- and the rest waits; of what waited to be fed and what the wire gave the session took a beginning, and the rest
--- waits. The session heard of an end exactly if the wire said that no more bytes come, or failed.
-pub record Carries (old new : Engine) (before after : Seen) (calls : ℕ) : Type 0 where
+-- a feed offers the front of what waits
+abbrev pub OffersFront : List ℕ → Event → Type 0
+OffersFront waits (event.Feed bytes) = (rest : List ℕ) × (waits ≡ bytes ++ rest)
+OffersFront waits _ = ⊤
+
+-- Each feed offers the front of what waits, and what it takes waits no more.
+abbrev pub FeedsFront : List ℕ → List (Event × Reply) → Type 0
+FeedsFront waits [] = ⊤
+FeedsFront waits (e ∷ es) = OffersFront waits e.0 × FeedsFront (drop (length (fed_at e.0 e.1)) waits) es
+
+-- Nothing happened but these feeds, and that the session heard of an end. What the wire gave waits behind what waited
+-- before; each feed offers the front of what waits; the session took a beginning, and the rest waits. The session heard
+-- of an end exactly if the wire said that no more bytes come, or failed. Nothing went to the wire.
+pub record ReadsWire (old new : Engine) (before after : Seen) (calls : ℕ) : Type 0 where
   pub events : List (Event × Reply)
   pub happen : Happen events old.session new.session
-  pub own : list_all (λ e. is_of_wire e.0) events ≡ true
-  pub sent : List ℕ
-  pub took : Appends before.had after.had sent
-  pub outward : old.outgoing ++ emitted events ≡ sent ++ new.outgoing
+  pub own : list_all (λ e. is_of_read e.0) events ≡ true
   pub came : List ℕ
   pub gave : Consumes before.left after.left came
+  pub fronts : FeedsFront (old.incoming ++ came) events
   pub inward : old.incoming ++ came ≡ fed events ++ new.incoming
   pub said_end : Bool
   pub over : after.over ≡ option_map (λ b. b || said_end) before.over
   pub failed : Bool
   pub lost : has_feed_end events ≡ (said_end || failed)
+  pub outgoing : new.outgoing ≡ old.outgoing
+  pub had : after.had ≡ before.had
   pub ended : after.ended ≡ before.ended
   pub few : after.calls ≤ before.calls + calls
 
 -- whether the wire said that no more bytes come, and whether it failed, is known
-abbrev pub CarriesSo : (said_end failed : Bool) → (old new : Engine) → (before after : Seen) → (calls : ℕ) → Type 0
-CarriesSo said_end failed old new before after calls =
-    (moved : Carries old new before after calls) × (moved.said_end ≡ said_end) × (moved.failed ≡ failed)
+abbrev pub ReadsWireSo : (said_end failed : Bool) → (old new : Engine) → (before after : Seen) → (calls : ℕ) → Type 0
+ReadsWireSo said_end failed old new before after calls =
+    (moved : ReadsWire old new before after calls) × (moved.said_end ≡ said_end) × (moved.failed ≡ failed)
+
+-- Nothing happened but these emissions, and that the session heard of an end. Each emission waits behind what waited
+-- before; of all this the wire took a beginning, and the rest waits. The session heard of an end exactly if the wire
+-- failed. Nothing came from the wire.
+pub record FlushesWire (old new : Engine) (before after : Seen) (calls : ℕ) : Type 0 where
+  pub events : List (Event × Reply)
+  pub happen : Happen events old.session new.session
+  pub own : list_all (λ e. is_of_flush e.0) events ≡ true
+  pub sent : List ℕ
+  pub took : Appends before.had after.had sent
+  pub outward : old.outgoing ++ emitted events ≡ sent ++ new.outgoing
+  pub failed : Bool
+  pub lost : has_feed_end events ≡ failed
+  pub incoming : new.incoming ≡ old.incoming
+  pub left : after.left ≡ before.left
+  pub over : after.over ≡ before.over
+  pub ended : after.ended ≡ before.ended
+  pub few : after.calls ≤ before.calls + calls
+
+-- whether the wire failed is known
+abbrev pub FlushesWireSo : (failed : Bool) → (old new : Engine) → (before after : Seen) → (calls : ℕ) → Type 0
+FlushesWireSo failed old new before after calls = (moved : FlushesWire old new before after calls) × (moved.failed ≡ failed)
 
 -- ---- the parts of a turn
 
--- Nothing happened but these events of the wire, which was not called. `lost` says whether the session heard of an end.
-pub record Handles (lost : Bool) (old new : Engine) : Type 0 where
+-- Nothing happened but these feeds of what waited. `lost` says whether the session heard of an end.
+pub record HandlesIn (lost : Bool) (old new : Engine) : Type 0 where
   pub events : List (Event × Reply)
   pub happen : Happen events old.session new.session
-  pub own : list_all (λ e. is_of_wire e.0) events ≡ true
-  pub outward : old.outgoing ++ emitted events ≡ new.outgoing
+  pub own : list_all (λ e. is_of_read e.0) events ≡ true
+  pub fronts : FeedsFront old.incoming events
   pub inward : old.incoming ≡ fed events ++ new.incoming
+  pub outgoing : new.outgoing ≡ old.outgoing
+  pub heard : has_feed_end events ≡ lost
+
+-- Nothing happened but these emissions, which wait. `lost` says whether the session heard of an end.
+pub record HandlesOut (lost : Bool) (old new : Engine) : Type 0 where
+  pub events : List (Event × Reply)
+  pub happen : Happen events old.session new.session
+  pub own : list_all (λ e. is_of_flush e.0) events ≡ true
+  pub outward : old.outgoing ++ emitted events ≡ new.outgoing
+  pub incoming : new.incoming ≡ old.incoming
   pub heard : has_feed_end events ≡ lost
 
 -- the wire was called for bytes, and what it gave waits

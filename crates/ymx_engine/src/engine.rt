@@ -11,7 +11,7 @@ ghost use Rattle.ymx_engine.specs.Devices.{is_end, is_pull_failure, is_push_fail
 ghost use Rattle.ymx_engine.specs.Engines.{KeepsWire};
 ghost use Rattle.ymx_engine.specs.Exchanges.{Exchanges};
 ghost use Rattle.ymx_engine.specs.Refusals.{GivesUp, OpensNone, OffersNone, AcceptsNone};
-ghost use Rattle.ymx_engine.specs.Wires.{Carries, CarriesSo, Handles, TakesIn, GivesOut};
+ghost use Rattle.ymx_engine.specs.Wires.{ReadsWire, ReadsWireSo, FlushesWire, FlushesWireSo, HandlesIn, HandlesOut, TakesIn, GivesOut};
 
 use crate::block::Block;
 use crate::connection::Connection;
@@ -238,7 +238,7 @@ impl Engine {
     /// Reads from the wire once, where all that it gave before was fed, and feeds what waits. It makes at most one call
     /// of the wire. Once the wire has ended or failed the session is lost.
     pub fn read_wire<D: Device>(&mut self, wire: &mut D)
-        ensures { Carries self.old self.new (D.seen wire.old) (D.seen wire.new) 1 }
+        ensures { ReadsWire self.old self.new (D.seen wire.old) (D.seen wire.new) 1 }
     {
         if self.is_fed() {
             if self.may_pull_wire() {
@@ -266,7 +266,7 @@ impl Engine {
     /// Reads from the wire once, and feeds what came. What the wire said.
     fn pull_wire<D: Device>(&mut self, wire: &mut D) -> Pulled
         requires { self.old.incoming ≡ [] }
-        ensures { CarriesSo (is_end result) (is_pull_failure result) self.old self.new (D.seen wire.old) (D.seen wire.new) 1 }
+        ensures { ReadsWireSo (is_end result) (is_pull_failure result) self.old self.new (D.seen wire.old) (D.seen wire.new) 1 }
     {
         let pulled = self.take_from_wire(wire);
         self.hear_pulled(pulled);
@@ -283,7 +283,7 @@ impl Engine {
 
     /// What came is fed. Where no more will come the session is lost.
     fn hear_pulled(&mut self, pulled: Pulled)
-        ensures { Handles (is_end pulled || is_pull_failure pulled) self.old self.new }
+        ensures { HandlesIn (is_end pulled || is_pull_failure pulled) self.old self.new }
     {
         match pulled {
             Pulled::Gave(count) => self.feed_came(count == BLOCK),
@@ -302,7 +302,7 @@ impl Engine {
 
     /// Feeds what came. `more` says whether the wire may have more.
     fn feed_came(&mut self, more: bool)
-        ensures { Handles false self.old self.new }
+        ensures { HandlesIn false self.old self.new }
     {
         self.note_pulled(more);
         self.feed();
@@ -310,7 +310,7 @@ impl Engine {
 
     /// Feeds what waits, and queues the streams that it touches.
     fn feed(&mut self)
-        ensures { Handles false self.old self.new }
+        ensures { HandlesIn false self.old self.new }
     {
         let fed = self
             .session
@@ -325,7 +325,8 @@ impl Engine {
 
     /// The wire is no more: the session is lost.
     fn lose(&mut self)
-        ensures { Handles true self.old self.new }
+        ensures inward { HandlesIn true self.old self.new }
+        ensures outward { HandlesOut true self.old self.new }
     {
         self.is_wire_over = true;
         self.session.feed_end();
@@ -334,7 +335,7 @@ impl Engine {
 
     /// Writes what is due to the wire, in at most four calls. Once the wire has failed the session is lost.
     pub fn flush<D: Device>(&mut self, wire: &mut D)
-        ensures { Carries self.old self.new (D.seen wire.old) (D.seen wire.new) 4 }
+        ensures { FlushesWire self.old self.new (D.seen wire.old) (D.seen wire.new) 4 }
     {
         'write: for turn in 0..4u64 {
             if !self.write_once(wire) {
@@ -345,7 +346,7 @@ impl Engine {
 
     /// Writes to the wire once, where it may take bytes. Whether more may be written.
     fn write_once<D: Device>(&mut self, wire: &mut D) -> bool
-        ensures { Carries self.old self.new (D.seen wire.old) (D.seen wire.new) 1 }
+        ensures { FlushesWire self.old self.new (D.seen wire.old) (D.seen wire.new) 1 }
     {
         if !self.can_push_wire {
             return false;
@@ -360,7 +361,7 @@ impl Engine {
 
     /// Where nothing waits, what is due waits.
     fn fill_outgoing(&mut self)
-        ensures { Handles false self.old self.new }
+        ensures { HandlesOut false self.old self.new }
     {
         if self.is_sent() {
             self.emit();
@@ -370,14 +371,14 @@ impl Engine {
     /// What is due waits.
     fn emit(&mut self)
         requires { self.old.outgoing ≡ [] }
-        ensures { Handles false self.old self.new }
+        ensures { HandlesOut false self.old self.new }
     {
         self.outgoing.emit_from(&mut self.session);
     }
 
     /// Writes what waits to the wire once. What the wire said.
     fn push_wire<D: Device>(&mut self, wire: &mut D) -> Pushed
-        ensures { CarriesSo false (is_push_failure result) self.old self.new (D.seen wire.old) (D.seen wire.new) 1 }
+        ensures { FlushesWireSo (is_push_failure result) self.old self.new (D.seen wire.old) (D.seen wire.new) 1 }
     {
         let all = self.outgoing.waiting().len();
         let pushed = self.give_to_wire(wire);
@@ -396,7 +397,7 @@ impl Engine {
 
     /// What the wire said of so many bytes is heard. Where it failed the session is lost.
     fn hear_pushed(&mut self, pushed: Pushed, all: usize)
-        ensures { Handles (is_push_failure pushed) self.old self.new }
+        ensures { HandlesOut (is_push_failure pushed) self.old self.new }
     {
         self.note_pushed(pushed.count() == all);
         match pushed {

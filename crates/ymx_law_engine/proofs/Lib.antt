@@ -1,1 +1,3 @@
 pub mod Histories
+pub mod Piping
+pub mod Calling

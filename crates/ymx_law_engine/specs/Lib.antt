@@ -1,2 +1,3 @@
 pub mod Tunnels
 pub mod Example
+pub mod Pairs
