@@ -69,12 +69,6 @@ copy_repository() {
     (cd "$root" && find crates crates.txt HANDLES "$@" -name out -prune -o -type f -print | tar -cf - -T -) | tar -xf - -C "$scratch"
 }
 
-# all_pass COUNT: the tests of the crate in this folder, of which there are so many, pass; nothing is proved
-all_pass() {
-    rt try --test --seconds 900 > "$scratch/log" 2>&1 || { cat "$scratch/log"; exit 1; }
-    grep -q "^test result: ok. $1 passed; 0 failed; 0 ignored; 0 filtered out" "$scratch/log" || { cat "$scratch/log"; exit 1; }
-}
-
 # ---- processes that listen
 
 # free_port: a port that nobody listens at

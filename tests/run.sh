@@ -32,14 +32,9 @@ try 'the released program' "$root/tests/release/run.sh"
 try 'the program from outside' "$root/tests/program/run.sh"
 try 'scripts and what they print' "$root/tests/script/run.sh"
 try 'programs that must not compile' "$root/tests/must_not_compile/run.sh"
-try 'exchanges of two sessions' "$root/tests/session/run.sh"
-try 'worked examples of two sessions' "$root/tests/worlds/run.sh"
-try 'two engines and their devices' "$root/tests/engine/run.sh"
 try 'each allocation fails once' "$root/tests/no_memory/run.sh"
-try 'a running session in threads' "$root/tests/hub/run.sh"
-try 'copies that fail' "$root/tests/tunnel/run.sh"
-try 'the front door' "$root/tests/connect/run.sh"
-try 'unit tests of the program' "$root/tests/units/run.sh"
+# compiled together, as most of the time goes into what they share
+try 'sessions, engines, threads and units' "$root/tests/try_tests.sh" session worlds engine hub tunnel connect units
 try 'the C interface' "$root/tests/capi/run.sh"
 if [ "${1-}" = --all ]; then
     try 'each allocation of two sessions fails' "$root/tests/worlds/run.sh" --refuse-each

@@ -2,5 +2,4 @@
 # Joins two engines by pipes in memory, whose devices move odd pieces, fail and end.
 set -eu
 here=$(cd "$(dirname "$0")" && pwd)
-. "$here/../over.sh"
-exec "$here/../try_crate.sh" "$here" "engine_tests: ymx_engine $(below ymx_engine)"
+exec "$here/../try_tests.sh" engine

@@ -3,6 +3,4 @@
 # audited steps run by `World`.
 set -eu
 here=$(cd "$(dirname "$0")" && pwd)
-. "$here/../over.sh"
-below=$({ below ymx_pumps; below ymx_world; } | tr ' ' '\n' | sort -u | tr '\n' ' ')
-"$here/../try_crate.sh" "$here" "hub_tests tests_may=Threads+Wait: ymx_pumps ymx_world $below"
+exec "$here/../try_tests.sh" hub

@@ -4,5 +4,4 @@
 # With --refuse-each the rows are played again with each allocation refused in turn, which takes half a minute each.
 set -eu
 here=$(cd "$(dirname "$0")" && pwd)
-. "$here/../over.sh"
-"$here/../try_crate.sh" "$here" "world_examples: ymx_world $(below ymx_world)" "$@"
+exec "$here/../try_tests.sh" "$@" worlds
