@@ -123,6 +123,7 @@ holds 'what local -v says without a target' grep -q '^ymx: connection 1: .* byte
 
 holds 'both ends, frame by frame' python3 "$here/raw.py" "$ymx"
 holds 'connections beside others' python3 -B "$here/beside.py" "$ymx"
+holds 'one session after another' python3 -B "$here/kept.py" "$ymx"
 
 expect 0 "$here/help" nothing hello --help
 expect 0 "$here/local_help" nothing hello local --help

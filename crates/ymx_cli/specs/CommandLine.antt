@@ -108,13 +108,20 @@ verbose_rule = record (new_rule (codes "verbose")) {
   action = Some SetTrue;
 }
 
+-- `--keep`, a flag
+abbrev pub keep_rule : Rule
+keep_rule = record (new_rule (codes "keep")) {
+  long = Some (codes "keep");
+  action = Some SetTrue;
+}
+
 -- `local` with its addresses
 abbrev pub local_start : App
 local_start = with_rule (with_rule (new_app (codes "local")) (address_rule (codes "listen"))) (address_rule (codes "peer"))
 
 -- `local`
 abbrev pub local_shape : Shape
-local_shape = (with_rule (with_rule (with_rule local_start count_rule) window_rule) verbose_rule).top
+local_shape = (with_rule (with_rule (with_rule (with_rule local_start keep_rule) count_rule) window_rule) verbose_rule).top
 
 -- `remote` with its addresses
 abbrev pub remote_start : App
@@ -122,7 +129,7 @@ remote_start = with_rule (with_rule (new_app (codes "remote")) (address_rule (co
 
 -- `remote`
 abbrev pub remote_shape : Shape
-remote_shape = (with_rule (with_rule (with_rule remote_start window_rule) workers_rule) verbose_rule).top
+remote_shape = (with_rule (with_rule (with_rule (with_rule remote_start keep_rule) window_rule) workers_rule) verbose_rule).top
 
 -- a subcommand that takes nothing
 abbrev pub bare_shape : List ℕ → Shape
@@ -193,8 +200,8 @@ NamesAnother words = IsSomeAnd (subcommand_of ymx_app words) (λ p. (p.0 ≡ cod
 
 -- an end of a tunnel: it writes nothing to standard output
 abbrev pub IsEnd : Tunnel → Type 0
-IsEnd (tunnel.Local listen peer count window verbose) = ⊤
-IsEnd (tunnel.Remote bind target window workers verbose) = ⊤
+IsEnd (tunnel.Local listen peer count window keep verbose) = ⊤
+IsEnd (tunnel.Remote bind target window workers keep verbose) = ⊤
 IsEnd tunnel.Selftest = ⊥
 
 -- the task is an end of a tunnel
@@ -215,8 +222,8 @@ IsNotSaid text = (text ≡ None) ⊎ (text ≡ Some (codes "false"))
 
 -- no end of a tunnel that says lines
 abbrev pub IsNotVerbose : Tunnel → Type 0
-IsNotVerbose (tunnel.Local listen peer count window verbose) = verbose ≡ false
-IsNotVerbose (tunnel.Remote bind target window workers verbose) = verbose ≡ false
+IsNotVerbose (tunnel.Local listen peer count window keep verbose) = verbose ≡ false
+IsNotVerbose (tunnel.Remote bind target window workers keep verbose) = verbose ≡ false
 IsNotVerbose tunnel.Selftest = ⊤
 
 -- no task that says lines
@@ -237,19 +244,19 @@ ReadsFlag text flag = (IsNotSaid text → flag ≡ false) × (text ≡ Some (cod
 
 -- `local` is asked what its options say, of which each was given this text, or none: addresses as they stand, numbers as they are
 -- spelled, and defaults where nothing was given.
-abbrev pub IsLocalOf : (given : Text → Option Text) → (flag : Option Text) → Tunnel → Type 0
-IsLocalOf given flag (tunnel.Local listen peer count window verbose) =
+abbrev pub IsLocalOf : (given : Text → Option Text) → (flag : Text → Option Text) → Tunnel → Type 0
+IsLocalOf given flag (tunnel.Local listen peer count window keep verbose) =
     (listen.now ≡ unwrap_or (given (codes "listen")) []) × (peer.now ≡ unwrap_or (given (codes "peer")) [])
     × ReadsAs 0 4294967295 (given (codes "count")) count × ReadsOr 262144 16777216 262144 (given (codes "window")) window
-    × ReadsFlag flag verbose
-IsLocalOf given flag (tunnel.Remote bind target window workers verbose) = ⊥
+    × ReadsFlag (flag (codes "keep")) keep × ReadsFlag (flag (codes "verbose")) verbose
+IsLocalOf given flag (tunnel.Remote bind target window workers keep verbose) = ⊥
 IsLocalOf given flag tunnel.Selftest = ⊥
 
 -- the same of `remote`
-abbrev pub IsRemoteOf : (given : Text → Option Text) → (flag : Option Text) → Tunnel → Type 0
-IsRemoteOf given flag (tunnel.Remote bind target window workers verbose) =
+abbrev pub IsRemoteOf : (given : Text → Option Text) → (flag : Text → Option Text) → Tunnel → Type 0
+IsRemoteOf given flag (tunnel.Remote bind target window workers keep verbose) =
     (bind.now ≡ unwrap_or (given (codes "bind")) []) × (target.now ≡ unwrap_or (given (codes "target")) [])
     × ReadsOr 262144 16777216 262144 (given (codes "window")) window × ReadsOr 1 1024 1024 (given (codes "workers")) workers
-    × ReadsFlag flag verbose
-IsRemoteOf given flag (tunnel.Local listen peer count window verbose) = ⊥
+    × ReadsFlag (flag (codes "keep")) keep × ReadsFlag (flag (codes "verbose")) verbose
+IsRemoteOf given flag (tunnel.Local listen peer count window keep verbose) = ⊥
 IsRemoteOf given flag tunnel.Selftest = ⊥

@@ -3,7 +3,7 @@
 ghost use Rattle.std.specs.Prelude.{◌≡◌, ◌⊎◌, ◌≤◌, codes, false, IfOk, IfSome, IsErr, MatchResult};
 ghost use Rattle.clap.specs.Words.{app_of, first_value, found_of, one_text, rows_of, rule_of, shape_of};
 ghost use Rattle.clap.specs.declared.builder.command.Command.TheViews.{out-Command as fields_of};
-ghost use Rattle.ymx_cli.specs.CommandLine.{IsBad, IsBadEnd, IsEnd, IsLocalOf, IsNotSaid, IsNotVerbose, IsRemoteOf, ReadsOr, address_rule, count_rule, local_shape, local_start, remote_shape, remote_start, verbose_rule, window_rule, workers_rule};
+ghost use Rattle.ymx_cli.specs.CommandLine.{IsBad, IsBadEnd, IsEnd, IsLocalOf, IsNotSaid, IsNotVerbose, IsRemoteOf, ReadsOr, address_rule, count_rule, keep_rule, local_shape, local_start, remote_shape, remote_start, verbose_rule, window_rule, workers_rule};
 ghost use Rattle.ymx_cli.specs.Messages.{IsUntouched, change_of};
 
 use crate::arguments::{BadNumber, number_argument, number_of, titled};
@@ -31,6 +31,7 @@ pub(crate) enum Tunnel<'a> {
         peer: &'a str,
         count: Option<u32>,
         window: u32,
+        is_kept: bool,
         is_verbose: bool,
     },
     /// `remote`.
@@ -39,6 +40,7 @@ pub(crate) enum Tunnel<'a> {
         target: &'a str,
         window: u32,
         workers: u32,
+        is_kept: bool,
         is_verbose: bool,
     },
     /// `selftest`.
@@ -67,7 +69,7 @@ fn asked_local<'a>(found: &ArgMatches<'a>) -> Result<Tunnel<'a>, BadNumber<'a>>
     ensures silent { IsNotSaid (one_text (found_of found.now) (codes "verbose")) → IfOk result IsNotVerbose }
     ensures count { IsBad 0 4294967295 (first_value (found_of found.now) (codes "count")) → IsErr result }
     ensures window { IsBad 262144 16777216 (first_value (found_of found.now) (codes "window")) → IsErr result }
-    ensures read { MatchResult result (IsLocalOf (first_value (found_of found.now)) (one_text (found_of found.now) (codes "verbose")))
+    ensures read { MatchResult result (IsLocalOf (first_value (found_of found.now)) (one_text (found_of found.now)))
         (λ _. IsBad 0 4294967295 (first_value (found_of found.now) (codes "count")) ⊎ IsBad 262144 16777216 (first_value (found_of found.now) (codes "window"))) }
 {
     let count = number_of(found, "count", 0, u32::MAX)?;
@@ -77,6 +79,7 @@ fn asked_local<'a>(found: &ArgMatches<'a>) -> Result<Tunnel<'a>, BadNumber<'a>>
         peer: found.get_str("peer").unwrap_or(""),
         count,
         window,
+        is_kept: found.get_flag("keep"),
         is_verbose: found.get_flag("verbose"),
     })
 }
@@ -87,7 +90,7 @@ fn asked_remote<'a>(found: &ArgMatches<'a>) -> Result<Tunnel<'a>, BadNumber<'a>>
     ensures silent { IsNotSaid (one_text (found_of found.now) (codes "verbose")) → IfOk result IsNotVerbose }
     ensures window { IsBad 262144 16777216 (first_value (found_of found.now) (codes "window")) → IsErr result }
     ensures workers { IsBad 1 1024 (first_value (found_of found.now) (codes "workers")) → IsErr result }
-    ensures read { MatchResult result (IsRemoteOf (first_value (found_of found.now)) (one_text (found_of found.now) (codes "verbose")))
+    ensures read { MatchResult result (IsRemoteOf (first_value (found_of found.now)) (one_text (found_of found.now)))
         (λ _. IsBad 262144 16777216 (first_value (found_of found.now) (codes "window")) ⊎ IsBad 1 1024 (first_value (found_of found.now) (codes "workers"))) }
 {
     let window = window_of(found)?;
@@ -97,6 +100,7 @@ fn asked_remote<'a>(found: &ArgMatches<'a>) -> Result<Tunnel<'a>, BadNumber<'a>>
         target: found.get_str("target").unwrap_or(""),
         window,
         workers: workers.unwrap_or(DEFAULT_WORKERS),
+        is_kept: found.get_flag("keep"),
         is_verbose: found.get_flag("verbose"),
     })
 }
@@ -115,6 +119,10 @@ pub(crate) fn local_command<'a>(alloc: Global) -> Result<Command<'a>, AllocError
     ensures { IfOk result (λ command. (shape_of command ≡ local_shape) × ((fields_of command).has_globals ≡ false)) }
 {
     local_addresses(alloc)?
+        .arg(keep_argument(
+            alloc,
+            "Call the peer again at the next connection, once it was lost",
+        ))?
         .arg(count_argument(alloc))?
         .arg(window_argument(alloc))?
         .arg(verbose_argument(alloc))
@@ -143,6 +151,7 @@ pub(crate) fn remote_command<'a>(alloc: Global) -> Result<Command<'a>, AllocErro
     ensures { IfOk result (λ command. (shape_of command ≡ remote_shape) × ((fields_of command).has_globals ≡ false)) }
 {
     remote_addresses(alloc)?
+        .arg(keep_argument(alloc, "Take the next peer once one has gone"))?
         .arg(window_argument(alloc))?
         .arg(workers_argument(alloc))?
         .arg(verbose_argument(alloc))
@@ -171,6 +180,16 @@ fn address<'a>(alloc: Global, name: &'a str, help: &'a str) -> Arg<'a>
         .value_name("ADDRESS")
         .action(ArgAction::Set)
         .required(true)
+        .help(help)
+}
+
+/// The argument `--keep`, a flag.
+fn keep_argument<'a>(alloc: Global, help: &'a str) -> Arg<'a>
+    ensures { (rule_of result ≡ keep_rule) × (result.global ≡ false) }
+{
+    Arg::new(alloc, "keep")
+        .long("keep")
+        .action(ArgAction::SetTrue)
         .help(help)
 }
 
@@ -232,6 +251,7 @@ fn verbose_argument<'a>(alloc: Global) -> Arg<'a>
 /// What the help of `local` says at its end.
 const LOCAL_HELP: &str =
     "It connects to the peer, and then listens. An address is an IPv4 address and a port.
+With --keep it goes on once the connection to its peer has ended.
 
 Example:
   ymx local --listen 127.0.0.1:8080 --peer 192.0.2.7:4000";
@@ -239,6 +259,7 @@ Example:
 /// What the help of `remote` says at its end.
 const REMOTE_HELP: &str =
     "It accepts one connection, and ends with it. An address is an IPv4 address and a port.
+With --keep it goes on with the next one, and never ends by itself.
 
 Example:
   ymx remote --bind 192.0.2.7:4000 --target 127.0.0.1:80";
@@ -263,6 +284,7 @@ pub(crate) fn run_tunnel<
             peer,
             count,
             window,
+            is_kept,
             is_verbose,
         } => {
             let Some(listen) = read_address(listen, errors) else {
@@ -276,6 +298,7 @@ pub(crate) fn run_tunnel<
                 peer,
                 count,
                 window,
+                is_kept,
                 is_verbose,
             };
             run_local(rt, alloc, local, errors, lines)
@@ -285,6 +308,7 @@ pub(crate) fn run_tunnel<
             target,
             window,
             workers,
+            is_kept,
             is_verbose,
         } => {
             let Some(bind) = read_address(bind, errors) else {
@@ -298,6 +322,7 @@ pub(crate) fn run_tunnel<
                 target,
                 window,
                 workers,
+                is_kept,
                 is_verbose,
             };
             run_remote(rt, alloc, remote, errors, lines)

@@ -2,6 +2,7 @@
 //! run one end of a tunnel over them, and say what went wrong.
 #![tactic(auto)]
 
+mod keeping;
 mod programs;
 mod selftest;
 mod sockets;

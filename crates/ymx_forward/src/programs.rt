@@ -3,13 +3,14 @@
 ghost use Rattle.std.specs.Prelude.{◌≡◌, ◌≤◌, false};
 ghost use Rattle.std.specs.Io.KnownBytes.{Keeps};
 
+use crate::keeping::{keep_local, keep_remote};
 use crate::sockets::{connect, listen};
 use crate::tell::{cannot_listen, cannot_reach, lacks_memory, session_broken};
-use crate::watching::Notices;
+use crate::watching::{Notices, ProgramWatcher};
 use std::alloc::Global;
 use std::net::{Net, SocketAddr, TcpListener, TcpStream};
 use std::sync::Wait;
-use ymx_loop::{Forwarded, TunnelSide, Unwatched, Watcher, forward};
+use ymx_loop::{Forwarded, Station, TunnelSide, Unwatched};
 use ymx_model::Outlet;
 
 /// What `ymx local` is asked.
@@ -23,6 +24,8 @@ pub struct Local {
     pub count: Option<u32>,
     /// How many bytes of a stream may be unread here, 262,144 to 16,777,216.
     pub window: u32,
+    /// Whether it calls its peer again, once a session was lost and the next connection comes.
+    pub is_kept: bool,
     /// Whether it says that it is ready, and how each connection ended.
     pub is_verbose: bool,
 }
@@ -38,6 +41,8 @@ pub struct Remote {
     pub window: u32,
     /// How many streams are served at once.
     pub workers: u32,
+    /// Whether it takes the next peer once one has gone.
+    pub is_kept: bool,
     /// Whether it says that it is ready, and how each connection ended.
     pub is_verbose: bool,
 }
@@ -55,46 +60,38 @@ pub fn run_local<R: Net<Stream = TcpStream, Listener = TcpListener> + Wait, E: O
     ensures good { result ≡ 0 → Keeps (E.contents errors.old) (E.contents errors.new) }
     ensures silent { asked.is_verbose ≡ false → Keeps (L.contents lines.old) (L.contents lines.new) }
 {
+    if asked.is_verbose {
+        local_end(rt, alloc, asked, &mut Notices::new(lines), errors)
+    } else {
+        local_end(rt, alloc, asked, &mut Unwatched, errors)
+    }
+}
+
+/// Connects to the peer, and forwards each connection that comes as a stream. Answers the exit status.
+fn local_end<
+    R: Net<Stream = TcpStream, Listener = TcpListener> + Wait,
+    V: ProgramWatcher,
+    E: Outlet,
+>(rt: &R, alloc: Global, asked: Local, watcher: &mut V, errors: &mut E) -> u8
+    ensures status { result ≤ 1 }
+    ensures good { result ≡ 0 → Keeps (E.contents errors.old) (E.contents errors.new) }
+{
     let Some(connection) = connect(rt, asked.peer) else {
         return cannot_reach(alloc, asked.peer, errors);
     };
     let Some(listener) = listen(rt, asked.listen) else {
         return cannot_listen(alloc, asked.listen, errors);
     };
-    if !asked.is_verbose {
-        return forward_out(
-            rt,
-            alloc,
-            connection,
-            listener,
-            asked,
-            &mut Unwatched,
-            errors,
-        );
-    }
-    let mut watcher = Notices::new(lines);
     watcher.listening(&listener, asked.listen);
-    forward_out(rt, alloc, connection, listener, asked, &mut watcher, errors)
-}
-
-/// Forwards each connection that comes as a stream. Answers the exit status.
-fn forward_out<R: Net + Wait, V: Watcher, E: Outlet>(
-    rt: &R,
-    alloc: Global,
-    connection: TcpStream,
-    listener: TcpListener,
-    asked: Local,
-    watcher: &mut V,
-    errors: &mut E,
-) -> u8
-    ensures status { result ≤ 1 }
-    ensures good { result ≡ 0 → Keeps (E.contents errors.old) (E.contents errors.new) }
-{
-    let side = TunnelSide::Local {
-        listener,
-        count: asked.count,
+    let count = asked.count;
+    let side = TunnelSide::Local { listener, count };
+    let Some(mut station) = Station::new(rt, side, asked.is_kept) else {
+        return lacks_memory(errors);
     };
-    let forwarded = forward(rt, alloc, connection, side, asked.window, watcher);
+    if asked.is_kept {
+        return keep_local(rt, alloc, connection, &mut station, asked, watcher, errors);
+    }
+    let forwarded = station.forward(rt, alloc, connection, asked.window, watcher);
     report(alloc, asked.listen, forwarded, errors)
 }
 
@@ -111,40 +108,47 @@ pub fn run_remote<R: Net<Stream = TcpStream, Listener = TcpListener> + Wait, E: 
     ensures good { result ≡ 0 → Keeps (E.contents errors.old) (E.contents errors.new) }
     ensures silent { asked.is_verbose ≡ false → Keeps (L.contents lines.old) (L.contents lines.new) }
 {
-    let Some(listener) = listen(rt, asked.bind) else {
-        return cannot_listen(alloc, asked.bind, errors);
-    };
-    if !asked.is_verbose {
-        return forward_in(rt, alloc, listener, asked, &mut Unwatched, errors);
+    if asked.is_verbose {
+        remote_end(rt, alloc, asked, &mut Notices::new(lines), errors)
+    } else {
+        remote_end(rt, alloc, asked, &mut Unwatched, errors)
     }
-    let mut watcher = Notices::new(lines);
-    watcher.listening(&listener, asked.bind);
-    forward_in(rt, alloc, listener, asked, &mut watcher, errors)
 }
 
 /// Accepts one connection of a peer, so that others are refused, and connects each of its streams to the target. Answers
 /// the exit status.
-fn forward_in<R: Net + Wait, V: Watcher, E: Outlet>(
-    rt: &R,
-    alloc: Global,
-    listener: TcpListener,
-    asked: Remote,
-    watcher: &mut V,
-    errors: &mut E,
-) -> u8
+fn remote_end<
+    R: Net<Stream = TcpStream, Listener = TcpListener> + Wait,
+    V: ProgramWatcher,
+    E: Outlet,
+>(rt: &R, alloc: Global, asked: Remote, watcher: &mut V, errors: &mut E) -> u8
     ensures status { result ≤ 1 }
     ensures good { result ≡ 0 → Keeps (E.contents errors.old) (E.contents errors.new) }
 {
+    let Some(listener) = listen(rt, asked.bind) else {
+        return cannot_listen(alloc, asked.bind, errors);
+    };
+    watcher.listening(&listener, asked.bind);
+    if asked.is_kept {
+        return keep_remote(rt, alloc, listener, asked, watcher, errors);
+    }
     let Ok((connection, _)) = listener.accept() else {
         return cannot_listen(alloc, asked.bind, errors);
     };
     drop(listener);
-    let side = TunnelSide::Remote {
+    let Some(mut station) = Station::new(rt, remote_side(asked), false) else {
+        return lacks_memory(errors);
+    };
+    let forwarded = station.forward(rt, alloc, connection, asked.window, watcher);
+    report(alloc, asked.bind, forwarded, errors)
+}
+
+/// The side that `remote` serves.
+pub(crate) fn remote_side(asked: Remote) -> TunnelSide {
+    TunnelSide::Remote {
         target: asked.target,
         workers: asked.workers,
-    };
-    let forwarded = forward(rt, alloc, connection, side, asked.window, watcher);
-    report(alloc, asked.bind, forwarded, errors)
+    }
 }
 
 /// Says what went wrong, if anything did, and answers the exit status: of a failed accept, a broken session and want
@@ -156,6 +160,15 @@ fn report<E: Outlet>(alloc: Global, address: SocketAddr, forwarded: Forwarded, e
     if forwarded.accept_failed {
         return cannot_listen(alloc, address, errors);
     }
+    report_session(alloc, forwarded, errors)
+}
+
+/// Says what went wrong in a session, if anything did, and answers the exit status: of a broken session and want of
+/// memory the first.
+pub(crate) fn report_session<E: Outlet>(alloc: Global, forwarded: Forwarded, errors: &mut E) -> u8
+    ensures status { result ≤ 1 }
+    ensures good { result ≡ 0 → Keeps (E.contents errors.old) (E.contents errors.new) }
+{
     if let Some(fault) = forwarded.broken {
         return session_broken(alloc, fault.number(), errors);
     }

@@ -1,6 +1,10 @@
 //! Connections and listeners of the system.
 
+use std::io::ErrorKind;
 use std::net::{Net, SocketAddr, TcpListener, TcpStream};
+
+/// How often an accept whose connection went away meanwhile is made again in a row.
+const RETRIES: u32 = 1_024;
 
 /// Connects to this address. What is written goes out at once. `None` if it can't.
 pub(crate) fn connect<R: Net<Stream = TcpStream>>(
@@ -20,4 +24,16 @@ pub(crate) fn listen<R: Net<Stream = TcpStream, Listener = TcpListener>>(
     address: SocketAddr,
 ) -> Option<TcpListener> {
     TcpListener::bind(rt, address).ok()
+}
+
+/// Accepts one connection, after which nobody listens. `None` if it can't.
+pub(crate) fn accept(listener: TcpListener) -> Option<TcpStream> {
+    for _ in 0..RETRIES {
+        match listener.accept() {
+            Ok((stream, _)) => return Some(stream),
+            Err(e) if e.kind() == ErrorKind::ConnectionAborted => {}
+            Err(_) => return None,
+        }
+    }
+    None
 }

@@ -4,7 +4,7 @@ use arrayvec::ArrayString;
 use std::fmt::Write;
 use std::net::{SocketAddr, TcpListener};
 use ymx_frames::push_all;
-use ymx_loop::{EndedConnection, Ending, Watcher};
+use ymx_loop::{EndedConnection, Ending, Unwatched, Watcher};
 use ymx_model::{CallFault, Outlet};
 
 /// Room for the longest line, in bytes: that of a connection with the greatest numbers has 159.
@@ -12,6 +12,26 @@ const LINE: usize = 192;
 
 /// A line, which takes no memory.
 type Line = ArrayString<LINE>;
+
+/// Who is told of what a program does besides.
+pub(crate) trait ProgramWatcher: Watcher {
+    /// It listens here, and was asked to listen at this address.
+    fn listening(&mut self, listener: &TcpListener, asked: SocketAddr);
+
+    /// A session with a peer begins, after which another may come.
+    fn came(&mut self);
+
+    /// That session has ended.
+    fn gone(&mut self);
+}
+
+impl ProgramWatcher for Unwatched {
+    fn listening(&mut self, _listener: &TcpListener, _asked: SocketAddr) {}
+
+    fn came(&mut self) {}
+
+    fn gone(&mut self) {}
+}
 
 /// Says that a tunnel is ready, and how each of its connections ended, a line each. Where the device fails the line is
 /// lost, and nobody is told.
@@ -26,18 +46,16 @@ impl<'a, L: Outlet> Notices<'a, L> {
         Notices { device }
     }
 
-    /// Says where a tunnel listens that was asked to listen at this address. At port 0 the system chose a port, which
-    /// is said.
-    pub(crate) fn listening(&mut self, listener: &TcpListener, asked: SocketAddr) {
-        let address = listener.local_addr().unwrap_or(asked);
-        let mut line = Line::new();
-        let _ = writeln!(line, "ymx: listening at {address}");
-        self.say(&line);
-    }
-
     /// Says a line.
     fn say(&mut self, line: &Line) {
         let _ = push_all(&mut *self.device, line.as_str().as_bytes());
+    }
+
+    /// Says this text as a line.
+    fn say_text(&mut self, text: &str) {
+        let mut line = Line::new();
+        let _ = writeln!(line, "{text}");
+        self.say(&line);
     }
 }
 
@@ -48,6 +66,24 @@ impl<L: Outlet> Watcher for Notices<'_, L> {
 
     fn refused(&mut self, number: u64, fault: CallFault) {
         self.say(&refusal_line(number, fault));
+    }
+}
+
+impl<L: Outlet> ProgramWatcher for Notices<'_, L> {
+    /// At port 0 the system chose a port, which is said.
+    fn listening(&mut self, listener: &TcpListener, asked: SocketAddr) {
+        let address = listener.local_addr().unwrap_or(asked);
+        let mut line = Line::new();
+        let _ = writeln!(line, "ymx: listening at {address}");
+        self.say(&line);
+    }
+
+    fn came(&mut self) {
+        self.say_text("ymx: the peer has come");
+    }
+
+    fn gone(&mut self) {
+        self.say_text("ymx: the peer has gone");
     }
 }
 

@@ -7,9 +7,11 @@ mod closing;
 mod forwarding;
 mod sides;
 mod socket;
+mod station;
 mod tunnel;
 mod watching;
 
 pub use forwarding::forward;
 pub use sides::{Forwarded, TunnelSide};
+pub use station::Station;
 pub use watching::{EndedConnection, Ending, Passed, Unwatched, Watcher};

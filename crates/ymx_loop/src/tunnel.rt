@@ -1,8 +1,8 @@
 //! The type `Tunnel`: what is done between two looks at the events.
 
-use crate::accepting::Listening;
-use crate::sides::{Forwarded, TunnelSide};
+use crate::sides::Forwarded;
 use crate::socket::Socket;
+use crate::station::{LISTENER, Side, Station};
 use crate::watching::{EndedConnection, Ending, Watcher};
 use indexmap::IndexMap;
 use mio::event::Event;
@@ -20,9 +20,6 @@ use ymx_session::Session;
 /// The wire's token.
 const WIRE: usize = 0;
 
-/// The listener's token.
-const LISTENER: usize = 1;
-
 /// The token of the stream 0, if there were one. An id is never given twice, so an event that comes late is of a stream
 /// that is no more.
 const STREAMS: usize = 2;
@@ -33,14 +30,8 @@ const ACCEPTS: u32 = 64;
 /// How many bytes of connections are taken at most before they are written to the wire.
 const UNWRITTEN: u64 = 131_072;
 
-/// Where connections come from, or where they go to.
-#[derive(Drop)]
-enum Side {
-    /// They come from a listener.
-    Local(Listening),
-    /// They go to a target, so many at once.
-    Remote { target: SocketAddr, places: usize },
-}
+/// How many seconds in a row nothing may move where a session was lost and another follows.
+const PATIENCE: u32 = 10;
 
 /// A connection that is joined to a stream.
 #[derive(Drop)]
@@ -51,49 +42,44 @@ struct Joined {
 
 /// The tunnel of one end: its engine, and the sockets that are the engine's wire and devices.
 #[derive(Drop)]
-pub(crate) struct Tunnel {
+pub(crate) struct Tunnel<'a> {
     engine: Engine,
-    poll: Poll,
+    station: &'a mut Station,
     wire: Socket,
-    side: Side,
     joined: IndexMap<u32, Joined>,
-    /// How many connections have begun.
-    begun: u64,
     /// How many bytes connections have given since the wire was last written to.
     unwritten: u64,
     /// The wire's end is near: a short read does not say that nothing is left.
     is_wire_closing: bool,
     /// The connections were told that the session was lost.
     is_loss_told: bool,
+    /// How many seconds went by since anything moved, after the session was lost.
+    silent_seconds: u32,
     /// Somewhere no memory was found.
     lacked_memory: bool,
 }
 
-impl Tunnel {
+impl<'a> Tunnel<'a> {
     // ---- how it begins
 
     /// A tunnel that has moved nothing. None where there is no memory for it.
-    pub(crate) fn new<R: Net>(
-        rt: &R,
+    pub(crate) fn new(
         alloc: Global,
         connection: net::TcpStream,
-        side: TunnelSide,
+        station: &'a mut Station,
         window: u32,
-    ) -> Option<Tunnel> {
-        let engine = new_engine(alloc, role_of(&side), window)?;
-        let poll = Poll::new(rt).ok()?;
-        let wire = wire_of(connection, &poll).ok()?;
-        let side = listen(side, &poll).ok()?;
+    ) -> Option<Tunnel<'a>> {
+        let engine = new_engine(alloc, role_of(&station.side), window)?;
+        let wire = wire_of(connection, &station.poll).ok()?;
         Some(Tunnel {
             engine,
-            poll,
+            station,
             wire,
-            side,
             joined: IndexMap::new(alloc),
-            begun: 0,
             unwritten: 0,
             is_wire_closing: false,
             is_loss_told: false,
+            silent_seconds: 0,
             lacked_memory: false,
         })
     }
@@ -107,12 +93,17 @@ impl Tunnel {
         events: &mut Events,
         watcher: &mut V,
     ) {
+        self.begin_waiting(watcher);
         for _ in rt.forever() {
             if self.is_over() {
                 return;
             }
             if self.await_events(events).is_err() {
                 self.give_up_all(watcher);
+                return;
+            }
+            if self.is_to_be_followed() && self.silent_seconds >= PATIENCE {
+                self.leave_all(watcher);
                 return;
             }
             self.take_turn(rt, watcher);
@@ -122,12 +113,18 @@ impl Tunnel {
 
     /// Waits for events, unless something can be done without one, and notes what they say.
     fn await_events(&mut self, events: &mut Events) -> io::Result<()> {
-        let timeout = if self.has_work() {
-            Some(Duration::ZERO)
-        } else {
-            None
+        let is_waiting = !self.has_work();
+        let timeout = match (is_waiting, self.is_to_be_followed()) {
+            (false, _) => Some(Duration::ZERO),
+            (true, true) => Some(Duration::from_secs(1)),
+            (true, false) => None,
         };
-        self.poll.poll(events, timeout)?;
+        self.station.poll.poll(events, timeout)?;
+        self.silent_seconds = if is_waiting && events.is_empty() {
+            self.silent_seconds.saturating_add(1)
+        } else {
+            0
+        };
         for event in events.iter() {
             self.note(event);
         }
@@ -147,8 +144,8 @@ impl Tunnel {
 
     /// Whether something can be done with no event.
     fn has_work(&self) -> bool {
-        let accepts = match &self.side {
-            Side::Local(listening) => listening.may_accept(),
+        let accepts = match &self.station.side {
+            Side::Local(listening) => listening.may_accept() && !self.is_to_be_followed(),
             Side::Remote { places, .. } => {
                 self.joined.len() < *places && self.engine.offered_count() > 0
             }
@@ -158,8 +155,8 @@ impl Tunnel {
 
     /// Whether this side and all its connections have ended, and nothing more goes over the wire.
     fn is_over(&self) -> bool {
-        let is_side_over = match &self.side {
-            Side::Local(listening) => listening.is_over(),
+        let is_side_over = match &self.station.side {
+            Side::Local(listening) => listening.is_over() || self.is_to_be_followed(),
             Side::Remote { .. } => self.is_lost() && self.engine.offered_count() == 0,
         };
         is_side_over
@@ -172,6 +169,11 @@ impl Tunnel {
         self.engine.status() != Status::Running
     }
 
+    /// Whether the session is over, and another one follows.
+    fn is_to_be_followed(&self) -> bool {
+        self.station.is_kept && self.is_lost()
+    }
+
     // ---- events
 
     /// Notes what an event says.
@@ -180,7 +182,7 @@ impl Tunnel {
         if token == WIRE {
             self.note_wire(event);
         } else if token == LISTENER {
-            if let Side::Local(listening) = &mut self.side {
+            if let Side::Local(listening) = &mut self.station.side {
                 listening.note_event();
             }
         } else if let Ok(id) = u32::try_from(token - STREAMS) {
@@ -212,10 +214,20 @@ impl Tunnel {
 
     // ---- connections that come
 
-    /// Opens a stream for each connection that waits.
+    /// Opens a stream for the connection that came while there was no session.
+    fn begin_waiting<V: Watcher>(&mut self, watcher: &mut V) {
+        if let Some(stream) = self.station.waiting.take() {
+            self.begin_local(stream, watcher);
+        }
+    }
+
+    /// Opens a stream for each connection that waits. Those that come for the next session are left to it.
     fn accept_connections<V: Watcher>(&mut self, watcher: &mut V) {
+        if self.is_to_be_followed() {
+            return;
+        }
         for _ in 0..ACCEPTS {
-            let Side::Local(listening) = &mut self.side else {
+            let Side::Local(listening) = &mut self.station.side else {
                 return;
             };
             if !listening.may_accept() {
@@ -231,7 +243,7 @@ impl Tunnel {
     /// Opens a stream for a connection. Once the session is lost the connection is closed, and it is the last one
     /// unless others are counted on.
     fn begin_local<V: Watcher>(&mut self, stream: TcpStream, watcher: &mut V) {
-        let number = self.next_number();
+        let number = self.station.next_number();
         if self.is_lost() {
             self.stop_endless();
         }
@@ -254,7 +266,7 @@ impl Tunnel {
 
     /// Accepts no more connections, if as many are accepted as come.
     fn stop_endless(&mut self) {
-        if let Side::Local(listening) = &mut self.side {
+        if let Side::Local(listening) = &mut self.station.side {
             if listening.is_endless() {
                 listening.stop();
             }
@@ -265,7 +277,7 @@ impl Tunnel {
 
     /// Begins a connection to the target for each stream that waits, as far as there are places.
     fn accept_streams<R: Net, V: Watcher>(&mut self, rt: &R, watcher: &mut V) {
-        let Side::Remote { target, places } = self.side else {
+        let Side::Remote { target, places } = self.station.side else {
             return;
         };
         for _ in 0..self.engine.offered_count() {
@@ -287,7 +299,7 @@ impl Tunnel {
         target: SocketAddr,
         watcher: &mut V,
     ) {
-        let number = self.next_number();
+        let number = self.station.next_number();
         let Ok(stream) = TcpStream::connect(rt, target) else {
             self.engine_refuse(id);
             let ended = EndedConnection::of_nothing(Ending::ConnectionFailed);
@@ -302,18 +314,16 @@ impl Tunnel {
         }
     }
 
-    /// The number of a connection that begins.
-    fn next_number(&mut self) -> u64 {
-        self.begun = self.begun.saturating_add(1);
-        self.begun
-    }
-
     /// Joins a connection to its stream. False where there is no memory for it.
     fn join(&mut self, id: u32, number: u64, socket: Socket) -> bool {
         let mut socket = socket;
         let token = Token((id as usize) + STREAMS);
         let both = Interest::READABLE | Interest::WRITABLE;
-        let registered = self.poll.registry().register(socket.source(), token, both);
+        let registered = self
+            .station
+            .poll
+            .registry()
+            .register(socket.source(), token, both);
         registered.is_ok() && self.joined.insert(id, Joined { number, socket }).is_ok()
     }
 
@@ -397,6 +407,16 @@ impl Tunnel {
         }
     }
 
+    /// Lets go of all connections of a session that was lost.
+    fn leave_all<V: Watcher>(&mut self, watcher: &mut V) {
+        for _ in 0..self.joined.len() {
+            if let Some((id, _)) = self.joined.get_index(0) {
+                let id = *id;
+                self.forget(id, watcher);
+            }
+        }
+    }
+
     /// Nothing can be waited for any more: lets go of all connections.
     fn give_up_all<V: Watcher>(&mut self, watcher: &mut V) {
         self.lacked_memory = true;
@@ -448,10 +468,7 @@ impl Tunnel {
     /// How it has ended.
     pub(crate) fn forwarded(&self) -> Forwarded {
         Forwarded {
-            accept_failed: match &self.side {
-                Side::Local(listening) => listening.has_failed(),
-                Side::Remote { .. } => false,
-            },
+            accept_failed: self.station.accept_failed(),
             broken: match self.engine.status() {
                 Status::Broken(fault) => Some(fault),
                 _ => None,
@@ -460,10 +477,10 @@ impl Tunnel {
         }
     }
 
-    /// The wire, with what waits for its events.
-    pub(crate) fn into_wire(self) -> (Poll, Socket) {
-        let Tunnel { poll, wire, .. } = self;
-        (poll, wire)
+    /// The wire.
+    pub(crate) fn into_wire(self) -> Socket {
+        let Tunnel { wire, .. } = self;
+        wire
     }
 }
 
@@ -473,10 +490,10 @@ fn serve_device(engine: &mut Engine, id: u32, socket: &mut Socket) {
 }
 
 /// The role of a side in the session.
-fn role_of(side: &TunnelSide) -> Role {
+fn role_of(side: &Side) -> Role {
     match side {
-        TunnelSide::Local { .. } => Role::Client,
-        TunnelSide::Remote { .. } => Role::Server,
+        Side::Local(_) => Role::Client,
+        Side::Remote { .. } => Role::Server,
     }
 }
 
@@ -494,18 +511,4 @@ fn wire_of(connection: net::TcpStream, poll: &Poll) -> io::Result<Socket> {
     let both = Interest::READABLE | Interest::WRITABLE;
     poll.registry().register(wire.source(), Token(WIRE), both)?;
     Ok(wire)
-}
-
-/// Where the connections of this side come from, or where they go to.
-fn listen(side: TunnelSide, poll: &Poll) -> io::Result<Side> {
-    match side {
-        TunnelSide::Local { listener, count } => {
-            let listening = Listening::new(listener, count, poll.registry(), Token(LISTENER))?;
-            Ok(Side::Local(listening))
-        }
-        TunnelSide::Remote { target, workers } => Ok(Side::Remote {
-            target,
-            places: (workers as usize).max(1),
-        }),
-    }
 }
