@@ -1,6 +1,7 @@
 //! Streams that are handed out, with a seat for each half.
 
-ghost use Rattle.std.specs.Prelude.{◌≡◌, [], IfOk};
+ghost use Rattle.std.specs.Prelude.{◌≡◌, ◌⊎◌, ◌+◌, ◌^◌, ◌<◌, ◌≤◌, [], IfOk, IfErr, OnOk};
+ghost use Rattle.indexmap.specs.IndexSet.{spare, IsUnchanged};
 ghost use Rattle.ymx_session.specs.Replies.{opened_or, opened_with_or, accepted_or};
 ghost use Rattle.ymx_seats.specs.Slips.{told_by, bytes_told};
 ghost use Rattle.ymx_held.specs.Booked.{Gains, Opens, OpensWith, AcceptsOnce};
@@ -8,6 +9,7 @@ ghost use Rattle.ymx_held.specs.Steps.{StepsOpened, StepsOpenedWith, StepsAccept
 
 use crate::faults::{HubFault, hub_fault};
 use crate::held::Held;
+use indexmap::IndexSet;
 use ymx_model::CallFault;
 use ymx_seats::{Ask, Recorder, Seat, Tell};
 
@@ -23,11 +25,8 @@ impl<R: Recorder> Held<R> {
         ensures steps { StepsOpened R.KEEPS seat.old.number result self.old self.new }
         ensures empty { IfOk result (λ made. (made.1.entries ≡ []) × (made.2.entries ≡ [])) }
     {
-        if self.given > u32::MAX - 2 {
-            return Err(HubFault::Seats);
-        }
-        if self.half_spent.reserve(self.unspent + 1).is_err() {
-            return Err(HubFault::Memory);
+        if let Err(fault) = make_room(self.given, self.unspent, &mut self.half_spent) {
+            return Err(fault);
         }
         let Ok(slip) = self.log.prepare(self.alloc, seat, Ask::Open, 0, 1) else {
             return Err(HubFault::Memory);
@@ -62,11 +61,8 @@ impl<R: Recorder> Held<R> {
         ensures steps { StepsOpenedWith bytes.now R.KEEPS seat.old.number result self.old self.new }
         ensures empty { IfOk result (λ made. (made.2.entries ≡ []) × (made.3.entries ≡ [])) }
     {
-        if self.given > u32::MAX - 2 {
-            return Err(HubFault::Seats);
-        }
-        if self.half_spent.reserve(self.unspent + 1).is_err() {
-            return Err(HubFault::Memory);
+        if let Err(fault) = make_room(self.given, self.unspent, &mut self.half_spent) {
+            return Err(fault);
         }
         let ask = Ask::OpenWith(bytes);
         let Ok(slip) = self.log.prepare(self.alloc, seat, ask, 0, 1) else {
@@ -101,11 +97,8 @@ impl<R: Recorder> Held<R> {
         ensures booked { Gains R.KEEPS seat.old.entries seat.new.entries (AcceptsOnce seat.old.number result) }
         ensures steps { StepsAccepted R.KEEPS seat.old.number result self.old self.new }
     {
-        if self.given > u32::MAX - 2 {
-            return Err(HubFault::Seats);
-        }
-        if self.half_spent.reserve(self.unspent + 1).is_err() {
-            return Err(HubFault::Memory);
+        if let Err(fault) = make_room(self.given, self.unspent, &mut self.half_spent) {
+            return Err(fault);
         }
         let Ok(slip) = self.log.prepare(self.alloc, seat, Ask::Accept, 0, 1) else {
             return Err(HubFault::Memory);
@@ -130,5 +123,23 @@ impl<R: Recorder> Held<R> {
                 Err(hub_fault(fault))
             }
         }
+    }
+}
+
+/// Makes room for one stream more of which a half is spent, where so many have both halves unspent. `Seats` where no two
+/// seats more can be given, of which so many were, and `Memory` where there is none.
+fn make_room(given: u32, unspent: usize, half_spent: &mut IndexSet<u32>) -> Result<(), HubFault>
+    requires { unspent + 1 < 2 ^ 64 }
+    ensures keys { IsUnchanged half_spent.old half_spent.new }
+    ensures keeps { spare half_spent.old ≤ spare half_spent.new }
+    ensures room { OnOk result ((given + 2 < 2 ^ 32) × (unspent + 1 ≤ spare half_spent.new)) }
+    ensures refused { IfErr result (λ fault. (fault ≡ HubFault.Memory) ⊎ ((fault ≡ HubFault.Seats) × (2 ^ 32 ≤ given + 2))) }
+{
+    if given > u32::MAX - 2 {
+        return Err(HubFault::Seats);
+    }
+    match half_spent.reserve(unspent + 1) {
+        Ok(()) => Ok(()),
+        Err(_) => Err(HubFault::Memory),
     }
 }

@@ -4,7 +4,7 @@ ghost use Rattle.std.specs.Prelude.{◌≡◌};
 ghost use Rattle.ymx_held.specs.Booked.{Gains};
 ghost use Rattle.ymx_hub.specs.Halves.{AcceptsHalves};
 
-use crate::halves::{ReadHalf, WriteHalf};
+use crate::halves::{ReadHalf, WriteHalf, both_halves, hub_twice};
 use crate::hub::Hub;
 use std::alloc::Global;
 use std::marker::Model;
@@ -54,20 +54,14 @@ impl<R: Recorder> Acceptor<R> {
         ensures start { self.new.start ≡ self.old.start }
         ensures booked { Gains R.KEEPS self.old.entries self.new.entries (AcceptsHalves self.old.number result) }
     {
-        let Ok(one) = Arc::try_clone(&self.hub) else {
+        let Some(hubs) = hub_twice(&self.hub) else {
             return Err(HubFault::Memory);
         };
-        let Ok(other) = Arc::try_clone(&self.hub) else {
-            return Err(HubFault::Memory);
-        };
-        let (id, writer, reader) = match self.hub.accept(rt, &mut self.seat) {
+        let offer = match self.hub.accept(rt, &mut self.seat) {
             Ok(Some(offer)) => offer,
             Ok(None) => return Ok(None),
             Err(fault) => return Err(fault),
         };
-        Ok(Some((
-            WriteHalf::new(one, writer, id),
-            ReadHalf::new(other, reader, id),
-        )))
+        Ok(Some(both_halves(hubs, offer)))
     }
 }

@@ -112,11 +112,20 @@ pub(crate) fn await_bell<'a, W: Wait, T>(
 
 /// Takes a lock. A hold is short, so it is worth while to try for a moment.
 pub(crate) fn take_lock<'a, W: Wait, T>(rt: &W, mutex: &'a Mutex<T>) -> MutexGuard<'a, T> {
+    match try_for_a_moment(mutex) {
+        Some(guard) => guard,
+        None => mutex.lock(rt),
+    }
+}
+
+/// Tries a lock for a moment.
+fn try_for_a_moment<T>(mutex: &Mutex<T>) -> Option<MutexGuard<'_, T>> {
     for _ in 0..TRIES {
-        if let Some(guard) = mutex.try_lock() {
-            return guard;
+        let tried = mutex.try_lock();
+        if tried.is_some() {
+            return tried;
         }
         thread::yield_now();
     }
-    mutex.lock(rt)
+    None
 }

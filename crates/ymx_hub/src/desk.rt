@@ -1,8 +1,16 @@
 //! What stands under the lock.
 
+ghost use Rattle.std.specs.Prelude.{◌≡◌, ◌<◌, ◌≤◌, length, drop, false, IfOk, IsOk, MatchResult};
+ghost use Rattle.ymx_model.specs.declared.types.Event.TheVariants as event;
+ghost use Rattle.ymx_machine.specs.declared.types.Reply.TheVariants as reply;
+ghost use Rattle.ymx_session.specs.Replies.{wrote_or, read_or, got_count};
+ghost use Rattle.ymx_held.specs.Answers.{IsNotMemory, GivesSome, took_count};
+ghost use Rattle.ymx_held.specs.Booked.{Gains, Asks, Does, to_write, to_read};
+
 use crate::bells::Waiters;
-use ymx_held::Held;
-use ymx_seats::Recorder;
+use ymx_held::{Held, HubFault};
+use ymx_model::{Fed, Got, Wrote};
+use ymx_seats::{Recorder, Seat};
 use ymx_session::Touched;
 
 /// The session with its log, and who waits for what.
@@ -31,6 +39,66 @@ impl<R: Recorder> Desk<R> {
             is_mute: false,
             has_lacked_memory: false,
         }
+    }
+
+    /// Feeds bytes that came from the peer, and notes the streams that they touch.
+    pub(crate) fn feed(&mut self, seat: &mut Seat<R>, bytes: &[u8]) -> Result<Fed, HubFault>
+        ensures number { seat.new.number ≡ seat.old.number }
+        ensures start { seat.new.start ≡ seat.old.start }
+        ensures booked { Gains R.KEEPS seat.old.entries seat.new.entries (Does (event.Feed bytes.now) reply.Fed seat.old.number result) }
+        ensures within { IfOk result (λ fed. fed.taken ≤ length bytes.now) }
+        ensures off { R.KEEPS ≡ false → IsOk result }
+    {
+        self.touched.clear();
+        let fed = self.held.feed(seat, bytes, &mut self.touched);
+        if let Ok(fed) = fed
+            && fed.no_memory > 0
+        {
+            self.has_lacked_memory = true;
+        }
+        fed
+    }
+
+    /// Reads from a stream, and notes who will wait where there is nothing to read.
+    pub(crate) fn read(
+        &mut self,
+        seat: &mut Seat<R>,
+        id: u32,
+        buffer: &mut [u8],
+    ) -> Result<Got, HubFault>
+        ensures number { seat.new.number ≡ seat.old.number }
+        ensures start { seat.new.start ≡ seat.old.start }
+        ensures booked { Gains R.KEEPS seat.old.entries seat.new.entries (Asks (to_read id (length buffer.old)) (λ given. read_or given buffer.new) seat.old.number result) }
+        ensures within { IfOk result (λ got. got_count got ≤ length buffer.old) }
+        ensures length { length buffer.new ≡ length buffer.old }
+        ensures rest { MatchResult result (λ got. drop (got_count got) buffer.new ≡ drop (got_count got) buffer.old) (λ fault. buffer.new ≡ buffer.old) }
+        ensures some { 0 < length buffer.old → IfOk result GivesSome }
+        ensures off { R.KEEPS ≡ false → IsNotMemory result }
+    {
+        let got = self.held.read(seat, id, buffer);
+        if let Ok(Got::Wait) = got {
+            self.waiters.add_reader(id);
+        }
+        got
+    }
+
+    /// Writes to a stream, and notes who will wait where there is no credit.
+    pub(crate) fn write(
+        &mut self,
+        seat: &mut Seat<R>,
+        id: u32,
+        bytes: &[u8],
+    ) -> Result<Wrote, HubFault>
+        ensures number { seat.new.number ≡ seat.old.number }
+        ensures start { seat.new.start ≡ seat.old.start }
+        ensures booked { Gains R.KEEPS seat.old.entries seat.new.entries (Asks (to_write id bytes.now) wrote_or seat.old.number result) }
+        ensures within { IfOk result (λ wrote. took_count wrote ≤ length bytes.now) }
+    {
+        let wrote = self.held.write(seat, id, bytes);
+        if let Ok(Wrote::Wait) = wrote {
+            self.waiters.add_writer(id);
+        }
+        wrote
     }
 
     /// Takes those whom the last feed concerns, before which so many streams were offered.

@@ -14,6 +14,36 @@ use std::sync::{Arc, Wait};
 use ymx_held::HubFault;
 use ymx_seats::{Recorder, Seat};
 
+/// The hub twice.
+pub(crate) type HubTwice<R> = (Arc<Hub<R>, Global>, Arc<Hub<R>, Global>);
+
+/// The hub twice, for the two halves of a stream. `None` where there is no memory to count it.
+pub(crate) fn hub_twice<R: Recorder>(hub: &Arc<Hub<R>, Global>) -> Option<HubTwice<R>> {
+    let Ok(one) = Arc::try_clone(hub) else {
+        return None;
+    };
+    match Arc::try_clone(hub) {
+        Ok(other) => Some((one, other)),
+        Err(_) => None,
+    }
+}
+
+/// Both halves of a stream, of which its id and the seats of its halves are given.
+pub(crate) fn both_halves<R: Recorder>(
+    hubs: HubTwice<R>,
+    given: (u32, Seat<R>, Seat<R>),
+) -> (WriteHalf<R>, ReadHalf<R>)
+    ensures writer { (result.0.id ≡ given.0) × (result.0.seat ≡ given.1) }
+    ensures reader { (result.1.id ≡ given.0) × (result.1.seat ≡ given.2) }
+{
+    let (one, other) = hubs;
+    let (id, writer, reader) = given;
+    (
+        WriteHalf::new(one, writer, id),
+        ReadHalf::new(other, reader, id),
+    )
+}
+
 /// The writing half of a stream. It must be spent, by `finish` or `reset`: it cannot be dropped. Whoever spends the
 /// second half of a stream gives the stream up too.
 pub struct WriteHalf<R: Recorder> {

@@ -7,8 +7,9 @@ ghost use Rattle.ymx_held.specs.Booked.{Gains, Does};
 ghost use Rattle.ymx_hub.specs.Pumped.{EmitsOnce, emitted_count};
 
 use crate::awaiting::{await_bell, take_lock};
+use crate::desk::Desk;
 use crate::hub::Hub;
-use std::sync::Wait;
+use std::sync::{MutexGuard, Wait};
 use ymx_held::HubFault;
 use ymx_model::{Fed, Status, Why};
 use ymx_seats::{Recorder, Seat};
@@ -34,24 +35,36 @@ impl<R: Recorder> Hub<R> {
         ensures within { IfOk result (λ fed. fed.taken ≤ length bytes.now) }
         ensures off { R.KEEPS ≡ false → IsOk result }
     {
-        let mut guard = take_lock(rt, &self.desk);
-        let desk = &mut *guard;
+        let mut desk = take_lock(rt, &self.desk);
         let was_due = desk.held.due();
         let offered = desk.held.offered_count();
-        desk.touched.clear();
-        let fed = desk.held.feed(seat, bytes, &mut desk.touched)?;
-        if fed.no_memory > 0 {
-            desk.has_lacked_memory = true;
+        match desk.feed(seat, bytes) {
+            Ok(fed) => {
+                self.wake_concerned(desk, fed.why, was_due, offered);
+                Ok(fed)
+            }
+            Err(fault) => Err(fault),
         }
+    }
+
+    /// Gives up the lock, and wakes whom the last feed concerns, before which so many streams were offered: all, once
+    /// the session no longer runs.
+    fn wake_concerned(
+        &self,
+        desk: MutexGuard<'_, Desk<R>>,
+        why: Why,
+        was_due: bool,
+        offered_before: usize,
+    ) {
+        let mut desk = desk;
         if desk.held.status() != Status::Running {
-            self.wake_all(guard);
-            return Ok(fed);
+            self.wake_all(desk);
+            return;
         }
-        desk.is_full = fed.why == Why::Held;
-        let woken = desk.take_concerned(offered);
-        self.let_go(guard, was_due);
+        desk.is_full = why == Why::Held;
+        let woken = desk.take_concerned(offered_before);
+        self.let_go(desk, was_due);
         self.bells.ring(&woken);
-        Ok(fed)
     }
 
     /// The peer's bytes have ended: wakes all who wait. `Memory`, and nothing is done, where there is none for the

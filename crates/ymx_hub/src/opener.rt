@@ -4,7 +4,7 @@ ghost use Rattle.std.specs.Prelude.{◌≡◌};
 ghost use Rattle.ymx_held.specs.Booked.{Gains};
 ghost use Rattle.ymx_hub.specs.Halves.{OpensHalves, OpensHalvesWith};
 
-use crate::halves::{ReadHalf, WriteHalf};
+use crate::halves::{ReadHalf, WriteHalf, both_halves, hub_twice};
 use crate::hub::Hub;
 use std::alloc::Global;
 use std::marker::Model;
@@ -53,17 +53,13 @@ impl<R: Recorder> Opener<R> {
         ensures start { self.new.start ≡ self.old.start }
         ensures booked { Gains R.KEEPS self.old.entries self.new.entries (OpensHalves self.old.number result) }
     {
-        let Ok(one) = Arc::try_clone(&self.hub) else {
+        let Some(hubs) = hub_twice(&self.hub) else {
             return Err(HubFault::Memory);
         };
-        let Ok(other) = Arc::try_clone(&self.hub) else {
-            return Err(HubFault::Memory);
-        };
-        let (id, writer, reader) = self.hub.open(rt, &mut self.seat)?;
-        Ok((
-            WriteHalf::new(one, writer, id),
-            ReadHalf::new(other, reader, id),
-        ))
+        match self.hub.open(rt, &mut self.seat) {
+            Ok(opened) => Ok(both_halves(hubs, opened)),
+            Err(fault) => Err(fault),
+        }
     }
 
     /// Opens a stream with these first bytes, and says how many of them were taken: the first 262,144 at most. It is
@@ -77,17 +73,15 @@ impl<R: Recorder> Opener<R> {
         ensures start { self.new.start ≡ self.old.start }
         ensures booked { Gains R.KEEPS self.old.entries self.new.entries (OpensHalvesWith bytes.now self.old.number result) }
     {
-        let Ok(one) = Arc::try_clone(&self.hub) else {
+        let Some(hubs) = hub_twice(&self.hub) else {
             return Err(HubFault::Memory);
         };
-        let Ok(other) = Arc::try_clone(&self.hub) else {
-            return Err(HubFault::Memory);
-        };
-        let (id, taken, writer, reader) = self.hub.open_with(rt, &mut self.seat, bytes)?;
-        Ok((
-            WriteHalf::new(one, writer, id),
-            ReadHalf::new(other, reader, id),
-            taken,
-        ))
+        match self.hub.open_with(rt, &mut self.seat, bytes) {
+            Ok((id, taken, one, other)) => {
+                let (writer, reader) = both_halves(hubs, (id, one, other));
+                Ok((writer, reader, taken))
+            }
+            Err(fault) => Err(fault),
+        }
     }
 }

@@ -75,14 +75,13 @@ impl<R: Recorder> Hub<R> {
         let mut desk = take_lock(rt, &self.desk);
         for _ in rt.forever() {
             let was_due = desk.held.due();
-            match desk.held.read(seat, id, buffer) {
+            match desk.read(seat, id, buffer) {
                 Ok(Got::Bytes(count)) => {
                     self.let_go(desk, was_due);
                     return Ok(count);
                 }
                 Ok(Got::End) => return Ok(0),
                 Ok(Got::Wait) => {
-                    desk.waiters.add_reader(id);
                     desk = await_bell(rt, self.bells.reader(id), &self.bells.reading, desk);
                 }
                 Err(fault) => return Err(fault),
@@ -108,7 +107,7 @@ impl<R: Recorder> Hub<R> {
         let mut desk = take_lock(rt, &self.desk);
         for _ in rt.forever() {
             let was_due = desk.held.due();
-            match desk.held.write(seat, id, &bytes[taken..]) {
+            match desk.write(seat, id, &bytes[taken..]) {
                 Ok(Wrote::Took(count)) => {
                     taken += count;
                     if taken == bytes.len() {
@@ -118,7 +117,6 @@ impl<R: Recorder> Hub<R> {
                     self.tell_due(was_due, desk.held.due());
                 }
                 Ok(Wrote::Wait) => {
-                    desk.waiters.add_writer(id);
                     desk = await_bell(rt, self.bells.writer(id), &self.bells.writing, desk);
                 }
                 Err(fault) => return Err(WriteFault { taken, fault }),
