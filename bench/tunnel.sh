@@ -1,7 +1,9 @@
 #!/bin/sh
 # Measures the tunnel over TCP on the loopback: a client, `ymx local`, `ymx remote` and an echo server; the same
 # with Go's yamux in place of ymx, and with plain copying in place of yamux. Medians of five runs, in turn. The
-# client compares what comes back. Needs Go, as tests/interop/run.sh does. With a number it makes so many runs.
+# client compares what comes back. Then it times 64 bytes there and back, 500 times one after another: alone, beside
+# 1,000 idle connections, and beside 63 busy ones. Needs Go, as tests/interop/run.sh does. With a number it makes so
+# many runs.
 set -eu
 top=$(cd "$(dirname "$0")/.." && pwd)
 "$top/ymx" --version > /dev/null
@@ -107,4 +109,67 @@ for name, count, at_once, size in CASES:
         else:
             speed = f"{count / seconds:,.0f} connections a second"
         print(f"  {kind}: {speed}; {processor:.2f} s of processor, {memory:.0f} MiB at most in one process")
+
+EXCHANGES = 500
+BESIDE = [
+    ("64 bytes there and back, alone", 0, 0),
+    ("64 bytes there and back, beside 1,000 idle connections", 1000, 0),
+    ("64 bytes there and back, beside 63 busy connections", 0, 63),
+]
+
+
+def exchange(one):
+    """64 bytes go there and come back."""
+    one.sendall(bytes(64))
+    left = 64
+    while left:
+        came = len(one.recv(left))
+        if came == 0:
+            raise SystemExit("a connection ended before its bytes had come back")
+        left -= came
+
+
+def connected(address):
+    """A connection that has carried bytes both ways."""
+    host, port = address.rsplit(":", 1)
+    one = socket.create_connection((host, int(port)))
+    one.setsockopt(socket.IPPROTO_TCP, socket.TCP_NODELAY, 1)
+    exchange(one)
+    return one
+
+
+def measure_exchanges(kind, idle, busy):
+    """The median of an exchange in milliseconds, and the largest resident memory of one process in MiB."""
+    echo = Process([peer, "echo", "-at", ANY])
+    near, far = tunnel(kind, echo)
+    words = [peer, "load", "-at", near.address, "-count", str(busy), "-at-once", str(busy), "-size", str(1 << 40)]
+    load = subprocess.Popen(words, stdout=subprocess.DEVNULL) if busy else None
+    others = [connected(near.address) for _ in range(idle)]
+    time.sleep(0.5)
+    times = []
+    with connected(near.address) as one:
+        for _ in range(EXCHANGES):
+            began = time.perf_counter()
+            exchange(one)
+            times.append((time.perf_counter() - began) * 1000)
+    memory = max(near.cost()[1], far.cost()[1])
+    if load:
+        load.kill()
+        load.wait()
+    for each in others:
+        each.close()
+    for each in near, far, echo:
+        each.stop()
+    return statistics.median(times), memory
+
+
+for name, idle, busy in BESIDE:
+    print(name)
+    figures = {"ymx": [], "Go": [], "plain copying": []}
+    for _ in range(runs):
+        for kind in figures:
+            figures[kind].append(measure_exchanges(kind, idle, busy))
+    for kind, taken in figures.items():
+        wait, memory = (statistics.median(column) for column in zip(*taken))
+        print(f"  {kind}: {wait:.2f} ms; {memory:.0f} MiB at most in one process")
 PYTHON
