@@ -2,6 +2,7 @@
 
 ghost use Rattle.std.specs.Prelude.{◌≡◌, None, IfOk, IfErr, IfSome};
 ghost use Rattle.ymx_session.specs.NewSessions.{new_fault};
+ghost use Rattle.ymx_seats.specs.Transcripts.{IsNew};
 ghost use Rattle.ymx_connect.specs.Connecting.{IsConnectFault, IsSpared, Answered};
 
 use crate::connect_fault::ConnectFault;
@@ -9,7 +10,7 @@ use crate::ended::{Connected, Ended};
 use crate::handle::Handle;
 use crate::pumping::{Buffer, PumpedIn, PumpedOut, pump_in, pump_out};
 use crate::tcp::{ConnectionReader, ConnectionWriter};
-use std::alloc::Global;
+use std::alloc::{AllocError, Global};
 use std::net::TcpStream;
 use std::sync::{Arc, Wait};
 use std::thread;
@@ -104,18 +105,20 @@ fn prepare(alloc: Global, role: Role, config: Config) -> Result<Prepared, Connec
         Ok(session) => session,
         Err(fault) => return Err(ConnectFault::Session(fault)),
     };
-    let Ok(into) = Buffer::for_reading(alloc) else {
-        return Err(ConnectFault::Memory);
-    };
-    let Ok(out_of) = Buffer::for_writing(alloc) else {
-        return Err(ConnectFault::Memory);
-    };
-    let Ok(hub) = Hub::new(alloc, session, Off) else {
-        return Err(ConnectFault::Memory);
-    };
-    let Ok(handle) = Handle::new(alloc, &hub) else {
-        return Err(ConnectFault::Memory);
-    };
+    match surround(alloc, session) {
+        Ok(prepared) => Ok(prepared),
+        Err(_) => Err(ConnectFault::Memory),
+    }
+}
+
+/// What stands round a session before the pumps run.
+fn surround(alloc: Global, session: Session) -> Result<Prepared, AllocError>
+    requires { IsNew session }
+{
+    let hub = Hub::new(alloc, session, Off)?;
+    let handle = Handle::new(alloc, &hub)?;
+    let into = Buffer::for_reading(alloc)?;
+    let out_of = Buffer::for_writing(alloc)?;
     Ok(Prepared {
         hub,
         handle,

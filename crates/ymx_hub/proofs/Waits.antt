@@ -1,10 +1,11 @@
 -- Calls that wait: what their turns add.
-use Rattle.std.proofs.Common.{◌≡◌, ℕ, List, [], ◌∷◌, ◌++◌, Bool, true, false, refl, ap, ◌∙◌, append_assoc, arith, Result, Ok, Err, subst, inr}
+use Rattle.std.proofs.Common.{◌≡◌, ℕ, List, [], ◌∷◌, ◌++◌, Bool, true, false, refl, ap, ◌∙◌, append_assoc, arith, take, Result, Ok, Err, subst, inl, inr}
 use Rattle.std.proofs.lemmas.Grind.{common_steps}
 use Rattle.ymx_model.specs.declared.types.Entry.{Entry}
 use Rattle.ymx_model.specs.declared.types.Event.{Event}
 use Rattle.ymx_machine.specs.declared.types.Reply.{Reply}
-use Rattle.ymx_machine.specs.declared.types.Reply.TheVariants.{Pinged, Ponged, ReadWait, ReadEnd}
+use Rattle.ymx_machine.specs.declared.types.Reply.TheVariants.{Pinged, Ponged, Read, ReadWait, ReadEnd, Refused}
+use Rattle.ymx_model.specs.declared.types.Got.{Got}
 use Rattle.ymx_model.specs.declared.types.Got.TheVariants as got
 use Rattle.ymx_session.specs.Replies.{ponged_or, read_or}
 use Rattle.ymx_held.specs.declared.faults.HubFault.{HubFault}
@@ -83,3 +84,22 @@ pub read_end : (keeps : Bool) (before mid after : List Entry) (seat m id size mo
 read_end keeps before mid after seat m id size more buffer g e r h =
     turns_end keeps before mid after seat (to_read id size) ReadWait (ReadsLast id size buffer seat (Ok 0)) g
     (gains_weaker keeps mid after (One m (to_read id more) ReadEnd) (ReadsLast id size buffer seat (Ok 0)) (λ es o. end_by seat m id size more buffer es e r o) h)
+
+bytes_by : (seat m id size more n : ℕ) (buffer : List ℕ) (ds : List Entry) → m ≡ seat → more ≡ size → One m (to_read id more) (Read (take n buffer)) ds → ReadsLast id size buffer seat (Ok n) ds
+bytes_by seat m id size more n buffer ds e r o =
+    inl (subst (λ (k : ℕ). One k (to_read id size) (Read (take n buffer)) ds) e (subst (λ (k : ℕ). One m (to_read id k) (Read (take n buffer)) ds) r o))
+
+pub read_bytes : (keeps : Bool) (before mid after : List Entry) (seat m id size more n : ℕ) (buffer : List ℕ) → Gains keeps before mid (AreWaits seat (to_read id size) ReadWait) → m ≡ seat → more ≡ size → Gains keeps mid after (Asks (to_read id more) (λ given. read_or given buffer) m (Ok (got.Bytes n))) → Gains keeps before after (ReadTurns id size buffer seat (Ok n))
+read_bytes keeps before mid after seat m id size more n buffer g e r h =
+    turns_end keeps before mid after seat (to_read id size) ReadWait (ReadsLast id size buffer seat (Ok n)) g
+    (gains_weaker keeps mid after (One m (to_read id more) (Read (take n buffer))) (ReadsLast id size buffer seat (Ok n)) (λ es o. bytes_by seat m id size more n buffer es e r o) h)
+
+refused_by : (seat m id size more : ℕ) (buffer : List ℕ) (fault : HubFault) (ds : List Entry) → m ≡ seat → more ≡ size → Asks {A = Got} (to_read id more) (λ given. read_or given buffer) m (Err fault) ds → ReadsLast id size buffer seat (Err fault) ds
+refused_by seat m id size more buffer fault ds e r (inl none) = inl none
+refused_by seat m id size more buffer fault ds e r (inr (why, f, o)) =
+    inr (why, f, subst (λ (k : ℕ). One k (to_read id size) (Refused why) ds) e (subst (λ (k : ℕ). One m (to_read id k) (Refused why) ds) r o))
+
+pub read_refused : (keeps : Bool) (before mid after : List Entry) (seat m id size more : ℕ) (buffer : List ℕ) (fault : HubFault) → Gains keeps before mid (AreWaits seat (to_read id size) ReadWait) → m ≡ seat → more ≡ size → Gains keeps mid after (Asks {A = Got} (to_read id more) (λ given. read_or given buffer) m (Err fault)) → Gains keeps before after (ReadTurns id size buffer seat (Err fault))
+read_refused keeps before mid after seat m id size more buffer fault g e r h =
+    turns_end keeps before mid after seat (to_read id size) ReadWait (ReadsLast id size buffer seat (Err fault)) g
+    (gains_weaker keeps mid after (Asks {A = Got} (to_read id more) (λ given. read_or given buffer) m (Err fault)) (ReadsLast id size buffer seat (Err fault)) (λ es a. refused_by seat m id size more buffer fault es e r a) h)

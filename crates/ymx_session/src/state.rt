@@ -65,18 +65,22 @@ impl State {
         requires widest { window ≤ widest_window }
         ensures { IfOk result (λ state. state ≡ new_session role window first) }
     {
+        let offered = Backlog::new(alloc)?;
+        let pings = Pings::new(alloc)?;
+        let answers = Answers::new(alloc)?;
+        let outgoing = FrameBuffer::new(alloc)?;
         Ok(State {
             alloc,
             role,
             status: Status::Running,
             next: first,
             table: Table::new(alloc, window),
-            offered: Backlog::new(alloc)?,
-            pings: Pings::new(alloc)?,
+            offered,
+            pings,
             away: Away::new(),
             alarm: false,
-            answers: Answers::new(alloc)?,
-            outgoing: FrameBuffer::new(alloc)?,
+            answers,
+            outgoing,
             arriving: Arriving::new(window),
         })
     }
