@@ -14,11 +14,12 @@ use Rattle.ymx_model.specs.session.Emissions.{in_turn}
 use Rattle.ymx_model.specs.session.Histories.{Gives}
 use Rattle.ymx_engine.specs.declared.device.Pulled.{Pulled}
 use Rattle.ymx_engine.specs.declared.device.Pushed.{Pushed}
+use Rattle.std.specs.Prelude.{option_map}
 use Rattle.ymx_engine.specs.Devices.{Seen, pulled_count, pushed_count, is_end, is_pull_failure, is_push_failure}
 use Rattle.ymx_engine.specs.Events.{Happen}
 use Rattle.ymx_engine.specs.Engines.{Engine}
 use Rattle.ymx_engine.specs.Wires.{emitted_at, emitted, is_of_flush, ends_feed, has_feed_end, FeedsFront, ReadsWire, ReadsWireSo, FlushesWire, FlushesWireSo, HandlesIn, HandlesOut, TakesIn, GivesOut}
-use Rattle.ymx_engine.proofs.Exchanging.{happen_then, or_same}
+use Rattle.ymx_engine.proofs.Exchanging.{happen_then, or_same, or_twice}
 
 emitted_then : (es fs : List (Event × Reply)) → emitted (es ++ fs) ≡ emitted es ++ emitted fs
 emitted_then [] fs = refl
@@ -41,8 +42,9 @@ flushes_then a b c p q r n m x y = record {
   sent = x.sent ++ y.sent;
   took = Appends-trans p.had q.had r.had _ _ x.took y.took;
   outward = ap (λ (v : List ℕ). a.outgoing ++ v) (emitted_then x.events y.events) ∙ waits_on a.outgoing b.outgoing c.outgoing (emitted x.events) x.sent (emitted y.events) y.sent x.outward y.outward;
-  failed = x.failed || y.failed;
-  lost = feed_end_then x.events y.events ∙ ap (λ (b : Bool). b || has_feed_end y.events) x.lost ∙ ap (λ (b : Bool). x.failed || b) y.lost;
+  fails = x.fails || y.fails;
+  failed = y.failed ∙ ap (option_map (λ b. b || y.fails)) x.failed ∙ or_twice x.fails y.fails p.failed;
+  lost = feed_end_then x.events y.events ∙ ap (λ (b : Bool). b || has_feed_end y.events) x.lost ∙ ap (λ (b : Bool). x.fails || b) y.lost;
   incoming = y.incoming ∙ x.incoming;
   left = y.left ∙ x.left;
   over = y.over ∙ x.over;
@@ -58,6 +60,7 @@ flushes_more a b p q n m le x = record {
   sent = x.sent;
   took = x.took;
   outward = x.outward;
+  fails = x.fails;
   failed = x.failed;
   lost = x.lost;
   incoming = x.incoming;
@@ -75,7 +78,8 @@ flushes_same a d n = record {
   sent = [];
   took = Appends-nil d.had;
   outward = append-nil a.outgoing;
-  failed = false;
+  fails = false;
+  failed = or_same d.failed;
   lost = refl;
   incoming = refl;
   left = refl;
@@ -95,7 +99,8 @@ reads_same a d n = record {
   inward = append-nil a.incoming;
   said_end = false;
   over = or_same d.over;
-  failed = false;
+  fails = false;
+  failed = or_same d.failed;
   lost = refl;
   outgoing = refl;
   had = refl;
@@ -141,7 +146,8 @@ reads_handled a b d n x = record {
   inward = append-nil a.incoming ∙ x.inward;
   said_end = false;
   over = or_same d.over;
-  failed = false;
+  fails = false;
+  failed = or_same d.failed;
   lost = x.heard;
   outgoing = x.outgoing;
   had = refl;
@@ -157,7 +163,8 @@ flushes_handled a b d n x = record {
   sent = [];
   took = Appends-nil d.had;
   outward = x.outward;
-  failed = false;
+  fails = false;
+  failed = or_same d.failed;
   lost = x.heard;
   incoming = x.incoming;
   left = refl;
@@ -180,7 +187,8 @@ pulled_heard r a b c d e none t x =
       inward = now ∙ x.inward;
       said_end = is_end r;
       over = t.pulled.over;
-      failed = is_pull_failure r;
+      fails = is_pull_failure r;
+      failed = t.pulled.failed;
       lost = x.heard;
       outgoing = x.outgoing ∙ t.outgoing;
       had = t.pulled.had;
@@ -200,7 +208,8 @@ pushed_heard r a b c d e g x =
       took = g.pushed.took;
       outward = ap (λ (v : List ℕ). v ++ emitted x.events) (sym (take-append-drop n a.outgoing)) ∙ append_assoc (take n a.outgoing) (drop n a.outgoing) (emitted x.events)
           ∙ ap (λ (v : List ℕ). take n a.outgoing ++ (v ++ emitted x.events)) (sym g.outgoing) ∙ ap (λ (v : List ℕ). take n a.outgoing ++ v) x.outward;
-      failed = is_push_failure r;
+      fails = is_push_failure r;
+      failed = g.pushed.failed;
       lost = x.heard;
       incoming = x.incoming ∙ g.incoming;
       left = g.pushed.left;

@@ -1,5 +1,5 @@
 -- How exchanges begin, and go on.
-use Rattle.std.proofs.Common.{◌≡◌, ◌⊎◌, inl, inr, ℕ, ◌+◌, ◌≤◌, ◌==◌, ◌||◌, List, [], ◌∷◌, ◌++◌, length, take, Bool, true, false, Option, None, Some, refl, sym, ap, ◌∙◌, subst, arith, append-nil, append_assoc, length-append}
+use Rattle.std.proofs.Common.{◌≡◌, ◌⊎◌, inl, inr, ℕ, ◌+◌, ◌≤◌, ◌<◌, ◌==◌, ◌||◌, List, [], ◌∷◌, ◌++◌, length, take, Bool, true, false, Option, None, Some, refl, sym, ap, ◌∙◌, subst, arith, append-nil, append_assoc, length-append}
 use Rattle.std.specs.Prelude.{option_map, IfSome}
 use Rattle.std.specs.Io.KnownBytes.{Appends, Consumes, IsAtEnd}
 use Rattle.std.proofs.KnownBytes.{Appends-nil, Appends-trans, Consumes-nil, Consumes-trans}
@@ -18,9 +18,9 @@ use Rattle.ymx_engine.specs.declared.device.Pulled.{Pulled}
 use Rattle.ymx_engine.specs.declared.device.Pulled.TheVariants as pulled
 use Rattle.ymx_engine.specs.declared.device.Pushed.{Pushed}
 use Rattle.ymx_engine.specs.declared.device.Pushed.TheVariants as pushed
-use Rattle.ymx_engine.specs.Devices.{Seen, pulled_count, pushed_count, is_end, IsPulled, IsPushed, IsEnded, IsShut}
+use Rattle.ymx_engine.specs.Devices.{Seen, pulled_count, pushed_count, is_end, is_pull_failure, is_push_failure, IsPulled, IsPushed, IsEnded, IsShut}
 use Rattle.ymx_engine.specs.Events.{Happen, is_on, taken_at, taken, bytes_of, given_at, given, is_read_end, ends_at, has_end, finishes_at, has_finish, resets_at, has_reset}
-use Rattle.ymx_engine.specs.Exchanges.{Exchange, Exchanges, ExchangesOnce}
+use Rattle.ymx_engine.specs.Exchanges.{has_bytes, Exchange, Exchanges, ExchangesOnce}
 
 -- ---- lists of events
 
@@ -53,10 +53,6 @@ reset_then id (e ∷ es) fs = ap (λ (b : Bool). resets_at id e.0 || b) (reset_t
 or_none : (b : Bool) → (b || false) ≡ b
 or_none true = refl
 or_none false = refl
-
-or_right : (a b : Bool) → b ≡ true → (a || b) ≡ true
-or_right true b h = refl
-or_right false b h = h
 
 or_cases : (a b : Bool) → (a || b) ≡ true → (a ≡ true) ⊎ (b ≡ true)
 or_cases true b h = inl refl
@@ -140,15 +136,15 @@ exchange_then id s t u a b c lost x y =
           ∙ ap (λ (v : Bool). option_map (λ b. b || v) a.over) (sym (finish_then id es fs));
       ended = y.ended ∙ ap (option_map (λ b. b || has_end id fs)) x.ended ∙ or_twice (has_end id es) (has_end id fs) a.ended
           ∙ ap (λ (v : Bool). option_map (λ b. b || v) a.ended) (sym (end_then id es fs));
-      reset = elim (y.reset) [
-        | inl none ↦ inl none
-        | inr was ↦ inr (reset_then id es fs ∙ or_right (has_reset id es) (has_reset id fs) was)
-      ];
+      fails = x.fails || y.fails;
+      failed = y.failed ∙ ap (option_map (λ b. b || y.fails)) x.failed ∙ or_twice x.fails y.fails a.failed;
+      reset = reset_then id es fs ∙ ap (λ (v : Bool). v || has_reset id fs) (x.reset ∙ or_none x.fails) ∙ ap (λ (v : Bool). x.fails || v) y.reset
+          ∙ sym (or_assoc x.fails y.fails (has_bytes lost));
     }
 
 -- nothing happened, and the device moved nothing
-pub exchange_none : (id : ℕ) (s : Session) (a b : Seen) → Consumes a.left b.left [] → Appends a.had b.had [] → b.over ≡ a.over → b.ended ≡ a.ended → Exchange id s s a b []
-exchange_none id s a b left had over ended = record {
+pub exchange_none : (id : ℕ) (s : Session) (a b : Seen) → Consumes a.left b.left [] → Appends a.had b.had [] → b.over ≡ a.over → b.ended ≡ a.ended → b.failed ≡ a.failed → Exchange id s s a b []
+exchange_none id s a b left had over ended failed = record {
   events = [];
   happen = refl;
   own = refl;
@@ -157,48 +153,58 @@ exchange_none id s a b left had over ended = record {
   whole = λ h. cc;
   over = over ∙ or_same a.over;
   ended = ended ∙ or_same a.ended;
-  reset = inl refl;
+  fails = false;
+  failed = failed ∙ or_same a.failed;
+  reset = refl;
 }
 
--- one event
-pub exchange_one : (id : ℕ) (e : Event) (told : Reply) (s t : Session) (a b : Seen) (lost : List ℕ) → Gives in_turn s e told t → is_on id e ≡ true →
-    Consumes a.left b.left (taken_at id e told ++ lost) → Appends a.had b.had (given_at id e told) →
-    (finishes_at id e ≡ true → IfSome a.left (λ all. all ≡ taken_at id e told ++ lost)) →
-    b.over ≡ option_map (λ x. x || finishes_at id e) a.over → b.ended ≡ option_map (λ x. x || ends_at id e told) a.ended → (lost ≡ []) ⊎ (resets_at id e ≡ true) → Exchange id s t a b lost
-exchange_one id e told s t a b lost g on inward outward whole over ended reset =
+-- one event, at which the device may fail, and no bytes are lost
+pub exchange_one : (id : ℕ) (e : Event) (told : Reply) (s t : Session) (a b : Seen) (fails : Bool) → Gives in_turn s e told t → is_on id e ≡ true →
+    Consumes a.left b.left (taken_at id e told ++ []) → Appends a.had b.had (given_at id e told) →
+    (finishes_at id e ≡ true → IfSome a.left (λ all. all ≡ taken_at id e told ++ [])) →
+    b.over ≡ option_map (λ x. x || finishes_at id e) a.over → b.ended ≡ option_map (λ x. x || ends_at id e told) a.ended →
+    b.failed ≡ option_map (λ x. x || fails) a.failed → resets_at id e ≡ fails → Exchange id s t a b []
+exchange_one id e told s t a b fails g on inward outward whole over ended failed reset =
     let same : taken_at id e told ≡ taken_at id e told ++ [] = sym (append-nil (taken_at id e told)) in
     record {
       events = (e, told) ∷ [];
       happen = (t, g, refl);
       own = rw on refl;
-      inward = subst (λ (v : List ℕ). Consumes a.left b.left (v ++ lost)) same inward;
+      inward = subst (λ (v : List ℕ). Consumes a.left b.left (v ++ [])) same inward;
       outward = subst (Appends a.had b.had) (sym (append-nil (given_at id e told))) outward;
-      whole = λ h. subst (λ (v : List ℕ). IfSome a.left (λ all. all ≡ v ++ lost)) same (whole (sym (or_none (finishes_at id e)) ∙ h));
+      whole = λ h. subst (λ (v : List ℕ). IfSome a.left (λ all. all ≡ v ++ [])) same (whole (sym (or_none (finishes_at id e)) ∙ h));
       over = over ∙ ap (λ (v : Bool). option_map (λ x. x || v) a.over) (sym (or_none (finishes_at id e)));
       ended = ended ∙ ap (λ (v : Bool). option_map (λ x. x || v) a.ended) (sym (or_none (ends_at id e told)));
-      reset = elim (reset) [
-        | inl none ↦ inl none
-        | inr was ↦ inr (or_none (resets_at id e) ∙ was)
-      ];
+      fails = fails;
+      failed = failed;
+      reset = ap (λ (v : Bool). v || false) reset;
     }
 
 -- ---- calls of a device beside what its stream says
 
 pub exchange_same : (id : ℕ) (s : Session) (a : Seen) → Exchange id s s a a []
-exchange_same id s a = exchange_none id s a a (Consumes-nil a.left) (Appends-nil a.had) refl refl
+exchange_same id s a = exchange_none id s a a (Consumes-nil a.left) (Appends-nil a.had) refl refl refl
 
-still_over : (r : Pulled) (a b : Seen) → b.over ≡ option_map (λ x. x || is_end r) a.over → is_end r ≡ false → b.over ≡ a.over
-still_over r a b e more = e ∙ ap (λ (v : Bool). option_map (λ x. x || v) a.over) more ∙ sym (or_same a.over)
+still : (v : Bool) (o p : Option Bool) → p ≡ option_map (λ x. x || v) o → v ≡ false → p ≡ o
+still v o p e none = e ∙ ap (λ (w : Bool). option_map (λ x. x || w) o) none ∙ sym (or_same o)
+
+none_pulled : (r : Pulled) (buffer : List ℕ) (a b : Seen) → IsPulled r buffer a b → pulled_count r ≡ 0 → Consumes a.left b.left []
+none_pulled r buffer a b p n = subst (λ (k : ℕ). Consumes a.left b.left (take k buffer)) n p.gave
+
+none_pushed : (r : Pushed) (bytes : List ℕ) (a b : Seen) → IsPushed r bytes a b → pushed_count r ≡ 0 → Appends a.had b.had []
+none_pushed r bytes a b p n = subst (λ (k : ℕ). Appends a.had b.had (take k bytes)) n p.took
 
 -- nothing came
-pub pulled_none : (id : ℕ) (s : Session) (r : Pulled) (buffer : List ℕ) (a b : Seen) → IsPulled r buffer a b → pulled_count r ≡ 0 → is_end r ≡ false → Exchange id s s a b []
-pulled_none id s r buffer a b p n more =
-    exchange_none id s a b (subst (λ (k : ℕ). Consumes a.left b.left (take k buffer)) n p.gave) (same_appends a.had b.had p.had) (still_over r a b p.over more) p.ended
+pub pulled_none : (id : ℕ) (s : Session) (r : Pulled) (buffer : List ℕ) (a b : Seen) → IsPulled r buffer a b → pulled_count r ≡ 0 → is_end r ≡ false → is_pull_failure r ≡ false →
+    Exchange id s s a b []
+pulled_none id s r buffer a b p n more well =
+    exchange_none id s a b (none_pulled r buffer a b p n) (same_appends a.had b.had p.had) (still (is_end r) a.over b.over p.over more) p.ended
+    (still (is_pull_failure r) a.failed b.failed p.failed well)
 
 -- nothing was taken
-pub pushed_none : (id : ℕ) (s : Session) (r : Pushed) (bytes : List ℕ) (a b : Seen) → IsPushed r bytes a b → pushed_count r ≡ 0 → Exchange id s s a b []
-pushed_none id s r bytes a b p n =
-    exchange_none id s a b (same_consumes a.left b.left p.left) (subst (λ (k : ℕ). Appends a.had b.had (take k bytes)) n p.took) p.over p.ended
+pub pushed_none : (id : ℕ) (s : Session) (r : Pushed) (bytes : List ℕ) (a b : Seen) → IsPushed r bytes a b → pushed_count r ≡ 0 → is_push_failure r ≡ false → Exchange id s s a b []
+pushed_none id s r bytes a b p n well =
+    exchange_none id s a b (same_consumes a.left b.left p.left) (none_pushed r bytes a b p n) p.over p.ended (still (is_push_failure r) a.failed b.failed p.failed well)
 
 take_both : (n m : ℕ) (xs : List ℕ) → n ≤ m → take n (take m xs) ≡ take n xs
 take_both n m xs h = grind (arith, common_steps)
@@ -209,95 +215,107 @@ pub pushed_some : (id n : ℕ) (told : Reply) (s t : Session) (bytes ring : List
 pushed_some id n told s t bytes ring a b p first g gave going =
     let same : take n bytes ≡ bytes_of told = ap (take n) first ∙ take_both n (length bytes) ring p.within ∙ sym gave in
     let i = same_id id in
-    exchange_one id (event.Call (call.Read id n)) told s t a b [] g i
+    exchange_one id (event.Call (call.Read id n)) told s t a b false g i
     (same_consumes a.left b.left p.left)
     (rw i (subst (Appends a.had b.had) same p.took))
     (λ h. cc)
     (p.over ∙ or_same a.over)
     (rw (i, going) (p.ended ∙ or_same a.ended))
-    (inl refl)
+    p.failed
+    refl
 
 -- a stream of which no byte waits said nothing of its end
-pub silent : (id n : ℕ) (told : Reply) (s t : Session) (a b : Seen) → b.left ≡ a.left → b.had ≡ a.had → b.over ≡ a.over → b.ended ≡ a.ended →
+pub silent : (id n : ℕ) (told : Reply) (s t : Session) (a b : Seen) → b.left ≡ a.left → b.had ≡ a.had → b.over ≡ a.over → b.ended ≡ a.ended → b.failed ≡ a.failed →
     Gives in_turn s (event.Call (call.Read id n)) told t → bytes_of told ≡ [] → (is_read_end told ≡ true → ⊥) → Exchange id s t a b []
-silent id n told s t a b left had over ended g gave going =
+silent id n told s t a b left had over ended failed g gave going =
     let i = same_id id in
     let no : is_read_end told ≡ false = not_true (is_read_end told) going in
-    exchange_one id (event.Call (call.Read id n)) told s t a b [] g i
+    exchange_one id (event.Call (call.Read id n)) told s t a b false g i
     (same_consumes a.left b.left left)
     (rw (i, gave) (same_appends a.had b.had had))
     (λ h. cc)
     (over ∙ or_same a.over)
     (rw (i, no) (ended ∙ or_same a.ended))
-    (inl refl)
+    (failed ∙ or_same a.failed)
+    refl
 
 -- the stream's end was read, and its device ended
 pub ended : (id n : ℕ) (told : Reply) (s t : Session) (a b : Seen) → IsEnded a b →
     Gives in_turn s (event.Call (call.Read id n)) told t → bytes_of told ≡ [] → is_read_end told ≡ true → Exchange id s t a b []
 ended id n told s t a b p g gave over =
     let i = same_id id in
-    exchange_one id (event.Call (call.Read id n)) told s t a b [] g i
+    exchange_one id (event.Call (call.Read id n)) told s t a b false g i
     (same_consumes a.left b.left p.left)
     (rw (i, gave) (same_appends a.had b.had p.had))
     (λ h. cc)
     (p.over ∙ or_same a.over)
     (rw (i, over) (p.ended ∙ or_true a.ended))
-    (inl refl)
+    (p.failed ∙ or_same a.failed)
+    refl
 
--- the stream was reset, and its device shut
-pub reset_shut : (id : ℕ) (told : Reply) (s t : Session) (a b : Seen) → Gives in_turn s (event.Call (call.Reset id)) told t → IsShut a b → Exchange id s t a b []
-reset_shut id told s t a b g p =
-    exchange_one id (event.Call (call.Reset id)) told s t a b [] g (same_id id)
-    (same_consumes a.left b.left p.left)
-    (same_appends a.had b.had p.had)
+-- the device failed at a call that moved nothing: the stream was reset, and the device shut
+reset_shut : (id : ℕ) (told : Reply) (s t : Session) (a b c : Seen) → Consumes a.left b.left [] → Appends a.had b.had [] → b.over ≡ a.over → b.ended ≡ a.ended →
+    b.failed ≡ option_map (λ x. x || true) a.failed → Gives in_turn s (event.Call (call.Reset id)) told t → IsShut b c → Exchange id s t a c []
+reset_shut id told s t a b c left had over ended failed g q =
+    exchange_one id (event.Call (call.Reset id)) told s t a c true g (same_id id)
+    (subst (λ (o : Option (List ℕ)). Consumes a.left o []) (sym q.left) left)
+    (subst (λ (o : Option (List ℕ)). Appends a.had o []) (sym q.had) had)
     (λ h. cc)
-    (p.over ∙ or_same a.over)
-    (p.ended ∙ or_same a.ended)
-    (inl refl)
+    (q.over ∙ over ∙ or_same a.over)
+    (q.ended ∙ ended ∙ or_same a.ended)
+    (q.failed ∙ failed)
+    (same_id id)
 
 -- the device had no more, and the stream was finished
 pub finished : (id : ℕ) (told : Reply) (s t : Session) (buffer : List ℕ) (a b : Seen) → IsPulled pulled.Ended buffer a b → Gives in_turn s (event.Call (call.Finish id)) told t → Exchange id s t a b []
 finished id told s t buffer a b p g =
-    exchange_one id (event.Call (call.Finish id)) told s t a b [] g (same_id id)
+    exchange_one id (event.Call (call.Finish id)) told s t a b false g (same_id id)
     p.gave
     (same_appends a.had b.had p.had)
     (λ h. at_end a.left b.left [] p.gave (p.end refl))
     (rw (same_id id) p.over)
     (p.ended ∙ or_same a.ended)
-    (inl refl)
+    p.failed
+    refl
 
 -- bytes came, and the stream took them
 pub pulled_some : (id n : ℕ) (told : Reply) (s t : Session) (buffer bytes : List ℕ) (a b : Seen) → IsPulled (pulled.Gave n) buffer a b → bytes ≡ take n buffer →
     Gives in_turn s (event.Call (call.Write id bytes)) told t → take (bytes_moved told) bytes ≡ bytes → Exchange id s t a b []
 pulled_some id n told s t buffer bytes a b p same g all =
     let i = same_id id in
-    exchange_one id (event.Call (call.Write id bytes)) told s t a b [] g i
+    exchange_one id (event.Call (call.Write id bytes)) told s t a b false g i
     (rw i (subst (Consumes a.left b.left) (sym same ∙ sym all ∙ sym (append-nil (take (bytes_moved told) bytes))) p.gave))
     (same_appends a.had b.had p.had)
     (λ h. cc)
     p.over
     (p.ended ∙ or_same a.ended)
-    (inl refl)
+    p.failed
+    refl
 
 -- a write that took nothing, beside a device that moved nothing
-pub stopped : (id : ℕ) (told : Reply) (s t : Session) (a b : Seen) → b.left ≡ a.left → b.had ≡ a.had → b.over ≡ a.over → b.ended ≡ a.ended →
+pub stopped : (id : ℕ) (told : Reply) (s t : Session) (a b : Seen) → b.left ≡ a.left → b.had ≡ a.had → b.over ≡ a.over → b.ended ≡ a.ended → b.failed ≡ a.failed →
     Gives in_turn s (event.Call (call.Write id [])) told t → Exchange id s t a b []
-stopped id told s t a b left had over still g =
+stopped id told s t a b left had over kept failed g =
     let i = same_id id in
     let none : take {A = ℕ} (bytes_moved told) [] ≡ [] = grind (arith, common_steps) in
-    exchange_one id (event.Call (call.Write id [])) told s t a b [] g i
+    exchange_one id (event.Call (call.Write id [])) told s t a b false g i
     (rw (i, none) (same_consumes a.left b.left left))
     (same_appends a.had b.had had)
     (λ h. cc)
     (over ∙ or_same a.over)
-    (still ∙ or_same a.ended)
-    (inl refl)
+    (kept ∙ or_same a.ended)
+    (failed ∙ or_same a.failed)
+    refl
+
+some_bytes : (xs : List ℕ) → 0 < length xs → has_bytes xs ≡ true
+some_bytes [] h = grind (arith, common_steps)
+some_bytes (x ∷ xs) h = refl
 
 -- bytes came for which there was no memory: the stream is reset, and its device shut
 pub bytes_lost : (id n : ℕ) (told last : Reply) (s t u : Session) (buffer bytes : List ℕ) (a b c : Seen) → IsPulled (pulled.Gave n) buffer a b →
-    Gives in_turn s (event.Call (call.Write id bytes)) told t → bytes_moved told ≡ 0 → Gives in_turn t (event.Call (call.Reset id)) last u → IsShut b c →
-    Exchange id s u a c (take n buffer)
-bytes_lost id n told last s t u buffer bytes a b c p g none r q =
+    Gives in_turn s (event.Call (call.Write id bytes)) told t → bytes_moved told ≡ 0 → 0 < length bytes → bytes ≡ take n buffer →
+    Gives in_turn t (event.Call (call.Reset id)) last u → IsShut b c → Exchange id s u a c (take n buffer)
+bytes_lost id n told last s t u buffer bytes a b c p g none some same r q =
     let i = same_id id in record {
       events = (event.Call (call.Write id bytes), told) ∷ (event.Call (call.Reset id), last) ∷ [];
       happen = (t, g, (u, r, refl));
@@ -307,17 +325,21 @@ bytes_lost id n told last s t u buffer bytes a b c p g none r q =
       whole = λ h. cc;
       over = q.over ∙ p.over;
       ended = q.ended ∙ p.ended ∙ or_same a.ended;
-      reset = inr (rw i refl);
+      fails = false;
+      failed = q.failed ∙ p.failed;
+      reset = rw i (sym (ap has_bytes (sym same) ∙ some_bytes bytes some));
     }
 
 -- the device failed at a call that moved nothing: the stream is reset, and the device shut
-pub pull_failed : (id : ℕ) (told : Reply) (s t : Session) (r : Pulled) (buffer : List ℕ) (a b c : Seen) → IsPulled r buffer a b → pulled_count r ≡ 0 → is_end r ≡ false →
+pub pull_failed : (id : ℕ) (told : Reply) (s t : Session) (buffer : List ℕ) (a b c : Seen) → IsPulled pulled.Failed buffer a b →
     Gives in_turn s (event.Call (call.Reset id)) told t → IsShut b c → Exchange id s t a c []
-pull_failed id told s t r buffer a b c p n more g q = exchange_then id s s t a b c [] (pulled_none id s r buffer a b p n more) (reset_shut id told s t b c g q)
+pull_failed id told s t buffer a b c p g q =
+    reset_shut id told s t a b c (none_pulled pulled.Failed buffer a b p refl) (same_appends a.had b.had p.had) (still false a.over b.over p.over refl) p.ended p.failed g q
 
-pub push_failed : (id : ℕ) (told : Reply) (s t : Session) (r : Pushed) (bytes : List ℕ) (a b c : Seen) → IsPushed r bytes a b → pushed_count r ≡ 0 →
+pub push_failed : (id : ℕ) (told : Reply) (s t : Session) (bytes : List ℕ) (a b c : Seen) → IsPushed pushed.Failed bytes a b →
     Gives in_turn s (event.Call (call.Reset id)) told t → IsShut b c → Exchange id s t a c []
-push_failed id told s t r bytes a b c p n g q = exchange_then id s s t a b c [] (pushed_none id s r bytes a b p n) (reset_shut id told s t b c g q)
+push_failed id told s t bytes a b c p g q =
+    reset_shut id told s t a b c (same_consumes a.left b.left p.left) (none_pushed pushed.Failed bytes a b p refl) p.over p.ended p.failed g q
 
 -- ---- exchanges that may lose bytes
 

@@ -1,5 +1,5 @@
 -- What a stream and the device that is joined to it move (this project's own).
-use Rattle.std.specs.Prelude.{ℕ, ◌≡◌, ◌⊎◌, ◌||◌, ◌++◌, List, [], Bool, true, option_map, IfSome}
+use Rattle.std.specs.Prelude.{ℕ, ◌≡◌, ◌||◌, ◌++◌, ◌∷◌, List, [], Bool, true, false, option_map, IfSome}
 use Rattle.std.specs.List.{list_all}
 use Rattle.std.specs.Io.KnownBytes.{Appends, Consumes}
 use Rattle.ymx_model.specs.declared.types.Event.{Event}
@@ -8,10 +8,14 @@ use Rattle.ymx_model.specs.session.Sessions.{Session}
 use Rattle.ymx_engine.specs.Devices.{Seen}
 use Rattle.ymx_engine.specs.Events.{Happen, is_on, taken, given, has_end, has_finish, has_reset}
 
+abbrev pub has_bytes : List ℕ → Bool
+has_bytes [] = false
+has_bytes (b ∷ bs) = true
+
 -- Between s and t nothing happened but these events of one stream. What the stream took is what its device gave,
--- in order, but for the bytes that were lost: some are only where the stream was reset. What its device took is
--- what the stream gave. The stream was finished exactly if the device said that no more come, and this was all then.
--- The device was ended exactly if the stream's end was read.
+-- in order, but for the bytes that were lost. What its device took is what the stream gave. The stream was finished
+-- exactly if the device said that no more come, and this was all then. The device was ended exactly if the stream's end
+-- was read. The stream was reset exactly if the device failed or bytes were lost.
 pub record Exchange (id : ℕ) (s t : Session) (old new : Seen) (lost : List ℕ) : Type 0 where
   pub events : List (Event × Reply)
   pub happen : Happen events s t
@@ -21,7 +25,9 @@ pub record Exchange (id : ℕ) (s t : Session) (old new : Seen) (lost : List ℕ
   pub whole : has_finish id events ≡ true → IfSome old.left (λ all. all ≡ taken id events ++ lost)
   pub over : new.over ≡ option_map (λ b. b || has_finish id events) old.over
   pub ended : new.ended ≡ option_map (λ b. b || has_end id events) old.ended
-  pub reset : (lost ≡ []) ⊎ (has_reset id events ≡ true)
+  pub fails : Bool
+  pub failed : new.failed ≡ option_map (λ b. b || fails) old.failed
+  pub reset : has_reset id events ≡ (fails || has_bytes lost)
 
 -- it may have lost bytes
 abbrev pub Exchanges : (id : ℕ) → (s t : Session) → (old new : Seen) → Type 0

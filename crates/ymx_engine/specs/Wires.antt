@@ -78,17 +78,18 @@ pub record ReadsWire (old new : Engine) (before after : Seen) (calls : ℕ) : Ty
   pub inward : old.incoming ++ came ≡ fed events ++ new.incoming
   pub said_end : Bool
   pub over : after.over ≡ option_map (λ b. b || said_end) before.over
-  pub failed : Bool
-  pub lost : has_feed_end events ≡ (said_end || failed)
+  pub fails : Bool
+  pub failed : after.failed ≡ option_map (λ b. b || fails) before.failed
+  pub lost : has_feed_end events ≡ (said_end || fails)
   pub outgoing : new.outgoing ≡ old.outgoing
   pub had : after.had ≡ before.had
   pub ended : after.ended ≡ before.ended
   pub few : after.calls ≤ before.calls + calls
 
 -- whether the wire said that no more bytes come, and whether it failed, is known
-abbrev pub ReadsWireSo : (said_end failed : Bool) → (old new : Engine) → (before after : Seen) → (calls : ℕ) → Type 0
-ReadsWireSo said_end failed old new before after calls =
-    (moved : ReadsWire old new before after calls) × (moved.said_end ≡ said_end) × (moved.failed ≡ failed)
+abbrev pub ReadsWireSo : (said_end fails : Bool) → (old new : Engine) → (before after : Seen) → (calls : ℕ) → Type 0
+ReadsWireSo said_end fails old new before after calls =
+    (moved : ReadsWire old new before after calls) × (moved.said_end ≡ said_end) × (moved.fails ≡ fails)
 
 -- Nothing happened but these emissions, and that the session heard of an end. Each emission waits behind what waited
 -- before; of all this the wire took a beginning, and the rest waits. The session heard of an end exactly if the wire
@@ -100,8 +101,9 @@ pub record FlushesWire (old new : Engine) (before after : Seen) (calls : ℕ) : 
   pub sent : List ℕ
   pub took : Appends before.had after.had sent
   pub outward : old.outgoing ++ emitted events ≡ sent ++ new.outgoing
-  pub failed : Bool
-  pub lost : has_feed_end events ≡ failed
+  pub fails : Bool
+  pub failed : after.failed ≡ option_map (λ b. b || fails) before.failed
+  pub lost : has_feed_end events ≡ fails
   pub incoming : new.incoming ≡ old.incoming
   pub left : after.left ≡ before.left
   pub over : after.over ≡ before.over
@@ -109,8 +111,8 @@ pub record FlushesWire (old new : Engine) (before after : Seen) (calls : ℕ) : 
   pub few : after.calls ≤ before.calls + calls
 
 -- whether the wire failed is known
-abbrev pub FlushesWireSo : (failed : Bool) → (old new : Engine) → (before after : Seen) → (calls : ℕ) → Type 0
-FlushesWireSo failed old new before after calls = (moved : FlushesWire old new before after calls) × (moved.failed ≡ failed)
+abbrev pub FlushesWireSo : (fails : Bool) → (old new : Engine) → (before after : Seen) → (calls : ℕ) → Type 0
+FlushesWireSo fails old new before after calls = (moved : FlushesWire old new before after calls) × (moved.fails ≡ fails)
 
 -- ---- the parts of a turn
 

@@ -17,7 +17,7 @@ use ymx_session::Session;
 pub(crate) fn write(session: &mut Session, id: u32, bytes: &[u8]) -> bool
     requires { length bytes.now ≤ room_of id session.old }
     ensures took { result ≡ true → (told : Reply) × Gives in_turn session.old (event.Call (call.Write id bytes.now)) told session.new × (take (bytes_moved told) bytes.now ≡ bytes.now) }
-    ensures refused { result ≡ false → (told : Reply) × Gives in_turn session.old (event.Call (call.Write id bytes.now)) told session.new × (bytes_moved told ≡ 0) }
+    ensures refused { result ≡ false → (told : Reply) × Gives in_turn session.old (event.Call (call.Write id bytes.now)) told session.new × (bytes_moved told ≡ 0) × (0 < length bytes.now) }
 {
     match session.write(id, bytes) {
         Ok(Wrote::Took(_)) => true,
@@ -41,7 +41,7 @@ pub(crate) fn take_out(session: &mut Session, id: u32, count: usize)
 }
 
 /// What a stream says of which no byte waits.
-#[derive(Clone, Copy, Debug, PartialEq, Eq)]
+#[derive(Clone, Copy)]
 pub(crate) enum Silence {
     /// More may come.
     Wait,

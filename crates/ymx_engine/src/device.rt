@@ -41,8 +41,8 @@ impl Pushed {
 
 /// A connection whose calls never wait, as a socket that is not blocking.
 ///
-/// A contract sees the bytes that it has still to give, those that it has taken, and whether it was ended, each
-/// where the device can tell (a socket cannot).
+/// A contract sees the bytes that it has still to give, those that it has taken, whether it said that no more come,
+/// whether it was ended, and whether it has failed, each where the device can tell (a socket cannot tell its bytes).
 pub trait Device {
     /// What a contract sees.
     ghost seen: { Self → Seen };

@@ -18,16 +18,11 @@ use crate::connection::Connection;
 use crate::connections::Connections;
 use crate::device::{Device, Pulled, Pushed};
 use crate::exchange::serve;
+use crate::memory::{BLOCK, Memory};
 use std::alloc::{AllocError, Global};
 use std::marker::Model;
 use ymx_model::{CallFault, Status};
 use ymx_session::{Session, Touched};
-
-/// How many bytes are read from the peer, or from a device, at once.
-const BLOCK: usize = 131_072;
-
-/// How many bytes are written to the peer at once: eight whole frames of 16,384 bytes, so that none is cut.
-const FRAMES: usize = 131_168;
 
 /// The tunnel of one end: a session, its connections by stream id, and what each waits for.
 ///
@@ -65,13 +60,14 @@ impl Engine {
     pub fn new(alloc: Global, session: Session) -> Result<Engine, AllocError>
         ensures { IfOk result (λ engine. engine ≡ record { session = session; outgoing = []; incoming = [] }) }
     {
+        let memory = Memory::new(alloc)?;
         Ok(Engine {
             session,
-            touched: Touched::new(alloc)?,
-            connections: Connections::new(alloc),
-            outgoing: Block::new(alloc, FRAMES)?,
-            incoming: Block::new(alloc, BLOCK)?,
-            buffer: vec![in alloc; 0u8; BLOCK]?,
+            touched: memory.touched,
+            connections: memory.connections,
+            outgoing: memory.outgoing,
+            incoming: memory.incoming,
+            buffer: memory.buffer,
             can_pull_wire: true,
             can_push_wire: true,
             is_wire_over: false,

@@ -9,6 +9,7 @@ mod connections;
 mod device;
 mod engine;
 mod exchange;
+mod memory;
 
 pub use connection::{Connection, Way};
 pub use device::{Device, Pulled, Pushed};

@@ -1,8 +1,8 @@
 //! A socket that never waits, as a device of an engine.
 
-ghost use Rattle.std.specs.Prelude.{◌≡◌, ◌≤◌, length};
+ghost use Rattle.std.specs.Prelude.{◌≡◌, ◌≤◌, ◌||◌, length, is_some, true};
 ghost use Rattle.std.specs.Io.{ReadsAtMost, WritesAtMost};
-ghost use Rattle.ymx_engine.specs.Devices.{pulled_count, pushed_count};
+ghost use Rattle.ymx_engine.specs.Devices.{pulled_count, pushed_count, is_end, is_pull_failure, is_push_failure};
 
 use mio::net::TcpStream;
 use std::io;
@@ -14,7 +14,7 @@ use ymx_engine::{Device, Pulled, Pushed};
 const RETRIES: u32 = 1_000_000;
 
 /// Whether a socket has its peer.
-#[derive(Clone, Copy, Debug, PartialEq, Eq)]
+#[derive(Clone, Copy, PartialEq, Eq)]
 enum Standing {
     /// Its connection is being made.
     Connecting,
@@ -25,7 +25,7 @@ enum Standing {
 }
 
 /// What was the matter with a socket.
-#[derive(Clone, Copy, Debug, PartialEq, Eq)]
+#[derive(Clone, Copy)]
 pub(crate) enum SocketFault {
     /// It gave no bytes, and no end.
     Pull,
@@ -35,18 +35,24 @@ pub(crate) enum SocketFault {
     Memory,
 }
 
-/// A socket, and what it has moved. No contract sees its bytes.
+/// A socket, and what it has moved. No contract sees its bytes; but whether it said that no more come, whether its end
+/// was passed on, and whether it has failed.
 #[derive(Drop)]
 pub(crate) struct Socket {
     stream: TcpStream,
     standing: Standing,
-    fault: Option<SocketFault>,
+    /// What was first the matter with a call of it.
+    failure: Option<SocketFault>,
+    /// There was no memory for the bytes that it gave.
+    lacked_memory: bool,
     pulled: u64,
     pushed: u64,
     /// It has said that no more bytes come from it.
     has_ended: bool,
-    /// Its writing side was shut.
-    was_ended: bool,
+    /// Its writing side was shut, as the stream's end was read.
+    was_finished: bool,
+    /// It was shut both ways.
+    was_shut: bool,
     /// The last call gave bytes.
     just_gave: bool,
 }
@@ -66,11 +72,13 @@ impl Socket {
         Socket {
             stream,
             standing,
-            fault: None,
+            failure: None,
+            lacked_memory: false,
             pulled: 0,
             pushed: 0,
             has_ended: false,
-            was_ended: false,
+            was_finished: false,
+            was_shut: false,
             just_gave: false,
         }
     }
@@ -92,7 +100,10 @@ impl Socket {
 
     /// What was first the matter with it.
     pub(crate) fn fault(&self) -> Option<SocketFault> {
-        self.fault
+        if self.lacked_memory {
+            return Some(SocketFault::Memory);
+        }
+        self.failure
     }
 
     /// Whether its connection is still being made.
@@ -102,12 +113,12 @@ impl Socket {
 
     /// Whether it has said that no more bytes come from it, or has failed.
     pub(crate) fn is_over(&self) -> bool {
-        self.has_ended || self.fault.is_some()
+        self.has_ended || self.failure.is_some() || self.lacked_memory
     }
 
     /// Whether nothing more goes to it.
     pub(crate) fn was_ended(&self) -> bool {
-        self.was_ended
+        self.was_finished || self.was_shut
     }
 
     /// An event came for a connection that was being made: now it is there, or can't be made.
@@ -131,19 +142,25 @@ impl Socket {
     /// finds an end. But a connection that failed has no peer any more, and one that didn't has none only if it was
     /// ended here too.
     fn is_broken(&self) -> bool {
-        !self.was_ended && self.stream.peer_addr().is_err()
+        !self.was_ended() && self.stream.peer_addr().is_err()
     }
 
-    /// Something is the matter with it.
-    fn fail(&mut self, fault: SocketFault) {
-        if self.fault.is_none() {
-            self.fault = Some(fault);
+    /// A call of it failed.
+    fn fail(&mut self, fault: SocketFault)
+        ensures failed { is_some self.new.failure ≡ true }
+        ensures rest { (self.new.has_ended ≡ self.old.has_ended) × (self.new.was_finished ≡ self.old.was_finished) }
+    {
+        if self.failure.is_none() {
+            self.failure = Some(fault);
         }
     }
 
     /// Reads once into this buffer.
     fn give(&mut self, buffer: &mut [u8]) -> Pulled
-        ensures { pulled_count result ≤ length buffer.new }
+        ensures within { pulled_count result ≤ length buffer.new }
+        ensures ended { self.new.has_ended ≡ (self.old.has_ended || is_end result) }
+        ensures failed { is_some self.new.failure ≡ (is_some self.old.failure || is_pull_failure result) }
+        ensures rest { self.new.was_finished ≡ self.old.was_finished }
     {
         self.just_gave = false;
         match read(&self.stream, buffer) {
@@ -158,7 +175,9 @@ impl Socket {
 
     /// Writes these bytes once.
     fn take(&mut self, bytes: &[u8]) -> Pushed
-        ensures { pushed_count result ≤ length bytes.now }
+        ensures within { pushed_count result ≤ length bytes.now }
+        ensures failed { is_some self.new.failure ≡ (is_some self.old.failure || is_push_failure result) }
+        ensures rest { (self.new.has_ended ≡ self.old.has_ended) × (self.new.was_finished ≡ self.old.was_finished) }
     {
         match write(&self.stream, bytes) {
             Ok(count) if count > 0 || bytes.is_empty() => {
@@ -175,7 +194,10 @@ impl Socket {
 
     /// What came of a read that found nothing or failed.
     fn give_nothing(&mut self, read: io::Result<usize>) -> Pulled
-        ensures { pulled_count result ≡ 0 }
+        ensures none { pulled_count result ≡ 0 }
+        ensures ended { self.new.has_ended ≡ (self.old.has_ended || is_end result) }
+        ensures failed { is_some self.new.failure ≡ (is_some self.old.failure || is_pull_failure result) }
+        ensures rest { self.new.was_finished ≡ self.old.was_finished }
     {
         match read {
             Ok(_) if !self.is_broken() => {
@@ -192,9 +214,9 @@ impl Socket {
 }
 
 impl Device for Socket {
-    ghost use Rattle.std.specs.Prelude.{None};
+    ghost use Rattle.std.specs.Prelude.{None, Some, is_some};
 
-    ghost seen = { λ _. record { left = None; had = None; over = None; ended = None; calls = 0 } };
+    ghost seen = { λ s. record { left = None; had = None; over = Some s.has_ended; ended = Some s.was_finished; failed = Some (is_some s.failure); calls = 0 } };
 
     fn pull(&mut self, buffer: &mut [u8]) -> Pulled {
         match self.standing {
@@ -220,7 +242,7 @@ impl Device for Socket {
 
     /// Shuts the writing side: the other end reads what was written, and then the end.
     fn end(&mut self) {
-        self.was_ended = true;
+        self.was_finished = true;
         if self.standing == Standing::Connected {
             let _ = self.stream.shutdown(Shutdown::Write);
         }
@@ -229,9 +251,9 @@ impl Device for Socket {
     /// Shuts it both ways. Right behind bytes that it gave this says that there was no memory for them.
     fn shut(&mut self) {
         if self.just_gave {
-            self.fail(SocketFault::Memory);
+            self.lacked_memory = true;
         }
-        self.was_ended = true;
+        self.was_shut = true;
         if self.standing == Standing::Connected {
             let _ = self.stream.shutdown(Shutdown::Both);
         }

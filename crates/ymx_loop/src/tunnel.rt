@@ -1,5 +1,6 @@
 //! The type `Tunnel`: what is done between two looks at the events.
 
+use crate::peer::Peer;
 use crate::sides::Forwarded;
 use crate::socket::Socket;
 use crate::station::{LISTENER, Side, Station};
@@ -9,10 +10,10 @@ use mio::event::Event;
 use mio::net::TcpStream;
 use mio::{Events, Interest, Poll, Token};
 use std::alloc::Global;
+use std::io;
 use std::net::{Net, SocketAddr};
 use std::sync::Wait;
 use std::time::Duration;
-use std::{io, net};
 use ymx_engine::{Device, Engine};
 use ymx_model::{CallFault, Config, Role, Status};
 use ymx_session::Session;
@@ -20,7 +21,7 @@ use ymx_session::Session;
 /// The wire's token.
 const WIRE: usize = 0;
 
-/// The token of the stream 0, if there were one. An id is never given twice, so an event that comes late is of a stream
+/// The token of the stream 0. There is none, so it is that of the listener for peers. An id is never given twice, so an event that comes late is of a stream
 /// that is no more.
 const STREAMS: usize = 2;
 
@@ -45,7 +46,7 @@ struct Joined {
 pub(crate) struct Tunnel<'a> {
     engine: Engine,
     station: &'a mut Station,
-    wire: Socket,
+    wire: &'a mut Socket,
     joined: IndexMap<u32, Joined>,
     /// How many bytes connections have given since the wire was last written to.
     unwritten: u64,
@@ -62,15 +63,14 @@ pub(crate) struct Tunnel<'a> {
 impl<'a> Tunnel<'a> {
     // ---- how it begins
 
-    /// A tunnel that has moved nothing. None where there is no memory for it.
+    /// A tunnel over this wire that has moved nothing. None where there is no memory for it.
     pub(crate) fn new(
         alloc: Global,
-        connection: net::TcpStream,
+        wire: &'a mut Socket,
         station: &'a mut Station,
         window: u32,
     ) -> Option<Tunnel<'a>> {
         let engine = new_engine(alloc, role_of(&station.side), window)?;
-        let wire = wire_of(connection, &station.poll).ok()?;
         Some(Tunnel {
             engine,
             station,
@@ -432,7 +432,7 @@ impl<'a> Tunnel<'a> {
     // ---- calls of the engine, of which callers need no clause
 
     fn read_wire(&mut self) {
-        self.engine.read_wire(&mut self.wire);
+        self.engine.read_wire(&mut *self.wire);
         if self.is_wire_closing && !self.wire.is_over() {
             self.engine.note_wire(true, false);
         }
@@ -440,7 +440,7 @@ impl<'a> Tunnel<'a> {
 
     fn flush(&mut self) {
         self.unwritten = 0;
-        self.engine.flush(&mut self.wire);
+        self.engine.flush(&mut *self.wire);
     }
 
     fn open(&mut self) -> Result<u32, CallFault> {
@@ -476,12 +476,6 @@ impl<'a> Tunnel<'a> {
             lacked_memory: self.lacked_memory || self.engine.has_lacked_memory(),
         }
     }
-
-    /// The wire.
-    pub(crate) fn into_wire(self) -> Socket {
-        let Tunnel { wire, .. } = self;
-        wire
-    }
 }
 
 /// Serves a connection once.
@@ -503,11 +497,9 @@ fn new_engine(alloc: Global, role: Role, window: u32) -> Option<Engine> {
     Engine::new(alloc, session).ok()
 }
 
-/// The connection to the peer, which never waits from now on, and whose bytes go out at once.
-fn wire_of(connection: net::TcpStream, poll: &Poll) -> io::Result<Socket> {
-    let _ = connection.set_nodelay(true);
-    connection.set_nonblocking(true)?;
-    let mut wire = Socket::connected(TcpStream::from_std(connection));
+/// The connection to the peer, of whose events the poll tells.
+pub(crate) fn wire_of(peer: Peer, poll: &Poll) -> io::Result<Socket> {
+    let mut wire = Socket::connected(peer.into_stream());
     let both = Interest::READABLE | Interest::WRITABLE;
     poll.registry().register(wire.source(), Token(WIRE), both)?;
     Ok(wire)

@@ -1,13 +1,16 @@
 use Rattle.std.proofs.Common.{refl}
-use Rattle.ymx_engine.proofs.Exchanging.{stopped}
+use Rattle.ymx_engine.proofs.Exchanging.{exchange_same, stopped}
 use Rattle.ymx_engine.proofs.exchange.hear_stop.Goals as goal
+
+pub returns-then-not-is_half_over-clause-moved : goal.returns-then-not-is_half_over-clause-moved
+returns-then-not-is_half_over-clause-moved g c = exchange_same _ _ _
 
 pub returns-then-is_stopped-clause-moved : goal.returns-then-is_stopped-clause-moved
 returns-then-is_stopped-clause-moved g c =
     let h = c.is_stopped.ensures in
-    stopped _ h.0 _ _ _ _ c.shut.ensures.left c.shut.ensures.had c.shut.ensures.over c.shut.ensures.ended h.1
+    stopped _ h.0 _ _ _ _ c.shut.ensures.left c.shut.ensures.had c.shut.ensures.over c.shut.ensures.ended c.shut.ensures.failed h.1
 
 pub returns-else-is_stopped-clause-moved : goal.returns-else-is_stopped-clause-moved
 returns-else-is_stopped-clause-moved g c =
     let h = c.is_stopped.ensures in
-    stopped _ h.0 _ _ _ _ refl refl refl refl h.1
+    stopped _ h.0 _ _ _ _ refl refl refl refl refl h.1

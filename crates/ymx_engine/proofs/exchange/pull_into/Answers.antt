@@ -12,10 +12,10 @@ pub returns-else-write-clause-moved : goal.returns-else-write-clause-moved
 returns-else-write-clause-moved g c =
     let h = c.write.ensures.refused c.if-write.false in
     let k = c.give_up.ensures.reset in
-    loses _ _ _ _ _ _ (bytes_lost _ _ h.0 k.0 _ _ _ _ _ _ _ _ c.in-Gave.ensures h.1 h.2 k.1 c.give_up.ensures.shut)
+    loses _ _ _ _ _ _ (bytes_lost _ _ h.0 k.0 _ _ _ _ _ _ _ _ c.in-Gave.ensures h.1 h.2 h.3 (grind (arith, common_steps)) k.1 c.give_up.ensures.shut)
 
 pub returns-in-NotNow-clause-moved : goal.returns-in-NotNow-clause-moved
-returns-in-NotNow-clause-moved g c = once _ _ _ _ _ _ (pulled_none _ _ _ _ _ _ c.in-NotNow.ensures refl refl)
+returns-in-NotNow-clause-moved g c = once _ _ _ _ _ _ (pulled_none _ _ _ _ _ _ c.in-NotNow.ensures refl refl refl)
 
 pub returns-in-Ended-clause-moved : goal.returns-in-Ended-clause-moved
 returns-in-Ended-clause-moved g c =
@@ -25,4 +25,4 @@ returns-in-Ended-clause-moved g c =
 pub returns-in-Failed-clause-moved : goal.returns-in-Failed-clause-moved
 returns-in-Failed-clause-moved g c =
     let h = c.give_up-in-Failed.ensures.reset in
-    once _ _ _ _ _ _ (pull_failed _ h.0 _ _ _ _ _ _ _ c.in-Failed.ensures refl refl h.1 c.give_up-in-Failed.ensures.shut)
+    once _ _ _ _ _ _ (pull_failed _ h.0 _ _ _ _ _ _ c.in-Failed.ensures h.1 c.give_up-in-Failed.ensures.shut)

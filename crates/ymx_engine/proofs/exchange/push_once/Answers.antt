@@ -8,9 +8,9 @@ returns-in-Took-clause-moved g c =
     pushed_some _ _ h.0 _ _ _ _ _ _ c.in-Took.ensures c.unread-bytes.ensures.first h.1 h.2 h.3
 
 pub returns-in-NotNow-clause-moved : goal.returns-in-NotNow-clause-moved
-returns-in-NotNow-clause-moved g c = pushed_none _ _ _ _ _ _ c.in-NotNow.ensures refl
+returns-in-NotNow-clause-moved g c = pushed_none _ _ _ _ _ _ c.in-NotNow.ensures refl refl
 
 pub returns-in-Failed-clause-moved : goal.returns-in-Failed-clause-moved
 returns-in-Failed-clause-moved g c =
     let h = c.give_up.ensures.reset in
-    push_failed _ h.0 _ _ _ _ _ _ _ c.in-Failed.ensures refl h.1 c.give_up.ensures.shut
+    push_failed _ h.0 _ _ _ _ _ _ c.in-Failed.ensures h.1 c.give_up.ensures.shut
