@@ -1,0 +1,152 @@
+//! Two engines and the pipes between them.
+
+ghost use Rattle.std.specs.Prelude.{◌≡◌, IfOk, IfErr, IfSome, IfNone, Some};
+ghost use Rattle.ymx_model.specs.declared.types.Event.TheVariants as event;
+ghost use Rattle.ymx_machine.specs.declared.types.Call.TheVariants as call;
+ghost use Rattle.ymx_machine.specs.declared.types.Reply.TheVariants as reply;
+ghost use Rattle.ymx_model.specs.session.Emissions.{in_turn};
+ghost use Rattle.ymx_model.specs.session.Histories.{Gives};
+ghost use Rattle.ymx_engine.specs.Exchanges.{Exchanges};
+ghost use Rattle.ymx_engine.specs.Refusals.{OpensNone, AcceptsNone};
+ghost use Rattle.ymx_pair.specs.Reached.{engine_at, HasTurn, IsReadOnce, IsFlushed};
+
+use crate::wire::Wire;
+use std::marker::Model;
+use ymx_engine::{Device, Engine};
+use ymx_model::{CallFault, Side};
+
+/// The engine of the client A and that of the server B, and the pipes between them. A contract sees the record `Pair`
+/// of `ymx_law_engine`.
+#[derive(Drop)]
+pub(crate) struct Joined {
+    a: Engine,
+    b: Engine,
+    /// The wire of A.
+    wire: Wire,
+}
+
+impl Model for Joined {
+    ghost use Rattle.ymx_law_engine.specs.Pairs.{Pair};
+
+    ghost Value = { Pair };
+
+    ghost view = { λ j. record { a = j.a; b = j.b; ab = j.wire.to.items; ba = j.wire.from.items } };
+}
+
+impl Joined {
+    /// Two engines, and the wire of the first.
+    pub(crate) fn new(a: Engine, b: Engine, wire: Wire) -> Joined
+        ensures { result ≡ record { a = a; b = b; ab = wire.to.items; ba = wire.from.items } }
+    {
+        Joined { a, b, wire }
+    }
+
+    /// Opens a stream at a side.
+    pub(crate) fn open(&mut self, side: Side) -> Result<u32, CallFault>
+        ensures turn { HasTurn side self.old self.new }
+        ensures opened { IfOk result (λ id. Gives in_turn (engine_at side self.old).session (event.Call call.Open) (reply.Opened id) (engine_at side self.new).session) }
+        ensures refused { IfErr result (λ fault. OpensNone fault (engine_at side self.old).session (engine_at side self.new).session) }
+    {
+        match side {
+            Side::A => self.a.open(),
+            Side::B => self.b.open(),
+        }
+    }
+
+    /// Accepts a stream at a side.
+    pub(crate) fn accept(&mut self, side: Side) -> Option<u32>
+        ensures turn { HasTurn side self.old self.new }
+        ensures accepted { IfSome result (λ id. Gives in_turn (engine_at side self.old).session (event.Call call.Accept) (reply.Accepted (Some id)) (engine_at side self.new).session) }
+        ensures none { IfNone result (AcceptsNone (engine_at side self.old).session (engine_at side self.new).session) }
+    {
+        match side {
+            Side::A => self.a.accept(),
+            Side::B => self.b.accept(),
+        }
+    }
+
+    /// One turn of a side's connection, with its device.
+    pub(crate) fn serve<D: Device>(&mut self, side: Side, id: u32, device: &mut D)
+        ensures turn { HasTurn side self.old self.new }
+        ensures moved { Exchanges id (engine_at side self.old).session (engine_at side self.new).session (D.seen device.old) (D.seen device.new) }
+    {
+        match side {
+            Side::A => self.a.serve(id, device),
+            Side::B => self.b.serve(id, device),
+        }
+    }
+
+    /// What is known of the device of a side's connection.
+    pub(crate) fn note_device(&mut self, side: Side, id: u32)
+        ensures { self.new ≡ self.old }
+    {
+        match side {
+            Side::A => self.a.note_device(id, true, true, false),
+            Side::B => self.b.note_device(id, true, true, false),
+        }
+    }
+
+    /// The connection of a side whose turn it is.
+    pub(crate) fn next(&mut self, side: Side) -> Option<u32>
+        ensures { self.new ≡ self.old }
+    {
+        match side {
+            Side::A => self.a.next(),
+            Side::B => self.b.next(),
+        }
+    }
+
+    /// A side's engine reads from its wire once.
+    pub(crate) fn read(&mut self, side: Side)
+        ensures { HasTurn side self.old self.new }
+    {
+        match side {
+            Side::A => read(&mut self.a, &mut self.wire),
+            Side::B => read_round(&mut self.b, &mut self.wire),
+        }
+    }
+
+    /// A side's engine writes to its wire what is due.
+    pub(crate) fn flush(&mut self, side: Side)
+        ensures { HasTurn side self.old self.new }
+    {
+        match side {
+            Side::A => flush(&mut self.a, &mut self.wire),
+            Side::B => flush_round(&mut self.b, &mut self.wire),
+        }
+    }
+}
+
+/// An engine reads from its wire once.
+fn read(engine: &mut Engine, wire: &mut Wire)
+    ensures { IsReadOnce engine.old engine.new wire.old.to.items wire.old.from.items wire.new.to.items wire.new.from.items }
+{
+    engine.note_wire(true, false);
+    engine.read_wire(wire);
+}
+
+/// An engine reads once from its wire, which is the other side's.
+fn read_round(engine: &mut Engine, wire: &mut Wire)
+    ensures { IsReadOnce engine.old engine.new wire.old.from.items wire.old.to.items wire.new.from.items wire.new.to.items }
+{
+    wire.turn_round();
+    read(engine, wire);
+    wire.turn_round();
+}
+
+/// An engine writes to its wire what is due.
+fn flush(engine: &mut Engine, wire: &mut Wire)
+    ensures { IsFlushed engine.old engine.new wire.old.to.items wire.old.from.items wire.new.to.items wire.new.from.items }
+{
+    engine.note_wire(false, true);
+    engine.flush(wire);
+}
+
+/// An engine writes what is due to its wire, which is the other side's.
+fn flush_round(engine: &mut Engine, wire: &mut Wire)
+    ensures { IsFlushed engine.old engine.new wire.old.from.items wire.old.to.items wire.new.from.items wire.new.to.items }
+{
+    wire.turn_round();
+    flush(engine, wire);
+    wire.turn_round();
+}

@@ -1,0 +1,134 @@
+//! The type `EnginePair`, and its calls.
+
+ghost use Rattle.std.specs.Prelude.{◌≡◌, IfOk, IfErr, IfSome, IfNone, Some, None};
+ghost use Rattle.ymx_model.specs.declared.types.Event.TheVariants as event;
+ghost use Rattle.ymx_machine.specs.declared.types.Call.TheVariants as call;
+ghost use Rattle.ymx_machine.specs.declared.types.Reply.TheVariants as reply;
+ghost use Rattle.ymx_model.specs.declared.types.Role.TheVariants.{Client, Server};
+ghost use Rattle.ymx_model.specs.session.Sessions.{new_session};
+ghost use Rattle.ymx_model.specs.session.Emissions.{in_turn};
+ghost use Rattle.ymx_model.specs.session.Histories.{Gives};
+ghost use Rattle.ymx_session.specs.NewSessions.{first_id, new_fault};
+ghost use Rattle.ymx_engine.specs.Exchanges.{Exchanges};
+ghost use Rattle.ymx_engine.specs.Refusals.{OpensNone, AcceptsNone};
+ghost use Rattle.ymx_law_engine.specs.Pairs.{engine_of, pair_of};
+ghost use Rattle.ymx_pair.specs.Reached.{engine_at, HasTurn, AreOneRunSoFar};
+
+use crate::joined::Joined;
+use crate::wire::Wire;
+use std::alloc::Global;
+use std::marker::Model;
+use ymx_engine::{Device, Engine};
+use ymx_model::{CallFault, Config, Role, Side};
+use ymx_session::{NewFault, Session};
+
+/// Two engines of new sessions, a client's (side A) and a server's (side B), joined by two pipes in memory. A contract
+/// sees the record `Pair` of `ymx_law_engine`, and that it was reached from new engines by turns.
+///
+/// It is driven as an engine is: `open` and `accept` give ids of connections, `serve` moves bytes between a
+/// connection's stream and its device, `flush` puts what is due into the side's pipe, and `read` takes what came out of
+/// the other's. Whatever was called, and in whichever order, all that happened at both is one run of the queue machine
+/// (`one_run`).
+#[derive(Drop)]
+pub struct EnginePair {
+    joined: Joined,
+}
+
+impl Model for EnginePair {
+    ghost use Rattle.ymx_law_engine.specs.Pairs.{Pair};
+    ghost use Rattle.ymx_pair.specs.Reached.{IsReached};
+
+    ghost Value = { Pair };
+
+    ghost view = { λ p. p.joined };
+
+    ghost invariant = { λ p. IsReached p.joined };
+}
+
+impl EnginePair {
+    /// Makes two engines of sessions that have done nothing, the client's config first, and two empty pipes of 262,144
+    /// bytes. The fault is that of the client's session, or else of the server's, as of `Session::new`; `OutOfMemory`
+    /// also where there is no memory for the engines and pipes.
+    pub fn new(alloc: Global, config_a: Config, config_b: Config) -> Result<EnginePair, NewFault>
+        ensures made { IfOk result (λ pair. pair ≡ pair_of (new_session Client config_a.window (first_id Client config_a.first)) (new_session Server config_b.window (first_id Server config_b.first))) }
+        ensures may_a { IfOk result (λ pair. new_fault Client config_a ≡ None) }
+        ensures may_b { IfOk result (λ pair. new_fault Server config_b ≡ None) }
+    {
+        let wire = Wire::new(alloc)?;
+        let a = engine(alloc, Role::Client, config_a)?;
+        let b = engine(alloc, Role::Server, config_b)?;
+        let joined = Joined::new(a, b, wire);
+        Ok(EnginePair { joined })
+    }
+
+    /// Opens a stream at a side for a connection whose device may be used. The refusals are those of `Engine::open`.
+    pub fn open(&mut self, side: Side) -> Result<u32, CallFault>
+        ensures turn { HasTurn side self.old self.new }
+        ensures opened { IfOk result (λ id. Gives in_turn (engine_at side self.old).session (event.Call call.Open) (reply.Opened id) (engine_at side self.new).session) }
+        ensures refused { IfErr result (λ fault. OpensNone fault (engine_at side self.old).session (engine_at side self.new).session) }
+    {
+        self.joined.open(side)
+    }
+
+    /// Takes the offered stream of a side that came first, as `Engine::accept`.
+    pub fn accept(&mut self, side: Side) -> Option<u32>
+        ensures turn { HasTurn side self.old self.new }
+        ensures accepted { IfSome result (λ id. Gives in_turn (engine_at side self.old).session (event.Call call.Accept) (reply.Accepted (Some id)) (engine_at side self.new).session) }
+        ensures none { IfNone result (AcceptsNone (engine_at side self.old).session (engine_at side self.new).session) }
+    {
+        self.joined.accept(side)
+    }
+
+    /// Says that the device of a side's connection may have bytes, and may take some.
+    pub fn note_device(&mut self, side: Side, id: u32)
+        ensures { self.new ≡ self.old }
+    {
+        self.joined.note_device(side, id);
+    }
+
+    /// The connection of a side whose turn it is, among those that may have something to move.
+    pub fn next(&mut self, side: Side) -> Option<u32>
+        ensures { self.new ≡ self.old }
+    {
+        self.joined.next(side)
+    }
+
+    /// One turn of a side's connection, with its device, as `Engine::serve`.
+    pub fn serve<D: Device>(&mut self, side: Side, id: u32, device: &mut D)
+        ensures turn { HasTurn side self.old self.new }
+        ensures moved { Exchanges id (engine_at side self.old).session (engine_at side self.new).session (D.seen device.old) (D.seen device.new) }
+    {
+        self.joined.serve(side, id, device);
+    }
+
+    /// A side's engine takes what waits in the other side's pipe, at most 131,072 bytes, and feeds its session.
+    pub fn read(&mut self, side: Side)
+        ensures { HasTurn side self.old self.new }
+    {
+        self.joined.read(side);
+    }
+
+    /// A side's engine puts what its session has due into its pipe, as much as there is room for.
+    pub fn flush(&mut self, side: Side)
+        ensures { HasTurn side self.old self.new }
+    {
+        self.joined.flush(side);
+    }
+
+    /// All that has happened since the engines were new is one run of the world of two sessions, and of the queue
+    /// machine. It does nothing: its contract is the theorem.
+    pub fn one_run(&self)
+        ensures { AreOneRunSoFar self.now }
+    {
+        let _joined = &self.joined;
+    }
+}
+
+/// An engine of a new session.
+fn engine(alloc: Global, role: Role, config: Config) -> Result<Engine, NewFault>
+    ensures made { IfOk result (λ engine. engine ≡ engine_of (new_session role config.window (first_id role config.first))) }
+    ensures may { IfOk result (λ engine. new_fault role config ≡ None) }
+{
+    let session = Session::new(alloc, role, config)?;
+    Ok(Engine::new(alloc, session)?)
+}
