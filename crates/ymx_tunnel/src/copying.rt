@@ -132,10 +132,12 @@ fn empty<W: Wait, S: Source, O: Outlet>(
     let mut bytes = 0u64;
     'round: for _ in rt.forever() {
         let count = match source.read(rt, buffer) {
-            Ok(0) => return (bytes, CopyWhy::End),
             Ok(count) => count,
             Err(fault) => return (bytes, why_of_fault(fault, CopyWhy::Source)),
         };
+        if count == 0 {
+            return (bytes, CopyWhy::End);
+        }
         match push_all(writer, &buffer[..count]) {
             Ok(()) => bytes = bytes.saturating_add(count as u64),
             Err(taken) => return (bytes.saturating_add(taken as u64), CopyWhy::Sink),

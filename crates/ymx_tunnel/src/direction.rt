@@ -1,14 +1,14 @@
 //! One direction of a connection that is joined to a stream: a copy between the connection and a half of the stream.
 
-ghost use Rattle.std.specs.Prelude.{◌<◌, vec_len, OnOk};
+ghost use Rattle.std.specs.Prelude.{◌<◌, vec_len, IfOk};
 
 use crate::connections::{Line, LineReader, LineWriter};
 use crate::copied::{Copied, CopyWhy};
 use crate::copying::{copy_in, copy_out};
-use crate::ends::{Sink, Source};
 use std::alloc::{AllocError, Global};
-use std::sync::Wait;
-use ymx_hub::{Off, ReadHalf, Seat, WriteHalf};
+use std::sync::{Mutex, Wait};
+use ymx_connect::{Reader, Writer};
+use ymx_hub::{Off, Seat};
 
 /// Bytes that a copy reads at once.
 const COPY_BUFFER: usize = 65_536;
@@ -22,50 +22,78 @@ pub struct EndedCopy {
     pub why: CopyWhy,
 }
 
-/// Copies from the connection into the stream, and spends its half. The buffer is made at its first use.
+/// A half of a stream, lent to the thread that spends it.
+pub(crate) struct Lent<H> {
+    half: Mutex<Option<H>>,
+}
+
+impl<H> Lent<H> {
+    /// Nobody has taken it yet.
+    pub(crate) fn new(half: H) -> Lent<H> {
+        Lent {
+            half: Mutex::new(Some(half)),
+        }
+    }
+
+    /// Takes it. `None` if it was taken before.
+    fn take<R: Wait>(&self, rt: &R) -> Option<H> {
+        self.half.lock(rt).take()
+    }
+
+    /// What nobody has taken.
+    pub(crate) fn into_inner(self) -> Option<H> {
+        let Lent { half } = self;
+        half.into_inner()
+    }
+}
+
+/// Copies from the connection into the stream by the half that is lent, and spends it.
 pub(crate) fn inward<R: Wait>(
     rt: &R,
     alloc: Global,
-    buffer: &mut Vec<u8>,
     line: &Line,
-    sink: WriteHalf<Off>,
+    lent: &Lent<Writer>,
 ) -> EndedCopy {
-    let Ok(()) = make_buffer(alloc, buffer) else {
-        spend(rt, Some(sink), None);
+    let Some(writer) = lent.take(rt) else {
+        return ended(line, 0, CopyWhy::Sink);
+    };
+    let Ok(mut buffer) = copy_buffer(alloc) else {
+        let _ = writer.reset(rt);
         return ended(line, 0, CopyWhy::Memory);
     };
-    let mut reader = LineReader::new(line);
-    let Copied { bytes, why, left } = copy_in(rt, &mut reader, sink, buffer.as_mut_slice());
+    let mut inlet = LineReader::new(line);
+    let sink = writer.into_half();
+    let Copied { bytes, why, left } = copy_in(rt, &mut inlet, sink, buffer.as_mut_slice());
     let_go(left);
     ended(line, bytes, why)
 }
 
-/// Copies from the stream out to the connection, and spends its half. The buffer is made at its first use.
+/// Copies from the stream out to the connection by the half that is lent, and spends it.
 pub(crate) fn outward<R: Wait>(
     rt: &R,
     alloc: Global,
-    buffer: &mut Vec<u8>,
     line: &Line,
-    source: ReadHalf<Off>,
+    lent: &Lent<Reader>,
 ) -> EndedCopy {
-    let Ok(()) = make_buffer(alloc, buffer) else {
-        spend(rt, None, Some(source));
+    let Some(reader) = lent.take(rt) else {
+        return ended(line, 0, CopyWhy::Source);
+    };
+    let Ok(mut buffer) = copy_buffer(alloc) else {
+        let _ = reader.close(rt);
         return ended(line, 0, CopyWhy::Memory);
     };
-    let mut writer = LineWriter::new(line);
-    let Copied { bytes, why, left } = copy_out(rt, source, &mut writer, buffer.as_mut_slice());
+    let mut outlet = LineWriter::new(line);
+    let source = reader.into_half();
+    let Copied { bytes, why, left } = copy_out(rt, source, &mut outlet, buffer.as_mut_slice());
     let_go(left);
     ended(line, bytes, why)
 }
 
-/// Makes the buffer of a copy, unless it was made before.
-fn make_buffer(alloc: Global, buffer: &mut Vec<u8>) -> Result<(), AllocError>
-    ensures { OnOk result (0 < vec_len buffer.new) }
+/// The buffer of one copy.
+fn copy_buffer(alloc: Global) -> Result<Vec<u8>, AllocError>
+    ensures { IfOk result (λ buffer. 0 < vec_len buffer) }
 {
-    if buffer.is_empty() {
-        *buffer = vec![in alloc; 0u8; COPY_BUFFER]?;
-    }
-    Ok(())
+    vec![in alloc; 0u8; COPY_BUFFER]
 }
 
 /// One direction has ended. At a fault the connection is shut both ways, so that the other direction ends too. It
@@ -80,14 +108,12 @@ pub(crate) fn ended(line: &Line, bytes: u64, why: CopyWhy) -> EndedCopy {
 }
 
 /// Spends the halves that are left: resets the stream, and closes it.
-pub(crate) fn spend<R: Wait>(rt: &R, sink: Option<WriteHalf<Off>>, source: Option<ReadHalf<Off>>) {
-    if let Some(sink) = sink {
-        let (seat, _) = Sink::reset(sink, rt);
-        let_go(seat);
+pub(crate) fn spend<R: Wait>(rt: &R, writer: Option<Writer>, reader: Option<Reader>) {
+    if let Some(writer) = writer {
+        let _ = writer.reset(rt);
     }
-    if let Some(source) = source {
-        let (seat, _) = Source::close(source, rt);
-        let_go(seat);
+    if let Some(reader) = reader {
+        let _ = reader.close(rt);
     }
 }
 

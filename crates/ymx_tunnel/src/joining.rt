@@ -1,13 +1,14 @@
-//! A connection joined to a stream: both ways at once, by a worker and its partner.
+//! A connection joined to a stream: both ways at once, each in a thread of its own.
 
 use crate::connections::{Connections, Line};
 use crate::copied::CopyWhy;
-use crate::direction::{EndedCopy, ended, inward, spend};
-use crate::partner::Worker;
+use crate::direction::{EndedCopy, Lent, inward, outward, spend};
 use std::alloc::Global;
 use std::net::TcpStream;
-use std::sync::{Arc, Wait};
-use ymx_hub::{Off, ReadHalf, WriteHalf};
+use std::sync::Wait;
+use std::thread;
+use std::thread::Threads;
+use ymx_connect::{Reader, Writer};
 
 /// A connection that has ended.
 #[derive(Clone, Copy, Debug, PartialEq, Eq)]
@@ -52,50 +53,41 @@ impl EndedConnection {
 /// Copies both ways until both copies have ended; meanwhile the connection is one of those that are open. At a fault of
 /// one direction the connection is shut both ways. Where no memory or no thread is found the stream is reset, and the
 /// connection is shut.
-pub(crate) fn join_both<R: Wait>(
+pub(crate) fn join_both<R: Threads + Wait + Sync>(
     rt: &R,
     alloc: Global,
     connections: &Connections,
-    worker: &mut Worker<'_>,
     stream: TcpStream,
-    sink: WriteHalf<Off>,
-    source: ReadHalf<Off>,
+    writer: Writer,
+    reader: Reader,
 ) -> EndedConnection {
     let Some(line) = connections.add(rt, alloc, stream) else {
-        spend(rt, Some(sink), Some(source));
+        spend(rt, Some(writer), Some(reader));
         return EndedConnection::without_memory();
     };
-    let joined = copy_both(rt, alloc, worker, &line, sink, source);
+    let (writer, reader) = (Lent::new(writer), Lent::new(reader));
+    let joined = copy_both(rt, alloc, &line, &writer, &reader);
+    spend(rt, writer.into_inner(), reader.into_inner());
     connections.remove(rt, &line);
     joined
 }
 
-/// Makes both copies, the one out of the stream by the partner. Without a partner it shuts the connection.
-fn copy_both<R: Wait>(
-    rt: &R,
+/// Makes both copies, the one out of the stream in another thread. Each spends the half that is lent to it. Without a
+/// thread it shuts the connection, and makes none.
+fn copy_both<'x, R: Threads + Wait + Sync>(
+    rt: &'x R,
     alloc: Global,
-    worker: &mut Worker<'_>,
-    line: &Arc<Line, Global>,
-    sink: WriteHalf<Off>,
-    source: ReadHalf<Off>,
+    line: &'x Line,
+    writer: &'x Lent<Writer>,
+    reader: &'x Lent<Reader>,
 ) -> EndedConnection {
-    let Some(lent) = lend(worker, line) else {
-        spend(rt, Some(sink), Some(source));
-        return EndedConnection {
-            inward: ended(line, 0, CopyWhy::Memory),
-            outward: ended(line, 0, CopyWhy::Memory),
+    thread::scope(thread::scope_env(), rt, move |scope| {
+        let Ok(other) = scope.spawn(move || outward(rt, alloc, line, reader)) else {
+            line.break_off();
+            return EndedConnection::without_memory();
         };
-    };
-    worker.partner.copy_out(rt, lent, source);
-    let inward = inward(rt, alloc, &mut worker.buffer, line, sink);
-    let outward = worker.partner.await_end(rt);
-    EndedConnection { inward, outward }
-}
-
-/// The connection for the partner, if there is one.
-fn lend(worker: &Worker<'_>, line: &Arc<Line, Global>) -> Option<Arc<Line, Global>> {
-    if !worker.has_partner {
-        return None;
-    }
-    Arc::try_clone(line).ok()
+        let inward = inward(rt, alloc, line, writer);
+        let outward = other.join(rt);
+        EndedConnection { inward, outward }
+    })
 }

@@ -10,12 +10,9 @@ mod copying;
 mod direction;
 mod ends;
 mod halves;
-mod idle;
 mod joining;
 mod network;
-mod partner;
 mod serving;
-mod slot;
 
 pub use connections::Connections;
 pub use copied::{Copied, CopyWhy};

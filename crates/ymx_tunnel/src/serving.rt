@@ -2,18 +2,15 @@
 
 use crate::connections::Connections;
 use crate::direction::spend;
-use crate::idle::{Accepted, IdleWorkers};
 use crate::joining::{EndedConnection, join_both};
 use crate::network::Network;
-use crate::partner::{Partner, Worker};
 use std::alloc::Global;
 use std::net::{SocketAddr, TcpListener, TcpStream};
 use std::sync::Wait;
 use std::sync::atomic::{AtomicBool, AtomicU64, Ordering};
+use std::thread;
 use std::thread::Threads;
-use std::{mem, thread};
-use ymx_connect::{Handle, HubFault};
-use ymx_hub::{Off, ReadHalf, WriteHalf};
+use ymx_connect::{Handle, HubFault, Reader, Writer};
 use ymx_model::CallFault;
 
 /// Who is told of connections that have ended. Connections are numbered 1, 2, 3, .. as they begin, and each is told of
@@ -56,11 +53,11 @@ struct Shared<'a, V: Watcher> {
     lacked_memory: AtomicBool,
 }
 
-/// Accepts connections, and has each served by a worker, a thread that opens a stream and copies both ways. A worker
-/// that has served its connection waits for the next one; if none waits a new one is made. A connection for which no
-/// thread can be made is closed, and so is one for which no stream can be opened. It ends after `count` connections, or
-/// at an accept that fails; without `count` also at the first connection that is accepted after the session was lost.
-/// Whoever sees that the session is over shuts the connections. It returns once all workers have ended.
+/// Accepts connections, and has each served by a worker, a thread of its own that opens a stream and copies both ways.
+/// A connection for which no thread can be made is closed, and so is one for which no stream can be opened. It ends
+/// after `count` connections, or at an accept that fails; without `count` also at the first connection that is accepted
+/// after the session was lost. Whoever sees that the session is over shuts the connections. It returns once all workers
+/// have ended.
 pub fn serve_local<R: Threads + Wait + Sync, V: Watcher>(
     rt: &R,
     alloc: Global,
@@ -71,8 +68,7 @@ pub fn serve_local<R: Threads + Wait + Sync, V: Watcher>(
     watcher: &V,
 ) -> Served {
     let shared = Shared::new(alloc, handle, connections, watcher);
-    let idle = IdleWorkers::new(alloc);
-    let (lent, waiting) = (&shared, &idle);
+    let lent = &shared;
     let accept_failed = thread::scope(thread::scope_env(), rt, |scope| {
         let mut accept_failed = false;
         for _ in 0..count.map_or(u64::MAX, u64::from) {
@@ -85,17 +81,13 @@ pub fn serve_local<R: Threads + Wait + Sync, V: Watcher>(
                 lent.refused(rt, number, HubFault::Call(CallFault::Lost));
                 break;
             }
-            let Err(first) = waiting.hand_over(rt, Accepted { number, stream }) else {
-                continue;
-            };
             if scope
-                .spawn(move || serve_connections(rt, lent, waiting, first))
+                .spawn(move || serve_connection(rt, lent, number, stream))
                 .is_err()
             {
                 lent.refused(rt, number, HubFault::Memory);
             }
         }
-        waiting.end(rt);
         accept_failed
     });
     shared.served(accept_failed)
@@ -130,101 +122,46 @@ pub fn serve_remote<R: Threads + Wait + Sync, N: Network, V: Watcher>(
     shared.served(false)
 }
 
-/// Serves this connection, and then one after the other for which it has waited. The partner is made for the first
-/// connection, and asked for again at the next one where no thread was found.
-fn serve_connections<R: Threads + Wait + Sync, V: Watcher>(
-    rt: &R,
-    shared: &Shared<'_, V>,
-    idle: &IdleWorkers,
-    first: Accepted,
-) {
-    let alloc = shared.alloc;
-    let partner = Partner::new();
-    let lent = &partner;
-    thread::scope(thread::scope_env(), rt, |scope| {
-        let mut worker = Worker::new(alloc, lent);
-        let mut next = Some(first);
-        for _ in rt.forever() {
-            let Some(accepted) = mem::replace(&mut next, None) else {
-                break;
-            };
-            if !worker.has_partner {
-                worker.has_partner = scope.spawn(move || lent.run(rt, alloc)).is_ok();
-            }
-            serve_connection(rt, shared, &mut worker, accepted);
-            next = idle.await_connection(rt);
-        }
-        worker.end(rt);
-    });
-    partner.let_go(rt);
-}
-
 /// Opens a stream for a connection, and copies both ways.
-fn serve_connection<R: Wait, V: Watcher>(
+fn serve_connection<R: Threads + Wait + Sync, V: Watcher>(
     rt: &R,
     shared: &Shared<'_, V>,
-    worker: &mut Worker<'_>,
-    accepted: Accepted,
+    number: u64,
+    stream: TcpStream,
 ) {
-    let Accepted { number, stream } = accepted;
     let _ = stream.set_nodelay(true);
-    match open_stream(rt, shared) {
-        Ok((sink, source)) => {
+    match shared.handle.open(rt) {
+        Ok((writer, reader)) => {
             let alloc = shared.alloc;
-            let joined = join_both(rt, alloc, shared.connections, worker, stream, sink, source);
+            let joined = join_both(rt, alloc, shared.connections, stream, writer, reader);
             shared.ended(rt, number, &joined);
         }
         Err(fault) => shared.refused(rt, number, fault),
     }
 }
 
-/// Opens a stream.
-fn open_stream<R: Wait, V: Watcher>(
-    rt: &R,
-    shared: &Shared<'_, V>,
-) -> Result<(WriteHalf<Off>, ReadHalf<Off>), HubFault> {
-    let (writer, reader) = shared.handle.open(rt)?;
-    Ok((writer.into_half(), reader.into_half()))
-}
-
-/// Accepts streams, one after the other, and serves each, until the session gives out no more. The partner is made for
-/// the first stream, and asked for again at the next one where no thread was found.
+/// Accepts streams, one after the other, and serves each, until the session gives out no more.
 fn serve_streams<R: Threads + Wait + Sync, N: Network, V: Watcher>(
     rt: &R,
     shared: &Shared<'_, V>,
     network: &N,
     target: SocketAddr,
 ) {
-    let alloc = shared.alloc;
-    let partner = Partner::new();
-    let lent = &partner;
-    thread::scope(thread::scope_env(), rt, |scope| {
-        let mut worker = Worker::new(alloc, lent);
-        for _ in rt.forever() {
-            let Some((sink, source)) = next_stream(rt, shared) else {
-                break;
-            };
-            if !worker.has_partner {
-                worker.has_partner = scope.spawn(move || lent.run(rt, alloc)).is_ok();
-            }
-            let number = shared.next_number();
-            let joined = serve_stream(rt, shared, network, target, &mut worker, sink, source);
-            shared.ended(rt, number, &joined);
-        }
-        worker.end(rt);
-    });
-    partner.let_go(rt);
+    for _ in rt.forever() {
+        let Some((writer, reader)) = next_stream(rt, shared) else {
+            return;
+        };
+        let number = shared.next_number();
+        let joined = serve_stream(rt, shared, network, target, writer, reader);
+        shared.ended(rt, number, &joined);
+    }
 }
 
 /// The next stream, unless the session gives out no more.
-fn next_stream<R: Wait, V: Watcher>(
-    rt: &R,
-    shared: &Shared<'_, V>,
-) -> Option<(WriteHalf<Off>, ReadHalf<Off>)> {
+fn next_stream<R: Wait, V: Watcher>(rt: &R, shared: &Shared<'_, V>) -> Option<(Writer, Reader)> {
     for _ in rt.forever() {
         match shared.handle.accept(rt) {
-            Ok(Some((writer, reader))) => return Some((writer.into_half(), reader.into_half())),
-            Ok(None) => return None,
+            Ok(stream) => return stream,
             Err(HubFault::Memory) => {
                 shared.lack_memory();
                 thread::yield_now();
@@ -236,22 +173,21 @@ fn next_stream<R: Wait, V: Watcher>(
 }
 
 /// Connects to the target for a stream, and copies both ways. If it can't connect the stream is reset.
-fn serve_stream<R: Wait, N: Network, V: Watcher>(
+fn serve_stream<R: Threads + Wait + Sync, N: Network, V: Watcher>(
     rt: &R,
     shared: &Shared<'_, V>,
     network: &N,
     target: SocketAddr,
-    worker: &mut Worker<'_>,
-    sink: WriteHalf<Off>,
-    source: ReadHalf<Off>,
+    writer: Writer,
+    reader: Reader,
 ) -> EndedConnection {
     match network.connect(target) {
         Some(stream) => {
             let alloc = shared.alloc;
-            join_both(rt, alloc, shared.connections, worker, stream, sink, source)
+            join_both(rt, alloc, shared.connections, stream, writer, reader)
         }
         None => {
-            spend(rt, Some(sink), Some(source));
+            spend(rt, Some(writer), Some(reader));
             EndedConnection::without_connection()
         }
     }

@@ -1,5 +1,5 @@
 use Rattle.std.proofs.Common.{arith, refl, inl, inr}
-use Rattle.ymx_tunnel.proofs.Moving.{empty_begins, empty_ends, empty_goes_on, empty_stops, no_sink}
+use Rattle.ymx_tunnel.proofs.Moving.{empty_begins, empty_at_end, empty_ends, empty_goes_on, empty_stops, no_sink}
 use Rattle.ymx_tunnel.proofs.copying.empty.Goals as goal
 
 pub round-init : goal.round-init
@@ -9,6 +9,21 @@ pub round-preserved : goal.round-preserved
 round-preserved g c =
     empty_goes_on _ _ _ _ _ _ _ _ _ _ _ c.in-Ok.count c.read.new.buffer c.round.invariant c.in-Ok.ensures.gave c.in-Ok-push_all.ensures.ok
     (omega (arith, c.in-Ok.ensures.within)) c.in-Ok-push_all.ensures.kept c.saturating_add-bytes.ensures
+
+pub returns-then-count-eq0-clause-moved : goal.returns-then-count-eq0-clause-moved
+returns-then-count-eq0-clause-moved g c = empty_at_end _ _ _ _ _ _ _ _ c.in-Ok.count c.read.new.buffer _ c.round.invariant c.in-Ok.ensures.gave c.if-count-eq0.true
+
+pub returns-then-count-eq0-clause-ended : goal.returns-then-count-eq0-clause-ended
+returns-then-count-eq0-clause-ended g c = λ e. c.in-Ok.ensures.ended c.if-count-eq0.true
+
+pub returns-then-count-eq0-clause-why : goal.returns-then-count-eq0-clause-why
+returns-then-count-eq0-clause-why g c = inl refl
+
+pub returns-then-count-eq0-clause-sink : goal.returns-then-count-eq0-clause-sink
+returns-then-count-eq0-clause-sink g c = λ e. cc
+
+pub returns-then-count-eq0-clause-writer_kept : goal.returns-then-count-eq0-clause-writer_kept
+returns-then-count-eq0-clause-writer_kept g c = inr c.round.invariant.kept
 
 pub returns-in-Err-clause-moved : goal.returns-in-Err-clause-moved
 returns-in-Err-clause-moved g c = empty_ends _ _ _ _ _ _ _ _ _ c.round.invariant c.in-Err.ensures.gave
