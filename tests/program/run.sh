@@ -50,6 +50,8 @@ expect 0 echoed nothing nothing selftest
 expect 2 nothing "$(says 'ymx: bad address localhost:1')" nothing local --listen localhost:1 --peer x
 expect 2 nothing "$(says 'ymx: bad address 127.0.0.1')" nothing local --listen 127.0.0.1:1 --peer 127.0.0.1
 expect 2 nothing "$(says 'ymx: bad address 127.0.0.1:65536')" nothing remote --bind 127.0.0.1:65536 --target x
+expect 2 nothing "$(says 'ymx: bad address x')" nothing local --listen 127.0.0.1:1 --await x
+expect 2 nothing "$(says 'ymx: bad address ')" nothing remote --call '' --target x
 
 # port_of FILE: the port that a program has said in this file, once it has
 port_of() {
@@ -124,6 +126,7 @@ holds 'what local -v says without a target' grep -q '^ymx: connection 1: .* byte
 holds 'both ends, frame by frame' python3 "$here/raw.py" "$ymx"
 holds 'connections beside others' python3 -B "$here/beside.py" "$ymx"
 holds 'one session after another' python3 -B "$here/kept.py" "$ymx"
+holds 'the side that calls is the one that serves' python3 -B "$here/calling.py" "$ymx"
 
 expect 0 "$here/help" nothing hello --help
 expect 0 "$here/local_help" nothing hello local --help
@@ -148,10 +151,28 @@ refuses() {
     fi
 }
 
+# says_next LINE: what the last mistake says in its second line
+says_next() {
+    if [ "$(sed -n 2p err)" = "$1" ]; then
+        good
+    else
+        bad "another text, and not '$1':" err
+    fi
+}
+
 refuses 'error: '
 refuses 'error: ' frame
 refuses 'error: ' local
 refuses 'error: ' remote --bind 127.0.0.1:0
+refuses 'error: ' remote --call 127.0.0.1:1
+# just one way to meet the peer
+neither='error: the following required arguments were not provided:'
+refuses "$neither" local --listen 127.0.0.1:0
+says_next '  <--peer <ADDRESS>|--await <ADDRESS>>'
+refuses "$neither" remote --target 127.0.0.1:1
+says_next '  <--call <ADDRESS>|--bind <ADDRESS>>'
+refuses "error: the argument '--peer <ADDRESS>' cannot be used with '--await <ADDRESS>'" local --listen 127.0.0.1:0 --peer 127.0.0.1:1 --await 127.0.0.1:0
+refuses "error: the argument '--call <ADDRESS>' cannot be used with '--bind <ADDRESS>'" remote --target 127.0.0.1:1 --bind 127.0.0.1:0 --call 127.0.0.1:1
 # a number is decimal digits alone: no sign, no blank, no empty text
 for limit in 262143 16777217 x -1 +262144 -262144 ' 262144' '262144 ' 262_144 0x40000 ''; do
     refuses 'error: ' frames "--limit=$limit"

@@ -7,7 +7,7 @@ use Rattle.clap.specs.declared.parser.matches.ArgMatches.{ArgMatches}
 use Rattle.clap.specs.declared.parser.matches.ArgMatches.TheViews.{out-ArgMatches}
 use Rattle.clap.specs.Words.{Row, Text, one_of, subcommand_name_of, subcommand_rows_of}
 use Rattle.clap.specs.Walk.{first_of}
-use Rattle.ymx_cli.specs.CommandLine.{HasBadNumber, IsBad, IsBadEnd, IsNotSaid, IsNumberIn, ReadsAs, named_words}
+use Rattle.ymx_cli.specs.CommandLine.{HasBadOption, IsBad, IsBadEnd, IsNotSaid, IsNumberIn, IsUndecided, ReadsAs, named_words}
 
 -- the rows of a subcommand that was met have its limit
 pub named_text : (rows : List Row) (met : Option (Text × List Row)) (name : Text) (text word : Option Text) → Some rows ≡ option_map (λ p. p.1) met →
@@ -83,20 +83,22 @@ differ : (name other : Text) → name ≡ other → (get_or name 0 0 ≡ get_or 
 differ name other e apart = apart (first_letter name other e)
 
 -- the number of `frames` is its limit
-pub frames_numbers : (rows : List Row) → HasBadNumber (codes "frames", rows) → IsBad 262144 16777216 (first_of (codes "limit") rows)
+pub frames_numbers : (rows : List Row) → HasBadOption (codes "frames", rows) → IsBad 262144 16777216 (first_of (codes "limit") rows)
 frames_numbers rows (inl h) = h.1
 frames_numbers rows (inr (inl h)) = absurd (differ (codes "frames") (codes "local") h.0 (λ e. omega arith))
 frames_numbers rows (inr (inr h)) = absurd (differ (codes "frames") (codes "remote") h.0 (λ e. omega arith))
 
 -- those of `local`
-pub local_numbers : (rows : List Row) → IsBadEnd (codes "local") rows → IsBad 0 4294967295 (first_of (codes "count") rows) ⊎ IsBad 262144 16777216 (first_of (codes "window") rows)
-local_numbers rows (inl h) = h.1
-local_numbers rows (inr h) = absurd (differ (codes "local") (codes "remote") h.0 (λ e. omega arith))
+pub local_options : (rows : List Row) → IsBadEnd (codes "local") rows →
+    IsBad 0 4294967295 (first_of (codes "count") rows) ⊎ (IsBad 262144 16777216 (first_of (codes "window") rows) ⊎ IsUndecided (first_of (codes "peer") rows) (first_of (codes "await") rows))
+local_options rows (inl h) = h.1
+local_options rows (inr h) = absurd (differ (codes "local") (codes "remote") h.0 (λ e. omega arith))
 
 -- those of `remote`
-pub remote_numbers : (rows : List Row) → IsBadEnd (codes "remote") rows → IsBad 262144 16777216 (first_of (codes "window") rows) ⊎ IsBad 1 1024 (first_of (codes "workers") rows)
-remote_numbers rows (inl h) = absurd (differ (codes "remote") (codes "local") h.0 (λ e. omega arith))
-remote_numbers rows (inr h) = h.1
+pub remote_options : (rows : List Row) → IsBadEnd (codes "remote") rows →
+    IsBad 262144 16777216 (first_of (codes "window") rows) ⊎ (IsBad 1 1024 (first_of (codes "workers") rows) ⊎ IsUndecided (first_of (codes "call") rows) (first_of (codes "bind") rows))
+remote_options rows (inl h) = absurd (differ (codes "remote") (codes "local") h.0 (λ e. omega arith))
+remote_options rows (inr h) = h.1
 
 -- no subcommand was met
 pub none_met : (met : Option (Text × List Row)) (P : Text × List Row → Type 0) → None ≡ option_map (λ p. p.0) met → IsSomeAnd met P → ⊥

@@ -9,9 +9,15 @@ use Rattle.clap.specs.Words.{App, Row, Rule, Shape, Text, new_app, new_rule, one
 use Rattle.clap.specs.declared.builder.action.ArgAction.TheVariants.{Set, SetTrue}
 use Rattle.clap.specs.declared.builder.value_parser.ValueParser.TheVariants as parser
 use Rattle.clap.specs.declared.error.kind.ErrorKind.{ErrorKind}
-use Rattle.clap.specs.declared.error.kind.ErrorKind.TheVariants.{DisplayHelp, DisplayVersion}
+use Rattle.clap.specs.declared.error.kind.ErrorKind.TheVariants.{ArgumentConflict, DisplayHelp, DisplayVersion, MissingRequiredArgument, ValueValidation}
+use Rattle.ymx_forward.specs.declared.meeting.Meeting.{Meeting}
+use Rattle.ymx_forward.specs.declared.meeting.Meeting.TheVariants as met
+use Rattle.ymx_cli.specs.declared.arguments.BadOption.{BadOption}
+use Rattle.ymx_cli.specs.declared.arguments.BadOption.TheVariants as bad
 use Rattle.ymx_cli.specs.declared.command.Task.{Task}
 use Rattle.ymx_cli.specs.declared.command.Task.TheVariants.{Frames, Script, Tunnel as ATunnel}
+use Rattle.ymx_cli.specs.declared.tunnel.AskedMeeting.{AskedMeeting}
+use Rattle.ymx_cli.specs.declared.tunnel.AskedMeeting.TheVariants as asked
 use Rattle.ymx_cli.specs.declared.tunnel.Tunnel.{Tunnel}
 use Rattle.ymx_cli.specs.declared.tunnel.Tunnel.TheVariants as tunnel
 
@@ -79,14 +85,17 @@ frames_shape = (with_rule (with_rule (new_app (codes "frames")) limit_rule) file
 abbrev pub script_shape : Shape
 script_shape = (with_rule (new_app (codes "script")) file_rule).top
 
--- `--NAME`, whose value is an address, and must be given
-abbrev pub address_rule : Text → Rule
-address_rule name = record (new_rule name) {
+-- `--NAME`, whose value is the address of one way to meet the peer
+abbrev pub meeting_rule : Text → Rule
+meeting_rule name = record (new_rule name) {
   long = Some name;
   action = Some Set;
   value_names = 1;
-  required = true;
 }
+
+-- `--NAME`, whose value is an address, and must be given
+abbrev pub address_rule : Text → Rule
+address_rule name = record (meeting_rule name) { required = true }
 
 -- `--count`, whose value is a number of 32 bits
 abbrev pub count_rule : Rule
@@ -117,7 +126,7 @@ keep_rule = record (new_rule (codes "keep")) {
 
 -- `local` with its addresses
 abbrev pub local_start : App
-local_start = with_rule (with_rule (new_app (codes "local")) (address_rule (codes "listen"))) (address_rule (codes "peer"))
+local_start = with_rule (with_rule (with_rule (new_app (codes "local")) (address_rule (codes "listen"))) (meeting_rule (codes "peer"))) (meeting_rule (codes "await"))
 
 -- `local`
 abbrev pub local_shape : Shape
@@ -125,7 +134,7 @@ local_shape = (with_rule (with_rule (with_rule (with_rule local_start keep_rule)
 
 -- `remote` with its addresses
 abbrev pub remote_start : App
-remote_start = with_rule (with_rule (new_app (codes "remote")) (address_rule (codes "bind"))) (address_rule (codes "target"))
+remote_start = with_rule (with_rule (with_rule (new_app (codes "remote")) (meeting_rule (codes "bind"))) (meeting_rule (codes "call"))) (address_rule (codes "target"))
 
 -- `remote`
 abbrev pub remote_shape : Shape
@@ -174,19 +183,29 @@ ReadsOr least most default (Some text) number = IsNumberIn least most text × (n
 abbrev pub IsBad : (least most : ℕ) → Option Text → Type 0
 IsBad least most given = IsSomeAnd given (λ text. IsNumberIn least most text → ⊥)
 
--- of an end of a tunnel: a text was given to one of its options that is no number of its range
+-- Of two options, of which just one must be given, none was given these texts, or both.
+abbrev pub IsUndecided : Option Text → Option Text → Type 0
+IsUndecided None None = ⊤
+IsUndecided None (Some text) = ⊥
+IsUndecided (Some text) None = ⊥
+IsUndecided (Some text) (Some other) = ⊤
+
+-- of an end of a tunnel: a text was given to one of its options that is no number of its range, or no way to meet its peer, or two
 abbrev pub IsBadEnd : Text → List Row → Type 0
 IsBadEnd name rows =
-    ((name ≡ codes "local") × (IsBad 0 4294967295 (first_of (codes "count") rows) ⊎ IsBad 262144 16777216 (first_of (codes "window") rows)))
-    ⊎ ((name ≡ codes "remote") × (IsBad 262144 16777216 (first_of (codes "window") rows) ⊎ IsBad 1 1024 (first_of (codes "workers") rows)))
+    ((name ≡ codes "local") × (IsBad 0 4294967295 (first_of (codes "count") rows) ⊎ (IsBad 262144 16777216 (first_of (codes "window") rows)
+    ⊎ IsUndecided (first_of (codes "peer") rows) (first_of (codes "await") rows))))
+    ⊎ ((name ≡ codes "remote") × (IsBad 262144 16777216 (first_of (codes "window") rows) ⊎ (IsBad 1 1024 (first_of (codes "workers") rows)
+    ⊎ IsUndecided (first_of (codes "call") rows) (first_of (codes "bind") rows))))
 
 -- of a subcommand that was met: the same
-abbrev pub HasBadNumber : Text × List Row → Type 0
-HasBadNumber (name, rows) = ((name ≡ codes "frames") × IsBad 262144 16777216 (first_of (codes "limit") rows)) ⊎ IsBadEnd name rows
+abbrev pub HasBadOption : Text × List Row → Type 0
+HasBadOption (name, rows) = ((name ≡ codes "frames") × IsBad 262144 16777216 (first_of (codes "limit") rows)) ⊎ IsBadEnd name rows
 
--- The words name a subcommand, and give one of its options a text that is no number of its range.
-abbrev pub GivesBadNumber : List Text → Type 0
-GivesBadNumber words = IsSomeAnd (subcommand_of ymx_app words) HasBadNumber
+-- The words name a subcommand, and give one of its options a text that is no number of its range, or an end of a tunnel no way to
+-- meet its peer, or two.
+abbrev pub GivesBadOption : List Text → Type 0
+GivesBadOption words = IsSomeAnd (subcommand_of ymx_app words) HasBadOption
 
 -- ---- words that print nothing on standard output
 
@@ -200,8 +219,8 @@ NamesAnother words = IsSomeAnd (subcommand_of ymx_app words) (λ p. (p.0 ≡ cod
 
 -- an end of a tunnel: it writes nothing to standard output
 abbrev pub IsEnd : Tunnel → Type 0
-IsEnd (tunnel.Local listen peer count window keep verbose) = ⊤
-IsEnd (tunnel.Remote bind target window workers keep verbose) = ⊤
+IsEnd (tunnel.Local listen meeting count window keep verbose) = ⊤
+IsEnd (tunnel.Remote meeting target window workers keep verbose) = ⊤
 IsEnd tunnel.Selftest = ⊥
 
 -- the task is an end of a tunnel
@@ -222,8 +241,8 @@ IsNotSaid text = (text ≡ None) ⊎ (text ≡ Some (codes "false"))
 
 -- no end of a tunnel that says lines
 abbrev pub IsNotVerbose : Tunnel → Type 0
-IsNotVerbose (tunnel.Local listen peer count window keep verbose) = verbose ≡ false
-IsNotVerbose (tunnel.Remote bind target window workers keep verbose) = verbose ≡ false
+IsNotVerbose (tunnel.Local listen meeting count window keep verbose) = verbose ≡ false
+IsNotVerbose (tunnel.Remote meeting target window workers keep verbose) = verbose ≡ false
 IsNotVerbose tunnel.Selftest = ⊤
 
 -- no task that says lines
@@ -242,21 +261,58 @@ AsksNoLines words = IfSome (subcommand_of ymx_app words) (λ p. IsNotSaid (one_o
 abbrev pub ReadsFlag : Option Text → Bool → Type 0
 ReadsFlag text flag = (IsNotSaid text → flag ≡ false) × (text ≡ Some (codes "true") → flag ≡ true)
 
--- `local` is asked what its options say, of which each was given this text, or none: addresses as they stand, numbers as they are
--- spelled, and defaults where nothing was given.
+-- The peer is met so, where each option was given this text, or none: it is called at the address of the one option, or awaited at
+-- that of the other. Just one of them was given.
+abbrev pub IsMeetingOf : (given : Text → Option Text) → (calls awaits : Text) → AskedMeeting → Type 0
+IsMeetingOf given calls awaits (asked.Calls address) = (given calls ≡ Some address.now) × (given awaits ≡ None)
+IsMeetingOf given calls awaits (asked.Awaits address) = (given calls ≡ None) × (given awaits ≡ Some address.now)
+
+-- The mistake says which options name no way to meet the peer, as none was given, or which name two.
+abbrev pub IsBadMeeting : (given : Text → Option Text) → (calls awaits : Text) → BadOption → Type 0
+IsBadMeeting given calls awaits (bad.Number name text) = ⊥
+IsBadMeeting given calls awaits (bad.Neither one other) =
+    (one.now ≡ calls) × (other.now ≡ awaits) × (given calls ≡ None) × (given awaits ≡ None)
+IsBadMeeting given calls awaits (bad.Both one other) =
+    (one.now ≡ calls) × (other.now ≡ awaits) × (given calls ≢ None) × (given awaits ≢ None)
+
+-- what clap calls such a mistake
+abbrev pub kind_for : BadOption → ErrorKind
+kind_for (bad.Number name text) = ValueValidation
+kind_for (bad.Neither one other) = MissingRequiredArgument
+kind_for (bad.Both one other) = ArgumentConflict
+
+-- the options of `local` can't be taken: a number isn't in its range, or this mistake says what is wrong with the way to meet the peer
+abbrev pub IsBadLocal : (given : Text → Option Text) → BadOption → Type 0
+IsBadLocal given mistake =
+    IsBad 0 4294967295 (given (codes "count")) ⊎ (IsBad 262144 16777216 (given (codes "window")) ⊎ IsBadMeeting given (codes "peer") (codes "await") mistake)
+
+-- the same of `remote`
+abbrev pub IsBadRemote : (given : Text → Option Text) → BadOption → Type 0
+IsBadRemote given mistake =
+    IsBad 262144 16777216 (given (codes "window")) ⊎ (IsBad 1 1024 (given (codes "workers")) ⊎ IsBadMeeting given (codes "call") (codes "bind") mistake)
+
+-- the end is to meet its peer in the way that was asked
+abbrev pub IsWayOf : AskedMeeting → Meeting → Type 0
+IsWayOf (asked.Calls text) (met.Calls address) = ⊤
+IsWayOf (asked.Awaits text) (met.Awaits address) = ⊤
+IsWayOf (asked.Calls text) (met.Awaits address) = ⊥
+IsWayOf (asked.Awaits text) (met.Calls address) = ⊥
+
+-- `local` is asked what its options say, of which each was given this text, or none: addresses as they stand, one way to meet its
+-- peer, numbers as they are spelled, and defaults where nothing was given.
 abbrev pub IsLocalOf : (given : Text → Option Text) → (flag : Text → Option Text) → Tunnel → Type 0
-IsLocalOf given flag (tunnel.Local listen peer count window keep verbose) =
-    (listen.now ≡ unwrap_or (given (codes "listen")) []) × (peer.now ≡ unwrap_or (given (codes "peer")) [])
+IsLocalOf given flag (tunnel.Local listen meeting count window keep verbose) =
+    (listen.now ≡ unwrap_or (given (codes "listen")) []) × IsMeetingOf given (codes "peer") (codes "await") meeting
     × ReadsAs 0 4294967295 (given (codes "count")) count × ReadsOr 262144 16777216 262144 (given (codes "window")) window
     × ReadsFlag (flag (codes "keep")) keep × ReadsFlag (flag (codes "verbose")) verbose
-IsLocalOf given flag (tunnel.Remote bind target window workers keep verbose) = ⊥
+IsLocalOf given flag (tunnel.Remote meeting target window workers keep verbose) = ⊥
 IsLocalOf given flag tunnel.Selftest = ⊥
 
 -- the same of `remote`
 abbrev pub IsRemoteOf : (given : Text → Option Text) → (flag : Text → Option Text) → Tunnel → Type 0
-IsRemoteOf given flag (tunnel.Remote bind target window workers keep verbose) =
-    (bind.now ≡ unwrap_or (given (codes "bind")) []) × (target.now ≡ unwrap_or (given (codes "target")) [])
+IsRemoteOf given flag (tunnel.Remote meeting target window workers keep verbose) =
+    IsMeetingOf given (codes "call") (codes "bind") meeting × (target.now ≡ unwrap_or (given (codes "target")) [])
     × ReadsOr 262144 16777216 262144 (given (codes "window")) window × ReadsOr 1 1024 1024 (given (codes "workers")) workers
     × ReadsFlag (flag (codes "keep")) keep × ReadsFlag (flag (codes "verbose")) verbose
-IsRemoteOf given flag (tunnel.Local listen peer count window keep verbose) = ⊥
+IsRemoteOf given flag (tunnel.Local listen meeting count window keep verbose) = ⊥
 IsRemoteOf given flag tunnel.Selftest = ⊥

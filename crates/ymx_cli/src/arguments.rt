@@ -37,13 +37,15 @@ pub(crate) fn number_argument<'a>(
         .help(help)
 }
 
-/// A text that is no number of its argument.
+/// Why the options of a subcommand can't be taken, of which clap has found none bad.
 #[derive(Clone, Copy)]
-pub(crate) struct BadNumber<'a> {
-    /// The name of the argument.
-    pub(crate) name: &'a str,
-    /// What was given.
-    pub(crate) text: &'a str,
+pub(crate) enum BadOption<'a> {
+    /// This text is no number of the option of this name.
+    Number { name: &'a str, text: &'a str },
+    /// None of these two options was given, of which one must be.
+    Neither { calls: &'a str, awaits: &'a str },
+    /// Both of these two options were given, of which one must be.
+    Both { calls: &'a str, awaits: &'a str },
 }
 
 /// The number that `--NAME` was given, if it was given one: decimal digits alone, with a value from `least` to `most`.
@@ -52,7 +54,7 @@ pub(crate) fn number_of<'a>(
     name: &'a str,
     least: u32,
     most: u32,
-) -> Result<Option<u32>, BadNumber<'a>>
+) -> Result<Option<u32>, BadOption<'a>>
     ensures { MatchResult result (ReadsAs least most (first_value (found_of found.now) name.now)) (λ _. IsBad least most (first_value (found_of found.now) name.now)) }
 {
     let Some(text) = found.get_str(name) else {
@@ -60,7 +62,7 @@ pub(crate) fn number_of<'a>(
     };
     match number_in(text, least, most) {
         Some(number) => Ok(Some(number)),
-        None => Err(BadNumber { name, text }),
+        None => Err(BadOption::Number { name, text }),
     }
 }
 

@@ -6,10 +6,10 @@ ghost use Rattle.std.specs.declared.io.ErrorKind.TheVariants.{InvalidData};
 ghost use Rattle.std.specs.Io.KnownBytes.{Keeps};
 ghost use Rattle.clap.specs.Words.{app_of, first_value, found_of, kind_of, one_of, rule_of, shape_of, subcommand_rows_of, with_subcommand};
 ghost use Rattle.clap.specs.declared.builder.command.Command.TheViews.{out-Command as fields_of};
-ghost use Rattle.ymx_cli.specs.CommandLine.{AsksFrames, AsksNoHelp, AsksNoLines, AsksScript, GivesBadNumber, HasBadNumber, IsEndTask, IsFrames, IsMistake, IsNotSaid, IsScript, IsSilentTask, NamesAnother, bare_shape, file_of, file_rule, frames_shape, limit_rule, local_shape, named_words, remote_shape, script_shape, top_app, ymx_app};
+ghost use Rattle.ymx_cli.specs.CommandLine.{AsksFrames, AsksNoHelp, AsksNoLines, AsksScript, GivesBadOption, HasBadOption, IsEndTask, IsFrames, IsMistake, IsNotSaid, IsScript, IsSilentTask, NamesAnother, bare_shape, file_of, file_rule, frames_shape, kind_for, limit_rule, local_shape, named_words, remote_shape, script_shape, top_app, ymx_app};
 ghost use Rattle.ymx_cli.specs.Messages.{IsUntouched, PlaysFile, PlaysScript, PrintsFile, PrintsFrames, Refuses, SaysText, Shows, TakesText, TakesPart, change_of, fails, not_text, out_of_memory, reason, script_reason, writing_failed};
 
-use crate::arguments::{BadNumber, number_argument, number_of, titled};
+use crate::arguments::{BadOption, number_argument, number_of, titled};
 use crate::tunnel::{Tunnel, asked_tunnel, local_command, remote_command, run_tunnel};
 use clap::error::ErrorKind;
 use clap::{Arg, ArgAction, ArgMatches, Command, Error};
@@ -20,6 +20,7 @@ use std::io;
 use std::net::{Net, TcpListener, TcpStream};
 use std::sync::Wait;
 use std::thread::Threads;
+use std::time::Clock;
 use ymx_frames::{FramesEnd, frames, push_all};
 use ymx_model::{DeviceFault, Inlet, Outlet};
 use ymx_script::{ScriptEnd, script};
@@ -62,7 +63,7 @@ pub trait FileOpener {
 /// `errors`, and what `-v` asks for on `lines`. Answers the exit status: 0 if all went well, 1 at a fault, 2 for a bad
 /// command line.
 pub fn ymx_main<
-    T: Net<Stream = TcpStream, Listener = TcpListener> + Threads + Wait + Sync,
+    T: Net<Stream = TcpStream, Listener = TcpListener> + Threads + Clock + Wait + Sync,
     S: AsStr,
     F: FileOpener,
     R: Inlet,
@@ -116,8 +117,9 @@ pub fn ymx_main<
     // Words that name an end of a tunnel write nothing to the writer, unless they ask for help or the version.
     ensures silent { NamesAnother (map S.text words.now) → AsksNoHelp (map S.text words.now) →
         IsUntouched (change_of W.contents W.failures writer.old writer.new) }
-    // A number that isn't decimal digits alone, or is out of its range, is a mistake.
-    ensures numbers { GivesBadNumber (map S.text words.now) → AsksNoHelp (map S.text words.now) →
+    // A number that isn't decimal digits alone, or is out of its range, is a mistake. So is an end of a tunnel that is to
+    // meet its peer in no way, or in two.
+    ensures options { GivesBadOption (map S.text words.now) → AsksNoHelp (map S.text words.now) →
         (result ≡ 2) ⊎ Refuses result (change_of W.contents W.failures writer.old writer.new) (change_of E.contents E.failures errors.old errors.new) out_of_memory }
     // Without `-v` no lines are said.
     ensures unsaid { AsksNoLines (map S.text words.now) → IsUntouched (change_of L.contents L.failures lines.old lines.new) }
@@ -237,28 +239,53 @@ fn parse<'a, S: AsStr>(alloc: Global, words: &'a [S]) -> Result<Task<'a>, Error>
     ensures other { NamesAnother (map S.text words.entry.now) → IfOk result IsEndTask }
     ensures mistake { AsksNoHelp (map S.text words.entry.now) → IfErr result (λ error. IsMistake (kind_of error)) }
     ensures silent { AsksNoLines (map S.text words.entry.now) → IfOk result IsSilentTask }
-    ensures numbers { GivesBadNumber (map S.text words.entry.now) → IsErr result }
+    ensures options { GivesBadOption (map S.text words.entry.now) → IsErr result }
 {
     let matches = command(alloc)?.try_get_matches_from(words)?;
     match asked(&matches) {
         Ok(task) => Ok(task),
-        Err(bad) => Err(bad_number(alloc, bad)?),
+        Err(bad) => Err(bad_option(alloc, bad)?),
     }
 }
 
-/// The mistake of a text that is no number of its argument, in the form of clap's mistakes.
-fn bad_number(alloc: Global, bad: BadNumber<'_>) -> Result<Error, AllocError>
-    ensures { IfOk result (λ error. kind_of error ≡ ErrorKind.ValueValidation) }
+/// The mistake of options that can't be taken, in the form of clap's mistakes.
+fn bad_option(alloc: Global, bad: BadOption<'_>) -> Result<Error, AllocError>
+    ensures kind { IfOk result (λ error. kind_of error ≡ kind_for bad.entry) }
+    ensures mistake { IfOk result (λ error. IsMistake (kind_of error)) }
 {
-    let BadNumber { name, text } = bad;
-    let message = format!(in alloc;
-        "invalid value '{text}' for '--{name}': a number is decimal digits alone"
-    )?;
-    command(alloc)?.error(ErrorKind::ValueValidation, message.as_str())
+    let message = message_for(alloc, bad)?;
+    command(alloc)?.error(mistake_kind(bad), message.as_str())
+}
+
+/// The kind that clap has for such a mistake.
+fn mistake_kind(bad: BadOption<'_>) -> ErrorKind
+    ensures kind { result ≡ kind_for bad.entry }
+    ensures mistake { IsMistake result }
+{
+    match bad {
+        BadOption::Number { .. } => ErrorKind::ValueValidation,
+        BadOption::Neither { .. } => ErrorKind::MissingRequiredArgument,
+        BadOption::Both { .. } => ErrorKind::ArgumentConflict,
+    }
+}
+
+/// What is said of such a mistake.
+fn message_for(alloc: Global, bad: BadOption<'_>) -> Result<String, AllocError> {
+    match bad {
+        BadOption::Number { name, text } => format!(in alloc;
+            "invalid value '{text}' for '--{name}': a number is decimal digits alone"
+        ),
+        BadOption::Neither { calls, awaits } => format!(in alloc;
+            "the following required arguments were not provided:\n  <--{calls} <ADDRESS>|--{awaits} <ADDRESS>>"
+        ),
+        BadOption::Both { calls, awaits } => format!(in alloc;
+            "the argument '--{calls} <ADDRESS>' cannot be used with '--{awaits} <ADDRESS>'"
+        ),
+    }
 }
 
 /// What the matches of a command line ask for.
-fn asked<'a>(matches: &ArgMatches<'a>) -> Result<Task<'a>, BadNumber<'a>>
+fn asked<'a>(matches: &ArgMatches<'a>) -> Result<Task<'a>, BadOption<'a>>
     ensures frames { (limit : ℕ) (word : Option (List ℕ)) → 262144 ≤ limit → limit ≤ 16777216
         → named_words (subcommand_rows_of matches.now) ≡ Some (codes "frames", Some (decimal limit), word)
         → MatchResult result (IsFrames limit (option_and_then file_of word)) (λ _. ⊥) }
@@ -267,7 +294,7 @@ fn asked<'a>(matches: &ArgMatches<'a>) -> Result<Task<'a>, BadNumber<'a>>
     ensures other { IsSomeAnd (subcommand_rows_of matches.now) (λ p. (p.0 ≡ codes "local") ⊎ (p.0 ≡ codes "remote")) → IfOk result IsEndTask }
     ensures limits { IfOk result (λ task. (limit : ℕ) (file : Option (List ℕ)) → IsFrames limit file task → (262144 ≤ limit) × (limit ≤ 16777216)) }
     ensures silent { IfSome (subcommand_rows_of matches.now) (λ p. IsNotSaid (one_of (codes "verbose") p.1)) → IfOk result IsSilentTask }
-    ensures numbers { IsSomeAnd (subcommand_rows_of matches.now) HasBadNumber → IsErr result }
+    ensures options { IsSomeAnd (subcommand_rows_of matches.now) HasBadOption → IsErr result }
 {
     match matches.subcommand() {
         Some(("frames", found)) => {

@@ -3,16 +3,17 @@
 ghost use Rattle.std.specs.Prelude.{◌≡◌, ◌⊎◌, ◌≤◌, codes, false, IfOk, IfSome, IsErr, MatchResult};
 ghost use Rattle.clap.specs.Words.{app_of, first_value, found_of, one_text, rows_of, rule_of, shape_of};
 ghost use Rattle.clap.specs.declared.builder.command.Command.TheViews.{out-Command as fields_of};
-ghost use Rattle.ymx_cli.specs.CommandLine.{IsBad, IsBadEnd, IsEnd, IsLocalOf, IsNotSaid, IsNotVerbose, IsRemoteOf, ReadsOr, address_rule, count_rule, keep_rule, local_shape, local_start, remote_shape, remote_start, verbose_rule, window_rule, workers_rule};
+ghost use Rattle.ymx_cli.specs.CommandLine.{IsBad, IsBadEnd, IsBadLocal, IsBadMeeting, IsBadRemote, IsEnd, IsLocalOf, IsMeetingOf, IsNotSaid, IsNotVerbose, IsRemoteOf, IsUndecided, IsWayOf, ReadsOr, address_rule, count_rule, keep_rule, local_shape, local_start, meeting_rule, remote_shape, remote_start, verbose_rule, window_rule, workers_rule};
 ghost use Rattle.ymx_cli.specs.Messages.{IsUntouched, change_of};
 
-use crate::arguments::{BadNumber, number_argument, number_of, titled};
+use crate::arguments::{BadOption, number_argument, number_of, titled};
 use clap::{Arg, ArgAction, ArgMatches, Command};
 use std::alloc::{AllocError, Global};
 use std::net::{Net, SocketAddr, SocketAddrV4, TcpListener, TcpStream};
 use std::sync::Wait;
 use std::thread::Threads;
-use ymx_forward::{Local, Remote, run_local, run_remote, run_selftest};
+use std::time::Clock;
+use ymx_forward::{Local, Meeting, Remote, run_local, run_remote, run_selftest};
 use ymx_frames::push_all;
 use ymx_model::Outlet;
 
@@ -22,13 +23,22 @@ const DEFAULT_WINDOW: u32 = 262_144;
 /// How many streams `remote` serves at once where the command line says nothing.
 const DEFAULT_WORKERS: u32 = 1_024;
 
+/// How an end of the tunnel is asked to meet its peer. The address is not read yet.
+#[derive(Clone, Copy)]
+pub(crate) enum AskedMeeting<'a> {
+    /// It calls the peer at this address.
+    Calls(&'a str),
+    /// It listens at this address for the peer.
+    Awaits(&'a str),
+}
+
 /// What the words of a subcommand of the tunnel ask for. Addresses are not read yet.
 #[derive(Clone, Copy)]
 pub(crate) enum Tunnel<'a> {
     /// `local`.
     Local {
         listen: &'a str,
-        peer: &'a str,
+        meeting: AskedMeeting<'a>,
         count: Option<u32>,
         window: u32,
         is_kept: bool,
@@ -36,7 +46,7 @@ pub(crate) enum Tunnel<'a> {
     },
     /// `remote`.
     Remote {
-        bind: &'a str,
+        meeting: AskedMeeting<'a>,
         target: &'a str,
         window: u32,
         workers: u32,
@@ -51,10 +61,10 @@ pub(crate) enum Tunnel<'a> {
 pub(crate) fn asked_tunnel<'a>(
     name: &str,
     found: &ArgMatches<'a>,
-) -> Result<Tunnel<'a>, BadNumber<'a>>
+) -> Result<Tunnel<'a>, BadOption<'a>>
     ensures end { (name.now ≡ codes "local") ⊎ (name.now ≡ codes "remote") → IfOk result IsEnd }
     ensures silent { IsNotSaid (one_text (found_of found.now) (codes "verbose")) → IfOk result IsNotVerbose }
-    ensures numbers { IsBadEnd name.now (rows_of (found_of found.now)) → IsErr result }
+    ensures options { IsBadEnd name.now (rows_of (found_of found.now)) → IsErr result }
 {
     match name {
         "local" => asked_local(found),
@@ -64,19 +74,21 @@ pub(crate) fn asked_tunnel<'a>(
 }
 
 /// What the matches of `local` ask for.
-fn asked_local<'a>(found: &ArgMatches<'a>) -> Result<Tunnel<'a>, BadNumber<'a>>
+fn asked_local<'a>(found: &ArgMatches<'a>) -> Result<Tunnel<'a>, BadOption<'a>>
     ensures end { IfOk result IsEnd }
     ensures silent { IsNotSaid (one_text (found_of found.now) (codes "verbose")) → IfOk result IsNotVerbose }
     ensures count { IsBad 0 4294967295 (first_value (found_of found.now) (codes "count")) → IsErr result }
     ensures window { IsBad 262144 16777216 (first_value (found_of found.now) (codes "window")) → IsErr result }
+    ensures meeting { IsUndecided (first_value (found_of found.now) (codes "peer")) (first_value (found_of found.now) (codes "await")) → IsErr result }
     ensures read { MatchResult result (IsLocalOf (first_value (found_of found.now)) (one_text (found_of found.now)))
-        (λ _. IsBad 0 4294967295 (first_value (found_of found.now) (codes "count")) ⊎ IsBad 262144 16777216 (first_value (found_of found.now) (codes "window"))) }
+        (IsBadLocal (first_value (found_of found.now))) }
 {
     let count = number_of(found, "count", 0, u32::MAX)?;
     let window = window_of(found)?;
+    let meeting = meeting_of(found, "peer", "await")?;
     Ok(Tunnel::Local {
         listen: found.get_str("listen").unwrap_or(""),
-        peer: found.get_str("peer").unwrap_or(""),
+        meeting,
         count,
         window,
         is_kept: found.get_flag("keep"),
@@ -85,18 +97,20 @@ fn asked_local<'a>(found: &ArgMatches<'a>) -> Result<Tunnel<'a>, BadNumber<'a>>
 }
 
 /// What the matches of `remote` ask for.
-fn asked_remote<'a>(found: &ArgMatches<'a>) -> Result<Tunnel<'a>, BadNumber<'a>>
+fn asked_remote<'a>(found: &ArgMatches<'a>) -> Result<Tunnel<'a>, BadOption<'a>>
     ensures end { IfOk result IsEnd }
     ensures silent { IsNotSaid (one_text (found_of found.now) (codes "verbose")) → IfOk result IsNotVerbose }
     ensures window { IsBad 262144 16777216 (first_value (found_of found.now) (codes "window")) → IsErr result }
     ensures workers { IsBad 1 1024 (first_value (found_of found.now) (codes "workers")) → IsErr result }
+    ensures meeting { IsUndecided (first_value (found_of found.now) (codes "call")) (first_value (found_of found.now) (codes "bind")) → IsErr result }
     ensures read { MatchResult result (IsRemoteOf (first_value (found_of found.now)) (one_text (found_of found.now)))
-        (λ _. IsBad 262144 16777216 (first_value (found_of found.now) (codes "window")) ⊎ IsBad 1 1024 (first_value (found_of found.now) (codes "workers"))) }
+        (IsBadRemote (first_value (found_of found.now))) }
 {
     let window = window_of(found)?;
     let workers = number_of(found, "workers", 1, 1024)?;
+    let meeting = meeting_of(found, "call", "bind")?;
     Ok(Tunnel::Remote {
-        bind: found.get_str("bind").unwrap_or(""),
+        meeting,
         target: found.get_str("target").unwrap_or(""),
         window,
         workers: workers.unwrap_or(DEFAULT_WORKERS),
@@ -105,8 +119,26 @@ fn asked_remote<'a>(found: &ArgMatches<'a>) -> Result<Tunnel<'a>, BadNumber<'a>>
     })
 }
 
+/// How the peer is met: by a call of the address that `--CALLS` was given, or by listening at that of `--AWAITS`, just
+/// one of which must be given.
+fn meeting_of<'a>(
+    found: &ArgMatches<'a>,
+    calls: &'a str,
+    awaits: &'a str,
+) -> Result<AskedMeeting<'a>, BadOption<'a>>
+    ensures read { MatchResult result (IsMeetingOf (first_value (found_of found.now)) calls.entry.now awaits.entry.now) (IsBadMeeting (first_value (found_of found.now)) calls.entry.now awaits.entry.now) }
+    ensures undecided { IsUndecided (first_value (found_of found.now) calls.entry.now) (first_value (found_of found.now) awaits.entry.now) → IsErr result }
+{
+    match (found.get_str(calls), found.get_str(awaits)) {
+        (Some(address), None) => Ok(AskedMeeting::Calls(address)),
+        (None, Some(address)) => Ok(AskedMeeting::Awaits(address)),
+        (None, None) => Err(BadOption::Neither { calls, awaits }),
+        (Some(_), Some(_)) => Err(BadOption::Both { calls, awaits }),
+    }
+}
+
 /// The value of `--window`, or the default one.
-fn window_of<'a>(found: &ArgMatches<'a>) -> Result<u32, BadNumber<'a>>
+fn window_of<'a>(found: &ArgMatches<'a>) -> Result<u32, BadOption<'a>>
     ensures read { MatchResult result (ReadsOr 262144 16777216 262144 (first_value (found_of found.now) (codes "window"))) (λ _. IsBad 262144 16777216 (first_value (found_of found.now) (codes "window"))) }
     ensures bad { IsBad 262144 16777216 (first_value (found_of found.now) (codes "window")) → IsErr result }
 {
@@ -119,10 +151,7 @@ pub(crate) fn local_command<'a>(alloc: Global) -> Result<Command<'a>, AllocError
     ensures { IfOk result (λ command. (shape_of command ≡ local_shape) × ((fields_of command).has_globals ≡ false)) }
 {
     local_addresses(alloc)?
-        .arg(keep_argument(
-            alloc,
-            "Call the peer again at the next connection, once it was lost",
-        ))?
+        .arg(keep_argument(alloc, "Meet the peer again, once it was lost"))?
         .arg(count_argument(alloc))?
         .arg(window_argument(alloc))?
         .arg(verbose_argument(alloc))
@@ -143,7 +172,12 @@ fn local_addresses<'a>(alloc: Global) -> Result<Command<'a>, AllocError>
         "listen",
         "Where connections come from, as 127.0.0.1:8080",
     ))?
-    .arg(address(alloc, "peer", "Where the `ymx remote` listens"))
+    .arg(meeting_address(alloc, "peer", "Where the `ymx remote` listens"))?
+    .arg(meeting_address(
+        alloc,
+        "await",
+        "Where the `ymx remote` with --call connects to",
+    ))
 }
 
 /// The subcommand `remote`.
@@ -151,7 +185,7 @@ pub(crate) fn remote_command<'a>(alloc: Global) -> Result<Command<'a>, AllocErro
     ensures { IfOk result (λ command. (shape_of command ≡ remote_shape) × ((fields_of command).has_globals ≡ false)) }
 {
     remote_addresses(alloc)?
-        .arg(keep_argument(alloc, "Take the next peer once one has gone"))?
+        .arg(keep_argument(alloc, "Meet the next peer once one has gone"))?
         .arg(window_argument(alloc))?
         .arg(workers_argument(alloc))?
         .arg(verbose_argument(alloc))
@@ -167,19 +201,26 @@ fn remote_addresses<'a>(alloc: Global) -> Result<Command<'a>, AllocError>
         "Connect the streams of a session to a target",
         REMOTE_HELP,
     )
-    .arg(address(alloc, "bind", "Where the `ymx local` connects to"))?
+    .arg(meeting_address(alloc, "bind", "Where the `ymx local` connects to"))?
+    .arg(meeting_address(alloc, "call", "Where the `ymx local` with --await listens"))?
     .arg(address(alloc, "target", "Where each stream is connected to"))
 }
 
-/// An argument that is an address.
+/// An argument that is an address, and must be given.
 fn address<'a>(alloc: Global, name: &'a str, help: &'a str) -> Arg<'a>
     ensures { (rule_of result ≡ address_rule name.entry.now) × (result.global ≡ false) }
+{
+    meeting_address(alloc, name, help).required(true)
+}
+
+/// An argument that is the address of one way to meet the peer.
+fn meeting_address<'a>(alloc: Global, name: &'a str, help: &'a str) -> Arg<'a>
+    ensures { (rule_of result ≡ meeting_rule name.entry.now) × (result.global ≡ false) }
 {
     Arg::new(alloc, name)
         .long(name)
         .value_name("ADDRESS")
         .action(ArgAction::Set)
-        .required(true)
         .help(help)
 }
 
@@ -251,6 +292,7 @@ fn verbose_argument<'a>(alloc: Global) -> Arg<'a>
 /// What the help of `local` says at its end.
 const LOCAL_HELP: &str =
     "It connects to the peer, and then listens. An address is an IPv4 address and a port.
+With --await, in place of --peer, it listens for its peer first, and takes one.
 With --keep it goes on once the connection to its peer has ended.
 
 Example:
@@ -259,6 +301,7 @@ Example:
 /// What the help of `remote` says at its end.
 const REMOTE_HELP: &str =
     "It accepts one connection, and ends with it. An address is an IPv4 address and a port.
+With --call, in place of --bind, it connects to its peer, as behind a firewall.
 With --keep it goes on with the next one, and never ends by itself.
 
 Example:
@@ -267,7 +310,7 @@ Example:
 /// Does what was asked, and answers the exit status. A bad address is found before anything is connected or bound.
 /// Faults are said on `errors`, and what `-v` asks for on `lines`.
 pub(crate) fn run_tunnel<
-    R: Net<Stream = TcpStream, Listener = TcpListener> + Threads + Wait + Sync,
+    R: Net<Stream = TcpStream, Listener = TcpListener> + Threads + Clock + Wait + Sync,
     W: Outlet,
     E: Outlet,
     L: Outlet,
@@ -281,7 +324,7 @@ pub(crate) fn run_tunnel<
     match asked {
         Tunnel::Local {
             listen,
-            peer,
+            meeting,
             count,
             window,
             is_kept,
@@ -290,12 +333,12 @@ pub(crate) fn run_tunnel<
             let Some(listen) = read_address(listen, errors) else {
                 return 2;
             };
-            let Some(peer) = read_address(peer, errors) else {
+            let Some(meeting) = read_meeting(meeting, errors) else {
                 return 2;
             };
             let local = Local {
                 listen,
-                peer,
+                meeting,
                 count,
                 window,
                 is_kept,
@@ -304,21 +347,21 @@ pub(crate) fn run_tunnel<
             run_local(rt, alloc, local, errors, lines)
         }
         Tunnel::Remote {
-            bind,
+            meeting,
             target,
             window,
             workers,
             is_kept,
             is_verbose,
         } => {
-            let Some(bind) = read_address(bind, errors) else {
+            let Some(meeting) = read_meeting(meeting, errors) else {
                 return 2;
             };
             let Some(target) = read_address(target, errors) else {
                 return 2;
             };
             let remote = Remote {
-                bind,
+                meeting,
                 target,
                 window,
                 workers,
@@ -328,6 +371,16 @@ pub(crate) fn run_tunnel<
             run_remote(rt, alloc, remote, errors, lines)
         }
         Tunnel::Selftest => run_selftest(rt, alloc, writer, errors),
+    }
+}
+
+/// The way to meet the peer, with the address that its text spells. If it spells none, that is said.
+fn read_meeting<E: Outlet>(asked: AskedMeeting<'_>, errors: &mut E) -> Option<Meeting>
+    ensures { IfSome result (λ meeting. (errors.new ≡ errors.old) × IsWayOf asked.entry meeting) }
+{
+    match asked {
+        AskedMeeting::Calls(text) => Some(Meeting::Calls(read_address(text, errors)?)),
+        AskedMeeting::Awaits(text) => Some(Meeting::Awaits(read_address(text, errors)?)),
     }
 }
 

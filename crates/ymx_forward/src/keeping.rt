@@ -3,23 +3,35 @@
 ghost use Rattle.std.specs.Prelude.{◌≡◌, ◌≤◌};
 ghost use Rattle.std.specs.Io.KnownBytes.{Keeps};
 
-use crate::programs::{Local, Remote, remote_side, report_session};
+use crate::meeting::{Meeting, Met};
+use crate::programs::{Local, Remote, report_session};
 use crate::sockets::{accept, connect, listen};
-use crate::tell::{cannot_listen, lacks_memory};
+use crate::tell::cannot_listen;
 use crate::watching::ProgramWatcher;
 use std::alloc::Global;
-use std::net::{Net, TcpListener, TcpStream};
+use std::io;
+use std::net::{Net, SocketAddr, TcpListener, TcpStream};
 use std::sync::Wait;
-use ymx_loop::Station;
+use std::time::{Clock, Duration, Instant};
+use ymx_loop::{Peer, Station};
 use ymx_model::Outlet;
 
-/// Forwards each connection that comes, through this session and those that follow it. Once one is lost, the next
-/// connection has the peer called again; if it can't be reached the connection is closed. Ends once no more connections
-/// come. Says each fault as it comes, and answers the exit status.
-pub(crate) fn keep_local<R: Net<Stream = TcpStream> + Wait, V: ProgramWatcher, E: Outlet>(
+/// How many seconds a session lasts at least behind which the peer is called again at once.
+const LASTING: u64 = 1;
+
+/// How many seconds go by at most between two calls.
+const LONGEST_PAUSE: u64 = 30;
+
+/// Forwards each connection that comes, through the session with this peer and those that follow it. Ends once no more
+/// connections come, or no peer can. Says each fault as it comes, and answers the exit status.
+pub(crate) fn keep_local<
+    R: Net<Stream = TcpStream, Listener = TcpListener> + Wait,
+    V: ProgramWatcher,
+    E: Outlet,
+>(
     rt: &R,
     alloc: Global,
-    connection: TcpStream,
+    met: Met,
     station: &mut Station,
     asked: Local,
     watcher: &mut V,
@@ -28,6 +40,30 @@ pub(crate) fn keep_local<R: Net<Stream = TcpStream> + Wait, V: ProgramWatcher, E
     ensures status { result ≤ 1 }
     ensures good { result ≡ 0 → Keeps (E.contents errors.old) (E.contents errors.new) }
 {
+    match asked.meeting {
+        Meeting::Calls(_) => call_again(rt, alloc, met, station, asked, watcher, errors),
+        Meeting::Awaits(_) => await_again(rt, alloc, met, station, asked, watcher, errors),
+    }
+}
+
+/// Once a session is lost, the next connection has the peer called again; if it can't be reached the connection is
+/// closed.
+fn call_again<R: Net<Stream = TcpStream> + Wait, V: ProgramWatcher, E: Outlet>(
+    rt: &R,
+    alloc: Global,
+    met: Met,
+    station: &mut Station,
+    asked: Local,
+    watcher: &mut V,
+    errors: &mut E,
+) -> u8
+    ensures status { result ≤ 1 }
+    ensures good { result ≡ 0 → Keeps (E.contents errors.old) (E.contents errors.new) }
+{
+    let Met {
+        connection,
+        address,
+    } = met;
     let mut status = serve_local(rt, alloc, Some(connection), station, asked, watcher, errors);
     for _ in rt.forever() {
         if !station.await_connection(rt, alloc) {
@@ -36,7 +72,7 @@ pub(crate) fn keep_local<R: Net<Stream = TcpStream> + Wait, V: ProgramWatcher, E
             }
             return status;
         }
-        let next = connect(rt, asked.peer);
+        let next = connect(rt, address);
         let served = serve_local(rt, alloc, next, station, asked, watcher, errors);
         if status == 0 {
             status = served;
@@ -72,6 +108,84 @@ fn serve_local<R: Net + Wait, V: ProgramWatcher, E: Outlet>(
     status
 }
 
+/// Once a session is lost, the next peer is awaited. Connections that come while none is there are closed.
+fn await_again<
+    R: Net<Stream = TcpStream, Listener = TcpListener> + Wait,
+    V: ProgramWatcher,
+    E: Outlet,
+>(
+    rt: &R,
+    alloc: Global,
+    met: Met,
+    station: &mut Station,
+    asked: Local,
+    watcher: &mut V,
+    errors: &mut E,
+) -> u8
+    ensures status { result ≤ 1 }
+    ensures good { result ≡ 0 → Keeps (E.contents errors.old) (E.contents errors.new) }
+{
+    let Met {
+        connection,
+        address,
+    } = met;
+    let mut status = 0;
+    let mut next = Peer::new(connection);
+    for _ in rt.forever() {
+        let Some(peer) = next else {
+            return end_status(alloc, station, asked.listen, address, status, errors);
+        };
+        watcher.came();
+        let forwarded = station.forward_peer(rt, alloc, peer, asked.window, watcher);
+        let served = report_session(alloc, forwarded, errors);
+        if status == 0 {
+            status = served;
+        }
+        next = next_peer(rt, alloc, station, address, watcher);
+    }
+    unreachable!()
+}
+
+/// Waits at this address for the next peer, which can call once it is said that the last one has gone. None if no peer
+/// can be accepted there, or no connections come any more.
+fn next_peer<R: Net<Stream = TcpStream, Listener = TcpListener> + Wait, V: ProgramWatcher>(
+    rt: &R,
+    alloc: Global,
+    station: &mut Station,
+    address: SocketAddr,
+    watcher: &mut V,
+) -> Option<Peer> {
+    let listener = if station.is_over() {
+        None
+    } else {
+        listen(rt, address)
+    };
+    watcher.gone();
+    station.await_peer(rt, alloc, listener?, watcher)
+}
+
+/// The exit status where no session follows: `status`, unless connections can't be accepted any more, or peers.
+fn end_status<E: Outlet>(
+    alloc: Global,
+    station: &Station,
+    connections: SocketAddr,
+    peers: SocketAddr,
+    status: u8,
+    errors: &mut E,
+) -> u8
+    requires { status ≤ 1 }
+    ensures status { result ≤ 1 }
+    ensures good { result ≡ 0 → (status ≡ 0) × Keeps (E.contents errors.old) (E.contents errors.new) }
+{
+    if station.accept_failed() {
+        cannot_listen(alloc, connections, errors)
+    } else if station.is_over() {
+        status
+    } else {
+        cannot_listen(alloc, peers, errors)
+    }
+}
+
 /// Serves one peer after another, of which each is the only one while it is there, and connects each of its streams to
 /// the target. Says each fault as it comes. Ends only where nobody can be accepted any more, and answers the exit
 /// status.
@@ -82,30 +196,97 @@ pub(crate) fn keep_remote<
 >(
     rt: &R,
     alloc: Global,
-    listener: TcpListener,
+    met: Met,
+    station: &mut Station,
     asked: Remote,
     watcher: &mut V,
     errors: &mut E,
 ) -> u8
     ensures { result ≡ 1 }
 {
-    let address = listener.local_addr().unwrap_or(asked.bind);
-    let Some(mut station) = Station::new(rt, remote_side(asked), true) else {
-        return lacks_memory(errors);
-    };
-    let mut next = Some(listener);
+    let Met {
+        connection,
+        address,
+    } = met;
+    let mut next = Some(connection);
     for _ in rt.forever() {
-        let Some(listener) = next else {
-            return cannot_listen(alloc, address, errors);
-        };
-        let Some(connection) = accept(listener) else {
+        let Some(connection) = next else {
             return cannot_listen(alloc, address, errors);
         };
         watcher.came();
         let forwarded = station.forward(rt, alloc, connection, asked.window, watcher);
         report_session(alloc, forwarded, errors);
-        next = listen(rt, address);
-        watcher.gone();
+        next = next_connection(rt, address, watcher);
     }
     unreachable!()
+}
+
+/// Waits at this address for the connection of the next peer, which can call once it is said that the last one has gone.
+/// None if it can't be accepted there.
+fn next_connection<R: Net<Stream = TcpStream, Listener = TcpListener>, V: ProgramWatcher>(
+    rt: &R,
+    address: SocketAddr,
+    watcher: &mut V,
+) -> Option<TcpStream> {
+    let listener = listen(rt, address);
+    watcher.gone();
+    accept(listener?)
+}
+
+/// Calls this peer again and again, and connects each stream of a session to the target. Behind a call that failed, or a
+/// session that soon ended, it waits for a second, and each further time for twice as long, up to the longest pause.
+/// Says each fault of a session as it comes, and never ends.
+pub(crate) fn keep_calling<R: Net<Stream = TcpStream> + Clock + Wait, V: ProgramWatcher, E: Outlet>(
+    rt: &R,
+    alloc: Global,
+    peer: SocketAddr,
+    station: &mut Station,
+    asked: Remote,
+    watcher: &mut V,
+    errors: &mut E,
+) -> u8
+    ensures { result ≡ 1 }
+{
+    let mut seconds = 1u64;
+    for _ in rt.forever() {
+        if has_served(rt, alloc, peer, station, asked, watcher, errors) {
+            seconds = 1;
+        } else {
+            station.pause(alloc, Duration::from_secs(seconds));
+            seconds = seconds.saturating_mul(2).min(LONGEST_PAUSE);
+        }
+    }
+    unreachable!()
+}
+
+/// Calls this peer and, if it can be reached, serves it. Whether it was there for a while.
+fn has_served<R: Net<Stream = TcpStream> + Clock + Wait, V: ProgramWatcher, E: Outlet>(
+    rt: &R,
+    alloc: Global,
+    peer: SocketAddr,
+    station: &mut Station,
+    asked: Remote,
+    watcher: &mut V,
+    errors: &mut E,
+) -> bool {
+    let Some(connection) = connect(rt, peer) else {
+        watcher.unreached(peer);
+        return false;
+    };
+    let began = Instant::now(rt);
+    watcher.came();
+    let forwarded = station.forward(rt, alloc, connection, asked.window, watcher);
+    report_session(alloc, forwarded, errors);
+    watcher.gone();
+    has_lasted(rt, began)
+}
+
+/// Whether it is a while since then. Where the clock can't tell, it isn't.
+fn has_lasted<R: Clock>(rt: &R, began: io::Result<Instant>) -> bool {
+    match began {
+        Ok(began) => began
+            .elapsed(rt)
+            .is_ok_and(|passed| passed.as_secs() >= LASTING),
+        Err(_) => false,
+    }
 }

@@ -3,11 +3,13 @@
 #![tactic(auto)]
 
 mod keeping;
+mod meeting;
 mod programs;
 mod selftest;
 mod sockets;
 mod tell;
 mod watching;
 
+pub use meeting::Meeting;
 pub use programs::{Local, Remote, run_local, run_remote};
 pub use selftest::run_selftest;

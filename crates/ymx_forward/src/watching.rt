@@ -23,6 +23,9 @@ pub(crate) trait ProgramWatcher: Watcher {
 
     /// That session has ended.
     fn gone(&mut self);
+
+    /// The peer at this address can't be reached, and is called again.
+    fn unreached(&mut self, peer: SocketAddr);
 }
 
 impl ProgramWatcher for Unwatched {
@@ -31,6 +34,8 @@ impl ProgramWatcher for Unwatched {
     fn came(&mut self) {}
 
     fn gone(&mut self) {}
+
+    fn unreached(&mut self, _peer: SocketAddr) {}
 }
 
 /// Says that a tunnel is ready, and how each of its connections ended, a line each. Where the device fails the line is
@@ -84,6 +89,12 @@ impl<L: Outlet> ProgramWatcher for Notices<'_, L> {
 
     fn gone(&mut self) {
         self.say_text("ymx: the peer has gone");
+    }
+
+    fn unreached(&mut self, peer: SocketAddr) {
+        let mut line = Line::new();
+        let _ = writeln!(line, "ymx: cannot reach {peer}");
+        self.say(&line);
     }
 }
 

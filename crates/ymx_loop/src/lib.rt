@@ -5,6 +5,7 @@
 mod accepting;
 mod closing;
 mod forwarding;
+mod peer;
 mod sides;
 mod socket;
 mod station;
@@ -12,6 +13,7 @@ mod tunnel;
 mod watching;
 
 pub use forwarding::forward;
+pub use peer::Peer;
 pub use sides::{Forwarded, TunnelSide};
 pub use station::Station;
 pub use watching::{EndedConnection, Ending, Passed, Unwatched, Watcher};

@@ -2,8 +2,10 @@
 
 use crate::accepting::Listening;
 use crate::closing::close;
+use crate::peer::Peer;
 use crate::sides::{Forwarded, TunnelSide};
-use crate::tunnel::Tunnel;
+use crate::socket::Socket;
+use crate::tunnel::{Tunnel, wire_of};
 use crate::watching::Watcher;
 use mio::net::TcpStream;
 use mio::{Events, Poll, Token};
@@ -19,6 +21,9 @@ const EVENTS: usize = 256;
 
 /// The token of the listener for connections of users.
 pub(crate) const LISTENER: usize = 1;
+
+/// The token of the listener for peers, which is there while there is no session.
+const PEERS: usize = 2;
 
 /// Where connections come from, or where they go to.
 #[derive(Drop)]
@@ -75,19 +80,49 @@ impl Station {
         window: u32,
         watcher: &mut V,
     ) -> Forwarded {
+        match Peer::new(connection) {
+            Some(peer) => self.forward_peer(rt, alloc, peer, window, watcher),
+            None => Forwarded::without_memory(),
+        }
+    }
+
+    /// Runs a session with this peer, as [`Station::forward`] does over a connection.
+    pub fn forward_peer<R: Net + Wait, V: Watcher>(
+        &mut self,
+        rt: &R,
+        alloc: Global,
+        peer: Peer,
+        window: u32,
+        watcher: &mut V,
+    ) -> Forwarded {
         let Ok(mut events) = Events::with_capacity(alloc, EVENTS) else {
             return Forwarded::without_memory();
         };
         self.note_all();
-        let Some(mut tunnel) = Tunnel::new(alloc, connection, &mut *self, window) else {
+        let Ok(mut wire) = wire_of(peer, &self.poll) else {
             return Forwarded::without_memory();
         };
-        tunnel.run(rt, &mut events, watcher);
-        let forwarded = tunnel.forwarded();
-        let mut wire = tunnel.into_wire();
+        let Some(forwarded) = self.run(rt, alloc, &mut wire, window, &mut events, watcher) else {
+            return Forwarded::without_memory();
+        };
         let is_broken = forwarded.broken.is_some();
         close(rt, &mut self.poll, &mut events, &mut wire, is_broken);
         forwarded
+    }
+
+    /// Runs a session over this wire, until all that is due is sent. None where there is no memory for it.
+    fn run<R: Net + Wait, V: Watcher>(
+        &mut self,
+        rt: &R,
+        alloc: Global,
+        wire: &mut Socket,
+        window: u32,
+        events: &mut Events,
+        watcher: &mut V,
+    ) -> Option<Forwarded> {
+        let mut tunnel = Tunnel::new(alloc, wire, self, window)?;
+        tunnel.run(rt, events, watcher);
+        Some(tunnel.forwarded())
     }
 
     /// Connections may wait, of which an event was told before.
@@ -113,6 +148,42 @@ impl Station {
             }
         }
         unreachable!()
+    }
+
+    /// Waits, while there is no session, for the next peer at this listener, which is closed then. Connections that come
+    /// meanwhile are closed. None if no peer can be accepted, or no connections come any more.
+    pub fn await_peer<R: Wait, V: Watcher>(
+        &mut self,
+        rt: &R,
+        alloc: Global,
+        listener: net::TcpListener,
+        watcher: &mut V,
+    ) -> Option<Peer> {
+        let mut events = Events::with_capacity(alloc, EVENTS).ok()?;
+        let mut peers = self.listen_for_peers(listener).ok()?;
+        for _ in rt.forever() {
+            self.note_all();
+            peers.note_event();
+            if let Some(stream) = peers.accept() {
+                return Some(Peer::of(stream));
+            }
+            if self.take_waiting() {
+                self.refuse_waiting(watcher);
+            } else if self.is_over() || peers.is_over() || self.wait(&mut events).is_err() {
+                return None;
+            }
+        }
+        unreachable!()
+    }
+
+    /// Accepts peers of this listener, without waiting.
+    fn listen_for_peers(&self, listener: net::TcpListener) -> io::Result<Listening> {
+        Listening::new(listener, None, self.poll.registry(), Token(PEERS))
+    }
+
+    /// Waits for events.
+    fn wait(&mut self, events: &mut Events) -> io::Result<()> {
+        self.poll.poll(events, None)
     }
 
     /// Accepts a connection that the next session is to serve. False if none waits.
@@ -149,8 +220,8 @@ impl Station {
         }
     }
 
-    /// Whether no more connections come from a listener.
-    fn is_over(&self) -> bool {
+    /// Whether no more connections come from a listener, as all have come or an accept has failed.
+    pub fn is_over(&self) -> bool {
         match &self.side {
             Side::Local(listening) => listening.is_over(),
             Side::Remote { .. } => true,

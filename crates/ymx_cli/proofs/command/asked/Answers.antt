@@ -2,7 +2,7 @@ use Rattle.std.proofs.Common.{◌≡◌, Option, Some, ◌∙◌, ap, sym, subst
 use Rattle.std.specs.Prelude.{option_and_then, unwrap_or}
 use Rattle.clap.specs.Words.{found_of, first_value, rows_of, subcommand_rows_of}
 use Rattle.clap.proofs.WalkLemmas.{first_value-rows, one_text-rows}
-use Rattle.ymx_cli.specs.CommandLine.{HasBadNumber, IsBad, IsNotSaid, file_of}
+use Rattle.ymx_cli.specs.CommandLine.{HasBadOption, IsBad, IsNotSaid, file_of}
 use Rattle.ymx_cli.proofs.Read.{decimal_good, decimal_read, frames_numbers, name_met, named_text, not_said, of_met, read_is_good}
 use Rattle.ymx_cli.proofs.command.asked.Goals as goal
 
@@ -21,12 +21,12 @@ returns-in_ok-limit-in-Some-frames-default-clause-frames c = λ limit word low h
       c.named_file.ensures ∙ ap (option_and_then file_of) (first_value-rows found (codes "file") ∙ texts.1),
     )
 
-pub returns-in_ok-limit-in-Some-frames-default-clause-numbers : goal.returns-in_ok-limit-in-Some-frames-default-clause-numbers
-returns-in_ok-limit-in-Some-frames-default-clause-numbers c = λ bad.
+pub returns-in_ok-limit-in-Some-frames-default-clause-options : goal.returns-in_ok-limit-in-Some-frames-default-clause-options
+returns-in_ok-limit-in-Some-frames-default-clause-options c = λ bad.
     let found = found_of c.in-Some-frames-default.found.now in
     let met = subcommand_rows_of c.args.matches.now in
     let name : Some (codes "frames") ≡ option_map (λ p. p.0) met = ap Some (sym c.in-Some-frames-default.is-frames) ∙ c.in-Some-frames-default.ensures.name ∙ name_met c.args.matches.now in
-    let limit = frames_numbers (rows_of found) (of_met HasBadNumber (rows_of found) met (codes "frames") name c.in-Some-frames-default.ensures.rows bad) in
+    let limit = frames_numbers (rows_of found) (of_met HasBadOption (rows_of found) met (codes "frames") name c.in-Some-frames-default.ensures.rows bad) in
     absurd (read_is_good 262144 16777216 (first_value found (codes "limit")) c.in_ok-limit-in-Some-frames-default.limit c.in_ok-limit-in-Some-frames-default.ensures (subst (IsBad 262144 16777216) (sym (first_value-rows found (codes "limit"))) limit))
 
 pub returns-in-Some-script-default-clause-script : goal.returns-in-Some-script-default-clause-script

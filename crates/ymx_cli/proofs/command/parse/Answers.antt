@@ -4,7 +4,7 @@ use Rattle.clap.specs.Kinds.{HasKind}
 use Rattle.clap.specs.Words.{App, Text, is_simple, kind_of, subcommand_of, subcommand_rows_of, takes}
 use Rattle.clap.specs.declared.error.Error.{Error}
 use Rattle.clap.specs.declared.error.kind.ErrorKind.TheVariants.{OutOfMemory}
-use Rattle.ymx_cli.specs.CommandLine.{AsksNoHelp, GivesBadNumber, HasBadNumber, IsMistake, named_words, ymx_app}
+use Rattle.ymx_cli.specs.CommandLine.{AsksNoHelp, GivesBadOption, HasBadOption, IsMistake, named_words, ymx_app}
 use Rattle.ymx_cli.proofs.Asked.{asked_taken, is_simple-ymx, is_simple_and_free-ymx, script_taken}
 use Rattle.ymx_cli.proofs.command.parse.Goals as goal
 
@@ -64,12 +64,12 @@ returns-in-Ok-clause-silent g c = λ quiet.
     let rows : subcommand_rows_of c.in_ok-matches.matches ≡ subcommand_of ymx_app words = (c.in_ok-matches.ensures.matches (ap is_simple app ∙ is_simple-ymx)).1 ∙ ap (λ (a : App). subcommand_of a words) app in
     c.in-Ok.ensures.silent (rw rows quiet)
 
-pub returns-in-Ok-clause-numbers : goal.returns-in-Ok-clause-numbers
-returns-in-Ok-clause-numbers g c = λ bad.
+pub returns-in-Ok-clause-options : goal.returns-in-Ok-clause-options
+returns-in-Ok-clause-options g c = λ bad.
     let words = map g.S.AsStr.text c.args.words.now in
     let app = c.in_ok-command.ensures in
     let rows : subcommand_rows_of c.in_ok-matches.matches ≡ subcommand_of ymx_app words = (c.in_ok-matches.ensures.matches (ap is_simple app ∙ is_simple-ymx)).1 ∙ ap (λ (a : App). subcommand_of a words) app in
-    c.in-Ok.ensures.numbers (rw rows bad)
+    c.in-Ok.ensures.options (rw rows bad)
 
 -- digits of a number in its range are taken
 pub returns-clause-frames : goal.returns-clause-frames

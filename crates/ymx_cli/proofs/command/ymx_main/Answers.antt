@@ -186,22 +186,22 @@ by_reason : (A B C M : Type 0) → M → A ⊎ ((M → ⊥) × B × C) → A
 by_reason A B C M m (inl a) = a
 by_reason A B C M m (inr (none, b, c)) = absurd (none m)
 
-pub returns-in-Ok-Frames-default-None-clause-numbers : goal.returns-in-Ok-Frames-default-None-clause-numbers
-returns-in-Ok-Frames-default-None-clause-numbers g c = λ bad no_help. absurd (true≢false (sym (c.in-Ok-Frames-default-None.ensures.numbers bad)))
+pub returns-in-Ok-Frames-default-None-clause-options : goal.returns-in-Ok-Frames-default-None-clause-options
+returns-in-Ok-Frames-default-None-clause-options g c = λ bad no_help. absurd (true≢false (sym (c.in-Ok-Frames-default-None.ensures.options bad)))
 
-pub returns-in-Ok-Frames-default-Some-clause-numbers : goal.returns-in-Ok-Frames-default-Some-clause-numbers
-returns-in-Ok-Frames-default-Some-clause-numbers g c = λ bad no_help. absurd (true≢false (sym (c.in-Ok-Frames-default-Some.ensures.numbers bad)))
+pub returns-in-Ok-Frames-default-Some-clause-options : goal.returns-in-Ok-Frames-default-Some-clause-options
+returns-in-Ok-Frames-default-Some-clause-options g c = λ bad no_help. absurd (true≢false (sym (c.in-Ok-Frames-default-Some.ensures.options bad)))
 
-pub returns-in-Ok-Script-None-clause-numbers : goal.returns-in-Ok-Script-None-clause-numbers
-returns-in-Ok-Script-None-clause-numbers g c = λ bad no_help. absurd (true≢false (sym (c.in-Ok-Script-None.ensures.numbers bad)))
+pub returns-in-Ok-Script-None-clause-options : goal.returns-in-Ok-Script-None-clause-options
+returns-in-Ok-Script-None-clause-options g c = λ bad no_help. absurd (true≢false (sym (c.in-Ok-Script-None.ensures.options bad)))
 
-pub returns-in-Ok-Script-Some-clause-numbers : goal.returns-in-Ok-Script-Some-clause-numbers
-returns-in-Ok-Script-Some-clause-numbers g c = λ bad no_help. absurd (true≢false (sym (c.in-Ok-Script-Some.ensures.numbers bad)))
+pub returns-in-Ok-Script-Some-clause-options : goal.returns-in-Ok-Script-Some-clause-options
+returns-in-Ok-Script-Some-clause-options g c = λ bad no_help. absurd (true≢false (sym (c.in-Ok-Script-Some.ensures.options bad)))
 
-pub returns-in-Ok-Tunnel-clause-numbers : goal.returns-in-Ok-Tunnel-clause-numbers
-returns-in-Ok-Tunnel-clause-numbers g c = λ bad no_help. absurd (true≢false (sym (c.in-Ok-Tunnel.ensures.numbers bad)))
+pub returns-in-Ok-Tunnel-clause-options : goal.returns-in-Ok-Tunnel-clause-options
+returns-in-Ok-Tunnel-clause-options g c = λ bad no_help. absurd (true≢false (sym (c.in-Ok-Tunnel.ensures.options bad)))
 
-pub returns-in-Err-clause-numbers : goal.returns-in-Err-clause-numbers
-returns-in-Err-clause-numbers g c = λ bad no_help.
+pub returns-in-Err-clause-options : goal.returns-in-Err-clause-options
+returns-in-Err-clause-options g c = λ bad no_help.
     let mistake : IsMistake (kind_of c.in-Err.error) = c.in-Err.ensures.mistake no_help in
     by_status c.explain.result _ c.explain.ensures.status (λ e. (c.explain.ensures.help e).0 mistake) (λ e. by_reason _ _ _ _ mistake (c.explain.ensures.failed e))

@@ -1,17 +1,10 @@
-use Rattle.std.proofs.Common.{◌∙◌, Bool, Some, true, ap}
+use Rattle.std.proofs.Common.{◌∙◌, true, ap}
 use Rattle.clap.specs.Words.{Rule, rule_of}
-use Rattle.clap.specs.declared.builder.action.ArgAction.TheVariants.{Set}
 use Rattle.clap.specs.declared.builder.arg.Arg.{Arg}
 use Rattle.ymx_cli.proofs.tunnel.address.Goals as goal
 
--- the rule so far, and that it isn't for all subcommands
 pub returns : goal.returns
-returns c =
-    let long = ap rule_of c.long.ensures ∙ ap (λ (r : Rule). record r { long = Some c.args.name.now }) c.new.ensures.rule in
-    let named = ap rule_of c.value_name.ensures ∙ ap (λ (r : Rule). record r { value_names = 1 }) long in
-    let set = ap rule_of c.action.ensures ∙ ap (λ (r : Rule). record r { action = Some Set }) named in
-    let required = ap rule_of c.required.ensures ∙ ap (λ (r : Rule). record r { required = true }) set in
-    let global : Arg → Bool = λ a. a.global in (
-      ap rule_of c.help.ensures ∙ required,
-      ap global c.help.ensures ∙ ap global c.required.ensures ∙ ap global c.action.ensures ∙ ap global c.value_name.ensures ∙ ap global c.long.ensures ∙ c.new.ensures.optional.1,
-    )
+returns c = (
+  ap rule_of c.required.ensures ∙ ap (λ (r : Rule). record r { required = true }) c.meeting_address.ensures.0,
+  ap (λ (a : Arg). a.global) c.required.ensures ∙ c.meeting_address.ensures.1,
+)

@@ -1,5 +1,5 @@
 use Rattle.std.proofs.KnownBytes.{Keeps-trans}
-use Rattle.ymx_forward.proofs.keeping.keep_local.Goals as goal
+use Rattle.ymx_forward.proofs.keeping.call_again.Goals as goal
 
 pub returns-then-not-await_connection-clause-good : goal.returns-then-not-await_connection-clause-good
 returns-then-not-await_connection-clause-good g c = λ zero.

@@ -1,0 +1,77 @@
+//! How the two ends of a tunnel meet.
+
+ghost use Rattle.std.specs.Prelude.{IfSome};
+ghost use Rattle.std.specs.Io.KnownBytes.{Keeps};
+
+use crate::sockets::{accept, connect, listen};
+use crate::tell::{cannot_listen, cannot_reach};
+use crate::watching::ProgramWatcher;
+use std::alloc::Global;
+use std::net::{Net, SocketAddr, TcpListener, TcpStream};
+use ymx_model::Outlet;
+
+/// How a side meets its peer.
+#[derive(Clone, Copy, Debug, PartialEq, Eq)]
+pub enum Meeting {
+    /// It calls the peer at this address.
+    Calls(SocketAddr),
+    /// It listens at this address for the peer.
+    Awaits(SocketAddr),
+}
+
+/// A peer that was met.
+#[derive(Drop)]
+pub(crate) struct Met {
+    pub(crate) connection: TcpStream,
+    /// Where the next one is met: at the port that the system chose, where it chose one.
+    pub(crate) address: SocketAddr,
+}
+
+/// Meets the peer, after which nobody listens for others. If it can't, that is said.
+pub(crate) fn meet<
+    R: Net<Stream = TcpStream, Listener = TcpListener>,
+    V: ProgramWatcher,
+    E: Outlet,
+>(rt: &R, alloc: Global, meeting: Meeting, watcher: &mut V, errors: &mut E) -> Option<Met>
+    ensures { IfSome result (λ _. Keeps (E.contents errors.old) (E.contents errors.new)) }
+{
+    let met = match meeting {
+        Meeting::Calls(address) => call(rt, address),
+        Meeting::Awaits(address) => receive(rt, address, watcher),
+    };
+    if met.is_none() {
+        cannot_meet(alloc, meeting, errors);
+    }
+    met
+}
+
+/// Calls the peer at this address. None if it can't be reached.
+fn call<R: Net<Stream = TcpStream>>(rt: &R, address: SocketAddr) -> Option<Met> {
+    Some(Met {
+        connection: connect(rt, address)?,
+        address,
+    })
+}
+
+/// Waits at this address for the peer. None if it can't listen there.
+fn receive<R: Net<Stream = TcpStream, Listener = TcpListener>, V: ProgramWatcher>(
+    rt: &R,
+    address: SocketAddr,
+    watcher: &mut V,
+) -> Option<Met> {
+    let listener = listen(rt, address)?;
+    watcher.listening(&listener, address);
+    let address = listener.local_addr().unwrap_or(address);
+    Some(Met {
+        connection: accept(listener)?,
+        address,
+    })
+}
+
+/// Says that the peer can't be met so.
+fn cannot_meet<E: Outlet>(alloc: Global, meeting: Meeting, errors: &mut E) {
+    match meeting {
+        Meeting::Calls(address) => cannot_reach(alloc, address, errors),
+        Meeting::Awaits(address) => cannot_listen(alloc, address, errors),
+    };
+}
