@@ -25,7 +25,7 @@ FNS = {
  'status': ('', '', '(u ≡ status_number x.status) × (m ≡ x)'),
  'offered_count': ('', '', 'CountsOffered x u × (m ≡ x)'),
  'consume': ('id count', '', 'Consumes i j x u m'),
- 'unread': ('id', 'addresses', 'Shows i x u × (m ≡ x)'),
+ 'unread': ('id', 'addresses', 'Shows i x u × IsPlaced s.now w × (m ≡ x)'),
  'room': ('id', '', 'TellsRoom i x u × (m ≡ x)'),
  'is_at_end': ('id', '', 'TellsEnd i x u × (m ≡ x)'),
  'touched_ids': ('', 'ids', 'ListsIds x u s.now w × (m ≡ x)'),
@@ -49,7 +49,7 @@ IMPORTS = {
 'Rattle.ymx_model.specs.session.Sessions': 'Session', 'Rattle.ymx_model.specs.session.Emissions': 'is_ready',
 'Rattle.ymx_session.specs.Touched': 'Noted',
 'Rattle.ymx_c.specs.Answers': 'Answers Fills flag status_number',
-'Rattle.ymx_c.specs.Readiness': 'Shows Consumes CountsOffered TellsRoom TellsEnd ListsIds IsCleared',
+'Rattle.ymx_c.specs.Readiness': 'Shows Consumes CountsOffered TellsRoom TellsEnd ListsIds IsCleared IsPlaced',
 'Rattle.ymx_c.proofs.Lending': 'all_left all_fit all_go behind at_block held calls_lent',
 }
 # where the type of what lies at the pointer is defined
@@ -104,6 +104,40 @@ ymx_core_{name}_spec 𝓤 𝓛 𝓜 𝓡 wired =
     if 'call.' in fact: head.append('use Rattle.ymx_machine.specs.declared.types.Call.TheVariants as call')
     head += [f'use Rattle.ymx_c.specs.contracts.ymx_core_{name} as f', f'use Rattle.ymx_c.proofs.ymx_core_{name}.Statement.{{statement}}', f'use Rattle.ymx_c.proofs.ymx_core_{name}.Code as code', f'use Rattle.ymx_c.specs.contracts.face.{name} as g', f'use Rattle.ymx_c.proofs.face.{name}.Met.{{met}}','']
     return '\n'.join(head)+'\n'+body
+# Those of a pointer alone and of a pointer and one number are whole lemmas of proofs/Exports.antt.
+SHAPED = """-- `ymx_core_NAME` meets its contract: what lies at the pointer is lent to `face::NAME`.
+use Rattle.std.proofs.Common.{◌≡◌, [], ◌∷◌, refl, w32, MutBor}
+use base.Fraction.{full_share}
+use base.Logic.{id⊢}
+use mir.Val.{vint, vptr}
+use denote.Triple.Spec.{triple_of}
+use ROW.{the_row}
+use Rattle.ymx_model.specs.session.Sessions.{Session}
+use Rattle.ymx_model.specs.session.Emissions.{is_ready}
+use Rattle.ymx_session.specs.Touched.{Noted}
+use Rattle.ymx_c.specs.Answers.{Answers, flag, status_number}
+use Rattle.ymx_c.specs.Readiness.{CountsOffered, TellsRoom, TellsEnd, IsCleared}
+use Rattle.ymx_c.proofs.Exports.{SHAPE}
+use Rattle.ymx_c.specs.contracts.ymx_core_NAME as f
+use Rattle.ymx_c.proofs.ymx_core_NAME.Statement.{statement}
+use Rattle.ymx_c.proofs.ymx_core_NAME.Code as code
+use Rattle.ymx_c.specs.contracts.face.NAME as g
+use Rattle.ymx_c.proofs.face.NAME.Met.{met}
+
+pub ymx_core_NAME_spec : {M : Type 1} → statement M
+ymx_core_NAME_spec 𝓤 𝓛 𝓜 𝓡 wired =
+    SHAPE 𝓛 𝓜 𝓡 the_row _ f.Key.name g.Key.name (triple_of 𝓛 g.signature (g.spec 𝓛 𝓜.mem 𝓡.returns)) (λ KNOWN. FACT)
+    (code.unfolded 𝓤 𝓛.H 𝓜 𝓡 wired) (met 𝓤 𝓛 𝓜 𝓡 (code.calls-ymx_c::face::NAME 𝓡.env wired))
+    (λ κs qs a x b o α δ. let r : MutBor VALUE = record { ref_ptr = (b, o); ghost_name = δ; now = x } in (((α ∷ [], κs), (full_share, qs), tt, (r, a.1), (vptr b o ∷ [], OTHERS)), tt))
+    (λ κs qs a x b o α δ. refl) (λ κs qs a x b o α δ. id⊢ 𝓤 _) (λ κs qs a x b o α δ v. id⊢ 𝓤 _)
+"""
+def shaped(name, numbers, fact):
+    value = 'Noted' if name.startswith('touched_') else 'Session'
+    filled = {'NAME': name, 'ROW': ROWS[value], 'VALUE': value, 'FACT': fact, 'SHAPE': 'lends_numbered' if numbers else 'lends_alone',
+        'KNOWN': 'x i u m' if numbers else 'x u m', 'OTHERS': '(vint w32 a.1.0 ∷ [], tt)' if numbers else 'tt'}
+    head = ''.join(f'use {module} as {word}\n' for word, module in VARIANTS.items() if f'{word}.' in fact)
+    return only_used(re.sub('|'.join(filled), lambda it: filled[it[0]], SHAPED.replace('use Rattle.ymx_c.specs.contracts.ymx_core_NAME', head + 'use Rattle.ymx_c.specs.contracts.ymx_core_NAME', 1)))
+VARIANTS = {'event': 'Rattle.ymx_model.specs.declared.types.Event.TheVariants', 'call': 'Rattle.ymx_machine.specs.declared.types.Call.TheVariants'}
 # What is made: what lies at the address, how many numbers there are, what is made, and when it is or isn't, with the
 # places of the fact on the address in these two.
 MAKERS = {
@@ -242,7 +276,9 @@ def maker(name):
     body = re.sub('|'.join(sorted(filled, key=len, reverse=True)), lambda it: filled[it[0]], MAKER)
     body = re.sub('(Told|there|said)  m', r'\1 m', body)
     return only_used(body)
-texts = {name: (lambda name=name, it=it: text(name, *it)) for name, it in FNS.items()} | {name: (lambda name=name: maker(name)) for name in MAKERS}
+def export(name, numbers, sl, fact):
+    return text(name, numbers, sl, fact) if sl or ' ' in numbers else shaped(name, numbers, fact)
+texts = {name: (lambda name=name, it=it: export(name, *it)) for name, it in FNS.items()} | {name: (lambda name=name: maker(name)) for name in MAKERS}
 differs = 0
 for name, write in texts.items():
     if only and name not in only: continue

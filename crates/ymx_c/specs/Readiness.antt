@@ -1,5 +1,5 @@
 -- What C learns of streams without a read or a write: what waits, what fits, and which ones bytes have touched.
-use Rattle.std.specs.Prelude.{◌≡◌, ◌↔◌, ◌≤◌, ◌<◌, ◌++◌, ℕ, ℤ, pos, List, length, take, drop, min, Bool, IsTrue}
+use Rattle.std.specs.Prelude.{◌≡◌, ◌↔◌, ◌≤◌, ◌<◌, ◌++◌, ℕ, ℤ, pos, List, [], ◌∷◌, length, take, drop, min, Bool, IsTrue}
 use Rattle.ymx_model.specs.declared.types.Event.TheVariants as event
 use Rattle.ymx_machine.specs.declared.types.Call.TheVariants as call
 use Rattle.ymx_machine.specs.declared.types.Reply.{Reply}
@@ -11,6 +11,8 @@ use Rattle.ymx_model.specs.session.Emissions.{in_turn}
 use Rattle.ymx_model.specs.session.Histories.{Gives}
 use Rattle.ymx_session.specs.Streams.{waiting, room_of}
 use Rattle.ymx_session.specs.Touched.{Noted, NotesChanges, NotesOnly, StaysNoted, nothing_noted}
+use Rattle.std.specs.Ptr.{Ptr}
+use Rattle.ymx_c.specs.NewAnswers.{IsSomewhere}
 use Rattle.ymx_c.specs.Answers.{Answers, flag, code}
 
 -- The largest number of bytes or streams that is answered where the call moves none. No credit is above it (flow control).
@@ -64,3 +66,8 @@ ListsIds noted n old new = (n ≡ pos (length noted.ids)) × (new ≡ take (leng
 -- nothing is noted from here on, and the answer is 0
 abbrev pub IsCleared : Noted → ℤ → Noted → Type 0
 IsCleared old n new = (n ≡ pos 0) × (new ≡ nothing_noted old.blind)
+
+-- An address that isn't NULL stands in the first place, where there is one, and the other places are as they were.
+abbrev pub IsPlaced : (old new : List Ptr) → Type 0
+IsPlaced [] new = new ≡ []
+IsPlaced (_ ∷ rest) new = (at : Ptr) × IsSomewhere at × (new ≡ at ∷ rest)

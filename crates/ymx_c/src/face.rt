@@ -10,7 +10,7 @@ ghost use Rattle.ymx_session.specs.NewSessions.{first_id, new_fault, IsNewFault}
 ghost use Rattle.ymx_session.specs.Touched.{nothing_noted};
 ghost use Rattle.ymx_c.specs.Answers.{Answers, Fills, refusal, status_number, flag, role_of};
 ghost use Rattle.ymx_c.specs.NewAnswers.{new_refusal, config_of, IsMade, IsRefused, IsNoteMade, IsNoNote};
-ghost use Rattle.ymx_c.specs.Readiness.{Touches, Shows, Consumes, TellsEnd, TellsRoom, CountsOffered, ListsIds, IsCleared, number_limit};
+ghost use Rattle.ymx_c.specs.Readiness.{Touches, Shows, Consumes, TellsEnd, TellsRoom, CountsOffered, ListsIds, IsCleared, IsPlaced, number_limit};
 
 use crate::made::Made;
 use std::alloc::{AllocError, Global};
@@ -207,7 +207,7 @@ pub(crate) fn read(session: &mut Session, id: u32, buffer: &mut [u8]) -> i64
 /// How many bytes wait at the address that is written to `out`, where there is room for one; more may wait behind
 /// them.
 pub(crate) fn unread(session: &mut Session, id: u32, out: &mut [*const u8]) -> i64
-    ensures { Shows id session.old result × (session.new ≡ session.old) }
+    ensures { Shows id session.old result × IsPlaced out.old out.new × (session.new ≡ session.old) }
 {
     let bytes = session.unread(id);
     if out.len() > 0 {

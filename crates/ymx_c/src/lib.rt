@@ -24,7 +24,7 @@ ghost use Rattle.ymx_session.specs.contracts.touched.Touched.{the_row as touched
 ghost use Rattle.ymx_c.specs.Answers.{Answers, Fills, status_number, flag, role_of};
 ghost use Rattle.ymx_c.specs.Handed.{handed};
 ghost use Rattle.ymx_c.specs.NewAnswers.{IsMade, IsRefused, IsNoteMade, IsNoNote};
-ghost use Rattle.ymx_c.specs.Readiness.{Touches, Shows, Consumes, TellsEnd, TellsRoom, CountsOffered, ListsIds, IsCleared};
+ghost use Rattle.ymx_c.specs.Readiness.{Touches, Shows, Consumes, TellsEnd, TellsRoom, CountsOffered, ListsIds, IsCleared, IsPlaced};
 
 use crate::made::Made;
 use std::alloc::Global;
@@ -159,7 +159,7 @@ pub unsafe extern "C" fn ymx_core_read(at: *mut u8, id: u32, buffer: &mut [u8]) 
 pub unsafe extern "C" fn ymx_core_unread(at: *mut u8, id: u32, out: &mut [*const u8]) -> i64
     ghost old: { SessionValue }
     requires* { sem 𝓛 (lies_at the_row full_share at old) }
-    ensures* { ∃ₛ (λ (now : SessionValue). sem 𝓛 (lies_at the_row full_share at now) ∗ ⌜ Shows id old result × (now ≡ old) ⌝) }
+    ensures* { ∃ₛ (λ (now : SessionValue). sem 𝓛 (lies_at the_row full_share at now) ∗ ⌜ Shows id old result × IsPlaced out.old out.new × (now ≡ old) ⌝) }
 {
     face::unread(unsafe { &mut *(at as *mut Session) }, id, out)
 }

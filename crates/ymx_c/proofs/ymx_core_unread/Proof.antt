@@ -23,7 +23,7 @@ use denote.Triple.Table.{framed, enters}
 use denote.Triple.Walked.{walk_of, ends_at}
 use Rattle.ymx_session.specs.contracts.session.Session.{the_row}
 use Rattle.ymx_model.specs.session.Sessions.{Session}
-use Rattle.ymx_c.specs.Readiness.{Shows}
+use Rattle.ymx_c.specs.Readiness.{Shows, IsPlaced}
 use Rattle.ymx_c.proofs.Lending.{all_left, all_fit, all_go, behind, at_block, held, calls_lent}
 use Rattle.ymx_c.specs.contracts.ymx_core_unread as f
 use Rattle.ymx_c.proofs.ymx_core_unread.Statement.{statement}
@@ -41,5 +41,5 @@ ymx_core_unread_spec 𝓤 𝓛 𝓜 𝓡 wired =
     qed 𝓛 (held 𝓛 the_row x 1 (behind f.ended.signature.params) f.ended.kept.1 κs qs a.1 vss b o ∷ []) ∵ enter ! _ _ _ _ _ $ alloc_all ! (λ l. pass_all ! refl ((tt, tt), ((tt, record { fits = are.1.0.1 }), ((tt, (tt, (record { fits = are.1.1.0.0.1.0 }, tt))), tt))) $ first ! $ blocks ! $ sets ! (of_opd ! (get ! refl)) refl (tt, tt) $ sets ! (of_opd ! (get ! refl)) refl (tt, tt) $ sets_last ! (addr ! (through ! refl (stop !))) refl (tt, tt) $
     exec ! 𝓣.C 𝓣.Λ (env code.Mir.locals l) code.Mir.t-2 (at_ret _ (W.post (y (block_ptr b o)))) $ sets ! (of_opd ! (get ! refl)) refl (tt, tt) $ sets ! (of_opd ! (get ! refl)) refl (tt, record { fits = are.1.0.1 }) $
     sets ! (addr ! (from ! (fld ! refl (hop ! (look_in_at ! 3 (sub ! 0 refl (whole !))) (stop !))))) refl (tt, tt) $ sets ! (agg ! (and_then ! (get ! refl) (and_then ! (get_in ! (fld ! refl (stop !)) (sub ! 1 refl (whole !))) (no_more !)))) refl (tt, (tt, (record { fits = are.1.1.0.0.1.0 }, tt))) $
-    calls_lent 𝓛 the_row x 1 (behind f.ended.signature.params) f.ended.kept.1 κs qs a.1 vss (λ u m w. Shows i x u × (m ≡ x)) b o ! (framed 𝓤 𝓛.H 𝓜 𝓣) (enters 𝓤 𝓛.H 𝓜 𝓣 _) (flat (types_at (behind f.ended.signature.params) κs) vss) G (met 𝓤 𝓛 𝓜 𝓡 (code.calls-ymx_c::face::unread 𝓡.env wired)) z (λ α δ. refl) (λ α δ. id⊢ 𝓤 _) (λ α δ v. id⊢ 𝓤 _) (and_then ! (get ! refl) (and_then ! (get ! refl) (and_then ! (get ! refl) (no_more !)))) (λ v u w is.
+    calls_lent 𝓛 the_row x 1 (behind f.ended.signature.params) f.ended.kept.1 κs qs a.1 vss (λ u m w. Shows i x u × IsPlaced s.now w.1.0 × (m ≡ x)) b o ! (framed 𝓤 𝓛.H 𝓜 𝓣) (enters 𝓤 𝓛.H 𝓜 𝓣 _) (flat (types_at (behind f.ended.signature.params) κs) vss) G (met 𝓤 𝓛 𝓜 𝓡 (code.calls-ymx_c::face::unread 𝓡.env wired)) z (λ α δ. refl) (λ α δ. id⊢ 𝓤 _) (λ α δ v. id⊢ 𝓤 _) (and_then ! (get ! refl) (and_then ! (get ! refl) (and_then ! (get ! refl) (no_more !)))) (λ v u w is.
     lands_as ! refl refl ((sint_Lawful 𝓛 w64).typed u _ is).0 $ returns ! (look_at ! 0 refl) $ free_all ! refl $ by ! (ends_at 𝓛 f.ended hs c (y (block_ptr b o)) v u (tt, w) (all_fit κs f.ended.signature.params f.ended.kept a (tt, w)))))))
