@@ -1,7 +1,8 @@
 #!/bin/sh
 # Runs all tests that stand beside `rt ci`, a line each, and what a test that failed has to say. With --all it
 # refuses each allocation of two sessions too, proves and runs the programs of the guide, tries the wrong bodies, talks
-# to Go's yamux where that stands, and kills processes, which takes an hour or more. Ends with 'N passed, M failed'.
+# to Go's yamux where that stands, makes 10,000 random connections, and kills processes, which takes an hour or more.
+# Ends with 'N passed, M failed'.
 set -eu
 here=$(cd "$(dirname "$0")" && pwd)
 . "$here/over.sh"
@@ -30,6 +31,7 @@ try 'what the documents quote' "$root/docs/quotes.py"
 try 'the picture of the speeds' "$root/docs/speeds.py" --same
 try 'the released program' "$root/tests/release/run.sh"
 try 'the program from outside' "$root/tests/program/run.sh"
+try '500 random connections' "$root/tests/kill/random.sh" 500
 try 'scripts and what they print' "$root/tests/script/run.sh"
 try 'programs that must not compile' "$root/tests/must_not_compile/run.sh"
 try 'each allocation fails once' "$root/tests/no_memory/run.sh"
@@ -47,9 +49,10 @@ if [ "${1-}" = --all ]; then
         echo "--    the tunnel and Go's yamux: left out: no Go, or not its yamux"
     fi
     if command -v python3 > /dev/null; then
+        try '10,000 random connections' "$root/tests/kill/random.sh"
         try 'processes that are killed' "$root/tests/kill/run.sh"
     else
-        echo "--    processes that are killed: left out: no Python"
+        echo "--    random connections, and processes that are killed: left out: no Python"
     fi
 fi
 counted

@@ -408,17 +408,19 @@ class Ymx:
 
 
 class Tunnel:
-    """`ymx local` and `ymx remote`, and what each holds while no connection is open."""
+    """`ymx local` and `ymx remote`, and what each holds while no connection is open. `between` makes of
+    the place where `remote` listens another one, which `local` calls."""
 
-    def __init__(self, folder, program, target, workers=32):
+    def __init__(self, folder, program, target, workers=32, between=None):
         port = free_port()
         address = f"127.0.0.1:{port}"
         host, target_port = target.address
         words = [program, "remote", "--bind", address, "--target", f"{host}:{target_port}", "--workers", str(workers)]
         self.remote = Ymx(folder, words)
         self.remote.wait_until_it_listens(port)
+        peer = between(("127.0.0.1", port)) if between else address
         port = free_port()
-        self.local = Ymx(folder, [program, "local", "--listen", f"127.0.0.1:{port}", "--peer", address])
+        self.local = Ymx(folder, [program, "local", "--listen", f"127.0.0.1:{port}", "--peer", peer])
         self.local.wait_until_it_listens(port)
         self.address = ("127.0.0.1", port)
         # The set of descriptors that each waits for is made last, once both are connected.
