@@ -99,7 +99,7 @@ static void messages(const char *name, int idle) {
 static void streams(const char *name) {
     struct pair *p = make_pair();
     double ended = 0, began = now();
-    for (int i = 0; i < 50000; i++) {
+    for (int i = 0; i < 400000; i++) {
         uint32_t id = (uint32_t)ymx_open(p->client);
         int64_t wrote = ymx_write(p->client, id, block, 1), came, end;
         ymx_finish(p->client, id);
@@ -117,15 +117,19 @@ static void streams(const char *name) {
     end_pair(p);
 }
 
+/* The frames of so many pings. */
+static unsigned char frames[12 * FRAMES];
+
+static void make_frames(void) {
+    static const unsigned char ping[12] = {0, 2, 0, 1, 0, 0, 0, 0, 0, 0, 0, 9};
+    for (int i = 0; i < FRAMES; i++) memcpy(frames + 12 * i, ping, 12);
+}
+
 /* Pings are fed, and answered. */
 static void pings(const char *name) {
-    static const unsigned char ping[12] = {0, 2, 0, 1, 0, 0, 0, 0, 0, 0, 0, 9};
-    static unsigned char frames[12 * FRAMES];
     struct pair *p = make_pair();
-    double bytes = 0, began;
-    for (int i = 0; i < FRAMES; i++) memcpy(frames + 12 * i, ping, 12);
-    began = now();
-    for (int i = 0; i < 4000; i++) {
+    double bytes = 0, began = now();
+    for (int i = 0; i < 24000; i++) {
         ymx_feed(p->server, frames, sizeof frames);
         bytes += (double)ymx_emit(p->server, p->back, BUFFER);
     }
@@ -133,13 +137,32 @@ static void pings(const char *name) {
     end_pair(p);
 }
 
+/* Pings are fed, and answered, where each feed notes what it touches. */
+static void noted_pings(const char *name) {
+    struct pair *p = make_pair();
+    ymx_touched *touched;
+    double bytes = 0, began;
+    if (ymx_touched_new(&touched) != 0) exit(1);
+    began = now();
+    for (int i = 0; i < 24000; i++) {
+        ymx_touched_clear(touched);
+        ymx_feed_touching(p->server, frames, sizeof frames, touched);
+        bytes += (double)ymx_emit(p->server, p->back, BUFFER);
+    }
+    say(name, bytes / 12, began);
+    ymx_touched_free(touched);
+    end_pair(p);
+}
+
 int main(void) {
     memset(block, 7, BUFFER);
+    make_frames();
     one_stream("one_stream_bytes", 0);
     one_stream("one_stream_beside_1000_idle_bytes", 1000);
     messages("messages_of_100_bytes", 0);
     messages("messages_beside_960_idle", 960);
     streams("streams");
     pings("pings");
+    noted_pings("pings_noted");
     return 0;
 }
