@@ -71,9 +71,9 @@ copy_repository() {
 
 # ---- processes that listen
 
-# free_port: a port that nobody listens at
-free_port() {
-    python3 -c 'import socket; s = socket.socket(); s.bind(("127.0.0.1", 0)); print(s.getsockname()[1])'
+# free_ports COUNT: as many ports at which nobody listens, no two the same, a line each
+free_ports() {
+    python3 "$root/tests/ports.py" "$1"
 }
 
 # in_time COMMAND..: tries it until it succeeds, for at most 30 seconds

@@ -32,13 +32,13 @@ for ours in 262144 1048576; do
     for theirs in 262144 1048576; do
         begin_anywhere target ./peer serve-tcp -at $any
         target=$address
-        address=127.0.0.1:$(free_port)
+        address=127.0.0.1:$(free_ports 1)
         begin ymx_said "$address" "$ymx" remote --bind "$address" --target "$target" --window $ours --workers 64
         ended "Go's client ($theirs) calls ymx remote ($ours)" \
             ./peer call-mux -at "$address" -window $theirs -count "$count" -at-once 64
         begin_anywhere server ./peer serve-mux -at $any -window $theirs
         peer=$address
-        address=127.0.0.1:$(free_port)
+        address=127.0.0.1:$(free_ports 1)
         begin ymx_said "$address" "$ymx" local --listen "$address" --peer "$peer" --window $ours
         ended "ymx local ($ours) calls Go's server ($theirs)" ./peer call-tcp -at "$address" -count "$count" -at-once 64
     done

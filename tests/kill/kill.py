@@ -26,6 +26,9 @@ import sys
 import tempfile
 import time
 
+sys.path.append(os.path.join(os.path.dirname(__file__), ".."))
+from ports import free_port
+
 # What a client says first: its number, how many bytes the target sends, whether it then ends its side, and whether
 # it reads.
 HEAD = struct.Struct(">QQ??")
@@ -307,12 +310,6 @@ def end_of(pid):
 
 def kill(pid):
     os.kill(pid, signal.SIGKILL)
-
-
-def free_port():
-    with socket.socket() as one:
-        one.bind(("127.0.0.1", 0))
-        return one.getsockname()[1]
 
 
 def listens(port):

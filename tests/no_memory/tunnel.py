@@ -26,6 +26,9 @@ import tempfile
 import threading
 import time
 
+sys.path.append(os.path.join(os.path.dirname(__file__), ".."))
+from ports import free_ports
+
 QUESTION = random.Random(3).randbytes(20_000)
 ANSWER = random.Random(4).randbytes(30_000)
 # In seconds, for whatever must end.
@@ -81,13 +84,6 @@ class Target(threading.Thread):
             raise TimeoutError("the target waits for the end of a connection")
         self.listener.close()
         return self.questions
-
-
-def free_port():
-    """A port that nobody listens at."""
-    with socket.socket() as one:
-        one.bind(("127.0.0.1", 0))
-        return one.getsockname()[1]
 
 
 def listens(port):
@@ -160,7 +156,7 @@ class Tunnel:
 
     def carry(self, target, sides, name, variable, number):
         """One connection: how both sides end, and what the client reads."""
-        ports = [free_port(), free_port()]
+        ports = free_ports(2)
         place, peer = (f"127.0.0.1:{port}" for port in ports)
         words = [self.program, "remote", "--bind", peer, "--target", target.address, "--workers", "2"]
         far = Side(words, ports[1], self.environment(name == "remote", variable, number))
@@ -200,8 +196,12 @@ class Tunnel:
 
 
 def ask(port):
-    """What a client reads that asks at this port."""
-    with socket.create_connection(("127.0.0.1", port), PATIENCE) as client:
+    """What a client reads that asks at this port: nothing where the one who listened there has just ended."""
+    try:
+        client = socket.create_connection(("127.0.0.1", port), PATIENCE)
+    except ConnectionRefusedError:
+        return b""
+    with client:
         try:
             client.sendall(QUESTION)
             client.shutdown(socket.SHUT_WR)

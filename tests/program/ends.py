@@ -2,7 +2,6 @@
 
 ends.py echo         prints the port that it listens at, and sends back what one connection sends
 ends.py ask PORT     sends `hello` and the end to that port, and prints what comes back
-ends.py port         prints a port at which nobody listens
 """
 
 import socket
@@ -48,8 +47,5 @@ def ask(port):
 
 if sys.argv[1] == "echo":
     echo()
-elif sys.argv[1] == "ask":
-    ask(int(sys.argv[2]))
 else:
-    with listen() as listener:
-        print(listener.getsockname()[1])
+    ask(int(sys.argv[2]))

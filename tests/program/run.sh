@@ -97,8 +97,8 @@ holds 'what remote -v says' cmp -s remote_err "$(says "ymx: listening at 127.0.0
 # without -v nothing is said
 python3 "$here/ends.py" echo > echo_port &
 target=127.0.0.1:$(port_of echo_port)
-peer=$(free_port)
-port=$(free_port)
+free_ports 2 > ports
+{ read -r peer && read -r port; } < ports
 timeout 60 "$ymx" remote --bind "127.0.0.1:$peer" --target "$target" > remote_out 2> remote_err &
 remote=$!
 reach() {
@@ -111,8 +111,9 @@ holds 'local says nothing' cmp -s local_err nothing
 holds 'remote says nothing' cmp -s remote_err nothing
 
 # nobody listens at the target
-peer=$(free_port)
-timeout 60 "$ymx" remote -v --bind "127.0.0.1:$peer" --target "127.0.0.1:$(free_port)" > remote_out 2> remote_err &
+free_ports 2 > ports
+{ read -r peer && read -r nobody; } < ports
+timeout 60 "$ymx" remote -v --bind "127.0.0.1:$peer" --target "127.0.0.1:$nobody" > remote_out 2> remote_err &
 remote=$!
 port_of remote_err > remote_port
 timeout 60 "$ymx" local -v --listen 127.0.0.1:0 --peer "127.0.0.1:$peer" --count 1 > local_out 2> local_err &
@@ -201,7 +202,7 @@ for workers in 1 1024; do
 done
 
 # a peer whose first header has version 1
-port=$(free_port)
+port=$(free_ports 1)
 python3 - "$port" << 'END' &
 import socket, sys, time
 while True:
