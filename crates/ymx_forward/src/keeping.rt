@@ -22,94 +22,20 @@ const LASTING: u64 = 1;
 /// How many seconds go by at most between two calls.
 const LONGEST_PAUSE: u64 = 30;
 
+/// What follows a session.
+#[derive(Drop)]
+enum Next {
+    /// A session with this peer.
+    Peer(Peer),
+    /// None yet, as the peer can't be reached.
+    Unreached,
+    /// None any more.
+    Over,
+}
+
 /// Forwards each connection that comes, through the session with this peer and those that follow it. Ends once no more
 /// connections come, or no peer can. Says each fault as it comes, and answers the exit status.
 pub(crate) fn keep_local<
-    R: Net<Stream = TcpStream, Listener = TcpListener> + Wait,
-    V: ProgramWatcher,
-    E: Outlet,
->(
-    rt: &R,
-    alloc: Global,
-    met: Met,
-    station: &mut Station,
-    asked: Local,
-    watcher: &mut V,
-    errors: &mut E,
-) -> u8
-    ensures status { result ≤ 1 }
-    ensures good { result ≡ 0 → Keeps (E.contents errors.old) (E.contents errors.new) }
-{
-    match asked.meeting {
-        Meeting::Calls(_) => call_again(rt, alloc, met, station, asked, watcher, errors),
-        Meeting::Awaits(_) => await_again(rt, alloc, met, station, asked, watcher, errors),
-    }
-}
-
-/// Once a session is lost, the next connection has the peer called again; if it can't be reached the connection is
-/// closed.
-fn call_again<R: Net<Stream = TcpStream> + Wait, V: ProgramWatcher, E: Outlet>(
-    rt: &R,
-    alloc: Global,
-    met: Met,
-    station: &mut Station,
-    asked: Local,
-    watcher: &mut V,
-    errors: &mut E,
-) -> u8
-    ensures status { result ≤ 1 }
-    ensures good { result ≡ 0 → Keeps (E.contents errors.old) (E.contents errors.new) }
-{
-    let Met {
-        connection,
-        address,
-    } = met;
-    let mut status = serve_local(rt, alloc, Some(connection), station, asked, watcher, errors);
-    for _ in rt.forever() {
-        if !station.await_connection(rt, alloc) {
-            if station.accept_failed() {
-                return cannot_listen(alloc, asked.listen, errors);
-            }
-            return status;
-        }
-        let next = connect(rt, address);
-        let served = serve_local(rt, alloc, next, station, asked, watcher, errors);
-        if status == 0 {
-            status = served;
-        }
-    }
-    unreachable!()
-}
-
-/// Serves connections through this session, if there is one. One that waited for it, and is not served, is closed.
-/// Answers 1 if the session broke or there was no memory, and else 0.
-fn serve_local<R: Net + Wait, V: ProgramWatcher, E: Outlet>(
-    rt: &R,
-    alloc: Global,
-    connection: Option<TcpStream>,
-    station: &mut Station,
-    asked: Local,
-    watcher: &mut V,
-    errors: &mut E,
-) -> u8
-    ensures status { result ≤ 1 }
-    ensures good { result ≡ 0 → Keeps (E.contents errors.old) (E.contents errors.new) }
-{
-    let status = match connection {
-        Some(connection) => {
-            watcher.came();
-            let forwarded = station.forward(rt, alloc, connection, asked.window, watcher);
-            watcher.gone();
-            report_session(alloc, forwarded, errors)
-        }
-        None => 0,
-    };
-    station.refuse_waiting(watcher);
-    status
-}
-
-/// Once a session is lost, the next peer is awaited. Connections that come while none is there are closed.
-fn await_again<
     R: Net<Stream = TcpStream, Listener = TcpListener> + Wait,
     V: ProgramWatcher,
     E: Outlet,
@@ -130,20 +56,71 @@ fn await_again<
         address,
     } = met;
     let mut status = 0;
-    let mut next = Peer::new(connection);
+    let mut next = session_over(Some(connection));
     for _ in rt.forever() {
-        let Some(peer) = next else {
-            return end_status(alloc, station, asked.listen, address, status, errors);
+        let served = match next {
+            Next::Peer(peer) => serve_local(rt, alloc, peer, station, asked, watcher, errors),
+            Next::Unreached => 0,
+            Next::Over => return end_status(alloc, station, asked, address, status, errors),
         };
-        watcher.came();
-        let forwarded = station.forward_peer(rt, alloc, peer, asked.window, watcher);
-        let served = report_session(alloc, forwarded, errors);
         if status == 0 {
             status = served;
         }
-        next = next_peer(rt, alloc, station, address, watcher);
+        station.refuse_waiting(watcher);
+        next = next_session(rt, alloc, station, asked.meeting, address, watcher);
     }
     unreachable!()
+}
+
+/// Serves connections through a session with this peer, and says its fault. A peer that is awaited is said to have gone
+/// only once the next one can call. Answers 1 if the session broke or there was no memory, and else 0.
+fn serve_local<R: Net + Wait, V: ProgramWatcher, E: Outlet>(
+    rt: &R,
+    alloc: Global,
+    peer: Peer,
+    station: &mut Station,
+    asked: Local,
+    watcher: &mut V,
+    errors: &mut E,
+) -> u8
+    ensures status { result ≤ 1 }
+    ensures good { result ≡ 0 → Keeps (E.contents errors.old) (E.contents errors.new) }
+{
+    watcher.came();
+    let forwarded = station.forward_peer(rt, alloc, peer, asked.window, watcher);
+    if let Meeting::Calls(_) = asked.meeting {
+        watcher.gone();
+    }
+    report_session(alloc, forwarded, errors)
+}
+
+/// A session over this connection. Where there is none the peer can't be reached.
+fn session_over(connection: Option<TcpStream>) -> Next {
+    match connection.and_then(Peer::new) {
+        Some(peer) => Next::Peer(peer),
+        None => Next::Unreached,
+    }
+}
+
+/// Waits for what follows: a peer that is called is called at the next connection, and one that is awaited calls.
+fn next_session<R: Net<Stream = TcpStream, Listener = TcpListener> + Wait, V: ProgramWatcher>(
+    rt: &R,
+    alloc: Global,
+    station: &mut Station,
+    meeting: Meeting,
+    address: SocketAddr,
+    watcher: &mut V,
+) -> Next {
+    match meeting {
+        Meeting::Calls(_) if station.await_connection(rt, alloc) => {
+            session_over(connect(rt, address))
+        }
+        Meeting::Calls(_) => Next::Over,
+        Meeting::Awaits(_) => match next_peer(rt, alloc, station, address, watcher) {
+            Some(peer) => Next::Peer(peer),
+            None => Next::Over,
+        },
+    }
 }
 
 /// Waits at this address for the next peer, which can call once it is said that the last one has gone. None if no peer
@@ -168,7 +145,7 @@ fn next_peer<R: Net<Stream = TcpStream, Listener = TcpListener> + Wait, V: Progr
 fn end_status<E: Outlet>(
     alloc: Global,
     station: &Station,
-    connections: SocketAddr,
+    asked: Local,
     peers: SocketAddr,
     status: u8,
     errors: &mut E,
@@ -178,11 +155,11 @@ fn end_status<E: Outlet>(
     ensures good { result ≡ 0 → (status ≡ 0) × Keeps (E.contents errors.old) (E.contents errors.new) }
 {
     if station.accept_failed() {
-        cannot_listen(alloc, connections, errors)
-    } else if station.is_over() {
-        status
-    } else {
-        cannot_listen(alloc, peers, errors)
+        return cannot_listen(alloc, asked.listen, errors);
+    }
+    match asked.meeting {
+        Meeting::Awaits(_) if !station.is_over() => cannot_listen(alloc, peers, errors),
+        _ => status,
     }
 }
 

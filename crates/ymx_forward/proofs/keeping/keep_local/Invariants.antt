@@ -1,6 +1,6 @@
 use Rattle.std.specs.Prelude.{◌≡◌, ◌≤◌}
 use Rattle.std.specs.Io.KnownBytes.{Keeps}
-use Rattle.ymx_forward.proofs.keeping.await_again.Given as goal
+use Rattle.ymx_forward.proofs.keeping.keep_local.Given as goal
 
 -- nothing was said unless the status says so
 abbrev pub invariant-loop : goal.invariant-loop
