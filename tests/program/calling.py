@@ -6,7 +6,6 @@ It says which tests failed, and nothing where none did. No test follows one that
 usage: calling.py YMX
 """
 
-import os
 import socket
 import sys
 import time
@@ -16,10 +15,7 @@ from beside import Peer, swap
 from kept import BYTES, COME, GONE, LOST, SESSIONS, SETTLED, WHOLE
 from kept import connection, finish, is_refused, listen_again, says, used
 from raw import ACK, ANY, FIN, NOWHERE, PING, SYN, Program
-from raw import accept, break_off, call, frame, has_ended, leave, listen, take
-
-sys.path.append(os.path.join(os.path.dirname(__file__), ".."))
-from ports import free_ports
+from raw import accept, break_off, call, frame, free_place, free_places, has_ended, leave, listen, take
 
 # How much less than the pauses may have gone by, as the clocks of two processes count it.
 EARLY = 0.1
@@ -39,15 +35,6 @@ def awaiting(*words):
     program = Program("local", "-v", "--await", ANY, "--listen", ANY, *words)
     place = program.place()
     return program, place, Peer(call(place))
-
-
-def free_places(count):
-    """So many places at which nobody listens, and which the system gives to no one."""
-    return [f"127.0.0.1:{port}" for port in free_ports(count)]
-
-
-def free_place():
-    return free_places(1)[0]
 
 
 def half_close(peer, stream, other):
