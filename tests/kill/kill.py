@@ -37,6 +37,8 @@ PERIOD = 1_048_573
 TEXT = random.Random(20).randbytes(PERIOD) * 2
 AT_ONCE = 65_536
 ENDLESS = 1 << 40
+# How long a tunnel may take to begin, in seconds.
+BEGINNING = 60.0
 # How long whatever must end may take after a kill, in seconds.
 PATIENCE = 5.0
 # How much more resident memory 10,000 short connections may leave behind, in KiB: less than 1 KiB for each, where a
@@ -379,7 +381,7 @@ class Ymx:
         self.pid = self.process.pid
 
     def wait_until_it_listens(self, port):
-        if wait_for(lambda: listens(port), 10) is None:
+        if wait_for(lambda: listens(port), BEGINNING) is None:
             raise SystemExit(f"{self.words} does not listen: {self.text()}")
 
     def text(self):
@@ -421,7 +423,8 @@ class Tunnel:
         self.local.wait_until_it_listens(port)
         self.address = ("127.0.0.1", port)
         # The set of descriptors that each waits for is made last, once both are connected.
-        wait_for(lambda: all(has_set(one.pid) for one in (self.local, self.remote)))
+        if wait_for(lambda: all(has_set(one.pid) for one in (self.local, self.remote)), BEGINNING) is None:
+            raise SystemExit("a side makes no set of descriptors to wait for")
         self.at_rest = self.holds()
 
     def holds(self):

@@ -38,7 +38,9 @@ AT_ONCE = 100
 # How long one side of a connection may take, in seconds.
 PATIENCE = 60
 # How long both `ymx` may take to close what is over, in seconds.
-REST = 5
+REST = 60
+# How long a connection is waited for whose end is taken away, in seconds.
+SHORT = 2
 # How long nobody reads, at most, in seconds.
 LONGEST_PAUSE = 0.2
 # How much more resident memory a side may have behind the last block than behind the first, in KiB. Measured were 2 to 11
@@ -247,7 +249,11 @@ class Load:
     async def run_target(self, connection):
         """The target's side. Of one that was cut early not even the head may come."""
         connection.setblocking(False)
-        head = await asyncio.wait_for(take(connection, HEAD.size), PATIENCE)
+        try:
+            head = await asyncio.wait_for(take(connection, HEAD.size), PATIENCE)
+        except asyncio.TimeoutError:
+            connection.close()
+            raise Fault("a connection came to the target, and neither its number nor its end") from None
         if len(head) < HEAD.size:
             connection.close()
             return
@@ -454,7 +460,8 @@ def take_all(connection, count):
 
 async def run_spoiled(folder, program, spoil):
     """Twenty whole connections through a proxy. What was found."""
-    load = Load(lambda number: Plan(number, "both end at once", 3_000, 3_000, f"{number}"), patience=2)
+    patience = SHORT if spoil == "drop_the_end" else PATIENCE
+    load = Load(lambda number: Plan(number, "both end at once", 3_000, 3_000, f"{number}"), patience)
     tunnel = Tunnel(folder, program, load, 1024, Proxy(spoil).begin)
     serving = asyncio.ensure_future(load.serve())
     try:
@@ -484,6 +491,8 @@ async def run_held(folder, program):
                 users[-1].sendall(bytes(16 << 20))
             except socket.timeout:
                 pass
+        # The tunnel takes what was sent as fast as it comes to it.
+        wait_for(lambda: found(lambda: check_growth(before, held(tunnel))), REST)
         return [found(lambda: check_rest(tunnel, 0.2)), found(lambda: check_growth(before, held(tunnel)))]
     finally:
         for one in users:

@@ -5,12 +5,12 @@ One small connection goes through `ymx local --count 1` and `ymx remote` to a ta
 ends its side, and the target then answers some and ends its own. In each run one of the two is refused one allocation
 or one call about readiness: the first, the second and so on, up to the first number that a run doesn't come to.
 
-Whichever it is, both end within 10 seconds of what they wait for. A status is 0, and nothing is said, or it is 1 and
+Whichever it is, both end within 60 seconds of what they wait for. A status is 0, and nothing is said, or it is 1 and
 one text is said: of the side that was refused `ymx: out of memory`, of `ymx local` also that it can't reach a
 `ymx remote` that has gone. What arrives is a beginning of what was sent, and all of it where both statuses are 0. So a
 `ymx remote` that rejects the stream, as it has no memory for it, says so too.
 
-`ymx selftest` is refused each in the same way, and the start of each thread. It ends within 10 seconds too: with status
+`ymx selftest` is refused each in the same way, and the start of each thread. It ends within 60 seconds too: with status
 0 and its three lines, or with status 1 and one text: that there was no memory, that it can't listen, or which connection
 failed, behind the lines of those before.
 """
@@ -31,8 +31,8 @@ from ports import free_ports
 
 QUESTION = random.Random(3).randbytes(20_000)
 ANSWER = random.Random(4).randbytes(30_000)
-# In seconds, for whatever must end.
-PATIENCE = 10.0
+# In seconds, for whatever must end: also on a slow machine where others run.
+PATIENCE = 60.0
 OUT_OF_MEMORY = "ymx: out of memory\n"
 CANNOT_LISTEN = "ymx: cannot listen at 127.0.0.1:0\n"
 # What `ymx selftest` prints.
@@ -196,10 +196,10 @@ class Tunnel:
 
 
 def ask(port):
-    """What a client reads that asks at this port: nothing where the one who listened there has just ended."""
+    """What a client reads that asks at this port: nothing where the one who listened there has just ended, or ends now."""
     try:
         client = socket.create_connection(("127.0.0.1", port), PATIENCE)
-    except ConnectionRefusedError:
+    except ConnectionError:
         return b""
     with client:
         try:

@@ -15,10 +15,12 @@ from beside import Peer, swap
 from kept import BYTES, COME, GONE, LOST, SESSIONS, SETTLED, WHOLE
 from kept import connection, finish, is_refused, listen_again, says, used
 from raw import ACK, ANY, FIN, NOWHERE, PING, SYN, Program
-from raw import accept, break_off, call, frame, has_ended, leave, listen, take
+from raw import accept, break_off, call, frame, free_place, free_places, has_ended, leave, listen, take
 
-# How much less than a second may have gone by between two lines that are said a second apart.
+# How much less than the pauses may have gone by, as the clocks of two processes count it.
 EARLY = 0.1
+# How often a time is taken at most, where the machine may have been slow.
+ATTEMPTS = 3
 
 
 def calling(*words):
@@ -33,12 +35,6 @@ def awaiting(*words):
     program = Program("local", "-v", "--await", ANY, "--listen", ANY, *words)
     place = program.place()
     return program, place, Peer(call(place))
-
-
-def free_place():
-    listener, place = listen()
-    listener.close()
-    return place
 
 
 def half_close(peer, stream, other):
@@ -136,8 +132,8 @@ def no_meeting():
 
 def a_peer_that_is_called_again():
     """It is called until it is there, also at first, and again once it has gone."""
-    place = free_place()
     target, address = listen()
+    place = free_place()
     program = Program("remote", "-v", "--keep", "--call", place, "--target", address)
     unreached = f"ymx: cannot reach {place}\n"
     says(program, unreached)
@@ -166,27 +162,33 @@ def a_peer_that_is_called_again():
 
 
 def pauses():
-    """It waits for 1, 2 and 4 seconds between calls that fail."""
+    """It waits for 1, 2 and 4 seconds between calls that fail. The time is taken from before it begins, as a line may be
+    read late."""
     place = free_place()
+    began = time.monotonic()
     program = Program("remote", "-v", "--keep", "--call", place, "--target", place)
-    unreached = f"ymx: cannot reach {place}\n"
-    says(program, unreached)
-    for seconds in 1, 2, 4:
-        began = time.monotonic()
-        says(program, unreached)
+    for seconds in 0, 1, 3, 7:
+        says(program, f"ymx: cannot reach {place}\n")
         passed = time.monotonic() - began
         assert passed >= seconds - EARLY, f"{passed} seconds, and not {seconds}"
 
 
 def a_session_that_soon_ends():
-    """A peer that goes at once is called again after a second, and then after two."""
-    program, listener, _, _ = calling("--keep")
-    began = time.monotonic()
-    for seconds in 0, 1, 3:
-        accept(listener).close()
-        passed = time.monotonic() - began
-        assert passed >= seconds - EARLY, f"{passed} seconds, and not {seconds}"
-        says(program, COME, GONE)
+    """A peer that goes at once is called again after a second, and then after two. Where this process is held up, a
+    session may last for a second, and the next call then comes early; so it is tried again."""
+    for attempt in range(ATTEMPTS):
+        program, listener, _, _ = calling("--keep")
+        began = time.monotonic()
+        early = None
+        for seconds in 0, 1, 3:
+            accept(listener).close()
+            passed = time.monotonic() - began
+            if passed < seconds - EARLY:
+                early = f"{passed} seconds, and not {seconds}"
+            says(program, COME, GONE)
+        if early is None:
+            return
+    raise AssertionError(early)
 
 
 def a_peer_that_calls_again():
@@ -260,7 +262,7 @@ def many_peers():
 
 def killed_programs():
     """Both keep. Each is killed once, and comes again at the same places."""
-    users, meeting = free_place(), free_place()
+    users, meeting = free_places(2)
     target, address = listen()
 
     def near_side():

@@ -14,7 +14,7 @@ import sys
 import raw
 from beside import Peer, swap
 from raw import ACK, ANY, BAD, FIN, PING, SYN, Program
-from raw import accept, break_off, call, frame, has_ended, leave, listen, local, take
+from raw import accept, break_off, call, frame, free_place, has_ended, leave, listen, local, take
 
 SESSIONS = 200
 # What is used is compared from here on, when every part has run.
@@ -61,7 +61,7 @@ def finish(peer, stream, other):
 def remote_kept(*words):
     """`ymx remote --keep`, where it listens, and its target."""
     target, address = listen()
-    program = Program("remote", "-v", "--keep", "--bind", ANY, "--target", address, *words)
+    program = Program("remote", "-v", "--keep", "--bind", free_place(), "--target", address, *words)
     return program, program.place(), target
 
 
@@ -209,8 +209,9 @@ def no_peer_at_first():
 def a_killed_peer():
     """Between two programs: `remote` is killed, and comes again at the same port."""
     target, address = listen()
-    far = Program("remote", "-v", "--bind", ANY, "--target", address)
-    meeting = far.place()
+    meeting = free_place()
+    far = Program("remote", "-v", "--bind", meeting, "--target", address)
+    assert far.place() == meeting
     near = Program("local", "-v", "--keep", "--listen", ANY, "--peer", meeting)
     place = near.place()
     says(near, COME)

@@ -1,17 +1,21 @@
 """Plays the peer of `ymx local` and of `ymx remote` frame by frame, with users and a target of its own, and looks at
 what each does, says and answers: at its limits, where something fails, and where its words are bad.
 
-The system chooses all ports. Nothing is proved by waiting: each test waits for what must come, for at most a minute.
+The system chooses all ports but those that are used again. Nothing is proved by waiting: each test waits for what must come, for at most a minute.
 It says which tests failed, and nothing where none did. No test follows one that hangs.
 
 usage: raw.py YMX
 """
 
+import os
 import signal
 import socket
 import struct
 import subprocess
 import sys
+
+sys.path.append(os.path.join(os.path.dirname(__file__), ".."))
+from ports import free_ports
 
 # How long a test may take.
 SECONDS = 60
@@ -37,6 +41,15 @@ def frame(kind, flags, stream, length):
 def listen():
     listener = socket.create_server(("127.0.0.1", 0))
     return listener, f"127.0.0.1:{listener.getsockname()[1]}"
+
+
+def free_places(count):
+    """So many places at which nobody listens, and which the system gives to no one: for those that are used again."""
+    return [f"127.0.0.1:{port}" for port in free_ports(count)]
+
+
+def free_place():
+    return free_places(1)[0]
 
 
 def call(address):
