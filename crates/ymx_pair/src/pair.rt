@@ -47,8 +47,9 @@ impl Model for EnginePair {
 
 impl EnginePair {
     /// Makes two engines of sessions that have done nothing, the client's config first, and two empty pipes of 262,144
-    /// bytes. The fault is that of the client's session, or else of the server's, as of `Session::new`; `OutOfMemory`
-    /// also where there is no memory for the engines and pipes.
+    /// bytes. The pipes are made first, then the client's session and its engine, then the server's. The first of these
+    /// that cannot be made tells the fault: a session's is that of `Session::new`, and that of a pipe or an engine is
+    /// `OutOfMemory`. So where there is no memory for the pipes, no config is looked at.
     pub fn new(alloc: Global, config_a: Config, config_b: Config) -> Result<EnginePair, NewFault>
         ensures made { IfOk result (λ pair. pair ≡ pair_of (new_session Client config_a.window (first_id Client config_a.first)) (new_session Server config_b.window (first_id Server config_b.first))) }
         ensures may_a { IfOk result (λ pair. new_fault Client config_a ≡ None) }
