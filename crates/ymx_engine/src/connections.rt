@@ -6,13 +6,21 @@ use std::alloc::{AllocError, Global};
 use std::collections::VecDeque;
 use ymx_session::Touched;
 
-/// Connections by stream id, those that may have something to move, each once, in the order in which they came to
-/// have it, and those that are held back while bytes wait for the wire.
+/// Connections by stream id, those that may have something to move, each once, and those that are held back while
+/// bytes wait for the wire.
+///
+/// Those that had a turn and have more to move stand in a queue of their own, and the two queues take turns: so one
+/// that moves few bytes now and then does not wait behind all that move as many as they can.
 #[derive(Drop)]
 pub(crate) struct Connections {
     by_id: IndexMap<u32, Connection>,
-    queue: VecDeque<u32>,
+    /// Those that came to have something to move.
+    fresh: VecDeque<u32>,
+    /// Those that have more to move.
+    busy: VecDeque<u32>,
     held: VecDeque<u32>,
+    /// The next turn is one of the busy ones'.
+    is_for_busy: bool,
 }
 
 impl Connections {
@@ -20,20 +28,23 @@ impl Connections {
     pub(crate) fn new(alloc: Global) -> Connections {
         Connections {
             by_id: IndexMap::new(alloc),
-            queue: VecDeque::new(alloc),
+            fresh: VecDeque::new(alloc),
+            busy: VecDeque::new(alloc),
             held: VecDeque::new(alloc),
+            is_for_busy: false,
         }
     }
 
     /// How many may have something to move.
     pub(crate) fn queued_count(&self) -> usize {
-        self.queue.len()
+        self.fresh.len().saturating_add(self.busy.len())
     }
 
     /// Adds one, which has something to move if its device is ready. There is memory then for its turns.
     pub(crate) fn add(&mut self, id: u32, ready: bool) -> Result<(), AllocError> {
         let all = self.by_id.len().saturating_add(1);
-        self.queue.reserve(all)?;
+        self.fresh.reserve(all)?;
+        self.busy.reserve(all)?;
         self.held.reserve(all)?;
         let added = self.by_id.insert(id, Connection::new(ready));
         if added.is_err() {
@@ -67,7 +78,16 @@ impl Connections {
     pub(crate) fn enqueue(&mut self, id: u32) {
         if let Some(found) = self.by_id.get_mut(&id) {
             if !found.is_queued {
-                found.is_queued = self.queue.push_back(id).is_ok();
+                found.is_queued = self.fresh.push_back(id).is_ok();
+            }
+        }
+    }
+
+    /// It had a turn, and has more to move.
+    pub(crate) fn enqueue_again(&mut self, id: u32) {
+        if let Some(found) = self.by_id.get_mut(&id) {
+            if !found.is_queued {
+                found.is_queued = self.busy.push_back(id).is_ok();
             }
         }
     }
@@ -83,11 +103,22 @@ impl Connections {
 
     /// Whose turn it is.
     pub(crate) fn next(&mut self) -> Option<u32> {
-        let id = self.queue.pop_front()?;
+        let id = self.pop()?;
         if let Some(found) = self.by_id.get_mut(&id) {
             found.is_queued = false;
         }
         Some(id)
+    }
+
+    /// Takes the first out of the queue whose turn it is, and if that is empty, out of the other.
+    fn pop(&mut self) -> Option<u32> {
+        let is_for_busy = self.is_for_busy && !self.busy.is_empty();
+        self.is_for_busy = !is_for_busy;
+        if is_for_busy || self.fresh.is_empty() {
+            self.busy.pop_front()
+        } else {
+            self.fresh.pop_front()
+        }
     }
 
     /// Nothing waits for the wire: those that were held back have their turns.
@@ -99,7 +130,7 @@ impl Connections {
             if let Some(found) = self.by_id.get_mut(&id) {
                 found.is_held = false;
             }
-            self.enqueue(id);
+            self.enqueue_again(id);
         }
     }
 

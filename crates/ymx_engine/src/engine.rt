@@ -222,7 +222,7 @@ impl Engine {
             );
             self.connections.set(id, connection);
             if more {
-                self.connections.enqueue(id);
+                self.connections.enqueue_again(id);
             } else if !may_pull && connection.may_pull() {
                 self.connections.hold(id);
             }
