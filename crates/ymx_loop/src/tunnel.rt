@@ -21,14 +21,18 @@ use ymx_session::Session;
 /// The wire's token.
 const WIRE: usize = 0;
 
-/// The token of the stream 0. There is none, so it is that of the listener for peers. An id is never given twice, so an event that comes late is of a stream
-/// that is no more.
+/// The token of a stream is its id plus this. There is no stream 0, so the token 2 is free for the listener for peers.
+/// In a session no id is given twice, so an event that comes late is of a stream that is no more.
 const STREAMS: usize = 2;
 
 /// How many connections are accepted at most before bytes move again.
 const ACCEPTS: u32 = 64;
 
-/// How many bytes of connections are taken at most before they are written to the wire.
+/// How often the wire is read before connections have their turns. So about as many bytes are read of it as are written
+/// to it, and bytes wait at their own connections, and not in the wire before those of all others.
+const WIRE_READS: u32 = 2;
+
+/// How many bytes of connections are taken before they are written to the wire.
 const UNWRITTEN: u64 = 131_072;
 
 /// How many seconds in a row nothing may move where a session was lost and another follows.
@@ -134,7 +138,9 @@ impl<'a> Tunnel<'a> {
     /// Does what can be done now.
     fn take_turn<R: Net, V: Watcher>(&mut self, rt: &R, watcher: &mut V) {
         self.accept_connections(watcher);
-        self.read_wire();
+        for _ in 0..WIRE_READS {
+            self.read_wire();
+        }
         self.accept_streams(rt, watcher);
         self.tell_loss();
         self.serve_queued(watcher);
@@ -335,8 +341,8 @@ impl<'a> Tunnel<'a> {
 
     // ---- bytes
 
-    /// Serves each connection that has something to move now, once. What they gave is written to the wire as soon as
-    /// it is much.
+    /// Serves each connection that has something to move now, once, unless they give much: that is written first, and
+    /// the peer read.
     fn serve_queued<V: Watcher>(&mut self, watcher: &mut V) {
         for _ in 0..self.engine.queued_count() {
             let Some(id) = self.next() else {
@@ -346,7 +352,7 @@ impl<'a> Tunnel<'a> {
                 self.forget(id, watcher);
             }
             if self.unwritten >= UNWRITTEN {
-                self.flush();
+                return;
             }
         }
     }
