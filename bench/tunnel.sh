@@ -20,6 +20,8 @@ import time
 
 peer, ymx, runs = sys.argv[1], sys.argv[2], int(sys.argv[3])
 ANY = "127.0.0.1:0"
+# Both ends with windows of 1 MiB.
+WIDE = "ymx --window 1048576"
 CASES = [
     ("1 connection of 1 GiB", 1, 1, 1 << 30),
     ("64 connections of 16 MiB at once", 64, 64, 16 << 20),
@@ -79,8 +81,9 @@ def tunnel(kind, echo):
     if kind == "Go":
         far = Process([peer, "remote", "-at", ANY, "-to", echo.address])
         return Process([peer, "local", "-at", ANY, "-to", far.address]), far
-    far = Process([ymx, "remote", "--bind", free_address(), "--target", echo.address], 3)
-    return Process([ymx, "local", "--listen", free_address(), "--peer", far.address], 3), far
+    options = ["--window", "1048576"] if kind == WIDE else []
+    far = Process([ymx, "remote", "--bind", free_address(), "--target", echo.address, *options], 3)
+    return Process([ymx, "local", "--listen", free_address(), "--peer", far.address, *options], 3), far
 
 
 def measure(kind, count, at_once, size):
@@ -99,6 +102,8 @@ def measure(kind, count, at_once, size):
 for name, count, at_once, size in CASES:
     print(name)
     figures = {"ymx": [], "Go": [], "plain copying": []}
+    if count == 1:
+        figures[WIDE] = []
     for _ in range(runs):
         for kind in figures:
             figures[kind].append(measure(kind, count, at_once, size))
