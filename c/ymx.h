@@ -8,7 +8,7 @@
  * pointer is NULL that may not be, a call answers YMX_E_NULL and changes no session.
  *
  * Threads. One thread at a time uses a session; it may be another one each time. Two sessions share nothing, and
- * the library has no variables of its own. No call belongs into a signal handler.
+ * nothing of the library's own is ever written. No call belongs into a signal handler.
  *
  * Memory. Sessions come from malloc and go by free. Only ymx_new, ymx_touched_new, ymx_open, ymx_feed (for streams
  * that the peer opens) and a ymx_write beyond 262,144 unsent bytes of one stream take memory. Bytes and buffers belong
