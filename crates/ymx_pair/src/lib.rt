@@ -1,5 +1,5 @@
-//! Two engines joined by two pipes in memory. All that happens at both is one run of the queue machine, whatever is
-//! called and in whichever order: it is a clause of `EnginePair::one_run`.
+//! Two engines joined by two pipes in memory. Each call is a turn of one side. Some turns led from two new engines to
+//! these, and are one run of the queue machine: it is a clause of `EnginePair::one_run`.
 #![tactic(auto)]
 
 mod joined;

@@ -27,8 +27,7 @@ use ymx_session::{NewFault, Session};
 ///
 /// It is driven as an engine is: `open` and `accept` give ids of connections, `serve` moves bytes between a
 /// connection's stream and its device, `flush` puts what is due into the side's pipe, and `read` takes what came out of
-/// the other's. Whatever was called, and in whichever order, all that happened at both is one run of the queue machine
-/// (`one_run`).
+/// the other's. Each of these is a turn of one side (`turn`), in whichever order they come.
 #[derive(Drop)]
 pub struct EnginePair {
     joined: Joined,
@@ -116,8 +115,9 @@ impl EnginePair {
         self.joined.flush(side);
     }
 
-    /// All that has happened since the engines were new is one run of the world of two sessions, and of the queue
-    /// machine. It does nothing: its contract is the theorem.
+    /// Some turns led from two new engines to these, and all that happened in them is one run of the world of two sessions,
+    /// and of the queue machine. It does nothing: its contract is the theorem. Of the very turns that were called it
+    /// follows from their clauses by `piped_engines_are_one_run` of `ymx_law_engine`.
     pub fn one_run(&self)
         ensures { AreOneRunSoFar self.now }
     {
