@@ -29,6 +29,7 @@ case ${1-} in
 esac
 try 'what the documents quote' "$root/docs/quotes.py"
 try 'the picture of the speeds' "$root/docs/speeds.py" --same
+try 'wrong bodies and the sources' "$root/tests/wrong_bodies.sh" --fit
 try 'the released program' "$root/tests/release/run.sh"
 try 'the program from outside' "$root/tests/program/run.sh"
 try '500 random connections' "$root/tests/kill/random.sh" 500

@@ -169,8 +169,26 @@ def tell(text):
         print(text, flush=True)
 
 
+def fit():
+    """Whether each edit still fits its crate's sources. Nothing is proved."""
+    global shelf
+    count, wrong = 0, 0
+    for shelf in "must-fail", "wrong":
+        for crate in rt.rtlib.crates_below(TOP):
+            for edit in edits_of(crate.folder):
+                _, why = rt.read_edit(edit, crate.folder)
+                count += 1
+                if why:
+                    wrong += 1
+                    tell(f"{os.path.relpath(edit, TOP)}: {why}")
+    print(f"{count} edits, {wrong} of which don't fit the sources")
+    return 1 if wrong else 0
+
+
 def main(names):
     global shelf
+    if names == ["--fit"]:
+        return fit()
     if names[:1] == ["--gate"]:
         shelf, names = "must-fail", names[1:]
     crates = [it for it in rt.rtlib.crates_below(TOP) if edits_of(it.folder) and (not names or it.name in names)]

@@ -4,6 +4,6 @@
 # or less, where a check from nothing takes minutes. A crate is proved first where out/ keeps nothing of it.
 # Usage: tests/wrong_bodies.sh [NAME..]; with no NAME, every crate that has a folder wrong/. As many crates are tried
 # side by side as there are processors, or as the variable LANES says.
-# Ends with 'N refused, M not'.
+# Ends with 'N refused, M not'. With --fit it proves nothing, and says which edits no longer fit the sources.
 set -eu
 exec python3 "$(dirname "$0")/wrong_bodies.py" "$@"
