@@ -152,9 +152,9 @@ def try_crate(crate):
                     refused += 1
         # what was not refused so is tried by itself
         for edit in left:
-            well, text = rt.must_fail(crate, edit, ["--jobs", "1"], kept)
+            outcome, text = rt.must_fail(crate, edit, ["--jobs", "1"], kept)
             tell(text.replace("must-fail ", "", 1))
-            refused += well
+            refused += outcome == rt.REFUSED
         # what was kept has to be good still: else a refusal would say nothing
         if rt.checked(crate, {}, ["--jobs", "1"], kept).returncode:
             tell(f"{crate.name}: the kept work was spoilt by an edit, so its refusals don't count")
