@@ -1,7 +1,7 @@
 #!/bin/sh
 # Runs all tests that stand beside `rt ci`, a line each, and what a test that failed has to say. With --all it
-# refuses each allocation of two sessions too, proves and runs the programs of the guide, tries the wrong bodies, talks
-# to Go's yamux where that stands, makes 10,000 random connections, and kills processes, which takes an hour or more.
+# proves and runs the programs of the guide too, tries the wrong bodies, talks to Go's yamux where that stands, makes
+# 10,000 random connections, and kills processes, which takes an hour or more.
 # Ends with 'N passed, M failed'.
 set -eu
 here=$(cd "$(dirname "$0")" && pwd)
@@ -37,10 +37,9 @@ try 'scripts and what they print' "$root/tests/script/run.sh"
 try 'programs that must not compile' "$root/tests/must_not_compile/run.sh"
 try 'each allocation fails once' "$root/tests/no_memory/run.sh"
 # compiled together, as most of the time goes into what they share
-try 'sessions, engines, threads and units' "$root/tests/try_tests.sh" session worlds engine hub tunnel connect units
+try 'sessions, engines, threads and units' "$root/tests/try_tests.sh" session worlds engine hub tunnel connect no_memory/parts units
 try 'the C interface' "$root/tests/capi/run.sh"
 if [ "${1-}" = --all ]; then
-    try 'each allocation of two sessions fails' "$root/tests/worlds/run.sh" --refuse-each
     try 'the programs of the guide' "$root/tests/examples/run.sh"
     try 'wrong bodies' "$root/tests/wrong_bodies.sh"
     try 'wrong statements' "$root/tests/refused.sh"

@@ -60,27 +60,8 @@ python3 "$here/scripts.py" "$ymx" "$scratch/failing_malloc.so" "$root/tests/scri
 # of its descriptors, says so, and both end. And the selftest, which ends too.
 python3 "$here/tunnel.py" "$ymx" "$scratch/failing_malloc.so"
 
-# What a part of a session, a session and two running sessions do: each test holds whichever allocation fails.
+# What a part of a session, a session and two running sessions do: each test holds whichever allocation fails. The gate
+# runs these among others (tests/run.sh).
 if [ "${YMX_FROM_GATE-}" != yes ]; then
-    (cd "$root/crates/ymx_no_memory" && rt test) > log 2>&1 || { tail -n 20 log; exit 1; }
+    "$root/tests/try_tests.sh" no_memory/parts
 fi
-
-# holds PART: its test holds whichever allocation fails
-holds() {
-    number=0
-    while number=$((number + 1)) && rm -f failed; do
-        FAIL_AT=$number FAILED=failed LD_PRELOAD=./failing_malloc.so "$root/crates/ymx_no_memory/out/ymx_no_memory_tests" \
-            "$1::holds_under_each_refusal" > out 2>&1 || fail "$1: allocation $number" out
-        [ -e failed ] || break
-    done
-    grep -q 'test result: ok' out || fail "$1" out
-    [ $number -gt 1 ] || fail "$1: it takes no memory"
-    echo "ok    $1: $((number - 1)) allocations"
-}
-
-holds ring
-holds control
-holds half
-holds table
-holds session
-holds hubs
