@@ -1,4 +1,4 @@
 pub mod Exchanging
 pub mod Carrying
 pub mod Refusing
-pub mod Passing
+pub mod Advancing

@@ -314,7 +314,8 @@ impl Engine {
     fn feed(&mut self)
         ensures { HandlesIn false self.old self.new }
     {
-        self.feed_front(self.incoming.waiting().len());
+        let all = self.incoming.waiting().len();
+        self.feed_front(all);
     }
 
     /// Feeds the first of the bytes that wait, so many at most, and queues the streams that they touch.
@@ -400,9 +401,7 @@ impl Engine {
     /// Whether enough of this stream's payload waits for a call of its device, which may take bytes.
     fn may_pass(&self, id: u32) -> bool {
         match self.connections.get(id) {
-            Some(connection) => {
-                connection.may_push() && self.payload_count(id) >= LEAST_PASSED
-            }
+            Some(connection) => { connection.may_push() && self.payload_count(id) >= LEAST_PASSED }
             None => false,
         }
     }
@@ -429,7 +428,7 @@ impl Engine {
     /// Offers the first bytes that wait, payload of this stream, to its connection's device. How many it took.
     fn offer<D: Device>(&mut self, id: u32, count: usize, device: &mut D) -> usize
         requires { IsPayload id count self.old }
-        ensures passed { PassesOn id self.old self.new (D.seen device.old) (D.seen device.new) 2 }
+        ensures { PassesOn id self.old self.new (D.seen device.old) (D.seen device.new) 2 }
     {
         match self.connections.get(id) {
             Some(connection) if connection.may_push() => {
@@ -439,7 +438,8 @@ impl Engine {
         }
     }
 
-    /// Offers them to the device of this connection, which may take bytes. How many it took.
+    /// Offers them to the device of this connection, which may take bytes. How many it took. The connection has a turn
+    /// then, as the end of the stream may have come with them, and a device that failed is let go of at its turn.
     fn offer_to<D: Device>(
         &mut self,
         id: u32,
@@ -455,9 +455,7 @@ impl Engine {
         let taken = offer(&mut self.session, id, &mut connection, device, bytes);
         self.incoming.drop_front(taken);
         self.connections.set(id, connection);
-        if connection.is_over() {
-            self.connections.enqueue(id);
-        }
+        self.connections.enqueue(id);
         taken
     }
 

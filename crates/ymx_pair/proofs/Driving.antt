@@ -16,7 +16,7 @@ use Rattle.ymx_engine.specs.Events.{taken, given, has_end, has_finish, has_reset
 use Rattle.ymx_engine.specs.Exchanges.{has_bytes, Exchange, Exchanges}
 use Rattle.ymx_engine.specs.Wires.{is_of_read, is_of_flush}
 use Rattle.ymx_engine.proofs.Exchanging.{taken_then, given_then, end_then, finish_then, reset_then, or_same, or_twice, or_cases, whole_before, whole_after}
-use Rattle.ymx_engine.proofs.Passing.{quiet}
+use Rattle.ymx_engine.proofs.Advancing.{quiet}
 use Rattle.ymx_law_engine.proofs.Calling.{served}
 use Rattle.ymx_law_engine.proofs.Piping.{both}
 use Rattle.ymx_law_engine.specs.Pairs.{Pair, Turn, TakesTurn, TakeTurns, IsRead, IsFlush, at_a, at_b, events_at_a, events_at_b}

@@ -1,5 +1,5 @@
 -- How what waits is fed piece by piece, and what of it is passed on.
-use Rattle.std.proofs.Common.{◌≡◌, ℕ, ◌+◌, ◌≤◌, ◌<◌, ◌==◌, List, [], ◌∷◌, ◌++◌, length, take, drop, Bool, true, false, ◌||◌, ◌&&◌, Option, Some, refl, sym, ap, ◌∙◌, subst, arith, append-nil, append_assoc, take-append-drop, length-append, drop-drop}
+use Rattle.std.proofs.Common.{◌≡◌, ℕ, ◌+◌, ◌≤◌, ◌<◌, ◌==◌, List, [], ◌∷◌, ◌++◌, length, take, drop, min, Bool, true, false, ◌||◌, ◌&&◌, Option, Some, refl, sym, ap, ◌∙◌, subst, arith, append-nil, append_assoc, take-append-drop, length-append, drop-drop}
 use Rattle.std.specs.Prelude.{option_map}
 use Rattle.std.specs.List.{list_all}
 use Rattle.std.specs.Option.{ForSome}
@@ -40,11 +40,11 @@ fed_then (e ∷ es) fs = ap (λ (xs : List ℕ). fed_at e.0 e.1 ++ xs) (fed_then
 drop_none : (xs : List ℕ) → drop 0 xs ≡ xs
 drop_none xs = refl
 
-drop_front : (xs ys : List ℕ) → drop (length xs) (xs ++ ys) ≡ ys
+pub drop_front : (xs ys : List ℕ) → drop (length xs) (xs ++ ys) ≡ ys
 drop_front [] ys = drop_none ys
 drop_front (x ∷ xs) ys = drop_front xs ys
 
-drop_twice : (xs ys zs : List ℕ) → drop (length (xs ++ ys)) zs ≡ drop (length ys) (drop (length xs) zs)
+pub drop_twice : (xs ys zs : List ℕ) → drop (length (xs ++ ys)) zs ≡ drop (length ys) (drop (length xs) zs)
 drop_twice xs ys zs = ap (λ (n : ℕ). drop n zs) (length-append xs ys) ∙ sym (drop-drop (length ys) (length xs) zs)
 
 -- feeds behind feeds offer the front of what waits then
@@ -52,7 +52,7 @@ fronts_then : (es fs : List (Event × Reply)) (waits next : List ℕ) → drop (
 fronts_then [] fs waits next e h k = subst (λ (v : List ℕ). FeedsFront v fs) (sym e) k
 fronts_then (e ∷ es) fs waits next same h k = (h.0, fronts_then es fs (drop (length (fed_at e.0 e.1)) waits) next (sym (drop_twice (fed_at e.0 e.1) (fed es) waits) ∙ same) h.1 k)
 
-rest_of : (es : List (Event × Reply)) (waits next : List ℕ) → waits ≡ fed es ++ next → drop (length (fed es)) waits ≡ next
+pub rest_of : (es : List (Event × Reply)) (waits next : List ℕ) → waits ≡ fed es ++ next → drop (length (fed es)) waits ≡ next
 rest_of es waits next e = ap (drop (length (fed es))) e ∙ drop_front (fed es) next
 
 fed_on : (es fs : List (Event × Reply)) (a b c : List ℕ) → a ≡ fed es ++ b → b ≡ fed fs ++ c → a ≡ fed (es ++ fs) ++ c
@@ -105,6 +105,15 @@ takes_same s t waits told x =
     let i = fits s t (take x.count waits) told x.feeds in
     let j : length (take x.count waits) ≡ x.count = length-take-le x.count waits x.within in
     take_both told.taken x.count waits (omega arith)
+
+-- the session was fed the first bytes, so many at most
+pub feeds_first : (s t : Session) (n m : ℕ) (xs ys : List ℕ) (told : Fed) → xs ≡ ys → m ≡ min n (length xs) → Gives in_turn s (event.Feed (take m xs)) (reply.Fed told) t → FeedsSome s ys told t
+feeds_first s t n m xs ys told e least g =
+    let same : length xs ≡ length ys = ap length e in record {
+      count = m;
+      within = omega arith;
+      feeds = subst (λ (v : List ℕ). Gives in_turn s (event.Feed (take m v)) (reply.Fed told) t) e g;
+    }
 
 -- the first bytes of what waits were offered
 pub feeds_some : (a b : Engine) (told : Fed) (s : Session) (waits : List ℕ) → s ≡ a.session → waits ≡ a.incoming → FeedsSome s waits told b.session →

@@ -1,0 +1,5 @@
+use Rattle.ymx_engine.proofs.Carrying.{reads_same}
+use Rattle.ymx_engine.proofs.engine.Engine.pull_wire.Goals as goal
+
+pub returns-else-is_fed : goal.returns-else-is_fed
+returns-else-is_fed g c = reads_same _ _ 1
