@@ -73,6 +73,12 @@ begun_of (InHeader bytes) = length bytes
 begun_of (Payload came missing) = 12 + came
 begun_of (Broken fault) = 12
 
+-- how many bytes of the payload begun lack, 0 in a header
+abbrev pub missing_of : Seen → ℕ
+missing_of (InHeader bytes) = 0
+missing_of (Payload came missing) = missing
+missing_of (Broken fault) = 0
+
 -- how many bytes an item takes of the input: none at all only where all were taken, or where the fault is repeated
 abbrev pub TakesFor : List ℕ → ℕ → Option Item → Type 0
 TakesFor input taken None = taken ≡ length input

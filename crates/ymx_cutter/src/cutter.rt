@@ -40,7 +40,7 @@ impl Model for Cutter {
 }
 
 impl Cutter {
-    ghost use Rattle.ymx_cutter.specs.Cutters.{begun_of, next_of, IsUnfinished, TakesFor, Gathers};
+    ghost use Rattle.ymx_cutter.specs.Cutters.{begun_of, missing_of, next_of, IsUnfinished, TakesFor, Gathers};
     ghost use Rattle.ymx_cutter.specs.Cutters.Seen.{InHeader, Broken};
     ghost use Rattle.ymx_cutter.specs.Bytewise.{seen_in, events_in, item_events};
     ghost use Rattle.ymx_header.specs.declared.fault.Fault.{Fault as FaultValue};
@@ -80,6 +80,16 @@ impl Cutter {
             Begun::Header(bytes) => bytes.len(),
             Begun::Payload { came, .. } => HEADER_LENGTH + *came as usize,
             Begun::Broken(_) => HEADER_LENGTH,
+        }
+    }
+
+    /// How many bytes of the payload begun lack: at least one, or 0 in a header and after a fault.
+    pub fn missing(&self) -> u32
+        ensures { result ≡ missing_of self.now.seen }
+    {
+        match self.begun {
+            Begun::Header(_) | Begun::Broken(_) => 0,
+            Begun::Payload { missing, .. } => missing,
         }
     }
 

@@ -1,30 +1,20 @@
 -- How long a stream with something due waits for its turn.
-use Rattle.std.proofs.Common.{◌≡◌, ◌≢◌, ◌⊎◌, inl, inr, ℕ, zero, suc, ◌+◌, ◌-◌, ◌<◌, ◌≤◌, ◌==◌, nat_lt, nat_le, List, [], ◌∷◌, ◌++◌, length, take, drop, Bool, true, false, not, ◌&&◌, ◌||◌, cond, if◌then◌else◌, Option, None, Some, refl, sym, ap, ◌∙◌, subst, arith, append_assoc, length-append, rules}
-use Rattle.std.specs.Prelude.{count_by, is_some}
-use Rattle.std.proofs.lemmas.Grind.{common_steps}
+use Rattle.std.proofs.Common.{◌≡◌, ℕ, zero, suc, ◌+◌, ◌-◌, ◌<◌, ◌≤◌, ◌==◌, nat_lt, List, [], ◌∷◌, ◌++◌, length, take, drop, Bool, true, false, ◌||◌, cond, if◌then◌else◌, Option, None, Some, refl, sym, ap, ◌∙◌, subst, arith, append_assoc, length-append}
+use Rattle.std.specs.Prelude.{count_by}
 use Rattle.std.proofs.lemmas.Bool.Decides.{nat_tests}
 use Rattle.std.proofs.lemmas.List.{drop-append-le, take-append-le, take-append-drop}
 use Rattle.std.proofs.Math.Seq.{drop-append-add, take-append-add}
 use Rattle.std.proofs.lemmas.List.Recursion.{is_count_by}
-use Rattle.ymx_model.specs.declared.types.PingStage.TheVariants.{Sent}
-use Rattle.ymx_model.specs.declared.types.GoAwayMark.{GoAwayMark}
-use Rattle.ymx_model.specs.declared.types.Response.{Response}
 use Rattle.ymx_model.specs.session.Records.{End}
-use Rattle.ymx_model.specs.session.FramesDue.{is_empty, is_due, next_kind, begin_frame}
-use Rattle.ymx_model.specs.session.Pings.{Ping, ping_is_asked, has_asked, staged, first_asked}
-use Rattle.ymx_model.specs.session.GoAway.{away_due}
+use Rattle.ymx_model.specs.session.FramesDue.{is_due}
 use Rattle.ymx_model.specs.session.Tables.{Table, with_record, remove_record, pass_turn, due_ids, due_count, round}
 use Rattle.ymx_machine.specs.shared.Lists.{look, change, without, place, Distinct}
-use Rattle.ymx_model.specs.session.Sessions.{Session, is_running, is_broken, settle, is_spent, nothing_outgoing}
-use Rattle.ymx_model.specs.session.Emissions.{Choice, begin, begin_answer, begin_stream, begin_kind, moves_on, settles, in_turn, is_first, no_answers, is_some_of}
-use Rattle.ymx_machine.specs.shared.Limits.{data_limit}
-use Rattle.ymx_model.specs.session.Emissions.Choice.{TheAlarm, TheGoAway, TheAnswer, ThePing, AStream}
-use Rattle.ymx_law_session.specs.Limits.{IsWithin, is_listed}
-use Rattle.ymx_machine.proofs.Tests.{split, both_of, agrees, differs, is_lt, not_lt}
-use Rattle.ymx_machine.proofs.Lists.{look-change_other, look-without_other, place-change}
-use Rattle.ymx_law_session.proofs.limits.EmissionsKeep.{some_if, if_some, begin-keeps, moves-keep}
-use Rattle.ymx_law_session.proofs.due.Ready.{due-kind}
-use Rattle.ymx_session.specs.Turns.{own_frames, counted, before, turn, HasDue, is_of_stream, ReadyPast, FlowsPast}
+use Rattle.ymx_model.specs.session.Sessions.{Session}
+use Rattle.ymx_model.specs.session.Emissions.{is_first}
+use Rattle.ymx_law_session.specs.Limits.{is_listed}
+use Rattle.ymx_machine.proofs.Tests.{agrees, is_lt, not_lt}
+use Rattle.ymx_machine.proofs.Lists.{place-change}
+use Rattle.ymx_session.specs.Turns.{own_frames, before, turn, HasDue}
 
 -- ---- a record among the others
 
