@@ -3,3 +3,4 @@ pub mod Directions
 pub mod Stages
 pub mod Frames
 pub mod Ends
+pub mod Passing

@@ -154,6 +154,7 @@ pub(crate) enum Receiving {
 
 impl Receiving {
     ghost use Rattle.ymx_half.specs.Directions.{reader_of, receives_nothing};
+    ghost use Rattle.ymx_half.specs.Passing.{reader_pass};
 
     /// These bytes come, before the end.
     pub(crate) fn arrive(&mut self, bytes: &[u8])
@@ -204,6 +205,19 @@ impl Receiving {
             Receiving::Open(half) => half.consume(count),
             Receiving::Ended(half) => half.consume(count),
             Receiving::Dead(_) => 0,
+        }
+    }
+
+    /// These bytes come, before the end, and are read at once.
+    pub(crate) fn pass(&mut self, bytes: &[u8])
+        requires receives { receives_nothing self.old ≡ false }
+        requires open { (reader_of self.old).ended ≡ false }
+        requires fits { length bytes.now ≤ (reader_of self.old).granted }
+        ensures passed { reader_of self.new ≡ reader_pass (length bytes.now) (reader_of self.old) }
+        ensures same_state { receives_nothing self.new ≡ receives_nothing self.old }
+    {
+        if let Receiving::Open(half) = self {
+            half.pass(bytes);
         }
     }
 

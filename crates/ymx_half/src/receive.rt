@@ -3,6 +3,7 @@
 ghost use Rattle.std.specs.Prelude.{◌≡◌, ◌+◌, ◌<◌, ◌≤◌, ◌++◌, length, take, drop, min, IfOk};
 ghost use Rattle.ymx_machine.specs.shared.Limits.{first_credit};
 ghost use Rattle.ymx_model.specs.session.Records.{new_reader, reader_arrive, reader_read, reader_announce, reader_end};
+ghost use Rattle.ymx_half.specs.Passing.{reader_pass};
 
 use crate::{DeadHalf, EndedHalf, FIRST_CREDIT};
 use std::alloc::{AllocError, Global};
@@ -92,6 +93,18 @@ impl RecvHalf {
         self.unread.skip(taken);
         self.debt.read(taken as u32);
         taken
+    }
+
+    /// These bytes come and are read at once, and so they are owed. They are no more than the peer may send. The unread
+    /// bytes stay as they are: none of these is put among them.
+    pub fn pass(&mut self, bytes: &[u8])
+        requires { length bytes.now ≤ self.old.granted }
+        ensures { self.new ≡ reader_pass (length bytes.now) self.old }
+    {
+        let granted = self.granted;
+        let count = bytes.len() as u32;
+        self.granted = granted - count;
+        self.debt.read(count);
     }
 
     /// `n` of the owed bytes (all, if they are fewer) are announced: the peer may send them from now on.

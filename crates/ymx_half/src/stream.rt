@@ -136,6 +136,7 @@ impl Model for StreamRec {
 impl StreamRec {
     ghost use Rattle.ymx_half.specs.Stages.{phase_of};
     ghost use Rattle.ymx_half.specs.Frames.{frame_payload};
+    ghost use Rattle.ymx_half.specs.Passing.{MayPass, passed};
 
     /// Makes the record of a stream that is opened here, with memory for 262,144 unsent bytes and for
     /// all of the window, in bytes. A SYN is due, which carries data if `with_data`. Without the memory it
@@ -397,6 +398,22 @@ impl StreamRec {
         ensures { self.new ≡ receive_piece fin bytes.now self.old }
     {
         self.receive_data(bytes);
+        if fin {
+            self.receive_fin();
+        }
+    }
+
+    /// A piece of a payload comes, and behind it the peer's end if `fin`, and is read at once: `receive_piece` of these
+    /// bytes, and then a read of as many (flow control). None of them is put among the unread bytes, of which there
+    /// are none.
+    ///
+    /// Example: of a window of 262,144 bytes the first 131,071 that are passed make no credit due, and one byte more
+    /// does.
+    pub fn pass(&mut self, fin: bool, bytes: &[u8])
+        requires { MayPass bytes.now self.old }
+        ensures { self.new ≡ passed fin bytes.now self.old }
+    {
+        self.reader.pass(bytes);
         if fin {
             self.receive_fin();
         }

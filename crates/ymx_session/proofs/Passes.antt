@@ -1,23 +1,25 @@
 -- Payload that is passed on: it comes, and is read at once.
-use Rattle.std.proofs.Common.{◌≡◌, ◌≢◌, ℕ, ◌<◌, ◌≤◌, ◌==◌, min, List, [], length, take, Bool, true, false, not, ◌&&◌, if◌then◌else◌, Option, None, Some, refl, sym, ap, ◌∙◌, subst, arith}
-use Rattle.std.specs.Prelude.{IsSome}
+use Rattle.std.proofs.Common.{◌≡◌, ◌≢◌, ℕ, ◌<◌, ◌≤◌, ◌==◌, min, List, [], ◌∷◌, length, take, Bool, true, false, not, ◌&&◌, if◌then◌else◌, Option, None, Some, refl, sym, ap, ◌∙◌, subst, arith}
+use Rattle.std.specs.Prelude.{IsSome, IfSome}
 use Rattle.std.proofs.lemmas.Grind.{common_steps}
 use Rattle.std.proofs.lemmas.Bool.Decides.{nat_tests}
 use Rattle.ymx_machine.specs.declared.types.Reply.TheVariants.{Read}
 use Rattle.ymx_machine.specs.declared.types.Why.{Why}
-use Rattle.ymx_machine.specs.shared.Lists.{look}
+use Rattle.ymx_machine.specs.shared.Lists.{look, change}
 use Rattle.ymx_machine.specs.shared.Phases.{Phase, is_live}
 use Rattle.ymx_machine.specs.shared.Phases.Phase.{Live}
 use Rattle.ymx_machine.proofs.Lists.{look-change_there}
 use Rattle.ymx_model.specs.declared.types.Status.{Status}
 use Rattle.ymx_model.specs.declared.types.Status.TheVariants.{Running, Lost, Broken, Closed}
-use Rattle.ymx_model.specs.session.Records.{End, receive_piece, end_read}
+use Rattle.ymx_model.specs.session.Records.{End, takes_payload, receive_piece, end_read}
 use Rattle.ymx_model.specs.session.Tables.{Table, with_record}
 use Rattle.ymx_model.specs.session.Sessions.{Session, Incoming}
 use Rattle.ymx_model.specs.session.Sessions.Incoming.{Head, Payload}
 use Rattle.ymx_model.specs.session.Calls.{read_from}
 use Rattle.ymx_model.specs.session.Feeds.{Takes, Feeds, is_stuck, why_of}
 use Rattle.ymx_model.specs.session.Histories.CallGives.{Outcome as HasOutcome}
+use Rattle.ymx_half.specs.Passing.{MayPass, passed}
+use Rattle.ymx_law_session.specs.Limits.{IsWithin, IsIncomingWithin, IsPayloadWithin}
 use Rattle.ymx_session.specs.Arriving.{GoesIn}
 use Rattle.ymx_session.specs.Passing.{passing, is_read_up, all_fed, Passes, FeedsFront}
 use Rattle.ymx_session.specs.Replies.{stream_fault}
@@ -142,8 +144,8 @@ module _ (id : ℕ) (bytes : List ℕ) (e : End) (t : Session) (run : t.status �
       let same : take (length bytes) (take (length bytes) (waiting id t)) ≡ bytes = rw (unread, whole) whole in
       subst (λ (x : List ℕ). Read x ≡ (read_from id (length bytes) t).reply) same (consume-gives id (length bytes) (length bytes) e t may there some full as-many)
 
-  leaves : (n : ℕ) (two : Table) → n ≡ min (length bytes) (length e.reader.unread) → two ≡ with_record id (end_read n) t.table → record t { table = two } ≡ (read_from id (length bytes) t).next
-  leaves n two k w = consume-leaves id n (length bytes) e two t t refl may there some full k w
+  leaves : (table : Table) → table ≡ with_record id (end_read (length bytes)) t.table → record t { table = table } ≡ (read_from id (length bytes) t).next
+  leaves table w = consume-leaves id (length bytes) (length bytes) e table t t refl may there some full as-many w
 
 -- ---- they are passed on
 
@@ -151,35 +153,42 @@ module _ (id : ℕ) (bytes : List ℕ) (e : End) (t : Session) (run : t.status �
 same-stream : (p : Passing) (id : ℕ) (end : Bool) (bytes : List ℕ) (s : Session) (now : Incoming) → IsPassing p s → GoesIn id end false s.incoming now bytes → id ≡ p.id
 same-stream p id end bytes s now h g = let e : Payload id g.missing g.fin false ≡ Payload p.id p.missing h.fin false = sym g.was ∙ h.incoming in cc
 
--- the record of the stream then
-came-there : (p : Passing) (id : ℕ) (end : Bool) (bytes : List ℕ) (s : Session) (one : Table) (h : IsPassing p s) → id ≡ p.id → one ≡ with_record id (receive_piece end bytes) s.table →
-    look id one.entries ≡ Some (receive_piece end bytes h.stream)
-came-there p id end bytes s one h i w =
-    let there : look id s.table.entries ≡ Some h.stream = subst (λ (k : ℕ). look k s.table.entries ≡ Some h.stream) (sym i) h.there in
-    ap (λ (x : Table). look id x.entries) w ∙ look-change_there id (receive_piece end bytes) s.table.entries h.stream there
-
-pub still-there : (p : Passing) (id : ℕ) (end : Bool) (bytes : List ℕ) (v s : Session) (one : Table) (now : Incoming) → v ≡ s → passing s ≡ Some p → GoesIn id end false v.incoming now bytes →
-    one ≡ with_record id (receive_piece end bytes) v.table → IsSome (look id one.entries)
-still-there p id end bytes v s one now e h g w =
-    let k : IsPassing p v = passing-is p v (ap passing e ∙ h) in
-    let there = came-there p id end bytes v one k (same-stream p id end bytes v now k g) w in
-    rw there refl
-
-pub passes : (p : Passing) (id n : ℕ) (end : Bool) (bytes : List ℕ) (v s : Session) (one two : Table) (now : Incoming) → v ≡ s → passing s ≡ Some p → 0 < length bytes → GoesIn id end false v.incoming now bytes →
-    one ≡ with_record id (receive_piece end bytes) v.table → ((e : End) → look id one.entries ≡ Some e → n ≡ min (length bytes) (length e.reader.unread)) → two ≡ with_record id (end_read n) one →
-    Passes p.id bytes s (record v { table = two; incoming = now })
-passes p id n end bytes v s one two now e h some g w m r =
+-- the record of the stream takes these bytes, and has nothing unread
+pub may-pass : (p : Passing) (id : ℕ) (end : Bool) (bytes : List ℕ) (v s : Session) (now : Incoming) → v ≡ s → IsWithin s → passing s ≡ Some p → length bytes ≤ p.missing → GoesIn id end false v.incoming now bytes →
+    IfSome (look id v.table.entries) (MayPass bytes)
+may-pass p id end bytes v s now e w h few g =
     let k : IsPassing p v = passing-is p v (ap passing e ∙ h) in
     let i = same-stream p id end bytes v now k g in
-    let there = came-there p id end bytes v one k i w in
+    let there : look id v.table.entries ≡ Some k.stream = subst (λ (j : ℕ). look j v.table.entries ≡ Some k.stream) (sym i) k.there in
+    let within : IsWithin v = subst IsWithin (sym e) w in
+    let payload : IsPayloadWithin p.id p.missing v.role v.next v.table.entries = subst (λ (x : Incoming). IsIncomingWithin x v.role v.next v.table.entries) k.incoming within.incoming in
+    let takes : takes_payload k.stream ≡ true = let live = k.live in let goes_on = k.goes_on in rw (live, goes_on) refl in
+    let granted : p.missing ≤ k.stream.reader.granted = payload.granted k.stream k.there takes in
+    rw there (record { takes = takes; read_up = k.read_up; granted = omega arith })
+
+-- two changes of one record are one
+change-twice : (id : ℕ) (f g : End → End) (ps : List (ℕ × End)) → change id (λ e. g (f e)) ps ≡ change id g (change id f ps)
+change-twice id f g [] = refl
+change-twice id f g (p ∷ ps) = let more = change-twice id f g ps in grind (arith, nat_tests)
+
+pub passes : (p : Passing) (id : ℕ) (end : Bool) (bytes : List ℕ) (v s : Session) (table : Table) (now : Incoming) → v ≡ s → passing s ≡ Some p → 0 < length bytes → GoesIn id end false v.incoming now bytes →
+    table ≡ with_record id (passed end bytes) v.table → Passes p.id bytes s (record v { table = table; incoming = now })
+passes p id end bytes v s table now e h some g w =
+    let k : IsPassing p v = passing-is p v (ap passing e ∙ h) in
+    let i = same-stream p id end bytes v now k g in
+    let here : look id v.table.entries ≡ Some k.stream = subst (λ (j : ℕ). look j v.table.entries ≡ Some k.stream) (sym i) k.there in
+    let one : Table = with_record id (receive_piece end bytes) v.table in
+    let there : look id one.entries ≡ Some (receive_piece end bytes k.stream) = look-change_there id (receive_piece end bytes) v.table.entries k.stream here in
     let mid : Session = record v { table = one; incoming = now } in
-    let took : Takes bytes s mid 0 = taken-takes id end false bytes v s one now e (ap (λ (x : Session). x.status) (sym e) ∙ k.running) refl w g in
+    let took : Takes bytes s mid 0 = taken-takes id end false bytes v s one now e (ap (λ (x : Session). x.status) (sym e) ∙ k.running) refl refl g in
     let got = received end bytes k.stream k.live k.goes_on k.read_up in
-    subst (λ (j : ℕ). Passes j bytes s (record v { table = two; incoming = now })) i
+    let two : table ≡ with_record id (end_read (length bytes)) one =
+    w ∙ ap (λ (es : List (ℕ × End)). record v.table { entries = es }) (change-twice id (receive_piece end bytes) (end_read (length bytes)) v.table.entries) in
+    subst (λ (j : ℕ). Passes j bytes s (record v { table = table; incoming = now })) i
     (record {
       mid = mid;
       fed = (all_fed bytes, refl, feeds-all bytes s mid k.running took);
-      read = HasOutcome (reads id bytes _ mid k.running there got some) (leaves id bytes _ mid k.running there got some n two (m _ there) r);
+      read = HasOutcome (reads id bytes _ mid k.running there got some) (leaves id bytes _ mid k.running there got some table two);
     })
 
 -- ---- a feed of the first bytes

@@ -46,7 +46,6 @@ impl State {
         ensures { ForSome (passing self.old) (λ p. Passes p.id bytes.now self.old self.new) }
     {
         let (id, end) = self.arriving.pass(bytes);
-        self.table.receive_piece(id, end, bytes);
-        self.table.consume(id, bytes.len());
+        self.table.pass(id, end, bytes);
     }
 }

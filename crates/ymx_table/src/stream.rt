@@ -11,6 +11,7 @@ ghost use Rattle.ymx_model.specs.session.Records.{takes_payload, end_write, end_
 ghost use Rattle.ymx_machine.specs.shared.Lists.{look};
 ghost use Rattle.ymx_model.specs.session.Tables.{with_record};
 ghost use Rattle.ymx_half.specs.Stages.{phase_of};
+ghost use Rattle.ymx_half.specs.Passing.{MayPass, passed};
 
 use crate::Table;
 use std::alloc::AllocError;
@@ -122,6 +123,16 @@ impl Table {
         ensures { self.new ≡ with_record id (receive_piece fin bytes.now) self.old }
     {
         self.change(id, |stream| stream.receive_piece(fin, bytes));
+    }
+
+    /// A piece of a payload comes, and behind it the peer's end if `fin`, and is read at once: `receive_piece` of these
+    /// bytes, and then a read of as many (flow control). The stream takes payload, has granted so many bytes, and
+    /// nothing of it is unread. Where there is no record nothing changes.
+    pub fn pass(&mut self, id: u32, fin: bool, bytes: &[u8])
+        requires { IfSome (look id self.old.entries) (MayPass bytes.now) }
+        ensures { self.new ≡ with_record id (passed fin bytes.now) self.old }
+    {
+        self.change(id, |stream| stream.pass(fin, bytes));
     }
 
     /// The head of a frame without RST comes (flags, flow control): the peer acknowledges the stream if
