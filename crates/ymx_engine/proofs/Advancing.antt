@@ -20,7 +20,7 @@ use Rattle.ymx_model.specs.session.Feeds.{Feeds}
 use Rattle.ymx_model.specs.session.Emissions.{in_turn}
 use Rattle.ymx_model.specs.session.Histories.{Gives}
 use Rattle.ymx_session.specs.declared.passing.Passing.{Passing}
-use Rattle.ymx_session.specs.Passing.{passing, all_fed, Passes, FeedsFront as FeedsSome}
+use Rattle.ymx_session.specs.Passing.{passing, all_fed, Passes, FeedsSome}
 use Rattle.ymx_engine.specs.declared.device.Pushed.{Pushed}
 use Rattle.ymx_engine.specs.declared.device.Pushed.TheVariants as pushed
 use Rattle.ymx_engine.specs.Devices.{Seen, pushed_count, is_push_failure, IsPushed, IsShut}

@@ -5,7 +5,7 @@ ghost use Rattle.ymx_model.specs.declared.types.Event.TheVariants as event;
 ghost use Rattle.ymx_machine.specs.declared.types.Reply.TheVariants as reply;
 ghost use Rattle.ymx_model.specs.session.Emissions.{in_turn};
 ghost use Rattle.ymx_model.specs.session.Histories.{Gives};
-ghost use Rattle.ymx_session.specs.Passing.{FeedsFront as FeedsSome};
+ghost use Rattle.ymx_session.specs.Passing.{FeedsSome};
 ghost use Rattle.ymx_engine.specs.Devices.{IsPulled, pulled_count};
 
 use crate::device::{Device, Pulled};

@@ -21,7 +21,7 @@ use Rattle.ymx_model.specs.session.Histories.CallGives.{Outcome as HasOutcome}
 use Rattle.ymx_half.specs.Passing.{MayPass, passed}
 use Rattle.ymx_law_session.specs.Limits.{IsWithin, IsIncomingWithin, IsPayloadWithin}
 use Rattle.ymx_session.specs.Arriving.{GoesIn}
-use Rattle.ymx_session.specs.Passing.{passing, is_read_up, all_fed, Passes, FeedsFront}
+use Rattle.ymx_session.specs.Passing.{passing, is_read_up, all_fed, Passes, FeedsSome}
 use Rattle.ymx_session.specs.Replies.{stream_fault}
 use Rattle.ymx_session.specs.Streams.{waiting}
 use Rattle.ymx_session.specs.declared.passing.Passing.{Passing}
@@ -195,7 +195,7 @@ passes p id end bytes v s table now e h some g w =
 
 -- as far as it went
 front-fed : (input : List ℕ) (s t : Session) (taken n m : ℕ) (why : Why) → taken ≤ length input → Takes (take taken input) s t m → n ≡ min m 4294967295 → why ≡ why_of t.status true →
-    FeedsFront s input (record { taken = taken; no_memory = n; why = why }) t
+    FeedsSome s input (record { taken = taken; no_memory = n; why = why }) t
 front-fed input s t taken n m why l took k w =
     let long : length (take taken input) ≡ taken = grind (arith, common_steps) in
     let same : take taken (take taken input) ≡ take taken input = grind (arith, common_steps) in
@@ -217,7 +217,7 @@ front-fed input s t taken n m why l took k w =
 
 -- or of all, where no byte more is taken
 stuck-fed : (input : List ℕ) (s t : Session) (taken n m : ℕ) (why : Why) → taken ≤ length input → Takes (take taken input) s t m → n ≡ min m 4294967295 → taken ≢ length input → is_stuck t ≡ true →
-    why ≡ why_of t.status false → FeedsFront s input (record { taken = taken; no_memory = n; why = why }) t
+    why ≡ why_of t.status false → FeedsSome s input (record { taken = taken; no_memory = n; why = why }) t
 stuck-fed input s t taken n m why l took k less stuck w =
     let all : (taken == length input) ≡ false = grind (arith, nat_tests) in
     let whole = all-taken input in
@@ -238,13 +238,13 @@ stuck-fed input s t taken n m why l took k less stuck w =
 
 -- it took all
 pub whole-fed : (input : List ℕ) (s t : Session) (taken n m : ℕ) (why : Why) (all : Bool) → taken ≤ length input → Takes (take taken input) s t m → n ≡ min m 4294967295 → taken ≡ length input →
-    all ≡ (taken == length input) → why ≡ why_of t.status all → FeedsFront s input (record { taken = taken; no_memory = n; why = why }) t
+    all ≡ (taken == length input) → why ≡ why_of t.status all → FeedsSome s input (record { taken = taken; no_memory = n; why = why }) t
 whole-fed input s t taken n m why all l took k e a w =
     let yes : all ≡ true = a ∙ rw e (all-test (length input)) in
     front-fed input s t taken n m why l took k (w ∙ ap (why_of t.status) yes)
 
 -- it stopped before the end
 pub rest-fed : (input : List ℕ) (s t : Session) (taken n m : ℕ) (why : Why) (all stuck : Bool) → taken ≤ length input → Takes (take taken input) s t m → n ≡ min m 4294967295 → taken ≢ length input →
-    all ≡ not stuck → stuck ≡ is_stuck t → why ≡ why_of t.status all → FeedsFront s input (record { taken = taken; no_memory = n; why = why }) t
+    all ≡ not stuck → stuck ≡ is_stuck t → why ≡ why_of t.status all → FeedsSome s input (record { taken = taken; no_memory = n; why = why }) t
 rest-fed input s t taken n m why all true l took k less a is w = stuck-fed input s t taken n m why l took k less (sym is) (w ∙ ap (why_of t.status) a)
 rest-fed input s t taken n m why all false l took k less a is w = front-fed input s t taken n m why l took k (w ∙ ap (why_of t.status) a)

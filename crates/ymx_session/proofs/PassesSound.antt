@@ -6,7 +6,7 @@ use Rattle.ymx_machine.specs.declared.types.Fed.{Fed}
 use Rattle.ymx_machine.specs.declared.types.Reply.TheVariants as reply
 use Rattle.ymx_model.specs.declared.types.Event.TheVariants as event
 use Rattle.ymx_model.specs.session.Sessions.{Session}
-use Rattle.ymx_session.specs.Passing.{all_fed, Passes, FeedsFront}
+use Rattle.ymx_session.specs.Passing.{all_fed, Passes, FeedsSome}
 use Rattle.ymx_session.specs.Sound.{IsSound}
 use Rattle.ymx_session.specs.declared.passing.Passing.{Passing}
 use Rattle.ymx_session.proofs.Sounds.{gives-sound}
@@ -15,7 +15,7 @@ pub passes-sound : (id : ℕ) (bytes : List ℕ) (s t : Session) → Passes id b
 passes-sound id bytes s t p h =
     gives-sound p.mid t (event.Call (call.Read id (length bytes))) (reply.Read bytes) p.read (gives-sound s p.mid (event.Feed bytes) (reply.Fed (all_fed bytes)) p.fed h)
 
-pub front-sound : (s : Session) (input : List ℕ) (fed : Fed) (t : Session) → FeedsFront s input fed t → IsSound s → IsSound t
+pub front-sound : (s : Session) (input : List ℕ) (fed : Fed) (t : Session) → FeedsSome s input fed t → IsSound s → IsSound t
 front-sound s input fed t f h = gives-sound s t (event.Feed (take f.count input)) (reply.Fed fed) f.feeds h
 
 -- it stops for one reason or the other

@@ -47,7 +47,7 @@ pub record Passes (id : ℕ) (bytes : List ℕ) (s t : Session) : Type 0 where
   pub read : Gives in_turn mid (event.Call (call.Read id (length bytes))) (reply.Read bytes) t
 
 -- It is a feed of the first so many of these bytes.
-pub record FeedsFront (s : Session) (input : List ℕ) (fed : Fed) (t : Session) : Type 0 where
+pub record FeedsSome (s : Session) (input : List ℕ) (fed : Fed) (t : Session) : Type 0 where
   pub count : ℕ
   pub within : count ≤ length input
   pub feeds : Gives in_turn s (event.Feed (take count input)) (reply.Fed fed) t
