@@ -1,5 +1,5 @@
 -- Payload that is passed on as it comes, without a stay in its stream's ring (this project's own).
-use Rattle.std.specs.Prelude.{◌≤◌, ◌==◌, ℕ, List, length, take, Bool, false, not, ◌&&◌, if◌then◌else◌, Option, None, Some}
+use Rattle.std.specs.Prelude.{◌≡◌, [], ◌∷◌, ◌≤◌, ◌==◌, ℕ, List, length, take, Bool, false, not, ◌&&◌, if◌then◌else◌, Option, None, Some}
 use Rattle.ymx_machine.specs.declared.types.Call.TheVariants as call
 use Rattle.ymx_machine.specs.declared.types.Fed.{Fed}
 use Rattle.ymx_machine.specs.declared.types.Reply.TheVariants as reply
@@ -11,6 +11,7 @@ use Rattle.ymx_model.specs.session.Records.{End}
 use Rattle.ymx_model.specs.session.Sessions.{Session, Incoming, is_running}
 use Rattle.ymx_model.specs.session.Sessions.Incoming.{Head, Payload}
 use Rattle.ymx_model.specs.session.Emissions.{in_turn}
+use Rattle.ymx_model.specs.session.Feeds.{byte_comes}
 use Rattle.ymx_model.specs.session.Histories.{Gives}
 use Rattle.ymx_session.specs.declared.passing.Passing.{Passing}
 
@@ -45,6 +46,12 @@ pub record Passes (id : ℕ) (bytes : List ℕ) (s t : Session) : Type 0 where
   pub mid : Session
   pub fed : Gives in_turn s (event.Feed bytes) (reply.Fed (all_fed bytes)) mid
   pub read : Gives in_turn mid (event.Call (call.Read id (length bytes))) (reply.Read bytes) t
+
+-- All these bytes are taken, and before none of them payload may be passed on. At each byte memory for a record may be
+-- found or not.
+abbrev pub TakesUnpassed : List ℕ → Session → Session → Type 0
+TakesUnpassed [] s t = t ≡ s
+TakesUnpassed (b ∷ bs) s t = (no_memory : Bool) × (passing s ≡ None) × TakesUnpassed bs (byte_comes no_memory b s) t
 
 -- It is a feed of the first so many of these bytes.
 pub record FeedsSome (s : Session) (input : List ℕ) (fed : Fed) (t : Session) : Type 0 where
