@@ -11,7 +11,7 @@ use std::net::{Net, SocketAddr, TcpListener, TcpStream};
 use ymx_model::Outlet;
 
 /// How a side meets its peer.
-#[derive(Clone, Copy, Debug, PartialEq, Eq)]
+#[derive(Clone, Copy)]
 pub enum Meeting {
     /// It calls the peer at this address.
     Calls(SocketAddr),

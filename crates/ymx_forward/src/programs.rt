@@ -16,7 +16,7 @@ use ymx_loop::{Forwarded, Station, TunnelSide, Unwatched};
 use ymx_model::Outlet;
 
 /// What `ymx local` is asked.
-#[derive(Clone, Copy, Debug, PartialEq, Eq)]
+#[derive(Clone, Copy)]
 pub struct Local {
     /// Where connections come from.
     pub listen: SocketAddr,
@@ -33,7 +33,7 @@ pub struct Local {
 }
 
 /// What `ymx remote` is asked.
-#[derive(Clone, Copy, Debug, PartialEq, Eq)]
+#[derive(Clone, Copy)]
 pub struct Remote {
     /// How it meets the peer of its session.
     pub meeting: Meeting,

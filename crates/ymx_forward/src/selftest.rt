@@ -9,7 +9,6 @@ ghost use Rattle.std.specs.Io.KnownBytes.{Keeps};
 
 use crate::sockets::{connect, listen};
 use crate::tell::{cannot_listen, lacks_memory, refuse};
-use crossbeam_channel::{Receiver, Sender, bounded};
 use std::alloc::Global;
 use std::io::{Read, Write};
 use std::net::{Ipv4Addr, Net, Shutdown, SocketAddr, SocketAddrV4, TcpListener, TcpStream};
@@ -35,15 +34,8 @@ const CHUNK: usize = 4_096;
 /// The same as a number of 32 bits.
 const CHUNK_SIZE: u32 = 4_096;
 
-/// What became of a connection.
-#[derive(Clone, Copy, Debug, PartialEq, Eq)]
-struct Echoed {
-    number: u32,
-    is_whole: bool,
-}
-
 /// Where two of the servers listen.
-#[derive(Clone, Copy, Debug, PartialEq, Eq)]
+#[derive(Clone, Copy)]
 struct Places {
     echo: SocketAddr,
     local: SocketAddr,
@@ -61,7 +53,7 @@ struct Owned {
 }
 
 /// Why the lines of the test stop.
-#[derive(Clone, Copy, Debug, PartialEq, Eq)]
+#[derive(Clone, Copy)]
 enum Stop {
     /// This connection failed.
     Connection(u32),
@@ -84,10 +76,7 @@ pub fn run_selftest<
     let Some((places, owned)) = prepare(rt) else {
         return cannot_listen(alloc, any_port(), errors);
     };
-    let Ok((sender, receiver)) = bounded::<Echoed, Global>(alloc, 3) else {
-        return lacks_memory(errors);
-    };
-    let whole = run_all(rt, alloc, places, owned, sender, &receiver);
+    let whole = run_all(rt, alloc, places, owned);
     match print_lines(alloc, whole, writer) {
         Ok(()) => 0,
         Err(Stop::Connection(number)) => failed(alloc, number, errors),
@@ -96,15 +85,13 @@ pub fn run_selftest<
     }
 }
 
-/// Runs the three servers and the client in threads, and says how many connections were whole before one failed; none
-/// was where a thread can't be made.
+/// Runs the three servers in threads, and the client in this one. Says how many connections were whole before one
+/// failed; none was where a thread can't be made.
 fn run_all<R: Net<Stream = TcpStream, Listener = TcpListener> + Threads + Wait + Sync>(
     rt: &R,
     alloc: Global,
     places: Places,
     owned: Owned,
-    sender: Sender<Echoed, Global>,
-    receiver: &Receiver<Echoed, Global>,
 ) -> u32 {
     let Owned {
         echo,
@@ -120,14 +107,8 @@ fn run_all<R: Net<Stream = TcpStream, Listener = TcpListener> + Threads + Wait +
         let has_near = scope
             .spawn(move || run_local_end(rt, alloc, near, local))
             .is_ok();
-        let are_running = has_echo
-            && has_far
-            && has_near
-            && scope
-                .spawn(move || run_client(rt, places.local, sender))
-                .is_ok();
-        let whole = if are_running {
-            receive_all(rt, receiver)
+        let whole = if has_echo && has_far && has_near {
+            run_client(rt, places.local)
         } else {
             0
         };
@@ -175,21 +156,6 @@ fn connect_session<R: Net<Stream = TcpStream, Listener = TcpListener>>(
         return None;
     };
     Some((near, far))
-}
-
-/// Receives what became of each connection, up to the first that failed, and says how many were whole. A result that
-/// doesn't come, or that of another connection, counts as a failure of the one awaited.
-fn receive_all<R: Wait>(rt: &R, receiver: &Receiver<Echoed, Global>) -> u32 {
-    for number in 1..=CONNECTIONS {
-        let whole = Echoed {
-            number,
-            is_whole: true,
-        };
-        if receiver.recv(rt) != Ok(whole) {
-            return number - 1;
-        }
-    }
-    CONNECTIONS
 }
 
 /// Prints a line for each of the first `whole` connections. Stops at the first other one.
@@ -268,22 +234,23 @@ fn run_local_end<R: Net<Stream = TcpStream, Listener = TcpListener> + Wait>(
     let _ = forward(rt, alloc, connection, side, WINDOW, &mut Unwatched);
 }
 
-/// Makes the three connections, one after the other, and sends what became of each.
-fn run_client<R: Net<Stream = TcpStream, Listener = TcpListener> + Wait>(
-    rt: &R,
-    address: SocketAddr,
-    sender: Sender<Echoed, Global>,
-) {
-    let mut number = 0u32;
+/// Makes the three connections, one after the other, up to the first that fails, and says how many were whole.
+fn run_client<R: Net<Stream = TcpStream>>(rt: &R, address: SocketAddr) -> u32 {
+    let mut whole = 0u32;
     for size in SIZES {
-        number = number.saturating_add(1);
-        let is_whole = match connect(rt, address) {
-            Some(stream) => is_echoed(&stream, size).unwrap_or(false),
-            None => false,
-        };
-        if sender.send(rt, Echoed { number, is_whole }).is_err() {
-            return;
+        if !is_whole(rt, address, size) {
+            return whole;
         }
+        whole = whole.saturating_add(1);
+    }
+    whole
+}
+
+/// Whether so many bytes come back from a connection to this address.
+fn is_whole<R: Net<Stream = TcpStream>>(rt: &R, address: SocketAddr, size: u32) -> bool {
+    match connect(rt, address) {
+        Some(stream) => is_echoed(&stream, size).unwrap_or(false),
+        None => false,
     }
 }
 

@@ -1,6 +1,6 @@
 //! The lines that are printed of frames.
 
-ghost use Rattle.std.specs.Prelude.{ℕ, List, ◌≡◌, ◌++◌, [], take, OnOk, OnErr};
+ghost use Rattle.std.specs.Prelude.{ℕ, List, ◌≡◌, ◌≤◌, ◌++◌, [], codes, length, take, OnOk, OnErr};
 ghost use Rattle.std.specs.Io.{StartsWith};
 ghost use Rattle.hex.specs.Hex.{encode_lower};
 ghost use Rattle.std.specs.Int.{bytes_high_first};
@@ -17,7 +17,7 @@ const SHOWN: usize = 16;
 
 /// What a line shows of a payload that comes in pieces: its first sixteen bytes, and whether there
 /// are more.
-#[derive(Debug, Drop)]
+#[derive(Drop)]
 pub struct Preview {
     bytes: ArrayVec<u8, SHOWN>,
     more: bool,
@@ -61,16 +61,25 @@ impl Preview {
         if shown.is_empty() {
             return Ok(());
         }
-        let mut digits = [0; 2 * SHOWN];
-        let digits = &mut digits[..2 * shown.len()];
-        let _ = hex::encode_to_slice(shown, digits);
-        text.extend_from_slice(b" ")?;
-        text.extend_from_slice(digits)?;
+        write_digits(text, shown)?;
         if self.more {
-            text.extend_from_slice(b"..")?;
+            return text.extend_from_slice(b"..");
         }
         Ok(())
     }
+}
+
+/// Appends a space and these bytes, at most sixteen, in hexadecimal.
+fn write_digits(text: &mut Vec<u8>, shown: &[u8]) -> Result<(), AllocError>
+    requires { length shown.now ≤ 16 }
+    ensures ok { OnOk result (text.new.items ≡ text.old.items ++ (codes " " ++ encode_lower shown.now)) }
+    ensures kept { StartsWith text.new.items text.old.items }
+{
+    let mut digits = [0; 2 * SHOWN];
+    let digits = &mut digits[..2 * shown.len()];
+    let _ = hex::encode_to_slice(shown, digits);
+    text.extend_from_slice(b" ")?;
+    text.extend_from_slice(digits)
 }
 
 /// Appends a name and a number in decimal digits.

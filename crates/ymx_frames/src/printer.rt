@@ -16,7 +16,7 @@ use ymx_header::{Fault, HEADER_LENGTH, Header, decode};
 
 /// Prints the frames of a text that comes in pieces. Of the frame begun it keeps the header and at
 /// most sixteen bytes of payload.
-#[derive(Debug, Drop)]
+#[derive(Drop)]
 pub struct Printer {
     cutter: Cutter,
     header: Header,

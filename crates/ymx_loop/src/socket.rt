@@ -1,8 +1,8 @@
 //! A socket that never waits, as a device of an engine.
 
-ghost use Rattle.std.specs.Prelude.{◌≡◌, ◌≤◌, ◌||◌, length, is_some, true};
+ghost use Rattle.std.specs.Prelude.{◌≡◌, ◌≤◌, ◌+◌, ◌-◌, ◌^◌, ◌||◌, length, is_some, min, true};
 ghost use Rattle.std.specs.Io.{ReadsAtMost, WritesAtMost};
-ghost use Rattle.ymx_engine.specs.Devices.{pulled_count, pushed_count, is_end, is_pull_failure, is_push_failure};
+ghost use Rattle.ymx_engine.specs.Devices.{IsEnded, IsPulled, IsPushed, IsShut, pulled_count, pushed_count, is_end, is_pull_failure, is_push_failure};
 
 use mio::net::TcpStream;
 use std::io;
@@ -36,7 +36,7 @@ pub(crate) enum SocketFault {
 }
 
 /// A socket, and what it has moved. No contract sees its bytes; but whether it said that no more come, whether its end
-/// was passed on, and whether it has failed.
+/// was passed on, whether it has failed, and how many calls of it were made.
 #[derive(Drop)]
 pub(crate) struct Socket {
     stream: TcpStream,
@@ -55,6 +55,8 @@ pub(crate) struct Socket {
     was_shut: bool,
     /// The last call gave bytes.
     just_gave: bool,
+    /// How many calls of it as a device were made. It stays at the greatest `u64`.
+    calls: u64,
 }
 
 impl Socket {
@@ -80,6 +82,7 @@ impl Socket {
             was_finished: false,
             was_shut: false,
             just_gave: false,
+            calls: 0,
         }
     }
 
@@ -145,10 +148,17 @@ impl Socket {
         !self.was_ended() && self.stream.peer_addr().is_err()
     }
 
+    /// A call of it is made.
+    fn count_call(&mut self)
+        ensures { self.new ≡ record self.old { calls = min (self.old.calls + 1) (2 ^ 64 - 1) } }
+    {
+        self.calls = self.calls.saturating_add(1);
+    }
+
     /// A call of it failed.
     fn fail(&mut self, fault: SocketFault)
         ensures failed { is_some self.new.failure ≡ true }
-        ensures rest { (self.new.has_ended ≡ self.old.has_ended) × (self.new.was_finished ≡ self.old.was_finished) }
+        ensures rest { (self.new.has_ended ≡ self.old.has_ended) × (self.new.was_finished ≡ self.old.was_finished) × (self.new.calls ≡ self.old.calls) }
     {
         if self.failure.is_none() {
             self.failure = Some(fault);
@@ -160,7 +170,7 @@ impl Socket {
         ensures within { pulled_count result ≤ length buffer.new }
         ensures ended { self.new.has_ended ≡ (self.old.has_ended || is_end result) }
         ensures failed { is_some self.new.failure ≡ (is_some self.old.failure || is_pull_failure result) }
-        ensures rest { self.new.was_finished ≡ self.old.was_finished }
+        ensures rest { (self.new.was_finished ≡ self.old.was_finished) × (self.new.calls ≡ self.old.calls) }
     {
         self.just_gave = false;
         match read(&self.stream, buffer) {
@@ -177,7 +187,7 @@ impl Socket {
     fn take(&mut self, bytes: &[u8]) -> Pushed
         ensures within { pushed_count result ≤ length bytes.now }
         ensures failed { is_some self.new.failure ≡ (is_some self.old.failure || is_push_failure result) }
-        ensures rest { (self.new.has_ended ≡ self.old.has_ended) × (self.new.was_finished ≡ self.old.was_finished) }
+        ensures rest { (self.new.has_ended ≡ self.old.has_ended) × (self.new.was_finished ≡ self.old.was_finished) × (self.new.calls ≡ self.old.calls) }
     {
         match write(&self.stream, bytes) {
             Ok(count) if count > 0 || bytes.is_empty() => {
@@ -197,7 +207,7 @@ impl Socket {
         ensures none { pulled_count result ≡ 0 }
         ensures ended { self.new.has_ended ≡ (self.old.has_ended || is_end result) }
         ensures failed { is_some self.new.failure ≡ (is_some self.old.failure || is_pull_failure result) }
-        ensures rest { self.new.was_finished ≡ self.old.was_finished }
+        ensures rest { (self.new.was_finished ≡ self.old.was_finished) × (self.new.calls ≡ self.old.calls) }
     {
         match read {
             Ok(_) if !self.is_broken() => {
@@ -216,9 +226,13 @@ impl Socket {
 impl Device for Socket {
     ghost use Rattle.std.specs.Prelude.{None, Some, is_some};
 
-    ghost seen = { λ s. record { left = None; had = None; over = Some s.has_ended; ended = Some s.was_finished; failed = Some (is_some s.failure); calls = 0 } };
+    ghost seen = { λ s. record { left = None; had = None; over = Some s.has_ended; ended = Some s.was_finished; failed = Some (is_some s.failure); calls = s.calls } };
 
-    fn pull(&mut self, buffer: &mut [u8]) -> Pulled {
+    fn pull(&mut self, buffer: &mut [u8]) -> Pulled
+        ensures moved { IsPulled result buffer.new (⟦<Socket as Device>⟧.seen self.old) (⟦<Socket as Device>⟧.seen self.new) }
+        ensures counted { self.new.calls ≡ min (self.old.calls + 1) (2 ^ 64 - 1) }
+    {
+        self.count_call();
         match self.standing {
             Standing::Connecting => Pulled::NotNow,
             Standing::Unreachable => {
@@ -229,7 +243,11 @@ impl Device for Socket {
         }
     }
 
-    fn push(&mut self, bytes: &[u8]) -> Pushed {
+    fn push(&mut self, bytes: &[u8]) -> Pushed
+        ensures moved { IsPushed result bytes.now (⟦<Socket as Device>⟧.seen self.old) (⟦<Socket as Device>⟧.seen self.new) }
+        ensures counted { self.new.calls ≡ min (self.old.calls + 1) (2 ^ 64 - 1) }
+    {
+        self.count_call();
         match self.standing {
             Standing::Connecting => Pushed::NotNow,
             Standing::Unreachable => {
@@ -241,7 +259,11 @@ impl Device for Socket {
     }
 
     /// Shuts the writing side: the other end reads what was written, and then the end.
-    fn end(&mut self) {
+    fn end(&mut self)
+        ensures ended { IsEnded (⟦<Socket as Device>⟧.seen self.old) (⟦<Socket as Device>⟧.seen self.new) }
+        ensures counted { self.new.calls ≡ min (self.old.calls + 1) (2 ^ 64 - 1) }
+    {
+        self.count_call();
         self.was_finished = true;
         if self.standing == Standing::Connected {
             let _ = self.stream.shutdown(Shutdown::Write);
@@ -249,7 +271,11 @@ impl Device for Socket {
     }
 
     /// Shuts it both ways. Right behind bytes that it gave this says that there was no memory for them.
-    fn shut(&mut self) {
+    fn shut(&mut self)
+        ensures shut { IsShut (⟦<Socket as Device>⟧.seen self.old) (⟦<Socket as Device>⟧.seen self.new) }
+        ensures counted { self.new.calls ≡ min (self.old.calls + 1) (2 ^ 64 - 1) }
+    {
+        self.count_call();
         if self.just_gave {
             self.lacked_memory = true;
         }
