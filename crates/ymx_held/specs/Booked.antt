@@ -65,6 +65,12 @@ abbrev pub Gains : Bool → List Entry → List Entry → (List Entry → Type 0
 Gains true before after Such = (added : List Entry) × (after ≡ before ++ added) × Such added
 Gains false before after Such = Unit {0}
 
+-- A call keeps the number and the start of its seat, and a recorder that keeps has added entries that are such.
+pub record Books (keeps : Bool) (old new : SeatView) (Such : List Entry → Type 0) : Type 0 where
+  pub number : new.number ≡ old.number
+  pub start : new.start ≡ old.start
+  pub gains : Gains keeps old.entries new.entries Such
+
 -- one entry, which names this seat
 abbrev pub One : ℕ → Event → Reply → List Entry → Type 0
 One seat event told added = (position : ℕ) × (added ≡ entry position seat event told ∷ [])

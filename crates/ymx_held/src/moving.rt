@@ -4,7 +4,7 @@ ghost use Rattle.std.specs.Prelude.{◌≡◌, ◌≤◌, length, take, drop, fa
 ghost use Rattle.ymx_model.specs.declared.types.Event.TheVariants as event;
 ghost use Rattle.ymx_machine.specs.declared.types.Reply.TheVariants as reply;
 ghost use Rattle.ymx_session.specs.Touched.{NotesChanges, NotesOnly, StaysNoted};
-ghost use Rattle.ymx_held.specs.Booked.{Gains, Does};
+ghost use Rattle.ymx_held.specs.Booked.{Books, Does};
 ghost use Rattle.ymx_held.specs.Steps.{StepsTold};
 
 use crate::faults::HubFault;
@@ -17,16 +17,14 @@ impl<R: Recorder> Held<R> {
     /// Feeds bytes that came from the peer, and notes the streams that they touch, and an answer to a ping, behind what
     /// was noted before. A stream that isn't noted then is as it was, and a stream is noted only where the end of a
     /// header of its frames, or payload of it, was among the bytes taken.
-    #[tactic(auto, using(crate::proofs::History::kept_after, crate::proofs::Books::gains_one))]
+    #[tactic(auto, using(crate::proofs::History::kept_after, crate::proofs::Books::books_one))]
     pub fn feed(
         &mut self,
         seat: &mut Seat<R>,
         bytes: &[u8],
         touched: &mut Touched,
     ) -> Result<Fed, HubFault>
-        ensures number { seat.new.number ≡ seat.old.number }
-        ensures start { seat.new.start ≡ seat.old.start }
-        ensures booked { Gains R.KEEPS seat.old.entries seat.new.entries (Does (event.Feed bytes.now) reply.Fed seat.old.number result) }
+        ensures booked { Books R.KEEPS seat.old seat.new (Does (event.Feed bytes.now) reply.Fed seat.old.number result) }
         ensures steps { StepsTold R.KEEPS (event.Feed bytes.now) reply.Fed seat.old.number result self.old self.new }
         ensures within { IfOk result (λ fed. fed.taken ≤ length bytes.now) }
         ensures notes { NotesChanges self.old.session self.new.session touched.new }
@@ -44,11 +42,9 @@ impl<R: Recorder> Held<R> {
     }
 
     /// The peer's bytes have ended.
-    #[tactic(auto, using(crate::proofs::History::kept_after, crate::proofs::Books::gains_one))]
+    #[tactic(auto, using(crate::proofs::History::kept_after, crate::proofs::Books::books_one))]
     pub fn feed_end(&mut self, seat: &mut Seat<R>) -> Result<(), HubFault>
-        ensures number { seat.new.number ≡ seat.old.number }
-        ensures start { seat.new.start ≡ seat.old.start }
-        ensures booked { Gains R.KEEPS seat.old.entries seat.new.entries (Does event.FeedEnd (λ _. reply.Done) seat.old.number result) }
+        ensures booked { Books R.KEEPS seat.old seat.new (Does event.FeedEnd (λ _. reply.Done) seat.old.number result) }
         ensures steps { StepsTold R.KEEPS event.FeedEnd (λ _. reply.Done) seat.old.number result self.old self.new }
         ensures off { R.KEEPS ≡ false → IsOk result }
     {
@@ -62,11 +58,9 @@ impl<R: Recorder> Held<R> {
 
     /// Emits into the buffer as much as is due and fits, and returns how many bytes stand at its front. The rest of
     /// the buffer stays as it was.
-    #[tactic(auto, using(crate::proofs::History::kept_after, crate::proofs::Books::gains_one))]
+    #[tactic(auto, using(crate::proofs::History::kept_after, crate::proofs::Books::books_one))]
     pub fn emit(&mut self, seat: &mut Seat<R>, buffer: &mut [u8]) -> Result<usize, HubFault>
-        ensures number { seat.new.number ≡ seat.old.number }
-        ensures start { seat.new.start ≡ seat.old.start }
-        ensures booked { Gains R.KEEPS seat.old.entries seat.new.entries (Does (event.Emit (length buffer.old)) (λ count. reply.Emitted (take count buffer.new)) seat.old.number result) }
+        ensures booked { Books R.KEEPS seat.old seat.new (Does (event.Emit (length buffer.old)) (λ count. reply.Emitted (take count buffer.new)) seat.old.number result) }
         ensures steps { StepsTold R.KEEPS (event.Emit (length buffer.old)) (λ count. reply.Emitted (take count buffer.new)) seat.old.number result self.old self.new }
         ensures within { IfOk result (λ count. count ≤ length buffer.old) }
         ensures length { length buffer.new ≡ length buffer.old }

@@ -4,7 +4,7 @@ ghost use Rattle.std.specs.Prelude.{◌≡◌, ◌⊎◌, ◌+◌, ◌^◌, ◌<
 ghost use Rattle.indexmap.specs.IndexSet.{spare, IsUnchanged};
 ghost use Rattle.ymx_session.specs.Replies.{opened_or, opened_with_or, accepted_or};
 ghost use Rattle.ymx_seats.specs.Slips.{told_by, bytes_told};
-ghost use Rattle.ymx_held.specs.Booked.{Gains, Opens, OpensWith, AcceptsOnce};
+ghost use Rattle.ymx_held.specs.Booked.{Books, Opens, OpensWith, AcceptsOnce};
 ghost use Rattle.ymx_held.specs.Steps.{StepsOpened, StepsOpenedWith, StepsAccepted};
 
 use crate::faults::{HubFault, hub_fault};
@@ -19,9 +19,7 @@ impl<R: Recorder> Held<R> {
     /// Without seats or memory for the halves and the entry, `Seats` or `Memory` comes, and nothing is done.
     #[tactic(auto, using(crate::proofs::History::kept_after))]
     pub fn open(&mut self, seat: &mut Seat<R>) -> Result<(u32, Seat<R>, Seat<R>), HubFault>
-        ensures number { seat.new.number ≡ seat.old.number }
-        ensures start { seat.new.start ≡ seat.old.start }
-        ensures booked { Gains R.KEEPS seat.old.entries seat.new.entries (Opens seat.old.number result) }
+        ensures booked { Books R.KEEPS seat.old seat.new (Opens seat.old.number result) }
         ensures steps { StepsOpened R.KEEPS seat.old.number result self.old self.new }
         ensures empty { IfOk result (λ made. (made.1.entries ≡ []) × (made.2.entries ≡ [])) }
     {
@@ -55,9 +53,7 @@ impl<R: Recorder> Held<R> {
         seat: &mut Seat<R>,
         bytes: &[u8],
     ) -> Result<(u32, usize, Seat<R>, Seat<R>), HubFault>
-        ensures number { seat.new.number ≡ seat.old.number }
-        ensures start { seat.new.start ≡ seat.old.start }
-        ensures booked { Gains R.KEEPS seat.old.entries seat.new.entries (OpensWith bytes.now seat.old.number result) }
+        ensures booked { Books R.KEEPS seat.old seat.new (OpensWith bytes.now seat.old.number result) }
         ensures steps { StepsOpenedWith bytes.now R.KEEPS seat.old.number result self.old self.new }
         ensures empty { IfOk result (λ made. (made.2.entries ≡ []) × (made.3.entries ≡ [])) }
     {
@@ -92,9 +88,7 @@ impl<R: Recorder> Held<R> {
         &mut self,
         seat: &mut Seat<R>,
     ) -> Result<Option<(u32, Seat<R>, Seat<R>)>, HubFault>
-        ensures number { seat.new.number ≡ seat.old.number }
-        ensures start { seat.new.start ≡ seat.old.start }
-        ensures booked { Gains R.KEEPS seat.old.entries seat.new.entries (AcceptsOnce seat.old.number result) }
+        ensures booked { Books R.KEEPS seat.old seat.new (AcceptsOnce seat.old.number result) }
         ensures steps { StepsAccepted R.KEEPS seat.old.number result self.old self.new }
     {
         if let Err(fault) = make_room(self.given, self.unspent, &mut self.half_spent) {

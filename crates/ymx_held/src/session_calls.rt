@@ -4,7 +4,7 @@ ghost use Rattle.std.specs.Prelude.{◌≡◌, false};
 ghost use Rattle.ymx_session.specs.Replies.{done_or, pinged_or, ponged_or};
 ghost use Rattle.ymx_seats.specs.Slips.{told_by, bytes_told};
 ghost use Rattle.ymx_held.specs.Answers.{IsNotMemory};
-ghost use Rattle.ymx_held.specs.Booked.{Gains, Asks, to_ping, to_collect, to_go_away, to_close};
+ghost use Rattle.ymx_held.specs.Booked.{Books, Asks, to_ping, to_collect, to_go_away, to_close};
 ghost use Rattle.ymx_held.specs.Steps.{StepsAsked};
 
 use crate::faults::{HubFault, answered, tell_of_done};
@@ -16,9 +16,7 @@ impl<R: Recorder> Held<R> {
     /// Asks the peer for a sign of life, and returns the ping's number.
     #[tactic(auto, using(crate::proofs::History::kept_after, crate::proofs::Spares::ping_spares))]
     pub fn ping(&mut self, seat: &mut Seat<R>) -> Result<u32, HubFault>
-        ensures number { seat.new.number ≡ seat.old.number }
-        ensures start { seat.new.start ≡ seat.old.start }
-        ensures booked { Gains R.KEEPS seat.old.entries seat.new.entries (Asks to_ping pinged_or seat.old.number result) }
+        ensures booked { Books R.KEEPS seat.old seat.new (Asks to_ping pinged_or seat.old.number result) }
         ensures steps { StepsAsked R.KEEPS to_ping pinged_or seat.old.number result self.old self.new }
         ensures off { R.KEEPS ≡ false → IsNotMemory result }
     {
@@ -33,9 +31,7 @@ impl<R: Recorder> Held<R> {
     /// Whether the answer to this ping is back, which is then collected.
     #[tactic(auto, using(crate::proofs::History::kept_after, crate::proofs::Spares::ponged_spares))]
     pub fn ponged(&mut self, seat: &mut Seat<R>, number: u32) -> Result<bool, HubFault>
-        ensures number { seat.new.number ≡ seat.old.number }
-        ensures start { seat.new.start ≡ seat.old.start }
-        ensures booked { Gains R.KEEPS seat.old.entries seat.new.entries (Asks (to_collect number) ponged_or seat.old.number result) }
+        ensures booked { Books R.KEEPS seat.old seat.new (Asks (to_collect number) ponged_or seat.old.number result) }
         ensures steps { StepsAsked R.KEEPS (to_collect number) ponged_or seat.old.number result self.old self.new }
         ensures off { R.KEEPS ≡ false → IsNotMemory result }
     {
@@ -51,9 +47,7 @@ impl<R: Recorder> Held<R> {
     /// Takes no more streams of the peer's.
     #[tactic(auto, using(crate::proofs::History::kept_after, crate::proofs::Spares::go_away_spares))]
     pub fn go_away(&mut self, seat: &mut Seat<R>) -> Result<(), HubFault>
-        ensures number { seat.new.number ≡ seat.old.number }
-        ensures start { seat.new.start ≡ seat.old.start }
-        ensures booked { Gains R.KEEPS seat.old.entries seat.new.entries (Asks to_go_away done_or seat.old.number result) }
+        ensures booked { Books R.KEEPS seat.old seat.new (Asks to_go_away done_or seat.old.number result) }
         ensures steps { StepsAsked R.KEEPS to_go_away done_or seat.old.number result self.old self.new }
         ensures off { R.KEEPS ≡ false → IsNotMemory result }
     {
@@ -68,9 +62,7 @@ impl<R: Recorder> Held<R> {
     /// Closes the session.
     #[tactic(auto, using(crate::proofs::History::kept_after))]
     pub fn close(&mut self, seat: &mut Seat<R>) -> Result<(), HubFault>
-        ensures number { seat.new.number ≡ seat.old.number }
-        ensures start { seat.new.start ≡ seat.old.start }
-        ensures booked { Gains R.KEEPS seat.old.entries seat.new.entries (Asks to_close done_or seat.old.number result) }
+        ensures booked { Books R.KEEPS seat.old seat.new (Asks to_close done_or seat.old.number result) }
         ensures steps { StepsAsked R.KEEPS to_close done_or seat.old.number result self.old self.new }
         ensures off { R.KEEPS ≡ false → IsNotMemory result }
     {

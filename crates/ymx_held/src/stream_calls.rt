@@ -6,7 +6,7 @@ ghost use Rattle.ymx_model.specs.session.Histories.{Gives};
 ghost use Rattle.ymx_session.specs.Replies.{done_or, is_out_of_memory, wrote_or, read_or, count_of, got_count};
 ghost use Rattle.ymx_seats.specs.Slips.{asked_by, told_by, bytes_told};
 ghost use Rattle.ymx_held.specs.Answers.{IsNotMemory, GivesSome, took_count};
-ghost use Rattle.ymx_held.specs.Booked.{Gains, Asks, Spends, Closes, to_write, to_read, to_finish, to_reset, to_end};
+ghost use Rattle.ymx_held.specs.Booked.{Books, Asks, Spends, Closes, to_write, to_read, to_finish, to_reset, to_end};
 ghost use Rattle.ymx_held.specs.Held.{is_half_spent, spent};
 ghost use Rattle.ymx_held.specs.Steps.{StepsAsked, StepsSpent, StepsClosed};
 
@@ -20,9 +20,7 @@ impl<R: Recorder> Held<R> {
     /// Writes the first of these bytes, as many as there is credit for, or says that there is none.
     #[tactic(auto, using(crate::proofs::History::kept_after))]
     pub fn write(&mut self, seat: &mut Seat<R>, id: u32, bytes: &[u8]) -> Result<Wrote, HubFault>
-        ensures number { seat.new.number ≡ seat.old.number }
-        ensures start { seat.new.start ≡ seat.old.start }
-        ensures booked { Gains R.KEEPS seat.old.entries seat.new.entries (Asks (to_write id bytes.now) wrote_or seat.old.number result) }
+        ensures booked { Books R.KEEPS seat.old seat.new (Asks (to_write id bytes.now) wrote_or seat.old.number result) }
         ensures steps { StepsAsked R.KEEPS (to_write id bytes.now) wrote_or seat.old.number result self.old self.new }
         ensures within { IfOk result (λ wrote. took_count wrote ≤ length bytes.now) }
     {
@@ -39,9 +37,7 @@ impl<R: Recorder> Held<R> {
     /// room. The rest of the buffer stays as it was.
     #[tactic(auto, using(crate::proofs::History::kept_after))]
     pub fn read(&mut self, seat: &mut Seat<R>, id: u32, buffer: &mut [u8]) -> Result<Got, HubFault>
-        ensures number { seat.new.number ≡ seat.old.number }
-        ensures start { seat.new.start ≡ seat.old.start }
-        ensures booked { Gains R.KEEPS seat.old.entries seat.new.entries (Asks (to_read id (length buffer.old)) (λ given. read_or given buffer.new) seat.old.number result) }
+        ensures booked { Books R.KEEPS seat.old seat.new (Asks (to_read id (length buffer.old)) (λ given. read_or given buffer.new) seat.old.number result) }
         ensures steps { StepsAsked R.KEEPS (to_read id (length buffer.old)) (λ given. read_or given buffer.new) seat.old.number result self.old self.new }
         ensures within { IfOk result (λ got. got_count got ≤ length buffer.old) }
         ensures length { length buffer.new ≡ length buffer.old }
@@ -76,9 +72,7 @@ impl<R: Recorder> Held<R> {
     /// Half-closes a stream, and gives it up if its other half was spent. The half counts as spent even if there is
     /// no memory for the entries.
     pub fn finish(&mut self, seat: &mut Seat<R>, id: u32) -> Result<(), HubFault>
-        ensures number { seat.new.number ≡ seat.old.number }
-        ensures start { seat.new.start ≡ seat.old.start }
-        ensures booked { Gains R.KEEPS seat.old.entries seat.new.entries (Spends (to_finish id) id seat.old.number result) }
+        ensures booked { Books R.KEEPS seat.old seat.new (Spends (to_finish id) id seat.old.number result) }
         ensures steps { StepsSpent (to_finish id) R.KEEPS seat.old.number id result self.old self.new }
         ensures off { R.KEEPS ≡ false → IsNotMemory result }
     {
@@ -88,9 +82,7 @@ impl<R: Recorder> Held<R> {
     /// Resets a stream, and gives it up if its other half was spent. The half counts as spent even if there is no
     /// memory for the entries.
     pub fn reset(&mut self, seat: &mut Seat<R>, id: u32) -> Result<(), HubFault>
-        ensures number { seat.new.number ≡ seat.old.number }
-        ensures start { seat.new.start ≡ seat.old.start }
-        ensures booked { Gains R.KEEPS seat.old.entries seat.new.entries (Spends (to_reset id) id seat.old.number result) }
+        ensures booked { Books R.KEEPS seat.old seat.new (Spends (to_reset id) id seat.old.number result) }
         ensures steps { StepsSpent (to_reset id) R.KEEPS seat.old.number id result self.old self.new }
         ensures off { R.KEEPS ≡ false → IsNotMemory result }
     {
@@ -100,9 +92,7 @@ impl<R: Recorder> Held<R> {
     /// Ends a half of a stream by this call, and gives the stream up if its other half was spent.
     #[tactic(auto, using(crate::proofs::History::kept_after))]
     fn end_half(&mut self, seat: &mut Seat<R>, id: u32, ending: Ending) -> Result<(), HubFault>
-        ensures number { seat.new.number ≡ seat.old.number }
-        ensures start { seat.new.start ≡ seat.old.start }
-        ensures booked { Gains R.KEEPS seat.old.entries seat.new.entries (Spends (to_end ending id) id seat.old.number result) }
+        ensures booked { Books R.KEEPS seat.old seat.new (Spends (to_end ending id) id seat.old.number result) }
         ensures steps { StepsSpent (to_end ending id) R.KEEPS seat.old.number id result self.old self.new }
         ensures off { R.KEEPS ≡ false → IsNotMemory result }
     {
@@ -133,9 +123,7 @@ impl<R: Recorder> Held<R> {
     /// The half counts as spent even if there is no memory for the entry.
     #[tactic(auto, using(crate::proofs::History::kept_after, crate::proofs::Books::closes_one))]
     pub fn close_half(&mut self, seat: &mut Seat<R>, id: u32) -> Result<(), HubFault>
-        ensures number { seat.new.number ≡ seat.old.number }
-        ensures start { seat.new.start ≡ seat.old.start }
-        ensures booked { Gains R.KEEPS seat.old.entries seat.new.entries (Closes id seat.old.number result) }
+        ensures booked { Books R.KEEPS seat.old seat.new (Closes id seat.old.number result) }
         ensures steps { StepsClosed (is_half_spent id self.old) R.KEEPS seat.old.number id result self.old self.new }
         ensures off { R.KEEPS ≡ false → IsNotMemory result }
     {

@@ -1,3 +1,4 @@
+pub mod Booked
 pub mod Waits
 pub mod Written
 pub mod Ended

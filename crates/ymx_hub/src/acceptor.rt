@@ -1,7 +1,7 @@
 //! Who accepts streams.
 
 ghost use Rattle.std.specs.Prelude.{◌≡◌};
-ghost use Rattle.ymx_held.specs.Booked.{Gains};
+ghost use Rattle.ymx_held.specs.Booked.{Books};
 ghost use Rattle.ymx_hub.specs.Halves.{AcceptsHalves};
 
 use crate::halves::{ReadHalf, WriteHalf, both_halves, hub_twice};
@@ -50,9 +50,7 @@ impl<R: Recorder> Acceptor<R> {
         &mut self,
         rt: &W,
     ) -> Result<Option<(WriteHalf<R>, ReadHalf<R>)>, HubFault>
-        ensures number { self.new.number ≡ self.old.number }
-        ensures start { self.new.start ≡ self.old.start }
-        ensures booked { Gains R.KEEPS self.old.entries self.new.entries (AcceptsHalves self.old.number result) }
+        ensures booked { Books R.KEEPS self.old self.new (AcceptsHalves self.old.number result) }
     {
         let Some(hubs) = hub_twice(&self.hub) else {
             return Err(HubFault::Memory);

@@ -5,7 +5,7 @@ ghost use Rattle.ymx_model.specs.declared.types.Event.TheVariants as event;
 ghost use Rattle.ymx_machine.specs.declared.types.Reply.TheVariants as reply;
 ghost use Rattle.ymx_session.specs.Replies.{wrote_or, read_or, got_count};
 ghost use Rattle.ymx_held.specs.Answers.{IsNotMemory, GivesSome, took_count};
-ghost use Rattle.ymx_held.specs.Booked.{Gains, Asks, Does, to_write, to_read};
+ghost use Rattle.ymx_held.specs.Booked.{Books, Asks, Does, to_write, to_read};
 
 use crate::bells::Waiters;
 use ymx_held::{Held, HubFault};
@@ -43,9 +43,7 @@ impl<R: Recorder> Desk<R> {
 
     /// Feeds bytes that came from the peer, and notes the streams that they touch.
     pub(crate) fn feed(&mut self, seat: &mut Seat<R>, bytes: &[u8]) -> Result<Fed, HubFault>
-        ensures number { seat.new.number ≡ seat.old.number }
-        ensures start { seat.new.start ≡ seat.old.start }
-        ensures booked { Gains R.KEEPS seat.old.entries seat.new.entries (Does (event.Feed bytes.now) reply.Fed seat.old.number result) }
+        ensures booked { Books R.KEEPS seat.old seat.new (Does (event.Feed bytes.now) reply.Fed seat.old.number result) }
         ensures within { IfOk result (λ fed. fed.taken ≤ length bytes.now) }
         ensures off { R.KEEPS ≡ false → IsOk result }
     {
@@ -66,9 +64,7 @@ impl<R: Recorder> Desk<R> {
         id: u32,
         buffer: &mut [u8],
     ) -> Result<Got, HubFault>
-        ensures number { seat.new.number ≡ seat.old.number }
-        ensures start { seat.new.start ≡ seat.old.start }
-        ensures booked { Gains R.KEEPS seat.old.entries seat.new.entries (Asks (to_read id (length buffer.old)) (λ given. read_or given buffer.new) seat.old.number result) }
+        ensures booked { Books R.KEEPS seat.old seat.new (Asks (to_read id (length buffer.old)) (λ given. read_or given buffer.new) seat.old.number result) }
         ensures within { IfOk result (λ got. got_count got ≤ length buffer.old) }
         ensures length { length buffer.new ≡ length buffer.old }
         ensures rest { MatchResult result (λ got. drop (got_count got) buffer.new ≡ drop (got_count got) buffer.old) (λ fault. buffer.new ≡ buffer.old) }
@@ -89,9 +85,7 @@ impl<R: Recorder> Desk<R> {
         id: u32,
         bytes: &[u8],
     ) -> Result<Wrote, HubFault>
-        ensures number { seat.new.number ≡ seat.old.number }
-        ensures start { seat.new.start ≡ seat.old.start }
-        ensures booked { Gains R.KEEPS seat.old.entries seat.new.entries (Asks (to_write id bytes.now) wrote_or seat.old.number result) }
+        ensures booked { Books R.KEEPS seat.old seat.new (Asks (to_write id bytes.now) wrote_or seat.old.number result) }
         ensures within { IfOk result (λ wrote. took_count wrote ≤ length bytes.now) }
     {
         let wrote = self.held.write(seat, id, bytes);

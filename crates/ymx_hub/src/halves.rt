@@ -3,7 +3,7 @@
 ghost use Rattle.std.specs.Prelude.{◌≡◌, ◌<◌, ◌≤◌, length, drop, false, IfOk, IfErr, MatchResult};
 ghost use Rattle.ymx_machine.specs.declared.types.Reply.TheVariants as reply;
 ghost use Rattle.ymx_held.specs.Answers.{IsNotMemory};
-ghost use Rattle.ymx_held.specs.Booked.{Gains, Spends, Closes, to_finish, to_reset};
+ghost use Rattle.ymx_held.specs.Booked.{Gains, Books, Spends, Closes, to_finish, to_reset};
 ghost use Rattle.ymx_hub.specs.Turns.{ReadTurns, EndsIn, WriteTurns};
 
 use crate::hub::Hub;
@@ -89,8 +89,8 @@ impl<R: Recorder> WriteHalf<R> {
     /// Refused with `Closed`, with `Reset` where the peer has reset the stream, and with `Lost`, before it waits or
     /// while it does. `Memory` where there is none for an entry, or for more than 262,144 unsent bytes.
     pub fn write_all<W: Wait>(&mut self, rt: &W, bytes: &[u8]) -> Result<(), WriteFault>
-        ensures same { (self.new.id ≡ self.old.id) × (self.new.seat.number ≡ self.old.seat.number) × (self.new.seat.start ≡ self.old.seat.start) }
-        ensures booked { Gains R.KEEPS self.old.seat.entries self.new.seat.entries (WriteTurns self.old.id bytes.now self.old.seat.number result) }
+        ensures same { self.new.id ≡ self.old.id }
+        ensures booked { Books R.KEEPS self.old.seat self.new.seat (WriteTurns self.old.id bytes.now self.old.seat.number result) }
         ensures within { IfErr result (λ stop. stop.taken ≤ length bytes.now) }
     {
         self.hub.write_all(rt, &mut self.seat, self.id, bytes)
@@ -101,8 +101,7 @@ impl<R: Recorder> WriteHalf<R> {
     ///
     /// Refused with `Closed`, `Reset` and `Lost`. `Memory`, and nothing is done, where there is none for the entries.
     pub fn finish<W: Wait>(self, rt: &W) -> (Seat<R>, Result<(), HubFault>)
-        ensures same { (result.0.number ≡ self.seat.number) × (result.0.start ≡ self.seat.start) }
-        ensures booked { Gains R.KEEPS self.seat.entries result.0.entries (Spends (to_finish self.id) self.id self.seat.number result.1) }
+        ensures booked { Books R.KEEPS self.seat result.0 (Spends (to_finish self.id) self.id self.seat.number result.1) }
         ensures off { R.KEEPS ≡ false → IsNotMemory result.1 }
     {
         let WriteHalf { hub, mut seat, id } = self;
@@ -116,8 +115,7 @@ impl<R: Recorder> WriteHalf<R> {
     /// Refused with `Closed`, with `Reset` where the peer was first, and with `Lost`. `Memory`, and nothing is done,
     /// where there is none for the entries.
     pub fn reset<W: Wait>(self, rt: &W) -> (Seat<R>, Result<(), HubFault>)
-        ensures same { (result.0.number ≡ self.seat.number) × (result.0.start ≡ self.seat.start) }
-        ensures booked { Gains R.KEEPS self.seat.entries result.0.entries (Spends (to_reset self.id) self.id self.seat.number result.1) }
+        ensures booked { Books R.KEEPS self.seat result.0 (Spends (to_reset self.id) self.id self.seat.number result.1) }
         ensures off { R.KEEPS ≡ false → IsNotMemory result.1 }
     {
         let WriteHalf { hub, mut seat, id } = self;
@@ -141,8 +139,8 @@ impl<R: Recorder> ReadHalf<R> {
     /// does. `Memory` where there is none for an entry: no byte is read then.
     pub fn read<W: Wait>(&mut self, rt: &W, buffer: &mut [u8]) -> Result<usize, HubFault>
         requires { 0 < length buffer.old }
-        ensures same { (self.new.id ≡ self.old.id) × (self.new.seat.number ≡ self.old.seat.number) × (self.new.seat.start ≡ self.old.seat.start) }
-        ensures booked { Gains R.KEEPS self.old.seat.entries self.new.seat.entries (ReadTurns self.old.id (length buffer.old) buffer.new self.old.seat.number result) }
+        ensures same { self.new.id ≡ self.old.id }
+        ensures booked { Books R.KEEPS self.old.seat self.new.seat (ReadTurns self.old.id (length buffer.old) buffer.new self.old.seat.number result) }
         ensures end { IfOk result (λ count. count ≡ 0 → Gains R.KEEPS self.old.seat.entries self.new.seat.entries (EndsIn (λ told. told ≡ reply.ReadEnd))) }
         ensures within { IfOk result (λ count. count ≤ length buffer.old) }
         ensures length { length buffer.new ≡ length buffer.old }
@@ -157,8 +155,7 @@ impl<R: Recorder> ReadHalf<R> {
     ///
     /// Refused with `Closed`, and `Memory` where there is none for the entry, only where the stream is given up.
     pub fn close<W: Wait>(self, rt: &W) -> (Seat<R>, Result<(), HubFault>)
-        ensures same { (result.0.number ≡ self.seat.number) × (result.0.start ≡ self.seat.start) }
-        ensures booked { Gains R.KEEPS self.seat.entries result.0.entries (Closes self.id self.seat.number result.1) }
+        ensures booked { Books R.KEEPS self.seat result.0 (Closes self.id self.seat.number result.1) }
         ensures off { R.KEEPS ≡ false → IsNotMemory result.1 }
     {
         let ReadHalf { hub, mut seat, id } = self;

@@ -7,7 +7,7 @@ ghost use Rattle.ymx_seats.specs.Tallies.{Tallies};
 ghost use Rattle.ymx_seats.specs.Transcripts.{IsNew};
 ghost use Rattle.ymx_seats.specs.Views.{SeatView};
 ghost use Rattle.ymx_held.specs.Answers.{IsNotMemory};
-ghost use Rattle.ymx_held.specs.Booked.{Gains, Asks, Opens, OpensWith, Spends, Closes, to_finish, to_reset, to_go_away, to_close};
+ghost use Rattle.ymx_held.specs.Booked.{Books, Asks, Opens, OpensWith, Spends, Closes, to_finish, to_reset, to_go_away, to_close};
 
 use crate::awaiting::take_lock;
 use crate::bells::Bells;
@@ -78,9 +78,7 @@ impl<R: Recorder> Hub<R> {
         rt: &W,
         seat: &mut Seat<R>,
     ) -> Result<(u32, Seat<R>, Seat<R>), HubFault>
-        ensures number { seat.new.number ≡ seat.old.number }
-        ensures start { seat.new.start ≡ seat.old.start }
-        ensures booked { Gains R.KEEPS seat.old.entries seat.new.entries (Opens seat.old.number result) }
+        ensures booked { Books R.KEEPS seat.old seat.new (Opens seat.old.number result) }
         ensures empty { IfOk result (λ made. (made.1.entries ≡ []) × (made.2.entries ≡ [])) }
     {
         let mut desk = take_lock(rt, &self.desk);
@@ -97,9 +95,7 @@ impl<R: Recorder> Hub<R> {
         seat: &mut Seat<R>,
         bytes: &[u8],
     ) -> Result<(u32, usize, Seat<R>, Seat<R>), HubFault>
-        ensures number { seat.new.number ≡ seat.old.number }
-        ensures start { seat.new.start ≡ seat.old.start }
-        ensures booked { Gains R.KEEPS seat.old.entries seat.new.entries (OpensWith bytes.now seat.old.number result) }
+        ensures booked { Books R.KEEPS seat.old seat.new (OpensWith bytes.now seat.old.number result) }
         ensures empty { IfOk result (λ made. (made.2.entries ≡ []) × (made.3.entries ≡ [])) }
     {
         let mut desk = take_lock(rt, &self.desk);
@@ -116,9 +112,7 @@ impl<R: Recorder> Hub<R> {
         seat: &mut Seat<R>,
         id: u32,
     ) -> Result<(), HubFault>
-        ensures number { seat.new.number ≡ seat.old.number }
-        ensures start { seat.new.start ≡ seat.old.start }
-        ensures booked { Gains R.KEEPS seat.old.entries seat.new.entries (Spends (to_finish id) id seat.old.number result) }
+        ensures booked { Books R.KEEPS seat.old seat.new (Spends (to_finish id) id seat.old.number result) }
         ensures off { R.KEEPS ≡ false → IsNotMemory result }
     {
         let mut desk = take_lock(rt, &self.desk);
@@ -130,9 +124,7 @@ impl<R: Recorder> Hub<R> {
 
     /// Resets a stream, gives it up if its other half was spent, and wakes who waits at it.
     pub(crate) fn reset<W: Wait>(&self, rt: &W, seat: &mut Seat<R>, id: u32) -> Result<(), HubFault>
-        ensures number { seat.new.number ≡ seat.old.number }
-        ensures start { seat.new.start ≡ seat.old.start }
-        ensures booked { Gains R.KEEPS seat.old.entries seat.new.entries (Spends (to_reset id) id seat.old.number result) }
+        ensures booked { Books R.KEEPS seat.old seat.new (Spends (to_reset id) id seat.old.number result) }
         ensures off { R.KEEPS ≡ false → IsNotMemory result }
     {
         let mut desk = take_lock(rt, &self.desk);
@@ -151,9 +143,7 @@ impl<R: Recorder> Hub<R> {
         seat: &mut Seat<R>,
         id: u32,
     ) -> Result<(), HubFault>
-        ensures number { seat.new.number ≡ seat.old.number }
-        ensures start { seat.new.start ≡ seat.old.start }
-        ensures booked { Gains R.KEEPS seat.old.entries seat.new.entries (Closes id seat.old.number result) }
+        ensures booked { Books R.KEEPS seat.old seat.new (Closes id seat.old.number result) }
         ensures off { R.KEEPS ≡ false → IsNotMemory result }
     {
         let mut desk = take_lock(rt, &self.desk);
@@ -166,9 +156,7 @@ impl<R: Recorder> Hub<R> {
     /// Takes no more streams of the peer's. Refused, in this order, with `Closed` and `Lost`. `Memory`, and nothing is
     /// done, where there is none for the entry.
     pub fn go_away<W: Wait>(&self, rt: &W, seat: &mut Seat<R>) -> Result<(), HubFault>
-        ensures number { seat.new.number ≡ seat.old.number }
-        ensures start { seat.new.start ≡ seat.old.start }
-        ensures booked { Gains R.KEEPS seat.old.entries seat.new.entries (Asks to_go_away done_or seat.old.number result) }
+        ensures booked { Books R.KEEPS seat.old seat.new (Asks to_go_away done_or seat.old.number result) }
         ensures off { R.KEEPS ≡ false → IsNotMemory result }
     {
         let mut desk = take_lock(rt, &self.desk);
@@ -181,9 +169,7 @@ impl<R: Recorder> Hub<R> {
     /// Closes the session at once, and wakes all who wait: they answer `Closed`. `Memory`, and it is not closed, where
     /// there is none for the entry.
     pub fn close<W: Wait>(&self, rt: &W, seat: &mut Seat<R>) -> Result<(), HubFault>
-        ensures number { seat.new.number ≡ seat.old.number }
-        ensures start { seat.new.start ≡ seat.old.start }
-        ensures booked { Gains R.KEEPS seat.old.entries seat.new.entries (Asks to_close done_or seat.old.number result) }
+        ensures booked { Books R.KEEPS seat.old seat.new (Asks to_close done_or seat.old.number result) }
         ensures off { R.KEEPS ≡ false → IsNotMemory result }
     {
         let mut desk = take_lock(rt, &self.desk);

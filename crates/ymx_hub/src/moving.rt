@@ -3,7 +3,7 @@
 ghost use Rattle.std.specs.Prelude.{◌≡◌, ◌≤◌, length, drop, false, IfOk, IsOk, MatchResult};
 ghost use Rattle.ymx_model.specs.declared.types.Event.TheVariants as event;
 ghost use Rattle.ymx_machine.specs.declared.types.Reply.TheVariants as reply;
-ghost use Rattle.ymx_held.specs.Booked.{Gains, Does};
+ghost use Rattle.ymx_held.specs.Booked.{Books, Does};
 ghost use Rattle.ymx_hub.specs.Pumped.{EmitsOnce, emitted_count};
 
 use crate::awaiting::{await_bell, take_lock};
@@ -29,9 +29,7 @@ impl<R: Recorder> Hub<R> {
     /// Feeds bytes that came from the peer, and wakes whom they concern. `Memory`, and nothing is done, where there
     /// is none for the entry.
     pub fn feed<W: Wait>(&self, rt: &W, seat: &mut Seat<R>, bytes: &[u8]) -> Result<Fed, HubFault>
-        ensures number { seat.new.number ≡ seat.old.number }
-        ensures start { seat.new.start ≡ seat.old.start }
-        ensures booked { Gains R.KEEPS seat.old.entries seat.new.entries (Does (event.Feed bytes.now) reply.Fed seat.old.number result) }
+        ensures booked { Books R.KEEPS seat.old seat.new (Does (event.Feed bytes.now) reply.Fed seat.old.number result) }
         ensures within { IfOk result (λ fed. fed.taken ≤ length bytes.now) }
         ensures off { R.KEEPS ≡ false → IsOk result }
     {
@@ -70,9 +68,7 @@ impl<R: Recorder> Hub<R> {
     /// The peer's bytes have ended: wakes all who wait. `Memory`, and nothing is done, where there is none for the
     /// entry.
     pub fn feed_end<W: Wait>(&self, rt: &W, seat: &mut Seat<R>) -> Result<(), HubFault>
-        ensures number { seat.new.number ≡ seat.old.number }
-        ensures start { seat.new.start ≡ seat.old.start }
-        ensures booked { Gains R.KEEPS seat.old.entries seat.new.entries (Does event.FeedEnd (λ _. reply.Done) seat.old.number result) }
+        ensures booked { Books R.KEEPS seat.old seat.new (Does event.FeedEnd (λ _. reply.Done) seat.old.number result) }
         ensures off { R.KEEPS ≡ false → IsOk result }
     {
         let mut desk = take_lock(rt, &self.desk);
@@ -99,9 +95,7 @@ impl<R: Recorder> Hub<R> {
         seat: &mut Seat<R>,
         buffer: &mut [u8],
     ) -> Result<Turn, HubFault>
-        ensures number { seat.new.number ≡ seat.old.number }
-        ensures start { seat.new.start ≡ seat.old.start }
-        ensures booked { Gains R.KEEPS seat.old.entries seat.new.entries (EmitsOnce (length buffer.old) buffer.new seat.old.number result) }
+        ensures booked { Books R.KEEPS seat.old seat.new (EmitsOnce (length buffer.old) buffer.new seat.old.number result) }
         ensures within { IfOk result (λ turn. emitted_count turn ≤ length buffer.old) }
         ensures length { length buffer.new ≡ length buffer.old }
         ensures rest { MatchResult result (λ turn. drop (emitted_count turn) buffer.new ≡ drop (emitted_count turn) buffer.old) (λ fault. buffer.new ≡ buffer.old) }

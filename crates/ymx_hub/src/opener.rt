@@ -1,7 +1,7 @@
 //! Who opens streams.
 
 ghost use Rattle.std.specs.Prelude.{◌≡◌};
-ghost use Rattle.ymx_held.specs.Booked.{Gains};
+ghost use Rattle.ymx_held.specs.Booked.{Books};
 ghost use Rattle.ymx_hub.specs.Halves.{OpensHalves, OpensHalvesWith};
 
 use crate::halves::{ReadHalf, WriteHalf, both_halves, hub_twice};
@@ -49,9 +49,7 @@ impl<R: Recorder> Opener<R> {
     /// and `TooMany` while 1,024 streams are there. `Seats` where no two seats are left, and `Memory` where there is
     /// none for the stream, its halves or the entry: no stream is opened then.
     pub fn open<W: Wait>(&mut self, rt: &W) -> Result<(WriteHalf<R>, ReadHalf<R>), HubFault>
-        ensures number { self.new.number ≡ self.old.number }
-        ensures start { self.new.start ≡ self.old.start }
-        ensures booked { Gains R.KEEPS self.old.entries self.new.entries (OpensHalves self.old.number result) }
+        ensures booked { Books R.KEEPS self.old self.new (OpensHalves self.old.number result) }
     {
         let Some(hubs) = hub_twice(&self.hub) else {
             return Err(HubFault::Memory);
@@ -69,9 +67,7 @@ impl<R: Recorder> Opener<R> {
         rt: &W,
         bytes: &[u8],
     ) -> Result<(WriteHalf<R>, ReadHalf<R>, usize), HubFault>
-        ensures number { self.new.number ≡ self.old.number }
-        ensures start { self.new.start ≡ self.old.start }
-        ensures booked { Gains R.KEEPS self.old.entries self.new.entries (OpensHalvesWith bytes.now self.old.number result) }
+        ensures booked { Books R.KEEPS self.old self.new (OpensHalvesWith bytes.now self.old.number result) }
     {
         let Some(hubs) = hub_twice(&self.hub) else {
             return Err(HubFault::Memory);

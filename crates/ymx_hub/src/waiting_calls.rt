@@ -2,7 +2,7 @@
 
 ghost use Rattle.std.specs.Prelude.{◌≡◌, ◌<◌, ◌≤◌, length, drop, false, IfOk, IfErr, MatchResult};
 ghost use Rattle.ymx_held.specs.Answers.{IsNotMemory};
-ghost use Rattle.ymx_held.specs.Booked.{Gains};
+ghost use Rattle.ymx_held.specs.Booked.{Gains, Books};
 ghost use Rattle.ymx_machine.specs.declared.types.Reply.TheVariants as reply;
 ghost use Rattle.ymx_hub.specs.Turns.{AcceptsInTurns, ReadTurns, EndsIn, PingTurns, WriteTurns};
 
@@ -21,9 +21,7 @@ impl<R: Recorder> Hub<R> {
         rt: &W,
         seat: &mut Seat<R>,
     ) -> Result<Option<(u32, Seat<R>, Seat<R>)>, HubFault>
-        ensures number { seat.new.number ≡ seat.old.number }
-        ensures start { seat.new.start ≡ seat.old.start }
-        ensures booked { Gains R.KEEPS seat.old.entries seat.new.entries (AcceptsInTurns seat.old.number result) }
+        ensures booked { Books R.KEEPS seat.old seat.new (AcceptsInTurns seat.old.number result) }
     {
         let mut was_woken = false;
         let mut desk = take_lock(rt, &self.desk);
@@ -63,9 +61,7 @@ impl<R: Recorder> Hub<R> {
         buffer: &mut [u8],
     ) -> Result<usize, HubFault>
         requires { 0 < length buffer.old }
-        ensures number { seat.new.number ≡ seat.old.number }
-        ensures start { seat.new.start ≡ seat.old.start }
-        ensures booked { Gains R.KEEPS seat.old.entries seat.new.entries (ReadTurns id (length buffer.old) buffer.new seat.old.number result) }
+        ensures booked { Books R.KEEPS seat.old seat.new (ReadTurns id (length buffer.old) buffer.new seat.old.number result) }
         ensures end { IfOk result (λ count. count ≡ 0 → Gains R.KEEPS seat.old.entries seat.new.entries (EndsIn (λ told. told ≡ reply.ReadEnd))) }
         ensures within { IfOk result (λ count. count ≤ length buffer.old) }
         ensures length { length buffer.new ≡ length buffer.old }
@@ -98,9 +94,7 @@ impl<R: Recorder> Hub<R> {
         id: u32,
         bytes: &[u8],
     ) -> Result<(), WriteFault>
-        ensures number { seat.new.number ≡ seat.old.number }
-        ensures start { seat.new.start ≡ seat.old.start }
-        ensures booked { Gains R.KEEPS seat.old.entries seat.new.entries (WriteTurns id bytes.now seat.old.number result) }
+        ensures booked { Books R.KEEPS seat.old seat.new (WriteTurns id bytes.now seat.old.number result) }
         ensures within { IfErr result (λ stop. stop.taken ≤ length bytes.now) }
     {
         let mut taken = 0;
@@ -130,9 +124,7 @@ impl<R: Recorder> Hub<R> {
     /// Refused with `Closed`, `Lost`, and `PingsPending` while 16 pings wait; while it waits with `Closed` or `Lost`.
     /// `Memory` where there is none for an entry; the ping may then have been asked already.
     pub fn ping<W: Wait>(&self, rt: &W, seat: &mut Seat<R>) -> Result<u32, HubFault>
-        ensures number { seat.new.number ≡ seat.old.number }
-        ensures start { seat.new.start ≡ seat.old.start }
-        ensures booked { Gains R.KEEPS seat.old.entries seat.new.entries (PingTurns seat.old.number result) }
+        ensures booked { Books R.KEEPS seat.old seat.new (PingTurns seat.old.number result) }
         ensures off { R.KEEPS ≡ false → IsNotMemory result }
     {
         let mut desk = take_lock(rt, &self.desk);

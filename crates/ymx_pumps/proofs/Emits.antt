@@ -9,13 +9,13 @@ use Rattle.ymx_model.specs.devices.Devices.{has_failed, most_failures}
 use Rattle.ymx_model.specs.declared.types.Event.TheVariants as event
 use Rattle.ymx_machine.specs.declared.types.Reply.TheVariants as reply
 use Rattle.ymx_model.specs.declared.types.Entry.{Entry}
-use Rattle.ymx_seats.specs.Views.{entry}
+use Rattle.ymx_seats.specs.Views.{SeatView}
 use Rattle.ymx_held.specs.declared.faults.HubFault.{HubFault}
-use Rattle.ymx_held.specs.Booked.{Gains, One}
+use Rattle.ymx_held.specs.Booked.{Books, One}
 use Rattle.ymx_hub.specs.declared.moving.Turn.{Turn}
 use Rattle.ymx_hub.specs.declared.moving.Turn.TheVariants.{Emitted, Idle, Over}
 use Rattle.ymx_hub.specs.Pumped.{EmitsOnce}
-use Rattle.ymx_hub.proofs.Waits.{gains_none, gains_on, gains_weaker}
+use Rattle.ymx_hub.proofs.Booked.{books_same, books_at, books_weaker}
 use Rattle.ymx_pumps.specs.declared.pump_end.PumpWhy.{PumpWhy}
 use Rattle.ymx_pumps.specs.declared.pump_end.PumpWhy.TheVariants.{End, Device, Broken, Memory, Gate}
 use Rattle.ymx_pumps.specs.declared.pump_end.Stop.{Stop}
@@ -113,111 +113,110 @@ says_device seat why ds (inl s) = rw s.0 s.1
 says_device seat why ds (inr s) = rw s.0 s.1
 
 -- all that was emitted was written
-pub turn_wrote : (keeps : Bool) (size seat n fails failed : ℕ) (buffer : List ℕ) (before after : Option (List ℕ)) (old new : List Entry) → n ≤ length buffer → failed ≡ fails →
-    Appends before after (take n buffer) → Gains keeps old new (EmitsOnce size buffer seat (Ok (Emitted n))) → TurnWrote keeps size seat fails failed before after old new (Ok n)
-turn_wrote keeps size seat n fails failed buffer before after old new l f a g =
-    (f, take n buffer, grind (arith, common_steps), a, gains_weaker keeps old new _ (AreEmits size seat (take n buffer)) (λ es o. one_emit size seat (take n buffer) es o) g)
+pub turn_wrote : (keeps : Bool) (size n fails failed : ℕ) (buffer : List ℕ) (before after : Option (List ℕ)) (old new : SeatView) → n ≤ length buffer → failed ≡ fails →
+    Appends before after (take n buffer) → Books keeps old new (EmitsOnce size buffer old.number (Ok (Emitted n))) → TurnWrote keeps size fails failed before after old new (Ok n)
+turn_wrote keeps size n fails failed buffer before after old new l f a g =
+    (f, take n buffer, grind (arith, common_steps), a, books_weaker keeps old new _ (AreEmits size old.number (take n buffer)) (λ es o. one_emit size old.number (take n buffer) es o) g)
 
 -- nothing was due
-pub turn_idle : (keeps : Bool) (size seat fails failed : ℕ) (buffer : List ℕ) (before after : Option (List ℕ)) (old new : List Entry) → failed ≡ fails →
-    before ≡ after → Gains keeps old new (EmitsOnce size buffer seat (Ok Idle)) → TurnWrote keeps size seat fails failed before after old new (Ok 0)
-turn_idle keeps size seat fails failed buffer before after old new f k g =
-    (f, [], refl, subst (λ (v : Option (List ℕ)). Appends before v []) k (Appends-nil before), gains_weaker keeps old new _ (AreEmits size seat []) (λ es o. subst (λ (v : List Entry). AreEmits size seat [] v) (sym o) refl) g)
+pub turn_idle : (keeps : Bool) (size fails failed : ℕ) (buffer : List ℕ) (before after : Option (List ℕ)) (old new : SeatView) → failed ≡ fails →
+    before ≡ after → Books keeps old new (EmitsOnce size buffer old.number (Ok Idle)) → TurnWrote keeps size fails failed before after old new (Ok 0)
+turn_idle keeps size fails failed buffer before after old new f k g =
+    (f, [], refl, subst (λ (v : Option (List ℕ)). Appends before v []) k (Appends-nil before), books_weaker keeps old new _ (AreEmits size old.number []) (λ es o. subst (λ (v : List Entry). AreEmits size old.number [] v) (sym o) refl) g)
 
 -- the pump's end, with nothing emitted
-pub turn_ends : (keeps : Bool) (size seat fails failed : ℕ) (why : PumpWhy) (before after : Option (List ℕ)) (old new : List Entry) → Keeps before after →
-    Gains keeps old new (EndsWrite seat why) → TurnWrote keeps size seat fails failed before after old new (Err (record { moved = 0; why = why }))
-turn_ends keeps size seat fails failed why before after old new k g =
-    ([], refl, Appends-kept before before after [] (Appends-nil before) k, gains_weaker keeps old new _ (WriteAdds size seat (has_failed fails failed) [] why) (λ es o. adds_end size seat (has_failed fails failed) why es o) g)
+pub turn_ends : (keeps : Bool) (size fails failed : ℕ) (why : PumpWhy) (before after : Option (List ℕ)) (old new : SeatView) → Keeps before after →
+    Books keeps old new (EndsWrite old.number why) → TurnWrote keeps size fails failed before after old new (Err (record { moved = 0; why = why }))
+turn_ends keeps size fails failed why before after old new k g =
+    ([], refl, Appends-kept before before after [] (Appends-nil before) k, books_weaker keeps old new _ (WriteAdds size old.number (has_failed fails failed) [] why) (λ es o. adds_end size old.number (has_failed fails failed) why es o) g)
 
 -- the gate ended the pump as nothing was due
-pub turn_gated : (keeps : Bool) (size seat fails : ℕ) (buffer : List ℕ) (before : Option (List ℕ)) (old new : List Entry) → Gains keeps old new (EmitsOnce size buffer seat (Ok Idle)) →
-    TurnWrote keeps size seat fails fails before before old new (Err (record { moved = 0; why = Gate }))
-turn_gated keeps size seat fails buffer before old new g =
-    turn_ends keeps size seat fails fails Gate before before old new (Keeps-refl before) (gains_weaker keeps old new (EmitsOnce size buffer seat (Ok Idle)) (EndsWrite seat Gate) (λ es o. o) g)
+pub turn_gated : (keeps : Bool) (size fails : ℕ) (buffer : List ℕ) (before : Option (List ℕ)) (old new : SeatView) → Books keeps old new (EmitsOnce size buffer old.number (Ok Idle)) →
+    TurnWrote keeps size fails fails before before old new (Err (record { moved = 0; why = Gate }))
+turn_gated keeps size fails buffer before old new g =
+    turn_ends keeps size fails fails Gate before before old new (Keeps-refl before) (books_weaker keeps old new (EmitsOnce size buffer old.number (Ok Idle)) (EndsWrite old.number Gate) (λ es o. o) g)
 
 -- there was no memory for the emission
-pub turn_lacked : (keeps : Bool) (size seat fails : ℕ) (fault : HubFault) (buffer : List ℕ) (before : Option (List ℕ)) (old new : List Entry) → Gains keeps old new (EmitsOnce size buffer seat (Err fault)) →
-    TurnWrote keeps size seat fails fails before before old new (Err (record { moved = 0; why = Memory }))
-turn_lacked keeps size seat fails fault buffer before old new g =
-    turn_ends keeps size seat fails fails Memory before before old new (Keeps-refl before) (gains_weaker keeps old new (EmitsOnce size buffer seat (Err fault)) (EndsWrite seat Memory) (λ es o. o.1) g)
+pub turn_lacked : (keeps : Bool) (size fails : ℕ) (fault : HubFault) (buffer : List ℕ) (before : Option (List ℕ)) (old new : SeatView) → Books keeps old new (EmitsOnce size buffer old.number (Err fault)) →
+    TurnWrote keeps size fails fails before before old new (Err (record { moved = 0; why = Memory }))
+turn_lacked keeps size fails fault buffer before old new g =
+    turn_ends keeps size fails fails Memory before before old new (Keeps-refl before) (books_weaker keeps old new (EmitsOnce size buffer old.number (Err fault)) (EndsWrite old.number Memory) (λ es o. o.1) g)
 
 -- nothing more will be due, and then the writer was ended
-pub turn_over : (keeps : Bool) (size seat m fails failed : ℕ) (why : PumpWhy) (buffer : List ℕ) (before after : Option (List ℕ)) (old mid new : List Entry) → Keeps before after →
-    Gains keeps old mid (EmitsOnce size buffer seat (Ok Over)) → m ≡ seat → Gains keeps mid new (EndsWrite m why) → TurnWrote keeps size seat fails failed before after old new (Err (record { moved = 0; why = why }))
-turn_over keeps size seat m fails failed why buffer before after old mid new k g e h =
-    turn_ends keeps size seat fails failed why before after old new k
-    (gains_on keeps old mid new (EmitsOnce size buffer seat (Ok Over)) (EndsWrite m why) (EndsWrite seat why)
-    (λ es ds a b. subst (λ (v : List Entry). EndsWrite seat why (v ++ ds)) (sym a) (subst (λ (n : ℕ). EndsWrite n why ds) e b)) g h)
+pub turn_over : (keeps : Bool) (size fails failed : ℕ) (why : PumpWhy) (buffer : List ℕ) (before after : Option (List ℕ)) (old mid new : SeatView) → Keeps before after →
+    Books keeps old mid (EmitsOnce size buffer old.number (Ok Over)) → Books keeps mid new (EndsWrite mid.number why) → TurnWrote keeps size fails failed before after old new (Err (record { moved = 0; why = why }))
+turn_over keeps size fails failed why buffer before after old mid new k g h =
+    turn_ends keeps size fails failed why before after old new k
+    (books_at keeps old mid new (EmitsOnce size buffer old.number (Ok Over)) (λ n. EndsWrite n why) (EndsWrite old.number why)
+    (λ es ds a b. subst (λ (v : List Entry). EndsWrite old.number why (v ++ ds)) (sym a) b) g h)
 
 -- the writer failed
-pub turn_failed : (keeps : Bool) (size seat m n moved fails failed : ℕ) (why : PumpWhy) (buffer : List ℕ) (before after : Option (List ℕ)) (old mid new : List Entry) → n ≤ length buffer → moved ≤ n →
-    has_failed fails failed ≡ true → Appends before after (take moved (take n buffer)) → Gains keeps old mid (EmitsOnce size buffer seat (Ok (Emitted n))) → m ≡ seat → Gains keeps mid new (SaysEnd m Device why) →
-    TurnWrote keeps size seat fails failed before after old new (Err (record { moved = moved; why = why }))
-turn_failed keeps size seat m n moved fails failed why buffer before after old mid new l k f a g e h = (
+pub turn_failed : (keeps : Bool) (size n moved fails failed : ℕ) (why : PumpWhy) (buffer : List ℕ) (before after : Option (List ℕ)) (old mid new : SeatView) → n ≤ length buffer → moved ≤ n →
+    has_failed fails failed ≡ true → Appends before after (take moved (take n buffer)) → Books keeps old mid (EmitsOnce size buffer old.number (Ok (Emitted n))) → Books keeps mid new (SaysEnd mid.number Device why) →
+    TurnWrote keeps size fails failed before after old new (Err (record { moved = moved; why = why }))
+turn_failed keeps size n moved fails failed why buffer before after old mid new l k f a g h = (
   take moved (take n buffer),
   grind (arith, common_steps),
   a,
-  subst (λ (b : Bool). Gains keeps old new (WriteAdds size seat b (take moved (take n buffer)) why)) (sym f)
-      (gains_on keeps old mid new _ _ (WriteAdds size seat true (take moved (take n buffer)) why)
-      (λ es ds o s. adds_failed size seat moved (take n buffer) why es ds (one_emit size seat (take n buffer) es o) (subst (λ (k : ℕ). EndsWrite k why ds) e (says_device m why ds s))) g h),
+  subst (λ (b : Bool). Books keeps old new (WriteAdds size old.number b (take moved (take n buffer)) why)) (sym f)
+      (books_at keeps old mid new _ (λ m. SaysEnd m Device why) (WriteAdds size old.number true (take moved (take n buffer)) why)
+      (λ es ds o s. adds_failed size old.number moved (take n buffer) why es ds (one_emit size old.number (take n buffer) es o) (says_device old.number why ds s)) g h),
 )
 
 -- ---- all turns
 
 -- what the turns wrote so far
-pub record Written (keeps : Bool) (size seat fails failed : ℕ) (before after : Option (List ℕ)) (old new : List Entry) (moved : ℕ) : Type 0 where
+pub record Written (keeps : Bool) (size fails failed : ℕ) (before after : Option (List ℕ)) (old new : SeatView) (moved : ℕ) : Type 0 where
   pub written : List ℕ
   pub failures : failed ≡ fails
   pub took : Appends before after written
   pub amount : moved ≡ byte_count written
-  pub booked : Gains keeps old new (AreEmits size seat written)
+  pub booked : Books keeps old new (AreEmits size old.number written)
 
-pub written_none : (keeps : Bool) (size seat fails : ℕ) (before : Option (List ℕ)) (old : List Entry) → Written keeps size seat fails fails before before old old 0
-written_none keeps size seat fails before old = record {
+pub written_none : (keeps : Bool) (size fails : ℕ) (before : Option (List ℕ)) (old : SeatView) → Written keeps size fails fails before before old old 0
+written_none keeps size fails before old = record {
   written = [];
   failures = refl;
   took = Appends-nil before;
   amount = counted_none;
-  booked = gains_none keeps old (AreEmits size seat []) refl;
+  booked = books_same keeps old (AreEmits size old.number []) refl;
 }
 
 -- one turn more
-pub written_more : (keeps : Bool) (size seat larger m fails failed failing : ℕ) (before mid after : Option (List ℕ)) (old between new : List Entry) (moved n now : ℕ) →
-    Written keeps size seat fails failed before mid old between moved → larger ≡ size → m ≡ seat → TurnWrote keeps larger m failed failing mid after between new (Ok n) →
-    now ≡ min (moved + n) (2 ^ 64 - 1) → Written keeps size seat fails failing before after old new now
-written_more keeps size seat larger m fails failed failing before mid after old between new moved n now w l e t k =
-    let u : TurnWrote keeps size seat failed failing mid after between new (Ok n) =
-    subst (λ (x : ℕ). TurnWrote keeps x seat failed failing mid after between new (Ok n)) l (subst (λ (x : ℕ). TurnWrote keeps larger x failed failing mid after between new (Ok n)) e t) in
+pub written_more : (keeps : Bool) (size larger fails failed failing : ℕ) (before mid after : Option (List ℕ)) (old between new : SeatView) (moved n now : ℕ) →
+    Written keeps size fails failed before mid old between moved → larger ≡ size → TurnWrote keeps larger failed failing mid after between new (Ok n) →
+    now ≡ min (moved + n) (2 ^ 64 - 1) → Written keeps size fails failing before after old new now
+written_more keeps size larger fails failed failing before mid after old between new moved n now w l t k =
+    let u : TurnWrote keeps size failed failing mid after between new (Ok n) = subst (λ (x : ℕ). TurnWrote keeps x failed failing mid after between new (Ok n)) l t in
     record {
       written = w.written ++ u.1;
       failures = u.0 ∙ w.failures;
       took = Appends-trans before mid after w.written u.1 w.took u.3;
       amount = counted_on w.written u.1 moved n now w.amount u.2 k;
-      booked = gains_on keeps old between new _ _ (AreEmits size seat (w.written ++ u.1)) (λ es ds a b. emits_on size seat w.written u.1 es ds a b) w.booked u.4;
+      booked = books_at keeps old between new (AreEmits size old.number w.written) (λ m. AreEmits size m u.1) (AreEmits size old.number (w.written ++ u.1)) (λ es ds a b. emits_on size old.number w.written u.1 es ds a b) w.booked u.4;
     }
 
 -- the last turn
-pub written_last : (keeps : Bool) (size seat larger m fails failed failing : ℕ) (before mid after : Option (List ℕ)) (old between new : List Entry) (moved now : ℕ) (stop : Stop) →
-    Written keeps size seat fails failed before mid old between moved → larger ≡ size → m ≡ seat → TurnWrote keeps larger m failed failing mid after between new (Err stop) →
-    now ≡ min (moved + stop.moved) (2 ^ 64 - 1) → PumpWrote keeps size seat (has_failed fails failing) before after old new now stop.why
-written_last keeps size seat larger m fails failed failing before mid after old between new moved now stop w l e t k =
-    let u : TurnWrote keeps size seat fails failing mid after between new (Err stop) =
-    subst (λ (x : ℕ). TurnWrote keeps size seat x failing mid after between new (Err stop)) w.failures
-    (subst (λ (x : ℕ). TurnWrote keeps x seat failed failing mid after between new (Err stop)) l (subst (λ (x : ℕ). TurnWrote keeps larger x failed failing mid after between new (Err stop)) e t)) in
+pub written_last : (keeps : Bool) (size larger fails failed failing : ℕ) (before mid after : Option (List ℕ)) (old between new : SeatView) (moved now : ℕ) (stop : Stop) →
+    Written keeps size fails failed before mid old between moved → larger ≡ size → TurnWrote keeps larger failed failing mid after between new (Err stop) →
+    now ≡ min (moved + stop.moved) (2 ^ 64 - 1) → PumpWrote keeps size (has_failed fails failing) before after old new now stop.why
+written_last keeps size larger fails failed failing before mid after old between new moved now stop w l t k =
+    let u : TurnWrote keeps size fails failing mid after between new (Err stop) =
+    subst (λ (x : ℕ). TurnWrote keeps size x failing mid after between new (Err stop)) w.failures
+    (subst (λ (x : ℕ). TurnWrote keeps x failed failing mid after between new (Err stop)) l t) in
     record {
       written = w.written ++ u.0;
       took = Appends-trans before mid after w.written u.0 w.took u.2;
       amount = counted_on w.written u.0 moved stop.moved now w.amount u.1 k;
-      booked = gains_on keeps old between new _ _ (WriteAdds size seat (has_failed fails failing) (w.written ++ u.0) stop.why)
-          (λ es ds a b. adds_behind size seat (has_failed fails failing) w.written u.0 stop.why es ds a b) w.booked u.3;
+      booked = books_at keeps old between new (AreEmits size old.number w.written) (λ m. WriteAdds size m (has_failed fails failing) u.0 stop.why) (WriteAdds size old.number (has_failed fails failing) (w.written ++ u.0) stop.why)
+          (λ es ds a b. adds_behind size old.number (has_failed fails failing) w.written u.0 stop.why es ds a b) w.booked u.3;
     }
 
 -- a pump that did nothing
-pub wrote_none : (keeps : Bool) (size seat : ℕ) (failed : Bool) (before : Option (List ℕ)) (old : List Entry) → PumpWrote keeps size seat failed before before old old 0 Memory
-wrote_none keeps size seat failed before old = record {
+pub wrote_none : (keeps : Bool) (size : ℕ) (failed : Bool) (before : Option (List ℕ)) (old : SeatView) → PumpWrote keeps size failed before before old old 0 Memory
+wrote_none keeps size failed before old = record {
   written = [];
   took = Appends-nil before;
   amount = counted_none;
-  booked = gains_none keeps old (WriteAdds size seat failed [] Memory) (adds_end size seat failed Memory [] refl);
+  booked = books_same keeps old (WriteAdds size old.number failed [] Memory) (adds_end size old.number failed Memory [] refl);
 }

@@ -11,10 +11,10 @@ use Rattle.ymx_machine.specs.declared.types.Fed.{Fed}
 use Rattle.ymx_model.specs.declared.types.Event.TheVariants as event
 use Rattle.ymx_machine.specs.declared.types.Reply.TheVariants as reply
 use Rattle.ymx_model.specs.declared.types.Entry.{Entry}
-use Rattle.ymx_seats.specs.Views.{entry}
+use Rattle.ymx_seats.specs.Views.{SeatView}
 use Rattle.ymx_held.specs.declared.faults.HubFault.{HubFault}
-use Rattle.ymx_held.specs.Booked.{Gains, One, Does}
-use Rattle.ymx_hub.proofs.Waits.{gains_none, gains_on, gains_weaker}
+use Rattle.ymx_held.specs.Booked.{Books, One, Does}
+use Rattle.ymx_hub.proofs.Booked.{books_same, books_at, books_weaker}
 use Rattle.ymx_pumps.specs.declared.pump_end.PumpWhy.{PumpWhy}
 use Rattle.ymx_pumps.specs.declared.pump_end.PumpWhy.TheVariants.{End, Device, Broken, Memory, Gate}
 use Rattle.ymx_pumps.specs.declared.pump_end.Stop.{Stop}
@@ -117,53 +117,59 @@ none_left Gate = tt
 -- ---- a feed
 
 -- a feed under the lock
-pub fed_once : (keeps : Bool) (seat : ℕ) (old new : List Entry) (bytes : List ℕ) (fed : Fed) (fault : Option Fault) → fault_of_feed fed.why ≡ fault → fed.taken ≤ length bytes → Gains keeps old new (Does (event.Feed bytes) reply.Fed seat (Ok fed)) → FeedsFirst keeps seat old new bytes fed.taken fault
-fed_once keeps seat old new bytes fed fault t l g =
-    (l, gains_weaker keeps old new _ (FeedsTo seat bytes (take fed.taken bytes) (drop fed.taken bytes) fault) (λ es o. (one_feed seat bytes fed es l o, one_tells seat bytes fed fault es t o)) g)
+pub fed_once : (keeps : Bool) (old new : SeatView) (bytes : List ℕ) (fed : Fed) (fault : Option Fault) → fault_of_feed fed.why ≡ fault → fed.taken ≤ length bytes → Books keeps old new (Does (event.Feed bytes) reply.Fed old.number (Ok fed)) → FeedsFirst keeps old new bytes fed.taken fault
+fed_once keeps old new bytes fed fault t l g =
+    (l, books_weaker keeps old new _ (FeedsTo old.number bytes (take fed.taken bytes) (drop fed.taken bytes) fault) (λ es o. (one_feed old.number bytes fed es l o, one_tells old.number bytes fed fault es t o)) g)
+
+none_fed : (seat : ℕ) (bytes : List ℕ) → FeedsTo seat bytes (take 0 bytes) (drop 0 bytes) None []
+none_fed seat bytes = ((grind (arith, common_steps), grind (arith, common_steps)), refl)
 
 -- there was no memory for it
-pub fed_none : (keeps : Bool) (seat : ℕ) (old new : List Entry) (bytes : List ℕ) (fault : HubFault) → Gains keeps old new (Does {A = Fed} (event.Feed bytes) reply.Fed seat (Err fault)) → FeedsFirst keeps seat old new bytes 0 None
-fed_none keeps seat old new bytes fault g =
-    (omega arith, gains_weaker keeps old new _ (FeedsTo seat bytes (take 0 bytes) (drop 0 bytes) None) (λ es o. subst (λ (v : List Entry). FeedsTo seat bytes (take 0 bytes) (drop 0 bytes) None v) (sym o.1) ((grind (arith, common_steps), grind (arith, common_steps)), refl)) g)
+pub fed_none : (keeps : Bool) (old new : SeatView) (bytes : List ℕ) (fault : HubFault) → Books keeps old new (Does {A = Fed} (event.Feed bytes) reply.Fed old.number (Err fault)) → FeedsFirst keeps old new bytes 0 None
+fed_none keeps old new bytes fault g =
+    (omega arith, books_weaker keeps old new _ (FeedsTo old.number bytes (take 0 bytes) (drop 0 bytes) None) (λ es o. subst (λ (v : List Entry). FeedsTo old.number bytes (take 0 bytes) (drop 0 bytes) None v) (sym o.1) (none_fed old.number bytes)) g)
 
 drop_drop : (m n : ℕ) (xs : List ℕ) → drop n (drop m xs) ≡ drop (m + n) xs
 drop_drop m n xs = grind (arith, common_steps)
 
+first_by : (seat : ℕ) (bytes : List ℕ) (at n : ℕ) (fault : Option Fault) (es ds : List Entry) → FeedsTo seat bytes (take at bytes) (drop at bytes) None es → FeedsTo seat (drop at bytes) (take n (drop at bytes)) (drop n (drop at bytes)) fault ds → FeedsTo seat bytes (take (at + n) bytes) (drop (at + n) bytes) fault (es ++ ds)
+first_by seat bytes at n fault es ds a b = (
+  subst (λ (v : List ℕ). AreFeeds seat bytes v (drop (at + n) bytes) (es ++ ds)) (sym (take-add at n bytes))
+      (subst (λ (v : List ℕ). AreFeeds seat bytes (take at bytes ++ take n (drop at bytes)) v (es ++ ds)) (drop_drop at n bytes)
+      (feeds_on seat bytes (take at bytes) (drop at bytes) (take n (drop at bytes)) (drop n (drop at bytes)) es ds a.0 b.0)),
+  tells_on fault es ds a.1 b.1,
+)
+
 -- feeds of what was left of these bytes
-pub first_on : (keeps : Bool) (seat m : ℕ) (old mid new : List Entry) (bytes rest : List ℕ) (at n : ℕ) (fault : Option Fault) → FeedsFirst keeps seat old mid bytes at None → m ≡ seat → rest ≡ drop at bytes → FeedsFirst keeps m mid new rest n fault → FeedsFirst keeps seat old new bytes (at + n) fault
-first_on keeps seat m old mid new bytes rest at n fault f e r g =
-    let h : FeedsFirst keeps seat mid new (drop at bytes) n fault = subst (λ (v : List ℕ). FeedsFirst keeps seat mid new v n fault) r (subst (λ (k : ℕ). FeedsFirst keeps k mid new rest n fault) e g) in (
+pub first_on : (keeps : Bool) (old mid new : SeatView) (bytes rest : List ℕ) (at n : ℕ) (fault : Option Fault) → FeedsFirst keeps old mid bytes at None → rest ≡ drop at bytes → FeedsFirst keeps mid new rest n fault → FeedsFirst keeps old new bytes (at + n) fault
+first_on keeps old mid new bytes rest at n fault f r g =
+    let h : FeedsFirst keeps mid new (drop at bytes) n fault = subst (λ (v : List ℕ). FeedsFirst keeps mid new v n fault) r g in (
       grind (arith, common_steps, f.0, h.0),
-      gains_on keeps old mid new _ _ (FeedsTo seat bytes (take (at + n) bytes) (drop (at + n) bytes) fault)
-          (λ es ds a b. (
-            subst (λ (v : List ℕ). AreFeeds seat bytes v (drop (at + n) bytes) (es ++ ds)) (sym (take-add at n bytes))
-                (subst (λ (v : List ℕ). AreFeeds seat bytes (take at bytes ++ take n (drop at bytes)) v (es ++ ds)) (drop_drop at n bytes)
-                (feeds_on seat bytes (take at bytes) (drop at bytes) (take n (drop at bytes)) (drop n (drop at bytes)) es ds a.0 b.0)),
-            tells_on fault es ds a.1 b.1,
-          )) f.1 h.1,
+      books_at keeps old mid new (FeedsTo old.number bytes (take at bytes) (drop at bytes) None) (λ m. FeedsTo m (drop at bytes) (take n (drop at bytes)) (drop n (drop at bytes)) fault) (FeedsTo old.number bytes (take (at + n) bytes) (drop (at + n) bytes) fault)
+          (λ es ds a b. first_by old.number bytes at n fault es ds a b) f.1 h.1,
     )
 
 -- the pump's end came in the feeds of what was left
-pub stop_on : (keeps : Bool) (seat m : ℕ) (old mid new : List Entry) (bytes rest : List ℕ) (at : ℕ) (stop : Stop) → FeedsFirst keeps seat old mid bytes at None → m ≡ seat → rest ≡ drop at bytes → TurnFed keeps m mid new rest (Err stop) →
-    FedAll keeps seat old new bytes (Err (record { moved = at + stop.moved; why = stop.why }))
-stop_on keeps seat m old mid new bytes rest at stop f e r t = (t.0, first_on keeps seat m old mid new bytes rest at stop.moved (fault_of_end stop.why) f e r t.1)
+pub stop_on : (keeps : Bool) (old mid new : SeatView) (bytes rest : List ℕ) (at : ℕ) (stop : Stop) → FeedsFirst keeps old mid bytes at None → rest ≡ drop at bytes → TurnFed keeps mid new rest (Err stop) →
+    FedAll keeps old new bytes (Err (record { moved = at + stop.moved; why = stop.why }))
+stop_on keeps old mid new bytes rest at stop f r t = (t.0, first_on keeps old mid new bytes rest at stop.moved (fault_of_end stop.why) f r t.1)
 
-pub first_none : (keeps : Bool) (seat : ℕ) (old : List Entry) (bytes : List ℕ) → FeedsFirst keeps seat old old bytes 0 None
-first_none keeps seat old bytes = (omega arith, gains_none keeps old (FeedsTo seat bytes (take 0 bytes) (drop 0 bytes) None) ((grind (arith, common_steps), grind (arith, common_steps)), refl))
+pub first_none : (keeps : Bool) (old : SeatView) (bytes : List ℕ) → FeedsFirst keeps old old bytes 0 None
+first_none keeps old bytes = (omega arith, books_same keeps old (FeedsTo old.number bytes (take 0 bytes) (drop 0 bytes) None) (none_fed old.number bytes))
 
 -- all was taken
-pub first_all : (keeps : Bool) (seat : ℕ) (old new : List Entry) (bytes : List ℕ) (at : ℕ) → FeedsFirst keeps seat old new bytes at None → at ≡ length bytes → Gains keeps old new (FeedsTo seat bytes bytes [] None)
-first_all keeps seat old new bytes at f e =
+pub first_all : (keeps : Bool) (old new : SeatView) (bytes : List ℕ) (at : ℕ) → FeedsFirst keeps old new bytes at None → at ≡ length bytes → Books keeps old new (FeedsTo old.number bytes bytes [] None)
+first_all keeps old new bytes at f e =
     let all : take at bytes ≡ bytes = take_all at bytes (omega (arith, e)) in
     let none : drop at bytes ≡ [] = grind (arith, common_steps) in
-    subst (λ (v : List ℕ). Gains keeps old new (FeedsTo seat bytes bytes v None)) none (subst (λ (v : List ℕ). Gains keeps old new (FeedsTo seat bytes v (drop at bytes) None)) all f.1)
+    subst (λ (v : List ℕ). Books keeps old new (FeedsTo old.number bytes bytes v None)) none (subst (λ (v : List ℕ). Books keeps old new (FeedsTo old.number bytes v (drop at bytes) None)) all f.1)
 
 -- ---- a turn
 
 -- a pump that ends before anything was read
-pub turn_stops : (keeps : Bool) (seat fails failed : ℕ) (why : PumpWhy) (before after : Option (List ℕ)) (old : List Entry) → IsInside why → fault_of_end why ≡ None → Consumes before after [] → TurnRead keeps seat fails failed before after old old (Err (record { moved = 0; why = why }))
-turn_stops keeps seat fails failed why before after old i w k =
-    ([], [], [], refl, refl, none_left why, k, gains_none keeps old (ReadAdds seat [] [] [] why) (record { feeds = []; closing = []; parts = refl; fed = (refl, refl); broke = w; ended = inside_ends seat why i }))
+pub turn_stops : (keeps : Bool) (fails failed : ℕ) (why : PumpWhy) (before after : Option (List ℕ)) (old : SeatView) → IsInside why → fault_of_end why ≡ None → Consumes before after [] → TurnRead keeps fails failed before after old old (Err (record { moved = 0; why = why }))
+turn_stops keeps fails failed why before after old i w k =
+    ([], [], [], refl, refl, none_left why, k, books_same keeps old (ReadAdds old.number [] [] [] why) (record { feeds = []; closing = []; parts = refl; fed = (refl, refl); broke = w; ended = inside_ends old.number why i }))
 
 ended_adds : (seat : ℕ) (why result : PumpWhy) (es : List Entry) → (why ≡ End) ⊎ (why ≡ Device) → SaysEnd seat why result es → EndsRead seat result es
 ended_adds seat why result es (inl e) (inl s) = rw (s.0 ∙ e) s.1
@@ -171,9 +177,9 @@ ended_adds seat why result es (inr e) (inl s) = rw (s.0 ∙ e) s.1
 ended_adds seat why result es w (inr s) = rw s.0 s.1
 
 -- the input ended
-pub turn_ends : (keeps : Bool) (seat fails failed : ℕ) (why result : PumpWhy) (before after : Option (List ℕ)) (old new : List Entry) → (why ≡ End) ⊎ (why ≡ Device) → Consumes before after [] →
-    Gains keeps old new (SaysEnd seat why result) → TurnRead keeps seat fails failed before after old new (Err (record { moved = 0; why = result }))
-turn_ends keeps seat fails failed why result before after old new w k g = (
+pub turn_ends : (keeps : Bool) (fails failed : ℕ) (why result : PumpWhy) (before after : Option (List ℕ)) (old new : SeatView) → (why ≡ End) ⊎ (why ≡ Device) → Consumes before after [] →
+    Books keeps old new (SaysEnd old.number why result) → TurnRead keeps fails failed before after old new (Err (record { moved = 0; why = result }))
+turn_ends keeps fails failed why result before after old new w k g = (
   [],
   [],
   [],
@@ -181,21 +187,21 @@ turn_ends keeps seat fails failed why result before after old new w k g = (
   refl,
   none_left result,
   k,
-  gains_weaker keeps old new _ (ReadAdds seat [] [] [] result) (λ es s. record { feeds = []; closing = es; parts = refl; fed = (refl, refl); broke = ended_whole seat why result es w s; ended = ended_adds seat why result es w s }) g,
+  books_weaker keeps old new _ (ReadAdds old.number [] [] [] result) (λ es s. record { feeds = []; closing = es; parts = refl; fed = (refl, refl); broke = ended_whole old.number why result es w s; ended = ended_adds old.number why result es w s }) g,
 )
 
 -- all that was read was fed
-pub turn_read : (keeps : Bool) (seat n fails failed : ℕ) (u : Unit {0}) (buffer : List ℕ) (before after : Option (List ℕ)) (old new : List Entry) → n ≤ length buffer → failed ≡ fails → Consumes before after (take n buffer) →
-    FedAll keeps seat old new (take n buffer) (Ok u) → TurnRead keeps seat fails failed before after old new (Ok n)
-turn_read keeps seat n fails failed u buffer before after old new l f k g = (f, take n buffer, grind (arith, common_steps), k, g)
+pub turn_read : (keeps : Bool) (n fails failed : ℕ) (u : Unit {0}) (buffer : List ℕ) (before after : Option (List ℕ)) (old new : SeatView) → n ≤ length buffer → failed ≡ fails → Consumes before after (take n buffer) →
+    FedAll keeps old new (take n buffer) (Ok u) → TurnRead keeps fails failed before after old new (Ok n)
+turn_read keeps n fails failed u buffer before after old new l f k g = (f, take n buffer, grind (arith, common_steps), k, g)
 
 inside_adds : (seat : ℕ) (given taken last : List ℕ) (why : PumpWhy) (es : List Entry) → IsInside why → FeedsTo seat given taken last (fault_of_end why) es → ReadAdds seat given taken last why es
 inside_adds seat given taken last why es i a = record { feeds = es; closing = []; parts = sym (append-nil es); fed = a.0; broke = a.1; ended = inside_ends seat why i }
 
 -- the pump's end came while it was fed
-pub turn_broke : (keeps : Bool) (seat fails failed : ℕ) (stop : Stop) (bytes : List ℕ) (before after : Option (List ℕ)) (old new : List Entry) → Consumes before after bytes →
-    FedAll keeps seat old new bytes (Err stop) → TurnRead keeps seat fails failed before after old new (Err stop)
-turn_broke keeps seat fails failed stop bytes before after old new k g =
+pub turn_broke : (keeps : Bool) (fails failed : ℕ) (stop : Stop) (bytes : List ℕ) (before after : Option (List ℕ)) (old new : SeatView) → Consumes before after bytes →
+    FedAll keeps old new bytes (Err stop) → TurnRead keeps fails failed before after old new (Err stop)
+turn_broke keeps fails failed stop bytes before after old new k g =
     let taken = take stop.moved bytes in
     let last = drop stop.moved bytes in (
       bytes,
@@ -205,45 +211,46 @@ turn_broke keeps seat fails failed stop bytes before after old new k g =
       grind (arith, common_steps, g.1.0),
       inside_left stop.why last g.0,
       k,
-      gains_weaker keeps old new (FeedsTo seat bytes taken last (fault_of_end stop.why)) (ReadAdds seat bytes taken last stop.why) (λ es a. inside_adds seat bytes taken last stop.why es g.0 a) g.1.1,
+      books_weaker keeps old new (FeedsTo old.number bytes taken last (fault_of_end stop.why)) (ReadAdds old.number bytes taken last stop.why) (λ es a. inside_adds old.number bytes taken last stop.why es g.0 a) g.1.1,
     )
 
 -- ---- all turns
 
 -- what the turns read and fed so far
-pub record AllFed (keeps : Bool) (seat fails failed : ℕ) (before after : Option (List ℕ)) (old new : List Entry) (moved : ℕ) : Type 0 where
+pub record AllFed (keeps : Bool) (fails failed : ℕ) (before after : Option (List ℕ)) (old new : SeatView) (moved : ℕ) : Type 0 where
   pub given : List ℕ
   pub failures : failed ≡ fails
   pub gave : Consumes before after given
   pub amount : moved ≡ byte_count given
-  pub booked : Gains keeps old new (FeedsTo seat given given [] None)
+  pub booked : Books keeps old new (FeedsTo old.number given given [] None)
 
-pub fed_nothing : (keeps : Bool) (seat fails : ℕ) (before : Option (List ℕ)) (old : List Entry) → AllFed keeps seat fails fails before before old old 0
-fed_nothing keeps seat fails before old = record {
+pub fed_nothing : (keeps : Bool) (fails : ℕ) (before : Option (List ℕ)) (old : SeatView) → AllFed keeps fails fails before before old old 0
+fed_nothing keeps fails before old = record {
   given = [];
   failures = refl;
   gave = Consumes-nil before;
   amount = counted_none;
-  booked = gains_none keeps old (FeedsTo seat [] [] [] None) ((refl, refl), refl);
+  booked = books_same keeps old (FeedsTo old.number [] [] [] None) ((refl, refl), refl);
 }
 
 -- feeds of all these bytes, and then of those behind
 feeds_behind : (seat : ℕ) (xs ys taken last : List ℕ) (es ds : List Entry) → AreFeeds seat xs xs [] es → AreFeeds seat ys taken last ds → AreFeeds seat (xs ++ ys) (xs ++ taken) last (es ++ ds)
 feeds_behind seat xs ys taken last es ds a b = feeds_on seat (xs ++ ys) xs ys taken last es ds (feeds_more seat xs xs [] ys es a) b
 
+all_behind : (seat : ℕ) (xs ys : List ℕ) (es ds : List Entry) → FeedsTo seat xs xs [] None es → FeedsTo seat ys ys [] None ds → FeedsTo seat (xs ++ ys) (xs ++ ys) [] None (es ++ ds)
+all_behind seat xs ys es ds a b = (feeds_behind seat xs ys ys [] es ds a.0 b.0, tells_on None es ds a.1 b.1)
+
 -- one turn more
-pub fed_more : (keeps : Bool) (seat m fails failed failing : ℕ) (before mid after : Option (List ℕ)) (old between new : List Entry) (moved n now : ℕ) →
-    AllFed keeps seat fails failed before mid old between moved → m ≡ seat → TurnRead keeps m failed failing mid after between new (Ok n) →
-    now ≡ min (moved + n) (2 ^ 64 - 1) → AllFed keeps seat fails failing before after old new now
-fed_more keeps seat m fails failed failing before mid after old between new moved n now w e t k =
-    let u : TurnRead keeps seat failed failing mid after between new (Ok n) = subst (λ (x : ℕ). TurnRead keeps x failed failing mid after between new (Ok n)) e t in
-    record {
-      given = w.given ++ u.1;
-      failures = u.0 ∙ w.failures;
-      gave = Consumes-trans before mid after w.given u.1 w.gave u.3;
-      amount = counted_on w.given u.1 moved n now w.amount u.2 k;
-      booked = gains_on keeps old between new _ _ (FeedsTo seat (w.given ++ u.1) (w.given ++ u.1) [] None) (λ es ds a b. (feeds_behind seat w.given u.1 u.1 [] es ds a.0 b.0, tells_on None es ds a.1 b.1)) w.booked u.4;
-    }
+pub fed_more : (keeps : Bool) (fails failed failing : ℕ) (before mid after : Option (List ℕ)) (old between new : SeatView) (moved n now : ℕ) →
+    AllFed keeps fails failed before mid old between moved → TurnRead keeps failed failing mid after between new (Ok n) →
+    now ≡ min (moved + n) (2 ^ 64 - 1) → AllFed keeps fails failing before after old new now
+fed_more keeps fails failed failing before mid after old between new moved n now w u k = record {
+  given = w.given ++ u.1;
+  failures = u.0 ∙ w.failures;
+  gave = Consumes-trans before mid after w.given u.1 w.gave u.3;
+  amount = counted_on w.given u.1 moved n now w.amount u.2 k;
+  booked = books_at keeps old between new (FeedsTo old.number w.given w.given [] None) (λ m. FeedsTo m u.1 u.1 [] None) (FeedsTo old.number (w.given ++ u.1) (w.given ++ u.1) [] None) (λ es ds a b. all_behind old.number w.given u.1 es ds a b) w.booked u.4;
+}
 
 adds_behind : (seat : ℕ) (xs given taken last : List ℕ) (why : PumpWhy) (es ds : List Entry) → FeedsTo seat xs xs [] None es → ReadAdds seat given taken last why ds → ReadAdds seat (xs ++ given) (xs ++ taken) last why (es ++ ds)
 adds_behind seat xs given taken last why es ds a r = record {
@@ -256,18 +263,16 @@ adds_behind seat xs given taken last why es ds a r = record {
 }
 
 -- the last turn
-pub fed_last : (keeps : Bool) (seat m fails failed failing : ℕ) (before mid after : Option (List ℕ)) (old between new : List Entry) (moved now : ℕ) (stop : Stop) →
-    AllFed keeps seat fails failed before mid old between moved → m ≡ seat → TurnRead keeps m failed failing mid after between new (Err stop) →
-    now ≡ min (moved + stop.moved) (2 ^ 64 - 1) → PumpRead keeps seat before after old new now stop.why
-fed_last keeps seat m fails failed failing before mid after old between new moved now stop w e t k =
-    let u : TurnRead keeps seat failed failing mid after between new (Err stop) = subst (λ (x : ℕ). TurnRead keeps x failed failing mid after between new (Err stop)) e t in
-    record {
-      given = w.given ++ u.0;
-      taken = w.given ++ u.1;
-      last = u.2;
-      gave = Consumes-trans before mid after w.given u.0 w.gave u.6;
-      parts = ap (λ (v : List ℕ). w.given ++ v) u.3 ∙ sym (append_assoc w.given u.1 u.2);
-      whole = u.5;
-      amount = counted_on w.given u.1 moved stop.moved now w.amount u.4 k;
-      booked = gains_on keeps old between new _ _ (ReadAdds seat (w.given ++ u.0) (w.given ++ u.1) u.2 stop.why) (λ es ds a b. adds_behind seat w.given u.0 u.1 u.2 stop.why es ds a b) w.booked u.7;
-    }
+pub fed_last : (keeps : Bool) (fails failed failing : ℕ) (before mid after : Option (List ℕ)) (old between new : SeatView) (moved now : ℕ) (stop : Stop) →
+    AllFed keeps fails failed before mid old between moved → TurnRead keeps failed failing mid after between new (Err stop) →
+    now ≡ min (moved + stop.moved) (2 ^ 64 - 1) → PumpRead keeps before after old new now stop.why
+fed_last keeps fails failed failing before mid after old between new moved now stop w u k = record {
+  given = w.given ++ u.0;
+  taken = w.given ++ u.1;
+  last = u.2;
+  gave = Consumes-trans before mid after w.given u.0 w.gave u.6;
+  parts = ap (λ (v : List ℕ). w.given ++ v) u.3 ∙ sym (append_assoc w.given u.1 u.2);
+  whole = u.5;
+  amount = counted_on w.given u.1 moved stop.moved now w.amount u.4 k;
+  booked = books_at keeps old between new (FeedsTo old.number w.given w.given [] None) (λ m. ReadAdds m u.0 u.1 u.2 stop.why) (ReadAdds old.number (w.given ++ u.0) (w.given ++ u.1) u.2 stop.why) (λ es ds a b. adds_behind old.number w.given u.0 u.1 u.2 stop.why es ds a b) w.booked u.7;
+}

@@ -9,7 +9,8 @@ use Rattle.ymx_machine.specs.declared.types.Reply.{Reply}
 use Rattle.ymx_model.specs.declared.types.Event.TheVariants as event
 use Rattle.ymx_machine.specs.declared.types.Reply.TheVariants as reply
 use Rattle.ymx_model.specs.declared.types.Entry.{Entry}
-use Rattle.ymx_held.specs.Booked.{Gains, One}
+use Rattle.ymx_seats.specs.Views.{SeatView}
+use Rattle.ymx_held.specs.Booked.{Books, One}
 use Rattle.ymx_pumps.specs.declared.pump_end.PumpWhy.{PumpWhy}
 use Rattle.ymx_pumps.specs.declared.pump_end.PumpWhy.TheVariants.{End, Device, Broken}
 
@@ -52,11 +53,11 @@ pub record WriteAdds (size seat : ℕ) (failed : Bool) (written : List ℕ) (why
   pub ended : EndsWrite seat why closing
 
 -- What a write pump did. The writer took the bytes written, which are those that the emissions gave.
-pub record PumpWrote (keeps : Bool) (size seat : ℕ) (failed : Bool) (before after : Option (List ℕ)) (old new : List Entry) (moved : ℕ) (why : PumpWhy) : Type 0 where
+pub record PumpWrote (keeps : Bool) (size : ℕ) (failed : Bool) (before after : Option (List ℕ)) (old new : SeatView) (moved : ℕ) (why : PumpWhy) : Type 0 where
   pub written : List ℕ
   pub took : Appends before after written
   pub amount : moved ≡ byte_count written
-  pub booked : Gains keeps old new (WriteAdds size seat failed written why)
+  pub booked : Books keeps old new (WriteAdds size old.number failed written why)
 
 -- ---- the read pump
 
@@ -122,7 +123,7 @@ pub record ReadAdds (seat : ℕ) (given taken last : List ℕ) (why : PumpWhy) (
   pub ended : EndsRead seat why closing
 
 -- What a read pump did. The reader gave the bytes given, of which the feeds took the first: all where it ended or failed.
-pub record PumpRead (keeps : Bool) (seat : ℕ) (before after : Option (List ℕ)) (old new : List Entry) (moved : ℕ) (why : PumpWhy) : Type 0 where
+pub record PumpRead (keeps : Bool) (before after : Option (List ℕ)) (old new : SeatView) (moved : ℕ) (why : PumpWhy) : Type 0 where
   pub given : List ℕ
   pub taken : List ℕ
   pub last : List ℕ
@@ -130,4 +131,4 @@ pub record PumpRead (keeps : Bool) (seat : ℕ) (before after : Option (List ℕ
   pub parts : given ≡ taken ++ last
   pub whole : IsLeft why last
   pub amount : moved ≡ byte_count taken
-  pub booked : Gains keeps old new (ReadAdds seat given taken last why)
+  pub booked : Books keeps old new (ReadAdds old.number given taken last why)

@@ -6,7 +6,8 @@ use Rattle.ymx_model.specs.devices.Devices.{has_failed}
 use Rattle.ymx_model.specs.declared.types.Event.TheVariants as event
 use Rattle.ymx_machine.specs.declared.types.Reply.TheVariants as reply
 use Rattle.ymx_model.specs.declared.types.Entry.{Entry}
-use Rattle.ymx_held.specs.Booked.{Gains, One}
+use Rattle.ymx_seats.specs.Views.{SeatView}
+use Rattle.ymx_held.specs.Booked.{Books, One}
 use Rattle.ymx_pumps.specs.declared.pump_end.PumpWhy.{PumpWhy}
 use Rattle.ymx_pumps.specs.declared.pump_end.PumpWhy.TheVariants.{End, Device, Memory}
 use Rattle.ymx_pumps.specs.declared.pump_end.Stop.{Stop}
@@ -31,11 +32,11 @@ Pushed before after old new bytes (Ok u) = Appends before after bytes × (new �
 Pushed before after old new bytes (Err n) = (n ≤ length bytes) × Appends before after (take n bytes) × (has_failed old new ≡ true)
 
 -- a turn that went well, or the last one
-abbrev pub TurnWrote : (keeps : Bool) → (size seat fails failed : ℕ) → (before after : Option (List ℕ)) → (old new : List Entry) → Result ℕ Stop → Type 0
-TurnWrote keeps size seat fails failed before after old new (Ok n) =
-    (failed ≡ fails) × (written : List ℕ) × (length written ≡ n) × Appends before after written × Gains keeps old new (AreEmits size seat written)
-TurnWrote keeps size seat fails failed before after old new (Err stop) =
-    (written : List ℕ) × (length written ≡ stop.moved) × Appends before after written × Gains keeps old new (WriteAdds size seat (has_failed fails failed) written stop.why)
+abbrev pub TurnWrote : (keeps : Bool) → (size fails failed : ℕ) → (before after : Option (List ℕ)) → (old new : SeatView) → Result ℕ Stop → Type 0
+TurnWrote keeps size fails failed before after old new (Ok n) =
+    (failed ≡ fails) × (written : List ℕ) × (length written ≡ n) × Appends before after written × Books keeps old new (AreEmits size old.number written)
+TurnWrote keeps size fails failed before after old new (Err stop) =
+    (written : List ℕ) × (length written ≡ stop.moved) × Appends before after written × Books keeps old new (WriteAdds size old.number (has_failed fails failed) written stop.why)
 
 -- ---- the read pump
 
@@ -44,23 +45,23 @@ abbrev pub FeedsTo : (seat : ℕ) → (left taken last : List ℕ) → Option Fa
 FeedsTo seat left taken last fault added = AreFeeds seat left taken last added × TellsLast fault added
 
 -- feeds of these bytes, which took the first n
-abbrev pub FeedsFirst : (keeps : Bool) → ℕ → (old new : List Entry) → List ℕ → ℕ → Option Fault → Type 0
-FeedsFirst keeps seat old new bytes n fault = (n ≤ length bytes) × Gains keeps old new (FeedsTo seat bytes (take n bytes) (drop n bytes) fault)
+abbrev pub FeedsFirst : (keeps : Bool) → (old new : SeatView) → List ℕ → ℕ → Option Fault → Type 0
+FeedsFirst keeps old new bytes n fault = (n ≤ length bytes) × Books keeps old new (FeedsTo old.number bytes (take n bytes) (drop n bytes) fault)
 
 -- feeds of these bytes took so many, or so many up to the pump's end
-abbrev pub TurnFed : (keeps : Bool) → ℕ → (old new : List Entry) → List ℕ → Result ℕ Stop → Type 0
-TurnFed keeps seat old new bytes (Ok n) = FeedsFirst keeps seat old new bytes n None
-TurnFed keeps seat old new bytes (Err stop) = IsInside stop.why × FeedsFirst keeps seat old new bytes stop.moved (fault_of_end stop.why)
+abbrev pub TurnFed : (keeps : Bool) → (old new : SeatView) → List ℕ → Result ℕ Stop → Type 0
+TurnFed keeps old new bytes (Ok n) = FeedsFirst keeps old new bytes n None
+TurnFed keeps old new bytes (Err stop) = IsInside stop.why × FeedsFirst keeps old new bytes stop.moved (fault_of_end stop.why)
 
 -- feeds of these bytes took all, or so many up to the pump's end
-abbrev pub FedAll : (keeps : Bool) → ℕ → (old new : List Entry) → List ℕ → Result (Unit {0}) Stop → Type 0
-FedAll keeps seat old new bytes (Ok u) = Gains keeps old new (FeedsTo seat bytes bytes [] None)
-FedAll keeps seat old new bytes (Err stop) = IsInside stop.why × FeedsFirst keeps seat old new bytes stop.moved (fault_of_end stop.why)
+abbrev pub FedAll : (keeps : Bool) → (old new : SeatView) → List ℕ → Result (Unit {0}) Stop → Type 0
+FedAll keeps old new bytes (Ok u) = Books keeps old new (FeedsTo old.number bytes bytes [] None)
+FedAll keeps old new bytes (Err stop) = IsInside stop.why × FeedsFirst keeps old new bytes stop.moved (fault_of_end stop.why)
 
 -- a turn that went well, or the last one
-abbrev pub TurnRead : (keeps : Bool) → (seat fails failed : ℕ) → (before after : Option (List ℕ)) → (old new : List Entry) → Result ℕ Stop → Type 0
-TurnRead keeps seat fails failed before after old new (Ok n) =
-    (failed ≡ fails) × (given : List ℕ) × (length given ≡ n) × Consumes before after given × Gains keeps old new (FeedsTo seat given given [] None)
-TurnRead keeps seat fails failed before after old new (Err stop) =
+abbrev pub TurnRead : (keeps : Bool) → (fails failed : ℕ) → (before after : Option (List ℕ)) → (old new : SeatView) → Result ℕ Stop → Type 0
+TurnRead keeps fails failed before after old new (Ok n) =
+    (failed ≡ fails) × (given : List ℕ) × (length given ≡ n) × Consumes before after given × Books keeps old new (FeedsTo old.number given given [] None)
+TurnRead keeps fails failed before after old new (Err stop) =
     (given : List ℕ) × (taken : List ℕ) × (last : List ℕ) × (given ≡ taken ++ last) × (length taken ≡ stop.moved) × IsLeft stop.why last
-    × Consumes before after given × Gains keeps old new (ReadAdds seat given taken last stop.why)
+    × Consumes before after given × Books keeps old new (ReadAdds old.number given taken last stop.why)

@@ -27,9 +27,7 @@ fn write_if_begun<R: Recorder, W: Wait, O: Outlet, G: Gate>(
     gate: &mut G,
     buffer: &mut [u8],
 ) -> Moved
-    ensures number { seat.new.number ≡ seat.old.number }
-    ensures start { seat.new.start ≡ seat.old.start }
-    ensures wrote { PumpWrote R.KEEPS (length buffer.old) seat.old.number (has_failed (O.failures writer.old) (O.failures writer.new)) (O.contents writer.old) (O.contents writer.new) seat.old.entries seat.new.entries result.count result.why }
+    ensures wrote { PumpWrote R.KEEPS (length buffer.old) (has_failed (O.failures writer.old) (O.failures writer.new)) (O.contents writer.old) (O.contents writer.new) seat.old seat.new result.count result.why }
     ensures unfailed { result.why ≡ PumpWhy.End → O.failures writer.new ≡ O.failures writer.old }
     ensures device { result.why ≡ PumpWhy.Device → has_failed (O.failures writer.old) (O.failures writer.new) ≡ true }
     ensures whole { (fault : FaultValue) → result.why ≡ PumpWhy.Broken fault → ⊥ }
@@ -54,9 +52,7 @@ fn read_after<R: Recorder, W: Wait, I: Inlet, G: Gate>(
     gate: &mut G,
     buffer: &mut [u8],
 ) -> Moved
-    ensures number { seat.new.number ≡ seat.old.number }
-    ensures start { seat.new.start ≡ seat.old.start }
-    ensures gave { PumpRead R.KEEPS seat.old.number (I.remaining reader.old) (I.remaining reader.new) seat.old.entries seat.new.entries result.count result.why }
+    ensures gave { PumpRead R.KEEPS (I.remaining reader.old) (I.remaining reader.new) seat.old seat.new result.count result.why }
     ensures at_end { 0 < length buffer.old → result.why ≡ PumpWhy.End → IsAtEnd (I.remaining reader.new) }
     ensures device { result.why ≡ PumpWhy.Device → has_failed (I.failures reader.old) (I.failures reader.new) ≡ true }
 {
@@ -86,10 +82,8 @@ fn run_lent<
     read_buffer: &'x mut [u8],
     write_buffer: &'x mut [u8],
 ) -> (Moved, Moved)
-    ensures numbers { (read_seat.new.number ≡ read_seat.old.number) × (write_seat.new.number ≡ write_seat.old.number) }
-    ensures starts { (read_seat.new.start ≡ read_seat.old.start) × (write_seat.new.start ≡ write_seat.old.start) }
-    ensures wrote { PumpWrote R.KEEPS (length write_buffer.old) write_seat.old.number (has_failed (O.failures writer.old) (O.failures writer.new)) (O.contents writer.old) (O.contents writer.new) write_seat.old.entries write_seat.new.entries result.0.count result.0.why }
-    ensures gave { PumpRead R.KEEPS read_seat.old.number (I.remaining reader.old) (I.remaining reader.new) read_seat.old.entries read_seat.new.entries result.1.count result.1.why }
+    ensures wrote { PumpWrote R.KEEPS (length write_buffer.old) (has_failed (O.failures writer.old) (O.failures writer.new)) (O.contents writer.old) (O.contents writer.new) write_seat.old write_seat.new result.0.count result.0.why }
+    ensures gave { PumpRead R.KEEPS (I.remaining reader.old) (I.remaining reader.new) read_seat.old read_seat.new result.1.count result.1.why }
     ensures at_end { 0 < length read_buffer.old → result.1.why ≡ PumpWhy.End → IsAtEnd (I.remaining reader.new) }
     ensures unfailed { result.0.why ≡ PumpWhy.End → O.failures writer.new ≡ O.failures writer.old }
     ensures write_device { result.0.why ≡ PumpWhy.Device → has_failed (O.failures writer.old) (O.failures writer.new) ≡ true }
@@ -127,10 +121,8 @@ pub fn run_pumps<
 ) -> (PumpEnd<R>, PumpEnd<R>)
     requires read_buffer { 0 < length read_buffer.old }
     requires write_buffer { 0 < length write_buffer.old }
-    ensures numbers { (result.0.seat.number ≡ seats.0.number) × (result.1.seat.number ≡ seats.1.number) }
-    ensures starts { (result.0.seat.start ≡ seats.0.start) × (result.1.seat.start ≡ seats.1.start) }
-    ensures gave { PumpRead R.KEEPS seats.0.number (I.remaining reader.old) (I.remaining reader.new) seats.0.entries result.0.seat.entries result.0.moved result.0.why }
-    ensures wrote { PumpWrote R.KEEPS (length write_buffer.old) seats.1.number (has_failed (O.failures writer.old) (O.failures writer.new)) (O.contents writer.old) (O.contents writer.new) seats.1.entries result.1.seat.entries result.1.moved result.1.why }
+    ensures gave { PumpRead R.KEEPS (I.remaining reader.old) (I.remaining reader.new) seats.0 result.0.seat result.0.moved result.0.why }
+    ensures wrote { PumpWrote R.KEEPS (length write_buffer.old) (has_failed (O.failures writer.old) (O.failures writer.new)) (O.contents writer.old) (O.contents writer.new) seats.1 result.1.seat result.1.moved result.1.why }
     ensures at_end { result.0.why ≡ PumpWhy.End → IsAtEnd (I.remaining reader.new) }
     ensures read_device { result.0.why ≡ PumpWhy.Device → has_failed (I.failures reader.old) (I.failures reader.new) ≡ true }
     ensures unfailed { result.1.why ≡ PumpWhy.End → O.failures writer.new ≡ O.failures writer.old }

@@ -3,7 +3,7 @@
 ghost use Rattle.std.specs.Prelude.{◌≡◌, ◌<◌, ◌⊎◌, length, true, false, IfErr};
 ghost use Rattle.std.specs.Io.KnownBytes.{IsAtEnd};
 ghost use Rattle.ymx_model.specs.devices.Devices.{has_failed};
-ghost use Rattle.ymx_held.specs.Booked.{Gains};
+ghost use Rattle.ymx_held.specs.Booked.{Books};
 ghost use Rattle.ymx_pumps.specs.Pumps.{PumpRead};
 ghost use Rattle.ymx_pumps.specs.Turns.{SaysEnd, TurnFed, FedAll, TurnRead};
 
@@ -22,9 +22,7 @@ fn feed_turn<R: Recorder, W: Wait, G: Gate>(
     gate: &mut G,
     bytes: &[u8],
 ) -> Result<usize, Stop>
-    ensures number { seat.new.number ≡ seat.old.number }
-    ensures start { seat.new.start ≡ seat.old.start }
-    ensures fed { TurnFed R.KEEPS seat.old.number seat.old.entries seat.new.entries bytes.now result }
+    ensures fed { TurnFed R.KEEPS seat.old seat.new bytes.now result }
     ensures off { R.KEEPS ≡ false → IfErr result (λ stop. stop.why ≡ PumpWhy.Memory → ⊥) }
 {
     let Ok(fed) = hub.feed(rt, seat, bytes) else {
@@ -58,9 +56,7 @@ fn feed_all<R: Recorder, W: Wait, G: Gate>(
     gate: &mut G,
     bytes: &[u8],
 ) -> Result<(), Stop>
-    ensures number { seat.new.number ≡ seat.old.number }
-    ensures start { seat.new.start ≡ seat.old.start }
-    ensures fed { FedAll R.KEEPS seat.old.number seat.old.entries seat.new.entries bytes.now result }
+    ensures fed { FedAll R.KEEPS seat.old seat.new bytes.now result }
     ensures off { R.KEEPS ≡ false → IfErr result (λ stop. stop.why ≡ PumpWhy.Memory → ⊥) }
 {
     let mut at = 0;
@@ -88,9 +84,7 @@ fn end_input<R: Recorder, W: Wait>(
     seat: &mut Seat<R>,
     why: PumpWhy,
 ) -> PumpWhy
-    ensures number { seat.new.number ≡ seat.old.number }
-    ensures start { seat.new.start ≡ seat.old.start }
-    ensures ended { Gains R.KEEPS seat.old.entries seat.new.entries (SaysEnd seat.old.number why result) }
+    ensures ended { Books R.KEEPS seat.old seat.new (SaysEnd seat.old.number why result) }
     ensures why { (result ≡ why) ⊎ (result ≡ PumpWhy.Memory) }
     ensures off { R.KEEPS ≡ false → result ≡ why }
 {
@@ -109,10 +103,8 @@ fn read_turn<R: Recorder, W: Wait, I: Inlet, G: Gate>(
     gate: &mut G,
     buffer: &mut [u8],
 ) -> Result<usize, Stop>
-    ensures number { seat.new.number ≡ seat.old.number }
-    ensures start { seat.new.start ≡ seat.old.start }
     ensures length { length buffer.new ≡ length buffer.old }
-    ensures turned { TurnRead R.KEEPS seat.old.number (I.failures reader.old) (I.failures reader.new) (I.remaining reader.old) (I.remaining reader.new) seat.old.entries seat.new.entries result }
+    ensures turned { TurnRead R.KEEPS (I.failures reader.old) (I.failures reader.new) (I.remaining reader.old) (I.remaining reader.new) seat.old seat.new result }
     ensures at_end { 0 < length buffer.old → IfErr result (λ stop. stop.why ≡ PumpWhy.End → IsAtEnd (I.remaining reader.new)) }
     ensures device { IfErr result (λ stop. stop.why ≡ PumpWhy.Device → has_failed (I.failures reader.old) (I.failures reader.new) ≡ true) }
     ensures off { R.KEEPS ≡ false → IfErr result (λ stop. stop.why ≡ PumpWhy.Memory → ⊥) }
@@ -142,9 +134,7 @@ pub(crate) fn read_on<R: Recorder, W: Wait, I: Inlet, G: Gate>(
     gate: &mut G,
     buffer: &mut [u8],
 ) -> Moved
-    ensures number { seat.new.number ≡ seat.old.number }
-    ensures start { seat.new.start ≡ seat.old.start }
-    ensures gave { PumpRead R.KEEPS seat.old.number (I.remaining reader.old) (I.remaining reader.new) seat.old.entries seat.new.entries result.count result.why }
+    ensures gave { PumpRead R.KEEPS (I.remaining reader.old) (I.remaining reader.new) seat.old seat.new result.count result.why }
     ensures at_end { 0 < length buffer.old → result.why ≡ PumpWhy.End → IsAtEnd (I.remaining reader.new) }
     ensures device { result.why ≡ PumpWhy.Device → has_failed (I.failures reader.old) (I.failures reader.new) ≡ true }
     ensures off { R.KEEPS ≡ false → result.why ≡ PumpWhy.Memory → ⊥ }
@@ -180,9 +170,7 @@ pub fn read_pump<R: Recorder, W: Wait, I: Inlet, G: Gate>(
     buffer: &mut [u8],
 ) -> PumpEnd<R>
     requires { 0 < length buffer.old }
-    ensures number { result.seat.number ≡ seat.number }
-    ensures start { result.seat.start ≡ seat.start }
-    ensures gave { PumpRead R.KEEPS seat.number (I.remaining reader.old) (I.remaining reader.new) seat.entries result.seat.entries result.moved result.why }
+    ensures gave { PumpRead R.KEEPS (I.remaining reader.old) (I.remaining reader.new) seat result.seat result.moved result.why }
     ensures at_end { result.why ≡ PumpWhy.End → IsAtEnd (I.remaining reader.new) }
     ensures device { result.why ≡ PumpWhy.Device → has_failed (I.failures reader.old) (I.failures reader.new) ≡ true }
     ensures off { R.KEEPS ≡ false → result.why ≡ PumpWhy.Memory → ⊥ }

@@ -4,7 +4,7 @@ ghost use Rattle.std.specs.Prelude.{◌≡◌, ◌<◌, ◌⊎◌, length, true,
 ghost use Rattle.std.specs.Io.KnownBytes.{Keeps};
 ghost use Rattle.ymx_header.specs.declared.fault.Fault.{Fault as FaultValue};
 ghost use Rattle.ymx_model.specs.devices.Devices.{has_failed};
-ghost use Rattle.ymx_held.specs.Booked.{Gains};
+ghost use Rattle.ymx_held.specs.Booked.{Books};
 ghost use Rattle.ymx_pumps.specs.Pumps.{PumpWrote, EndsWrite};
 ghost use Rattle.ymx_pumps.specs.Turns.{Pushed, SaysEnd, TurnWrote};
 
@@ -31,9 +31,7 @@ fn push_all<O: Outlet>(writer: &mut O, bytes: &[u8]) -> Result<(), usize>
 
 /// The writer failed: the session is lost, and nothing goes out any more.
 fn lose_writer<R: Recorder, W: Wait>(rt: &W, hub: &Hub<R>, seat: &mut Seat<R>) -> PumpWhy
-    ensures number { seat.new.number ≡ seat.old.number }
-    ensures start { seat.new.start ≡ seat.old.start }
-    ensures ended { Gains R.KEEPS seat.old.entries seat.new.entries (SaysEnd seat.old.number PumpWhy.Device result) }
+    ensures ended { Books R.KEEPS seat.old seat.new (SaysEnd seat.old.number PumpWhy.Device result) }
     ensures why { (result ≡ PumpWhy.Device) ⊎ (result ≡ PumpWhy.Memory) }
     ensures off { R.KEEPS ≡ false → result ≡ PumpWhy.Device }
 {
@@ -52,10 +50,8 @@ fn end_writer<R: Recorder, W: Wait, O: Outlet>(
     seat: &mut Seat<R>,
     writer: &mut O,
 ) -> PumpWhy
-    ensures number { seat.new.number ≡ seat.old.number }
-    ensures start { seat.new.start ≡ seat.old.start }
     ensures kept { Keeps (O.contents writer.old) (O.contents writer.new) }
-    ensures ended { Gains R.KEEPS seat.old.entries seat.new.entries (EndsWrite seat.old.number result) }
+    ensures ended { Books R.KEEPS seat.old seat.new (EndsWrite seat.old.number result) }
     ensures unfailed { result ≡ PumpWhy.End → O.failures writer.new ≡ O.failures writer.old }
     ensures device { result ≡ PumpWhy.Device → has_failed (O.failures writer.old) (O.failures writer.new) ≡ true }
     ensures whole { (fault : FaultValue) → result ≡ PumpWhy.Broken fault → ⊥ }
@@ -76,10 +72,8 @@ fn write_turn<R: Recorder, W: Wait, O: Outlet, G: Gate>(
     gate: &mut G,
     buffer: &mut [u8],
 ) -> Result<usize, Stop>
-    ensures number { seat.new.number ≡ seat.old.number }
-    ensures start { seat.new.start ≡ seat.old.start }
     ensures length { length buffer.new ≡ length buffer.old }
-    ensures turned { TurnWrote R.KEEPS (length buffer.old) seat.old.number (O.failures writer.old) (O.failures writer.new) (O.contents writer.old) (O.contents writer.new) seat.old.entries seat.new.entries result }
+    ensures turned { TurnWrote R.KEEPS (length buffer.old) (O.failures writer.old) (O.failures writer.new) (O.contents writer.old) (O.contents writer.new) seat.old seat.new result }
     ensures unfailed { IfErr result (λ stop. stop.why ≡ PumpWhy.End → O.failures writer.new ≡ O.failures writer.old) }
     ensures device { IfErr result (λ stop. stop.why ≡ PumpWhy.Device → has_failed (O.failures writer.old) (O.failures writer.new) ≡ true) }
     ensures whole { IfErr result (λ stop. (fault : FaultValue) → stop.why ≡ PumpWhy.Broken fault → ⊥) }
@@ -118,9 +112,7 @@ pub(crate) fn write_on<R: Recorder, W: Wait, O: Outlet, G: Gate>(
     gate: &mut G,
     buffer: &mut [u8],
 ) -> Moved
-    ensures number { seat.new.number ≡ seat.old.number }
-    ensures start { seat.new.start ≡ seat.old.start }
-    ensures wrote { PumpWrote R.KEEPS (length buffer.old) seat.old.number (has_failed (O.failures writer.old) (O.failures writer.new)) (O.contents writer.old) (O.contents writer.new) seat.old.entries seat.new.entries result.count result.why }
+    ensures wrote { PumpWrote R.KEEPS (length buffer.old) (has_failed (O.failures writer.old) (O.failures writer.new)) (O.contents writer.old) (O.contents writer.new) seat.old seat.new result.count result.why }
     ensures unfailed { result.why ≡ PumpWhy.End → O.failures writer.new ≡ O.failures writer.old }
     ensures device { result.why ≡ PumpWhy.Device → has_failed (O.failures writer.old) (O.failures writer.new) ≡ true }
     ensures whole { (fault : FaultValue) → result.why ≡ PumpWhy.Broken fault → ⊥ }
@@ -155,9 +147,7 @@ pub fn write_pump<R: Recorder, W: Wait, O: Outlet, G: Gate>(
     buffer: &mut [u8],
 ) -> PumpEnd<R>
     requires { 0 < length buffer.old }
-    ensures number { result.seat.number ≡ seat.number }
-    ensures start { result.seat.start ≡ seat.start }
-    ensures wrote { PumpWrote R.KEEPS (length buffer.old) seat.number (has_failed (O.failures writer.old) (O.failures writer.new)) (O.contents writer.old) (O.contents writer.new) seat.entries result.seat.entries result.moved result.why }
+    ensures wrote { PumpWrote R.KEEPS (length buffer.old) (has_failed (O.failures writer.old) (O.failures writer.new)) (O.contents writer.old) (O.contents writer.new) seat result.seat result.moved result.why }
     ensures unfailed { result.why ≡ PumpWhy.End → O.failures writer.new ≡ O.failures writer.old }
     ensures device { result.why ≡ PumpWhy.Device → has_failed (O.failures writer.old) (O.failures writer.new) ≡ true }
     ensures whole { (fault : FaultValue) → result.why ≡ PumpWhy.Broken fault → ⊥ }

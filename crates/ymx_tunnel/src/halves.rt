@@ -2,7 +2,7 @@
 //! tell none.
 
 ghost use Rattle.std.specs.Prelude.{Some, None, ⊤, true};
-ghost use Rattle.ymx_held.specs.Booked.{Gains, Spends, to_finish, to_reset};
+ghost use Rattle.ymx_held.specs.Booked.{Books, Spends, to_finish, to_reset};
 ghost use Rattle.ymx_tunnel.specs.Told.{bytes_written, read_bytes, HasSaidEnd, HasToldRefusal};
 
 use crate::ends::{Sink, Source};
@@ -18,9 +18,9 @@ impl Sink for WriteHalf<Full> {
 
     ghost HasRefused = { λ half fault. HasToldRefusal fault half.seat.entries };
 
-    ghost Finishes = { λ half seat answer. Gains true half.seat.entries seat.entries (Spends (to_finish half.id) half.id half.seat.number answer) };
+    ghost Finishes = { λ half seat answer. Books true half.seat seat (Spends (to_finish half.id) half.id half.seat.number answer) };
 
-    ghost Resets = { λ half seat answer. Gains true half.seat.entries seat.entries (Spends (to_reset half.id) half.id half.seat.number answer) };
+    ghost Resets = { λ half seat answer. Books true half.seat seat (Spends (to_reset half.id) half.id half.seat.number answer) };
 
     fn write_all<W: Wait>(&mut self, rt: &W, bytes: &[u8]) -> Result<(), WriteFault> {
         WriteHalf::write_all(self, rt, bytes)

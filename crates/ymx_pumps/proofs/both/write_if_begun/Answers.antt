@@ -5,4 +5,4 @@ use Rattle.ymx_pumps.proofs.both.write_if_begun.Goals as goal
 
 pub returns-then-not-begin-clause-wrote : goal.returns-then-not-begin-clause-wrote
 returns-then-not-begin-clause-wrote g c =
-    wrote_none g.R.Recorder.KEEPS (length c.args.buffer.now) c.args.seat.now.number (has_failed (g.O.Outlet.failures c.args.writer.now) (g.O.Outlet.failures c.args.writer.now)) (g.O.Outlet.contents c.args.writer.now) c.args.seat.now.entries
+    wrote_none g.R.Recorder.KEEPS (length c.args.buffer.now) (has_failed (g.O.Outlet.failures c.args.writer.now) (g.O.Outlet.failures c.args.writer.now)) (g.O.Outlet.contents c.args.writer.now) c.args.seat.now

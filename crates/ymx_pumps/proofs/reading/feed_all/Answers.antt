@@ -1,4 +1,4 @@
-use Rattle.std.proofs.Common.{None, arith, rules}
+use Rattle.std.proofs.Common.{None, arith}
 use Rattle.std.proofs.lemmas.Grind.{common_steps}
 use Rattle.ymx_pumps.proofs.Feeds.{first_on, stop_on}
 use Rattle.ymx_pumps.proofs.reading.feed_all.Goals as goal
@@ -6,11 +6,9 @@ use Rattle.ymx_pumps.proofs.reading.feed_all.Goals as goal
 pub loop-preserved : goal.loop-preserved
 loop-preserved g c = record {
   next = (tt, tt);
-  number = search rules;
-  start = search rules;
-  fed = first_on g.R.Recorder.KEEPS c.args.seat.now.number c.loop.seat.number c.args.seat.now.entries c.loop.seat.entries c.feed_turn.new.seat.entries c.args.bytes.now _ c.loop.at c.in-Ok.taken None c.loop.invariant.fed c.loop.invariant.number (grind (arith, common_steps)) c.in-Ok.ensures.fed;
+  fed = first_on g.R.Recorder.KEEPS c.args.seat.now c.loop.seat c.feed_turn.new.seat c.args.bytes.now _ c.loop.at c.in-Ok.taken None c.loop.invariant.fed (grind (arith, common_steps)) c.in-Ok.ensures.fed;
 }
 
 pub returns-in-Err-clause-fed : goal.returns-in-Err-clause-fed
 returns-in-Err-clause-fed g c =
-    stop_on g.R.Recorder.KEEPS c.args.seat.now.number c.loop.seat.number c.args.seat.now.entries c.loop.seat.entries c.feed_turn.new.seat.entries c.args.bytes.now _ c.loop.at c.in-Err.stop c.loop.invariant.fed c.loop.invariant.number (grind (arith, common_steps)) c.in-Err.ensures.fed
+    stop_on g.R.Recorder.KEEPS c.args.seat.now c.loop.seat c.feed_turn.new.seat c.args.bytes.now _ c.loop.at c.in-Err.stop c.loop.invariant.fed (grind (arith, common_steps)) c.in-Err.ensures.fed

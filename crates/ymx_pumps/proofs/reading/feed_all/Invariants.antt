@@ -1,11 +1,9 @@
-use Rattle.std.proofs.Common.{◌≡◌, None}
+use Rattle.std.proofs.Common.{None}
 use Rattle.ymx_pumps.specs.Turns.{FeedsFirst}
 use Rattle.ymx_pumps.proofs.reading.feed_all.Given as goal
 
 abbrev pub invariant-loop : goal.invariant-loop
 invariant-loop g l = record {
   next : (goal.iterator-loop g).can_next l.iterator' × (goal.iterator-loop g).is_finite l.iterator';
-  number : l.seat.number ≡ l.initial.seat.number;
-  start : l.seat.start ≡ l.initial.seat.start;
-  fed : FeedsFirst g.R.Recorder.KEEPS l.initial.seat.number l.initial.seat.entries l.seat.entries l.bytes l.at None;
+  fed : FeedsFirst g.R.Recorder.KEEPS l.initial.seat l.seat l.bytes l.at None;
 }

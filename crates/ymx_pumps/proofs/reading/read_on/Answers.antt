@@ -5,12 +5,10 @@ use Rattle.ymx_pumps.proofs.reading.read_on.Goals as goal
 pub loop-preserved : goal.loop-preserved
 loop-preserved g c = record {
   next = (tt, tt);
-  number = search rules;
-  start = search rules;
   room = search rules;
-  fed = fed_more g.R.Recorder.KEEPS c.args.seat.now.number c.loop.seat.number (g.I.Inlet.failures c.args.reader.now) (g.I.Inlet.failures c.loop.reader) (g.I.Inlet.failures c.read_turn.new.reader) (g.I.Inlet.remaining c.args.reader.now) (g.I.Inlet.remaining c.loop.reader) (g.I.Inlet.remaining c.read_turn.new.reader) c.args.seat.now.entries c.loop.seat.entries c.read_turn.new.seat.entries c.loop.count c.in-Ok.taken c.saturating_add-count.result c.loop.invariant.fed c.loop.invariant.number c.in-Ok.ensures.turned c.saturating_add-count.ensures;
+  fed = fed_more g.R.Recorder.KEEPS (g.I.Inlet.failures c.args.reader.now) (g.I.Inlet.failures c.loop.reader) (g.I.Inlet.failures c.read_turn.new.reader) (g.I.Inlet.remaining c.args.reader.now) (g.I.Inlet.remaining c.loop.reader) (g.I.Inlet.remaining c.read_turn.new.reader) c.args.seat.now c.loop.seat c.read_turn.new.seat c.loop.count c.in-Ok.taken c.saturating_add-count.result c.loop.invariant.fed c.in-Ok.ensures.turned c.saturating_add-count.ensures;
 }
 
 pub returns-in-Err-clause-gave : goal.returns-in-Err-clause-gave
 returns-in-Err-clause-gave g c =
-    fed_last g.R.Recorder.KEEPS c.args.seat.now.number c.loop.seat.number (g.I.Inlet.failures c.args.reader.now) (g.I.Inlet.failures c.loop.reader) (g.I.Inlet.failures c.read_turn.new.reader) (g.I.Inlet.remaining c.args.reader.now) (g.I.Inlet.remaining c.loop.reader) (g.I.Inlet.remaining c.read_turn.new.reader) c.args.seat.now.entries c.loop.seat.entries c.read_turn.new.seat.entries c.loop.count c.saturating_add.result c.in-Err.stop c.loop.invariant.fed c.loop.invariant.number c.in-Err.ensures.turned c.saturating_add.ensures
+    fed_last g.R.Recorder.KEEPS (g.I.Inlet.failures c.args.reader.now) (g.I.Inlet.failures c.loop.reader) (g.I.Inlet.failures c.read_turn.new.reader) (g.I.Inlet.remaining c.args.reader.now) (g.I.Inlet.remaining c.loop.reader) (g.I.Inlet.remaining c.read_turn.new.reader) c.args.seat.now c.loop.seat c.read_turn.new.seat c.loop.count c.saturating_add.result c.in-Err.stop c.loop.invariant.fed c.in-Err.ensures.turned c.saturating_add.ensures

@@ -5,8 +5,6 @@ use Rattle.ymx_pumps.proofs.reading.read_on.Given as goal
 abbrev pub invariant-loop : goal.invariant-loop
 invariant-loop g l = record {
   next : (goal.iterator-loop g).can_next l.iterator' × (goal.iterator-loop g).is_finite l.iterator';
-  number : l.seat.number ≡ l.initial.seat.number;
-  start : l.seat.start ≡ l.initial.seat.start;
   room : length l.buffer ≡ length l.initial.buffer;
-  fed : AllFed g.R.Recorder.KEEPS l.initial.seat.number (g.I.Inlet.failures l.initial.reader) (g.I.Inlet.failures l.reader) (g.I.Inlet.remaining l.initial.reader) (g.I.Inlet.remaining l.reader) l.initial.seat.entries l.seat.entries l.count;
+  fed : AllFed g.R.Recorder.KEEPS (g.I.Inlet.failures l.initial.reader) (g.I.Inlet.failures l.reader) (g.I.Inlet.remaining l.initial.reader) (g.I.Inlet.remaining l.reader) l.initial.seat l.seat l.count;
 }

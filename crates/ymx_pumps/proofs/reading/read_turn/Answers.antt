@@ -6,12 +6,12 @@ use Rattle.ymx_pumps.proofs.reading.read_turn.Goals as goal
 
 pub returns-then-not-before_read-clause-turned : goal.returns-then-not-before_read-clause-turned
 returns-then-not-before_read-clause-turned g c =
-    rw c.at_once.ensures (turn_stops g.R.Recorder.KEEPS c.args.seat.now.number (g.I.Inlet.failures c.args.reader.now) (g.I.Inlet.failures c.args.reader.now) Gate (g.I.Inlet.remaining c.args.reader.now) (g.I.Inlet.remaining c.args.reader.now) c.args.seat.now.entries tt refl (Consumes-nil (g.I.Inlet.remaining c.args.reader.now)))
+    rw c.at_once.ensures (turn_stops g.R.Recorder.KEEPS (g.I.Inlet.failures c.args.reader.now) (g.I.Inlet.failures c.args.reader.now) Gate (g.I.Inlet.remaining c.args.reader.now) (g.I.Inlet.remaining c.args.reader.now) c.args.seat.now tt refl (Consumes-nil (g.I.Inlet.remaining c.args.reader.now)))
 
 pub returns-in-Err-feed_all-clause-turned : goal.returns-in-Err-feed_all-clause-turned
 returns-in-Err-feed_all-clause-turned g c =
-    turn_broke g.R.Recorder.KEEPS c.args.seat.now.number (g.I.Inlet.failures c.args.reader.now) (g.I.Inlet.failures c.pull.new.self) c.in-Err-feed_all.stop (take c.in-Ok.count c.pull.new.buffer) (g.I.Inlet.remaining c.args.reader.now) (g.I.Inlet.remaining c.pull.new.self) c.args.seat.now.entries c.feed_all.new.seat.entries c.in-Ok.ensures.moved.0 c.in-Err-feed_all.ensures.fed
+    turn_broke g.R.Recorder.KEEPS (g.I.Inlet.failures c.args.reader.now) (g.I.Inlet.failures c.pull.new.self) c.in-Err-feed_all.stop (take c.in-Ok.count c.pull.new.buffer) (g.I.Inlet.remaining c.args.reader.now) (g.I.Inlet.remaining c.pull.new.self) c.args.seat.now c.feed_all.new.seat c.in-Ok.ensures.moved.0 c.in-Err-feed_all.ensures.fed
 
 pub returns-in-Err-clause-turned : goal.returns-in-Err-clause-turned
 returns-in-Err-clause-turned g c =
-    rw c.at_once-in-Err.ensures (turn_ends g.R.Recorder.KEEPS c.args.seat.now.number (g.I.Inlet.failures c.args.reader.now) (g.I.Inlet.failures c.pull.new.self) Device c.end_input.result (g.I.Inlet.remaining c.args.reader.now) (g.I.Inlet.remaining c.pull.new.self) c.args.seat.now.entries c.end_input.new.seat.entries (inr refl) (Consumes-kept (g.I.Inlet.remaining c.args.reader.now) (g.I.Inlet.remaining c.args.reader.now) (g.I.Inlet.remaining c.pull.new.self) [] (Consumes-nil (g.I.Inlet.remaining c.args.reader.now)) c.in-Err.ensures.moved) c.end_input.ensures.ended)
+    rw c.at_once-in-Err.ensures (turn_ends g.R.Recorder.KEEPS (g.I.Inlet.failures c.args.reader.now) (g.I.Inlet.failures c.pull.new.self) Device c.end_input.result (g.I.Inlet.remaining c.args.reader.now) (g.I.Inlet.remaining c.pull.new.self) c.args.seat.now c.end_input.new.seat (inr refl) (Consumes-kept (g.I.Inlet.remaining c.args.reader.now) (g.I.Inlet.remaining c.args.reader.now) (g.I.Inlet.remaining c.pull.new.self) [] (Consumes-nil (g.I.Inlet.remaining c.args.reader.now)) c.in-Err.ensures.moved) c.end_input.ensures.ended)

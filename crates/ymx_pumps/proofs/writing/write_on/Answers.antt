@@ -5,12 +5,10 @@ use Rattle.ymx_pumps.proofs.writing.write_on.Goals as goal
 pub loop-preserved : goal.loop-preserved
 loop-preserved g c = record {
   next = (tt, tt);
-  number = search rules;
-  start = search rules;
   room = search rules;
-  written = written_more g.R.Recorder.KEEPS (length c.args.buffer.now) c.args.seat.now.number (length c.loop.buffer) c.loop.seat.number (g.O.Outlet.failures c.args.writer.now) (g.O.Outlet.failures c.loop.writer) (g.O.Outlet.failures c.write_turn.new.writer) (g.O.Outlet.contents c.args.writer.now) (g.O.Outlet.contents c.loop.writer) (g.O.Outlet.contents c.write_turn.new.writer) c.args.seat.now.entries c.loop.seat.entries c.write_turn.new.seat.entries c.loop.count c.in-Ok.written c.saturating_add-count.result c.loop.invariant.written c.loop.invariant.room c.loop.invariant.number c.in-Ok.ensures.turned c.saturating_add-count.ensures;
+  written = written_more g.R.Recorder.KEEPS (length c.args.buffer.now) (length c.loop.buffer) (g.O.Outlet.failures c.args.writer.now) (g.O.Outlet.failures c.loop.writer) (g.O.Outlet.failures c.write_turn.new.writer) (g.O.Outlet.contents c.args.writer.now) (g.O.Outlet.contents c.loop.writer) (g.O.Outlet.contents c.write_turn.new.writer) c.args.seat.now c.loop.seat c.write_turn.new.seat c.loop.count c.in-Ok.written c.saturating_add-count.result c.loop.invariant.written c.loop.invariant.room c.in-Ok.ensures.turned c.saturating_add-count.ensures;
 }
 
 pub returns-in-Err-clause-wrote : goal.returns-in-Err-clause-wrote
 returns-in-Err-clause-wrote g c =
-    written_last g.R.Recorder.KEEPS (length c.args.buffer.now) c.args.seat.now.number (length c.loop.buffer) c.loop.seat.number (g.O.Outlet.failures c.args.writer.now) (g.O.Outlet.failures c.loop.writer) (g.O.Outlet.failures c.write_turn.new.writer) (g.O.Outlet.contents c.args.writer.now) (g.O.Outlet.contents c.loop.writer) (g.O.Outlet.contents c.write_turn.new.writer) c.args.seat.now.entries c.loop.seat.entries c.write_turn.new.seat.entries c.loop.count c.saturating_add.result c.in-Err.stop c.loop.invariant.written c.loop.invariant.room c.loop.invariant.number c.in-Err.ensures.turned c.saturating_add.ensures
+    written_last g.R.Recorder.KEEPS (length c.args.buffer.now) (length c.loop.buffer) (g.O.Outlet.failures c.args.writer.now) (g.O.Outlet.failures c.loop.writer) (g.O.Outlet.failures c.write_turn.new.writer) (g.O.Outlet.contents c.args.writer.now) (g.O.Outlet.contents c.loop.writer) (g.O.Outlet.contents c.write_turn.new.writer) c.args.seat.now c.loop.seat c.write_turn.new.seat c.loop.count c.saturating_add.result c.in-Err.stop c.loop.invariant.written c.loop.invariant.room c.in-Err.ensures.turned c.saturating_add.ensures

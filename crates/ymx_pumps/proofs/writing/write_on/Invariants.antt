@@ -5,8 +5,6 @@ use Rattle.ymx_pumps.proofs.writing.write_on.Given as goal
 abbrev pub invariant-loop : goal.invariant-loop
 invariant-loop g l = record {
   next : (goal.iterator-loop g).can_next l.iterator' × (goal.iterator-loop g).is_finite l.iterator';
-  number : l.seat.number ≡ l.initial.seat.number;
-  start : l.seat.start ≡ l.initial.seat.start;
   room : length l.buffer ≡ length l.initial.buffer;
-  written : Written g.R.Recorder.KEEPS (length l.initial.buffer) l.initial.seat.number (g.O.Outlet.failures l.initial.writer) (g.O.Outlet.failures l.writer) (g.O.Outlet.contents l.initial.writer) (g.O.Outlet.contents l.writer) l.initial.seat.entries l.seat.entries l.count;
+  written : Written g.R.Recorder.KEEPS (length l.initial.buffer) (g.O.Outlet.failures l.initial.writer) (g.O.Outlet.failures l.writer) (g.O.Outlet.contents l.initial.writer) (g.O.Outlet.contents l.writer) l.initial.seat l.seat l.count;
 }

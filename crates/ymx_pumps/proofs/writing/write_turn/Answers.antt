@@ -4,20 +4,20 @@ use Rattle.ymx_pumps.proofs.writing.write_turn.Goals as goal
 
 pub returns-in-Err-push_all-clause-turned : goal.returns-in-Err-push_all-clause-turned
 returns-in-Err-push_all-clause-turned g c =
-    turn_failed g.R.Recorder.KEEPS (length c.args.buffer.now) c.args.seat.now.number c.emit_turn.new.seat.number c.in-Ok-Emitted.count c.in-Err-push_all.moved (g.O.Outlet.failures c.args.writer.now) (g.O.Outlet.failures c.push_all.new.writer) c.lose_writer-why.result c.emit_turn.new.buffer (g.O.Outlet.contents c.args.writer.now) (g.O.Outlet.contents c.push_all.new.writer)
-    c.args.seat.now.entries c.emit_turn.new.seat.entries c.lose_writer-why.new.seat.entries
-    (search rules) (search rules) c.in-Err-push_all.ensures.pushed.2 c.in-Err-push_all.ensures.pushed.1 (rw c.in-Ok-Emitted.field-0-is at c.in-Ok-Emitted.ensures.booked) (search rules) c.lose_writer-why.ensures.ended
+    turn_failed g.R.Recorder.KEEPS (length c.args.buffer.now) c.in-Ok-Emitted.count c.in-Err-push_all.moved (g.O.Outlet.failures c.args.writer.now) (g.O.Outlet.failures c.push_all.new.writer) c.lose_writer-why.result c.emit_turn.new.buffer (g.O.Outlet.contents c.args.writer.now) (g.O.Outlet.contents c.push_all.new.writer)
+    c.args.seat.now c.emit_turn.new.seat c.lose_writer-why.new.seat
+    (search rules) (search rules) c.in-Err-push_all.ensures.pushed.2 c.in-Err-push_all.ensures.pushed.1 (rw c.in-Ok-Emitted.field-0-is at c.in-Ok-Emitted.ensures.booked) c.lose_writer-why.ensures.ended
 
 pub returns-then-not-before_wait-clause-turned : goal.returns-then-not-before_wait-clause-turned
 returns-then-not-before_wait-clause-turned g c =
-    rw c.at_once.ensures (turn_gated g.R.Recorder.KEEPS (length c.args.buffer.now) c.args.seat.now.number (g.O.Outlet.failures c.args.writer.now) c.emit_turn.new.buffer (g.O.Outlet.contents c.args.writer.now) c.args.seat.now.entries c.emit_turn.new.seat.entries (rw c.in-Ok-Idle.field-0-is at c.in-Ok-Idle.ensures.booked))
+    rw c.at_once.ensures (turn_gated g.R.Recorder.KEEPS (length c.args.buffer.now) (g.O.Outlet.failures c.args.writer.now) c.emit_turn.new.buffer (g.O.Outlet.contents c.args.writer.now) c.args.seat.now c.emit_turn.new.seat (rw c.in-Ok-Idle.field-0-is at c.in-Ok-Idle.ensures.booked))
 
 pub returns-in-Ok-Over-clause-turned : goal.returns-in-Ok-Over-clause-turned
 returns-in-Ok-Over-clause-turned g c =
-    rw c.at_once-in-Ok-Over.ensures (turn_over g.R.Recorder.KEEPS (length c.args.buffer.now) c.args.seat.now.number c.emit_turn.new.seat.number (g.O.Outlet.failures c.args.writer.now) (g.O.Outlet.failures c.end_writer.new.writer) c.end_writer.result c.emit_turn.new.buffer (g.O.Outlet.contents c.args.writer.now) (g.O.Outlet.contents c.end_writer.new.writer)
-    c.args.seat.now.entries c.emit_turn.new.seat.entries c.end_writer.new.seat.entries
-    c.end_writer.ensures.kept (rw c.in-Ok-Over.field-0-is at c.in-Ok-Over.ensures.booked) c.in-Ok-Over.ensures.number c.end_writer.ensures.ended)
+    rw c.at_once-in-Ok-Over.ensures (turn_over g.R.Recorder.KEEPS (length c.args.buffer.now) (g.O.Outlet.failures c.args.writer.now) (g.O.Outlet.failures c.end_writer.new.writer) c.end_writer.result c.emit_turn.new.buffer (g.O.Outlet.contents c.args.writer.now) (g.O.Outlet.contents c.end_writer.new.writer)
+    c.args.seat.now c.emit_turn.new.seat c.end_writer.new.seat
+    c.end_writer.ensures.kept (rw c.in-Ok-Over.field-0-is at c.in-Ok-Over.ensures.booked) c.end_writer.ensures.ended)
 
 pub returns-in-Err-clause-turned : goal.returns-in-Err-clause-turned
 returns-in-Err-clause-turned g c =
-    rw c.at_once-in-Err.ensures (turn_lacked g.R.Recorder.KEEPS (length c.args.buffer.now) c.args.seat.now.number (g.O.Outlet.failures c.args.writer.now) c.in-Err.field-0 c.emit_turn.new.buffer (g.O.Outlet.contents c.args.writer.now) c.args.seat.now.entries c.emit_turn.new.seat.entries c.in-Err.ensures.booked)
+    rw c.at_once-in-Err.ensures (turn_lacked g.R.Recorder.KEEPS (length c.args.buffer.now) (g.O.Outlet.failures c.args.writer.now) c.in-Err.field-0 c.emit_turn.new.buffer (g.O.Outlet.contents c.args.writer.now) c.args.seat.now c.emit_turn.new.seat c.in-Err.ensures.booked)

@@ -22,10 +22,10 @@ invariant_of-self-2 g c = (
 )
 
 pub returns-then-not-second-clause-booked : goal.returns-then-not-second-clause-booked
-returns-then-not-second-clause-booked g c = spends_one g.R.Recorder.KEEPS c.args.seat.now.entries c.add.new.seat.entries (to_end c.args.ending c.args.id) c.args.id c.args.seat.now.number (length c.prepare-2.new.self.entries) c.call-ended.result _ c.answered.ensures (cc)
+returns-then-not-second-clause-booked g c = spends_one g.R.Recorder.KEEPS c.args.seat.now c.add.new.seat (to_end c.args.ending c.args.id) c.args.id (length c.prepare-2.new.self.entries) c.call-ended.result _ c.answered.ensures (cc) (cc) (cc)
 
 pub returns-clause-booked : goal.returns-clause-booked
-returns-clause-booked g c = spends_two g.R.Recorder.KEEPS c.args.seat.now.entries c.add.new.seat.entries c.add-2.new.seat.entries (to_end c.args.ending c.args.id) c.args.id c.args.seat.now.number (length c.prepare-2.new.self.entries) (length c.add.new.self.entries) c.call-ended.result (done_or c.forget-gone.result) _ c.answered-2.ensures (cc) (cc)
+returns-clause-booked g c = spends_two g.R.Recorder.KEEPS c.args.seat.now c.add-2.new.seat c.add.new.seat.entries (to_end c.args.ending c.args.id) c.args.id (length c.prepare-2.new.self.entries) (length c.add.new.self.entries) c.call-ended.result (done_or c.forget-gone.result) _ c.answered-2.ensures (cc) (cc) (cc) (cc)
 
 pub returns-then-not-second-clause-off : goal.returns-then-not-second-clause-off
 returns-then-not-second-clause-off g c = λ _. answer_spares c.call-ended.result _ c.answered.ensures c.call-ended.ensures.spares

@@ -6,7 +6,7 @@ use Rattle.ymx_held.proofs.Steps.{asked, steps_of}
 use Rattle.ymx_held.proofs.held.Held.go_away.Goals as goal
 
 pub returns-clause-booked : goal.returns-clause-booked
-returns-clause-booked g c = asks_one g.R.Recorder.KEEPS c.args.seat.now.entries c.add.new.seat.entries to_go_away done_or c.args.seat.now.number (length c.prepare.new.self.entries) c.go_away-said.result c.answered.result c.answered.ensures (cc)
+returns-clause-booked g c = asks_one g.R.Recorder.KEEPS c.args.seat.now c.add.new.seat to_go_away done_or (length c.prepare.new.self.entries) c.go_away-said.result c.answered.result c.answered.ensures (cc) (cc) (cc)
 
 pub returns-clause-steps : goal.returns-clause-steps
 returns-clause-steps g c =

@@ -7,7 +7,7 @@ use Rattle.ymx_held.proofs.Steps.{asked, steps_of}
 use Rattle.ymx_held.proofs.held.Held.read.Goals as goal
 
 pub returns-clause-booked : goal.returns-clause-booked
-returns-clause-booked g c = asks_one g.R.Recorder.KEEPS c.args.seat.now.entries c.add.new.seat.entries (to_read c.args.id (length c.args.buffer.now)) (λ given. read_or given c.read-got.new.buffer) c.args.seat.now.number (length c.prepare.new.self.entries) c.read-got.result c.answered.result c.answered.ensures (cc)
+returns-clause-booked g c = asks_one g.R.Recorder.KEEPS c.args.seat.now c.add.new.seat (to_read c.args.id (length c.args.buffer.now)) (λ given. read_or given c.read-got.new.buffer) (length c.prepare.new.self.entries) c.read-got.result c.answered.result c.answered.ensures (cc) (cc) (cc)
 
 pub returns-clause-some : goal.returns-clause-some
 returns-clause-some g c = λ room. read_some c.args.id (length c.args.buffer.now) c.self.inside.session c.read-got.new.buffer c.read-got.result c.answered.result c.read-got.ensures.reply c.answered.ensures room

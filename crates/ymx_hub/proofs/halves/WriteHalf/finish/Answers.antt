@@ -1,8 +1,8 @@
 use Rattle.std.proofs.Common.{subst}
-use Rattle.ymx_held.specs.Booked.{Gains, Spends, to_finish}
+use Rattle.ymx_held.specs.Booked.{Books, Spends, to_finish}
 use Rattle.ymx_hub.specs.Halves.{HalfView}
 use Rattle.ymx_hub.proofs.halves.WriteHalf.finish.Goals as goal
 
 pub returns-clause-booked : goal.returns-clause-booked
 returns-clause-booked g c =
-    subst (λ (v : HalfView). Gains g.R.Recorder.KEEPS v.seat.entries c.finish-result.new.seat.entries (Spends (to_finish v.id) v.id v.seat.number c.finish-result.result)) c.self.view_is c.finish-result.ensures.booked
+    subst (λ (v : HalfView). Books g.R.Recorder.KEEPS v.seat c.finish-result.new.seat (Spends (to_finish v.id) v.id v.seat.number c.finish-result.result)) c.self.view_is c.finish-result.ensures.booked

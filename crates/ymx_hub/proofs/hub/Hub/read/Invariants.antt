@@ -1,14 +1,12 @@
 use Rattle.std.proofs.Common.{◌≡◌, length}
 use Rattle.ymx_machine.specs.declared.types.Reply.TheVariants.{ReadWait}
-use Rattle.ymx_held.specs.Booked.{Gains, to_read}
+use Rattle.ymx_held.specs.Booked.{Books, to_read}
 use Rattle.ymx_hub.specs.Turns.{AreWaits}
 use Rattle.ymx_hub.proofs.hub.Hub.read.Given as goal
 
 abbrev pub invariant-loop : goal.invariant-loop
 invariant-loop g l = record {
   next : (goal.iterator-loop g).can_next l.iterator' × (goal.iterator-loop g).is_finite l.iterator';
-  number : l.seat.number ≡ l.initial.seat.number;
-  start : l.seat.start ≡ l.initial.seat.start;
   same : l.buffer ≡ l.initial.buffer;
-  waits : Gains g.R.Recorder.KEEPS l.initial.seat.entries l.seat.entries (AreWaits l.initial.seat.number (to_read l.id (length l.initial.buffer)) ReadWait);
+  waits : Books g.R.Recorder.KEEPS l.initial.seat l.seat (AreWaits l.initial.seat.number (to_read l.id (length l.initial.buffer)) ReadWait);
 }
