@@ -1,5 +1,5 @@
 -- What a call does to what is under the lock, by what its session answered.
-use Rattle.std.proofs.Common.{◌≡◌, ℕ, ◌+◌, List, Bool, true, false, Result, Ok, Err, sym, subst, refl, ap, inr}
+use Rattle.std.proofs.Common.{◌≡◌, ℕ, ◌+◌, List, Bool, true, false, Result, Ok, Err, sym, subst, refl, ap, ◌∙◌, inr}
 use Rattle.ymx_model.specs.declared.types.Event.{Event}
 use Rattle.ymx_machine.specs.declared.types.Reply.{Reply}
 use Rattle.ymx_machine.specs.declared.types.Reply.TheVariants as reply
@@ -28,9 +28,15 @@ steps_of keeps event told seat old role config s t es fs given unspent half_spen
     subst (λ (h : HeldView). Steps keeps seat event told h (view role config t fs given unspent half_spent over)) (sym e) (record { gives = g; rest = ap (λ (xs : List Entry). view role config t xs given unspent half_spent over) f })
 
 -- a stream is handed out, by what is held before and behind it
-pub hands_of : (keeps : Bool) (event : Event) (told : Reply) (seat : ℕ) (one other : SeatView) (old : HeldView) (role : Role) (config : Config) (s t : Session) (es fs : List Entry) (given unspent : ℕ) (half_spent : List ℕ) (over : Bool) → old ≡ record { role = role; config = config; session = s; entries = es; given = given; unspent = unspent; half_spent = half_spent; ended = over } → Gives in_turn s event told t → fs ≡ entries_after keeps seat event told es → IsNext given fs one → IsNext (given + 1) fs other → HandsOut keeps seat event told one other old (record { role = role; config = config; session = t; entries = fs; given = given + 2; unspent = unspent + 1; half_spent = half_spent; ended = over })
-hands_of keeps event told seat one other old role config s t es fs given unspent half_spent over e g f n m =
-    subst (λ (h : HeldView). HandsOut keeps seat event told one other h (view role config t fs (given + 2) (unspent + 1) half_spent over)) (sym e) (record { gives = g; rest = ap (λ (xs : List Entry). view role config t xs (given + 2) (unspent + 1) half_spent over) f; first = n; second = m })
+pub hands_of : (keeps : Bool) (event : Event) (told : Reply) (seat : ℕ) (one other : SeatView) (old : HeldView) (role : Role) (config : Config) (s t : Session) (es fs : List Entry) (given after unspent left : ℕ) (half_spent : List ℕ) (over : Bool) → old ≡ record { role = role; config = config; session = s; entries = es; given = given; unspent = unspent; half_spent = half_spent; ended = over } → Gives in_turn s event told t → fs ≡ entries_after keeps seat event told es → after ≡ given + 2 → left ≡ unspent + 1 → IsNext given fs one → IsNext (given + 1) fs other → HandsOut keeps seat event told one other old (record { role = role; config = config; session = t; entries = fs; given = after; unspent = left; half_spent = half_spent; ended = over })
+hands_of keeps event told seat one other old role config s t es fs given after unspent left half_spent over e g f a l n m =
+    subst (λ (h : HeldView). HandsOut keeps seat event told one other h (view role config t fs after left half_spent over)) (sym e) (record {
+      gives = g;
+      rest = ap (λ (xs : List Entry). view role config t xs after left half_spent over) f ∙ ap (λ (k : ℕ). view role config t (entries_after keeps seat event told es) k left half_spent over) a
+          ∙ ap (λ (k : ℕ). view role config t (entries_after keeps seat event told es) (given + 2) k half_spent over) l;
+      first = n;
+      second = m;
+    })
 
 pub asked : {A : Type 0} (keeps : Bool) (event : Event) (told : Result A CallFault → Reply) (seat : ℕ) (given : Result A CallFault) (result : Result A HubFault) (old new : HeldView) → result ≡ hub_answer given → Steps keeps seat event (told given) old new → StepsAsked keeps event told seat result old new
 asked keeps event told seat (Ok x) result old new e s = rw e s

@@ -10,6 +10,7 @@ ghost use Rattle.ymx_held.specs.Steps.{StepsOpened, StepsOpenedWith, StepsAccept
 use crate::faults::{HubFault, hub_fault};
 use crate::held::Held;
 use indexmap::IndexSet;
+use std::alloc::Global;
 use ymx_model::CallFault;
 use ymx_seats::{Ask, Recorder, Seat, Tell};
 
@@ -29,20 +30,20 @@ impl<R: Recorder> Held<R> {
         let Ok(slip) = self.log.prepare(self.alloc, seat, Ask::Open, 0, 1) else {
             return Err(HubFault::Memory);
         };
-        match self.session.open() {
+        let opened = self.session.open();
+        self.log.add(seat, slip, Ask::Open, tell_of_open(opened));
+        match opened {
             Ok(id) => {
-                self.log.add(seat, slip, Ask::Open, Tell::Opened(id));
                 let start = self.log.next_position();
-                let first = Seat::new(self.alloc, self.given, start);
-                let second = Seat::new(self.alloc, self.given + 1, start);
-                self.given += 2;
-                self.unspent += 1;
+                let (first, second) = hand_out(
+                    self.alloc,
+                    start,
+                    &mut self.given,
+                    &mut self.unspent,
+                );
                 Ok((id, first, second))
             }
-            Err(fault) => {
-                self.log.add(seat, slip, Ask::Open, Tell::Refused(fault));
-                Err(hub_fault(fault))
-            }
+            Err(fault) => Err(hub_fault(fault)),
         }
     }
 
@@ -64,20 +65,20 @@ impl<R: Recorder> Held<R> {
         let Ok(slip) = self.log.prepare(self.alloc, seat, ask, 0, 1) else {
             return Err(HubFault::Memory);
         };
-        match self.session.open_with(bytes) {
+        let opened = self.session.open_with(bytes);
+        self.log.add(seat, slip, ask, tell_of_open_with(opened));
+        match opened {
             Ok((id, taken)) => {
-                self.log.add(seat, slip, ask, Tell::OpenedWith(id, taken));
                 let start = self.log.next_position();
-                let first = Seat::new(self.alloc, self.given, start);
-                let second = Seat::new(self.alloc, self.given + 1, start);
-                self.given += 2;
-                self.unspent += 1;
+                let (first, second) = hand_out(
+                    self.alloc,
+                    start,
+                    &mut self.given,
+                    &mut self.unspent,
+                );
                 Ok((id, taken, first, second))
             }
-            Err(fault) => {
-                self.log.add(seat, slip, ask, Tell::Refused(fault));
-                Err(hub_fault(fault))
-            }
+            Err(fault) => Err(hub_fault(fault)),
         }
     }
 
@@ -97,25 +98,22 @@ impl<R: Recorder> Held<R> {
         let Ok(slip) = self.log.prepare(self.alloc, seat, Ask::Accept, 0, 1) else {
             return Err(HubFault::Memory);
         };
-        match self.session.accept() {
+        let accepted = self.session.accept();
+        self.log
+            .add(seat, slip, Ask::Accept, tell_of_accept(accepted));
+        match accepted {
             Ok(Some(id)) => {
-                self.log
-                    .add(seat, slip, Ask::Accept, Tell::Accepted(Some(id)));
                 let start = self.log.next_position();
-                let first = Seat::new(self.alloc, self.given, start);
-                let second = Seat::new(self.alloc, self.given + 1, start);
-                self.given += 2;
-                self.unspent += 1;
+                let (first, second) = hand_out(
+                    self.alloc,
+                    start,
+                    &mut self.given,
+                    &mut self.unspent,
+                );
                 Ok(Some((id, first, second)))
             }
-            Ok(None) => {
-                self.log.add(seat, slip, Ask::Accept, Tell::Accepted(None));
-                Ok(None)
-            }
-            Err(fault) => {
-                self.log.add(seat, slip, Ask::Accept, Tell::Refused(fault));
-                Err(hub_fault(fault))
-            }
+            Ok(None) => Ok(None),
+            Err(fault) => Err(hub_fault(fault)),
         }
     }
 }
@@ -135,5 +133,58 @@ fn make_room(given: u32, unspent: usize, half_spent: &mut IndexSet<u32>) -> Resu
     match half_spent.reserve(unspent + 1) {
         Ok(()) => Ok(()),
         Err(_) => Err(HubFault::Memory),
+    }
+}
+
+/// The seats of both halves of a stream that is handed out: the next two. One stream more has both halves unspent.
+fn hand_out<R: Recorder>(
+    alloc: Global,
+    start: u64,
+    given: &mut u32,
+    unspent: &mut usize,
+) -> (Seat<R>, Seat<R>)
+    requires seats { given.old + 2 < 2 ^ 32 }
+    requires streams { unspent.old + 1 < 2 ^ 64 }
+    ensures first { (result.0.number ≡ given.old) × (result.0.start ≡ start) × (result.0.entries ≡ []) }
+    ensures second { (result.1.number ≡ given.old + 1) × (result.1.start ≡ start) × (result.1.entries ≡ []) }
+    ensures counted { (given.new ≡ given.old + 2) × (unspent.new ≡ unspent.old + 1) }
+{
+    let first = Seat::new(alloc, *given, start);
+    let second = Seat::new(alloc, *given + 1, start);
+    *given += 2;
+    *unspent += 1;
+    (first, second)
+}
+
+/// What is kept of a stream that was opened.
+fn tell_of_open<'a>(given: Result<u32, CallFault>) -> Tell<'a>
+    ensures told { told_by result ≡ opened_or given }
+    ensures short { bytes_told result ≡ 0 }
+{
+    match given {
+        Ok(id) => Tell::Opened(id),
+        Err(fault) => Tell::Refused(fault),
+    }
+}
+
+/// What is kept of a stream that was opened with its first bytes.
+fn tell_of_open_with<'a>(given: Result<(u32, usize), CallFault>) -> Tell<'a>
+    ensures told { told_by result ≡ opened_with_or given }
+    ensures short { bytes_told result ≡ 0 }
+{
+    match given {
+        Ok((id, taken)) => Tell::OpenedWith(id, taken),
+        Err(fault) => Tell::Refused(fault),
+    }
+}
+
+/// What is kept of a turn of an accept.
+fn tell_of_accept<'a>(given: Result<Option<u32>, CallFault>) -> Tell<'a>
+    ensures told { told_by result ≡ accepted_or given }
+    ensures short { bytes_told result ≡ 0 }
+{
+    match given {
+        Ok(id) => Tell::Accepted(id),
+        Err(fault) => Tell::Refused(fault),
     }
 }

@@ -1,12 +1,14 @@
+use Rattle.std.proofs.Common.{ap}
 use Rattle.ymx_machine.specs.declared.types.Reply.TheVariants as reply
+use Rattle.ymx_session.specs.Replies.{opened_or}
 use Rattle.ymx_held.specs.Booked.{to_open}
 use Rattle.ymx_held.proofs.Steps.{refused, steps_of, hands_of}
 use Rattle.ymx_held.proofs.held.Held.open.Goals as goal
 
-pub returns-in-Ok-open-clause-steps : goal.returns-in-Ok-open-clause-steps
-returns-in-Ok-open-clause-steps g c =
-    hands_of g.R.Recorder.KEEPS to_open _ c.args.seat.now.number c.new-first.result c.new-second.result c.args.self.now _ _ c.self.inside.session _ c.self.inside.log.entries _ _ _ _ _ (cc) c.in-Ok-open.ensures.event (cc) ((cc), (cc), (cc)) ((cc), (cc), (cc))
+pub returns-in-Ok-opened-clause-steps : goal.returns-in-Ok-opened-clause-steps
+returns-in-Ok-opened-clause-steps g c =
+    hands_of g.R.Recorder.KEEPS to_open _ c.args.seat.now.number c.hand_out-first.result.0 c.hand_out-first.result.1 c.args.self.now _ _ c.self.inside.session _ c.self.inside.log.entries _ c.self.inside.given _ c.self.inside.unspent _ _ _ (cc) (rw c.in-Ok-opened.is at c.open-opened.ensures.event) (cc (ap opened_or c.in-Ok-opened.is)) (cc) (cc) ((cc), (cc), (cc)) ((cc), (cc), (cc))
 
-pub returns-in-Err-open-clause-steps : goal.returns-in-Err-open-clause-steps
-returns-in-Err-open-clause-steps g c =
-    refused g.R.Recorder.KEEPS c.args.seat.now.number to_open c.in-Err-open.fault c.hub_fault.result _ _ c.hub_fault.ensures (steps_of g.R.Recorder.KEEPS to_open (reply.Refused c.in-Err-open.fault) c.args.seat.now.number c.args.self.now _ _ c.self.inside.session _ c.self.inside.log.entries _ _ _ _ _ (cc) c.in-Err-open.ensures.event (cc))
+pub returns-in-Err-opened-clause-steps : goal.returns-in-Err-opened-clause-steps
+returns-in-Err-opened-clause-steps g c =
+    refused g.R.Recorder.KEEPS c.args.seat.now.number to_open c.in-Err-opened.fault c.hub_fault.result _ _ c.hub_fault.ensures (steps_of g.R.Recorder.KEEPS to_open (reply.Refused c.in-Err-opened.fault) c.args.seat.now.number c.args.self.now _ _ c.self.inside.session _ c.self.inside.log.entries _ _ _ _ _ (cc) (rw c.in-Err-opened.is at c.open-opened.ensures.event) (cc (ap opened_or c.in-Err-opened.is)))
