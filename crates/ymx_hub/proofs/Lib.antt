@@ -2,3 +2,4 @@ pub mod Booked
 pub mod Waits
 pub mod Written
 pub mod Ended
+pub mod Accepts

@@ -32,13 +32,16 @@ impl<R: Recorder> Hub<R> {
     {
         let _ = recorder;
         let touched = Touched::new(alloc)?;
-        Ok(Arc::new(
-            alloc,
-            Hub {
-                desk: Mutex::new(Desk::new(Held::new(alloc, session), touched)),
-                bells: Bells::new(),
-            },
-        )?)
+        let desk = Desk::new(Held::new(alloc, session), touched);
+        Ok(Arc::new(alloc, Hub::over(desk))?)
+    }
+
+    /// The hub over this desk, at which nobody waits.
+    fn over(desk: Desk<R>) -> Hub<R> {
+        Hub {
+            desk: Mutex::new(desk),
+            bells: Bells::new(),
+        }
     }
 
     /// A new seat. `Seats` after 4,294,967,295 of them, and `Closed` once the transcript was handed out.

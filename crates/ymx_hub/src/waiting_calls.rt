@@ -1,6 +1,6 @@
 //! Calls that wait. Each turn is one event, and so one entry.
 
-ghost use Rattle.std.specs.Prelude.{◌≡◌, ◌<◌, ◌≤◌, length, drop, false, IfOk, IfErr, MatchResult};
+ghost use Rattle.std.specs.Prelude.{◌≡◌, ◌⊎◌, ◌<◌, ◌≤◌, length, drop, false, IfOk, IfErr, MatchResult};
 ghost use Rattle.ymx_held.specs.Answers.{IsNotMemory};
 ghost use Rattle.ymx_held.specs.Booked.{Gains, Books};
 ghost use Rattle.ymx_machine.specs.declared.types.Reply.TheVariants as reply;
@@ -38,14 +38,13 @@ impl<R: Recorder> Hub<R> {
                     desk.waiters.remove_acceptor();
                     was_woken = true;
                 }
-                Err(HubFault::Call(CallFault::Lost)) => return Ok(None),
-                Err(HubFault::Call(CallFault::Closed)) => return Ok(None),
                 Err(fault) => {
-                    if was_woken {
+                    let refused = none_or(fault);
+                    if was_woken && refused.is_err() {
                         // The stream is still offered, and another may have memory for it.
                         self.bells.offered.notify_one();
                     }
-                    return Err(fault);
+                    return refused;
                 }
             }
         }
@@ -160,5 +159,16 @@ impl<R: Recorder> Hub<R> {
             desk.waiters.emptiers = true;
             desk = self.bells.emptied.wait(rt, desk);
         }
+    }
+}
+
+/// What an accept answers that was refused for this reason: `None` if there will be no more streams.
+fn none_or<T>(fault: HubFault) -> Result<Option<T>, HubFault>
+    ensures { MatchResult result (λ none. (none ≡ None) × ((fault ≡ HubFault.Call CallFault.Lost) ⊎ (fault ≡ HubFault.Call CallFault.Closed))) (λ same. same ≡ fault) }
+{
+    match fault {
+        HubFault::Call(CallFault::Lost) => Ok(None),
+        HubFault::Call(CallFault::Closed) => Ok(None),
+        other => Err(other),
     }
 }

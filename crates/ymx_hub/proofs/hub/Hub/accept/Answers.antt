@@ -3,6 +3,7 @@ use Rattle.ymx_machine.specs.declared.types.Reply.TheVariants.{Accepted}
 use Rattle.ymx_seats.specs.Views.{SeatView}
 use Rattle.ymx_held.specs.Booked.{Books, AcceptsOnce, to_accept}
 use Rattle.ymx_hub.proofs.Waits.{waits_on}
+use Rattle.ymx_hub.proofs.Accepts.{accept_refused}
 use Rattle.ymx_hub.proofs.hub.Hub.accept.Goals as goal
 
 pub loop-preserved : goal.loop-preserved
@@ -10,3 +11,6 @@ loop-preserved g c = record {
   next = (tt, tt);
   waits = waits_on g.R.Recorder.KEEPS _ _ _ to_accept (Accepted None) c.loop.invariant.waits (subst (λ (o : Option (ℕ × SeatView × SeatView)). Books g.R.Recorder.KEEPS c.loop.seat c.accept.new.seat (AcceptsOnce c.loop.seat.number (Ok o))) c.in-Ok-None.field-0-is c.in-Ok-None.ensures.booked);
 }
+
+pub returns-in-Err : goal.returns-in-Err
+returns-in-Err g c = record { booked = accept_refused g.R.Recorder.KEEPS _ _ _ c.in-Err.fault c.none_or-refused.result c.none_or-refused.ensures c.loop.invariant.waits c.in-Err.ensures.booked }
