@@ -25,7 +25,7 @@ emitted_then : (es fs : List (Event × Reply)) → emitted (es ++ fs) ≡ emitte
 emitted_then [] fs = refl
 emitted_then (e ∷ es) fs = ap (λ (xs : List ℕ). emitted_at e.0 e.1 ++ xs) (emitted_then es fs) ∙ sym (append_assoc (emitted_at e.0 e.1) (emitted es) (emitted fs))
 
-feed_end_then : (es fs : List (Event × Reply)) → has_feed_end (es ++ fs) ≡ (has_feed_end es || has_feed_end fs)
+pub feed_end_then : (es fs : List (Event × Reply)) → has_feed_end (es ++ fs) ≡ (has_feed_end es || has_feed_end fs)
 feed_end_then [] fs = refl
 feed_end_then (e ∷ es) fs = ap (λ (b : Bool). ends_feed e.0 || b) (feed_end_then es fs) ∙ sym (or_assoc (ends_feed e.0) (has_feed_end es) (has_feed_end fs))
 

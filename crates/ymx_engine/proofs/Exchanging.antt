@@ -28,33 +28,33 @@ pub happen_then : (es fs : List (Event × Reply)) (s t u : Session) → Happen e
 happen_then [] fs s t u h k = subst (λ (v : Session). Happen fs v u) h k
 happen_then (e ∷ es) fs s t u h k = (h.0, h.1, happen_then es fs h.0 t u h.2 k)
 
-taken_then : (id : ℕ) (es fs : List (Event × Reply)) → taken id (es ++ fs) ≡ taken id es ++ taken id fs
+pub taken_then : (id : ℕ) (es fs : List (Event × Reply)) → taken id (es ++ fs) ≡ taken id es ++ taken id fs
 taken_then id [] fs = refl
 taken_then id (e ∷ es) fs = ap (λ (xs : List ℕ). taken_at id e.0 e.1 ++ xs) (taken_then id es fs) ∙ sym (append_assoc (taken_at id e.0 e.1) (taken id es) (taken id fs))
 
-given_then : (id : ℕ) (es fs : List (Event × Reply)) → given id (es ++ fs) ≡ given id es ++ given id fs
+pub given_then : (id : ℕ) (es fs : List (Event × Reply)) → given id (es ++ fs) ≡ given id es ++ given id fs
 given_then id [] fs = refl
 given_then id (e ∷ es) fs = ap (λ (xs : List ℕ). given_at id e.0 e.1 ++ xs) (given_then id es fs) ∙ sym (append_assoc (given_at id e.0 e.1) (given id es) (given id fs))
 
-end_then : (id : ℕ) (es fs : List (Event × Reply)) → has_end id (es ++ fs) ≡ (has_end id es || has_end id fs)
+pub end_then : (id : ℕ) (es fs : List (Event × Reply)) → has_end id (es ++ fs) ≡ (has_end id es || has_end id fs)
 end_then id [] fs = refl
 end_then id (e ∷ es) fs = ap (λ (b : Bool). ends_at id e.0 e.1 || b) (end_then id es fs) ∙ sym (or_assoc (ends_at id e.0 e.1) (has_end id es) (has_end id fs))
 
-finish_then : (id : ℕ) (es fs : List (Event × Reply)) → has_finish id (es ++ fs) ≡ (has_finish id es || has_finish id fs)
+pub finish_then : (id : ℕ) (es fs : List (Event × Reply)) → has_finish id (es ++ fs) ≡ (has_finish id es || has_finish id fs)
 finish_then id [] fs = refl
 finish_then id (e ∷ es) fs = ap (λ (b : Bool). finishes_at id e.0 || b) (finish_then id es fs) ∙ sym (or_assoc (finishes_at id e.0) (has_finish id es) (has_finish id fs))
 
-reset_then : (id : ℕ) (es fs : List (Event × Reply)) → has_reset id (es ++ fs) ≡ (has_reset id es || has_reset id fs)
+pub reset_then : (id : ℕ) (es fs : List (Event × Reply)) → has_reset id (es ++ fs) ≡ (has_reset id es || has_reset id fs)
 reset_then id [] fs = refl
 reset_then id (e ∷ es) fs = ap (λ (b : Bool). resets_at id e.0 || b) (reset_then id es fs) ∙ sym (or_assoc (resets_at id e.0) (has_reset id es) (has_reset id fs))
 
 -- ---- tests and options
 
-or_none : (b : Bool) → (b || false) ≡ b
+pub or_none : (b : Bool) → (b || false) ≡ b
 or_none true = refl
 or_none false = refl
 
-or_cases : (a b : Bool) → (a || b) ≡ true → (a ≡ true) ⊎ (b ≡ true)
+pub or_cases : (a b : Bool) → (a || b) ≡ true → (a ≡ true) ⊎ (b ≡ true)
 or_cases true b h = inl refl
 or_cases false b h = inr h
 
@@ -75,7 +75,7 @@ not_true : (b : Bool) → (b ≡ true → ⊥) → b ≡ false
 not_true true h = absurd (h refl)
 not_true false h = refl
 
-same_id : (n : ℕ) → (n == n) ≡ true
+pub same_id : (n : ℕ) → (n == n) ≡ true
 same_id n = grind arith
 
 -- ---- known bytes
@@ -84,7 +84,7 @@ no_bytes : (xs : List ℕ) → length xs ≡ 0 → xs ≡ []
 no_bytes [] e = refl
 no_bytes (x ∷ xs) e = grind (arith, common_steps)
 
-whole_before : (a b c : Option (List ℕ)) (t u : List ℕ) → Consumes a b t → Consumes b c u → IfSome a (λ all. all ≡ t) → IfSome a (λ all. all ≡ t ++ u)
+pub whole_before : (a b c : Option (List ℕ)) (t u : List ℕ) → Consumes a b t → Consumes b c u → IfSome a (λ all. all ≡ t) → IfSome a (λ all. all ≡ t ++ u)
 whole_before None b c t u p q e = tt
 whole_before (Some x) None c t u p q e = absurd p
 whole_before (Some x) (Some y) None t u p q e = absurd q
@@ -95,7 +95,7 @@ whole_before (Some x) (Some y) (Some z) t u p q e =
     let none : u ≡ [] = no_bytes u (omega arith) in
     e ∙ sym (ap (λ (v : List ℕ). t ++ v) none ∙ append-nil t)
 
-whole_after : (a b : Option (List ℕ)) (t u : List ℕ) → Consumes a b t → IfSome b (λ all. all ≡ u) → IfSome a (λ all. all ≡ t ++ u)
+pub whole_after : (a b : Option (List ℕ)) (t u : List ℕ) → Consumes a b t → IfSome b (λ all. all ≡ u) → IfSome a (λ all. all ≡ t ++ u)
 whole_after None b t u p e = tt
 whole_after (Some x) None t u p e = absurd p
 whole_after (Some x) (Some y) t u p e = p ∙ ap (λ (v : List ℕ). t ++ v) e
@@ -185,13 +185,13 @@ exchange_one id e told s t a b fails g on inward outward whole over ended failed
 pub exchange_same : (id : ℕ) (s : Session) (a : Seen) → Exchange id s s a a []
 exchange_same id s a = exchange_none id s a a (Consumes-nil a.left) (Appends-nil a.had) refl refl refl
 
-still : (v : Bool) (o p : Option Bool) → p ≡ option_map (λ x. x || v) o → v ≡ false → p ≡ o
+pub still : (v : Bool) (o p : Option Bool) → p ≡ option_map (λ x. x || v) o → v ≡ false → p ≡ o
 still v o p e none = e ∙ ap (λ (w : Bool). option_map (λ x. x || w) o) none ∙ sym (or_same o)
 
 none_pulled : (r : Pulled) (buffer : List ℕ) (a b : Seen) → IsPulled r buffer a b → pulled_count r ≡ 0 → Consumes a.left b.left []
 none_pulled r buffer a b p n = subst (λ (k : ℕ). Consumes a.left b.left (take k buffer)) n p.gave
 
-none_pushed : (r : Pushed) (bytes : List ℕ) (a b : Seen) → IsPushed r bytes a b → pushed_count r ≡ 0 → Appends a.had b.had []
+pub none_pushed : (r : Pushed) (bytes : List ℕ) (a b : Seen) → IsPushed r bytes a b → pushed_count r ≡ 0 → Appends a.had b.had []
 none_pushed r bytes a b p n = subst (λ (k : ℕ). Appends a.had b.had (take k bytes)) n p.took
 
 -- nothing came
@@ -206,7 +206,7 @@ pub pushed_none : (id : ℕ) (s : Session) (r : Pushed) (bytes : List ℕ) (a b 
 pushed_none id s r bytes a b p n well =
     exchange_none id s a b (same_consumes a.left b.left p.left) (none_pushed r bytes a b p n) p.over p.ended (still (is_push_failure r) a.failed b.failed p.failed well)
 
-take_both : (n m : ℕ) (xs : List ℕ) → n ≤ m → take n (take m xs) ≡ take n xs
+pub take_both : (n m : ℕ) (xs : List ℕ) → n ≤ m → take n (take m xs) ≡ take n xs
 take_both n m xs h = grind (arith, common_steps)
 
 -- bytes that waited were pushed, and are taken out

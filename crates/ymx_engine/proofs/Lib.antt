@@ -1,3 +1,4 @@
 pub mod Exchanging
 pub mod Carrying
 pub mod Refusing
+pub mod Advancing

@@ -4,3 +4,4 @@ pub mod Exchanges
 pub mod Engines
 pub mod Refusals
 pub mod Wires
+pub mod Passes

@@ -5,12 +5,14 @@ ghost use Rattle.ymx_model.specs.declared.types.Event.TheVariants as event;
 ghost use Rattle.ymx_machine.specs.declared.types.Reply.TheVariants as reply;
 ghost use Rattle.ymx_model.specs.session.Emissions.{in_turn};
 ghost use Rattle.ymx_model.specs.session.Histories.{Gives};
+ghost use Rattle.ymx_session.specs.Passing.{FeedsFront as FeedsSome};
 ghost use Rattle.ymx_engine.specs.Devices.{IsPulled, pulled_count};
 
 use crate::device::{Device, Pulled};
 use std::alloc::{AllocError, Global};
 use std::marker::Model;
-use ymx_session::Session;
+use ymx_model::Fed;
+use ymx_session::{Session, Touched};
 
 /// Memory of which some bytes in a row wait. A contract sees those bytes.
 #[derive(Drop)]
@@ -79,5 +81,32 @@ impl Block {
             _ => 0,
         };
         pulled
+    }
+
+    /// The session is fed the first of the bytes that wait, so many at most, and what it takes waits no more.
+    pub(crate) fn feed_some(
+        &mut self,
+        session: &mut Session,
+        count: usize,
+        touched: &mut Touched,
+    ) -> Fed
+        ensures fed { FeedsSome session.old self.old result session.new }
+        ensures rest { self.new ≡ drop result.taken self.old }
+    {
+        let waiting = self.waiting();
+        let front = &waiting[..count.min(waiting.len())];
+        let fed = session.feed_touching(front, touched);
+        self.drop_front(fed.taken);
+        fed
+    }
+
+    /// The session is fed what waits up to a payload that may be passed on, and what it takes waits no more.
+    pub(crate) fn feed_to_payload(&mut self, session: &mut Session, touched: &mut Touched) -> Fed
+        ensures fed { FeedsSome session.old self.old result session.new }
+        ensures rest { self.new ≡ drop result.taken self.old }
+    {
+        let fed = session.feed_to_payload(self.waiting(), touched);
+        self.drop_front(fed.taken);
+        fed
     }
 }

@@ -1,12 +1,14 @@
 //! Calls on one stream of a session, each with what its callers need to know.
 
-ghost use Rattle.std.specs.Prelude.{ℕ, ◌≡◌, ◌<◌, ◌≤◌, [], length, take, true, false};
+ghost use Rattle.std.specs.Prelude.{ℕ, ◌≡◌, ◌<◌, ◌≤◌, [], length, take, true, false, Some};
 ghost use Rattle.ymx_model.specs.declared.types.Event.TheVariants as event;
 ghost use Rattle.ymx_machine.specs.declared.types.Call.TheVariants as call;
 ghost use Rattle.ymx_machine.specs.declared.types.Reply.{Reply};
 ghost use Rattle.ymx_machine.specs.shared.Replies.{bytes_moved};
 ghost use Rattle.ymx_model.specs.session.Emissions.{in_turn};
 ghost use Rattle.ymx_model.specs.session.Histories.{Gives};
+ghost use Rattle.ymx_session.specs.declared.passing.Passing.{Passing};
+ghost use Rattle.ymx_session.specs.Passing.{passing, Passes};
 ghost use Rattle.ymx_session.specs.Streams.{waiting, room_of};
 ghost use Rattle.ymx_engine.specs.Events.{bytes_of, is_read_end};
 
@@ -61,6 +63,16 @@ pub(crate) fn ask(session: &mut Session, id: u32) -> Silence
         Ok(_) => Silence::Wait,
         Err(_) => Silence::Stopped,
     }
+}
+
+/// Bytes of a payload that is passed on come, and are read on their stream.
+pub(crate) fn pass(session: &mut Session, id: u32, bytes: &[u8])
+    requires payload { (payload : Passing) × (passing session.old ≡ Some payload) × (payload.id ≡ id) × (length bytes.now ≤ payload.missing) }
+    requires some { 0 < length bytes.now }
+    ensures { Passes id bytes.now session.old session.new }
+{
+    let _stream = id;
+    session.pass(bytes);
 }
 
 /// Half-closes a stream.

@@ -1,6 +1,6 @@
 //! The type `Engine`, and its calls.
 
-ghost use Rattle.std.specs.Prelude.{◌≡◌, ◌≤◌, ◌+◌, ◌||◌, [], length, true, false, IfOk, IfErr, IfSome, IfNone, Some};
+ghost use Rattle.std.specs.Prelude.{◌≡◌, ◌<◌, ◌≤◌, ◌+◌, ◌||◌, [], length, true, false, IfOk, IfErr, IfSome, IfNone, Some};
 ghost use Rattle.ymx_model.specs.declared.types.Event.TheVariants as event;
 ghost use Rattle.ymx_machine.specs.declared.types.Call.TheVariants as call;
 ghost use Rattle.ymx_machine.specs.declared.types.Reply.{Reply};
@@ -10,6 +10,7 @@ ghost use Rattle.ymx_model.specs.session.Histories.{Gives};
 ghost use Rattle.ymx_engine.specs.Devices.{is_end, is_pull_failure, is_push_failure};
 ghost use Rattle.ymx_engine.specs.Engines.{KeepsWire};
 ghost use Rattle.ymx_engine.specs.Exchanges.{Exchanges};
+ghost use Rattle.ymx_engine.specs.Passes.{IsPayload, PassesOn};
 ghost use Rattle.ymx_engine.specs.Refusals.{GivesUp, OpensNone, OffersNone, AcceptsNone};
 ghost use Rattle.ymx_engine.specs.Wires.{ReadsWire, ReadsWireSo, FlushesWire, FlushesWireSo, HandlesIn, HandlesOut, TakesIn, GivesOut};
 
@@ -18,7 +19,8 @@ use crate::connection::Connection;
 use crate::connections::Connections;
 use crate::device::{Device, Pulled, Pushed};
 use crate::exchange::serve;
-use crate::memory::{BLOCK, Memory};
+use crate::memory::{BLOCK, LEAST_PASSED, Memory};
+use crate::passing::offer;
 use std::alloc::{AllocError, Global};
 use std::marker::Model;
 use ymx_model::{CallFault, Status};
@@ -29,6 +31,9 @@ use ymx_session::{Session, Touched};
 /// It is driven by readiness. What an event says is noted by `note_wire` and `note_device`, and moves nothing. Then a
 /// round is `read_wire`, `serve` for each id that `next` gives, and `flush`. Each of these makes a bounded number of
 /// calls of devices, none of which waits. `has_work` says whether a further round would move anything with no event.
+///
+/// In place of `read_wire` stand `pull_wire` and then `advance` and `pass` in turns, until `advance` says `None`: so
+/// payload goes straight to the devices that take it, and only the rest into the rings of the streams.
 ///
 /// A contract sees the session, the bytes that it has emitted and the wire has not taken, and those that the wire gave
 /// and the session has not taken.
@@ -233,16 +238,25 @@ impl Engine {
 
     /// Reads from the wire once, where all that it gave before was fed, and feeds what waits. It makes at most one call
     /// of the wire. Once the wire has ended or failed the session is lost.
+    ///
+    /// It is `pull_wire` and then a feed of all that waits, so that all payload goes into the rings of its streams.
     pub fn read_wire<D: Device>(&mut self, wire: &mut D)
         ensures { ReadsWire self.old self.new (D.seen wire.old) (D.seen wire.new) 1 }
     {
-        if self.is_fed() {
-            if self.may_pull_wire() {
-                self.pull_wire(wire);
-            }
-            return;
+        self.pull_wire(wire);
+        if !self.is_fed() {
+            self.feed();
         }
-        self.feed();
+    }
+
+    /// Reads from the wire once, where all that it gave before was fed. What it gives waits to be fed. It makes at most
+    /// one call of the wire. Once the wire has ended or failed the session is lost.
+    pub fn pull_wire<D: Device>(&mut self, wire: &mut D)
+        ensures { ReadsWire self.old self.new (D.seen wire.old) (D.seen wire.new) 1 }
+    {
+        if self.is_fed() && self.may_pull_wire() {
+            self.pull_once(wire);
+        }
     }
 
     /// Whether all that the wire gave was fed.
@@ -259,8 +273,8 @@ impl Engine {
         self.outgoing.waiting().is_empty()
     }
 
-    /// Reads from the wire once, and feeds what came. What the wire said.
-    fn pull_wire<D: Device>(&mut self, wire: &mut D) -> Pulled
+    /// Reads from the wire once. What the wire said.
+    fn pull_once<D: Device>(&mut self, wire: &mut D) -> Pulled
         requires { self.old.incoming ≡ [] }
         ensures { ReadsWireSo (is_end result) (is_pull_failure result) self.old self.new (D.seen wire.old) (D.seen wire.new) 1 }
     {
@@ -277,12 +291,12 @@ impl Engine {
         self.incoming.pull_from(wire)
     }
 
-    /// What came is fed. Where no more will come the session is lost.
+    /// What the wire said is heard. Where no more will come the session is lost.
     fn hear_pulled(&mut self, pulled: Pulled)
         ensures { HandlesIn (is_end pulled || is_pull_failure pulled) self.old self.new }
     {
         match pulled {
-            Pulled::Gave(count) => self.feed_came(count == BLOCK),
+            Pulled::Gave(count) => self.note_pulled(count == BLOCK),
             Pulled::NotNow => self.note_pulled(false),
             Pulled::Ended => self.lose(),
             Pulled::Failed => self.lose(),
@@ -296,27 +310,153 @@ impl Engine {
         self.can_pull_wire = more;
     }
 
-    /// Feeds what came. `more` says whether the wire may have more.
-    fn feed_came(&mut self, more: bool)
-        ensures { HandlesIn false self.old self.new }
-    {
-        self.note_pulled(more);
-        self.feed();
-    }
-
-    /// Feeds what waits, and queues the streams that it touches.
+    /// Feeds all that waits, and queues the streams that it touches.
     fn feed(&mut self)
         ensures { HandlesIn false self.old self.new }
     {
+        let all = self.incoming.waiting().len();
+        self.feed_front(all);
+    }
+
+    /// Feeds the first of the bytes that wait, so many at most, and queues the streams that they touch.
+    fn feed_front(&mut self, count: usize)
+        ensures { HandlesIn false self.old self.new }
+    {
         let fed = self
-            .session
-            .feed_touching(self.incoming.waiting(), &mut self.touched);
-        self.incoming.drop_front(fed.taken);
-        self.has_lacked_memory |= fed.no_memory > 0;
+            .incoming
+            .feed_some(&mut self.session, count, &mut self.touched);
+        self.hear_fed(fed.no_memory > 0);
+    }
+
+    /// A feed was made, for a part of which there may have been no memory: the streams that it touched are queued.
+    fn hear_fed(&mut self, lacks_memory: bool)
+        ensures { self.new ≡ self.old }
+    {
+        self.has_lacked_memory |= lacks_memory;
         self.connections.enqueue_touched(&mut self.touched);
         if self.session.status() != Status::Running {
             self.connections.enqueue_all();
         }
+    }
+
+    // ---- payload that is passed on
+
+    /// Feeds what waits up to a payload that `pass` may give to its connection's device, and returns the id of that
+    /// connection. `None` where all that can be fed now was fed. A payload whose device may not take bytes now goes into
+    /// its stream's ring, and so does one of which fewer than 4,096 bytes wait.
+    pub fn advance(&mut self) -> Option<u32>
+        ensures fed { HandlesIn false self.old self.new }
+        ensures payload { IfSome result (λ id. IsPayload id 1 self.new) }
+    {
+        'payload: for turn in 0..BLOCK {
+            self.feed_to_payload();
+            match self.next_payload() {
+                None => return None,
+                Some(id) => {
+                    if self.may_pass(id) {
+                        return Some(id);
+                    }
+                    self.feed_front(self.payload_count(id));
+                }
+            }
+        }
+        None
+    }
+
+    /// Feeds what waits up to a payload that may be passed on.
+    fn feed_to_payload(&mut self)
+        ensures { HandlesIn false self.old self.new }
+    {
+        let fed = self
+            .incoming
+            .feed_to_payload(&mut self.session, &mut self.touched);
+        self.hear_fed(fed.no_memory > 0);
+    }
+
+    /// The stream whose payload waits, where it may be passed on.
+    fn next_payload(&self) -> Option<u32>
+        ensures { IfSome result (λ id. IsPayload id 1 self.now) }
+    {
+        if self.incoming.waiting().is_empty() {
+            return None;
+        }
+        match self.session.passing() {
+            Some(payload) if payload.missing > 0 => Some(payload.id),
+            _ => None,
+        }
+    }
+
+    /// How many bytes of a payload of this stream wait that may be passed on.
+    fn payload_count(&self, id: u32) -> usize
+        ensures { 0 < result → IsPayload id result self.now }
+    {
+        match self.session.passing() {
+            Some(payload) if payload.id == id => {
+                (payload.missing as usize).min(self.incoming.waiting().len())
+            }
+            _ => 0,
+        }
+    }
+
+    /// Whether enough of this stream's payload waits for a call of its device, which may take bytes.
+    fn may_pass(&self, id: u32) -> bool {
+        match self.connections.get(id) {
+            Some(connection) => { connection.may_push() && self.payload_count(id) >= LEAST_PASSED }
+            None => false,
+        }
+    }
+
+    /// Offers the payload of this stream that waits to its connection's device. What the device takes came and was read
+    /// on the stream at once, with no stay in its ring; the rest goes into the ring. It makes at most two calls of the
+    /// device. Where the device fails, its stream is reset and the device shut. Nothing is offered where no payload of
+    /// this stream waits that may be passed on, and where its device may not take bytes.
+    ///
+    /// What the device took is what the stream gave (record `PassesOn`).
+    pub fn pass<D: Device>(&mut self, id: u32, device: &mut D)
+        ensures { PassesOn id self.old self.new (D.seen device.old) (D.seen device.new) 2 }
+    {
+        let count = self.payload_count(id);
+        if count == 0 {
+            return;
+        }
+        let taken = self.offer(id, count, device);
+        if taken < count {
+            self.feed_front(count - taken);
+        }
+    }
+
+    /// Offers the first bytes that wait, payload of this stream, to its connection's device. How many it took.
+    fn offer<D: Device>(&mut self, id: u32, count: usize, device: &mut D) -> usize
+        requires { IsPayload id count self.old }
+        ensures { PassesOn id self.old self.new (D.seen device.old) (D.seen device.new) 2 }
+    {
+        match self.connections.get(id) {
+            Some(connection) if connection.may_push() => {
+                self.offer_to(id, count, connection, device)
+            }
+            _ => 0,
+        }
+    }
+
+    /// Offers them to the device of this connection, which may take bytes. How many it took. The connection has a turn
+    /// then, as the end of the stream may have come with them, and a device that failed is let go of at its turn.
+    fn offer_to<D: Device>(
+        &mut self,
+        id: u32,
+        count: usize,
+        connection: Connection,
+        device: &mut D,
+    ) -> usize
+        requires { IsPayload id count self.old }
+        ensures { PassesOn id self.old self.new (D.seen device.old) (D.seen device.new) 2 }
+    {
+        let mut connection = connection;
+        let bytes = &self.incoming.waiting()[..count];
+        let taken = offer(&mut self.session, id, &mut connection, device, bytes);
+        self.incoming.drop_front(taken);
+        self.connections.set(id, connection);
+        self.connections.enqueue(id);
+        taken
     }
 
     /// The wire is no more: the session is lost.

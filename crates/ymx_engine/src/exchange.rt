@@ -129,7 +129,12 @@ fn hear_stop<D: Device>(session: &mut Session, id: u32, connection: &mut Connect
 }
 
 /// The device failed: its stream is reset.
-fn give_up<D: Device>(session: &mut Session, id: u32, connection: &mut Connection, device: &mut D)
+pub(crate) fn give_up<D: Device>(
+    session: &mut Session,
+    id: u32,
+    connection: &mut Connection,
+    device: &mut D,
+)
     ensures reset { (told : Reply) × Gives in_turn session.old (event.Call (call.Reset id)) told session.new }
     ensures shut { IsShut (D.seen device.old) (D.seen device.new) }
 {

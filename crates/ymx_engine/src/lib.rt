@@ -10,6 +10,7 @@ mod device;
 mod engine;
 mod exchange;
 mod memory;
+mod passing;
 
 pub use connection::{Connection, Way};
 pub use device::{Device, Pulled, Pushed};

@@ -80,6 +80,20 @@ IsTurn es old new to from to_new from_new =
     IsCalls es old new to from to_new from_new
     ⊎ (IsRead es old new to from to_new from_new ⊎ IsFlush es old new to from to_new from_new)
 
+-- these feeds happened, and the wire was not asked for bytes, whatever the pipes carry
+abbrev pub HasFeeds : List (Event × Reply) → Engine → Engine → Type 0
+HasFeeds es old new = (to from : List ℕ) → IsRead es old new to from to from
+
+-- one turn of a side after another, at each of which these events happened, whatever the pipes carry
+abbrev pub HasTurns : List (List (Event × Reply)) → Engine → Engine → Type 0
+HasTurns [] old new = new ≡ old
+HasTurns (es ∷ more) old new = (next : Engine) × ((to from : List ℕ) → IsTurn es old next to from to from) × HasTurns more next new
+
+-- each event for itself
+abbrev pub each_alone : List (Event × Reply) → List (List (Event × Reply))
+each_alone [] = []
+each_alone (e ∷ es) = (e ∷ []) ∷ each_alone es
+
 -- ---- the turns of both
 
 -- whose turn, and what happened at it

@@ -2,7 +2,7 @@
 //! is a law: it does nothing, and its contract is the theorem.
 #![tactic(auto)]
 
-ghost use Rattle.std.specs.Prelude.{ℕ, List, [], ◌∷◌};
+ghost use Rattle.std.specs.Prelude.{ℕ, List, [], ◌∷◌, false};
 ghost use Rattle.ymx_model.specs.declared.types.Event.{Event};
 ghost use Rattle.ymx_machine.specs.declared.types.Reply.{Reply};
 ghost use Rattle.ymx_machine.specs.declared.types.Step.{Step};
@@ -19,9 +19,11 @@ ghost use Rattle.ymx_engine.specs.Devices.{Seen};
 ghost use Rattle.ymx_engine.specs.Engines.{Engine, KeepsWire};
 ghost use Rattle.ymx_engine.specs.Events.{Happen};
 ghost use Rattle.ymx_engine.specs.Exchanges.{Exchange};
+ghost use Rattle.ymx_engine.specs.Passes.{PassesOn};
 ghost use Rattle.ymx_engine.specs.Refusals.{GivesUp, OpensNone, AcceptsNone};
+ghost use Rattle.ymx_engine.specs.Wires.{HandlesIn};
 ghost use Rattle.ymx_law_engine.specs.Tunnels.{entries, AreJoined};
-ghost use Rattle.ymx_law_engine.specs.Pairs.{Turn, HasCalls, AreOnePipedRun};
+ghost use Rattle.ymx_law_engine.specs.Pairs.{Turn, HasCalls, HasFeeds, HasTurns, each_alone, AreOnePipedRun};
 ghost use Rattle.ymx_law_engine.specs.Example.{events_of_a, events_of_b};
 
 /// What happened at an engine is a history of its session, as the audit reads one.
@@ -46,12 +48,15 @@ pub fn piped_engines_are_one_run()
 {}
 
 /// Each call of an engine that leaves its wire alone is a turn, by what its contract says: a serve, one call on a stream,
-/// and those where a stream is given up, or none is opened or accepted.
+/// and those where a stream is given up, or none is opened or accepted. So is a feed of what waits up to a payload; and
+/// where a payload was passed on each event is a turn for itself.
 pub fn calls_are_turns()
     ensures served { (id : ℕ) (e f : Engine) (old new : Seen) (lost : List ℕ) → KeepsWire e f → (x : Exchange id e.session f.session old new lost) → HasCalls x.events e f }
     ensures called { (c : Call) (told : Reply) (e f : Engine) → KeepsWire e f → Gives in_turn e.session (event.Call c) told f.session → HasCalls ((event.Call c, told) ∷ []) e f }
     ensures given_up { (id : ℕ) (e f : Engine) → KeepsWire e f → GivesUp id e.session f.session → (es : List (Event × Reply)) × HasCalls es e f }
     ensures opens_none { (fault : CallFault) (e f : Engine) → KeepsWire e f → OpensNone fault e.session f.session → (es : List (Event × Reply)) × HasCalls es e f }
+    ensures advanced { (e f : Engine) → (x : HandlesIn false e f) → HasFeeds x.events e f }
+    ensures passed { (id : ℕ) (e f : Engine) (old new : Seen) (calls : ℕ) → (x : PassesOn id e f old new calls) → HasTurns (each_alone x.events) e f }
     ensures accepts_none { (e f : Engine) → KeepsWire e f → AcceptsNone e.session f.session → (es : List (Event × Reply)) × HasCalls es e f }
 {}
 

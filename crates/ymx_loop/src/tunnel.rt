@@ -32,6 +32,9 @@ const ACCEPTS: u32 = 64;
 /// to it, and bytes wait at their own connections, and not in the wire before those of all others.
 const WIRE_READS: u32 = 2;
 
+/// More payloads than one read of the wire has, each of which has bytes.
+const PAYLOADS: u32 = 131_072;
+
 /// How many bytes of connections are taken before they are written to the wire.
 const UNWRITTEN: u64 = 131_072;
 
@@ -341,6 +344,27 @@ impl<'a> Tunnel<'a> {
 
     // ---- bytes
 
+    /// Reads from the wire once, and feeds what came. Payload goes straight to the connections that take it.
+    fn read_wire(&mut self) {
+        self.pull_wire();
+        for _ in 0..PAYLOADS {
+            let Some(id) = self.advance() else {
+                return;
+            };
+            self.pass(id);
+        }
+    }
+
+    /// Passes the payload that waits to the connection of this stream.
+    fn pass(&mut self, id: u32) {
+        let Some(joined) = self.joined.get_mut(&id) else {
+            self.engine_refuse(id);
+            return;
+        };
+        joined.socket.begin_turn();
+        pass_to_device(&mut self.engine, id, &mut joined.socket);
+    }
+
     /// Serves each connection that has something to move now, once, unless they give much: that is written first, and
     /// the peer read.
     fn serve_queued<V: Watcher>(&mut self, watcher: &mut V) {
@@ -437,11 +461,15 @@ impl<'a> Tunnel<'a> {
 
     // ---- calls of the engine, of which callers need no clause
 
-    fn read_wire(&mut self) {
-        self.engine.read_wire(&mut *self.wire);
+    fn pull_wire(&mut self) {
+        self.engine.pull_wire(&mut *self.wire);
         if self.is_wire_closing && !self.wire.is_over() {
             self.engine.note_wire(true, false);
         }
+    }
+
+    fn advance(&mut self) -> Option<u32> {
+        self.engine.advance()
     }
 
     fn flush(&mut self) {
@@ -487,6 +515,11 @@ impl<'a> Tunnel<'a> {
 /// Serves a connection once.
 fn serve_device(engine: &mut Engine, id: u32, socket: &mut Socket) {
     engine.serve(id, socket);
+}
+
+/// Passes the payload that waits to its connection.
+fn pass_to_device(engine: &mut Engine, id: u32, socket: &mut Socket) {
+    engine.pass(id, socket);
 }
 
 /// The role of a side in the session.

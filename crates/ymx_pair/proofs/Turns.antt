@@ -101,25 +101,9 @@ round P to from to_then from_then to_new from_new to_last from_last e f x =
     subst (λ (v : List ℕ). P from to from_last v) (sym f.1) (subst (λ (v : List ℕ). P from to v from_new) (sym f.0)
     (subst (λ (v : List ℕ). P from v to_new from_new) e.0 (subst (λ (v : List ℕ). P v from_then to_new from_new) e.1 x)))
 
-pub read_at_client : (e f b : Engine) (ab ba ab_new ba_new : List ℕ) → IsReadOnce e f ab ba ab_new ba_new →
-    HasTurn A (record { a = e; b = b; ab = ab; ba = ba }) (record { a = f; b = b; ab = ab_new; ba = ba_new })
-read_at_client e f b ab ba ab_new ba_new x = (x.0, (inr (inl x.1), refl))
-
-pub read_at_server : (a e f : Engine) (ab ba ab_new ba_new : List ℕ) → IsReadOnce e f ba ab ba_new ab_new →
-    HasTurn B (record { a = a; b = e; ab = ab; ba = ba }) (record { a = a; b = f; ab = ab_new; ba = ba_new })
-read_at_server a e f ab ba ab_new ba_new x = (x.0, (inr (inl x.1), refl))
-
-pub flushed_at_client : (e f b : Engine) (ab ba ab_new ba_new : List ℕ) → IsFlushed e f ab ba ab_new ba_new →
-    HasTurn A (record { a = e; b = b; ab = ab; ba = ba }) (record { a = f; b = b; ab = ab_new; ba = ba_new })
-flushed_at_client e f b ab ba ab_new ba_new x = (x.0, (inr (inr x.1), refl))
-
-pub flushed_at_server : (a e f : Engine) (ab ba ab_new ba_new : List ℕ) → IsFlushed e f ba ab ba_new ab_new →
-    HasTurn B (record { a = a; b = e; ab = ab; ba = ba }) (record { a = a; b = f; ab = ab_new; ba = ba_new })
-flushed_at_server a e f ab ba ab_new ba_new x = (x.0, (inr (inr x.1), refl))
-
 -- ---- all turns so far
 
-turns_then : (ts us : List Turn) (p q r : Pair) → TakeTurns ts p q → TakeTurns us q r → TakeTurns (ts ++ us) p r
+pub turns_then : (ts us : List Turn) (p q r : Pair) → TakeTurns ts p q → TakeTurns us q r → TakeTurns (ts ++ us) p r
 turns_then [] us p q r h k = subst (λ (v : Pair). TakeTurns us v r) h k
 turns_then (t ∷ ts) us p q r h k = (h.0, h.1, turns_then ts us h.0 q r h.2 k)
 

@@ -6,9 +6,9 @@ ghost use Rattle.ymx_machine.specs.declared.types.Call.TheVariants as call;
 ghost use Rattle.ymx_machine.specs.declared.types.Reply.TheVariants as reply;
 ghost use Rattle.ymx_model.specs.session.Emissions.{in_turn};
 ghost use Rattle.ymx_model.specs.session.Histories.{Gives};
-ghost use Rattle.ymx_engine.specs.Exchanges.{Exchanges};
 ghost use Rattle.ymx_engine.specs.Refusals.{OpensNone, AcceptsNone};
 ghost use Rattle.ymx_pair.specs.Reached.{engine_at, HasTurn, IsReadOnce, IsFlushed};
+ghost use Rattle.ymx_pair.specs.Drives.{Drives, HasWireTurn, Serves, Works};
 
 use crate::wire::Wire;
 use std::marker::Model;
@@ -67,8 +67,7 @@ impl Joined {
 
     /// One turn of a side's connection, with its device.
     pub(crate) fn serve<D: Device>(&mut self, side: Side, id: u32, device: &mut D)
-        ensures turn { HasTurn side self.old self.new }
-        ensures moved { Exchanges id (engine_at side self.old).session (engine_at side self.new).session (D.seen device.old) (D.seen device.new) }
+        ensures { Serves side id self.old self.new (D.seen device.old) (D.seen device.new) }
     {
         match side {
             Side::A => self.a.serve(id, device),
@@ -98,7 +97,7 @@ impl Joined {
 
     /// A side's engine reads from its wire once.
     pub(crate) fn read(&mut self, side: Side)
-        ensures { HasTurn side self.old self.new }
+        ensures { HasWireTurn side self.old self.new }
     {
         match side {
             Side::A => read(&mut self.a, &mut self.wire),
@@ -108,12 +107,41 @@ impl Joined {
 
     /// A side's engine writes to its wire what is due.
     pub(crate) fn flush(&mut self, side: Side)
-        ensures { HasTurn side self.old self.new }
+        ensures { HasWireTurn side self.old self.new }
     {
         match side {
             Side::A => flush(&mut self.a, &mut self.wire),
             Side::B => flush_round(&mut self.b, &mut self.wire),
         }
+    }
+
+    /// So many rounds: each side in turn, the client's first, reads from its wire, serves its connection with its
+    /// device, and flushes.
+    pub(crate) fn drive<D: Device, E: Device>(
+        &mut self,
+        rounds: u32,
+        id_a: u32,
+        device_a: &mut D,
+        id_b: u32,
+        device_b: &mut E,
+    )
+        ensures { Drives id_a id_b self.old self.new (D.seen device_a.old) (D.seen device_a.new) (E.seen device_b.old) (E.seen device_b.new) }
+    {
+        'rounds: for round in 0..rounds {
+            self.work(Side::A, id_a, device_a);
+            self.work(Side::B, id_b, device_b);
+        }
+    }
+
+    /// A side reads from its wire, serves its connection with its device, which may have bytes and may take some, and
+    /// flushes.
+    fn work<D: Device>(&mut self, side: Side, id: u32, device: &mut D)
+        ensures { Works side id self.old self.new (D.seen device.old) (D.seen device.new) }
+    {
+        self.read(side);
+        self.note_device(side, id);
+        self.serve(side, id, device);
+        self.flush(side);
     }
 }
 

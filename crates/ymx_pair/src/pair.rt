@@ -13,6 +13,7 @@ ghost use Rattle.ymx_engine.specs.Exchanges.{Exchanges};
 ghost use Rattle.ymx_engine.specs.Refusals.{OpensNone, AcceptsNone};
 ghost use Rattle.ymx_law_engine.specs.Pairs.{engine_of, pair_of};
 ghost use Rattle.ymx_pair.specs.Reached.{engine_at, HasTurn, AreOneRunSoFar};
+ghost use Rattle.ymx_pair.specs.Drives.{Drives};
 
 use crate::joined::Joined;
 use crate::wire::Wire;
@@ -27,7 +28,8 @@ use ymx_session::{NewFault, Session};
 ///
 /// It is driven as an engine is: `open` and `accept` give ids of connections, `serve` moves bytes between a
 /// connection's stream and its device, `flush` puts what is due into the side's pipe, and `read` takes what came out of
-/// the other's. Each of these is a turn of one side (`turn`), in whichever order they come.
+/// the other's. Each of these is a turn of one side (`turn`), in whichever order they come. `drive` takes many turns, of
+/// both sides, with a device for each.
 #[derive(Drop)]
 pub struct EnginePair {
     joined: Joined,
@@ -113,6 +115,25 @@ impl EnginePair {
         ensures { HasTurn side self.old self.new }
     {
         self.joined.flush(side);
+    }
+
+    /// So many rounds of both sides, A first. In a round a side reads as `read` does, serves its connection once with its
+    /// device, which may have bytes and may take some, and flushes as `flush` does. The ids are those of the two ends of
+    /// a stream, or of any others; a side that has no connection of its id reads and flushes alone.
+    ///
+    /// All that happened were turns of the two sides. What each device gave is what its stream took, but for bytes that
+    /// were lost where the stream was reset; what each device took is what its stream gave (record `Moves`).
+    pub fn drive<D: Device, E: Device>(
+        &mut self,
+        rounds: u32,
+        id_a: u32,
+        device_a: &mut D,
+        id_b: u32,
+        device_b: &mut E,
+    )
+        ensures { Drives id_a id_b self.old self.new (D.seen device_a.old) (D.seen device_a.new) (E.seen device_b.old) (E.seen device_b.new) }
+    {
+        self.joined.drive(rounds, id_a, device_a, id_b, device_b);
     }
 
     /// Some turns led from two new engines to these, and all that happened in them is one run of the world of two sessions,

@@ -1,4 +1,4 @@
-use Rattle.ymx_law_engine.proofs.Calling.{served, called, given_up, opens_none, accepts_none}
+use Rattle.ymx_law_engine.proofs.Calling.{served, called, given_up, opens_none, accepts_none, advanced, passed}
 use Rattle.ymx_law_engine.proofs.calls_are_turns.Goals as goal
 
 pub returns-clause-served : goal.returns-clause-served
@@ -15,3 +15,9 @@ returns-clause-opens_none c = opens_none
 
 pub returns-clause-accepts_none : goal.returns-clause-accepts_none
 returns-clause-accepts_none c = accepts_none
+
+pub returns-clause-advanced : goal.returns-clause-advanced
+returns-clause-advanced c = advanced
+
+pub returns-clause-passed : goal.returns-clause-passed
+returns-clause-passed c = passed

@@ -1,5 +1,5 @@
-use Rattle.ymx_engine.proofs.Carrying.{pulled_heard}
+use Rattle.ymx_engine.proofs.Carrying.{reads_same}
 use Rattle.ymx_engine.proofs.engine.Engine.pull_wire.Goals as goal
 
-pub returns : goal.returns
-returns g c = pulled_heard _ _ _ _ _ _ c.requires c.take_from_wire-pulled.ensures c.hear_pulled.ensures
+pub returns-else-is_fed : goal.returns-else-is_fed
+returns-else-is_fed g c = reads_same _ _ 1

@@ -1,8 +1,5 @@
-use Rattle.ymx_engine.proofs.Carrying.{reads_same, reads_handled}
+use Rattle.ymx_engine.proofs.Advancing.{reads_then_handles}
 use Rattle.ymx_engine.proofs.engine.Engine.read_wire.Goals as goal
 
-pub returns-else-may_pull_wire : goal.returns-else-may_pull_wire
-returns-else-may_pull_wire g c = reads_same _ _ 1
-
-pub returns : goal.returns
-returns g c = reads_handled _ _ _ 1 c.feed.ensures
+pub returns-then-not-is_fed : goal.returns-then-not-is_fed
+returns-then-not-is_fed g c = reads_then_handles _ _ _ _ _ _ c.pull_wire.ensures c.feed.ensures

@@ -1,0 +1,333 @@
+-- How what waits is fed piece by piece, and what of it is passed on.
+use Rattle.std.proofs.Common.{◌≡◌, ℕ, ◌+◌, ◌≤◌, ◌<◌, ◌==◌, List, [], ◌∷◌, ◌++◌, length, take, drop, min, Bool, true, false, ◌||◌, ◌&&◌, Option, Some, refl, sym, ap, ◌∙◌, subst, arith, append-nil, append_assoc, take-append-drop, length-append, drop-drop}
+use Rattle.std.specs.Prelude.{option_map}
+use Rattle.std.specs.List.{list_all}
+use Rattle.std.specs.Option.{ForSome}
+use Rattle.std.specs.Io.KnownBytes.{Appends}
+use Rattle.std.proofs.KnownBytes.{Appends-nil, Appends-trans}
+use Rattle.std.proofs.lemmas.Grind.{common_steps}
+use Rattle.std.proofs.lemmas.List.{drop-append-le, length-take-le}
+use Rattle.std.proofs.lemmas.List.Folds.{list_all-append}
+use Rattle.ymx_machine.specs.declared.types.Call.{Call}
+use Rattle.ymx_machine.specs.declared.types.Call.TheVariants as call
+use Rattle.ymx_machine.specs.declared.types.Fed.{Fed}
+use Rattle.ymx_machine.specs.declared.types.Reply.{Reply}
+use Rattle.ymx_machine.specs.declared.types.Reply.TheVariants as reply
+use Rattle.ymx_model.specs.declared.types.Event.{Event}
+use Rattle.ymx_model.specs.declared.types.Event.TheVariants as event
+use Rattle.ymx_model.specs.session.Sessions.{Session}
+use Rattle.ymx_model.specs.session.Feeds.{Feeds}
+use Rattle.ymx_model.specs.session.Emissions.{in_turn}
+use Rattle.ymx_model.specs.session.Histories.{Gives}
+use Rattle.ymx_session.specs.declared.passing.Passing.{Passing}
+use Rattle.ymx_session.specs.Passing.{passing, all_fed, Passes, FeedsFront as FeedsSome}
+use Rattle.ymx_engine.specs.declared.device.Pushed.{Pushed}
+use Rattle.ymx_engine.specs.declared.device.Pushed.TheVariants as pushed
+use Rattle.ymx_engine.specs.Devices.{Seen, pushed_count, is_push_failure, IsPushed, IsShut}
+use Rattle.ymx_engine.specs.Events.{Happen, bytes_of, given_at, given, ends_at, has_end, finishes_at, has_finish, resets_at, has_reset, taken}
+use Rattle.ymx_engine.specs.Engines.{Engine}
+use Rattle.ymx_engine.specs.Wires.{fed_at, fed, is_of_read, ends_feed, has_feed_end, OffersFront, FeedsFront, ReadsWire, HandlesIn}
+use Rattle.ymx_engine.specs.Passes.{IsPayload, is_of_pass, PassesOn, OffersOnce}
+use Rattle.ymx_engine.proofs.Carrying.{feed_end_then, gives_from}
+use Rattle.ymx_engine.proofs.Exchanging.{happen_then, given_then, reset_then, or_same, or_twice, or_none, same_id, same_appends, none_pushed, take_both, still}
+
+-- ---- what is fed
+
+fed_then : (es fs : List (Event × Reply)) → fed (es ++ fs) ≡ fed es ++ fed fs
+fed_then [] fs = refl
+fed_then (e ∷ es) fs = ap (λ (xs : List ℕ). fed_at e.0 e.1 ++ xs) (fed_then es fs) ∙ sym (append_assoc (fed_at e.0 e.1) (fed es) (fed fs))
+
+drop_none : (xs : List ℕ) → drop 0 xs ≡ xs
+drop_none xs = refl
+
+pub drop_front : (xs ys : List ℕ) → drop (length xs) (xs ++ ys) ≡ ys
+drop_front [] ys = drop_none ys
+drop_front (x ∷ xs) ys = drop_front xs ys
+
+pub drop_twice : (xs ys zs : List ℕ) → drop (length (xs ++ ys)) zs ≡ drop (length ys) (drop (length xs) zs)
+drop_twice xs ys zs = ap (λ (n : ℕ). drop n zs) (length-append xs ys) ∙ sym (drop-drop (length ys) (length xs) zs)
+
+-- feeds behind feeds offer the front of what waits then
+fronts_then : (es fs : List (Event × Reply)) (waits next : List ℕ) → drop (length (fed es)) waits ≡ next → FeedsFront waits es → FeedsFront next fs → FeedsFront waits (es ++ fs)
+fronts_then [] fs waits next e h k = subst (λ (v : List ℕ). FeedsFront v fs) (sym e) k
+fronts_then (e ∷ es) fs waits next same h k = (h.0, fronts_then es fs (drop (length (fed_at e.0 e.1)) waits) next (sym (drop_twice (fed_at e.0 e.1) (fed es) waits) ∙ same) h.1 k)
+
+pub rest_of : (es : List (Event × Reply)) (waits next : List ℕ) → waits ≡ fed es ++ next → drop (length (fed es)) waits ≡ next
+rest_of es waits next e = ap (drop (length (fed es))) e ∙ drop_front (fed es) next
+
+fed_on : (es fs : List (Event × Reply)) (a b c : List ℕ) → a ≡ fed es ++ b → b ≡ fed fs ++ c → a ≡ fed (es ++ fs) ++ c
+fed_on es fs a b c e f =
+    e ∙ ap (λ (v : List ℕ). fed es ++ v) f ∙ sym (append_assoc (fed es) (fed fs) c) ∙ ap (λ (v : List ℕ). v ++ c) (sym (fed_then es fs))
+
+pub handles_then : (a b c : Engine) → HandlesIn false a b → HandlesIn false b c → HandlesIn false a c
+handles_then a b c x y = record {
+  events = x.events ++ y.events;
+  happen = happen_then x.events y.events _ _ _ x.happen y.happen;
+  own = rw (list_all-append (λ (e : Event × Reply). is_of_read e.0) x.events y.events, x.own, y.own) refl;
+  fronts = fronts_then x.events y.events a.incoming b.incoming (rest_of x.events a.incoming b.incoming x.inward) x.fronts y.fronts;
+  inward = fed_on x.events y.events a.incoming b.incoming c.incoming x.inward y.inward;
+  outgoing = y.outgoing ∙ x.outgoing;
+  heard = feed_end_then x.events y.events ∙ ap (λ (v : Bool). v || has_feed_end y.events) x.heard ∙ y.heard;
+}
+
+-- bytes were called for, and then what waits was fed
+pub reads_then_handles : (a b c : Engine) (p q : Seen) (n : ℕ) → ReadsWire a b p q n → HandlesIn false b c → ReadsWire a c p q n
+reads_then_handles a b c p q n x y = record {
+  events = x.events ++ y.events;
+  happen = happen_then x.events y.events _ _ _ x.happen y.happen;
+  own = rw (list_all-append (λ (e : Event × Reply). is_of_read e.0) x.events y.events, x.own, y.own) refl;
+  came = x.came;
+  gave = x.gave;
+  fronts = fronts_then x.events y.events (a.incoming ++ x.came) b.incoming (rest_of x.events (a.incoming ++ x.came) b.incoming x.inward) x.fronts y.fronts;
+  inward = fed_on x.events y.events (a.incoming ++ x.came) b.incoming c.incoming x.inward y.inward;
+  said_end = x.said_end;
+  over = x.over;
+  fails = x.fails;
+  failed = x.failed;
+  lost = feed_end_then x.events y.events ∙ ap (λ (v : Bool). has_feed_end x.events || v) y.heard ∙ or_none (has_feed_end x.events) ∙ x.lost;
+  outgoing = y.outgoing ∙ x.outgoing;
+  had = x.had;
+  ended = x.ended;
+  few = x.few;
+}
+
+fits : (s t : Session) (bytes : List ℕ) (told : Fed) → Gives in_turn s (event.Feed bytes) (reply.Fed told) t → told.taken ≤ length bytes
+fits s t bytes told g = let i : (g.0).taken ≤ length bytes = (g.2).fits in let same : told ≡ g.0 = cc in subst (λ (f : Fed). f.taken ≤ length bytes) (sym same) i
+
+pub takes_within : (s t : Session) (waits : List ℕ) (told : Fed) → FeedsSome s waits told t → told.taken ≤ length waits
+takes_within s t waits told x =
+    let i = fits s t (take x.count waits) told x.feeds in
+    let j : length (take x.count waits) ≡ x.count = length-take-le x.count waits x.within in
+    let k = x.within in omega arith
+
+takes_same : (s t : Session) (waits : List ℕ) (told : Fed) → (x : FeedsSome s waits told t) → take told.taken (take x.count waits) ≡ take told.taken waits
+takes_same s t waits told x =
+    let i = fits s t (take x.count waits) told x.feeds in
+    let j : length (take x.count waits) ≡ x.count = length-take-le x.count waits x.within in
+    take_both told.taken x.count waits (omega arith)
+
+-- the session was fed the first bytes, so many at most
+pub feeds_first : (s t : Session) (n m : ℕ) (xs ys : List ℕ) (told : Fed) → xs ≡ ys → m ≡ min n (length xs) → Gives in_turn s (event.Feed (take m xs)) (reply.Fed told) t → FeedsSome s ys told t
+feeds_first s t n m xs ys told e least g =
+    let same : length xs ≡ length ys = ap length e in record {
+      count = m;
+      within = omega arith;
+      feeds = subst (λ (v : List ℕ). Gives in_turn s (event.Feed (take m v)) (reply.Fed told) t) e g;
+    }
+
+-- the first bytes of what waits were offered
+pub feeds_some : (a b : Engine) (told : Fed) (s : Session) (waits : List ℕ) → s ≡ a.session → waits ≡ a.incoming → FeedsSome s waits told b.session →
+    b.incoming ≡ drop told.taken a.incoming → b.outgoing ≡ a.outgoing → HandlesIn false a b
+feeds_some a b told s waits same all x incoming outgoing =
+    let y : FeedsSome s a.incoming told b.session = subst (λ (v : List ℕ). FeedsSome s v told b.session) all x in
+    let g : Gives in_turn a.session (event.Feed (take y.count a.incoming)) (reply.Fed told) b.session = gives_from (event.Feed (take y.count a.incoming)) (reply.Fed told) s b.session a.session same y.feeds in
+    record {
+      events = (event.Feed (take y.count a.incoming), reply.Fed told) ∷ [];
+      happen = (b.session, g, refl);
+      own = refl;
+      fronts = ((drop y.count a.incoming, sym (take-append-drop y.count a.incoming)), tt);
+      inward = sym (take-append-drop told.taken a.incoming) ∙ ap (λ (v : List ℕ). v ++ drop told.taken a.incoming) (sym (takes_same s b.session a.incoming told y) ∙ sym (append-nil (take told.taken (take y.count a.incoming))))
+          ∙ ap (λ (v : List ℕ). (take told.taken (take y.count a.incoming) ++ []) ++ v) (sym incoming);
+      outgoing = outgoing;
+      heard = refl;
+    }
+
+-- ---- events that are no calls on a stream
+
+abbrev pub IsQuiet : ℕ → List (Event × Reply) → Type 0
+IsQuiet id es = (taken id es ≡ []) × (given id es ≡ []) × (has_end id es ≡ false) × (has_finish id es ≡ false) × (has_reset id es ≡ false)
+
+quiet_behind : (k : Event → Bool) (none : (c : Call) → k (event.Call c) ≡ false) (id : ℕ) (e : Event) (told : Reply) (es : List (Event × Reply)) → k e ≡ true → IsQuiet id es → IsQuiet id ((e, told) ∷ es)
+quiet_behind k none id (event.Call c) told es h x = let e : k (event.Call c) ≡ false = none c in let no : ⊥ = cc in absurd no
+quiet_behind k none id (event.Feed bytes) told es h x = x
+quiet_behind k none id event.FeedEnd told es h x = x
+quiet_behind k none id (event.Emit room) told es h x = x
+
+both : (a b : Bool) → (a && b) ≡ true → (a ≡ true) × (b ≡ true)
+both true b h = (refl, h)
+both false b h = let no : ⊥ = cc in absurd no
+
+pub quiet : (k : Event → Bool) (none : (c : Call) → k (event.Call c) ≡ false) (id : ℕ) (es : List (Event × Reply)) → list_all (λ e. k e.0) es ≡ true → IsQuiet id es
+quiet k none id [] h = (refl, refl, refl, refl, refl)
+quiet k none id (e ∷ es) h = let two = both (k e.0) (list_all (λ e. k e.0) es) h in quiet_behind k none id e.0 e.1 es two.0 (quiet k none id es two.1)
+
+-- ---- what is passed on
+
+pub passes_none : (id : ℕ) (a : Engine) (d : Seen) (n : ℕ) → PassesOn id a a d d n
+passes_none id a d n = record {
+  events = [];
+  happen = refl;
+  own = refl;
+  fronts = tt;
+  inward = refl;
+  outward = Appends-nil d.had;
+  fails = false;
+  failed = or_same d.failed;
+  reset = refl;
+  outgoing = refl;
+  left = refl;
+  over = refl;
+  ended = refl;
+  few = omega arith;
+}
+
+and_both : (a b : Bool) → a ≡ true → b ≡ true → (a && b) ≡ true
+and_both true b h k = k
+and_both false b h k = h
+
+or_neither : (a b : Bool) → (a || b) ≡ false → (a ≡ false) × (b ≡ false)
+or_neither true b h = let no : ⊥ = cc in absurd no
+or_neither false b h = (refl, h)
+
+of_feed : (id : ℕ) (e : Event) → is_of_read e ≡ true → ends_feed e ≡ false → is_of_pass id e ≡ true
+of_feed id (event.Call c) h k = let no : ⊥ = cc in absurd no
+of_feed id (event.Feed bytes) h k = refl
+of_feed id event.FeedEnd h k = let no : ⊥ = cc in absurd no
+of_feed id (event.Emit room) h k = let no : ⊥ = cc in absurd no
+
+of_feeds : (id : ℕ) (es : List (Event × Reply)) → list_all (λ e. is_of_read e.0) es ≡ true → has_feed_end es ≡ false → list_all (λ e. is_of_pass id e.0) es ≡ true
+of_feeds id [] h k = refl
+of_feeds id (e ∷ es) h k =
+    let two = both (is_of_read e.0) (list_all (λ e. is_of_read e.0) es) h in
+    let none = or_neither (ends_feed e.0) (has_feed_end es) k in
+    and_both (is_of_pass id e.0) (list_all (λ e. is_of_pass id e.0) es) (of_feed id e.0 two.0 none.0) (of_feeds id es two.1 none.1)
+
+-- a piece was passed on, and then what waits was fed
+pub passes_then_handles : (id : ℕ) (a b c : Engine) (p q : Seen) (n : ℕ) → PassesOn id a b p q n → HandlesIn false b c → PassesOn id a c p q n
+passes_then_handles id a b c p q n x y =
+    let still_there = quiet is_of_read (λ k. refl) id y.events y.own in
+    let all : given id x.events ≡ given id (x.events ++ y.events) =
+    sym (append-nil (given id x.events)) ∙ ap (λ (v : List ℕ). given id x.events ++ v) (sym still_there.1) ∙ sym (given_then id x.events y.events) in
+    record {
+      events = x.events ++ y.events;
+      happen = happen_then x.events y.events _ _ _ x.happen y.happen;
+      own = rw (list_all-append (λ (e : Event × Reply). is_of_pass id e.0) x.events y.events, x.own, of_feeds id y.events y.own y.heard) refl;
+      fronts = fronts_then x.events y.events a.incoming b.incoming (rest_of x.events a.incoming b.incoming x.inward) x.fronts y.fronts;
+      inward = fed_on x.events y.events a.incoming b.incoming c.incoming x.inward y.inward;
+      outward = subst (Appends p.had q.had) all x.outward;
+      fails = x.fails;
+      failed = x.failed;
+      reset = reset_then id x.events y.events ∙ ap (λ (v : Bool). has_reset id x.events || v) still_there.4 ∙ or_none (has_reset id x.events) ∙ x.reset;
+      outgoing = y.outgoing ∙ x.outgoing;
+      left = x.left;
+      over = x.over;
+      ended = x.ended;
+      few = x.few;
+    }
+
+-- ---- one offer
+
+-- the device took nothing, and did not fail
+pub offered_none : (id : ℕ) (s : Session) (r : Pushed) (bytes : List ℕ) (a b : Seen) → IsPushed r bytes a b → pushed_count r ≡ 0 → is_push_failure r ≡ false → OffersOnce id bytes 0 s s a b
+offered_none id s r bytes a b p n well = record {
+  events = [];
+  happen = refl;
+  own = refl;
+  fronts = tt;
+  within = omega arith;
+  took = refl;
+  outward = none_pushed r bytes a b p n;
+  fails = false;
+  failed = still (is_push_failure r) a.failed b.failed p.failed well ∙ or_same a.failed;
+  reset = refl;
+  left = p.left;
+  over = p.over;
+  ended = p.ended;
+  few = let i = p.counted in omega arith;
+}
+
+take_all : (xs : List ℕ) → take (length xs) xs ≡ xs
+take_all xs = grind (arith, common_steps)
+
+-- the device took the first bytes, which came and were read
+pub offered_some : (id n : ℕ) (s t : Session) (bytes front : List ℕ) (a b : Seen) → IsPushed (pushed.Took n) bytes a b → front ≡ take n bytes → Passes id front s t → OffersOnce id bytes n s t a b
+offered_some id n s t bytes front a b p same x =
+    let i = same_id id in
+    let e : Event = event.Feed front in
+    let d : Event = event.Call (call.Read id (length front)) in
+    record {
+      events = (e, reply.Fed (all_fed front)) ∷ (d, reply.Read front) ∷ [];
+      happen = (x.mid, x.fed, (t, x.read, refl));
+      own = rw i refl;
+      fronts = ((drop n bytes, sym (take-append-drop n bytes) ∙ ap (λ (v : List ℕ). v ++ drop n bytes) (sym same)), (tt, tt));
+      within = p.within;
+      took = append-nil (take (length front) front) ∙ take_all front ∙ same;
+      outward = rw i (subst (Appends a.had b.had) (sym same ∙ sym (append-nil front)) p.took);
+      fails = false;
+      failed = p.failed;
+      reset = refl;
+      left = p.left;
+      over = p.over;
+      ended = p.ended;
+      few = let j = p.counted in omega arith;
+    }
+
+-- the device failed: the stream was reset, and the device shut
+pub offered_failed : (id : ℕ) (told : Reply) (s t : Session) (bytes : List ℕ) (a b c : Seen) → IsPushed pushed.Failed bytes a b → Gives in_turn s (event.Call (call.Reset id)) told t → IsShut b c →
+    OffersOnce id bytes 0 s t a c
+offered_failed id told s t bytes a b c p g q =
+    let i = same_id id in
+    let e : Event = event.Call (call.Reset id) in
+    record {
+      events = (e, told) ∷ [];
+      happen = (t, g, refl);
+      own = rw i refl;
+      fronts = (tt, tt);
+      within = omega arith;
+      took = refl;
+      outward = subst (λ (o : Option (List ℕ)). Appends a.had o []) (sym q.had) (none_pushed pushed.Failed bytes a b p refl);
+      fails = true;
+      failed = q.failed ∙ p.failed;
+      reset = rw i refl;
+      left = q.left ∙ p.left;
+      over = q.over ∙ p.over;
+      ended = q.ended ∙ p.ended;
+      few = let j = p.counted in let k = q.counted in omega arith;
+    }
+
+front_more : (waits more : List ℕ) (e : Event) → OffersFront waits e → OffersFront (waits ++ more) e
+front_more waits more (event.Feed bytes) h = (h.0 ++ more, ap (λ (v : List ℕ). v ++ more) h.1 ∙ append_assoc bytes h.0 more)
+front_more waits more (event.Call c) h = tt
+front_more waits more event.FeedEnd h = tt
+front_more waits more (event.Emit room) h = tt
+
+taken_fits : (n : ℕ) (bytes rest waits : List ℕ) → waits ≡ bytes ++ rest → length (take n bytes) ≤ length waits
+taken_fits n bytes rest waits e =
+    let i : length waits ≡ length bytes + length rest = ap length e ∙ length-append bytes rest in
+    let j : length (take n bytes) ≤ length bytes = grind (arith, common_steps) in omega arith
+
+fed_fits : (waits : List ℕ) (e : Event) (told : Reply) → OffersFront waits e → length (fed_at e told) ≤ length waits
+fed_fits waits (event.Feed bytes) (reply.Fed f) h = taken_fits f.taken bytes h.0 waits h.1
+fed_fits waits e told h = omega arith
+
+-- where more waits behind what is offered
+fronts_more : (waits more : List ℕ) (es : List (Event × Reply)) → FeedsFront waits es → FeedsFront (waits ++ more) es
+fronts_more waits more [] h = tt
+fronts_more waits more (e ∷ es) h = (
+  front_more waits more e.0 h.0,
+  subst (λ (v : List ℕ). FeedsFront v es) (sym (drop-append-le (length (fed_at e.0 e.1)) waits more (fed_fits waits e.0 e.1 h.0))) (fronts_more (drop (length (fed_at e.0 e.1)) waits) more es h.1),
+)
+
+-- the front of what waits was offered
+pub offers_front : (id n count : ℕ) (bytes : List ℕ) (a b : Engine) (s : Session) (d e : Seen) → s ≡ a.session → bytes ≡ take n a.incoming → OffersOnce id bytes count s b.session d e →
+    b.incoming ≡ drop count a.incoming → b.outgoing ≡ a.outgoing → PassesOn id a b d e 2
+offers_front id n count bytes a b s d e same first x incoming outgoing =
+    let y : OffersOnce id (take n a.incoming) count s b.session d e = subst (λ (v : List ℕ). OffersOnce id v count s b.session d e) first x in
+    let few : count ≤ length (take n a.incoming) = y.within in
+    let le : count ≤ n = let i : length (take n a.incoming) ≤ n = grind (arith, common_steps) in omega arith in
+    record {
+      events = y.events;
+      happen = subst (λ (v : Session). Happen y.events v b.session) same y.happen;
+      own = y.own;
+      fronts = subst (λ (v : List ℕ). FeedsFront v y.events) (take-append-drop n a.incoming) (fronts_more (take n a.incoming) (drop n a.incoming) y.events y.fronts);
+      inward = sym (take-append-drop count a.incoming) ∙ ap (λ (v : List ℕ). v ++ drop count a.incoming) (sym (take_both count n a.incoming le) ∙ sym y.took) ∙ ap (λ (v : List ℕ). fed y.events ++ v) (sym incoming);
+      outward = y.outward;
+      fails = y.fails;
+      failed = y.failed;
+      reset = y.reset;
+      outgoing = outgoing;
+      left = y.left;
+      over = y.over;
+      ended = y.ended;
+      few = y.few;
+    }

@@ -1,0 +1,6 @@
+use Rattle.std.proofs.Common.{false}
+use Rattle.ymx_engine.specs.Wires.{HandlesIn}
+use Rattle.ymx_engine.proofs.engine.Engine.advance.Given as goal
+
+abbrev pub invariant-payload : goal.invariant-payload
+invariant-payload l = HandlesIn false l.initial.self l.self

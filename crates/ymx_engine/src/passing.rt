@@ -1,0 +1,43 @@
+//! What of a stream's payload goes straight to its device.
+
+ghost use Rattle.std.specs.Prelude.{◌≡◌, ◌<◌, ◌≤◌, length, Some};
+ghost use Rattle.ymx_session.specs.declared.passing.Passing.{Passing};
+ghost use Rattle.ymx_session.specs.Passing.{passing};
+ghost use Rattle.ymx_engine.specs.Passes.{OffersOnce};
+
+use crate::calls::pass;
+use crate::connection::Connection;
+use crate::device::{Device, Pushed};
+use crate::exchange::give_up;
+use ymx_session::Session;
+
+/// Offers these bytes, the next of the stream's payload, to its device in one call. How many it took: these came, and
+/// were read on the stream, at once. Where the device fails the stream is reset.
+pub(crate) fn offer<D: Device>(
+    session: &mut Session,
+    id: u32,
+    connection: &mut Connection,
+    device: &mut D,
+    bytes: &[u8],
+) -> usize
+    requires { (payload : Passing) × (passing session.old ≡ Some payload) × (payload.id ≡ id) × (length bytes.now ≤ payload.missing) }
+    ensures { OffersOnce id bytes.now result session.old session.new (D.seen device.old) (D.seen device.new) }
+{
+    match device.push(bytes) {
+        Pushed::Took(count) => {
+            connection.can_push = count == bytes.len();
+            if count > 0 {
+                pass(session, id, &bytes[..count]);
+            }
+            count
+        }
+        Pushed::NotNow => {
+            connection.can_push = false;
+            0
+        }
+        Pushed::Failed => {
+            give_up(session, id, connection, device);
+            0
+        }
+    }
+}
