@@ -29,7 +29,7 @@ use Rattle.ymx_engine.specs.Engines.{Engine}
 use Rattle.ymx_engine.specs.Wires.{fed_at, fed, is_of_read, ends_feed, has_feed_end, OffersFront, FeedsFront, ReadsWire, HandlesIn}
 use Rattle.ymx_engine.specs.Passes.{IsPayload, is_of_pass, PassesOn, OffersOnce}
 use Rattle.ymx_engine.proofs.Carrying.{feed_end_then, gives_from}
-use Rattle.ymx_engine.proofs.Exchanging.{happen_then, given_then, reset_then, or_same, or_twice, or_none, same_id, same_appends, none_pushed, take_both, still}
+use Rattle.ymx_engine.proofs.Exchanging.{happen_then, given_then, end_then, reset_then, or_same, or_twice, or_none, same_id, same_appends, none_pushed, take_both, still}
 
 -- ---- what is fed
 
@@ -167,7 +167,7 @@ passes_none id a d n = record {
   outgoing = refl;
   left = refl;
   over = refl;
-  ended = refl;
+  ended = or_same d.ended;
   few = omega arith;
 }
 
@@ -211,7 +211,7 @@ passes_then_handles id a b c p q n x y =
       outgoing = y.outgoing ∙ x.outgoing;
       left = x.left;
       over = x.over;
-      ended = x.ended;
+      ended = x.ended ∙ ap (λ (v : Bool). option_map (λ b. b || v) p.ended) (sym (end_then id x.events y.events ∙ ap (λ (v : Bool). has_end id x.events || v) still_there.2 ∙ or_none (has_end id x.events)));
       few = x.few;
     }
 
@@ -232,7 +232,7 @@ offered_none id s r bytes a b p n well = record {
   reset = refl;
   left = p.left;
   over = p.over;
-  ended = p.ended;
+  ended = p.ended ∙ or_same a.ended;
   few = let i = p.counted in omega arith;
 }
 
@@ -258,7 +258,7 @@ offered_some id n s t bytes front a b p same x =
       reset = refl;
       left = p.left;
       over = p.over;
-      ended = p.ended;
+      ended = rw i (p.ended ∙ or_same a.ended);
       few = let j = p.counted in omega arith;
     }
 
@@ -281,7 +281,7 @@ offered_failed id told s t bytes a b c p g q =
       reset = rw i refl;
       left = q.left ∙ p.left;
       over = q.over ∙ p.over;
-      ended = q.ended ∙ p.ended;
+      ended = q.ended ∙ p.ended ∙ or_same a.ended;
       few = let j = p.counted in let k = q.counted in omega arith;
     }
 

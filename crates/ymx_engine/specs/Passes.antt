@@ -10,7 +10,7 @@ use Rattle.ymx_model.specs.session.Sessions.{Session}
 use Rattle.ymx_session.specs.declared.passing.Passing.{Passing}
 use Rattle.ymx_session.specs.Passing.{passing}
 use Rattle.ymx_engine.specs.Devices.{Seen}
-use Rattle.ymx_engine.specs.Events.{Happen, given, has_reset}
+use Rattle.ymx_engine.specs.Events.{Happen, given, has_end, has_reset}
 use Rattle.ymx_engine.specs.Engines.{Engine}
 use Rattle.ymx_engine.specs.Wires.{fed, has_feed_end, FeedsFront}
 
@@ -30,8 +30,9 @@ is_of_pass id (event.Feed bytes) = true
 is_of_pass id _ = false
 
 -- Nothing happened but feeds of what waited, and reads and a reset of this stream. Each feed offers the front of what
--- waits; the session took a beginning, and the rest waits. The device took just what the stream gave, in order, and was
--- called for nothing else. The stream was reset exactly if the device failed. Nothing went to the wire.
+-- waits; the session took a beginning, and the rest waits. The device took just what the stream gave, in order, and gave
+-- nothing. It was ended exactly if the stream's end was read, and the stream was reset exactly if the device failed.
+-- Nothing went to the wire.
 pub record PassesOn (id : ℕ) (old new : Engine) (before after : Seen) (calls : ℕ) : Type 0 where
   pub events : List (Event × Reply)
   pub happen : Happen events old.session new.session
@@ -45,7 +46,7 @@ pub record PassesOn (id : ℕ) (old new : Engine) (before after : Seen) (calls :
   pub outgoing : new.outgoing ≡ old.outgoing
   pub left : after.left ≡ before.left
   pub over : after.over ≡ before.over
-  pub ended : after.ended ≡ before.ended
+  pub ended : after.ended ≡ option_map (λ b. b || has_end id events) before.ended
   pub few : after.calls ≤ before.calls + calls
 
 -- ---- a part of it
@@ -65,5 +66,5 @@ pub record OffersOnce (id : ℕ) (bytes : List ℕ) (count : ℕ) (s t : Session
   pub reset : has_reset id events ≡ fails
   pub left : after.left ≡ before.left
   pub over : after.over ≡ before.over
-  pub ended : after.ended ≡ before.ended
+  pub ended : after.ended ≡ option_map (λ b. b || has_end id events) before.ended
   pub few : after.calls ≤ before.calls + 2

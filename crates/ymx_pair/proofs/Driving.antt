@@ -7,21 +7,23 @@ use Rattle.std.proofs.KnownBytes.{Appends-nil, Appends-trans, Consumes-nil, Cons
 use Rattle.std.proofs.Math.Bool.{or_assoc}
 use Rattle.ymx_machine.specs.declared.types.Side.{Side}
 use Rattle.ymx_machine.specs.declared.types.Side.TheVariants.{A, B}
+use Rattle.ymx_machine.specs.declared.types.Call.TheVariants as call
 use Rattle.ymx_machine.specs.declared.types.Reply.{Reply}
 use Rattle.ymx_model.specs.declared.types.Event.{Event}
 use Rattle.ymx_model.specs.declared.types.Event.TheVariants as event
 use Rattle.ymx_engine.specs.Devices.{Seen}
 use Rattle.ymx_engine.specs.Engines.{Engine, KeepsWire}
-use Rattle.ymx_engine.specs.Events.{taken, given, has_end, has_finish, has_reset}
+use Rattle.ymx_engine.specs.Events.{taken_at, taken, given, has_end, finishes_at, has_finish, has_reset}
+use Rattle.ymx_engine.specs.Passes.{is_of_pass, PassesOn}
 use Rattle.ymx_engine.specs.Exchanges.{has_bytes, Exchange, Exchanges}
-use Rattle.ymx_engine.specs.Wires.{is_of_read, is_of_flush}
-use Rattle.ymx_engine.proofs.Exchanging.{taken_then, given_then, end_then, finish_then, reset_then, or_same, or_twice, or_cases, whole_before, whole_after}
+use Rattle.ymx_engine.specs.Wires.{is_of_read, is_of_flush, HandlesIn}
+use Rattle.ymx_engine.proofs.Exchanging.{taken_then, given_then, end_then, finish_then, reset_then, or_none, or_same, or_twice, or_cases, same_consumes, whole_before, whole_after}
 use Rattle.ymx_engine.proofs.Advancing.{quiet}
-use Rattle.ymx_law_engine.proofs.Calling.{served}
+use Rattle.ymx_law_engine.proofs.Calling.{served, advanced, passed}
 use Rattle.ymx_law_engine.proofs.Piping.{both}
-use Rattle.ymx_law_engine.specs.Pairs.{Pair, Turn, TakesTurn, TakeTurns, IsRead, IsFlush, at_a, at_b, events_at_a, events_at_b}
+use Rattle.ymx_law_engine.specs.Pairs.{Pair, Turn, TakesTurn, TakeTurns, HasTurns, each_alone, IsRead, IsFlush, at_a, at_b, events_at_a, events_at_b}
 use Rattle.ymx_pair.specs.Reached.{engine_at, HasTurn, IsReached, IsReadOnce, IsFlushed}
-use Rattle.ymx_pair.specs.Drives.{Moves, Drives, is_of_wire, HasWireTurn, Serves, events_of, events_beside, Works}
+use Rattle.ymx_pair.specs.Drives.{Moves, Drives, is_of_wire, HasWireTurn, Serves, events_of, events_beside, PassesAt, Works}
 use Rattle.ymx_pair.proofs.Turns.{turns_then}
 
 -- ---- what is moved
@@ -94,6 +96,41 @@ exchange_moves id e f a b lost x = record {
   reset = x.reset;
 }
 
+-- payload that was passed on
+
+pass_takes_none : (id : ℕ) (e : Event) (told : Reply) → is_of_pass id e ≡ true → (taken_at id e told ≡ []) × (finishes_at id e ≡ false)
+pass_takes_none id (event.Call (call.Read other room)) told h = (refl, refl)
+pass_takes_none id (event.Call (call.Reset other)) told h = (refl, refl)
+pass_takes_none id (event.Call c) told h = let no : ⊥ = cc in absurd no
+pass_takes_none id (event.Feed bytes) told h = (refl, refl)
+pass_takes_none id event.FeedEnd told h = let no : ⊥ = cc in absurd no
+pass_takes_none id (event.Emit room) told h = let no : ⊥ = cc in absurd no
+
+passes_take_none : (id : ℕ) (es : List (Event × Reply)) → list_all (λ e. is_of_pass id e.0) es ≡ true → (taken id es ≡ []) × (has_finish id es ≡ false)
+passes_take_none id [] h = (refl, refl)
+passes_take_none id (e ∷ es) h =
+    let two = both (is_of_pass id e.0) (list_all (λ e. is_of_pass id e.0) es) h in
+    let one = pass_takes_none id e.0 e.1 two.0 in
+    let more = passes_take_none id es two.1 in (
+      ap (λ (v : List ℕ). v ++ taken id es) one.0 ∙ more.0,
+      ap (λ (v : Bool). v || has_finish id es) one.1 ∙ more.1,
+    )
+
+passes_moves : (id : ℕ) (e f : Engine) (a b : Seen) → (x : PassesOn id e f a b 2) → Moves id x.events a b
+passes_moves id e f a b x = let none = passes_take_none id x.events x.own in record {
+  came = [];
+  loses = false;
+  gave = same_consumes a.left b.left x.left;
+  inward = λ h. sym none.0;
+  outward = x.outward;
+  whole = λ h. cc;
+  over = x.over ∙ or_same a.over ∙ ap (λ (v : Bool). option_map (λ b. b || v) a.over) (sym none.1);
+  ended = x.ended;
+  fails = x.fails;
+  failed = x.failed;
+  reset = x.reset ∙ sym (or_none x.fails);
+}
+
 -- ---- turns at which no call on a stream was made
 
 pub moves_wire : (id : ℕ) (es : List (Event × Reply)) (d : Seen) → list_all (λ e. is_of_wire e.0) es ≡ true → Moves id es d d
@@ -149,6 +186,12 @@ pub read_at_server : (a e f : Engine) (ab ba ab_new ba_new : List ℕ) → IsRea
     HasWireTurn B (record { a = a; b = e; ab = ab; ba = ba }) (record { a = a; b = f; ab = ab_new; ba = ba_new })
 read_at_server a e f ab ba ab_new ba_new x = (x.0, (inr (inl x.1), refl), read_is_of_wire x.0 e f ba ab ba_new ab_new x.1)
 
+pub advanced_at_client : (e f b : Engine) (ab ba : List ℕ) → HandlesIn false e f → HasWireTurn A (record { a = e; b = b; ab = ab; ba = ba }) (record { a = f; b = b; ab = ab; ba = ba })
+advanced_at_client e f b ab ba x = (x.events, (inr (inl (advanced e f x ab ba)), refl), all_of_read x.events x.own)
+
+pub advanced_at_server : (a e f : Engine) (ab ba : List ℕ) → HandlesIn false e f → HasWireTurn B (record { a = a; b = e; ab = ab; ba = ba }) (record { a = a; b = f; ab = ab; ba = ba })
+advanced_at_server a e f ab ba x = (x.events, (inr (inl (advanced e f x ba ab)), refl), all_of_read x.events x.own)
+
 pub flushed_at_client : (e f b : Engine) (ab ba ab_new ba_new : List ℕ) → IsFlushed e f ab ba ab_new ba_new →
     HasWireTurn A (record { a = e; b = b; ab = ab; ba = ba }) (record { a = f; b = b; ab = ab_new; ba = ba_new })
 flushed_at_client e f b ab ba ab_new ba_new x = (x.0, (inr (inr x.1), refl), flush_is_of_wire x.0 e f ab ba ab_new ba_new x.1)
@@ -166,6 +209,61 @@ serves_at_client id e f b ab ba old new w x = record { lost = x.0; exchange = x.
 pub serves_at_server : (id : ℕ) (a e f : Engine) (ab ba : List ℕ) (old new : Seen) → KeepsWire e f → Exchanges id e.session f.session old new →
     Serves B id (record { a = a; b = e; ab = ab; ba = ba }) (record { a = a; b = f; ab = ab; ba = ba }) old new
 serves_at_server id a e f ab ba old new w x = record { lost = x.0; exchange = x.1; turn = (inl (served id e f old new x.0 w x.1 ba ab), refl) }
+
+-- ---- payload passed on, in turns
+
+turns_at : Side → List (List (Event × Reply)) → List Turn
+turns_at side [] = []
+turns_at side (es ∷ more) = record { side = side; events = es } ∷ turns_at side more
+
+client_takes : (parts : List (List (Event × Reply))) (e f b : Engine) (ab ba : List ℕ) → HasTurns parts e f →
+    TakeTurns (turns_at A parts) (record { a = e; b = b; ab = ab; ba = ba }) (record { a = f; b = b; ab = ab; ba = ba })
+unfolding turns_at
+client_takes [] e f b ab ba x = ap (λ (v : Engine). record { a = v; b = b; ab = ab; ba = ba }) x
+client_takes (es ∷ more) e f b ab ba x = (record { a = x.0; b = b; ab = ab; ba = ba }, (x.1 ab ba, refl), client_takes more x.0 f b ab ba x.2)
+
+server_takes : (parts : List (List (Event × Reply))) (a e f : Engine) (ab ba : List ℕ) → HasTurns parts e f →
+    TakeTurns (turns_at B parts) (record { a = a; b = e; ab = ab; ba = ba }) (record { a = a; b = f; ab = ab; ba = ba })
+unfolding turns_at
+server_takes [] a e f ab ba x = ap (λ (v : Engine). record { a = a; b = v; ab = ab; ba = ba }) x
+server_takes (es ∷ more) a e f ab ba x = (record { a = a; b = x.0; ab = ab; ba = ba }, (x.1 ba ab, refl), server_takes more a x.0 f ab ba x.2)
+
+all_alone : (side : Side) (es : List (Event × Reply)) → events_of side (turns_at side (each_alone es)) ≡ es
+unfolding turns_at
+all_alone A [] = refl
+all_alone B [] = refl
+all_alone A (e ∷ es) = ap (λ (v : List (Event × Reply)). e ∷ v) (all_alone A es)
+all_alone B (e ∷ es) = ap (λ (v : List (Event × Reply)). e ∷ v) (all_alone B es)
+
+none_beside : (side : Side) (parts : List (List (Event × Reply))) → events_beside side (turns_at side parts) ≡ []
+unfolding turns_at
+none_beside A [] = refl
+none_beside B [] = refl
+none_beside A (es ∷ more) = none_beside A more
+none_beside B (es ∷ more) = none_beside B more
+
+pub passes_at_client : (id : ℕ) (e f b : Engine) (ab ba : List ℕ) (old new : Seen) → PassesOn id e f old new 2 →
+    PassesAt A id (record { a = e; b = b; ab = ab; ba = ba }) (record { a = f; b = b; ab = ab; ba = ba }) old new
+passes_at_client id e f b ab ba old new x = record {
+  passed = x;
+  turns = turns_at A (each_alone x.events);
+  took = client_takes (each_alone x.events) e f b ab ba (passed id e f old new 2 x);
+  here = all_alone A x.events;
+  beside = none_beside A (each_alone x.events);
+}
+
+pub passes_at_server : (id : ℕ) (a e f : Engine) (ab ba : List ℕ) (old new : Seen) → PassesOn id e f old new 2 →
+    PassesAt B id (record { a = a; b = e; ab = ab; ba = ba }) (record { a = a; b = f; ab = ab; ba = ba }) old new
+passes_at_server id a e f ab ba old new x = record {
+  passed = x;
+  turns = turns_at B (each_alone x.events);
+  took = server_takes (each_alone x.events) a e f ab ba (passed id e f old new 2 x);
+  here = all_alone B x.events;
+  beside = none_beside B (each_alone x.events);
+}
+
+pub passes_at : (k side : Side) (id : ℕ) (old p q : Pair) (d e : Seen) → side ≡ k → old ≡ p → PassesAt k id old q d e → PassesAt side id p q d e
+passes_at k side id old p q d e i v x = subst (λ (s : Side). PassesAt s id p q d e) (sym i) (subst (λ (z : Pair). PassesAt k id z q d e) v x)
 
 -- ---- turns of one side
 
@@ -201,7 +299,7 @@ works_one side id es p q d e t m = record {
   beside = beside_one side es;
 }
 
-works_then : (side : Side) (id : ℕ) (p q r : Pair) (a b c : Seen) → Works side id p q a b → Works side id q r b c → Works side id p r a c
+pub works_then : (side : Side) (id : ℕ) (p q r : Pair) (a b c : Seen) → Works side id p q a b → Works side id q r b c → Works side id p r a c
 works_then side id p q r a b c x y = record {
   turns = x.turns ++ y.turns;
   took = turns_then x.turns y.turns p q r x.took y.took;
@@ -209,17 +307,33 @@ works_then side id p q r a b c x y = record {
   beside = beside_then side x.turns y.turns ∙ ap (λ (v : List (Event × Reply)). v ++ events_beside side y.turns) x.beside ∙ y.beside;
 }
 
-works_wire : (side : Side) (id : ℕ) (p q : Pair) (d : Seen) → HasWireTurn side p q → Works side id p q d d
+pub works_wire : (side : Side) (id : ℕ) (p q : Pair) (d : Seen) → HasWireTurn side p q → Works side id p q d d
 works_wire side id p q d x = works_one side id x.0 p q d d x.1 (moves_wire id x.0 d x.2)
 
 works_served : (side : Side) (id : ℕ) (p q : Pair) (d e : Seen) → Serves side id p q d e → Works side id p q d e
 works_served side id p q d e x = works_one side id x.exchange.events p q d e x.turn (exchange_moves id (engine_at side p) (engine_at side q) d e x.lost x.exchange)
 
--- a side reads from its wire, serves its connection and flushes
-pub works : (side : Side) (id : ℕ) (o p n q r : Pair) (d e : Seen) → HasWireTurn side o p → n ≡ p → Serves side id n q d e → HasWireTurn side q r → Works side id o r d e
-works side id o p n q r d e x same y z =
-    let served_on : Works side id p q d e = subst (λ (v : Pair). Works side id v q d e) same (works_served side id n q d e y) in
-    works_then side id o p r d d e (works_wire side id o p d x) (works_then side id p q r d e e served_on (works_wire side id q r e z))
+pub works_passed : (side : Side) (id : ℕ) (p q : Pair) (d e : Seen) → PassesAt side id p q d e → Works side id p q d e
+works_passed side id p q d e x = record {
+  turns = x.turns;
+  took = x.took;
+  here = subst (λ (v : List (Event × Reply)). Moves id v d e) (sym x.here) (passes_moves id (engine_at side p) (engine_at side q) d e x.passed);
+  beside = x.beside;
+}
+
+pub works_none : (side : Side) (id : ℕ) (p : Pair) (d : Seen) → Works side id p p d d
+works_none A id p d = record { turns = []; took = refl; here = moves_none id d; beside = refl }
+works_none B id p d = record { turns = []; took = refl; here = moves_none id d; beside = refl }
+
+-- the wire was called, or what waited was fed, behind what was done before
+pub works_then_wire : (side : Side) (id : ℕ) (p q r : Pair) (d e : Seen) → Works side id p q d e → HasWireTurn side q r → Works side id p r d e
+works_then_wire side id p q r d e x y = works_then side id p q r d e e x (works_wire side id q r e y)
+
+-- a side takes what its wire gives, serves its connection and flushes
+pub works : (side : Side) (id : ℕ) (o p n q r : Pair) (d e f : Seen) → Works side id o p d e → n ≡ p → Serves side id n q e f → HasWireTurn side q r → Works side id o r d f
+works side id o p n q r d e f x same y z =
+    let served_on : Works side id p q e f = subst (λ (v : Pair). Works side id v q e f) same (works_served side id n q e f y) in
+    works_then_wire side id o q r d f (works_then side id o p q d e f x served_on) z
 
 -- ---- turns of both sides
 

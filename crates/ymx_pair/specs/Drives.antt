@@ -10,6 +10,7 @@ use Rattle.ymx_model.specs.declared.types.Event.TheVariants as event
 use Rattle.ymx_engine.specs.Devices.{Seen}
 use Rattle.ymx_engine.specs.Events.{taken, given, has_end, has_finish, has_reset}
 use Rattle.ymx_engine.specs.Exchanges.{Exchange}
+use Rattle.ymx_engine.specs.Passes.{PassesOn}
 use Rattle.ymx_law_engine.specs.Pairs.{Pair, Turn, TakesTurn, TakeTurns, events_at_a, events_at_b}
 use Rattle.ymx_pair.specs.Reached.{engine_at}
 
@@ -37,6 +38,24 @@ pub record Drives (id_a id_b : ℕ) (p q : Pair) (before_a after_a before_b afte
   pub at_a : Moves id_a (events_at_a turns) before_a after_a
   pub at_b : Moves id_b (events_at_b turns) before_b after_b
 
+-- all that happened at this side, and at the other
+abbrev pub events_of : Side → List Turn → List (Event × Reply)
+events_of A turns = events_at_a turns
+events_of B turns = events_at_b turns
+
+abbrev pub events_beside : Side → List Turn → List (Event × Reply)
+events_beside A turns = events_at_b turns
+events_beside B turns = events_at_a turns
+
+-- Some turns of this side led from p to q, at which nothing happened but that payload of its stream was passed on to the
+-- device, which was called at most twice.
+pub record PassesAt (side : Side) (id : ℕ) (p q : Pair) (before after : Seen) : Type 0 where
+  pub passed : PassesOn id (engine_at side p) (engine_at side q) before after 2
+  pub turns : List Turn
+  pub took : TakeTurns turns p q
+  pub here : events_of side turns ≡ passed.events
+  pub beside : events_beside side turns ≡ []
+
 -- ---- the parts of it
 
 -- a feed, an emission, or that the peer's bytes have ended
@@ -55,15 +74,6 @@ pub record Serves (side : Side) (id : ℕ) (p q : Pair) (before after : Seen) : 
   pub lost : List ℕ
   pub exchange : Exchange id (engine_at side p).session (engine_at side q).session before after lost
   pub turn : TakesTurn side exchange.events p q
-
--- all that happened at this side, and at the other
-abbrev pub events_of : Side → List Turn → List (Event × Reply)
-events_of A turns = events_at_a turns
-events_of B turns = events_at_b turns
-
-abbrev pub events_beside : Side → List Turn → List (Event × Reply)
-events_beside A turns = events_at_b turns
-events_beside B turns = events_at_a turns
 
 -- some turns of this side, in which its device and the stream moved so much
 pub record Works (side : Side) (id : ℕ) (p q : Pair) (before after : Seen) : Type 0 where

@@ -6,14 +6,18 @@ ghost use Rattle.ymx_machine.specs.declared.types.Call.TheVariants as call;
 ghost use Rattle.ymx_machine.specs.declared.types.Reply.TheVariants as reply;
 ghost use Rattle.ymx_model.specs.session.Emissions.{in_turn};
 ghost use Rattle.ymx_model.specs.session.Histories.{Gives};
+ghost use Rattle.ymx_engine.specs.Passes.{IsPayload};
 ghost use Rattle.ymx_engine.specs.Refusals.{OpensNone, AcceptsNone};
 ghost use Rattle.ymx_pair.specs.Reached.{engine_at, HasTurn, IsReadOnce, IsFlushed};
-ghost use Rattle.ymx_pair.specs.Drives.{Drives, HasWireTurn, Serves, Works};
+ghost use Rattle.ymx_pair.specs.Drives.{Drives, HasWireTurn, PassesAt, Serves, Works};
 
 use crate::wire::Wire;
 use std::marker::Model;
 use ymx_engine::{Device, Engine};
 use ymx_model::{CallFault, Side};
+
+/// More payloads than one read of a wire has, each of which has bytes.
+const PAYLOADS: u32 = 131_072;
 
 /// The engine of the client A and that of the server B, and the pipes between them. A contract sees the record `Pair`
 /// of `ymx_law_engine`.
@@ -105,6 +109,37 @@ impl Joined {
         }
     }
 
+    /// A side's engine reads from its wire once, and what came waits to be fed.
+    pub(crate) fn pull(&mut self, side: Side)
+        ensures { HasWireTurn side self.old self.new }
+    {
+        match side {
+            Side::A => pull(&mut self.a, &mut self.wire),
+            Side::B => pull_round(&mut self.b, &mut self.wire),
+        }
+    }
+
+    /// A side's engine feeds what waits up to a payload that may be passed on. The stream of that payload.
+    pub(crate) fn advance(&mut self, side: Side) -> Option<u32>
+        ensures turn { HasWireTurn side self.old self.new }
+        ensures payload { IfSome result (λ id. IsPayload id 1 (engine_at side self.new)) }
+    {
+        match side {
+            Side::A => self.a.advance(),
+            Side::B => self.b.advance(),
+        }
+    }
+
+    /// A side's engine passes payload of this stream that waits on to the device of its connection.
+    pub(crate) fn pass<D: Device>(&mut self, side: Side, id: u32, device: &mut D)
+        ensures { PassesAt side id self.old self.new (D.seen device.old) (D.seen device.new) }
+    {
+        match side {
+            Side::A => self.a.pass(id, device),
+            Side::B => self.b.pass(id, device),
+        }
+    }
+
     /// A side's engine writes to its wire what is due.
     pub(crate) fn flush(&mut self, side: Side)
         ensures { HasWireTurn side self.old self.new }
@@ -133,16 +168,57 @@ impl Joined {
         }
     }
 
-    /// A side reads from its wire, serves its connection with its device, which may have bytes and may take some, and
-    /// flushes.
+    /// A side takes what its wire gives, serves its connection with its device, which may have bytes and may take some,
+    /// and flushes.
     fn work<D: Device>(&mut self, side: Side, id: u32, device: &mut D)
         ensures { Works side id self.old self.new (D.seen device.old) (D.seen device.new) }
     {
-        self.read(side);
+        self.take_in(side, id, device);
         self.note_device(side, id);
         self.serve(side, id, device);
         self.flush(side);
     }
+
+    /// A side reads from its wire once, and feeds what came. Payload of the connection goes straight to its device.
+    fn take_in<D: Device>(&mut self, side: Side, id: u32, device: &mut D)
+        ensures { Works side id self.old self.new (D.seen device.old) (D.seen device.new) }
+    {
+        self.pull(side);
+        'payloads: for payload in 0..PAYLOADS {
+            match self.advance(side) {
+                None => return,
+                Some(next) => self.take_payload(side, next, id, device),
+            }
+        }
+    }
+
+    /// A side passes the payload that waits on to its device if it is of its connection, and else feeds what waits.
+    fn take_payload<D: Device>(&mut self, side: Side, next: u32, id: u32, device: &mut D)
+        ensures { Works side id self.old self.new (D.seen device.old) (D.seen device.new) }
+    {
+        if next == id {
+            self.pass(side, id, device);
+        } else {
+            self.read(side);
+        }
+    }
+}
+
+/// An engine reads from its wire once, and what came waits to be fed.
+fn pull(engine: &mut Engine, wire: &mut Wire)
+    ensures { IsReadOnce engine.old engine.new wire.old.to.items wire.old.from.items wire.new.to.items wire.new.from.items }
+{
+    engine.note_wire(true, false);
+    engine.pull_wire(wire);
+}
+
+/// An engine reads once from its wire, which is the other side's, and what came waits to be fed.
+fn pull_round(engine: &mut Engine, wire: &mut Wire)
+    ensures { IsReadOnce engine.old engine.new wire.old.from.items wire.old.to.items wire.new.from.items wire.new.to.items }
+{
+    wire.turn_round();
+    pull(engine, wire);
+    wire.turn_round();
 }
 
 /// An engine reads from its wire once.

@@ -10,10 +10,11 @@ ghost use Rattle.ymx_model.specs.session.Emissions.{in_turn};
 ghost use Rattle.ymx_model.specs.session.Histories.{Gives};
 ghost use Rattle.ymx_session.specs.NewSessions.{first_id, new_fault};
 ghost use Rattle.ymx_engine.specs.Exchanges.{Exchanges};
+ghost use Rattle.ymx_engine.specs.Passes.{IsPayload};
 ghost use Rattle.ymx_engine.specs.Refusals.{OpensNone, AcceptsNone};
 ghost use Rattle.ymx_law_engine.specs.Pairs.{engine_of, pair_of};
 ghost use Rattle.ymx_pair.specs.Reached.{engine_at, HasTurn, AreOneRunSoFar};
-ghost use Rattle.ymx_pair.specs.Drives.{Drives};
+ghost use Rattle.ymx_pair.specs.Drives.{Drives, PassesAt};
 
 use crate::joined::Joined;
 use crate::wire::Wire;
@@ -117,9 +118,34 @@ impl EnginePair {
         self.joined.flush(side);
     }
 
-    /// So many rounds of both sides, A first. In a round a side reads as `read` does, serves its connection once with its
-    /// device, which may have bytes and may take some, and flushes as `flush` does. The ids are those of the two ends of
-    /// a stream, or of any others; a side that has no connection of its id reads and flushes alone.
+    /// A side's engine takes what waits in the other side's pipe, at most 131,072 bytes, where all that it took before was
+    /// fed. It waits for `advance`.
+    pub fn pull(&mut self, side: Side)
+        ensures { HasTurn side self.old self.new }
+    {
+        self.joined.pull(side);
+    }
+
+    /// A side's engine feeds what waits up to a payload that `pass` may give to its connection's device, as
+    /// `Engine::advance`, and returns the id of that connection.
+    pub fn advance(&mut self, side: Side) -> Option<u32>
+        ensures turn { HasTurn side self.old self.new }
+        ensures payload { IfSome result (λ id. IsPayload id 1 (engine_at side self.new)) }
+    {
+        self.joined.advance(side)
+    }
+
+    /// A side's engine offers payload of this stream that waits to its connection's device, as `Engine::pass`. What the
+    /// device took is what the stream gave; all that happened were turns of this side (record `PassesAt`).
+    pub fn pass<D: Device>(&mut self, side: Side, id: u32, device: &mut D)
+        ensures { PassesAt side id self.old self.new (D.seen device.old) (D.seen device.new) }
+    {
+        self.joined.pass(side, id, device);
+    }
+
+    /// So many rounds of both sides, A first. In a round a side takes what came by `pull`, `advance` and `pass`, serves
+    /// its connection once with its device, which may have bytes and may take some, and flushes. The ids are those of the
+    /// two ends of a stream, or of any others; a side that has no connection of its id reads and flushes alone.
     ///
     /// All that happened were turns of the two sides. What each device gave is what its stream took, but for bytes that
     /// were lost where the stream was reset; what each device took is what its stream gave (record `Moves`).
