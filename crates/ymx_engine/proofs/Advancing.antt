@@ -1,10 +1,9 @@
 -- How what waits is fed piece by piece, and what of it is passed on.
-use Rattle.std.proofs.Common.{◌≡◌, ℕ, ◌+◌, ◌≤◌, ◌<◌, ◌==◌, List, [], ◌∷◌, ◌++◌, length, take, drop, min, Bool, true, false, ◌||◌, ◌&&◌, Option, Some, refl, sym, ap, ◌∙◌, subst, arith, append-nil, append_assoc, take-append-drop, length-append, drop-drop}
+use Rattle.std.proofs.Common.{◌≡◌, ℕ, ◌+◌, ◌≤◌, List, [], ◌∷◌, ◌++◌, length, take, drop, min, Bool, true, false, ◌||◌, ◌&&◌, Option, refl, sym, ap, ◌∙◌, subst, arith, append-nil, append_assoc, take-append-drop, length-append, drop-drop}
 use Rattle.std.specs.Prelude.{option_map}
 use Rattle.std.specs.List.{list_all}
-use Rattle.std.specs.Option.{ForSome}
 use Rattle.std.specs.Io.KnownBytes.{Appends}
-use Rattle.std.proofs.KnownBytes.{Appends-nil, Appends-trans}
+use Rattle.std.proofs.KnownBytes.{Appends-nil}
 use Rattle.std.proofs.lemmas.Grind.{common_steps}
 use Rattle.std.proofs.lemmas.List.{drop-append-le, length-take-le}
 use Rattle.std.proofs.lemmas.List.Folds.{list_all-append}
@@ -16,20 +15,18 @@ use Rattle.ymx_machine.specs.declared.types.Reply.TheVariants as reply
 use Rattle.ymx_model.specs.declared.types.Event.{Event}
 use Rattle.ymx_model.specs.declared.types.Event.TheVariants as event
 use Rattle.ymx_model.specs.session.Sessions.{Session}
-use Rattle.ymx_model.specs.session.Feeds.{Feeds}
 use Rattle.ymx_model.specs.session.Emissions.{in_turn}
 use Rattle.ymx_model.specs.session.Histories.{Gives}
-use Rattle.ymx_session.specs.declared.passing.Passing.{Passing}
-use Rattle.ymx_session.specs.Passing.{passing, all_fed, Passes, FeedsSome}
+use Rattle.ymx_session.specs.Passing.{all_fed, Passes, FeedsSome}
 use Rattle.ymx_engine.specs.declared.device.Pushed.{Pushed}
 use Rattle.ymx_engine.specs.declared.device.Pushed.TheVariants as pushed
 use Rattle.ymx_engine.specs.Devices.{Seen, pushed_count, is_push_failure, IsPushed, IsShut}
-use Rattle.ymx_engine.specs.Events.{Happen, bytes_of, given_at, given, ends_at, has_end, finishes_at, has_finish, resets_at, has_reset, taken}
+use Rattle.ymx_engine.specs.Events.{Happen, given, has_end, has_finish, has_reset, taken}
 use Rattle.ymx_engine.specs.Engines.{Engine}
 use Rattle.ymx_engine.specs.Wires.{fed_at, fed, is_of_read, ends_feed, has_feed_end, OffersFront, FeedsFront, ReadsWire, HandlesIn}
-use Rattle.ymx_engine.specs.Passes.{IsPayload, is_of_pass, PassesOn, OffersOnce}
+use Rattle.ymx_engine.specs.Passes.{is_of_pass, PassesOn, OffersOnce}
 use Rattle.ymx_engine.proofs.Carrying.{feed_end_then, gives_from}
-use Rattle.ymx_engine.proofs.Exchanging.{happen_then, given_then, end_then, reset_then, or_same, or_twice, or_none, same_id, same_appends, none_pushed, take_both, still}
+use Rattle.ymx_engine.proofs.Exchanging.{happen_then, given_then, end_then, reset_then, or_same, or_none, same_id, none_pushed, take_both, still}
 
 -- ---- what is fed
 

@@ -12,7 +12,7 @@ use Rattle.ymx_session.specs.Passing.{passing}
 use Rattle.ymx_engine.specs.Devices.{Seen}
 use Rattle.ymx_engine.specs.Events.{Happen, given, has_end, has_reset}
 use Rattle.ymx_engine.specs.Engines.{Engine}
-use Rattle.ymx_engine.specs.Wires.{fed, has_feed_end, FeedsFront}
+use Rattle.ymx_engine.specs.Wires.{fed, FeedsFront}
 
 -- the first so many of the bytes that wait are payload of this stream, and may be passed on
 pub record IsPayload (id count : ℕ) (e : Engine) : Type 0 where
