@@ -19,7 +19,7 @@ use crate::connection::Connection;
 use crate::connections::Connections;
 use crate::device::{Device, Pulled, Pushed};
 use crate::exchange::serve;
-use crate::memory::{BLOCK, LEAST_PASSED, Memory};
+use crate::memory::{BLOCK, Memory};
 use crate::passing::offer;
 use std::alloc::{AllocError, Global};
 use std::marker::Model;
@@ -343,8 +343,9 @@ impl Engine {
 
     /// Feeds what waits up to a payload that `pass` may give to its connection's device, and returns the id of that
     /// connection. `None` where all that can be fed now was fed. A payload whose device may not take bytes now goes into
-    /// its stream's ring, and so does one of which fewer than 4,096 bytes wait.
-    pub fn advance(&mut self) -> Option<u32>
+    /// its stream's ring, and so does one of which fewer than `least` bytes wait: for so few a call of the device is not
+    /// worth making, as they gather in the ring.
+    pub fn advance(&mut self, least: usize) -> Option<u32>
         ensures fed { HandlesIn false self.old self.new }
         ensures payload { IfSome result (λ id. IsPayload id 1 self.new) }
     {
@@ -353,7 +354,7 @@ impl Engine {
             match self.next_payload() {
                 None => return None,
                 Some(id) => {
-                    if self.may_pass(id) {
+                    if self.may_pass(id, least) {
                         return Some(id);
                     }
                     self.feed_front(self.payload_count(id));
@@ -398,10 +399,10 @@ impl Engine {
         }
     }
 
-    /// Whether enough of this stream's payload waits for a call of its device, which may take bytes.
-    fn may_pass(&self, id: u32) -> bool {
+    /// Whether so many bytes of this stream's payload wait, and its device may take some.
+    fn may_pass(&self, id: u32, least: usize) -> bool {
         match self.connections.get(id) {
-            Some(connection) => { connection.may_push() && self.payload_count(id) >= LEAST_PASSED }
+            Some(connection) => connection.may_push() && self.payload_count(id) >= least,
             None => false,
         }
     }
@@ -409,7 +410,7 @@ impl Engine {
     /// Offers the payload of this stream that waits to its connection's device. What the device takes came and was read
     /// on the stream at once, with no stay in its ring; the rest goes into the ring. It makes at most two calls of the
     /// device. Where the device fails, its stream is reset and the device shut. Nothing is offered where no payload of
-    /// this stream waits that may be passed on, and where its device may not take bytes.
+    /// this stream waits that may be passed on, or where its device may not take bytes.
     ///
     /// What the device took is what the stream gave (record `PassesOn`).
     pub fn pass<D: Device>(&mut self, id: u32, device: &mut D)

@@ -10,10 +10,6 @@ use ymx_session::Touched;
 /// How many bytes are read from the peer, or from a device, at once.
 pub(crate) const BLOCK: usize = 131_072;
 
-/// How many bytes of a payload must wait before they go straight to their device. Fewer gather in the stream's ring, so
-/// that many small payloads don't take a call of the device each.
-pub(crate) const LEAST_PASSED: usize = 4_096;
-
 /// How many bytes are written to the peer at once: eight whole frames of 16,384 bytes, so that none is cut.
 const FRAMES: usize = 131_168;
 

@@ -1,4 +1,4 @@
-//! What of a stream's payload goes straight to its device.
+//! Offers payload straight to its device.
 
 ghost use Rattle.std.specs.Prelude.{◌≡◌, ◌<◌, ◌≤◌, length, Some};
 ghost use Rattle.ymx_session.specs.declared.passing.Passing.{Passing};

@@ -32,8 +32,13 @@ const ACCEPTS: u32 = 64;
 /// to it, and bytes wait at their own connections, and not in the wire before those of all others.
 const WIRE_READS: u32 = 2;
 
-/// More payloads than one read of the wire has, each of which has bytes.
+/// No read of the wire has so many payloads: each has a byte at least, and a header of 12.
 const PAYLOADS: u32 = 131_072;
+
+/// How many bytes of a payload go straight to their connection at least. A peer that puts a whole write into one frame
+/// sends so many. Frames of our own carry 16,384 bytes: eight of a stream come together, and one write out of its ring
+/// takes them all, where each by itself would take a write of its own.
+const LEAST_STRAIGHT: usize = 65_536;
 
 /// How many bytes of connections are taken before they are written to the wire.
 const UNWRITTEN: u64 = 131_072;
@@ -469,7 +474,7 @@ impl<'a> Tunnel<'a> {
     }
 
     fn advance(&mut self) -> Option<u32> {
-        self.engine.advance()
+        self.engine.advance(LEAST_STRAIGHT)
     }
 
     fn flush(&mut self) {

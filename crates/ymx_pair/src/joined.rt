@@ -1,12 +1,13 @@
 //! Two engines and the pipes between them.
 
-ghost use Rattle.std.specs.Prelude.{◌≡◌, IfOk, IfErr, IfSome, IfNone, Some};
+ghost use Rattle.std.specs.Prelude.{◌≡◌, IfOk, IfErr, IfSome, IfNone, Some, false};
 ghost use Rattle.ymx_model.specs.declared.types.Event.TheVariants as event;
 ghost use Rattle.ymx_machine.specs.declared.types.Call.TheVariants as call;
 ghost use Rattle.ymx_machine.specs.declared.types.Reply.TheVariants as reply;
 ghost use Rattle.ymx_model.specs.session.Emissions.{in_turn};
 ghost use Rattle.ymx_model.specs.session.Histories.{Gives};
 ghost use Rattle.ymx_engine.specs.Passes.{IsPayload};
+ghost use Rattle.ymx_engine.specs.Wires.{HandlesIn};
 ghost use Rattle.ymx_engine.specs.Refusals.{OpensNone, AcceptsNone};
 ghost use Rattle.ymx_pair.specs.Reached.{engine_at, HasTurn, IsReadOnce, IsFlushed};
 ghost use Rattle.ymx_pair.specs.Drives.{Drives, HasWireTurn, PassesAt, Serves, Works};
@@ -16,8 +17,11 @@ use std::marker::Model;
 use ymx_engine::{Device, Engine};
 use ymx_model::{CallFault, Side};
 
-/// More payloads than one read of a wire has, each of which has bytes.
+/// No read of a wire has so many payloads: each has a byte at least, and a header of 12.
 const PAYLOADS: u32 = 131_072;
+
+/// How many bytes of a payload go straight to their device at least.
+const LEAST: usize = 4_096;
 
 /// The engine of the client A and that of the server B, and the pipes between them. A contract sees the record `Pair`
 /// of `ymx_law_engine`.
@@ -120,13 +124,14 @@ impl Joined {
     }
 
     /// A side's engine feeds what waits up to a payload that may be passed on. The stream of that payload.
-    pub(crate) fn advance(&mut self, side: Side) -> Option<u32>
+    pub(crate) fn advance(&mut self, side: Side, least: usize) -> Option<u32>
         ensures turn { HasWireTurn side self.old self.new }
+        ensures fed { HandlesIn false (engine_at side self.old) (engine_at side self.new) }
         ensures payload { IfSome result (λ id. IsPayload id 1 (engine_at side self.new)) }
     {
         match side {
-            Side::A => self.a.advance(),
-            Side::B => self.b.advance(),
+            Side::A => self.a.advance(least),
+            Side::B => self.b.advance(least),
         }
     }
 
@@ -185,7 +190,7 @@ impl Joined {
     {
         self.pull(side);
         'payloads: for payload in 0..PAYLOADS {
-            match self.advance(side) {
+            match self.advance(side, LEAST) {
                 None => return,
                 Some(next) => self.take_payload(side, next, id, device),
             }

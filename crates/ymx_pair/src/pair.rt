@@ -1,6 +1,6 @@
 //! The type `EnginePair`, and its calls.
 
-ghost use Rattle.std.specs.Prelude.{◌≡◌, IfOk, IfErr, IfSome, IfNone, Some, None};
+ghost use Rattle.std.specs.Prelude.{◌≡◌, IfOk, IfErr, IfSome, IfNone, Some, None, false};
 ghost use Rattle.ymx_model.specs.declared.types.Event.TheVariants as event;
 ghost use Rattle.ymx_machine.specs.declared.types.Call.TheVariants as call;
 ghost use Rattle.ymx_machine.specs.declared.types.Reply.TheVariants as reply;
@@ -11,6 +11,7 @@ ghost use Rattle.ymx_model.specs.session.Histories.{Gives};
 ghost use Rattle.ymx_session.specs.NewSessions.{first_id, new_fault};
 ghost use Rattle.ymx_engine.specs.Exchanges.{Exchanges};
 ghost use Rattle.ymx_engine.specs.Passes.{IsPayload};
+ghost use Rattle.ymx_engine.specs.Wires.{HandlesIn};
 ghost use Rattle.ymx_engine.specs.Refusals.{OpensNone, AcceptsNone};
 ghost use Rattle.ymx_law_engine.specs.Pairs.{engine_of, pair_of};
 ghost use Rattle.ymx_pair.specs.Reached.{engine_at, HasTurn, AreOneRunSoFar};
@@ -128,11 +129,12 @@ impl EnginePair {
 
     /// A side's engine feeds what waits up to a payload that `pass` may give to its connection's device, as
     /// `Engine::advance`, and returns the id of that connection.
-    pub fn advance(&mut self, side: Side) -> Option<u32>
+    pub fn advance(&mut self, side: Side, least: usize) -> Option<u32>
         ensures turn { HasTurn side self.old self.new }
+        ensures fed { HandlesIn false (engine_at side self.old) (engine_at side self.new) }
         ensures payload { IfSome result (λ id. IsPayload id 1 (engine_at side self.new)) }
     {
-        self.joined.advance(side)
+        self.joined.advance(side, least)
     }
 
     /// A side's engine offers payload of this stream that waits to its connection's device, as `Engine::pass`. What the
