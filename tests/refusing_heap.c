@@ -1,6 +1,7 @@
 /* Linked into tests in place of the kit's heap. A test whose name ends in `_holds` is run with the first allocation
    refused, then with the second, and so on, each time in a process of its own, and then with none refused. It fails if
-   it does not pass whichever allocation is refused, or if it takes no memory. Other tests are run as ever. */
+   it does not pass whichever allocation is refused, or if it takes no memory. The file TOLD then gets a line with the
+   test's name and how many allocations were refused. Other tests are run as ever. */
 #include <fcntl.h>
 #include <stdio.h>
 #include <stdlib.h>
@@ -65,6 +66,15 @@ static void stop(const char *why, long number)
     _exit(1);
 }
 
+static void tell(const char *name, long refused)
+{
+    FILE *told = fopen(TOLD, "a");
+    if (told == NULL)
+        stop("nobody is told", refused);
+    fprintf(told, "%s %ld\n", name, refused);
+    fclose(told);
+}
+
 __attribute__((constructor)) static void refuse_each(int count, char **words)
 {
     if (count < 2 || !is_to_hold(words[1]))
@@ -90,6 +100,7 @@ __attribute__((constructor)) static void refuse_each(int count, char **words)
         if (!*was_refused) {
             if (number == 1)
                 stop("the test takes no memory", number);
+            tell(words[1], number - 1);
             return;
         }
     }

@@ -1,5 +1,5 @@
 -- Two transcripts, and what the audit of their entries says.
-use Rattle.std.specs.Prelude.{◌≡◌, ◌≤◌, ◌<◌, ◌^◌, List, Option, Some, None, IfNone, true}
+use Rattle.std.specs.Prelude.{◌≡◌, List, Option, Some, None, IfNone, true}
 use Rattle.std.proofs.Common.{sym, subst}
 use Rattle.ymx_machine.specs.declared.types.Step.{Step}
 use Rattle.ymx_model.specs.declared.types.Role.{Role}

@@ -13,8 +13,8 @@ use ymx_seats::Transcript;
 use ymx_world::World;
 
 /// Finds steps in which the histories of a client's and a server's session are one run, of the two sessions joined by
-/// pipes and of the queue machine. `None` only where the two have no joint order: then they were not the two ends of one
-/// connection. `AllocError` where there is no memory for the steps.
+/// pipes and of the queue machine. `None` only where the two have no joint order. `AllocError` where there is no memory
+/// for the steps.
 ///
 /// It is `World::audit` of the transcripts' entries. A transcript is the history of a session by its own invariant, so
 /// nothing but the roles is asked of the caller, who finds them by `Transcript::role`.
