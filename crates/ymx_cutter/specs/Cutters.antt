@@ -9,7 +9,7 @@ use Rattle.ymx_header.specs.Frames.{payload_length, fault_of}
 use Rattle.ymx_cutter.specs.Frames.{joined, IsGoodFrame, IsBytes}
 use Rattle.ymx_cutter.specs.Gathered.{Gathered}
 
--- what has come of the frame begun: the bytes of its header so far; or, of its payload, how many bytes came and how many lack; or the fault of its header
+-- what has come of the frame begun: the bytes of its header so far; or, of its payload, how many bytes came and how many are missing; or the fault of its header
 pub data Seen : Type 0 where
   InHeader : (bytes : List ℕ) → Seen
   Payload : (came : ℕ) (missing : ℕ) → Seen
@@ -37,7 +37,7 @@ abbrev pub item_of : Option Fault → Header → Item
 item_of None h = item.Head h
 item_of (Some fault) h = item.Fault fault
 
--- so many bytes of payload have come and so many lack: if none, the next frame begins
+-- so many bytes of payload have come and so many are missing: if none, the next frame begins
 abbrev pub payload_seen : ℕ → ℕ → Seen
 payload_seen came missing = if missing == 0 then InHeader [] else Payload came missing
 
@@ -73,7 +73,7 @@ begun_of (InHeader bytes) = length bytes
 begun_of (Payload came missing) = 12 + came
 begun_of (Broken fault) = 12
 
--- how many bytes of the payload begun lack, 0 in a header
+-- how many bytes of the payload begun are missing, 0 in a header
 abbrev pub missing_of : Seen → ℕ
 missing_of (InHeader bytes) = 0
 missing_of (Payload came missing) = missing

@@ -10,7 +10,7 @@ seen_of (begun.Header bytes) = InHeader bytes
 seen_of (begun.Payload came missing) = Payload came missing
 seen_of (begun.Broken fault) = Broken fault
 
--- a payload that has begun lacks bytes, and its length fits its field
+-- bytes of a payload that has begun are missing, and its length fits its field
 abbrev pub IsBegunWithin : Begun → Type 0
 IsBegunWithin (begun.Header bytes) = ⊤
 IsBegunWithin (begun.Payload came missing) = (0 < missing) × (came + missing < 2 ^ 32)

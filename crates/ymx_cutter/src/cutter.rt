@@ -83,7 +83,7 @@ impl Cutter {
         }
     }
 
-    /// How many bytes of the payload begun lack: at least one, or 0 in a header and after a fault.
+    /// How many bytes of the payload begun are missing: at least one, or 0 in a header and after a fault.
     pub fn missing(&self) -> u32
         ensures { result ≡ missing_of self.now.seen }
     {

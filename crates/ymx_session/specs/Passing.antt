@@ -17,7 +17,7 @@ use Rattle.ymx_session.specs.declared.passing.Passing.{Passing}
 
 -- ---- whose payload may be passed on
 
--- the payload that comes is one that a record takes: of which stream, and how many bytes of it lack
+-- the payload that comes is one that a record takes: of which stream, and how many bytes of it are missing
 abbrev pub kept_payload : Incoming → Option Passing
 kept_payload (Head bytes) = None
 kept_payload (Payload id missing fin stray) = if stray then None else Some (record { id = id; missing = missing })
@@ -31,7 +31,7 @@ abbrev pub if_read_up : List (ℕ × End) → Option Passing → Option Passing
 if_read_up entries None = None
 if_read_up entries (Some p) = if is_read_up (look p.id entries) then Some p else None
 
--- the stream whose payload comes, and how many bytes of it lack, where these bytes may be passed on
+-- the stream whose payload comes, and how many bytes of it are missing, where these bytes may be passed on
 abbrev pub passing : Session → Option Passing
 passing s = if is_running s.status then if_read_up s.table.entries (kept_payload s.incoming) else None
 
