@@ -4,3 +4,4 @@ pub mod Stages
 pub mod Frames
 pub mod Ends
 pub mod Passing
+pub mod Through

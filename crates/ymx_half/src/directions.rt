@@ -22,6 +22,7 @@ pub(crate) enum Sending {
 
 impl Sending {
     ghost use Rattle.ymx_half.specs.Directions.{writer_of, sends_nothing};
+    ghost use Rattle.ymx_half.specs.Through.{writer_spend};
 
     /// Takes the first bytes that the credit allows, of which a dead half has none. See `SendHalf::write`.
     pub(crate) fn write(&mut self, bytes: &[u8]) -> Result<usize, AllocError>
@@ -35,6 +36,18 @@ impl Sending {
         match self {
             Sending::Open(half) => half.write(bytes),
             Sending::Done(_) | Sending::Dead(_) => Ok(0),
+        }
+    }
+
+    /// Bytes are written and go into a frame at once: only their credit is spent.
+    pub(crate) fn spend(&mut self, count: u32)
+        requires open { (writer_of self.old).finished ≡ false }
+        requires credit { count ≤ (writer_of self.old).credit }
+        ensures spent { writer_of self.new ≡ writer_spend count (writer_of self.old) }
+        ensures same_state { sends_nothing self.new ≡ sends_nothing self.old }
+    {
+        if let Sending::Open(half) = self {
+            half.spend(count);
         }
     }
 

@@ -33,6 +33,8 @@ impl Model for SendHalf {
 }
 
 impl SendHalf {
+    ghost use Rattle.ymx_half.specs.Through.{writer_spend};
+
     /// Makes the half of a new stream: 262,144 bytes may be written, and there is memory for so many
     /// unsent ones. Without that memory it answers `AllocError`.
     pub fn new(alloc: Global) -> Result<SendHalf, AllocError>
@@ -68,6 +70,15 @@ impl SendHalf {
         self.unsent.put(&bytes[..count]);
         self.credit.spend(count as u32);
         Ok(count)
+    }
+
+    /// Bytes are written and go into a frame at once, and so their credit is spent. They are no more than may be
+    /// written. The unsent bytes stay as they are: none of these is put among them.
+    pub fn spend(&mut self, count: u32)
+        requires { count ≤ self.old.credit }
+        ensures { self.new ≡ writer_spend count self.old }
+    {
+        self.credit.spend(count);
     }
 
     /// The peer lets `delta` bytes more be written (Window Update). The credit is then at most

@@ -7,7 +7,7 @@ ghost use Rattle.ymx_header.specs.Headers.{spelling};
 ghost use Rattle.ymx_machine.specs.shared.Phases.{takes, is_offered, is_lingering};
 ghost use Rattle.ymx_machine.specs.shared.Phases.Phase.{Live as LivePhase, Offered as OfferedPhase};
 ghost use Rattle.ymx_model.specs.session.Records.{new_end, dead_writer, dead_reader, only_due, writer_send, takes_payload, end_write, end_read, end_finish, end_accept, end_reset, end_forget, receive_data, receive_piece, receive_credit, receive_fin, receive_head, receive_rst};
-ghost use Rattle.ymx_model.specs.session.FramesDue.{is_due, credit_due, next_kind, begin_frame, spelled};
+ghost use Rattle.ymx_model.specs.session.FramesDue.{is_due, credit_due, next_kind, begin_frame, spelled, frame};
 
 use crate::directions::{Receiving, Sending};
 use crate::frame::{data, put_header, window_update};
@@ -137,6 +137,7 @@ impl StreamRec {
     ghost use Rattle.ymx_half.specs.Stages.{phase_of};
     ghost use Rattle.ymx_half.specs.Frames.{frame_payload};
     ghost use Rattle.ymx_half.specs.Passing.{MayPass, passed};
+    ghost use Rattle.ymx_half.specs.Through.{MaySend, sent};
 
     /// Makes the record of a stream that is opened here, with memory for 262,144 unsent bytes and for
     /// all of the window, in bytes. A SYN is due, which carries data if `with_data`. Without the memory it
@@ -550,6 +551,25 @@ impl StreamRec {
         put_header(&header, buffer);
         self.mark_begun(kind, window);
         self.put_payload(count, buffer);
+        HEADER_LENGTH + count
+    }
+
+    /// Writes these bytes, and begins the frame of Data that carries them, and nothing else: it goes to the front of
+    /// `buffer`, which has room for it, and its number of bytes is returned (framing). None of the bytes is put among
+    /// the unsent ones, of which there are none. The rest of `buffer` stays as it was. `id` is the stream's.
+    ///
+    /// Example: of a credit of 262,144 bytes, 5 bytes leave 262,139, and the frame has 17.
+    pub fn write_through(&mut self, id: u32, bytes: &[u8], buffer: &mut [u8]) -> usize
+        requires may { MaySend bytes.now self.old }
+        requires fits { 12 + length bytes.now ≤ length buffer.old }
+        ensures count { result ≡ 12 + length bytes.now }
+        ensures written { buffer.new ≡ frame 0 0 id (length bytes.now) bytes.now ++ drop result buffer.old }
+        ensures after { self.new ≡ sent bytes.now self.old }
+    {
+        let count = bytes.len();
+        put_header(&data(0, id, count as u32), buffer);
+        buffer[HEADER_LENGTH..HEADER_LENGTH + count].copy_from_slice(bytes);
+        self.writer.spend(count as u32);
         HEADER_LENGTH + count
     }
 
