@@ -9,9 +9,11 @@ ghost use Rattle.ymx_table.specs.Changes.{ChangesRecord};
 ghost use Rattle.ymx_machine.specs.shared.Phases.{takes, is_offered, is_lingering};
 ghost use Rattle.ymx_model.specs.session.Records.{takes_payload, end_write, end_read, end_finish, end_accept, end_reset, end_forget, receive_piece, receive_head, receive_rst};
 ghost use Rattle.ymx_machine.specs.shared.Lists.{look};
-ghost use Rattle.ymx_model.specs.session.Tables.{with_record};
+ghost use Rattle.ymx_model.specs.session.FramesDue.{frame};
+ghost use Rattle.ymx_model.specs.session.Tables.{with_record, pass_turn};
 ghost use Rattle.ymx_half.specs.Stages.{phase_of};
 ghost use Rattle.ymx_half.specs.Passing.{MayPass, passed};
+ghost use Rattle.ymx_half.specs.Through.{MaySend, sent};
 
 use crate::Table;
 use std::alloc::AllocError;
@@ -40,6 +42,28 @@ impl Table {
         let is_due = stream.is_due(self.window);
         self.due.set(place, is_due);
         wrote
+    }
+
+    /// Writes these bytes, and begins the frame of Data that carries them: it goes to the front of `buffer`, which has
+    /// room for it, and its number of bytes is returned (framing). The stream was not finished here, nothing of it is
+    /// unsent, its credit is enough, and they are at most 16,384 bytes. None of them is put among the unsent bytes. The
+    /// rest of `buffer` stays as it was. The stream was served: the next turn starts just behind it.
+    pub fn write_through(&mut self, id: u32, bytes: &[u8], buffer: &mut [u8]) -> usize
+        requires there { IsSome (look id self.old.entries) }
+        requires may { ForSome (look id self.old.entries) (MaySend bytes.now) }
+        requires fits { 12 + length bytes.now ≤ length buffer.old }
+        ensures count { result ≡ 12 + length bytes.now }
+        ensures written { buffer.new ≡ frame 0 0 id (length bytes.now) bytes.now ++ drop result buffer.old }
+        ensures goes { self.new ≡ pass_turn id (with_record id (sent bytes.now) self.old) }
+    {
+        let place = self.place_of(id);
+        let stream = &mut self.records[place];
+        let count = stream.write_through(id, bytes, buffer);
+        let is_due = stream.is_due(self.window);
+        self.due.set(place, is_due);
+        self.turn = place + 1;
+        self.last = place;
+        count
     }
 
     /// Moves the stream's first unread bytes into `buffer`, as many as are there and fit, and returns their
