@@ -15,7 +15,8 @@ use Rattle.ymx_session.specs.Streams.{room_of}
 -- nothing else is due.
 abbrev pub goes_through : (id count size : ℕ) → Session → Bool
 goes_through id count size s =
-    nat_lt 0 count && nat_le count data_limit && nat_le (12 + count) size && nat_le count (room_of id s) && not (is_ready s)
+    nat_lt 0 count && nat_le count data_limit && nat_le (12 + count) size
+    && nat_le count (room_of id s) && not (is_ready s)
 
 -- These bytes are written and go out: a write that takes them all, and then an emission into a buffer of `size` bytes,
 -- which gives `filled`.
