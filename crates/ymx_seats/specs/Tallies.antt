@@ -1,11 +1,7 @@
 -- When the seats' lists and a transcript agree.
-use Rattle.std.specs.Prelude.{◌≡◌, ℕ, ◌==◌, ◌+◌, ◌≤◌, List, [], ◌∷◌, filter, All, sum_by}
+use Rattle.std.specs.Prelude.{◌≡◌, ℕ, ◌+◌, ◌≤◌, List, [], ◌∷◌, All, sum_by}
 use Rattle.ymx_model.specs.declared.types.Entry.{Entry}
 use Rattle.ymx_seats.specs.Views.{SeatView}
-
--- the entries that name this seat, in their order
-abbrev pub part : ℕ → List Entry → List Entry
-part n es = filter (λ e. e.seat == n) es
 
 -- the seats have the numbers from, from + 1, ..
 abbrev pub NumberedFrom : ℕ → List SeatView → Type 0

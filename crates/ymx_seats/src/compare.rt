@@ -2,7 +2,8 @@
 
 ghost use Rattle.std.specs.Prelude.{◌≡◌, ◌↔◌, IsTrue, ◌<◌, length, List, All};
 ghost use Rattle.std.specs.List.Sorted.{IsPermutation, IsNonDecreasingBy};
-ghost use Rattle.ymx_seats.specs.Tallies.{part, NumberedFrom, RisesFrom, IsOwn, Tallies};
+ghost use Rattle.ymx_journal.specs.Journals.{part};
+ghost use Rattle.ymx_seats.specs.Tallies.{NumberedFrom, RisesFrom, IsOwn, Tallies};
 ghost use Rattle.ymx_seats.specs.Views.{SeatView};
 
 use crate::recorder::Recorder;

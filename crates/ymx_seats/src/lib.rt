@@ -15,7 +15,7 @@ mod transcript;
 
 pub use compare::{agree, same};
 pub use log::Log;
-pub use recorder::{Full, Off, Recorder};
+pub use recorder::{Full, Off, Recorder, Witnessed};
 pub use seat::{Seat, let_go};
 pub use slips::{Ask, Slip, Tell};
 pub use transcript::Transcript;

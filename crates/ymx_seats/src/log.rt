@@ -1,46 +1,91 @@
 //! The entries so far, as they are kept under the lock.
 
-ghost use Rattle.std.specs.Prelude.{◌≡◌, ◌-◌, ◌+◌, ◌<◌, ◌≤◌, ◌++◌, ◌∷◌, [], true, false, vec_capacity, vec_len, length, IsOk, IfOk, OnOk, OnErr};
+ghost use Rattle.std.specs.Prelude.{◌≡◌, ◌-◌, ◌+◌, ◌<◌, ◌≤◌, ◌++◌, ◌∷◌, [], true, false, Some, None, vec_capacity, vec_len, length, IsOk, IfOk, OnOk, OnErr};
+ghost use mathlib.Core.List.{IsPrefix};
+ghost use Rattle.ymx_journal.specs.Journals.{part};
+ghost use Rattle.ymx_seats.specs.Slips.{asked_by, told_by};
+ghost use Rattle.ymx_seats.specs.Views.{entry};
 
 use crate::recorder::{Question, Recorder};
 use crate::seat::Seat;
 use crate::slips::{Ask, Copies, Slip, Tell, copies_of, reply_of};
 use std::alloc::{AllocError, Global};
-use std::marker::{Model, PhantomData};
+use std::marker::{Brand, Model, PhantomData};
+use std::mem;
+use ymx_journal::{Journal, Opened, Saying, Witness};
 use ymx_model::Entry;
 
-/// The entries so far. A contract sees them, and for how many more there is memory. Their positions rise.
+/// The entries so far, and the journal, where the recorder witnesses. A contract sees both, and for how many more entries
+/// there is memory. Their positions rise.
 #[derive(Drop)]
 pub struct Log<R: Recorder> {
     entries: Vec<Entry>,
+    journal: Option<Journal<R>>,
     kind: PhantomData<R>,
 }
 
 impl<R: Recorder> Model for Log<R> {
     ghost use Rattle.std.specs.Prelude.{◌-◌, ◌≤◌, vec_capacity, vec_len};
     ghost use Rattle.ymx_seats.specs.Tallies.{RisesFrom, behind_all};
-    ghost use Rattle.ymx_seats.specs.Views.{LogView};
+    ghost use Rattle.ymx_seats.specs.Views.{LogView, HasIf};
 
     ghost Value = { LogView };
 
-    ghost view = { λ s. record { entries = s.entries.items; room = vec_capacity s.entries - vec_len s.entries } };
+    ghost view = { λ s. record { entries = s.entries.items; room = vec_capacity s.entries - vec_len s.entries; journal = s.journal } };
 
-    ghost invariant = { λ s. RisesFrom 0 s.entries.items × (behind_all 0 s.entries.items ≤ vec_len s.entries) };
+    ghost invariant = { λ s. RisesFrom 0 s.entries.items × (behind_all 0 s.entries.items ≤ vec_len s.entries) × HasIf R.WITNESSED s.journal };
 }
 
 impl<R: Recorder> Log<R> {
     ghost use Rattle.ymx_seats.specs.Tallies.{RisesFrom};
-    ghost use Rattle.ymx_seats.specs.Views.{kept_entries, entry};
+    ghost use Rattle.ymx_seats.specs.Views.{kept_entries, entry, journal_after, with_caller, whole_of, HasNumbered, IsBehind, IsWitnessed, IsNewcomer};
     ghost use Rattle.ymx_seats.specs.Slips.{asked_by, told_by, bytes_told, IsReady};
 
-    /// No entries.
+    /// No entries, and no journal.
     pub fn new(alloc: Global) -> Log<R>
-        ensures { result.entries ≡ [] }
+        requires { R.WITNESSED ≡ false }
+        ensures entries { result.entries ≡ [] }
+        ensures journal { result.journal ≡ None }
     {
         Log {
             entries: Vec::new(alloc),
+            journal: None,
             kind: PhantomData,
         }
+    }
+
+    /// No entries, with the journal that this opens.
+    pub fn witnessed(alloc: Global, opened: Opened) -> Log<R>
+        requires witnessed { R.WITNESSED ≡ true }
+        requires named { opened ≡ R.table }
+        ensures entries { result.entries ≡ [] }
+        ensures journal { result.journal ≡ Some (record { whole = []; made = 0 }) }
+    {
+        Log {
+            entries: Vec::new(alloc),
+            journal: Some(opened.named()),
+            kind: PhantomData,
+        }
+    }
+
+    /// A new seat of this number, which is how many were given where there is a journal. Its entries come behind those that
+    /// are there, and it has seen the whole history, of which no entry is its own. Takes no memory.
+    pub fn seat(&mut self, alloc: Global, number: u32) -> Seat<R>
+        requires next { HasNumbered number self.old.journal }
+        requires history { IsWitnessed R.WITNESSED R.role R.config (whole_of self.old.journal) }
+        ensures number { result.number ≡ number }
+        ensures start { result.start ≡ length self.old.entries }
+        ensures empty { result.entries ≡ [] }
+        ensures seen { result.seen ≡ whole_of self.old.journal }
+        ensures newcomer { IsNewcomer number result.seen }
+        ensures counted { self.new ≡ record self.old { journal = with_caller self.old.journal } }
+    {
+        let start = self.next_position();
+        let witness = match &mut self.journal {
+            Some(journal) => Some(journal.witness()),
+            None => None,
+        };
+        Seat::with_witness(alloc, number, start, witness)
     }
 
     /// The position of the next entry: how many there are.
@@ -62,9 +107,11 @@ impl<R: Recorder> Log<R> {
         entries: usize,
     ) -> Result<Slip, AllocError>
         ensures entries { self.new.entries ≡ self.old.entries }
+        ensures journal { self.new.journal ≡ self.old.journal }
         ensures number { seat.new.number ≡ seat.old.number }
         ensures start { seat.new.start ≡ seat.old.start }
         ensures seat_entries { seat.new.entries ≡ seat.old.entries }
+        ensures seen { seat.new.seen ≡ seat.old.seen }
         ensures ready { IfOk result (λ s. IsReady R.KEEPS s (asked_by ask.entry) bytes) }
         ensures room { R.KEEPS ≡ true → OnOk result ((entries ≤ self.new.room) × (entries ≤ seat.new.room)) }
         ensures grows { (self.old.room ≤ self.new.room) × (seat.old.room ≤ seat.new.room) }
@@ -80,16 +127,23 @@ impl<R: Recorder> Log<R> {
         })
     }
 
-    /// Adds the entry of an event to the log and to its seat, in the memory of its slip.
+    /// Adds the entry of an event to the log and to its seat, in the memory of its slip, and to the journal. What the seat
+    /// had seen is a beginning of the journal's history before, and no other entry of that is the seat's. The seat has then
+    /// seen all.
     pub fn add(&mut self, seat: &mut Seat<R>, slip: Slip, ask: Ask<'_>, tell: Tell<'_>)
         requires ready { IsReady R.KEEPS slip (asked_by ask) (bytes_told tell) }
         requires room { R.KEEPS ≡ true → (0 < self.old.room) × (0 < seat.old.room) }
+        requires history { IsWitnessed R.WITNESSED R.role R.config (whole_of (journal_after seat.old.number (asked_by ask) (told_by tell) self.old.journal)) }
         ensures number { seat.new.number ≡ seat.old.number }
         ensures start { seat.new.start ≡ seat.old.start }
         ensures entries { self.new.entries ≡ self.old.entries ++ kept_entries R.KEEPS (entry (length self.old.entries) seat.old.number (asked_by ask.entry) (told_by tell.entry)) }
         ensures seat_entries { seat.new.entries ≡ seat.old.entries ++ kept_entries R.KEEPS (entry (length self.old.entries) seat.old.number (asked_by ask.entry) (told_by tell.entry)) }
         ensures left { R.KEEPS ≡ true → (self.new.room + 1 ≡ self.old.room) × (seat.new.room + 1 ≡ seat.old.room) }
+        ensures journal { self.new.journal ≡ journal_after seat.old.number (asked_by ask.entry) (told_by tell.entry) self.old.journal }
+        ensures seen { seat.new.seen ≡ whole_of self.new.journal }
+        ensures behind { IsBehind seat.old.number seat.old.seen self.old.journal }
     {
+        self.attest(seat, ask, tell);
         let Some(copies) = slip.copies else {
             return;
         };
@@ -115,6 +169,30 @@ impl<R: Recorder> Log<R> {
         });
     }
 
+    /// Adds the entry of an event to the journal, if there is one.
+    fn attest(&mut self, seat: &mut Seat<R>, ask: Ask<'_>, tell: Tell<'_>)
+        requires history { IsWitnessed R.WITNESSED R.role R.config (whole_of (journal_after seat.old.number (asked_by ask) (told_by tell) self.old.journal)) }
+        ensures log { self.new ≡ record self.old { journal = journal_after seat.old.number (asked_by ask.entry) (told_by tell.entry) self.old.journal } }
+        ensures seat { seat.new ≡ record seat.old { seen = whole_of self.new.journal } }
+        ensures behind { IsBehind seat.old.number seat.old.seen self.old.journal }
+    {
+        if let (Some(journal), Some(witness)) = (&mut self.journal, &mut seat.witness) {
+            note::<R, Brand>(journal, witness, ask, tell);
+        }
+    }
+
+    /// Shows the whole history of the journal to this seat, if there is one.
+    pub fn show(&mut self, seat: &mut Seat<R>)
+        requires history { IsWitnessed R.WITNESSED R.role R.config (whole_of self.old.journal) }
+        ensures same { self.new ≡ self.old }
+        ensures seat { seat.new ≡ record seat.old { seen = whole_of self.old.journal } }
+        ensures behind { IsBehind seat.old.number seat.old.seen self.old.journal }
+    {
+        if let (Some(journal), Some(witness)) = (&mut self.journal, &mut seat.witness) {
+            journal.show(witness);
+        }
+    }
+
     /// The entries so far. Their positions rise.
     pub fn entries(&self) -> &[Entry]
         ensures entries { result.now ≡ self.now.entries }
@@ -123,11 +201,28 @@ impl<R: Recorder> Log<R> {
         &self.entries
     }
 
-    /// The entries, moved out.
-    pub fn into_entries(self) -> Vec<Entry>
-        ensures { result.items ≡ self.entries }
+    /// The entries, moved out. The journal stays.
+    pub fn take_entries(&mut self, alloc: Global) -> Vec<Entry>
+        ensures out { result.items ≡ self.old.entries }
+        ensures none { self.new.entries ≡ [] }
+        ensures journal { self.new.journal ≡ self.old.journal }
     {
-        let Log { entries, kind: _ } = self;
-        entries
+        mem::replace(&mut self.entries, Vec::new(alloc))
     }
+}
+
+/// Adds the entry of an event to a journal.
+fn note<R: Recorder, N: Saying>(
+    journal: &mut Journal<R>,
+    witness: &mut Witness<R>,
+    ask: Ask<'_>,
+    tell: Tell<'_>,
+)
+    requires { N.entry ≡ entry (length journal.old.whole) witness.old.number (asked_by ask) (told_by tell) }
+    ensures added { journal.new ≡ record journal.old { whole = journal.old.whole ++ entry (length journal.old.whole) witness.old.number (asked_by ask.entry) (told_by tell.entry) ∷ [] } }
+    ensures witness { witness.new ≡ record { number = witness.old.number; seen = journal.new.whole } }
+    ensures before { IsPrefix witness.old.seen journal.old.whole }
+    ensures mine { part witness.old.number journal.old.whole ≡ part witness.old.number witness.old.seen }
+{
+    journal.add::<N>(witness);
 }

@@ -1,44 +1,78 @@
 //! The seat of a caller: its own list of what it did.
 
-ghost use Rattle.std.specs.Prelude.{◌≡◌, ◌-◌, ◌+◌, ◌<◌, ◌≤◌, ◌++◌, ◌∷◌, [], true, false, vec_capacity, vec_len, IsOk, OnOk, OnErr};
+ghost use Rattle.std.specs.Prelude.{◌≡◌, ◌-◌, ◌+◌, ◌<◌, ◌≤◌, ◌++◌, ◌∷◌, [], true, false, None, vec_capacity, vec_len, IsOk, OnOk, OnErr};
 
 use crate::recorder::Recorder;
 use std::alloc::{AllocError, Global};
 use std::marker::{Model, PhantomData};
+use ymx_journal::Witness;
 use ymx_model::Entry;
 
 /// A caller, with the entries of its events. It must be handed in at the end: it cannot be dropped.
-/// A contract sees its number, the first position that its entries may have, the entries, and for how many
-/// more there is memory.
+/// A contract sees its number, the first position that its entries may have, the entries, for how many more there is
+/// memory, and the history as it has seen it, if there is a journal: that is the history of a session.
 pub struct Seat<R: Recorder> {
     number: u32,
     start: u64,
     entries: Vec<Entry>,
+    pub(crate) witness: Option<Witness<R>>,
     kind: PhantomData<R>,
 }
 
 impl<R: Recorder> Model for Seat<R> {
     ghost use Rattle.std.specs.Prelude.{◌-◌, vec_capacity, vec_len};
-    ghost use Rattle.ymx_seats.specs.Views.{SeatView};
+    ghost use Rattle.ymx_seats.specs.Views.{SeatView, seen_by, IsOf, IsWitnessed};
 
     ghost Value = { SeatView };
 
-    ghost view = { λ s. record { number = s.number; start = s.start; entries = s.entries.items; room = vec_capacity s.entries - vec_len s.entries } };
+    ghost view = { λ s. record { number = s.number; start = s.start; entries = s.entries.items; room = vec_capacity s.entries - vec_len s.entries; seen = seen_by s.witness } };
+
+    ghost invariant = { λ s. IsOf s.number s.witness × IsWitnessed R.WITNESSED R.role R.config (seen_by s.witness) };
 }
 
 impl<R: Recorder> Seat<R> {
-    /// A seat with no entries, whose entries will have positions from `start` on. Takes no memory.
-    pub fn new(alloc: Global, number: u32, start: u64) -> Seat<R>
+    ghost use Rattle.ymx_seats.specs.Views.{IsWitnessed, IsOf, seen_by};
+
+    /// A seat with no entries, whose entries will have positions from `start` on, with this witness. Takes no memory.
+    pub(crate) fn with_witness(
+        alloc: Global,
+        number: u32,
+        start: u64,
+        witness: Option<Witness<R>>,
+    ) -> Seat<R>
+        requires of { IsOf number witness }
+        requires witnessed { IsWitnessed R.WITNESSED R.role R.config (seen_by witness) }
         ensures number { result.number ≡ number }
         ensures start { result.start ≡ start }
         ensures empty { result.entries ≡ [] }
+        ensures seen { result.seen ≡ seen_by witness }
     {
         Seat {
             number,
             start,
             entries: Vec::new(alloc),
+            witness,
             kind: PhantomData,
         }
+    }
+
+    /// A seat of no journal, with no entries, whose entries will have positions from `start` on. Takes no memory.
+    pub fn new(alloc: Global, number: u32, start: u64) -> Seat<R>
+        requires { R.WITNESSED ≡ false }
+        ensures number { result.number ≡ number }
+        ensures start { result.start ≡ start }
+        ensures empty { result.entries ≡ [] }
+        ensures seen { result.seen ≡ None }
+    {
+        Seat::with_witness(alloc, number, start, None)
+    }
+
+    /// What the seat has seen, where the recorder witnesses, is the history of a session of the role and the config that
+    /// the recorder names. It does nothing at run time.
+    pub fn history(&self)
+        ensures { IsWitnessed R.WITNESSED R.role R.config self.now.seen }
+    {
+        let _ = &self.witness;
     }
 
     /// Its number: seats are numbered 0, 1, 2, .. as they are given.
@@ -60,6 +94,7 @@ impl<R: Recorder> Seat<R> {
         ensures number { self.new.number ≡ self.old.number }
         ensures start { self.new.start ≡ self.old.start }
         ensures entries { self.new.entries ≡ self.old.entries }
+        ensures seen { self.new.seen ≡ self.old.seen }
         ensures ok { OnOk result (count ≤ self.new.room) }
         ensures room { self.old.room ≤ self.new.room }
     {
@@ -73,6 +108,7 @@ impl<R: Recorder> Seat<R> {
         ensures number { self.new.number ≡ self.old.number }
         ensures start { self.new.start ≡ self.old.start }
         ensures entries { self.new.entries ≡ self.old.entries ++ entry ∷ [] }
+        ensures seen { self.new.seen ≡ self.old.seen }
         ensures room { self.new.room + 1 ≡ self.old.room }
     {
         self.entries.push_reserved(entry);
@@ -93,6 +129,7 @@ impl<R: Recorder> Seat<R> {
             number: _,
             start: _,
             entries,
+            witness: _,
             kind: _,
         } = self;
         entries
