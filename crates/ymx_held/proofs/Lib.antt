@@ -1,4 +1,6 @@
 pub mod History
+pub mod Journals
+pub mod Extends
 pub mod Books
 pub mod Spares
 pub mod Given

@@ -1,5 +1,5 @@
 -- What a call does to what is under the lock, by what its session answered.
-use Rattle.std.proofs.Common.{◌≡◌, ℕ, ◌+◌, List, Bool, true, false, Result, Ok, Err, sym, subst, refl, ap, ◌∙◌, inr}
+use Rattle.std.proofs.Common.{◌≡◌, ℕ, ◌+◌, List, Bool, true, false, Option, Result, Ok, Err, sym, subst, refl, inr}
 use Rattle.ymx_model.specs.declared.types.Event.{Event}
 use Rattle.ymx_machine.specs.declared.types.Reply.{Reply}
 use Rattle.ymx_machine.specs.declared.types.Reply.TheVariants as reply
@@ -11,29 +11,32 @@ use Rattle.ymx_model.specs.session.Sessions.{Session}
 use Rattle.ymx_model.specs.session.Emissions.{in_turn}
 use Rattle.ymx_model.specs.session.Histories.{Gives}
 use Rattle.ymx_session.specs.Replies.{done_or}
-use Rattle.ymx_seats.specs.Views.{SeatView}
+use Rattle.ymx_journal.specs.Journals.{JournalView}
+use Rattle.ymx_seats.specs.Views.{SeatView, journal_after, with_caller, whole_of}
 use Rattle.ymx_held.specs.declared.faults.HubFault.{HubFault}
 use Rattle.ymx_held.specs.Answers.{hub_fault_of, hub_answer}
 use Rattle.ymx_held.specs.Held.{HeldView, is_half_spent, spent}
 use Rattle.ymx_held.specs.Booked.{to_forget}
 use Rattle.ymx_held.specs.Steps.{Steps, entries_after, IsNext, HandsOut, StepsAsked, HandsNone, GivesUp, StepsSpent, StepsClosed}
 
-abbrev view : Role → Config → Session → List Entry → (given unspent : ℕ) → List ℕ → Bool → HeldView
-view role config s es given unspent half_spent over =
-    record { role = role; config = config; session = s; entries = es; given = given; unspent = unspent; half_spent = half_spent; ended = over }
+abbrev view : Role → Config → Session → List Entry → Option JournalView → (given unspent : ℕ) → List ℕ → Bool → HeldView
+view role config s es j given unspent half_spent over =
+    record { role = role; config = config; session = s; entries = es; journal = j; given = given; unspent = unspent; half_spent = half_spent; ended = over }
 
 -- one event, by what is held before and behind it
-pub steps_of : (keeps : Bool) (event : Event) (told : Reply) (seat : ℕ) (old : HeldView) (role : Role) (config : Config) (s t : Session) (es fs : List Entry) (given unspent : ℕ) (half_spent : List ℕ) (over : Bool) → old ≡ record { role = role; config = config; session = s; entries = es; given = given; unspent = unspent; half_spent = half_spent; ended = over } → Gives in_turn s event told t → fs ≡ entries_after keeps seat event told es → Steps keeps seat event told old (record { role = role; config = config; session = t; entries = fs; given = given; unspent = unspent; half_spent = half_spent; ended = over })
-steps_of keeps event told seat old role config s t es fs given unspent half_spent over e g f =
-    subst (λ (h : HeldView). Steps keeps seat event told h (view role config t fs given unspent half_spent over)) (sym e) (record { gives = g; rest = ap (λ (xs : List Entry). view role config t xs given unspent half_spent over) f })
+pub steps_of : (keeps : Bool) (event : Event) (told : Reply) (seat : ℕ) (old : HeldView) (role : Role) (config : Config) (s t : Session) (es fs : List Entry) (j k : Option JournalView) (given unspent : ℕ) (half_spent : List ℕ) (over : Bool) → old ≡ record { role = role; config = config; session = s; entries = es; journal = j; given = given; unspent = unspent; half_spent = half_spent; ended = over } → Gives in_turn s event told t → fs ≡ entries_after keeps seat event told es → k ≡ journal_after seat event told j → Steps keeps seat event told old (record { role = role; config = config; session = t; entries = fs; journal = k; given = given; unspent = unspent; half_spent = half_spent; ended = over })
+steps_of keeps event told seat old role config s t es fs j k given unspent half_spent over e g f h =
+    subst (λ (o : HeldView). Steps keeps seat event told o (view role config t fs k given unspent half_spent over)) (sym e) (record {
+      gives = g;
+      rest = λ i. view role config t (f i) (h i) given unspent half_spent over;
+    })
 
 -- a stream is handed out, by what is held before and behind it
-pub hands_of : (keeps : Bool) (event : Event) (told : Reply) (seat : ℕ) (one other : SeatView) (old : HeldView) (role : Role) (config : Config) (s t : Session) (es fs : List Entry) (given after unspent left : ℕ) (half_spent : List ℕ) (over : Bool) → old ≡ record { role = role; config = config; session = s; entries = es; given = given; unspent = unspent; half_spent = half_spent; ended = over } → Gives in_turn s event told t → fs ≡ entries_after keeps seat event told es → after ≡ given + 2 → left ≡ unspent + 1 → IsNext given fs one → IsNext (given + 1) fs other → HandsOut keeps seat event told one other old (record { role = role; config = config; session = t; entries = fs; given = after; unspent = left; half_spent = half_spent; ended = over })
-hands_of keeps event told seat one other old role config s t es fs given after unspent left half_spent over e g f a l n m =
-    subst (λ (h : HeldView). HandsOut keeps seat event told one other h (view role config t fs after left half_spent over)) (sym e) (record {
+pub hands_of : (keeps : Bool) (event : Event) (told : Reply) (seat : ℕ) (one other : SeatView) (old : HeldView) (role : Role) (config : Config) (s t : Session) (es fs : List Entry) (j k : Option JournalView) (given after unspent left : ℕ) (half_spent : List ℕ) (over : Bool) → old ≡ record { role = role; config = config; session = s; entries = es; journal = j; given = given; unspent = unspent; half_spent = half_spent; ended = over } → Gives in_turn s event told t → fs ≡ entries_after keeps seat event told es → k ≡ with_caller (with_caller (journal_after seat event told j)) → after ≡ given + 2 → left ≡ unspent + 1 → IsNext given fs (whole_of k) one → IsNext (given + 1) fs (whole_of k) other → HandsOut keeps seat event told one other old (record { role = role; config = config; session = t; entries = fs; journal = k; given = after; unspent = left; half_spent = half_spent; ended = over })
+hands_of keeps event told seat one other old role config s t es fs j k given after unspent left half_spent over e g f h a l n m =
+    subst (λ (o : HeldView). HandsOut keeps seat event told one other o (view role config t fs k after left half_spent over)) (sym e) (record {
       gives = g;
-      rest = ap (λ (xs : List Entry). view role config t xs after left half_spent over) f ∙ ap (λ (k : ℕ). view role config t (entries_after keeps seat event told es) k left half_spent over) a
-          ∙ ap (λ (k : ℕ). view role config t (entries_after keeps seat event told es) (given + 2) k half_spent over) l;
+      rest = λ i. view role config t (f i) (h i) (a i) (l i) half_spent over;
       first = n;
       second = m;
     })

@@ -1,5 +1,5 @@
--- What an event under the lock adds to the list of its seat (this project's own).
-use Rattle.std.specs.Prelude.{◌≡◌, ℕ, ◌<◌, ◌⊎◌, List, [], ◌∷◌, ◌++◌, Bool, true, false, Option, Some, None, Result, Ok, Err}
+-- What an event under the lock adds to the list of its seat, and to the history that its seat has seen (this project's own).
+use Rattle.std.specs.Prelude.{◌≡◌, ℕ, ◌<◌, ◌⊎◌, List, [], ◌∷◌, ◌++◌, length, Bool, true, false, Option, Some, None, Result, Ok, Err}
 use Rattle.ymx_machine.specs.declared.types.CallFault.{CallFault}
 use Rattle.ymx_model.specs.declared.types.Event.{Event}
 use Rattle.ymx_model.specs.declared.types.Event.TheVariants as event
@@ -8,6 +8,7 @@ use Rattle.ymx_machine.specs.declared.types.Reply.{Reply}
 use Rattle.ymx_machine.specs.declared.types.Reply.TheVariants as reply
 use Rattle.ymx_model.specs.declared.types.Entry.{Entry}
 use Rattle.ymx_session.specs.Replies.{done_or}
+use Rattle.ymx_journal.specs.Journals.{part}
 use Rattle.ymx_seats.specs.Views.{SeatView, entry}
 use Rattle.ymx_held.specs.declared.faults.HubFault.{HubFault}
 use Rattle.ymx_held.specs.declared.stream_calls.Ending.{Ending}
@@ -65,11 +66,28 @@ abbrev pub Gains : Bool → List Entry → List Entry → (List Entry → Type 0
 Gains true before after Such = (added : List Entry) × (after ≡ before ++ added) × Such added
 Gains false before after Such = Unit {0}
 
--- A call keeps the number and the start of its seat, and a recorder that keeps has added entries that are such.
+-- The history that a seat of this number had seen grows by these entries of its own, in their order, each at its place.
+-- Before each of them there may be new ones of others, and none of its own.
+abbrev pub Grows : (number : ℕ) → (before added after : List Entry) → Type 0
+Grows number before [] after = after ≡ before
+Grows number before (e ∷ es) after =
+    (between : List Entry) × (part number between ≡ []) × (e.position ≡ length (before ++ between))
+    × Grows number ((before ++ between) ++ e ∷ []) es after
+
+-- where there is a journal, the history that a seat had seen has grown by entries of its own that are such
+abbrev pub Extends : (number : ℕ) → (before after : Option (List Entry)) → (List Entry → Type 0) → Type 0
+Extends number None None Such = Unit {0}
+Extends number None (Some after) Such = ⊥
+Extends number (Some before) None Such = ⊥
+Extends number (Some before) (Some after) Such = (added : List Entry) × Such added × Grows number before added after
+
+-- A call keeps the number and the start of its seat. A recorder that keeps has added entries that are such, and by one that
+-- witnesses the history that the seat has seen has grown by entries that are such.
 pub record Books (keeps : Bool) (old new : SeatView) (Such : List Entry → Type 0) : Type 0 where
   pub number : new.number ≡ old.number
   pub start : new.start ≡ old.start
   pub gains : Gains keeps old.entries new.entries Such
+  pub extends : Extends old.number old.seen new.seen Such
 
 -- one entry, which names this seat
 abbrev pub One : ℕ → Event → Reply → List Entry → Type 0
@@ -95,11 +113,20 @@ IsRefused event seat fault added =
     (((fault ≡ Memory) ⊎ (fault ≡ Seats)) × (added ≡ []))
     ⊎ ((why : CallFault) × (fault ≡ hub_fault_of why) × One seat event (reply.Refused why) added)
 
+-- A seat starts after this entry: its own have later positions; and the history that it has seen, where there is a journal,
+-- ends with this event and reply.
+abbrev pub StartsBehind : Entry → (start : ℕ) → Option (List Entry) → Type 0
+StartsBehind e start None = e.position < start
+StartsBehind e start (Some seen) = (before : List Entry) × (position : ℕ) × (seen ≡ before ++ entry position e.seat e.event e.reply ∷ [])
+
+abbrev pub StartsAfter : Entry → SeatView → Type 0
+StartsAfter e seat = StartsBehind e seat.start seat.seen
+
 -- one entry, which gave a stream; the seats of both its halves start after it, with no entry
 abbrev pub IsGiven : Event → Reply → ℕ → SeatView → SeatView → List Entry → Type 0
 IsGiven event told seat one other added =
-    (position : ℕ) × (added ≡ entry position seat event told ∷ []) × (position < one.start) × (position < other.start)
-    × (one.entries ≡ []) × (other.entries ≡ [])
+    (position : ℕ) × (added ≡ entry position seat event told ∷ []) × StartsAfter (entry position seat event told) one
+    × StartsAfter (entry position seat event told) other × (one.entries ≡ []) × (other.entries ≡ [])
 
 -- the stream that was opened
 abbrev pub Opens : ℕ → Result (ℕ × SeatView × SeatView) HubFault → List Entry → Type 0

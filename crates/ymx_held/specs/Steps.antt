@@ -8,7 +8,7 @@ use Rattle.ymx_model.specs.declared.types.Entry.{Entry}
 use Rattle.ymx_model.specs.session.Emissions.{in_turn}
 use Rattle.ymx_model.specs.session.Histories.{Gives}
 use Rattle.ymx_session.specs.Replies.{done_or}
-use Rattle.ymx_seats.specs.Views.{SeatView, kept_entries, entry}
+use Rattle.ymx_seats.specs.Views.{SeatView, kept_entries, entry, journal_after, with_caller, whole_of, IsNewcomer}
 use Rattle.ymx_held.specs.declared.faults.HubFault.{HubFault}
 use Rattle.ymx_held.specs.declared.faults.HubFault.TheVariants.{Memory, Seats}
 use Rattle.ymx_held.specs.Answers.{hub_fault_of, hub_answer}
@@ -21,11 +21,15 @@ use Rattle.ymx_held.specs.Held.{HeldView, is_half_spent, spent}
 abbrev pub entries_after : (keeps : Bool) (seat : ℕ) (event : Event) (told : Reply) → List Entry → List Entry
 entries_after keeps seat event told es = es ++ kept_entries keeps (entry (length es) seat event told)
 
--- The session goes by this event, which gives this reply, to the session behind it; its entry is kept; and nothing else
--- changes.
+-- The session goes by this event, which gives this reply, to the session behind it; its entry is kept, and stands in the
+-- journal; and nothing else changes.
 pub record Steps (keeps : Bool) (seat : ℕ) (event : Event) (told : Reply) (old new : HeldView) : Type 0 where
   pub gives : Gives in_turn old.session event told new.session
-  pub rest : new ≡ record old { session = new.session; entries = entries_after keeps seat event told old.entries }
+  pub rest : new ≡ record old {
+    session = new.session;
+    entries = entries_after keeps seat event told old.entries;
+    journal = journal_after seat event told old.journal;
+  }
 
 -- there was no memory for the entry, which only a recorder that keeps it needs, and nothing was done
 abbrev pub LacksEntry : (keeps : Bool) → HubFault → (old new : HeldView) → Type 0
@@ -45,9 +49,10 @@ StepsTold keeps event told seat (Err fault) old new = LacksEntry keeps fault old
 
 -- ---- streams that are handed out
 
--- a new seat of this number, whose entries come behind these
-abbrev pub IsNext : (number : ℕ) → List Entry → SeatView → Type 0
-IsNext number entries seat = (seat.number ≡ number) × (seat.start ≡ length entries) × (seat.entries ≡ [])
+-- a new seat of this number, whose entries come behind these, and which has seen this history, in which none of its own stands
+abbrev pub IsNext : (number : ℕ) → List Entry → Option (List Entry) → SeatView → Type 0
+IsNext number entries history seat =
+    (seat.number ≡ number) × (seat.start ≡ length entries) × (seat.entries ≡ []) × (seat.seen ≡ history) × IsNewcomer number seat.seen
 
 -- one event that gave a stream, for whose halves two seats more are given
 pub record HandsOut (keeps : Bool) (seat : ℕ) (event : Event) (told : Reply) (one other : SeatView) (old new : HeldView) : Type 0 where
@@ -55,11 +60,12 @@ pub record HandsOut (keeps : Bool) (seat : ℕ) (event : Event) (told : Reply) (
   pub rest : new ≡ record old {
     session = new.session;
     entries = entries_after keeps seat event told old.entries;
+    journal = with_caller (with_caller (journal_after seat event told old.journal));
     given = old.given + 2;
     unspent = old.unspent + 1;
   }
-  pub first : IsNext old.given new.entries one
-  pub second : IsNext (old.given + 1) new.entries other
+  pub first : IsNext old.given new.entries (whole_of new.journal) one
+  pub second : IsNext (old.given + 1) new.entries (whole_of new.journal) other
 
 -- no memory, or no two seats left, and nothing was done; or the session refused it
 abbrev pub HandsNone : (keeps : Bool) (seat : ℕ) → Event → HubFault → (old new : HeldView) → Type 0

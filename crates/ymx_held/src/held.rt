@@ -1,6 +1,6 @@
 //! The value under the lock of a hub.
 
-ghost use Rattle.std.specs.Prelude.{◌≡◌, ◌≢◌, ◌⊎◌, ◌+◌, ◌^◌, ◌<◌, ◌↔◌, List, [], ◌∷◌, length, true, false, IsTrue, IfOk, IfErr, OnOk, OnErr, MatchResult};
+ghost use Rattle.std.specs.Prelude.{◌≡◌, ◌≢◌, ◌⊎◌, ◌+◌, ◌^◌, ◌<◌, ◌↔◌, List, [], ◌∷◌, length, true, false, Some, None, IsTrue, IfOk, IfErr, OnOk, OnErr, MatchResult};
 ghost use Rattle.std.specs.List.Sorted.{IsPermutation};
 ghost use Rattle.ymx_machine.specs.declared.types.Reply.TheVariants as reply;
 ghost use Rattle.ymx_machine.specs.declared.types.Wrote.TheVariants as wrote;
@@ -8,8 +8,10 @@ ghost use Rattle.ymx_model.specs.session.Calls.{read_from, write_to};
 ghost use Rattle.ymx_model.specs.session.Emissions.{is_ready};
 ghost use Rattle.ymx_seats.specs.Tallies.{Tallies};
 ghost use Rattle.ymx_seats.specs.Transcripts.{IsNew};
-ghost use Rattle.ymx_seats.specs.Views.{SeatView};
+ghost use Rattle.ymx_seats.specs.Views.{SeatView, whole_of, with_caller, IsBehind};
 ghost use Rattle.ymx_held.specs.Answers.{IsNotMemory};
+ghost use Rattle.ymx_held.specs.Held.{fresh, config_of, IsUnused};
+ghost use Rattle.ymx_held.specs.Steps.{IsNext};
 ghost use Rattle.ymx_held.specs.declared.end_fault.EndWhy.TheVariants.{SeatsOut, OutOfOrder};
 
 use crate::end_fault::{EndFault, EndWhy};
@@ -17,7 +19,7 @@ use crate::faults::HubFault;
 use indexmap::IndexSet;
 use std::alloc::Global;
 use std::marker::Model;
-use std::mem;
+use ymx_journal::Opened;
 use ymx_model::{CallFault, Config, Role, Status};
 use ymx_seats::{Log, Recorder, Seat, Transcript, agree, let_go};
 use ymx_session::Session;
@@ -25,7 +27,7 @@ use ymx_session::Session;
 /// A session, with what it was made, the log of its events, how many seats were given, how many streams have both
 /// halves unspent, and the ids of those with one half spent. A contract sees all of these, and whether the transcript
 /// was handed out. Until then the log is the history of the session, from the one of this role and config that has done
-/// nothing.
+/// nothing; and where the recorder witnesses, its journal always is.
 #[derive(Drop)]
 pub struct Held<R: Recorder> {
     pub(crate) alloc: Global,
@@ -43,7 +45,7 @@ impl<R: Recorder> Model for Held<R> {
     ghost use Rattle.std.specs.Prelude.{◌≤◌};
     ghost use Rattle.indexmap.specs.IndexSet.{spare};
     ghost use Rattle.ymx_seats.specs.Transcripts.{IsGood};
-    ghost use Rattle.ymx_held.specs.Held.{HeldView, Kept};
+    ghost use Rattle.ymx_held.specs.Held.{HeldView, Kept, IsJournaled};
 
     ghost Value = { HeldView };
 
@@ -52,20 +54,46 @@ impl<R: Recorder> Model for Held<R> {
       config = s.config;
       session = s.session;
       entries = s.log.entries;
+      journal = s.log.journal;
       given = s.given;
       unspent = s.unspent;
       half_spent = s.half_spent.keys;
       ended = s.ended;
     } };
 
-    ghost invariant = { λ s. Kept R.KEEPS s.ended s.role s.config s.log.entries s.session × (s.unspent ≤ spare s.half_spent) × (s.unspent ≤ s.given) × IsGood s.role s.config };
+    ghost invariant = { λ s. Kept R.KEEPS s.ended s.role s.config s.log.entries s.session × (s.unspent ≤ spare s.half_spent) × (s.unspent ≤ s.given) × IsGood s.role s.config × IsJournaled R.WITNESSED R.role R.config s.role s.config s.log.journal s.session s.given };
 }
 
 impl<R: Recorder> Held<R> {
-    /// Holds a session that has done nothing, with no entries and no seats. Takes no memory.
+    /// Holds a session that has done nothing, with no entries, no journal and no seats. Takes no memory.
     pub fn new(alloc: Global, session: Session) -> Held<R>
-        requires { IsNew session }
-        ensures { result ≡ record { role = session.role; config = record { window = session.table.window; first = session.next }; session = session; entries = []; given = 0; unspent = 0; half_spent = []; ended = false } }
+        requires new { IsNew session }
+        requires unwitnessed { R.WITNESSED ≡ false }
+        ensures { result ≡ fresh session None }
+    {
+        Held::over(alloc, session, Log::new(alloc))
+    }
+
+    /// Holds a session that has done nothing, with no entries and no seats, and the journal that this opens. The recorder
+    /// names the journal, and the session's role and config. Takes no memory.
+    pub fn witnessed(alloc: Global, session: Session, opened: Opened) -> Held<R>
+        requires new { IsNew session }
+        requires witnessed { R.WITNESSED ≡ true }
+        requires named { opened ≡ R.table }
+        requires role { session.role ≡ R.role }
+        requires config { config_of session ≡ R.config }
+        ensures { result ≡ fresh session (Some (record { whole = []; made = 0 })) }
+    {
+        Held::over(alloc, session, Log::witnessed(alloc, opened))
+    }
+
+    /// Holds a session that has done nothing, with this log, in which nothing is.
+    #[tactic(auto, using(crate::proofs::Journals::journaled_new))]
+    fn over(alloc: Global, session: Session, log: Log<R>) -> Held<R>
+        requires new { IsNew session }
+        requires none { log.entries ≡ [] }
+        requires journal { IsUnused R.WITNESSED R.role R.config session log.journal }
+        ensures { result ≡ fresh session log.journal }
     {
         let config = Config {
             window: session.window(),
@@ -76,7 +104,7 @@ impl<R: Recorder> Held<R> {
             role: session.role(),
             config,
             session,
-            log: Log::new(alloc),
+            log,
             given: 0,
             unspent: 0,
             half_spent: IndexSet::new(alloc),
@@ -84,12 +112,14 @@ impl<R: Recorder> Held<R> {
         }
     }
 
-    /// A new seat, whose entries come after those that are there. `Closed` once the transcript was handed out, and
-    /// `Seats` after 4,294,967,295 of them: nothing is changed then. Takes no memory.
+    /// A new seat, whose entries come after those that are there, and which has seen the whole history, where there is a
+    /// journal. `Closed` once the transcript was handed out, and `Seats` after 4,294,967,295 of them: nothing is changed
+    /// then. Takes no memory.
+    #[tactic(auto, using(crate::proofs::Journals::journaled_seat, crate::proofs::Journals::witnessed_now, crate::proofs::Journals::numbered_now))]
     pub fn seat(&mut self) -> Result<Seat<R>, HubFault>
         ensures spares { IsNotMemory result }
-        ensures new { IfOk result (λ seat. (seat.number ≡ self.old.given) × (seat.entries ≡ []) × (seat.start ≡ length self.old.entries)) }
-        ensures counted { MatchResult result (λ seat. self.new ≡ record self.old { given = self.old.given + 1 }) (λ fault. self.new ≡ self.old) }
+        ensures new { IfOk result (IsNext self.old.given self.old.entries (whole_of self.old.journal)) }
+        ensures counted { MatchResult result (λ seat. self.new ≡ record self.old { given = self.old.given + 1; journal = with_caller self.old.journal }) (λ fault. self.new ≡ self.old) }
         ensures goes_on { OnOk result ((self.old.ended ≡ false) × (self.old.given + 1 < 2 ^ 32)) }
         ensures refused { IfErr result (λ fault. ((fault ≡ HubFault.Call CallFault.Closed) × (self.old.ended ≡ true)) ⊎ ((fault ≡ HubFault.Seats) × (self.old.ended ≡ false) × (self.old.given + 1 ≡ 2 ^ 32))) }
     {
@@ -99,9 +129,19 @@ impl<R: Recorder> Held<R> {
         if self.given == u32::MAX {
             return Err(HubFault::Seats);
         }
-        let seat = Seat::new(self.alloc, self.given, self.log.next_position());
+        let seat = self.log.seat(self.alloc, self.given);
         self.given += 1;
         Ok(seat)
+    }
+
+    /// Shows the whole history to a seat, where there is a journal. Nothing else changes.
+    #[tactic(auto, using(crate::proofs::Journals::witnessed_now))]
+    pub fn show(&mut self, seat: &mut Seat<R>)
+        ensures same { self.new ≡ self.old }
+        ensures seat { seat.new ≡ record seat.old { seen = whole_of self.old.journal } }
+        ensures behind { IsBehind seat.old.number seat.old.seen self.old.journal }
+    {
+        self.log.show(seat);
     }
 
     /// Whether something is due.
@@ -165,7 +205,7 @@ impl<R: Recorder> Held<R> {
         }
         let_go(seats);
         self.ended = true;
-        let log = mem::replace(&mut self.log, Log::new(self.alloc));
-        Ok(Transcript::new(self.role, self.config, log.into_entries()))
+        let entries = self.log.take_entries(self.alloc);
+        Ok(Transcript::new(self.role, self.config, entries))
     }
 }

@@ -17,7 +17,7 @@ impl<R: Recorder> Held<R> {
     /// Feeds bytes that came from the peer, and notes the streams that they touch, and an answer to a ping, behind what
     /// was noted before. A stream that isn't noted then is as it was, and a stream is noted only where the end of a
     /// header of its frames, or payload of it, was among the bytes taken.
-    #[tactic(auto, using(crate::proofs::History::kept_after, crate::proofs::Books::books_one))]
+    #[tactic(auto, using(crate::proofs::History::kept_after, crate::proofs::Journals::journaled_after, crate::proofs::Journals::witnessed_after, crate::proofs::Books::books_one))]
     pub fn feed(
         &mut self,
         seat: &mut Seat<R>,
@@ -42,7 +42,7 @@ impl<R: Recorder> Held<R> {
     }
 
     /// The peer's bytes have ended.
-    #[tactic(auto, using(crate::proofs::History::kept_after, crate::proofs::Books::books_one))]
+    #[tactic(auto, using(crate::proofs::History::kept_after, crate::proofs::Journals::journaled_after, crate::proofs::Journals::witnessed_after, crate::proofs::Books::books_one))]
     pub fn feed_end(&mut self, seat: &mut Seat<R>) -> Result<(), HubFault>
         ensures booked { Books R.KEEPS seat.old seat.new (Does event.FeedEnd (λ _. reply.Done) seat.old.number result) }
         ensures steps { StepsTold R.KEEPS event.FeedEnd (λ _. reply.Done) seat.old.number result self.old self.new }
@@ -58,7 +58,7 @@ impl<R: Recorder> Held<R> {
 
     /// Emits into the buffer as much as is due and fits, and returns how many bytes stand at its front. The rest of
     /// the buffer stays as it was.
-    #[tactic(auto, using(crate::proofs::History::kept_after, crate::proofs::Books::books_one))]
+    #[tactic(auto, using(crate::proofs::History::kept_after, crate::proofs::Journals::journaled_after, crate::proofs::Journals::witnessed_after, crate::proofs::Books::books_one))]
     pub fn emit(&mut self, seat: &mut Seat<R>, buffer: &mut [u8]) -> Result<usize, HubFault>
         ensures booked { Books R.KEEPS seat.old seat.new (Does (event.Emit (length buffer.old)) (λ count. reply.Emitted (take count buffer.new)) seat.old.number result) }
         ensures steps { StepsTold R.KEEPS (event.Emit (length buffer.old)) (λ count. reply.Emitted (take count buffer.new)) seat.old.number result self.old self.new }

@@ -5,20 +5,21 @@ ghost use Rattle.indexmap.specs.IndexSet.{spare, IsUnchanged};
 ghost use Rattle.ymx_session.specs.Replies.{opened_or, opened_with_or, accepted_or};
 ghost use Rattle.ymx_seats.specs.Slips.{told_by, bytes_told};
 ghost use Rattle.ymx_held.specs.Booked.{Books, Opens, OpensWith, AcceptsOnce};
-ghost use Rattle.ymx_held.specs.Steps.{StepsOpened, StepsOpenedWith, StepsAccepted};
+ghost use Rattle.ymx_seats.specs.Views.{HasNumbered, IsWitnessed, whole_of, with_caller};
+ghost use Rattle.ymx_held.specs.Steps.{IsNext, StepsOpened, StepsOpenedWith, StepsAccepted};
 
 use crate::faults::{HubFault, hub_fault};
 use crate::held::Held;
 use indexmap::IndexSet;
 use std::alloc::Global;
 use ymx_model::CallFault;
-use ymx_seats::{Ask, Recorder, Seat, Tell};
+use ymx_seats::{Ask, Log, Recorder, Seat, Tell};
 
 impl<R: Recorder> Held<R> {
     /// Opens the next own stream, with a seat for each of its halves, which start after the entry of it.
     ///
     /// Without seats or memory for the halves and the entry, `Seats` or `Memory` comes, and nothing is done.
-    #[tactic(auto, using(crate::proofs::History::kept_after))]
+    #[tactic(auto, using(crate::proofs::History::kept_after, crate::proofs::Journals::journaled_after, crate::proofs::Journals::witnessed_after))]
     pub fn open(&mut self, seat: &mut Seat<R>) -> Result<(u32, Seat<R>, Seat<R>), HubFault>
         ensures booked { Books R.KEEPS seat.old seat.new (Opens seat.old.number result) }
         ensures steps { StepsOpened R.KEEPS seat.old.number result self.old self.new }
@@ -34,10 +35,9 @@ impl<R: Recorder> Held<R> {
         self.log.add(seat, slip, Ask::Open, tell_of_open(opened));
         match opened {
             Ok(id) => {
-                let start = self.log.next_position();
                 let (first, second) = hand_out(
+                    &mut self.log,
                     self.alloc,
-                    start,
                     &mut self.given,
                     &mut self.unspent,
                 );
@@ -48,7 +48,7 @@ impl<R: Recorder> Held<R> {
     }
 
     /// Opens the next own stream with these first bytes, as `open`, and says how many of them were taken.
-    #[tactic(auto, using(crate::proofs::History::kept_after))]
+    #[tactic(auto, using(crate::proofs::History::kept_after, crate::proofs::Journals::journaled_after, crate::proofs::Journals::witnessed_after))]
     pub fn open_with(
         &mut self,
         seat: &mut Seat<R>,
@@ -69,10 +69,9 @@ impl<R: Recorder> Held<R> {
         self.log.add(seat, slip, ask, tell_of_open_with(opened));
         match opened {
             Ok((id, taken)) => {
-                let start = self.log.next_position();
                 let (first, second) = hand_out(
+                    &mut self.log,
                     self.alloc,
-                    start,
                     &mut self.given,
                     &mut self.unspent,
                 );
@@ -84,7 +83,7 @@ impl<R: Recorder> Held<R> {
 
     /// One turn of an accept: the offered stream that came first, with a seat for each of its halves, or `None` if
     /// none is offered yet.
-    #[tactic(auto, using(crate::proofs::History::kept_after))]
+    #[tactic(auto, using(crate::proofs::History::kept_after, crate::proofs::Journals::journaled_after, crate::proofs::Journals::witnessed_after))]
     pub fn accept(
         &mut self,
         seat: &mut Seat<R>,
@@ -101,20 +100,20 @@ impl<R: Recorder> Held<R> {
         let accepted = self.session.accept();
         self.log
             .add(seat, slip, Ask::Accept, tell_of_accept(accepted));
-        match accepted {
-            Ok(Some(id)) => {
-                let start = self.log.next_position();
-                let (first, second) = hand_out(
-                    self.alloc,
-                    start,
-                    &mut self.given,
-                    &mut self.unspent,
-                );
-                Ok(Some((id, first, second)))
-            }
-            Ok(None) => Ok(None),
-            Err(fault) => Err(hub_fault(fault)),
-        }
+        let offer = match accepted {
+            Ok(offer) => offer,
+            Err(fault) => return Err(hub_fault(fault)),
+        };
+        let Some(id) = offer else {
+            return Ok(None);
+        };
+        let (first, second) = hand_out(
+            &mut self.log,
+            self.alloc,
+            &mut self.given,
+            &mut self.unspent,
+        );
+        Ok(Some((id, first, second)))
     }
 }
 
@@ -137,20 +136,24 @@ fn make_room(given: u32, unspent: usize, half_spent: &mut IndexSet<u32>) -> Resu
 }
 
 /// The seats of both halves of a stream that is handed out: the next two. One stream more has both halves unspent.
+#[tactic(auto, using(crate::proofs::Journals::numbered_next, crate::proofs::Journals::whole_with_caller))]
 fn hand_out<R: Recorder>(
+    log: &mut Log<R>,
     alloc: Global,
-    start: u64,
     given: &mut u32,
     unspent: &mut usize,
 ) -> (Seat<R>, Seat<R>)
     requires seats { given.old + 2 < 2 ^ 32 }
     requires streams { unspent.old + 1 < 2 ^ 64 }
-    ensures first { (result.0.number ≡ given.old) × (result.0.start ≡ start) × (result.0.entries ≡ []) }
-    ensures second { (result.1.number ≡ given.old + 1) × (result.1.start ≡ start) × (result.1.entries ≡ []) }
+    requires next { HasNumbered given.old log.old.journal }
+    requires history { IsWitnessed R.WITNESSED R.role R.config (whole_of log.old.journal) }
+    ensures first { IsNext given.old log.old.entries (whole_of log.old.journal) result.0 }
+    ensures second { IsNext (given.old + 1) log.old.entries (whole_of log.old.journal) result.1 }
+    ensures log { log.new ≡ record log.old { journal = with_caller (with_caller log.old.journal) } }
     ensures counted { (given.new ≡ given.old + 2) × (unspent.new ≡ unspent.old + 1) }
 {
-    let first = Seat::new(alloc, *given, start);
-    let second = Seat::new(alloc, *given + 1, start);
+    let first = log.seat(alloc, *given);
+    let second = log.seat(alloc, *given + 1);
     *given += 2;
     *unspent += 1;
     (first, second)

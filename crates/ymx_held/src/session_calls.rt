@@ -14,7 +14,7 @@ use ymx_seats::{Ask, Recorder, Seat, Tell};
 
 impl<R: Recorder> Held<R> {
     /// Asks the peer for a sign of life, and returns the ping's number.
-    #[tactic(auto, using(crate::proofs::History::kept_after, crate::proofs::Spares::ping_spares))]
+    #[tactic(auto, using(crate::proofs::History::kept_after, crate::proofs::Journals::journaled_after, crate::proofs::Journals::witnessed_after, crate::proofs::Spares::ping_spares))]
     pub fn ping(&mut self, seat: &mut Seat<R>) -> Result<u32, HubFault>
         ensures booked { Books R.KEEPS seat.old seat.new (Asks to_ping pinged_or seat.old.number result) }
         ensures steps { StepsAsked R.KEEPS to_ping pinged_or seat.old.number result self.old self.new }
@@ -29,7 +29,7 @@ impl<R: Recorder> Held<R> {
     }
 
     /// Whether the answer to this ping is back, which is then collected.
-    #[tactic(auto, using(crate::proofs::History::kept_after, crate::proofs::Spares::ponged_spares))]
+    #[tactic(auto, using(crate::proofs::History::kept_after, crate::proofs::Journals::journaled_after, crate::proofs::Journals::witnessed_after, crate::proofs::Spares::ponged_spares))]
     pub fn ponged(&mut self, seat: &mut Seat<R>, number: u32) -> Result<bool, HubFault>
         ensures booked { Books R.KEEPS seat.old seat.new (Asks (to_collect number) ponged_or seat.old.number result) }
         ensures steps { StepsAsked R.KEEPS (to_collect number) ponged_or seat.old.number result self.old self.new }
@@ -45,7 +45,7 @@ impl<R: Recorder> Held<R> {
     }
 
     /// Takes no more streams of the peer's.
-    #[tactic(auto, using(crate::proofs::History::kept_after, crate::proofs::Spares::go_away_spares))]
+    #[tactic(auto, using(crate::proofs::History::kept_after, crate::proofs::Journals::journaled_after, crate::proofs::Journals::witnessed_after, crate::proofs::Spares::go_away_spares))]
     pub fn go_away(&mut self, seat: &mut Seat<R>) -> Result<(), HubFault>
         ensures booked { Books R.KEEPS seat.old seat.new (Asks to_go_away done_or seat.old.number result) }
         ensures steps { StepsAsked R.KEEPS to_go_away done_or seat.old.number result self.old self.new }
@@ -60,7 +60,7 @@ impl<R: Recorder> Held<R> {
     }
 
     /// Closes the session.
-    #[tactic(auto, using(crate::proofs::History::kept_after))]
+    #[tactic(auto, using(crate::proofs::History::kept_after, crate::proofs::Journals::journaled_after, crate::proofs::Journals::witnessed_after))]
     pub fn close(&mut self, seat: &mut Seat<R>) -> Result<(), HubFault>
         ensures booked { Books R.KEEPS seat.old seat.new (Asks to_close done_or seat.old.number result) }
         ensures steps { StepsAsked R.KEEPS to_close done_or seat.old.number result self.old self.new }

@@ -18,7 +18,7 @@ use ymx_session::Session;
 
 impl<R: Recorder> Held<R> {
     /// Writes the first of these bytes, as many as there is credit for, or says that there is none.
-    #[tactic(auto, using(crate::proofs::History::kept_after))]
+    #[tactic(auto, using(crate::proofs::History::kept_after, crate::proofs::Journals::journaled_after, crate::proofs::Journals::witnessed_after))]
     pub fn write(&mut self, seat: &mut Seat<R>, id: u32, bytes: &[u8]) -> Result<Wrote, HubFault>
         ensures booked { Books R.KEEPS seat.old seat.new (Asks (to_write id bytes.now) wrote_or seat.old.number result) }
         ensures steps { StepsAsked R.KEEPS (to_write id bytes.now) wrote_or seat.old.number result self.old self.new }
@@ -35,7 +35,7 @@ impl<R: Recorder> Held<R> {
 
     /// Moves the first unread bytes to the front of the buffer, as many as are there and fit: one at least, if it has
     /// room. The rest of the buffer stays as it was.
-    #[tactic(auto, using(crate::proofs::History::kept_after))]
+    #[tactic(auto, using(crate::proofs::History::kept_after, crate::proofs::Journals::journaled_after, crate::proofs::Journals::witnessed_after))]
     pub fn read(&mut self, seat: &mut Seat<R>, id: u32, buffer: &mut [u8]) -> Result<Got, HubFault>
         ensures booked { Books R.KEEPS seat.old seat.new (Asks (to_read id (length buffer.old)) (λ given. read_or given buffer.new) seat.old.number result) }
         ensures steps { StepsAsked R.KEEPS (to_read id (length buffer.old)) (λ given. read_or given buffer.new) seat.old.number result self.old self.new }
@@ -90,7 +90,7 @@ impl<R: Recorder> Held<R> {
     }
 
     /// Ends a half of a stream by this call, and gives the stream up if its other half was spent.
-    #[tactic(auto, using(crate::proofs::History::kept_after))]
+    #[tactic(auto, using(crate::proofs::History::kept_after, crate::proofs::Journals::journaled_after, crate::proofs::Journals::witnessed_after))]
     fn end_half(&mut self, seat: &mut Seat<R>, id: u32, ending: Ending) -> Result<(), HubFault>
         ensures booked { Books R.KEEPS seat.old seat.new (Spends (to_end ending id) id seat.old.number result) }
         ensures steps { StepsSpent (to_end ending id) R.KEEPS seat.old.number id result self.old self.new }
@@ -121,7 +121,7 @@ impl<R: Recorder> Held<R> {
 
     /// Spends a half of a stream without a word to the peer, and gives the stream up if its other half was spent.
     /// The half counts as spent even if there is no memory for the entry.
-    #[tactic(auto, using(crate::proofs::History::kept_after, crate::proofs::Books::closes_one))]
+    #[tactic(auto, using(crate::proofs::History::kept_after, crate::proofs::Journals::journaled_after, crate::proofs::Journals::witnessed_after, crate::proofs::Books::closes_one))]
     pub fn close_half(&mut self, seat: &mut Seat<R>, id: u32) -> Result<(), HubFault>
         ensures booked { Books R.KEEPS seat.old seat.new (Closes id seat.old.number result) }
         ensures steps { StepsClosed (is_half_spent id self.old) R.KEEPS seat.old.number id result self.old self.new }

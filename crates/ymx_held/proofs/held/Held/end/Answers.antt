@@ -4,9 +4,9 @@ use Rattle.ymx_held.specs.Held.{Kept}
 use Rattle.ymx_held.proofs.History.{kept_replays}
 use Rattle.ymx_held.proofs.held.Held.end.Goals as goal
 
-pub new-requires-2 : goal.new-requires-2
-new-requires-2 g c =
-    let e : c.self.inside.log.entries ≡ c.into_entries.result.items = cc in
-    kept_replays g.R.Recorder.KEEPS c.self.inside.ended c.self.inside.role c.self.inside.config c.into_entries.result.items c.self.inside.session
+pub new-requires : goal.new-requires
+new-requires g c =
+    let e : c.self.inside.log.entries ≡ c.take_entries-entries.result.items = cc in
+    kept_replays g.R.Recorder.KEEPS c.self.inside.ended c.self.inside.role c.self.inside.config c.take_entries-entries.result.items c.self.inside.session
     (subst (λ (es : List Entry). Kept g.R.Recorder.KEEPS c.self.inside.ended c.self.inside.role c.self.inside.config es c.self.inside.session) e c.self.invariant.0)
     (cc) c.self.invariant.3
