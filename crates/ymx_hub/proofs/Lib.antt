@@ -3,3 +3,4 @@ pub mod Waits
 pub mod Written
 pub mod Ended
 pub mod Accepts
+pub mod Shown

@@ -1,3 +1,4 @@
 pub mod Turns
 pub mod Halves
 pub mod Pumped
+pub mod Shown

@@ -3,7 +3,7 @@
 ghost use Rattle.std.specs.Prelude.{◌≡◌, ◌<◌, ◌≤◌, length, drop, false, IfOk, IfErr, MatchResult};
 ghost use Rattle.ymx_machine.specs.declared.types.Reply.TheVariants as reply;
 ghost use Rattle.ymx_held.specs.Answers.{IsNotMemory};
-ghost use Rattle.ymx_held.specs.Booked.{Gains, Books, Spends, Closes, to_finish, to_reset};
+ghost use Rattle.ymx_held.specs.Booked.{Books, Spends, Closes, to_finish, to_reset};
 ghost use Rattle.ymx_hub.specs.Turns.{ReadTurns, EndsIn, WriteTurns};
 
 use crate::hub::Hub;
@@ -141,7 +141,7 @@ impl<R: Recorder> ReadHalf<R> {
         requires { 0 < length buffer.old }
         ensures same { self.new.id ≡ self.old.id }
         ensures booked { Books R.KEEPS self.old.seat self.new.seat (ReadTurns self.old.id (length buffer.old) buffer.new self.old.seat.number result) }
-        ensures end { IfOk result (λ count. count ≡ 0 → Gains R.KEEPS self.old.seat.entries self.new.seat.entries (EndsIn (λ told. told ≡ reply.ReadEnd))) }
+        ensures end { IfOk result (λ count. count ≡ 0 → Books R.KEEPS self.old.seat self.new.seat (EndsIn (λ told. told ≡ reply.ReadEnd))) }
         ensures within { IfOk result (λ count. count ≤ length buffer.old) }
         ensures length { length buffer.new ≡ length buffer.old }
         ensures rest { MatchResult result (λ count. drop count buffer.new ≡ drop count buffer.old) (λ fault. buffer.new ≡ buffer.old) }

@@ -5,7 +5,9 @@ ghost use Rattle.std.specs.List.Sorted.{IsPermutation};
 ghost use Rattle.ymx_session.specs.Replies.{done_or};
 ghost use Rattle.ymx_seats.specs.Tallies.{Tallies};
 ghost use Rattle.ymx_seats.specs.Transcripts.{IsNew};
-ghost use Rattle.ymx_seats.specs.Views.{SeatView};
+ghost use Rattle.ymx_seats.specs.Views.{SeatView, IsNewcomer};
+ghost use Rattle.ymx_held.specs.Held.{config_of};
+ghost use Rattle.ymx_hub.specs.Shown.{IsShown};
 ghost use Rattle.ymx_held.specs.Answers.{IsNotMemory};
 ghost use Rattle.ymx_held.specs.Booked.{Books, Asks, Opens, OpensWith, Spends, Closes, to_finish, to_reset, to_go_away, to_close};
 
@@ -15,6 +17,7 @@ use crate::desk::Desk;
 use std::alloc::{AllocError, Global};
 use std::sync::{Arc, Mutex, MutexGuard, Wait};
 use ymx_held::{EndFault, Held, HubFault};
+use ymx_journal::Opened;
 use ymx_seats::{Recorder, Seat, Transcript};
 use ymx_session::{Session, Touched};
 
@@ -26,30 +29,63 @@ pub struct Hub<R: Recorder> {
 }
 
 impl<R: Recorder> Hub<R> {
-    /// A hub round a session that has done nothing. `AllocError` where there is no memory for it: both are dropped then.
+    /// A hub round a session that has done nothing, by a recorder that has no journal. `AllocError` where there is no memory
+    /// for it: both are dropped then.
     pub fn new(alloc: Global, session: Session, recorder: R) -> Result<Arc<Hub<R>>, AllocError>
-        requires { IsNew session }
+        requires new { IsNew session }
+        requires unwitnessed { R.WITNESSED ≡ false }
     {
         let _ = recorder;
+        Hub::over(alloc, Held::new(alloc, session))
+    }
+
+    /// A hub round a session that has done nothing, with the journal that this opens. The recorder names the journal, and
+    /// the role and the config of the session. `AllocError` where there is no memory for it: both are dropped then.
+    pub fn witnessed(
+        alloc: Global,
+        session: Session,
+        opened: Opened,
+    ) -> Result<Arc<Hub<R>>, AllocError>
+        requires new { IsNew session }
+        requires witnessed { R.WITNESSED ≡ true }
+        requires named { opened ≡ R.table }
+        requires role { session.role ≡ R.role }
+        requires config { config_of session ≡ R.config }
+    {
+        Hub::over(alloc, Held::witnessed(alloc, session, opened))
+    }
+
+    /// A hub over what is held, at which nobody waits.
+    fn over(alloc: Global, held: Held<R>) -> Result<Arc<Hub<R>>, AllocError> {
         let touched = Touched::new(alloc)?;
-        let desk = Desk::new(Held::new(alloc, session), touched);
-        Ok(Arc::new(alloc, Hub::over(desk))?)
-    }
-
-    /// The hub over this desk, at which nobody waits.
-    fn over(desk: Desk<R>) -> Hub<R> {
-        Hub {
-            desk: Mutex::new(desk),
+        let hub = Hub {
+            desk: Mutex::new(Desk::new(held, touched)),
             bells: Bells::new(),
-        }
+        };
+        Ok(Arc::new(alloc, hub)?)
     }
 
-    /// A new seat. `Seats` after 4,294,967,295 of them, and `Closed` once the transcript was handed out.
+    /// A new seat, which has no entry; where there is a journal, none of the history that it has seen is its own. `Seats`
+    /// after 4,294,967,295 of them, and `Closed` once the transcript was handed out.
     pub fn seat<W: Wait>(&self, rt: &W) -> Result<Seat<R>, HubFault>
         ensures empty { IfOk result (λ seat. seat.entries ≡ []) }
+        ensures newcomer { IfOk result (λ seat. IsNewcomer seat.number seat.seen) }
         ensures spares { IsNotMemory result }
     {
         take_lock(rt, &self.desk).held.seat()
+    }
+
+    /// Shows the whole history so far to two seats at once, where there is a journal: both have then seen the same. So the
+    /// later calls of each come behind all that the other has seen. It is no event of the session.
+    #[tactic(auto, using(crate::proofs::Shown::grown))]
+    pub fn meet<W: Wait>(&self, rt: &W, one: &mut Seat<R>, other: &mut Seat<R>)
+        ensures one { IsShown one.old one.new }
+        ensures other { IsShown other.old other.new }
+        ensures same { one.new.seen ≡ other.new.seen }
+    {
+        let mut desk = take_lock(rt, &self.desk);
+        desk.held.show(one);
+        desk.held.show(other);
     }
 
     /// Gives up the lock, and wakes a write pump where something is due now, and nothing was.

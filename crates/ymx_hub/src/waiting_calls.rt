@@ -2,7 +2,7 @@
 
 ghost use Rattle.std.specs.Prelude.{◌≡◌, ◌⊎◌, ◌<◌, ◌≤◌, length, drop, false, IfOk, IfErr, MatchResult};
 ghost use Rattle.ymx_held.specs.Answers.{IsNotMemory};
-ghost use Rattle.ymx_held.specs.Booked.{Gains, Books};
+ghost use Rattle.ymx_held.specs.Booked.{Books};
 ghost use Rattle.ymx_machine.specs.declared.types.Reply.TheVariants as reply;
 ghost use Rattle.ymx_hub.specs.Turns.{AcceptsInTurns, ReadTurns, EndsIn, PingTurns, WriteTurns};
 
@@ -61,7 +61,7 @@ impl<R: Recorder> Hub<R> {
     ) -> Result<usize, HubFault>
         requires { 0 < length buffer.old }
         ensures booked { Books R.KEEPS seat.old seat.new (ReadTurns id (length buffer.old) buffer.new seat.old.number result) }
-        ensures end { IfOk result (λ count. count ≡ 0 → Gains R.KEEPS seat.old.entries seat.new.entries (EndsIn (λ told. told ≡ reply.ReadEnd))) }
+        ensures end { IfOk result (λ count. count ≡ 0 → Books R.KEEPS seat.old seat.new (EndsIn (λ told. told ≡ reply.ReadEnd))) }
         ensures within { IfOk result (λ count. count ≤ length buffer.old) }
         ensures length { length buffer.new ≡ length buffer.old }
         ensures rest { MatchResult result (λ count. drop count buffer.new ≡ drop count buffer.old) (λ fault. buffer.new ≡ buffer.old) }

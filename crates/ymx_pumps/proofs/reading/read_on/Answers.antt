@@ -1,6 +1,9 @@
-use Rattle.std.proofs.Common.{arith, rules}
-use Rattle.ymx_pumps.proofs.Feeds.{fed_more, fed_last}
+use Rattle.std.proofs.Common.{arith, rules, refl}
+use Rattle.ymx_pumps.proofs.Feeds.{fed_nothing, fed_more, fed_last}
 use Rattle.ymx_pumps.proofs.reading.read_on.Goals as goal
+
+pub loop-init : goal.loop-init
+loop-init g c = record { next = (tt, tt); room = refl; fed = fed_nothing g.R.Recorder.KEEPS _ _ _ }
 
 pub loop-preserved : goal.loop-preserved
 loop-preserved g c = record {

@@ -1,6 +1,9 @@
-use Rattle.std.proofs.Common.{length, arith, rules}
-use Rattle.ymx_pumps.proofs.Emits.{written_more, written_last}
+use Rattle.std.proofs.Common.{length, arith, rules, refl}
+use Rattle.ymx_pumps.proofs.Emits.{written_none, written_more, written_last}
 use Rattle.ymx_pumps.proofs.writing.write_on.Goals as goal
+
+pub loop-init : goal.loop-init
+loop-init g c = record { next = (tt, tt); room = refl; written = written_none g.R.Recorder.KEEPS _ _ _ _ }
 
 pub loop-preserved : goal.loop-preserved
 loop-preserved g c = record {

@@ -1,5 +1,5 @@
-use Rattle.std.proofs.Common.{length, rules}
-use Rattle.ymx_pumps.proofs.Emits.{turn_failed, turn_gated, turn_lacked, turn_over}
+use Rattle.std.proofs.Common.{length, rules, refl}
+use Rattle.ymx_pumps.proofs.Emits.{turn_failed, turn_idle, turn_gated, turn_lacked, turn_over}
 use Rattle.ymx_pumps.proofs.writing.write_turn.Goals as goal
 
 pub returns-in-Err-push_all-clause-turned : goal.returns-in-Err-push_all-clause-turned
@@ -21,3 +21,7 @@ returns-in-Ok-Over-clause-turned g c =
 pub returns-in-Err-clause-turned : goal.returns-in-Err-clause-turned
 returns-in-Err-clause-turned g c =
     rw c.at_once-in-Err.ensures (turn_lacked g.R.Recorder.KEEPS (length c.args.buffer.now) (g.O.Outlet.failures c.args.writer.now) c.in-Err.field-0 c.emit_turn.new.buffer (g.O.Outlet.contents c.args.writer.now) c.args.seat.now c.emit_turn.new.seat c.in-Err.ensures.booked)
+
+pub returns-else-not-before_wait-clause-turned : goal.returns-else-not-before_wait-clause-turned
+returns-else-not-before_wait-clause-turned g c =
+    turn_idle g.R.Recorder.KEEPS (length c.args.buffer.now) (g.O.Outlet.failures c.args.writer.now) (g.O.Outlet.failures c.args.writer.now) c.emit_turn.new.buffer (g.O.Outlet.contents c.args.writer.now) (g.O.Outlet.contents c.args.writer.now) c.args.seat.now c.emit_turn.new.seat refl refl (rw c.in-Ok-Idle.field-0-is at c.in-Ok-Idle.ensures.booked)
