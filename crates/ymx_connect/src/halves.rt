@@ -4,7 +4,7 @@
 //! still goes out; else it is reset, and what is unsent is dropped.
 
 ghost use Rattle.std.specs.Prelude.{◌≡◌, ◌<◌, ◌≤◌, length, IfOk, IfErr};
-ghost use Rattle.ymx_held.specs.Answers.{IsNotMemory};
+ghost use Rattle.ymx_booked.specs.Answers.{IsNotMemory};
 
 use std::alloc::Global;
 use std::sync::Wait;
@@ -53,7 +53,7 @@ impl Writer {
     {
         let Writer { half } = self;
         let (seat, finished) = half.finish(rt);
-        let_go(seat);
+        discard(seat);
         finished
     }
 
@@ -66,7 +66,7 @@ impl Writer {
     {
         let Writer { half } = self;
         let (seat, was_reset) = half.reset(rt);
-        let_go(seat);
+        discard(seat);
         was_reset
     }
 }
@@ -121,7 +121,7 @@ impl Reader {
     {
         let Reader { half } = self;
         let (seat, closed) = half.close(rt);
-        let_go(seat);
+        discard(seat);
         closed
     }
 }
@@ -155,6 +155,6 @@ pub fn close_stream<W: Wait>(rt: &W, writer: Writer, reader: Reader) -> Result<(
 }
 
 /// Lets a seat go. With the recorder `Off` it holds nothing.
-pub(crate) fn let_go(seat: Seat<Off>) {
+pub(crate) fn discard(seat: Seat<Off>) {
     let _ = seat.into_entries();
 }

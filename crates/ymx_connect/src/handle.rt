@@ -1,9 +1,9 @@
 //! A running session, as the caller's function sees it.
 
 ghost use Rattle.std.specs.Prelude.{◌≤◌, length, IfOk};
-ghost use Rattle.ymx_held.specs.Answers.{IsNotMemory};
+ghost use Rattle.ymx_booked.specs.Answers.{IsNotMemory};
 
-use crate::halves::{Reader, Writer, let_go};
+use crate::halves::{Reader, Writer, discard};
 use std::alloc::{AllocError, Global};
 use std::sync::{Arc, Wait};
 use ymx_hub::{Acceptor, Hub, HubFault, Off, Opener, Seat};
@@ -37,7 +37,7 @@ impl Handle {
     pub fn open<W: Wait>(&self, rt: &W) -> Result<(Writer, Reader), HubFault> {
         let mut opener = self.opener()?;
         let opened = opener.open(rt);
-        let_go(opener.into_seat());
+        discard(opener.into_seat());
         let (writer, reader) = opened?;
         Ok((Writer::new(writer), Reader::new(reader)))
     }
@@ -51,7 +51,7 @@ impl Handle {
     ) -> Result<(Writer, Reader, usize), HubFault> {
         let mut opener = self.opener()?;
         let opened = opener.open_with(rt, bytes);
-        let_go(opener.into_seat());
+        discard(opener.into_seat());
         let (writer, reader, taken) = opened?;
         Ok((Writer::new(writer), Reader::new(reader), taken))
     }
@@ -66,7 +66,7 @@ impl Handle {
         };
         let mut acceptor = Acceptor::new(hub, unbooked(self.alloc));
         let accepted = acceptor.accept(rt);
-        let_go(acceptor.into_seat());
+        discard(acceptor.into_seat());
         match accepted {
             Ok(Some((writer, reader))) => Ok(Some((Writer::new(writer), Reader::new(reader)))),
             Ok(None) => Ok(None),
@@ -82,7 +82,7 @@ impl Handle {
     {
         let mut seat = unbooked(self.alloc);
         let ponged = self.hub.ping(rt, &mut seat);
-        let_go(seat);
+        discard(seat);
         ponged
     }
 
@@ -92,7 +92,7 @@ impl Handle {
     {
         let mut seat = unbooked(self.alloc);
         let said = self.hub.go_away(rt, &mut seat);
-        let_go(seat);
+        discard(seat);
         said
     }
 
@@ -100,7 +100,7 @@ impl Handle {
     pub fn drain<W: Wait>(&self, rt: &W) {
         let mut seat = unbooked(self.alloc);
         self.hub.drain(rt, &mut seat);
-        let_go(seat);
+        discard(seat);
     }
 
     /// Closes the session at once, and wakes all who wait: they answer `Closed`. What is not sent is dropped. It is
@@ -110,7 +110,7 @@ impl Handle {
     {
         let mut seat = unbooked(self.alloc);
         let closed = self.hub.close(rt, &mut seat);
-        let_go(seat);
+        discard(seat);
         closed
     }
 

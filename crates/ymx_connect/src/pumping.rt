@@ -4,7 +4,7 @@ ghost use Rattle.std.specs.Prelude.{◌≡◌, ◌<◌, vec_len};
 ghost use Rattle.ymx_header.specs.declared.fault.Fault.{Fault};
 ghost use Rattle.ymx_pumps.specs.declared.pump_end.PumpWhy.TheVariants.{Memory, Broken};
 
-use crate::halves::let_go;
+use crate::halves::discard;
 use crate::handle::unbooked;
 use std::alloc::{AllocError, Global};
 use std::sync::Wait;
@@ -93,7 +93,7 @@ pub(crate) fn pump_in<W: Wait, I: Inlet + Drop>(
         bytes.as_mut_slice(),
     );
     let PumpEnd { seat, moved, why } = end;
-    let_go(seat);
+    discard(seat);
     PumpedIn { why, moved }
 }
 
@@ -116,6 +116,6 @@ pub(crate) fn pump_out<W: Wait, O: Outlet + Drop>(
         bytes.as_mut_slice(),
     );
     let PumpEnd { seat, moved, why } = end;
-    let_go(seat);
+    discard(seat);
     PumpedOut { why, moved }
 }

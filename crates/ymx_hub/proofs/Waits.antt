@@ -9,11 +9,11 @@ use Rattle.ymx_model.specs.declared.types.Got.{Got}
 use Rattle.ymx_model.specs.declared.types.Got.TheVariants as got
 use Rattle.ymx_session.specs.Replies.{pinged_or, ponged_or, read_or}
 use Rattle.ymx_seats.specs.Views.{SeatView}
-use Rattle.ymx_held.specs.declared.faults.HubFault.{HubFault}
-use Rattle.ymx_held.specs.Booked.{Books, One, Asks, to_ping, to_collect, to_read}
+use Rattle.ymx_booked.specs.declared.faults.HubFault.{HubFault}
+use Rattle.ymx_booked.specs.Books.{Books, One, Asks, to_ping, to_collect, to_read}
 use Rattle.ymx_hub.specs.Turns.{AreWaits, Turns, PongsLast, IsPinged, PingTurns, ReadTurns, ReadsLast}
 use Rattle.ymx_hub.proofs.Booked.{books_same, books_at, books_weaker}
-use Rattle.ymx_held.proofs.Books.{books_both}
+use Rattle.ymx_booked.proofs.Books.{books_both}
 
 waits_append : (seat : ℕ) (event : Event) (told : Reply) (es ds : List Entry) → AreWaits seat event told es → AreWaits seat event told ds → AreWaits seat event told (es ++ ds)
 waits_append seat event told [] ds w v = v

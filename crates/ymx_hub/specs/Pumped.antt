@@ -3,9 +3,9 @@ use Rattle.std.specs.Prelude.{◌≡◌, ℕ, List, [], take, Result, Ok, Err}
 use Rattle.ymx_model.specs.declared.types.Event.TheVariants as event
 use Rattle.ymx_machine.specs.declared.types.Reply.TheVariants as reply
 use Rattle.ymx_model.specs.declared.types.Entry.{Entry}
-use Rattle.ymx_held.specs.declared.faults.HubFault.{HubFault}
-use Rattle.ymx_held.specs.declared.faults.HubFault.TheVariants.{Memory}
-use Rattle.ymx_held.specs.Booked.{One}
+use Rattle.ymx_booked.specs.declared.faults.HubFault.{HubFault}
+use Rattle.ymx_booked.specs.declared.faults.HubFault.TheVariants.{Memory}
+use Rattle.ymx_booked.specs.Books.{One}
 use Rattle.ymx_hub.specs.declared.moving.Turn.{Turn}
 use Rattle.ymx_hub.specs.declared.moving.Turn.TheVariants.{Emitted, Idle, Over}
 

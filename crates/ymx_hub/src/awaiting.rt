@@ -4,7 +4,7 @@
 //! looks for a while first, and lets others run between two looks. A ring costs no call of the system then.
 //!
 //! Where waits are long, looking is in vain, and takes the processor from those who work. So each purpose has its
-//! `Patience`: few look at once, and after some looks in vain the next waits do without.
+//! `SpinBudget`: few look at once, and after some looks in vain the next waits do without.
 
 use std::sync::atomic::{AtomicU64, Ordering};
 use std::sync::{Condvar, Mutex, MutexGuard, Wait};
@@ -32,7 +32,7 @@ const NAP_SECONDS: u64 = 3_600;
 /// Whether looking pays, for those who wait for one purpose. Threads share it, and what one of them writes may be lost:
 /// then a wait takes a little longer, and no more.
 #[derive(Drop)]
-pub(crate) struct Patience {
+pub(crate) struct SpinBudget {
     /// How many look now.
     lookers: AtomicU64,
     /// How many looks ended in vain, one after another.
@@ -41,10 +41,10 @@ pub(crate) struct Patience {
     left_out: AtomicU64,
 }
 
-impl Patience {
+impl SpinBudget {
     /// Nobody has looked.
-    pub(crate) fn new() -> Patience {
-        Patience {
+    pub(crate) fn new() -> SpinBudget {
+        SpinBudget {
             lookers: AtomicU64::new(0),
             in_vain: AtomicU64::new(0),
             left_out: AtomicU64::new(0),
@@ -98,13 +98,13 @@ fn has_rung_soon(bell: &Condvar, rung: u64) -> bool {
 pub(crate) fn await_bell<'a, W: Wait, T>(
     rt: &W,
     bell: &Condvar,
-    patience: &Patience,
+    budget: &SpinBudget,
     guard: MutexGuard<'a, T>,
 ) -> MutexGuard<'a, T> {
     // Whoever rings has taken the waiters under the lock, so its ring comes behind this line.
     let rung = bell.notifications();
     let mutex = MutexGuard::unlock(guard);
-    if !patience.look(bell, rung) {
+    if !budget.look(bell, rung) {
         bell.sleep(rt, rung, Duration::from_secs(NAP_SECONDS));
     }
     take_lock(rt, mutex)

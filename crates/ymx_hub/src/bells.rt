@@ -19,7 +19,7 @@
 
 ghost use Rattle.std.specs.Prelude.{◌<◌};
 
-use crate::awaiting::Patience;
+use crate::awaiting::SpinBudget;
 use crate::bell_set::{BellSet, take_lowest};
 use std::sync::Condvar;
 use std::{array, mem};
@@ -155,13 +155,13 @@ pub(crate) struct Bells {
     /// Something is due.
     pub(crate) due: Condvar,
     /// That of those who read a stream.
-    pub(crate) reading: Patience,
+    pub(crate) reading: SpinBudget,
     /// That of those who write a stream.
-    pub(crate) writing: Patience,
+    pub(crate) writing: SpinBudget,
     /// That of those who wait for the answer to a ping.
-    pub(crate) pinging: Patience,
+    pub(crate) pinging: SpinBudget,
     /// That of write pumps, which wait until something is due.
-    pub(crate) pumping: Patience,
+    pub(crate) pumping: SpinBudget,
 }
 
 impl Bells {
@@ -174,10 +174,10 @@ impl Bells {
             ponged: Condvar::new(),
             emptied: Condvar::new(),
             due: Condvar::new(),
-            reading: Patience::new(),
-            writing: Patience::new(),
-            pinging: Patience::new(),
-            pumping: Patience::new(),
+            reading: SpinBudget::new(),
+            writing: SpinBudget::new(),
+            pinging: SpinBudget::new(),
+            pumping: SpinBudget::new(),
         }
     }
 

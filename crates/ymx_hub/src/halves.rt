@@ -2,8 +2,8 @@
 
 ghost use Rattle.std.specs.Prelude.{◌≡◌, ◌<◌, ◌≤◌, length, drop, false, IfOk, IfErr, MatchResult};
 ghost use Rattle.ymx_machine.specs.declared.types.Reply.TheVariants as reply;
-ghost use Rattle.ymx_held.specs.Answers.{IsNotMemory};
-ghost use Rattle.ymx_held.specs.Booked.{Books, Spends, Closes, to_finish, to_reset};
+ghost use Rattle.ymx_booked.specs.Answers.{IsNotMemory};
+ghost use Rattle.ymx_booked.specs.Books.{Books, Spends, Closes, to_finish, to_reset};
 ghost use Rattle.ymx_hub.specs.Turns.{ReadTurns, EndsIn, WriteTurns};
 
 use crate::hub::Hub;
@@ -11,7 +11,7 @@ use crate::write_fault::WriteFault;
 use std::alloc::Global;
 use std::marker::Model;
 use std::sync::{Arc, Wait};
-use ymx_held::HubFault;
+use ymx_booked::HubFault;
 use ymx_seats::{Recorder, Seat};
 
 /// The hub twice.

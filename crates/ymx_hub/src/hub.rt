@@ -6,17 +6,17 @@ ghost use Rattle.ymx_session.specs.Replies.{done_or};
 ghost use Rattle.ymx_seats.specs.Tallies.{Tallies};
 ghost use Rattle.ymx_seats.specs.Transcripts.{IsNew};
 ghost use Rattle.ymx_seats.specs.Views.{SeatView, IsNewcomer};
-ghost use Rattle.ymx_held.specs.Held.{config_of};
+ghost use Rattle.ymx_booked.specs.Booked.{config_of};
 ghost use Rattle.ymx_hub.specs.Shown.{IsShown};
-ghost use Rattle.ymx_held.specs.Answers.{IsNotMemory};
-ghost use Rattle.ymx_held.specs.Booked.{Books, Asks, Opens, OpensWith, Spends, Closes, to_finish, to_reset, to_go_away, to_close};
+ghost use Rattle.ymx_booked.specs.Answers.{IsNotMemory};
+ghost use Rattle.ymx_booked.specs.Books.{Books, Asks, Opens, OpensWith, Spends, Closes, to_finish, to_reset, to_go_away, to_close};
 
 use crate::awaiting::take_lock;
 use crate::bells::Bells;
-use crate::desk::Desk;
+use crate::shared::Shared;
 use std::alloc::{AllocError, Global};
 use std::sync::{Arc, Mutex, MutexGuard, Wait};
-use ymx_held::{EndFault, Held, HubFault};
+use ymx_booked::{Booked, EndFault, HubFault};
 use ymx_journal::Opened;
 use ymx_seats::{Recorder, Seat, Transcript};
 use ymx_session::{Session, Touched};
@@ -24,7 +24,7 @@ use ymx_session::{Session, Touched};
 /// A session under one lock. What its recorder keeps of it is, whenever the lock is free, the history of the session.
 #[derive(Drop)]
 pub struct Hub<R: Recorder> {
-    pub(crate) desk: Mutex<Desk<R>>,
+    pub(crate) shared: Mutex<Shared<R>>,
     pub(crate) bells: Bells,
 }
 
@@ -36,7 +36,7 @@ impl<R: Recorder> Hub<R> {
         requires unwitnessed { R.WITNESSED ≡ false }
     {
         let _ = recorder;
-        Hub::over(alloc, Held::new(alloc, session))
+        Hub::over(alloc, Booked::new(alloc, session))
     }
 
     /// A hub round a session that has done nothing, with the journal that this opens. The recorder names the journal, and
@@ -52,14 +52,14 @@ impl<R: Recorder> Hub<R> {
         requires role { session.role ≡ R.role }
         requires config { config_of session ≡ R.config }
     {
-        Hub::over(alloc, Held::witnessed(alloc, session, opened))
+        Hub::over(alloc, Booked::witnessed(alloc, session, opened))
     }
 
-    /// A hub over what is held, at which nobody waits.
-    fn over(alloc: Global, held: Held<R>) -> Result<Arc<Hub<R>>, AllocError> {
+    /// A hub over what is booked, at which nobody waits.
+    fn over(alloc: Global, booked: Booked<R>) -> Result<Arc<Hub<R>>, AllocError> {
         let touched = Touched::new(alloc)?;
         let hub = Hub {
-            desk: Mutex::new(Desk::new(held, touched)),
+            shared: Mutex::new(Shared::new(booked, touched)),
             bells: Bells::new(),
         };
         Ok(Arc::new(alloc, hub)?)
@@ -72,7 +72,7 @@ impl<R: Recorder> Hub<R> {
         ensures newcomer { IfOk result (λ seat. IsNewcomer seat.number seat.seen) }
         ensures spares { IsNotMemory result }
     {
-        take_lock(rt, &self.desk).held.seat()
+        take_lock(rt, &self.shared).booked.seat()
     }
 
     /// Shows the whole history so far to two seats at once, where there is a journal: both have then seen the same. So the
@@ -83,15 +83,15 @@ impl<R: Recorder> Hub<R> {
         ensures other { IsShown other.old other.new }
         ensures same { one.new.seen ≡ other.new.seen }
     {
-        let mut desk = take_lock(rt, &self.desk);
-        desk.held.show(one);
-        desk.held.show(other);
+        let mut shared = take_lock(rt, &self.shared);
+        shared.booked.show(one);
+        shared.booked.show(other);
     }
 
     /// Gives up the lock, and wakes a write pump where something is due now, and nothing was.
-    pub(crate) fn let_go(&self, desk: MutexGuard<'_, Desk<R>>, was_due: bool) {
-        let is_due = desk.held.due();
-        drop(desk);
+    pub(crate) fn unlock(&self, shared: MutexGuard<'_, Shared<R>>, was_due: bool) {
+        let is_due = shared.booked.due();
+        drop(shared);
         self.tell_due(was_due, is_due);
     }
 
@@ -103,10 +103,10 @@ impl<R: Recorder> Hub<R> {
     }
 
     /// Wakes all, as the session is lost, broken or closed.
-    pub(crate) fn wake_all(&self, desk: MutexGuard<'_, Desk<R>>) {
-        let mut desk = desk;
-        let woken = desk.take_all();
-        drop(desk);
+    pub(crate) fn wake_all(&self, shared: MutexGuard<'_, Shared<R>>) {
+        let mut shared = shared;
+        let woken = shared.take_all();
+        drop(shared);
         self.bells.ring(&woken);
         self.bells.due.notify_all();
     }
@@ -120,10 +120,10 @@ impl<R: Recorder> Hub<R> {
         ensures booked { Books R.KEEPS seat.old seat.new (Opens seat.old.number result) }
         ensures empty { IfOk result (λ made. (made.1.entries ≡ []) × (made.2.entries ≡ [])) }
     {
-        let mut desk = take_lock(rt, &self.desk);
-        let was_due = desk.held.due();
-        let opened = desk.held.open(seat);
-        self.let_go(desk, was_due);
+        let mut shared = take_lock(rt, &self.shared);
+        let was_due = shared.booked.due();
+        let opened = shared.booked.open(seat);
+        self.unlock(shared, was_due);
         opened
     }
 
@@ -137,10 +137,10 @@ impl<R: Recorder> Hub<R> {
         ensures booked { Books R.KEEPS seat.old seat.new (OpensWith bytes.now seat.old.number result) }
         ensures empty { IfOk result (λ made. (made.2.entries ≡ []) × (made.3.entries ≡ [])) }
     {
-        let mut desk = take_lock(rt, &self.desk);
-        let was_due = desk.held.due();
-        let opened = desk.held.open_with(seat, bytes);
-        self.let_go(desk, was_due);
+        let mut shared = take_lock(rt, &self.shared);
+        let was_due = shared.booked.due();
+        let opened = shared.booked.open_with(seat, bytes);
+        self.unlock(shared, was_due);
         opened
     }
 
@@ -154,10 +154,10 @@ impl<R: Recorder> Hub<R> {
         ensures booked { Books R.KEEPS seat.old seat.new (Spends (to_finish id) id seat.old.number result) }
         ensures off { R.KEEPS ≡ false → IsNotMemory result }
     {
-        let mut desk = take_lock(rt, &self.desk);
-        let was_due = desk.held.due();
-        let finished = desk.held.finish(seat, id);
-        self.let_go(desk, was_due);
+        let mut shared = take_lock(rt, &self.shared);
+        let was_due = shared.booked.due();
+        let finished = shared.booked.finish(seat, id);
+        self.unlock(shared, was_due);
         finished
     }
 
@@ -166,10 +166,10 @@ impl<R: Recorder> Hub<R> {
         ensures booked { Books R.KEEPS seat.old seat.new (Spends (to_reset id) id seat.old.number result) }
         ensures off { R.KEEPS ≡ false → IsNotMemory result }
     {
-        let mut desk = take_lock(rt, &self.desk);
-        let was_due = desk.held.due();
-        let was_reset = desk.held.reset(seat, id);
-        self.let_go(desk, was_due);
+        let mut shared = take_lock(rt, &self.shared);
+        let was_due = shared.booked.due();
+        let was_reset = shared.booked.reset(seat, id);
+        self.unlock(shared, was_due);
         self.bells.reader(id).notify_all();
         self.bells.writer(id).notify_all();
         was_reset
@@ -185,10 +185,10 @@ impl<R: Recorder> Hub<R> {
         ensures booked { Books R.KEEPS seat.old seat.new (Closes id seat.old.number result) }
         ensures off { R.KEEPS ≡ false → IsNotMemory result }
     {
-        let mut desk = take_lock(rt, &self.desk);
-        let was_due = desk.held.due();
-        let closed = desk.held.close_half(seat, id);
-        self.let_go(desk, was_due);
+        let mut shared = take_lock(rt, &self.shared);
+        let was_due = shared.booked.due();
+        let closed = shared.booked.close_half(seat, id);
+        self.unlock(shared, was_due);
         closed
     }
 
@@ -198,10 +198,10 @@ impl<R: Recorder> Hub<R> {
         ensures booked { Books R.KEEPS seat.old seat.new (Asks to_go_away done_or seat.old.number result) }
         ensures off { R.KEEPS ≡ false → IsNotMemory result }
     {
-        let mut desk = take_lock(rt, &self.desk);
-        let was_due = desk.held.due();
-        let said = desk.held.go_away(seat);
-        self.let_go(desk, was_due);
+        let mut shared = take_lock(rt, &self.shared);
+        let was_due = shared.booked.due();
+        let said = shared.booked.go_away(seat);
+        self.unlock(shared, was_due);
         said
     }
 
@@ -211,9 +211,9 @@ impl<R: Recorder> Hub<R> {
         ensures booked { Books R.KEEPS seat.old seat.new (Asks to_close done_or seat.old.number result) }
         ensures off { R.KEEPS ≡ false → IsNotMemory result }
     {
-        let mut desk = take_lock(rt, &self.desk);
-        let closed = desk.held.close(seat);
-        self.wake_all(desk);
+        let mut shared = take_lock(rt, &self.shared);
+        let closed = shared.booked.close(seat);
+        self.wake_all(shared);
         closed
     }
 
@@ -223,6 +223,6 @@ impl<R: Recorder> Hub<R> {
     pub fn end<W: Wait>(&self, rt: &W, seats: Vec<Seat<R>>) -> Result<Transcript, EndFault<R>>
         ensures { MatchResult result (λ transcript. R.KEEPS ≡ true → (all : List SeatView) × IsPermutation seats.items all × Tallies all transcript.entries) (λ fault. IsPermutation seats.items fault.seats.items) }
     {
-        take_lock(rt, &self.desk).held.end(seats)
+        take_lock(rt, &self.shared).booked.end(seats)
     }
 }

@@ -2,14 +2,14 @@
 //!
 //! `Hub` is the session under its lock. `Opener` and `Acceptor` hand out streams, each as a `WriteHalf` and a
 //! `ReadHalf`. Each caller has a seat, in which its calls are booked. `moving` has the turns of the pumps; `bells`
-//! and `desk` say who wakes whom, and `awaiting` how.
+//! and `shared` say who wakes whom, and `awaiting` how.
 #![tactic(auto)]
 
 mod acceptor;
 mod awaiting;
 mod bell_set;
 mod bells;
-mod desk;
+mod shared;
 mod halves;
 mod hub;
 mod moving;
@@ -24,5 +24,5 @@ pub use hub::Hub;
 pub use moving::Turn;
 pub use opener::Opener;
 pub use write_fault::WriteFault;
-pub use ymx_held::{EndFault, EndWhy, HubFault};
+pub use ymx_booked::{EndFault, EndWhy, HubFault};
 pub use ymx_seats::{Full, Off, Recorder, Seat, Transcript};

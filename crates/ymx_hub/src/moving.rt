@@ -3,14 +3,14 @@
 ghost use Rattle.std.specs.Prelude.{◌≡◌, ◌≤◌, length, drop, false, IfOk, IsOk, MatchResult};
 ghost use Rattle.ymx_model.specs.declared.types.Event.TheVariants as event;
 ghost use Rattle.ymx_machine.specs.declared.types.Reply.TheVariants as reply;
-ghost use Rattle.ymx_held.specs.Booked.{Books, Does};
+ghost use Rattle.ymx_booked.specs.Books.{Books, Does};
 ghost use Rattle.ymx_hub.specs.Pumped.{EmitsOnce, emitted_count};
 
 use crate::awaiting::{await_bell, take_lock};
-use crate::desk::Desk;
+use crate::shared::Shared;
 use crate::hub::Hub;
 use std::sync::{MutexGuard, Wait};
-use ymx_held::HubFault;
+use ymx_booked::HubFault;
 use ymx_model::{Fed, Status, Why};
 use ymx_seats::{Recorder, Seat};
 
@@ -33,12 +33,12 @@ impl<R: Recorder> Hub<R> {
         ensures within { IfOk result (λ fed. fed.taken ≤ length bytes.now) }
         ensures off { R.KEEPS ≡ false → IsOk result }
     {
-        let mut desk = take_lock(rt, &self.desk);
-        let was_due = desk.held.due();
-        let offered = desk.held.offered_count();
-        match desk.feed(seat, bytes) {
+        let mut shared = take_lock(rt, &self.shared);
+        let was_due = shared.booked.due();
+        let offered = shared.booked.offered_count();
+        match shared.feed(seat, bytes) {
             Ok(fed) => {
-                self.wake_concerned(desk, fed.why, was_due, offered);
+                self.wake_concerned(shared, fed.why, was_due, offered);
                 Ok(fed)
             }
             Err(fault) => Err(fault),
@@ -49,19 +49,19 @@ impl<R: Recorder> Hub<R> {
     /// the session no longer runs.
     fn wake_concerned(
         &self,
-        desk: MutexGuard<'_, Desk<R>>,
+        shared: MutexGuard<'_, Shared<R>>,
         why: Why,
         was_due: bool,
         offered_before: usize,
     ) {
-        let mut desk = desk;
-        if desk.held.status() != Status::Running {
-            self.wake_all(desk);
+        let mut shared = shared;
+        if shared.booked.status() != Status::Running {
+            self.wake_all(shared);
             return;
         }
-        desk.is_full = why == Why::Held;
-        let woken = desk.take_concerned(offered_before);
-        self.let_go(desk, was_due);
+        shared.is_full = why == Why::Held;
+        let woken = shared.take_concerned(offered_before);
+        self.unlock(shared, was_due);
         self.bells.ring(&woken);
     }
 
@@ -71,19 +71,19 @@ impl<R: Recorder> Hub<R> {
         ensures booked { Books R.KEEPS seat.old seat.new (Does event.FeedEnd (λ _. reply.Done) seat.old.number result) }
         ensures off { R.KEEPS ≡ false → IsOk result }
     {
-        let mut desk = take_lock(rt, &self.desk);
-        let ended = desk.held.feed_end(seat);
-        self.wake_all(desk);
+        let mut shared = take_lock(rt, &self.shared);
+        let ended = shared.booked.feed_end(seat);
+        self.wake_all(shared);
         ended
     }
 
     /// Waits once, unless a feed may take more than the last one did: 1,024 answers were unsent then, and nothing
     /// was emitted since.
     pub fn wait_for_room<W: Wait>(&self, rt: &W) {
-        let mut desk = take_lock(rt, &self.desk);
-        if desk.is_full && desk.held.status() == Status::Running {
-            desk.waiters.emptiers = true;
-            drop(self.bells.emptied.wait(rt, desk));
+        let mut shared = take_lock(rt, &self.shared);
+        if shared.is_full && shared.booked.status() == Status::Running {
+            shared.waiters.emptiers = true;
+            drop(self.bells.emptied.wait(rt, shared));
         }
     }
 
@@ -101,17 +101,17 @@ impl<R: Recorder> Hub<R> {
         ensures rest { MatchResult result (λ turn. drop (emitted_count turn) buffer.new ≡ drop (emitted_count turn) buffer.old) (λ fault. buffer.new ≡ buffer.old) }
         ensures off { R.KEEPS ≡ false → IsOk result }
     {
-        let mut desk = take_lock(rt, &self.desk);
-        if !desk.held.due() {
-            return Ok(match desk.held.status() {
+        let mut shared = take_lock(rt, &self.shared);
+        if !shared.booked.due() {
+            return Ok(match shared.booked.status() {
                 Status::Running => Turn::Idle,
                 _ => Turn::Over,
             });
         }
-        let count = desk.held.emit(seat, buffer)?;
-        desk.is_full = false;
-        let has_emptiers = desk.waiters.take_emptiers();
-        drop(desk);
+        let count = shared.booked.emit(seat, buffer)?;
+        shared.is_full = false;
+        let has_emptiers = shared.waiters.take_emptiers();
+        drop(shared);
         if has_emptiers {
             self.bells.emptied.notify_all();
         }
@@ -120,18 +120,18 @@ impl<R: Recorder> Hub<R> {
 
     /// Waits once, unless something is due or nothing will be.
     pub fn wait_until_due<W: Wait>(&self, rt: &W) {
-        let desk = take_lock(rt, &self.desk);
-        if !desk.held.due() && desk.held.status() == Status::Running {
-            drop(await_bell(rt, &self.bells.due, &self.bells.pumping, desk));
+        let shared = take_lock(rt, &self.shared);
+        if !shared.booked.due() && shared.booked.status() == Status::Running {
+            drop(await_bell(rt, &self.bells.due, &self.bells.pumping, shared));
         }
     }
 
     /// Notes that a write pump has given up, so that nothing goes out any more, and wakes those who drain.
     pub fn give_up<W: Wait>(&self, rt: &W) {
-        let mut desk = take_lock(rt, &self.desk);
-        desk.is_mute = true;
-        let has_emptiers = desk.waiters.take_emptiers();
-        drop(desk);
+        let mut shared = take_lock(rt, &self.shared);
+        shared.is_mute = true;
+        let has_emptiers = shared.waiters.take_emptiers();
+        drop(shared);
         if has_emptiers {
             self.bells.emptied.notify_all();
         }

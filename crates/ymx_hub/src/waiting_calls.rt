@@ -1,8 +1,8 @@
 //! Calls that wait. Each turn is one event, and so one entry.
 
 ghost use Rattle.std.specs.Prelude.{◌≡◌, ◌⊎◌, ◌<◌, ◌≤◌, length, drop, false, IfOk, IfErr, MatchResult};
-ghost use Rattle.ymx_held.specs.Answers.{IsNotMemory};
-ghost use Rattle.ymx_held.specs.Booked.{Books};
+ghost use Rattle.ymx_booked.specs.Answers.{IsNotMemory};
+ghost use Rattle.ymx_booked.specs.Books.{Books};
 ghost use Rattle.ymx_machine.specs.declared.types.Reply.TheVariants as reply;
 ghost use Rattle.ymx_hub.specs.Turns.{AcceptsInTurns, ReadTurns, EndsIn, PingTurns, WriteTurns};
 
@@ -10,7 +10,7 @@ use crate::awaiting::{await_bell, take_lock};
 use crate::hub::Hub;
 use crate::write_fault::WriteFault;
 use std::sync::Wait;
-use ymx_held::HubFault;
+use ymx_booked::HubFault;
 use ymx_model::{CallFault, Got, Wrote};
 use ymx_seats::{Recorder, Seat};
 
@@ -24,18 +24,18 @@ impl<R: Recorder> Hub<R> {
         ensures booked { Books R.KEEPS seat.old seat.new (AcceptsInTurns seat.old.number result) }
     {
         let mut was_woken = false;
-        let mut desk = take_lock(rt, &self.desk);
+        let mut shared = take_lock(rt, &self.shared);
         for _ in rt.forever() {
-            let was_due = desk.held.due();
-            match desk.held.accept(seat) {
+            let was_due = shared.booked.due();
+            match shared.booked.accept(seat) {
                 Ok(Some(offer)) => {
-                    self.let_go(desk, was_due);
+                    self.unlock(shared, was_due);
                     return Ok(Some(offer));
                 }
                 Ok(None) => {
-                    desk.waiters.add_acceptor();
-                    desk = self.bells.offered.wait(rt, desk);
-                    desk.waiters.remove_acceptor();
+                    shared.waiters.add_acceptor();
+                    shared = self.bells.offered.wait(rt, shared);
+                    shared.waiters.remove_acceptor();
                     was_woken = true;
                 }
                 Err(fault) => {
@@ -67,17 +67,17 @@ impl<R: Recorder> Hub<R> {
         ensures rest { MatchResult result (λ count. drop count buffer.new ≡ drop count buffer.old) (λ fault. buffer.new ≡ buffer.old) }
         ensures off { R.KEEPS ≡ false → IsNotMemory result }
     {
-        let mut desk = take_lock(rt, &self.desk);
+        let mut shared = take_lock(rt, &self.shared);
         for _ in rt.forever() {
-            let was_due = desk.held.due();
-            match desk.read(seat, id, buffer) {
+            let was_due = shared.booked.due();
+            match shared.read(seat, id, buffer) {
                 Ok(Got::Bytes(count)) => {
-                    self.let_go(desk, was_due);
+                    self.unlock(shared, was_due);
                     return Ok(count);
                 }
                 Ok(Got::End) => return Ok(0),
                 Ok(Got::Wait) => {
-                    desk = await_bell(rt, self.bells.reader(id), &self.bells.reading, desk);
+                    shared = await_bell(rt, self.bells.reader(id), &self.bells.reading, shared);
                 }
                 Err(fault) => return Err(fault),
             }
@@ -97,20 +97,20 @@ impl<R: Recorder> Hub<R> {
         ensures within { IfErr result (λ stop. stop.taken ≤ length bytes.now) }
     {
         let mut taken = 0;
-        let mut desk = take_lock(rt, &self.desk);
+        let mut shared = take_lock(rt, &self.shared);
         for _ in rt.forever() {
-            let was_due = desk.held.due();
-            match desk.write(seat, id, &bytes[taken..]) {
+            let was_due = shared.booked.due();
+            match shared.write(seat, id, &bytes[taken..]) {
                 Ok(Wrote::Took(count)) => {
                     taken += count;
                     if taken == bytes.len() {
-                        self.let_go(desk, was_due);
+                        self.unlock(shared, was_due);
                         return Ok(());
                     }
-                    self.tell_due(was_due, desk.held.due());
+                    self.tell_due(was_due, shared.booked.due());
                 }
                 Ok(Wrote::Wait) => {
-                    desk = await_bell(rt, self.bells.writer(id), &self.bells.writing, desk);
+                    shared = await_bell(rt, self.bells.writer(id), &self.bells.writing, shared);
                 }
                 Err(fault) => return Err(WriteFault { taken, fault }),
             }
@@ -126,19 +126,19 @@ impl<R: Recorder> Hub<R> {
         ensures booked { Books R.KEEPS seat.old seat.new (PingTurns seat.old.number result) }
         ensures off { R.KEEPS ≡ false → IsNotMemory result }
     {
-        let mut desk = take_lock(rt, &self.desk);
-        let was_due = desk.held.due();
-        let number = match desk.held.ping(seat) {
+        let mut shared = take_lock(rt, &self.shared);
+        let was_due = shared.booked.due();
+        let number = match shared.booked.ping(seat) {
             Ok(number) => number,
             Err(fault) => return Err(fault),
         };
-        self.tell_due(was_due, desk.held.due());
+        self.tell_due(was_due, shared.booked.due());
         for _ in rt.forever() {
-            match desk.held.ponged(seat, number) {
+            match shared.booked.ponged(seat, number) {
                 Ok(true) => return Ok(number),
                 Ok(false) => {
-                    desk.waiters.pingers = true;
-                    desk = await_bell(rt, &self.bells.ponged, &self.bells.pinging, desk);
+                    shared.waiters.pingers = true;
+                    shared = await_bell(rt, &self.bells.ponged, &self.bells.pinging, shared);
                 }
                 Err(fault) => return Err(fault),
             }
@@ -151,13 +151,13 @@ impl<R: Recorder> Hub<R> {
     pub fn drain<W: Wait>(&self, rt: &W, _seat: &mut Seat<R>)
         ensures { _seat.new ≡ _seat.old }
     {
-        let mut desk = take_lock(rt, &self.desk);
+        let mut shared = take_lock(rt, &self.shared);
         for _ in rt.forever() {
-            if desk.is_mute || !desk.held.due() {
+            if shared.is_mute || !shared.booked.due() {
                 return;
             }
-            desk.waiters.emptiers = true;
-            desk = self.bells.emptied.wait(rt, desk);
+            shared.waiters.emptiers = true;
+            shared = self.bells.emptied.wait(rt, shared);
         }
     }
 }

@@ -13,7 +13,7 @@ use Rattle.ymx_law_session.proofs.limits.FeedsKeep.{header_few, payload_some}
 use Rattle.ymx_law_world.specs.Texts.{AreFrames, AreWithin, HasFrames}
 use Rattle.ymx_law_world.proofs.Emitted.{empty-bytes}
 use Rattle.ymx_law_world.proofs.Fed.{all-first}
-use Rattle.ymx_law_world.proofs.Worlds.{running_is, running_not_closed, is_on, carries-so}
+use Rattle.ymx_law_world.proofs.Worlds.{running_is, running_not_closed, is_on, flows-so}
 
 -- fewer than twelve bytes are no frame
 few_none : (seen : List ℕ) (frames : List (List ℕ)) → length seen < 12 → All IsOneFrame frames → seen ≡ concat frames → seen ≡ []
@@ -42,7 +42,7 @@ quiet-way receiver pipe sender w q r s d h =
     let p = both_of (is_empty pipe.bytes && not pipe.stopped) (not pipe.ended) q in
     let o = both_of (is_empty pipe.bytes) (not pipe.stopped) p.0 in
     let sends = running_not_closed sender.status (running_is sender.status s) in
-    let k = h (carries-so receiver pipe sender (record { on = is_on pipe.stopped o.1; runs = running_is receiver.status r; sends = sends })) in
+    let k = h (flows-so receiver pipe sender (record { on = is_on pipe.stopped o.1; runs = running_is receiver.status r; sends = sends })) in
     let u = k.1 in
     let none = none-begun sender.outgoing.bytes refl in
     between receiver.incoming (pipe.bytes ++ sender.outgoing.bytes) u.tail k.0 (λ seen inc. header_few seen receiver inc w) (λ id n fin stray inc. payload_some id n fin stray receiver inc w)

@@ -93,19 +93,19 @@ pub is_on : (b : Bool) → not b ≡ true → b ≡ false
 is_on true e = cc
 is_on false e = refl
 
-pub record Carries (receiver : Session) (pipe : Pipe) (sender : Session) : Type 0 where
+pub record Flows (receiver : Session) (pipe : Pipe) (sender : Session) : Type 0 where
   pub on : pipe.stopped ≡ false
   pub runs : receiver.status ≡ Running
   pub sends : is_closed sender.status ≡ false
 
-carries-is : (receiver : Session) (pipe : Pipe) (sender : Session) → is_open receiver pipe sender ≡ true → Carries receiver pipe sender
-carries-is receiver pipe sender c =
+flows-is : (receiver : Session) (pipe : Pipe) (sender : Session) → is_open receiver pipe sender ≡ true → Flows receiver pipe sender
+flows-is receiver pipe sender c =
     let p = both_of (not pipe.stopped && is_running receiver.status) (not (is_closed sender.status)) c in
     let q = both_of (not pipe.stopped) (is_running receiver.status) p.0 in
     record { on = is_on pipe.stopped q.0; runs = running_is receiver.status q.1; sends = is_on (is_closed sender.status) p.1 }
 
-pub carries-so : (receiver : Session) (pipe : Pipe) (sender : Session) → Carries receiver pipe sender → is_open receiver pipe sender ≡ true
-carries-so receiver pipe sender c = rw (c.on, c.runs, c.sends) refl
+pub flows-so : (receiver : Session) (pipe : Pipe) (sender : Session) → Flows receiver pipe sender → is_open receiver pipe sender ≡ true
+flows-so receiver pipe sender c = rw (c.on, c.runs, c.sends) refl
 
 -- the same frames are under way where nothing of the direction has changed
 same-way : (r t : Session) (pipe : Pipe) (s u : Session) (frames : List (List ℕ)) → t.incoming ≡ r.incoming → u.outgoing ≡ s.outgoing →
@@ -115,9 +115,9 @@ same-way r t pipe s u frames i b w = record { tail = w.tail; missing = rw i w.mi
 same-frames : (r t : Session) (pipe : Pipe) (s u : Session) → t.incoming ≡ r.incoming → (t.status ≡ Running → r.status ≡ Running) →
     (is_closed u.status ≡ false → (is_closed s.status ≡ false) × (u.outgoing ≡ s.outgoing)) → HasFrames r pipe s → HasFrames t pipe u
 same-frames r t pipe s u i runs opens h c =
-    let k = carries-is t pipe u c in
+    let k = flows-is t pipe u c in
     let o = opens k.sends in
-    let was = h (carries-so r pipe s (record { on = k.on; runs = runs k.runs; sends = o.0 })) in (was.0, same-way r t pipe s u was.0 i o.1 was.1)
+    let was = h (flows-so r pipe s (record { on = k.on; runs = runs k.runs; sends = o.0 })) in (was.0, same-way r t pipe s u was.0 i o.1 was.1)
 
 -- ---- a step
 
@@ -165,9 +165,9 @@ emit-direction : (may : Choice → Session → Bool) (room : ℕ) (out : List �
     HasFrames r pipe s → HasFrames r (pushed out pipe) t
 emit-direction may room out r pipe s t e h c =
     let m = flows-sent may out s t e.flows in
-    let k = carries-is r (pushed out pipe) t c in
+    let k = flows-is r (pushed out pipe) t c in
     let on : pipe.stopped ≡ false = pushed-on pipe.stopped refl k.on in
-    let was = h (carries-so r pipe s (record { on = on; runs = k.runs; sends = ap is_closed (sym m.same.status) ∙ k.sends })) in
+    let was = h (flows-so r pipe s (record { on = on; runs = k.runs; sends = ap is_closed (sym m.same.status) ∙ k.sends })) in
     let l = emitted may room out r pipe s t was.0 e on was.1 in (was.0 ++ l.more, l.under)
   where
     pushed-on : (b : Bool) → pipe.stopped ≡ b → (pushed out pipe).stopped ≡ false → pipe.stopped ≡ false
@@ -178,9 +178,9 @@ emit-direction may room out r pipe s t e h c =
 deliver-direction : (n : ℕ) (fed : Fed) (s t sender : Session) (pipe : Pipe) → Feeds s (take n pipe.bytes) fed t → IsWithin s →
     HasFrames s pipe sender → HasFrames t (without_front fed.taken pipe) sender
 deliver-direction n fed s t sender pipe f w h c =
-    let k = carries-is t (without_front fed.taken pipe) sender c in
+    let k = flows-is t (without_front fed.taken pipe) sender c in
     let m = takes-heard (take fed.taken (take n pipe.bytes)) s t f.took.0 f.took.1 in
-    let was = h (carries-so s pipe sender (record { on = k.on; runs = m.running k.runs; sends = k.sends })) in
+    let was = h (flows-so s pipe sender (record { on = k.on; runs = m.running k.runs; sends = k.sends })) in
     let l = delivered n fed s t sender pipe was.0 f w k.runs was.1 in (l.left, l.under)
 
 -- ---- a step of a world
@@ -238,7 +238,7 @@ of-a may (step.End direction) given w v x h = of w.ab.stopped refl x
     ended v on state =
         let P : World → Type 0 = Steps-well w in
         subst P (sym state) (record {
-          frames = λ f. record { ab = λ c. (let k = carries-is (feed_end w.b) (record w.ab { ended = true }) w.a c in let z = k.on in absurd cc); ba = end-sender w.a w.ba w.b f.ba };
+          frames = λ f. record { ab = λ c. (let k = flows-is (feed_end w.b) (record w.ab { ended = true }) w.a c in let z = k.on in absurd cc); ba = end-sender w.a w.ba w.b f.ba };
           within = record { a = h.a; b = gives-keep may w.b (feed_end w.b) event.FeedEnd reply.Done (refl, refl) h.b };
         })
 

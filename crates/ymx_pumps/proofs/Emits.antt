@@ -10,8 +10,8 @@ use Rattle.ymx_model.specs.declared.types.Event.TheVariants as event
 use Rattle.ymx_machine.specs.declared.types.Reply.TheVariants as reply
 use Rattle.ymx_model.specs.declared.types.Entry.{Entry}
 use Rattle.ymx_seats.specs.Views.{SeatView}
-use Rattle.ymx_held.specs.declared.faults.HubFault.{HubFault}
-use Rattle.ymx_held.specs.Booked.{Books, One}
+use Rattle.ymx_booked.specs.declared.faults.HubFault.{HubFault}
+use Rattle.ymx_booked.specs.Books.{Books, One}
 use Rattle.ymx_hub.specs.declared.moving.Turn.{Turn}
 use Rattle.ymx_hub.specs.declared.moving.Turn.TheVariants.{Emitted, Idle, Over}
 use Rattle.ymx_hub.specs.Pumped.{EmitsOnce}

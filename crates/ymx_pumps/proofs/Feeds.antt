@@ -12,8 +12,8 @@ use Rattle.ymx_model.specs.declared.types.Event.TheVariants as event
 use Rattle.ymx_machine.specs.declared.types.Reply.TheVariants as reply
 use Rattle.ymx_model.specs.declared.types.Entry.{Entry}
 use Rattle.ymx_seats.specs.Views.{SeatView}
-use Rattle.ymx_held.specs.declared.faults.HubFault.{HubFault}
-use Rattle.ymx_held.specs.Booked.{Books, One, Does}
+use Rattle.ymx_booked.specs.declared.faults.HubFault.{HubFault}
+use Rattle.ymx_booked.specs.Books.{Books, One, Does}
 use Rattle.ymx_hub.proofs.Booked.{books_same, books_at, books_weaker}
 use Rattle.ymx_pumps.specs.declared.pump_end.PumpWhy.{PumpWhy}
 use Rattle.ymx_pumps.specs.declared.pump_end.PumpWhy.TheVariants.{End, Device, Broken, Memory, Gate}

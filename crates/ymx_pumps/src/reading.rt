@@ -3,7 +3,7 @@
 ghost use Rattle.std.specs.Prelude.{◌≡◌, ◌<◌, ◌⊎◌, length, true, false, IfErr};
 ghost use Rattle.std.specs.Io.KnownBytes.{IsAtEnd};
 ghost use Rattle.ymx_model.specs.devices.Devices.{has_failed};
-ghost use Rattle.ymx_held.specs.Booked.{Books};
+ghost use Rattle.ymx_booked.specs.Books.{Books};
 ghost use Rattle.ymx_pumps.specs.Pumps.{PumpRead};
 ghost use Rattle.ymx_pumps.specs.Turns.{SaysEnd, TurnFed, FedAll, TurnRead};
 

@@ -4,7 +4,7 @@ ghost use Rattle.std.specs.Prelude.{◌≡◌, ◌<◌, ◌⊎◌, length, true,
 ghost use Rattle.std.specs.Io.KnownBytes.{Keeps};
 ghost use Rattle.ymx_header.specs.declared.fault.Fault.{Fault as FaultValue};
 ghost use Rattle.ymx_model.specs.devices.Devices.{has_failed};
-ghost use Rattle.ymx_held.specs.Booked.{Books};
+ghost use Rattle.ymx_booked.specs.Books.{Books};
 ghost use Rattle.ymx_pumps.specs.Pumps.{PumpWrote, EndsWrite};
 ghost use Rattle.ymx_pumps.specs.Turns.{Pushed, SaysEnd, TurnWrote};
 

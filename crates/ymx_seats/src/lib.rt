@@ -16,6 +16,6 @@ mod transcript;
 pub use compare::{agree, same};
 pub use log::Log;
 pub use recorder::{Full, Off, Recorder, Witnessed};
-pub use seat::{Seat, let_go};
+pub use seat::{Seat, discard};
 pub use slips::{Ask, Slip, Tell};
 pub use transcript::Transcript;

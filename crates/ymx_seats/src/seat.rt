@@ -137,7 +137,7 @@ impl<R: Recorder> Seat<R> {
 }
 
 /// Lets a list of seats go.
-pub fn let_go<R: Recorder>(mut seats: Vec<Seat<R>>) {
+pub fn discard<R: Recorder>(mut seats: Vec<Seat<R>>) {
     while let Some(seat) = seats.pop() {
         let _ = seat.into_entries();
     }

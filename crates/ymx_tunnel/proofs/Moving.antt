@@ -12,8 +12,8 @@ use Rattle.ymx_tunnel.specs.declared.copied.CopyWhy.{CopyWhy}
 use Rattle.ymx_tunnel.specs.declared.copied.CopyWhy.TheVariants.{End, Source, Sink, Reset, Lost, Memory}
 use Rattle.ymx_tunnel.specs.Copies.{CopiesIn, CopiesOut, StopsFor, copy_reason}
 use Rattle.ymx_machine.specs.declared.types.CallFault.TheVariants as refusal
-use Rattle.ymx_held.specs.declared.faults.HubFault.{HubFault}
-use Rattle.ymx_held.specs.declared.faults.HubFault.TheVariants.{Call, Memory as NoMemory, Seats}
+use Rattle.ymx_booked.specs.declared.faults.HubFault.{HubFault}
+use Rattle.ymx_booked.specs.declared.faults.HubFault.TheVariants.{Call, Memory as NoMemory, Seats}
 
 -- a call that fails is counted
 pub counted : (first old new : ℕ) → new ≡ min (old + 1) most_failures → old ≡ first → IsTrue (has_failed first new)

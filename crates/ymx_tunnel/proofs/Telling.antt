@@ -9,9 +9,9 @@ use Rattle.ymx_machine.specs.declared.types.Reply.{Reply}
 use Rattle.ymx_machine.specs.declared.types.Reply.TheVariants as reply
 use Rattle.ymx_model.specs.declared.types.Entry.{Entry}
 use Rattle.ymx_seats.specs.Views.{entry}
-use Rattle.ymx_held.specs.declared.faults.HubFault.{HubFault}
-use Rattle.ymx_held.specs.Answers.{hub_fault_of}
-use Rattle.ymx_held.specs.Booked.{Gains, One, Forgets, SpendsWith, Spends, Closes, to_read, to_finish, to_reset, to_forget}
+use Rattle.ymx_booked.specs.declared.faults.HubFault.{HubFault}
+use Rattle.ymx_booked.specs.Answers.{hub_fault_of}
+use Rattle.ymx_booked.specs.Books.{Gains, One, Forgets, SpendsWith, Spends, Closes, to_read, to_finish, to_reset, to_forget}
 use Rattle.ymx_hub.specs.declared.write_fault.WriteFault.{WriteFault}
 use Rattle.ymx_hub.specs.Turns.{took_of, total, EndsIn, AreWrites, WriteTurns, AreWaits, ReadTurns, ReadsLast}
 use Rattle.ymx_tunnel.specs.Told.{offered, bytes_written, read_of, read_bytes, GivesNone, HasSaidEnd, HasToldRefusal}

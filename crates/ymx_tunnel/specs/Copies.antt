@@ -3,8 +3,8 @@ use Rattle.std.specs.Prelude.{◌≡◌, ℕ, ◌-◌, ◌^◌, ◌⊎◌, min, 
 use Rattle.std.specs.Io.{StartsWith}
 use Rattle.std.specs.Io.KnownBytes.{Appends, Consumes, IsAtEnd}
 use Rattle.ymx_machine.specs.declared.types.CallFault.TheVariants as refusal
-use Rattle.ymx_held.specs.declared.faults.HubFault.{HubFault}
-use Rattle.ymx_held.specs.declared.faults.HubFault.TheVariants.{Call, Memory as NoMemory}
+use Rattle.ymx_booked.specs.declared.faults.HubFault.{HubFault}
+use Rattle.ymx_booked.specs.declared.faults.HubFault.TheVariants.{Call, Memory as NoMemory}
 use Rattle.ymx_tunnel.specs.declared.copied.CopyWhy.{CopyWhy}
 use Rattle.ymx_tunnel.specs.declared.copied.CopyWhy.TheVariants.{End, Reset, Lost, Memory}
 

@@ -7,9 +7,9 @@ use Rattle.ymx_machine.specs.declared.types.Reply.{Reply}
 use Rattle.ymx_machine.specs.declared.types.Reply.TheVariants as reply
 use Rattle.ymx_model.specs.declared.types.Entry.{Entry}
 use Rattle.ymx_machine.specs.declared.types.CallFault.{CallFault}
-use Rattle.ymx_held.specs.declared.faults.HubFault.{HubFault}
-use Rattle.ymx_held.specs.declared.faults.HubFault.TheVariants.{Memory}
-use Rattle.ymx_held.specs.Answers.{hub_fault_of}
+use Rattle.ymx_booked.specs.declared.faults.HubFault.{HubFault}
+use Rattle.ymx_booked.specs.declared.faults.HubFault.TheVariants.{Memory}
+use Rattle.ymx_booked.specs.Answers.{hub_fault_of}
 use Rattle.ymx_hub.specs.Turns.{took_of}
 
 -- the bytes of a write

@@ -143,7 +143,7 @@ impl Connections {
 
 /// What comes from an open connection. It notes the end, and takes none from a connection that has failed.
 #[derive(Drop)]
-pub(crate) struct LineReader<'a> {
+pub(crate) struct ConnectionReader<'a> {
     line: &'a Line,
     reader: ConnectionReader<'a>,
     failures: u64,
@@ -151,15 +151,15 @@ pub(crate) struct LineReader<'a> {
 
 /// What goes to an open connection. It notes the end, and a failure.
 #[derive(Drop)]
-pub(crate) struct LineWriter<'a> {
+pub(crate) struct ConnectionWriter<'a> {
     line: &'a Line,
     writer: ConnectionWriter<'a>,
 }
 
-impl<'a> LineReader<'a> {
+impl<'a> ConnectionReader<'a> {
     /// What comes from this connection.
-    pub(crate) fn new(line: &'a Line) -> LineReader<'a> {
-        LineReader {
+    pub(crate) fn new(line: &'a Line) -> ConnectionReader<'a> {
+        ConnectionReader {
             line,
             reader: ConnectionReader::new(&line.stream),
             failures: 0,
@@ -167,17 +167,17 @@ impl<'a> LineReader<'a> {
     }
 }
 
-impl<'a> LineWriter<'a> {
+impl<'a> ConnectionWriter<'a> {
     /// What goes to this connection.
-    pub(crate) fn new(line: &'a Line) -> LineWriter<'a> {
-        LineWriter {
+    pub(crate) fn new(line: &'a Line) -> ConnectionWriter<'a> {
+        ConnectionWriter {
             line,
             writer: ConnectionWriter::new(&line.stream),
         }
     }
 }
 
-impl Inlet for LineReader<'_> {
+impl Inlet for ConnectionReader<'_> {
     ghost remaining = { λ _. None };
 
     ghost failures = { λ s. s.failures };
@@ -200,7 +200,7 @@ impl Inlet for LineReader<'_> {
     }
 }
 
-impl Outlet for LineWriter<'_> {
+impl Outlet for ConnectionWriter<'_> {
     ghost contents = { λ _. None };
 
     ghost failures = { λ s. s.writer.failures };

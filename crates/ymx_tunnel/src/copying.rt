@@ -4,7 +4,7 @@ ghost use Rattle.std.specs.Prelude.{ℕ, List, Result, Ok, Err, ◌≡◌, ◌�
 ghost use Rattle.std.specs.Io.{StartsWith};
 ghost use Rattle.std.specs.Io.KnownBytes.{Appends};
 ghost use Rattle.ymx_model.specs.devices.Devices.{has_failed};
-ghost use Rattle.ymx_held.specs.declared.faults.HubFault.{HubFault as Fault};
+ghost use Rattle.ymx_booked.specs.declared.faults.HubFault.{HubFault as Fault};
 ghost use Rattle.ymx_tunnel.specs.Copies.{CopiesIn, CopiesOut, StopsFor, copy_reason};
 
 use crate::copied::{Copied, CopyWhy, why_of_fault};

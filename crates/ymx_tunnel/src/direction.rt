@@ -2,7 +2,7 @@
 
 ghost use Rattle.std.specs.Prelude.{◌<◌, vec_len, IfOk};
 
-use crate::connections::{Line, LineReader, LineWriter};
+use crate::connections::{Line, ConnectionReader, ConnectionWriter};
 use crate::copied::{Copied, CopyWhy};
 use crate::copying::{copy_in, copy_out};
 use std::alloc::{AllocError, Global};
@@ -61,10 +61,10 @@ pub(crate) fn inward<R: Wait>(
         let _ = writer.reset(rt);
         return ended(line, 0, CopyWhy::Memory);
     };
-    let mut inlet = LineReader::new(line);
+    let mut inlet = ConnectionReader::new(line);
     let sink = writer.into_half();
     let Copied { bytes, why, left } = copy_in(rt, &mut inlet, sink, buffer.as_mut_slice());
-    let_go(left);
+    discard(left);
     ended(line, bytes, why)
 }
 
@@ -82,10 +82,10 @@ pub(crate) fn outward<R: Wait>(
         let _ = reader.close(rt);
         return ended(line, 0, CopyWhy::Memory);
     };
-    let mut outlet = LineWriter::new(line);
+    let mut outlet = ConnectionWriter::new(line);
     let source = reader.into_half();
     let Copied { bytes, why, left } = copy_out(rt, source, &mut outlet, buffer.as_mut_slice());
-    let_go(left);
+    discard(left);
     ended(line, bytes, why)
 }
 
@@ -118,6 +118,6 @@ pub(crate) fn spend<R: Wait>(rt: &R, writer: Option<Writer>, reader: Option<Read
 }
 
 /// Lets a seat go: with the recorder `Off` it holds nothing.
-fn let_go(seat: Seat<Off>) {
+fn discard(seat: Seat<Off>) {
     let _ = seat.into_entries();
 }

@@ -2,7 +2,7 @@
 //! tell none.
 
 ghost use Rattle.std.specs.Prelude.{Some, None, ⊤, true};
-ghost use Rattle.ymx_held.specs.Booked.{Books, Spends, to_finish, to_reset};
+ghost use Rattle.ymx_booked.specs.Books.{Books, Spends, to_finish, to_reset};
 ghost use Rattle.ymx_tunnel.specs.Told.{bytes_written, read_bytes, HasSaidEnd, HasToldRefusal};
 
 use crate::ends::{Sink, Source};

@@ -8,7 +8,7 @@
 ghost use Rattle.std.specs.Prelude.{◌≡◌, None, IfOk, IfErr};
 ghost use Rattle.ymx_session.specs.NewSessions.{new_fault};
 ghost use Rattle.ymx_seats.specs.Transcripts.{IsNew};
-ghost use Rattle.ymx_held.specs.Held.{config_of};
+ghost use Rattle.ymx_booked.specs.Booked.{config_of};
 ghost use Rattle.ymx_connect.specs.Connecting.{IsConnectFault};
 
 use std::alloc::{AllocError, Global};

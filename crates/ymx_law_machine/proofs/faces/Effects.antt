@@ -18,7 +18,7 @@ use Rattle.ymx_law_machine.proofs.faces.Pasts.{Past}
 use Rattle.ymx_law_machine.specs.Others.{front, touched}
 use Rattle.ymx_law_machine.proofs.lanes.LaneLaws.{lists}
 use Rattle.ymx_law_machine.proofs.faces.LaneFaces.{wrote}
-use Rattle.ymx_law_machine.proofs.faces.StreamFaces.{past_out, past_inn}
+use Rattle.ymx_law_machine.proofs.faces.StreamFaces.{past_out, past_inbound}
 use Rattle.ymx_law_machine.proofs.lanes.StreamFacts.{if-so_true, if-so_false}
 
 -- the past of the lane that the caller writes, of the stream i
@@ -30,7 +30,7 @@ tell_outbound i _ r h = h
 
 -- and of the one that it reads
 abbrev pub tell_inbound : ℕ → Call → Reply → Past → Past
-tell_inbound i (call.Read id max) r h = if id == i then past_inn (Reads max) r h else h
+tell_inbound i (call.Read id max) r h = if id == i then past_inbound (Reads max) r h else h
 tell_inbound i _ r h = h
 
 -- the streams and what speaks of them are the same
@@ -73,7 +73,7 @@ pub record Touches (c : Call) (m : Machine) (r : Reply) (n : Machine) (id : ℕ)
   pub rule : StreamRule m.me.lost sc s r t
   pub now : n ≡ record m { streams = change id (λ _. t) m.streams }
   pub outbound : (h : Past) → tell_outbound id c r h ≡ past_out sc r h
-  pub inbound : (h : Past) → tell_inbound id c r h ≡ past_inn sc r h
+  pub inbound : (h : Past) → tell_inbound id c r h ≡ past_inbound sc r h
   pub others : (i : ℕ) → i ≢ id → Untold c r i
 
 pub data Effect (c : Call) (m : Machine) (r : Reply) (n : Machine) : Type 0 where
@@ -174,12 +174,12 @@ self-out id Finishes r h = rw (is-self id) refl
 self-out id Resets r h = refl
 self-out id Forgets r h = refl
 
-self-inn : (id : ℕ) (sc : StreamCall) (r : Reply) (h : Past) → tell_inbound id (call_on id sc) r h ≡ past_inn sc r h
-self-inn id (Writes bytes) r h = refl
-self-inn id (Reads max) r h = rw (is-self id) refl
-self-inn id Finishes r h = refl
-self-inn id Resets r h = refl
-self-inn id Forgets r h = refl
+self-inbound : (id : ℕ) (sc : StreamCall) (r : Reply) (h : Past) → tell_inbound id (call_on id sc) r h ≡ past_inbound sc r h
+self-inbound id (Writes bytes) r h = refl
+self-inbound id (Reads max) r h = rw (is-self id) refl
+self-inbound id Finishes r h = refl
+self-inbound id Resets r h = refl
+self-inbound id Forgets r h = refl
 
 other-untold : (id i : ℕ) (sc : StreamCall) (r : Reply) → i ≢ id → Untold (call_on id sc) r i
 other-untold id i (Writes bytes) r d = record { outbound = λ h. rw (is-other i id d) refl; inbound = λ h. refl }
@@ -203,7 +203,7 @@ touches id sc (Some s) m r n e h = TouchesOne id sc s h.0 (record {
   rule = h.1;
   now = h.2;
   outbound = self-out id sc r;
-  inbound = self-inn id sc r;
+  inbound = self-inbound id sc r;
   others = λ i d. other-untold id i sc r d;
 })
 

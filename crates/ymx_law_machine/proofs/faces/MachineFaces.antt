@@ -26,14 +26,14 @@ pub record IsBlank (h : Past) : Type 0 where
   pub got : h.got ≡ []
   pub ended : h.ended ≡ false
 
-abbrev pub FaceAt : (mine yours : ℕ) → (past_out past_inn : Past) → Option Stream → Type 0
+abbrev pub FaceAt : (mine yours : ℕ) → (past_out past_inbound : Past) → Option Stream → Type 0
 FaceAt mine yours po pi None = IsBlank po × IsBlank pi
 FaceAt mine yours po pi (Some s) = HasFaces mine yours s po pi
 
-pub record Faced (mine yours i : ℕ) (past_out past_inn : Past) (c : Core) : Type 0 where
+pub record Faced (mine yours i : ℕ) (past_out past_inbound : Past) (c : Core) : Type 0 where
   pub sound : Sound mine yours c
   pub numbered : Numbered c
-  pub face : FaceAt mine yours past_out past_inn (look i c.streams)
+  pub face : FaceAt mine yours past_out past_inbound (look i c.streams)
 
 pub faced-is : (mine yours i : ℕ) (po pi : Past) (c d : Core) → d ≡ c → Faced mine yours i po pi c → Faced mine yours i po pi d
 faced-is mine yours i po pi c d e h = subst (Faced mine yours i po pi) (sym e) h

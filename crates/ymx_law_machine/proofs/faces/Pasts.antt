@@ -29,8 +29,8 @@ abbrev pub HasFace : (window : ℕ) → (writer reader : Phase) → Lane → Pas
 HasFace window writer reader l h = (rest : List ℕ) × (back : List ℕ) × Faces window writer reader l h rest back
 
 -- both lanes of a stream, and a reset that was said leaves its sayer's end down
-pub record HasFaces (mine yours : ℕ) (s : Stream) (past_out past_inn : Past) : Type 0 where
+pub record HasFaces (mine yours : ℕ) (s : Stream) (past_out past_inbound : Past) : Type 0 where
   pub outbound : HasFace yours s.me s.you s.outbound past_out
-  pub inbound : HasFace mine s.you s.me s.inbound past_inn
+  pub inbound : HasFace mine s.you s.me s.inbound past_inbound
   pub rst_outbound : is_unsaid s.rst_outbound ≡ false → is_up s.me ≡ false
   pub rst_inbound : is_unsaid s.rst_inbound ≡ false → is_up s.you ≡ false

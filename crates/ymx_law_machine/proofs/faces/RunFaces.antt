@@ -104,24 +104,24 @@ tells-out a i (call.Ponged k) r h = same h
 tells-out a i call.GoAway r h = same h
 tells-out a i call.Close r h = same h
 
-tells-inn : (a : Side) (i : ℕ) (c : Call) (r : Reply) (h : Past) → grown (other a) a i (step.At a c) (answer_of r) h ≡ tell_inbound i c r h
-tells-inn a i (call.Read id max) (reply.Read bytes) h = rw (same-side a) (pick-gave (id == i) bytes h)
-tells-inn a i (call.Read id max) reply.ReadEnd h = rw (same-side a) (pick-ended (id == i) h)
-tells-inn a i (call.Read id max) r h = stays (id == i) h _ (none-gave h)
-tells-inn a i (call.Write id bytes) (reply.Wrote (Took n)) h = rw (other-side a) (same h)
-tells-inn a i (call.Write id bytes) r h = same h
-tells-inn a i (call.OpenWith bytes) (reply.OpenedWith id n) h = rw (other-side a) (same h)
-tells-inn a i (call.OpenWith bytes) r h = same h
-tells-inn a i (call.Finish id) reply.Done h = rw (other-side a) (same h)
-tells-inn a i (call.Finish id) r h = same h
-tells-inn a i call.Open r h = same h
-tells-inn a i call.Accept r h = same h
-tells-inn a i (call.Reset id) r h = same h
-tells-inn a i (call.Forget id) r h = same h
-tells-inn a i call.Ping r h = same h
-tells-inn a i (call.Ponged k) r h = same h
-tells-inn a i call.GoAway r h = same h
-tells-inn a i call.Close r h = same h
+tells-inbound : (a : Side) (i : ℕ) (c : Call) (r : Reply) (h : Past) → grown (other a) a i (step.At a c) (answer_of r) h ≡ tell_inbound i c r h
+tells-inbound a i (call.Read id max) (reply.Read bytes) h = rw (same-side a) (pick-gave (id == i) bytes h)
+tells-inbound a i (call.Read id max) reply.ReadEnd h = rw (same-side a) (pick-ended (id == i) h)
+tells-inbound a i (call.Read id max) r h = stays (id == i) h _ (none-gave h)
+tells-inbound a i (call.Write id bytes) (reply.Wrote (Took n)) h = rw (other-side a) (same h)
+tells-inbound a i (call.Write id bytes) r h = same h
+tells-inbound a i (call.OpenWith bytes) (reply.OpenedWith id n) h = rw (other-side a) (same h)
+tells-inbound a i (call.OpenWith bytes) r h = same h
+tells-inbound a i (call.Finish id) reply.Done h = rw (other-side a) (same h)
+tells-inbound a i (call.Finish id) r h = same h
+tells-inbound a i call.Open r h = same h
+tells-inbound a i call.Accept r h = same h
+tells-inbound a i (call.Reset id) r h = same h
+tells-inbound a i (call.Forget id) r h = same h
+tells-inbound a i call.Ping r h = same h
+tells-inbound a i (call.Ponged k) r h = same h
+tells-inbound a i call.GoAway r h = same h
+tells-inbound a i call.Close r h = same h
 
 -- ---- a step
 
@@ -139,7 +139,7 @@ faced-at mine yours i a po pi c given m n w v h k =
     (faced-effect mine yours i po pi c m h.0 h.1 w v (effect c m h.0 h.1 h.4) k) in
     faced-past mine yours i _ _ _ _ (core n)
     (ap (λ (g : Answer). grown a (other a) i (step.At a c) g po) h.3 ∙ tells-out a i c h.0 po)
-    (ap (λ (g : Answer). grown (other a) a i (step.At a c) g pi) h.3 ∙ tells-inn a i c h.0 pi) x
+    (ap (λ (g : Answer). grown (other a) a i (step.At a c) g pi) h.3 ∙ tells-inbound a i c h.0 pi) x
 
 faced-step_of : (mine yours i : ℕ) (a : Side) (po pi : Past) (st : Step) (given : Answer) (m n : Machine) → first_credit ≤ mine → first_credit ≤ yours → Speaks a st →
     MachineStepOfA st given m n → Faced mine yours i po pi (core m) →

@@ -114,9 +114,9 @@ past_out (Writes bytes) r h = wrote (took_bytes bytes r) h
 past_out Finishes r h = if is_done r then record h { finished = true } else h
 past_out _ r h = h
 
-abbrev pub past_inn : StreamCall → Reply → Past → Past
-past_inn (Reads max) r h = if is_end r then record h { ended = true } else gave (gave_bytes r) h
-past_inn _ r h = h
+abbrev pub past_inbound : StreamCall → Reply → Past → Past
+past_inbound (Reads max) r h = if is_end r then record h { ended = true } else gave (gave_bytes r) h
+past_inbound _ r h = h
 
 -- ---- nothing
 
@@ -267,7 +267,7 @@ forgets mine yours lost s t po pi d (inl q) h c = faces-is mine yours _ t po pi 
 forgets mine yours lost s t po pi d (inr q) h c = resets mine yours Lingering s t po pi refl (forget-live lost s d q) (if-so_false _ _ _ q h) c
 
 pub faces-rule : (mine yours : ℕ) (lost : Bool) (c : StreamCall) (s t : Stream) (r : Reply) (po pi : Past) → StreamRule lost c s r t →
-    HasFaces mine yours s po pi → HasFaces mine yours t (past_out c r po) (past_inn c r pi)
+    HasFaces mine yours s po pi → HasFaces mine yours t (past_out c r po) (past_inbound c r pi)
 faces-rule mine yours lost (Writes bytes) s t r po pi (inl h) c = writes mine yours lost bytes s t r po pi h.0 h.1 (when (bytes_moved r == 0)) c
 faces-rule mine yours lost (Writes bytes) s t r po pi (inr h) c =
     faces-is mine yours s t _ pi h.2 (past-same mine yours s po _ pi pi (wrote-none po (took_bytes bytes r) (subst (λ (x : Reply). took_bytes bytes x ≡ []) (sym h.1) refl)) refl c)

@@ -1,4 +1,4 @@
-use Rattle.ymx_held.specs.Held.{config_of}
+use Rattle.ymx_booked.specs.Booked.{config_of}
 use Rattle.ymx_witness.proofs.witnessed.Given as goal
 
 -- the journal that was just opened, of the session that was just made

@@ -1,0 +1,4 @@
+pub mod Answers
+pub mod Booked
+pub mod Books
+pub mod Steps

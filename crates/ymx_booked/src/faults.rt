@@ -1,0 +1,55 @@
+//! Why a call of a hub fails.
+
+ghost use Rattle.std.specs.Prelude.{◌≡◌};
+ghost use Rattle.ymx_session.specs.Replies.{done_or};
+ghost use Rattle.ymx_seats.specs.Slips.{told_by, bytes_told};
+ghost use Rattle.ymx_booked.specs.Answers.{hub_answer, hub_fault_of};
+
+use thiserror::Error;
+use ymx_model::CallFault;
+use ymx_seats::Tell;
+
+/// Why a call of a hub fails.
+#[derive(Clone, Copy, Debug, PartialEq, Eq, Error)]
+pub enum HubFault {
+    /// The session refused it. `OutOfMemory` never stands here.
+    #[error("{0}")]
+    Call(CallFault),
+    /// There was no memory, for the session or for the entry of the event.
+    #[error("Memory")]
+    Memory,
+    /// 4,294,967,295 seats were given.
+    #[error("Seats")]
+    Seats,
+}
+
+/// What a hub answers for a refusal of its session.
+pub(crate) fn hub_fault(fault: CallFault) -> HubFault
+    ensures { result ≡ hub_fault_of fault }
+{
+    match fault {
+        CallFault::OutOfMemory => HubFault::Memory,
+        other => HubFault::Call(other),
+    }
+}
+
+/// What a hub answers for what its session answered.
+pub(crate) fn answered<T: Drop>(given: Result<T, CallFault>) -> Result<T, HubFault>
+    ensures { result ≡ hub_answer given }
+{
+    match given {
+        Ok(answer) => Ok(answer),
+        Err(fault) => Err(hub_fault(fault)),
+    }
+}
+
+/// What is kept of a call that answers nothing else.
+pub(crate) fn tell_of_done<'a>(given: Result<(), CallFault>) -> Tell<'a>
+    ensures told { told_by result ≡ done_or given }
+    ensures short { bytes_told result ≡ 0 }
+{
+    match given {
+        Ok(()) => Tell::Done,
+        Err(fault) => Tell::Refused(fault),
+    }
+}

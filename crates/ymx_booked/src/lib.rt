@@ -1,0 +1,18 @@
+//! What stands under the lock of a hub: a session, the log of its events, and which streams are half spent. It
+//! uses no threads: each call is what a hub does in one hold of its lock.
+//!
+//! `Booked` is the type. Its calls stand in `opening` (a stream is handed out), `stream_calls` (bytes, and halves
+//! that are spent), `session_calls` and `moving` (what comes and goes).
+#![tactic(auto)]
+
+mod booked;
+mod end_fault;
+mod faults;
+mod moving;
+mod opening;
+mod session_calls;
+mod stream_calls;
+
+pub use booked::Booked;
+pub use end_fault::{EndFault, EndWhy};
+pub use faults::HubFault;

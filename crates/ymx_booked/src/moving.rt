@@ -1,0 +1,79 @@
+//! What comes and what goes, with its entries.
+
+ghost use Rattle.std.specs.Prelude.{◌≡◌, ◌≤◌, length, take, drop, false, IfOk, IsOk, MatchResult};
+ghost use Rattle.ymx_model.specs.declared.types.Event.TheVariants as event;
+ghost use Rattle.ymx_machine.specs.declared.types.Reply.TheVariants as reply;
+ghost use Rattle.ymx_session.specs.Touched.{NotesChanges, NotesOnly, StaysNoted};
+ghost use Rattle.ymx_booked.specs.Books.{Books, Does};
+ghost use Rattle.ymx_booked.specs.Steps.{StepsTold};
+
+use crate::faults::HubFault;
+use crate::booked::Booked;
+use ymx_model::Fed;
+use ymx_seats::{Ask, Recorder, Seat, Tell};
+use ymx_session::Touched;
+
+impl<R: Recorder> Booked<R> {
+    /// Feeds bytes that came from the peer, and notes the streams that they touch, and an answer to a ping, behind what
+    /// was noted before. A stream that isn't noted then is as it was, and a stream is noted only where the end of a
+    /// header of its frames, or payload of it, was among the bytes taken.
+    #[tactic(auto, using(crate::proofs::History::kept_after, crate::proofs::Journals::journaled_after, crate::proofs::Journals::witnessed_after, crate::proofs::Books::books_one))]
+    pub fn feed(
+        &mut self,
+        seat: &mut Seat<R>,
+        bytes: &[u8],
+        touched: &mut Touched,
+    ) -> Result<Fed, HubFault>
+        ensures booked { Books R.KEEPS seat.old seat.new (Does (event.Feed bytes.now) reply.Fed seat.old.number result) }
+        ensures steps { StepsTold R.KEEPS (event.Feed bytes.now) reply.Fed seat.old.number result self.old self.new }
+        ensures within { IfOk result (λ fed. fed.taken ≤ length bytes.now) }
+        ensures notes { NotesChanges self.old.session self.new.session touched.new }
+        ensures kept { StaysNoted touched.old touched.new }
+        ensures only { MatchResult result (λ fed. NotesOnly (take fed.taken bytes.now) self.old.session touched.old touched.new) (λ fault. touched.new ≡ touched.old) }
+        ensures off { R.KEEPS ≡ false → IsOk result }
+    {
+        let ask = Ask::Feed(bytes);
+        let Ok(slip) = self.log.prepare(self.alloc, seat, ask, 0, 1) else {
+            return Err(HubFault::Memory);
+        };
+        let fed = self.session.feed_touching(bytes, touched);
+        self.log.add(seat, slip, ask, Tell::Fed(fed));
+        Ok(fed)
+    }
+
+    /// The peer's bytes have ended.
+    #[tactic(auto, using(crate::proofs::History::kept_after, crate::proofs::Journals::journaled_after, crate::proofs::Journals::witnessed_after, crate::proofs::Books::books_one))]
+    pub fn feed_end(&mut self, seat: &mut Seat<R>) -> Result<(), HubFault>
+        ensures booked { Books R.KEEPS seat.old seat.new (Does event.FeedEnd (λ _. reply.Done) seat.old.number result) }
+        ensures steps { StepsTold R.KEEPS event.FeedEnd (λ _. reply.Done) seat.old.number result self.old self.new }
+        ensures off { R.KEEPS ≡ false → IsOk result }
+    {
+        let Ok(slip) = self.log.prepare(self.alloc, seat, Ask::FeedEnd, 0, 1) else {
+            return Err(HubFault::Memory);
+        };
+        self.session.feed_end();
+        self.log.add(seat, slip, Ask::FeedEnd, Tell::Done);
+        Ok(())
+    }
+
+    /// Emits into the buffer as much as is due and fits, and returns how many bytes stand at its front. The rest of
+    /// the buffer stays as it was.
+    #[tactic(auto, using(crate::proofs::History::kept_after, crate::proofs::Journals::journaled_after, crate::proofs::Journals::witnessed_after, crate::proofs::Books::books_one))]
+    pub fn emit(&mut self, seat: &mut Seat<R>, buffer: &mut [u8]) -> Result<usize, HubFault>
+        ensures booked { Books R.KEEPS seat.old seat.new (Does (event.Emit (length buffer.old)) (λ count. reply.Emitted (take count buffer.new)) seat.old.number result) }
+        ensures steps { StepsTold R.KEEPS (event.Emit (length buffer.old)) (λ count. reply.Emitted (take count buffer.new)) seat.old.number result self.old self.new }
+        ensures within { IfOk result (λ count. count ≤ length buffer.old) }
+        ensures length { length buffer.new ≡ length buffer.old }
+        ensures rest { MatchResult result (λ count. drop count buffer.new ≡ drop count buffer.old) (λ fault. buffer.new ≡ buffer.old) }
+        ensures off { R.KEEPS ≡ false → IsOk result }
+    {
+        let ask = Ask::Emit(buffer.len());
+        let Ok(slip) = self.log.prepare(self.alloc, seat, ask, buffer.len(), 1) else {
+            return Err(HubFault::Memory);
+        };
+        let count = self.session.emit(buffer);
+        self.log
+            .add(seat, slip, ask, Tell::Emitted(&buffer[..count]));
+        Ok(count)
+    }
+}

@@ -1,0 +1,193 @@
+//! Streams that are handed out, with a seat for each half.
+
+ghost use Rattle.std.specs.Prelude.{◌≡◌, ◌⊎◌, ◌+◌, ◌^◌, ◌<◌, ◌≤◌, [], IfOk, IfErr, OnOk};
+ghost use Rattle.indexmap.specs.IndexSet.{spare, IsUnchanged};
+ghost use Rattle.ymx_session.specs.Replies.{opened_or, opened_with_or, accepted_or};
+ghost use Rattle.ymx_seats.specs.Slips.{told_by, bytes_told};
+ghost use Rattle.ymx_booked.specs.Books.{Books, Opens, OpensWith, AcceptsOnce};
+ghost use Rattle.ymx_seats.specs.Views.{HasNumbered, IsWitnessed, whole_of, with_caller};
+ghost use Rattle.ymx_booked.specs.Steps.{IsNext, StepsOpened, StepsOpenedWith, StepsAccepted};
+
+use crate::faults::{HubFault, hub_fault};
+use crate::booked::Booked;
+use indexmap::IndexSet;
+use std::alloc::Global;
+use ymx_model::CallFault;
+use ymx_seats::{Ask, Log, Recorder, Seat, Tell};
+
+impl<R: Recorder> Booked<R> {
+    /// Opens the next own stream, with a seat for each of its halves, which start after the entry of it.
+    ///
+    /// Without seats or memory for the halves and the entry, `Seats` or `Memory` comes, and nothing is done.
+    #[tactic(auto, using(crate::proofs::History::kept_after, crate::proofs::Journals::journaled_after, crate::proofs::Journals::witnessed_after))]
+    pub fn open(&mut self, seat: &mut Seat<R>) -> Result<(u32, Seat<R>, Seat<R>), HubFault>
+        ensures booked { Books R.KEEPS seat.old seat.new (Opens seat.old.number result) }
+        ensures steps { StepsOpened R.KEEPS seat.old.number result self.old self.new }
+        ensures empty { IfOk result (λ made. (made.1.entries ≡ []) × (made.2.entries ≡ [])) }
+    {
+        if let Err(fault) = make_room(self.given, self.unspent, &mut self.half_spent) {
+            return Err(fault);
+        }
+        let Ok(slip) = self.log.prepare(self.alloc, seat, Ask::Open, 0, 1) else {
+            return Err(HubFault::Memory);
+        };
+        let opened = self.session.open();
+        self.log.add(seat, slip, Ask::Open, tell_of_open(opened));
+        match opened {
+            Ok(id) => {
+                let (first, second) = hand_out(
+                    &mut self.log,
+                    self.alloc,
+                    &mut self.given,
+                    &mut self.unspent,
+                );
+                Ok((id, first, second))
+            }
+            Err(fault) => Err(hub_fault(fault)),
+        }
+    }
+
+    /// Opens the next own stream with these first bytes, as `open`, and says how many of them were taken.
+    #[tactic(auto, using(crate::proofs::History::kept_after, crate::proofs::Journals::journaled_after, crate::proofs::Journals::witnessed_after))]
+    pub fn open_with(
+        &mut self,
+        seat: &mut Seat<R>,
+        bytes: &[u8],
+    ) -> Result<(u32, usize, Seat<R>, Seat<R>), HubFault>
+        ensures booked { Books R.KEEPS seat.old seat.new (OpensWith bytes.now seat.old.number result) }
+        ensures steps { StepsOpenedWith bytes.now R.KEEPS seat.old.number result self.old self.new }
+        ensures empty { IfOk result (λ made. (made.2.entries ≡ []) × (made.3.entries ≡ [])) }
+    {
+        if let Err(fault) = make_room(self.given, self.unspent, &mut self.half_spent) {
+            return Err(fault);
+        }
+        let ask = Ask::OpenWith(bytes);
+        let Ok(slip) = self.log.prepare(self.alloc, seat, ask, 0, 1) else {
+            return Err(HubFault::Memory);
+        };
+        let opened = self.session.open_with(bytes);
+        self.log.add(seat, slip, ask, tell_of_open_with(opened));
+        match opened {
+            Ok((id, taken)) => {
+                let (first, second) = hand_out(
+                    &mut self.log,
+                    self.alloc,
+                    &mut self.given,
+                    &mut self.unspent,
+                );
+                Ok((id, taken, first, second))
+            }
+            Err(fault) => Err(hub_fault(fault)),
+        }
+    }
+
+    /// One turn of an accept: the offered stream that came first, with a seat for each of its halves, or `None` if
+    /// none is offered yet.
+    #[tactic(auto, using(crate::proofs::History::kept_after, crate::proofs::Journals::journaled_after, crate::proofs::Journals::witnessed_after))]
+    pub fn accept(
+        &mut self,
+        seat: &mut Seat<R>,
+    ) -> Result<Option<(u32, Seat<R>, Seat<R>)>, HubFault>
+        ensures booked { Books R.KEEPS seat.old seat.new (AcceptsOnce seat.old.number result) }
+        ensures steps { StepsAccepted R.KEEPS seat.old.number result self.old self.new }
+    {
+        if let Err(fault) = make_room(self.given, self.unspent, &mut self.half_spent) {
+            return Err(fault);
+        }
+        let Ok(slip) = self.log.prepare(self.alloc, seat, Ask::Accept, 0, 1) else {
+            return Err(HubFault::Memory);
+        };
+        let accepted = self.session.accept();
+        self.log
+            .add(seat, slip, Ask::Accept, tell_of_accept(accepted));
+        let offer = match accepted {
+            Ok(offer) => offer,
+            Err(fault) => return Err(hub_fault(fault)),
+        };
+        let Some(id) = offer else {
+            return Ok(None);
+        };
+        let (first, second) = hand_out(
+            &mut self.log,
+            self.alloc,
+            &mut self.given,
+            &mut self.unspent,
+        );
+        Ok(Some((id, first, second)))
+    }
+}
+
+/// Makes room for one stream more of which a half is spent, where so many have both halves unspent. `Seats` where no two
+/// seats more can be given, of which so many were, and `Memory` where there is none.
+fn make_room(given: u32, unspent: usize, half_spent: &mut IndexSet<u32>) -> Result<(), HubFault>
+    requires { unspent + 1 < 2 ^ 64 }
+    ensures keys { IsUnchanged half_spent.old half_spent.new }
+    ensures keeps { spare half_spent.old ≤ spare half_spent.new }
+    ensures room { OnOk result ((given + 2 < 2 ^ 32) × (unspent + 1 ≤ spare half_spent.new)) }
+    ensures refused { IfErr result (λ fault. (fault ≡ HubFault.Memory) ⊎ ((fault ≡ HubFault.Seats) × (2 ^ 32 ≤ given + 2))) }
+{
+    if given > u32::MAX - 2 {
+        return Err(HubFault::Seats);
+    }
+    match half_spent.reserve(unspent + 1) {
+        Ok(()) => Ok(()),
+        Err(_) => Err(HubFault::Memory),
+    }
+}
+
+/// The seats of both halves of a stream that is handed out: the next two. One stream more has both halves unspent.
+#[tactic(auto, using(crate::proofs::Journals::numbered_next, crate::proofs::Journals::whole_with_caller))]
+fn hand_out<R: Recorder>(
+    log: &mut Log<R>,
+    alloc: Global,
+    given: &mut u32,
+    unspent: &mut usize,
+) -> (Seat<R>, Seat<R>)
+    requires seats { given.old + 2 < 2 ^ 32 }
+    requires streams { unspent.old + 1 < 2 ^ 64 }
+    requires next { HasNumbered given.old log.old.journal }
+    requires history { IsWitnessed R.WITNESSED R.role R.config (whole_of log.old.journal) }
+    ensures first { IsNext given.old log.old.entries (whole_of log.old.journal) result.0 }
+    ensures second { IsNext (given.old + 1) log.old.entries (whole_of log.old.journal) result.1 }
+    ensures log { log.new ≡ record log.old { journal = with_caller (with_caller log.old.journal) } }
+    ensures counted { (given.new ≡ given.old + 2) × (unspent.new ≡ unspent.old + 1) }
+{
+    let first = log.seat(alloc, *given);
+    let second = log.seat(alloc, *given + 1);
+    *given += 2;
+    *unspent += 1;
+    (first, second)
+}
+
+/// What is kept of a stream that was opened.
+fn tell_of_open<'a>(given: Result<u32, CallFault>) -> Tell<'a>
+    ensures told { told_by result ≡ opened_or given }
+    ensures short { bytes_told result ≡ 0 }
+{
+    match given {
+        Ok(id) => Tell::Opened(id),
+        Err(fault) => Tell::Refused(fault),
+    }
+}
+
+/// What is kept of a stream that was opened with its first bytes.
+fn tell_of_open_with<'a>(given: Result<(u32, usize), CallFault>) -> Tell<'a>
+    ensures told { told_by result ≡ opened_with_or given }
+    ensures short { bytes_told result ≡ 0 }
+{
+    match given {
+        Ok((id, taken)) => Tell::OpenedWith(id, taken),
+        Err(fault) => Tell::Refused(fault),
+    }
+}
+
+/// What is kept of a turn of an accept.
+fn tell_of_accept<'a>(given: Result<Option<u32>, CallFault>) -> Tell<'a>
+    ensures told { told_by result ≡ accepted_or given }
+    ensures short { bytes_told result ≡ 0 }
+{
+    match given {
+        Ok(id) => Tell::Accepted(id),
+        Err(fault) => Tell::Refused(fault),
+    }
+}

@@ -1,0 +1,99 @@
+//! Calls on the session, with their entries.
+
+ghost use Rattle.std.specs.Prelude.{◌≡◌, false};
+ghost use Rattle.ymx_session.specs.Replies.{done_or, pinged_or, ponged_or};
+ghost use Rattle.ymx_seats.specs.Slips.{told_by, bytes_told};
+ghost use Rattle.ymx_booked.specs.Answers.{IsNotMemory};
+ghost use Rattle.ymx_booked.specs.Books.{Books, Asks, to_ping, to_collect, to_go_away, to_close};
+ghost use Rattle.ymx_booked.specs.Steps.{StepsAsked};
+
+use crate::faults::{HubFault, answered, tell_of_done};
+use crate::booked::Booked;
+use ymx_model::CallFault;
+use ymx_seats::{Ask, Recorder, Seat, Tell};
+
+impl<R: Recorder> Booked<R> {
+    /// Asks the peer for a sign of life, and returns the ping's number.
+    #[tactic(auto, using(crate::proofs::History::kept_after, crate::proofs::Journals::journaled_after, crate::proofs::Journals::witnessed_after, crate::proofs::Spares::ping_spares))]
+    pub fn ping(&mut self, seat: &mut Seat<R>) -> Result<u32, HubFault>
+        ensures booked { Books R.KEEPS seat.old seat.new (Asks to_ping pinged_or seat.old.number result) }
+        ensures steps { StepsAsked R.KEEPS to_ping pinged_or seat.old.number result self.old self.new }
+        ensures off { R.KEEPS ≡ false → IsNotMemory result }
+    {
+        let Ok(slip) = self.log.prepare(self.alloc, seat, Ask::Ping, 0, 1) else {
+            return Err(HubFault::Memory);
+        };
+        let asked = self.session.ping();
+        self.log.add(seat, slip, Ask::Ping, tell_of_ping(asked));
+        answered(asked)
+    }
+
+    /// Whether the answer to this ping is back, which is then collected.
+    #[tactic(auto, using(crate::proofs::History::kept_after, crate::proofs::Journals::journaled_after, crate::proofs::Journals::witnessed_after, crate::proofs::Spares::ponged_spares))]
+    pub fn ponged(&mut self, seat: &mut Seat<R>, number: u32) -> Result<bool, HubFault>
+        ensures booked { Books R.KEEPS seat.old seat.new (Asks (to_collect number) ponged_or seat.old.number result) }
+        ensures steps { StepsAsked R.KEEPS (to_collect number) ponged_or seat.old.number result self.old self.new }
+        ensures off { R.KEEPS ≡ false → IsNotMemory result }
+    {
+        let ask = Ask::Ponged(number);
+        let Ok(slip) = self.log.prepare(self.alloc, seat, ask, 0, 1) else {
+            return Err(HubFault::Memory);
+        };
+        let back = self.session.ponged(number);
+        self.log.add(seat, slip, ask, tell_of_pong(back));
+        answered(back)
+    }
+
+    /// Takes no more streams of the peer's.
+    #[tactic(auto, using(crate::proofs::History::kept_after, crate::proofs::Journals::journaled_after, crate::proofs::Journals::witnessed_after, crate::proofs::Spares::go_away_spares))]
+    pub fn go_away(&mut self, seat: &mut Seat<R>) -> Result<(), HubFault>
+        ensures booked { Books R.KEEPS seat.old seat.new (Asks to_go_away done_or seat.old.number result) }
+        ensures steps { StepsAsked R.KEEPS to_go_away done_or seat.old.number result self.old self.new }
+        ensures off { R.KEEPS ≡ false → IsNotMemory result }
+    {
+        let Ok(slip) = self.log.prepare(self.alloc, seat, Ask::GoAway, 0, 1) else {
+            return Err(HubFault::Memory);
+        };
+        let said = self.session.go_away();
+        self.log.add(seat, slip, Ask::GoAway, tell_of_done(said));
+        answered(said)
+    }
+
+    /// Closes the session.
+    #[tactic(auto, using(crate::proofs::History::kept_after, crate::proofs::Journals::journaled_after, crate::proofs::Journals::witnessed_after))]
+    pub fn close(&mut self, seat: &mut Seat<R>) -> Result<(), HubFault>
+        ensures booked { Books R.KEEPS seat.old seat.new (Asks to_close done_or seat.old.number result) }
+        ensures steps { StepsAsked R.KEEPS to_close done_or seat.old.number result self.old self.new }
+        ensures off { R.KEEPS ≡ false → IsNotMemory result }
+    {
+        let Ok(slip) = self.log.prepare(self.alloc, seat, Ask::Close, 0, 1) else {
+            return Err(HubFault::Memory);
+        };
+        self.session.close();
+        let closed = Ok(());
+        self.log.add(seat, slip, Ask::Close, tell_of_done(closed));
+        answered(closed)
+    }
+}
+
+/// What is kept of a ping.
+fn tell_of_ping<'a>(given: Result<u32, CallFault>) -> Tell<'a>
+    ensures told { told_by result ≡ pinged_or given }
+    ensures short { bytes_told result ≡ 0 }
+{
+    match given {
+        Ok(number) => Tell::Pinged(number),
+        Err(fault) => Tell::Refused(fault),
+    }
+}
+
+/// What is kept of a question for a ping's answer.
+fn tell_of_pong<'a>(given: Result<bool, CallFault>) -> Tell<'a>
+    ensures told { told_by result ≡ ponged_or given }
+    ensures short { bytes_told result ≡ 0 }
+{
+    match given {
+        Ok(back) => Tell::Ponged(back),
+        Err(fault) => Tell::Refused(fault),
+    }
+}

@@ -1,4 +1,0 @@
-pub mod Answers
-pub mod Booked
-pub mod Held
-pub mod Steps
