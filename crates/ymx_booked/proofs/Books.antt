@@ -2,8 +2,8 @@
 use Rattle.std.proofs.Common.{◌≡◌, ℕ, ◌<◌, List, [], ◌∷◌, ◌++◌, length, Bool, true, false, Option, Some, None, refl, sym, ap, subst, ◌∙◌, append_assoc, append-nil, Result, Ok, Err, inl, inr}
 use Rattle.ymx_model.specs.declared.types.Entry.{Entry}
 use Rattle.ymx_machine.specs.declared.types.CallFault.{CallFault}
-use Rattle.ymx_model.specs.declared.types.Event.{Event}
-use Rattle.ymx_machine.specs.declared.types.Reply.{Reply}
+use Rattle.ymx_model.specs.session.Events.{Event}
+use Rattle.ymx_machine.specs.shared.Events.{Reply}
 use Rattle.ymx_machine.specs.declared.types.Reply.TheVariants as reply
 use Rattle.ymx_journal.specs.Journals.{JournalView}
 use Rattle.ymx_seats.specs.Views.{SeatView, kept_entries, entry, journal_after, whole_of, IsBehind, HasIf}

@@ -1,7 +1,7 @@
 -- One more entry keeps the history.
 use Rattle.std.proofs.Common.{◌≡◌, ℕ, ◌+◌, List, [], ◌∷◌, ◌++◌, length, Bool, true, false, refl, sym, subst, ◌∙◌, append-nil, arith}
-use Rattle.ymx_model.specs.declared.types.Event.{Event}
-use Rattle.ymx_machine.specs.declared.types.Reply.{Reply}
+use Rattle.ymx_model.specs.session.Events.{Event}
+use Rattle.ymx_machine.specs.shared.Events.{Reply}
 use Rattle.ymx_model.specs.declared.types.Entry.{Entry}
 use Rattle.ymx_model.specs.declared.types.Role.{Role}
 use Rattle.ymx_model.specs.declared.types.Config.{Config}

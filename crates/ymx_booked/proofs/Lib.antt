@@ -5,3 +5,4 @@ pub mod Books
 pub mod Spares
 pub mod Given
 pub mod Steps
+pub mod Shown

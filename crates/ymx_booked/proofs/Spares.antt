@@ -1,6 +1,6 @@
 -- Calls that take no memory, and so never answer that there is none.
 use Rattle.std.proofs.Common.{◌≡◌, ℕ, length, Bool, true, false, not, ◌&&◌, nat_le, Option, None, Some, Result, Ok, Err, refl, sym, ap, ◌∙◌}
-use Rattle.ymx_machine.specs.declared.types.Reply.{Reply}
+use Rattle.ymx_machine.specs.shared.Events.{Reply}
 use Rattle.ymx_machine.specs.declared.types.Reply.TheVariants.{Done, Refused}
 use Rattle.ymx_machine.specs.declared.types.CallFault.{CallFault}
 use Rattle.ymx_machine.specs.declared.types.CallFault.TheVariants.{NoStream, Finished, Reset, Lost, Closed, PeerAway, OpensPending, TooMany, Exhausted, PingsPending, OutOfMemory}

@@ -1,10 +1,10 @@
 -- What an event under the lock adds to the list of its seat, and to the history that its seat has seen (this project's own).
 use Rattle.std.specs.Prelude.{◌≡◌, ℕ, ◌<◌, ◌⊎◌, List, [], ◌∷◌, ◌++◌, length, Bool, true, false, Option, Some, None, Result, Ok, Err}
 use Rattle.ymx_machine.specs.declared.types.CallFault.{CallFault}
-use Rattle.ymx_model.specs.declared.types.Event.{Event}
+use Rattle.ymx_model.specs.session.Events.{Event}
 use Rattle.ymx_model.specs.declared.types.Event.TheVariants as event
 use Rattle.ymx_machine.specs.declared.types.Call.TheVariants as call
-use Rattle.ymx_machine.specs.declared.types.Reply.{Reply}
+use Rattle.ymx_machine.specs.shared.Events.{Reply}
 use Rattle.ymx_machine.specs.declared.types.Reply.TheVariants as reply
 use Rattle.ymx_model.specs.declared.types.Entry.{Entry}
 use Rattle.ymx_session.specs.Replies.{done_or}

@@ -2,3 +2,4 @@ pub mod Answers
 pub mod Booked
 pub mod Books
 pub mod Steps
+pub mod Shown

@@ -11,6 +11,7 @@ ghost use Rattle.ymx_seats.specs.Transcripts.{IsNew};
 ghost use Rattle.ymx_seats.specs.Views.{SeatView, whole_of, with_caller, IsBehind};
 ghost use Rattle.ymx_booked.specs.Answers.{IsNotMemory};
 ghost use Rattle.ymx_booked.specs.Booked.{fresh, config_of, IsUnused};
+ghost use Rattle.ymx_booked.specs.Shown.{IsHistoryOf};
 ghost use Rattle.ymx_booked.specs.Steps.{IsNext};
 ghost use Rattle.ymx_booked.specs.declared.end_fault.EndWhy.TheVariants.{SeatsOut, OutOfOrder};
 
@@ -134,11 +135,13 @@ impl<R: Recorder> Booked<R> {
         Ok(seat)
     }
 
-    /// Shows the whole history to a seat, where there is a journal. Nothing else changes.
-    #[tactic(auto, using(crate::proofs::Journals::witnessed_now))]
+    /// Shows the whole history to a seat, where there is a journal: it is the history of the session as it stands now.
+    /// Nothing else changes.
+    #[tactic(auto, using(crate::proofs::Journals::witnessed_now, crate::proofs::Shown::history_now))]
     pub fn show(&mut self, seat: &mut Seat<R>)
         ensures same { self.new ≡ self.old }
         ensures seat { seat.new ≡ record seat.old { seen = whole_of self.old.journal } }
+        ensures history { IsHistoryOf R.WITNESSED R.role R.config seat.new.seen self.old.session }
         ensures behind { IsBehind seat.old.number seat.old.seen self.old.journal }
     {
         self.log.show(seat);

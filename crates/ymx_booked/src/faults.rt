@@ -1,13 +1,10 @@
 //! Why a call of a hub fails.
 
 ghost use Rattle.std.specs.Prelude.{◌≡◌};
-ghost use Rattle.ymx_session.specs.Replies.{done_or};
-ghost use Rattle.ymx_seats.specs.Slips.{told_by, bytes_told};
 ghost use Rattle.ymx_booked.specs.Answers.{hub_answer, hub_fault_of};
 
 use thiserror::Error;
 use ymx_model::CallFault;
-use ymx_seats::Tell;
 
 /// Why a call of a hub fails.
 #[derive(Clone, Copy, Debug, PartialEq, Eq, Error)]
@@ -40,16 +37,5 @@ pub(crate) fn answered<T: Drop>(given: Result<T, CallFault>) -> Result<T, HubFau
     match given {
         Ok(answer) => Ok(answer),
         Err(fault) => Err(hub_fault(fault)),
-    }
-}
-
-/// What is kept of a call that answers nothing else.
-pub(crate) fn tell_of_done<'a>(given: Result<(), CallFault>) -> Tell<'a>
-    ensures told { told_by result ≡ done_or given }
-    ensures short { bytes_told result ≡ 0 }
-{
-    match given {
-        Ok(()) => Tell::Done,
-        Err(fault) => Tell::Refused(fault),
     }
 }

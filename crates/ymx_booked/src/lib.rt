@@ -10,6 +10,7 @@ mod end_fault;
 mod faults;
 mod moving;
 mod opening;
+mod replies;
 mod session_calls;
 mod stream_calls;
 

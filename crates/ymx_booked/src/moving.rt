@@ -7,10 +7,11 @@ ghost use Rattle.ymx_session.specs.Touched.{NotesChanges, NotesOnly, StaysNoted}
 ghost use Rattle.ymx_booked.specs.Books.{Books, Does};
 ghost use Rattle.ymx_booked.specs.Steps.{StepsTold};
 
-use crate::faults::HubFault;
 use crate::booked::Booked;
-use ymx_model::Fed;
-use ymx_seats::{Ask, Recorder, Seat, Tell};
+use crate::faults::HubFault;
+use crate::replies;
+use ymx_model::{Event, Fed, Lent, Reply};
+use ymx_seats::{Recorder, Seat};
 use ymx_session::Touched;
 
 impl<R: Recorder> Booked<R> {
@@ -32,12 +33,15 @@ impl<R: Recorder> Booked<R> {
         ensures only { MatchResult result (λ fed. NotesOnly (take fed.taken bytes.now) self.old.session touched.old touched.new) (λ fault. touched.new ≡ touched.old) }
         ensures off { R.KEEPS ≡ false → IsOk result }
     {
-        let ask = Ask::Feed(bytes);
-        let Ok(slip) = self.log.prepare(self.alloc, seat, ask, 0, 1) else {
+        let Ok(slip) = self
+            .log
+            .prepare(self.alloc, seat, Event::Feed(Lent::new(bytes)), 0, 1)
+        else {
             return Err(HubFault::Memory);
         };
         let fed = self.session.feed_touching(bytes, touched);
-        self.log.add(seat, slip, ask, Tell::Fed(fed));
+        self.log
+            .add(seat, slip, Event::Feed(Lent::new(bytes)), Reply::Fed(fed));
         Ok(fed)
     }
 
@@ -48,11 +52,11 @@ impl<R: Recorder> Booked<R> {
         ensures steps { StepsTold R.KEEPS event.FeedEnd (λ _. reply.Done) seat.old.number result self.old self.new }
         ensures off { R.KEEPS ≡ false → IsOk result }
     {
-        let Ok(slip) = self.log.prepare(self.alloc, seat, Ask::FeedEnd, 0, 1) else {
+        let Ok(slip) = self.log.prepare(self.alloc, seat, Event::FeedEnd, 0, 1) else {
             return Err(HubFault::Memory);
         };
         self.session.feed_end();
-        self.log.add(seat, slip, Ask::FeedEnd, Tell::Done);
+        self.log.add(seat, slip, Event::FeedEnd, Reply::Done);
         Ok(())
     }
 
@@ -67,13 +71,20 @@ impl<R: Recorder> Booked<R> {
         ensures rest { MatchResult result (λ count. drop count buffer.new ≡ drop count buffer.old) (λ fault. buffer.new ≡ buffer.old) }
         ensures off { R.KEEPS ≡ false → IsOk result }
     {
-        let ask = Ask::Emit(buffer.len());
-        let Ok(slip) = self.log.prepare(self.alloc, seat, ask, buffer.len(), 1) else {
+        let size = buffer.len();
+        let Ok(slip) = self
+            .log
+            .prepare(self.alloc, seat, Event::Emit(size), size, 1)
+        else {
             return Err(HubFault::Memory);
         };
         let count = self.session.emit(buffer);
-        self.log
-            .add(seat, slip, ask, Tell::Emitted(&buffer[..count]));
+        self.log.add(
+            seat,
+            slip,
+            Event::Emit(size),
+            replies::emitted(count, buffer),
+        );
         Ok(count)
     }
 }

@@ -2,18 +2,17 @@
 
 ghost use Rattle.std.specs.Prelude.{◌≡◌, ◌⊎◌, ◌+◌, ◌^◌, ◌<◌, ◌≤◌, [], IfOk, IfErr, OnOk};
 ghost use Rattle.indexmap.specs.IndexSet.{spare, IsUnchanged};
-ghost use Rattle.ymx_session.specs.Replies.{opened_or, opened_with_or, accepted_or};
-ghost use Rattle.ymx_seats.specs.Slips.{told_by, bytes_told};
 ghost use Rattle.ymx_booked.specs.Books.{Books, Opens, OpensWith, AcceptsOnce};
 ghost use Rattle.ymx_seats.specs.Views.{HasNumbered, IsWitnessed, whole_of, with_caller};
 ghost use Rattle.ymx_booked.specs.Steps.{IsNext, StepsOpened, StepsOpenedWith, StepsAccepted};
 
-use crate::faults::{HubFault, hub_fault};
 use crate::booked::Booked;
+use crate::faults::{HubFault, hub_fault};
+use crate::replies;
 use indexmap::IndexSet;
 use std::alloc::Global;
-use ymx_model::CallFault;
-use ymx_seats::{Ask, Log, Recorder, Seat, Tell};
+use ymx_model::{Call, Event, Lent};
+use ymx_seats::{Log, Recorder, Seat};
 
 impl<R: Recorder> Booked<R> {
     /// Opens the next own stream, with a seat for each of its halves, which start after the entry of it.
@@ -28,11 +27,14 @@ impl<R: Recorder> Booked<R> {
         if let Err(fault) = make_room(self.given, self.unspent, &mut self.half_spent) {
             return Err(fault);
         }
-        let Ok(slip) = self.log.prepare(self.alloc, seat, Ask::Open, 0, 1) else {
+        let Ok(slip) = self
+            .log
+            .prepare(self.alloc, seat, Event::Call(Call::Open), 0, 1)
+        else {
             return Err(HubFault::Memory);
         };
         let opened = self.session.open();
-        self.log.add(seat, slip, Ask::Open, tell_of_open(opened));
+        self.log.add(seat, slip, Event::Call(Call::Open), replies::opened(opened));
         match opened {
             Ok(id) => {
                 let (first, second) = hand_out(
@@ -61,12 +63,23 @@ impl<R: Recorder> Booked<R> {
         if let Err(fault) = make_room(self.given, self.unspent, &mut self.half_spent) {
             return Err(fault);
         }
-        let ask = Ask::OpenWith(bytes);
-        let Ok(slip) = self.log.prepare(self.alloc, seat, ask, 0, 1) else {
+        let Ok(slip) = self.log.prepare(
+            self.alloc,
+            seat,
+            Event::Call(Call::OpenWith(Lent::new(bytes))),
+            0,
+            1,
+        )
+        else {
             return Err(HubFault::Memory);
         };
         let opened = self.session.open_with(bytes);
-        self.log.add(seat, slip, ask, tell_of_open_with(opened));
+        self.log.add(
+            seat,
+            slip,
+            Event::Call(Call::OpenWith(Lent::new(bytes))),
+            replies::opened_with(opened),
+        );
         match opened {
             Ok((id, taken)) => {
                 let (first, second) = hand_out(
@@ -94,12 +107,19 @@ impl<R: Recorder> Booked<R> {
         if let Err(fault) = make_room(self.given, self.unspent, &mut self.half_spent) {
             return Err(fault);
         }
-        let Ok(slip) = self.log.prepare(self.alloc, seat, Ask::Accept, 0, 1) else {
+        let Ok(slip) = self
+            .log
+            .prepare(self.alloc, seat, Event::Call(Call::Accept), 0, 1)
+        else {
             return Err(HubFault::Memory);
         };
         let accepted = self.session.accept();
-        self.log
-            .add(seat, slip, Ask::Accept, tell_of_accept(accepted));
+        self.log.add(
+            seat,
+            slip,
+            Event::Call(Call::Accept),
+            replies::accepted(accepted),
+        );
         let offer = match accepted {
             Ok(offer) => offer,
             Err(fault) => return Err(hub_fault(fault)),
@@ -157,37 +177,4 @@ fn hand_out<R: Recorder>(
     *given += 2;
     *unspent += 1;
     (first, second)
-}
-
-/// What is kept of a stream that was opened.
-fn tell_of_open<'a>(given: Result<u32, CallFault>) -> Tell<'a>
-    ensures told { told_by result ≡ opened_or given }
-    ensures short { bytes_told result ≡ 0 }
-{
-    match given {
-        Ok(id) => Tell::Opened(id),
-        Err(fault) => Tell::Refused(fault),
-    }
-}
-
-/// What is kept of a stream that was opened with its first bytes.
-fn tell_of_open_with<'a>(given: Result<(u32, usize), CallFault>) -> Tell<'a>
-    ensures told { told_by result ≡ opened_with_or given }
-    ensures short { bytes_told result ≡ 0 }
-{
-    match given {
-        Ok((id, taken)) => Tell::OpenedWith(id, taken),
-        Err(fault) => Tell::Refused(fault),
-    }
-}
-
-/// What is kept of a turn of an accept.
-fn tell_of_accept<'a>(given: Result<Option<u32>, CallFault>) -> Tell<'a>
-    ensures told { told_by result ≡ accepted_or given }
-    ensures short { bytes_told result ≡ 0 }
-{
-    match given {
-        Ok(id) => Tell::Accepted(id),
-        Err(fault) => Tell::Refused(fault),
-    }
 }

@@ -2,15 +2,15 @@
 
 ghost use Rattle.std.specs.Prelude.{◌≡◌, false};
 ghost use Rattle.ymx_session.specs.Replies.{done_or, pinged_or, ponged_or};
-ghost use Rattle.ymx_seats.specs.Slips.{told_by, bytes_told};
 ghost use Rattle.ymx_booked.specs.Answers.{IsNotMemory};
 ghost use Rattle.ymx_booked.specs.Books.{Books, Asks, to_ping, to_collect, to_go_away, to_close};
 ghost use Rattle.ymx_booked.specs.Steps.{StepsAsked};
 
-use crate::faults::{HubFault, answered, tell_of_done};
 use crate::booked::Booked;
-use ymx_model::CallFault;
-use ymx_seats::{Ask, Recorder, Seat, Tell};
+use crate::faults::{HubFault, answered};
+use crate::replies;
+use ymx_model::{Call, Event};
+use ymx_seats::{Recorder, Seat};
 
 impl<R: Recorder> Booked<R> {
     /// Asks the peer for a sign of life, and returns the ping's number.
@@ -20,11 +20,14 @@ impl<R: Recorder> Booked<R> {
         ensures steps { StepsAsked R.KEEPS to_ping pinged_or seat.old.number result self.old self.new }
         ensures off { R.KEEPS ≡ false → IsNotMemory result }
     {
-        let Ok(slip) = self.log.prepare(self.alloc, seat, Ask::Ping, 0, 1) else {
+        let Ok(slip) = self
+            .log
+            .prepare(self.alloc, seat, Event::Call(Call::Ping), 0, 1)
+        else {
             return Err(HubFault::Memory);
         };
         let asked = self.session.ping();
-        self.log.add(seat, slip, Ask::Ping, tell_of_ping(asked));
+        self.log.add(seat, slip, Event::Call(Call::Ping), replies::pinged(asked));
         answered(asked)
     }
 
@@ -35,12 +38,19 @@ impl<R: Recorder> Booked<R> {
         ensures steps { StepsAsked R.KEEPS (to_collect number) ponged_or seat.old.number result self.old self.new }
         ensures off { R.KEEPS ≡ false → IsNotMemory result }
     {
-        let ask = Ask::Ponged(number);
-        let Ok(slip) = self.log.prepare(self.alloc, seat, ask, 0, 1) else {
+        let Ok(slip) = self
+            .log
+            .prepare(self.alloc, seat, Event::Call(Call::Ponged(number)), 0, 1)
+        else {
             return Err(HubFault::Memory);
         };
         let back = self.session.ponged(number);
-        self.log.add(seat, slip, ask, tell_of_pong(back));
+        self.log.add(
+            seat,
+            slip,
+            Event::Call(Call::Ponged(number)),
+            replies::ponged(back),
+        );
         answered(back)
     }
 
@@ -51,11 +61,15 @@ impl<R: Recorder> Booked<R> {
         ensures steps { StepsAsked R.KEEPS to_go_away done_or seat.old.number result self.old self.new }
         ensures off { R.KEEPS ≡ false → IsNotMemory result }
     {
-        let Ok(slip) = self.log.prepare(self.alloc, seat, Ask::GoAway, 0, 1) else {
+        let Ok(slip) = self
+            .log
+            .prepare(self.alloc, seat, Event::Call(Call::GoAway), 0, 1)
+        else {
             return Err(HubFault::Memory);
         };
         let said = self.session.go_away();
-        self.log.add(seat, slip, Ask::GoAway, tell_of_done(said));
+        self.log
+            .add(seat, slip, Event::Call(Call::GoAway), replies::done(said));
         answered(said)
     }
 
@@ -66,34 +80,15 @@ impl<R: Recorder> Booked<R> {
         ensures steps { StepsAsked R.KEEPS to_close done_or seat.old.number result self.old self.new }
         ensures off { R.KEEPS ≡ false → IsNotMemory result }
     {
-        let Ok(slip) = self.log.prepare(self.alloc, seat, Ask::Close, 0, 1) else {
+        let Ok(slip) = self
+            .log
+            .prepare(self.alloc, seat, Event::Call(Call::Close), 0, 1)
+        else {
             return Err(HubFault::Memory);
         };
         self.session.close();
         let closed = Ok(());
-        self.log.add(seat, slip, Ask::Close, tell_of_done(closed));
+        self.log.add(seat, slip, Event::Call(Call::Close), replies::done(closed));
         answered(closed)
-    }
-}
-
-/// What is kept of a ping.
-fn tell_of_ping<'a>(given: Result<u32, CallFault>) -> Tell<'a>
-    ensures told { told_by result ≡ pinged_or given }
-    ensures short { bytes_told result ≡ 0 }
-{
-    match given {
-        Ok(number) => Tell::Pinged(number),
-        Err(fault) => Tell::Refused(fault),
-    }
-}
-
-/// What is kept of a question for a ping's answer.
-fn tell_of_pong<'a>(given: Result<bool, CallFault>) -> Tell<'a>
-    ensures told { told_by result ≡ ponged_or given }
-    ensures short { bytes_told result ≡ 0 }
-{
-    match given {
-        Ok(back) => Tell::Ponged(back),
-        Err(fault) => Tell::Refused(fault),
     }
 }

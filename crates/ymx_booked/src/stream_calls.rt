@@ -3,17 +3,17 @@
 ghost use Rattle.std.specs.Prelude.{◌≡◌, ◌<◌, ◌≤◌, ◌++◌, length, take, drop, false, IfOk, MatchResult};
 ghost use Rattle.ymx_model.specs.session.Emissions.{in_turn};
 ghost use Rattle.ymx_model.specs.session.Histories.{Gives};
-ghost use Rattle.ymx_session.specs.Replies.{done_or, is_out_of_memory, wrote_or, read_or, count_of, got_count};
-ghost use Rattle.ymx_seats.specs.Slips.{asked_by, told_by, bytes_told};
+ghost use Rattle.ymx_session.specs.Replies.{done_or, is_out_of_memory, wrote_or, read_or, got_count};
 ghost use Rattle.ymx_booked.specs.Answers.{IsNotMemory, GivesSome, took_count};
 ghost use Rattle.ymx_booked.specs.Books.{Books, Asks, Spends, Closes, to_write, to_read, to_finish, to_reset, to_end};
 ghost use Rattle.ymx_booked.specs.Booked.{is_half_spent, spent};
 ghost use Rattle.ymx_booked.specs.Steps.{StepsAsked, StepsSpent, StepsClosed};
 
-use crate::faults::{HubFault, answered, tell_of_done};
 use crate::booked::Booked;
-use ymx_model::{CallFault, Got, Wrote};
-use ymx_seats::{Ask, Recorder, Seat, Tell};
+use crate::faults::{HubFault, answered};
+use crate::replies;
+use ymx_model::{Call, CallFault, Event, Got, Lent, Wrote};
+use ymx_seats::{Recorder, Seat};
 use ymx_session::Session;
 
 impl<R: Recorder> Booked<R> {
@@ -24,12 +24,23 @@ impl<R: Recorder> Booked<R> {
         ensures steps { StepsAsked R.KEEPS (to_write id bytes.now) wrote_or seat.old.number result self.old self.new }
         ensures within { IfOk result (λ wrote. took_count wrote ≤ length bytes.now) }
     {
-        let ask = Ask::Write(id, bytes);
-        let Ok(slip) = self.log.prepare(self.alloc, seat, ask, 0, 1) else {
+        let Ok(slip) = self.log.prepare(
+            self.alloc,
+            seat,
+            Event::Call(Call::Write(id, Lent::new(bytes))),
+            0,
+            1,
+        )
+        else {
             return Err(HubFault::Memory);
         };
         let wrote = self.session.write(id, bytes);
-        self.log.add(seat, slip, ask, tell_of_write(wrote));
+        self.log.add(
+            seat,
+            slip,
+            Event::Call(Call::Write(id, Lent::new(bytes))),
+            replies::wrote(wrote),
+        );
         answered(wrote)
     }
 
@@ -45,12 +56,24 @@ impl<R: Recorder> Booked<R> {
         ensures some { 0 < length buffer.old → IfOk result GivesSome }
         ensures off { R.KEEPS ≡ false → IsNotMemory result }
     {
-        let ask = Ask::Read(id, buffer.len());
-        let Ok(slip) = self.log.prepare(self.alloc, seat, ask, buffer.len(), 1) else {
+        let size = buffer.len();
+        let Ok(slip) = self.log.prepare(
+            self.alloc,
+            seat,
+            Event::Call(Call::Read(id, size)),
+            size,
+            1,
+        )
+        else {
             return Err(HubFault::Memory);
         };
         let got = self.session.read(id, buffer);
-        self.log.add(seat, slip, ask, tell_of_read(got, buffer));
+        self.log.add(
+            seat,
+            slip,
+            Event::Call(Call::Read(id, size)),
+            replies::read(got, buffer),
+        );
         answered(got)
     }
 
@@ -98,24 +121,29 @@ impl<R: Recorder> Booked<R> {
     {
         let second = self.spend(id);
         let entries = if second { 2 } else { 1 };
-        let ask = ending.ask(id);
-        let Ok(slip) = self.log.prepare(self.alloc, seat, ask, 0, entries) else {
+        let Ok(slip) = self
+            .log
+            .prepare(self.alloc, seat, ending.event(id), 0, entries)
+        else {
             return Err(HubFault::Memory);
         };
-        let Ok(next) = self
-            .log
-            .prepare(self.alloc, seat, Ask::Forget(id), 0, entries)
+        let Ok(next) = self.log.prepare(self.alloc, seat, Event::Call(Call::Forget(id)), 0, entries)
         else {
             return Err(HubFault::Memory);
         };
         let ended = ending.call(&mut self.session, id);
-        self.log.add(seat, slip, ask, tell_of_done(ended));
+        self.log
+            .add(seat, slip, ending.event(id), replies::done(ended));
         if !second {
             return answered(ended);
         }
         let gone = self.session.forget(id);
-        self.log
-            .add(seat, next, Ask::Forget(id), tell_of_done(gone));
+        self.log.add(
+            seat,
+            next,
+            Event::Call(Call::Forget(id)),
+            replies::done(gone),
+        );
         answered(ended)
     }
 
@@ -130,12 +158,19 @@ impl<R: Recorder> Booked<R> {
         if !self.spend(id) {
             return Ok(());
         }
-        let Ok(slip) = self.log.prepare(self.alloc, seat, Ask::Forget(id), 0, 1) else {
+        let Ok(slip) = self
+            .log
+            .prepare(self.alloc, seat, Event::Call(Call::Forget(id)), 0, 1)
+        else {
             return Err(HubFault::Memory);
         };
         let gone = self.session.forget(id);
-        self.log
-            .add(seat, slip, Ask::Forget(id), tell_of_done(gone));
+        self.log.add(
+            seat,
+            slip,
+            Event::Call(Call::Forget(id)),
+            replies::done(gone),
+        );
         answered(gone)
     }
 }
@@ -149,12 +184,12 @@ enum Ending {
 
 impl Ending {
     /// The event of this call, to be kept.
-    fn ask<'a>(self, id: u32) -> Ask<'a>
-        ensures { asked_by result ≡ to_end self id }
+    fn event(self, id: u32) -> Event<Lent<'static>>
+        ensures { result ≡ to_end self id }
     {
         match self {
-            Ending::Finish => Ask::Finish(id),
-            Ending::Reset => Ask::Reset(id),
+            Ending::Finish => Event::Call(Call::Finish(id)),
+            Ending::Reset => Event::Call(Call::Reset(id)),
         }
     }
 
@@ -167,30 +202,5 @@ impl Ending {
             Ending::Finish => session.finish(id),
             Ending::Reset => session.reset(id),
         }
-    }
-}
-
-/// What is kept of a write.
-fn tell_of_write<'a>(given: Result<Wrote, CallFault>) -> Tell<'a>
-    ensures told { told_by result ≡ wrote_or given }
-    ensures short { bytes_told result ≡ 0 }
-{
-    match given {
-        Ok(wrote) => Tell::Wrote(wrote),
-        Err(fault) => Tell::Refused(fault),
-    }
-}
-
-/// What is kept of a read into this buffer.
-fn tell_of_read(given: Result<Got, CallFault>, buffer: &[u8]) -> Tell<'_>
-    requires { count_of given ≤ length buffer.now }
-    ensures told { told_by result ≡ read_or given buffer.now }
-    ensures short { bytes_told result ≤ length buffer.now }
-{
-    match given {
-        Ok(Got::Bytes(count)) => Tell::Read(&buffer[..count]),
-        Ok(Got::End) => Tell::ReadEnd,
-        Ok(Got::Wait) => Tell::ReadWait,
-        Err(fault) => Tell::Refused(fault),
     }
 }

@@ -7,12 +7,12 @@ use Rattle.std.proofs.KnownBytes.{Appends-nil}
 use Rattle.std.proofs.lemmas.Grind.{common_steps}
 use Rattle.std.proofs.lemmas.List.{drop-append-le, length-take-le}
 use Rattle.std.proofs.lemmas.List.Folds.{list_all-append}
-use Rattle.ymx_machine.specs.declared.types.Call.{Call}
+use Rattle.ymx_machine.specs.shared.Events.{Call}
 use Rattle.ymx_machine.specs.declared.types.Call.TheVariants as call
 use Rattle.ymx_machine.specs.declared.types.Fed.{Fed}
-use Rattle.ymx_machine.specs.declared.types.Reply.{Reply}
+use Rattle.ymx_machine.specs.shared.Events.{Reply}
 use Rattle.ymx_machine.specs.declared.types.Reply.TheVariants as reply
-use Rattle.ymx_model.specs.declared.types.Event.{Event}
+use Rattle.ymx_model.specs.session.Events.{Event}
 use Rattle.ymx_model.specs.declared.types.Event.TheVariants as event
 use Rattle.ymx_model.specs.session.Sessions.{Session}
 use Rattle.ymx_model.specs.session.Emissions.{in_turn}

@@ -1,9 +1,9 @@
 -- Events of one session, one after another, and what a stream took and gave at them (this project's own).
 use Rattle.std.specs.Prelude.{ℕ, ◌≡◌, ◌==◌, if◌then◌else◌, ◌++◌, ◌∷◌, ◌||◌, ◌&&◌, List, [], take, Bool, true, false}
 use Rattle.ymx_machine.specs.declared.types.Call.TheVariants as call
-use Rattle.ymx_model.specs.declared.types.Event.{Event}
+use Rattle.ymx_model.specs.session.Events.{Event}
 use Rattle.ymx_model.specs.declared.types.Event.TheVariants as event
-use Rattle.ymx_machine.specs.declared.types.Reply.{Reply}
+use Rattle.ymx_machine.specs.shared.Events.{Reply}
 use Rattle.ymx_machine.specs.declared.types.Reply.TheVariants as reply
 use Rattle.ymx_machine.specs.shared.Replies.{bytes_moved}
 use Rattle.ymx_model.specs.session.Sessions.{Session}

@@ -2,8 +2,8 @@
 use Rattle.std.specs.Prelude.{ℕ, ◌≡◌, ◌||◌, ◌++◌, ◌∷◌, List, [], Bool, true, false, option_map, IfSome}
 use Rattle.std.specs.List.{list_all}
 use Rattle.std.specs.Io.KnownBytes.{Appends, Consumes}
-use Rattle.ymx_model.specs.declared.types.Event.{Event}
-use Rattle.ymx_machine.specs.declared.types.Reply.{Reply}
+use Rattle.ymx_model.specs.session.Events.{Event}
+use Rattle.ymx_machine.specs.shared.Events.{Reply}
 use Rattle.ymx_model.specs.session.Sessions.{Session}
 use Rattle.ymx_engine.specs.Devices.{Seen}
 use Rattle.ymx_engine.specs.Events.{Happen, is_on, taken, given, has_end, has_finish, has_reset}

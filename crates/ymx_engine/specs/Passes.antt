@@ -3,8 +3,8 @@ use Rattle.std.specs.Prelude.{ℕ, ◌≡◌, ◌==◌, ◌+◌, ◌≤◌, ◌+
 use Rattle.std.specs.List.{list_all}
 use Rattle.std.specs.Io.KnownBytes.{Appends}
 use Rattle.ymx_machine.specs.declared.types.Call.TheVariants as call
-use Rattle.ymx_machine.specs.declared.types.Reply.{Reply}
-use Rattle.ymx_model.specs.declared.types.Event.{Event}
+use Rattle.ymx_machine.specs.shared.Events.{Reply}
+use Rattle.ymx_model.specs.session.Events.{Event}
 use Rattle.ymx_model.specs.declared.types.Event.TheVariants as event
 use Rattle.ymx_model.specs.session.Sessions.{Session}
 use Rattle.ymx_session.specs.declared.passing.Passing.{Passing}

@@ -1,9 +1,9 @@
 -- Calls that wait: what their turns add.
 use Rattle.std.proofs.Common.{◌≡◌, ℕ, List, [], ◌∷◌, ◌++◌, Bool, true, false, refl, ap, ◌∙◌, append_assoc, take, Result, Ok, Err, Option, Some, None, subst, inl, inr}
 use Rattle.ymx_model.specs.declared.types.Entry.{Entry}
-use Rattle.ymx_model.specs.declared.types.Event.{Event}
+use Rattle.ymx_model.specs.session.Events.{Event}
 use Rattle.ymx_machine.specs.declared.types.CallFault.{CallFault}
-use Rattle.ymx_machine.specs.declared.types.Reply.{Reply}
+use Rattle.ymx_machine.specs.shared.Events.{Reply}
 use Rattle.ymx_machine.specs.declared.types.Reply.TheVariants.{Accepted, Pinged, Ponged, Read, ReadWait, ReadEnd, Refused}
 use Rattle.ymx_model.specs.declared.types.Got.{Got}
 use Rattle.ymx_model.specs.declared.types.Got.TheVariants as got

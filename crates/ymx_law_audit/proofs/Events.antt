@@ -7,8 +7,8 @@ use Rattle.ymx_machine.specs.declared.types.Step.{Step}
 use Rattle.ymx_machine.specs.declared.types.Step.TheVariants as step
 use Rattle.ymx_machine.specs.declared.types.Answer.{Answer}
 use Rattle.ymx_machine.specs.declared.types.Answer.TheVariants as answer
-use Rattle.ymx_machine.specs.declared.types.Reply.{Reply}
-use Rattle.ymx_model.specs.declared.types.Event.{Event}
+use Rattle.ymx_machine.specs.shared.Events.{Reply}
+use Rattle.ymx_model.specs.session.Events.{Event}
 use Rattle.ymx_model.specs.declared.types.Event.TheVariants as event
 use Rattle.ymx_model.specs.session.Sessions.{Session}
 use Rattle.ymx_model.specs.session.Calls.{feed_end}

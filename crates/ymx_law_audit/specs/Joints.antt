@@ -6,10 +6,10 @@ use Rattle.ymx_machine.specs.declared.types.Direction.{Direction}
 use Rattle.ymx_machine.specs.declared.types.Direction.TheVariants.{AB, BA}
 use Rattle.ymx_machine.specs.declared.types.Step.{Step}
 use Rattle.ymx_machine.specs.declared.types.Step.TheVariants as step
-use Rattle.ymx_machine.specs.declared.types.Reply.{Reply}
+use Rattle.ymx_machine.specs.shared.Events.{Reply}
 use Rattle.ymx_machine.specs.declared.types.Reply.TheVariants as reply
 use Rattle.ymx_machine.specs.declared.types.Fed.{Fed}
-use Rattle.ymx_model.specs.declared.types.Event.{Event}
+use Rattle.ymx_model.specs.session.Events.{Event}
 use Rattle.ymx_model.specs.declared.types.Event.TheVariants as event
 use Rattle.ymx_model.specs.declared.types.Entry.{Entry}
 use Rattle.ymx_model.specs.world.Worlds.{Pipe, new_pipe, pushed, without_front}

@@ -3,8 +3,8 @@ use Rattle.std.specs.Prelude.{◌≡◌, ℕ, List, [], ◌∷◌, ◌++◌, Boo
 use Rattle.ymx_model.specs.declared.types.Role.TheVariants.{Client, Server}
 use Rattle.ymx_machine.specs.declared.types.Answer.{Answer}
 use Rattle.ymx_machine.specs.declared.types.Answer.TheVariants as answer
-use Rattle.ymx_machine.specs.declared.types.Reply.{Reply}
-use Rattle.ymx_model.specs.declared.types.Event.{Event}
+use Rattle.ymx_machine.specs.shared.Events.{Reply}
+use Rattle.ymx_model.specs.session.Events.{Event}
 use Rattle.ymx_model.specs.declared.types.Event.TheVariants as event
 use Rattle.ymx_model.specs.declared.types.Entry.{Entry}
 use Rattle.ymx_machine.specs.declared.types.Step.{Step}

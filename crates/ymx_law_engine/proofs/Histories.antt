@@ -1,7 +1,7 @@
 -- The events of an engine as a history.
 use Rattle.std.proofs.Common.{ℕ, ◌+◌, List, [], ◌∷◌, refl}
-use Rattle.ymx_model.specs.declared.types.Event.{Event}
-use Rattle.ymx_machine.specs.declared.types.Reply.{Reply}
+use Rattle.ymx_model.specs.session.Events.{Event}
+use Rattle.ymx_machine.specs.shared.Events.{Reply}
 use Rattle.ymx_model.specs.session.Sessions.{Session}
 use Rattle.ymx_model.specs.session.Emissions.{in_turn}
 use Rattle.ymx_model.specs.session.Histories.{ReplaysFrom}

@@ -8,9 +8,9 @@ use Rattle.ymx_machine.specs.declared.types.Side.{Side}
 use Rattle.ymx_machine.specs.declared.types.Side.TheVariants.{A, B}
 use Rattle.ymx_machine.specs.declared.types.Step.{Step}
 use Rattle.ymx_machine.specs.declared.types.Fed.{Fed}
-use Rattle.ymx_machine.specs.declared.types.Reply.{Reply}
+use Rattle.ymx_machine.specs.shared.Events.{Reply}
 use Rattle.ymx_machine.specs.declared.types.Reply.TheVariants as reply
-use Rattle.ymx_model.specs.declared.types.Event.{Event}
+use Rattle.ymx_model.specs.session.Events.{Event}
 use Rattle.ymx_model.specs.declared.types.Event.TheVariants as event
 use Rattle.ymx_model.specs.declared.types.Entry.{Entry}
 use Rattle.ymx_model.specs.session.Sessions.{Session, new_session}

@@ -1,9 +1,9 @@
 -- The events of two joined engines, worked: A opens a stream and emits its frame, B is fed it and accepts.
 use Rattle.std.specs.Prelude.{List, [], ◌∷◌, Some}
 use Rattle.ymx_machine.specs.declared.types.Call.TheVariants.{Open, Accept}
-use Rattle.ymx_machine.specs.declared.types.Reply.{Reply}
+use Rattle.ymx_machine.specs.shared.Events.{Reply}
 use Rattle.ymx_machine.specs.declared.types.Reply.TheVariants as reply
-use Rattle.ymx_model.specs.declared.types.Event.{Event}
+use Rattle.ymx_model.specs.session.Events.{Event}
 use Rattle.ymx_model.specs.declared.types.Event.TheVariants as event
 use Rattle.ymx_examples.specs.Words.{window_frame}
 use Rattle.ymx_law_audit.specs.Example.{fed_whole}

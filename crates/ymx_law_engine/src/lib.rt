@@ -3,15 +3,15 @@
 #![tactic(auto)]
 
 ghost use Rattle.std.specs.Prelude.{ℕ, List, [], ◌∷◌, false};
-ghost use Rattle.ymx_model.specs.declared.types.Event.{Event};
-ghost use Rattle.ymx_machine.specs.declared.types.Reply.{Reply};
+ghost use Rattle.ymx_model.specs.session.Events.{Event};
+ghost use Rattle.ymx_machine.specs.shared.Events.{Reply};
 ghost use Rattle.ymx_machine.specs.declared.types.Step.{Step};
 ghost use Rattle.ymx_model.specs.session.Sessions.{Session};
 ghost use Rattle.ymx_model.specs.session.Emissions.{in_turn};
 ghost use Rattle.ymx_model.specs.session.Histories.{Replays};
 ghost use Rattle.ymx_law_audit.specs.Joints.{IsJointOrder};
 ghost use Rattle.ymx_law_audit.specs.Example.{joint_steps};
-ghost use Rattle.ymx_machine.specs.declared.types.Call.{Call};
+ghost use Rattle.ymx_machine.specs.shared.Events.{Call};
 ghost use Rattle.ymx_machine.specs.declared.types.CallFault.{CallFault};
 ghost use Rattle.ymx_model.specs.declared.types.Event.TheVariants as event;
 ghost use Rattle.ymx_model.specs.session.Histories.{Gives};

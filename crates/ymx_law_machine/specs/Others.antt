@@ -1,8 +1,8 @@
 -- Which stream a call or a move touches (this project's own).
 use Rattle.std.specs.Prelude.{ℕ, List, [], ◌∷◌, Bool, true, false, zero, suc, Option, None, Some}
-use Rattle.ymx_machine.specs.declared.types.Call.{Call}
+use Rattle.ymx_machine.specs.shared.Events.{Call}
 use Rattle.ymx_machine.specs.declared.types.Call.TheVariants as call
-use Rattle.ymx_machine.specs.declared.types.Reply.{Reply}
+use Rattle.ymx_machine.specs.shared.Events.{Reply}
 use Rattle.ymx_machine.specs.declared.types.Reply.TheVariants as reply
 use Rattle.ymx_machine.specs.declared.types.Wrote.TheVariants.{Took}
 use Rattle.ymx_machine.specs.machine.Machines.{Machine}

@@ -3,10 +3,10 @@
 
 ghost use Rattle.std.specs.Prelude.{◌%◌, ◌≡◌, ◌≢◌, ◌⊎◌, ◌≤◌, ℕ, List, None, Some, true};
 ghost use Rattle.ymx_machine.specs.declared.types.Answer.{Answer};
-ghost use Rattle.ymx_machine.specs.declared.types.Call.{Call};
+ghost use Rattle.ymx_machine.specs.shared.Events.{Call};
 ghost use Rattle.ymx_machine.specs.declared.types.CallFault.TheVariants.{OutOfMemory};
 ghost use Rattle.ymx_machine.specs.declared.types.Reply.TheVariants.{Refused};
-ghost use Rattle.ymx_machine.specs.declared.types.Reply.{Reply};
+ghost use Rattle.ymx_machine.specs.shared.Events.{Reply};
 ghost use Rattle.ymx_machine.specs.declared.types.Side.TheVariants.{A, B};
 ghost use Rattle.ymx_machine.specs.declared.types.Step.{Step};
 ghost use Rattle.ymx_machine.specs.machine.FreeMoves.{FreeMove, moved_by};

@@ -7,7 +7,7 @@ ghost use Rattle.std.specs.Prelude.{◌≡◌, ◌⊎◌, ◌<◌, ◌^◌, ◌+
 ghost use Rattle.ymx_header.specs.Headers.{has_syn, has_ack, has_rst};
 ghost use Rattle.ymx_header.specs.declared.header.Header.{Header};
 ghost use Rattle.ymx_machine.specs.declared.types.Call.TheVariants as call;
-ghost use Rattle.ymx_machine.specs.declared.types.Reply.{Reply};
+ghost use Rattle.ymx_machine.specs.shared.Events.{Reply};
 ghost use Rattle.ymx_machine.specs.declared.types.Reply.TheVariants.{Accepted, Opened, OpenedWith};
 ghost use Rattle.ymx_model.specs.declared.types.Response.TheVariants.{Reject};
 ghost use Rattle.ymx_model.specs.declared.types.Status.TheVariants.{Running};

@@ -1,6 +1,6 @@
 -- Numbers that fit the fields of a header, of 32 bits each (framing).
 use Rattle.std.specs.Prelude.{◌<◌, ◌^◌, ℕ, List, All}
-use Rattle.ymx_model.specs.declared.types.Event.{Event}
+use Rattle.ymx_model.specs.session.Events.{Event}
 use Rattle.ymx_model.specs.declared.types.Event.TheVariants as event
 use Rattle.ymx_model.specs.declared.types.Response.{Response}
 use Rattle.ymx_model.specs.declared.types.Response.TheVariants.{Pong, Reject}

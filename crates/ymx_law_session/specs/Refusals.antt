@@ -1,6 +1,6 @@
 -- What a call or a frame leaves as it was (this project's own).
 use Rattle.std.specs.Prelude.{◌≡◌, ◌≢◌, ℕ, List, [], ◌∷◌, Bool, true, false, ◌==◌, if◌then◌else◌}
-use Rattle.ymx_machine.specs.declared.types.Reply.{Reply}
+use Rattle.ymx_machine.specs.shared.Events.{Reply}
 use Rattle.ymx_machine.specs.declared.types.Reply.TheVariants.{Refused}
 use Rattle.ymx_model.specs.session.Records.{End}
 use Rattle.ymx_machine.specs.shared.Lists.{look}

@@ -6,12 +6,12 @@
 ghost use Rattle.std.specs.Prelude.{◌≡◌, ◌+◌, ◌^◌, ◌<◌, ◌≤◌, ◌++◌, ◌∷◌, [], ℕ, List, Bool, length, take, drop, true, false, is_some, Some, All};
 ghost use Rattle.ymx_header.specs.Headers.{spelling, header_of, IsInRange, has_rst};
 ghost use Rattle.ymx_header.specs.declared.header.Header.{Header};
-ghost use Rattle.ymx_machine.specs.declared.types.Call.{Call};
+ghost use Rattle.ymx_machine.specs.shared.Events.{Call};
 ghost use Rattle.ymx_machine.specs.declared.types.Call.TheVariants as call;
 ghost use Rattle.ymx_model.specs.declared.types.Entry.{Entry};
-ghost use Rattle.ymx_model.specs.declared.types.Event.{Event};
+ghost use Rattle.ymx_model.specs.session.Events.{Event};
 ghost use Rattle.ymx_machine.specs.declared.types.Fed.{Fed};
-ghost use Rattle.ymx_machine.specs.declared.types.Reply.{Reply};
+ghost use Rattle.ymx_machine.specs.shared.Events.{Reply};
 ghost use Rattle.ymx_machine.specs.declared.types.Reply.TheVariants.{Accepted};
 ghost use Rattle.ymx_model.specs.declared.types.Role.{Role};
 ghost use Rattle.ymx_model.specs.declared.types.Status.TheVariants.{Running};

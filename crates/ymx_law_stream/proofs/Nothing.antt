@@ -4,7 +4,7 @@ use Rattle.ymx_machine.specs.stream.Streams.{Stream}
 use Rattle.ymx_machine.specs.shared.Phases.{is_live, is_reset}
 use Rattle.ymx_machine.specs.stream.StreamRules.{StreamCall, StreamRule}
 use Rattle.ymx_machine.specs.stream.StreamRules.StreamCall.{Writes, Reads, Finishes, Resets, Forgets}
-use Rattle.ymx_machine.specs.declared.types.Reply.{Reply}
+use Rattle.ymx_machine.specs.shared.Events.{Reply}
 use Rattle.ymx_machine.specs.declared.types.Reply.TheVariants.{Refused}
 use Rattle.ymx_machine.specs.declared.types.CallFault.TheVariants.{NoStream}
 use Rattle.ymx_model.specs.session.Records.{End}

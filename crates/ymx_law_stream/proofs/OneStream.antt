@@ -7,7 +7,7 @@ use Rattle.ymx_machine.specs.stream.Streams.Move.{Released}
 use Rattle.ymx_machine.specs.stream.StreamRules.{StreamCall, StreamRule}
 use Rattle.ymx_machine.specs.shared.Replies.{forget_reply, is_done}
 use Rattle.ymx_machine.specs.stream.StreamRules.StreamCall.{Forgets}
-use Rattle.ymx_machine.specs.declared.types.Reply.{Reply}
+use Rattle.ymx_machine.specs.shared.Events.{Reply}
 use Rattle.ymx_model.specs.session.Records.{End, new_end, reader_empty, end_accept, end_write, end_forget, receive_data}
 use Rattle.ymx_model.specs.declared.types.FrameKind.{FrameKind}
 use Rattle.ymx_model.specs.session.FramesDue.{next_kind, begin_frame}

@@ -10,7 +10,7 @@ use Rattle.ymx_machine.specs.stream.StreamRules.{StreamCall, ResetsTo, forgets_q
 use Rattle.ymx_machine.specs.shared.Replies.{write_reply, read_reply, finish_reply, reset_reply, forget_reply, bytes_moved, is_done}
 use Rattle.std.specs.Prelude.{MatchBool}
 use Rattle.ymx_machine.specs.stream.StreamRules.StreamCall.{Writes, Reads, Finishes, Resets, Forgets}
-use Rattle.ymx_machine.specs.declared.types.Reply.{Reply}
+use Rattle.ymx_machine.specs.shared.Events.{Reply}
 use Rattle.ymx_model.specs.session.Records.{End, Reader, reader_empty, end_write, end_read, end_reset, end_forget}
 use Rattle.ymx_model.specs.session.Parts.{Part}
 use Rattle.ymx_law_stream.specs.Flight.{loads}

@@ -6,7 +6,7 @@ use Rattle.ymx_machine.specs.shared.Phases.{takes}
 use Rattle.ymx_machine.specs.shared.Phases.Phase.{Unborn, Offered, Live, Lingering}
 use Rattle.ymx_machine.specs.stream.Streams.Move.{Released}
 use Rattle.ymx_machine.specs.stream.StreamRules.{StreamCall, StreamRule}
-use Rattle.ymx_machine.specs.declared.types.Reply.{Reply}
+use Rattle.ymx_machine.specs.shared.Events.{Reply}
 use Rattle.ymx_model.specs.session.Records.{End, new_end, end_write, end_accept, receive_data}
 use Rattle.ymx_model.specs.declared.types.FrameKind.{FrameKind}
 use Rattle.ymx_model.specs.session.FramesDue.{next_kind, begin_frame}

@@ -1,9 +1,9 @@
 -- A call leaves what has come of a frame, and but for a close the rest of a frame begun.
 use Rattle.std.proofs.Common.{◌≡◌, ℕ, List, [], ◌∷◌, take, false, ◌==◌, nat_le, Option, None, Some, length, refl}
 use Rattle.std.specs.Prelude.{count_by}
-use Rattle.ymx_machine.specs.declared.types.Call.{Call}
+use Rattle.ymx_machine.specs.shared.Events.{Call}
 use Rattle.ymx_machine.specs.declared.types.Call.TheVariants as call
-use Rattle.ymx_machine.specs.declared.types.Reply.{Reply}
+use Rattle.ymx_machine.specs.shared.Events.{Reply}
 use Rattle.ymx_model.specs.session.Records.{End, end_write, end_read, end_finish, end_reset, end_forget}
 use Rattle.ymx_machine.specs.shared.Phases.Phase.{WasReset}
 use Rattle.ymx_machine.specs.shared.Replies.{write_reply, read_reply, finish_reply, reset_reply, forget_reply, bytes_moved, is_done}

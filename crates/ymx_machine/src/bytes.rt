@@ -20,6 +20,43 @@ impl Model for Bytes {
     ghost view = { λ bytes. bytes.items.items };
 }
 
+/// Bytes that another has lent. A contract sees the list of them.
+#[derive(Drop)]
+pub struct Lent<'a> {
+    bytes: &'a [u8],
+}
+
+impl<'a> Model for Lent<'a> {
+    ghost use Rattle.std.specs.Prelude.{List, ℕ};
+
+    ghost Value = { List ℕ };
+
+    ghost view = { λ lent. lent.bytes.now };
+}
+
+impl<'a> Lent<'a> {
+    /// These bytes.
+    pub fn new(bytes: &'a [u8]) -> Lent<'a>
+        ensures { result ≡ bytes.now }
+    {
+        Lent { bytes }
+    }
+
+    /// A copy of these bytes. `AllocError` where there is no memory for it.
+    pub fn to_owned(&self, alloc: Global) -> Result<Bytes, AllocError>
+        ensures { IfOk result (λ copy. copy ≡ self.now) }
+    {
+        Bytes::from_slice(alloc, self.bytes)
+    }
+
+    /// The bytes in their order.
+    pub fn as_slice(&self) -> &[u8]
+        ensures { result.now ≡ self.now }
+    {
+        self.bytes
+    }
+}
+
 impl Bytes {
     /// No bytes. Takes no memory.
     pub fn new(alloc: Global) -> Bytes
@@ -43,14 +80,6 @@ impl Bytes {
         ensures { result ≡ items.items }
     {
         Bytes { items }
-    }
-
-    /// The bytes as a vector, which are not copied.
-    pub fn into_vec(self) -> Vec<u8>
-        ensures { result.items ≡ self }
-    {
-        let Bytes { items } = self;
-        items
     }
 
     /// The bytes in their order.

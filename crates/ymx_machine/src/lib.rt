@@ -5,5 +5,5 @@
 mod bytes;
 mod types;
 
-pub use bytes::Bytes;
+pub use bytes::{Bytes, Lent};
 pub use types::{Answer, Call, CallFault, Direction, Fed, Reply, Side, Step, Why, Wrote};

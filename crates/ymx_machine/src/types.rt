@@ -81,17 +81,17 @@ pub struct Fed {
     pub why: Why,
 }
 
-/// A call on a session.
+/// A call on a session. Its bytes are owned or lent.
 #[derive(Drop)]
-pub enum Call {
+pub enum Call<B> {
     /// Open the next own stream.
     Open,
     /// Open the next own stream, with these first bytes.
-    OpenWith(Bytes),
+    OpenWith(B),
     /// Take the offered stream that came first.
     Accept,
     /// Write these bytes to a stream.
-    Write(u32, Bytes),
+    Write(u32, B),
     /// Read at most so many bytes from a stream.
     Read(u32, usize),
     /// Half-close a stream.
@@ -110,9 +110,9 @@ pub enum Call {
     Close,
 }
 
-/// What an event of a session answers.
+/// What an event of a session answers. Its bytes are owned or lent.
 #[derive(Drop)]
-pub enum Reply {
+pub enum Reply<B> {
     /// A stream was opened.
     Opened(u32),
     /// A stream was opened, and the first so many bytes were taken.
@@ -122,7 +122,7 @@ pub enum Reply {
     /// A write.
     Wrote(Wrote),
     /// A read gave these bytes.
-    Read(Bytes),
+    Read(B),
     /// A read found the end.
     ReadEnd,
     /// A read found nothing yet.
@@ -138,7 +138,7 @@ pub enum Reply {
     /// A feed.
     Fed(Fed),
     /// An emission gave these bytes.
-    Emitted(Bytes),
+    Emitted(B),
 }
 
 /// A side of the world: A is the client, B the server.
@@ -163,7 +163,7 @@ pub enum Direction {
 #[derive(Drop)]
 pub enum Step {
     /// A call at a side.
-    At(Side, Call),
+    At(Side, Call<Bytes>),
     /// One emission of a side, into so many bytes, goes onto its pipe.
     Emit(Side, usize),
     /// The first so many bytes of a pipe (all if there are fewer) are fed at its other end.

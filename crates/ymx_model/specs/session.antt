@@ -1,4 +1,5 @@
 -- One session by itself: what it remembers, its calls, what a frame does that comes, which frame goes.
+pub mod Events
 pub mod Records
 pub mod FramesDue
 pub mod Parts

@@ -13,5 +13,5 @@ pub use types::{
     Config, Entry, Event, FrameKind, GoAwayMark, Got, PingStage, Response, Role, Status,
 };
 pub use ymx_machine::{
-    Answer, Bytes, Call, CallFault, Direction, Fed, Reply, Side, Step, Why, Wrote,
+    Answer, Bytes, Call, CallFault, Direction, Fed, Lent, Reply, Side, Step, Why, Wrote,
 };

@@ -63,13 +63,13 @@ pub enum Status {
     Closed,
 }
 
-/// One event of a session.
+/// One event of a session. Its bytes are owned or lent.
 #[derive(Drop)]
-pub enum Event {
+pub enum Event<B> {
     /// A call.
-    Call(Call),
+    Call(Call<B>),
     /// A feed of these bytes.
-    Feed(Bytes),
+    Feed(B),
     /// The peer's bytes have ended.
     FeedEnd,
     /// An emission into a buffer of so many bytes.
@@ -84,9 +84,9 @@ pub struct Entry {
     /// The caller that made it.
     pub seat: u32,
     /// What was asked.
-    pub event: Event,
+    pub event: Event<Bytes>,
     /// What was answered.
-    pub reply: Reply,
+    pub reply: Reply<Bytes>,
 }
 
 /// How far an own ping has come (ping).

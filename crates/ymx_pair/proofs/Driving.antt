@@ -8,8 +8,8 @@ use Rattle.std.proofs.Math.Bool.{or_assoc}
 use Rattle.ymx_machine.specs.declared.types.Side.{Side}
 use Rattle.ymx_machine.specs.declared.types.Side.TheVariants.{A, B}
 use Rattle.ymx_machine.specs.declared.types.Call.TheVariants as call
-use Rattle.ymx_machine.specs.declared.types.Reply.{Reply}
-use Rattle.ymx_model.specs.declared.types.Event.{Event}
+use Rattle.ymx_machine.specs.shared.Events.{Reply}
+use Rattle.ymx_model.specs.session.Events.{Event}
 use Rattle.ymx_model.specs.declared.types.Event.TheVariants as event
 use Rattle.ymx_engine.specs.Devices.{Seen}
 use Rattle.ymx_engine.specs.Engines.{Engine, KeepsWire}

@@ -4,8 +4,8 @@ use Rattle.std.specs.List.{list_all}
 use Rattle.std.specs.Io.KnownBytes.{Appends, Consumes}
 use Rattle.ymx_machine.specs.declared.types.Side.{Side}
 use Rattle.ymx_machine.specs.declared.types.Side.TheVariants.{A, B}
-use Rattle.ymx_machine.specs.declared.types.Reply.{Reply}
-use Rattle.ymx_model.specs.declared.types.Event.{Event}
+use Rattle.ymx_machine.specs.shared.Events.{Reply}
+use Rattle.ymx_model.specs.session.Events.{Event}
 use Rattle.ymx_model.specs.declared.types.Event.TheVariants as event
 use Rattle.ymx_engine.specs.Devices.{Seen}
 use Rattle.ymx_engine.specs.Events.{taken, given, has_end, has_finish, has_reset}

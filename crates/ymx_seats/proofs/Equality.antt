@@ -11,11 +11,11 @@ use Rattle.ymx_machine.specs.declared.types.Wrote.{Wrote}
 use Rattle.ymx_machine.specs.declared.types.Wrote.TheVariants as wrote
 use Rattle.ymx_machine.specs.declared.types.Why.{Why}
 use Rattle.ymx_machine.specs.declared.types.Why.TheVariants as why
-use Rattle.ymx_machine.specs.declared.types.Call.{Call}
+use Rattle.ymx_machine.specs.shared.Events.{Call}
 use Rattle.ymx_machine.specs.declared.types.Call.TheVariants as call
-use Rattle.ymx_model.specs.declared.types.Event.{Event}
+use Rattle.ymx_model.specs.session.Events.{Event}
 use Rattle.ymx_model.specs.declared.types.Event.TheVariants as event
-use Rattle.ymx_machine.specs.declared.types.Reply.{Reply}
+use Rattle.ymx_machine.specs.shared.Events.{Reply}
 use Rattle.ymx_machine.specs.declared.types.Reply.TheVariants as reply
 use Rattle.ymx_model.specs.declared.types.Entry.{Entry}
 

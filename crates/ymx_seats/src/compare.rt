@@ -8,10 +8,10 @@ ghost use Rattle.ymx_seats.specs.Views.{SeatView};
 
 use crate::recorder::Recorder;
 use crate::seat::Seat;
-use ymx_model::{Call, Entry, Event, Fed, Reply, Wrote};
+use ymx_model::{Bytes, Call, Entry, Event, Fed, Reply, Wrote};
 
 /// Whether two calls are the same.
-fn same_call(a: &Call, b: &Call) -> bool
+fn same_call(a: &Call<Bytes>, b: &Call<Bytes>) -> bool
     ensures { IsTrue result ↔ a.now ≡ b.now }
 {
     match a {
@@ -32,7 +32,7 @@ fn same_call(a: &Call, b: &Call) -> bool
 }
 
 /// Whether two events are the same.
-fn same_event(a: &Event, b: &Event) -> bool
+fn same_event(a: &Event<Bytes>, b: &Event<Bytes>) -> bool
     ensures { IsTrue result ↔ a.now ≡ b.now }
 {
     match a {
@@ -44,7 +44,7 @@ fn same_event(a: &Event, b: &Event) -> bool
 }
 
 /// Whether two replies are the same.
-fn same_reply(a: &Reply, b: &Reply) -> bool
+fn same_reply(a: &Reply<Bytes>, b: &Reply<Bytes>) -> bool
     ensures { IsTrue result ↔ a.now ≡ b.now }
 {
     match a {

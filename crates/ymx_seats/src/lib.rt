@@ -17,5 +17,5 @@ pub use compare::{agree, same};
 pub use log::Log;
 pub use recorder::{Full, Off, Recorder, Witnessed};
 pub use seat::{Seat, discard};
-pub use slips::{Ask, Slip, Tell};
+pub use slips::Slip;
 pub use transcript::Transcript;

@@ -3,17 +3,16 @@
 ghost use Rattle.std.specs.Prelude.{◌≡◌, ◌-◌, ◌+◌, ◌<◌, ◌≤◌, ◌++◌, ◌∷◌, [], true, false, Some, None, vec_capacity, vec_len, length, IsOk, IfOk, OnOk, OnErr};
 ghost use mathlib.Core.List.{IsPrefix};
 ghost use Rattle.ymx_journal.specs.Journals.{part};
-ghost use Rattle.ymx_seats.specs.Slips.{asked_by, told_by};
 ghost use Rattle.ymx_seats.specs.Views.{entry};
 
 use crate::recorder::{Question, Recorder};
 use crate::seat::Seat;
-use crate::slips::{Ask, Copies, Slip, Tell, copies_of, reply_of};
+use crate::slips::{Copies, Slip, copies_of, kept_reply};
 use std::alloc::{AllocError, Global};
 use std::marker::{Brand, Model, PhantomData};
 use std::mem;
 use ymx_journal::{Journal, Opened, Saying, Witness};
-use ymx_model::Entry;
+use ymx_model::{Entry, Event, Lent, Reply};
 
 /// The entries so far, and the journal, where the recorder witnesses. A contract sees both, and for how many more entries
 /// there is memory. Their positions rise.
@@ -39,7 +38,8 @@ impl<R: Recorder> Model for Log<R> {
 impl<R: Recorder> Log<R> {
     ghost use Rattle.ymx_seats.specs.Tallies.{RisesFrom};
     ghost use Rattle.ymx_seats.specs.Views.{kept_entries, entry, journal_after, with_caller, whole_of, HasNumbered, IsBehind, IsWitnessed, IsNewcomer};
-    ghost use Rattle.ymx_seats.specs.Slips.{asked_by, told_by, bytes_told, IsReady};
+    ghost use Rattle.ymx_seats.specs.Slips.{IsReady};
+    ghost use Rattle.ymx_machine.specs.shared.Replies.{bytes_told};
 
     /// No entries, and no journal.
     pub fn new(alloc: Global) -> Log<R>
@@ -102,7 +102,7 @@ impl<R: Recorder> Log<R> {
         &mut self,
         alloc: Global,
         seat: &mut Seat<R>,
-        ask: Ask<'_>,
+        event: Event<Lent<'_>>,
         bytes: usize,
         entries: usize,
     ) -> Result<Slip, AllocError>
@@ -112,7 +112,7 @@ impl<R: Recorder> Log<R> {
         ensures start { seat.new.start ≡ seat.old.start }
         ensures seat_entries { seat.new.entries ≡ seat.old.entries }
         ensures seen { seat.new.seen ≡ seat.old.seen }
-        ensures ready { IfOk result (λ s. IsReady R.KEEPS s (asked_by ask.entry) bytes) }
+        ensures ready { IfOk result (λ s. IsReady R.KEEPS s event.entry bytes) }
         ensures room { R.KEEPS ≡ true → OnOk result ((entries ≤ self.new.room) × (entries ≤ seat.new.room)) }
         ensures grows { (self.old.room ≤ self.new.room) × (seat.old.room ≤ seat.new.room) }
         ensures off { R.KEEPS ≡ false → IsOk result }
@@ -123,27 +123,33 @@ impl<R: Recorder> Log<R> {
         self.entries.reserve(entries)?;
         seat.make_room(entries)?;
         Ok(Slip {
-            copies: Some(copies_of(alloc, ask, bytes)?),
+            copies: Some(copies_of(alloc, &event, bytes)?),
         })
     }
 
     /// Adds the entry of an event to the log and to its seat, in the memory of its slip, and to the journal. What the seat
     /// had seen is a beginning of the journal's history before, and no other entry of that is the seat's. The seat has then
     /// seen all.
-    pub fn add(&mut self, seat: &mut Seat<R>, slip: Slip, ask: Ask<'_>, tell: Tell<'_>)
-        requires ready { IsReady R.KEEPS slip (asked_by ask) (bytes_told tell) }
+    pub fn add(
+        &mut self,
+        seat: &mut Seat<R>,
+        slip: Slip,
+        event: Event<Lent<'_>>,
+        reply: Reply<Lent<'_>>,
+    )
+        requires ready { IsReady R.KEEPS slip event (bytes_told reply) }
         requires room { R.KEEPS ≡ true → (0 < self.old.room) × (0 < seat.old.room) }
-        requires history { IsWitnessed R.WITNESSED R.role R.config (whole_of (journal_after seat.old.number (asked_by ask) (told_by tell) self.old.journal)) }
+        requires history { IsWitnessed R.WITNESSED R.role R.config (whole_of (journal_after seat.old.number event reply self.old.journal)) }
         ensures number { seat.new.number ≡ seat.old.number }
         ensures start { seat.new.start ≡ seat.old.start }
-        ensures entries { self.new.entries ≡ self.old.entries ++ kept_entries R.KEEPS (entry (length self.old.entries) seat.old.number (asked_by ask.entry) (told_by tell.entry)) }
-        ensures seat_entries { seat.new.entries ≡ seat.old.entries ++ kept_entries R.KEEPS (entry (length self.old.entries) seat.old.number (asked_by ask.entry) (told_by tell.entry)) }
+        ensures entries { self.new.entries ≡ self.old.entries ++ kept_entries R.KEEPS (entry (length self.old.entries) seat.old.number event.entry reply.entry) }
+        ensures seat_entries { seat.new.entries ≡ seat.old.entries ++ kept_entries R.KEEPS (entry (length self.old.entries) seat.old.number event.entry reply.entry) }
         ensures left { R.KEEPS ≡ true → (self.new.room + 1 ≡ self.old.room) × (seat.new.room + 1 ≡ seat.old.room) }
-        ensures journal { self.new.journal ≡ journal_after seat.old.number (asked_by ask.entry) (told_by tell.entry) self.old.journal }
+        ensures journal { self.new.journal ≡ journal_after seat.old.number event.entry reply.entry self.old.journal }
         ensures seen { seat.new.seen ≡ whole_of self.new.journal }
         ensures behind { IsBehind seat.old.number seat.old.seen self.old.journal }
     {
-        self.attest(seat, ask, tell);
+        self.attest(seat, &event, &reply);
         let Some(copies) = slip.copies else {
             return;
         };
@@ -159,25 +165,25 @@ impl<R: Recorder> Log<R> {
             position,
             seat: number,
             event: mine,
-            reply: reply_of(tell, my_bytes),
+            reply: kept_reply(&reply, my_bytes),
         });
         self.entries.push_reserved(Entry {
             position,
             seat: number,
             event: theirs,
-            reply: reply_of(tell, their_bytes),
+            reply: kept_reply(&reply, their_bytes),
         });
     }
 
     /// Adds the entry of an event to the journal, if there is one.
-    fn attest(&mut self, seat: &mut Seat<R>, ask: Ask<'_>, tell: Tell<'_>)
-        requires history { IsWitnessed R.WITNESSED R.role R.config (whole_of (journal_after seat.old.number (asked_by ask) (told_by tell) self.old.journal)) }
-        ensures log { self.new ≡ record self.old { journal = journal_after seat.old.number (asked_by ask.entry) (told_by tell.entry) self.old.journal } }
+    fn attest(&mut self, seat: &mut Seat<R>, event: &Event<Lent<'_>>, reply: &Reply<Lent<'_>>)
+        requires history { IsWitnessed R.WITNESSED R.role R.config (whole_of (journal_after seat.old.number event.now reply.now self.old.journal)) }
+        ensures log { self.new ≡ record self.old { journal = journal_after seat.old.number event.now reply.now self.old.journal } }
         ensures seat { seat.new ≡ record seat.old { seen = whole_of self.new.journal } }
         ensures behind { IsBehind seat.old.number seat.old.seen self.old.journal }
     {
         if let (Some(journal), Some(witness)) = (&mut self.journal, &mut seat.witness) {
-            note::<R, Brand>(journal, witness, ask, tell);
+            note::<R, Brand>(journal, witness, event, reply);
         }
     }
 
@@ -215,11 +221,11 @@ impl<R: Recorder> Log<R> {
 fn note<R: Recorder, N: Saying>(
     journal: &mut Journal<R>,
     witness: &mut Witness<R>,
-    ask: Ask<'_>,
-    tell: Tell<'_>,
+    event: &Event<Lent<'_>>,
+    reply: &Reply<Lent<'_>>,
 )
-    requires { N.entry ≡ entry (length journal.old.whole) witness.old.number (asked_by ask) (told_by tell) }
-    ensures added { journal.new ≡ record journal.old { whole = journal.old.whole ++ entry (length journal.old.whole) witness.old.number (asked_by ask.entry) (told_by tell.entry) ∷ [] } }
+    requires { N.entry ≡ entry (length journal.old.whole) witness.old.number event.now reply.now }
+    ensures added { journal.new ≡ record journal.old { whole = journal.old.whole ++ entry (length journal.old.whole) witness.old.number event.now reply.now ∷ [] } }
     ensures witness { witness.new ≡ record { number = witness.old.number; seen = journal.new.whole } }
     ensures before { IsPrefix witness.old.seen journal.old.whole }
     ensures mine { part witness.old.number journal.old.whole ≡ part witness.old.number witness.old.seen }

@@ -1,76 +1,11 @@
 //! The memory of an entry, which is found before its event.
 
 ghost use Rattle.std.specs.Prelude.{◌≡◌, ◌≤◌, [], length, vec_len, vec_capacity, IfOk};
-ghost use Rattle.ymx_seats.specs.Slips.{asked_by, told_by, bytes_told, Hold};
+ghost use Rattle.ymx_machine.specs.shared.Replies.{bytes_told};
+ghost use Rattle.ymx_seats.specs.Slips.{Hold};
 
 use std::alloc::{AllocError, Global};
-use ymx_model::{Bytes, Call, CallFault, Event, Fed, Reply, Wrote};
-
-/// An event that is about to be done, with its bytes lent.
-#[derive(Clone, Copy)]
-pub enum Ask<'a> {
-    /// Open the next own stream.
-    Open,
-    /// Open it with these first bytes.
-    OpenWith(&'a [u8]),
-    /// Take the offered stream that came first.
-    Accept,
-    /// Write these bytes to a stream.
-    Write(u32, &'a [u8]),
-    /// Read at most so many bytes from a stream.
-    Read(u32, usize),
-    /// Half-close a stream.
-    Finish(u32),
-    /// Reset a stream.
-    Reset(u32),
-    /// Give a stream up.
-    Forget(u32),
-    /// Ask the peer for a sign of life.
-    Ping,
-    /// Whether the answer to this ping is back.
-    Ponged(u32),
-    /// Take no more streams of the peer's.
-    GoAway,
-    /// Close the session.
-    Close,
-    /// A feed of these bytes.
-    Feed(&'a [u8]),
-    /// The peer's bytes have ended.
-    FeedEnd,
-    /// An emission into a buffer of so many bytes.
-    Emit(usize),
-}
-
-/// What was answered, with its bytes lent.
-#[derive(Clone, Copy)]
-pub enum Tell<'a> {
-    /// A stream was opened.
-    Opened(u32),
-    /// A stream was opened, and the first so many bytes were taken.
-    OpenedWith(u32, usize),
-    /// A stream was accepted, or none is offered yet.
-    Accepted(Option<u32>),
-    /// A write.
-    Wrote(Wrote),
-    /// A read gave these bytes.
-    Read(&'a [u8]),
-    /// A read found the end.
-    ReadEnd,
-    /// A read found nothing yet.
-    ReadWait,
-    /// The event was done.
-    Done,
-    /// A ping of this number was asked.
-    Pinged(u32),
-    /// Whether the ping's answer was back.
-    Ponged(bool),
-    /// The call was refused, and changed nothing.
-    Refused(CallFault),
-    /// A feed.
-    Fed(Fed),
-    /// An emission gave these bytes.
-    Emitted(&'a [u8]),
-}
+use ymx_model::{Bytes, Call, Event, Lent, Reply};
 
 /// What was found for an entry: its memory, where the recorder keeps it. It shows nobody which.
 #[derive(Drop)]
@@ -82,58 +17,67 @@ pub struct Slip {
 #[derive(Drop)]
 pub(crate) struct Copies {
     /// The event, for the seat.
-    pub(crate) mine: Event,
+    pub(crate) mine: Event<Bytes>,
     /// The event, for the log.
-    pub(crate) theirs: Event,
+    pub(crate) theirs: Event<Bytes>,
     /// Room for the bytes of the reply, for the seat.
     pub(crate) my_bytes: Vec<u8>,
     /// The same, for the log.
     pub(crate) their_bytes: Vec<u8>,
 }
 
-/// The event as it is kept, with its bytes copied.
-fn event_of(alloc: Global, ask: Ask<'_>) -> Result<Event, AllocError>
-    ensures { IfOk result (λ e. e ≡ asked_by ask.entry) }
+/// The event with bytes of its own.
+fn owned(alloc: Global, event: &Event<Lent<'_>>) -> Result<Event<Bytes>, AllocError>
+    ensures { IfOk result (λ e. e ≡ event.now) }
 {
-    Ok(match ask {
-        Ask::Open => Event::Call(Call::Open),
-        Ask::OpenWith(bytes) => Event::Call(Call::OpenWith(Bytes::from_slice(alloc, bytes)?)),
-        Ask::Accept => Event::Call(Call::Accept),
-        Ask::Write(id, bytes) => Event::Call(Call::Write(id, Bytes::from_slice(alloc, bytes)?)),
-        Ask::Read(id, size) => Event::Call(Call::Read(id, size)),
-        Ask::Finish(id) => Event::Call(Call::Finish(id)),
-        Ask::Reset(id) => Event::Call(Call::Reset(id)),
-        Ask::Forget(id) => Event::Call(Call::Forget(id)),
-        Ask::Ping => Event::Call(Call::Ping),
-        Ask::Ponged(number) => Event::Call(Call::Ponged(number)),
-        Ask::GoAway => Event::Call(Call::GoAway),
-        Ask::Close => Event::Call(Call::Close),
-        Ask::Feed(bytes) => Event::Feed(Bytes::from_slice(alloc, bytes)?),
-        Ask::FeedEnd => Event::FeedEnd,
-        Ask::Emit(size) => Event::Emit(size),
+    Ok(match event {
+        Event::Call(call) => Event::Call(owned_call(alloc, call)?),
+        Event::Feed(bytes) => Event::Feed(bytes.to_owned(alloc)?),
+        Event::FeedEnd => Event::FeedEnd,
+        Event::Emit(size) => Event::Emit(*size),
     })
 }
 
-/// The reply as it is kept, in memory found before.
-pub fn reply_of(tell: Tell<'_>, room: Vec<u8>) -> Reply
-    requires empty { room.items ≡ [] }
-    requires fits { bytes_told tell ≤ vec_capacity room }
-    ensures { result ≡ told_by tell.entry }
+/// The call with bytes of its own.
+fn owned_call(alloc: Global, call: &Call<Lent<'_>>) -> Result<Call<Bytes>, AllocError>
+    ensures { IfOk result (λ c. c ≡ call.now) }
 {
-    match tell {
-        Tell::Opened(id) => Reply::Opened(id),
-        Tell::OpenedWith(id, count) => Reply::OpenedWith(id, count),
-        Tell::Accepted(id) => Reply::Accepted(id),
-        Tell::Wrote(wrote) => Reply::Wrote(wrote),
-        Tell::Read(bytes) => Reply::Read(filled(room, bytes)),
-        Tell::ReadEnd => Reply::ReadEnd,
-        Tell::ReadWait => Reply::ReadWait,
-        Tell::Done => Reply::Done,
-        Tell::Pinged(number) => Reply::Pinged(number),
-        Tell::Ponged(back) => Reply::Ponged(back),
-        Tell::Refused(fault) => Reply::Refused(fault),
-        Tell::Fed(fed) => Reply::Fed(fed),
-        Tell::Emitted(bytes) => Reply::Emitted(filled(room, bytes)),
+    Ok(match call {
+        Call::Open => Call::Open,
+        Call::OpenWith(bytes) => Call::OpenWith(bytes.to_owned(alloc)?),
+        Call::Accept => Call::Accept,
+        Call::Write(id, bytes) => Call::Write(*id, bytes.to_owned(alloc)?),
+        Call::Read(id, size) => Call::Read(*id, *size),
+        Call::Finish(id) => Call::Finish(*id),
+        Call::Reset(id) => Call::Reset(*id),
+        Call::Forget(id) => Call::Forget(*id),
+        Call::Ping => Call::Ping,
+        Call::Ponged(number) => Call::Ponged(*number),
+        Call::GoAway => Call::GoAway,
+        Call::Close => Call::Close,
+    })
+}
+
+/// The reply with bytes of its own, in memory found before.
+pub(crate) fn kept_reply(reply: &Reply<Lent<'_>>, room: Vec<u8>) -> Reply<Bytes>
+    requires empty { room.items ≡ [] }
+    requires fits { bytes_told reply.now ≤ vec_capacity room }
+    ensures { result ≡ reply.now }
+{
+    match reply {
+        Reply::Opened(id) => Reply::Opened(*id),
+        Reply::OpenedWith(id, count) => Reply::OpenedWith(*id, *count),
+        Reply::Accepted(id) => Reply::Accepted(*id),
+        Reply::Wrote(wrote) => Reply::Wrote(*wrote),
+        Reply::Read(bytes) => Reply::Read(filled(room, bytes.as_slice())),
+        Reply::ReadEnd => Reply::ReadEnd,
+        Reply::ReadWait => Reply::ReadWait,
+        Reply::Done => Reply::Done,
+        Reply::Pinged(number) => Reply::Pinged(*number),
+        Reply::Ponged(back) => Reply::Ponged(*back),
+        Reply::Refused(fault) => Reply::Refused(*fault),
+        Reply::Fed(fed) => Reply::Fed(*fed),
+        Reply::Emitted(bytes) => Reply::Emitted(filled(room, bytes.as_slice())),
     }
 }
 
@@ -159,12 +103,16 @@ fn with_room(alloc: Global, count: usize) -> Result<Vec<u8>, AllocError>
 }
 
 /// Memory for an entry of this event whose reply has at most so many bytes.
-pub(crate) fn copies_of(alloc: Global, ask: Ask<'_>, count: usize) -> Result<Copies, AllocError>
-    ensures { IfOk result (λ c. Hold c (asked_by ask.entry) count) }
+pub(crate) fn copies_of(
+    alloc: Global,
+    event: &Event<Lent<'_>>,
+    count: usize,
+) -> Result<Copies, AllocError>
+    ensures { IfOk result (λ c. Hold c event.now count) }
 {
     Ok(Copies {
-        mine: event_of(alloc, ask)?,
-        theirs: event_of(alloc, ask)?,
+        mine: owned(alloc, event)?,
+        theirs: owned(alloc, event)?,
         my_bytes: with_room(alloc, count)?,
         their_bytes: with_room(alloc, count)?,
     })

@@ -10,7 +10,7 @@ use std::alloc::{AllocError, Global};
 use ymx_model::{Bytes, Call, Direction, Entry, Event, Reply, Side, Step};
 
 /// A copy of a call.
-fn copy_of(alloc: Global, call: &Call) -> Result<Call, AllocError>
+fn copy_of(alloc: Global, call: &Call<Bytes>) -> Result<Call<Bytes>, AllocError>
     ensures { IfOk result (λ copy. copy ≡ call.now) }
 {
     Ok(match call {

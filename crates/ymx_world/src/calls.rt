@@ -14,7 +14,7 @@ use ymx_session::Session;
 pub(crate) fn make_call(
     alloc: Global,
     session: &mut Session,
-    call: &Call,
+    call: &Call<Bytes>,
 ) -> Result<Answer, AllocError>
     ensures called { IfOk result (λ given. IsCalled call.now given session.old session.new) }
     ensures same { OnErr result (session.new ≡ session.old) }

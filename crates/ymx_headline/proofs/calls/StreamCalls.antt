@@ -1,8 +1,8 @@
 -- A call on a stream is the machine's call, and a record that went is a release.
 use Rattle.std.proofs.Common.{◌≡◌, ℕ, List, [], ◌∷◌, Bool, true, false, not, ◌&&◌, ◌||◌, Option, None, Some, refl, sym, ap, subst, ◌∙◌, if◌then◌else◌, arith, inl, inr}
 use Rattle.ymx_model.specs.declared.types.Role.{Role}
-use Rattle.ymx_machine.specs.declared.types.Call.{Call}
-use Rattle.ymx_machine.specs.declared.types.Reply.{Reply}
+use Rattle.ymx_machine.specs.shared.Events.{Call}
+use Rattle.ymx_machine.specs.shared.Events.{Reply}
 use Rattle.ymx_machine.specs.declared.types.CallFault.TheVariants.{Closed}
 use Rattle.ymx_model.specs.declared.types.Event.TheVariants as event
 use Rattle.ymx_machine.specs.shared.Phases.{Phase, is_recorded, is_live, is_reset}

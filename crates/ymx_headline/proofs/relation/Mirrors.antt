@@ -4,8 +4,8 @@ use Rattle.std.specs.Prelude.{option_map}
 use Rattle.std.proofs.lemmas.Bool.Decides.{nat_tests}
 use Rattle.ymx_model.specs.declared.types.Role.{Role}
 use Rattle.ymx_model.specs.declared.types.Role.TheVariants.{Client, Server}
-use Rattle.ymx_machine.specs.declared.types.Call.{Call}
-use Rattle.ymx_machine.specs.declared.types.Reply.{Reply}
+use Rattle.ymx_machine.specs.shared.Events.{Call}
+use Rattle.ymx_machine.specs.shared.Events.{Reply}
 use Rattle.ymx_machine.specs.stream.Streams.{Stream, after_move}
 use Rattle.ymx_machine.specs.stream.Streams.Move.{SynOffered, SynRefused}
 use Rattle.ymx_model.specs.session.Sessions.{is_own}

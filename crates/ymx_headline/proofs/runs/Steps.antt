@@ -8,9 +8,9 @@ use Rattle.ymx_machine.specs.declared.types.Step.TheVariants as step
 use Rattle.ymx_machine.specs.declared.types.Answer.{Answer}
 use Rattle.ymx_machine.specs.stream.Streams.{Stream, flip}
 use Rattle.ymx_machine.specs.declared.types.Side.{Side}
-use Rattle.ymx_machine.specs.declared.types.Call.{Call}
+use Rattle.ymx_machine.specs.shared.Events.{Call}
 use Rattle.ymx_machine.specs.declared.types.Call.TheVariants as call
-use Rattle.ymx_machine.specs.declared.types.Reply.{Reply}
+use Rattle.ymx_machine.specs.shared.Events.{Reply}
 use Rattle.ymx_model.specs.session.Histories.{CallGives}
 use Rattle.ymx_machine.specs.stream.StreamRules.StreamCall.{Writes, Reads, Finishes, Resets, Forgets}
 use Rattle.ymx_model.specs.session.Sessions.{Session}

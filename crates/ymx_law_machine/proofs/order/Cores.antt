@@ -1,7 +1,7 @@
 -- What the laws see of a machine, and its offered lists.
 use Rattle.std.proofs.Common.{◌≡◌, ◌≢◌, ◌⊎◌, inl, inr, ℕ, List, [], ◌∷◌, ◌++◌, Bool, true, false, ◌||◌, if◌then◌else◌, map, Option, None, Some, refl, sym, ◌∙◌, ap, subst, arith}
-use Rattle.ymx_machine.specs.declared.types.Reply.{Reply}
-use Rattle.ymx_machine.specs.declared.types.Call.{Call}
+use Rattle.ymx_machine.specs.shared.Events.{Reply}
+use Rattle.ymx_machine.specs.shared.Events.{Call}
 use Rattle.ymx_machine.specs.stream.Lanes.{Mark}
 use Rattle.ymx_machine.specs.shared.Phases.{Phase, struck, is_offered}
 use Rattle.ymx_machine.specs.stream.Streams.{Stream, Move, Allowed, after_move, stream_accept}

@@ -1,7 +1,7 @@
 -- A stream's number is below its opener's next and of its kind, so no number comes again.
 use Rattle.std.proofs.Common.{◌≡◌, ◌≢◌, ◌⊎◌, inl, inr, ℕ, ◌+◌, ◌%◌, List, [], ◌∷◌, ◌++◌, Bool, true, false, not, ◌||◌, map, Option, None, Some, refl, sym, ◌∙◌, ap, subst, arith}
-use Rattle.ymx_machine.specs.declared.types.Reply.{Reply}
-use Rattle.ymx_machine.specs.declared.types.Call.{Call}
+use Rattle.ymx_machine.specs.shared.Events.{Reply}
+use Rattle.ymx_machine.specs.shared.Events.{Call}
 use Rattle.ymx_machine.specs.stream.Streams.{Stream, Move, after_move, stream_accept}
 use Rattle.ymx_machine.specs.stream.Streams.Move.{Arrive, EndArrives, Return, SynOffered, SynRefused, AckArrives, ResetArrives, Released}
 use Rattle.ymx_machine.specs.stream.StreamRules.{StreamCall, StreamRule, forgets_quietly}

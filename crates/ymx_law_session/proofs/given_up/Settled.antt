@@ -1,7 +1,7 @@
 -- Every event leaves no spent record.
 use Rattle.std.proofs.Common.{◌≡◌, ◌≢◌, ◌⊎◌, inl, inr, ℕ, List, [], ◌∷◌, ◌++◌, length, take, Bool, true, false, not, ◌&&◌, ◌==◌, nat_le, if◌then◌else◌, None, Some, refl, sym, ap, ◌∙◌, subst, arith}
-use Rattle.ymx_machine.specs.declared.types.Reply.{Reply}
-use Rattle.ymx_machine.specs.declared.types.Call.{Call}
+use Rattle.ymx_machine.specs.shared.Events.{Reply}
+use Rattle.ymx_machine.specs.shared.Events.{Call}
 use Rattle.ymx_machine.specs.declared.types.Call.TheVariants as call
 use Rattle.ymx_machine.specs.shared.Limits.{first_credit, most_pings}
 use Rattle.ymx_machine.specs.shared.Phases.{Phase, is_lingering}

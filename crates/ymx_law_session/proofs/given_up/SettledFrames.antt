@@ -9,11 +9,11 @@ use Rattle.ymx_model.specs.declared.types.Status.{Status}
 use Rattle.ymx_model.specs.declared.types.Status.TheVariants.{Running, Lost, Broken, Closed}
 use Rattle.ymx_model.specs.declared.types.Response.{Response}
 use Rattle.ymx_model.specs.declared.types.Response.TheVariants.{Pong, Reject}
-use Rattle.ymx_model.specs.declared.types.Event.{Event}
+use Rattle.ymx_model.specs.session.Events.{Event}
 use Rattle.ymx_model.specs.declared.types.Event.TheVariants as event
 use Rattle.ymx_model.specs.declared.types.Entry.{Entry}
-use Rattle.ymx_machine.specs.declared.types.Reply.{Reply}
-use Rattle.ymx_machine.specs.declared.types.Call.{Call}
+use Rattle.ymx_machine.specs.shared.Events.{Reply}
+use Rattle.ymx_machine.specs.shared.Events.{Call}
 use Rattle.ymx_model.specs.declared.types.Role.{Role}
 use Rattle.ymx_machine.specs.shared.Limits.{first_credit}
 use Rattle.ymx_machine.specs.shared.Phases.{Phase, is_offered, is_lingering, takes}

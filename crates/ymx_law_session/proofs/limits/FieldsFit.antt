@@ -6,14 +6,14 @@ use Rattle.std.proofs.lemmas.Bool.Decides.{nat_tests}
 use Rattle.std.proofs.lemmas.List.Elements.{All-nil, All-cons, All-head, All-tail, All-push, All-take}
 use Rattle.ymx_header.specs.declared.header.Header.{Header}
 use Rattle.ymx_header.specs.Headers.{header_of, has_syn, has_fin, has_rst}
-use Rattle.ymx_machine.specs.declared.types.Call.{Call}
+use Rattle.ymx_machine.specs.shared.Events.{Call}
 use Rattle.ymx_machine.specs.declared.types.Call.TheVariants as call
 use Rattle.ymx_model.specs.declared.types.Entry.{Entry}
-use Rattle.ymx_model.specs.declared.types.Event.{Event}
+use Rattle.ymx_model.specs.session.Events.{Event}
 use Rattle.ymx_model.specs.declared.types.Event.TheVariants as event
 use Rattle.ymx_model.specs.declared.types.PingStage.{PingStage}
 use Rattle.ymx_model.specs.declared.types.PingStage.TheVariants.{Asked, Sent, Back}
-use Rattle.ymx_machine.specs.declared.types.Reply.{Reply}
+use Rattle.ymx_machine.specs.shared.Events.{Reply}
 use Rattle.ymx_model.specs.declared.types.Response.{Response}
 use Rattle.ymx_model.specs.declared.types.Response.TheVariants.{Pong, Reject}
 use Rattle.ymx_model.specs.declared.types.Role.{Role}

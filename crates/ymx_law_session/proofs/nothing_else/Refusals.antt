@@ -2,9 +2,9 @@
 use Rattle.std.proofs.Common.{◌≡◌, ℕ, List, [], ◌∷◌, length, Bool, true, false, ◌==◌, nat_le, if◌then◌else◌, Option, None, Some, refl, sym, arith}
 use Rattle.std.specs.Prelude.{count_by}
 use Rattle.std.proofs.lemmas.Bool.Decides.{nat_tests}
-use Rattle.ymx_machine.specs.declared.types.Reply.{Reply}
+use Rattle.ymx_machine.specs.shared.Events.{Reply}
 use Rattle.ymx_machine.specs.declared.types.Reply.TheVariants.{Opened, OpenedWith, Accepted, Done, Pinged, Ponged, Refused, Wrote, Read, ReadEnd, ReadWait, Fed, Emitted}
-use Rattle.ymx_machine.specs.declared.types.Call.{Call}
+use Rattle.ymx_machine.specs.shared.Events.{Call}
 use Rattle.ymx_machine.specs.declared.types.Call.TheVariants as call
 use Rattle.ymx_machine.specs.shared.Replies.{bytes_moved, is_done}
 use Rattle.ymx_model.specs.session.Records.{End}

@@ -1,6 +1,6 @@
 -- The queue machine's rules of calls (this project's own, after the Go package's Session and Stream).
 use Rattle.std.specs.Prelude.{ℕ, ◌≡◌, if◌then◌else◌, ◌+◌, ◌∷◌, ◌++◌, ◌⊎◌, ◌%◌, ◌^◌, ◌&&◌, nat_le, Option, None, Some, List, [], zero, suc, is_some, length, Bool, true, false, take, min, not, MatchBool}
-use Rattle.ymx_machine.specs.declared.types.Reply.{Reply}
+use Rattle.ymx_machine.specs.shared.Events.{Reply}
 use Rattle.ymx_machine.specs.declared.types.Reply.TheVariants.{Refused, Accepted, Pinged, Ponged, Opened, OpenedWith, Done}
 use Rattle.ymx_machine.specs.declared.types.CallFault.{CallFault}
 use Rattle.ymx_machine.specs.machine.Machines.{Machine, unacknowledged, recorded, PingPlace, SideState}
@@ -12,7 +12,7 @@ use Rattle.ymx_machine.specs.stream.StreamRules.{StreamCall, StreamRule}
 use Rattle.ymx_machine.specs.shared.Lists.{change, look, without}
 use Rattle.ymx_machine.specs.machine.Machines.PingPlace.{Asked, Back}
 use Rattle.ymx_machine.specs.stream.Lanes.Mark.{Said}
-use Rattle.ymx_machine.specs.declared.types.Call.{Call}
+use Rattle.ymx_machine.specs.shared.Events.{Call}
 use Rattle.ymx_machine.specs.stream.StreamRules.StreamCall.{Writes, Reads, Finishes, Resets, Forgets}
 use Rattle.ymx_machine.specs.declared.types.Call.TheVariants as call
 

@@ -6,7 +6,7 @@ use Rattle.ymx_machine.specs.machine.Machines.{SideState, Machine, mirror_machin
 use Rattle.ymx_machine.specs.declared.types.Fed.{Fed}
 use Rattle.ymx_machine.specs.declared.types.Step.{Step}
 use Rattle.ymx_machine.specs.declared.types.Answer.{Answer}
-use Rattle.ymx_machine.specs.declared.types.Reply.{Reply}
+use Rattle.ymx_machine.specs.shared.Events.{Reply}
 use Rattle.ymx_machine.specs.shared.Steps.{answer_of, is_of_a, is_same_side}
 use Rattle.ymx_machine.specs.machine.CallRules.{Rule}
 use Rattle.ymx_machine.specs.machine.FreeMoves.{FreeMove, FreeMoves, Releases}

@@ -1,8 +1,8 @@
 -- What a call on a stream answers, by the state of its end (this project's own, after the Go package's Stream).
 use Rattle.std.specs.Prelude.{ℕ, ◌&&◌, if◌then◌else◌, ◌==◌, ◌||◌, Bool, not, List, length, min, true, [], take, false}
 use Rattle.ymx_machine.specs.shared.Phases.{Phase, is_live, is_reset}
-use Rattle.ymx_machine.specs.declared.types.Reply.{Reply}
-use Rattle.ymx_machine.specs.declared.types.Reply.TheVariants.{Refused, Wrote as WroteReply, Read as ReadReply, ReadEnd, ReadWait, Done}
+use Rattle.ymx_machine.specs.shared.Events.{Reply}
+use Rattle.ymx_machine.specs.declared.types.Reply.TheVariants.{Refused, Wrote as WroteReply, Read as ReadReply, ReadEnd, ReadWait, Done, Emitted}
 use Rattle.ymx_machine.specs.declared.types.CallFault.TheVariants.{NoStream, Finished, Reset, Lost}
 use Rattle.ymx_machine.specs.declared.types.Wrote.TheVariants.{Took, Wait}
 
@@ -50,6 +50,12 @@ abbrev pub bytes_moved : Reply → ℕ
 bytes_moved (WroteReply (Took n)) = n
 bytes_moved (ReadReply bytes) = length bytes
 bytes_moved _ = 0
+
+-- how many bytes stand in a reply
+abbrev pub bytes_told : Reply → ℕ
+bytes_told (ReadReply bytes) = length bytes
+bytes_told (Emitted bytes) = length bytes
+bytes_told _ = 0
 
 abbrev pub is_done : Reply → Bool
 is_done Done = true

@@ -1,7 +1,7 @@
 -- The steps of two sides joined by pipes, and what they answer (this project's own).
 use Rattle.std.specs.Prelude.{length, Bool, true, false}
 use Rattle.ymx_machine.specs.declared.types.Answer.{Answer}
-use Rattle.ymx_machine.specs.declared.types.Reply.{Reply}
+use Rattle.ymx_machine.specs.shared.Events.{Reply}
 use Rattle.ymx_machine.specs.declared.types.Side.TheVariants.{A, B}
 use Rattle.ymx_machine.specs.declared.types.Direction.TheVariants.{AB, BA}
 use Rattle.ymx_machine.specs.declared.types.Step.{Step}

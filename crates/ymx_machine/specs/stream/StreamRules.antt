@@ -4,7 +4,7 @@ use Rattle.ymx_machine.specs.stream.Lanes.{Mark, is_unsaid, is_here}
 use Rattle.ymx_machine.specs.shared.Phases.{Phase, is_reset}
 use Rattle.ymx_machine.specs.stream.Streams.{Stream, TakesBack, stream_reset, stream_write, stream_read, stream_finish, stream_forget}
 use Rattle.ymx_machine.specs.shared.Phases.Phase.{WasReset, Lingering}
-use Rattle.ymx_machine.specs.declared.types.Reply.{Reply}
+use Rattle.ymx_machine.specs.shared.Events.{Reply}
 use Rattle.ymx_machine.specs.declared.types.Reply.TheVariants.{Refused}
 use Rattle.ymx_machine.specs.declared.types.CallFault.TheVariants.{OutOfMemory}
 use Rattle.ymx_machine.specs.shared.Replies.{forget_reply, reset_reply, is_done, bytes_moved, finish_reply, write_reply, read_reply}

@@ -1,6 +1,6 @@
 -- Each call as a function of what the session remembers (this project's own, after the Go package).
 use Rattle.std.specs.Prelude.{ℕ, ◌&&◌, if◌then◌else◌, ◌+◌, ◌∷◌, ◌==◌, Bool, not, length, nat_le, count_by, List, true, [], false, take, min, None, Some, Option, nat_lt}
-use Rattle.ymx_machine.specs.declared.types.Reply.{Reply}
+use Rattle.ymx_machine.specs.shared.Events.{Reply}
 use Rattle.ymx_model.specs.session.Sessions.{Session, is_own, is_lost, is_closed, on_stream, settle, nothing_outgoing}
 use Rattle.ymx_machine.specs.shared.Limits.{most_unacknowledged, most_records, first_credit, most_pings, first_exhausted}
 use Rattle.ymx_machine.specs.declared.types.Reply.TheVariants.{Refused, Opened, OpenedWith, Accepted, Pinged, Ponged, Done}
@@ -17,7 +17,7 @@ use Rattle.ymx_model.specs.session.Pings.{next_number, ask, has_back, collect}
 use Rattle.ymx_model.specs.session.GoAway.{say_away}
 use Rattle.ymx_model.specs.declared.types.Status.TheVariants.{Closed as ClosedStatus, Running, Lost as LostStatus, Broken}
 use Rattle.ymx_model.specs.declared.types.Status.{Status}
-use Rattle.ymx_machine.specs.declared.types.Call.{Call}
+use Rattle.ymx_machine.specs.shared.Events.{Call}
 use Rattle.ymx_machine.specs.declared.types.Call.TheVariants as call
 
 -- what a call answers, and the session after it

@@ -1,12 +1,12 @@
 -- All events of a session under one relation, and a history of them (this project's own).
 use Rattle.std.specs.Prelude.{ℕ, ◌≡◌, ◌+◌, ◌∷◌, true, List, Bool, []}
-use Rattle.ymx_machine.specs.declared.types.Reply.{Reply}
+use Rattle.ymx_machine.specs.shared.Events.{Reply}
 use Rattle.ymx_machine.specs.declared.types.Reply.TheVariants.{Refused, Fed as FedReply, Emitted, Done}
 use Rattle.ymx_machine.specs.declared.types.CallFault.TheVariants.{OutOfMemory}
-use Rattle.ymx_machine.specs.declared.types.Call.{Call}
+use Rattle.ymx_machine.specs.shared.Events.{Call}
 use Rattle.ymx_model.specs.session.Sessions.{Session}
 use Rattle.ymx_model.specs.session.Calls.{outcome, takes_memory, feed_end}
-use Rattle.ymx_model.specs.declared.types.Event.{Event}
+use Rattle.ymx_model.specs.session.Events.{Event}
 use Rattle.ymx_machine.specs.declared.types.Fed.{Fed}
 use Rattle.ymx_model.specs.session.Feeds.{Feeds}
 use Rattle.ymx_model.specs.session.Emissions.{Choice, Emits}

@@ -15,29 +15,29 @@ use Rattle.ymx_booked.proofs.booked.Booked.accept.Goals as goal
 pub add-requires-clause-history : goal.add-requires-clause-history
 add-requires-clause-history g c = λ κs free.
     witnessed_by g.R.Recorder.WITNESSED g.R.Naming.role g.R.Naming.config c.self.inside.role c.self.inside.config c.self.inside.log.journal _ c.self.inside.session _ c.self.inside.given _ _ to_accept _ (accepted_or c.accept-accepted.result)
-    c.prepare.ensures.journal refl c.tell_of_accept.ensures.told c.self.invariant.4 c.accept-accepted.ensures.event
+    c.prepare.ensures.journal refl c.accepted.ensures.reply c.self.invariant.4 c.accept-accepted.ensures.event
 
 pub hand_out-first-requires-clause-history : goal.hand_out-first-requires-clause-history
 hand_out-first-requires-clause-history g c = λ κs free.
-    subst (λ j. IsWitnessed g.R.Recorder.WITNESSED g.R.Naming.role g.R.Naming.config (whole_of j)) (sym (journal_at _ c.args.seat.now.number _ to_accept _ (accepted_or c.accept-accepted.result) _ c.self.inside.log.journal _ c.add.ensures.journal c.prepare.ensures.number refl c.tell_of_accept.ensures.told c.prepare.ensures.journal))
+    subst (λ j. IsWitnessed g.R.Recorder.WITNESSED g.R.Naming.role g.R.Naming.config (whole_of j)) (sym (journal_at _ c.args.seat.now.number _ to_accept _ (accepted_or c.accept-accepted.result) _ c.self.inside.log.journal _ c.add.ensures.journal c.prepare.ensures.number refl c.accepted.ensures.reply c.prepare.ensures.journal))
     (witnessed_after g.R.Recorder.WITNESSED g.R.Naming.role g.R.Naming.config c.self.inside.role c.self.inside.config c.self.inside.log.journal c.self.inside.session _ c.self.inside.given c.args.seat.now.number to_accept (accepted_or c.accept-accepted.result) c.self.invariant.4 c.accept-accepted.ensures.event)
 
 pub invariant_of-self-2 : goal.invariant_of-self-2
 invariant_of-self-2 g c = (
-  subst (λ es. Kept g.R.Recorder.KEEPS c.self.inside.ended c.self.inside.role c.self.inside.config es c.accept-accepted.new.self) (sym (ap (λ l. l.entries) c.hand_out-first.ensures.log ∙ (after_at g.R.Recorder.KEEPS _ c.args.seat.now.number _ to_accept _ (accepted_or c.accept-accepted.result) _ c.self.inside.log.entries _ c.add.ensures.entries c.prepare.ensures.number refl c.tell_of_accept.ensures.told c.prepare.ensures.entries)))
+  subst (λ es. Kept g.R.Recorder.KEEPS c.self.inside.ended c.self.inside.role c.self.inside.config es c.accept-accepted.new.self) (sym (ap (λ l. l.entries) c.hand_out-first.ensures.log ∙ (after_at g.R.Recorder.KEEPS _ c.args.seat.now.number _ to_accept _ (accepted_or c.accept-accepted.result) _ c.self.inside.log.entries _ c.add.ensures.entries c.prepare.ensures.number refl c.accepted.ensures.reply c.prepare.ensures.entries)))
       (kept_after g.R.Recorder.KEEPS c.self.inside.ended c.self.inside.role c.self.inside.config c.self.inside.log.entries c.self.inside.session c.accept-accepted.new.self c.args.seat.now.number to_accept (accepted_or c.accept-accepted.result) c.self.invariant.0 c.accept-accepted.ensures.event),
   search rules,
   search rules,
   search rules,
   subst (λ (n : ℕ). IsJournaled g.R.Recorder.WITNESSED g.R.Naming.role g.R.Naming.config c.self.inside.role c.self.inside.config c.hand_out-first.new.log.journal c.accept-accepted.new.self n) (sym c.hand_out-first.ensures.counted.0)
-      (subst (λ (j : Option JournalView). IsJournaled g.R.Recorder.WITNESSED g.R.Naming.role g.R.Naming.config c.self.inside.role c.self.inside.config j c.accept-accepted.new.self (c.self.inside.given + 2)) (sym (ap (λ l. l.journal) c.hand_out-first.ensures.log ∙ ap (λ j. with_caller (with_caller j)) (journal_at _ c.args.seat.now.number _ to_accept _ (accepted_or c.accept-accepted.result) _ c.self.inside.log.journal _ c.add.ensures.journal c.prepare.ensures.number refl c.tell_of_accept.ensures.told c.prepare.ensures.journal)))
+      (subst (λ (j : Option JournalView). IsJournaled g.R.Recorder.WITNESSED g.R.Naming.role g.R.Naming.config c.self.inside.role c.self.inside.config j c.accept-accepted.new.self (c.self.inside.given + 2)) (sym (ap (λ l. l.journal) c.hand_out-first.ensures.log ∙ ap (λ j. with_caller (with_caller j)) (journal_at _ c.args.seat.now.number _ to_accept _ (accepted_or c.accept-accepted.result) _ c.self.inside.log.journal _ c.add.ensures.journal c.prepare.ensures.number refl c.accepted.ensures.reply c.prepare.ensures.journal)))
       (journaled_seats g.R.Recorder.WITNESSED g.R.Naming.role g.R.Naming.config c.self.inside.role c.self.inside.config _ c.accept-accepted.new.self c.self.inside.given (journaled_after g.R.Recorder.WITNESSED g.R.Naming.role g.R.Naming.config c.self.inside.role c.self.inside.config c.self.inside.log.journal c.self.inside.session c.accept-accepted.new.self c.self.inside.given c.args.seat.now.number to_accept (accepted_or c.accept-accepted.result) c.self.invariant.4 c.accept-accepted.ensures.event))),
 )
 
 pub returns-clause-booked : goal.returns-clause-booked
 returns-clause-booked g c =
     let is = ap accepted_or (c.in-Ok-accepted.is ∙ ap Ok c.in-Some.is) in
-    let told = c.tell_of_accept.ensures.told ∙ is in
+    let told = c.accepted.ensures.reply ∙ is in
     given_one g.R.Recorder.KEEPS c.args.seat.now c.add.new.seat c.hand_out-first.result.0 c.hand_out-first.result.1 to_accept (reply.Accepted (Some c.in-Some.id)) (length c.prepare.new.self.entries) c.self.inside.log.journal (AcceptsOnce c.args.seat.now.number (Ok (Some (c.in-Some.id, c.hand_out-first.result.0, c.hand_out-first.result.1)))) (λ es x. x)
     (c.add.ensures.number ∙ c.prepare.ensures.number)
     (c.add.ensures.start ∙ c.prepare.ensures.start)
@@ -56,21 +56,21 @@ returns-in-Err-accepted-clause-booked g c =
     refused_one g.R.Recorder.KEEPS c.args.seat.now c.add.new.seat to_accept c.in-Err-accepted.fault c.hub_fault.result (length c.prepare.new.self.entries) c.self.inside.log.journal (AcceptsOnce c.args.seat.now.number (Err c.hub_fault.result)) (λ es x. x) c.hub_fault.ensures
     (c.add.ensures.number ∙ c.prepare.ensures.number)
     (c.add.ensures.start ∙ c.prepare.ensures.start)
-    (entries_at g.R.Recorder.KEEPS _ _ _ _ to_accept _ (reply.Refused c.in-Err-accepted.fault) _ _ _ c.add.ensures.seat_entries c.prepare.ensures.number refl (c.tell_of_accept.ensures.told ∙ ap accepted_or c.in-Err-accepted.is) c.prepare.ensures.seat_entries)
-    (c.add.ensures.seen ∙ ap whole_of (journal_at _ c.args.seat.now.number _ to_accept _ (reply.Refused c.in-Err-accepted.fault) _ c.self.inside.log.journal _ c.add.ensures.journal c.prepare.ensures.number refl (c.tell_of_accept.ensures.told ∙ ap accepted_or c.in-Err-accepted.is) c.prepare.ensures.journal))
+    (entries_at g.R.Recorder.KEEPS _ _ _ _ to_accept _ (reply.Refused c.in-Err-accepted.fault) _ _ _ c.add.ensures.seat_entries c.prepare.ensures.number refl (c.accepted.ensures.reply ∙ ap accepted_or c.in-Err-accepted.is) c.prepare.ensures.seat_entries)
+    (c.add.ensures.seen ∙ ap whole_of (journal_at _ c.args.seat.now.number _ to_accept _ (reply.Refused c.in-Err-accepted.fault) _ c.self.inside.log.journal _ c.add.ensures.journal c.prepare.ensures.number refl (c.accepted.ensures.reply ∙ ap accepted_or c.in-Err-accepted.is) c.prepare.ensures.journal))
     (behind_at _ _ _ _ _ _ c.prepare.ensures.number c.prepare.ensures.seen c.prepare.ensures.journal c.add.ensures.behind)
 
 pub returns-in-Err-accepted-clause-steps : goal.returns-in-Err-accepted-clause-steps
 returns-in-Err-accepted-clause-steps g c =
     refused g.R.Recorder.KEEPS c.args.seat.now.number to_accept c.in-Err-accepted.fault c.hub_fault.result _ _ c.hub_fault.ensures
     (steps_of g.R.Recorder.KEEPS to_accept (reply.Refused c.in-Err-accepted.fault) c.args.seat.now.number c.args.self.now _ _ c.self.inside.session _ c.self.inside.log.entries _ c.self.inside.log.journal _ _ _ _ _ (cc) (rw c.in-Err-accepted.is at c.accept-accepted.ensures.event)
-    (after_at g.R.Recorder.KEEPS _ c.args.seat.now.number _ to_accept _ (reply.Refused c.in-Err-accepted.fault) _ c.self.inside.log.entries _ c.add.ensures.entries c.prepare.ensures.number refl (c.tell_of_accept.ensures.told ∙ ap accepted_or c.in-Err-accepted.is) c.prepare.ensures.entries)
-    (journal_at _ c.args.seat.now.number _ to_accept _ (reply.Refused c.in-Err-accepted.fault) _ c.self.inside.log.journal _ c.add.ensures.journal c.prepare.ensures.number refl (c.tell_of_accept.ensures.told ∙ ap accepted_or c.in-Err-accepted.is) c.prepare.ensures.journal))
+    (after_at g.R.Recorder.KEEPS _ c.args.seat.now.number _ to_accept _ (reply.Refused c.in-Err-accepted.fault) _ c.self.inside.log.entries _ c.add.ensures.entries c.prepare.ensures.number refl (c.accepted.ensures.reply ∙ ap accepted_or c.in-Err-accepted.is) c.prepare.ensures.entries)
+    (journal_at _ c.args.seat.now.number _ to_accept _ (reply.Refused c.in-Err-accepted.fault) _ c.self.inside.log.journal _ c.add.ensures.journal c.prepare.ensures.number refl (c.accepted.ensures.reply ∙ ap accepted_or c.in-Err-accepted.is) c.prepare.ensures.journal))
 
 pub returns-in_default-offer-clause-booked : goal.returns-in_default-offer-clause-booked
 returns-in_default-offer-clause-booked g c =
     let is = ap accepted_or (c.in-Ok-accepted.is ∙ ap Ok c.in_default-offer.is) in
-    let told = c.tell_of_accept.ensures.told ∙ is in
+    let told = c.accepted.ensures.reply ∙ is in
     books_one g.R.Recorder.KEEPS c.args.seat.now c.add.new.seat to_accept (reply.Accepted None) (length c.prepare.new.self.entries) c.self.inside.log.journal (AcceptsOnce c.args.seat.now.number (Ok None))
     (c.add.ensures.number ∙ c.prepare.ensures.number)
     (c.add.ensures.start ∙ c.prepare.ensures.start)

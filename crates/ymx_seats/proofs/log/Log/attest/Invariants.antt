@@ -1,7 +1,6 @@
 use Rattle.std.proofs.Common.{length}
-use Rattle.ymx_seats.specs.Slips.{asked_by, told_by}
 use Rattle.ymx_seats.specs.Views.{entry}
 use Rattle.ymx_seats.proofs.log.Log.attest.Given as goal
 
 abbrev pub ghosts-note : goal.ghosts-note
-ghosts-note g a = record { entry = entry (length a.journal.now.whole) a.witness.now.number (asked_by a.ask) (told_by a.tell) }
+ghosts-note g a = record { entry = entry (length a.journal.now.whole) a.witness.now.number a.event.now a.reply.now }
