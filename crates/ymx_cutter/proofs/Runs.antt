@@ -94,7 +94,7 @@ Gathers-fault limit text g fault r =
 -- ---- where a fault stands
 
 -- it stands there whatever follows
-FaultStands-more : (limit : ℕ) (text more : List ℕ) (offset : ℕ) (fault : Fault) → FaultStands limit text offset fault → FaultStands limit (text ++ more) offset fault
+abbrev pub FaultStands-more : (limit : ℕ) (text more : List ℕ) (offset : ℕ) (fault : Fault) → FaultStands limit text offset fault → FaultStands limit (text ++ more) offset fault
 FaultStands-more limit text more offset fault s =
     record {
       before = s.before;

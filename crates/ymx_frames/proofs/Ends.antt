@@ -6,7 +6,7 @@ use Rattle.ymx_frames.proofs.Pushed.{whole_end}
 use Rattle.std.proofs.lemmas.Bool.Decides.{nat_tests}
 use Rattle.std.specs.Io.{StartsWith}
 use Rattle.std.specs.Result.{result_unwrap_or}
-use Rattle.ymx_header.specs.Headers.{spelling, header_of}
+use Rattle.ymx_header.specs.Headers.{header_of}
 use Rattle.ymx_header.specs.declared.header.Header.{Header}
 use Rattle.ymx_header.specs.declared.fault.Fault.{Fault}
 use Rattle.ymx_header.specs.Faults.{fault_number}
@@ -14,11 +14,11 @@ use Rattle.ymx_cutter.specs.declared.item.Item.{Item}
 use Rattle.ymx_cutter.specs.declared.item.Item.TheVariants as item
 use Rattle.ymx_header.specs.Frames.{payload_length, fault_of}
 use Rattle.ymx_cutter.specs.Frames.{joined}
-use Rattle.ymx_cutter.specs.Cuts.{Cuts, FaultStands}
+use Rattle.ymx_cutter.specs.Cuts.{Cuts}
 use Rattle.ymx_cutter.specs.Cutters.{Seen, Cut, Gathers, begun_of, next_of, item_of, seen_after, payload_seen}
 use Rattle.ymx_cutter.specs.Cutters.Seen.{InHeader, Payload, Broken}
 use Rattle.ymx_cutter.proofs.Only.{one_cut, Cuts-fault}
-use Rattle.ymx_cutter.proofs.Runs.{Gathers-cuts, length-begun, Gathers-fault, reads_the_fault}
+use Rattle.ymx_cutter.proofs.Runs.{Gathers-cuts, length-begun, Gathers-fault, reads_the_fault, FaultStands-more}
 use Rattle.ymx_frames.specs.declared.printer.Printer.{Printer}
 use Rattle.ymx_frames.specs.declared.print.FramesEnd.{FramesEnd}
 use Rattle.ymx_frames.specs.declared.print.FramesEnd.TheVariants.{Good, Fault as Faulty, Rest, Reading, Writing, Memory}
@@ -103,20 +103,6 @@ prints_rest limit text done old new p count pr none is_begun some e =
 
 -- ---- a fault
 
--- a fault that stands in a text stands in it however it goes on
-abbrev stands_on : (limit : ℕ) (text more : List ℕ) (offset : ℕ) (fault : Fault) → FaultStands limit text offset fault → FaultStands limit (text ++ more) offset fault
-stands_on limit text more offset fault s = record {
-  before = s.before;
-  header = s.header;
-  more = s.more ++ more;
-  each = s.each;
-  fills = s.fills;
-  in_range = s.in_range;
-  has_fault = s.has_fault;
-  whole = ap (λ (l : List ℕ). l ++ more) s.whole ∙ append_assoc (joined s.before) (spelling s.header ++ s.more) more
-      ∙ ap (λ (l : List ℕ). joined s.before ++ l) (append_assoc (spelling s.header) s.more more);
-}
-
 place_again : (place n most : ℕ) → place ≡ min n most → min place most ≡ min n most
 place_again place n most e = omega arith
 
@@ -133,7 +119,7 @@ prints_fault limit text more done old new p fault pr broken e =
     let place = fault_text fault _ _ (place_again p.offset (length (joined g.frames)) (2 ^ 64 - 1) pr.placed) in (
       length (joined g.frames),
       fault,
-      stands_on limit text more _ fault s,
+      FaultStands-more limit text more _ fault s,
       ap (λ (l : List ℕ). done ++ l) e ∙ sym (append_assoc done old (fault_line fault p.offset)) ∙ ap (λ (l : List ℕ). l ++ fault_line fault p.offset) (pr.printed ∙ ap lines before)
           ∙ ap (λ (l : List ℕ). lines s.before ++ l) place,
     )

@@ -76,7 +76,7 @@ run_begins limit was had read written p (none, pr) = record {
   writer = refl;
 }
 
-starts_front : (xs ys : List ℕ) → StartsWith (xs ++ ys) xs
+pub starts_front : (xs ys : List ℕ) → StartsWith (xs ++ ys) xs
 starts_front xs ys = take-append_seam xs ys
 
 -- a read failed
@@ -91,7 +91,7 @@ read_fails limit was is had has after read reads written writes p h kept = (
 )
 
 -- a read that gave no bytes was the last
-last_read : (count : ℕ) (buffer : List ℕ) (P : Type 0) → count ≤ length buffer → 0 < length buffer → (count ≡ 0 → 0 < length buffer → P) → take count buffer ≡ [] → P
+pub last_read : (count : ℕ) (buffer : List ℕ) (P : Type 0) → count ≤ length buffer → 0 < length buffer → (count ≡ 0 → 0 < length buffer → P) → take count buffer ≡ [] → P
 last_read count buffer P fits some f e =
     let n : count ≡ 0 = sym (length-take-le count buffer fits) ∙ ap length e in
     f n some

@@ -2,6 +2,7 @@
 -- both sides, and what of it follows: records counted, stillness.
 pub mod Begins
 pub mod Mirrors
+pub mod Sides
 pub mod Tables
 pub mod Texts
 pub mod Counts

@@ -1,5 +1,5 @@
 -- Each step of a journal keeps its rule.
-use Rattle.std.proofs.Common.{◌≡◌, ◌≢◌, ℕ, zero, suc, ◌+◌, ◌==◌, List, [], ◌∷◌, ◌++◌, length, set, Bool, true, false, true≢false, if◌then◌else◌, refl, sym, ap, ◌∙◌, subst, ⊎_elim, arith, append_assoc, append-nil}
+use Rattle.std.proofs.Common.{◌≡◌, ◌≢◌, ℕ, zero, suc, ◌+◌, ◌<◌, ◌==◌, List, [], ◌∷◌, ◌++◌, length, set, Bool, true, false, true≢false, if◌then◌else◌, refl, sym, ap, ◌∙◌, subst, ⊎_elim, arith, append_assoc, append-nil}
 use Rattle.std.proofs.lemmas.Bool.Decides.{nat_tests}
 use mathlib.Core.Option.{some, some-ne-none, some-injective}
 use mathlib.Core.List.{IsPrefix}
@@ -70,12 +70,15 @@ begins = record { keeper = 0; owner = λ _. 0; made = 0; log = []; fits = one; u
 abbrev with_caller : List Entry → ℕ → ℕ → List Entry → Knowledge
 with_caller whole made number seen = visited (knower whole made) (caller number seen)
 
+-- what both of them know is so
+both_stand : (views : List Knowledge) (id : ℕ) (whole : List Entry) (made number : ℕ) (seen : List Entry) → (h : IsKept views) → get_elem? views id ≡ some (with_caller whole made number seen)
+    → ((id ≡ h.keeper) × (whole ≡ h.log) × (made ≡ h.made)) × ((h.owner number ≡ id) × (number < h.made) × IsPrefix seen h.log × (part number h.log ≡ part number seen))
+both_stand views id whole made number seen h at = let mine = h.fits id (with_caller whole made number seen) at in (mine.keeps refl, mine.speaks refl)
+
 adds_to : (views : List Knowledge) (id : ℕ) (e : Entry) (whole : List Entry) (made number : ℕ) (seen : List Entry) → e.seat ≡ number → IsKept views → get_elem? views id ≡ some (with_caller whole made number seen)
     → IsKept (set views id (shown (whole ++ e ∷ []) (with_caller whole made number seen)))
 adds_to views id e whole made number seen by h at =
-    let mine = h.fits id (with_caller whole made number seen) at in
-    let k = mine.keeps refl in
-    let s = mine.speaks refl in record {
+    let (k, s) = both_stand views id whole made number seen h at in record {
       keeper = h.keeper;
       owner = h.owner;
       made = h.made;
@@ -105,17 +108,13 @@ adds_to views id e whole made number seen by h at =
 
 behind : (views : List Knowledge) (id : ℕ) (whole : List Entry) (made number : ℕ) (seen : List Entry) → IsKept views → get_elem? views id ≡ some (with_caller whole made number seen) → IsBehind (with_caller whole made number seen)
 behind views id whole made number seen h at =
-    let mine = h.fits id (with_caller whole made number seen) at in
-    let k = mine.keeps refl in
-    let s = mine.speaks refl in
+    let (k, s) = both_stand views id whole made number seen h at in
     (subst (λ es. IsPrefix seen es) (sym k.1) s.2, ap (λ es. part number es) k.1 ∙ s.3)
 
 shows_to : (views : List Knowledge) (id : ℕ) (whole : List Entry) (made number : ℕ) (seen : List Entry) → IsKept views → get_elem? views id ≡ some (with_caller whole made number seen)
     → IsKept (set views id (shown whole (with_caller whole made number seen)))
 shows_to views id whole made number seen h at =
-    let mine = h.fits id (with_caller whole made number seen) at in
-    let k = mine.keeps refl in
-    let s = mine.speaks refl in record {
+    let (k, s) = both_stand views id whole made number seen h at in record {
       keeper = h.keeper;
       owner = h.owner;
       made = h.made;
@@ -172,9 +171,7 @@ joins_in views id other whole made number seen h at apart there =
 splits_off : (views : List Knowledge) (id : ℕ) (whole : List Entry) (made number : ℕ) (seen : List Entry) → IsKept views → get_elem? views id ≡ some (with_caller whole made number seen)
     → IsKept (set views id (knower whole made) ++ caller number seen ∷ [])
 splits_off views id whole made number seen h at =
-    let mine = h.fits id (with_caller whole made number seen) at in
-    let k = mine.keeps refl in
-    let s = mine.speaks refl in
+    let (k, s) = both_stand views id whole made number seen h at in
     let left = set views id (knower whole made) in
     let owner = passed h.owner number (length left) in record {
       keeper = h.keeper;

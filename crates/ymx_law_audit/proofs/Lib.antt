@@ -2,3 +2,4 @@ pub mod Over
 pub mod Events
 pub mod Orders
 pub mod OneRun
+pub mod Worked

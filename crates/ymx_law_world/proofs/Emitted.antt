@@ -42,7 +42,7 @@ record Begins (s t : Session) : Type 0 where
 data-one : (flags id : ℕ) (limit : ℕ) (unsent : List ℕ) → limit ≤ first_credit → IsOneFrame (frame 0 flags id (length (take limit unsent)) (take limit unsent))
 data-one flags id limit unsent few = data-frame flags id (take limit unsent) (grind (arith, common_steps))
 
-spelled-one : (kind : FrameKind) (window limit id : ℕ) (e : End) → limit ≤ first_credit → IsOneFrame (spelled kind window limit id e)
+pub spelled-one : (kind : FrameKind) (window limit id : ℕ) (e : End) → limit ≤ first_credit → IsOneFrame (spelled kind window limit id e)
 spelled-one Open window limit id e few = short-frame 1 1 id (window - first_credit) (omega arith) (omega arith)
 spelled-one OpenWith window limit id e few = data-one 1 id limit e.writer.unsent few
 spelled-one Accept window limit id e few = short-frame 1 2 id (window - first_credit) (omega arith) (omega arith)

@@ -43,6 +43,11 @@ no_bytes_of : (xs : List ℕ) → has_bytes xs ≡ false → xs ≡ []
 no_bytes_of [] h = refl
 no_bytes_of (x ∷ xs) h = cc
 
+-- what a device has told, over two runs of events
+told_then : (a b c : Option Bool) (first second both : Bool) → b ≡ option_map (λ t. t || first) a → c ≡ option_map (λ t. t || second) b → both ≡ (first || second) → c ≡ option_map (λ t. t || both) a
+told_then a b c first second both p q e =
+    q ∙ ap (option_map (λ t. t || second)) p ∙ or_twice first second a ∙ ap (λ (v : Bool). option_map (λ t. t || v) a) (sym e)
+
 pub moves_then : (id : ℕ) (es fs : List (Event × Reply)) (a b c : Seen) → Moves id es a b → Moves id fs b c → Moves id (es ++ fs) a c
 moves_then id es fs a b c x y = record {
   came = x.came ++ y.came;
@@ -55,12 +60,10 @@ moves_then id es fs a b c x y = record {
     | inl first ↦ whole_before a.left b.left c.left _ _ x.gave y.gave (x.whole first)
     | inr second ↦ whole_after a.left b.left _ _ x.gave (y.whole second)
   ];
-  over = y.over ∙ ap (option_map (λ b. b || has_finish id fs)) x.over ∙ or_twice (has_finish id es) (has_finish id fs) a.over
-      ∙ ap (λ (v : Bool). option_map (λ b. b || v) a.over) (sym (finish_then id es fs));
-  ended = y.ended ∙ ap (option_map (λ b. b || has_end id fs)) x.ended ∙ or_twice (has_end id es) (has_end id fs) a.ended
-      ∙ ap (λ (v : Bool). option_map (λ b. b || v) a.ended) (sym (end_then id es fs));
+  over = told_then a.over b.over c.over (has_finish id es) (has_finish id fs) (has_finish id (es ++ fs)) x.over y.over (finish_then id es fs);
+  ended = told_then a.ended b.ended c.ended (has_end id es) (has_end id fs) (has_end id (es ++ fs)) x.ended y.ended (end_then id es fs);
   fails = x.fails || y.fails;
-  failed = y.failed ∙ ap (option_map (λ b. b || y.fails)) x.failed ∙ or_twice x.fails y.fails a.failed;
+  failed = told_then a.failed b.failed c.failed x.fails y.fails (x.fails || y.fails) x.failed y.failed refl;
   reset = reset_then id es fs ∙ ap (λ (v : Bool). v || has_reset id fs) x.reset ∙ ap (λ (v : Bool). (x.fails || x.loses) || v) y.reset ∙ or_crossed x.fails x.loses y.fails y.loses;
 }
 

@@ -1,11 +1,10 @@
 -- Reading, playing and writing, piece by piece.
-use Rattle.std.proofs.Common.{◌≡◌, ℕ, ◌<◌, ◌≤◌, List, [], ◌∷◌, ◌++◌, length, take, Option, None, Some, IfSome, IsTrue, Result, Ok, Err, OnOk, OnErr, is_err, Bool, true, false, arith, refl, sym, ◌∙◌, ap, subst, append-nil, inl, inr}
+use Rattle.std.proofs.Common.{◌≡◌, ℕ, ◌<◌, ◌≤◌, List, [], ◌∷◌, ◌++◌, length, take, Option, None, Some, IfSome, IsTrue, false, arith, refl, sym, ◌∙◌, ap, subst, append-nil, inl, inr}
 use Rattle.std.proofs.lemmas.Grind.{common_steps}
-use Rattle.std.proofs.lemmas.List.{length-take-le}
-use Rattle.std.proofs.Math.Seq.{take-append_seam}
 use Rattle.std.specs.Io.{StartsWith}
 use Rattle.std.specs.Io.KnownBytes.{Appends, Consumes, Keeps, IsAtEnd}
 use Rattle.std.proofs.KnownBytes.{Appends-nil, Appends-trans, Consumes-nil, Consumes-trans, Consumes-kept}
+use Rattle.ymx_frames.proofs.Rounds.{starts_front, last_read}
 use Rattle.ymx_script.specs.declared.lines.Lines.{Lines}
 use Rattle.ymx_script.specs.declared.lines.ScriptEnd.{ScriptEnd}
 use Rattle.ymx_script.specs.declared.lines.ScriptEnd.TheVariants.{Good, Line, Reading, Writing, Memory}
@@ -119,9 +118,6 @@ run_begins was had read written l r = record {
 pub run_part : (was is had has : Option (List ℕ)) (read reads written writes : ℕ) (l : Lines) → RoundsHavePlayed was is had has read reads written writes l → IsTextPart l.part.items
 run_part was is had has read reads written writes l h = record { one = h.reading.played.one; short = h.reading.played.short }
 
-starts_front : (xs ys : List ℕ) → StartsWith (xs ++ ys) xs
-starts_front xs ys = take-append_seam xs ys
-
 -- a read failed
 pub read_fails : (was is had has after : Option (List ℕ)) (read reads written writes : ℕ) (l : Lines) (ended : Type 0) → RoundsHavePlayed was is had has read reads written writes l → Keeps is after →
     (text : List ℕ) × (output : List ℕ) × Consumes was after text × Appends had has output × PrintsBeginning text ended output
@@ -132,12 +128,6 @@ read_fails was is had has after read reads written writes l ended h kept = (
   h.appends,
   (h.done ++ l.player.text.items, inl (reading_front h.text h.done l h.reading), starts_front h.done l.player.text.items),
 )
-
--- a read that gave no bytes was the last
-last_read : (count : ℕ) (buffer : List ℕ) (P : Type 0) → count ≤ length buffer → 0 < length buffer → (count ≡ 0 → 0 < length buffer → P) → take count buffer ≡ [] → P
-last_read count buffer P fits some f e =
-    let n : count ≡ 0 = sym (length-take-le count buffer fits) ∙ ap length e in
-    f n some
 
 -- a write failed after a read
 pub write_fails : (was is had has after then_has : Option (List ℕ)) (read reads written writes count : ℕ) (buffer lines : List ℕ) (l m : Lines) (end : Option ScriptEnd) →
@@ -185,14 +175,6 @@ run_goes_on was is had has after then_has read reads reads' written writes write
   reader = kept ∙ h.reader;
   writer = writer ∙ h.writer;
 }
-
-pub if_failed : {T E : Type 0} (r : Result T E) (b : Bool) (P : Type 0) → b ≡ is_err r → b ≡ true → OnErr r P → P
-if_failed (Ok x) b P e t h = cc
-if_failed (Err x) b P e t h = h
-
-pub if_not_failed : {T E : Type 0} (r : Result T E) (b : Bool) (P : Type 0) → b ≡ is_err r → b ≡ false → OnOk r P → P
-if_not_failed (Ok x) b P e t h = h
-if_not_failed (Err x) b P e t h = cc
 
 -- ---- who is blamed
 

@@ -25,7 +25,7 @@ use Rattle.ymx_session.specs.Passing.{passing, is_read_up, all_fed, Passes, Feed
 use Rattle.ymx_session.specs.Replies.{stream_fault}
 use Rattle.ymx_session.specs.Streams.{waiting}
 use Rattle.ymx_session.specs.declared.passing.Passing.{Passing}
-use Rattle.ymx_session.proofs.Records.{waiting-is, consume-gives, consume-leaves}
+use Rattle.ymx_session.proofs.Records.{MayRead, waiting-is, read-leaves, consume-gives}
 use Rattle.ymx_session.proofs.Steps.{taken-takes}
 
 -- ---- whose payload may be passed on
@@ -134,6 +134,9 @@ module _ (id : ℕ) (bytes : List ℕ) (e : End) (t : Session) (run : t.status �
   full : 0 < length e.reader.unread
   full = let unread = got.unread in rw unread some
 
+  may-read : MayRead id (length bytes) e t
+  may-read = record { may = may; there = there; asked = some; unread = full }
+
   as-many : length bytes ≡ min (length bytes) (length e.reader.unread)
   as-many = let k : length e.reader.unread ≡ length bytes = ap length got.unread in omega arith
 
@@ -142,10 +145,10 @@ module _ (id : ℕ) (bytes : List ℕ) (e : End) (t : Session) (run : t.status �
       let unread : waiting id t ≡ bytes = waiting-is id e t may there ∙ got.unread in
       let whole = all-taken bytes in
       let same : take (length bytes) (take (length bytes) (waiting id t)) ≡ bytes = rw (unread, whole) whole in
-      subst (λ (x : List ℕ). Read x ≡ (read_from id (length bytes) t).reply) same (consume-gives id (length bytes) (length bytes) e t may there some full as-many)
+      subst (λ (x : List ℕ). Read x ≡ (read_from id (length bytes) t).reply) same (consume-gives id (length bytes) (length bytes) e t may-read as-many)
 
   leaves : (table : Table) → table ≡ with_record id (end_read (length bytes)) t.table → record t { table = table } ≡ (read_from id (length bytes) t).next
-  leaves table w = consume-leaves id (length bytes) (length bytes) e table t t refl may there some full as-many w
+  leaves table w = read-leaves id (length bytes) (length bytes) e table t t refl may-read as-many w
 
 -- ---- they are passed on
 

@@ -76,21 +76,29 @@ read-reply : (max : ℕ) (e : End) (s : Session) → 0 < max → 0 < length e.re
     read_reply (is_lost s.status) max e.phase e.reader.unread e.reader.ended ≡ Read (take max e.reader.unread)
 read-reply max e s l m live reset = let a = some-length max l in let b = some-length (length e.reader.unread) m in rw (reset, live, a, b) refl
 
-pub read-gives : (id n : ℕ) (old new : List ℕ) (e : End) (s : Session) → stream_fault id s ≡ None → look id s.table.entries ≡ Some e → 0 < length old → 0 < length e.reader.unread →
-    n ≡ min (length old) (length e.reader.unread) → new ≡ take n e.reader.unread ++ drop n old → Read (take n new) ≡ (read_from id (length old) s).reply
-read-gives id n old new e s f l a b k w =
-    let c = callers id e s f l in
-    let r = read-reply (length old) e s a b c.live c.reset in
-    rw (w, read_of e.reader.unread (length old) n old k, c.closed, l, r) refl
+-- it may be read, bytes of it wait, and at most `max` are asked for
+pub record MayRead (id max : ℕ) (e : End) (s : Session) : Type 0 where
+  pub may : stream_fault id s ≡ None
+  pub there : look id s.table.entries ≡ Some e
+  pub asked : 0 < max
+  pub unread : 0 < length e.reader.unread
 
-pub read-leaves : (id n : ℕ) (old : List ℕ) (e : End) (table : Table) (v s : Session) → v ≡ s → stream_fault id s ≡ None → look id s.table.entries ≡ Some e → 0 < length old → 0 < length e.reader.unread →
-    n ≡ min (length old) (length e.reader.unread) → table ≡ with_record id (end_read n) v.table → record v { table = table } ≡ (read_from id (length old) s).next
-read-leaves id n old e table v s w f l a b k t =
-    let c = callers id e s f l in
-    let r = read-reply (length old) e s a b c.live c.reset in
-    let some = length-front (length old) e.reader.unread a b in
-    let same = change-at id (end_read n) (end_read (length old)) e s.table.entries l (end_read-min (length old) e n k) in
-    let go : (read_from id (length old) s).next ≡ on_stream id (end_read n) s = rw (c.closed, l, r, some, same) refl in
+pub read-gives : (id n : ℕ) (old new : List ℕ) (e : End) (s : Session) → MayRead id (length old) e s →
+    n ≡ min (length old) (length e.reader.unread) → new ≡ take n e.reader.unread ++ drop n old → Read (take n new) ≡ (read_from id (length old) s).reply
+read-gives id n old new e s f k w =
+    let c = callers id e s f.may f.there in
+    let r = read-reply (length old) e s f.asked f.unread c.live c.reset in
+    rw (w, read_of e.reader.unread (length old) n old k, c.closed, c.there, r) refl
+
+-- whatever the bytes are read into
+pub read-leaves : (id n max : ℕ) (e : End) (table : Table) (v s : Session) → v ≡ s → MayRead id max e s → n ≡ min max (length e.reader.unread) → table ≡ with_record id (end_read n) v.table →
+    record v { table = table } ≡ (read_from id max s).next
+read-leaves id n max e table v s w f k t =
+    let c = callers id e s f.may f.there in
+    let r = read-reply max e s f.asked f.unread c.live c.reset in
+    let some = length-front max e.reader.unread f.asked f.unread in
+    let same = change-at id (end_read n) (end_read max) e s.table.entries f.there (end_read-min max e n k) in
+    let go : (read_from id max s).next ≡ on_stream id (end_read n) s = rw (c.closed, c.there, r, some, same) refl in
     rw t (ap (on_stream id (end_read n)) w ∙ sym go)
 
 pub read-rest : (n : ℕ) (xs old new : List ℕ) → n ≡ min (length old) (length xs) → new ≡ take n xs ++ drop n old → new ≡ take n new ++ drop n old
@@ -102,28 +110,17 @@ read-rest n xs old new k w = let t : take n (take n xs ++ drop n old) ≡ take n
 pub waiting-is : (id : ℕ) (e : End) (s : Session) → stream_fault id s ≡ None → look id s.table.entries ≡ Some e → waiting id s ≡ e.reader.unread
 waiting-is id e s f l = rw (f, l) refl
 
-pub consume-gives : (id n count : ℕ) (e : End) (s : Session) → stream_fault id s ≡ None → look id s.table.entries ≡ Some e → 0 < count → 0 < length e.reader.unread →
+pub consume-gives : (id n count : ℕ) (e : End) (s : Session) → MayRead id count e s →
     n ≡ min count (length e.reader.unread) → Read (take n (take count (waiting id s))) ≡ (read_from id count s).reply
-consume-gives id n count e s f l a b k =
-    let c = callers id e s f l in
-    let r = read-reply count e s a b c.live c.reset in
+consume-gives id n count e s f k =
+    let c = callers id e s f.may f.there in
+    let r = read-reply count e s f.asked f.unread c.live c.reset in
     let same : take n (take count e.reader.unread) ≡ take count e.reader.unread = grind (arith, common_steps) in
-    rw (waiting-is id e s f l, same, c.closed, l, r) refl
+    rw (waiting-is id e s f.may f.there, same, c.closed, c.there, r) refl
 
 -- no more is taken out than waits
-pub consume-within : (id n count : ℕ) (e : End) (s : Session) → stream_fault id s ≡ None → look id s.table.entries ≡ Some e →
+pub consume-within : (id n count : ℕ) (e : End) (s : Session) → MayRead id count e s →
     n ≡ min count (length e.reader.unread) → n ≤ length (waiting id s)
-consume-within id n count e s f l k =
+consume-within id n count e s f k =
     let few : n ≤ length e.reader.unread = grind (arith, common_steps) in
-    rw (waiting-is id e s f l) few
-
--- a read changes the same, whatever is in its buffer
-pub consume-leaves : (id n count : ℕ) (e : End) (table : Table) (v s : Session) → v ≡ s → stream_fault id s ≡ None → look id s.table.entries ≡ Some e → 0 < count → 0 < length e.reader.unread →
-    n ≡ min count (length e.reader.unread) → table ≡ with_record id (end_read n) v.table → record v { table = table } ≡ (read_from id count s).next
-consume-leaves id n count e table v s w f l a b k t =
-    let c = callers id e s f l in
-    let r = read-reply count e s a b c.live c.reset in
-    let some = length-front count e.reader.unread a b in
-    let same = change-at id (end_read n) (end_read count) e s.table.entries l (end_read-min count e n k) in
-    let go : (read_from id count s).next ≡ on_stream id (end_read n) s = rw (c.closed, l, r, some, same) refl in
-    rw t (ap (on_stream id (end_read n)) w ∙ sym go)
+    rw (waiting-is id e s f.may f.there) few

@@ -84,7 +84,7 @@ module _ (words words' : List ℕ) (place len : ℕ) (within : place < len)
       ]))
 
 -- a flag that is set is counted, and no more are counted than there are
-module _ (words : List ℕ) (len count : ℕ) (are : AreFlags words len count) where
+module _ {words : List ℕ} {len count : ℕ} (are : AreFlags words len count) where
   pub count_few : count ≤ 1024
   count_few =
       let c = are.counted in
@@ -93,8 +93,10 @@ module _ (words : List ℕ) (len count : ℕ) (are : AreFlags words len count) w
       let m = count_by-le-length (λ b. b) (flags_of words len) in
       omega arith
 
-  pub count_some : (place : ℕ) → place < len → flag words place ≡ true → 0 < count
-  count_some place within set_ =
+  -- `flags` as they are seen
+  pub count_some : (flags : List Bool) → flags_of words len ≡ flags → (place : ℕ) → place < length flags → flag words place ≡ true → 0 < count
+  count_some flags view place seen set_ =
+      let within = below_len words len flags view place seen in
       let c = are.counted in
       let there : place < length (flags_of words len) = rw length-flags_of within in
       let here : get_or (flags_of words len) place false ≡ true = get_or-flags_of words len place within ∙ set_ in
@@ -111,19 +113,20 @@ module _ (words : List ℕ) (len count : ℕ) (are : AreFlags words len count) w
       ]
 
 -- the words once a flag was put or taken out, where `count'` counts it
-module _ (words words' : List ℕ) (place len count count' : ℕ) (was is : Bool) (are : AreFlags words len count) where
-  pub kept-set : place < len → was ≡ flag words place → ((k : ℕ) → flag words' k ≡ (if k == place then is else flag words k))
+module _ {words : List ℕ} {len count : ℕ} (words' : List ℕ) (place count' : ℕ) (was is : Bool) (are : AreFlags words len count) where
+  pub kept-set : (flags : List Bool) → flags_of words len ≡ flags → place < length flags → was ≡ flag words place → ((k : ℕ) → flag words' k ≡ (if k == place then is else flag words k))
       → count' + (if was then 1 else 0) ≡ count + (if is then 1 else 0) → AreFlags words' len count'
-  kept-set within read put c = record {
-    few = are.few;
-    clear_behind = λ k le. put_other words words' place is put k (λ e. absurd (omega arith)) ∙ are.clear_behind k le;
-    counted =
-        let there : place < length (flags_of words len) = rw length-flags_of within in
-        let s = sum_by-set (λ b. cond b 1 0) (flags_of words len) place is false there in
-        let s' = rw (get_or-flags_of words len place within, ← read) at s in
-        let old = are.counted in
-        rw (flags_of-set words words' place is put len within) (omega arith);
-  }
+  kept-set flags view seen read put c =
+      let within = below_len words len flags view place seen in record {
+        few = are.few;
+        clear_behind = λ k le. put_other words words' place is put k (λ e. absurd (omega arith)) ∙ are.clear_behind k le;
+        counted =
+            let there : place < length (flags_of words len) = rw length-flags_of within in
+            let s = sum_by-set (λ b. cond b 1 0) (flags_of words len) place is false there in
+            let s' = rw (get_or-flags_of words len place within, ← read) at s in
+            let old = are.counted in
+            rw (flags_of-set words words' place is put len within) (omega arith);
+      }
 
   pub kept-push : len ≡ place → place < 1024 → ((k : ℕ) → flag words' k ≡ (if k == place then is else flag words k))
       → count' + 0 ≡ count + (if is then 1 else 0) → AreFlags words' (place + 1) count'
@@ -136,18 +139,19 @@ module _ (words words' : List ℕ) (place len count count' : ℕ) (was is : Bool
         rw (flags_of-push words words' place is put) (omega arith);
   }
 
-  pub kept-remove : place < len → was ≡ flag words place → ((k : ℕ) → flag words' k ≡ (if nat_lt k place then flag words k else flag words (k + 1)))
+  pub kept-remove : (flags : List Bool) → flags_of words len ≡ flags → place < length flags → was ≡ flag words place → ((k : ℕ) → flag words' k ≡ (if nat_lt k place then flag words k else flag words (k + 1)))
       → count' + (if was then 1 else 0) ≡ count + 0 → AreFlags words' (len - 1) count'
-  kept-remove within read taken c = record {
-    few = let f = are.few in omega arith;
-    clear_behind = λ k le. taken k ∙ rw (le-ltb k place (omega arith)) (are.clear_behind (k + 1) (omega arith));
-    counted =
-        let there : place < length (flags_of words len) = rw length-flags_of within in
-        let s = sum_by-remove (λ b. cond b 1 0) (flags_of words len) place false there in
-        let s' = rw (get_or-flags_of words len place within, ← read) at s in
-        let old = are.counted in
-        rw (flags_of-remove words words' place len within taken) (omega arith);
-  }
+  kept-remove flags view seen read taken c =
+      let within = below_len words len flags view place seen in record {
+        few = let f = are.few in omega arith;
+        clear_behind = λ k le. taken k ∙ rw (le-ltb k place (omega arith)) (are.clear_behind (k + 1) (omega arith));
+        counted =
+            let there : place < length (flags_of words len) = rw length-flags_of within in
+            let s = sum_by-remove (λ b. cond b 1 0) (flags_of words len) place false there in
+            let s' = rw (get_or-flags_of words len place within, ← read) at s in
+            let old = are.counted in
+            rw (flags_of-remove words words' place len within taken) (omega arith);
+      }
 
 -- a search by two tests that agree
 pub first_same : (f g : ℕ → Bool) → ((k : ℕ) → g k ≡ f k) → (from at : ℕ) → IsFirst f from at → IsFirst g from at
@@ -162,9 +166,9 @@ pub first_view : (words : List ℕ) (len count : ℕ) (flags : List Bool) → fl
     → (from : ℕ) (o : Option ℕ) → MatchOption o (IsNoneFrom (flag words) from) (IsFirst (flag words) from)
     → MatchOption o (IsNoneFrom (λ k. get_or flags k false) from) (IsFirst (λ k. get_or flags k false) from)
 first_view words len count flags view are from None h =
-    λ k le. rw (← view) (all_flags words len count are k ∙ h k le)
+    λ k le. rw (← view) (all_flags are k ∙ h k le)
 first_view words len count flags view are from (Some at) h =
-    first_same (flag words) (λ k. get_or flags k false) (λ k. rw (← view) (all_flags words len count are k)) from at h
+    first_same (flag words) (λ k. get_or flags k false) (λ k. rw (← view) (all_flags are k)) from at h
 
 -- words of which no bit is set
 abbrev zeros : ℕ → List ℕ

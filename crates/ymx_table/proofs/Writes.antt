@@ -66,15 +66,15 @@ changed step id f old new (Some answer) h is =
     ∙ ap (λ ps. record old { entries = ps }) (change-known id f h.0 old.entries h.1)
 
 -- the flags are as many as the records
-pub flags_within : (t u : Table) → t ≡ u → (flags : List Bool) → IsKept t flags → (id at : ℕ) → StandsAt id u at → at < length flags
-flags_within t u same flags k id at s =
+pub flags_within : {t u : Table} → t ≡ u → {flags : List Bool} → IsKept t flags → {id at : ℕ} → StandsAt id u at → at < length flags
+flags_within {t} {u} same {flags} k s =
     let n : length flags ≡ length t.entries = ap length k.flagged ∙ length-map t.entries (λ p. is_due t.window p.1) in
     let m : length t.entries ≡ length u.entries = ap (λ (v : Table). length v.entries) same in
     let w = s.within in
     omega arith
 
 -- `t` is the table before the write, as its fields show it, and `u` the same as its callers see it
-module _ (t u : Table) (same : t ≡ u) (id at : ℕ) (before : End) (s : StandsAt id u at)
+module _ {t u : Table} (same : t ≡ u) {id at : ℕ} {before : End} (s : StandsAt id u at)
     (here : slice_get (values_of t.entries) at ≡ Some before) where
   found : look id t.entries ≡ Some before
   found = ap (λ (v : Table). look id v.entries) same ∙ sym s.stands ∙ ap (λ (v : Table). slice_get (values_of v.entries) at) (sym same) ∙ here
@@ -95,9 +95,9 @@ module _ (t u : Table) (same : t ≡ u) (id at : ℕ) (before : End) (s : Stands
       ∙ ap (with_record id f) same
 
   -- and it is as every table is, once the record's flag is right
-  pub kept-written : (flags flags' : List Bool) (is : Bool) (after : End) → IsKept t flags → is ≡ is_due t.window after
+  pub kept-written : {flags flags' : List Bool} {is : Bool} (after : End) → IsKept t flags → is ≡ is_due t.window after
       → flags' ≡ set flags at is → IsKept (record t { entries = set_value_at t.entries at after }) flags'
-  kept-written flags flags' is after k i d = record {
+  kept-written {flags} after k i d = record {
     narrowest = k.narrowest;
     widest = k.widest;
     flagged =
@@ -113,9 +113,9 @@ module _ (t u : Table) (same : t ≡ u) (id at : ℕ) (before : End) (s : Stands
       → record t { entries = set_value_at t.entries at after; turn = at + 1 } ≡ pass_turn id (with_record id f u)
   written-served f after e = λ i. record (written f after e i) { turn = (ap (λ n. n + 1) (s.at_place ∙ sym (place-change id id f u.entries))) i }
 
-  pub kept-served : (flags : List Bool) (after : End) → IsKept (record t { entries = set_value_at t.entries at after }) flags
+  pub kept-served : {flags : List Bool} (after : End) → IsKept (record t { entries = set_value_at t.entries at after }) flags
       → IsKept (record t { entries = set_value_at t.entries at after; turn = at + 1 }) flags
-  kept-served flags after k = record {
+  kept-served after k = record {
     narrowest = k.narrowest;
     widest = k.widest;
     flagged = k.flagged;

@@ -4,7 +4,6 @@ use Rattle.std.specs.Prelude.{count_by, is_some}
 use Rattle.std.proofs.lemmas.Nat.{le-div}
 use Rattle.std.proofs.Math.Nat.{div-mul-le_self, add-div_right}
 use Rattle.std.proofs.lemmas.Bool.Decides.{nat_tests}
-use Rattle.std.proofs.lemmas.Grind.{common_steps}
 use Rattle.std.proofs.lemmas.List.Recursion.{is_sum_by, is_count_by}
 use Rattle.ymx_header.specs.declared.header.Header.{Header}
 use Rattle.ymx_header.specs.Headers.{header_of, has_syn, has_rst}
@@ -15,7 +14,7 @@ use Rattle.ymx_machine.specs.shared.Limits.{first_credit, data_limit}
 use Rattle.ymx_machine.specs.shared.Phases.{is_live}
 use Rattle.ymx_model.specs.session.Records.{End}
 use Rattle.ymx_model.specs.declared.types.FrameKind.{FrameKind}
-use Rattle.ymx_model.specs.session.FramesDue.{next_kind, begin_frame, frame, spelled, credit_due, fin_due, is_empty}
+use Rattle.ymx_model.specs.session.FramesDue.{next_kind, begin_frame, spelled, credit_due, fin_due, is_empty}
 use Rattle.ymx_model.specs.declared.types.FrameKind.TheVariants.{Open, OpenWith, Accept, Reset, Credit, Data, Fin}
 use Rattle.ymx_model.specs.session.Pings.{Ping, ping_is_asked, has_asked, staged, begin_ping, first_asked}
 use Rattle.ymx_model.specs.session.GoAway.{away_due, begin_away}
@@ -29,8 +28,8 @@ use Rattle.ymx_model.specs.world.Load.{frames_of, record_load, session_load, one
 use Rattle.ymx_law_session.specs.Limits.{IsWithin}
 use Rattle.ymx_law_session.proofs.limits.EmissionsKeep.{some_if, none_if, if_some}
 use Rattle.ymx_machine.proofs.Tests.{split, agrees, differs, both_of, none_of, not_lt}
-use Rattle.ymx_law_world.proofs.Frames.{data-frame, short-frame}
-use Rattle.ymx_law_world.proofs.Emitted.{first_and_rest, only_one}
+use Rattle.ymx_law_world.proofs.Frames.{short-frame}
+use Rattle.ymx_law_world.proofs.Emitted.{first_and_rest, only_one, spelled-one}
 
 -- ---- sums
 
@@ -265,18 +264,6 @@ answer-starts least (Reject id ∷ more) s t e b =
     let l : length s.answers ≡ length more + 1 = ap length e ∙ omega arith in
     starts-is least s _ t (some-is (begins (answer_frame (Reject id)) (record s { answers = more })) t b)
     (record { one = short-frame 1 8 id 0 (omega arith) (omega arith); effort = omega (arith, l); status = refl; incoming = refl })
-
-data-one : (flags id limit : ℕ) (unsent : List ℕ) → limit ≤ first_credit → IsOneFrame (frame 0 flags id (length (take limit unsent)) (take limit unsent))
-data-one flags id limit unsent few = data-frame flags id (take limit unsent) (grind (arith, common_steps))
-
-spelled-one : (kind : FrameKind) (window limit id : ℕ) (e : End) → limit ≤ first_credit → IsOneFrame (spelled kind window limit id e)
-spelled-one Open window limit id e few = short-frame 1 1 id (window - first_credit) (omega arith) (omega arith)
-spelled-one OpenWith window limit id e few = data-one 1 id limit e.writer.unsent few
-spelled-one Accept window limit id e few = short-frame 1 2 id (window - first_credit) (omega arith) (omega arith)
-spelled-one Reset window limit id e few = short-frame 1 8 id 0 (omega arith) (omega arith)
-spelled-one Credit window limit id e few = short-frame 1 0 id e.reader.owed (omega arith) (omega arith)
-spelled-one Data window limit id e few = data-one 0 id limit e.writer.unsent few
-spelled-one Fin window limit id e few = short-frame 1 4 id 0 (omega arith) (omega arith)
 
 stream-starts : (least : ℕ) (id limit : ℕ) (s t : Session) → IsWithin s → 0 < least → ((limit == 0) ≡ false → least ≤ limit) → (o : Option End) → look id s.table.entries ≡ o → begin_stream id limit o s ≡ Some t → Starts least s t
 stream-starts least id limit s t w pos low None l b = absurd cc

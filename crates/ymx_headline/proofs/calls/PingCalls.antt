@@ -31,6 +31,7 @@ use Rattle.ymx_law_session.proofs.given_up.SettledFrames.{gives-settled}
 use Rattle.ymx_machine.proofs.Tests.{same_or_not, agrees, when}
 use Rattle.ymx_headline.specs.Agrees.{AgreesAs, IsNumbered, SamePings, Sender, Receiver, Text, PingsUnderWay, sending, hearing, entry_number, number_of, count_in, asks, is_asked_at, is_there_at}
 use Rattle.ymx_headline.proofs.relation.Mirrors.{order-call, parity}
+use Rattle.ymx_headline.proofs.relation.Sides.{beside-streams}
 use Rattle.ymx_headline.proofs.relation.Texts.{same-text, text-changes}
 use Rattle.ymx_headline.proofs.calls.Places.{placed, places-distinct, place-asked, asked-back, asked-asked_same, asked-asked_other, free-same, free-fits, collected-numbers, collected-back, collected-back_other, collected-asked, collected-pending}
 use Rattle.ymx_headline.proofs.calls.StreamCalls.{so-true, so-false, Called, called-alone, open-rule, closed-rule, refused-at_both}
@@ -65,14 +66,7 @@ pings-change x y w m h p next places same answered still within settled order = 
   roles = h.roles;
   streams = h.streams;
   refines = h.refines;
-  a = record {
-    whole = record { role = h.a.whole.role; window = h.a.whole.window; next = h.a.whole.next; offered = h.a.whole.offered; closed = h.a.whole.closed; lost = h.a.whole.lost; sound = h.a.whole.sound };
-    records = h.a.records;
-    pings = same;
-    away = h.a.away;
-    within = within;
-    settled = settled;
-  };
+  a = beside-streams h.a p next places w.a.away.here m.me.away w.a.outgoing same h.a.away within settled;
   b = h.b;
   ab = text-changes (sending w.a m.me) _ (hearing w.b m.you) w.ab h.streams.ab h.streams.ab _ _ (asker-text (sending w.a m.me) (hearing w.b m.you) w.ab.bytes h.streams.ab p places still) h.ab;
   ba = record {

@@ -30,6 +30,7 @@ use Rattle.ymx_law_session.proofs.given_up.SettledFrames.{gives-settled}
 use Rattle.ymx_machine.proofs.Tests.{both_of, when}
 use Rattle.ymx_headline.specs.Agrees.{AgreesAs, IsNumbered, SameAway, Sender, Receiver, Text, AwayUnderWay, sending, hearing, arrives, found, count_in, is_go_away}
 use Rattle.ymx_headline.proofs.relation.Mirrors.{refines-same, order-call, parity}
+use Rattle.ymx_headline.proofs.relation.Sides.{beside-streams}
 use Rattle.ymx_headline.proofs.relation.Texts.{same-text, text-changes}
 use Rattle.ymx_headline.proofs.calls.PingCalls.{refused-is}
 use Rattle.ymx_headline.proofs.calls.StreamCalls.{so-true, so-false, Called, called-alone, open-rule, closed-rule}
@@ -74,14 +75,7 @@ away-agrees x y w m h within settled order = record {
   roles = h.roles;
   streams = h.streams;
   refines = h.refines;
-  a = record {
-    whole = record { role = h.a.whole.role; window = h.a.whole.window; next = h.a.whole.next; offered = h.a.whole.offered; closed = h.a.whole.closed; lost = h.a.whole.lost; sound = h.a.whole.sound };
-    records = h.a.records;
-    pings = h.a.pings;
-    away = said-away w.a.away.here w.b.away.there m.me.away h.a.away;
-    within = within;
-    settled = settled;
-  };
+  a = beside-streams h.a w.a.pings m.me.next_ping m.me.pings (mark_said w.a.away.here) (said_once m.me.away) w.a.outgoing h.a.pings (said-away w.a.away.here w.b.away.there m.me.away h.a.away) within settled;
   b = h.b;
   ab = text-changes (sending w.a m.me) _ (hearing w.b m.you) w.ab h.streams.ab h.streams.ab _ _ (said-text (sending w.a m.me) (hearing w.b m.you) w.ab.bytes h.streams.ab w.b.away.there h.a.away) h.ab;
   ba = h.ba;

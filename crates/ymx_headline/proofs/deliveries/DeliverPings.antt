@@ -185,9 +185,19 @@ pongs-due s r n fs l h =
         of true e = let no : Some Asked ≡ Some There = sym l ∙ m e in absurd cc
         of false e = grind (arith, nat_tests)
 
--- which frame it is
-is-two : (x y : Role) (no_memory : Bool) (b : ℕ) (seen rest : List ℕ) (w : World) (m : Machine) (h : AgreesAs x y w m) (k : TakingHead x y no_memory b seen rest w m h) → (header_of (seen ++ b ∷ [])).kind ≡ 2 → ((header_of k.first.frame).kind == 2) ≡ true
-is-two x y no_memory b seen rest w m h k kind = ap (λ (z : Header). z.kind == 2) k.first.header ∙ (let e : ((header_of (seen ++ b ∷ [])).kind == 2) ≡ true = grind (arith, nat_tests) in e)
+-- what the frame of a ping, or of the answer to one, says
+record SaysPing (frame : List ℕ) (asks : Bool) (n : ℕ) : Type 0 where
+  two : ((header_of frame).kind == 2) ≡ true
+  syn : has_syn (header_of frame) ≡ asks
+  number : (header_of frame).length ≡ n
+
+says-ping : (x y : Role) (no_memory : Bool) (b : ℕ) (seen rest : List ℕ) (w : World) (m : Machine) (h : AgreesAs x y w m) (k : TakingHead x y no_memory b seen rest w m h) (asks : Bool) → (header_of (seen ++ b ∷ [])).kind ≡ 2 → has_syn (header_of (seen ++ b ∷ [])) ≡ asks →
+    SaysPing k.first.frame asks (header_of (seen ++ b ∷ [])).length
+says-ping x y no_memory b seen rest w m h k asks kind syn = record {
+  two = ap (λ (z : Header). z.kind == 2) k.first.header ∙ (let e : ((header_of (seen ++ b ∷ [])).kind == 2) ≡ true = grind (arith, nat_tests) in e);
+  syn = ap has_syn k.first.header ∙ syn;
+  number = ap (λ (z : Header). z.length) k.first.header;
+}
 
 not-three : (x y : Role) (no_memory : Bool) (b : ℕ) (seen rest : List ℕ) (w : World) (m : Machine) (h : AgreesAs x y w m) (k : TakingHead x y no_memory b seen rest w m h) → (header_of (seen ++ b ∷ [])).kind ≡ 2 → is_go_away k.first.frame ≡ false
 not-three x y no_memory b seen rest w m h k kind = ap (λ (z : Header). z.kind == 3) k.first.header ∙ (let e : ((header_of (seen ++ b ∷ [])).kind == 3) ≡ false = grind (arith, nat_tests) in e)
@@ -206,27 +216,24 @@ ping-arrives x y no_memory b seen rest w m h k kind syn =
     let answers : List Response = w.a.answers ++ Pong n ∷ [] in
     let s : Session = record w.a { incoming = Head [] } in
     let t : Session = record w.a { answers = answers; incoming = Head [] } in
-    let good = k.good in
-    let head : head_comes no_memory hd s ≡ t = rw (good, two, syn) refl in
+    let head : head_comes no_memory hd s ≡ t = rw (k.good, two, syn) refl in
     let is : byte_comes no_memory b w.a ≡ t = k.is ∙ head in
     let frame = k.first.frame in
     let frames = k.first.frames in
-    let len : (header_of frame).length ≡ n = ap (λ (z : Header). z.length) k.first.header in
-    let frame_syn : has_syn (header_of frame) ≡ true = ap has_syn k.first.header ∙ syn in
-    let frame_two = is-two x y no_memory b seen rest w m h k kind in
-    let it : asks n frame ≡ true = rw (frame_two, frame_syn, len) (is-self n) in
+    let says = says-ping x y no_memory b seen rest w m h k true kind syn in
+    let it : asks n frame ≡ true = rw (says.two, says.syn, says.number) (is-self n) in
     let p = k.first.pings in
     let means : nat_lt 0 (count_in (asks n) frames + 1) ≡ true → (look n m.you.pings ≡ Some Asked) × (has_asked n w.b.pings.pending ≡ false) = rw (count-first (asks n) frame frames it) at (p.means n) in
     let asked = (means (some-more (count_in (asks n) frames))).0 in
     let away = away-rest (sending w.b m.you) frame frames (not-three x y no_memory b seen rest w m h k kind) k.first.away in
-    let no_reply : (i : ℕ) → replies i frame ≡ false = λ i. rw (frame_two, frame_syn) refl in
+    let no_reply : (i : ℕ) → replies i frame ≡ false = λ i. rw (says.two, says.syn) refl in
     let pongs = pongs-rest (sending w.b m.you) (hearing w.a m.me) frame frames no_reply k.first.pongs in
     delivered-is x y (byte_comes no_memory b w.a) t rest w m _ 0 is f.starves_none
     (session-arrives x y w m h rest w.a.pings w.a.away answers m.me.pings (there_now n m.you.pings) m.you.away (PingThere n) refl (λ i. rejected-same n i w.a.answers) (once-same n w.a.answers h.a.records.once)
     h.a.pings (there-pings w.b.pings m.you.next_ping n m.you.pings asked h.b.pings) h.b.away (subst IsWithin is k.taking.within) (subst IsSettled is k.taking.settled) k.taking.not_stopped
     (λ bytes parts z. there-text (sending w.a m.me) (hearing w.b m.you) n bytes parts asked z)
     (session-text x y no_memory b seen rest w m h k f m.you.away m.me.pings (there_now n m.you.pings) (record { once = away.once; means = away.means; said = away.said })
-    (asked-done (sending w.b m.you) n frame frames it len asked p) (record { once = pongs.once; means = pongs.means; there = pongs.there }))
+    (asked-done (sending w.b m.you) n frame frames it says.number asked p) (record { once = pongs.once; means = pongs.means; there = pongs.there }))
     ((k.taking.hears_it, asked), (0, refl, (refl, refl))))
   where
     there-text : (s : Sender) (r : Receiver) (n : ℕ) (bytes : List ℕ) (parts : List (ℕ × Part)) → look n r.places ≡ Some Asked → Text s r bytes parts → Text (record s { answers = s.answers ++ Pong n ∷ [] }) (record r { places = there_now n r.places }) bytes parts
@@ -298,22 +305,19 @@ reply-arrives x y no_memory b seen rest w m h k kind syn =
     let f = session-frame x y no_memory b seen rest w m h k high in
     let s : Session = record w.a { incoming = Head [] } in
     let t : Session = record w.a { pings = receive_answer n w.a.pings; incoming = Head [] } in
-    let good = k.good in
-    let head : head_comes no_memory hd s ≡ t = rw (good, two, syn) refl in
+    let head : head_comes no_memory hd s ≡ t = rw (k.good, two, syn) refl in
     let is : byte_comes no_memory b w.a ≡ t = k.is ∙ head in
     let frame = k.first.frame in
     let frames = k.first.frames in
-    let len : (header_of frame).length ≡ n = ap (λ (z : Header). z.length) k.first.header in
-    let frame_syn : has_syn (header_of frame) ≡ false = ap has_syn k.first.header ∙ syn in
-    let frame_two = is-two x y no_memory b seen rest w m h k kind in
-    let it : replies n frame ≡ true = rw (frame_two, frame_syn, len) (is-self n) in
+    let says = says-ping x y no_memory b seen rest w m h k false kind syn in
+    let it : replies n frame ≡ true = rw (says.two, says.syn, says.number) (is-self n) in
     let p = k.first.pongs in
     let means : nat_lt 0 (pongs n w.b.answers + (count_in (replies n) frames + 1)) ≡ true → look n m.me.pings ≡ Some There = rw (count-first (replies n) frame frames it) at (p.means n) in
     let there = means (grind (arith, nat_tests)) in
     let away = away-rest (sending w.b m.you) frame frames (not-three x y no_memory b seen rest w m h k kind) k.first.away in
-    let no_ask : (i : ℕ) → asks i frame ≡ false = λ i. rw (frame_two, frame_syn) refl in
+    let no_ask : (i : ℕ) → asks i frame ≡ false = λ i. rw (says.two, says.syn) refl in
     let pings = pings-rest (sending w.b m.you) frame frames no_ask k.first.pings in
-    let done = reply-done (sending w.b m.you) (hearing w.a m.me) n frame frames it len there p in
+    let done = reply-done (sending w.b m.you) (hearing w.a m.me) n frame frames it says.number there p in
     delivered-is x y (byte_comes no_memory b w.a) t rest w m _ 0 is f.starves_none
     (session-arrives x y w m h rest (receive_answer n w.a.pings) w.a.away w.a.answers (back_now n m.me.pings) m.you.pings m.you.away (PingBack n) refl (λ i. refl) h.a.records.once
     (back-pings w.a.pings m.me.next_ping n m.me.pings there h.a.pings) h.b.pings h.b.away (subst IsWithin is k.taking.within) (subst IsSettled is k.taking.settled) k.taking.not_stopped

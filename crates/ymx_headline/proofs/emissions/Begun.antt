@@ -36,6 +36,7 @@ use Rattle.ymx_law_record.proofs.Frames.{said}
 use Rattle.ymx_law_world.proofs.Frames.{data-frame, short-frame}
 use Rattle.ymx_headline.specs.Agrees.{AgreesAs, IsNumbered, AgreesOn, Keeps, Sender, Receiver, Text, sending, hearing, found, IsPlainFrame, parts_in, all_parts, parts_left, count_in, is_go_away, asks, replies}
 use Rattle.ymx_headline.proofs.relation.Mirrors.{refines-same}
+use Rattle.ymx_headline.proofs.relation.Sides.{in-streams}
 use Rattle.ymx_headline.proofs.relation.Tables.{keeps-put}
 use Rattle.ymx_headline.proofs.relation.Texts.{text-changes}
 use Rattle.ymx_headline.proofs.relation.Counts.{Stands, stands, no-record}
@@ -199,14 +200,8 @@ moved-changes x y w m h t begun b streams ends eb ew keeps within settled refine
   roles = h.roles;
   streams = record h.streams { a = record h.streams.a { ends = ends } };
   refines = refines;
-  a = record {
-    whole = record { role = h.a.whole.role; window = h.a.whole.window ∙ sym ew; next = h.a.whole.next; offered = h.a.whole.offered; closed = h.a.whole.closed; lost = h.a.whole.lost; sound = h.a.whole.sound };
-    records = record { window = h.a.records.window ∙ sym ew; over = h.a.records.over; each = keeps; once = h.a.records.once };
-    pings = h.a.pings;
-    away = h.a.away;
-    within = within;
-    settled = settled;
-  };
+  a = in-streams h.a t w.a.next m.me.next w.a.offered m.me.offered w.a.answers begun (record h.streams.a { ends = ends }) h.a.whole.next h.a.whole.offered ew
+      (record { window = h.a.records.window ∙ sym ew; over = h.a.records.over; each = keeps; once = h.a.records.once }) within settled;
   b = h.b;
   ab = moved-on (sending w.a m.me) (hearing w.b m.you) w.ab h.streams.ab h.streams.ab_stopped m.outbound_stopped b begun.bytes eb h.ab;
   ba = h.ba;
@@ -247,6 +242,7 @@ pub begun-agrees : (x y : Role) (w : World) (m : Machine) (h : AgreesAs x y w m)
 begun-agrees x y w m h id limit k e runs none few l due within settled =
     let g = h.streams in
     let win = w.a.table.window in
+    let begun = begun_with id limit k e w.a in
     let kept : Keeps w.a.answers id (Some e) (g.a.ends id) = subst (λ o. Keeps w.a.answers id o (g.a.ends id)) l (h.a.records.each id) in
     let can : Can (Sends id k limit) g = (h.a.records.over ∙ ap not runs, subst (λ z. next_kind z (g.a.ends id) ≡ Some k) (sym h.a.records.window) (ap (next_kind win) (sym kept.0) ∙ due)) in
     let r = step (Sends id k limit) g (found m) can h.refines in
@@ -262,20 +258,15 @@ begun-agrees x y w m h id limit k e runs none few l due within settled =
       roles = h.roles;
       streams = acts (Sends id k limit) g;
       refines = refines-same (acts (Sends id k limit) g) r.0 (found m) (λ i. sym (r.1 i)) r.2;
-      a = record {
-        whole = record { role = h.a.whole.role; window = h.a.whole.window; next = h.a.whole.next; offered = h.a.whole.offered; closed = h.a.whole.closed; lost = h.a.whole.lost; sound = h.a.whole.sound };
-        records = record {
-          window = h.a.records.window;
-          over = h.a.records.over;
-          once = h.a.records.once;
-          each = keeps-put w.a.answers id w.a.table.entries (change id (begin_frame win limit k) w.a.table.entries) f g.a.ends (λ i n. h.a.records.each i)
-              (λ i n. look-change_other id i (begin_frame win limit k) w.a.table.entries n) (subst (λ o. Keeps w.a.answers id o f) (sym now) (same, kept.1));
-        };
-        pings = h.a.pings;
-        away = h.a.away;
-        within = within;
-        settled = settled;
-      };
+      a = in-streams h.a begun.table w.a.next m.me.next w.a.offered m.me.offered w.a.answers begun.outgoing (acts (Sends id k limit) g).a h.a.whole.next h.a.whole.offered refl
+          (record {
+            window = h.a.records.window;
+            over = h.a.records.over;
+            once = h.a.records.once;
+            each = keeps-put w.a.answers id w.a.table.entries (change id (begin_frame win limit k) w.a.table.entries) f g.a.ends (λ i n. h.a.records.each i)
+                (λ i n. look-change_other id i (begin_frame win limit k) w.a.table.entries n) (subst (λ o. Keeps w.a.answers id o f) (sym now) (same, kept.1));
+          })
+          within settled;
       b = h.b;
       ab = text-changes (sending w.a m.me) _ (hearing w.b m.you) w.ab g.ab _ _ _
           (λ t. subst (λ ps. Text (sending (begun_with id limit k e w.a) m.me) (hearing w.b m.you) w.ab.bytes (g.ab ++ tagged id ps)) parts

@@ -26,6 +26,7 @@ use Rattle.ymx_law_session.proofs.given_up.SettledFrames.{begin-settled}
 use Rattle.ymx_law_world.proofs.Emitted.{empty-bytes}
 use Rattle.ymx_law_world.proofs.Frames.{short-frame}
 use Rattle.ymx_headline.specs.Agrees.{AgreesAs, SameEnds, Sender, Receiver, Text, sending, hearing, count_in, is_go_away, asks, replies, pongs, pongs_of, is_asked_at}
+use Rattle.ymx_headline.proofs.relation.Sides.{beside-streams}
 use Rattle.ymx_headline.proofs.relation.Texts.{text-changes}
 use Rattle.ymx_headline.proofs.emissions.Begun.{count-more, runs-open}
 use Rattle.ymx_headline.proofs.emissions.Emits.{BeginsAlike}
@@ -194,19 +195,14 @@ ping-begins n x y w m t h none b =
       roles = h.roles;
       streams = h.streams;
       refines = h.refines;
-      a = record {
-        whole = record { role = h.a.whole.role; window = h.a.whole.window; next = h.a.whole.next; offered = h.a.whole.offered; closed = h.a.whole.closed; lost = h.a.whole.lost; sound = h.a.whole.sound };
-        records = h.a.records;
-        pings = record {
-          next = h.a.pings.next;
-          numbers = h.a.pings.numbers ∙ sym (staged-numbers Sent n w.a.pings.pending);
-          back = λ x. h.a.pings.back x ∙ sym (sent-back n x w.a.pings.pending q.1);
-          fits = λ x e. h.a.pings.fits x (sym (pending-staged Sent n x w.a.pings.pending) ∙ e);
-        };
-        away = h.a.away;
-        within = subst IsWithin p.1 (begin-keeps (ThePing n) w.a t b h.a.within);
-        settled = subst IsSettled p.1 (begin-settled (ThePing n) w.a t none b h.a.settled);
-      };
+      a = beside-streams h.a now.pings m.me.next_ping m.me.pings w.a.away.here m.me.away now.outgoing
+          (record {
+            next = h.a.pings.next;
+            numbers = h.a.pings.numbers ∙ sym (staged-numbers Sent n w.a.pings.pending);
+            back = λ x. h.a.pings.back x ∙ sym (sent-back n x w.a.pings.pending q.1);
+            fits = λ x e. h.a.pings.fits x (sym (pending-staged Sent n x w.a.pings.pending) ∙ e);
+          })
+          h.a.away (subst IsWithin p.1 (begin-keeps (ThePing n) w.a t b h.a.within)) (subst IsSettled p.1 (begin-settled (ThePing n) w.a t none b h.a.settled));
       b = h.b;
       ab = text-changes (sending w.a m.me) _ (hearing w.b m.you) w.ab h.streams.ab h.streams.ab _ _
           (ping-text (sending w.a m.me) (hearing w.b m.you) w.ab.bytes h.streams.ab n small q.0 (runs-open w.a.status q.0) q.1 (empty-bytes w.a.outgoing.bytes none)) h.ab;

@@ -25,6 +25,7 @@ use Rattle.ymx_machine.proofs.Tests.{same_or_not}
 use Rattle.ymx_headline.specs.Agrees.{AgreesAs, Keeps, OnlyRejects, RejectsOnce, Sender, Receiver, Text, sending, hearing, found, is_absent, is_rejected, pongs}
 use Rattle.ymx_headline.proofs.relation.Mirrors.{refines-same}
 use Rattle.ymx_headline.proofs.relation.Counts.{Stands, stands}
+use Rattle.ymx_headline.proofs.relation.Sides.{in-streams}
 use Rattle.ymx_headline.proofs.relation.Texts.{answered-text, text-changes}
 use Rattle.ymx_headline.proofs.emissions.Begun.{begun-text, spelled-is, fits, runs-open}
 
@@ -86,6 +87,7 @@ pub reject-begins : (x y : Role) (w : World) (m : Machine) (h : AgreesAs x y w m
     AgreesAs x y (record w { a = begins (answer_frame (Reject j)) (record w.a { answers = more }) }) m
 reject-begins x y w m h j more e runs none within settled =
     let g = h.streams in
+    let begun = begins (answer_frame (Reject j)) w.a in
     let each : (i : ℕ) → Keeps (Reject j ∷ more) i (look i w.a.table.entries) (g.a.ends i) = subst (λ a. (i : ℕ) → Keeps a i (look i w.a.table.entries) (g.a.ends i)) e h.a.records.each in
     let once : RejectsOnce (Reject j ∷ more) = subst RejectsOnce e h.a.records.once in
     let over : g.a.over ≡ false = h.a.records.over ∙ ap not runs in
@@ -96,14 +98,8 @@ reject-begins x y w m h j more e runs none within settled =
       roles = h.roles;
       streams = acts (Sends j Reset 0) g;
       refines = rejects g m j more (look j w.a.table.entries) h.refines over (each j);
-      a = record {
-        whole = record { role = h.a.whole.role; window = h.a.whole.window; next = h.a.whole.next; offered = h.a.whole.offered; closed = h.a.whole.closed; lost = h.a.whole.lost; sound = h.a.whole.sound };
-        records = record { window = h.a.records.window; over = h.a.records.over; once = once.1; each = rejection-goes g.a.window more j w.a.table.entries g.a.ends once each };
-        pings = h.a.pings;
-        away = h.a.away;
-        within = within;
-        settled = settled;
-      };
+      a = in-streams h.a w.a.table w.a.next m.me.next w.a.offered m.me.offered more begun.outgoing (acts (Sends j Reset 0) g).a h.a.whole.next h.a.whole.offered refl
+          (record { window = h.a.records.window; over = h.a.records.over; once = once.1; each = rejection-goes g.a.window more j w.a.table.entries g.a.ends once each }) within settled;
       b = h.b;
       ab = text-changes (sending w.a m.me) _ (hearing w.b m.you) w.ab g.ab _ _ _
           (λ t. begun-text (record (sending w.a m.me) { answers = more }) (hearing w.b m.you) w.ab.bytes g.ab j (Rst ∷ []) (answer_frame (Reject j)) (runs-open w.a.status runs) none is

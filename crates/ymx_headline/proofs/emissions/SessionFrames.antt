@@ -22,6 +22,7 @@ use Rattle.ymx_law_session.proofs.given_up.SettledFrames.{begin-settled}
 use Rattle.ymx_law_world.proofs.Emitted.{empty-bytes}
 use Rattle.ymx_law_world.proofs.Frames.{short-frame}
 use Rattle.ymx_headline.specs.Agrees.{AgreesAs, Sender, Receiver, Text, AwayUnderWay, PingsUnderWay, PongsUnderWay, sending, hearing, IsPlainFrame, parts_in, all_parts, parts_left, count_in, is_go_away, asks, replies}
+use Rattle.ymx_headline.proofs.relation.Sides.{beside-streams}
 use Rattle.ymx_headline.proofs.relation.Texts.{text-changes}
 use Rattle.ymx_headline.proofs.emissions.Begun.{count-more, parts-more, concat-more, text-more, runs-open}
 use Rattle.ymx_headline.proofs.emissions.Emits.{BeginsAlike}
@@ -103,14 +104,9 @@ go_away-begins x y w m t h none b =
       roles = h.roles;
       streams = h.streams;
       refines = h.refines;
-      a = record {
-        whole = record { role = h.a.whole.role; window = h.a.whole.window; next = h.a.whole.next; offered = h.a.whole.offered; closed = h.a.whole.closed; lost = h.a.whole.lost; sound = h.a.whole.sound };
-        records = h.a.records;
-        pings = h.a.pings;
-        away = record { said = h.a.away.said ∙ ap (λ z. not (was_said z)) (is-due w.a.away.here q.1); arrived = h.a.away.arrived };
-        within = subst IsWithin p.1 (begin-keeps TheGoAway w.a t b h.a.within);
-        settled = subst IsSettled p.1 (begin-settled TheGoAway w.a t none b h.a.settled);
-      };
+      a = beside-streams h.a w.a.pings m.me.next_ping m.me.pings Sent m.me.away now.outgoing h.a.pings
+          (record { said = h.a.away.said ∙ ap (λ z. not (was_said z)) (is-due w.a.away.here q.1); arrived = h.a.away.arrived })
+          (subst IsWithin p.1 (begin-keeps TheGoAway w.a t b h.a.within)) (subst IsSettled p.1 (begin-settled TheGoAway w.a t none b h.a.settled));
       b = h.b;
       ab = text-changes (sending w.a m.me) _ (hearing w.b m.you) w.ab h.streams.ab h.streams.ab _ _
           (go_away-text (sending w.a m.me) (hearing w.b m.you) w.ab.bytes h.streams.ab q.0 (runs-open w.a.status q.0) q.1 (empty-bytes w.a.outgoing.bytes none)) h.ab;

@@ -24,6 +24,7 @@ use Rattle.ymx_machine.proofs.Tests.{same_or_not}
 use Rattle.ymx_law_machine.proofs.order.Maps.{look-change, look-change_other, look-add, look-add_other}
 use Rattle.ymx_headline.specs.Agrees.{AgreesAs, IsNumbered, Keeps, found}
 use Rattle.ymx_headline.proofs.relation.Mirrors.{refines-same}
+use Rattle.ymx_headline.proofs.relation.Sides.{in-streams}
 
 -- ---- functions by number and lists
 
@@ -60,14 +61,8 @@ table-changes x y w m h t next number ids offered streams ends en eo ew keeps wi
   roles = h.roles;
   streams = record h.streams { a = record h.streams.a { ends = ends } };
   refines = refines;
-  a = record {
-    whole = record { role = h.a.whole.role; window = h.a.whole.window ∙ sym ew; next = en; offered = eo; closed = h.a.whole.closed; lost = h.a.whole.lost; sound = h.a.whole.sound };
-    records = record { window = h.a.records.window ∙ sym ew; over = h.a.records.over; each = keeps; once = h.a.records.once };
-    pings = h.a.pings;
-    away = h.a.away;
-    within = within;
-    settled = settled;
-  };
+  a = in-streams h.a t next number ids offered w.a.answers w.a.outgoing (record h.streams.a { ends = ends }) en eo ew
+      (record { window = h.a.records.window ∙ sym ew; over = h.a.records.over; each = keeps; once = h.a.records.once }) within settled;
   b = h.b;
   ab = h.ab;
   ba = h.ba;

@@ -6,16 +6,15 @@ use Rattle.ymx_table.proofs.Writes.{written-served, kept-written, kept-served, f
 use Rattle.ymx_table.proofs.Table.begin_frame.Goals as goal
 
 pub set-requires : goal.set-requires
-set-requires c = flags_within _ _ c.self.view_is _ c.self.invariant _ _ c.place_near-place.ensures
+set-requires c = flags_within c.self.view_is c.self.invariant c.place_near-place.ensures
 
 pub invariant_of-self : goal.invariant_of-self
 invariant_of-self c =
-    kept-served _ _ c.self.view_is _ _ _ c.place_near-place.ensures c.index_mut-stream.ensures.value _ _
-    (kept-written _ _ c.self.view_is _ _ _ c.place_near-place.ensures c.index_mut-stream.ensures.value
-    _ _ _ _ c.self.invariant c.is_due-is_due.ensures c.set.ensures)
+    kept-served c.self.view_is c.place_near-place.ensures c.index_mut-stream.ensures.value _
+    (kept-written c.self.view_is c.place_near-place.ensures c.index_mut-stream.ensures.value _ c.self.invariant c.is_due-is_due.ensures c.set.ensures)
 
 pub returns-clause-goes : goal.returns-clause-goes
 returns-clause-goes c =
-    written-served _ _ c.self.view_is _ _ _ c.place_near-place.ensures c.index_mut-stream.ensures.value
+    written-served c.self.view_is c.place_near-place.ensures c.index_mut-stream.ensures.value
     (begin_frame c.self.inside.window c.args.limit c.args.next.kind) _ c.begin_frame-count.ensures.goes
     ∙ ap (λ (t : Table). pass_turn c.args.next.id (with_record c.args.next.id (begin_frame t.window c.args.limit c.args.next.kind) c.args.self.now)) c.self.view_is

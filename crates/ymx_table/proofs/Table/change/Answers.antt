@@ -5,15 +5,13 @@ use Rattle.ymx_table.proofs.Writes.{written, found-before, kept-written}
 use Rattle.ymx_table.proofs.Table.change.Goals as goal
 
 pub invariant_of-self : goal.invariant_of-self
-invariant_of-self g c =
-    kept-written _ _ c.self.view_is _ _ _ c.in_ok-place.ensures c.index_mut-stream.ensures.value
-    _ _ _ _ c.self.invariant c.is_due-is_due.ensures c.set.ensures
+invariant_of-self g c = kept-written c.self.view_is c.in_ok-place.ensures c.index_mut-stream.ensures.value _ c.self.invariant c.is_due-is_due.ensures c.set.ensures
 
 pub returns : goal.returns
 returns g c =
     let after = c.change-answer.new.arg2 in
     let ran : FnOnceReturnsAtMut g.F.FnOnce c.args.change c.index_mut-stream.result.now c.change-answer.result after = search rules in (
       c.index_mut-stream.result.now,
-      found-before _ _ c.self.view_is _ _ _ c.in_ok-place.ensures c.index_mut-stream.ensures.value,
-      (after, ran, written _ _ c.self.view_is _ _ _ c.in_ok-place.ensures c.index_mut-stream.ensures.value (λ _. after) _ refl),
+      found-before c.self.view_is c.in_ok-place.ensures c.index_mut-stream.ensures.value,
+      (after, ran, written c.self.view_is c.in_ok-place.ensures c.index_mut-stream.ensures.value (λ _. after) _ refl),
     )

@@ -4,15 +4,14 @@ use Rattle.ymx_table.proofs.Writes.{written-served, kept-written, kept-served, f
 use Rattle.ymx_table.proofs.Table.write_through.Goals as goal
 
 pub set-requires : goal.set-requires
-set-requires c = flags_within _ _ c.self.view_is _ c.self.invariant _ _ c.place_of-place.ensures
+set-requires c = flags_within c.self.view_is c.self.invariant c.place_of-place.ensures
 
 pub invariant_of-self : goal.invariant_of-self
 invariant_of-self c =
-    kept-served _ _ c.self.view_is _ _ _ c.place_of-place.ensures c.index_mut-stream.ensures.value _ _
-    (kept-written _ _ c.self.view_is _ _ _ c.place_of-place.ensures c.index_mut-stream.ensures.value
-    _ _ _ _ c.self.invariant c.is_due-is_due.ensures c.set.ensures)
+    kept-served c.self.view_is c.place_of-place.ensures c.index_mut-stream.ensures.value _
+    (kept-written c.self.view_is c.place_of-place.ensures c.index_mut-stream.ensures.value _ c.self.invariant c.is_due-is_due.ensures c.set.ensures)
 
 pub returns-clause-goes : goal.returns-clause-goes
 returns-clause-goes c =
-    written-served _ _ c.self.view_is _ _ _ c.place_of-place.ensures c.index_mut-stream.ensures.value
+    written-served c.self.view_is c.place_of-place.ensures c.index_mut-stream.ensures.value
     (sent c.args.bytes.now) _ c.write_through-count.ensures.after

@@ -8,7 +8,7 @@ put_flag-requires c = omega (arith, length-flags_of c.self.inside.words c.self.i
 
 pub invariant_of-self : goal.invariant_of-self
 invariant_of-self c =
-    kept-push _ _ c.self.inside.len _ _ _ false c.args.is_due c.self.invariant refl
+    kept-push _ c.self.inside.len _ false c.args.is_due c.self.invariant refl
     (omega (arith, length-flags_of c.self.inside.words c.self.inside.len, ap length c.self.view_is))
     c.put_flag.ensures c.recount-self-inside.ensures
 

@@ -10,18 +10,13 @@ pub overflow_sub-self : goal.overflow_sub-self
 overflow_sub-self c = let within = below_len _ _ _ c.self.view_is c.args.place c.requires in omega arith
 
 pub recount-self-inside-requires-clause-counted : goal.recount-self-inside-requires-clause-counted
-recount-self-inside-requires-clause-counted c h =
-    count_some _ _ _ c.self.invariant c.args.place (below_len _ _ _ c.self.view_is _ c.requires)
-    (sym c.has_flag-was_due.ensures ∙ h)
+recount-self-inside-requires-clause-counted c h = count_some c.self.invariant _ c.self.view_is c.args.place c.requires (sym c.has_flag-was_due.ensures ∙ h)
 
 pub recount-self-inside-requires-clause-few : goal.recount-self-inside-requires-clause-few
-recount-self-inside-requires-clause-few c = count_few _ _ _ c.self.invariant
+recount-self-inside-requires-clause-few c = count_few c.self.invariant
 
 pub invariant_of-self : goal.invariant_of-self
-invariant_of-self c =
-    kept-remove _ _ _ _ _ _ c.has_flag-was_due.result false c.self.invariant
-    (below_len _ _ _ c.self.view_is _ c.requires)
-    c.has_flag-was_due.ensures c.take_flag_out.ensures c.recount-self-inside.ensures
+invariant_of-self c = kept-remove _ _ _ c.has_flag-was_due.result false c.self.invariant _ c.self.view_is c.requires c.has_flag-was_due.ensures c.take_flag_out.ensures c.recount-self-inside.ensures
 
 pub returns : goal.returns
 returns c =
