@@ -4,3 +4,4 @@ pub mod Written
 pub mod Ended
 pub mod Accepts
 pub mod Shown
+pub mod Carried

@@ -1,5 +1,5 @@
 -- Calls that wait: what their turns add.
-use Rattle.std.proofs.Common.{◌≡◌, ℕ, List, [], ◌∷◌, ◌++◌, Bool, true, false, refl, ap, ◌∙◌, append_assoc, take, Result, Ok, Err, Option, Some, None, subst, inl, inr}
+use Rattle.std.proofs.Common.{◌≡◌, ◌<◌, ℕ, List, [], ◌∷◌, ◌++◌, Bool, true, false, refl, ap, ◌∙◌, append_assoc, take, Result, Ok, Err, Option, Some, None, subst, inl, inr}
 use Rattle.ymx_model.specs.declared.types.Entry.{Entry}
 use Rattle.ymx_model.specs.session.Events.{Event}
 use Rattle.ymx_machine.specs.declared.types.CallFault.{CallFault}
@@ -77,10 +77,10 @@ read_end keeps old mid new id size more buffer g r h =
     turns_end keeps old mid new (to_read id size) ReadWait (λ n. ReadsLast id size buffer n (Ok 0)) g
     (books_weaker keeps mid new (One mid.number (to_read id size) ReadEnd) (ReadsLast id size buffer mid.number (Ok 0)) (λ es o. inr (refl, o)) (at_size keeps mid new id size more buffer (Ok got.End) r h))
 
-pub read_bytes : (keeps : Bool) (old mid new : SeatView) (id size more count : ℕ) (buffer : List ℕ) → Books keeps old mid (AreWaits old.number (to_read id size) ReadWait) → more ≡ size → Books keeps mid new (Asks (to_read id more) (λ given. read_or given buffer) mid.number (Ok (got.Bytes count))) → Books keeps old new (ReadTurns id size buffer old.number (Ok count))
-read_bytes keeps old mid new id size more count buffer g r h =
+pub read_bytes : (keeps : Bool) (old mid new : SeatView) (id size more count : ℕ) (buffer : List ℕ) → Books keeps old mid (AreWaits old.number (to_read id size) ReadWait) → more ≡ size → 0 < count → Books keeps mid new (Asks (to_read id more) (λ given. read_or given buffer) mid.number (Ok (got.Bytes count))) → Books keeps old new (ReadTurns id size buffer old.number (Ok count))
+read_bytes keeps old mid new id size more count buffer g r some h =
     turns_end keeps old mid new (to_read id size) ReadWait (λ n. ReadsLast id size buffer n (Ok count)) g
-    (books_weaker keeps mid new (One mid.number (to_read id size) (Read (take count buffer))) (ReadsLast id size buffer mid.number (Ok count)) (λ es o. inl o) (at_size keeps mid new id size more buffer (Ok (got.Bytes count)) r h))
+    (books_weaker keeps mid new (One mid.number (to_read id size) (Read (take count buffer))) (ReadsLast id size buffer mid.number (Ok count)) (λ es o. inl (some, o)) (at_size keeps mid new id size more buffer (Ok (got.Bytes count)) r h))
 
 pub read_refused : (keeps : Bool) (old mid new : SeatView) (id size more : ℕ) (buffer : List ℕ) (fault : HubFault) → Books keeps old mid (AreWaits old.number (to_read id size) ReadWait) → more ≡ size → Books keeps mid new (Asks {A = Got} (to_read id more) (λ given. read_or given buffer) mid.number (Err fault)) → Books keeps old new (ReadTurns id size buffer old.number (Err fault))
 read_refused keeps old mid new id size more buffer fault g r h =

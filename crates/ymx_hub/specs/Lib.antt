@@ -2,3 +2,4 @@ pub mod Turns
 pub mod Halves
 pub mod Pumped
 pub mod Shown
+pub mod Carried

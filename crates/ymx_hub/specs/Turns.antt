@@ -1,5 +1,5 @@
 -- What a call of a hub that waits adds to the list of its seat (this project's own).
-use Rattle.std.specs.Prelude.{◌≡◌, ℕ, ◌+◌, ◌⊎◌, List, [], ◌∷◌, ◌++◌, length, take, drop, true, false, Option, Some, None, Result, Ok, Err}
+use Rattle.std.specs.Prelude.{◌≡◌, ◌<◌, ℕ, ◌+◌, ◌⊎◌, List, [], ◌∷◌, ◌++◌, length, take, drop, true, false, Option, Some, None, Result, Ok, Err}
 use Rattle.ymx_machine.specs.declared.types.CallFault.{CallFault}
 use Rattle.ymx_machine.specs.declared.types.CallFault.TheVariants.{Lost, Closed}
 use Rattle.ymx_machine.specs.declared.types.Wrote.{Wrote}
@@ -43,10 +43,10 @@ AcceptsInTurns seat result added = Turns seat to_accept (reply.Accepted None) (A
 
 -- ---- read
 
--- the bytes at the front of the buffer, the end for none, or the refusal
+-- bytes at the front of the buffer, at least one; the end for 0; or the refusal
 abbrev pub ReadsLast : (id size : ℕ) → (buffer : List ℕ) → ℕ → Result ℕ HubFault → List Entry → Type 0
 ReadsLast id size buffer seat (Ok n) last =
-    One seat (to_read id size) (reply.Read (take n buffer)) last ⊎ ((n ≡ 0) × One seat (to_read id size) reply.ReadEnd last)
+    ((0 < n) × One seat (to_read id size) (reply.Read (take n buffer)) last) ⊎ ((n ≡ 0) × One seat (to_read id size) reply.ReadEnd last)
 ReadsLast id size buffer seat (Err fault) last =
     ((fault ≡ Memory) × (last ≡ []))
     ⊎ ((why : CallFault) × (fault ≡ hub_fault_of why) × One seat (to_read id size) (reply.Refused why) last)

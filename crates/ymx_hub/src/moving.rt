@@ -7,8 +7,8 @@ ghost use Rattle.ymx_booked.specs.Books.{Books, Does};
 ghost use Rattle.ymx_hub.specs.Pumped.{EmitsOnce, emitted_count};
 
 use crate::awaiting::{await_bell, take_lock};
-use crate::shared::Shared;
 use crate::hub::Hub;
+use crate::shared::Shared;
 use std::sync::{MutexGuard, Wait};
 use ymx_booked::HubFault;
 use ymx_model::{Fed, Status, Why};

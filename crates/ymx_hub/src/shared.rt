@@ -125,7 +125,12 @@ impl<R: Recorder> Shared<R> {
 }
 
 /// Moves who reads or writes this stream to those who are woken, if the call would no longer wait.
-fn wake_stream<R: Recorder>(booked: &Booked<R>, id: u32, waiters: &mut Waiters, woken: &mut Waiters) {
+fn wake_stream<R: Recorder>(
+    booked: &Booked<R>,
+    id: u32,
+    waiters: &mut Waiters,
+    woken: &mut Waiters,
+) {
     if waiters.has_reader(id) && !booked.read_waits(id) {
         waiters.wake_reader(id, woken);
     }

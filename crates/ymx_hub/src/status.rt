@@ -1,15 +1,27 @@
 //! How a session stands.
 
+ghost use Rattle.std.specs.Prelude.{◌≡◌};
+ghost use Rattle.ymx_model.specs.session.Sessions.{Session, is_running};
+ghost use Rattle.ymx_booked.specs.Shown.{IsHistoryOf};
+ghost use Rattle.ymx_hub.specs.Shown.{IsShown};
+
 use crate::awaiting::take_lock;
 use crate::hub::Hub;
 use std::sync::Wait;
 use ymx_model::Status;
-use ymx_seats::Recorder;
+use ymx_seats::{Recorder, Seat};
 
 impl<R: Recorder> Hub<R> {
-    /// Whether the session goes on: it is neither lost, broken nor closed. It is no event of the session.
-    pub fn is_running<W: Wait>(&self, rt: &W) -> bool {
-        take_lock(rt, &self.shared).booked.status() == Status::Running
+    /// Whether the session goes on: it is neither lost, broken nor closed. It is no event of the session. Where there is a
+    /// journal, it shows the whole history to the seat, and the answer is of the session that this history leads to.
+    #[tactic(auto, using(crate::proofs::Shown::grown))]
+    pub fn is_running<W: Wait>(&self, rt: &W, seat: &mut Seat<R>) -> bool
+        ensures shown { IsShown seat.old seat.new }
+        ensures status { (s : Session) × IsHistoryOf R.WITNESSED R.role R.config seat.new.seen s × (result ≡ is_running s.status) }
+    {
+        let mut shared = take_lock(rt, &self.shared);
+        shared.booked.show(seat);
+        shared.booked.status() == Status::Running
     }
 
     /// Whether a stream that the peer opened was rejected here for want of memory. It is no event of the session.

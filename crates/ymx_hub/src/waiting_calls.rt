@@ -1,13 +1,18 @@
 //! Calls that wait. Each turn is one event, and so one entry.
 
-ghost use Rattle.std.specs.Prelude.{◌≡◌, ◌⊎◌, ◌<◌, ◌≤◌, length, drop, false, IfOk, IfErr, MatchResult};
+ghost use Rattle.std.specs.Prelude.{◌≡◌, ◌⊎◌, ◌<◌, ◌≤◌, length, drop, true, false, IfOk, IfErr, MatchResult};
 ghost use Rattle.ymx_booked.specs.Answers.{IsNotMemory};
 ghost use Rattle.ymx_booked.specs.Books.{Books};
 ghost use Rattle.ymx_machine.specs.declared.types.Reply.TheVariants as reply;
+ghost use Rattle.ymx_model.specs.session.Sessions.{Session};
+ghost use Rattle.ymx_model.specs.session.Emissions.{is_ready};
+ghost use Rattle.ymx_booked.specs.Shown.{IsHistoryOf};
+ghost use Rattle.ymx_hub.specs.Shown.{IsShown};
 ghost use Rattle.ymx_hub.specs.Turns.{AcceptsInTurns, ReadTurns, EndsIn, PingTurns, WriteTurns};
 
 use crate::awaiting::{await_bell, take_lock};
 use crate::hub::Hub;
+use crate::undrained::Undrained;
 use crate::write_fault::WriteFault;
 use std::sync::Wait;
 use ymx_booked::HubFault;
@@ -146,19 +151,30 @@ impl<R: Recorder> Hub<R> {
         unreachable!()
     }
 
-    /// Waits until nothing is due, or a write pump of this hub has ended with `Device` or `Memory`, so that nothing goes
-    /// out any more. It is no event of the session.
-    pub fn drain<W: Wait>(&self, rt: &W, _seat: &mut Seat<R>)
-        ensures { _seat.new ≡ _seat.old }
+    /// Waits until nothing is due. It is no event of the session. Where there is a journal, it shows the whole history to
+    /// the seat in the hold of the lock in which it looks, so what it answers is of the session that this history leads to.
+    ///
+    /// `Undrained`: something is due, and a write pump of this hub has ended with `Device` or `Memory`, so that nothing
+    /// goes out any more.
+    #[tactic(auto, using(crate::proofs::Shown::grown))]
+    pub fn drain<W: Wait>(&self, rt: &W, seat: &mut Seat<R>) -> Result<(), Undrained>
+        ensures shown { IsShown seat.old seat.new }
+        ensures due { (s : Session) × IsHistoryOf R.WITNESSED R.role R.config seat.new.seen s × MatchResult result (λ _. is_ready s ≡ false) (λ _. is_ready s ≡ true) }
     {
         let mut shared = take_lock(rt, &self.shared);
         for _ in rt.forever() {
-            if shared.is_mute || !shared.booked.due() {
-                return;
+            if !shared.booked.due() {
+                shared.booked.show(seat);
+                return Ok(());
+            }
+            if shared.is_mute {
+                shared.booked.show(seat);
+                return Err(Undrained);
             }
             shared.waiters.emptiers = true;
             shared = self.bells.emptied.wait(rt, shared);
         }
+        unreachable!()
     }
 }
 

@@ -1,7 +1,6 @@
 -- What the calls of a half add to what its seat tells.
-use Rattle.std.proofs.Common.{◌≡◌, ℕ, inl, inr, List, [], ◌∷◌, ◌++◌, length, take, drop, true, Some, Result, Ok, Err, MatchResult, IfOk, IfErr, refl, sym, ap, ◌∙◌, append_assoc, append-nil, arith}
+use Rattle.std.proofs.Common.{◌≡◌, ℕ, inl, inr, List, [], ◌∷◌, ◌++◌, take, true, Some, Result, Ok, Err, MatchResult, IfOk, IfErr, refl, sym, ap, ◌∙◌, append_assoc, append-nil, arith}
 use Rattle.std.proofs.lemmas.List.{take_all}
-use Rattle.std.proofs.Math.Seq.{take-add}
 use Rattle.std.specs.Io.KnownBytes.{Appends, Keeps, WriteAppends}
 use Rattle.ymx_machine.specs.declared.types.CallFault.{CallFault}
 use Rattle.ymx_model.specs.session.Events.{Event}
@@ -13,25 +12,10 @@ use Rattle.ymx_booked.specs.declared.faults.HubFault.{HubFault}
 use Rattle.ymx_booked.specs.Answers.{hub_fault_of}
 use Rattle.ymx_booked.specs.Books.{Gains, One, Forgets, SpendsWith, Spends, Closes, to_read, to_finish, to_reset, to_forget}
 use Rattle.ymx_hub.specs.declared.write_fault.WriteFault.{WriteFault}
-use Rattle.ymx_hub.specs.Turns.{took_of, total, EndsIn, AreWrites, WriteTurns, AreWaits, ReadTurns, ReadsLast}
-use Rattle.ymx_tunnel.specs.Told.{offered, bytes_written, read_of, read_bytes, GivesNone, HasSaidEnd, HasToldRefusal}
-
-pub written_append : (xs ys : List Entry) → bytes_written (xs ++ ys) ≡ bytes_written xs ++ bytes_written ys
-written_append [] ys = refl
-written_append (x ∷ xs) ys =
-    ap (λ (l : List ℕ). take (took_of x.reply) (offered x.event) ++ l) (written_append xs ys) ∙ sym (append_assoc (take (took_of x.reply) (offered x.event)) (bytes_written xs) (bytes_written ys))
-
-pub read_append : (xs ys : List Entry) → read_bytes (xs ++ ys) ≡ read_bytes xs ++ read_bytes ys
-read_append [] ys = refl
-read_append (x ∷ xs) ys = ap (λ (l : List ℕ). read_of x.reply ++ l) (read_append xs ys) ∙ sym (append_assoc (read_of x.reply) (read_bytes xs) (read_bytes ys))
-
--- writes of what was left took the first so many bytes
-pub writes_take : (id seat : ℕ) (left : List ℕ) (es : List Entry) → AreWrites id seat left es → bytes_written es ≡ take (total es) left
-writes_take id seat left [] w = refl
-writes_take id seat left (e ∷ es) w =
-    ap (λ (v : Event). take (took_of e.reply) (offered v) ++ bytes_written es) w.0.1
-    ∙ ap (λ (l : List ℕ). take (took_of e.reply) left ++ l) (writes_take id seat (drop (took_of e.reply) left) es w.1)
-    ∙ sym (take-add (took_of e.reply) (total es) left)
+use Rattle.ymx_hub.specs.Turns.{took_of, EndsIn, WriteTurns, ReadTurns, ReadsLast}
+use Rattle.ymx_hub.specs.Carried.{offered, bytes_written, read_bytes}
+use Rattle.ymx_hub.proofs.Carried.{written_append, read_append, all_written, some_written, waits_read, one_read}
+use Rattle.ymx_tunnel.specs.Told.{HasSaidEnd, HasToldRefusal}
 
 -- ---- what is told of entries that were added
 
@@ -49,12 +33,6 @@ tells_same told before after Such joins f (added, e, s) = ap told e ∙ joins be
 
 take_none : (n : ℕ) → take {A = ℕ} n [] ≡ []
 take_none n = take_all {A = ℕ} n [] (omega arith)
-
-all_written : (id seat : ℕ) (bytes : List ℕ) (u : Unit {0}) (added : List Entry) → WriteTurns id bytes seat (Ok u) added → bytes_written added ≡ bytes
-all_written id seat bytes u added (w, (e, last)) = writes_take id seat bytes added w ∙ ap (λ n. take n bytes) e ∙ take_all (length bytes) bytes (omega arith)
-
-some_written : (id seat : ℕ) (bytes : List ℕ) (stop : WriteFault) (added : List Entry) → WriteTurns id bytes seat (Err stop) added → bytes_written added ≡ take stop.taken bytes
-some_written id seat bytes stop added (w, (e, why)) = writes_take id seat bytes added w ∙ ap (λ n. take n bytes) e
 
 pub write_all_took : (before after : List Entry) (id seat : ℕ) (bytes : List ℕ) (result : Result (Unit {0}) WriteFault) → Gains true before after (WriteTurns id bytes seat result) →
     MatchResult result (λ _. Appends (Some (bytes_written before)) (Some (bytes_written after)) bytes)
@@ -90,15 +68,8 @@ reset_keeps before after id seat result g =
 
 -- ---- a source
 
-waits_read : (seat : ℕ) (event : Event) (es : List Entry) → AreWaits seat event reply.ReadWait es → read_bytes es ≡ []
-waits_read seat event [] w = refl
-waits_read seat event (e ∷ es) w = ap (λ (r : Reply). read_of r ++ read_bytes es) w.0.2 ∙ waits_read seat event es w.1
-
-one_read : (seat : ℕ) (event : Event) (told : Reply) (es : List Entry) → One seat event told es → read_bytes es ≡ read_of told
-one_read seat event told es (p, e) = ap read_bytes e ∙ append-nil (read_of told)
-
 bytes_read : (id size : ℕ) (buffer : List ℕ) (seat n : ℕ) (last : List Entry) → ReadsLast id size buffer seat (Ok n) last → read_bytes last ≡ take n buffer
-bytes_read id size buffer seat n last (inl one) = one_read seat (to_read id size) (reply.Read (take n buffer)) last one
+bytes_read id size buffer seat n last (inl (some, one)) = one_read seat (to_read id size) (reply.Read (take n buffer)) last one
 bytes_read id size buffer seat n last (inr (none, one)) = one_read seat (to_read id size) reply.ReadEnd last one ∙ sym (ap (λ k. take k buffer) none)
 
 none_read : (id size : ℕ) (buffer : List ℕ) (seat : ℕ) (fault : HubFault) (last : List Entry) → ReadsLast id size buffer seat (Err fault) last → read_bytes last ≡ []
@@ -121,15 +92,14 @@ read_gave before after id size buffer seat (Err fault) g =
     tells_same read_bytes before after (ReadTurns id size buffer seat (Err fault)) read_append (reads_give_none id size buffer seat fault) g
 
 -- the end was said by the last of some entries
-says_end : (before waits last after : List Entry) (seat : ℕ) (event : Event) (told : Reply) → after ≡ before ++ (waits ++ last) → One seat event told last → GivesNone told → HasSaidEnd after
-says_end before waits last after seat event told e (p, f) none =
-    (before ++ waits, entry p seat event told, [], e ∙ ap (λ (l : List Entry). before ++ (waits ++ l)) f ∙ sym (append_assoc before waits (entry p seat event told ∷ [])), none)
+says_end : (before waits last after : List Entry) (seat : ℕ) (event : Event) → after ≡ before ++ (waits ++ last) → One seat event reply.ReadEnd last → HasSaidEnd after
+says_end before waits last after seat event e (p, f) =
+    (before ++ waits, entry p seat event reply.ReadEnd, [], e ∙ ap (λ (l : List Entry). before ++ (waits ++ l)) f ∙ sym (append_assoc before waits (entry p seat event reply.ReadEnd ∷ [])), refl)
 
 end_read : (before after : List Entry) (id size : ℕ) (buffer : List ℕ) (seat n : ℕ) (added : List Entry) → after ≡ before ++ added → n ≡ 0 → ReadTurns id size buffer seat (Ok n) added → HasSaidEnd after
-end_read before after id size buffer seat n added e none (waits, last, f, w, inl one) =
-    says_end before waits last after seat (to_read id size) (reply.Read (take n buffer)) (e ∙ ap (λ (l : List Entry). before ++ l) f) one (inr (ap (λ k. reply.Read (take k buffer)) none))
+end_read before after id size buffer seat n added e none (waits, last, f, w, inl (some, one)) = absurd (omega arith)
 end_read before after id size buffer seat n added e none (waits, last, f, w, inr (zero, one)) =
-    says_end before waits last after seat (to_read id size) reply.ReadEnd (e ∙ ap (λ (l : List Entry). before ++ l) f) one (inl refl)
+    says_end before waits last after seat (to_read id size) (e ∙ ap (λ (l : List Entry). before ++ l) f) one
 
 pub read_ended : (before after : List Entry) (id size : ℕ) (buffer : List ℕ) (seat : ℕ) (result : Result ℕ HubFault) → Gains true before after (ReadTurns id size buffer seat result) →
     IfOk result (λ count. count ≡ 0 → HasSaidEnd after)

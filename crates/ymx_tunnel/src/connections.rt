@@ -20,7 +20,7 @@ pub struct Connections {
 /// What stands under the lock.
 #[derive(Drop)]
 struct Open {
-    lines: Vec<Arc<Line, Global>>,
+    connections: Vec<Arc<Connection, Global>>,
     /// How many were added so far; it stays at the greatest `u64`.
     added: u64,
     /// The session is over.
@@ -29,7 +29,7 @@ struct Open {
 
 /// A connection that is open.
 #[derive(Drop)]
-pub(crate) struct Line {
+pub(crate) struct Connection {
     pub(crate) stream: TcpStream,
     number: u64,
     /// It has said that no more bytes come from it.
@@ -40,10 +40,10 @@ pub(crate) struct Line {
     has_broken: AtomicBool,
 }
 
-impl Line {
+impl Connection {
     /// A connection that was just made.
-    fn new(stream: TcpStream, number: u64) -> Line {
-        Line {
+    fn new(stream: TcpStream, number: u64) -> Connection {
+        Connection {
             stream,
             number,
             has_ended: AtomicBool::new(false),
@@ -84,7 +84,7 @@ impl Connections {
     pub fn new(alloc: Global) -> Connections {
         Connections {
             open: Mutex::new(Open {
-                lines: Vec::new(alloc),
+                connections: Vec::new(alloc),
                 added: 0,
                 is_over: false,
             }),
@@ -96,8 +96,8 @@ impl Connections {
     pub fn shut<W: Wait>(&self, rt: &W) {
         let mut open = self.open.lock(rt);
         open.is_over = true;
-        for line in open.lines.iter() {
-            line.shut();
+        for connection in open.connections.iter() {
+            connection.shut();
         }
     }
 
@@ -107,34 +107,34 @@ impl Connections {
         rt: &W,
         alloc: Global,
         stream: TcpStream,
-    ) -> Option<Arc<Line, Global>> {
+    ) -> Option<Arc<Connection, Global>> {
         let mut open = self.open.lock(rt);
         let number = open.added;
-        let Ok(line) = Arc::new(alloc, Line::new(stream, number)) else {
+        let Ok(connection) = Arc::new(alloc, Connection::new(stream, number)) else {
             return None;
         };
-        let Ok(other) = Arc::try_clone(&line) else {
+        let Ok(other) = Arc::try_clone(&connection) else {
             return None;
         };
-        if open.lines.push(other).is_err() {
+        if open.connections.push(other).is_err() {
             return None;
         }
         open.added = number.saturating_add(1);
         if open.is_over {
-            line.shut();
+            connection.shut();
         }
-        Some(line)
+        Some(connection)
     }
 
     /// Removes a connection, which closes once its last owner drops it.
-    pub(crate) fn remove<W: Wait>(&self, rt: &W, line: &Line) {
+    pub(crate) fn remove<W: Wait>(&self, rt: &W, connection: &Connection) {
         let mut open = self.open.lock(rt);
         let place = open
-            .lines
+            .connections
             .iter()
-            .position(|other| other.number == line.number);
+            .position(|other| other.number == connection.number);
         if let Some(place) = place {
-            let removed = open.lines.swap_remove(place);
+            let removed = open.connections.swap_remove(place);
             drop(open);
             drop(removed);
         }
@@ -143,41 +143,41 @@ impl Connections {
 
 /// What comes from an open connection. It notes the end, and takes none from a connection that has failed.
 #[derive(Drop)]
-pub(crate) struct ConnectionReader<'a> {
-    line: &'a Line,
+pub(crate) struct TrackedReader<'a> {
+    connection: &'a Connection,
     reader: ConnectionReader<'a>,
     failures: u64,
 }
 
 /// What goes to an open connection. It notes the end, and a failure.
 #[derive(Drop)]
-pub(crate) struct ConnectionWriter<'a> {
-    line: &'a Line,
+pub(crate) struct TrackedWriter<'a> {
+    connection: &'a Connection,
     writer: ConnectionWriter<'a>,
 }
 
-impl<'a> ConnectionReader<'a> {
+impl<'a> TrackedReader<'a> {
     /// What comes from this connection.
-    pub(crate) fn new(line: &'a Line) -> ConnectionReader<'a> {
-        ConnectionReader {
-            line,
-            reader: ConnectionReader::new(&line.stream),
+    pub(crate) fn new(connection: &'a Connection) -> TrackedReader<'a> {
+        TrackedReader {
+            connection,
+            reader: ConnectionReader::new(&connection.stream),
             failures: 0,
         }
     }
 }
 
-impl<'a> ConnectionWriter<'a> {
+impl<'a> TrackedWriter<'a> {
     /// What goes to this connection.
-    pub(crate) fn new(line: &'a Line) -> ConnectionWriter<'a> {
-        ConnectionWriter {
-            line,
-            writer: ConnectionWriter::new(&line.stream),
+    pub(crate) fn new(connection: &'a Connection) -> TrackedWriter<'a> {
+        TrackedWriter {
+            connection,
+            writer: ConnectionWriter::new(&connection.stream),
         }
     }
 }
 
-impl Inlet for ConnectionReader<'_> {
+impl Inlet for TrackedReader<'_> {
     ghost remaining = { λ _. None };
 
     ghost failures = { λ s. s.failures };
@@ -187,8 +187,8 @@ impl Inlet for ConnectionReader<'_> {
             return Err(DeviceFault);
         }
         match self.reader.pull(buffer) {
-            Ok(0) if !self.line.is_broken() => {
-                self.line.has_ended.store(true, Ordering::SeqCst);
+            Ok(0) if !self.connection.is_broken() => {
+                self.connection.has_ended.store(true, Ordering::SeqCst);
                 Ok(0)
             }
             Ok(count) if count > 0 => Ok(count),
@@ -200,7 +200,7 @@ impl Inlet for ConnectionReader<'_> {
     }
 }
 
-impl Outlet for ConnectionWriter<'_> {
+impl Outlet for TrackedWriter<'_> {
     ghost contents = { λ _. None };
 
     ghost failures = { λ s. s.writer.failures };
@@ -208,16 +208,16 @@ impl Outlet for ConnectionWriter<'_> {
     fn push(&mut self, bytes: &[u8]) -> Result<usize, DeviceFault> {
         let pushed = self.writer.push(bytes);
         if pushed.is_err() {
-            self.line.has_broken.store(true, Ordering::SeqCst);
+            self.connection.has_broken.store(true, Ordering::SeqCst);
         }
         pushed
     }
 
     fn end(&mut self) -> Result<(), DeviceFault> {
-        self.line.was_ended.store(true, Ordering::SeqCst);
+        self.connection.was_ended.store(true, Ordering::SeqCst);
         let ended = self.writer.end();
         if ended.is_err() {
-            self.line.has_broken.store(true, Ordering::SeqCst);
+            self.connection.has_broken.store(true, Ordering::SeqCst);
         }
         ended
     }

@@ -2,7 +2,7 @@
 
 ghost use Rattle.std.specs.Prelude.{◌<◌, vec_len, IfOk};
 
-use crate::connections::{Line, ConnectionReader, ConnectionWriter};
+use crate::connections::{Connection, TrackedReader, TrackedWriter};
 use crate::copied::{Copied, CopyWhy};
 use crate::copying::{copy_in, copy_out};
 use std::alloc::{AllocError, Global};
@@ -51,42 +51,42 @@ impl<H> Lent<H> {
 pub(crate) fn inward<R: Wait>(
     rt: &R,
     alloc: Global,
-    line: &Line,
+    connection: &Connection,
     lent: &Lent<Writer>,
 ) -> EndedCopy {
     let Some(writer) = lent.take(rt) else {
-        return ended(line, 0, CopyWhy::Sink);
+        return ended(connection, 0, CopyWhy::Sink);
     };
     let Ok(mut buffer) = copy_buffer(alloc) else {
         let _ = writer.reset(rt);
-        return ended(line, 0, CopyWhy::Memory);
+        return ended(connection, 0, CopyWhy::Memory);
     };
-    let mut inlet = ConnectionReader::new(line);
+    let mut inlet = TrackedReader::new(connection);
     let sink = writer.into_half();
     let Copied { bytes, why, left } = copy_in(rt, &mut inlet, sink, buffer.as_mut_slice());
     discard(left);
-    ended(line, bytes, why)
+    ended(connection, bytes, why)
 }
 
 /// Copies from the stream out to the connection by the half that is lent, and spends it.
 pub(crate) fn outward<R: Wait>(
     rt: &R,
     alloc: Global,
-    line: &Line,
+    connection: &Connection,
     lent: &Lent<Reader>,
 ) -> EndedCopy {
     let Some(reader) = lent.take(rt) else {
-        return ended(line, 0, CopyWhy::Source);
+        return ended(connection, 0, CopyWhy::Source);
     };
     let Ok(mut buffer) = copy_buffer(alloc) else {
         let _ = reader.close(rt);
-        return ended(line, 0, CopyWhy::Memory);
+        return ended(connection, 0, CopyWhy::Memory);
     };
-    let mut outlet = ConnectionWriter::new(line);
+    let mut outlet = TrackedWriter::new(connection);
     let source = reader.into_half();
     let Copied { bytes, why, left } = copy_out(rt, source, &mut outlet, buffer.as_mut_slice());
     discard(left);
-    ended(line, bytes, why)
+    ended(connection, bytes, why)
 }
 
 /// The buffer of one copy.
@@ -98,11 +98,11 @@ fn copy_buffer(alloc: Global) -> Result<Vec<u8>, AllocError>
 
 /// One direction has ended. At a fault the connection is shut both ways, so that the other direction ends too. It
 /// doesn't take that for an end: where the stream was reset or the session lost, its half of the stream says so.
-pub(crate) fn ended(line: &Line, bytes: u64, why: CopyWhy) -> EndedCopy {
+pub(crate) fn ended(connection: &Connection, bytes: u64, why: CopyWhy) -> EndedCopy {
     match why {
         CopyWhy::End => {}
-        CopyWhy::Reset | CopyWhy::Lost => line.shut_down(),
-        CopyWhy::Source | CopyWhy::Sink | CopyWhy::Memory => line.break_off(),
+        CopyWhy::Reset | CopyWhy::Lost => connection.shut_down(),
+        CopyWhy::Source | CopyWhy::Sink | CopyWhy::Memory => connection.break_off(),
     }
     EndedCopy { bytes, why }
 }

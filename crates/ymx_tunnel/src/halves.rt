@@ -3,7 +3,8 @@
 
 ghost use Rattle.std.specs.Prelude.{Some, None, ⊤, true};
 ghost use Rattle.ymx_booked.specs.Books.{Books, Spends, to_finish, to_reset};
-ghost use Rattle.ymx_tunnel.specs.Told.{bytes_written, read_bytes, HasSaidEnd, HasToldRefusal};
+ghost use Rattle.ymx_hub.specs.Carried.{bytes_written, read_bytes};
+ghost use Rattle.ymx_tunnel.specs.Told.{HasSaidEnd, HasToldRefusal};
 
 use crate::ends::{Sink, Source};
 use std::sync::Wait;

@@ -1,6 +1,6 @@
 //! A connection joined to a stream: both ways at once, each in a thread of its own.
 
-use crate::connections::{Connections, Line};
+use crate::connections::{Connection, Connections};
 use crate::copied::CopyWhy;
 use crate::direction::{EndedCopy, Lent, inward, outward, spend};
 use std::alloc::Global;
@@ -61,14 +61,14 @@ pub(crate) fn join_both<R: Threads + Wait + Sync>(
     writer: Writer,
     reader: Reader,
 ) -> EndedConnection {
-    let Some(line) = connections.add(rt, alloc, stream) else {
+    let Some(connection) = connections.add(rt, alloc, stream) else {
         spend(rt, Some(writer), Some(reader));
         return EndedConnection::without_memory();
     };
     let (writer, reader) = (Lent::new(writer), Lent::new(reader));
-    let joined = copy_both(rt, alloc, &line, &writer, &reader);
+    let joined = copy_both(rt, alloc, &connection, &writer, &reader);
     spend(rt, writer.into_inner(), reader.into_inner());
-    connections.remove(rt, &line);
+    connections.remove(rt, &connection);
     joined
 }
 
@@ -77,16 +77,16 @@ pub(crate) fn join_both<R: Threads + Wait + Sync>(
 fn copy_both<'x, R: Threads + Wait + Sync>(
     rt: &'x R,
     alloc: Global,
-    line: &'x Line,
+    connection: &'x Connection,
     writer: &'x Lent<Writer>,
     reader: &'x Lent<Reader>,
 ) -> EndedConnection {
     thread::scope(thread::scope_env(), rt, move |scope| {
-        let Ok(other) = scope.spawn(move || outward(rt, alloc, line, reader)) else {
-            line.break_off();
+        let Ok(other) = scope.spawn(move || outward(rt, alloc, connection, reader)) else {
+            connection.break_off();
             return EndedConnection::without_memory();
         };
-        let inward = inward(rt, alloc, line, writer);
+        let inward = inward(rt, alloc, connection, writer);
         let outward = other.join(rt);
         EndedConnection { inward, outward }
     })
