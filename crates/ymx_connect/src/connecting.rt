@@ -90,7 +90,7 @@ pub fn connect<
         Ok(prepared) => prepared,
         Err(fault) => return Err(fault),
     };
-    match run(rt, alloc, prepared, reader, writer, work) {
+    match run(rt, prepared, reader, writer, work) {
         Some(connected) => Ok(connected),
         None => Err(ConnectFault::Memory),
     }
@@ -135,7 +135,7 @@ fn run<
     O: Outlet + Send + Drop,
     T: Drop,
     F: FnOnce(&Handle) -> T,
->(rt: &W, alloc: Global, prepared: Prepared, reader: I, writer: O, work: F) -> Option<Connected<T>>
+>(rt: &W, prepared: Prepared, reader: I, writer: O, work: F) -> Option<Connected<T>>
     requires { F.IsAlwaysCallable work }
     ensures answered { IfSome result (λ connected. Answered F.FnOnce work connected.answer) }
     ensures spared { IfSome result (λ connected. IsSpared connected.ended) }
@@ -146,7 +146,7 @@ fn run<
         into,
         out_of,
     } = prepared;
-    let (hub, handle) = (&*hub, &handle);
+    let hub = &*hub;
     thread::scope(
         thread::scope_env(),
         rt,
@@ -155,12 +155,8 @@ fn run<
             ensures answered { IfSome result (λ connected. Answered F.FnOnce work connected.answer) }
             ensures spared { IfSome result (λ connected. IsSpared connected.ended) }
         {
-            let writing = scope
-                .spawn(move || pump_out(rt, alloc, hub, writer, out_of))
-                .ok()?;
-            let reading = scope
-                .spawn(move || pump_in(rt, alloc, hub, reader, into))
-                .ok();
+            let writing = scope.spawn(move || pump_out(rt, hub, writer, out_of)).ok()?;
+            let reading = scope.spawn(move || pump_in(rt, hub, reader, into)).ok();
             if reading.is_none() {
                 let _ = handle.close(rt);
             }
@@ -170,25 +166,25 @@ fn run<
             let read = reading.join(rt);
             Some(Connected {
                 answer,
-                ended: ended(read, written),
+                ended: both_ended(read, written),
             })
         },
     )
 }
 
 /// Calls the caller's function, waits until all is sent, and closes the session.
-fn work_and_close<W: Wait, T, F: FnOnce(&Handle) -> T>(rt: &W, handle: &Handle, work: F) -> T
+fn work_and_close<W: Wait, T, F: FnOnce(&Handle) -> T>(rt: &W, handle: Handle, work: F) -> T
     requires { F.IsAlwaysCallable work }
     ensures { Answered F.FnOnce work result }
 {
-    let answer = work(handle);
-    handle.drain(rt);
+    let answer = work(&handle);
+    let _ = handle.drain(rt);
     let _ = handle.close(rt);
     answer
 }
 
 /// How both pumps ended.
-fn ended(read: PumpedIn, written: PumpedOut) -> Ended
+pub fn both_ended(read: PumpedIn, written: PumpedOut) -> Ended
     ensures spared { IsSpared result }
     ensures read { (result.read ≡ read.why) × (result.read_bytes ≡ read.moved) }
     ensures written { (result.written ≡ written.why) × (result.written_bytes ≡ written.moved) }

@@ -3,33 +3,61 @@
 //! Once both halves are spent the stream is given up. If it was finished and the peer's end has come, what is unsent
 //! still goes out; else it is reset, and what is unsent is dropped.
 
-ghost use Rattle.std.specs.Prelude.{◌≡◌, ◌<◌, ◌≤◌, length, IfOk, IfErr};
+ghost use Rattle.std.specs.Prelude.{◌≡◌, ◌<◌, ◌≤◌, List, ℕ, length, drop, false, IfOk, IfErr, MatchResult};
+ghost use Rattle.ymx_machine.specs.declared.types.Reply.TheVariants as reply;
 ghost use Rattle.ymx_booked.specs.Answers.{IsNotMemory};
+ghost use Rattle.ymx_booked.specs.Books.{Books};
+ghost use Rattle.ymx_hub.specs.Turns.{ReadTurns, WriteTurns};
+ghost use Rattle.ymx_connect.specs.Streams.{ReadsUpTo, ReadsUntil, Copies};
 
 use std::alloc::Global;
+use std::marker::Model;
 use std::sync::Wait;
-use ymx_hub::{HubFault, Off, ReadHalf, Seat, WriteFault, WriteHalf};
+use ymx_hub::{HubFault, Off, ReadHalf, Recorder, Seat, WriteFault, WriteHalf};
 
 /// Bytes that `read_all` reads at once.
 const CHUNK: usize = 4_096;
 
-/// The writing half of a stream. It must be spent, by `finish` or `reset`: it cannot be dropped.
-pub struct Writer {
-    half: WriteHalf<Off>,
+/// The writing half of a stream. It must be spent, by `finish` or `reset`: it cannot be dropped. A contract sees the id
+/// of its stream and its seat.
+pub struct Writer<R: Recorder = Off> {
+    half: WriteHalf<R>,
 }
 
-/// The reading half of a stream. It must be spent, by `close`: it cannot be dropped.
-pub struct Reader {
-    half: ReadHalf<Off>,
+/// The reading half of a stream. It must be spent, by `close`: it cannot be dropped. A contract sees the id of its
+/// stream and its seat.
+pub struct Reader<R: Recorder = Off> {
+    half: ReadHalf<R>,
 }
 
-impl Writer {
-    pub(crate) fn new(half: WriteHalf<Off>) -> Writer {
+impl<R: Recorder> Model for Writer<R> {
+    ghost use Rattle.ymx_hub.specs.Halves.{HalfView};
+
+    ghost Value = { HalfView };
+
+    ghost view = { λ writer. writer.half };
+}
+
+impl<R: Recorder> Model for Reader<R> {
+    ghost use Rattle.ymx_hub.specs.Halves.{HalfView};
+
+    ghost Value = { HalfView };
+
+    ghost view = { λ reader. reader.half };
+}
+
+impl<R: Recorder> Writer<R> {
+    /// The writer over a half of a hub.
+    pub fn new(half: WriteHalf<R>) -> Writer<R>
+        ensures { result ≡ half }
+    {
         Writer { half }
     }
 
     /// The half of the hub, for a call that takes one.
-    pub fn into_half(self) -> WriteHalf<Off> {
+    pub fn into_half(self) -> WriteHalf<R>
+        ensures { result ≡ self }
+    {
         let Writer { half } = self;
         half
     }
@@ -39,7 +67,9 @@ impl Writer {
     /// Refused with `Closed`, with `Reset` where the peer has reset the stream, and with `Lost`, before it waits or
     /// while it does. `Memory` where there is none for more than 262,144 unsent bytes.
     pub fn write_all<W: Wait>(&mut self, rt: &W, bytes: &[u8]) -> Result<(), WriteFault>
-        ensures { IfErr result (λ stop. stop.taken ≤ length bytes.now) }
+        ensures same { self.new.id ≡ self.old.id }
+        ensures booked { Books R.KEEPS self.old.seat self.new.seat (WriteTurns self.old.id bytes.now self.old.seat.number result) }
+        ensures within { IfErr result (λ stop. stop.taken ≤ length bytes.now) }
     {
         self.half.write_all(rt, bytes)
     }
@@ -49,7 +79,7 @@ impl Writer {
     ///
     /// Refused with `Closed`, `Reset` and `Lost`.
     pub fn finish<W: Wait>(self, rt: &W) -> Result<(), HubFault>
-        ensures { IsNotMemory result }
+        ensures { R.KEEPS ≡ false → IsNotMemory result }
     {
         let Writer { half } = self;
         let (seat, finished) = half.finish(rt);
@@ -62,7 +92,7 @@ impl Writer {
     ///
     /// Refused with `Closed`, with `Reset` where the peer was first, and with `Lost`.
     pub fn reset<W: Wait>(self, rt: &W) -> Result<(), HubFault>
-        ensures { IsNotMemory result }
+        ensures { R.KEEPS ≡ false → IsNotMemory result }
     {
         let Writer { half } = self;
         let (seat, was_reset) = half.reset(rt);
@@ -71,43 +101,59 @@ impl Writer {
     }
 }
 
-impl Reader {
-    pub(crate) fn new(half: ReadHalf<Off>) -> Reader {
+impl<R: Recorder> Reader<R> {
+    /// The reader over a half of a hub.
+    pub fn new(half: ReadHalf<R>) -> Reader<R>
+        ensures { result ≡ half }
+    {
         Reader { half }
     }
 
     /// The half of the hub, for a call that takes one.
-    pub fn into_half(self) -> ReadHalf<Off> {
+    pub fn into_half(self) -> ReadHalf<R>
+        ensures { result ≡ self }
+    {
         let Reader { half } = self;
         half
     }
 
     /// Waits for bytes, and moves those that are there and fit to the front of the buffer. 0 is the end: the peer has
-    /// finished, and all was read.
+    /// finished, and all was read. The rest of the buffer stays as it was, and all of it where the call is refused.
     ///
     /// Refused with `Closed` and with `Reset`, and with `Lost` once what was there is read, before it waits or while
     /// it does.
     pub fn read<W: Wait>(&mut self, rt: &W, buffer: &mut [u8]) -> Result<usize, HubFault>
         requires { 0 < length buffer.old }
+        ensures same { self.new.id ≡ self.old.id }
+        ensures booked { Books R.KEEPS self.old.seat self.new.seat (ReadTurns self.old.id (length buffer.old) buffer.new self.old.seat.number result) }
         ensures within { IfOk result (λ count. count ≤ length buffer.old) }
-        ensures memory { IsNotMemory result }
+        ensures length { length buffer.new ≡ length buffer.old }
+        ensures rest { MatchResult result (λ count. drop count buffer.new ≡ drop count buffer.old) (λ fault. buffer.new ≡ buffer.old) }
+        ensures off { R.KEEPS ≡ false → IsNotMemory result }
     {
         self.half.read(rt, buffer)
     }
 
-    /// Reads up to the end. `Memory` comes where there is none for the bytes, and any fault of the half when it comes;
-    /// what was read before is gone then.
-    pub fn read_all<W: Wait>(&mut self, rt: &W, alloc: Global) -> Result<Vec<u8>, HubFault> {
+    /// Reads up to the end, and gives all bytes that were read, in order. `Memory` comes where there is none for the
+    /// bytes, and any fault of the half when it comes; what was read before is gone then.
+    pub fn read_all<W: Wait>(&mut self, rt: &W, alloc: Global) -> Result<Vec<u8>, HubFault>
+        ensures same { self.new.id ≡ self.old.id }
+        ensures all { IfOk result (λ bytes. Books R.KEEPS self.old.seat self.new.seat (ReadsUpTo reply.ReadEnd self.old.id self.old.seat.number bytes.items)) }
+        ensures stopped { IfErr result (λ fault. (bytes : List ℕ) × Books R.KEEPS self.old.seat self.new.seat (ReadsUntil fault self.old.id self.old.seat.number bytes)) }
+    {
         let mut buffer = [0; CHUNK];
         let mut bytes = Vec::new(alloc);
         for _ in rt.forever() {
-            let count = self.read(rt, &mut buffer)?;
+            let count = match self.read(rt, &mut buffer) {
+                Ok(count) => count,
+                Err(fault) => return Err(fault),
+            };
             if count == 0 {
                 return Ok(bytes);
             }
-            if bytes.extend_from_slice(&buffer[..count]).is_err() {
+            let Ok(()) = bytes.extend_from_slice(&buffer[..count]) else {
                 return Err(HubFault::Memory);
-            }
+            };
         }
         unreachable!()
     }
@@ -117,7 +163,7 @@ impl Reader {
     ///
     /// Refused with `Closed`, only where the stream is given up.
     pub fn close<W: Wait>(self, rt: &W) -> Result<(), HubFault>
-        ensures { IsNotMemory result }
+        ensures { R.KEEPS ≡ false → IsNotMemory result }
     {
         let Reader { half } = self;
         let (seat, closed) = half.close(rt);
@@ -126,20 +172,30 @@ impl Reader {
     }
 }
 
-/// Reads up to the end, and writes what was read: how many bytes, at most the greatest `u64`. A fault of either half
-/// comes when it comes, and what was read and not written is gone then.
-pub fn copy<W: Wait>(rt: &W, reader: &mut Reader, writer: &mut Writer) -> Result<u64, HubFault> {
+/// Reads up to the end, and writes all that was read, in order: how many bytes, at most the greatest `u64`. A fault of
+/// either half comes when it comes, and what was read and not written is gone then.
+pub fn copy<W: Wait, R: Recorder, S: Recorder>(
+    rt: &W,
+    reader: &mut Reader<R>,
+    writer: &mut Writer<S>,
+) -> Result<u64, HubFault>
+    ensures same { (reader.new.id ≡ reader.old.id) × (writer.new.id ≡ writer.old.id) }
+    ensures copied { Copies R.KEEPS S.KEEPS reader.old writer.old reader.new.seat writer.new.seat result }
+{
     let mut buffer = [0; CHUNK];
     let mut copied = 0u64;
     for _ in rt.forever() {
-        let count = reader.read(rt, &mut buffer)?;
+        let count = match reader.read(rt, &mut buffer) {
+            Ok(count) => count,
+            Err(fault) => return Err(fault),
+        };
         if count == 0 {
             return Ok(copied);
         }
-        if let Err(stop) = writer.write_all(rt, &buffer[..count]) {
-            return Err(stop.fault);
+        match writer.write_all(rt, &buffer[..count]) {
+            Ok(()) => copied = copied.saturating_add(count as u64),
+            Err(stop) => return Err(stop.fault),
         }
-        copied = copied.saturating_add(count as u64);
     }
     unreachable!()
 }
@@ -154,7 +210,7 @@ pub fn close_stream<W: Wait>(rt: &W, writer: Writer, reader: Reader) -> Result<(
     finished.and(closed)
 }
 
-/// Lets a seat go. With the recorder `Off` it holds nothing.
-pub(crate) fn discard(seat: Seat<Off>) {
+/// Lets a seat go, with its entries. With the recorder `Off` it holds none.
+pub(crate) fn discard<R: Recorder>(seat: Seat<R>) {
     let _ = seat.into_entries();
 }

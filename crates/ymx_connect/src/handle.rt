@@ -6,7 +6,7 @@ ghost use Rattle.ymx_booked.specs.Answers.{IsNotMemory};
 use crate::halves::{Reader, Writer, discard};
 use std::alloc::{AllocError, Global};
 use std::sync::{Arc, Wait};
-use ymx_hub::{Acceptor, Hub, HubFault, Off, Opener, Seat};
+use ymx_hub::{Acceptor, Hub, HubFault, Off, Opener, Seat, Undrained};
 
 /// A running session, as the caller's function sees it. Threads may share it, and each may make any call.
 #[derive(Drop)]
@@ -16,7 +16,7 @@ pub struct Handle {
 }
 
 /// A seat. With the recorder `Off` nothing is booked at a seat, so it needs no hub.
-pub(crate) fn unbooked(alloc: Global) -> Seat<Off> {
+fn unbooked(alloc: Global) -> Seat<Off> {
     Seat::new(alloc, 0, 0)
 }
 
@@ -96,11 +96,14 @@ impl Handle {
         said
     }
 
-    /// Waits until all that is due was emitted, or nothing goes out any more.
-    pub fn drain<W: Wait>(&self, rt: &W) {
+    /// Waits until nothing is due: all that was due was emitted.
+    ///
+    /// `Undrained`: something is due, and the write pump has ended with `Device`, so that nothing goes out any more.
+    pub fn drain<W: Wait>(&self, rt: &W) -> Result<(), Undrained> {
         let mut seat = unbooked(self.alloc);
-        self.hub.drain(rt, &mut seat);
+        let drained = self.hub.drain(rt, &mut seat);
         discard(seat);
+        drained
     }
 
     /// Closes the session at once, and wakes all who wait: they answer `Closed`. What is not sent is dropped. It is
@@ -116,7 +119,10 @@ impl Handle {
 
     /// Whether the session goes on: it is neither lost, broken nor closed.
     pub fn is_running<W: Wait>(&self, rt: &W) -> bool {
-        self.hub.is_running(rt)
+        let mut seat = unbooked(self.alloc);
+        let is_running = self.hub.is_running(rt, &mut seat);
+        discard(seat);
+        is_running
     }
 
     /// Whether a stream of the peer's was rejected here for want of memory.

@@ -1,14 +1,12 @@
 //! The two pumps, each in a thread of its own.
 
-ghost use Rattle.std.specs.Prelude.{◌≡◌, ◌<◌, vec_len};
+ghost use Rattle.std.specs.Prelude.{◌≡◌, ◌<◌, vec_len, false};
 ghost use Rattle.ymx_header.specs.declared.fault.Fault.{Fault};
 ghost use Rattle.ymx_pumps.specs.declared.pump_end.PumpWhy.TheVariants.{Memory, Broken};
 
-use crate::halves::discard;
-use crate::handle::unbooked;
 use std::alloc::{AllocError, Global};
 use std::sync::Wait;
-use ymx_hub::{Hub, Off};
+use ymx_hub::{Hub, Recorder};
 use ymx_model::{Inlet, Outlet};
 use ymx_pumps::{Gate, PumpEnd, PumpWhy, read_pump, write_pump};
 
@@ -20,24 +18,28 @@ const WRITE_BUFFER: usize = 8 * (12 + 16_384);
 
 /// What a pump moves bytes through.
 #[derive(Drop)]
-pub(crate) struct Buffer {
+pub struct Buffer {
     bytes: Vec<u8>,
     ghost not_empty: { 0 < vec_len bytes },
 }
 
 /// How the read pump ended, as its thread says.
 #[derive(Clone, Copy, Drop)]
-pub(crate) struct PumpedIn {
-    pub(crate) why: PumpWhy,
-    pub(crate) moved: u64,
+pub struct PumpedIn {
+    /// Why it ended.
+    pub why: PumpWhy,
+    /// How many bytes it fed.
+    pub moved: u64,
     ghost spared: { why ≡ Memory → ⊥ },
 }
 
 /// How the write pump ended, as its thread says.
 #[derive(Clone, Copy, Drop)]
-pub(crate) struct PumpedOut {
-    pub(crate) why: PumpWhy,
-    pub(crate) moved: u64,
+pub struct PumpedOut {
+    /// Why it ended.
+    pub why: PumpWhy,
+    /// How many bytes it wrote.
+    pub moved: u64,
     ghost spared: { why ≡ Memory → ⊥ },
     ghost whole: { (fault : Fault) → why ≡ Broken fault → ⊥ },
 }
@@ -62,60 +64,63 @@ impl Gate for Open {
 
 impl Buffer {
     /// What the read pump moves bytes through.
-    pub(crate) fn for_reading(alloc: Global) -> Result<Buffer, AllocError> {
+    pub fn for_reading(alloc: Global) -> Result<Buffer, AllocError> {
         let bytes = vec![in alloc; 0u8; READ_BUFFER]?;
         Ok(Buffer { bytes })
     }
 
     /// What the write pump moves bytes through.
-    pub(crate) fn for_writing(alloc: Global) -> Result<Buffer, AllocError> {
+    pub fn for_writing(alloc: Global) -> Result<Buffer, AllocError> {
         let bytes = vec![in alloc; 0u8; WRITE_BUFFER]?;
         Ok(Buffer { bytes })
     }
 }
 
-/// Runs the read pump, until it ends.
-pub(crate) fn pump_in<W: Wait, I: Inlet + Drop>(
+/// Runs the read pump with a seat of its own, until it ends. A hub that gives it none, as it has given 4,294,967,295 or has
+/// handed its transcript out, counts as a gate that lets nothing through.
+pub fn pump_in<R: Recorder, W: Wait, I: Inlet + Drop>(
     rt: &W,
-    alloc: Global,
-    hub: &Hub<Off>,
+    hub: &Hub<R>,
     reader: I,
     buffer: Buffer,
-) -> PumpedIn {
+) -> PumpedIn
+    requires { R.KEEPS ≡ false }
+{
+    let Ok(seat) = hub.seat(rt) else {
+        return PumpedIn {
+            why: PumpWhy::Gate,
+            moved: 0,
+        };
+    };
     let Buffer { mut bytes } = buffer;
     let mut reader = reader;
-    let end = read_pump(
-        rt,
-        hub,
-        unbooked(alloc),
-        &mut reader,
-        &mut Open,
-        bytes.as_mut_slice(),
-    );
+    let end = read_pump(rt, hub, seat, &mut reader, &mut Open, bytes.as_mut_slice());
     let PumpEnd { seat, moved, why } = end;
-    discard(seat);
+    let _ = seat.into_entries();
     PumpedIn { why, moved }
 }
 
-/// Runs the write pump, until it ends.
-pub(crate) fn pump_out<W: Wait, O: Outlet + Drop>(
+/// Runs the write pump with a seat of its own, until it ends. A hub that gives it none, as it has given 4,294,967,295 or has
+/// handed its transcript out, counts as a gate that lets nothing through; then nothing goes out.
+pub fn pump_out<R: Recorder, W: Wait, O: Outlet + Drop>(
     rt: &W,
-    alloc: Global,
-    hub: &Hub<Off>,
+    hub: &Hub<R>,
     writer: O,
     buffer: Buffer,
-) -> PumpedOut {
+) -> PumpedOut
+    requires { R.KEEPS ≡ false }
+{
+    let Ok(seat) = hub.seat(rt) else {
+        hub.give_up(rt);
+        return PumpedOut {
+            why: PumpWhy::Gate,
+            moved: 0,
+        };
+    };
     let Buffer { mut bytes } = buffer;
     let mut writer = writer;
-    let end = write_pump(
-        rt,
-        hub,
-        unbooked(alloc),
-        &mut writer,
-        &mut Open,
-        bytes.as_mut_slice(),
-    );
+    let end = write_pump(rt, hub, seat, &mut writer, &mut Open, bytes.as_mut_slice());
     let PumpEnd { seat, moved, why } = end;
-    discard(seat);
+    let _ = seat.into_entries();
     PumpedOut { why, moved }
 }

@@ -1,0 +1,11 @@
+use Rattle.std.proofs.Common.{◌≡◌}
+use Rattle.ymx_booked.specs.Books.{Books}
+use Rattle.ymx_connect.specs.Streams.{ReadsOn}
+use Rattle.ymx_connect.proofs.halves.Reader.read_all.Given as goal
+
+abbrev pub invariant-loop : goal.invariant-loop
+invariant-loop g l = record {
+  next : (goal.iterator-loop g).can_next l.iterator' × (goal.iterator-loop g).is_finite l.iterator';
+  same : l.self.id ≡ l.initial.self.id;
+  read : Books g.R.Recorder.KEEPS l.initial.self.seat l.self.seat (ReadsOn l.initial.self.id l.initial.self.seat.number l.bytes.items);
+}
