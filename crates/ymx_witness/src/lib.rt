@@ -5,12 +5,14 @@
 //! journal, in one place, and runs the program.
 #![tactic(auto)]
 
+mod connecting;
+
 ghost use Rattle.std.specs.Prelude.{◌≡◌, None, IfOk, IfErr};
 ghost use Rattle.ymx_session.specs.NewSessions.{new_fault};
-ghost use Rattle.ymx_seats.specs.Transcripts.{IsNew};
-ghost use Rattle.ymx_booked.specs.Booked.{config_of};
 ghost use Rattle.ymx_connect.specs.Connecting.{IsConnectFault};
+ghost use Rattle.ymx_witness.specs.Settings.{with_first, IsMadeWith, IsNamed};
 
+pub use connecting::connected;
 use std::alloc::{AllocError, Global};
 use std::marker::Brand;
 use std::sync::{Arc, Wait};
@@ -26,13 +28,19 @@ pub trait Program: Drop {
     /// What it answers.
     type Answer: Drop;
 
-    /// Runs the program with this hub, which runs no pumps. Whatever name the journal has, each seat of the hub knows the
-    /// history of the session as it was at the seat's last call, and each call says how that has grown.
+    /// Runs the program with this hub, which runs no pumps, of a session of this role and config. Whatever name the journal
+    /// has, each seat of the hub knows the history of the session as it was at the seat's last call, and each call says how
+    /// that has grown. It is the history of a session of this role and config, where 0 as the first own id stands for 1 at a
+    /// client and 2 at a server.
     fn run<J: Naming + Send + Sync, W: Wait>(
         self,
         rt: &W,
+        role: Role,
+        config: Config,
         hub: Arc<Hub<Witnessed<J>>, Global>,
-    ) -> Self::Answer;
+    ) -> Self::Answer
+        requires role { role ≡ J.role }
+        requires config { with_first role config ≡ J.config };
 }
 
 /// Makes a session of this role and config (bytes of its window, and the first own id), a journal and a hub, and runs a
@@ -50,6 +58,26 @@ pub fn witnessed<P: Program, W: Wait>(
     ensures may { IfOk result (λ answer. new_fault role config ≡ None) }
     ensures refused { IfErr result (λ fault. IsConnectFault role config fault) }
 {
+    let (session, opened) = match begin(alloc, role, config) {
+        Ok(begun) => begun,
+        Err(fault) => return Err(fault),
+    };
+    match run_with::<Brand, P, W>(rt, alloc, role, config, session, opened, program) {
+        Ok(answer) => Ok(answer),
+        Err(_) => Err(ConnectFault::Memory),
+    }
+}
+
+/// A new session, and a journal that has no name yet.
+pub(crate) fn begin(
+    alloc: Global,
+    role: Role,
+    config: Config,
+) -> Result<(Session, Opened), ConnectFault>
+    ensures may { IfOk result (λ begun. new_fault role config ≡ None) }
+    ensures made { IfOk result (λ begun. IsMadeWith role config begun.0) }
+    ensures refused { IfErr result (λ fault. IsConnectFault role config fault) }
+{
     let session = match Session::new(alloc, role, config) {
         Ok(session) => session,
         Err(fault) => return Err(ConnectFault::Session(fault)),
@@ -57,10 +85,7 @@ pub fn witnessed<P: Program, W: Wait>(
     let Ok(opened) = Opened::new(alloc) else {
         return Err(ConnectFault::Memory);
     };
-    match run_with::<Brand, P, W>(rt, alloc, session, opened, program) {
-        Ok(answer) => Ok(answer),
-        Err(_) => Err(ConnectFault::Memory),
-    }
+    Ok((session, opened))
 }
 
 /// Runs a program with the hub of this session, whose journal has this name. `AllocError`, and it has not run, where there
@@ -68,15 +93,15 @@ pub fn witnessed<P: Program, W: Wait>(
 fn run_with<J: Naming + Send + Sync, P: Program, W: Wait>(
     rt: &W,
     alloc: Global,
+    role: Role,
+    config: Config,
     session: Session,
     opened: Opened,
     program: P,
 ) -> Result<P::Answer, AllocError>
-    requires new { IsNew session }
-    requires named { opened ≡ J.table }
-    requires role { session.role ≡ J.role }
-    requires config { config_of session ≡ J.config }
+    requires made { IsMadeWith role config session }
+    requires named { IsNamed role config opened J.role J.config J.table }
 {
     let hub = Hub::<Witnessed<J>>::witnessed(alloc, session, opened)?;
-    Ok(program.run(rt, hub))
+    Ok(program.run(rt, role, config, hub))
 }
