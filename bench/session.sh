@@ -1,7 +1,7 @@
 #!/bin/sh
-# Times two sessions that talk in one thread over a buffer of 64 KiB each way: payload of one stream, messages
-# of 64 streams, both beside idle streams, whole streams, and pings. Medians of five runs. Needs `rt`; proves and
-# builds in a temporary folder, which takes some minutes.
+# Times two sessions that talk in one thread over a buffer of 64 KiB each way: payload of one stream, frames one
+# by one, messages of 64 streams, beside idle streams too, whole streams, and pings. Medians of five runs. Needs
+# `rt`; proves and builds in a temporary folder, which takes some minutes.
 set -eu
 top=$(cd "$(dirname "$0")/.." && pwd)
 work=$(mktemp -d)
