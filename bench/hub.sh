@@ -17,7 +17,7 @@ for crate in ymx_header ymx_cutter ymx_credit ymx_ring ymx_machine ymx_model ymx
     grep "^$crate[ :]" "$top/crates.txt" >> "$work/crates.txt"
 done
 below=$(sed -n 's/^ymx_tunnel [^:]*: //p' "$top/crates.txt")
-echo "hub_bench: ymx_tunnel ymx_pumps ymx_ring $below anyhow" >> "$work/crates.txt"
+echo "hub_bench: ymx_tunnel ymx_ring $below anyhow" >> "$work/crates.txt"
 cp "$top/bench/hub_bench.rattle" "$work/crates/hub_bench/src/main.rt"
 cp "$top/HANDLES" "$work/HANDLES"
 echo "proving and building the bench (some minutes)" >&2

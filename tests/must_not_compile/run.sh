@@ -23,7 +23,7 @@ for program in "$here"/*.rattle; do
     ! grep -q '^use ymx_hub::' "$program" || crate=misuse_of_hubs
     ! grep -q '^use ymx_connect::' "$program" || crate=misuse_of_the_door
     cp "$program" "$scratch/crates/$crate/src/main.rt"
-    try='timeout 300 rt check'
+    try='timeout 1200 rt check'
     [ "$want" != 'run=ended status=0' ] || try='rt try'
     answer=$(cd "$scratch/crates/$crate" && $try 2>&1 || true)
     if printf '%s\n' "$answer" | grep -qF -- "$want"; then
