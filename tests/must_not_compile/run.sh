@@ -1,9 +1,9 @@
 #!/bin/sh
 # Tries to compile each program of this folder over the libraries of the repository. The second line of
 # a program is what the compiler has to answer: an error, or, of the program that checks this script
-# itself, that it ran. Nothing is proved here, and the repository is left alone: over libraries that aren't built `rt check`
-# first reads the sources, and where it finds such an error it ends there. Had it found none, it would prove them all, and
-# is stopped.
+# itself, that it ran. The repository is left alone. Where nothing of the libraries is kept, `rt check` first
+# reads the sources, and where it finds such an error it ends there. Where proofs of another text of theirs are
+# kept, it builds the libraries first. Had it found no error, it would prove them all, and is stopped.
 set -eu
 here=$(cd "$(dirname "$0")" && pwd)
 . "$here/../over.sh"
