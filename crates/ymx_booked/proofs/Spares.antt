@@ -28,7 +28,7 @@ Spares o = wants o.reply ≡ false
 
 -- ---- of a reply, a result, an answer
 
-only_memory : (fault : CallFault) → hub_fault_of fault ≡ Memory → is_of_memory fault ≡ true
+only_memory : (fault : CallFault) → hub_fault_of fault ≡ Memory tt → is_of_memory fault ≡ true
 only_memory NoStream e = cc
 only_memory Finished e = cc
 only_memory Reset e = cc
@@ -39,7 +39,7 @@ only_memory OpensPending e = cc
 only_memory TooMany e = cc
 only_memory Exhausted e = cc
 only_memory PingsPending e = cc
-only_memory OutOfMemory e = refl
+only_memory (OutOfMemory _) e = refl
 
 no_both : (b : Bool) → b ≡ true → b ≡ false → ⊥
 no_both true e f = cc

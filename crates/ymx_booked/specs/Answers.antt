@@ -11,7 +11,7 @@ use Rattle.ymx_booked.specs.declared.faults.HubFault.TheVariants.{Call, Memory}
 
 -- want of memory is the hub's own fault, whoever found it
 abbrev pub hub_fault_of : CallFault → HubFault
-hub_fault_of OutOfMemory = Memory
+hub_fault_of (OutOfMemory _) = Memory tt
 hub_fault_of fault = Call fault
 
 abbrev pub hub_answer : {A : Type 0} → Result A CallFault → Result A HubFault
@@ -20,7 +20,7 @@ hub_answer (Err fault) = Err (hub_fault_of fault)
 
 -- the answer is no want of memory
 abbrev pub IsNotMemory : {A : Type 0} → Result A HubFault → Type 0
-IsNotMemory result = IfErr result (λ fault. fault ≡ Memory → ⊥)
+IsNotMemory result = IfErr result (λ fault. fault ≡ Memory tt → ⊥)
 
 -- how many bytes a write took
 abbrev pub took_count : Wrote → ℕ

@@ -33,7 +33,7 @@ pub record Steps (keeps : Bool) (seat : ℕ) (event : Event) (told : Reply) (old
 
 -- there was no memory for the entry, which only a recorder that keeps it needs, and nothing was done
 abbrev pub LacksEntry : (keeps : Bool) → HubFault → (old new : BookedView) → Type 0
-LacksEntry keeps fault old new = (keeps ≡ true) × (fault ≡ Memory) × (new ≡ old)
+LacksEntry keeps fault old new = (keeps ≡ true) × (fault ≡ Memory tt) × (new ≡ old)
 
 -- one event, whose reply is the answer, also where that is a refusal; or no memory for its entry
 abbrev pub StepsAsked : {A : Type 0} (keeps : Bool) → Event → (Result A CallFault → Reply) → (seat : ℕ) → Result A HubFault → (old new : BookedView) → Type 0
@@ -70,7 +70,7 @@ pub record HandsOut (keeps : Bool) (seat : ℕ) (event : Event) (told : Reply) (
 -- no memory, or no two seats left, and nothing was done; or the session refused it
 abbrev pub HandsNone : (keeps : Bool) (seat : ℕ) → Event → HubFault → (old new : BookedView) → Type 0
 HandsNone keeps seat event fault old new =
-    (((fault ≡ Memory) ⊎ ((fault ≡ Seats) × (2 ^ 32 ≤ old.given + 2))) × (new ≡ old))
+    (((fault ≡ Memory tt) ⊎ ((fault ≡ Seats) × (2 ^ 32 ≤ old.given + 2))) × (new ≡ old))
     ⊎ ((why : CallFault) × (fault ≡ hub_fault_of why) × Steps keeps seat event (reply.Refused why) old new)
 
 -- the stream that was opened
@@ -100,7 +100,7 @@ GivesUp false keeps seat id old new = new ≡ old
 -- given up, exactly if its other half was spent before; or there was no memory for the entries, and neither is done.
 abbrev pub StepsSpent : Event → (keeps : Bool) (seat id : ℕ) → Result (Unit {0}) HubFault → (old new : BookedView) → Type 0
 StepsSpent event keeps seat id result old new =
-    ((keeps ≡ true) × (result ≡ Err Memory) × (new ≡ spent id old))
+    ((keeps ≡ true) × (result ≡ Err (Memory tt)) × (new ≡ spent id old))
     ⊎ ((given : Result (Unit {0}) CallFault) × (mid : BookedView) × (result ≡ hub_answer given)
     × Steps keeps seat event (done_or given) (spent id old) mid × GivesUp (is_half_spent id old) keeps seat id mid new)
 

@@ -4,6 +4,7 @@ ghost use Rattle.std.specs.Prelude.{◌≡◌};
 ghost use Rattle.ymx_booked.specs.Answers.{hub_answer, hub_fault_of};
 
 use thiserror::Error;
+use ymx_memory::RefusedAllocation;
 use ymx_model::CallFault;
 
 /// Why a call of a hub fails.
@@ -12,12 +13,24 @@ pub enum HubFault {
     /// The session refused it. `OutOfMemory` never stands here.
     #[error("{0}")]
     Call(CallFault),
-    /// There was no memory, for the session or for the entry of the event.
+    /// There was no memory, for the session, for its halves or for the entry of the event. It holds the evidence: an
+    /// allocation was refused.
     #[error("Memory")]
-    Memory,
+    Memory(RefusedAllocation),
     /// 4,294,967,295 seats were given.
     #[error("Seats")]
     Seats,
+}
+
+impl From<RefusedAllocation> for HubFault {
+    ghost use Rattle.std.specs.Prelude.{◌≡◌};
+    ghost use Rattle.ymx_booked.specs.declared.faults.HubFault.TheVariants.{Memory};
+
+    ghost from_gives = { λ _ fault. fault ≡ Memory tt };
+
+    fn from(refused: RefusedAllocation) -> HubFault {
+        HubFault::Memory(refused)
+    }
 }
 
 /// What a hub answers for a refusal of its session.
@@ -25,7 +38,7 @@ pub(crate) fn hub_fault(fault: CallFault) -> HubFault
     ensures { result ≡ hub_fault_of fault }
 {
     match fault {
-        CallFault::OutOfMemory => HubFault::Memory,
+        CallFault::OutOfMemory(refused) => HubFault::Memory(refused),
         other => HubFault::Call(other),
     }
 }

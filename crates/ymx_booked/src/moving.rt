@@ -33,15 +33,20 @@ impl<R: Recorder> Booked<R> {
         ensures only { MatchResult result (λ fed. NotesOnly (take fed.taken bytes.now) self.old.session touched.old touched.new) (λ fault. touched.new ≡ touched.old) }
         ensures off { R.KEEPS ≡ false → IsOk result }
     {
-        let Ok(slip) = self
+        let slip = match self
             .log
             .prepare(self.alloc, seat, Event::Feed(Lent::new(bytes)), 0, 1)
-        else {
-            return Err(HubFault::Memory);
+        {
+            Ok(slip) => slip,
+            Err(refused) => return Err(HubFault::Memory(refused)),
         };
         let fed = self.session.feed_touching(bytes, touched);
-        self.log
-            .add(seat, slip, Event::Feed(Lent::new(bytes)), Reply::Fed(fed));
+        self.log.add(
+            seat,
+            slip,
+            Event::Feed(Lent::new(bytes)),
+            replies::fed(&fed),
+        );
         Ok(fed)
     }
 
@@ -52,8 +57,9 @@ impl<R: Recorder> Booked<R> {
         ensures steps { StepsTold R.KEEPS event.FeedEnd (λ _. reply.Done) seat.old.number result self.old self.new }
         ensures off { R.KEEPS ≡ false → IsOk result }
     {
-        let Ok(slip) = self.log.prepare(self.alloc, seat, Event::FeedEnd, 0, 1) else {
-            return Err(HubFault::Memory);
+        let slip = match self.log.prepare(self.alloc, seat, Event::FeedEnd, 0, 1) {
+            Ok(slip) => slip,
+            Err(refused) => return Err(HubFault::Memory(refused)),
         };
         self.session.feed_end();
         self.log.add(seat, slip, Event::FeedEnd, Reply::Done);
@@ -72,11 +78,12 @@ impl<R: Recorder> Booked<R> {
         ensures off { R.KEEPS ≡ false → IsOk result }
     {
         let size = buffer.len();
-        let Ok(slip) = self
+        let slip = match self
             .log
             .prepare(self.alloc, seat, Event::Emit(size), size, 1)
-        else {
-            return Err(HubFault::Memory);
+        {
+            Ok(slip) => slip,
+            Err(refused) => return Err(HubFault::Memory(refused)),
         };
         let count = self.session.emit(buffer);
         self.log.add(

@@ -27,14 +27,20 @@ impl<R: Recorder> Booked<R> {
         if let Err(fault) = make_room(self.given, self.unspent, &mut self.half_spent) {
             return Err(fault);
         }
-        let Ok(slip) = self
+        let slip = match self
             .log
             .prepare(self.alloc, seat, Event::Call(Call::Open), 0, 1)
-        else {
-            return Err(HubFault::Memory);
+        {
+            Ok(slip) => slip,
+            Err(refused) => return Err(HubFault::Memory(refused)),
         };
         let opened = self.session.open();
-        self.log.add(seat, slip, Event::Call(Call::Open), replies::opened(opened));
+        self.log.add(
+            seat,
+            slip,
+            Event::Call(Call::Open),
+            replies::opened(&opened),
+        );
         match opened {
             Ok(id) => {
                 let (first, second) = hand_out(
@@ -63,22 +69,22 @@ impl<R: Recorder> Booked<R> {
         if let Err(fault) = make_room(self.given, self.unspent, &mut self.half_spent) {
             return Err(fault);
         }
-        let Ok(slip) = self.log.prepare(
+        let slip = match self.log.prepare(
             self.alloc,
             seat,
             Event::Call(Call::OpenWith(Lent::new(bytes))),
             0,
             1,
-        )
-        else {
-            return Err(HubFault::Memory);
+        ) {
+            Ok(slip) => slip,
+            Err(refused) => return Err(HubFault::Memory(refused)),
         };
         let opened = self.session.open_with(bytes);
         self.log.add(
             seat,
             slip,
             Event::Call(Call::OpenWith(Lent::new(bytes))),
-            replies::opened_with(opened),
+            replies::opened_with(&opened),
         );
         match opened {
             Ok((id, taken)) => {
@@ -107,18 +113,19 @@ impl<R: Recorder> Booked<R> {
         if let Err(fault) = make_room(self.given, self.unspent, &mut self.half_spent) {
             return Err(fault);
         }
-        let Ok(slip) = self
+        let slip = match self
             .log
             .prepare(self.alloc, seat, Event::Call(Call::Accept), 0, 1)
-        else {
-            return Err(HubFault::Memory);
+        {
+            Ok(slip) => slip,
+            Err(refused) => return Err(HubFault::Memory(refused)),
         };
         let accepted = self.session.accept();
         self.log.add(
             seat,
             slip,
             Event::Call(Call::Accept),
-            replies::accepted(accepted),
+            replies::accepted(&accepted),
         );
         let offer = match accepted {
             Ok(offer) => offer,
@@ -144,15 +151,13 @@ fn make_room(given: u32, unspent: usize, half_spent: &mut IndexSet<u32>) -> Resu
     ensures keys { IsUnchanged half_spent.old half_spent.new }
     ensures keeps { spare half_spent.old ≤ spare half_spent.new }
     ensures room { OnOk result ((given + 2 < 2 ^ 32) × (unspent + 1 ≤ spare half_spent.new)) }
-    ensures refused { IfErr result (λ fault. (fault ≡ HubFault.Memory) ⊎ ((fault ≡ HubFault.Seats) × (2 ^ 32 ≤ given + 2))) }
+    ensures refused { IfErr result (λ fault. (fault ≡ HubFault.Memory tt) ⊎ ((fault ≡ HubFault.Seats) × (2 ^ 32 ≤ given + 2))) }
 {
     if given > u32::MAX - 2 {
         return Err(HubFault::Seats);
     }
-    match half_spent.reserve(unspent + 1) {
-        Ok(()) => Ok(()),
-        Err(_) => Err(HubFault::Memory),
-    }
+    ymx_memory::reserve_set(half_spent, unspent + 1)?;
+    Ok(())
 }
 
 /// The seats of both halves of a stream that is handed out: the next two. One stream more has both halves unspent.

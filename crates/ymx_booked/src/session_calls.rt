@@ -20,14 +20,15 @@ impl<R: Recorder> Booked<R> {
         ensures steps { StepsAsked R.KEEPS to_ping pinged_or seat.old.number result self.old self.new }
         ensures off { R.KEEPS ≡ false → IsNotMemory result }
     {
-        let Ok(slip) = self
+        let slip = match self
             .log
             .prepare(self.alloc, seat, Event::Call(Call::Ping), 0, 1)
-        else {
-            return Err(HubFault::Memory);
+        {
+            Ok(slip) => slip,
+            Err(refused) => return Err(HubFault::Memory(refused)),
         };
         let asked = self.session.ping();
-        self.log.add(seat, slip, Event::Call(Call::Ping), replies::pinged(asked));
+        self.log.add(seat, slip, Event::Call(Call::Ping), replies::pinged(&asked));
         answered(asked)
     }
 
@@ -38,18 +39,19 @@ impl<R: Recorder> Booked<R> {
         ensures steps { StepsAsked R.KEEPS (to_collect number) ponged_or seat.old.number result self.old self.new }
         ensures off { R.KEEPS ≡ false → IsNotMemory result }
     {
-        let Ok(slip) = self
+        let slip = match self
             .log
             .prepare(self.alloc, seat, Event::Call(Call::Ponged(number)), 0, 1)
-        else {
-            return Err(HubFault::Memory);
+        {
+            Ok(slip) => slip,
+            Err(refused) => return Err(HubFault::Memory(refused)),
         };
         let back = self.session.ponged(number);
         self.log.add(
             seat,
             slip,
             Event::Call(Call::Ponged(number)),
-            replies::ponged(back),
+            replies::ponged(&back),
         );
         answered(back)
     }
@@ -61,15 +63,15 @@ impl<R: Recorder> Booked<R> {
         ensures steps { StepsAsked R.KEEPS to_go_away done_or seat.old.number result self.old self.new }
         ensures off { R.KEEPS ≡ false → IsNotMemory result }
     {
-        let Ok(slip) = self
+        let slip = match self
             .log
             .prepare(self.alloc, seat, Event::Call(Call::GoAway), 0, 1)
-        else {
-            return Err(HubFault::Memory);
+        {
+            Ok(slip) => slip,
+            Err(refused) => return Err(HubFault::Memory(refused)),
         };
         let said = self.session.go_away();
-        self.log
-            .add(seat, slip, Event::Call(Call::GoAway), replies::done(said));
+        self.log.add(seat, slip, Event::Call(Call::GoAway), replies::done(&said));
         answered(said)
     }
 
@@ -80,15 +82,16 @@ impl<R: Recorder> Booked<R> {
         ensures steps { StepsAsked R.KEEPS to_close done_or seat.old.number result self.old self.new }
         ensures off { R.KEEPS ≡ false → IsNotMemory result }
     {
-        let Ok(slip) = self
+        let slip = match self
             .log
             .prepare(self.alloc, seat, Event::Call(Call::Close), 0, 1)
-        else {
-            return Err(HubFault::Memory);
+        {
+            Ok(slip) => slip,
+            Err(refused) => return Err(HubFault::Memory(refused)),
         };
         self.session.close();
         let closed = Ok(());
-        self.log.add(seat, slip, Event::Call(Call::Close), replies::done(closed));
+        self.log.add(seat, slip, Event::Call(Call::Close), replies::done(&closed));
         answered(closed)
     }
 }

@@ -24,22 +24,22 @@ impl<R: Recorder> Booked<R> {
         ensures steps { StepsAsked R.KEEPS (to_write id bytes.now) wrote_or seat.old.number result self.old self.new }
         ensures within { IfOk result (λ wrote. took_count wrote ≤ length bytes.now) }
     {
-        let Ok(slip) = self.log.prepare(
+        let slip = match self.log.prepare(
             self.alloc,
             seat,
             Event::Call(Call::Write(id, Lent::new(bytes))),
             0,
             1,
-        )
-        else {
-            return Err(HubFault::Memory);
+        ) {
+            Ok(slip) => slip,
+            Err(refused) => return Err(HubFault::Memory(refused)),
         };
         let wrote = self.session.write(id, bytes);
         self.log.add(
             seat,
             slip,
             Event::Call(Call::Write(id, Lent::new(bytes))),
-            replies::wrote(wrote),
+            replies::wrote(&wrote),
         );
         answered(wrote)
     }
@@ -57,22 +57,22 @@ impl<R: Recorder> Booked<R> {
         ensures off { R.KEEPS ≡ false → IsNotMemory result }
     {
         let size = buffer.len();
-        let Ok(slip) = self.log.prepare(
+        let slip = match self.log.prepare(
             self.alloc,
             seat,
             Event::Call(Call::Read(id, size)),
             size,
             1,
-        )
-        else {
-            return Err(HubFault::Memory);
+        ) {
+            Ok(slip) => slip,
+            Err(refused) => return Err(HubFault::Memory(refused)),
         };
         let got = self.session.read(id, buffer);
         self.log.add(
             seat,
             slip,
             Event::Call(Call::Read(id, size)),
-            replies::read(got, buffer),
+            replies::read(&got, buffer),
         );
         answered(got)
     }
@@ -121,19 +121,26 @@ impl<R: Recorder> Booked<R> {
     {
         let second = self.spend(id);
         let entries = if second { 2 } else { 1 };
-        let Ok(slip) = self
+        let slip = match self
             .log
             .prepare(self.alloc, seat, ending.event(id), 0, entries)
-        else {
-            return Err(HubFault::Memory);
+        {
+            Ok(slip) => slip,
+            Err(refused) => return Err(HubFault::Memory(refused)),
         };
-        let Ok(next) = self.log.prepare(self.alloc, seat, Event::Call(Call::Forget(id)), 0, entries)
-        else {
-            return Err(HubFault::Memory);
+        let next = match self.log.prepare(
+            self.alloc,
+            seat,
+            Event::Call(Call::Forget(id)),
+            0,
+            entries,
+        ) {
+            Ok(next) => next,
+            Err(refused) => return Err(HubFault::Memory(refused)),
         };
         let ended = ending.call(&mut self.session, id);
         self.log
-            .add(seat, slip, ending.event(id), replies::done(ended));
+            .add(seat, slip, ending.event(id), replies::done(&ended));
         if !second {
             return answered(ended);
         }
@@ -142,7 +149,7 @@ impl<R: Recorder> Booked<R> {
             seat,
             next,
             Event::Call(Call::Forget(id)),
-            replies::done(gone),
+            replies::done(&gone),
         );
         answered(ended)
     }
@@ -158,18 +165,19 @@ impl<R: Recorder> Booked<R> {
         if !self.spend(id) {
             return Ok(());
         }
-        let Ok(slip) = self
+        let slip = match self
             .log
             .prepare(self.alloc, seat, Event::Call(Call::Forget(id)), 0, 1)
-        else {
-            return Err(HubFault::Memory);
+        {
+            Ok(slip) => slip,
+            Err(refused) => return Err(HubFault::Memory(refused)),
         };
         let gone = self.session.forget(id);
         self.log.add(
             seat,
             slip,
             Event::Call(Call::Forget(id)),
-            replies::done(gone),
+            replies::done(&gone),
         );
         answered(gone)
     }

@@ -11,7 +11,7 @@ use Rattle.ymx_c.specs.Answers.{role_of}
 abbrev pub new_refusal : NewFault → ℤ
 new_refusal BadWindow = negsuc 12
 new_refusal BadFirst = negsuc 13
-new_refusal OutOfMemory = negsuc 10
+new_refusal (OutOfMemory _) = negsuc 10
 
 -- the configuration that C's two numbers stand for
 abbrev pub config_of : ℕ → ℕ → Config
@@ -37,4 +37,4 @@ IsNoteMade answer at = (answer ≡ pos 0) × IsSomewhere at
 
 -- there was no memory for a note, and NULL was written
 abbrev pub IsNoNote : ℤ → Ptr → Type 0
-IsNoNote answer at = (answer ≡ new_refusal OutOfMemory) × (at ≡ null_ptr)
+IsNoNote answer at = (answer ≡ new_refusal (OutOfMemory tt)) × (at ≡ null_ptr)

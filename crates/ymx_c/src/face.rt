@@ -13,7 +13,8 @@ ghost use Rattle.ymx_c.specs.NewAnswers.{new_refusal, config_of, IsMade, IsRefus
 ghost use Rattle.ymx_c.specs.Readiness.{Touches, Shows, Consumes, TellsEnd, TellsRoom, CountsOffered, ListsIds, IsCleared, IsPlaced, number_limit};
 
 use crate::made::Made;
-use std::alloc::{AllocError, Global};
+use std::alloc::Global;
+use ymx_memory::RefusedAllocation;
 use ymx_model::{CallFault, Config, Got, Role, Status, Wrote};
 use ymx_session::{NewFault, Session, Touched};
 
@@ -35,7 +36,7 @@ fn refusal(fault: CallFault) -> i64
         CallFault::TooMany => -8,
         CallFault::Exhausted => -9,
         CallFault::PingsPending => -10,
-        CallFault::OutOfMemory => -11,
+        CallFault::OutOfMemory(_) => -11,
     }
 }
 
@@ -46,7 +47,7 @@ fn new_refusal(fault: NewFault) -> i64
     match fault {
         NewFault::BadWindow => -13,
         NewFault::BadFirst => -14,
-        NewFault::OutOfMemory => -11,
+        NewFault::OutOfMemory(_) => -11,
     }
 }
 
@@ -73,10 +74,8 @@ fn boxed(
     ensures refused { IfErr result (λ fault. IsNewFault (role_of number) (config_of window first) fault) }
 {
     let session = Session::new(alloc, role(number), Config { window, first })?;
-    match Box::new(alloc, session) {
-        Ok(whole) => Ok(whole),
-        Err(_) => Err(NewFault::OutOfMemory),
-    }
+    let whole = ymx_memory::boxed(alloc, session)?;
+    Ok(whole)
 }
 
 /// A new session with its address, or NULL and why there is none.
@@ -90,14 +89,11 @@ pub(crate) fn make(alloc: Global, number: u32, window: u32, first: u32) -> Made<
 }
 
 /// A note of touched streams in a block of its own, with nothing noted.
-fn boxed_touched(alloc: Global) -> Result<Box<Touched, Global>, AllocError>
+fn boxed_touched(alloc: Global) -> Result<Box<Touched, Global>, RefusedAllocation>
     ensures { IfOk result (λ whole. whole.value ≡ nothing_noted false) }
 {
     let touched = Touched::new(alloc)?;
-    match Box::new(alloc, touched) {
-        Ok(whole) => Ok(whole),
-        Err(_) => Err(AllocError),
-    }
+    ymx_memory::boxed(alloc, touched)
 }
 
 /// A new note of touched streams with its address, or NULL where there is no memory.
@@ -106,7 +102,7 @@ pub(crate) fn make_touched(alloc: Global) -> Made<Touched>
 {
     match boxed_touched(alloc) {
         Ok(whole) => Made::of(whole),
-        Err(_) => Made::refused(new_refusal(NewFault::OutOfMemory)),
+        Err(refused) => Made::refused(new_refusal(NewFault::OutOfMemory(refused))),
     }
 }
 

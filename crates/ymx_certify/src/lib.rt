@@ -7,13 +7,14 @@ ghost use Rattle.ymx_machine.specs.declared.types.Step.{Step as TheStep};
 ghost use Rattle.ymx_law_audit.specs.Joints.{IsJointOrder};
 ghost use Rattle.ymx_certify.specs.Certified.{AreCertified};
 
-use std::alloc::{AllocError, Global};
+use std::alloc::Global;
+use ymx_memory::RefusedAllocation;
 use ymx_model::Step;
 use ymx_seats::Transcript;
 use ymx_world::World;
 
 /// Finds steps in which the histories of a client's and a server's session are one run, of the two sessions joined by
-/// pipes and of the queue machine. `None` only where the two have no joint order. `AllocError` where there is no memory
+/// pipes and of the queue machine. `None` only where the two have no joint order. `RefusedAllocation` where there is no memory
 /// for the steps.
 ///
 /// It is `World::audit` of the transcripts' entries. A transcript is the history of a session by its own invariant, so
@@ -22,7 +23,7 @@ pub fn certify(
     alloc: Global,
     client: &Transcript,
     server: &Transcript,
-) -> Result<Option<Vec<Step>>, AllocError>
+) -> Result<Option<Vec<Step>>, RefusedAllocation>
     requires client { client.now.role ≡ Client }
     requires server { server.now.role ≡ Server }
     ensures one_run { IfOk result (λ found. IfSome found (λ steps. AreCertified client.now server.now steps.items)) }

@@ -8,14 +8,17 @@ use Rattle.ymx_model.specs.declared.types.Config.{Config}
 use Rattle.ymx_session.specs.NewSessions.{new_fault, IsNewFault}
 use Rattle.ymx_pumps.specs.declared.pump_end.PumpWhy.TheVariants.{Memory as NoMemory, Broken}
 use Rattle.ymx_connect.specs.declared.connect_fault.ConnectFault.{ConnectFault}
-use Rattle.ymx_connect.specs.declared.connect_fault.ConnectFault.TheVariants.{Session, Memory}
+use Rattle.ymx_connect.specs.declared.connect_fault.ConnectFault.TheVariants.{Session, Memory, NoThread, NoJournal}
 use Rattle.ymx_connect.specs.declared.ended.Ended.{Ended}
 use Rattle.ymx_connect.specs.declared.handle.Handle.{Handle}
 
--- Why no session runs: what the making of a session answers, or want of memory for a session that could be made.
+-- Why no session runs: what the making of a session answers; or there was no memory, or no thread, for a session that
+-- could be made.
 abbrev pub IsConnectFault : Role → Config → ConnectFault → Type 0
 IsConnectFault role config (Session fault) = IsNewFault role config fault
-IsConnectFault role config Memory = new_fault role config ≡ None
+IsConnectFault role config (Memory _) = new_fault role config ≡ None
+IsConnectFault role config NoThread = new_fault role config ≡ None
+IsConnectFault role config NoJournal = ⊥
 
 -- no pump ended for want of memory, and the write pump not with a fault of the peer's
 pub record IsSpared (ended : Ended) : Type 0 where

@@ -37,7 +37,7 @@ ReadsUpTo told id seat bytes added =
 -- these, up to this fault: a refusal, or want of memory and no refusal
 abbrev pub ReadsUntil : HubFault → (id seat : ℕ) → List ℕ → List Entry → Type 0
 ReadsUntil fault id seat bytes added =
-    ((fault ≡ Memory) × ReadsOn id seat bytes added)
+    ((fault ≡ Memory tt) × ReadsOn id seat bytes added)
     ⊎ ((why : CallFault) × (fault ≡ hub_fault_of why) × ReadsUpTo (reply.Refused why) id seat bytes added)
 
 -- ---- writes
@@ -58,7 +58,7 @@ WritesOn id seat bytes added = WritesOf id seat bytes added × IsUnrefused added
 -- these, up to this fault: a refusal, or want of memory and no refusal
 abbrev pub WritesUntil : HubFault → (id seat : ℕ) → List ℕ → List Entry → Type 0
 WritesUntil fault id seat bytes added =
-    ((fault ≡ Memory) × WritesOn id seat bytes added)
+    ((fault ≡ Memory tt) × WritesOn id seat bytes added)
     ⊎ ((why : CallFault) × (fault ≡ hub_fault_of why) × WritesOf id seat bytes added × EndsIn (λ told. told ≡ reply.Refused why) added)
 
 -- ---- a copy

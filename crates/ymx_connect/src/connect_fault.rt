@@ -1,15 +1,33 @@
 //! Why no session runs.
 
 use thiserror::Error;
+use ymx_memory::RefusedAllocation;
 use ymx_session::NewFault;
 
-/// Why no session runs. The caller's function was not called, and no byte was written.
+/// Why no session runs. The caller's function was not called, and no byte was written; the writer may have been ended.
 #[derive(Clone, Copy, Debug, PartialEq, Eq, Error)]
 pub enum ConnectFault {
     /// No session can be made: `BadWindow` or `BadFirst` for this configuration, or `OutOfMemory`.
     #[error("{0}")]
     Session(NewFault),
-    /// There was no memory for the hub or for the buffers of the pumps, or no thread could be made.
+    /// There was no memory for the hub or for the buffers of the pumps. It holds the evidence: an allocation was refused.
     #[error("Memory")]
-    Memory,
+    Memory(RefusedAllocation),
+    /// No thread could be made for one of the pumps.
+    #[error("NoThread")]
+    NoThread,
+    /// There was no memory for the journal of a history, or no seat. `connect` and `connect_tcp` never answer it.
+    #[error("NoJournal")]
+    NoJournal,
+}
+
+impl From<RefusedAllocation> for ConnectFault {
+    ghost use Rattle.std.specs.Prelude.{◌≡◌};
+    ghost use Rattle.ymx_connect.specs.declared.connect_fault.ConnectFault.TheVariants.{Memory};
+
+    ghost from_gives = { λ _ fault. fault ≡ Memory tt };
+
+    fn from(refused: RefusedAllocation) -> ConnectFault {
+        ConnectFault::Memory(refused)
+    }
 }

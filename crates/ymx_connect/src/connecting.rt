@@ -10,12 +10,13 @@ use crate::ended::{Connected, Ended};
 use crate::handle::Handle;
 use crate::pumping::{Buffer, PumpedIn, PumpedOut, pump_in, pump_out};
 use crate::tcp::{ConnectionReader, ConnectionWriter};
-use std::alloc::{AllocError, Global};
+use std::alloc::Global;
 use std::net::TcpStream;
 use std::sync::{Arc, Wait};
 use std::thread;
 use std::thread::Threads;
 use ymx_hub::{Hub, Off};
+use ymx_memory::RefusedAllocation;
 use ymx_model::{Config, Inlet, Outlet, Role};
 use ymx_session::Session;
 
@@ -63,8 +64,8 @@ pub fn connect_tcp<W: Threads + Wait + Sync, T: Drop, F: FnOnce(&Handle) -> T>(
 /// doesn't close its side.
 ///
 /// `Session` comes where no session can be made: `BadWindow` or `BadFirst` for this configuration, or `OutOfMemory`.
-/// `Memory` comes where there is none for the hub or the buffers, or where a thread can't be made. In both cases
-/// `work` was not called, and no byte was written; the writer may have been ended.
+/// `Memory` comes where there is none for the hub or the buffers, and `NoThread` where a thread can't be made. In each
+/// case `work` was not called, and no byte was written; the writer may have been ended.
 pub fn connect<
     W: Threads + Wait + Sync,
     I: Inlet + Send + Drop,
@@ -92,7 +93,7 @@ pub fn connect<
     };
     match run(rt, prepared, reader, writer, work) {
         Some(connected) => Ok(connected),
-        None => Err(ConnectFault::Memory),
+        None => Err(ConnectFault::NoThread),
     }
 }
 
@@ -107,12 +108,12 @@ fn prepare(alloc: Global, role: Role, config: Config) -> Result<Prepared, Connec
     };
     match surround(alloc, session) {
         Ok(prepared) => Ok(prepared),
-        Err(_) => Err(ConnectFault::Memory),
+        Err(refused) => Err(ConnectFault::Memory(refused)),
     }
 }
 
 /// What stands round a session before the pumps run.
-fn surround(alloc: Global, session: Session) -> Result<Prepared, AllocError>
+fn surround(alloc: Global, session: Session) -> Result<Prepared, RefusedAllocation>
     requires { IsNew session }
 {
     let hub = Hub::new(alloc, session, Off)?;

@@ -151,9 +151,10 @@ impl<R: Recorder> Reader<R> {
             if count == 0 {
                 return Ok(bytes);
             }
-            let Ok(()) = bytes.extend_from_slice(&buffer[..count]) else {
-                return Err(HubFault::Memory);
-            };
+            match ymx_memory::extend(&mut bytes, &buffer[..count]) {
+                Ok(()) => {}
+                Err(refused) => return Err(HubFault::Memory(refused)),
+            }
         }
         unreachable!()
     }

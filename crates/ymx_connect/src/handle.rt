@@ -4,9 +4,10 @@ ghost use Rattle.std.specs.Prelude.{◌≤◌, length, IfOk};
 ghost use Rattle.ymx_booked.specs.Answers.{IsNotMemory};
 
 use crate::halves::{Reader, Writer, discard};
-use std::alloc::{AllocError, Global};
+use std::alloc::Global;
 use std::sync::{Arc, Wait};
 use ymx_hub::{Acceptor, Hub, HubFault, Off, Opener, Seat, Undrained};
+use ymx_memory::RefusedAllocation;
 
 /// A running session, as the caller's function sees it. Threads may share it, and each may make any call.
 #[derive(Drop)]
@@ -22,9 +23,12 @@ fn unbooked(alloc: Global) -> Seat<Off> {
 
 impl Handle {
     /// The session of this hub.
-    pub(crate) fn new(alloc: Global, hub: &Arc<Hub<Off>, Global>) -> Result<Handle, AllocError> {
+    pub(crate) fn new(
+        alloc: Global,
+        hub: &Arc<Hub<Off>, Global>,
+    ) -> Result<Handle, RefusedAllocation> {
         Ok(Handle {
-            hub: Arc::try_clone(hub)?,
+            hub: ymx_memory::share(hub)?,
             alloc,
         })
     }
@@ -61,9 +65,7 @@ impl Handle {
     ///
     /// `Memory` where there is none for its halves: no stream is taken then, and the same call may be made again.
     pub fn accept<W: Wait>(&self, rt: &W) -> Result<Option<(Writer, Reader)>, HubFault> {
-        let Ok(hub) = Arc::try_clone(&self.hub) else {
-            return Err(HubFault::Memory);
-        };
+        let hub = ymx_memory::share(&self.hub)?;
         let mut acceptor = Acceptor::new(hub, unbooked(self.alloc));
         let accepted = acceptor.accept(rt);
         discard(acceptor.into_seat());
@@ -132,9 +134,7 @@ impl Handle {
 
     /// Who opens a stream.
     fn opener(&self) -> Result<Opener<Off>, HubFault> {
-        match Arc::try_clone(&self.hub) {
-            Ok(hub) => Ok(Opener::new(hub, unbooked(self.alloc))),
-            Err(_) => Err(HubFault::Memory),
-        }
+        let hub = ymx_memory::share(&self.hub)?;
+        Ok(Opener::new(hub, unbooked(self.alloc)))
     }
 }

@@ -4,9 +4,10 @@ ghost use Rattle.std.specs.Prelude.{◌≡◌, ◌<◌, vec_len, false};
 ghost use Rattle.ymx_header.specs.declared.fault.Fault.{Fault};
 ghost use Rattle.ymx_pumps.specs.declared.pump_end.PumpWhy.TheVariants.{Memory, Broken};
 
-use std::alloc::{AllocError, Global};
+use std::alloc::Global;
 use std::sync::Wait;
 use ymx_hub::{Hub, Recorder};
+use ymx_memory::RefusedAllocation;
 use ymx_model::{Inlet, Outlet};
 use ymx_pumps::{Gate, PumpEnd, PumpWhy, read_pump, write_pump};
 
@@ -64,14 +65,14 @@ impl Gate for Open {
 
 impl Buffer {
     /// What the read pump moves bytes through.
-    pub fn for_reading(alloc: Global) -> Result<Buffer, AllocError> {
-        let bytes = vec![in alloc; 0u8; READ_BUFFER]?;
+    pub fn for_reading(alloc: Global) -> Result<Buffer, RefusedAllocation> {
+        let bytes = ymx_memory::zeros(alloc, READ_BUFFER)?;
         Ok(Buffer { bytes })
     }
 
     /// What the write pump moves bytes through.
-    pub fn for_writing(alloc: Global) -> Result<Buffer, AllocError> {
-        let bytes = vec![in alloc; 0u8; WRITE_BUFFER]?;
+    pub fn for_writing(alloc: Global) -> Result<Buffer, RefusedAllocation> {
+        let bytes = ymx_memory::zeros(alloc, WRITE_BUFFER)?;
         Ok(Buffer { bytes })
     }
 }

@@ -6,8 +6,9 @@ ghost use Rattle.ymx_machine.specs.shared.Limits.{most_pings};
 ghost use Rattle.ymx_control.specs.PendingPings.{ArePingsSound};
 ghost use Rattle.ymx_control.specs.Numbers.{ArePendingBefore};
 
-use std::alloc::{AllocError, Global};
+use std::alloc::Global;
 use std::marker::Model;
+use ymx_memory::RefusedAllocation;
 use ymx_model::PingStage;
 
 /// A ping that was asked and not collected.
@@ -55,17 +56,17 @@ impl Pings {
 
     /// No ping is pending, and the first will have the number 0. Takes the memory for all that will
     /// ever be pending.
-    pub fn new(alloc: Global) -> Result<Pings, AllocError>
+    pub fn new(alloc: Global) -> Result<Pings, RefusedAllocation>
         ensures { IfOk result (λ pings. pings ≡ no_pings) }
     {
         Pings::starting(alloc, 0)
     }
 
     /// The same, but the first ping will have the number `next`.
-    pub fn starting(alloc: Global, next: u32) -> Result<Pings, AllocError>
+    pub fn starting(alloc: Global, next: u32) -> Result<Pings, RefusedAllocation>
         ensures { IfOk result (λ pings. pings ≡ record { next = next; pending = [] }) }
     {
-        let pending = Vec::with_capacity(alloc, Self::LIMIT)?;
+        let pending = ymx_memory::vec_with_capacity(alloc, Self::LIMIT)?;
         Ok(Pings { next, pending })
     }
 

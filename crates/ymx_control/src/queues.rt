@@ -3,9 +3,10 @@
 ghost use Rattle.std.specs.Prelude.{◌≡◌, ◌<◌, ◌≤◌, ◌==◌, [], ◌∷◌, ◌++◌, length, drop, slice_get, position, IfOk, IfSome};
 ghost use Rattle.ymx_machine.specs.shared.Lists.{drop_id};
 
-use std::alloc::{AllocError, Global};
+use std::alloc::Global;
 use std::collections::VecDeque;
 use std::marker::Model;
+use ymx_memory::RefusedAllocation;
 use ymx_model::Response;
 
 /// The ids of the streams that the peer has opened and that wait to be accepted, in the order in
@@ -41,11 +42,11 @@ impl<T: Copy, const N: usize> BoundedQueue<T, N> {
     /// At most so many items are in the queue.
     pub const LIMIT: usize = N;
 
-    /// An empty queue. Takes the memory for all that will ever be in it, or answers `AllocError`.
-    pub fn new(alloc: Global) -> Result<BoundedQueue<T, N>, AllocError>
+    /// An empty queue. Takes the memory for all that will ever be in it, or answers `RefusedAllocation`.
+    pub fn new(alloc: Global) -> Result<BoundedQueue<T, N>, RefusedAllocation>
         ensures { IfOk result (λ queue. queue ≡ []) }
     {
-        let items = VecDeque::with_capacity(alloc, N)?;
+        let items = ymx_memory::queue_with_capacity(alloc, N)?;
         Ok(BoundedQueue { items })
     }
 

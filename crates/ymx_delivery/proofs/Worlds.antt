@@ -72,7 +72,7 @@ Followed st given w v = (m : Machine) → Agrees w m → Follows st given v m
 -- ---- the calls
 
 pub opens : (given : Answer) (w v : World) → IsNewWorld w → Steps in_turn (step.At A call.Open) given w v → Followed (step.At A call.Open) given w v →
-    ((given ≡ answer.Opened 1) × Stands 1 (IsWritable first_credit []) v) ⊎ (given ≡ answer.Refused OutOfMemory)
+    ((given ≡ answer.Opened 1) × Stands 1 (IsWritable first_credit []) v) ⊎ (given ≡ answer.Refused (OutOfMemory tt))
 opens given w v h st follows =
     let f = follows (new_machine h.window_a 1 h.window_b 2) h.agrees in
     elim (open-step h.window_a h.window_b given f.0 f.1) [
@@ -82,7 +82,7 @@ opens given w v h st follows =
 
 pub writes : (id : ℕ) (bytes : List ℕ) (given : Answer) (w v : World) → Stands id (IsWritable (length bytes) []) w → Steps in_turn (step.At A (call.Write id bytes)) given w v →
     Followed (step.At A (call.Write id bytes)) given w v →
-    ((given ≡ answer.Wrote (Took (length bytes))) × Stands id (IsWritable 0 bytes) v) ⊎ (given ≡ answer.Refused OutOfMemory)
+    ((given ≡ answer.Wrote (Took (length bytes))) × Stands id (IsWritable 0 bytes) v) ⊎ (given ≡ answer.Refused (OutOfMemory tt))
 writes id bytes given w v h st follows =
     let f = follows (alone h.numbers id h.stream h.offered) h.agrees in
     elim (write-step h.numbers id bytes h.stream h.offered given f.0 h.stage f.1) [
@@ -143,7 +143,7 @@ new-stands window_a window_b w is a = record {
 -- what was written is a copy
 pub writes-copy : (id : ℕ) (copy bytes : List ℕ) (given : Answer) (w v : World) → copy ≡ bytes → Stands id (IsWritable (length bytes) []) w → Steps in_turn (step.At A (call.Write id copy)) given w v →
     Followed (step.At A (call.Write id copy)) given w v →
-    ((given ≡ answer.Wrote (Took (length bytes))) × Stands id (IsWritable 0 bytes) v) ⊎ (given ≡ answer.Refused OutOfMemory)
+    ((given ≡ answer.Wrote (Took (length bytes))) × Stands id (IsWritable 0 bytes) v) ⊎ (given ≡ answer.Refused (OutOfMemory tt))
 writes-copy id copy bytes given w v e h st follows =
-    subst (λ (z : List ℕ). ((given ≡ answer.Wrote (Took (length z))) × Stands id (IsWritable 0 z) v) ⊎ (given ≡ answer.Refused OutOfMemory)) e
+    subst (λ (z : List ℕ). ((given ≡ answer.Wrote (Took (length z))) × Stands id (IsWritable 0 z) v) ⊎ (given ≡ answer.Refused (OutOfMemory tt))) e
     (writes id copy given w v (subst (λ (z : List ℕ). Stands id (IsWritable (length z) []) w) (sym e) h) st follows)

@@ -52,7 +52,7 @@ fn begin(alloc: Global) -> Result<World, AllocError>
 
 /// What a world that wasn't made for want of memory answers here. There is no other fault.
 fn not_made(fault: NewFault) -> AllocError
-    requires { fault ≡ OutOfMemory }
+    requires { fault ≡ OutOfMemory tt }
 {
     AllocError
 }

@@ -13,7 +13,7 @@ use ymx_world::World;
 
 /// What a call that was refused for want of memory answers here. There is no other refusal.
 fn no_memory(fault: CallFault) -> AllocError
-    requires { fault ≡ OutOfMemory }
+    requires { fault ≡ OutOfMemory tt }
 {
     AllocError
 }

@@ -27,7 +27,7 @@ OpensInVain s t = (id : ℕ) × (made : Session) × Gives in_turn s (event.Call 
 abbrev pub OpensNone : CallFault → Session → Session → Type 0
 OpensNone fault s t =
     (Gives in_turn s (event.Call call.Open) (reply.Refused fault) t × (t ≡ s))
-    ⊎ ((fault ≡ OutOfMemory) × OpensInVain s t)
+    ⊎ ((fault ≡ OutOfMemory tt) × OpensInVain s t)
 
 -- the session had no stream to offer, or refused, and is as it was
 abbrev pub OffersNone : Session → Session → Type 0

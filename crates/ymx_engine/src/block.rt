@@ -9,8 +9,9 @@ ghost use Rattle.ymx_session.specs.Passing.{FeedsSome};
 ghost use Rattle.ymx_engine.specs.Devices.{IsPulled, pulled_count};
 
 use crate::device::{Device, Pulled};
-use std::alloc::{AllocError, Global};
+use std::alloc::Global;
 use std::marker::Model;
+use ymx_memory::RefusedAllocation;
 use ymx_model::Fed;
 use ymx_session::{Session, Touched};
 
@@ -34,10 +35,10 @@ impl Model for Block {
 
 impl Block {
     /// So much memory, in bytes, of which none waits.
-    pub(crate) fn new(alloc: Global, size: usize) -> Result<Block, AllocError>
+    pub(crate) fn new(alloc: Global, size: usize) -> Result<Block, RefusedAllocation>
         ensures { IfOk result (λ block. block ≡ []) }
     {
-        let memory = vec![in alloc; 0u8; size]?;
+        let memory = ymx_memory::zeros(alloc, size)?;
         Ok(Block {
             memory,
             at: 0,

@@ -2,8 +2,9 @@
 
 use crate::connection::Connection;
 use indexmap::IndexMap;
-use std::alloc::{AllocError, Global};
+use std::alloc::Global;
 use std::collections::VecDeque;
+use ymx_memory::RefusedAllocation;
 use ymx_session::Touched;
 
 /// Connections by stream id, those that may have something to move, each once, and those that are held back while
@@ -41,15 +42,12 @@ impl Connections {
     }
 
     /// Adds one, which has something to move if its device is ready. There is memory then for its turns.
-    pub(crate) fn add(&mut self, id: u32, ready: bool) -> Result<(), AllocError> {
+    pub(crate) fn add(&mut self, id: u32, ready: bool) -> Result<(), RefusedAllocation> {
         let all = self.by_id.len().saturating_add(1);
-        self.fresh.reserve(all)?;
-        self.busy.reserve(all)?;
-        self.held.reserve(all)?;
-        let added = self.by_id.insert(id, Connection::new(ready));
-        if added.is_err() {
-            return Err(AllocError);
-        }
+        ymx_memory::reserve_queue(&mut self.fresh, all)?;
+        ymx_memory::reserve_queue(&mut self.busy, all)?;
+        ymx_memory::reserve_queue(&mut self.held, all)?;
+        ymx_memory::insert(&mut self.by_id, id, Connection::new(ready))?;
         self.enqueue(id);
         Ok(())
     }

@@ -21,8 +21,9 @@ use crate::device::{Device, Pulled, Pushed};
 use crate::exchange::serve;
 use crate::memory::{BLOCK, Memory};
 use crate::passing::offer;
-use std::alloc::{AllocError, Global};
+use std::alloc::Global;
 use std::marker::Model;
+use ymx_memory::RefusedAllocation;
 use ymx_model::{CallFault, Status};
 use ymx_session::{Session, Touched};
 
@@ -62,7 +63,7 @@ impl Model for Engine {
 
 impl Engine {
     /// Makes an engine of a session, with the memory for its buffers.
-    pub fn new(alloc: Global, session: Session) -> Result<Engine, AllocError>
+    pub fn new(alloc: Global, session: Session) -> Result<Engine, RefusedAllocation>
         ensures { IfOk result (λ engine. engine ≡ record { session = session; outgoing = []; incoming = [] }) }
     {
         let memory = Memory::new(alloc)?;
@@ -116,9 +117,9 @@ impl Engine {
         ensures wire { KeepsWire self.old self.new }
     {
         let id = self.open_stream()?;
-        if self.connections.add(id, true).is_err() {
+        if let Err(refused) = self.connections.add(id, true) {
             self.drop_stream(id);
-            return Err(CallFault::OutOfMemory);
+            return Err(CallFault::OutOfMemory(refused));
         }
         Ok(id)
     }
@@ -325,7 +326,7 @@ impl Engine {
         let fed = self
             .incoming
             .feed_some(&mut self.session, count, &mut self.touched);
-        self.hear_fed(fed.no_memory > 0);
+        self.hear_fed(fed.no_memory.get() > 0);
     }
 
     /// A feed was made, for a part of which there may have been no memory: the streams that it touched are queued.
@@ -371,7 +372,7 @@ impl Engine {
         let fed = self
             .incoming
             .feed_to_payload(&mut self.session, &mut self.touched);
-        self.hear_fed(fed.no_memory > 0);
+        self.hear_fed(fed.no_memory.get() > 0);
     }
 
     /// The stream whose payload waits, where it may be passed on.

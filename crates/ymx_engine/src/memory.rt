@@ -4,7 +4,8 @@ ghost use Rattle.std.specs.Prelude.{◌≡◌, [], IfOk};
 
 use crate::block::Block;
 use crate::connections::Connections;
-use std::alloc::{AllocError, Global};
+use std::alloc::Global;
+use ymx_memory::RefusedAllocation;
 use ymx_session::Touched;
 
 /// How many bytes are read from the peer, or from a device, at once.
@@ -27,13 +28,13 @@ pub(crate) struct Memory {
 
 impl Memory {
     /// Takes the memory, in which no bytes wait.
-    pub(crate) fn new(alloc: Global) -> Result<Memory, AllocError>
+    pub(crate) fn new(alloc: Global) -> Result<Memory, RefusedAllocation>
         ensures { IfOk result (λ memory. (memory.outgoing ≡ []) × (memory.incoming ≡ [])) }
     {
         Ok(Memory {
             outgoing: Block::new(alloc, FRAMES)?,
             incoming: Block::new(alloc, BLOCK)?,
-            buffer: vec![in alloc; 0u8; BLOCK]?,
+            buffer: ymx_memory::zeros(alloc, BLOCK)?,
             touched: Touched::new(alloc)?,
             connections: Connections::new(alloc),
         })

@@ -4,7 +4,7 @@ use arrayvec::ArrayString;
 use std::fmt::Write;
 use std::net::{SocketAddr, TcpListener};
 use ymx_frames::push_all;
-use ymx_loop::{EndedConnection, Ending, Unwatched, Watcher};
+use ymx_loop::{Declined, EndedConnection, Ending, Unwatched, Watcher};
 use ymx_model::{CallFault, Outlet};
 
 /// Room for the longest line, in bytes: that of a connection with the greatest numbers has 159.
@@ -69,8 +69,8 @@ impl<L: Outlet> Watcher for Notices<'_, L> {
         self.say(&end_line(number, ended));
     }
 
-    fn refused(&mut self, number: u64, fault: CallFault) {
-        self.say(&refusal_line(number, fault));
+    fn refused(&mut self, number: u64, why: Declined) {
+        self.say(&refusal_line(number, why));
     }
 }
 
@@ -114,11 +114,15 @@ fn end_line(number: u64, ended: &EndedConnection) -> Line {
 }
 
 /// The line of a connection that was closed, as there was no stream for it.
-fn refusal_line(number: u64, fault: CallFault) -> Line {
+fn refusal_line(number: u64, why: Declined) -> Line {
     let mut line = Line::new();
-    let _ = match fault {
-        CallFault::OutOfMemory => writeln!(line, "ymx: connection {number}: no stream: Memory"),
-        _ => writeln!(line, "ymx: connection {number}: no stream: {fault}"),
+    let _ = match why {
+        Declined::NoMemory | Declined::BySession(CallFault::OutOfMemory(_)) => {
+            writeln!(line, "ymx: connection {number}: no stream: Memory")
+        }
+        Declined::BySession(fault) => {
+            writeln!(line, "ymx: connection {number}: no stream: {fault}")
+        }
     };
     line
 }

@@ -6,8 +6,8 @@ ghost use Rattle.ymx_model.specs.session.Records.{writer_write, writer_send, wri
 ghost use Rattle.ymx_model.specs.session.FramesDue.{is_empty};
 
 use crate::{DeadHalf, DoneHalf, EndedHalf, RecvHalf, SendHalf};
-use std::alloc::AllocError;
 use std::mem;
+use ymx_memory::RefusedAllocation;
 
 /// The sending direction of a stream, by its half.
 #[derive(Drop)]
@@ -25,7 +25,7 @@ impl Sending {
     ghost use Rattle.ymx_half.specs.Through.{writer_spend};
 
     /// Takes the first bytes that the credit allows, of which a dead half has none. See `SendHalf::write`.
-    pub(crate) fn write(&mut self, bytes: &[u8]) -> Result<usize, AllocError>
+    pub(crate) fn write(&mut self, bytes: &[u8]) -> Result<usize, RefusedAllocation>
         requires { (writer_of self.old).finished ≡ false }
         ensures took_min { IfOk result (λ count. count ≡ min (length bytes.now) (writer_of self.old).credit) }
         ensures wrote { IfOk result (λ count. writer_of self.new ≡ writer_write (take count bytes.now) (writer_of self.old)) }

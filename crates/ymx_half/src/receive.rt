@@ -6,9 +6,10 @@ ghost use Rattle.ymx_model.specs.session.Records.{new_reader, reader_arrive, rea
 ghost use Rattle.ymx_half.specs.Passing.{reader_pass};
 
 use crate::{DeadHalf, EndedHalf, FIRST_CREDIT};
-use std::alloc::{AllocError, Global};
+use std::alloc::Global;
 use std::marker::Model;
 use ymx_credit::Debt;
+use ymx_memory::RefusedAllocation;
 use ymx_ring::Ring;
 
 /// A receiving half whose end has not arrived (flow control).
@@ -39,10 +40,10 @@ impl Model for RecvHalf {
 impl RecvHalf {
     /// Makes the half of a new stream, with memory for the whole window, in bytes. The peer may send
     /// 262,144 bytes at first, and what the window has beyond these is owed to it. Without the memory
-    /// it answers `AllocError`.
+    /// it answers `RefusedAllocation`.
     ///
     /// Example: of a window of 1,048,576 bytes 786,432 are owed from the start.
-    pub fn new(alloc: Global, window: u32) -> Result<RecvHalf, AllocError>
+    pub fn new(alloc: Global, window: u32) -> Result<RecvHalf, RefusedAllocation>
         requires { first_credit ≤ window }
         ensures { IfOk result (λ half. half ≡ new_reader window) }
     {

@@ -5,9 +5,10 @@ ghost use Rattle.ymx_machine.specs.shared.Limits.{first_credit, greatest_number}
 ghost use Rattle.ymx_model.specs.session.Records.{new_writer, writer_write, writer_send, writer_grant, writer_finish};
 
 use crate::{DeadHalf, DoneHalf, FIRST_CREDIT};
-use std::alloc::{AllocError, Global};
+use std::alloc::Global;
 use std::marker::Model;
 use ymx_credit::Credit;
+use ymx_memory::RefusedAllocation;
 use ymx_ring::Ring;
 
 /// A sending half to which bytes may still be written (flow control).
@@ -36,8 +37,8 @@ impl SendHalf {
     ghost use Rattle.ymx_half.specs.Through.{writer_spend};
 
     /// Makes the half of a new stream: 262,144 bytes may be written, and there is memory for so many
-    /// unsent ones. Without that memory it answers `AllocError`.
-    pub fn new(alloc: Global) -> Result<SendHalf, AllocError>
+    /// unsent ones. Without that memory it answers `RefusedAllocation`.
+    pub fn new(alloc: Global) -> Result<SendHalf, RefusedAllocation>
         ensures { IfOk result (λ half. half ≡ new_writer) }
     {
         let unsent = Ring::new(alloc, FIRST_CREDIT as usize)?;
@@ -50,11 +51,11 @@ impl SendHalf {
     /// Takes the first bytes that the credit allows, and returns their number.
     ///
     /// Takes memory only where more than 262,144 bytes would be unsent, which needs a peer that granted
-    /// more. Without that memory it answers `AllocError`, and nothing has changed.
+    /// more. Without that memory it answers `RefusedAllocation`, and nothing has changed.
     ///
     /// Example: of 300,000 bytes a new half takes 262,144. The next write takes none, until the peer
     /// grants more.
-    pub fn write(&mut self, bytes: &[u8]) -> Result<usize, AllocError>
+    pub fn write(&mut self, bytes: &[u8]) -> Result<usize, RefusedAllocation>
         ensures took_min { IfOk result (λ count. count ≡ min (length bytes.now) self.old.credit) }
         ensures wrote { IfOk result (λ count. self.new ≡ writer_write (take count bytes.now) self.old) }
         ensures in_room { length self.old.unsent + min (length bytes.now) self.old.credit ≤ first_credit → IsOk result }
@@ -63,9 +64,9 @@ impl SendHalf {
         let count = bytes.len().min(self.credit.left() as usize);
         let capacity = self.unsent.capacity();
         let needed = self.unsent.len() + count;
-        if needed > capacity {
-            // Twice as much at once, so that many small writes don't each move all unsent bytes.
-            self.unsent.grow(needed.max(2 * capacity))?;
+        // Twice as much at once, so that many small writes don't each move all unsent bytes.
+        if needed > capacity && self.unsent.grow(needed.max(2 * capacity)).is_err() {
+            self.unsent.grow(needed)?;
         }
         self.unsent.put(&bytes[..count]);
         self.credit.spend(count as u32);

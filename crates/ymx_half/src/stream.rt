@@ -12,11 +12,12 @@ ghost use Rattle.ymx_model.specs.session.FramesDue.{is_due, credit_due, next_kin
 use crate::directions::{Receiving, Sending};
 use crate::frame::{data, put_header, window_update};
 use crate::{DeadHalf, FIRST_CREDIT, FrameKind, RecvHalf, SendHalf};
-use std::alloc::{AllocError, Global};
+use std::alloc::Global;
 use std::marker::Model;
 use std::mem;
 use ymx_credit::is_half_owed;
 use ymx_header::{FLAG_ACK, FLAG_FIN, FLAG_RST, FLAG_SYN, HEADER_LENGTH, Header};
+use ymx_memory::RefusedAllocation;
 
 /// How far a stream has come at this end.
 #[derive(Clone, Copy, Debug, PartialEq, Eq)]
@@ -141,12 +142,16 @@ impl StreamRec {
 
     /// Makes the record of a stream that is opened here, with memory for 262,144 unsent bytes and for
     /// all of the window, in bytes. A SYN is due, which carries data if `with_data`. Without the memory it
-    /// answers `AllocError`.
+    /// answers `RefusedAllocation`.
     ///
     /// Example: at a session of 1,048,576 bytes the peer may send 262,144 at first, and hears of the
     /// other 786,432 by the SYN. A SYN that carries data announces nothing, so a credit frame of 786,432
     /// is due next.
-    pub fn opened(alloc: Global, window: u32, with_data: bool) -> Result<StreamRec, AllocError>
+    pub fn opened(
+        alloc: Global,
+        window: u32,
+        with_data: bool,
+    ) -> Result<StreamRec, RefusedAllocation>
         requires { first_credit ≤ window }
         ensures { IfOk result (λ stream. stream ≡ new_end window LivePhase true with_data) }
     {
@@ -170,8 +175,8 @@ impl StreamRec {
 
     /// Makes the record of a stream that the peer opened, with memory as for `opened`. Nothing is due of
     /// it yet. Before it is accepted no ACK and no credit is; bytes that are written, an end and a reset
-    /// are due at once. Without the memory it answers `AllocError`.
-    pub fn offered(alloc: Global, window: u32) -> Result<StreamRec, AllocError>
+    /// are due at once. Without the memory it answers `RefusedAllocation`.
+    pub fn offered(alloc: Global, window: u32) -> Result<StreamRec, RefusedAllocation>
         requires { first_credit ≤ window }
         ensures { IfOk result (λ stream. stream ≡ new_end window OfferedPhase false false) }
     {
@@ -289,10 +294,10 @@ impl StreamRec {
     /// has no credit.
     ///
     /// Takes memory only where more than 262,144 bytes would be unsent, which needs a peer that granted
-    /// more. Without that memory it answers `AllocError`, and nothing has changed.
+    /// more. Without that memory it answers `RefusedAllocation`, and nothing has changed.
     ///
     /// Example: of 300,000 bytes a new stream takes 262,144, and then none, until the peer grants more.
-    pub fn write(&mut self, bytes: &[u8]) -> Result<usize, AllocError>
+    pub fn write(&mut self, bytes: &[u8]) -> Result<usize, RefusedAllocation>
         requires { self.old.writer.finished ≡ false }
         ensures took_min { IfOk result (λ count. count ≡ min (length bytes.now) self.old.writer.credit) }
         ensures wrote { IfOk result (λ count. self.new ≡ end_write (take count bytes.now) self.old) }

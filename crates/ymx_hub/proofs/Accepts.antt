@@ -26,7 +26,7 @@ call_of why OpensPending e = cc
 call_of why TooMany e = cc
 call_of why Exhausted e = cc
 call_of why PingsPending e = cc
-call_of why OutOfMemory e = cc
+call_of why (OutOfMemory _) e = cc
 
 over_by : (seat : ℕ) (why : CallFault) (ds : List Entry) → IsOver why → IsRefused to_accept seat (Call why) ds → AcceptsLast seat (Ok None) ds
 over_by seat why ds o (inl (inl e, n)) = cc

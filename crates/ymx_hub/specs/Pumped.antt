@@ -20,4 +20,4 @@ abbrev pub EmitsOnce : (size : ℕ) → (buffer : List ℕ) → ℕ → Result T
 EmitsOnce size buffer seat (Ok (Emitted n)) added = One seat (event.Emit size) (reply.Emitted (take n buffer)) added
 EmitsOnce size buffer seat (Ok Idle) added = added ≡ []
 EmitsOnce size buffer seat (Ok Over) added = added ≡ []
-EmitsOnce size buffer seat (Err fault) added = (fault ≡ Memory) × (added ≡ [])
+EmitsOnce size buffer seat (Err fault) added = (fault ≡ Memory tt) × (added ≡ [])

@@ -48,7 +48,7 @@ abbrev pub ReadsLast : (id size : ℕ) → (buffer : List ℕ) → ℕ → Resul
 ReadsLast id size buffer seat (Ok n) last =
     ((0 < n) × One seat (to_read id size) (reply.Read (take n buffer)) last) ⊎ ((n ≡ 0) × One seat (to_read id size) reply.ReadEnd last)
 ReadsLast id size buffer seat (Err fault) last =
-    ((fault ≡ Memory) × (last ≡ []))
+    ((fault ≡ Memory tt) × (last ≡ []))
     ⊎ ((why : CallFault) × (fault ≡ hub_fault_of why) × One seat (to_read id size) (reply.Refused why) last)
 
 abbrev pub ReadTurns : (id size : ℕ) → (buffer : List ℕ) → ℕ → Result ℕ HubFault → List Entry → Type 0
@@ -60,7 +60,7 @@ ReadTurns id size buffer seat result added = Turns seat (to_read id size) reply.
 abbrev pub PongsLast : (number : ℕ) → ℕ → Result ℕ HubFault → List Entry → Type 0
 PongsLast number seat (Ok n) last = (n ≡ number) × One seat (to_collect number) (reply.Ponged true) last
 PongsLast number seat (Err fault) last =
-    ((fault ≡ Memory) × (last ≡ []))
+    ((fault ≡ Memory tt) × (last ≡ []))
     ⊎ ((why : CallFault) × (fault ≡ hub_fault_of why) × One seat (to_collect number) (reply.Refused why) last)
 
 -- a ping of this number, then the waits for its answer
@@ -116,7 +116,7 @@ abbrev pub WriteEnds : (bytes : List ℕ) → Result (Unit {0}) WriteFault → L
 WriteEnds bytes (Ok u) added = (total added ≡ length bytes) × EndsIn HasTaken added
 WriteEnds bytes (Err stop) added =
     (total added ≡ stop.taken)
-    × (((stop.fault ≡ Memory) × IsUnrefused added)
+    × (((stop.fault ≡ Memory tt) × IsUnrefused added)
     ⊎ ((why : CallFault) × (stop.fault ≡ hub_fault_of why) × EndsIn (λ told. told ≡ reply.Refused why) added))
 
 -- writes of what was left, and how they ended

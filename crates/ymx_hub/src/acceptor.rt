@@ -52,9 +52,7 @@ impl<R: Recorder> Acceptor<R> {
     ) -> Result<Option<(WriteHalf<R>, ReadHalf<R>)>, HubFault>
         ensures booked { Books R.KEEPS self.old self.new (AcceptsHalves self.old.number result) }
     {
-        let Some(hubs) = hub_twice(&self.hub) else {
-            return Err(HubFault::Memory);
-        };
+        let hubs = hub_twice(&self.hub)?;
         let offer = match self.hub.accept(rt, &mut self.seat) {
             Ok(Some(offer)) => offer,
             Ok(None) => return Ok(None),

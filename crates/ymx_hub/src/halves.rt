@@ -12,20 +12,19 @@ use std::alloc::Global;
 use std::marker::Model;
 use std::sync::{Arc, Wait};
 use ymx_booked::HubFault;
+use ymx_memory::RefusedAllocation;
 use ymx_seats::{Recorder, Seat};
 
 /// The hub twice.
 pub(crate) type HubTwice<R> = (Arc<Hub<R>, Global>, Arc<Hub<R>, Global>);
 
-/// The hub twice, for the two halves of a stream. `None` where there is no memory to count it.
-pub(crate) fn hub_twice<R: Recorder>(hub: &Arc<Hub<R>, Global>) -> Option<HubTwice<R>> {
-    let Ok(one) = Arc::try_clone(hub) else {
-        return None;
-    };
-    match Arc::try_clone(hub) {
-        Ok(other) => Some((one, other)),
-        Err(_) => None,
-    }
+/// The hub twice, for the two halves of a stream.
+pub(crate) fn hub_twice<R: Recorder>(
+    hub: &Arc<Hub<R>, Global>,
+) -> Result<HubTwice<R>, RefusedAllocation> {
+    let one = ymx_memory::share(hub)?;
+    let other = ymx_memory::share(hub)?;
+    Ok((one, other))
 }
 
 /// Both halves of a stream, of which its id and the seats of its halves are given.

@@ -14,10 +14,11 @@ ghost use Rattle.ymx_booked.specs.Books.{Books, Asks, Opens, OpensWith, Spends, 
 use crate::awaiting::take_lock;
 use crate::bells::Bells;
 use crate::shared::Shared;
-use std::alloc::{AllocError, Global};
+use std::alloc::Global;
 use std::sync::{Arc, Mutex, MutexGuard, Wait};
 use ymx_booked::{Booked, EndFault, HubFault};
 use ymx_journal::Opened;
+use ymx_memory::RefusedAllocation;
 use ymx_seats::{Recorder, Seat, Transcript};
 use ymx_session::{Session, Touched};
 
@@ -29,9 +30,13 @@ pub struct Hub<R: Recorder> {
 }
 
 impl<R: Recorder> Hub<R> {
-    /// A hub round a session that has done nothing, by a recorder that has no journal. `AllocError` where there is no memory
+    /// A hub round a session that has done nothing, by a recorder that has no journal. `RefusedAllocation` where there is no memory
     /// for it: both are dropped then.
-    pub fn new(alloc: Global, session: Session, recorder: R) -> Result<Arc<Hub<R>>, AllocError>
+    pub fn new(
+        alloc: Global,
+        session: Session,
+        recorder: R,
+    ) -> Result<Arc<Hub<R>>, RefusedAllocation>
         requires new { IsNew session }
         requires unwitnessed { R.WITNESSED ≡ false }
     {
@@ -40,12 +45,12 @@ impl<R: Recorder> Hub<R> {
     }
 
     /// A hub round a session that has done nothing, with the journal that this opens. The recorder names the journal, and
-    /// the role and the config of the session. `AllocError` where there is no memory for it: both are dropped then.
+    /// the role and the config of the session. `RefusedAllocation` where there is no memory for it: both are dropped then.
     pub fn witnessed(
         alloc: Global,
         session: Session,
         opened: Opened,
-    ) -> Result<Arc<Hub<R>>, AllocError>
+    ) -> Result<Arc<Hub<R>>, RefusedAllocation>
         requires new { IsNew session }
         requires witnessed { R.WITNESSED ≡ true }
         requires named { opened ≡ R.table }
@@ -56,13 +61,13 @@ impl<R: Recorder> Hub<R> {
     }
 
     /// A hub over what is booked, at which nobody waits.
-    fn over(alloc: Global, booked: Booked<R>) -> Result<Arc<Hub<R>>, AllocError> {
+    fn over(alloc: Global, booked: Booked<R>) -> Result<Arc<Hub<R>>, RefusedAllocation> {
         let touched = Touched::new(alloc)?;
         let hub = Hub {
             shared: Mutex::new(Shared::new(booked, touched)),
             bells: Bells::new(),
         };
-        Ok(Arc::new(alloc, hub)?)
+        ymx_memory::shared(alloc, hub)
     }
 
     /// A new seat, which has no entry; where there is a journal, none of the history that it has seen is its own. `Seats`

@@ -51,9 +51,7 @@ impl<R: Recorder> Opener<R> {
     pub fn open<W: Wait>(&mut self, rt: &W) -> Result<(WriteHalf<R>, ReadHalf<R>), HubFault>
         ensures booked { Books R.KEEPS self.old self.new (OpensHalves self.old.number result) }
     {
-        let Some(hubs) = hub_twice(&self.hub) else {
-            return Err(HubFault::Memory);
-        };
+        let hubs = hub_twice(&self.hub)?;
         match self.hub.open(rt, &mut self.seat) {
             Ok(opened) => Ok(both_halves(hubs, opened)),
             Err(fault) => Err(fault),
@@ -69,9 +67,7 @@ impl<R: Recorder> Opener<R> {
     ) -> Result<(WriteHalf<R>, ReadHalf<R>, usize), HubFault>
         ensures booked { Books R.KEEPS self.old self.new (OpensHalvesWith bytes.now self.old.number result) }
     {
-        let Some(hubs) = hub_twice(&self.hub) else {
-            return Err(HubFault::Memory);
-        };
+        let hubs = hub_twice(&self.hub)?;
         match self.hub.open_with(rt, &mut self.seat, bytes) {
             Ok((id, taken, one, other)) => {
                 let (writer, reader) = both_halves(hubs, (id, one, other));

@@ -49,8 +49,8 @@ impl<R: Recorder> Shared<R> {
     {
         self.touched.clear();
         let fed = self.booked.feed(seat, bytes, &mut self.touched);
-        if let Ok(fed) = fed
-            && fed.no_memory > 0
+        if let Ok(fed) = &fed
+            && fed.no_memory.get() > 0
         {
             self.has_lacked_memory = true;
         }

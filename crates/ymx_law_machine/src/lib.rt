@@ -66,8 +66,8 @@ pub fn others_keep()
 /// memory be answered in its place.
 pub fn one_answer()
     ensures { (c : Call) (m n k : Machine) (r other : Reply) → Rule c m r n → Rule c m other k →
-        r ≢ Refused OutOfMemory →
-        (other ≡ r) ⊎ ((other ≡ Refused OutOfMemory) × (needs_memory r ≡ true)) }
+        r ≢ Refused (OutOfMemory tt) →
+        (other ≡ r) ⊎ ((other ≡ Refused (OutOfMemory tt)) × (needs_memory r ≡ true)) }
 {}
 
 /// Worked examples: these steps may have these answers. How many bytes an emission gives and a delivery

@@ -16,4 +16,4 @@ pub use forwarding::forward;
 pub use peer::Peer;
 pub use sides::{Forwarded, TunnelSide};
 pub use station::Station;
-pub use watching::{EndedConnection, Ending, Passed, Unwatched, Watcher};
+pub use watching::{Declined, EndedConnection, Ending, Passed, Unwatched, Watcher};

@@ -6,7 +6,7 @@ use crate::peer::Peer;
 use crate::sides::{Forwarded, TunnelSide};
 use crate::socket::Socket;
 use crate::tunnel::{Tunnel, wire_of};
-use crate::watching::Watcher;
+use crate::watching::{Declined, Watcher};
 use mio::net::TcpStream;
 use mio::{Events, Poll, Token};
 use std::alloc::Global;
@@ -201,7 +201,7 @@ impl Station {
         if self.waiting.is_some() {
             self.waiting = None;
             let number = self.next_number();
-            watcher.refused(number, CallFault::Lost);
+            watcher.refused(number, Declined::BySession(CallFault::Lost));
         }
     }
 

@@ -4,7 +4,7 @@ use crate::peer::Peer;
 use crate::sides::Forwarded;
 use crate::socket::Socket;
 use crate::station::{LISTENER, Side, Station};
-use crate::watching::{EndedConnection, Ending, Watcher};
+use crate::watching::{Declined, EndedConnection, Ending, Watcher};
 use indexmap::IndexMap;
 use mio::event::Event;
 use mio::net::TcpStream;
@@ -266,14 +266,14 @@ impl<'a> Tunnel<'a> {
             Ok(id) => {
                 if !self.join(id, number, Socket::connected(stream)) {
                     self.refuse(id);
-                    watcher.refused(number, CallFault::OutOfMemory);
+                    watcher.refused(number, Declined::NoMemory);
                 }
             }
             Err(fault) => {
-                if fault == CallFault::OutOfMemory {
+                if matches!(fault, CallFault::OutOfMemory(_)) {
                     self.lacked_memory = true;
                 }
-                watcher.refused(number, fault);
+                watcher.refused(number, Declined::BySession(fault));
             }
         }
     }

@@ -39,6 +39,15 @@ pub struct EndedConnection {
     pub outward: Passed,
 }
 
+/// Why a connection got no stream.
+#[derive(Clone, Copy, Debug, PartialEq, Eq)]
+pub enum Declined {
+    /// The session refused one.
+    BySession(CallFault),
+    /// There was no memory to watch the connection, here or in the system.
+    NoMemory,
+}
+
 /// Who is told of connections that have ended. Connections are numbered 1, 2, 3, .. as they begin, and each is told of
 /// once, by one of the two calls.
 pub trait Watcher {
@@ -46,7 +55,7 @@ pub trait Watcher {
     fn ended(&mut self, number: u64, ended: &EndedConnection);
 
     /// A connection was closed, as no stream was to be had for it.
-    fn refused(&mut self, number: u64, fault: CallFault);
+    fn refused(&mut self, number: u64, why: Declined);
 }
 
 /// Watches nothing.
@@ -56,7 +65,7 @@ pub struct Unwatched;
 impl Watcher for Unwatched {
     fn ended(&mut self, _number: u64, _ended: &EndedConnection) {}
 
-    fn refused(&mut self, _number: u64, _fault: CallFault) {}
+    fn refused(&mut self, _number: u64, _why: Declined) {}
 }
 
 impl EndedConnection {

@@ -2,8 +2,9 @@
 
 ghost use Rattle.std.specs.Prelude.{◌≡◌, ◌==◌, [], length, IfOk};
 
-use std::alloc::{AllocError, Global};
+use std::alloc::Global;
 use std::marker::Model;
+use ymx_memory::RefusedAllocation;
 
 /// Some bytes. A contract sees the list of them and nothing else: not where they lie, nor how many
 /// more would fit.
@@ -42,8 +43,8 @@ impl<'a> Lent<'a> {
         Lent { bytes }
     }
 
-    /// A copy of these bytes. `AllocError` where there is no memory for it.
-    pub fn to_owned(&self, alloc: Global) -> Result<Bytes, AllocError>
+    /// A copy of these bytes, or the refused allocation.
+    pub fn to_owned(&self, alloc: Global) -> Result<Bytes, RefusedAllocation>
         ensures { IfOk result (λ copy. copy ≡ self.now) }
     {
         Bytes::from_slice(alloc, self.bytes)
@@ -67,11 +68,11 @@ impl Bytes {
         }
     }
 
-    /// A copy of these bytes.
-    pub fn from_slice(alloc: Global, bytes: &[u8]) -> Result<Bytes, AllocError>
+    /// A copy of these bytes, or the refused allocation.
+    pub fn from_slice(alloc: Global, bytes: &[u8]) -> Result<Bytes, RefusedAllocation>
         ensures { IfOk result (λ copy. copy ≡ bytes.now) }
     {
-        let items = Vec::from_slice(alloc, bytes)?;
+        let items = ymx_memory::copied(alloc, bytes)?;
         Ok(Bytes { items })
     }
 

@@ -4,6 +4,7 @@ use crate::bytes::Bytes;
 use std::fmt;
 use thiserror::Error;
 use ymx_header::Fault;
+use ymx_memory::{RefusalCount, RefusedAllocation};
 
 /// Why a call was refused. It prints its name alone.
 #[derive(Clone, Copy, PartialEq, Eq, Error)]
@@ -38,9 +39,9 @@ pub enum CallFault {
     /// 10: 16 own pings have not been collected (ping).
     #[error("PingsPending")]
     PingsPending,
-    /// 11: there was no memory for the call.
+    /// 11: there was no memory for the call. It holds the evidence: an allocation was refused.
     #[error("OutOfMemory")]
-    OutOfMemory,
+    OutOfMemory(RefusedAllocation),
 }
 
 /// Its name too.
@@ -75,8 +76,9 @@ pub enum Why {
 pub struct Fed {
     /// How many of the bytes were taken.
     pub taken: usize,
-    /// How many streams were refused because there was no memory for them; at most 4,294,967,295.
-    pub no_memory: u32,
+    /// How many streams were refused because there was no memory for them; at most 4,294,967,295. Only a refused
+    /// allocation makes it grow.
+    pub no_memory: RefusalCount,
     /// Why it stopped.
     pub why: Why,
 }

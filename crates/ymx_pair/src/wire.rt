@@ -2,9 +2,10 @@
 
 ghost use Rattle.std.specs.Prelude.{◌≡◌, ◌≤◌, ◌++◌, [], length, take, IfOk};
 
-use std::alloc::{AllocError, Global};
+use std::alloc::Global;
 use std::mem;
 use ymx_engine::{Device, Pulled, Pushed};
+use ymx_memory::RefusedAllocation;
 use ymx_ring::Ring;
 
 /// How many bytes a pipe holds.
@@ -20,7 +21,7 @@ pub(crate) struct Wire {
 
 impl Wire {
     /// Two empty pipes.
-    pub(crate) fn new(alloc: Global) -> Result<Wire, AllocError>
+    pub(crate) fn new(alloc: Global) -> Result<Wire, RefusedAllocation>
         ensures { IfOk result (λ wire. (wire.from.items ≡ []) × (wire.to.items ≡ [])) }
     {
         Ok(Wire {

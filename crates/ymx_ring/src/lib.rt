@@ -6,8 +6,9 @@
 ghost use Rattle.std.specs.Prelude.{◌≡◌, ◌+◌, ◌^◌, ◌<◌, ◌≤◌, ◌↔◌, [], ◌++◌, length, take, drop, min, IsTrue, IfOk, OnOk, OnErr};
 
 use circular_buffer::HeapCircularBuffer;
-use std::alloc::{AllocError, Global};
+use std::alloc::Global;
 use std::marker::Model;
+use ymx_memory::RefusedAllocation;
 
 /// A queue of bytes in one block of memory. Its capacity is set when it is made, and only `grow` changes it.
 ///
@@ -33,14 +34,14 @@ impl Ring {
     /// Makes an empty ring that can hold `capacity` bytes.
     ///
     /// Takes memory for all of them at once. Without that memory, and always where `capacity` is
-    /// 2^63 or more, it answers `AllocError`.
+    /// 2^63 or more, it answers `RefusedAllocation`.
     ///
     /// Example: `Ring::new(alloc, 262_144)` is a ring for one yamux window, and its `room` is 262,144.
-    pub fn new(alloc: Global, capacity: usize) -> Result<Ring, AllocError>
+    pub fn new(alloc: Global, capacity: usize) -> Result<Ring, RefusedAllocation>
         ensures empty { IfOk result (λ ring. ring.items ≡ []) }
         ensures of_capacity { IfOk result (λ ring. ring.capacity ≡ capacity) }
     {
-        let bytes = HeapCircularBuffer::with_capacity(alloc, capacity)?;
+        let bytes = ymx_memory::ring(alloc, capacity)?;
         Ok(Ring { bytes })
     }
 
@@ -161,10 +162,10 @@ impl Ring {
     /// in order.
     ///
     /// Takes memory for the whole new capacity, and then gives the old memory back. Without that memory,
-    /// and always where `capacity` is 2^63 or more, it answers `AllocError`, and the ring is unchanged.
+    /// and always where `capacity` is 2^63 or more, it answers `RefusedAllocation`, and the ring is unchanged.
     ///
     /// Example: `grow(8)` on a full ring of 4 bytes leaves its bytes and a `room` of 4.
-    pub fn grow(&mut self, capacity: usize) -> Result<(), AllocError>
+    pub fn grow(&mut self, capacity: usize) -> Result<(), RefusedAllocation>
         requires { length self.old.items ≤ capacity }
         ensures kept { OnOk result (self.new.items ≡ self.old.items) }
         ensures of_capacity { OnOk result (self.new.capacity ≡ capacity) }
@@ -172,7 +173,7 @@ impl Ring {
     {
         // The buffer's own `resize` pops and pushes each byte, so the two runs of bytes are copied as blocks.
         let alloc = *self.bytes.allocator();
-        let mut wider = HeapCircularBuffer::with_capacity(alloc, capacity)?;
+        let mut wider = ymx_memory::ring(alloc, capacity)?;
         let (front, wrapped) = self.bytes.as_slices();
         wider.fill_from_slice(front);
         wider.fill_from_slice(wrapped);

@@ -24,7 +24,7 @@ refusal_text refusal.OpensPending = codes "7 OpensPending"
 refusal_text refusal.TooMany = codes "8 TooMany"
 refusal_text refusal.Exhausted = codes "9 Exhausted"
 refusal_text refusal.PingsPending = codes "10 PingsPending"
-refusal_text refusal.OutOfMemory = codes "11 OutOfMemory"
+refusal_text (refusal.OutOfMemory _) = codes "11 OutOfMemory"
 
 abbrev pub accepted_text : Option ℕ → List ℕ
 accepted_text None = codes "none"

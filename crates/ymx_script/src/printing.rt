@@ -139,7 +139,7 @@ fn name_of(fault: CallFault) -> &'static [u8]
         CallFault::TooMany => b"8 TooMany",
         CallFault::Exhausted => b"9 Exhausted",
         CallFault::PingsPending => b"10 PingsPending",
-        CallFault::OutOfMemory => b"11 OutOfMemory",
+        CallFault::OutOfMemory(_) => b"11 OutOfMemory",
     }
 }
 
@@ -148,10 +148,11 @@ fn append_fed(text: &mut Vec<u8>, fed: &Fed) -> Result<(), AllocError>
     ensures kept { StartsWith text.new.items text.old.items }
 {
     append_stop(text, fed.why, fed.taken)?;
-    if fed.no_memory == 0 {
+    let refused = fed.no_memory.get();
+    if refused == 0 {
         return Ok(());
     }
-    append_number(text, b" nomem ", fed.no_memory)
+    append_number(text, b" nomem ", refused)
 }
 
 /// Appends why a delivery stopped, and how many bytes it took.

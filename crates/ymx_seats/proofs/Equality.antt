@@ -84,13 +84,13 @@ number_of_refusal refusal.OpensPending = 6
 number_of_refusal refusal.TooMany = 7
 number_of_refusal refusal.Exhausted = 8
 number_of_refusal refusal.PingsPending = 9
-number_of_refusal refusal.OutOfMemory = 10
+number_of_refusal (refusal.OutOfMemory _) = 10
 
 abbrev refusal_from : ℕ → CallFault
 refusal_from n =
     get_or
     (refusal.NoStream ∷ refusal.Finished ∷ refusal.Reset ∷ refusal.Lost ∷ refusal.Closed ∷ refusal.PeerAway
-    ∷ refusal.OpensPending ∷ refusal.TooMany ∷ refusal.Exhausted ∷ refusal.PingsPending ∷ refusal.OutOfMemory ∷ [])
+    ∷ refusal.OpensPending ∷ refusal.TooMany ∷ refusal.Exhausted ∷ refusal.PingsPending ∷ (refusal.OutOfMemory tt) ∷ [])
     n refusal.NoStream
 
 refusal_back : (f : CallFault) → refusal_from (number_of_refusal f) ≡ f
@@ -104,7 +104,7 @@ refusal_back refusal.OpensPending = refl
 refusal_back refusal.TooMany = refl
 refusal_back refusal.Exhausted = refl
 refusal_back refusal.PingsPending = refl
-refusal_back refusal.OutOfMemory = refl
+refusal_back (refusal.OutOfMemory _) = refl
 
 -- ---- calls and events
 

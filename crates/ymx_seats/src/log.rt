@@ -8,10 +8,11 @@ ghost use Rattle.ymx_seats.specs.Views.{entry};
 use crate::recorder::{Question, Recorder};
 use crate::seat::Seat;
 use crate::slips::{Copies, Slip, copies_of, kept_reply};
-use std::alloc::{AllocError, Global};
+use std::alloc::Global;
 use std::marker::{Brand, Model, PhantomData};
 use std::mem;
 use ymx_journal::{Journal, Opened, Saying, Witness};
+use ymx_memory::RefusedAllocation;
 use ymx_model::{Entry, Event, Lent, Reply};
 
 /// The entries so far, and the journal, where the recorder witnesses. A contract sees both, and for how many more entries
@@ -96,7 +97,7 @@ impl<R: Recorder> Log<R> {
     }
 
     /// Finds the memory for the entry of an event whose reply has at most `bytes` bytes, before the event, and
-    /// room for `entries` entries in all. A recorder that keeps nothing needs none. `AllocError` where there is none; no
+    /// room for `entries` entries in all. A recorder that keeps nothing needs none. `RefusedAllocation` where there is none; no
     /// entry is added.
     pub fn prepare(
         &mut self,
@@ -105,7 +106,7 @@ impl<R: Recorder> Log<R> {
         event: Event<Lent<'_>>,
         bytes: usize,
         entries: usize,
-    ) -> Result<Slip, AllocError>
+    ) -> Result<Slip, RefusedAllocation>
         ensures entries { self.new.entries ≡ self.old.entries }
         ensures journal { self.new.journal ≡ self.old.journal }
         ensures number { seat.new.number ≡ seat.old.number }
@@ -120,7 +121,7 @@ impl<R: Recorder> Log<R> {
         if !R::keeps(Question::new()) {
             return Ok(Slip { copies: None });
         }
-        self.entries.reserve(entries)?;
+        ymx_memory::reserve(&mut self.entries, entries)?;
         seat.make_room(entries)?;
         Ok(Slip {
             copies: Some(copies_of(alloc, &event, bytes)?),

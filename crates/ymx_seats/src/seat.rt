@@ -3,9 +3,10 @@
 ghost use Rattle.std.specs.Prelude.{◌≡◌, ◌-◌, ◌+◌, ◌<◌, ◌≤◌, ◌++◌, ◌∷◌, [], true, false, None, vec_capacity, vec_len, IsOk, OnOk, OnErr};
 
 use crate::recorder::Recorder;
-use std::alloc::{AllocError, Global};
+use std::alloc::Global;
 use std::marker::{Model, PhantomData};
 use ymx_journal::Witness;
+use ymx_memory::RefusedAllocation;
 use ymx_model::Entry;
 
 /// A caller, with the entries of its events. It must be handed in at the end: it cannot be dropped.
@@ -89,8 +90,8 @@ impl<R: Recorder> Seat<R> {
         self.start
     }
 
-    /// Finds memory for so many more entries. `AllocError` where there is none; the entries stay as they are.
-    pub fn make_room(&mut self, count: usize) -> Result<(), AllocError>
+    /// Finds memory for so many more entries. `RefusedAllocation` where there is none; the entries stay as they are.
+    pub fn make_room(&mut self, count: usize) -> Result<(), RefusedAllocation>
         ensures number { self.new.number ≡ self.old.number }
         ensures start { self.new.start ≡ self.old.start }
         ensures entries { self.new.entries ≡ self.old.entries }
@@ -98,8 +99,7 @@ impl<R: Recorder> Seat<R> {
         ensures ok { OnOk result (count ≤ self.new.room) }
         ensures room { self.old.room ≤ self.new.room }
     {
-        self.entries.reserve(count)?;
-        Ok(())
+        ymx_memory::reserve(&mut self.entries, count)
     }
 
     /// Adds an entry behind the others, in memory that was found before.

@@ -4,7 +4,8 @@ ghost use Rattle.std.specs.Prelude.{◌≡◌, ◌≤◌, [], length, vec_len, v
 ghost use Rattle.ymx_machine.specs.shared.Replies.{bytes_told};
 ghost use Rattle.ymx_seats.specs.Slips.{Hold};
 
-use std::alloc::{AllocError, Global};
+use std::alloc::Global;
+use ymx_memory::RefusedAllocation;
 use ymx_model::{Bytes, Call, Event, Lent, Reply};
 
 /// What was found for an entry: its memory, where the recorder keeps it. It shows nobody which.
@@ -27,7 +28,7 @@ pub(crate) struct Copies {
 }
 
 /// The event with bytes of its own.
-fn owned(alloc: Global, event: &Event<Lent<'_>>) -> Result<Event<Bytes>, AllocError>
+fn owned(alloc: Global, event: &Event<Lent<'_>>) -> Result<Event<Bytes>, RefusedAllocation>
     ensures { IfOk result (λ e. e ≡ event.now) }
 {
     Ok(match event {
@@ -39,7 +40,7 @@ fn owned(alloc: Global, event: &Event<Lent<'_>>) -> Result<Event<Bytes>, AllocEr
 }
 
 /// The call with bytes of its own.
-fn owned_call(alloc: Global, call: &Call<Lent<'_>>) -> Result<Call<Bytes>, AllocError>
+fn owned_call(alloc: Global, call: &Call<Lent<'_>>) -> Result<Call<Bytes>, RefusedAllocation>
     ensures { IfOk result (λ c. c ≡ call.now) }
 {
     Ok(match call {
@@ -94,11 +95,11 @@ fn filled(mut room: Vec<u8>, bytes: &[u8]) -> Bytes
 }
 
 /// No bytes, with room for so many.
-fn with_room(alloc: Global, count: usize) -> Result<Vec<u8>, AllocError>
+fn with_room(alloc: Global, count: usize) -> Result<Vec<u8>, RefusedAllocation>
     ensures { IfOk result (λ v. (v.items ≡ []) × (count ≤ vec_capacity v)) }
 {
     let mut room = Vec::new(alloc);
-    room.reserve(count)?;
+    ymx_memory::reserve(&mut room, count)?;
     Ok(room)
 }
 
@@ -107,7 +108,7 @@ pub(crate) fn copies_of(
     alloc: Global,
     event: &Event<Lent<'_>>,
     count: usize,
-) -> Result<Copies, AllocError>
+) -> Result<Copies, RefusedAllocation>
     ensures { IfOk result (λ c. Hold c event.now count) }
 {
     Ok(Copies {

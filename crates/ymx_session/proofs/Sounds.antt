@@ -41,11 +41,11 @@ new-sound role window first low high own some small = record { within = new-keep
 
 -- ---- a call that may take memory
 
-wants_memory : {A : Type 0} (r : Result A CallFault) → is_out_of_memory r ≡ true → (told : Reply) → ((fault : CallFault) → r ≡ Err fault → told ≡ Refused fault) → told ≡ Refused OutOfMemory
+wants_memory : {A : Type 0} (r : Result A CallFault) → is_out_of_memory r ≡ true → (told : Reply) → ((fault : CallFault) → r ≡ Err fault → told ≡ Refused fault) → told ≡ Refused (OutOfMemory tt)
 wants_memory {A} (Ok x) e told f = cc
 wants_memory {A} (Err fault) e told f = of fault e (f fault refl)
   where
-    of : (g : CallFault) → is_out_of_memory {A = A} (Err g) ≡ true → told ≡ Refused g → told ≡ Refused OutOfMemory
+    of : (g : CallFault) → is_out_of_memory {A = A} (Err g) ≡ true → told ≡ Refused g → told ≡ Refused (OutOfMemory tt)
     of g e h = grind arith
 
 -- it has its outcome, or it wanted memory that wasn't there

@@ -27,4 +27,4 @@ new_fault role config =
 
 -- this fault is that one, or else want of memory
 abbrev pub IsNewFault : Role → Config → NewFault → Type 0
-IsNewFault role config fault = MatchOption (new_fault role config) (fault ≡ OutOfMemory) (λ (why : NewFault). fault ≡ why)
+IsNewFault role config fault = MatchOption (new_fault role config) (fault ≡ OutOfMemory tt) (λ (why : NewFault). fault ≡ why)

@@ -2,8 +2,8 @@
 
 ghost use Rattle.ymx_session.specs.declared.new_fault.NewFault.TheVariants.{OutOfMemory as OutOfMemoryFault};
 
-use std::alloc::AllocError;
 use thiserror::Error;
+use ymx_memory::RefusedAllocation;
 
 /// Why no session was made. It prints its name alone.
 #[derive(Clone, Copy, Debug, PartialEq, Eq, Error)]
@@ -15,17 +15,17 @@ pub enum NewFault {
     /// identifiers).
     #[error("BadFirst")]
     BadFirst,
-    /// 3: there was no memory for the session.
+    /// 3: there was no memory for the session. It holds the evidence: an allocation was refused.
     #[error("OutOfMemory")]
-    OutOfMemory,
+    OutOfMemory(RefusedAllocation),
 }
 
-impl From<AllocError> for NewFault {
+impl From<RefusedAllocation> for NewFault {
     ghost use Rattle.std.specs.Prelude.{◌≡◌};
 
-    ghost from_gives = { λ _ fault. fault ≡ OutOfMemoryFault };
+    ghost from_gives = { λ _ fault. fault ≡ OutOfMemoryFault tt };
 
-    fn from(_error: AllocError) -> NewFault {
-        NewFault::OutOfMemory
+    fn from(refused: RefusedAllocation) -> NewFault {
+        NewFault::OutOfMemory(refused)
     }
 }

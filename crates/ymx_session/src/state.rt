@@ -6,10 +6,11 @@ ghost use Rattle.ymx_model.specs.session.Sessions.{new_session, breaks, is_lost}
 
 use crate::arriving::Arriving;
 use crate::frame_buffer::FrameBuffer;
-use std::alloc::{AllocError, Global};
+use std::alloc::Global;
 use std::marker::Model;
 use ymx_control::{Answers, Away, Backlog, Pings};
 use ymx_header::Fault;
+use ymx_memory::RefusedAllocation;
 use ymx_model::{Role, Status};
 use ymx_table::Table;
 
@@ -60,7 +61,7 @@ impl State {
         role: Role,
         window: u32,
         first: u32,
-    ) -> Result<State, AllocError>
+    ) -> Result<State, RefusedAllocation>
         requires narrowest { first_credit ≤ window }
         requires widest { window ≤ widest_window }
         ensures { IfOk result (λ state. state ≡ new_session role window first) }

@@ -54,7 +54,7 @@ impl State {
         }
         match self.table.write(id, bytes) {
             Ok(count) => Ok(Wrote::Took(count)),
-            Err(_) => Err(CallFault::OutOfMemory),
+            Err(refused) => Err(CallFault::OutOfMemory(refused)),
         }
     }
 

@@ -6,9 +6,10 @@ ghost use Rattle.ymx_machine.specs.shared.Limits.{most_records};
 ghost use Rattle.ymx_session.specs.Touched.{nothing_noted, note, note_head};
 
 use indexmap::IndexSet;
-use std::alloc::{AllocError, Global};
+use std::alloc::Global;
 use std::marker::Model;
 use ymx_header::{Header, TYPE_GO_AWAY, TYPE_PING};
+use ymx_memory::RefusedAllocation;
 use ymx_table::MOST_RECORDS;
 
 /// The streams that what came has touched, each once, in the order in which they were first touched, and whether
@@ -42,11 +43,11 @@ impl Model for Touched {
 }
 
 impl Touched {
-    /// Nothing was touched. Takes memory for 1,024 ids; without it it answers `AllocError`.
-    pub fn new(alloc: Global) -> Result<Touched, AllocError>
+    /// Nothing was touched. Takes memory for 1,024 ids; without it it answers `RefusedAllocation`.
+    pub fn new(alloc: Global) -> Result<Touched, RefusedAllocation>
         ensures { IfOk result (λ touched. touched ≡ nothing_noted false) }
     {
-        let ids = IndexSet::with_capacity(alloc, MOST_RECORDS)?;
+        let ids = ymx_memory::set_with_capacity(alloc, MOST_RECORDS)?;
         Ok(Touched {
             ids,
             last: None,

@@ -25,10 +25,11 @@ mod unacknowledged;
 use due_places::DuePlaces;
 use indexmap::IndexMap;
 pub use law::others_keep;
-use std::alloc::{AllocError, Global};
+use std::alloc::Global;
 use std::marker::Model;
 pub use turn::NextFrame;
 use ymx_half::StreamRec;
+use ymx_memory::RefusedAllocation;
 
 /// How many records a table holds at most: 1,024.
 pub const MOST_RECORDS: usize = 1024;
@@ -139,9 +140,9 @@ impl Table {
     /// under its id. It was made for the session's window: what is unread of it, granted and owed makes up
     /// that window.
     ///
-    /// It takes memory. Without it it answers `AllocError`: the table is as it was, and the record is
+    /// It takes memory. Without it it answers `RefusedAllocation`: the table is as it was, and the record is
     /// dropped.
-    pub fn insert(&mut self, id: u32, stream: StreamRec) -> Result<(), AllocError>
+    pub fn insert(&mut self, id: u32, stream: StreamRec) -> Result<(), RefusedAllocation>
         requires absent { look id self.old.entries ≡ None }
         requires room { length self.old.entries < most_records }
         requires of_window { window_held stream.reader ≡ self.old.window }
@@ -149,7 +150,7 @@ impl Table {
         ensures refused_unchanged { OnErr result (self.new ≡ self.old) }
     {
         let is_due = stream.is_due(self.window);
-        self.records.insert(id, stream)?;
+        ymx_memory::insert(&mut self.records, id, stream)?;
         self.due.push(is_due);
         Ok(())
     }

@@ -16,8 +16,8 @@ ghost use Rattle.ymx_half.specs.Passing.{MayPass, passed};
 ghost use Rattle.ymx_half.specs.Through.{MaySend, sent};
 
 use crate::Table;
-use std::alloc::AllocError;
 use ymx_half::{Stage, StreamRec};
+use ymx_memory::RefusedAllocation;
 
 impl Table {
     // ---- calls
@@ -26,8 +26,8 @@ impl Table {
     /// not finished here.
     ///
     /// Takes memory only where more than 262,144 bytes of the stream would be unsent. Without that memory
-    /// it answers `AllocError`, and nothing has changed.
-    pub fn write(&mut self, id: u32, bytes: &[u8]) -> Result<usize, AllocError>
+    /// it answers `RefusedAllocation`, and nothing has changed.
+    pub fn write(&mut self, id: u32, bytes: &[u8]) -> Result<usize, RefusedAllocation>
         requires there { IsSome (look id self.old.entries) }
         requires open { ForSome (look id self.old.entries) (λ e. e.writer.finished ≡ false) }
         ensures took_min { IfOk result (λ count. ForSome (look id self.old.entries) (λ e. count ≡ min (length bytes.now) e.writer.credit)) }

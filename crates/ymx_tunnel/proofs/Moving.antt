@@ -144,7 +144,7 @@ source_case : (fault : HubFault) → copy_reason fault Sink ≡ Source → ⊥
 source_case (Call refusal.Reset) e = cc
 source_case (Call refusal.Lost) e = cc
 source_case (Call _) e = cc
-source_case NoMemory e = cc
+source_case (NoMemory _) e = cc
 source_case Seats e = cc
 
 -- no fault of a sink blames the reader
@@ -155,7 +155,7 @@ sink_case : (fault : HubFault) → copy_reason fault Source ≡ Sink → ⊥
 sink_case (Call refusal.Reset) e = cc
 sink_case (Call refusal.Lost) e = cc
 sink_case (Call _) e = cc
-sink_case NoMemory e = cc
+sink_case (NoMemory _) e = cc
 sink_case Seats e = cc
 
 -- no fault of a source blames the writer
@@ -182,7 +182,7 @@ own_case : (fault : HubFault) (own : CopyWhy) → (own ≡ End → ⊥) → copy
 own_case (Call refusal.Reset) own f e = cc
 own_case (Call refusal.Lost) own f e = cc
 own_case (Call _) own f e = f e
-own_case NoMemory own f e = cc
+own_case (NoMemory _) own f e = cc
 own_case Seats own f e = f e
 
 pub no_end : (fault : HubFault) (why own : CopyWhy) → why ≡ copy_reason fault own → (own ≡ End → ⊥) → why ≡ End → ⊥

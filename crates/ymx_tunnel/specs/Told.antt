@@ -14,5 +14,5 @@ HasSaidEnd entries = (before : List Entry) × (e : Entry) × (after : List Entry
 -- one of these entries was refused, which the fault says; or the fault is want of memory, which no entry need tell
 abbrev pub HasToldRefusal : HubFault → List Entry → Type 0
 HasToldRefusal fault entries =
-    (fault ≡ Memory)
+    (fault ≡ Memory tt)
     ⊎ ((why : CallFault) × (fault ≡ hub_fault_of why) × (before : List Entry) × (e : Entry) × (after : List Entry) × (entries ≡ before ++ e ∷ after) × (e.reply ≡ reply.Refused why))

@@ -44,7 +44,7 @@ pub(crate) fn why_of_fault(fault: HubFault, own: CopyWhy) -> CopyWhy
     match fault {
         HubFault::Call(CallFault::Reset) => CopyWhy::Reset,
         HubFault::Call(CallFault::Lost) => CopyWhy::Lost,
-        HubFault::Memory => CopyWhy::Memory,
+        HubFault::Memory(_) => CopyWhy::Memory,
         HubFault::Call(_) | HubFault::Seats => own,
     }
 }

@@ -21,4 +21,4 @@ pub use direction::EndedCopy;
 pub use ends::{Sink, Source};
 pub use joining::EndedConnection;
 pub use network::{Network, Sockets};
-pub use serving::{Served, Unwatched, Watcher, serve_local, serve_remote};
+pub use serving::{Declined, Served, Unwatched, Watcher, serve_local, serve_remote};

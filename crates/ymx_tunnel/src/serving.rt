@@ -13,6 +13,15 @@ use std::thread::Threads;
 use ymx_connect::{Handle, HubFault, Reader, Writer};
 use ymx_model::CallFault;
 
+/// Why a connection got no stream.
+#[derive(Clone, Copy, Debug, PartialEq, Eq)]
+pub enum Declined {
+    /// The hub refused one.
+    ByHub(HubFault),
+    /// No thread could be made for it.
+    NoThread,
+}
+
 /// Who is told of connections that have ended. Connections are numbered 1, 2, 3, .. as they begin, and each is told of
 /// once, by one of the two calls.
 pub trait Watcher: Sync {
@@ -20,7 +29,7 @@ pub trait Watcher: Sync {
     fn ended<W: Wait>(&self, rt: &W, number: u64, joined: &EndedConnection);
 
     /// A connection was closed, as no stream was to be had for it.
-    fn refused<W: Wait>(&self, rt: &W, number: u64, fault: HubFault);
+    fn refused<W: Wait>(&self, rt: &W, number: u64, why: Declined);
 }
 
 /// Watches nothing.
@@ -30,7 +39,7 @@ pub struct Unwatched;
 impl Watcher for Unwatched {
     fn ended<W: Wait>(&self, _rt: &W, _number: u64, _joined: &EndedConnection) {}
 
-    fn refused<W: Wait>(&self, _rt: &W, _number: u64, _fault: HubFault) {}
+    fn refused<W: Wait>(&self, _rt: &W, _number: u64, _why: Declined) {}
 }
 
 /// How a server ended.
@@ -78,14 +87,14 @@ pub fn serve_local<R: Threads + Wait + Sync, V: Watcher>(
             };
             let number = lent.next_number();
             if count.is_none() && !lent.handle.is_running(rt) {
-                lent.refused(rt, number, HubFault::Call(CallFault::Lost));
+                lent.refused(rt, number, Declined::ByHub(HubFault::Call(CallFault::Lost)));
                 break;
             }
             if scope
                 .spawn(move || serve_connection(rt, lent, number, stream))
                 .is_err()
             {
-                lent.refused(rt, number, HubFault::Memory);
+                lent.refused(rt, number, Declined::NoThread);
             }
         }
         accept_failed
@@ -136,7 +145,7 @@ fn serve_connection<R: Threads + Wait + Sync, V: Watcher>(
             let joined = join_both(rt, alloc, shared.connections, stream, writer, reader);
             shared.ended(rt, number, &joined);
         }
-        Err(fault) => shared.refused(rt, number, fault),
+        Err(fault) => shared.refused(rt, number, Declined::ByHub(fault)),
     }
 }
 
@@ -162,7 +171,7 @@ fn next_stream<R: Wait, V: Watcher>(rt: &R, shared: &Shared<'_, V>) -> Option<(W
     for _ in rt.forever() {
         match shared.handle.accept(rt) {
             Ok(stream) => return stream,
-            Err(HubFault::Memory) => {
+            Err(HubFault::Memory(_)) => {
                 shared.lack_memory();
                 thread::yield_now();
             }
@@ -222,11 +231,12 @@ impl<'a, V: Watcher> Shared<'a, V> {
     }
 
     /// No stream was to be had for a connection.
-    fn refused<R: Wait>(&self, rt: &R, number: u64, fault: HubFault) {
-        if fault == HubFault::Memory {
-            self.lack_memory();
+    fn refused<R: Wait>(&self, rt: &R, number: u64, why: Declined) {
+        match why {
+            Declined::NoThread | Declined::ByHub(HubFault::Memory(_)) => self.lack_memory(),
+            Declined::ByHub(_) => {}
         }
-        self.watcher.refused(rt, number, fault);
+        self.watcher.refused(rt, number, why);
     }
 
     /// A connection has ended.

@@ -2,11 +2,11 @@
 
 ghost use Rattle.std.specs.Prelude.{◌≡◌, None, IfOk, IfErr, IfSome};
 ghost use Rattle.ymx_session.specs.NewSessions.{new_fault};
-ghost use Rattle.ymx_connect.specs.Connecting.{IsConnectFault, IsSpared};
-ghost use Rattle.ymx_witness.specs.Settings.{with_first, IsMadeWith, IsNamed};
+ghost use Rattle.ymx_connect.specs.Connecting.{IsSpared};
+ghost use Rattle.ymx_witness.specs.Settings.{with_first, IsMadeWith, IsNamed, IsWitnessFault};
 
 use crate::{Program, begin};
-use std::alloc::{AllocError, Global};
+use std::alloc::Global;
 use std::marker::Brand;
 use std::sync::{Arc, Wait};
 use std::thread;
@@ -15,6 +15,7 @@ use ymx_connect::pumping::{Buffer, pump_in, pump_out};
 use ymx_connect::{ConnectFault, Connected, both_ended};
 use ymx_hub::Hub;
 use ymx_journal::{Naming, Opened};
+use ymx_memory::RefusedAllocation;
 use ymx_model::{Config, Inlet, Outlet, Role};
 use ymx_seats::Witnessed;
 use ymx_session::Session;
@@ -26,8 +27,9 @@ use ymx_session::Session;
 /// `ymx_connect::connect` does.
 ///
 /// `Session` comes where no session can be made: `BadWindow` or `BadFirst` for this config, or `OutOfMemory`. `Memory`
-/// comes where there is none for the journal, the hub or the buffers, or where a thread can't be made. In both cases the
-/// program has not run, and no byte was written; the writer may have been ended.
+/// comes where there is none for the hub or the buffers, `NoJournal` where there is none for the journal, and `NoThread`
+/// where a thread can't be made. In each case the program has not run, and no byte was written; the writer may have been
+/// ended.
 pub fn connected<
     P: Program,
     W: Threads + Wait + Sync,
@@ -44,32 +46,30 @@ pub fn connected<
 ) -> Result<Connected<P::Answer>, ConnectFault>
     ensures may { IfOk result (λ connected. new_fault role config ≡ None) }
     ensures spared { IfOk result (λ connected. IsSpared connected.ended) }
-    ensures refused { IfErr result (λ fault. IsConnectFault role config fault) }
+    ensures refused { IfErr result (λ fault. IsWitnessFault role config fault) }
 {
     let (session, opened) = match begin(alloc, role, config) {
         Ok(begun) => begun,
         Err(fault) => return Err(fault),
     };
-    let Ok(buffers) = buffers(alloc) else {
-        return Err(ConnectFault::Memory);
+    let buffers = match buffers(alloc) {
+        Ok(buffers) => buffers,
+        Err(refused) => return Err(ConnectFault::Memory(refused)),
     };
-    match run_over::<Brand, P, W, I, O>(
+    run_over::<Brand, P, W, I, O>(
         rt, alloc, role, config, session, opened, buffers, reader, writer, program,
-    ) {
-        Some(connected) => Ok(connected),
-        None => Err(ConnectFault::Memory),
-    }
+    )
 }
 
 /// What the read pump and the write pump move bytes through.
-fn buffers(alloc: Global) -> Result<(Buffer, Buffer), AllocError> {
+fn buffers(alloc: Global) -> Result<(Buffer, Buffer), RefusedAllocation> {
     let into = Buffer::for_reading(alloc)?;
     let out_of = Buffer::for_writing(alloc)?;
     Ok((into, out_of))
 }
 
-/// Runs a program with the hub of this session, whose journal has this name, while the pumps run. `None`, and it has not
-/// run, where there is no memory for the hub, or a thread can't be made.
+/// Runs a program with the hub of this session, whose journal has this name, while the pumps run. It has not run
+/// where there is an error.
 fn run_over<
     J: Naming + Send + Sync,
     P: Program,
@@ -87,14 +87,24 @@ fn run_over<
     reader: I,
     writer: O,
     program: P,
-) -> Option<Connected<P::Answer>>
+) -> Result<Connected<P::Answer>, ConnectFault>
+    requires able { new_fault role config ≡ None }
     requires made { IsMadeWith role config session }
     requires named { IsNamed role config opened J.role J.config J.table }
-    ensures spared { IfSome result (λ connected. IsSpared connected.ended) }
+    ensures spared { IfOk result (λ connected. IsSpared connected.ended) }
+    ensures refused { IfErr result (λ fault. IsWitnessFault role config fault) }
 {
-    let hub = Hub::<Witnessed<J>>::witnessed(alloc, session, opened).ok()?;
-    let again = Arc::try_clone(&hub).ok()?;
-    let mut seat = hub.seat(rt).ok()?;
+    let hub = match Hub::<Witnessed<J>>::witnessed(alloc, session, opened) {
+        Ok(hub) => hub,
+        Err(refused) => return Err(ConnectFault::Memory(refused)),
+    };
+    let again = match ymx_memory::share(&hub) {
+        Ok(again) => again,
+        Err(refused) => return Err(ConnectFault::Memory(refused)),
+    };
+    let Ok(mut seat) = hub.seat(rt) else {
+        return Err(ConnectFault::NoJournal);
+    };
     let (into, out_of) = buffers;
     let (lent, mine) = (&*hub, &mut seat);
     let connected = thread::scope(
@@ -125,5 +135,8 @@ fn run_over<
         },
     );
     let _ = seat.into_entries();
-    connected
+    match connected {
+        Some(connected) => Ok(connected),
+        None => Err(ConnectFault::NoThread),
+    }
 }

@@ -9,16 +9,16 @@ mod connecting;
 
 ghost use Rattle.std.specs.Prelude.{◌≡◌, None, IfOk, IfErr};
 ghost use Rattle.ymx_session.specs.NewSessions.{new_fault};
-ghost use Rattle.ymx_connect.specs.Connecting.{IsConnectFault};
-ghost use Rattle.ymx_witness.specs.Settings.{with_first, IsMadeWith, IsNamed};
+ghost use Rattle.ymx_witness.specs.Settings.{with_first, IsMadeWith, IsNamed, IsWitnessFault};
 
 pub use connecting::connected;
-use std::alloc::{AllocError, Global};
+use std::alloc::Global;
 use std::marker::Brand;
 use std::sync::{Arc, Wait};
 use ymx_connect::ConnectFault;
 use ymx_hub::Hub;
 use ymx_journal::{Naming, Opened};
+use ymx_memory::RefusedAllocation;
 use ymx_model::{Config, Role};
 use ymx_seats::Witnessed;
 use ymx_session::Session;
@@ -47,7 +47,8 @@ pub trait Program: Drop {
 /// program with them.
 ///
 /// `Session` comes where no session can be made: `BadWindow` or `BadFirst` for this config, or `OutOfMemory`. `Memory`
-/// comes where there is none for the journal or the hub. In both cases the program has not run.
+/// comes where there is none for the hub, and `NoJournal` where there is none for the journal. In each case the program
+/// has not run.
 pub fn witnessed<P: Program, W: Wait>(
     rt: &W,
     alloc: Global,
@@ -56,7 +57,7 @@ pub fn witnessed<P: Program, W: Wait>(
     program: P,
 ) -> Result<P::Answer, ConnectFault>
     ensures may { IfOk result (λ answer. new_fault role config ≡ None) }
-    ensures refused { IfErr result (λ fault. IsConnectFault role config fault) }
+    ensures refused { IfErr result (λ fault. IsWitnessFault role config fault) }
 {
     let (session, opened) = match begin(alloc, role, config) {
         Ok(begun) => begun,
@@ -64,7 +65,7 @@ pub fn witnessed<P: Program, W: Wait>(
     };
     match run_with::<Brand, P, W>(rt, alloc, role, config, session, opened, program) {
         Ok(answer) => Ok(answer),
-        Err(_) => Err(ConnectFault::Memory),
+        Err(refused) => Err(ConnectFault::Memory(refused)),
     }
 }
 
@@ -76,20 +77,20 @@ pub(crate) fn begin(
 ) -> Result<(Session, Opened), ConnectFault>
     ensures may { IfOk result (λ begun. new_fault role config ≡ None) }
     ensures made { IfOk result (λ begun. IsMadeWith role config begun.0) }
-    ensures refused { IfErr result (λ fault. IsConnectFault role config fault) }
+    ensures refused { IfErr result (λ fault. IsWitnessFault role config fault) }
 {
     let session = match Session::new(alloc, role, config) {
         Ok(session) => session,
         Err(fault) => return Err(ConnectFault::Session(fault)),
     };
     let Ok(opened) = Opened::new(alloc) else {
-        return Err(ConnectFault::Memory);
+        return Err(ConnectFault::NoJournal);
     };
     Ok((session, opened))
 }
 
-/// Runs a program with the hub of this session, whose journal has this name. `AllocError`, and it has not run, where there
-/// is no memory for the hub.
+/// Runs a program with the hub of this session, whose journal has this name. `RefusedAllocation`, and it has not run,
+/// where there is no memory for the hub.
 fn run_with<J: Naming + Send + Sync, P: Program, W: Wait>(
     rt: &W,
     alloc: Global,
@@ -98,7 +99,7 @@ fn run_with<J: Naming + Send + Sync, P: Program, W: Wait>(
     session: Session,
     opened: Opened,
     program: P,
-) -> Result<P::Answer, AllocError>
+) -> Result<P::Answer, RefusedAllocation>
     requires made { IsMadeWith role config session }
     requires named { IsNamed role config opened J.role J.config J.table }
 {

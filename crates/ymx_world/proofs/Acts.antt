@@ -1,7 +1,6 @@
 -- Steps of the world, from what was done with one session and one pipe.
 use Rattle.std.proofs.Common.{◌≡◌, ℕ, ◌≤◌, List, ◌++◌, length, drop, false, Bool, Result, Ok, Err, IfOk, refl, sym, ap, ◌∙◌, subst, arith}
 use Rattle.std.proofs.lemmas.Grind.{common_steps}
-use Rattle.std.specs.declared.alloc.AllocError.{AllocError}
 use Rattle.ymx_machine.specs.declared.types.Step.TheVariants as step
 use Rattle.ymx_machine.specs.declared.types.Answer.TheVariants as answer
 use Rattle.ymx_machine.specs.declared.types.Reply.TheVariants as reply
@@ -14,7 +13,7 @@ use Rattle.ymx_model.specs.world.Worlds.{World, Pipe, Steps}
 use Rattle.ymx_world.specs.Acts.{IsAppended, IsEmitted, IsFed}
 
 -- what went behind the bytes of a pipe, of which the first were delivered, went onto the pipe
-pub appended_goes : (result : Result ℕ AllocError) (room : ℕ) (s t : Session) (before after : List ℕ) (at : ℕ) (stopped ended : Bool) (p : Pipe) →
+pub appended_goes : (result : Result ℕ (Unit {0})) (room : ℕ) (s t : Session) (before after : List ℕ) (at : ℕ) (stopped ended : Bool) (p : Pipe) →
     record { bytes = drop at before; stopped = stopped; ended = ended } ≡ p → p.stopped ≡ false → at ≤ length before →
     IfOk result (λ count. IsAppended room count s t before after) →
     IfOk result (λ count. IsEmitted room count s t p (record { bytes = drop at after; stopped = stopped; ended = ended }))

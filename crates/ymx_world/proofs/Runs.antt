@@ -1,7 +1,6 @@
 -- Runs of the world, and worlds reached by them.
 use Rattle.std.proofs.Common.{◌≡◌, ℕ, ◌+◌, ◌<◌, List, [], ◌∷◌, ◌++◌, length, take, get_or, Bool, Result, Ok, Err, IfOk, OnErr, refl, subst, sym, arith}
 use Rattle.std.proofs.lemmas.Grind.{common_steps}
-use Rattle.std.specs.declared.alloc.AllocError.{AllocError}
 use Rattle.ymx_machine.specs.declared.types.Step.{Step}
 use Rattle.ymx_machine.specs.declared.types.Answer.{Answer}
 use Rattle.ymx_model.specs.session.Sessions.{Session}
@@ -45,7 +44,7 @@ reached_along steps answers w v r run = record {
 }
 
 -- a step that is made, or not, leads to a world that can be
-pub reached_if : (given : Result Answer AllocError) (st : Step) (w v : World) → IsReached w →
+pub reached_if : (given : Result Answer (Unit {0})) (st : Step) (w v : World) → IsReached w →
     IfOk given (λ (answer : Answer). Steps in_turn st answer w v) → OnErr given (v ≡ w) → IsReached v
 reached_if (Ok given) st w v r one same = reached_on st given w v r one
 reached_if (Err fault) st w v r one same = subst IsReached (sym same) r

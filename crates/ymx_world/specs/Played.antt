@@ -36,9 +36,9 @@ pub record IsSamePlay (p q : Played) : Type 0 where
 -- of a run that stopped this holds
 abbrev pub WhereStopped : (Played → Type 0) → PlayFault → Type 0
 WhereStopped P (Refused fault) = Unit {0}
-WhereStopped P (Stopped played) = P played
+WhereStopped P (Stopped played _) = P played
 
 -- No run was made: the client's session has this fault, or else the server's. It stopped only where both were made.
 abbrev pub IsPlayFault : (a b : Config) → PlayFault → Type 0
 IsPlayFault a b (Refused fault) = IsNewFault Client a fault ⊎ (new_fault Client a ≡ None) × IsNewFault Server b fault
-IsPlayFault a b (Stopped played) = (new_fault Client a ≡ None) × (new_fault Server b ≡ None)
+IsPlayFault a b (Stopped played _) = (new_fault Client a ≡ None) × (new_fault Server b ≡ None)

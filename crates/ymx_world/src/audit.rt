@@ -6,11 +6,12 @@ ghost use Rattle.ymx_model.specs.world.Worlds.{Pipe as PipeValue};
 ghost use Rattle.ymx_law_audit.specs.Joints.{into, sent_into, Gets, world_steps, Advances, IsStuck, IsJointOrder};
 
 use crate::pipe::Pipe;
-use std::alloc::{AllocError, Global};
+use std::alloc::Global;
+use ymx_memory::RefusedAllocation;
 use ymx_model::{Bytes, Call, Direction, Entry, Event, Reply, Side, Step};
 
 /// A copy of a call.
-fn copy_of(alloc: Global, call: &Call<Bytes>) -> Result<Call<Bytes>, AllocError>
+fn copy_of(alloc: Global, call: &Call<Bytes>) -> Result<Call<Bytes>, RefusedAllocation>
     ensures { IfOk result (λ copy. copy ≡ call.now) }
 {
     Ok(match call {
@@ -47,7 +48,7 @@ fn advance(
     to: &mut Pipe,
     from: &mut Pipe,
     steps: &mut Vec<Step>,
-) -> Result<bool, AllocError>
+) -> Result<bool, RefusedAllocation>
     ensures gets { IfOk result (λ yes. yes ≡ true → Gets entry.now.event entry.now.reply from.old from.new) }
     ensures puts { IfOk result (λ yes. yes ≡ true → to.new ≡ sent_into entry.now.event entry.now.reply to.old) }
     ensures steps { IfOk result (λ yes. yes ≡ true → steps.new.items ≡ steps.old.items ++ world_steps side from.old entry.now.event) }
@@ -56,13 +57,14 @@ fn advance(
 {
     match &entry.event {
         Event::Call(call) => {
-            steps.push(Step::At(side, copy_of(alloc, call)?))?;
+            let copy = copy_of(alloc, call)?;
+            ymx_memory::push(steps, Step::At(side, copy))?;
             Ok(true)
         }
         Event::Emit(room) => match &entry.reply {
             Reply::Emitted(bytes) => {
                 to.push(bytes.as_slice())?;
-                steps.push(Step::Emit(side, *room))?;
+                ymx_memory::push(steps, Step::Emit(side, *room))?;
                 Ok(true)
             }
             _ => Ok(false),
@@ -76,7 +78,7 @@ fn advance(
                     if !from.take_front(bytes.as_slice(), fed.taken) {
                         return Ok(false);
                     }
-                    steps.push(Step::Deliver(into_side(side), bytes.len()))?;
+                    ymx_memory::push(steps, Step::Deliver(into_side(side), bytes.len()))?;
                     Ok(true)
                 }
                 _ => Ok(false),
@@ -84,8 +86,8 @@ fn advance(
         }
         Event::FeedEnd => {
             from.end();
-            steps.push(Step::Stop(into_side(side)))?;
-            steps.push(Step::End(into_side(side)))?;
+            ymx_memory::push(steps, Step::Stop(into_side(side)))?;
+            ymx_memory::push(steps, Step::End(into_side(side)))?;
             Ok(true)
         }
     }
@@ -100,7 +102,7 @@ fn try_next(
     to: &mut Pipe,
     from: &mut Pipe,
     steps: &mut Vec<Step>,
-) -> Result<bool, AllocError>
+) -> Result<bool, RefusedAllocation>
     ensures within { IfOk result (λ yes. yes ≡ true → at < length entries.now) }
     ensures taken { IfOk result (λ yes. yes ≡ true → Advances side (drop at entries.now) (drop (at + 1) entries.now) to.old from.old to.new from.new steps.old.items steps.new.items) }
     ensures same { IfOk result (λ yes. yes ≡ false → (from.new ≡ from.old) × (to.new ≡ to.old) × (steps.new.items ≡ steps.old.items)) }
@@ -122,7 +124,7 @@ pub(crate) fn audit(
     alloc: Global,
     a: &[Entry],
     b: &[Entry],
-) -> Result<Option<Vec<Step>>, AllocError>
+) -> Result<Option<Vec<Step>>, RefusedAllocation>
     ensures some { IfOk result (λ found. IfSome found (λ steps. IsJointOrder a.now b.now steps.items)) }
     ensures none { IfOk result (λ found. IfNone found ((steps : List TheStep) → IsJointOrder a.now b.now steps → ⊥)) }
 {

@@ -6,7 +6,8 @@ ghost use Rattle.ymx_machine.specs.declared.types.Call.TheVariants as call;
 ghost use Rattle.ymx_session.specs.Replies.{done_or, opened_or, opened_with_or, accepted_or, wrote_or, pinged_or, ponged_or};
 ghost use Rattle.ymx_world.specs.Acts.{IsCalled};
 
-use std::alloc::{AllocError, Global};
+use std::alloc::Global;
+use ymx_memory::RefusedAllocation;
 use ymx_model::{Answer, Bytes, Call, CallFault, Got, Wrote};
 use ymx_session::Session;
 
@@ -15,7 +16,7 @@ pub(crate) fn make_call(
     alloc: Global,
     session: &mut Session,
     call: &Call<Bytes>,
-) -> Result<Answer, AllocError>
+) -> Result<Answer, RefusedAllocation>
     ensures called { IfOk result (λ given. IsCalled call.now given session.old session.new) }
     ensures same { OnErr result (session.new ≡ session.old) }
 {
@@ -39,11 +40,16 @@ pub(crate) fn make_call(
 }
 
 /// Reads at most so many bytes from a stream.
-fn read(alloc: Global, session: &mut Session, id: u32, max: usize) -> Result<Answer, AllocError>
+fn read(
+    alloc: Global,
+    session: &mut Session,
+    id: u32,
+    max: usize,
+) -> Result<Answer, RefusedAllocation>
     ensures called { IfOk result (λ given. IsCalled (call.Read id max) given session.old session.new) }
     ensures same { OnErr result (session.new ≡ session.old) }
 {
-    let mut buffer = vec![in alloc; 0u8; max]?;
+    let mut buffer = ymx_memory::zeros(alloc, max)?;
     Ok(match session.read(id, buffer.as_mut_slice()) {
         Ok(Got::Bytes(count)) => {
             buffer.truncate(count);

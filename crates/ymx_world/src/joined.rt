@@ -11,8 +11,9 @@ ghost use Rattle.ymx_world.specs.Settled.{is_open_world};
 use crate::calls::make_call;
 use crate::pipe::Pipe;
 use crate::stopped::Stopped;
-use std::alloc::{AllocError, Global};
+use std::alloc::Global;
 use std::marker::Model;
+use ymx_memory::RefusedAllocation;
 use ymx_model::{Answer, Direction, Fed, Side, Status, Step};
 use ymx_session::Session;
 
@@ -53,7 +54,7 @@ impl Joined {
     }
 
     /// One step. Where there is no memory for it nothing is done.
-    pub(crate) fn step(&mut self, step: &Step) -> Result<Answer, AllocError>
+    pub(crate) fn step(&mut self, step: &Step) -> Result<Answer, RefusedAllocation>
         ensures steps { IfOk result (λ given. Steps in_turn step.now given self.old self.new) }
         ensures same { OnErr result (self.new ≡ self.old) }
     {
@@ -91,13 +92,13 @@ impl Joined {
     {
         let mut answers = Vec::new(self.alloc);
         for step in steps {
-            let Ok(()) = answers.reserve(1) else {
-                return Err(Stopped { answers });
-            };
-            let Ok(answer) = self.step(step) else {
-                return Err(Stopped { answers });
-            };
-            answers.push_reserved(answer);
+            if let Err(refused) = ymx_memory::reserve(&mut answers, 1) {
+                return Err(Stopped { answers, refused });
+            }
+            match self.step(step) {
+                Ok(answer) => answers.push_reserved(answer),
+                Err(refused) => return Err(Stopped { answers, refused }),
+            }
         }
         Ok(answers)
     }

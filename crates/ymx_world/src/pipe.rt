@@ -6,8 +6,9 @@ ghost use Rattle.ymx_law_audit.specs.Joints.{ended_pipe};
 ghost use Rattle.ymx_world.specs.Acts.{IsAppended, IsEmitted, IsFed, IsEnded};
 ghost use Rattle.ymx_world.specs.Settled.{is_open_pipe};
 
-use std::alloc::{AllocError, Global};
+use std::alloc::Global;
 use std::marker::Model;
+use ymx_memory::RefusedAllocation;
 use ymx_model::{Answer, Fed};
 use ymx_session::Session;
 
@@ -74,7 +75,7 @@ impl Pipe {
         sender: &mut Session,
         buffer: &mut Vec<u8>,
         room: usize,
-    ) -> Result<usize, AllocError>
+    ) -> Result<usize, RefusedAllocation>
         ensures emitted { IfOk result (λ count. IsEmitted room count sender.old sender.new self.old self.new) }
         ensures kept { OnErr result (sender.new ≡ sender.old) }
         ensures same { OnErr result (self.new ≡ self.old) }
@@ -93,7 +94,7 @@ impl Pipe {
         &mut self,
         sender: &mut Session,
         buffer: &mut [u8],
-    ) -> Result<usize, AllocError>
+    ) -> Result<usize, RefusedAllocation>
         requires { self.old.stopped ≡ false }
         ensures emitted { IfOk result (λ count. IsEmitted (length buffer.old) count sender.old sender.new self.old self.new) }
         ensures kept { OnErr result (sender.new ≡ sender.old) }
@@ -161,13 +162,13 @@ impl Pipe {
     }
 
     /// Bytes go onto it, or vanish where it was stopped.
-    pub(crate) fn push(&mut self, bytes: &[u8]) -> Result<(), AllocError>
+    pub(crate) fn push(&mut self, bytes: &[u8]) -> Result<(), RefusedAllocation>
         ensures { OnOk result (self.new ≡ pushed bytes.now self.old) }
     {
         if self.stopped {
             return Ok(());
         }
-        self.bytes.extend_from_slice(bytes)?;
+        ymx_memory::extend(&mut self.bytes, bytes)?;
         Ok(())
     }
 
@@ -195,11 +196,11 @@ impl Pipe {
 }
 
 /// A buffer that is shorter is made so long.
-fn lengthen(buffer: &mut Vec<u8>, length: usize) -> Result<(), AllocError>
+fn lengthen(buffer: &mut Vec<u8>, length: usize) -> Result<(), RefusedAllocation>
     ensures { OnOk result (length ≤ vec_len buffer.new) }
 {
     if buffer.len() < length {
-        buffer.resize(length, 0)?;
+        ymx_memory::resize(buffer, length)?;
     }
     Ok(())
 }
@@ -209,12 +210,12 @@ fn append_emission(
     bytes: &mut Vec<u8>,
     sender: &mut Session,
     buffer: &mut [u8],
-) -> Result<usize, AllocError>
+) -> Result<usize, RefusedAllocation>
     ensures emitted { IfOk result (λ count. IsAppended (length buffer.old) count sender.old sender.new bytes.old.items bytes.new.items) }
     ensures kept { OnErr result (sender.new ≡ sender.old) }
     ensures same { OnErr result (bytes.new.items ≡ bytes.old.items) }
 {
-    bytes.reserve(buffer.len())?;
+    ymx_memory::reserve(bytes, buffer.len())?;
     let count = sender.emit(buffer);
     bytes.extend_from_slice(&buffer[..count]).unwrap();
     Ok(count)

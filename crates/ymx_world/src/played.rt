@@ -4,7 +4,8 @@ ghost use Rattle.std.specs.Prelude.{◌≡◌, [], OnOk, OnErr};
 ghost use Rattle.ymx_world.specs.Played.{IsOneMore, IsSamePlay};
 
 use crate::world::World;
-use std::alloc::{AllocError, Global};
+use std::alloc::Global;
+use ymx_memory::RefusedAllocation;
 use ymx_model::{Answer, Step};
 use ymx_session::NewFault;
 
@@ -24,9 +25,9 @@ pub struct Played {
 pub enum PlayFault {
     /// The client's session wasn't made, or else the server's.
     Refused(NewFault),
-    /// There was no memory of the world's own for a step. It did nothing, and no later one was made; these are
-    /// the steps before it.
-    Stopped(Played),
+    /// There was no memory of the world's own for a step: this allocation was refused. The step did nothing, and no
+    /// later one was made; these are the steps before it.
+    Stopped(Played, RefusedAllocation),
 }
 
 impl Played {
@@ -44,12 +45,12 @@ impl Played {
     }
 
     /// Makes one more step. Where there is no memory for it nothing is done.
-    pub(crate) fn play_step(&mut self, step: &Step) -> Result<(), AllocError>
+    pub(crate) fn play_step(&mut self, step: &Step) -> Result<(), RefusedAllocation>
         ensures made { OnOk result (IsOneMore step.now self.old self.new) }
         ensures same { OnErr result (IsSamePlay self.old self.new) }
     {
-        self.answers.reserve(1)?;
-        self.quiet.reserve(1)?;
+        ymx_memory::reserve(&mut self.answers, 1)?;
+        ymx_memory::reserve(&mut self.quiet, 1)?;
         let answer = self.world.step(step)?;
         self.answers.push_reserved(answer);
         self.quiet.push_reserved(self.world.quiet());

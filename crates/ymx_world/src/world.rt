@@ -26,8 +26,9 @@ use crate::audit::audit;
 use crate::joined::Joined;
 use crate::played::{PlayFault, Played};
 use crate::stopped::Stopped;
-use std::alloc::{AllocError, Global};
+use std::alloc::Global;
 use std::marker::Model;
+use ymx_memory::RefusedAllocation;
 use ymx_model::{Answer, Config, Direction, Entry, Role, Side, Step};
 use ymx_session::{NewFault, Session};
 
@@ -74,11 +75,11 @@ impl World {
 
     /// One step: a call at a side; an emission, which goes onto the side's pipe, or vanishes where that was
     /// stopped; a delivery of a pipe's first bytes, all if there are fewer, of which those that the session
-    /// takes leave the pipe; a stop; an end, which answers `NotStopped` without a stop before. `AllocError` where
+    /// takes leave the pipe; a stop; an end, which answers `NotStopped` without a stop before. `RefusedAllocation` where
     /// there is no memory for the bytes that are read or emitted: then nothing is done.
     ///
     /// A session's own want of memory is an answer, as each of its refusals is.
-    pub fn step(&mut self, step: &Step) -> Result<Answer, AllocError>
+    pub fn step(&mut self, step: &Step) -> Result<Answer, RefusedAllocation>
         ensures steps { IfOk result (λ given. Steps in_turn step.now given self.old self.new) }
         ensures same { OnErr result (self.new ≡ self.old) }
         // A queue machine that agreed with the world has a step with this answer, and agrees again.
@@ -158,9 +159,10 @@ impl World {
         };
         let mut played = Played::new(alloc, world);
         for step in steps {
-            let Ok(()) = played.play_step(step) else {
-                return Err(PlayFault::Stopped(played));
-            };
+            match played.play_step(step) {
+                Ok(()) => {}
+                Err(refused) => return Err(PlayFault::Stopped(played, refused)),
+            }
         }
         Ok(played)
     }
@@ -186,12 +188,12 @@ impl World {
     }
 
     /// Emits and delivers until the world is quiet, and answers whether it is: false for a world in which
-    /// something was stopped, ended, closed or broken, which is left as it is. `AllocError` where there is no
+    /// something was stopped, ended, closed or broken, which is left as it is. `RefusedAllocation` where there is no
     /// memory for an emission: then the steps before it were made, and a later call goes on from there.
     ///
     /// It ends, since each of its steps carries a byte on. No frame is made or lost on the way that
     /// emissions and deliveries by hand would not make or lose.
-    pub fn settle(&mut self) -> Result<bool, AllocError>
+    pub fn settle(&mut self) -> Result<bool, RefusedAllocation>
         ensures quiet { IfOk result (λ settled. settled ≡ true → is_quiet self.new ≡ true) }
         ensures open { IsOpenWorld self.old → IfOk result (λ settled. settled ≡ true) }
         ensures left_alone { IfOk result (λ settled. settled ≡ false → self.new ≡ self.old) }
@@ -250,8 +252,12 @@ impl World {
     /// Steps of the world in which the histories of its two sides, A's and B's, each keep their order: `None`
     /// only if there are none. A call and an emission are steps; a feed is the delivery of its bytes, which
     /// stand at the front of what the other side has emitted and no feed has taken; the end of the input is a
-    /// stop and an end, and a feed behind it has no step. `AllocError` where there is no memory for the steps.
-    pub fn audit(alloc: Global, a: &[Entry], b: &[Entry]) -> Result<Option<Vec<Step>>, AllocError>
+    /// stop and an end, and a feed behind it has no step. `RefusedAllocation` where there is no memory for the steps.
+    pub fn audit(
+        alloc: Global,
+        a: &[Entry],
+        b: &[Entry],
+    ) -> Result<Option<Vec<Step>>, RefusedAllocation>
         ensures some { IfOk result (λ found. IfSome found (λ steps. IsJointOrder a.now b.now steps.items)) }
         ensures none { IfOk result (λ found. IfNone found ((steps : List TheStep) → IsJointOrder a.now b.now steps → ⊥)) }
         // Where both histories replay from sessions, the replies of the entries that have a step are the answers

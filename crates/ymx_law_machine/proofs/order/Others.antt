@@ -63,7 +63,7 @@ others-move (PingBack number) m i d = refl
 
 -- the answer of a call, or want of memory in its place
 abbrev Or_memory : Reply → Reply → Type 0
-Or_memory r told = (r ≡ told) ⊎ ((r ≡ reply.Refused fault.OutOfMemory) × (needs_memory told ≡ true))
+Or_memory r told = (r ≡ told) ⊎ ((r ≡ reply.Refused (fault.OutOfMemory tt)) × (needs_memory told ≡ true))
 
 took-needs : (n : ℕ) → n ≢ 0 → needs_memory (reply.Wrote (Took n)) ≡ true
 took-needs zero d = absurd (d refl)
@@ -179,8 +179,8 @@ one c m r n h = elim (when (m.me.closed && not (is_close c))) [
 ]
 
 -- two answers of a call in a state are the same, but for want of memory where memory is needed
-pub one-answer : (c : Call) (m : Machine) (r r' : Reply) (n n' : Machine) → Rule c m r n → Rule c m r' n' → r ≢ reply.Refused fault.OutOfMemory →
-    (r' ≡ r) ⊎ ((r' ≡ reply.Refused fault.OutOfMemory) × (needs_memory r ≡ true))
+pub one-answer : (c : Call) (m : Machine) (r r' : Reply) (n n' : Machine) → Rule c m r n → Rule c m r' n' → r ≢ reply.Refused (fault.OutOfMemory tt) →
+    (r' ≡ r) ⊎ ((r' ≡ reply.Refused (fault.OutOfMemory tt)) × (needs_memory r ≡ true))
 one-answer c m r r' n n' h h' d = elim (one c m r n h) [
   | inl e ↦ elim (one c m r' n' h') [
     | inl e' ↦ inl (e' ∙ sym e)

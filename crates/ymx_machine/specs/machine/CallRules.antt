@@ -46,7 +46,7 @@ machine_opened bytes m = record m {
 -- a refusal, or the stream, or no memory
 abbrev pub OpenRule : Option CallFault → Reply → List ℕ → Machine → Reply → Machine → Type 0
 OpenRule (Some fault) reply bytes m r n = RefusedWith fault m r n
-OpenRule None reply bytes m r n = Answers reply (machine_opened bytes m) r n ⊎ RefusedWith OutOfMemory m r n
+OpenRule None reply bytes m r n = Answers reply (machine_opened bytes m) r n ⊎ RefusedWith (OutOfMemory tt) m r n
 
 abbrev pub AcceptRule : List ℕ → Machine → Reply → Machine → Type 0
 AcceptRule [] m r n = MatchBool m.me.lost (RefusedWith Lost m r n) (Answers (Accepted None) m r n)

@@ -18,5 +18,5 @@ pub unreachable-requires : goal.unreachable-requires
 unreachable-requires c =
     elim (opens c.in_ok-answer.answer c.args.world.now c.step.new.self c.requires c.in_ok-answer.ensures.steps c.in_ok-answer.ensures.machine) [
       | inl made ↦ c.in_default.not-Opened 1 made.0
-      | inr none ↦ c.in_default.not-Refused OutOfMemory none
+      | inr none ↦ c.in_default.not-Refused (OutOfMemory tt) none
     ]

@@ -82,8 +82,8 @@ returns-clause-steps g c =
     (after_at g.R.Recorder.KEEPS _ c.args.seat.now.number _ (to_forget c.args.id) _ (done_or c.forget-gone.result) _ _ _ c.add-2.ensures.entries (c.add.ensures.number ∙ (c.prepare-2.ensures.number ∙ c.prepare.ensures.number)) refl c.done-2.ensures.reply refl)
     (journal_at _ c.args.seat.now.number _ (to_forget c.args.id) _ (done_or c.forget-gone.result) _ _ _ c.add-2.ensures.journal (c.add.ensures.number ∙ (c.prepare-2.ensures.number ∙ c.prepare.ensures.number)) refl c.done-2.ensures.reply refl))
 
-pub returns-in_default-prepare-clause-booked : goal.returns-in_default-prepare-clause-booked
-returns-in_default-prepare-clause-booked g c =
+pub returns-in-Err-prepare-clause-booked : goal.returns-in-Err-prepare-clause-booked
+returns-in-Err-prepare-clause-booked g c =
     books_none g.R.Recorder.KEEPS c.args.seat.now c.prepare-2.new.seat _
     (c.prepare-2.ensures.number ∙ c.prepare.ensures.number)
     (c.prepare-2.ensures.start ∙ c.prepare.ensures.start)

@@ -12,8 +12,8 @@ pub returns-then-count-eq0-clause-all : goal.returns-then-count-eq0-clause-all
 returns-then-count-eq0-clause-all g c =
     reads_end g.R.Recorder.KEEPS c.args.self.now.seat c.loop.self.seat c.read.new.self.seat c.args.self.now.id c.loop.self.id _ c.in-Ok.count c.loop.bytes.items c.read.new.buffer c.if-count-eq0.true c.loop.invariant.same c.loop.invariant.read c.in-Ok.ensures.booked
 
-pub returns-in_default-clause-stopped : goal.returns-in_default-clause-stopped
-returns-in_default-clause-stopped g c =
+pub returns-in-Err-extend-clause-stopped : goal.returns-in-Err-extend-clause-stopped
+returns-in-Err-extend-clause-stopped g c =
     let some : 0 < c.in-Ok.count = omega arith in
     (c.loop.bytes.items ++ take c.in-Ok.count c.read.new.buffer, reads_lack g.R.Recorder.KEEPS c.args.self.now.seat c.read.new.self.seat c.args.self.now.id _ (reads_more g.R.Recorder.KEEPS c.args.self.now.seat c.loop.self.seat c.read.new.self.seat c.args.self.now.id c.loop.self.id _ c.in-Ok.count c.loop.bytes.items c.read.new.buffer some c.loop.invariant.same c.loop.invariant.read c.in-Ok.ensures.booked))
 
@@ -23,5 +23,5 @@ loop-preserved g c =
     record {
       next = (tt, tt);
       same = c.in-Ok.ensures.same ∙ c.loop.invariant.same;
-      read = subst (λ (l : List ℕ). Books g.R.Recorder.KEEPS c.args.self.now.seat c.read.new.self.seat (ReadsOn c.args.self.now.id c.args.self.now.seat.number l)) (sym c.in-Ok-extend_from_slice.ensures.items) (reads_more g.R.Recorder.KEEPS c.args.self.now.seat c.loop.self.seat c.read.new.self.seat c.args.self.now.id c.loop.self.id _ c.in-Ok.count c.loop.bytes.items c.read.new.buffer some c.loop.invariant.same c.loop.invariant.read c.in-Ok.ensures.booked);
+      read = subst (λ (l : List ℕ). Books g.R.Recorder.KEEPS c.args.self.now.seat c.read.new.self.seat (ReadsOn c.args.self.now.id c.args.self.now.seat.number l)) (sym c.in-Ok-extend.ensures.items) (reads_more g.R.Recorder.KEEPS c.args.self.now.seat c.loop.self.seat c.read.new.self.seat c.args.self.now.id c.loop.self.id _ c.in-Ok.count c.loop.bytes.items c.read.new.buffer some c.loop.invariant.same c.loop.invariant.read c.in-Ok.ensures.booked);
     }

@@ -10,7 +10,7 @@ pub loop-step-preserved : goal.loop-step-preserved
 loop-step-preserved c = record {
   counted = grind (arith, common_steps);
   run =
-      let pushed = c.push_reserved.ensures.items ∙ ap (λ (zs : List Answer). zs ++ c.in-Ok-step.answer ∷ []) c.in-Ok.ensures.items in
+      let pushed = c.push_reserved.ensures.items ∙ ap (λ (zs : List Answer). zs ++ c.in-Ok.answer ∷ []) c.reserve.ensures.items in
       subst (λ (zs : List Answer). Runs in_turn (take (c.loop-step.step-index + 1) c.args.steps.now) zs c.args.self.now c.step.new.self) (sym pushed)
-      (run_at in_turn c.args.steps.now c.loop-step.answers.items c.loop-step.step-index c.step-item.result c.in-Ok-step.answer c.args.self.now c.loop-step.self c.step.new.self c.loop-step-test.true c.step-item.is c.loop-step.invariant.run c.in-Ok-step.ensures.steps);
+      (run_at in_turn c.args.steps.now c.loop-step.answers.items c.loop-step.step-index c.step-item.result c.in-Ok.answer c.args.self.now c.loop-step.self c.step.new.self c.loop-step-test.true c.step-item.is c.loop-step.invariant.run c.in-Ok.ensures.steps);
 }

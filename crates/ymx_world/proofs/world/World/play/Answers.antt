@@ -7,22 +7,22 @@ pub loop-step-preserved : goal.loop-step-preserved
 loop-step-preserved c =
     played_on c.args.steps.now (world_of c.args.config_a c.args.config_b) c.loop-step.step-index c.step-item.result c.loop-step.played c.play_step.new.self c.loop-step-test.true c.step-item.is c.loop-step.invariant c.in-Ok-play_step.ensures.made
 
-pub returns-in_default-clause-face_so_far : goal.returns-in_default-clause-face_so_far
-returns-in_default-clause-face_so_far c =
+pub returns-in-Err-play_step-clause-face_so_far : goal.returns-in-Err-play_step-clause-face_so_far
+returns-in-Err-play_step-clause-face_so_far c =
     let same : IsSamePlay c.loop-step.played c.play_step.new.self = search rules in
     (top_run c.args.config_a c.args.config_b c.in-Ok.ensures.may_a c.in-Ok.ensures.may_b (search rules) (search rules)
     (take (length c.play_step.new.self.answers.items) c.args.steps.now) c.play_step.new.self.answers.items c.play_step.new.self.quiet.items c.play_step.new.self.world
     (played_so_far c.args.steps.now _ c.loop-step.step-index c.loop-step.played c.play_step.new.self c.loop-step.invariant same)).face
 
-pub returns-in_default-clause-windows_so_far : goal.returns-in_default-clause-windows_so_far
-returns-in_default-clause-windows_so_far c =
+pub returns-in-Err-play_step-clause-windows_so_far : goal.returns-in-Err-play_step-clause-windows_so_far
+returns-in-Err-play_step-clause-windows_so_far c =
     let same : IsSamePlay c.loop-step.played c.play_step.new.self = search rules in
     (top_run c.args.config_a c.args.config_b c.in-Ok.ensures.may_a c.in-Ok.ensures.may_b (search rules) (search rules)
     (take (length c.play_step.new.self.answers.items) c.args.steps.now) c.play_step.new.self.answers.items c.play_step.new.self.quiet.items c.play_step.new.self.world
     (played_so_far c.args.steps.now _ c.loop-step.step-index c.loop-step.played c.play_step.new.self c.loop-step.invariant same)).windows
 
-pub returns-in_default-clause-queues_so_far : goal.returns-in_default-clause-queues_so_far
-returns-in_default-clause-queues_so_far c =
+pub returns-in-Err-play_step-clause-queues_so_far : goal.returns-in-Err-play_step-clause-queues_so_far
+returns-in-Err-play_step-clause-queues_so_far c =
     let same : IsSamePlay c.loop-step.played c.play_step.new.self = search rules in
     (top_run c.args.config_a c.args.config_b c.in-Ok.ensures.may_a c.in-Ok.ensures.may_b (search rules) (search rules)
     (take (length c.play_step.new.self.answers.items) c.args.steps.now) c.play_step.new.self.answers.items c.play_step.new.self.quiet.items c.play_step.new.self.world

@@ -1,0 +1,150 @@
+//! Blocks of memory, in vectors and queues.
+
+ghost use Rattle.std.specs.Prelude.{◌≡◌, ◌+◌, ◌≤◌, ◌-◌, ◌++◌, ◌∷◌, [], take, vec_len, vec_capacity, replicate, is_ok, if◌then◌else◌, IfOk, OnOk, OnErr, IsOk};
+ghost use Rattle.std.specs.VecDeque.{deque_capacity, deque_len};
+ghost use Rattle.circular_buffer.specs.Buffer.{buffer};
+
+use crate::refused::RefusedAllocation;
+use circular_buffer::HeapCircularBuffer;
+use std::alloc::Global;
+use std::collections::VecDeque;
+use std::sync::Arc;
+
+/// An empty ring that holds `capacity` bytes.
+pub fn ring(alloc: Global, capacity: usize) -> Result<HeapCircularBuffer<u8>, RefusedAllocation>
+    ensures { IfOk result (λ ring. ring ≡ buffer [] capacity) }
+{
+    match HeapCircularBuffer::with_capacity(alloc, capacity) {
+        Ok(ring) => Ok(ring),
+        Err(_) => Err(RefusedAllocation::new()),
+    }
+}
+
+/// An empty vector with room for `capacity` items.
+pub fn vec_with_capacity<T>(alloc: Global, capacity: usize) -> Result<Vec<T>, RefusedAllocation>
+    ensures empty { IfOk result (λ vec. vec.items ≡ []) }
+    ensures room { IfOk result (λ vec. vec_capacity vec ≡ capacity) }
+{
+    match Vec::with_capacity(alloc, capacity) {
+        Ok(vec) => Ok(vec),
+        Err(_) => Err(RefusedAllocation::new()),
+    }
+}
+
+/// An empty queue with room for `capacity` items.
+pub fn queue_with_capacity<T>(
+    alloc: Global,
+    capacity: usize,
+) -> Result<VecDeque<T>, RefusedAllocation>
+    ensures empty { IfOk result (λ queue. queue.items ≡ []) }
+    ensures room { IfOk result (λ queue. deque_capacity queue ≡ capacity) }
+{
+    match VecDeque::with_capacity(alloc, capacity) {
+        Ok(queue) => Ok(queue),
+        Err(_) => Err(RefusedAllocation::new()),
+    }
+}
+
+/// So many bytes, each 0.
+pub fn zeros(alloc: Global, count: usize) -> Result<Vec<u8>, RefusedAllocation>
+    ensures items { IfOk result (λ vec. vec.items ≡ replicate count 0) }
+    ensures len { IfOk result (λ vec. vec_len vec ≡ count) }
+{
+    match vec![in alloc; 0u8; count] {
+        Ok(vec) => Ok(vec),
+        Err(_) => Err(RefusedAllocation::new()),
+    }
+}
+
+/// A copy of these bytes.
+pub fn copied(alloc: Global, bytes: &[u8]) -> Result<Vec<u8>, RefusedAllocation>
+    ensures { IfOk result (λ vec. vec.items ≡ bytes.now) }
+{
+    match Vec::from_slice(alloc, bytes) {
+        Ok(vec) => Ok(vec),
+        Err(_) => Err(RefusedAllocation::new()),
+    }
+}
+
+/// Room for so many more items. A refusal leaves the room as it was, and it comes only where there was too little.
+pub fn reserve<T>(vec: &mut Vec<T>, additional: usize) -> Result<(), RefusedAllocation>
+    ensures items { vec.new.items ≡ vec.old.items }
+    ensures len { vec_len vec.new ≡ vec_len vec.old }
+    ensures room { OnOk result (vec_len vec.new + additional ≤ vec_capacity vec.new) }
+    ensures capacity { vec_capacity vec.old ≤ vec_capacity vec.new }
+    ensures succeeds { vec_len vec.old + additional ≤ vec_capacity vec.old → IsOk result }
+    ensures refused_unchanged { OnErr result (vec_capacity vec.new ≡ vec_capacity vec.old) }
+{
+    match vec.reserve(additional) {
+        Ok(()) => Ok(()),
+        Err(_) => Err(RefusedAllocation::new()),
+    }
+}
+
+/// Room in a queue for so many more items. A refusal leaves its items.
+pub fn reserve_queue<T>(queue: &mut VecDeque<T>, additional: usize) -> Result<(), RefusedAllocation>
+    ensures items { queue.new.items ≡ queue.old.items }
+    ensures room { OnOk result (deque_len queue.new + additional ≤ deque_capacity queue.new) }
+{
+    match queue.reserve(additional) {
+        Ok(()) => Ok(()),
+        Err(_) => Err(RefusedAllocation::new()),
+    }
+}
+
+/// The bytes are cut to `count`, or filled up with zeros. A refusal leaves them.
+pub fn resize(vec: &mut Vec<u8>, count: usize) -> Result<(), RefusedAllocation>
+    ensures items { vec.new.items ≡ (if is_ok result then take count vec.old.items ++ replicate (count - vec_len vec.old) 0 else vec.old.items) }
+    ensures len { vec_len vec.new ≡ (if is_ok result then count else vec_len vec.old) }
+{
+    match vec.resize(count, 0) {
+        Ok(()) => Ok(()),
+        Err(_) => Err(RefusedAllocation::new()),
+    }
+}
+
+/// The value in a block of its own. A refusal drops it.
+pub fn boxed<T: Drop>(alloc: Global, value: T) -> Result<Box<T, Global>, RefusedAllocation>
+    ensures { IfOk result (λ whole. whole.value ≡ value) }
+{
+    match Box::new(alloc, value) {
+        Ok(whole) => Ok(whole),
+        Err(_) => Err(RefusedAllocation::new()),
+    }
+}
+
+/// The value in a block that several may share. A refusal drops it.
+pub fn shared<T: Drop>(alloc: Global, value: T) -> Result<Arc<T, Global>, RefusedAllocation> {
+    match Arc::new(alloc, value) {
+        Ok(whole) => Ok(whole),
+        Err(_) => Err(RefusedAllocation::new()),
+    }
+}
+
+/// One more handle to a shared block. It is refused only where more than can be counted are there.
+pub fn share<T>(whole: &Arc<T, Global>) -> Result<Arc<T, Global>, RefusedAllocation> {
+    match Arc::try_clone(whole) {
+        Ok(handle) => Ok(handle),
+        Err(_) => Err(RefusedAllocation::new()),
+    }
+}
+
+/// The item goes behind the others. A refusal drops it, and leaves the others.
+pub fn push<T: Drop>(vec: &mut Vec<T>, item: T) -> Result<(), RefusedAllocation>
+    ensures items { vec.new.items ≡ (if is_ok result then vec.old.items ++ item ∷ [] else vec.old.items) }
+{
+    match vec.push(item) {
+        Ok(()) => Ok(()),
+        Err(_) => Err(RefusedAllocation::new()),
+    }
+}
+
+/// The bytes go behind the others. A refusal leaves those.
+pub fn extend(vec: &mut Vec<u8>, bytes: &[u8]) -> Result<(), RefusedAllocation>
+    ensures items { vec.new.items ≡ (if is_ok result then vec.old.items ++ bytes.now else vec.old.items) }
+{
+    match vec.extend_from_slice(bytes) {
+        Ok(()) => Ok(()),
+        Err(_) => Err(RefusedAllocation::new()),
+    }
+}
