@@ -11,7 +11,7 @@ work=$(mktemp -d)
 trap 'rm -rf "$work"' EXIT
 trap 'exit 130' INT TERM
 mkdir -p "$work/crates/hub_bench/src"
-for crate in ymx_header ymx_cutter ymx_credit ymx_ring ymx_machine ymx_model ymx_law_session ymx_control ymx_half ymx_table ymx_session \
+for crate in ymx_memory ymx_header ymx_cutter ymx_credit ymx_ring ymx_machine ymx_model ymx_law_session ymx_control ymx_half ymx_table ymx_session \
     ymx_journal ymx_seats ymx_booked ymx_hub ymx_pumps ymx_connect ymx_tunnel; do
     cp -r "$top/crates/$crate" "$work/crates/$crate"
     grep "^$crate[ :]" "$top/crates.txt" >> "$work/crates.txt"

@@ -7,7 +7,7 @@ top=$(cd "$(dirname "$0")/.." && pwd)
 work=$(mktemp -d)
 trap 'rm -rf "$work"' EXIT
 mkdir -p "$work/crates/session_bench/src"
-for crate in ymx_header ymx_cutter ymx_credit ymx_ring ymx_machine ymx_model ymx_law_session ymx_control ymx_half ymx_table ymx_session; do
+for crate in ymx_memory ymx_header ymx_cutter ymx_credit ymx_ring ymx_machine ymx_model ymx_law_session ymx_control ymx_half ymx_table ymx_session; do
   cp -r "$top/crates/$crate" "$work/crates/$crate"
   grep "^$crate:" "$top/crates.txt" >> "$work/crates.txt"
 done

@@ -6,7 +6,7 @@ top=$(cd "$(dirname "$0")/.." && pwd)
 work=$(mktemp -d)
 trap 'rm -rf "$work"' EXIT
 mkdir -p "$work/crates/table_bench/src"
-for crate in ymx_header ymx_machine ymx_model ymx_credit ymx_ring ymx_half ymx_table; do
+for crate in ymx_memory ymx_header ymx_machine ymx_model ymx_credit ymx_ring ymx_half ymx_table; do
   cp -r "$top/crates/$crate" "$work/crates/$crate"
   grep "^$crate:" "$top/crates.txt" >> "$work/crates.txt"
 done
