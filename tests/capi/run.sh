@@ -67,7 +67,7 @@ only_libc() {
 
 # The numbers of the proved crate, in the names of ymx.h.
 numbers_of_crate() {
-    sed -n 's/^ *CallFault::\([A-Za-z]*\) => \(-[0-9]*\),/\1 \2/p; s/^ *NewFault::\(Bad[A-Za-z]*\) => \(-[0-9]*\),/\1 \2/p' "$root/crates/ymx_c/src/face.rt" |
+    sed -n 's/^ *CallFault::\([A-Za-z]*\)[(_)]* => \(-[0-9]*\),/\1 \2/p; s/^ *NewFault::\(Bad[A-Za-z]*\) => \(-[0-9]*\),/\1 \2/p' "$root/crates/ymx_c/src/face.rt" |
         sed 's/OutOfMemory/NoMemory/; s/\([a-z]\)\([A-Z]\)/\1_\2/g' | awk '{ print "YMX_E_" toupper($1), $2 }'
     sed -n 's/^const WAIT: i64 = \(.*\);/YMX_WAIT \1/p; s/^ *Status::\([A-Z][a-z]*\) => \([0-9]*\),/\1 \2/p; s/^ *Status::\(Broken\)(fault) => \([0-9]*\) +.*/\1 \2/p' "$root/crates/ymx_c/src/face.rt" |
         awk '{ print ($1 ~ /^YMX/ ? $1 : "YMX_" toupper($1)), $2 }'
