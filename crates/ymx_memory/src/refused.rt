@@ -1,6 +1,6 @@
 //! The evidence that an allocation was refused, and a count of such.
 
-ghost use Rattle.std.specs.Prelude.{◌≡◌, ◌+◌, min, ⊤};
+ghost use Rattle.std.specs.Prelude.{◌≡◌, ◌<◌, ◌+◌, min, ⊤, IfSome, IfNone};
 
 use std::alloc::AllocError;
 use std::fmt;
@@ -9,8 +9,8 @@ use std::marker::Model;
 /// An allocation was refused, or was larger than a block of memory can be, or a shared block had more handles than can be
 /// counted. It takes no bytes.
 ///
-/// Only this crate makes one, where it answers for a refused allocation. A contract sees nothing of it: that it is
-/// there says all.
+/// Only this crate makes one, where it answers for a refused allocation, or where a count of such isn't 0. A contract
+/// sees nothing of it: that it is there says all.
 #[derive(Clone, Copy, PartialEq, Eq)]
 pub struct RefusedAllocation {
     seal: (),
@@ -25,7 +25,7 @@ impl Model for RefusedAllocation {
 }
 
 impl RefusedAllocation {
-    /// The allocator has just refused.
+    /// The allocator has refused, just now or when it was counted.
     pub(crate) fn new() -> RefusedAllocation {
         RefusedAllocation { seal: () }
     }
@@ -75,6 +75,24 @@ impl RefusalCount {
         ensures { self.new ≡ min (self.old + 1) 4294967295 }
     {
         self.count = self.count.saturating_add(1);
+    }
+
+    /// As many more were refused as `more` counts. The greatest number stays.
+    pub fn add_all(&mut self, more: RefusalCount)
+        ensures { self.new ≡ min (self.old + more) 4294967295 }
+    {
+        self.count = self.count.saturating_add(more.count);
+    }
+
+    /// The evidence of those that were counted. There is none only where none was refused.
+    pub fn evidence(&self) -> Option<RefusedAllocation>
+        ensures some { IfSome result (λ _. 0 < self.now) }
+        ensures none { IfNone result (self.now ≡ 0) }
+    {
+        if self.count == 0 {
+            return None;
+        }
+        Some(RefusedAllocation::new())
     }
 
     /// The number.
