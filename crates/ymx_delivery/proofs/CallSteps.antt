@@ -27,7 +27,7 @@ use Rattle.ymx_machine.specs.machine.Machines.{Machine, mirror_machine, new_mach
 use Rattle.ymx_machine.specs.machine.CallRules.{OnStream, AcceptRule}
 use Rattle.ymx_machine.specs.machine.FreeMoves.{Releases}
 use Rattle.ymx_machine.specs.machine.Runs.{MachineStep}
-use Rattle.ymx_delivery.specs.Stages.{Numbers, alone, IsWritable, IsUnderWay, IsRefused, IsSettled, IsReadable}
+use Rattle.ymx_delivery.specs.Stages.{Numbers, alone, IsWritable, IsComing, IsSettled, IsReadable}
 use Rattle.ymx_delivery.proofs.Machines.{flip-flip, change-one, look-one, found-one}
 use Rattle.ymx_delivery.proofs.Moves.{IsAt}
 use Rattle.ymx_delivery.proofs.Carriage.{at-a}
@@ -125,8 +125,8 @@ write-step k id bytes s offered given n w h =
 finishes : (p : Phase) (fin : Mark) → p ≡ Live → fin ≡ Unsaid → finish_reply false p (not (is_unsaid fin)) ≡ reply.Done
 finishes p fin e f = rw (e, f) refl
 
-finished-stage : (id room : ℕ) (bytes : List ℕ) (s : Stream) (offered : List ℕ) → IsWritable room bytes s offered → IsUnderWay id bytes (stream_finish s) offered
-finished-stage id room bytes s offered h = inl (record {
+finished-stage : (id room : ℕ) (bytes : List ℕ) (s : Stream) (offered : List ℕ) → IsWritable room bytes s offered → IsComing id bytes (stream_finish s) offered
+finished-stage id room bytes s offered h = record {
   own = h.own;
   me = h.me;
   you = inl (h.you, h.offered_none);
@@ -134,17 +134,17 @@ finished-stage id room bytes s offered h = inl (record {
   fin = refl;
   rst_outbound = h.rst_outbound;
   rst_inbound = h.rst_inbound;
-})
+}
 
 pub finish-step : (k : Numbers) (id room : ℕ) (bytes : List ℕ) (s : Stream) (offered : List ℕ) (given : Answer) (n : Machine) → IsWritable room bytes s offered →
-    MachineStep (step.At A (call.Finish id)) given (alone k id s offered) n → (given ≡ answer.Done) × IsAt k id (IsUnderWay id bytes) n
+    MachineStep (step.At A (call.Finish id)) given (alone k id s offered) n → (given ≡ answer.Done) × IsAt k id (IsComing id bytes) n
 finish-step k id room bytes s offered given n w h =
     let on = on-one id Finishes s (alone k id s offered) h.0 h.1 h.4 in
     let told = on.1.0 ∙ finishes s.me s.outbound.fin w.me w.fin in
     let to : on.0 ≡ stream_finish s = on.1.1 ∙ ap (λ (r : Reply). if is_done r then stream_finish s else s) told in
     let is : h.1 ≡ alone k id (stream_finish s) offered = on.2 ∙ (ap (λ (z : List (ℕ × Stream)). record (alone k id s offered) { streams = z }) (change-one id (λ _. on.0) s) ∙ ap (λ (t : Stream). alone k id t offered) to) in (
       h.3 ∙ ap answer_of told,
-      stands-a k id (IsUnderWay id bytes) (stream_finish s) offered h.2 h.1 n is (ap is_lingering w.me) h.5 (finished-stage id room bytes s offered w),
+      stands-a k id (IsComing id bytes) (stream_finish s) offered h.2 h.1 n is (ap is_lingering w.me) h.5 (finished-stage id room bytes s offered w),
     )
 
 -- ---- accept
@@ -162,20 +162,17 @@ accepted-machine : (k : Numbers) (id : ℕ) (s : Stream) (offered : List ℕ) �
     record m { streams = change id (stream_accept false) m.streams; me = record m.me { offered = [] } } ≡ mirror_machine (alone k id (accepted_b s) []))
 accepted-machine k id s offered = rw (change-one id (stream_accept false) (flip s), flip-flip (stream_accept false (flip s))) refl
 
-pub accept-step : (k : Numbers) (id : ℕ) (bytes : List ℕ) (s : Stream) (offered : List ℕ) (given : Answer) (n : Machine) → IsSettled id bytes s offered →
+pub accept-step : (k : Numbers) (id no_memory : ℕ) (bytes : List ℕ) (s : Stream) (offered : List ℕ) (given : Answer) (n : Machine) → IsSettled no_memory id bytes s offered →
     MachineStep (step.At B call.Accept) given (alone k id s offered) n →
-    ((given ≡ answer.Accepted (Some id)) × IsAt k id (IsReadable bytes) n) ⊎ ((given ≡ answer.Accepted None) × IsAt k id IsRefused n)
-accept-step k id bytes s offered given n (inl there) h =
+    ((given ≡ answer.Accepted (Some id)) × IsAt k id (IsReadable bytes) n) ⊎ ((given ≡ answer.Accepted None) × (0 < no_memory))
+accept-step k id no_memory bytes s offered given n (inl there) h =
     let a = accepts k id s offered (id ∷ []) h.0 h.1 there.offered_one h.4 in inl (
       h.3 ∙ ap answer_of a.0,
       stands-b k id (IsReadable bytes) (accepted_b s) [] h.2 h.1 n (a.1 ∙ accepted-machine k id s offered) refl h.5
           (record { you = refl; here = there.here; fin = there.fin; offered_none = refl }),
     )
-accept-step k id bytes s offered given n (inr refused) h =
-    let a = accepts k id s offered [] h.0 h.1 refused.offered_none h.4 in inr (
-      h.3 ∙ ap answer_of a.0,
-      stands-b k id IsRefused s offered h.2 h.1 n a.1 (ap is_lingering refused.you) h.5 refused,
-    )
+accept-step k id no_memory bytes s offered given n (inr refused) h =
+    let a = accepts k id s offered [] h.0 h.1 refused.offered_none h.4 in inr (h.3 ∙ ap answer_of a.0, refused.counts)
 
 -- ---- read
 

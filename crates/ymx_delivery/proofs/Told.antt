@@ -1,5 +1,5 @@
 -- What the answers of the calls leave of each arm.
-use Rattle.std.proofs.Common.{◌≡◌, ◌≢◌, ◌⊎◌, inl, inr, ℕ, ◌+◌, ◌<◌, ◌≤◌, Fits, w64, List, [], Option, None, Some, IfSome, IfNone, true, refl, sym, ◌∙◌, subst, arith}
+use Rattle.std.proofs.Common.{◌≡◌, ◌≢◌, ◌⊎◌, inl, inr, ℕ, ◌+◌, ◌<◌, ◌≤◌, Fits, w64, List, [], Option, None, Some, true, refl, sym, ◌∙◌, subst, arith}
 use Rattle.std.specs.Option.{is_some}
 use Rattle.ymx_machine.specs.declared.types.CallFault.{CallFault}
 use Rattle.ymx_machine.specs.declared.types.CallFault.TheVariants.{OutOfMemory}
@@ -9,7 +9,7 @@ use Rattle.ymx_machine.specs.declared.types.Answer.{Answer}
 use Rattle.ymx_machine.specs.declared.types.Answer.TheVariants as answer
 use Rattle.ymx_machine.specs.shared.Limits.{first_credit}
 use Rattle.ymx_model.specs.world.Worlds.{World}
-use Rattle.ymx_delivery.specs.Stages.{Stands, IsWritable, IsSettled, IsRefused, IsReadable, IsRead}
+use Rattle.ymx_delivery.specs.Stages.{Stands, IsWritable, IsSettled, IsReadable, IsRead}
 
 -- ---- open
 
@@ -37,27 +37,15 @@ wrote-stands given wrote count P e (inr h) = let k : answer.Wrote wrote ≡ answ
 
 -- ---- accept
 
-pub accepted-some : (given : Answer) (at id : ℕ) (bytes : List ℕ) (v : World) → given ≡ answer.Accepted (Some at) →
-    ((given ≡ answer.Accepted (Some id)) × Stands id (IsReadable bytes) v) ⊎ ((given ≡ answer.Accepted None) × Stands id IsRefused v) → (at ≡ id) × Stands id (IsReadable bytes) v
-accepted-some given at id bytes v e (inl h) = let k : answer.Accepted (Some at) ≡ answer.Accepted (Some id) = sym e ∙ h.0 in (cc, h.1)
-accepted-some given at id bytes v e (inr h) = let k : answer.Accepted (Some at) ≡ answer.Accepted None = sym e ∙ h.0 in absurd cc
+pub accepted-some : (given : Answer) (at id no_memory : ℕ) (bytes : List ℕ) (v : World) → given ≡ answer.Accepted (Some at) →
+    ((given ≡ answer.Accepted (Some id)) × Stands id (IsReadable bytes) v) ⊎ ((given ≡ answer.Accepted None) × (0 < no_memory)) → (at ≡ id) × Stands id (IsReadable bytes) v
+accepted-some given at id no_memory bytes v e (inl h) = let k : answer.Accepted (Some at) ≡ answer.Accepted (Some id) = sym e ∙ h.0 in (cc, h.1)
+accepted-some given at id no_memory bytes v e (inr h) = let k : answer.Accepted (Some at) ≡ answer.Accepted None = sym e ∙ h.0 in absurd cc
 
-pub accepted-none : (given : Answer) (id : ℕ) (bytes : List ℕ) (v : World) → given ≡ answer.Accepted None →
-    ((given ≡ answer.Accepted (Some id)) × Stands id (IsReadable bytes) v) ⊎ ((given ≡ answer.Accepted None) × Stands id IsRefused v) → Stands id IsRefused v
-accepted-none given id bytes v e (inl h) = let k : answer.Accepted None ≡ answer.Accepted (Some id) = sym e ∙ h.0 in absurd cc
-accepted-none given id bytes v e (inr h) = h.1
-
-pub accepted-if_some : (given : Answer) (found : Option ℕ) (w v : World) → given ≡ answer.Accepted found →
-    ((id : ℕ) (bytes : List ℕ) → Stands id (IsSettled id bytes) w → ((given ≡ answer.Accepted (Some id)) × Stands id (IsReadable bytes) v) ⊎ ((given ≡ answer.Accepted None) × Stands id IsRefused v)) →
-    IfSome found (λ at. (id : ℕ) (bytes : List ℕ) → Stands id (IsSettled id bytes) w → (at ≡ id) × Stands id (IsReadable bytes) v)
-accepted-if_some given (Some at) w v e f = λ id bytes h. accepted-some given at id bytes v e (f id bytes h)
-accepted-if_some given None w v e f = tt
-
-pub accepted-if_none : (given : Answer) (found : Option ℕ) (w v : World) → given ≡ answer.Accepted found →
-    ((id : ℕ) (bytes : List ℕ) → Stands id (IsSettled id bytes) w → ((given ≡ answer.Accepted (Some id)) × Stands id (IsReadable bytes) v) ⊎ ((given ≡ answer.Accepted None) × Stands id IsRefused v)) →
-    IfNone found ((id : ℕ) (bytes : List ℕ) → Stands id (IsSettled id bytes) w → Stands id IsRefused v)
-accepted-if_none given (Some at) w v e f = tt
-accepted-if_none given None w v e f = λ id bytes h. accepted-none given id bytes v e (f id bytes h)
+pub accepted-none : (given : Answer) (id no_memory : ℕ) (P : Type 0) → given ≡ answer.Accepted None →
+    ((given ≡ answer.Accepted (Some id)) × P) ⊎ ((given ≡ answer.Accepted None) × (0 < no_memory)) → 0 < no_memory
+accepted-none given id no_memory P e (inl h) = let k : answer.Accepted None ≡ answer.Accepted (Some id) = sym e ∙ h.0 in absurd cc
+accepted-none given id no_memory P e (inr h) = h.1
 
 -- ---- read
 
@@ -106,13 +94,11 @@ no-more None e h = absurd cc
 pub gave-all : (o : Option (List ℕ)) (bytes rest : List ℕ) → o ≡ Some bytes → IsRead rest o → bytes ≡ rest
 gave-all o bytes rest e h = let k : IsRead rest (Some bytes) = subst (IsRead rest) e h in k.0
 
--- the stream that was accepted, where one was
-pub accepted-one : (o : Option ℕ) (at id : ℕ) (bytes : List ℕ) (w v : World) → o ≡ Some at →
-    IfSome o (λ at. (id : ℕ) (bytes : List ℕ) → Stands id (IsSettled id bytes) w → (at ≡ id) × Stands id (IsReadable bytes) v) →
-    Stands id (IsSettled id bytes) w → Stands at (IsReadable bytes) v
-accepted-one o at id bytes w v e h s =
-    let k = subst (λ (p : Option ℕ). IfSome p (λ at. (id : ℕ) (bytes : List ℕ) → Stands id (IsSettled id bytes) w → (at ≡ id) × Stands id (IsReadable bytes) v)) e h in
-    let q = k id bytes s in subst (λ (i : ℕ). Stands i (IsReadable bytes) v) (sym q.0) q.1
+-- the stream that was accepted
+pub accepted-one : (no_memory at id : ℕ) (bytes : List ℕ) (w v : World) →
+    ((id : ℕ) (bytes : List ℕ) → Stands id (IsSettled no_memory id bytes) w → (at ≡ id) × Stands id (IsReadable bytes) v) →
+    Stands id (IsSettled no_memory id bytes) w → Stands at (IsReadable bytes) v
+accepted-one no_memory at id bytes w v h s = let q = h id bytes s in subst (λ (i : ℕ). Stands i (IsReadable bytes) v) (sym q.0) q.1
 
 -- ---- room for one byte more
 

@@ -1,5 +1,5 @@
 -- From stage to stage: what the world answers, and where it stands then.
-use Rattle.std.proofs.Common.{◌≡◌, ◌≢◌, ◌⊎◌, inl, inr, ℕ, ◌<◌, ◌≤◌, List, [], length, true, false, None, Some, refl, sym, ap, subst}
+use Rattle.std.proofs.Common.{◌≡◌, ◌≢◌, ◌⊎◌, inl, inr, ℕ, ◌+◌, ◌<◌, ◌≤◌, List, [], length, min, true, false, None, Some, refl, sym, ap, subst, arith}
 use Rattle.ymx_machine.specs.declared.types.Side.{Side}
 use Rattle.ymx_machine.specs.declared.types.Side.TheVariants.{A, B}
 use Rattle.ymx_machine.specs.declared.types.Step.{Step}
@@ -10,7 +10,7 @@ use Rattle.ymx_machine.specs.declared.types.CallFault.TheVariants.{OutOfMemory}
 use Rattle.ymx_machine.specs.declared.types.Wrote.TheVariants.{Took}
 use Rattle.ymx_machine.specs.declared.types.Answer.{Answer}
 use Rattle.ymx_machine.specs.declared.types.Answer.TheVariants as answer
-use Rattle.ymx_machine.specs.shared.Limits.{first_credit}
+use Rattle.ymx_machine.specs.shared.Limits.{first_credit, greatest_number}
 use Rattle.ymx_machine.specs.stream.Streams.{Stream}
 use Rattle.ymx_machine.specs.machine.Machines.{Machine, new_machine}
 use Rattle.ymx_machine.specs.machine.Runs.{IsStillMachine}
@@ -21,9 +21,9 @@ use Rattle.ymx_model.specs.session.Emissions.{in_turn}
 use Rattle.ymx_model.specs.world.Worlds.{World, Steps, new_world}
 use Rattle.ymx_headline.specs.Agrees.{Agrees, Follows}
 use Rattle.ymx_headline.specs.Laws.{IsOpenPipe, IsOpenWorld}
-use Rattle.ymx_world.specs.Settled.{IsCarriedOn}
-use Rattle.ymx_delivery.specs.Stages.{Numbers, alone, IsWritable, IsUnderWay, IsRefused, IsSettled, IsReadable, Stands, IsNewWorld}
-use Rattle.ymx_delivery.proofs.Moves.{IsAt}
+use Rattle.ymx_world.specs.Settled.{no_memory_in, IsCarriedOn}
+use Rattle.ymx_delivery.specs.Stages.{Numbers, alone, IsWritable, IsComing, IsUnderWay, IsSettled, IsReadable, Stands, IsNewWorld}
+use Rattle.ymx_delivery.proofs.Moves.{IsAt, still-counts}
 use Rattle.ymx_delivery.proofs.Carriage.{carriage-run, settled-machine}
 use Rattle.ymx_delivery.proofs.CallSteps.{opened_numbers, open-step, write-step, finish-step, accept-step, read-step}
 
@@ -91,33 +91,43 @@ writes id bytes given w v h st follows =
     ]
 
 pub finishes : (id : ℕ) (bytes : List ℕ) (given : Answer) (w v : World) → Stands id (IsWritable 0 bytes) w → Steps in_turn (step.At A (call.Finish id)) given w v →
-    Followed (step.At A (call.Finish id)) given w v → (given ≡ answer.Done) × Stands id (IsUnderWay id bytes) v
+    Followed (step.At A (call.Finish id)) given w v → (given ≡ answer.Done) × Stands id (IsComing id bytes) v
 finishes id bytes given w v h st follows =
     let f = follows (alone h.numbers id h.stream h.offered) h.agrees in
     let made = finish-step h.numbers id 0 bytes h.stream h.offered given f.0 h.stage f.1 in
-    (made.0, stands A (call.Finish id) given w v f.0 h.numbers id (IsUnderWay id bytes) h.open_world st f.2 made.1)
+    (made.0, stands A (call.Finish id) given w v f.0 h.numbers id (IsComing id bytes) h.open_world st f.2 made.1)
 
-pub settles : (id : ℕ) (bytes : List ℕ) (w v : World) → Stands id (IsUnderWay id bytes) w → IsCarriedOn w v → ((m : Machine) → Agrees v m → IsStillMachine m) → Stands id (IsSettled id bytes) v
-settles id bytes w v h carried still =
+-- some were refused on the way, so the count isn't 0
+some-counted : (total no_memory : ℕ) → no_memory ≡ min total greatest_number → 0 < total → 0 < no_memory
+some-counted total no_memory e some = omega (arith, e, some)
+
+pub settles : (no_memory id : ℕ) (bytes : List ℕ) (w v : World) → Stands id (IsComing id bytes) w → IsCarriedOn no_memory w v → ((m : Machine) → Agrees v m → IsStillMachine m) →
+    Stands id (IsSettled no_memory id bytes) v
+settles no_memory id bytes w v h carried still =
+    let total = no_memory_in carried.answers in
     let f = carried.queues (alone h.numbers id h.stream h.offered) h.agrees in
-    let at = carriage-run h.numbers id bytes in_turn carried.steps carried.answers w v (alone h.numbers id h.stream h.offered) f.0 carried.alone f.1
-    (record { stream = h.stream; offered = h.offered; is = refl; stage = h.stage }) in
-    let b : Agrees v (alone h.numbers id at.stream at.offered) = subst (Agrees v) at.is f.2 in record {
+    let all : total ≡ 0 + total = omega arith in
+    let at = carriage-run h.numbers id 0 total bytes in_turn carried.steps carried.answers w v (alone h.numbers id h.stream h.offered) f.0 all carried.alone f.1
+    (record { stream = h.stream; offered = h.offered; is = refl; stage = inl h.stage }) in
+    let b : Agrees v (alone h.numbers id at.stream at.offered) = subst (Agrees v) at.is f.2 in
+    let stage : IsUnderWay no_memory id bytes at.stream at.offered =
+    still-counts id total no_memory bytes at.stream at.offered (some-counted total no_memory carried.counted) at.stage in record {
       open_world = carried.on h.open_world;
       numbers = h.numbers;
       stream = at.stream;
       offered = at.offered;
       agrees = b;
-      stage = settled-machine h.numbers id bytes at.stream at.offered (still (alone h.numbers id at.stream at.offered) b) at.stage;
+      stage = settled-machine h.numbers id no_memory bytes at.stream at.offered (still (alone h.numbers id at.stream at.offered) b) stage;
     }
 
-pub accepts : (id : ℕ) (bytes : List ℕ) (given : Answer) (w v : World) → Stands id (IsSettled id bytes) w → Steps in_turn (step.At B call.Accept) given w v → Followed (step.At B call.Accept) given w v →
-    ((given ≡ answer.Accepted (Some id)) × Stands id (IsReadable bytes) v) ⊎ ((given ≡ answer.Accepted None) × Stands id IsRefused v)
-accepts id bytes given w v h st follows =
+pub accepts : (no_memory id : ℕ) (bytes : List ℕ) (given : Answer) (w v : World) → Stands id (IsSettled no_memory id bytes) w → Steps in_turn (step.At B call.Accept) given w v →
+    Followed (step.At B call.Accept) given w v →
+    ((given ≡ answer.Accepted (Some id)) × Stands id (IsReadable bytes) v) ⊎ ((given ≡ answer.Accepted None) × (0 < no_memory))
+accepts no_memory id bytes given w v h st follows =
     let f = follows (alone h.numbers id h.stream h.offered) h.agrees in
-    elim (accept-step h.numbers id bytes h.stream h.offered given f.0 h.stage f.1) [
+    elim (accept-step h.numbers id no_memory bytes h.stream h.offered given f.0 h.stage f.1) [
       | inl made ↦ inl (made.0, stands B call.Accept given w v f.0 h.numbers id (IsReadable bytes) h.open_world st f.2 made.1)
-      | inr none ↦ inr (none.0, stands B call.Accept given w v f.0 h.numbers id IsRefused h.open_world st f.2 none.1)
+      | inr none ↦ inr none
     ]
 
 pub reads : (id max : ℕ) (rest : List ℕ) (given : Answer) (w v : World) → 0 < max → length rest ≤ max → Stands id (IsReadable rest) w → Steps in_turn (step.At B (call.Read id max)) given w v →

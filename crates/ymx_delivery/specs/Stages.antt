@@ -1,5 +1,5 @@
 -- The stages of a delivery, as the queue machine stands at each (this project's own).
-use Rattle.std.specs.Prelude.{◌≡◌, ◌≢◌, ◌≤◌, ◌⊎◌, ◌++◌, ◌∷◌, ℕ, List, [], true, false, Option, Some, None}
+use Rattle.std.specs.Prelude.{◌≡◌, ◌≢◌, ◌<◌, ◌≤◌, ◌⊎◌, ◌++◌, ◌∷◌, ℕ, List, [], true, false, Option, Some, None}
 use Rattle.ymx_machine.specs.shared.Phases.{is_unborn, is_lingering}
 use Rattle.ymx_machine.specs.shared.Phases.Phase.{Unborn, Offered, Live, Refused}
 use Rattle.ymx_machine.specs.stream.Lanes.{is_unsaid}
@@ -39,16 +39,19 @@ pub record IsComing (id : ℕ) (bytes : List ℕ) (s : Stream) (offered : List �
   pub rst_outbound : s.rst_outbound ≡ Unsaid
   pub rst_inbound : s.rst_inbound ≡ Unsaid
 
--- B has refused the stream. In a delivery nothing but memory lacks for it.
-pub record IsRefused (s : Stream) (offered : List ℕ) : Type 0 where
+-- B has refused the stream. In a delivery nothing but memory lacks for it, so it counts among the streams that were
+-- refused for want of memory.
+pub record IsRefused (no_memory : ℕ) (s : Stream) (offered : List ℕ) : Type 0 where
   pub own : s.own ≡ true
   pub you : s.you ≡ Refused
   pub born : is_unborn s.me ≡ false
   pub stays : is_lingering s.me ≡ false
   pub offered_none : offered ≡ []
+  pub counts : 0 < no_memory
 
-abbrev pub IsUnderWay : ℕ → List ℕ → Stream → List ℕ → Type 0
-IsUnderWay id bytes s offered = IsComing id bytes s offered ⊎ IsRefused s offered
+-- while A's bytes are carried, on whose way so many streams were refused for want of memory
+abbrev pub IsUnderWay : (no_memory id : ℕ) → List ℕ → Stream → List ℕ → Type 0
+IsUnderWay no_memory id bytes s offered = IsComing id bytes s offered ⊎ IsRefused no_memory s offered
 
 -- the bytes and the end behind them have come, and the stream waits to be accepted
 pub record IsThere (id : ℕ) (bytes : List ℕ) (s : Stream) (offered : List ℕ) : Type 0 where
@@ -57,8 +60,9 @@ pub record IsThere (id : ℕ) (bytes : List ℕ) (s : Stream) (offered : List �
   pub fin : s.outbound.fin ≡ Here
   pub offered_one : offered ≡ id ∷ []
 
-abbrev pub IsSettled : ℕ → List ℕ → Stream → List ℕ → Type 0
-IsSettled id bytes s offered = IsThere id bytes s offered ⊎ IsRefused s offered
+-- and when they were carried
+abbrev pub IsSettled : (no_memory id : ℕ) → List ℕ → Stream → List ℕ → Type 0
+IsSettled no_memory id bytes s offered = IsThere id bytes s offered ⊎ IsRefused no_memory s offered
 
 -- B has accepted the stream. These bytes are left to be read, and then comes the end.
 pub record IsReadable (rest : List ℕ) (s : Stream) (offered : List ℕ) : Type 0 where

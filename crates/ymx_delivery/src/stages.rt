@@ -1,32 +1,46 @@
 //! The steps of a delivery, each with where the world stands before it and after it. The one error is want of
 //! memory; each other answer is proved to be impossible.
 
-ghost use Rattle.std.specs.Prelude.{◌≡◌, ◌<◌, ◌≤◌, ℕ, List, [], length, IfOk, IfSome, IfNone};
+ghost use Rattle.std.specs.Prelude.{◌≡◌, ◌<◌, ◌≤◌, ℕ, List, [], length, IfOk};
 ghost use Rattle.ymx_machine.specs.declared.types.CallFault.TheVariants.{OutOfMemory};
 ghost use Rattle.ymx_machine.specs.shared.Limits.{first_credit};
 ghost use Rattle.ymx_headline.specs.Laws.{IsOpenWorld};
-ghost use Rattle.ymx_delivery.specs.Stages.{IsNewWorld, Stands, IsWritable, IsUnderWay, IsSettled, IsRefused, IsReadable, IsRead};
+ghost use Rattle.ymx_delivery.specs.Stages.{IsNewWorld, Stands, IsWritable, IsComing, IsSettled, IsReadable, IsRead};
 
-use std::alloc::{AllocError, Global};
+use std::alloc::Global;
+use ymx_memory::{RefusalCount, RefusedAllocation};
 use ymx_model::{Answer, Bytes, Call, CallFault, Side, Step};
 use ymx_world::World;
 
-/// What a call that was refused for want of memory answers here. There is no other refusal.
-fn no_memory(fault: CallFault) -> AllocError
+/// What a call that was refused answers here: its want of memory. There is no other refusal.
+fn call_refused(fault: CallFault) -> RefusedAllocation
     requires { fault ≡ OutOfMemory tt }
 {
-    AllocError
+    match fault {
+        CallFault::OutOfMemory(refused) => refused,
+        _ => unreachable!(),
+    }
+}
+
+/// What a stream that was refused answers here: its want of memory, which was counted.
+fn stream_refused(no_memory: RefusalCount) -> RefusedAllocation
+    requires { 0 < no_memory }
+{
+    match no_memory.evidence() {
+        Some(refused) => refused,
+        None => unreachable!(),
+    }
 }
 
 /// A opens a stream, and gets its number.
-pub(crate) fn open(world: &mut World) -> Result<u32, AllocError>
+pub(crate) fn open(world: &mut World) -> Result<u32, RefusedAllocation>
     requires { IsNewWorld world.old }
     ensures { IfOk result (λ id. Stands id (IsWritable first_credit []) world.new) }
 {
     let answer = world.step(&Step::At(Side::A, Call::Open))?;
     match answer {
         Answer::Opened(id) => Ok(id),
-        Answer::Refused(fault) => Err(no_memory(fault)),
+        Answer::Refused(fault) => Err(call_refused(fault)),
         _ => unreachable!(),
     }
 }
@@ -37,7 +51,7 @@ pub(crate) fn write(
     world: &mut World,
     id: u32,
     bytes: &[u8],
-) -> Result<(), AllocError>
+) -> Result<(), RefusedAllocation>
     requires { Stands id (IsWritable (length bytes.now) []) world.old }
     ensures { IfOk result (λ _. Stands id (IsWritable 0 bytes.now) world.new) }
 {
@@ -45,15 +59,15 @@ pub(crate) fn write(
     let answer = world.step(&Step::At(Side::A, Call::Write(id, copy)))?;
     match answer {
         Answer::Wrote(_) => Ok(()),
-        Answer::Refused(fault) => Err(no_memory(fault)),
+        Answer::Refused(fault) => Err(call_refused(fault)),
         _ => unreachable!(),
     }
 }
 
 /// A finishes the stream.
-pub(crate) fn finish(world: &mut World, id: u32) -> Result<(), AllocError>
+pub(crate) fn finish(world: &mut World, id: u32) -> Result<(), RefusedAllocation>
     requires { (bytes : List ℕ) × Stands id (IsWritable 0 bytes) world.old }
-    ensures { IfOk result (λ _. (bytes : List ℕ) → Stands id (IsWritable 0 bytes) world.old → Stands id (IsUnderWay id bytes) world.new) }
+    ensures { IfOk result (λ _. (bytes : List ℕ) → Stands id (IsWritable 0 bytes) world.old → Stands id (IsComing id bytes) world.new) }
 {
     let answer = world.step(&Step::At(Side::A, Call::Finish(id)))?;
     match answer {
@@ -62,33 +76,38 @@ pub(crate) fn finish(world: &mut World, id: u32) -> Result<(), AllocError>
     }
 }
 
-/// Carries all that is under way to the other side.
-pub(crate) fn settle(world: &mut World) -> Result<(), AllocError>
+/// Carries all that is under way to the other side, and answers how many streams were refused for want of memory.
+pub(crate) fn settle(world: &mut World) -> Result<RefusalCount, RefusedAllocation>
     requires { IsOpenWorld world.old }
-    ensures { IfOk result (λ _. (id : ℕ) (bytes : List ℕ) → Stands id (IsUnderWay id bytes) world.old → Stands id (IsSettled id bytes) world.new) }
+    ensures { IfOk result (λ no_memory. (id : ℕ) (bytes : List ℕ) → Stands id (IsComing id bytes) world.old → Stands id (IsSettled no_memory id bytes) world.new) }
 {
     let settled = world.settle()?;
-    prove!(settled);
-    Ok(())
+    prove!(settled.quiet);
+    Ok(settled.no_memory)
 }
 
-/// B accepts the stream. There is none only where B has refused it, as it had no memory for it.
-pub(crate) fn accept(world: &mut World) -> Result<Option<u32>, AllocError>
-    requires { (id : ℕ) × (bytes : List ℕ) × Stands id (IsSettled id bytes) world.old }
-    ensures some { IfOk result (λ found. IfSome found (λ at. (id : ℕ) (bytes : List ℕ) → Stands id (IsSettled id bytes) world.old →
-        (at ≡ id) × Stands id (IsReadable bytes) world.new)) }
-    ensures none { IfOk result (λ found. IfNone found ((id : ℕ) (bytes : List ℕ) → Stands id (IsSettled id bytes) world.old →
-        Stands id IsRefused world.new)) }
+/// B accepts the stream. There is none only where B has refused it, as it had no memory for it. Then `no_memory`, which
+/// counts the streams that were refused on the way, has the evidence.
+pub(crate) fn accept(world: &mut World, no_memory: RefusalCount) -> Result<u32, RefusedAllocation>
+    requires { (id : ℕ) × (bytes : List ℕ) × Stands id (IsSettled no_memory id bytes) world.old }
+    ensures { IfOk result (λ at. (id : ℕ) (bytes : List ℕ) → Stands id (IsSettled no_memory id bytes) world.old → (at ≡ id) × Stands id (IsReadable bytes) world.new) }
 {
     let answer = world.step(&Step::At(Side::B, Call::Accept))?;
     match answer {
-        Answer::Accepted(found) => Ok(found),
+        Answer::Accepted(found) => match found {
+            Some(id) => Ok(id),
+            None => Err(stream_refused(no_memory)),
+        },
         _ => unreachable!(),
     }
 }
 
 /// B reads all that is left, at most `max` bytes. `None` is the end.
-pub(crate) fn read(world: &mut World, id: u32, max: usize) -> Result<Option<Bytes>, AllocError>
+pub(crate) fn read(
+    world: &mut World,
+    id: u32,
+    max: usize,
+) -> Result<Option<Bytes>, RefusedAllocation>
     requires room { 0 < max }
     requires stands { (rest : List ℕ) × (length rest ≤ max) × Stands id (IsReadable rest) world.old }
     ensures told { IfOk result (λ found. (rest : List ℕ) → length rest ≤ max → Stands id (IsReadable rest) world.old → IsRead rest found) }

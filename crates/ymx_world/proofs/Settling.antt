@@ -1,7 +1,9 @@
 -- What settles a world, step by step.
-use Rattle.std.proofs.Common.{◌≡◌, ◌<◌, [], ◌∷◌, ◌++◌, Bool, true, false, not, ◌&&◌, refl, sym, ◌∙◌, inl, inr, arith}
+use Rattle.std.proofs.Common.{◌≡◌, ◌<◌, ◌+◌, ℕ, List, [], ◌∷◌, ◌++◌, Bool, true, false, not, ◌&&◌, min, refl, sym, ap, ◌∙◌, inl, inr, arith}
 use Rattle.std.specs.List.{All}
 use Rattle.std.proofs.lemmas.List.Elements.{All-nil, All-cons, All-append}
+use Rattle.std.proofs.lemmas.List.Sums.{sum_by_push}
+use Rattle.ymx_machine.specs.shared.Limits.{greatest_number}
 use Rattle.ymx_machine.specs.declared.types.Step.{Step}
 use Rattle.ymx_machine.specs.declared.types.Step.TheVariants as step
 use Rattle.ymx_machine.specs.declared.types.Answer.{Answer}
@@ -21,7 +23,7 @@ use Rattle.ymx_headline.proofs.bounds.Driving.{lowers-open, carries-carriage}
 use Rattle.ymx_headline.proofs.bounds.Progress.{quiet-world}
 use Rattle.ymx_world.specs.Progress.{GoesForward}
 use Rattle.ymx_world.specs.Reached.{IsReached}
-use Rattle.ymx_world.specs.Settled.{is_open_pipe, is_open_world, IsDueCarriage, IsCarriedOn}
+use Rattle.ymx_world.specs.Settled.{is_open_pipe, is_open_world, IsDueCarriage, no_memory_of, no_memory_in, IsCarriedOn}
 use Rattle.ymx_world.proofs.Bounds.{is-bounded}
 use Rattle.ymx_world.proofs.Headlines.{reached-frames}
 use Rattle.ymx_world.proofs.Runs.{run_more, reached_along}
@@ -72,19 +74,26 @@ one-carriage st given w v r o d f sound s =
 
 -- ---- all of them
 
-pub carried-none : (w : World) → IsReached w → IsCarriedOn w w
-carried-none w r = record {
+pub carried-none : (n : ℕ) (w : World) → n ≡ 0 → IsReached w → IsCarriedOn n w w
+carried-none n w e r = record {
   steps = [];
   answers = [];
   alone = All-nil (λ (st : Step). is_carriage st ≡ true);
   runs = refl;
+  counted = e;
   on = λ o. o;
   bounded = λ o. is-bounded [] [] w w r o (All-nil (λ (st : Step). is_carriage st ≡ true)) refl;
   queues = λ m h. runs-alike in_turn [] [] w w m refl h;
 }
 
-pub carried-more : (w x v : World) (st : Step) (given : Answer) → IsReached w → IsCarriedOn w x → Steps in_turn st given x v → IsOneCarriage st x v → IsCarriedOn w v
-carried-more w x v st given r h s one =
+-- what one more answer counts is added
+counted-more : (n more : ℕ) (answers : List Answer) (given : Answer) → n ≡ min (no_memory_in answers) greatest_number → more ≡ min (n + no_memory_of given) greatest_number →
+    more ≡ min (no_memory_in (answers ++ given ∷ [])) greatest_number
+counted-more n more answers given so_far adds = rw (sum_by_push no_memory_of answers given) (omega arith)
+
+pub carried-more : (n more : ℕ) (w x v : World) (st : Step) (given : Answer) → IsReached w → IsCarriedOn n w x → Steps in_turn st given x v → IsOneCarriage st x v →
+    more ≡ min (n + no_memory_of given) greatest_number → IsCarriedOn more w v
+carried-more n more w x v st given r h s one adds =
     let P : Step → Type 0 = λ st. is_carriage st ≡ true in
     let alone : All P (h.steps ++ st ∷ []) = All-append P h.steps (st ∷ []) h.alone (All-cons P st [] one.is (All-nil P)) in
     let runs = run_more in_turn h.steps h.answers st given w x v h.runs s in
@@ -93,13 +102,14 @@ carried-more w x v st given r h s one =
       answers = h.answers ++ given ∷ [];
       alone = alone;
       runs = runs;
+      counted = counted-more n more h.answers given h.counted adds;
       on = λ o. one.on;
       bounded = λ o. is-bounded (h.steps ++ st ∷ []) (h.answers ++ given ∷ []) w v r o alone runs;
       queues = λ m a. runs-alike in_turn (h.steps ++ st ∷ []) (h.answers ++ given ∷ []) w v m runs a;
     }
 
-pub reached-carried : (w v : World) → IsReached w → IsCarriedOn w v → IsReached v
-reached-carried w v r h = reached_along h.steps h.answers w v r h.runs
+pub reached-carried : (n : ℕ) (w v : World) → IsReached w → IsCarriedOn n w v → IsReached v
+reached-carried n w v r h = reached_along h.steps h.answers w v r h.runs
 
 -- nothing is left to carry, and the machine is still
 pub settled-still : (w : World) → IsOpenWorld w → (is_ready w.a ≡ false) × (is_ready w.b ≡ false) → (w.ab.bytes ≡ []) × (w.ba.bytes ≡ []) → (m : Machine) → Agrees w m → IsStillMachine m

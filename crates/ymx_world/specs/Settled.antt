@@ -1,8 +1,10 @@
 -- What settles a world: emissions and deliveries alone, each of which carries bytes (this project's own).
-use Rattle.std.specs.Prelude.{◌≡◌, ◌<◌, ◌&&◌, List, length, All, Bool, true, false, not}
+use Rattle.std.specs.Prelude.{◌≡◌, ◌<◌, ◌&&◌, ℕ, List, length, min, sum_by, All, Bool, true, false, not}
 use Rattle.ymx_machine.specs.declared.types.Step.{Step}
 use Rattle.ymx_machine.specs.declared.types.Step.TheVariants as step
 use Rattle.ymx_machine.specs.declared.types.Answer.{Answer}
+use Rattle.ymx_machine.specs.declared.types.Answer.TheVariants as answer
+use Rattle.ymx_machine.specs.shared.Limits.{greatest_number}
 use Rattle.ymx_model.specs.session.Sessions.{is_running}
 use Rattle.ymx_model.specs.session.Emissions.{in_turn, is_ready}
 use Rattle.ymx_model.specs.world.Worlds.{World, Pipe, Runs}
@@ -28,13 +30,24 @@ IsDueCarriage (step.Emit side room) w = (0 < room) × (is_ready (session_of side
 IsDueCarriage (step.Deliver direction n) w = (0 < n) × (0 < length (pipe_of direction w).bytes) × (is_ready (receiver_of direction w) ≡ false)
 IsDueCarriage _ w = ⊥
 
--- Some emissions and deliveries, and nothing else, led from w to v. From an open world they lead to an open one, and
--- feed wholly at most twice as many frames as its load. Each queue machine that agreed with w has a run beside them.
-pub record IsCarriedOn (w v : World) : Type 0 where
+-- how many streams a step refused for want of memory, as its answer says: only a delivery refuses any
+abbrev pub no_memory_of : Answer → ℕ
+no_memory_of (answer.Fed fed) = fed.no_memory
+no_memory_of _ = 0
+
+-- how many these steps refused together
+abbrev pub no_memory_in : List Answer → ℕ
+no_memory_in answers = sum_by no_memory_of answers
+
+-- Some emissions and deliveries, and nothing else, led from w to v, and so many streams were refused on the way for want
+-- of memory; the greatest number counts those beyond it too. From an open world they lead to an open one, and feed wholly
+-- at most twice as many frames as its load. Each queue machine that agreed with w has a run beside them.
+pub record IsCarriedOn (no_memory : ℕ) (w v : World) : Type 0 where
   pub steps : List Step
   pub answers : List Answer
   pub alone : All (λ st. is_carriage st ≡ true) steps
   pub runs : Runs in_turn steps answers w v
+  pub counted : no_memory ≡ min (no_memory_in answers) greatest_number
   pub on : IsOpenWorld w → IsOpenWorld v
   pub bounded : IsOpenWorld w → IsBoundedRun steps answers w v
   pub queues : (m : Machine) → Agrees w m → HasRun in_turn steps answers w v m

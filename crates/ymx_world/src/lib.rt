@@ -2,7 +2,7 @@
 //! has emitted and the other not yet been fed. Whoever holds a `World` drives it by hand, a step at a time.
 //! `world` is the type and its calls. Behind it: `joined` (the sessions and the pipes), `pipe` (one
 //! direction), `calls` (a call on one session, and its answer), `audit` (a joint order of two histories),
-//! `stopped` (a run that found no memory), `played` (a run from new sessions).
+//! `stopped` (a run that found no memory), `played` (a run from new sessions), `settled` (what settling answers).
 #![tactic(auto)]
 
 mod audit;
@@ -10,9 +10,11 @@ mod calls;
 mod joined;
 mod pipe;
 mod played;
+mod settled;
 mod stopped;
 mod world;
 
 pub use played::{PlayFault, Played};
+pub use settled::Settled;
 pub use stopped::Stopped;
 pub use world::World;

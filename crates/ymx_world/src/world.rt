@@ -1,6 +1,6 @@
 //! The type `World`, and its calls.
 
-ghost use Rattle.std.specs.Prelude.{◌≡◌, ◌⊎◌, ◌<◌, ◌↔◌, [], IsTrue, All, List, length, take, true, false, None, IfOk, IfErr, IfSome, IfNone, OnErr};
+ghost use Rattle.std.specs.Prelude.{◌≡◌, ◌⊎◌, ◌<◌, ◌↔◌, ℕ, [], IsTrue, All, List, length, take, true, false, None, IfOk, IfErr, IfSome, IfNone, OnErr};
 ghost use Rattle.ymx_model.specs.declared.types.Role.TheVariants.{Client, Server};
 ghost use Rattle.ymx_model.specs.session.Emissions.{in_turn, is_ready};
 ghost use Rattle.ymx_model.specs.world.Worlds.{World as TheWorld, Steps, Runs, new_world, is_quiet};
@@ -25,10 +25,11 @@ ghost use Rattle.ymx_headline.specs.QuietRuns.{QuietRuns};
 use crate::audit::audit;
 use crate::joined::Joined;
 use crate::played::{PlayFault, Played};
+use crate::settled::{Settled, refused_by};
 use crate::stopped::Stopped;
 use std::alloc::Global;
 use std::marker::Model;
-use ymx_memory::RefusedAllocation;
+use ymx_memory::{RefusalCount, RefusedAllocation};
 use ymx_model::{Answer, Config, Direction, Entry, Role, Side, Step};
 use ymx_session::{NewFault, Session};
 
@@ -187,28 +188,38 @@ impl World {
         self.joined.is_open()
     }
 
-    /// Emits and delivers until the world is quiet, and answers whether it is: false for a world in which
-    /// something was stopped, ended, closed or broken, which is left as it is. `RefusedAllocation` where there is no
-    /// memory for an emission: then the steps before it were made, and a later call goes on from there.
+    /// Emits and delivers until the world is quiet, and answers whether it is: not where something was stopped,
+    /// ended, closed or broken, which is left as it is. It answers too how many streams were refused on the way because
+    /// there was no memory for them. `RefusedAllocation` where there is no memory for an emission: then the steps before
+    /// it were made, and a later call goes on from there.
     ///
     /// It ends, since each of its steps carries a byte on. No frame is made or lost on the way that
     /// emissions and deliveries by hand would not make or lose.
-    pub fn settle(&mut self) -> Result<bool, RefusedAllocation>
-        ensures quiet { IfOk result (λ settled. settled ≡ true → is_quiet self.new ≡ true) }
-        ensures open { IsOpenWorld self.old → IfOk result (λ settled. settled ≡ true) }
-        ensures left_alone { IfOk result (λ settled. settled ≡ false → self.new ≡ self.old) }
+    pub fn settle(&mut self) -> Result<Settled, RefusedAllocation>
+        ensures quiet { IfOk result (λ settled. settled.quiet ≡ true → is_quiet self.new ≡ true) }
+        ensures open { IsOpenWorld self.old → IfOk result (λ settled. settled.quiet ≡ true) }
+        ensures left_alone { IfOk result (λ settled. settled.quiet ≡ false → self.new ≡ self.old) }
         // Nothing is on its way in the queues then: a machine that agrees with the world is still.
-        ensures still { IfOk result (λ settled. settled ≡ true → (m : Machine) → Agrees self.new m → IsStillMachine m) }
-        // Whatever the result, emissions and deliveries alone were made.
-        ensures carried { IsCarriedOn self.old self.new }
+        ensures still { IfOk result (λ settled. settled.quiet ≡ true → (m : Machine) → Agrees self.new m → IsStillMachine m) }
+        // Whatever the result, emissions and deliveries alone were made. So many streams were refused for want of memory.
+        ensures carried { IfOk result (λ settled. IsCarriedOn settled.no_memory self.old self.new) }
+        ensures carried_so_far { IfErr result (λ _. (no_memory : ℕ) × IsCarriedOn no_memory self.old self.new) }
     {
+        let mut no_memory = RefusalCount::zero();
         if !self.joined.is_open() {
-            return Ok(false);
+            return Ok(Settled {
+                quiet: false,
+                no_memory,
+            });
         }
         while let Some(step) = self.due_carriage() {
-            self.step(&step)?;
+            let answer = self.step(&step)?;
+            no_memory.add_all(refused_by(&answer));
         }
-        Ok(true)
+        Ok(Settled {
+            quiet: true,
+            no_memory,
+        })
     }
 
     /// A step that carries bytes on: a delivery of all that is on its way to a side where nothing is due, or else an

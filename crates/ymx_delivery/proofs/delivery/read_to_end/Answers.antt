@@ -13,6 +13,6 @@ prove-unreachable-requires c =
 
 pub returns : goal.returns
 returns c =
-    ok-then c.from_slice.result _ _
+    ok-then c.copied.result _ _
     (λ v items rest fits h. items ∙ (c.as_slice.ensures ∙ gave-all c.in_ok-found.found c.in-Some.bytes rest c.in-Some.is (c.in_ok-found.ensures.told rest fits h)))
-    c.from_slice.ensures.items
+    c.copied.ensures

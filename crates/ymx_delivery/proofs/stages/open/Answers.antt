@@ -4,8 +4,8 @@ use Rattle.ymx_delivery.proofs.Worlds.{opens}
 use Rattle.ymx_delivery.proofs.Told.{opened-fault, opened-stands}
 use Rattle.ymx_delivery.proofs.stages.open.Goals as goal
 
-pub no_memory-requires : goal.no_memory-requires
-no_memory-requires c =
+pub call_refused-requires : goal.call_refused-requires
+call_refused-requires c =
     opened-fault c.in_ok-answer.answer c.in-Refused.fault _ c.in-Refused.is
     (opens c.in_ok-answer.answer c.args.world.now c.step.new.self c.requires c.in_ok-answer.ensures.steps c.in_ok-answer.ensures.machine)
 

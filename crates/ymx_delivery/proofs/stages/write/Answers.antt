@@ -5,8 +5,8 @@ use Rattle.ymx_delivery.proofs.Worlds.{writes-copy}
 use Rattle.ymx_delivery.proofs.Told.{wrote-fault, wrote-stands}
 use Rattle.ymx_delivery.proofs.stages.write.Goals as goal
 
-pub no_memory-requires : goal.no_memory-requires
-no_memory-requires c =
+pub call_refused-requires : goal.call_refused-requires
+call_refused-requires c =
     wrote-fault c.in_ok-answer.answer c.in-Refused.fault _ _ c.in-Refused.is
     (writes-copy c.args.id c.in_ok-copy.copy c.args.bytes.now c.in_ok-answer.answer c.args.world.now c.step.new.self c.in_ok-copy.ensures c.requires c.in_ok-answer.ensures.steps c.in_ok-answer.ensures.machine)
 

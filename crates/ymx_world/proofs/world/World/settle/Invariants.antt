@@ -4,7 +4,7 @@ use Rattle.ymx_world.specs.Settled.{IsCarriedOn}
 use Rattle.ymx_world.proofs.world.World.settle.Given as goal
 
 abbrev pub invariant-loop-step : goal.invariant-loop-step
-invariant-loop-step l = record { open_still : IsOpenWorld l.self; carried : IsCarriedOn l.initial.self l.self }
+invariant-loop-step l = record { open_still : IsOpenWorld l.self; carried : IsCarriedOn l.no_memory l.initial.self l.self }
 
 abbrev pub decreases-loop-step : goal.decreases-loop-step
 decreases-loop-step l = potential_of l.self
