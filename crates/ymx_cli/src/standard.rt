@@ -1,6 +1,6 @@
 //! Readers, writers and files of the standard library as devices.
 
-ghost use Rattle.std.specs.Prelude.{◌≡◌, ◌<◌, ◌≤◌, length, IfOk, None, OnErr, ⊤};
+ghost use Rattle.std.specs.Prelude.{◌≡◌, ◌<◌, ◌≤◌, length, true, IfOk, None, OnErr, ⊤};
 ghost use Rattle.std.specs.Io.{ReadsAtMost, WritesAtMost};
 ghost use Rattle.std.specs.Io.KnownBytes.{Keeps, ReadConsumes, WriteAppends};
 
@@ -54,6 +54,8 @@ impl<W: Write> Outlet for WriterOutlet<W> {
     ghost contents = { λ s. W.contents s.writer };
 
     ghost failures = { λ s. s.failures };
+
+    ghost is_ended = { λ _. true };
 
     fn push(&mut self, bytes: &[u8]) -> Result<usize, DeviceFault> {
         if self.failures == u64::MAX {

@@ -50,6 +50,8 @@ pub struct PumpedOut {
 struct Open;
 
 impl Gate for Open {
+    ghost has_refused = { λ _. false };
+
     fn before_read(&mut self) -> bool {
         true
     }

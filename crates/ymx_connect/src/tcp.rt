@@ -24,6 +24,7 @@ pub struct ConnectionReader<'a> {
 pub struct ConnectionWriter<'a> {
     stream: &'a TcpStream,
     failures: u64,
+    was_shut: bool,
 }
 
 impl<'a> ConnectionReader<'a> {
@@ -42,6 +43,7 @@ impl<'a> ConnectionWriter<'a> {
         ConnectionWriter {
             stream,
             failures: 0,
+            was_shut: false,
         }
     }
 }
@@ -70,6 +72,8 @@ impl Outlet for ConnectionWriter<'_> {
 
     ghost failures = { λ s. s.failures };
 
+    ghost is_ended = { λ s. s.was_shut };
+
     fn push(&mut self, bytes: &[u8]) -> Result<usize, DeviceFault> {
         if self.failures == u64::MAX {
             return Err(DeviceFault);
@@ -89,7 +93,10 @@ impl Outlet for ConnectionWriter<'_> {
             return Err(DeviceFault);
         }
         match self.stream.shutdown(Shutdown::Write) {
-            Ok(()) => Ok(()),
+            Ok(()) => {
+                self.was_shut = true;
+                Ok(())
+            }
             Err(_) => {
                 self.failures += 1;
                 Err(DeviceFault)

@@ -1,6 +1,6 @@
 //! Devices: where bytes come from, and where they go to.
 
-ghost use Rattle.std.specs.Prelude.{ℕ, List, Option, ◌≡◌, ◌<◌, ◌≤◌, length, IfOk, OnErr, OnOk};
+ghost use Rattle.std.specs.Prelude.{ℕ, List, Option, Bool, ◌≡◌, ◌<◌, ◌≤◌, length, true, IfOk, OnErr, OnOk, MatchResult};
 ghost use Rattle.std.specs.Io.KnownBytes.{Keeps, ReadConsumes, WriteAppends};
 ghost use Rattle.ymx_model.specs.devices.Devices.{CountsFailures};
 
@@ -29,8 +29,8 @@ pub trait Inlet {
 
 /// Where bytes go to.
 ///
-/// A contract sees the bytes that were taken so far, where the device can tell them, and how many
-/// calls have failed.
+/// A contract sees the bytes that were taken so far, where the device can tell them, how many calls
+/// have failed, and whether it was ended.
 pub trait Outlet {
     /// The bytes taken so far, if the device can tell.
     ghost contents: { Self → Option (List ℕ) };
@@ -38,16 +38,21 @@ pub trait Outlet {
     /// How many calls have failed.
     ghost failures: { Self → ℕ };
 
+    /// Whether a call of `end` has succeeded. A device that can't tell says `true` at all times.
+    ghost is_ended: { Self → Bool };
+
     /// Takes the first of these bytes, and answers how many: at least 1 if there are any. A call that
     /// fails takes none.
     fn push(&mut self, bytes: &[u8]) -> Result<usize, DeviceFault>
         ensures within { IfOk result (λ count. count ≤ length bytes.now) }
         ensures some { 0 < length bytes.now → IfOk result (λ count. 0 < count) }
         ensures moved { WriteAppends (contents self.old) (contents self.new) result bytes.now }
-        ensures counted { CountsFailures result (failures self.old) (failures self.new) };
+        ensures counted { CountsFailures result (failures self.old) (failures self.new) }
+        ensures open { is_ended self.new ≡ is_ended self.old };
 
     /// No more bytes will be pushed: closes the writing side. Takes nothing.
     fn end(&mut self) -> Result<(), DeviceFault>
         ensures kept { Keeps (contents self.old) (contents self.new) }
-        ensures counted { CountsFailures result (failures self.old) (failures self.new) };
+        ensures counted { CountsFailures result (failures self.old) (failures self.new) }
+        ensures ended { MatchResult result (λ _. is_ended self.new ≡ true) (λ _. is_ended self.new ≡ is_ended self.old) };
 }

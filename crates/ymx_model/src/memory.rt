@@ -1,6 +1,6 @@
 //! Devices in memory, whose bytes and failures a contract sees.
 
-ghost use Rattle.std.specs.Prelude.{◌≡◌, ◌↔◌, ◌<◌, ◌≤◌, ◌^◌, ◌-◌, [], ◌++◌, ◌||◌, ◌==◌, length, take, drop, min, IsErr, IfOk, OnOk, OnErr, IsTrue, Some, None};
+ghost use Rattle.std.specs.Prelude.{◌≡◌, ◌↔◌, ◌<◌, ◌≤◌, ◌^◌, ◌-◌, [], ◌++◌, ◌||◌, ◌==◌, length, take, drop, min, true, IsErr, IfOk, OnOk, OnErr, IsTrue, Some, None};
 ghost use Rattle.std.specs.Io.KnownBytes.{Keeps, ReadConsumes, WriteAppends};
 ghost use Rattle.ymx_model.specs.devices.Devices.{CountsFailures, most_failures};
 ghost use Rattle.ymx_model.specs.devices.Memories.{call_fails, after_failure, is_turn, after_success, turn_after};
@@ -162,6 +162,8 @@ impl Outlet for MemoryOutlet {
     ghost contents = { λ s. Some s.bytes };
 
     ghost failures = { λ s. s.failures };
+
+    ghost is_ended = { λ _. true };
 
     fn push(&mut self, bytes: &[u8]) -> Result<usize, DeviceFault>
         ensures within { IfOk result (λ count. count ≤ length bytes.now) }

@@ -29,7 +29,9 @@ fn write_if_begun<R: Recorder, W: Wait, O: Outlet, G: Gate>(
 ) -> Moved
     ensures wrote { PumpWrote R.KEEPS (length buffer.old) (has_failed (O.failures writer.old) (O.failures writer.new)) (O.contents writer.old) (O.contents writer.new) seat.old seat.new result.count result.why }
     ensures unfailed { result.why ≡ PumpWhy.End → O.failures writer.new ≡ O.failures writer.old }
+    ensures shut { result.why ≡ PumpWhy.End → O.is_ended writer.new ≡ true }
     ensures device { result.why ≡ PumpWhy.Device → has_failed (O.failures writer.old) (O.failures writer.new) ≡ true }
+    ensures gate { result.why ≡ PumpWhy.Gate → G.has_refused gate.new ≡ true }
     ensures whole { (fault : FaultValue) → result.why ≡ PumpWhy.Broken fault → ⊥ }
 {
     if !begin(rt, start) {
@@ -55,6 +57,7 @@ fn read_after<R: Recorder, W: Wait, I: Inlet, G: Gate>(
     ensures gave { PumpRead R.KEEPS (I.remaining reader.old) (I.remaining reader.new) seat.old seat.new result.count result.why }
     ensures at_end { 0 < length buffer.old → result.why ≡ PumpWhy.End → IsAtEnd (I.remaining reader.new) }
     ensures device { result.why ≡ PumpWhy.Device → has_failed (I.failures reader.old) (I.failures reader.new) ≡ true }
+    ensures gate { result.why ≡ PumpWhy.Gate → G.has_refused gate.new ≡ true }
 {
     await_begin(rt, start);
     read_on(rt, hub, seat, reader, gate, buffer)
@@ -86,8 +89,11 @@ fn run_lent<
     ensures gave { PumpRead R.KEEPS (I.remaining reader.old) (I.remaining reader.new) read_seat.old read_seat.new result.1.count result.1.why }
     ensures at_end { 0 < length read_buffer.old → result.1.why ≡ PumpWhy.End → IsAtEnd (I.remaining reader.new) }
     ensures unfailed { result.0.why ≡ PumpWhy.End → O.failures writer.new ≡ O.failures writer.old }
+    ensures shut { result.0.why ≡ PumpWhy.End → O.is_ended writer.new ≡ true }
     ensures write_device { result.0.why ≡ PumpWhy.Device → has_failed (O.failures writer.old) (O.failures writer.new) ≡ true }
     ensures read_device { result.1.why ≡ PumpWhy.Device → has_failed (I.failures reader.old) (I.failures reader.new) ≡ true }
+    ensures write_gate { result.0.why ≡ PumpWhy.Gate → H.has_refused write_gate.new ≡ true }
+    ensures read_gate { result.1.why ≡ PumpWhy.Gate → G.has_refused read_gate.new ≡ true }
     ensures whole { (fault : FaultValue) → result.0.why ≡ PumpWhy.Broken fault → ⊥ }
 {
     join_mut(
@@ -126,7 +132,10 @@ pub fn run_pumps<
     ensures at_end { result.0.why ≡ PumpWhy.End → IsAtEnd (I.remaining reader.new) }
     ensures read_device { result.0.why ≡ PumpWhy.Device → has_failed (I.failures reader.old) (I.failures reader.new) ≡ true }
     ensures unfailed { result.1.why ≡ PumpWhy.End → O.failures writer.new ≡ O.failures writer.old }
+    ensures shut { result.1.why ≡ PumpWhy.End → O.is_ended writer.new ≡ true }
     ensures write_device { result.1.why ≡ PumpWhy.Device → has_failed (O.failures writer.old) (O.failures writer.new) ≡ true }
+    ensures read_gate { result.0.why ≡ PumpWhy.Gate → G.has_refused read_gate.new ≡ true }
+    ensures write_gate { result.1.why ≡ PumpWhy.Gate → H.has_refused write_gate.new ≡ true }
     ensures whole { (fault : FaultValue) → result.1.why ≡ PumpWhy.Broken fault → ⊥ }
 {
     let (mut read_seat, mut write_seat) = seats;

@@ -23,6 +23,7 @@ fn feed_turn<R: Recorder, W: Wait, G: Gate>(
     bytes: &[u8],
 ) -> Result<usize, Stop>
     ensures fed { TurnFed R.KEEPS seat.old seat.new bytes.now result }
+    ensures gate { IfErr result (λ stop. stop.why ≡ PumpWhy.Gate → G.has_refused gate.new ≡ true) }
     ensures off { R.KEEPS ≡ false → IfErr result (λ stop. stop.why ≡ PumpWhy.Memory → ⊥) }
 {
     let Ok(fed) = hub.feed(rt, seat, bytes) else {
@@ -57,6 +58,7 @@ fn feed_all<R: Recorder, W: Wait, G: Gate>(
     bytes: &[u8],
 ) -> Result<(), Stop>
     ensures fed { FedAll R.KEEPS seat.old seat.new bytes.now result }
+    ensures gate { IfErr result (λ stop. stop.why ≡ PumpWhy.Gate → G.has_refused gate.new ≡ true) }
     ensures off { R.KEEPS ≡ false → IfErr result (λ stop. stop.why ≡ PumpWhy.Memory → ⊥) }
 {
     let mut at = 0;
@@ -107,6 +109,7 @@ fn read_turn<R: Recorder, W: Wait, I: Inlet, G: Gate>(
     ensures turned { TurnRead R.KEEPS (I.failures reader.old) (I.failures reader.new) (I.remaining reader.old) (I.remaining reader.new) seat.old seat.new result }
     ensures at_end { 0 < length buffer.old → IfErr result (λ stop. stop.why ≡ PumpWhy.End → IsAtEnd (I.remaining reader.new)) }
     ensures device { IfErr result (λ stop. stop.why ≡ PumpWhy.Device → has_failed (I.failures reader.old) (I.failures reader.new) ≡ true) }
+    ensures gate { IfErr result (λ stop. stop.why ≡ PumpWhy.Gate → G.has_refused gate.new ≡ true) }
     ensures off { R.KEEPS ≡ false → IfErr result (λ stop. stop.why ≡ PumpWhy.Memory → ⊥) }
 {
     if !gate.before_read() {
@@ -137,6 +140,7 @@ pub(crate) fn read_on<R: Recorder, W: Wait, I: Inlet, G: Gate>(
     ensures gave { PumpRead R.KEEPS (I.remaining reader.old) (I.remaining reader.new) seat.old seat.new result.count result.why }
     ensures at_end { 0 < length buffer.old → result.why ≡ PumpWhy.End → IsAtEnd (I.remaining reader.new) }
     ensures device { result.why ≡ PumpWhy.Device → has_failed (I.failures reader.old) (I.failures reader.new) ≡ true }
+    ensures gate { result.why ≡ PumpWhy.Gate → G.has_refused gate.new ≡ true }
     ensures off { R.KEEPS ≡ false → result.why ≡ PumpWhy.Memory → ⊥ }
 {
     let mut count = 0u64;
@@ -173,6 +177,7 @@ pub fn read_pump<R: Recorder, W: Wait, I: Inlet, G: Gate>(
     ensures gave { PumpRead R.KEEPS (I.remaining reader.old) (I.remaining reader.new) seat result.seat result.moved result.why }
     ensures at_end { result.why ≡ PumpWhy.End → IsAtEnd (I.remaining reader.new) }
     ensures device { result.why ≡ PumpWhy.Device → has_failed (I.failures reader.old) (I.failures reader.new) ≡ true }
+    ensures gate { result.why ≡ PumpWhy.Gate → G.has_refused gate.new ≡ true }
     ensures off { R.KEEPS ≡ false → result.why ≡ PumpWhy.Memory → ⊥ }
 {
     let mut seat = seat;

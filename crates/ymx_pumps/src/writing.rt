@@ -53,7 +53,9 @@ fn end_writer<R: Recorder, W: Wait, O: Outlet>(
     ensures kept { Keeps (O.contents writer.old) (O.contents writer.new) }
     ensures ended { Books R.KEEPS seat.old seat.new (EndsWrite seat.old.number result) }
     ensures unfailed { result ≡ PumpWhy.End → O.failures writer.new ≡ O.failures writer.old }
+    ensures shut { result ≡ PumpWhy.End → O.is_ended writer.new ≡ true }
     ensures device { result ≡ PumpWhy.Device → has_failed (O.failures writer.old) (O.failures writer.new) ≡ true }
+    ensures gate { result ≡ PumpWhy.Gate → ⊥ }
     ensures whole { (fault : FaultValue) → result ≡ PumpWhy.Broken fault → ⊥ }
     ensures off { R.KEEPS ≡ false → result ≡ PumpWhy.Memory → ⊥ }
 {
@@ -75,8 +77,10 @@ fn write_turn<R: Recorder, W: Wait, O: Outlet, G: Gate>(
     ensures length { length buffer.new ≡ length buffer.old }
     ensures turned { TurnWrote R.KEEPS (length buffer.old) (O.failures writer.old) (O.failures writer.new) (O.contents writer.old) (O.contents writer.new) seat.old seat.new result }
     ensures unfailed { IfErr result (λ stop. stop.why ≡ PumpWhy.End → O.failures writer.new ≡ O.failures writer.old) }
+    ensures shut { IfErr result (λ stop. stop.why ≡ PumpWhy.End → O.is_ended writer.new ≡ true) }
     ensures device { IfErr result (λ stop. stop.why ≡ PumpWhy.Device → has_failed (O.failures writer.old) (O.failures writer.new) ≡ true) }
     ensures whole { IfErr result (λ stop. (fault : FaultValue) → stop.why ≡ PumpWhy.Broken fault → ⊥) }
+    ensures gate { IfErr result (λ stop. stop.why ≡ PumpWhy.Gate → G.has_refused gate.new ≡ true) }
     ensures off { R.KEEPS ≡ false → IfErr result (λ stop. stop.why ≡ PumpWhy.Memory → ⊥) }
 {
     match hub.emit_turn(rt, seat, buffer) {
@@ -114,8 +118,10 @@ pub(crate) fn write_on<R: Recorder, W: Wait, O: Outlet, G: Gate>(
 ) -> Moved
     ensures wrote { PumpWrote R.KEEPS (length buffer.old) (has_failed (O.failures writer.old) (O.failures writer.new)) (O.contents writer.old) (O.contents writer.new) seat.old seat.new result.count result.why }
     ensures unfailed { result.why ≡ PumpWhy.End → O.failures writer.new ≡ O.failures writer.old }
+    ensures shut { result.why ≡ PumpWhy.End → O.is_ended writer.new ≡ true }
     ensures device { result.why ≡ PumpWhy.Device → has_failed (O.failures writer.old) (O.failures writer.new) ≡ true }
     ensures whole { (fault : FaultValue) → result.why ≡ PumpWhy.Broken fault → ⊥ }
+    ensures gate { result.why ≡ PumpWhy.Gate → G.has_refused gate.new ≡ true }
     ensures off { R.KEEPS ≡ false → result.why ≡ PumpWhy.Memory → ⊥ }
 {
     let mut count = 0u64;
@@ -149,8 +155,10 @@ pub fn write_pump<R: Recorder, W: Wait, O: Outlet, G: Gate>(
     requires { 0 < length buffer.old }
     ensures wrote { PumpWrote R.KEEPS (length buffer.old) (has_failed (O.failures writer.old) (O.failures writer.new)) (O.contents writer.old) (O.contents writer.new) seat result.seat result.moved result.why }
     ensures unfailed { result.why ≡ PumpWhy.End → O.failures writer.new ≡ O.failures writer.old }
+    ensures shut { result.why ≡ PumpWhy.End → O.is_ended writer.new ≡ true }
     ensures device { result.why ≡ PumpWhy.Device → has_failed (O.failures writer.old) (O.failures writer.new) ≡ true }
     ensures whole { (fault : FaultValue) → result.why ≡ PumpWhy.Broken fault → ⊥ }
+    ensures gate { result.why ≡ PumpWhy.Gate → G.has_refused gate.new ≡ true }
     ensures off { R.KEEPS ≡ false → result.why ≡ PumpWhy.Memory → ⊥ }
 {
     let mut seat = seat;

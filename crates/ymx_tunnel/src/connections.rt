@@ -205,6 +205,8 @@ impl Outlet for TrackedWriter<'_> {
 
     ghost failures = { λ s. s.writer.failures };
 
+    ghost is_ended = { λ s. s.writer.was_shut };
+
     fn push(&mut self, bytes: &[u8]) -> Result<usize, DeviceFault> {
         let pushed = self.writer.push(bytes);
         if pushed.is_err() {
