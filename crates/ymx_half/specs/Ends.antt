@@ -15,9 +15,9 @@ marks_of m = record { syn = m.syn; with_data = m.with_data; ack = m.ack; rst = m
 
 -- the end that a record keeps
 abbrev pub end_of : Stage → Sending → Receiving → MarksHeld → End
-end_of stage out inn marks = record { phase = phase_of stage; writer = writer_of out; reader = reader_of inn; marks = marks_of marks }
+end_of stage sending receiving marks = record { phase = phase_of stage; writer = writer_of sending; reader = reader_of receiving; marks = marks_of marks }
 
 -- a stream that takes what comes has both its halves
-pub record HasHalves (stage : Stage) (out : Sending) (inn : Receiving) : Type 0 where
-  pub sends : takes (phase_of stage) ≡ true → sends_nothing out ≡ false
-  pub receives : takes (phase_of stage) ≡ true → receives_nothing inn ≡ false
+pub record HasHalves (stage : Stage) (sending : Sending) (receiving : Receiving) : Type 0 where
+  pub sends : takes (phase_of stage) ≡ true → sends_nothing sending ≡ false
+  pub receives : takes (phase_of stage) ≡ true → receives_nothing receiving ≡ false

@@ -16,7 +16,7 @@ use Rattle.ymx_law_stream.proofs.Directions.{lists}
 use Rattle.ymx_law_stream.proofs.Heard.{said-over, said-ack, said-piece, said-credit, said-fin, said-rst}
 use Rattle.ymx_law_stream.proofs.Arrives.{syn-only, taken, vanished, data-nothing, data-over, credited, credit-lapses, acknowledged, fin-taken, fin-ignored, fin-allowed, offered, refused, rst-comes, syn-finds}
 use Rattle.ymx_law_stream.proofs.Phases.{down}
-use Rattle.ymx_law_stream.proofs.Links.{when}
+use Rattle.ymx_machine.proofs.Tests.{when}
 
 alive-is : (wx wy : ℕ) (x x' y : End) (xy yx : List Part) (s s' : Stream) → x' ≡ x → s' ≡ s → Alive wx wy x y xy yx s → Alive wx wy x' y xy yx s'
 alive-is wx wy x x' y xy yx s s' a b c = rw (a, b) c

@@ -11,9 +11,6 @@ use Rattle.ymx_law_stream.proofs.Directions.{lists}
 pub not_not : (b : Bool) → not (not b) ≡ b
 not_not b = grind arith
 
-pub when : (b : Bool) → (b ≡ true) ⊎ (b ≡ false)
-when b = grind arith
-
 pub flips : (wx wy : ℕ) (x y : End) (xy yx : List Part) (s : Stream) → Alive wx wy x y xy yx s → Alive wy wx y x yx xy (flip s)
 flips wx wy x y xy yx s c = record { outbound = c.inbound; inbound = rw not_not c.outbound }
 

@@ -1,5 +1,6 @@
 -- The law of one stream, also where a side is lost or closed.
 use Rattle.std.proofs.Common.{◌≡◌, ℕ, ◌≤◌, List, [], ◌∷◌, ◌++◌, length, Bool, true, false, ◌||◌, ◌⊎◌, inl, inr, None, Some, refl, sym, ap, subst, ◌∙◌, arith}
+use Rattle.ymx_machine.proofs.Tests.{when}
 use Rattle.ymx_machine.specs.shared.Phases.{Phase, is_live, is_reset, takes}
 use Rattle.ymx_machine.specs.stream.Streams.{Stream, flip, Allowed, after_move, IsStill, opened_stream, stream_write, stream_forget, stream_accept}
 use Rattle.ymx_machine.specs.shared.Phases.Phase.{Unborn, Offered, Live, Lingering, Gone}
@@ -17,7 +18,7 @@ use Rattle.ymx_law_stream.specs.Links.{Related}
 use Rattle.ymx_law_stream.specs.Arrivals.{comes_to, Goes}
 use Rattle.ymx_law_stream.specs.Answers.{EndRule, end_released}
 use Rattle.ymx_law_stream.specs.OneStream.{is_given_up, Stands, IsOneStream, EndShows, IsQuiet}
-use Rattle.ymx_law_stream.proofs.Links.{when, related-flip, begins-with}
+use Rattle.ymx_law_stream.proofs.Links.{related-flip, begins-with}
 use Rattle.ymx_law_stream.proofs.Nothing.{absent-only, absent-rule}
 use Rattle.ymx_law_stream.proofs.Rules.{forgets_lost, shows, law-call, law-forget_lost}
 use Rattle.ymx_law_stream.proofs.Calls.{none-done, related-accepts, related-goes, related-releases}

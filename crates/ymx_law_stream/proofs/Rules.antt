@@ -2,6 +2,7 @@
 use Rattle.std.proofs.Common.{◌≡◌, ◌≢◌, ℕ, ◌≤◌, List, [], length, take, Bool, true, false, not, ◌&&◌, ◌⊎◌, inl, inr, refl, sym, ap, ◌∙◌, arith}
 use Rattle.std.proofs.lemmas.Grind.{common_steps}
 use Rattle.std.proofs.lemmas.Bool.Decides.{nat_tests}
+use Rattle.ymx_machine.proofs.Tests.{when}
 use Rattle.ymx_machine.specs.stream.Lanes.{is_unsaid, is_here}
 use Rattle.ymx_machine.specs.shared.Phases.{Phase, is_live, is_reset}
 use Rattle.ymx_machine.specs.stream.Streams.{Stream, flip, stream_write, stream_read, stream_finish, stream_reset, stream_forget}
@@ -17,7 +18,7 @@ use Rattle.ymx_law_stream.specs.Flight.{loads}
 use Rattle.ymx_law_stream.specs.Links.{Alive, Heard, Related}
 use Rattle.ymx_law_stream.specs.Answers.{EndRule}
 use Rattle.ymx_law_stream.specs.OneStream.{EndShows}
-use Rattle.ymx_law_stream.proofs.Links.{when, not_not}
+use Rattle.ymx_law_stream.proofs.Links.{not_not}
 use Rattle.ymx_law_stream.proofs.Directions.{lists}
 use Rattle.ymx_law_stream.proofs.Heard.{heard-forgets, said-forgets}
 use Rattle.ymx_law_stream.proofs.Calls.{alive-writes, alive-reads, alive-finishes, alive-resets, alive-given_up, resets-allowed, kept_fin, kept_ack}

@@ -2,6 +2,7 @@
 use Rattle.std.proofs.Common.{◌≡◌, ◌≢◌, ℕ, ◌≤◌, List, [], ◌∷◌, ◌++◌, take, drop, Bool, true, false, not, ◌||◌, ◌==◌, ◌⊎◌, inl, inr, Option, None, Some, refl, sym, ap, subst, ◌∙◌, append-nil, arith}
 use Rattle.std.proofs.lemmas.Grind.{common_steps}
 use Rattle.std.proofs.lemmas.Bool.Decides.{nat_tests}
+use Rattle.ymx_machine.proofs.Tests.{same_or_not}
 use Rattle.ymx_machine.specs.shared.Limits.{first_credit}
 use Rattle.ymx_machine.specs.shared.Phases.{Phase, is_live, is_reset, is_early}
 use Rattle.ymx_machine.specs.stream.Streams.{Stream, flip, after_move, opened_stream, stream_write, stream_accept}
@@ -60,9 +61,6 @@ put-same j v f = grind (arith, nat_tests)
 
 pub put-other : {A : Type 0} (i j : ℕ) (v : A) (f : ℕ → A) → i ≢ j → put j v f i ≡ f i
 put-other i j v f n = grind (arith, nat_tests)
-
-same_or_not : (i j : ℕ) → (i ≡ j) ⊎ (i ≢ j)
-same_or_not i j = grind arith
 
 -- ---- one stream changes
 
