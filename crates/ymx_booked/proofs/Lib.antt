@@ -6,3 +6,5 @@ pub mod Spares
 pub mod Given
 pub mod Steps
 pub mod Shown
+pub mod Gained
+pub mod Alone

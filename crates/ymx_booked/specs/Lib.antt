@@ -3,3 +3,5 @@ pub mod Booked
 pub mod Books
 pub mod Steps
 pub mod Shown
+pub mod Gained
+pub mod Alone

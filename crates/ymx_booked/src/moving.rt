@@ -5,6 +5,7 @@ ghost use Rattle.ymx_model.specs.declared.types.Event.TheVariants as event;
 ghost use Rattle.ymx_machine.specs.declared.types.Reply.TheVariants as reply;
 ghost use Rattle.ymx_session.specs.Touched.{NotesChanges, NotesOnly, StaysNoted};
 ghost use Rattle.ymx_booked.specs.Books.{Books, Does};
+ghost use Rattle.ymx_booked.specs.Gained.{GainedAlike};
 ghost use Rattle.ymx_booked.specs.Steps.{StepsTold};
 
 use crate::booked::Booked;
@@ -27,6 +28,7 @@ impl<R: Recorder> Booked<R> {
     ) -> Result<Fed, HubFault>
         ensures booked { Books R.KEEPS seat.old seat.new (Does (event.Feed bytes.now) reply.Fed seat.old.number result) }
         ensures steps { StepsTold R.KEEPS (event.Feed bytes.now) reply.Fed seat.old.number result self.old self.new }
+        ensures alike { GainedAlike self.old.entries self.new.entries seat.old.entries seat.new.entries }
         ensures within { IfOk result (λ fed. fed.taken ≤ length bytes.now) }
         ensures notes { NotesChanges self.old.session self.new.session touched.new }
         ensures kept { StaysNoted touched.old touched.new }
@@ -55,6 +57,7 @@ impl<R: Recorder> Booked<R> {
     pub fn feed_end(&mut self, seat: &mut Seat<R>) -> Result<(), HubFault>
         ensures booked { Books R.KEEPS seat.old seat.new (Does event.FeedEnd (λ _. reply.Done) seat.old.number result) }
         ensures steps { StepsTold R.KEEPS event.FeedEnd (λ _. reply.Done) seat.old.number result self.old self.new }
+        ensures alike { GainedAlike self.old.entries self.new.entries seat.old.entries seat.new.entries }
         ensures off { R.KEEPS ≡ false → IsOk result }
     {
         let slip = match self.log.prepare(self.alloc, seat, Event::FeedEnd, 0, 1) {
@@ -72,6 +75,7 @@ impl<R: Recorder> Booked<R> {
     pub fn emit(&mut self, seat: &mut Seat<R>, buffer: &mut [u8]) -> Result<usize, HubFault>
         ensures booked { Books R.KEEPS seat.old seat.new (Does (event.Emit (length buffer.old)) (λ count. reply.Emitted (take count buffer.new)) seat.old.number result) }
         ensures steps { StepsTold R.KEEPS (event.Emit (length buffer.old)) (λ count. reply.Emitted (take count buffer.new)) seat.old.number result self.old self.new }
+        ensures alike { GainedAlike self.old.entries self.new.entries seat.old.entries seat.new.entries }
         ensures within { IfOk result (λ count. count ≤ length buffer.old) }
         ensures length { length buffer.new ≡ length buffer.old }
         ensures rest { MatchResult result (λ count. drop count buffer.new ≡ drop count buffer.old) (λ fault. buffer.new ≡ buffer.old) }

@@ -4,6 +4,7 @@ ghost use Rattle.std.specs.Prelude.{◌≡◌, ◌⊎◌, ◌+◌, ◌^◌, ◌<
 ghost use Rattle.indexmap.specs.IndexSet.{spare, IsUnchanged};
 ghost use Rattle.ymx_booked.specs.Books.{Books, Opens, OpensWith, AcceptsOnce};
 ghost use Rattle.ymx_seats.specs.Views.{HasNumbered, IsWitnessed, whole_of, with_caller};
+ghost use Rattle.ymx_booked.specs.Gained.{GainedAlike};
 ghost use Rattle.ymx_booked.specs.Steps.{IsNext, StepsOpened, StepsOpenedWith, StepsAccepted};
 
 use crate::booked::Booked;
@@ -22,6 +23,7 @@ impl<R: Recorder> Booked<R> {
     pub fn open(&mut self, seat: &mut Seat<R>) -> Result<(u32, Seat<R>, Seat<R>), HubFault>
         ensures booked { Books R.KEEPS seat.old seat.new (Opens seat.old.number result) }
         ensures steps { StepsOpened R.KEEPS seat.old.number result self.old self.new }
+        ensures alike { GainedAlike self.old.entries self.new.entries seat.old.entries seat.new.entries }
         ensures empty { IfOk result (λ made. (made.1.entries ≡ []) × (made.2.entries ≡ [])) }
     {
         if let Err(fault) = make_room(self.given, self.unspent, &mut self.half_spent) {
@@ -64,6 +66,7 @@ impl<R: Recorder> Booked<R> {
     ) -> Result<(u32, usize, Seat<R>, Seat<R>), HubFault>
         ensures booked { Books R.KEEPS seat.old seat.new (OpensWith bytes.now seat.old.number result) }
         ensures steps { StepsOpenedWith bytes.now R.KEEPS seat.old.number result self.old self.new }
+        ensures alike { GainedAlike self.old.entries self.new.entries seat.old.entries seat.new.entries }
         ensures empty { IfOk result (λ made. (made.2.entries ≡ []) × (made.3.entries ≡ [])) }
     {
         if let Err(fault) = make_room(self.given, self.unspent, &mut self.half_spent) {
@@ -109,6 +112,7 @@ impl<R: Recorder> Booked<R> {
     ) -> Result<Option<(u32, Seat<R>, Seat<R>)>, HubFault>
         ensures booked { Books R.KEEPS seat.old seat.new (AcceptsOnce seat.old.number result) }
         ensures steps { StepsAccepted R.KEEPS seat.old.number result self.old self.new }
+        ensures alike { GainedAlike self.old.entries self.new.entries seat.old.entries seat.new.entries }
     {
         if let Err(fault) = make_room(self.given, self.unspent, &mut self.half_spent) {
             return Err(fault);

@@ -4,6 +4,7 @@ ghost use Rattle.std.specs.Prelude.{◌≡◌, false};
 ghost use Rattle.ymx_session.specs.Replies.{done_or, pinged_or, ponged_or};
 ghost use Rattle.ymx_booked.specs.Answers.{IsNotMemory};
 ghost use Rattle.ymx_booked.specs.Books.{Books, Asks, to_ping, to_collect, to_go_away, to_close};
+ghost use Rattle.ymx_booked.specs.Gained.{GainedAlike};
 ghost use Rattle.ymx_booked.specs.Steps.{StepsAsked};
 
 use crate::booked::Booked;
@@ -18,6 +19,7 @@ impl<R: Recorder> Booked<R> {
     pub fn ping(&mut self, seat: &mut Seat<R>) -> Result<u32, HubFault>
         ensures booked { Books R.KEEPS seat.old seat.new (Asks to_ping pinged_or seat.old.number result) }
         ensures steps { StepsAsked R.KEEPS to_ping pinged_or seat.old.number result self.old self.new }
+        ensures alike { GainedAlike self.old.entries self.new.entries seat.old.entries seat.new.entries }
         ensures off { R.KEEPS ≡ false → IsNotMemory result }
     {
         let slip = match self
@@ -37,6 +39,7 @@ impl<R: Recorder> Booked<R> {
     pub fn ponged(&mut self, seat: &mut Seat<R>, number: u32) -> Result<bool, HubFault>
         ensures booked { Books R.KEEPS seat.old seat.new (Asks (to_collect number) ponged_or seat.old.number result) }
         ensures steps { StepsAsked R.KEEPS (to_collect number) ponged_or seat.old.number result self.old self.new }
+        ensures alike { GainedAlike self.old.entries self.new.entries seat.old.entries seat.new.entries }
         ensures off { R.KEEPS ≡ false → IsNotMemory result }
     {
         let slip = match self
@@ -61,6 +64,7 @@ impl<R: Recorder> Booked<R> {
     pub fn go_away(&mut self, seat: &mut Seat<R>) -> Result<(), HubFault>
         ensures booked { Books R.KEEPS seat.old seat.new (Asks to_go_away done_or seat.old.number result) }
         ensures steps { StepsAsked R.KEEPS to_go_away done_or seat.old.number result self.old self.new }
+        ensures alike { GainedAlike self.old.entries self.new.entries seat.old.entries seat.new.entries }
         ensures off { R.KEEPS ≡ false → IsNotMemory result }
     {
         let slip = match self
@@ -80,6 +84,7 @@ impl<R: Recorder> Booked<R> {
     pub fn close(&mut self, seat: &mut Seat<R>) -> Result<(), HubFault>
         ensures booked { Books R.KEEPS seat.old seat.new (Asks to_close done_or seat.old.number result) }
         ensures steps { StepsAsked R.KEEPS to_close done_or seat.old.number result self.old self.new }
+        ensures alike { GainedAlike self.old.entries self.new.entries seat.old.entries seat.new.entries }
         ensures off { R.KEEPS ≡ false → IsNotMemory result }
     {
         let slip = match self

@@ -7,6 +7,7 @@ ghost use Rattle.ymx_session.specs.Replies.{done_or, is_out_of_memory, wrote_or,
 ghost use Rattle.ymx_booked.specs.Answers.{IsNotMemory, GivesSome, took_count};
 ghost use Rattle.ymx_booked.specs.Books.{Books, Asks, Spends, Closes, to_write, to_read, to_finish, to_reset, to_end};
 ghost use Rattle.ymx_booked.specs.Booked.{is_half_spent, spent};
+ghost use Rattle.ymx_booked.specs.Gained.{GainedAlike};
 ghost use Rattle.ymx_booked.specs.Steps.{StepsAsked, StepsSpent, StepsClosed};
 
 use crate::booked::Booked;
@@ -22,6 +23,7 @@ impl<R: Recorder> Booked<R> {
     pub fn write(&mut self, seat: &mut Seat<R>, id: u32, bytes: &[u8]) -> Result<Wrote, HubFault>
         ensures booked { Books R.KEEPS seat.old seat.new (Asks (to_write id bytes.now) wrote_or seat.old.number result) }
         ensures steps { StepsAsked R.KEEPS (to_write id bytes.now) wrote_or seat.old.number result self.old self.new }
+        ensures alike { GainedAlike self.old.entries self.new.entries seat.old.entries seat.new.entries }
         ensures within { IfOk result (λ wrote. took_count wrote ≤ length bytes.now) }
     {
         let slip = match self.log.prepare(
@@ -50,6 +52,7 @@ impl<R: Recorder> Booked<R> {
     pub fn read(&mut self, seat: &mut Seat<R>, id: u32, buffer: &mut [u8]) -> Result<Got, HubFault>
         ensures booked { Books R.KEEPS seat.old seat.new (Asks (to_read id (length buffer.old)) (λ given. read_or given buffer.new) seat.old.number result) }
         ensures steps { StepsAsked R.KEEPS (to_read id (length buffer.old)) (λ given. read_or given buffer.new) seat.old.number result self.old self.new }
+        ensures alike { GainedAlike self.old.entries self.new.entries seat.old.entries seat.new.entries }
         ensures within { IfOk result (λ got. got_count got ≤ length buffer.old) }
         ensures length { length buffer.new ≡ length buffer.old }
         ensures rest { MatchResult result (λ got. drop (got_count got) buffer.new ≡ drop (got_count got) buffer.old) (λ fault. buffer.new ≡ buffer.old) }
@@ -97,6 +100,7 @@ impl<R: Recorder> Booked<R> {
     pub fn finish(&mut self, seat: &mut Seat<R>, id: u32) -> Result<(), HubFault>
         ensures booked { Books R.KEEPS seat.old seat.new (Spends (to_finish id) id seat.old.number result) }
         ensures steps { StepsSpent (to_finish id) R.KEEPS seat.old.number id result self.old self.new }
+        ensures alike { GainedAlike self.old.entries self.new.entries seat.old.entries seat.new.entries }
         ensures off { R.KEEPS ≡ false → IsNotMemory result }
     {
         self.end_half(seat, id, Ending::Finish)
@@ -107,6 +111,7 @@ impl<R: Recorder> Booked<R> {
     pub fn reset(&mut self, seat: &mut Seat<R>, id: u32) -> Result<(), HubFault>
         ensures booked { Books R.KEEPS seat.old seat.new (Spends (to_reset id) id seat.old.number result) }
         ensures steps { StepsSpent (to_reset id) R.KEEPS seat.old.number id result self.old self.new }
+        ensures alike { GainedAlike self.old.entries self.new.entries seat.old.entries seat.new.entries }
         ensures off { R.KEEPS ≡ false → IsNotMemory result }
     {
         self.end_half(seat, id, Ending::Reset)
@@ -117,6 +122,7 @@ impl<R: Recorder> Booked<R> {
     fn end_half(&mut self, seat: &mut Seat<R>, id: u32, ending: Ending) -> Result<(), HubFault>
         ensures booked { Books R.KEEPS seat.old seat.new (Spends (to_end ending id) id seat.old.number result) }
         ensures steps { StepsSpent (to_end ending id) R.KEEPS seat.old.number id result self.old self.new }
+        ensures alike { GainedAlike self.old.entries self.new.entries seat.old.entries seat.new.entries }
         ensures off { R.KEEPS ≡ false → IsNotMemory result }
     {
         let second = self.spend(id);
@@ -160,6 +166,7 @@ impl<R: Recorder> Booked<R> {
     pub fn close_half(&mut self, seat: &mut Seat<R>, id: u32) -> Result<(), HubFault>
         ensures booked { Books R.KEEPS seat.old seat.new (Closes id seat.old.number result) }
         ensures steps { StepsClosed (is_half_spent id self.old) R.KEEPS seat.old.number id result self.old self.new }
+        ensures alike { GainedAlike self.old.entries self.new.entries seat.old.entries seat.new.entries }
         ensures off { R.KEEPS ≡ false → IsNotMemory result }
     {
         if !self.spend(id) {

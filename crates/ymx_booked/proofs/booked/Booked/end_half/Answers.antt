@@ -1,10 +1,11 @@
-use Rattle.std.proofs.Common.{◌∙◌, length, refl, ap, inl}
+use Rattle.std.proofs.Common.{◌≡◌, ◌∙◌, length, refl, ap, inl}
 use Rattle.ymx_session.specs.Replies.{done_or}
 use Rattle.ymx_seats.specs.Views.{whole_of, journal_after}
 use Rattle.ymx_booked.specs.Books.{to_end, to_forget}
 use Rattle.ymx_booked.specs.Booked.{BookedView, spent}
 use Rattle.ymx_booked.proofs.History.{kept_twice}
 use Rattle.ymx_booked.proofs.Books.{spends_one, spends_two, books_none}
+use Rattle.ymx_booked.proofs.Gained.{gained_none, gained_one, spent_adds_none}
 use Rattle.ymx_booked.proofs.Extends.{behind_at, journal_at, entries_at, after_at}
 use Rattle.ymx_booked.proofs.Journals.{witnessed_by, journaled_after, journaled_twice}
 use Rattle.ymx_booked.proofs.Spares.{answer_spares}
@@ -90,3 +91,13 @@ returns-in-Err-prepare-clause-booked g c =
     (c.prepare-2.ensures.seat_entries ∙ c.prepare.ensures.seat_entries)
     (c.prepare-2.ensures.seen ∙ c.prepare.ensures.seen)
     (inl (refl, refl))
+
+pub returns-in-Err-prepare-clause-alike : goal.returns-in-Err-prepare-clause-alike
+returns-in-Err-prepare-clause-alike g c =
+    let kept : c.self.inside.log.entries ≡ c.args.self.now.entries = spent_adds_none c.args.id c.args.self.now (record { role = c.self.inside.role; config = c.self.inside.config; session = c.self.inside.session; entries = c.self.inside.log.entries; journal = c.self.inside.log.journal; given = c.self.inside.given; unspent = c.self.inside.unspent; half_spent = c.self.inside.half_spent.keys; ended = c.self.inside.ended }) (cc) in
+    gained_none _ _ _ _ (c.prepare-2.ensures.entries ∙ c.prepare.ensures.entries ∙ kept) (c.prepare-2.ensures.seat_entries ∙ c.prepare.ensures.seat_entries)
+
+pub returns-then-not-second-clause-alike : goal.returns-then-not-second-clause-alike
+returns-then-not-second-clause-alike g c =
+    let kept : c.self.inside.log.entries ≡ c.args.self.now.entries = spent_adds_none c.args.id c.args.self.now (record { role = c.self.inside.role; config = c.self.inside.config; session = c.self.inside.session; entries = c.self.inside.log.entries; journal = c.self.inside.log.journal; given = c.self.inside.given; unspent = c.self.inside.unspent; half_spent = c.self.inside.half_spent.keys; ended = c.self.inside.ended }) (cc) in
+    gained_one _ _ _ _ _ _ _ (c.prepare-2.ensures.entries ∙ c.prepare.ensures.entries ∙ kept) c.add.ensures.entries (c.prepare-2.ensures.seat_entries ∙ c.prepare.ensures.seat_entries) c.add.ensures.seat_entries
