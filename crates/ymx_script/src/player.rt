@@ -199,7 +199,8 @@ impl Player {
         let mut world = world_or_new(self.alloc, self.a, self.b, self.world.take())?;
         let start = self.text.len();
         let done = perform(self.alloc, &mut world, &mut self.text, command);
-        self.world = Some(world);
+        // none was there: by a call, so that the drop of its parts is not proved here
+        drop(self.world.replace(world));
         whole_or_none(&mut self.text, start, done)
     }
 

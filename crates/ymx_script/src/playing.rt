@@ -59,7 +59,10 @@ fn play_into<R: Inlet, W: Outlet>(
         (R.failures reader.old) (R.failures reader.new) (W.failures writer.old) (W.failures writer.new) result }
 {
     let mut lines = Lines::new(alloc);
-    play_all(rt, reader, writer, &mut lines, input)
+    let end = play_all(rt, reader, writer, &mut lines, input);
+    // by a call, so that the drop of its parts is not proved here
+    drop(lines);
+    end
 }
 
 /// Plays piece after piece.
