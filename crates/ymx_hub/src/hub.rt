@@ -62,7 +62,14 @@ impl<R: Recorder> Hub<R> {
 
     /// A hub over what is booked, at which nobody waits.
     fn over(alloc: Global, booked: Booked<R>) -> Result<Arc<Hub<R>>, RefusedAllocation> {
-        let touched = Touched::new(alloc)?;
+        let touched = match Touched::new(alloc) {
+            Ok(touched) => touched,
+            Err(refused) => {
+                // by a call, so that the drop of its parts is not proved here
+                drop(booked);
+                return Err(refused);
+            }
+        };
         let hub = Hub {
             shared: Mutex::new(Shared::new(booked, touched)),
             bells: Bells::new(),
