@@ -68,7 +68,10 @@ fn deliver_fitting(alloc: Global, text: &[u8]) -> Result<Vec<u8>, RefusedAllocat
     ensures { IfOk result (λ bytes. bytes.items ≡ text.now) }
 {
     let mut world = begin(alloc)?;
-    deliver_between(alloc, &mut world, text)
+    let delivered = deliver_between(alloc, &mut world, text);
+    // by a call, so that the drop of its parts is not proved here
+    drop(world);
+    delivered
 }
 
 /// Sends a text that fits the window between two sessions that have done nothing.
