@@ -13,6 +13,12 @@ use Rattle.ymx_connect.specs.declared.connect_fault.ConnectFault.TheVariants.{No
 abbrev pub with_first : Role → Config → Config
 with_first role config = record { window = config.window; first = first_id role config.first }
 
+-- a session that has done nothing, and its journal: the role and the config, and the journal's table
+pub record BegunView : Type 0 where
+  pub role : Role
+  pub config : Config
+  pub table : TableId
+
 -- this session was made with this role and config, and has done nothing
 abbrev pub IsMadeWith : Role → Config → Session → Type 0
 IsMadeWith role config session = session ≡ new_session role config.window (first_id role config.first)

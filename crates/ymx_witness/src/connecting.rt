@@ -62,7 +62,7 @@ pub fn connected<
 }
 
 /// What the read pump and the write pump move bytes through.
-fn buffers(alloc: Global) -> Result<(Buffer, Buffer), RefusedAllocation> {
+pub(crate) fn buffers(alloc: Global) -> Result<(Buffer, Buffer), RefusedAllocation> {
     let into = Buffer::for_reading(alloc)?;
     let out_of = Buffer::for_writing(alloc)?;
     Ok((into, out_of))

@@ -5,13 +5,17 @@
 //! journal, in one place, and runs the program.
 #![tactic(auto)]
 
+mod begun;
 mod connecting;
+mod running;
 
 ghost use Rattle.std.specs.Prelude.{◌≡◌, None, IfOk, IfErr};
 ghost use Rattle.ymx_session.specs.NewSessions.{new_fault};
 ghost use Rattle.ymx_witness.specs.Settings.{with_first, IsMadeWith, IsNamed, IsWitnessFault};
 
+pub use begun::Begun;
 pub use connecting::connected;
+pub use running::{pumped, pumped_tcp};
 use std::alloc::Global;
 use std::marker::Brand;
 use std::sync::{Arc, Wait};

@@ -1,0 +1,100 @@
+//! Both pumps of a hub, while a function works with it.
+
+ghost use Rattle.std.specs.Prelude.{IfOk, IfSome};
+ghost use Rattle.ymx_connect.specs.Connecting.{IsSpared};
+
+use crate::connecting::buffers;
+use std::alloc::Global;
+use std::net::TcpStream;
+use std::sync::Wait;
+use std::thread;
+use std::thread::Threads;
+use ymx_connect::pumping::{pump_in, pump_out};
+use ymx_connect::{ConnectFault, Connected, ConnectionReader, ConnectionWriter, both_ended};
+use ymx_hub::Hub;
+use ymx_journal::Naming;
+use ymx_model::{Inlet, Outlet};
+use ymx_seats::Witnessed;
+
+/// Runs both pumps of a hub over a TCP connection, while a function works with the hub. It is `pumped` with this connection
+/// as reader and writer, and what is written goes out at once.
+pub fn pumped_tcp<J: Naming + Send + Sync, W: Threads + Wait + Sync, T: Drop, F: FnOnce() -> T>(
+    rt: &W,
+    alloc: Global,
+    connection: &TcpStream,
+    hub: &Hub<Witnessed<J>>,
+    work: F,
+) -> Result<Connected<T>, ConnectFault>
+    requires { F.IsAlwaysCallable work }
+    ensures { IfOk result (λ connected. IsSpared connected.ended) }
+{
+    let _ = connection.set_nodelay(true);
+    let reader = ConnectionReader::new(connection);
+    let writer = ConnectionWriter::new(connection);
+    pumped(rt, alloc, reader, writer, hub, work)
+}
+
+/// Runs both pumps of a hub over a reader and a writer, at whose other end is one peer, each in a thread, while a function
+/// works with the hub in this thread.
+///
+/// Once the function has answered it waits until nothing is due, closes the session, and waits for both pumps, as
+/// `ymx_connect::connect` does.
+///
+/// `Memory` comes where there is none for the buffers, `NoJournal` where there is no seat, and `NoThread` where a thread
+/// can't be made. In each case the function was not called.
+pub fn pumped<
+    J: Naming + Send + Sync,
+    W: Threads + Wait + Sync,
+    I: Inlet + Send + Drop,
+    O: Outlet + Send + Drop,
+    T: Drop,
+    F: FnOnce() -> T,
+>(
+    rt: &W,
+    alloc: Global,
+    reader: I,
+    writer: O,
+    hub: &Hub<Witnessed<J>>,
+    work: F,
+) -> Result<Connected<T>, ConnectFault>
+    requires { F.IsAlwaysCallable work }
+    ensures { IfOk result (λ connected. IsSpared connected.ended) }
+{
+    let (into, out_of) = match buffers(alloc) {
+        Ok(buffers) => buffers,
+        Err(refused) => return Err(ConnectFault::Memory(refused)),
+    };
+    let Ok(mut seat) = hub.seat(rt) else {
+        return Err(ConnectFault::NoJournal);
+    };
+    let mine = &mut seat;
+    let connected = thread::scope(
+        thread::scope_env(),
+        rt,
+        |scope| -> Option<Connected<T>>
+            requires { F.IsAlwaysCallable work }
+            ensures { IfSome result (λ connected. IsSpared connected.ended) }
+        {
+            let writing = scope.spawn(move || pump_out(rt, hub, writer, out_of)).ok()?;
+            let reading = scope.spawn(move || pump_in(rt, hub, reader, into)).ok();
+            if reading.is_none() {
+                let _ = hub.close(rt, mine);
+            }
+            let reading = reading?;
+            let answer = work();
+            let _ = hub.drain(rt, mine);
+            let _ = hub.close(rt, mine);
+            let written = writing.join(rt);
+            let read = reading.join(rt);
+            Some(Connected {
+                answer,
+                ended: both_ended(read, written),
+            })
+        },
+    );
+    let _ = seat.into_entries();
+    match connected {
+        Some(connected) => Ok(connected),
+        None => Err(ConnectFault::NoThread),
+    }
+}
