@@ -122,7 +122,10 @@ impl Station {
     ) -> Option<Forwarded> {
         let mut tunnel = Tunnel::new(alloc, wire, self, window)?;
         tunnel.run(rt, events, watcher);
-        Some(tunnel.forwarded())
+        let forwarded = tunnel.forwarded();
+        // by a call, so that the drop of its parts is not proved here
+        drop(tunnel);
+        Some(forwarded)
     }
 
     /// Connections may wait, of which an event was told before.
