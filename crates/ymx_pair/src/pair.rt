@@ -60,9 +60,17 @@ impl EnginePair {
     {
         let wire = Wire::new(alloc)?;
         let a = engine(alloc, Role::Client, config_a)?;
-        let b = engine(alloc, Role::Server, config_b)?;
-        let joined = Joined::new(a, b, wire);
-        Ok(EnginePair { joined })
+        match engine(alloc, Role::Server, config_b) {
+            Ok(b) => {
+                let joined = Joined::new(a, b, wire);
+                Ok(EnginePair { joined })
+            }
+            Err(fault) => {
+                // by a call, so that the drop of its parts is not proved here
+                drop(a);
+                Err(fault)
+            }
+        }
     }
 
     /// Opens a stream at a side for a connection whose device may be used. The refusals are those of `Engine::open`.

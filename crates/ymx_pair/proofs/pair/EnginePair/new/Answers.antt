@@ -8,8 +8,8 @@ use Rattle.ymx_pair.proofs.pair.EnginePair.new.Goals as goal
 pub invariant_of-result : goal.invariant_of-result
 invariant_of-result c =
     reached_new c.args.config_a.window (first_id Client c.args.config_a.first) c.args.config_b.window (first_id Server c.args.config_b.first) _
-    (good_world c.args.config_a c.args.config_b c.in_ok-a.ensures.may c.in_ok-b.ensures.may (search rules) (search rules))
-    (made_new _ _ _ _ _ _ _ c.in_ok-a.ensures.made c.in_ok-b.ensures.made c.in_ok-wire.ensures.1 c.in_ok-wire.ensures.0 c.new-joined.ensures)
+    (good_world c.args.config_a c.args.config_b c.in_ok-a.ensures.may c.in-Ok.ensures.may (search rules) (search rules))
+    (made_new _ _ _ _ _ _ _ c.in_ok-a.ensures.made c.in-Ok.ensures.made c.in_ok-wire.ensures.1 c.in_ok-wire.ensures.0 c.new-joined.ensures)
 
-pub returns-clause-made : goal.returns-clause-made
-returns-clause-made c = made_new _ _ _ _ _ _ _ c.in_ok-a.ensures.made c.in_ok-b.ensures.made c.in_ok-wire.ensures.1 c.in_ok-wire.ensures.0 c.new-joined.ensures
+pub returns-in-Ok-clause-made : goal.returns-in-Ok-clause-made
+returns-in-Ok-clause-made c = made_new _ _ _ _ _ _ _ c.in_ok-a.ensures.made c.in-Ok.ensures.made c.in_ok-wire.ensures.1 c.in_ok-wire.ensures.0 c.new-joined.ensures
