@@ -1,7 +1,7 @@
 #!/bin/sh
 # The programs of docs/GUIDE.md: proves those of examples/, runs each server, and its client against it over TCP on the
 # loopback, and compares what they print. Those that the guide shows must have under 40 lines, and those of examples/echo
-# under 40 together, without blank lines and comments. The history that two hubs keep must be one run. The repository is
+# under 50 together, without blank lines and comments. The history that two hubs keep must be one run. The repository is
 # left alone: the programs are crates in a copy, which takes over what was proved before.
 set -eu
 here=$(cd "$(dirname "$0")" && pwd)
@@ -52,7 +52,7 @@ pair() {
 for name in server client; do
     [ "$(wc -l < "$root/examples/$name.rattle")" -lt 40 ] || fail "examples/$name.rattle has 40 lines or more"
 done
-[ "$(cat "$root"/examples/echo/*.rattle | grep -cv '^ *\(//.*\)\{0,1\}$')" -lt 40 ] || fail "examples/echo has 40 lines or more"
+[ "$(cat "$root"/examples/echo/*.rattle | grep -cv '^ *\(//.*\)\{0,1\}$')" -lt 50 ] || fail "examples/echo has 50 lines or more"
 
 : > "$scratch/input"
 pair server client
