@@ -1,8 +1,9 @@
 #!/bin/sh
 # The programs of docs/GUIDE.md: proves those of examples/, runs each server, and its client against it over TCP on the
-# loopback, and compares what they print. Those that the guide shows must have under 40 lines, and those of examples/echo
-# under 50 together, without blank lines and comments. The history that two hubs keep must be one run. The repository is
-# left alone: the programs are crates in a copy, which takes over what was proved before.
+# loopback, and compares what they print. Those that the guide shows must have under 40 lines. Without blank lines and
+# comments, those of examples/echo must have under 50 together, and those of examples/witnessed under 80 each. The history
+# that two hubs keep must be one run. The repository is left alone: the programs are crates in a copy, which takes over
+# what was proved before.
 set -eu
 here=$(cd "$(dirname "$0")" && pwd)
 . "$here/../over.sh"
@@ -13,13 +14,19 @@ for crate in "$root"/crates/*; do
     cp -R --reflink=auto "$crate" "$scratch/crates/"
 done
 
-# prove NAME LIBRARY..: examples/NAME.rattle as a crate over these libraries; `crate` is its name then
+# prove NAME LIBRARY..: examples/NAME.rattle as a crate over these libraries; `crate` is its name then. What `main` picks
+# in its proof stands in main.invariants beside it, with CRATE for that name.
 prove() {
     source=$1
     crate=example_$(echo "$source" | tr / _)
     shift
     mkdir -p "$scratch/crates/$crate/src"
     cp "$root/examples/$source.rattle" "$scratch/crates/$crate/src/main.rt"
+    picked=$root/$(dirname "examples/$source")/main.invariants
+    if [ -f "$picked" ]; then
+        mkdir -p "$scratch/crates/$crate/proofs/main"
+        sed "s/CRATE/$crate/" "$picked" > "$scratch/crates/$crate/proofs/main/Invariants.antt"
+    fi
     echo "$crate: $* anyhow" >> "$scratch/crates.txt"
     (cd "$scratch/crates/$crate" && rt check > "$scratch/check" 2>&1) || fail "examples/$source.rattle isn't proved" "$scratch/check"
     grep -q '^logic=proved ' "$scratch/check" || fail "examples/$source.rattle isn't proved" "$scratch/check"
@@ -33,11 +40,15 @@ build() {
     [ -x "$program" ] || fail "$crate can't be built" "$scratch/run"
 }
 
-# pair SERVER CLIENT: proves both, and runs the client against the server until that can be reached
+# pair SERVER CLIENT LIBRARY..: proves both over these libraries, and runs the client against the server until that can
+# be reached
 pair() {
-    prove "$1" ymx_connect
+    serving=$1
+    asking=$2
+    shift 2
+    prove "$serving" "$@"
     server=$crate
-    prove "$2" ymx_connect
+    prove "$asking" "$@"
     build
     (cd "$scratch/crates/$server" && exec timeout 300 rt run < /dev/null > "$scratch/server.out" 2>&1) &
     jobs=$!
@@ -49,22 +60,30 @@ pair() {
     jobs=
 }
 
+# same_came_back: what the client and the server of the guide print, with a history or without
+same_came_back() {
+    grep -qx 'the same came back: true' "$scratch/client.out" || fail 'the client printed something else' "$scratch/client.out"
+    grep -q 'streams served: 1$' "$scratch/server.out" || fail 'the server printed something else' "$scratch/server.out"
+}
+
 for name in server client; do
     [ "$(wc -l < "$root/examples/$name.rattle")" -lt 40 ] || fail "examples/$name.rattle has 40 lines or more"
+    [ "$(grep -cv '^ *\(//.*\)\{0,1\}$' "$root/examples/witnessed/$name.rattle")" -lt 80 ] || fail "examples/witnessed/$name.rattle has 80 lines or more"
 done
 [ "$(cat "$root"/examples/echo/*.rattle | grep -cv '^ *\(//.*\)\{0,1\}$')" -lt 50 ] || fail "examples/echo has 50 lines or more"
 
 : > "$scratch/input"
-pair server client
-grep -qx 'the same came back: true' "$scratch/client.out" || fail 'the client printed something else' "$scratch/client.out"
-grep -q 'streams served: 1$' "$scratch/server.out" || fail 'the server printed something else' "$scratch/server.out"
+pair server client ymx_connect
+same_came_back
+pair witnessed/server witnessed/client ymx_witness ymx_connect ymx_hub ymx_booked ymx_seats ymx_journal ymx_memory ymx_session ymx_model ymx_machine
+same_came_back
 
 printf 'one\n\nthree\n' > "$scratch/input"
-pair echo/server echo/client
+pair echo/server echo/client ymx_connect
 cmp "$scratch/input" "$scratch/client.out" || fail 'the echo is another text' "$scratch/client.out"
 
 prove history/main ymx_certify ymx_pumps ymx_hub ymx_session ymx_seats ymx_model
 build
 "$program" > "$scratch/history.out"
 printf 'the word has come: true\nboth histories are one run: true\n' | cmp - "$scratch/history.out" || fail 'the history is another' "$scratch/history.out"
-echo '5 programs proved and run'
+echo '7 programs proved and run'
