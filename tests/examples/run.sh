@@ -1,7 +1,7 @@
 #!/bin/sh
 # The programs of docs/GUIDE.md: proves those of examples/, runs each server, and its client against it over TCP on the
 # loopback, and compares what they print. Those that the guide shows must have under 40 lines. Without blank lines and
-# comments, those of examples/echo must have under 50 together, and those of examples/witnessed under 80 each. The history
+# comments, those of examples/echo must have under 40 together, and those of examples/witnessed under 80 each. The history
 # that two hubs keep must be one run. The repository is left alone: the programs are crates in a copy, which takes over
 # what was proved before.
 set -eu
@@ -70,7 +70,7 @@ for name in server client; do
     [ "$(wc -l < "$root/examples/$name.rattle")" -lt 40 ] || fail "examples/$name.rattle has 40 lines or more"
     [ "$(grep -cv '^ *\(//.*\)\{0,1\}$' "$root/examples/witnessed/$name.rattle")" -lt 80 ] || fail "examples/witnessed/$name.rattle has 80 lines or more"
 done
-[ "$(cat "$root"/examples/echo/*.rattle | grep -cv '^ *\(//.*\)\{0,1\}$')" -lt 50 ] || fail "examples/echo has 50 lines or more"
+[ "$(cat "$root"/examples/echo/*.rattle | grep -cv '^ *\(//.*\)\{0,1\}$')" -lt 40 ] || fail "examples/echo has 40 lines or more"
 
 : > "$scratch/input"
 pair server client ymx_connect

@@ -1,5 +1,6 @@
 -- Calls that take no memory, and so never answer that there is none.
 use Rattle.std.proofs.Common.{◌≡◌, ℕ, length, Bool, true, false, not, ◌&&◌, nat_le, Option, None, Some, Result, Ok, Err, refl, sym, ap, ◌∙◌}
+use Rattle.ymx_machine.specs.shared.Evidence.{evidence}
 use Rattle.ymx_machine.specs.shared.Events.{Reply}
 use Rattle.ymx_machine.specs.declared.types.Reply.TheVariants.{Done, Refused}
 use Rattle.ymx_machine.specs.declared.types.CallFault.{CallFault}
@@ -28,7 +29,7 @@ Spares o = wants o.reply ≡ false
 
 -- ---- of a reply, a result, an answer
 
-only_memory : (fault : CallFault) → hub_fault_of fault ≡ Memory tt → is_of_memory fault ≡ true
+only_memory : (fault : CallFault) → hub_fault_of fault ≡ Memory evidence → is_of_memory fault ≡ true
 only_memory NoStream e = cc
 only_memory Finished e = cc
 only_memory Reset e = cc

@@ -1,5 +1,6 @@
 -- What a hub answers for what its session answered (this project's own).
 use Rattle.std.specs.Prelude.{◌≡◌, ℕ, ◌<◌, Result, Ok, Err, IfErr}
+use Rattle.ymx_machine.specs.shared.Evidence.{evidence}
 use Rattle.ymx_machine.specs.declared.types.CallFault.{CallFault}
 use Rattle.ymx_machine.specs.declared.types.CallFault.TheVariants.{OutOfMemory}
 use Rattle.ymx_model.specs.declared.types.Got.{Got}
@@ -11,7 +12,7 @@ use Rattle.ymx_booked.specs.declared.faults.HubFault.TheVariants.{Call, Memory}
 
 -- want of memory is the hub's own fault, whoever found it
 abbrev pub hub_fault_of : CallFault → HubFault
-hub_fault_of (OutOfMemory _) = Memory tt
+hub_fault_of (OutOfMemory _) = Memory evidence
 hub_fault_of fault = Call fault
 
 abbrev pub hub_answer : {A : Type 0} → Result A CallFault → Result A HubFault
@@ -20,7 +21,7 @@ hub_answer (Err fault) = Err (hub_fault_of fault)
 
 -- the answer is no want of memory
 abbrev pub IsNotMemory : {A : Type 0} → Result A HubFault → Type 0
-IsNotMemory result = IfErr result (λ fault. fault ≡ Memory tt → ⊥)
+IsNotMemory result = IfErr result (λ fault. fault ≡ Memory evidence → ⊥)
 
 -- how many bytes a write took
 abbrev pub took_count : Wrote → ℕ

@@ -1,5 +1,6 @@
 -- What an event under the lock adds to the list of its seat, and to the history that its seat has seen (this project's own).
 use Rattle.std.specs.Prelude.{◌≡◌, ℕ, ◌<◌, ◌⊎◌, List, [], ◌∷◌, ◌++◌, length, Bool, true, false, Option, Some, None, Result, Ok, Err}
+use Rattle.ymx_machine.specs.shared.Evidence.{evidence}
 use Rattle.ymx_machine.specs.declared.types.CallFault.{CallFault}
 use Rattle.ymx_model.specs.session.Events.{Event}
 use Rattle.ymx_model.specs.declared.types.Event.TheVariants as event
@@ -97,20 +98,20 @@ One seat event told added = (position : ℕ) × (added ≡ entry position seat e
 abbrev pub Asks : {A : Type 0} → Event → (Result A CallFault → Reply) → ℕ → Result A HubFault → List Entry → Type 0
 Asks event told seat (Ok x) added = One seat event (told (Ok x)) added
 Asks event told seat (Err fault) added =
-    ((fault ≡ Memory tt) × (added ≡ []))
+    ((fault ≡ Memory evidence) × (added ≡ []))
     ⊎ ((why : CallFault) × (fault ≡ hub_fault_of why) × One seat event (told (Err why)) added)
 
 -- one entry, whose reply is the answer; or there was no memory for it
 abbrev pub Does : {A : Type 0} → Event → (A → Reply) → ℕ → Result A HubFault → List Entry → Type 0
 Does event told seat (Ok x) added = One seat event (told x) added
-Does event told seat (Err fault) added = (fault ≡ Memory tt) × (added ≡ [])
+Does event told seat (Err fault) added = (fault ≡ Memory evidence) × (added ≡ [])
 
 -- ---- streams that are handed out
 
 -- the event was not done, for want of memory or of seats, or it was refused
 abbrev pub IsRefused : Event → ℕ → HubFault → List Entry → Type 0
 IsRefused event seat fault added =
-    (((fault ≡ Memory tt) ⊎ (fault ≡ Seats)) × (added ≡ []))
+    (((fault ≡ Memory evidence) ⊎ (fault ≡ Seats)) × (added ≡ []))
     ⊎ ((why : CallFault) × (fault ≡ hub_fault_of why) × One seat event (reply.Refused why) added)
 
 -- A seat starts after this entry: its own have later positions; and the history that it has seen, where there is a journal,
@@ -159,7 +160,7 @@ SpendsWith event id seat told added =
 abbrev pub Spends : Event → ℕ → ℕ → Result (Unit {0}) HubFault → List Entry → Type 0
 Spends event id seat (Ok u) added = SpendsWith event id seat reply.Done added
 Spends event id seat (Err fault) added =
-    ((fault ≡ Memory tt) × (added ≡ []))
+    ((fault ≡ Memory evidence) × (added ≡ []))
     ⊎ ((why : CallFault) × (fault ≡ hub_fault_of why) × SpendsWith event id seat (reply.Refused why) added)
 
 -- nothing, or the stream was given up, which gives the answer

@@ -1,5 +1,6 @@
 -- What a call does to what is under the lock (this project's own).
 use Rattle.std.specs.Prelude.{◌≡◌, ℕ, ◌+◌, ◌^◌, ◌≤◌, ◌⊎◌, List, [], ◌++◌, length, Bool, true, false, Option, Some, None, Result, Ok, Err}
+use Rattle.ymx_machine.specs.shared.Evidence.{evidence}
 use Rattle.ymx_machine.specs.declared.types.CallFault.{CallFault}
 use Rattle.ymx_model.specs.session.Events.{Event}
 use Rattle.ymx_machine.specs.shared.Events.{Reply}
@@ -33,7 +34,7 @@ pub record Steps (keeps : Bool) (seat : ℕ) (event : Event) (told : Reply) (old
 
 -- there was no memory for the entry, which only a recorder that keeps it needs, and nothing was done
 abbrev pub LacksEntry : (keeps : Bool) → HubFault → (old new : BookedView) → Type 0
-LacksEntry keeps fault old new = (keeps ≡ true) × (fault ≡ Memory tt) × (new ≡ old)
+LacksEntry keeps fault old new = (keeps ≡ true) × (fault ≡ Memory evidence) × (new ≡ old)
 
 -- one event, whose reply is the answer, also where that is a refusal; or no memory for its entry
 abbrev pub StepsAsked : {A : Type 0} (keeps : Bool) → Event → (Result A CallFault → Reply) → (seat : ℕ) → Result A HubFault → (old new : BookedView) → Type 0
@@ -70,7 +71,7 @@ pub record HandsOut (keeps : Bool) (seat : ℕ) (event : Event) (told : Reply) (
 -- no memory, or no two seats left, and nothing was done; or the session refused it
 abbrev pub HandsNone : (keeps : Bool) (seat : ℕ) → Event → HubFault → (old new : BookedView) → Type 0
 HandsNone keeps seat event fault old new =
-    (((fault ≡ Memory tt) ⊎ ((fault ≡ Seats) × (2 ^ 32 ≤ old.given + 2))) × (new ≡ old))
+    (((fault ≡ Memory evidence) ⊎ ((fault ≡ Seats) × (2 ^ 32 ≤ old.given + 2))) × (new ≡ old))
     ⊎ ((why : CallFault) × (fault ≡ hub_fault_of why) × Steps keeps seat event (reply.Refused why) old new)
 
 -- the stream that was opened
@@ -100,7 +101,7 @@ GivesUp false keeps seat id old new = new ≡ old
 -- given up, exactly if its other half was spent before; or there was no memory for the entries, and neither is done.
 abbrev pub StepsSpent : Event → (keeps : Bool) (seat id : ℕ) → Result (Unit {0}) HubFault → (old new : BookedView) → Type 0
 StepsSpent event keeps seat id result old new =
-    ((keeps ≡ true) × (result ≡ Err (Memory tt)) × (new ≡ spent id old))
+    ((keeps ≡ true) × (result ≡ Err (Memory evidence)) × (new ≡ spent id old))
     ⊎ ((given : Result (Unit {0}) CallFault) × (mid : BookedView) × (result ≡ hub_answer given)
     × Steps keeps seat event (done_or given) (spent id old) mid × GivesUp (is_half_spent id old) keeps seat id mid new)
 

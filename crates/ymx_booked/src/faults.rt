@@ -2,6 +2,7 @@
 
 ghost use Rattle.std.specs.Prelude.{◌≡◌};
 ghost use Rattle.ymx_booked.specs.Answers.{hub_answer, hub_fault_of};
+ghost use Rattle.ymx_machine.specs.shared.Evidence.{evidence};
 
 use thiserror::Error;
 use ymx_memory::RefusedAllocation;
@@ -26,7 +27,7 @@ impl From<RefusedAllocation> for HubFault {
     ghost use Rattle.std.specs.Prelude.{◌≡◌};
     ghost use Rattle.ymx_booked.specs.declared.faults.HubFault.TheVariants.{Memory};
 
-    ghost from_gives = { λ _ fault. fault ≡ Memory tt };
+    ghost from_gives = { λ _ fault. fault ≡ Memory evidence };
 
     fn from(refused: RefusedAllocation) -> HubFault {
         HubFault::Memory(refused)

@@ -3,6 +3,7 @@
 //! as they do.
 
 ghost use Rattle.std.specs.Prelude.{◌≡◌, ◌∷◌, [], false, IfOk, IfErr};
+ghost use Rattle.ymx_machine.specs.shared.Evidence.{evidence};
 ghost use Rattle.ymx_machine.specs.declared.types.Fed.{Fed};
 ghost use Rattle.ymx_machine.specs.declared.types.Reply.TheVariants as reply;
 ghost use Rattle.ymx_model.specs.declared.types.Event.TheVariants as event;
@@ -44,7 +45,7 @@ pub fn feed_alone(
     ensures of { IfOk result (λ _. (booked.new.role ≡ booked.old.role) × (booked.new.config ≡ booked.old.config)) }
     ensures entries { IfOk result (λ _. (fed : Fed) ×
         (booked.new.entries ≡ entry 0 0 (event.Feed bytes.now) (reply.Fed fed) ∷ entry 1 0 event.FeedEnd reply.Done ∷ [])) }
-    ensures fault { IfErr result (λ fault. fault ≡ hub.Memory tt) }
+    ensures fault { IfErr result (λ fault. fault ≡ hub.Memory evidence) }
 {
     match booked.feed(seat, bytes, touched) {
         Ok(_) => {}

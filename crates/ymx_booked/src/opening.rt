@@ -6,6 +6,7 @@ ghost use Rattle.ymx_booked.specs.Books.{Books, Opens, OpensWith, AcceptsOnce};
 ghost use Rattle.ymx_seats.specs.Views.{HasNumbered, IsWitnessed, whole_of, with_caller};
 ghost use Rattle.ymx_booked.specs.Gained.{GainedAlike};
 ghost use Rattle.ymx_booked.specs.Steps.{IsNext, StepsOpened, StepsOpenedWith, StepsAccepted};
+ghost use Rattle.ymx_machine.specs.shared.Evidence.{evidence};
 
 use crate::booked::Booked;
 use crate::faults::{HubFault, hub_fault};
@@ -155,7 +156,7 @@ fn make_room(given: u32, unspent: usize, half_spent: &mut IndexSet<u32>) -> Resu
     ensures keys { IsUnchanged half_spent.old half_spent.new }
     ensures keeps { spare half_spent.old ≤ spare half_spent.new }
     ensures room { OnOk result ((given + 2 < 2 ^ 32) × (unspent + 1 ≤ spare half_spent.new)) }
-    ensures refused { IfErr result (λ fault. (fault ≡ HubFault.Memory tt) ⊎ ((fault ≡ HubFault.Seats) × (2 ^ 32 ≤ given + 2))) }
+    ensures refused { IfErr result (λ fault. (fault ≡ HubFault.Memory evidence) ⊎ ((fault ≡ HubFault.Seats) × (2 ^ 32 ≤ given + 2))) }
 {
     if given > u32::MAX - 2 {
         return Err(HubFault::Seats);

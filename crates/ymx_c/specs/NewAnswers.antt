@@ -6,6 +6,7 @@ use Rattle.ymx_session.specs.declared.new_fault.NewFault.{NewFault}
 use Rattle.ymx_session.specs.declared.new_fault.NewFault.TheVariants.{BadWindow, BadFirst, OutOfMemory}
 use Rattle.ymx_session.specs.NewSessions.{new_fault, IsNewFault}
 use Rattle.ymx_c.specs.Answers.{role_of}
+use Rattle.ymx_machine.specs.shared.Evidence.{evidence}
 
 -- why no session was made: -13, -14, or -11 as for any want of memory
 abbrev pub new_refusal : NewFault → ℤ
@@ -37,4 +38,4 @@ IsNoteMade answer at = (answer ≡ pos 0) × IsSomewhere at
 
 -- there was no memory for a note, and NULL was written
 abbrev pub IsNoNote : ℤ → Ptr → Type 0
-IsNoNote answer at = (answer ≡ new_refusal (OutOfMemory tt)) × (at ≡ null_ptr)
+IsNoNote answer at = (answer ≡ new_refusal (OutOfMemory evidence)) × (at ≡ null_ptr)

@@ -4,6 +4,7 @@ use Rattle.std.specs.Io.{StartsWith}
 use Rattle.std.proofs.lemmas.List.{take_all, length-take-le}
 use Rattle.std.proofs.lemmas.Grind.{common_steps}
 use Rattle.std.proofs.Math.Seq.{take-append_seam}
+use Rattle.ymx_machine.specs.shared.Evidence.{evidence}
 use Rattle.ymx_machine.specs.declared.types.CallFault.{CallFault}
 use Rattle.ymx_machine.specs.declared.types.Wrote.TheVariants.{Took}
 use Rattle.ymx_machine.specs.shared.Events.{Reply}
@@ -89,8 +90,8 @@ reads_stop keeps old mid new id now size fault bytes buffer same g h =
     (subst (λ (k : ℕ). Books keeps mid new (ReadTurns k size buffer mid.number (Err fault))) same h)
 
 -- the bytes that were read found no memory
-pub reads_lack : (keeps : Bool) (old new : SeatView) (id : ℕ) (bytes : List ℕ) → Books keeps old new (ReadsOn id old.number bytes) → Books keeps old new (ReadsUntil (Memory tt) id old.number bytes)
-reads_lack keeps old new id bytes g = books_weaker keeps old new (ReadsOn id old.number bytes) (ReadsUntil (Memory tt) id old.number bytes) (λ es r. inl (refl, r)) g
+pub reads_lack : (keeps : Bool) (old new : SeatView) (id : ℕ) (bytes : List ℕ) → Books keeps old new (ReadsOn id old.number bytes) → Books keeps old new (ReadsUntil (Memory evidence) id old.number bytes)
+reads_lack keeps old new id bytes g = books_weaker keeps old new (ReadsOn id old.number bytes) (ReadsUntil (Memory evidence) id old.number bytes) (λ es r. inl (refl, r)) g
 
 -- ---- writes
 

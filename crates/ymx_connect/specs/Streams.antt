@@ -1,6 +1,7 @@
 -- What `read_all` and `copy` add to the lists of their seats (this project's own).
 use Rattle.std.specs.Prelude.{◌≡◌, ℕ, ◌-◌, ◌^◌, ◌⊎◌, min, List, [], ◌∷◌, ◌++◌, length, Bool, Result, Ok, Err}
 use Rattle.std.specs.Io.{StartsWith}
+use Rattle.ymx_machine.specs.shared.Evidence.{evidence}
 use Rattle.ymx_machine.specs.declared.types.CallFault.{CallFault}
 use Rattle.ymx_machine.specs.shared.Events.{Reply}
 use Rattle.ymx_machine.specs.declared.types.Reply.TheVariants as reply
@@ -37,7 +38,7 @@ ReadsUpTo told id seat bytes added =
 -- these, up to this fault: a refusal, or want of memory and no refusal
 abbrev pub ReadsUntil : HubFault → (id seat : ℕ) → List ℕ → List Entry → Type 0
 ReadsUntil fault id seat bytes added =
-    ((fault ≡ Memory tt) × ReadsOn id seat bytes added)
+    ((fault ≡ Memory evidence) × ReadsOn id seat bytes added)
     ⊎ ((why : CallFault) × (fault ≡ hub_fault_of why) × ReadsUpTo (reply.Refused why) id seat bytes added)
 
 -- ---- writes
@@ -58,7 +59,7 @@ WritesOn id seat bytes added = WritesOf id seat bytes added × IsUnrefused added
 -- these, up to this fault: a refusal, or want of memory and no refusal
 abbrev pub WritesUntil : HubFault → (id seat : ℕ) → List ℕ → List Entry → Type 0
 WritesUntil fault id seat bytes added =
-    ((fault ≡ Memory tt) × WritesOn id seat bytes added)
+    ((fault ≡ Memory evidence) × WritesOn id seat bytes added)
     ⊎ ((why : CallFault) × (fault ≡ hub_fault_of why) × WritesOf id seat bytes added × EndsIn (λ told. told ≡ reply.Refused why) added)
 
 -- ---- a copy

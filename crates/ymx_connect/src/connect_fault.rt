@@ -1,5 +1,7 @@
 //! Why no session runs.
 
+ghost use Rattle.ymx_machine.specs.shared.Evidence.{evidence};
+
 use thiserror::Error;
 use ymx_memory::RefusedAllocation;
 use ymx_session::NewFault;
@@ -25,7 +27,7 @@ impl From<RefusedAllocation> for ConnectFault {
     ghost use Rattle.std.specs.Prelude.{◌≡◌};
     ghost use Rattle.ymx_connect.specs.declared.connect_fault.ConnectFault.TheVariants.{Memory};
 
-    ghost from_gives = { λ _ fault. fault ≡ Memory tt };
+    ghost from_gives = { λ _ fault. fault ≡ Memory evidence };
 
     fn from(refused: RefusedAllocation) -> ConnectFault {
         ConnectFault::Memory(refused)

@@ -2,6 +2,7 @@
 use Rattle.std.proofs.Common.{◌≡◌, ◌≢◌, ◌⊎◌, inl, inr, ℕ, ◌<◌, ◌≤◌, ◌==◌, List, [], ◌∷◌, ◌++◌, length, take, drop, true, false, not, Option, None, Some, if◌then◌else◌, refl, sym, ap, ◌∙◌, subst, arith}
 use Rattle.std.proofs.lemmas.Bool.Decides.{nat_tests}
 use Rattle.std.proofs.lemmas.List.{take_all, drop_all}
+use Rattle.ymx_machine.specs.shared.Evidence.{evidence}
 use Rattle.ymx_machine.proofs.Tests.{when, agrees}
 use Rattle.ymx_machine.specs.declared.types.Side.TheVariants.{A, B}
 use Rattle.ymx_machine.specs.declared.types.Step.TheVariants as step
@@ -68,7 +69,7 @@ abbrev pub opened_numbers : (window_a window_b : ℕ) → Numbers
 opened_numbers window_a window_b = record { mine = window_a; next = 3; yours = window_b; your_next = 2 }
 
 pub open-step : (window_a window_b : ℕ) (given : Answer) (n : Machine) → MachineStep (step.At A call.Open) given (new_machine window_a 1 window_b 2) n →
-    ((given ≡ answer.Opened 1) × IsAt (opened_numbers window_a window_b) 1 (IsWritable first_credit []) n) ⊎ (given ≡ answer.Refused (OutOfMemory tt))
+    ((given ≡ answer.Opened 1) × IsAt (opened_numbers window_a window_b) 1 (IsWritable first_credit []) n) ⊎ (given ≡ answer.Refused (OutOfMemory evidence))
 open-step window_a window_b given n h = elim h.4 [
   | inl made ↦ inl (
     h.3 ∙ ap answer_of made.0,
@@ -103,7 +104,7 @@ written-stage bytes s offered h = record {
 
 pub write-step : (k : Numbers) (id : ℕ) (bytes : List ℕ) (s : Stream) (offered : List ℕ) (given : Answer) (n : Machine) → IsWritable (length bytes) [] s offered →
     MachineStep (step.At A (call.Write id bytes)) given (alone k id s offered) n →
-    ((given ≡ answer.Wrote (Took (length bytes))) × IsAt k id (IsWritable 0 bytes) n) ⊎ (given ≡ answer.Refused (OutOfMemory tt))
+    ((given ≡ answer.Wrote (Took (length bytes))) × IsAt k id (IsWritable 0 bytes) n) ⊎ (given ≡ answer.Refused (OutOfMemory evidence))
 write-step k id bytes s offered given n w h =
     let on = on-one id (Writes bytes) s (alone k id s offered) h.0 h.1 h.4 in
     elim on.1 [

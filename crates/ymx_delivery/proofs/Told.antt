@@ -1,6 +1,7 @@
 -- What the answers of the calls leave of each arm.
 use Rattle.std.proofs.Common.{◌≡◌, ◌≢◌, ◌⊎◌, inl, inr, ℕ, ◌+◌, ◌<◌, ◌≤◌, Fits, w64, List, [], Option, None, Some, true, refl, sym, ◌∙◌, subst, arith}
 use Rattle.std.specs.Option.{is_some}
+use Rattle.ymx_machine.specs.shared.Evidence.{evidence}
 use Rattle.ymx_machine.specs.declared.types.CallFault.{CallFault}
 use Rattle.ymx_machine.specs.declared.types.CallFault.TheVariants.{OutOfMemory}
 use Rattle.ymx_machine.specs.declared.types.Wrote.{Wrote}
@@ -13,27 +14,27 @@ use Rattle.ymx_delivery.specs.Stages.{Stands, IsWritable, IsSettled, IsReadable,
 
 -- ---- open
 
-pub opened-fault : (given : Answer) (fault : CallFault) (P : Type 0) → given ≡ answer.Refused fault → ((given ≡ answer.Opened 1) × P) ⊎ (given ≡ answer.Refused (OutOfMemory tt)) → fault ≡ OutOfMemory tt
+pub opened-fault : (given : Answer) (fault : CallFault) (P : Type 0) → given ≡ answer.Refused fault → ((given ≡ answer.Opened 1) × P) ⊎ (given ≡ answer.Refused (OutOfMemory evidence)) → fault ≡ OutOfMemory evidence
 opened-fault given fault P e (inl h) = let k : answer.Opened 1 ≡ answer.Refused fault = sym h.0 ∙ e in absurd cc
-opened-fault given fault P e (inr h) = let k : answer.Refused fault ≡ answer.Refused (OutOfMemory tt) = sym e ∙ h in cc
+opened-fault given fault P e (inr h) = let k : answer.Refused fault ≡ answer.Refused (OutOfMemory evidence) = sym e ∙ h in cc
 
-pub opened-stands : (given : Answer) (id : ℕ) (v : World) → given ≡ answer.Opened id → ((given ≡ answer.Opened 1) × Stands 1 (IsWritable first_credit []) v) ⊎ (given ≡ answer.Refused (OutOfMemory tt)) →
+pub opened-stands : (given : Answer) (id : ℕ) (v : World) → given ≡ answer.Opened id → ((given ≡ answer.Opened 1) × Stands 1 (IsWritable first_credit []) v) ⊎ (given ≡ answer.Refused (OutOfMemory evidence)) →
     Stands id (IsWritable first_credit []) v
 opened-stands given id v e (inl h) =
     let k : answer.Opened 1 ≡ answer.Opened id = sym h.0 ∙ e in
     let same : 1 ≡ id = cc in subst (λ (i : ℕ). Stands i (IsWritable first_credit []) v) same h.1
-opened-stands given id v e (inr h) = let k : answer.Opened id ≡ answer.Refused (OutOfMemory tt) = sym e ∙ h in absurd cc
+opened-stands given id v e (inr h) = let k : answer.Opened id ≡ answer.Refused (OutOfMemory evidence) = sym e ∙ h in absurd cc
 
 -- ---- write
 
-pub wrote-fault : (given : Answer) (fault : CallFault) (count : ℕ) (P : Type 0) → given ≡ answer.Refused fault → ((given ≡ answer.Wrote (Took count)) × P) ⊎ (given ≡ answer.Refused (OutOfMemory tt)) →
-    fault ≡ OutOfMemory tt
+pub wrote-fault : (given : Answer) (fault : CallFault) (count : ℕ) (P : Type 0) → given ≡ answer.Refused fault → ((given ≡ answer.Wrote (Took count)) × P) ⊎ (given ≡ answer.Refused (OutOfMemory evidence)) →
+    fault ≡ OutOfMemory evidence
 wrote-fault given fault count P e (inl h) = let k : answer.Wrote (Took count) ≡ answer.Refused fault = sym h.0 ∙ e in absurd cc
-wrote-fault given fault count P e (inr h) = let k : answer.Refused fault ≡ answer.Refused (OutOfMemory tt) = sym e ∙ h in cc
+wrote-fault given fault count P e (inr h) = let k : answer.Refused fault ≡ answer.Refused (OutOfMemory evidence) = sym e ∙ h in cc
 
-pub wrote-stands : (given : Answer) (wrote : Wrote) (count : ℕ) (P : Type 0) → given ≡ answer.Wrote wrote → ((given ≡ answer.Wrote (Took count)) × P) ⊎ (given ≡ answer.Refused (OutOfMemory tt)) → P
+pub wrote-stands : (given : Answer) (wrote : Wrote) (count : ℕ) (P : Type 0) → given ≡ answer.Wrote wrote → ((given ≡ answer.Wrote (Took count)) × P) ⊎ (given ≡ answer.Refused (OutOfMemory evidence)) → P
 wrote-stands given wrote count P e (inl h) = h.1
-wrote-stands given wrote count P e (inr h) = let k : answer.Wrote wrote ≡ answer.Refused (OutOfMemory tt) = sym e ∙ h in absurd cc
+wrote-stands given wrote count P e (inr h) = let k : answer.Wrote wrote ≡ answer.Refused (OutOfMemory evidence) = sym e ∙ h in absurd cc
 
 -- ---- accept
 

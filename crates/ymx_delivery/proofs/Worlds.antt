@@ -1,5 +1,6 @@
 -- From stage to stage: what the world answers, and where it stands then.
 use Rattle.std.proofs.Common.{◌≡◌, ◌≢◌, ◌⊎◌, inl, inr, ℕ, ◌+◌, ◌<◌, ◌≤◌, List, [], length, min, true, false, None, Some, refl, sym, ap, subst, arith}
+use Rattle.ymx_machine.specs.shared.Evidence.{evidence}
 use Rattle.ymx_machine.specs.declared.types.Side.{Side}
 use Rattle.ymx_machine.specs.declared.types.Side.TheVariants.{A, B}
 use Rattle.ymx_machine.specs.declared.types.Step.{Step}
@@ -72,7 +73,7 @@ Followed st given w v = (m : Machine) → Agrees w m → Follows st given v m
 -- ---- the calls
 
 pub opens : (given : Answer) (w v : World) → IsNewWorld w → Steps in_turn (step.At A call.Open) given w v → Followed (step.At A call.Open) given w v →
-    ((given ≡ answer.Opened 1) × Stands 1 (IsWritable first_credit []) v) ⊎ (given ≡ answer.Refused (OutOfMemory tt))
+    ((given ≡ answer.Opened 1) × Stands 1 (IsWritable first_credit []) v) ⊎ (given ≡ answer.Refused (OutOfMemory evidence))
 opens given w v h st follows =
     let f = follows (new_machine h.window_a 1 h.window_b 2) h.agrees in
     elim (open-step h.window_a h.window_b given f.0 f.1) [
@@ -82,7 +83,7 @@ opens given w v h st follows =
 
 pub writes : (id : ℕ) (bytes : List ℕ) (given : Answer) (w v : World) → Stands id (IsWritable (length bytes) []) w → Steps in_turn (step.At A (call.Write id bytes)) given w v →
     Followed (step.At A (call.Write id bytes)) given w v →
-    ((given ≡ answer.Wrote (Took (length bytes))) × Stands id (IsWritable 0 bytes) v) ⊎ (given ≡ answer.Refused (OutOfMemory tt))
+    ((given ≡ answer.Wrote (Took (length bytes))) × Stands id (IsWritable 0 bytes) v) ⊎ (given ≡ answer.Refused (OutOfMemory evidence))
 writes id bytes given w v h st follows =
     let f = follows (alone h.numbers id h.stream h.offered) h.agrees in
     elim (write-step h.numbers id bytes h.stream h.offered given f.0 h.stage f.1) [
@@ -153,7 +154,7 @@ new-stands window_a window_b w is a = record {
 -- what was written is a copy
 pub writes-copy : (id : ℕ) (copy bytes : List ℕ) (given : Answer) (w v : World) → copy ≡ bytes → Stands id (IsWritable (length bytes) []) w → Steps in_turn (step.At A (call.Write id copy)) given w v →
     Followed (step.At A (call.Write id copy)) given w v →
-    ((given ≡ answer.Wrote (Took (length bytes))) × Stands id (IsWritable 0 bytes) v) ⊎ (given ≡ answer.Refused (OutOfMemory tt))
+    ((given ≡ answer.Wrote (Took (length bytes))) × Stands id (IsWritable 0 bytes) v) ⊎ (given ≡ answer.Refused (OutOfMemory evidence))
 writes-copy id copy bytes given w v e h st follows =
-    subst (λ (z : List ℕ). ((given ≡ answer.Wrote (Took (length z))) × Stands id (IsWritable 0 z) v) ⊎ (given ≡ answer.Refused (OutOfMemory tt))) e
+    subst (λ (z : List ℕ). ((given ≡ answer.Wrote (Took (length z))) × Stands id (IsWritable 0 z) v) ⊎ (given ≡ answer.Refused (OutOfMemory evidence))) e
     (writes id copy given w v (subst (λ (z : List ℕ). Stands id (IsWritable (length z) []) w) (sym e) h) st follows)

@@ -1,6 +1,7 @@
 //! The call `deliver`.
 
 ghost use Rattle.std.specs.Prelude.{◌≡◌, ◌<◌, ◌≤◌, ℕ, List, length, IfOk, IfErr};
+ghost use Rattle.ymx_machine.specs.shared.Evidence.{evidence};
 ghost use Rattle.ymx_machine.specs.shared.Limits.{first_credit};
 ghost use Rattle.ymx_session.specs.declared.new_fault.NewFault.TheVariants.{OutOfMemory};
 ghost use Rattle.ymx_delivery.specs.Stages.{IsNewWorld, Stands, IsComing, IsSettled, IsReadable};
@@ -27,7 +28,7 @@ const WINDOW: u32 = 262_144;
 pub fn deliver(alloc: Global, text: &[u8]) -> Result<Vec<u8>, DeliveryFault>
     ensures bytes { IfOk result (λ bytes. bytes.items ≡ text.now) }
     ensures too_long { first_credit < length text.now → result ≡ Err TooLong }
-    ensures memory { length text.now ≤ first_credit → IfErr result (λ fault. fault ≡ Memory tt) }
+    ensures memory { length text.now ≤ first_credit → IfErr result (λ fault. fault ≡ Memory evidence) }
 {
     if text.len() > WINDOW as usize {
         return Err(DeliveryFault::TooLong);
@@ -54,7 +55,7 @@ fn begin(alloc: Global) -> Result<World, RefusedAllocation>
 
 /// What a world that wasn't made answers here: its want of memory. There is no other fault.
 fn not_made(fault: NewFault) -> RefusedAllocation
-    requires { fault ≡ OutOfMemory tt }
+    requires { fault ≡ OutOfMemory evidence }
 {
     match fault {
         NewFault::OutOfMemory(refused) => refused,

@@ -2,6 +2,7 @@
 //! memory; each other answer is proved to be impossible.
 
 ghost use Rattle.std.specs.Prelude.{◌≡◌, ◌<◌, ◌≤◌, ℕ, List, [], length, IfOk};
+ghost use Rattle.ymx_machine.specs.shared.Evidence.{evidence};
 ghost use Rattle.ymx_machine.specs.declared.types.CallFault.TheVariants.{OutOfMemory};
 ghost use Rattle.ymx_machine.specs.shared.Limits.{first_credit};
 ghost use Rattle.ymx_headline.specs.Laws.{IsOpenWorld};
@@ -14,7 +15,7 @@ use ymx_world::World;
 
 /// What a call that was refused answers here: its want of memory. There is no other refusal.
 fn call_refused(fault: CallFault) -> RefusedAllocation
-    requires { fault ≡ OutOfMemory tt }
+    requires { fault ≡ OutOfMemory evidence }
 {
     match fault {
         CallFault::OutOfMemory(refused) => refused,

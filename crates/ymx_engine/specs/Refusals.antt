@@ -1,6 +1,7 @@
 -- What happens where a connection gets no stream, or its stream is given up (this project's own).
 use Rattle.std.specs.Prelude.{ℕ, ◌≡◌, ◌⊎◌, None, Some}
 use Rattle.ymx_model.specs.declared.types.Event.TheVariants as event
+use Rattle.ymx_machine.specs.shared.Evidence.{evidence}
 use Rattle.ymx_machine.specs.declared.types.Call.TheVariants as call
 use Rattle.ymx_machine.specs.declared.types.CallFault.{CallFault}
 use Rattle.ymx_machine.specs.declared.types.CallFault.TheVariants.{OutOfMemory}
@@ -27,7 +28,7 @@ OpensInVain s t = (id : ℕ) × (made : Session) × Gives in_turn s (event.Call 
 abbrev pub OpensNone : CallFault → Session → Session → Type 0
 OpensNone fault s t =
     (Gives in_turn s (event.Call call.Open) (reply.Refused fault) t × (t ≡ s))
-    ⊎ ((fault ≡ OutOfMemory tt) × OpensInVain s t)
+    ⊎ ((fault ≡ OutOfMemory evidence) × OpensInVain s t)
 
 -- the session had no stream to offer, or refused, and is as it was
 abbrev pub OffersNone : Session → Session → Type 0

@@ -1,6 +1,7 @@
 -- What a turn of a write pump adds to the list of its seat (this project's own).
 use Rattle.std.specs.Prelude.{◌≡◌, ℕ, List, [], take, Result, Ok, Err}
 use Rattle.ymx_model.specs.declared.types.Event.TheVariants as event
+use Rattle.ymx_machine.specs.shared.Evidence.{evidence}
 use Rattle.ymx_machine.specs.declared.types.Reply.TheVariants as reply
 use Rattle.ymx_model.specs.declared.types.Entry.{Entry}
 use Rattle.ymx_booked.specs.declared.faults.HubFault.{HubFault}
@@ -20,4 +21,4 @@ abbrev pub EmitsOnce : (size : ℕ) → (buffer : List ℕ) → ℕ → Result T
 EmitsOnce size buffer seat (Ok (Emitted n)) added = One seat (event.Emit size) (reply.Emitted (take n buffer)) added
 EmitsOnce size buffer seat (Ok Idle) added = added ≡ []
 EmitsOnce size buffer seat (Ok Over) added = added ≡ []
-EmitsOnce size buffer seat (Err fault) added = (fault ≡ Memory tt) × (added ≡ [])
+EmitsOnce size buffer seat (Err fault) added = (fault ≡ Memory evidence) × (added ≡ [])

@@ -1,5 +1,6 @@
 -- What a call of a hub that waits adds to the list of its seat (this project's own).
 use Rattle.std.specs.Prelude.{◌≡◌, ◌<◌, ℕ, ◌+◌, ◌⊎◌, List, [], ◌∷◌, ◌++◌, length, take, drop, true, false, Option, Some, None, Result, Ok, Err}
+use Rattle.ymx_machine.specs.shared.Evidence.{evidence}
 use Rattle.ymx_machine.specs.declared.types.CallFault.{CallFault}
 use Rattle.ymx_machine.specs.declared.types.CallFault.TheVariants.{Lost, Closed}
 use Rattle.ymx_machine.specs.declared.types.Wrote.{Wrote}
@@ -48,7 +49,7 @@ abbrev pub ReadsLast : (id size : ℕ) → (buffer : List ℕ) → ℕ → Resul
 ReadsLast id size buffer seat (Ok n) last =
     ((0 < n) × One seat (to_read id size) (reply.Read (take n buffer)) last) ⊎ ((n ≡ 0) × One seat (to_read id size) reply.ReadEnd last)
 ReadsLast id size buffer seat (Err fault) last =
-    ((fault ≡ Memory tt) × (last ≡ []))
+    ((fault ≡ Memory evidence) × (last ≡ []))
     ⊎ ((why : CallFault) × (fault ≡ hub_fault_of why) × One seat (to_read id size) (reply.Refused why) last)
 
 abbrev pub ReadTurns : (id size : ℕ) → (buffer : List ℕ) → ℕ → Result ℕ HubFault → List Entry → Type 0
@@ -60,7 +61,7 @@ ReadTurns id size buffer seat result added = Turns seat (to_read id size) reply.
 abbrev pub PongsLast : (number : ℕ) → ℕ → Result ℕ HubFault → List Entry → Type 0
 PongsLast number seat (Ok n) last = (n ≡ number) × One seat (to_collect number) (reply.Ponged true) last
 PongsLast number seat (Err fault) last =
-    ((fault ≡ Memory tt) × (last ≡ []))
+    ((fault ≡ Memory evidence) × (last ≡ []))
     ⊎ ((why : CallFault) × (fault ≡ hub_fault_of why) × One seat (to_collect number) (reply.Refused why) last)
 
 -- a ping of this number, then the waits for its answer
@@ -116,7 +117,7 @@ abbrev pub WriteEnds : (bytes : List ℕ) → Result (Unit {0}) WriteFault → L
 WriteEnds bytes (Ok u) added = (total added ≡ length bytes) × EndsIn HasTaken added
 WriteEnds bytes (Err stop) added =
     (total added ≡ stop.taken)
-    × (((stop.fault ≡ Memory tt) × IsUnrefused added)
+    × (((stop.fault ≡ Memory evidence) × IsUnrefused added)
     ⊎ ((why : CallFault) × (stop.fault ≡ hub_fault_of why) × EndsIn (λ told. told ≡ reply.Refused why) added))
 
 -- writes of what was left, and how they ended

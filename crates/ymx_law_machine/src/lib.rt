@@ -2,6 +2,7 @@
 #![tactic(auto)]
 
 ghost use Rattle.std.specs.Prelude.{◌%◌, ◌≡◌, ◌≢◌, ◌⊎◌, ◌≤◌, ℕ, List, None, Some, true};
+ghost use Rattle.ymx_machine.specs.shared.Evidence.{evidence};
 ghost use Rattle.ymx_machine.specs.declared.types.Answer.{Answer};
 ghost use Rattle.ymx_machine.specs.shared.Events.{Call};
 ghost use Rattle.ymx_machine.specs.declared.types.CallFault.TheVariants.{OutOfMemory};
@@ -66,8 +67,8 @@ pub fn others_keep()
 /// memory be answered in its place.
 pub fn one_answer()
     ensures { (c : Call) (m n k : Machine) (r other : Reply) → Rule c m r n → Rule c m other k →
-        r ≢ Refused (OutOfMemory tt) →
-        (other ≡ r) ⊎ ((other ≡ Refused (OutOfMemory tt)) × (needs_memory r ≡ true)) }
+        r ≢ Refused (OutOfMemory evidence) →
+        (other ≡ r) ⊎ ((other ≡ Refused (OutOfMemory evidence)) × (needs_memory r ≡ true)) }
 {}
 
 /// Worked examples: these steps may have these answers. How many bytes an emission gives and a delivery

@@ -3,6 +3,7 @@ use Rattle.std.proofs.Common.{◌≡◌, ◌≢◌, inl, inr, ℕ, ◌+◌, List
 use Rattle.std.specs.Prelude.{is_some}
 use Rattle.std.proofs.lemmas.Grind.{common_steps}
 use Rattle.std.proofs.lemmas.Bool.Decides.{nat_tests}
+use Rattle.ymx_machine.specs.shared.Evidence.{evidence}
 use Rattle.ymx_machine.specs.shared.Events.{Reply}
 use Rattle.ymx_machine.specs.declared.types.Reply.TheVariants.{Refused}
 use Rattle.ymx_machine.specs.declared.types.CallFault.TheVariants.{OutOfMemory}
@@ -177,7 +178,7 @@ outcome-follows Forgets id e s l c w =
 
 -- and one that doesn't: only a write wants any
 starves : (c : StreamCall) (id : ℕ) (e : End) (s : Session) → look id s.table.entries ≡ Some e → is_closed s.status ≡ false → takes_memory (call_on c id) s ≡ true →
-    EndRule (is_lost s.status) c e (Refused (OutOfMemory tt)) e
+    EndRule (is_lost s.status) c e (Refused (OutOfMemory evidence)) e
 starves (Writes bytes) id e s l c m =
     let some = (both_of (nat_lt first_credit (unsent_count (look id s.table.entries) + bytes_moved (write_to id bytes s).reply)) (not (bytes_moved (write_to id bytes s).reply == 0)) m).1 in
     let same : (write_to id bytes s).reply ≡ write_reply (is_lost s.status) bytes e.phase e.writer.finished e.writer.credit = ap (λ o. o.reply) (with-is id (write_outcome id bytes s) e s l c) in

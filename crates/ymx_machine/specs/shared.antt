@@ -2,6 +2,7 @@
 -- call on a stream, lists by number, steps and answers. A mistake here would stand in both, so no
 -- comparison of the two can show it: the worked examples do.
 pub mod Events
+pub mod Evidence
 pub mod Limits
 pub mod Lists
 pub mod Phases

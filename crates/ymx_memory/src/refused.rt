@@ -1,6 +1,6 @@
 //! The evidence that an allocation was refused, and a count of such.
 
-ghost use Rattle.std.specs.Prelude.{◌≡◌, ◌<◌, ◌+◌, min, ⊤, IfSome, IfNone};
+ghost use Rattle.std.specs.Prelude.{◌≡◌, ◌<◌, ◌+◌, min, IfSome, IfNone};
 
 use std::alloc::AllocError;
 use std::fmt;
@@ -10,18 +10,10 @@ use std::marker::Model;
 /// counted. It takes no bytes.
 ///
 /// Only this crate makes one, where it answers for a refused allocation, or where a count of such isn't 0. A contract
-/// sees nothing of it: that it is there says all.
+/// sees nothing in it: that it is there says all.
 #[derive(Clone, Copy, PartialEq, Eq)]
 pub struct RefusedAllocation {
     seal: (),
-}
-
-impl Model for RefusedAllocation {
-    ghost Value = { ⊤ };
-
-    ghost view = { λ _. tt };
-
-    ghost inverse = { λ _. record { seal = tt } };
 }
 
 impl RefusedAllocation {

@@ -5,6 +5,7 @@ use Rattle.std.proofs.lemmas.Slice.Eq.{bytes_eq-Decides}
 use Rattle.std.proofs.lemmas.Bool.{and_parts, and_from, false_from_ne_true}
 use Rattle.ymx_header.specs.declared.fault.Fault.{Fault}
 use Rattle.ymx_header.specs.declared.fault.Fault.TheVariants as fault
+use Rattle.ymx_machine.specs.shared.Evidence.{evidence}
 use Rattle.ymx_machine.specs.declared.types.CallFault.{CallFault}
 use Rattle.ymx_machine.specs.declared.types.CallFault.TheVariants as refusal
 use Rattle.ymx_machine.specs.declared.types.Wrote.{Wrote}
@@ -90,7 +91,7 @@ abbrev refusal_from : ℕ → CallFault
 refusal_from n =
     get_or
     (refusal.NoStream ∷ refusal.Finished ∷ refusal.Reset ∷ refusal.Lost ∷ refusal.Closed ∷ refusal.PeerAway
-    ∷ refusal.OpensPending ∷ refusal.TooMany ∷ refusal.Exhausted ∷ refusal.PingsPending ∷ (refusal.OutOfMemory tt) ∷ [])
+    ∷ refusal.OpensPending ∷ refusal.TooMany ∷ refusal.Exhausted ∷ refusal.PingsPending ∷ (refusal.OutOfMemory evidence) ∷ [])
     n refusal.NoStream
 
 refusal_back : (f : CallFault) → refusal_from (number_of_refusal f) ≡ f

@@ -3,6 +3,7 @@ use Rattle.std.proofs.Common.{◌≡◌, ℕ, ◌+◌, ◌<◌, ◌≤◌, ◌^�
 use Rattle.std.specs.Prelude.{Result, Ok, Err, OnErr}
 use Rattle.std.proofs.lemmas.Bool.Decides.{nat_tests}
 use Rattle.ymx_model.specs.declared.types.Role.{Role}
+use Rattle.ymx_machine.specs.shared.Evidence.{evidence}
 use Rattle.ymx_machine.specs.shared.Events.{Call}
 use Rattle.ymx_machine.specs.declared.types.Call.TheVariants as call
 use Rattle.ymx_model.specs.session.Events.{Event}
@@ -41,11 +42,11 @@ new-sound role window first low high own some small = record { within = new-keep
 
 -- ---- a call that may take memory
 
-wants_memory : {A : Type 0} (r : Result A CallFault) → is_out_of_memory r ≡ true → (told : Reply) → ((fault : CallFault) → r ≡ Err fault → told ≡ Refused fault) → told ≡ Refused (OutOfMemory tt)
+wants_memory : {A : Type 0} (r : Result A CallFault) → is_out_of_memory r ≡ true → (told : Reply) → ((fault : CallFault) → r ≡ Err fault → told ≡ Refused fault) → told ≡ Refused (OutOfMemory evidence)
 wants_memory {A} (Ok x) e told f = cc
 wants_memory {A} (Err fault) e told f = of fault e (f fault refl)
   where
-    of : (g : CallFault) → is_out_of_memory {A = A} (Err g) ≡ true → told ≡ Refused g → told ≡ Refused (OutOfMemory tt)
+    of : (g : CallFault) → is_out_of_memory {A = A} (Err g) ≡ true → told ≡ Refused g → told ≡ Refused (OutOfMemory evidence)
     of g e h = grind arith
 
 -- it has its outcome, or it wanted memory that wasn't there

@@ -3,6 +3,7 @@ use Rattle.std.specs.Prelude.{◌≡◌, ℕ, not, ◌||◌, ◌==◌, nat_lt, i
 use Rattle.ymx_model.specs.declared.types.Role.{Role}
 use Rattle.ymx_model.specs.declared.types.Role.TheVariants.{Client, Server}
 use Rattle.ymx_model.specs.declared.types.Config.{Config}
+use Rattle.ymx_machine.specs.shared.Evidence.{evidence}
 use Rattle.ymx_machine.specs.shared.Limits.{first_credit}
 use Rattle.ymx_model.specs.session.Sessions.{is_own}
 use Rattle.ymx_session.specs.declared.new_fault.NewFault.{NewFault}
@@ -27,4 +28,4 @@ new_fault role config =
 
 -- this fault is that one, or else want of memory
 abbrev pub IsNewFault : Role → Config → NewFault → Type 0
-IsNewFault role config fault = MatchOption (new_fault role config) (fault ≡ OutOfMemory tt) (λ (why : NewFault). fault ≡ why)
+IsNewFault role config fault = MatchOption (new_fault role config) (fault ≡ OutOfMemory evidence) (λ (why : NewFault). fault ≡ why)

@@ -1,6 +1,7 @@
 //! Why no session is made.
 
 ghost use Rattle.ymx_session.specs.declared.new_fault.NewFault.TheVariants.{OutOfMemory as OutOfMemoryFault};
+ghost use Rattle.ymx_machine.specs.shared.Evidence.{evidence};
 
 use thiserror::Error;
 use ymx_memory::RefusedAllocation;
@@ -23,7 +24,7 @@ pub enum NewFault {
 impl From<RefusedAllocation> for NewFault {
     ghost use Rattle.std.specs.Prelude.{◌≡◌};
 
-    ghost from_gives = { λ _ fault. fault ≡ OutOfMemoryFault tt };
+    ghost from_gives = { λ _ fault. fault ≡ OutOfMemoryFault evidence };
 
     fn from(refused: RefusedAllocation) -> NewFault {
         NewFault::OutOfMemory(refused)

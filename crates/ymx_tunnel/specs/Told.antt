@@ -1,5 +1,6 @@
 -- What the seat of a half tells of how its calls ended (this project's own).
 use Rattle.std.specs.Prelude.{◌≡◌, ◌⊎◌, List, ◌∷◌, ◌++◌}
+use Rattle.ymx_machine.specs.shared.Evidence.{evidence}
 use Rattle.ymx_machine.specs.declared.types.Reply.TheVariants as reply
 use Rattle.ymx_model.specs.declared.types.Entry.{Entry}
 use Rattle.ymx_machine.specs.declared.types.CallFault.{CallFault}
@@ -14,5 +15,5 @@ HasSaidEnd entries = (before : List Entry) × (e : Entry) × (after : List Entry
 -- one of these entries was refused, which the fault says; or the fault is want of memory, which no entry need tell
 abbrev pub HasToldRefusal : HubFault → List Entry → Type 0
 HasToldRefusal fault entries =
-    (fault ≡ Memory tt)
+    (fault ≡ Memory evidence)
     ⊎ ((why : CallFault) × (fault ≡ hub_fault_of why) × (before : List Entry) × (e : Entry) × (after : List Entry) × (entries ≡ before ++ e ∷ after) × (e.reply ≡ reply.Refused why))

@@ -44,7 +44,7 @@ reached_along steps answers w v r run = record {
 }
 
 -- a step that is made, or not, leads to a world that can be
-pub reached_if : (given : Result Answer (Unit {0})) (st : Step) (w v : World) → IsReached w →
+pub reached_if : {E : Type 0} (given : Result Answer E) (st : Step) (w v : World) → IsReached w →
     IfOk given (λ (answer : Answer). Steps in_turn st answer w v) → OnErr given (v ≡ w) → IsReached v
 reached_if (Ok given) st w v r one same = reached_on st given w v r one
 reached_if (Err fault) st w v r one same = subst IsReached (sym same) r

@@ -1,5 +1,6 @@
 -- What a call does to the machine, and what it tells of the streams.
 use Rattle.std.proofs.Common.{◌≡◌, ◌≢◌, inl, inr, ℕ, ◌≤◌, List, [], ◌∷◌, length, take, min, Bool, true, false, not, ◌&&◌, ◌==◌, nat_le, if◌then◌else◌, Option, None, Some, refl, sym, ap, subst, append-nil, arith}
+use Rattle.ymx_machine.specs.shared.Evidence.{evidence}
 use Rattle.ymx_machine.specs.shared.Events.{Reply}
 use Rattle.ymx_machine.specs.declared.types.Reply.TheVariants as reply
 use Rattle.ymx_machine.specs.declared.types.CallFault.{CallFault}
@@ -118,7 +119,7 @@ open-untold r i = record { outbound = λ h. refl; inbound = λ h. refl }
 
 opens : (m : Machine) (r : Reply) (n : Machine) (o : Option CallFault) → OpenRule o (reply.Opened m.me.next) [] m r n → Effect call.Open m r n
 opens m r n (Some fault) h = refused call.Open fault m r n h
-opens m r n None (inr h) = refused call.Open (OutOfMemory tt) m r n h
+opens m r n None (inr h) = refused call.Open (OutOfMemory evidence) m r n h
 opens m r n None (inl h) = OpensOne [] (record {
   number = refl;
   fits = omega arith;
@@ -138,7 +139,7 @@ take-fits n xs = grind (arith, lists)
 opens-with : (bytes : List ℕ) (m : Machine) (r : Reply) (n : Machine) (o : Option CallFault) (k : ℕ) → k ≡ first_credit →
     OpenRule o (reply.OpenedWith m.me.next (min (length bytes) k)) (take k bytes) m r n → Effect (call.OpenWith bytes) m r n
 opens-with bytes m r n (Some fault) k e h = refused (call.OpenWith bytes) fault m r n h
-opens-with bytes m r n None k e (inr h) = refused (call.OpenWith bytes) (OutOfMemory tt) m r n h
+opens-with bytes m r n None k e (inr h) = refused (call.OpenWith bytes) (OutOfMemory evidence) m r n h
 opens-with bytes m r n None k e (inl h) = OpensOne (take k bytes) (record {
   number = refl;
   fits = subst (λ (x : ℕ). length (take k bytes) ≤ x) e (take-fits k bytes);

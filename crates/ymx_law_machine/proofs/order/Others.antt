@@ -2,6 +2,7 @@
 use Rattle.std.proofs.Common.{◌≡◌, ◌≢◌, ◌⊎◌, inl, inr, ℕ, zero, suc, List, [], ◌∷◌, length, min, Bool, true, false, not, ◌||◌, ◌&&◌, nat_le, if◌then◌else◌, Option, None, Some, refl, sym, ◌∙◌, ap, arith}
 use Rattle.std.proofs.lemmas.Grind.{common_steps}
 use Rattle.std.proofs.lemmas.Bool.Decides.{nat_tests}
+use Rattle.ymx_machine.specs.shared.Evidence.{evidence}
 use Rattle.ymx_machine.specs.shared.Events.{Call}
 use Rattle.ymx_machine.specs.declared.types.Call.TheVariants as call
 use Rattle.ymx_machine.specs.declared.types.CallFault.{CallFault}
@@ -63,7 +64,7 @@ others-move (PingBack number) m i d = refl
 
 -- the answer of a call, or want of memory in its place
 abbrev Or_memory : Reply → Reply → Type 0
-Or_memory r told = (r ≡ told) ⊎ ((r ≡ reply.Refused (fault.OutOfMemory tt)) × (needs_memory told ≡ true))
+Or_memory r told = (r ≡ told) ⊎ ((r ≡ reply.Refused (fault.OutOfMemory evidence)) × (needs_memory told ≡ true))
 
 took-needs : (n : ℕ) → n ≢ 0 → needs_memory (reply.Wrote (Took n)) ≡ true
 took-needs zero d = absurd (d refl)
@@ -179,8 +180,8 @@ one c m r n h = elim (when (m.me.closed && not (is_close c))) [
 ]
 
 -- two answers of a call in a state are the same, but for want of memory where memory is needed
-pub one-answer : (c : Call) (m : Machine) (r r' : Reply) (n n' : Machine) → Rule c m r n → Rule c m r' n' → r ≢ reply.Refused (fault.OutOfMemory tt) →
-    (r' ≡ r) ⊎ ((r' ≡ reply.Refused (fault.OutOfMemory tt)) × (needs_memory r ≡ true))
+pub one-answer : (c : Call) (m : Machine) (r r' : Reply) (n n' : Machine) → Rule c m r n → Rule c m r' n' → r ≢ reply.Refused (fault.OutOfMemory evidence) →
+    (r' ≡ r) ⊎ ((r' ≡ reply.Refused (fault.OutOfMemory evidence)) × (needs_memory r ≡ true))
 one-answer c m r r' n n' h h' d = elim (one c m r n h) [
   | inl e ↦ elim (one c m r' n' h') [
     | inl e' ↦ inl (e' ∙ sym e)

@@ -1,5 +1,6 @@
 -- The queue machine's rules of calls (this project's own, after the Go package's Session and Stream).
 use Rattle.std.specs.Prelude.{ℕ, ◌≡◌, if◌then◌else◌, ◌+◌, ◌∷◌, ◌++◌, ◌⊎◌, ◌%◌, ◌^◌, ◌&&◌, nat_le, Option, None, Some, List, [], zero, suc, is_some, length, Bool, true, false, take, min, not, MatchBool}
+use Rattle.ymx_machine.specs.shared.Evidence.{evidence}
 use Rattle.ymx_machine.specs.shared.Events.{Reply}
 use Rattle.ymx_machine.specs.declared.types.Reply.TheVariants.{Refused, Accepted, Pinged, Ponged, Opened, OpenedWith, Done}
 use Rattle.ymx_machine.specs.declared.types.CallFault.{CallFault}
@@ -46,7 +47,7 @@ machine_opened bytes m = record m {
 -- a refusal, or the stream, or no memory
 abbrev pub OpenRule : Option CallFault → Reply → List ℕ → Machine → Reply → Machine → Type 0
 OpenRule (Some fault) reply bytes m r n = RefusedWith fault m r n
-OpenRule None reply bytes m r n = Answers reply (machine_opened bytes m) r n ⊎ RefusedWith (OutOfMemory tt) m r n
+OpenRule None reply bytes m r n = Answers reply (machine_opened bytes m) r n ⊎ RefusedWith (OutOfMemory evidence) m r n
 
 abbrev pub AcceptRule : List ℕ → Machine → Reply → Machine → Type 0
 AcceptRule [] m r n = MatchBool m.me.lost (RefusedWith Lost m r n) (Answers (Accepted None) m r n)

@@ -1,5 +1,6 @@
 -- What a call on one stream answers, and what it does (this project's own, after the Go package's Stream).
 use Rattle.std.specs.Prelude.{ℕ, ◌≡◌, ◌&&◌, ◌||◌, ◌≢◌, ◌⊎◌, if◌then◌else◌, List, Bool, not, take, MatchBool}
+use Rattle.ymx_machine.specs.shared.Evidence.{evidence}
 use Rattle.ymx_machine.specs.stream.Lanes.{Mark, is_unsaid, is_here}
 use Rattle.ymx_machine.specs.shared.Phases.{Phase, is_reset}
 use Rattle.ymx_machine.specs.stream.Streams.{Stream, TakesBack, stream_reset, stream_write, stream_read, stream_finish, stream_forget}
@@ -29,7 +30,7 @@ forgets_quietly lost s = is_reset s.me || lost || (not (is_unsaid s.outbound.fin
 abbrev pub StreamRule : (lost : Bool) → StreamCall → Stream → Reply → Stream → Type 0
 StreamRule lost (Writes bytes) s r t =
     ((r ≡ write_reply lost bytes s.me (not (is_unsaid s.outbound.fin)) s.outbound.credit) × (t ≡ stream_write (take (bytes_moved r) bytes) s))
-    ⊎ ((bytes_moved (write_reply lost bytes s.me (not (is_unsaid s.outbound.fin)) s.outbound.credit) ≢ 0) × (r ≡ Refused (OutOfMemory tt)) × (t ≡ s))
+    ⊎ ((bytes_moved (write_reply lost bytes s.me (not (is_unsaid s.outbound.fin)) s.outbound.credit) ≢ 0) × (r ≡ Refused (OutOfMemory evidence)) × (t ≡ s))
 StreamRule lost (Reads max) s r t = (r ≡ read_reply lost max s.me s.inbound.here (is_here s.inbound.fin)) × (t ≡ stream_read (bytes_moved r) s)
 StreamRule lost Finishes s r t =
     (r ≡ finish_reply lost s.me (not (is_unsaid s.outbound.fin))) × (t ≡ (if is_done r then stream_finish s else s))

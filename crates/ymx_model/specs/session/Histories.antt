@@ -1,5 +1,6 @@
 -- All events of a session under one relation, and a history of them (this project's own).
 use Rattle.std.specs.Prelude.{ℕ, ◌≡◌, ◌+◌, ◌∷◌, true, List, Bool, []}
+use Rattle.ymx_machine.specs.shared.Evidence.{evidence}
 use Rattle.ymx_machine.specs.shared.Events.{Reply}
 use Rattle.ymx_machine.specs.declared.types.Reply.TheVariants.{Refused, Fed as FedReply, Emitted, Done}
 use Rattle.ymx_machine.specs.declared.types.CallFault.TheVariants.{OutOfMemory}
@@ -16,7 +17,7 @@ use Rattle.ymx_model.specs.declared.types.Event.TheVariants as event
 -- a call has its outcome, or finds no memory that it needs, and then changes nothing
 pub data CallGives (s : Session) (call : Call) (reply : Reply) (t : Session) : Type 0 where
   Outcome : (answer : reply ≡ (outcome call s).reply) (state : t ≡ (outcome call s).next) → CallGives s call reply t
-  NoMemory : (needs : takes_memory call s ≡ true) (answer : reply ≡ Refused (OutOfMemory tt)) (state : t ≡ s) → CallGives s call reply t
+  NoMemory : (needs : takes_memory call s ≡ true) (answer : reply ≡ Refused (OutOfMemory evidence)) (state : t ≡ s) → CallGives s call reply t
 
 -- From the session s this event may give this reply and lead to t. `may` is the order in which due
 -- frames go.

@@ -1,4 +1,5 @@
 use Rattle.std.proofs.Common.{inl, inr}
+use Rattle.ymx_machine.specs.shared.Evidence.{evidence}
 use Rattle.ymx_machine.specs.declared.types.CallFault.TheVariants.{OutOfMemory}
 use Rattle.ymx_delivery.proofs.Worlds.{opens}
 use Rattle.ymx_delivery.proofs.Told.{opened-fault, opened-stands}
@@ -18,5 +19,5 @@ pub unreachable-requires : goal.unreachable-requires
 unreachable-requires c =
     elim (opens c.in_ok-answer.answer c.args.world.now c.step.new.self c.requires c.in_ok-answer.ensures.steps c.in_ok-answer.ensures.machine) [
       | inl made ↦ c.in_default.not-Opened 1 made.0
-      | inr none ↦ c.in_default.not-Refused (OutOfMemory tt) none
+      | inr none ↦ c.in_default.not-Refused (OutOfMemory evidence) none
     ]

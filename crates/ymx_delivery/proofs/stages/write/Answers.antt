@@ -1,4 +1,5 @@
 use Rattle.std.proofs.Common.{inl, inr, length}
+use Rattle.ymx_machine.specs.shared.Evidence.{evidence}
 use Rattle.ymx_machine.specs.declared.types.CallFault.TheVariants.{OutOfMemory}
 use Rattle.ymx_machine.specs.declared.types.Wrote.TheVariants.{Took}
 use Rattle.ymx_delivery.proofs.Worlds.{writes-copy}
@@ -19,5 +20,5 @@ pub unreachable-requires : goal.unreachable-requires
 unreachable-requires c =
     elim (writes-copy c.args.id c.in_ok-copy.copy c.args.bytes.now c.in_ok-answer.answer c.args.world.now c.step.new.self c.in_ok-copy.ensures c.requires c.in_ok-answer.ensures.steps c.in_ok-answer.ensures.machine) [
       | inl made ↦ c.in_default.not-Wrote (Took (length c.args.bytes.now)) made.0
-      | inr none ↦ c.in_default.not-Refused (OutOfMemory tt) none
+      | inr none ↦ c.in_default.not-Refused (OutOfMemory evidence) none
     ]
