@@ -4,7 +4,7 @@ use Rattle.ymx_machine.specs.shared.Evidence.{evidence}
 use Rattle.ymx_machine.specs.shared.Events.{Reply}
 use Rattle.ymx_machine.specs.declared.types.Reply.TheVariants.{Done, Refused}
 use Rattle.ymx_machine.specs.declared.types.CallFault.{CallFault}
-use Rattle.ymx_machine.specs.declared.types.CallFault.TheVariants.{NoStream, Finished, Reset, Lost, Closed, PeerAway, OpensPending, TooMany, Exhausted, PingsPending, OutOfMemory}
+use Rattle.ymx_machine.specs.declared.types.CallFault.TheVariants.{OutOfMemory}
 use Rattle.ymx_machine.specs.shared.Phases.{Phase, is_live, is_reset}
 use Rattle.ymx_machine.specs.shared.Replies.{unless_refused}
 use Rattle.ymx_model.specs.session.Records.{End}
@@ -30,17 +30,8 @@ Spares o = wants o.reply ≡ false
 -- ---- of a reply, a result, an answer
 
 only_memory : (fault : CallFault) → hub_fault_of fault ≡ Memory evidence → is_of_memory fault ≡ true
-only_memory NoStream e = cc
-only_memory Finished e = cc
-only_memory Reset e = cc
-only_memory Lost e = cc
-only_memory Closed e = cc
-only_memory PeerAway e = cc
-only_memory OpensPending e = cc
-only_memory TooMany e = cc
-only_memory Exhausted e = cc
-only_memory PingsPending e = cc
 only_memory (OutOfMemory _) e = refl
+only_memory _ e = cc
 
 no_both : (b : Bool) → b ≡ true → b ≡ false → ⊥
 no_both true e f = cc

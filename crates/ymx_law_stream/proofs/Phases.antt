@@ -1,7 +1,7 @@
 -- What the phase of an end excludes.
 use Rattle.std.proofs.Common.{◌≡◌, true, false, refl, arith}
 use Rattle.ymx_machine.specs.shared.Phases.{Phase, takes, is_unborn, is_up, is_live, is_reset}
-use Rattle.ymx_machine.specs.shared.Phases.Phase.{Unborn, Offered, Live, WasReset, Refused, Lingering, Gone}
+use Rattle.ymx_machine.specs.shared.Phases.Phase.{Unborn, Live}
 
 pub takes-born : (p : Phase) → takes p ≡ true → p ≡ Unborn → ⊥
 takes-born p t h = grind arith
@@ -35,12 +35,7 @@ live_not_reset p l = grind arith
 
 pub born : (p : Phase) → (p ≡ Unborn → ⊥) → is_unborn p ≡ false
 born Unborn n = absurd (n refl)
-born Offered n = refl
-born Live n = refl
-born WasReset n = refl
-born Refused n = refl
-born Lingering n = refl
-born Gone n = refl
+born _ n = refl
 
 -- an end that is over uses nothing
 pub down-takes : (p : Phase) → is_up p ≡ false → (is_unborn p ≡ false) × (takes p ≡ true → ⊥)

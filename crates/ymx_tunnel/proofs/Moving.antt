@@ -142,10 +142,7 @@ sink_is_no_end e = subst by_end e tt
 
 source_case : (fault : HubFault) → copy_reason fault Sink ≡ Source → ⊥
 source_case (Call refusal.Reset) e = cc
-source_case (Call refusal.Lost) e = cc
-source_case (Call _) e = cc
-source_case (NoMemory _) e = cc
-source_case Seats e = cc
+source_case _ e = cc
 
 -- no fault of a sink blames the reader
 pub no_source : (fault : HubFault) (why : CopyWhy) → why ≡ copy_reason fault Sink → why ≡ Source → ⊥
@@ -153,10 +150,7 @@ no_source fault why e w = source_case fault (sym e ∙ w)
 
 sink_case : (fault : HubFault) → copy_reason fault Source ≡ Sink → ⊥
 sink_case (Call refusal.Reset) e = cc
-sink_case (Call refusal.Lost) e = cc
-sink_case (Call _) e = cc
-sink_case (NoMemory _) e = cc
-sink_case Seats e = cc
+sink_case _ e = cc
 
 -- no fault of a source blames the writer
 pub no_sink : (fault : HubFault) (why : CopyWhy) → why ≡ copy_reason fault Source → why ≡ Sink → ⊥

@@ -7,7 +7,7 @@ use Rattle.ymx_header.specs.declared.fault.Fault.TheVariants.{BadGoAwayCode, Pee
 use Rattle.ymx_header.specs.Headers.{has_syn, has_ack, has_fin, has_rst}
 use Rattle.ymx_model.specs.declared.types.Response.TheVariants.{Pong, Reject}
 use Rattle.ymx_machine.specs.shared.Phases.{Phase, is_live, is_offered, is_refused, takes, struck}
-use Rattle.ymx_machine.specs.shared.Phases.Phase.{Unborn, Offered, Live, WasReset, Refused, Lingering, Gone}
+use Rattle.ymx_machine.specs.shared.Phases.Phase.{Live}
 use Rattle.ymx_model.specs.session.Records.{End, takes_payload, receive_credit, receive_fin, receive_ack, receive_rst, receive_data, receive_piece, reader_arrive, writer_grant}
 use Rattle.ymx_model.specs.session.Pings.{receive_answer}
 use Rattle.ymx_model.specs.session.GoAway.{receive_away}
@@ -56,13 +56,8 @@ head-more least window own h e =
     split (NoMore least window e) (ends_now h) (receive_fin (receive_credit (delta h) (acknowledges own h e))) (receive_credit (delta h) (acknowledges own h e)) (λ t. omega (arith, a, b, c)) (λ f. omega (arith, a, b))
 
 struck-dead : (p : Phase) → is_live (struck p) ≡ false
-struck-dead Unborn = refl
-struck-dead Offered = refl
 struck-dead Live = refl
-struck-dead WasReset = refl
-struck-dead Refused = refl
-struck-dead Lingering = refl
-struck-dead Gone = refl
+struck-dead _ = refl
 
 and-most : (a b : Bool) → one_if (a && b) ≤ one_if b
 and-most true b = omega arith

@@ -95,14 +95,7 @@ tells-out a i (call.Finish id) r h = stays (id == i) h h refl
 tells-out a i (call.Read id max) (reply.Read bytes) h = rw (other-side a) (same h)
 tells-out a i (call.Read id max) reply.ReadEnd h = rw (other-side a) (same h)
 tells-out a i (call.Read id max) r h = same h
-tells-out a i call.Open r h = same h
-tells-out a i call.Accept r h = same h
-tells-out a i (call.Reset id) r h = same h
-tells-out a i (call.Forget id) r h = same h
-tells-out a i call.Ping r h = same h
-tells-out a i (call.Ponged k) r h = same h
-tells-out a i call.GoAway r h = same h
-tells-out a i call.Close r h = same h
+tells-out a i _ r h = same h
 
 tells-inbound : (a : Side) (i : ℕ) (c : Call) (r : Reply) (h : Past) → grown (other a) a i (step.At a c) (answer_of r) h ≡ tell_inbound i c r h
 tells-inbound a i (call.Read id max) (reply.Read bytes) h = rw (same-side a) (pick-gave (id == i) bytes h)
@@ -114,14 +107,7 @@ tells-inbound a i (call.OpenWith bytes) (reply.OpenedWith id n) h = rw (other-si
 tells-inbound a i (call.OpenWith bytes) r h = same h
 tells-inbound a i (call.Finish id) reply.Done h = rw (other-side a) (same h)
 tells-inbound a i (call.Finish id) r h = same h
-tells-inbound a i call.Open r h = same h
-tells-inbound a i call.Accept r h = same h
-tells-inbound a i (call.Reset id) r h = same h
-tells-inbound a i (call.Forget id) r h = same h
-tells-inbound a i call.Ping r h = same h
-tells-inbound a i (call.Ponged k) r h = same h
-tells-inbound a i call.GoAway r h = same h
-tells-inbound a i call.Close r h = same h
+tells-inbound a i _ r h = same h
 
 -- ---- a step
 

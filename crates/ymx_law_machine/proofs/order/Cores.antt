@@ -299,13 +299,7 @@ offered-is p e = ap is_offered e
 
 pub move-you : (v : Move) (s : Stream) → (after_move v s).you ≡ s.you
 move-you (Arrive n) s = refl
-move-you EndArrives s = refl
-move-you (Return n) s = refl
-move-you SynOffered s = refl
-move-you SynRefused s = refl
-move-you AckArrives s = refl
-move-you ResetArrives s = refl
-move-you Released s = refl
+move-you _ s = refl
 
 pub move-offered : (v : Move) (s : Stream) → Allowed v s → is_reset_arriving v ≡ false → is_offered s.me ≡ true → is_offered (after_move v s).me ≡ true
 move-offered (Arrive n) s a e o = o

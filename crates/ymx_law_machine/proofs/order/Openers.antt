@@ -3,7 +3,7 @@ use Rattle.std.proofs.Common.{◌≡◌, ◌≢◌, ◌⊎◌, inl, inr, ℕ, �
 use Rattle.ymx_machine.specs.shared.Events.{Reply}
 use Rattle.ymx_machine.specs.shared.Events.{Call}
 use Rattle.ymx_machine.specs.stream.Streams.{Stream, Move, after_move, stream_accept}
-use Rattle.ymx_machine.specs.stream.Streams.Move.{Arrive, EndArrives, Return, SynOffered, SynRefused, AckArrives, ResetArrives, Released}
+use Rattle.ymx_machine.specs.stream.Streams.Move.{Arrive, SynOffered, SynRefused}
 use Rattle.ymx_machine.specs.stream.StreamRules.{StreamCall, StreamRule, forgets_quietly}
 use Rattle.ymx_machine.specs.shared.Replies.{is_done}
 use Rattle.ymx_machine.specs.stream.StreamRules.StreamCall.{Writes, Reads, Finishes, Resets, Forgets}
@@ -62,13 +62,7 @@ rule-own lost Forgets s t r h = elim (when (is_done r)) [
 
 move-own : (v : Move) (s : Stream) → (after_move v s).own ≡ s.own
 move-own (Arrive n) s = refl
-move-own EndArrives s = refl
-move-own (Return n) s = refl
-move-own SynOffered s = refl
-move-own SynRefused s = refl
-move-own AckArrives s = refl
-move-own ResetArrives s = refl
-move-own Released s = refl
+move-own _ s = refl
 
 -- ---- each number once
 

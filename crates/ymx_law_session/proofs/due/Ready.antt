@@ -9,7 +9,7 @@ use Rattle.ymx_machine.specs.shared.Limits.{first_credit, data_limit}
 use Rattle.ymx_model.specs.session.Records.{End}
 use Rattle.ymx_model.specs.declared.types.FrameKind.{FrameKind}
 use Rattle.ymx_model.specs.session.FramesDue.{next_kind, is_due, is_empty, spelled}
-use Rattle.ymx_model.specs.declared.types.FrameKind.TheVariants.{Open, OpenWith, Accept, Reset, Credit, Data, Fin}
+use Rattle.ymx_model.specs.declared.types.FrameKind.TheVariants.{Open}
 use Rattle.ymx_model.specs.session.Pings.{first_asked, has_asked, begin_ping}
 use Rattle.ymx_model.specs.session.GoAway.{away_due, begin_away}
 use Rattle.ymx_model.specs.session.Tables.{Table, any_due, due_ids, round}
@@ -189,12 +189,7 @@ next_of s w e r = of_alarm (s.alarm && is_broken s.status) refl
 -- a frame that begins has a byte at least
 spelled_some : (kind : FrameKind) (window limit id : ℕ) (e : End) → is_empty (spelled kind window limit id e) ≡ false
 spelled_some Open window limit id e = refl
-spelled_some OpenWith window limit id e = refl
-spelled_some Accept window limit id e = refl
-spelled_some Reset window limit id e = refl
-spelled_some Credit window limit id e = refl
-spelled_some Data window limit id e = refl
-spelled_some Fin window limit id e = refl
+spelled_some _ window limit id e = refl
 
 some_of : (x t : Session) → Some x ≡ Some t → is_empty x.outgoing.bytes ≡ false → is_empty t.outgoing.bytes ≡ false
 some_of x t e n = let same : x ≡ t = cc in rw (← same) n

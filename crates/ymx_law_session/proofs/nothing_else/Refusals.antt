@@ -3,7 +3,7 @@ use Rattle.std.proofs.Common.{◌≡◌, ℕ, List, [], ◌∷◌, length, Bool,
 use Rattle.std.specs.Prelude.{count_by}
 use Rattle.std.proofs.lemmas.Bool.Decides.{nat_tests}
 use Rattle.ymx_machine.specs.shared.Events.{Reply}
-use Rattle.ymx_machine.specs.declared.types.Reply.TheVariants.{Opened, OpenedWith, Accepted, Done, Pinged, Ponged, Refused, Wrote, Read, ReadEnd, ReadWait, Fed, Emitted}
+use Rattle.ymx_machine.specs.declared.types.Reply.TheVariants.{Done, Wrote, Read}
 use Rattle.ymx_machine.specs.shared.Events.{Call}
 use Rattle.ymx_machine.specs.declared.types.Call.TheVariants as call
 use Rattle.ymx_machine.specs.shared.Replies.{bytes_moved, is_done}
@@ -22,34 +22,13 @@ Leaves s o = reply_is_refused o.reply ≡ true → o.next ≡ s
 
 -- a refusal moves nothing and is not Done
 refused_moves : (r : Reply) → reply_is_refused r ≡ true → bytes_moved r ≡ 0
-refused_moves (Refused f) e = refl
-refused_moves (Opened id) e = refl
-refused_moves (OpenedWith id n) e = refl
-refused_moves (Accepted id) e = refl
 refused_moves (Wrote w) e = cc
 refused_moves (Read bytes) e = cc
-refused_moves ReadEnd e = refl
-refused_moves ReadWait e = refl
-refused_moves Done e = refl
-refused_moves (Pinged n) e = refl
-refused_moves (Ponged b) e = refl
-refused_moves (Fed fed) e = refl
-refused_moves (Emitted bytes) e = refl
+refused_moves _ e = refl
 
 refused_done : (r : Reply) → reply_is_refused r ≡ true → is_done r ≡ false
-refused_done (Refused f) e = refl
-refused_done (Opened id) e = refl
-refused_done (OpenedWith id n) e = refl
-refused_done (Accepted id) e = refl
-refused_done (Wrote w) e = refl
-refused_done (Read bytes) e = refl
-refused_done ReadEnd e = refl
-refused_done ReadWait e = refl
 refused_done Done e = sym e
-refused_done (Pinged n) e = refl
-refused_done (Ponged b) e = refl
-refused_done (Fed fed) e = refl
-refused_done (Emitted bytes) e = refl
+refused_done _ e = refl
 
 moves_none : (n : ℕ) → n ≡ 0 → (n == 0) ≡ true
 moves_none n e = grind (arith, nat_tests)

@@ -23,20 +23,13 @@ abbrev pub is_up : Phase → Bool
 is_up Unborn = true
 is_up Offered = true
 is_up Live = true
-is_up WasReset = false
-is_up Refused = false
-is_up Lingering = false
-is_up Gone = false
+is_up _ = false
 
 -- takes what comes
 abbrev pub takes : Phase → Bool
-takes Unborn = false
 takes Offered = true
 takes Live = true
-takes WasReset = false
-takes Refused = false
-takes Lingering = false
-takes Gone = false
+takes _ = false
 
 abbrev pub is_unborn : Phase → Bool
 is_unborn Unborn = true
@@ -45,6 +38,10 @@ is_unborn _ = false
 abbrev pub is_offered : Phase → Bool
 is_offered Offered = true
 is_offered _ = false
+
+-- not yet accepted
+abbrev pub is_early : Phase → Bool
+is_early p = is_unborn p || is_offered p
 
 abbrev pub is_live : Phase → Bool
 is_live Live = true
@@ -62,20 +59,12 @@ abbrev pub is_lingering : Phase → Bool
 is_lingering Lingering = true
 is_lingering _ = false
 
--- not yet accepted
-abbrev pub is_early : Phase → Bool
-is_early p = is_unborn p || is_offered p
-
 -- counts among the 1,024 records of its side
 abbrev pub is_recorded : Phase → Bool
 is_recorded p = is_offered p || is_live p || is_reset p || is_lingering p
 
--- where a reset that arrives leaves an end
+-- where a reset that arrives leaves an end: only one that takes what comes is moved
 abbrev pub struck : Phase → Phase
-struck Unborn = Unborn
 struck Offered = Gone
 struck Live = WasReset
-struck WasReset = WasReset
-struck Refused = Refused
-struck Lingering = Lingering
-struck Gone = Gone
+struck p = p

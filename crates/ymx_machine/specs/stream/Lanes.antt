@@ -23,12 +23,6 @@ is_here Unsaid = false
 is_here Said = false
 is_here Here = true
 
--- what is under way is taken back
-abbrev pub taken_back : Mark → Mark
-taken_back Unsaid = Unsaid
-taken_back Said = Unsaid
-taken_back Here = Here
-
 -- `way`: the bytes written and not arrived. `here`: the bytes arrived and not read. `credit`: how
 -- many bytes the writer may still write. `owed`: how many bytes were read whose credit isn't back at
 -- the writer. `fin`: the writer's end mark.
@@ -77,6 +71,11 @@ lane_empty l = record l { here = [] }
 -- what is on its way becomes its first n bytes, and the end mark becomes m
 abbrev pub lane_cut : ℕ → Mark → Lane → Lane
 lane_cut n m l = record l { way = take n l.way; fin = m }
+
+-- what is under way is taken back
+abbrev pub taken_back : Mark → Mark
+taken_back Said = Unsaid
+taken_back mark = mark
 
 -- a reset has arrived: nothing is under way any more
 abbrev pub lane_struck : Lane → Lane

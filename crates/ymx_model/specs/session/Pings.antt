@@ -17,13 +17,11 @@ no_pings = record { next = 0; pending = [] }
 
 abbrev pub ping_is_asked : PingStage → Bool
 ping_is_asked Asked = true
-ping_is_asked Sent = false
-ping_is_asked Back = false
+ping_is_asked _ = false
 
 abbrev pub ping_is_back : PingStage → Bool
-ping_is_back Asked = false
-ping_is_back Sent = false
 ping_is_back Back = true
+ping_is_back _ = false
 
 abbrev pub is_pending : ℕ → List Ping → Bool
 is_pending n [] = false
