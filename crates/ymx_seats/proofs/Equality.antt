@@ -1,10 +1,11 @@
 -- A test whether two entries are the same. What an entry says is spelled as lists of numbers, from which it is read
 -- back, and lists of numbers can be compared.
-use Rattle.std.proofs.Common.{◌≡◌, ℕ, ◌==◌, ◌&&◌, ◌≢◌, List, [], ◌∷◌, get_or, Bool, true, false, Option, Some, None, bytes_eq, refl, sym, ap, ap₂, ◌∙◌}
+use Rattle.std.proofs.Common.{◌≡◌, ℕ, ◌-◌, ◌==◌, ◌&&◌, ◌≢◌, List, [], ◌∷◌, get_or, Bool, true, false, Option, Some, None, bytes_eq, refl, sym, ap, ap₂, ◌∙◌}
 use Rattle.std.proofs.lemmas.Slice.Eq.{bytes_eq-Decides}
 use Rattle.std.proofs.lemmas.Bool.{and_parts, and_from, false_from_ne_true}
 use Rattle.ymx_header.specs.declared.fault.Fault.{Fault}
 use Rattle.ymx_header.specs.declared.fault.Fault.TheVariants as fault
+use Rattle.ymx_header.specs.Faults.{fault_number}
 use Rattle.ymx_machine.specs.shared.Evidence.{evidence}
 use Rattle.ymx_machine.specs.declared.types.CallFault.{CallFault}
 use Rattle.ymx_machine.specs.declared.types.CallFault.TheVariants as refusal
@@ -32,39 +33,22 @@ rest (n ∷ ns) = ns
 
 -- ---- the faults, and why a feed stopped
 
-abbrev number_of_fault : Fault → ℕ
-number_of_fault fault.BadVersion = 0
-number_of_fault fault.UnknownType = 1
-number_of_fault fault.BadSyn = 2
-number_of_fault fault.StreamInUse = 3
-number_of_fault fault.WindowExceeded = 4
-number_of_fault fault.CreditOverflow = 5
-number_of_fault fault.BadGoAwayCode = 6
-number_of_fault fault.PeerSawProtocolError = 7
-number_of_fault fault.PeerSawInternalError = 8
-
+-- the numbers of faults begin with 1
 abbrev fault_from : ℕ → Fault
 fault_from n =
     get_or
     (fault.BadVersion ∷ fault.UnknownType ∷ fault.BadSyn ∷ fault.StreamInUse ∷ fault.WindowExceeded
     ∷ fault.CreditOverflow ∷ fault.BadGoAwayCode ∷ fault.PeerSawProtocolError ∷ fault.PeerSawInternalError ∷ [])
-    n fault.BadVersion
+    (n - 1) fault.BadVersion
 
-fault_back : (f : Fault) → fault_from (number_of_fault f) ≡ f
+fault_back : (f : Fault) → fault_from (fault_number f) ≡ f
 fault_back fault.BadVersion = refl
-fault_back fault.UnknownType = refl
-fault_back fault.BadSyn = refl
-fault_back fault.StreamInUse = refl
-fault_back fault.WindowExceeded = refl
-fault_back fault.CreditOverflow = refl
-fault_back fault.BadGoAwayCode = refl
-fault_back fault.PeerSawProtocolError = refl
-fault_back fault.PeerSawInternalError = refl
+fault_back _ = refl
 
 abbrev spelled_why : Why → List ℕ
 spelled_why why.All = 0 ∷ []
 spelled_why why.Held = 1 ∷ []
-spelled_why (why.Broken f) = 2 ∷ number_of_fault f ∷ []
+spelled_why (why.Broken f) = 2 ∷ fault_number f ∷ []
 
 abbrev why_from : List ℕ → Why
 why_from ns = get_or (why.All ∷ why.Held ∷ why.Broken (fault_from (second ns)) ∷ []) (first ns) why.All
@@ -95,17 +79,8 @@ refusal_from n =
     n refusal.NoStream
 
 refusal_back : (f : CallFault) → refusal_from (number_of_refusal f) ≡ f
-refusal_back refusal.NoStream = refl
-refusal_back refusal.Finished = refl
-refusal_back refusal.Reset = refl
-refusal_back refusal.Lost = refl
-refusal_back refusal.Closed = refl
-refusal_back refusal.PeerAway = refl
-refusal_back refusal.OpensPending = refl
-refusal_back refusal.TooMany = refl
-refusal_back refusal.Exhausted = refl
-refusal_back refusal.PingsPending = refl
 refusal_back (refusal.OutOfMemory _) = refl
+refusal_back _ = refl
 
 -- ---- calls and events
 
@@ -136,17 +111,7 @@ call_from ns = call_at (first ns) (rest ns)
 
 call_back : (c : Call) → call_from (spelled_call c) ≡ c
 call_back call.Open = refl
-call_back (call.OpenWith bytes) = refl
-call_back call.Accept = refl
-call_back (call.Write id bytes) = refl
-call_back (call.Read id most) = refl
-call_back (call.Finish id) = refl
-call_back (call.Reset id) = refl
-call_back (call.Forget id) = refl
-call_back call.Ping = refl
-call_back (call.Ponged ping) = refl
-call_back call.GoAway = refl
-call_back call.Close = refl
+call_back _ = refl
 
 abbrev spelled_event : Event → List ℕ
 spelled_event (event.Call c) = 0 ∷ spelled_call c
@@ -230,19 +195,12 @@ abbrev reply_from : List ℕ → Reply
 reply_from ns = reply_at (first ns) (rest ns)
 
 reply_back : (t : Reply) → reply_from (spelled_reply t) ≡ t
-reply_back (reply.Opened id) = refl
-reply_back (reply.OpenedWith id count) = refl
 reply_back (reply.Accepted id) = ap reply.Accepted (id_back id)
 reply_back (reply.Wrote w) = ap reply.Wrote (wrote_back w)
-reply_back (reply.Read bytes) = refl
-reply_back reply.ReadEnd = refl
-reply_back reply.ReadWait = refl
-reply_back reply.Done = refl
-reply_back (reply.Pinged ping) = refl
 reply_back (reply.Ponged back) = ap reply.Ponged (test_back back)
 reply_back (reply.Refused f) = ap reply.Refused (refusal_back f)
 reply_back (reply.Fed f) = ap (λ (w : Why). reply.Fed (record { taken = f.taken; no_memory = f.no_memory; why = w })) (why_back f.why)
-reply_back (reply.Emitted bytes) = refl
+reply_back _ = refl
 
 -- ---- entries
 
