@@ -8,26 +8,16 @@ use Rattle.ymx_law_world.proofs.OneText.{one-text}
 use Rattle.ymx_law_world.proofs.Frames.{no-fault}
 use Rattle.ymx_law_world.proofs.Quiet.{quiet-between}
 
-pub returns-clause-emitted : goal.returns-clause-emitted
-returns-clause-emitted c = emitted
-
-pub returns-clause-delivered : goal.returns-clause-delivered
-returns-clause-delivered c = delivered
-
-pub returns-clause-kept : goal.returns-clause-kept
-returns-clause-kept c = step-frames
-
-pub returns-clause-always : goal.returns-clause-always
-returns-clause-always c = λ may steps answers wa fa wb fb w la ha lb hb pa pb sa z sb run.
-    run-frames may steps answers (new_world wa fa wb fb) w run
-    (record { a = new-keeps Client wa fa la ha pa (odd_some fa pa) sa; b = new-keeps Server wb fb lb hb pb z sb })
-    (new-frames (new_world wa fa wb fb) refl refl refl refl refl refl)
-
-pub returns-clause-one_text : goal.returns-clause-one_text
-returns-clause-one_text c = one-text
-
-pub returns-clause-good_headers : goal.returns-clause-good_headers
-returns-clause-good_headers c = no-fault
-
-pub returns-clause-quiet : goal.returns-clause-quiet
-returns-clause-quiet c = quiet-between
+pub returns : goal.returns
+returns c = record {
+  emitted = emitted;
+  delivered = delivered;
+  kept = step-frames;
+  always = λ may steps answers wa fa wb fb w la ha lb hb pa pb sa z sb run.
+      run-frames may steps answers (new_world wa fa wb fb) w run
+      (record { a = new-keeps Client wa fa la ha pa (odd_some fa pa) sa; b = new-keeps Server wb fb lb hb pb z sb })
+      (new-frames (new_world wa fa wb fb) refl refl refl refl refl refl);
+  one_text = one-text;
+  good_headers = no-fault;
+  quiet = quiet-between;
+}
