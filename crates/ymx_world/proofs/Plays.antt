@@ -76,3 +76,16 @@ pub played_all : (steps : List Step) (w : World) (i : ℕ) (p : Played) → leng
 played_all steps w i p end so =
     let e : take i steps ≡ steps = grind (arith, common_steps) in
     subst (λ (zs : List Step). QuietRuns in_turn zs p.answers.items p.quiet.items w p.world) e so.run
+
+-- what holds of the steps made so far, where the next one was refused
+pub stopped_run : (a b : Config) → new_fault Client a ≡ None → new_fault Server b ≡ None → a.first < 2 ^ 32 → b.first < 2 ^ 32 → (steps : List Step) (i : ℕ) (p q : Played) →
+    IsPlayedTo steps (world_of a b) i p → IsSamePlay p q → IsTopRun a b (take (length q.answers.items) steps) q.answers.items q.quiet.items
+stopped_run a b fine_a fine_b small_a small_b steps i p q so same =
+    top_run a b fine_a fine_b small_a small_b (take (length q.answers.items) steps) q.answers.items q.quiet.items q.world
+    (played_so_far steps (world_of a b) i p q so same)
+
+-- and of all steps
+pub finished_run : (a b : Config) → new_fault Client a ≡ None → new_fault Server b ≡ None → a.first < 2 ^ 32 → b.first < 2 ^ 32 → (steps : List Step) (i : ℕ) (p : Played) →
+    length steps ≤ i → IsPlayedTo steps (world_of a b) i p → IsTopRun a b steps p.answers.items p.quiet.items
+finished_run a b fine_a fine_b small_a small_b steps i p end so =
+    top_run a b fine_a fine_b small_a small_b steps p.answers.items p.quiet.items p.world (played_all steps (world_of a b) i p end so)

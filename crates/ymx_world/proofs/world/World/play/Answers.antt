@@ -1,6 +1,6 @@
-use Rattle.std.proofs.Common.{rules, length, take}
-use Rattle.ymx_world.specs.Played.{world_of, IsSamePlay}
-use Rattle.ymx_world.proofs.Plays.{played_on, played_so_far, played_all, top_run}
+use Rattle.std.proofs.Common.{rules}
+use Rattle.ymx_world.specs.Played.{world_of}
+use Rattle.ymx_world.proofs.Plays.{played_on, stopped_run, finished_run}
 use Rattle.ymx_world.proofs.world.World.play.Goals as goal
 
 pub loop-step-preserved : goal.loop-step-preserved
@@ -9,39 +9,30 @@ loop-step-preserved c =
 
 pub returns-in-Err-play_step-clause-face_so_far : goal.returns-in-Err-play_step-clause-face_so_far
 returns-in-Err-play_step-clause-face_so_far c =
-    let same : IsSamePlay c.loop-step.played c.play_step.new.self = search rules in
-    (top_run c.args.config_a c.args.config_b c.in-Ok.ensures.may_a c.in-Ok.ensures.may_b (search rules) (search rules)
-    (take (length c.play_step.new.self.answers.items) c.args.steps.now) c.play_step.new.self.answers.items c.play_step.new.self.quiet.items c.play_step.new.self.world
-    (played_so_far c.args.steps.now _ c.loop-step.step-index c.loop-step.played c.play_step.new.self c.loop-step.invariant same)).face
+    (stopped_run c.args.config_a c.args.config_b c.in-Ok.ensures.may_a c.in-Ok.ensures.may_b (search rules) (search rules)
+    c.args.steps.now c.loop-step.step-index c.loop-step.played c.play_step.new.self c.loop-step.invariant (search rules)).face
 
 pub returns-in-Err-play_step-clause-windows_so_far : goal.returns-in-Err-play_step-clause-windows_so_far
 returns-in-Err-play_step-clause-windows_so_far c =
-    let same : IsSamePlay c.loop-step.played c.play_step.new.self = search rules in
-    (top_run c.args.config_a c.args.config_b c.in-Ok.ensures.may_a c.in-Ok.ensures.may_b (search rules) (search rules)
-    (take (length c.play_step.new.self.answers.items) c.args.steps.now) c.play_step.new.self.answers.items c.play_step.new.self.quiet.items c.play_step.new.self.world
-    (played_so_far c.args.steps.now _ c.loop-step.step-index c.loop-step.played c.play_step.new.self c.loop-step.invariant same)).windows
+    (stopped_run c.args.config_a c.args.config_b c.in-Ok.ensures.may_a c.in-Ok.ensures.may_b (search rules) (search rules)
+    c.args.steps.now c.loop-step.step-index c.loop-step.played c.play_step.new.self c.loop-step.invariant (search rules)).windows
 
 pub returns-in-Err-play_step-clause-queues_so_far : goal.returns-in-Err-play_step-clause-queues_so_far
 returns-in-Err-play_step-clause-queues_so_far c =
-    let same : IsSamePlay c.loop-step.played c.play_step.new.self = search rules in
-    (top_run c.args.config_a c.args.config_b c.in-Ok.ensures.may_a c.in-Ok.ensures.may_b (search rules) (search rules)
-    (take (length c.play_step.new.self.answers.items) c.args.steps.now) c.play_step.new.self.answers.items c.play_step.new.self.quiet.items c.play_step.new.self.world
-    (played_so_far c.args.steps.now _ c.loop-step.step-index c.loop-step.played c.play_step.new.self c.loop-step.invariant same)).queues
+    (stopped_run c.args.config_a c.args.config_b c.in-Ok.ensures.may_a c.in-Ok.ensures.may_b (search rules) (search rules)
+    c.args.steps.now c.loop-step.step-index c.loop-step.played c.play_step.new.self c.loop-step.invariant (search rules)).queues
 
 pub returns-clause-face : goal.returns-clause-face
 returns-clause-face c =
-    (top_run c.args.config_a c.args.config_b c.in-Ok.ensures.may_a c.in-Ok.ensures.may_b (search rules) (search rules)
-    c.args.steps.now c.loop-step.played.answers.items c.loop-step.played.quiet.items c.loop-step.played.world
-    (played_all c.args.steps.now _ c.loop-step.step-index c.loop-step.played c.loop-step-test.false c.loop-step.invariant)).face
+    (finished_run c.args.config_a c.args.config_b c.in-Ok.ensures.may_a c.in-Ok.ensures.may_b (search rules) (search rules)
+    c.args.steps.now c.loop-step.step-index c.loop-step.played c.loop-step-test.false c.loop-step.invariant).face
 
 pub returns-clause-windows : goal.returns-clause-windows
 returns-clause-windows c =
-    (top_run c.args.config_a c.args.config_b c.in-Ok.ensures.may_a c.in-Ok.ensures.may_b (search rules) (search rules)
-    c.args.steps.now c.loop-step.played.answers.items c.loop-step.played.quiet.items c.loop-step.played.world
-    (played_all c.args.steps.now _ c.loop-step.step-index c.loop-step.played c.loop-step-test.false c.loop-step.invariant)).windows
+    (finished_run c.args.config_a c.args.config_b c.in-Ok.ensures.may_a c.in-Ok.ensures.may_b (search rules) (search rules)
+    c.args.steps.now c.loop-step.step-index c.loop-step.played c.loop-step-test.false c.loop-step.invariant).windows
 
 pub returns-clause-queues : goal.returns-clause-queues
 returns-clause-queues c =
-    (top_run c.args.config_a c.args.config_b c.in-Ok.ensures.may_a c.in-Ok.ensures.may_b (search rules) (search rules)
-    c.args.steps.now c.loop-step.played.answers.items c.loop-step.played.quiet.items c.loop-step.played.world
-    (played_all c.args.steps.now _ c.loop-step.step-index c.loop-step.played c.loop-step-test.false c.loop-step.invariant)).queues
+    (finished_run c.args.config_a c.args.config_b c.in-Ok.ensures.may_a c.in-Ok.ensures.may_b (search rules) (search rules)
+    c.args.steps.now c.loop-step.step-index c.loop-step.played c.loop-step-test.false c.loop-step.invariant).queues
