@@ -149,3 +149,12 @@ turn_at k side old p q i v x = subst (λ (s : Side). HasTurn s p q) (sym i) (sub
 
 pub engines_at : (P : Engine → Engine → Type 0) (k side : Side) (old p q : Pair) → side ≡ k → old ≡ p → P (engine_at k old) (engine_at k q) → P (engine_at side p) (engine_at side q)
 engines_at P k side old p q i v x = subst (λ (s : Side). P (engine_at s p) (engine_at s q)) (sym i) (subst (λ (z : Pair). P (engine_at k z) (engine_at k q)) v x)
+
+-- an accept that found none, and an open that was refused, did so at the engine of that side
+pub none_at : (r : Option ℕ) (k side : Side) (old p q : Pair) → side ≡ k → old ≡ p → IfNone r (AcceptsNone (engine_at k old).session (engine_at k q).session) →
+    IfNone r (AcceptsNone (engine_at side p).session (engine_at side q).session)
+none_at r = engines_at (λ e f. IfNone r (AcceptsNone e.session f.session))
+
+pub refused_at : (r : Result ℕ CallFault) (k side : Side) (old p q : Pair) → side ≡ k → old ≡ p →
+    IfErr r (λ fault. OpensNone fault (engine_at k old).session (engine_at k q).session) → IfErr r (λ fault. OpensNone fault (engine_at side p).session (engine_at side q).session)
+refused_at r = engines_at (λ e f. IfErr r (λ fault. OpensNone fault e.session f.session))
