@@ -35,13 +35,9 @@ impl<R: Recorder> Booked<R> {
         ensures only { MatchResult result (λ fed. NotesOnly (take fed.taken bytes.now) self.old.session touched.old touched.new) (λ fault. touched.new ≡ touched.old) }
         ensures off { R.KEEPS ≡ false → IsOk result }
     {
-        let slip = match self
+        let slip = self
             .log
-            .prepare(self.alloc, seat, Event::Feed(Lent::new(bytes)), 0, 1)
-        {
-            Ok(slip) => slip,
-            Err(refused) => return Err(HubFault::Memory(refused)),
-        };
+            .prepare(self.alloc, seat, Event::Feed(Lent::new(bytes)), 0, 1)?;
         let fed = self.session.feed_touching(bytes, touched);
         self.log.add(
             seat,
@@ -60,10 +56,7 @@ impl<R: Recorder> Booked<R> {
         ensures alike { GainedAlike self.old.entries self.new.entries seat.old.entries seat.new.entries }
         ensures off { R.KEEPS ≡ false → IsOk result }
     {
-        let slip = match self.log.prepare(self.alloc, seat, Event::FeedEnd, 0, 1) {
-            Ok(slip) => slip,
-            Err(refused) => return Err(HubFault::Memory(refused)),
-        };
+        let slip = self.log.prepare(self.alloc, seat, Event::FeedEnd, 0, 1)?;
         self.session.feed_end();
         self.log.add(seat, slip, Event::FeedEnd, Reply::Done);
         Ok(())
@@ -82,13 +75,9 @@ impl<R: Recorder> Booked<R> {
         ensures off { R.KEEPS ≡ false → IsOk result }
     {
         let size = buffer.len();
-        let slip = match self
+        let slip = self
             .log
-            .prepare(self.alloc, seat, Event::Emit(size), size, 1)
-        {
-            Ok(slip) => slip,
-            Err(refused) => return Err(HubFault::Memory(refused)),
-        };
+            .prepare(self.alloc, seat, Event::Emit(size), size, 1)?;
         let count = self.session.emit(buffer);
         self.log.add(
             seat,

@@ -27,16 +27,10 @@ impl<R: Recorder> Booked<R> {
         ensures alike { GainedAlike self.old.entries self.new.entries seat.old.entries seat.new.entries }
         ensures empty { IfOk result (λ made. (made.1.entries ≡ []) × (made.2.entries ≡ [])) }
     {
-        if let Err(fault) = make_room(self.given, self.unspent, &mut self.half_spent) {
-            return Err(fault);
-        }
-        let slip = match self
+        make_room(self.given, self.unspent, &mut self.half_spent)?;
+        let slip = self
             .log
-            .prepare(self.alloc, seat, Event::Call(Call::Open), 0, 1)
-        {
-            Ok(slip) => slip,
-            Err(refused) => return Err(HubFault::Memory(refused)),
-        };
+            .prepare(self.alloc, seat, Event::Call(Call::Open), 0, 1)?;
         let opened = self.session.open();
         self.log.add(
             seat,
@@ -70,19 +64,14 @@ impl<R: Recorder> Booked<R> {
         ensures alike { GainedAlike self.old.entries self.new.entries seat.old.entries seat.new.entries }
         ensures empty { IfOk result (λ made. (made.2.entries ≡ []) × (made.3.entries ≡ [])) }
     {
-        if let Err(fault) = make_room(self.given, self.unspent, &mut self.half_spent) {
-            return Err(fault);
-        }
-        let slip = match self.log.prepare(
+        make_room(self.given, self.unspent, &mut self.half_spent)?;
+        let slip = self.log.prepare(
             self.alloc,
             seat,
             Event::Call(Call::OpenWith(Lent::new(bytes))),
             0,
             1,
-        ) {
-            Ok(slip) => slip,
-            Err(refused) => return Err(HubFault::Memory(refused)),
-        };
+        )?;
         let opened = self.session.open_with(bytes);
         self.log.add(
             seat,
@@ -115,16 +104,10 @@ impl<R: Recorder> Booked<R> {
         ensures steps { StepsAccepted R.KEEPS seat.old.number result self.old self.new }
         ensures alike { GainedAlike self.old.entries self.new.entries seat.old.entries seat.new.entries }
     {
-        if let Err(fault) = make_room(self.given, self.unspent, &mut self.half_spent) {
-            return Err(fault);
-        }
-        let slip = match self
+        make_room(self.given, self.unspent, &mut self.half_spent)?;
+        let slip = self
             .log
-            .prepare(self.alloc, seat, Event::Call(Call::Accept), 0, 1)
-        {
-            Ok(slip) => slip,
-            Err(refused) => return Err(HubFault::Memory(refused)),
-        };
+            .prepare(self.alloc, seat, Event::Call(Call::Accept), 0, 1)?;
         let accepted = self.session.accept();
         self.log.add(
             seat,

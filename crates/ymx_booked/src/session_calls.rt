@@ -22,13 +22,9 @@ impl<R: Recorder> Booked<R> {
         ensures alike { GainedAlike self.old.entries self.new.entries seat.old.entries seat.new.entries }
         ensures off { R.KEEPS ≡ false → IsNotMemory result }
     {
-        let slip = match self
+        let slip = self
             .log
-            .prepare(self.alloc, seat, Event::Call(Call::Ping), 0, 1)
-        {
-            Ok(slip) => slip,
-            Err(refused) => return Err(HubFault::Memory(refused)),
-        };
+            .prepare(self.alloc, seat, Event::Call(Call::Ping), 0, 1)?;
         let asked = self.session.ping();
         self.log.add(seat, slip, Event::Call(Call::Ping), replies::pinged(&asked));
         answered(asked)
@@ -42,13 +38,9 @@ impl<R: Recorder> Booked<R> {
         ensures alike { GainedAlike self.old.entries self.new.entries seat.old.entries seat.new.entries }
         ensures off { R.KEEPS ≡ false → IsNotMemory result }
     {
-        let slip = match self
+        let slip = self
             .log
-            .prepare(self.alloc, seat, Event::Call(Call::Ponged(number)), 0, 1)
-        {
-            Ok(slip) => slip,
-            Err(refused) => return Err(HubFault::Memory(refused)),
-        };
+            .prepare(self.alloc, seat, Event::Call(Call::Ponged(number)), 0, 1)?;
         let back = self.session.ponged(number);
         self.log.add(
             seat,
@@ -67,13 +59,9 @@ impl<R: Recorder> Booked<R> {
         ensures alike { GainedAlike self.old.entries self.new.entries seat.old.entries seat.new.entries }
         ensures off { R.KEEPS ≡ false → IsNotMemory result }
     {
-        let slip = match self
+        let slip = self
             .log
-            .prepare(self.alloc, seat, Event::Call(Call::GoAway), 0, 1)
-        {
-            Ok(slip) => slip,
-            Err(refused) => return Err(HubFault::Memory(refused)),
-        };
+            .prepare(self.alloc, seat, Event::Call(Call::GoAway), 0, 1)?;
         let said = self.session.go_away();
         self.log.add(seat, slip, Event::Call(Call::GoAway), replies::done(&said));
         answered(said)
@@ -87,13 +75,9 @@ impl<R: Recorder> Booked<R> {
         ensures alike { GainedAlike self.old.entries self.new.entries seat.old.entries seat.new.entries }
         ensures off { R.KEEPS ≡ false → IsNotMemory result }
     {
-        let slip = match self
+        let slip = self
             .log
-            .prepare(self.alloc, seat, Event::Call(Call::Close), 0, 1)
-        {
-            Ok(slip) => slip,
-            Err(refused) => return Err(HubFault::Memory(refused)),
-        };
+            .prepare(self.alloc, seat, Event::Call(Call::Close), 0, 1)?;
         self.session.close();
         let closed = Ok(());
         self.log.add(seat, slip, Event::Call(Call::Close), replies::done(&closed));

@@ -26,16 +26,13 @@ impl<R: Recorder> Booked<R> {
         ensures alike { GainedAlike self.old.entries self.new.entries seat.old.entries seat.new.entries }
         ensures within { IfOk result (λ wrote. took_count wrote ≤ length bytes.now) }
     {
-        let slip = match self.log.prepare(
+        let slip = self.log.prepare(
             self.alloc,
             seat,
             Event::Call(Call::Write(id, Lent::new(bytes))),
             0,
             1,
-        ) {
-            Ok(slip) => slip,
-            Err(refused) => return Err(HubFault::Memory(refused)),
-        };
+        )?;
         let wrote = self.session.write(id, bytes);
         self.log.add(
             seat,
@@ -60,16 +57,7 @@ impl<R: Recorder> Booked<R> {
         ensures off { R.KEEPS ≡ false → IsNotMemory result }
     {
         let size = buffer.len();
-        let slip = match self.log.prepare(
-            self.alloc,
-            seat,
-            Event::Call(Call::Read(id, size)),
-            size,
-            1,
-        ) {
-            Ok(slip) => slip,
-            Err(refused) => return Err(HubFault::Memory(refused)),
-        };
+        let slip = self.log.prepare(self.alloc, seat, Event::Call(Call::Read(id, size)), size, 1)?;
         let got = self.session.read(id, buffer);
         self.log.add(
             seat,
@@ -127,23 +115,10 @@ impl<R: Recorder> Booked<R> {
     {
         let second = self.spend(id);
         let entries = if second { 2 } else { 1 };
-        let slip = match self
+        let slip = self
             .log
-            .prepare(self.alloc, seat, ending.event(id), 0, entries)
-        {
-            Ok(slip) => slip,
-            Err(refused) => return Err(HubFault::Memory(refused)),
-        };
-        let next = match self.log.prepare(
-            self.alloc,
-            seat,
-            Event::Call(Call::Forget(id)),
-            0,
-            entries,
-        ) {
-            Ok(next) => next,
-            Err(refused) => return Err(HubFault::Memory(refused)),
-        };
+            .prepare(self.alloc, seat, ending.event(id), 0, entries)?;
+        let next = self.log.prepare(self.alloc, seat, Event::Call(Call::Forget(id)), 0, entries)?;
         let ended = ending.call(&mut self.session, id);
         self.log
             .add(seat, slip, ending.event(id), replies::done(&ended));
@@ -172,13 +147,9 @@ impl<R: Recorder> Booked<R> {
         if !self.spend(id) {
             return Ok(());
         }
-        let slip = match self
+        let slip = self
             .log
-            .prepare(self.alloc, seat, Event::Call(Call::Forget(id)), 0, 1)
-        {
-            Ok(slip) => slip,
-            Err(refused) => return Err(HubFault::Memory(refused)),
-        };
+            .prepare(self.alloc, seat, Event::Call(Call::Forget(id)), 0, 1)?;
         let gone = self.session.forget(id);
         self.log.add(
             seat,

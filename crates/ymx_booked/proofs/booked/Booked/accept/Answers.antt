@@ -36,11 +36,10 @@ invariant_of-self-2 g c = (
 
 pub returns-clause-booked : goal.returns-clause-booked
 returns-clause-booked g c =
-    let is = ap accepted_or (c.in-Ok-accepted.is ∙ ap Ok c.in-Some.is) in
+    let is = ap accepted_or (c.in-Ok.is ∙ ap Ok c.in-Some.is) in
     let told = c.accepted.ensures.reply ∙ is in
     given_one g.R.Recorder.KEEPS c.args.seat.now c.add.new.seat c.hand_out-first.result.0 c.hand_out-first.result.1 to_accept (reply.Accepted (Some c.in-Some.id)) (length c.prepare.new.self.entries) c.self.inside.log.journal (AcceptsOnce c.args.seat.now.number (Ok (Some (c.in-Some.id, c.hand_out-first.result.0, c.hand_out-first.result.1)))) (λ es x. x)
-    (c.add.ensures.number ∙ c.prepare.ensures.number)
-    (c.add.ensures.start ∙ c.prepare.ensures.start)
+    (c.add.ensures.number ∙ c.prepare.ensures.number) (c.add.ensures.start ∙ c.prepare.ensures.start)
     (entries_at g.R.Recorder.KEEPS _ _ _ _ to_accept _ (reply.Accepted (Some c.in-Some.id)) _ _ _ c.add.ensures.seat_entries c.prepare.ensures.number refl told c.prepare.ensures.seat_entries)
     (c.add.ensures.seen ∙ ap whole_of (journal_at _ c.args.seat.now.number _ to_accept _ (reply.Accepted (Some c.in-Some.id)) _ c.self.inside.log.journal _ c.add.ensures.journal c.prepare.ensures.number refl told c.prepare.ensures.journal))
     (behind_at _ _ _ _ _ _ c.prepare.ensures.number c.prepare.ensures.seen c.prepare.ensures.journal c.add.ensures.behind)
@@ -48,32 +47,29 @@ returns-clause-booked g c =
     (c.hand_out-first.ensures.second.3 ∙ ap whole_of (journal_at _ c.args.seat.now.number _ to_accept _ (reply.Accepted (Some c.in-Some.id)) _ c.self.inside.log.journal _ c.add.ensures.journal c.prepare.ensures.number refl told c.prepare.ensures.journal))
     (kept_longer g.R.Recorder.KEEPS _ _ _ _ c.hand_out-first.ensures.first.1 c.add.ensures.entries)
     (kept_longer g.R.Recorder.KEEPS _ _ _ _ c.hand_out-first.ensures.second.1 c.add.ensures.entries)
-    c.hand_out-first.ensures.first.2
-    c.hand_out-first.ensures.second.2
+    c.hand_out-first.ensures.first.2 c.hand_out-first.ensures.second.2
 
-pub returns-in-Err-accepted-clause-booked : goal.returns-in-Err-accepted-clause-booked
-returns-in-Err-accepted-clause-booked g c =
-    refused_one g.R.Recorder.KEEPS c.args.seat.now c.add.new.seat to_accept c.in-Err-accepted.fault c.hub_fault.result (length c.prepare.new.self.entries) c.self.inside.log.journal (AcceptsOnce c.args.seat.now.number (Err c.hub_fault.result)) (λ es x. x) c.hub_fault.ensures
-    (c.add.ensures.number ∙ c.prepare.ensures.number)
-    (c.add.ensures.start ∙ c.prepare.ensures.start)
-    (entries_at g.R.Recorder.KEEPS _ _ _ _ to_accept _ (reply.Refused c.in-Err-accepted.fault) _ _ _ c.add.ensures.seat_entries c.prepare.ensures.number refl (c.accepted.ensures.reply ∙ ap accepted_or c.in-Err-accepted.is) c.prepare.ensures.seat_entries)
-    (c.add.ensures.seen ∙ ap whole_of (journal_at _ c.args.seat.now.number _ to_accept _ (reply.Refused c.in-Err-accepted.fault) _ c.self.inside.log.journal _ c.add.ensures.journal c.prepare.ensures.number refl (c.accepted.ensures.reply ∙ ap accepted_or c.in-Err-accepted.is) c.prepare.ensures.journal))
+pub returns-in-Err-clause-booked : goal.returns-in-Err-clause-booked
+returns-in-Err-clause-booked g c =
+    refused_one g.R.Recorder.KEEPS c.args.seat.now c.add.new.seat to_accept c.in-Err.fault c.hub_fault.result (length c.prepare.new.self.entries) c.self.inside.log.journal (AcceptsOnce c.args.seat.now.number (Err c.hub_fault.result)) (λ es x. x) c.hub_fault.ensures
+    (c.add.ensures.number ∙ c.prepare.ensures.number) (c.add.ensures.start ∙ c.prepare.ensures.start)
+    (entries_at g.R.Recorder.KEEPS _ _ _ _ to_accept _ (reply.Refused c.in-Err.fault) _ _ _ c.add.ensures.seat_entries c.prepare.ensures.number refl (c.accepted.ensures.reply ∙ ap accepted_or c.in-Err.is) c.prepare.ensures.seat_entries)
+    (c.add.ensures.seen ∙ ap whole_of (journal_at _ c.args.seat.now.number _ to_accept _ (reply.Refused c.in-Err.fault) _ c.self.inside.log.journal _ c.add.ensures.journal c.prepare.ensures.number refl (c.accepted.ensures.reply ∙ ap accepted_or c.in-Err.is) c.prepare.ensures.journal))
     (behind_at _ _ _ _ _ _ c.prepare.ensures.number c.prepare.ensures.seen c.prepare.ensures.journal c.add.ensures.behind)
 
-pub returns-in-Err-accepted-clause-steps : goal.returns-in-Err-accepted-clause-steps
-returns-in-Err-accepted-clause-steps g c =
-    refused g.R.Recorder.KEEPS c.args.seat.now.number to_accept c.in-Err-accepted.fault c.hub_fault.result _ _ c.hub_fault.ensures
-    (steps_of g.R.Recorder.KEEPS to_accept (reply.Refused c.in-Err-accepted.fault) c.args.seat.now.number c.args.self.now _ _ c.self.inside.session _ c.self.inside.log.entries _ c.self.inside.log.journal _ _ _ _ _ (cc) (rw c.in-Err-accepted.is at c.accept-accepted.ensures.event)
-    (after_at g.R.Recorder.KEEPS _ c.args.seat.now.number _ to_accept _ (reply.Refused c.in-Err-accepted.fault) _ c.self.inside.log.entries _ c.add.ensures.entries c.prepare.ensures.number refl (c.accepted.ensures.reply ∙ ap accepted_or c.in-Err-accepted.is) c.prepare.ensures.entries)
-    (journal_at _ c.args.seat.now.number _ to_accept _ (reply.Refused c.in-Err-accepted.fault) _ c.self.inside.log.journal _ c.add.ensures.journal c.prepare.ensures.number refl (c.accepted.ensures.reply ∙ ap accepted_or c.in-Err-accepted.is) c.prepare.ensures.journal))
+pub returns-in-Err-clause-steps : goal.returns-in-Err-clause-steps
+returns-in-Err-clause-steps g c =
+    refused g.R.Recorder.KEEPS c.args.seat.now.number to_accept c.in-Err.fault c.hub_fault.result _ _ c.hub_fault.ensures
+    (steps_of g.R.Recorder.KEEPS to_accept (reply.Refused c.in-Err.fault) c.args.seat.now.number c.args.self.now _ _ c.self.inside.session _ c.self.inside.log.entries _ c.self.inside.log.journal _ _ _ _ _ (cc) (rw c.in-Err.is at c.accept-accepted.ensures.event)
+    (after_at g.R.Recorder.KEEPS _ c.args.seat.now.number _ to_accept _ (reply.Refused c.in-Err.fault) _ c.self.inside.log.entries _ c.add.ensures.entries c.prepare.ensures.number refl (c.accepted.ensures.reply ∙ ap accepted_or c.in-Err.is) c.prepare.ensures.entries)
+    (journal_at _ c.args.seat.now.number _ to_accept _ (reply.Refused c.in-Err.fault) _ c.self.inside.log.journal _ c.add.ensures.journal c.prepare.ensures.number refl (c.accepted.ensures.reply ∙ ap accepted_or c.in-Err.is) c.prepare.ensures.journal))
 
-pub returns-in_default-offer-clause-booked : goal.returns-in_default-offer-clause-booked
-returns-in_default-offer-clause-booked g c =
-    let is = ap accepted_or (c.in-Ok-accepted.is ∙ ap Ok c.in_default-offer.is) in
+pub returns-in_default-clause-booked : goal.returns-in_default-clause-booked
+returns-in_default-clause-booked g c =
+    let is = ap accepted_or (c.in-Ok.is ∙ ap Ok c.in_default.is) in
     let told = c.accepted.ensures.reply ∙ is in
     books_one g.R.Recorder.KEEPS c.args.seat.now c.add.new.seat to_accept (reply.Accepted None) (length c.prepare.new.self.entries) c.self.inside.log.journal (AcceptsOnce c.args.seat.now.number (Ok None))
-    (c.add.ensures.number ∙ c.prepare.ensures.number)
-    (c.add.ensures.start ∙ c.prepare.ensures.start)
+    (c.add.ensures.number ∙ c.prepare.ensures.number) (c.add.ensures.start ∙ c.prepare.ensures.start)
     (entries_at g.R.Recorder.KEEPS _ _ _ _ to_accept _ (reply.Accepted None) _ _ _ c.add.ensures.seat_entries c.prepare.ensures.number refl told c.prepare.ensures.seat_entries)
     (c.add.ensures.seen ∙ ap whole_of (journal_at _ c.args.seat.now.number _ to_accept _ (reply.Accepted None) _ c.self.inside.log.journal _ c.add.ensures.journal c.prepare.ensures.number refl told c.prepare.ensures.journal))
     (behind_at _ _ _ _ _ _ c.prepare.ensures.number c.prepare.ensures.seen c.prepare.ensures.journal c.add.ensures.behind)

@@ -15,8 +15,7 @@ add-requires-clause-history g c = λ κs free.
 pub returns-clause-booked : goal.returns-clause-booked
 returns-clause-booked g c =
     does_one {A = ℕ} g.R.Recorder.KEEPS c.args.seat.now c.add.new.seat (event.Emit (length c.args.buffer.now)) (λ count. reply.Emitted (take count c.emit-count.new.buffer)) (length c.prepare.new.self.entries) c.self.inside.log.journal c.emit-count.result
-    (c.add.ensures.number ∙ c.prepare.ensures.number)
-    (c.add.ensures.start ∙ c.prepare.ensures.start)
+    (c.add.ensures.number ∙ c.prepare.ensures.number) (c.add.ensures.start ∙ c.prepare.ensures.start)
     (entries_at g.R.Recorder.KEEPS _ _ _ _ (event.Emit (length c.args.buffer.now)) _ (reply.Emitted (take c.emit-count.result c.emit-count.new.buffer)) _ _ _ c.add.ensures.seat_entries c.prepare.ensures.number refl c.emitted.ensures.reply c.prepare.ensures.seat_entries)
     (c.add.ensures.seen ∙ ap whole_of (journal_at _ c.args.seat.now.number _ (event.Emit (length c.args.buffer.now)) _ (reply.Emitted (take c.emit-count.result c.emit-count.new.buffer)) _ c.self.inside.log.journal _ c.add.ensures.journal c.prepare.ensures.number refl c.emitted.ensures.reply c.prepare.ensures.journal))
     (behind_at _ _ _ _ _ _ c.prepare.ensures.number c.prepare.ensures.seen c.prepare.ensures.journal c.add.ensures.behind)

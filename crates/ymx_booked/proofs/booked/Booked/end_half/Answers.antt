@@ -1,4 +1,4 @@
-use Rattle.std.proofs.Common.{◌≡◌, ◌∙◌, length, refl, ap, inl}
+use Rattle.std.proofs.Common.{◌≡◌, ◌∙◌, length, refl, ap, arith, rules}
 use Rattle.ymx_session.specs.Replies.{done_or}
 use Rattle.ymx_seats.specs.Views.{whole_of, journal_after}
 use Rattle.ymx_booked.specs.Books.{to_end, to_forget}
@@ -53,8 +53,7 @@ returns-clause-booked g c =
     (entries_at g.R.Recorder.KEEPS _ _ _ _ (to_end c.args.ending c.args.id) _ (done_or c.call-ended.result) _ _ _ c.add.ensures.seat_entries (c.prepare-2.ensures.number ∙ c.prepare.ensures.number) c.event-2.ensures c.done.ensures.reply (c.prepare-2.ensures.seat_entries ∙ c.prepare.ensures.seat_entries))
     (c.add.ensures.seen ∙ ap whole_of (journal_at _ c.args.seat.now.number _ (to_end c.args.ending c.args.id) _ (done_or c.call-ended.result) _ c.self.inside.log.journal _ c.add.ensures.journal (c.prepare-2.ensures.number ∙ c.prepare.ensures.number) c.event-2.ensures c.done.ensures.reply (c.prepare-2.ensures.journal ∙ c.prepare.ensures.journal)))
     (behind_at _ _ _ _ _ _ (c.prepare-2.ensures.number ∙ c.prepare.ensures.number) (c.prepare-2.ensures.seen ∙ c.prepare.ensures.seen) (c.prepare-2.ensures.journal ∙ c.prepare.ensures.journal) c.add.ensures.behind)
-    c.add-2.ensures.number
-    c.add-2.ensures.start
+    c.add-2.ensures.number c.add-2.ensures.start
     (entries_at g.R.Recorder.KEEPS _ _ _ _ (to_forget c.args.id) _ (done_or c.forget-gone.result) _ _ _ c.add-2.ensures.seat_entries refl refl c.done-2.ensures.reply refl)
     (c.add-2.ensures.seen ∙ ap whole_of (journal_at _ _ _ (to_forget c.args.id) _ (done_or c.forget-gone.result) _ _ _ c.add-2.ensures.journal refl refl c.done-2.ensures.reply refl))
     c.add-2.ensures.behind
@@ -83,17 +82,17 @@ returns-clause-steps g c =
     (after_at g.R.Recorder.KEEPS _ c.args.seat.now.number _ (to_forget c.args.id) _ (done_or c.forget-gone.result) _ _ _ c.add-2.ensures.entries (c.add.ensures.number ∙ (c.prepare-2.ensures.number ∙ c.prepare.ensures.number)) refl c.done-2.ensures.reply refl)
     (journal_at _ c.args.seat.now.number _ (to_forget c.args.id) _ (done_or c.forget-gone.result) _ _ _ c.add-2.ensures.journal (c.add.ensures.number ∙ (c.prepare-2.ensures.number ∙ c.prepare.ensures.number)) refl c.done-2.ensures.reply refl))
 
-pub returns-in-Err-prepare-clause-booked : goal.returns-in-Err-prepare-clause-booked
-returns-in-Err-prepare-clause-booked g c =
+pub returns-in_err-next-clause-booked : goal.returns-in_err-next-clause-booked
+returns-in_err-next-clause-booked g c =
     books_none g.R.Recorder.KEEPS c.args.seat.now c.prepare-2.new.seat _
     (c.prepare-2.ensures.number ∙ c.prepare.ensures.number)
     (c.prepare-2.ensures.start ∙ c.prepare.ensures.start)
     (c.prepare-2.ensures.seat_entries ∙ c.prepare.ensures.seat_entries)
     (c.prepare-2.ensures.seen ∙ c.prepare.ensures.seen)
-    (inl (refl, refl))
+    (first_of (search rules, grind arith))
 
-pub returns-in-Err-prepare-clause-alike : goal.returns-in-Err-prepare-clause-alike
-returns-in-Err-prepare-clause-alike g c =
+pub returns-in_err-next-clause-alike : goal.returns-in_err-next-clause-alike
+returns-in_err-next-clause-alike g c =
     let kept : c.self.inside.log.entries ≡ c.args.self.now.entries = spent_adds_none c.args.id c.args.self.now (record { role = c.self.inside.role; config = c.self.inside.config; session = c.self.inside.session; entries = c.self.inside.log.entries; journal = c.self.inside.log.journal; given = c.self.inside.given; unspent = c.self.inside.unspent; half_spent = c.self.inside.half_spent.keys; ended = c.self.inside.ended }) (cc) in
     gained_none _ _ _ _ (c.prepare-2.ensures.entries ∙ c.prepare.ensures.entries ∙ kept) (c.prepare-2.ensures.seat_entries ∙ c.prepare.ensures.seat_entries)
 

@@ -15,8 +15,7 @@ add-requires-clause-history g c = λ κs free.
 pub returns-clause-booked : goal.returns-clause-booked
 returns-clause-booked g c =
     does_one {A = Unit {0}} g.R.Recorder.KEEPS c.args.seat.now c.add.new.seat event.FeedEnd (λ (u : Unit {0}). reply.Done) (length c.prepare.new.self.entries) c.self.inside.log.journal (tt {0})
-    (c.add.ensures.number ∙ c.prepare.ensures.number)
-    (c.add.ensures.start ∙ c.prepare.ensures.start)
+    (c.add.ensures.number ∙ c.prepare.ensures.number) (c.add.ensures.start ∙ c.prepare.ensures.start)
     (entries_at g.R.Recorder.KEEPS _ _ _ _ event.FeedEnd _ reply.Done _ _ _ c.add.ensures.seat_entries c.prepare.ensures.number refl refl c.prepare.ensures.seat_entries)
     (c.add.ensures.seen ∙ ap whole_of (journal_at _ c.args.seat.now.number _ event.FeedEnd _ reply.Done _ c.self.inside.log.journal _ c.add.ensures.journal c.prepare.ensures.number refl refl c.prepare.ensures.journal))
     (behind_at _ _ _ _ _ _ c.prepare.ensures.number c.prepare.ensures.seen c.prepare.ensures.journal c.add.ensures.behind)

@@ -16,8 +16,7 @@ add-requires-clause-history g c = λ κs free.
 pub returns-clause-booked : goal.returns-clause-booked
 returns-clause-booked g c =
     asks_one g.R.Recorder.KEEPS c.args.seat.now c.add.new.seat (to_collect c.args.number) ponged_or (length c.prepare.new.self.entries) c.self.inside.log.journal c.ponged-back.result c.answered.result c.answered.ensures
-    (c.add.ensures.number ∙ c.prepare.ensures.number)
-    (c.add.ensures.start ∙ c.prepare.ensures.start)
+    (c.add.ensures.number ∙ c.prepare.ensures.number) (c.add.ensures.start ∙ c.prepare.ensures.start)
     (entries_at g.R.Recorder.KEEPS _ _ _ _ (to_collect c.args.number) _ (ponged_or c.ponged-back.result) _ _ _ c.add.ensures.seat_entries c.prepare.ensures.number refl c.ponged.ensures.reply c.prepare.ensures.seat_entries)
     (c.add.ensures.seen ∙ ap whole_of (journal_at _ c.args.seat.now.number _ (to_collect c.args.number) _ (ponged_or c.ponged-back.result) _ c.self.inside.log.journal _ c.add.ensures.journal c.prepare.ensures.number refl c.ponged.ensures.reply c.prepare.ensures.journal))
     (behind_at _ _ _ _ _ _ c.prepare.ensures.number c.prepare.ensures.seen c.prepare.ensures.journal c.add.ensures.behind)
