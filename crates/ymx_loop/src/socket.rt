@@ -35,6 +35,30 @@ pub(crate) enum SocketFault {
     Memory,
 }
 
+/// The bytes that went through a socket.
+#[derive(Clone, Copy)]
+struct Traffic {
+    /// How many it gave. It stays at the greatest `u64`.
+    pulled: u64,
+    /// How many it took. It stays at the greatest `u64`.
+    pushed: u64,
+    /// The last call gave some.
+    just_gave: bool,
+    /// There was no memory for some that it gave.
+    lacked_memory: bool,
+}
+
+impl Traffic {
+    fn none() -> Traffic {
+        Traffic {
+            pulled: 0,
+            pushed: 0,
+            just_gave: false,
+            lacked_memory: false,
+        }
+    }
+}
+
 /// A socket, and what it has moved. No contract sees its bytes; but whether it said that no more come, whether its end
 /// was passed on, whether it has failed, and how many calls of it were made.
 #[derive(Drop)]
@@ -43,18 +67,13 @@ pub(crate) struct Socket {
     standing: Standing,
     /// What was first the matter with a call of it.
     failure: Option<SocketFault>,
-    /// There was no memory for the bytes that it gave.
-    lacked_memory: bool,
-    pulled: u64,
-    pushed: u64,
+    traffic: Traffic,
     /// It has said that no more bytes come from it.
     has_ended: bool,
     /// Its writing side was shut, as the stream's end was read.
     was_finished: bool,
     /// It was shut both ways.
     was_shut: bool,
-    /// The last call gave bytes.
-    just_gave: bool,
     /// How many calls of it as a device were made. It stays at the greatest `u64`.
     calls: u64,
 }
@@ -75,13 +94,10 @@ impl Socket {
             stream,
             standing,
             failure: None,
-            lacked_memory: false,
-            pulled: 0,
-            pushed: 0,
+            traffic: Traffic::none(),
             has_ended: false,
             was_finished: false,
             was_shut: false,
-            just_gave: false,
             calls: 0,
         }
     }
@@ -93,17 +109,17 @@ impl Socket {
 
     /// How many bytes it has given. It stays at the greatest `u64`.
     pub(crate) fn pulled(&self) -> u64 {
-        self.pulled
+        self.traffic.pulled
     }
 
     /// How many bytes it has taken. It stays at the greatest `u64`.
     pub(crate) fn pushed(&self) -> u64 {
-        self.pushed
+        self.traffic.pushed
     }
 
     /// What was first the matter with it.
     pub(crate) fn fault(&self) -> Option<SocketFault> {
-        if self.lacked_memory {
+        if self.traffic.lacked_memory {
             return Some(SocketFault::Memory);
         }
         self.failure
@@ -116,7 +132,7 @@ impl Socket {
 
     /// Whether it has said that no more bytes come from it, or has failed.
     pub(crate) fn is_over(&self) -> bool {
-        self.has_ended || self.failure.is_some() || self.lacked_memory
+        self.has_ended || self.failure.is_some() || self.traffic.lacked_memory
     }
 
     /// Whether nothing more goes to it.
@@ -138,7 +154,7 @@ impl Socket {
 
     /// What it gave before was taken.
     pub(crate) fn begin_turn(&mut self) {
-        self.just_gave = false;
+        self.traffic.just_gave = false;
     }
 
     /// Whether it failed, though it reads an end. The system tells of a failure once: where it told a write, a read
@@ -172,11 +188,11 @@ impl Socket {
         ensures failed { is_some self.new.failure ≡ (is_some self.old.failure || is_pull_failure result) }
         ensures rest { (self.new.was_finished ≡ self.old.was_finished) × (self.new.calls ≡ self.old.calls) }
     {
-        self.just_gave = false;
+        self.traffic.just_gave = false;
         match read(&self.stream, buffer) {
             Ok(count) if count > 0 => {
-                self.pulled = self.pulled.saturating_add(count as u64);
-                self.just_gave = true;
+                self.traffic.pulled = self.traffic.pulled.saturating_add(count as u64);
+                self.traffic.just_gave = true;
                 Pulled::Gave(count)
             }
             other => self.give_nothing(other),
@@ -191,7 +207,7 @@ impl Socket {
     {
         match write(&self.stream, bytes) {
             Ok(count) if count > 0 || bytes.is_empty() => {
-                self.pushed = self.pushed.saturating_add(count as u64);
+                self.traffic.pushed = self.traffic.pushed.saturating_add(count as u64);
                 Pushed::Took(count)
             }
             Err(e) if e.kind() == ErrorKind::WouldBlock => Pushed::NotNow,
@@ -276,8 +292,8 @@ impl Device for Socket {
         ensures counted { self.new.calls ≡ min (self.old.calls + 1) (2 ^ 64 - 1) }
     {
         self.count_call();
-        if self.just_gave {
-            self.lacked_memory = true;
+        if self.traffic.just_gave {
+            self.traffic.lacked_memory = true;
         }
         self.was_shut = true;
         if self.standing == Standing::Connected {
