@@ -154,6 +154,12 @@ pub(crate) struct Bells {
     pub(crate) emptied: Condvar,
     /// Something is due.
     pub(crate) due: Condvar,
+    pub(crate) budgets: Budgets,
+}
+
+/// The budgets of those who wait, by what they wait for.
+#[derive(Drop)]
+pub(crate) struct Budgets {
     /// That of those who read a stream.
     pub(crate) reading: SpinBudget,
     /// That of those who write a stream.
@@ -162,6 +168,17 @@ pub(crate) struct Bells {
     pub(crate) pinging: SpinBudget,
     /// That of write pumps, which wait until something is due.
     pub(crate) pumping: SpinBudget,
+}
+
+impl Budgets {
+    fn new() -> Budgets {
+        Budgets {
+            reading: SpinBudget::new(),
+            writing: SpinBudget::new(),
+            pinging: SpinBudget::new(),
+            pumping: SpinBudget::new(),
+        }
+    }
 }
 
 impl Bells {
@@ -174,10 +191,7 @@ impl Bells {
             ponged: Condvar::new(),
             emptied: Condvar::new(),
             due: Condvar::new(),
-            reading: SpinBudget::new(),
-            writing: SpinBudget::new(),
-            pinging: SpinBudget::new(),
-            pumping: SpinBudget::new(),
+            budgets: Budgets::new(),
         }
     }
 

@@ -122,7 +122,7 @@ impl<R: Recorder> Hub<R> {
     pub fn wait_until_due<W: Wait>(&self, rt: &W) {
         let shared = take_lock(rt, &self.shared);
         if !shared.booked.due() && shared.booked.status() == Status::Running {
-            drop(await_bell(rt, &self.bells.due, &self.bells.pumping, shared));
+            drop(await_bell(rt, &self.bells.due, &self.bells.budgets.pumping, shared));
         }
     }
 

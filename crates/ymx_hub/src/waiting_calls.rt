@@ -82,7 +82,12 @@ impl<R: Recorder> Hub<R> {
                 }
                 Ok(Got::End) => return Ok(0),
                 Ok(Got::Wait) => {
-                    shared = await_bell(rt, self.bells.reader(id), &self.bells.reading, shared);
+                    shared = await_bell(
+                        rt,
+                        self.bells.reader(id),
+                        &self.bells.budgets.reading,
+                        shared,
+                    );
                 }
                 Err(fault) => return Err(fault),
             }
@@ -115,7 +120,12 @@ impl<R: Recorder> Hub<R> {
                     self.tell_due(was_due, shared.booked.due());
                 }
                 Ok(Wrote::Wait) => {
-                    shared = await_bell(rt, self.bells.writer(id), &self.bells.writing, shared);
+                    shared = await_bell(
+                        rt,
+                        self.bells.writer(id),
+                        &self.bells.budgets.writing,
+                        shared,
+                    );
                 }
                 Err(fault) => return Err(WriteFault { taken, fault }),
             }
@@ -143,7 +153,12 @@ impl<R: Recorder> Hub<R> {
                 Ok(true) => return Ok(number),
                 Ok(false) => {
                     shared.waiters.pingers = true;
-                    shared = await_bell(rt, &self.bells.ponged, &self.bells.pinging, shared);
+                    shared = await_bell(
+                        rt,
+                        &self.bells.ponged,
+                        &self.bells.budgets.pinging,
+                        shared,
+                    );
                 }
                 Err(fault) => return Err(fault),
             }
