@@ -66,9 +66,13 @@ number_rule name least most = record (new_rule name) {
   parser = Some (parser.Signed least most);
 }
 
+-- `--NAME`, whose value is a number of bytes, 262144 where none is given
+abbrev pub bytes_rule : Text → Rule
+bytes_rule name = record (number_rule name (pos 262144) (pos 16777216)) { defaults = codes "262144" ∷ [] }
+
 -- `--limit`, whose value is a number in its range
 abbrev pub limit_rule : Rule
-limit_rule = record (number_rule (codes "limit") (pos 262144) (pos 16777216)) { defaults = codes "262144" ∷ [] }
+limit_rule = bytes_rule (codes "limit")
 
 -- the word that names a file
 abbrev pub file_rule : Rule
@@ -103,7 +107,7 @@ count_rule = number_rule (codes "count") (pos 0) (pos 4294967295)
 
 -- `--window`, whose value is a number in its range
 abbrev pub window_rule : Rule
-window_rule = record (number_rule (codes "window") (pos 262144) (pos 16777216)) { defaults = codes "262144" ∷ [] }
+window_rule = bytes_rule (codes "window")
 
 -- `--workers`, whose value is a number in its range
 abbrev pub workers_rule : Rule

@@ -4,7 +4,7 @@ ghost use Rattle.std.specs.Prelude.{◌≡◌, false, MatchOption, MatchResult};
 ghost use Rattle.std.specs.Str.Parse.{digits_value};
 ghost use Rattle.clap.specs.Words.{app_of, first_value, found_of, new_app, rule_of};
 ghost use Rattle.clap.specs.declared.builder.command.Command.TheViews.{out-Command as fields_of};
-ghost use Rattle.ymx_cli.specs.CommandLine.{IsBad, IsNumberIn, ReadsAs, number_rule};
+ghost use Rattle.ymx_cli.specs.CommandLine.{IsBad, IsNumberIn, ReadsAs, bytes_rule, number_rule};
 
 use clap::builder::ValueParser;
 use clap::{Arg, ArgAction, ArgMatches, Command};
@@ -35,6 +35,14 @@ pub(crate) fn number_argument<'a>(
         .action(ArgAction::Set)
         .value_parser(ValueParser::signed(least, most))
         .help(help)
+}
+
+/// An argument `--NAME`, whose value is a number of bytes from 262,144 to 16,777,216: the first of these where none is
+/// given.
+pub(crate) fn bytes_argument<'a>(alloc: Global, name: &'a str, help: &'a str) -> Arg<'a>
+    ensures { (rule_of result ≡ bytes_rule name.entry.now) × (result.global ≡ false) }
+{
+    number_argument(alloc, name, "BYTES", 262_144, 16_777_216, help).default_value("262144")
 }
 
 /// Why the options of a subcommand can't be taken, of which clap has found none bad.

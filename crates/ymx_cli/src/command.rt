@@ -9,7 +9,7 @@ ghost use Rattle.clap.specs.declared.builder.command.Command.TheViews.{out-Comma
 ghost use Rattle.ymx_cli.specs.CommandLine.{AsksFrames, AsksNoHelp, AsksNoLines, AsksScript, GivesBadOption, HasBadOption, IsEndTask, IsFrames, IsMistake, IsNotSaid, IsScript, IsSilentTask, NamesAnother, bare_shape, file_of, file_rule, frames_shape, kind_for, limit_rule, local_shape, named_words, remote_shape, script_shape, top_app, ymx_app};
 ghost use Rattle.ymx_cli.specs.Messages.{IsUntouched, PlaysFile, PlaysScript, PrintsFile, PrintsFrames, Refuses, SaysText, Shows, TakesText, TakesPart, change_of, fails, not_text, out_of_memory, reason, script_reason, writing_failed};
 
-use crate::arguments::{BadOption, number_argument, number_of, titled};
+use crate::arguments::{BadOption, bytes_argument, number_of, titled};
 use crate::tunnel::{Tunnel, asked_tunnel, local_command, remote_command, run_tunnel};
 use clap::error::ErrorKind;
 use clap::{Arg, ArgAction, ArgMatches, Command, Error};
@@ -397,15 +397,11 @@ fn script_command<'a>(alloc: Global) -> Result<Command<'a>, AllocError>
 fn limit_argument<'a>(alloc: Global) -> Arg<'a>
     ensures { (rule_of result ≡ limit_rule) × (result.global ≡ false) }
 {
-    number_argument(
+    bytes_argument(
         alloc,
         "limit",
-        "BYTES",
-        262_144,
-        16_777_216,
         "The longest payload accepted, from 262144 to 16777216",
     )
-    .default_value("262144")
 }
 
 /// The argument that names the file.

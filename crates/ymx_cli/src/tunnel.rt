@@ -6,7 +6,7 @@ ghost use Rattle.clap.specs.declared.builder.command.Command.TheViews.{out-Comma
 ghost use Rattle.ymx_cli.specs.CommandLine.{IsBad, IsBadEnd, IsBadLocal, IsBadMeeting, IsBadRemote, IsEnd, IsLocalOf, IsMeetingOf, IsNotSaid, IsNotVerbose, IsRemoteOf, IsUndecided, IsWayOf, ReadsOr, address_rule, count_rule, keep_rule, local_shape, local_start, meeting_rule, remote_shape, remote_start, verbose_rule, window_rule, workers_rule};
 ghost use Rattle.ymx_cli.specs.Messages.{IsUntouched, change_of};
 
-use crate::arguments::{BadOption, number_argument, number_of, titled};
+use crate::arguments::{BadOption, bytes_argument, number_argument, number_of, titled};
 use clap::{Arg, ArgAction, ArgMatches, Command};
 use std::alloc::{AllocError, Global};
 use std::net::{Net, SocketAddr, SocketAddrV4, TcpListener, TcpStream};
@@ -252,15 +252,11 @@ fn count_argument<'a>(alloc: Global) -> Arg<'a>
 fn window_argument<'a>(alloc: Global) -> Arg<'a>
     ensures { (rule_of result ≡ window_rule) × (result.global ≡ false) }
 {
-    number_argument(
+    bytes_argument(
         alloc,
         "window",
-        "BYTES",
-        262_144,
-        16_777_216,
         "How much of a stream may be unread here, from 262144 to 16777216",
     )
-    .default_value("262144")
 }
 
 /// The argument `--workers` of `remote`.

@@ -1,7 +1,7 @@
 use Rattle.std.proofs.Common.{[], ◌∷◌, ◌∙◌, ap, codes}
 use Rattle.clap.specs.Words.{Rule, rule_of}
 use Rattle.clap.specs.declared.builder.arg.Arg.{Arg}
-use Rattle.ymx_cli.proofs.tunnel.window_argument.Goals as goal
+use Rattle.ymx_cli.proofs.arguments.bytes_argument.Goals as goal
 
 pub returns : goal.returns
 returns c = (
