@@ -223,8 +223,8 @@ NamesAnother words = IsSomeAnd (subcommand_of ymx_app words) (λ p. (p.0 ≡ cod
 
 -- an end of a tunnel: it writes nothing to standard output
 abbrev pub IsEnd : Tunnel → Type 0
-IsEnd (tunnel.Local listen meeting count window keep verbose) = ⊤
-IsEnd (tunnel.Remote meeting target window workers keep verbose) = ⊤
+IsEnd (tunnel.Local local) = ⊤
+IsEnd (tunnel.Remote remote) = ⊤
 IsEnd tunnel.Selftest = ⊥
 
 -- the task is an end of a tunnel
@@ -245,8 +245,8 @@ IsNotSaid text = (text ≡ None) ⊎ (text ≡ Some (codes "false"))
 
 -- no end of a tunnel that says lines
 abbrev pub IsNotVerbose : Tunnel → Type 0
-IsNotVerbose (tunnel.Local listen meeting count window keep verbose) = verbose ≡ false
-IsNotVerbose (tunnel.Remote meeting target window workers keep verbose) = verbose ≡ false
+IsNotVerbose (tunnel.Local local) = local.is_verbose ≡ false
+IsNotVerbose (tunnel.Remote remote) = remote.is_verbose ≡ false
 IsNotVerbose tunnel.Selftest = ⊤
 
 -- no task that says lines
@@ -305,18 +305,20 @@ IsWayOf (asked.Awaits text) (met.Calls address) = ⊥
 -- `local` is asked what its options say, of which each was given this text, or none: addresses as they stand, one way to meet its
 -- peer, numbers as they are spelled, and defaults where nothing was given.
 abbrev pub IsLocalOf : (given : Text → Option Text) → (flag : Text → Option Text) → Tunnel → Type 0
-IsLocalOf given flag (tunnel.Local listen meeting count window keep verbose) =
-    (listen.now ≡ unwrap_or (given (codes "listen")) []) × IsMeetingOf given (codes "peer") (codes "await") meeting
-    × ReadsAs 0 4294967295 (given (codes "count")) count × ReadsOr 262144 16777216 262144 (given (codes "window")) window
-    × ReadsFlag (flag (codes "keep")) keep × ReadsFlag (flag (codes "verbose")) verbose
-IsLocalOf given flag (tunnel.Remote meeting target window workers keep verbose) = ⊥
+IsLocalOf given flag (tunnel.Local local) =
+    (local.listen.now ≡ unwrap_or (given (codes "listen")) []) × IsMeetingOf given (codes "peer") (codes "await") local.meeting
+    × ReadsAs 0 4294967295 (given (codes "count")) local.count × ReadsOr 262144 16777216 262144 (given (codes "window")) local.window
+    × ReadsFlag (flag (codes "keep")) local.is_kept × ReadsFlag (flag (codes "verbose")) local.is_verbose
+IsLocalOf given flag (tunnel.Remote remote) = ⊥
 IsLocalOf given flag tunnel.Selftest = ⊥
 
 -- the same of `remote`
 abbrev pub IsRemoteOf : (given : Text → Option Text) → (flag : Text → Option Text) → Tunnel → Type 0
-IsRemoteOf given flag (tunnel.Remote meeting target window workers keep verbose) =
-    IsMeetingOf given (codes "call") (codes "bind") meeting × (target.now ≡ unwrap_or (given (codes "target")) [])
-    × ReadsOr 262144 16777216 262144 (given (codes "window")) window × ReadsOr 1 1024 1024 (given (codes "workers")) workers
-    × ReadsFlag (flag (codes "keep")) keep × ReadsFlag (flag (codes "verbose")) verbose
-IsRemoteOf given flag (tunnel.Local listen meeting count window keep verbose) = ⊥
+IsRemoteOf given flag (tunnel.Remote remote) =
+    IsMeetingOf given (codes "call") (codes "bind") remote.meeting
+    × (remote.target.now ≡ unwrap_or (given (codes "target")) [])
+    × ReadsOr 262144 16777216 262144 (given (codes "window")) remote.window
+    × ReadsOr 1 1024 1024 (given (codes "workers")) remote.workers
+    × ReadsFlag (flag (codes "keep")) remote.is_kept × ReadsFlag (flag (codes "verbose")) remote.is_verbose
+IsRemoteOf given flag (tunnel.Local local) = ⊥
 IsRemoteOf given flag tunnel.Selftest = ⊥

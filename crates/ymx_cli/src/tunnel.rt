@@ -36,25 +36,33 @@ pub(crate) enum AskedMeeting<'a> {
 #[derive(Clone, Copy)]
 pub(crate) enum Tunnel<'a> {
     /// `local`.
-    Local {
-        listen: &'a str,
-        meeting: AskedMeeting<'a>,
-        count: Option<u32>,
-        window: u32,
-        is_kept: bool,
-        is_verbose: bool,
-    },
+    Local(AskedLocal<'a>),
     /// `remote`.
-    Remote {
-        meeting: AskedMeeting<'a>,
-        target: &'a str,
-        window: u32,
-        workers: u32,
-        is_kept: bool,
-        is_verbose: bool,
-    },
+    Remote(AskedRemote<'a>),
     /// `selftest`.
     Selftest,
+}
+
+/// What `local` is asked.
+#[derive(Clone, Copy)]
+pub(crate) struct AskedLocal<'a> {
+    listen: &'a str,
+    meeting: AskedMeeting<'a>,
+    count: Option<u32>,
+    window: u32,
+    is_kept: bool,
+    is_verbose: bool,
+}
+
+/// What `remote` is asked.
+#[derive(Clone, Copy)]
+pub(crate) struct AskedRemote<'a> {
+    meeting: AskedMeeting<'a>,
+    target: &'a str,
+    window: u32,
+    workers: u32,
+    is_kept: bool,
+    is_verbose: bool,
 }
 
 /// What the matches of this subcommand ask for.
@@ -86,14 +94,14 @@ fn asked_local<'a>(found: &ArgMatches<'a>) -> Result<Tunnel<'a>, BadOption<'a>>
     let count = number_of(found, "count", 0, u32::MAX)?;
     let window = window_of(found)?;
     let meeting = meeting_of(found, "peer", "await")?;
-    Ok(Tunnel::Local {
+    Ok(Tunnel::Local(AskedLocal {
         listen: found.get_str("listen").unwrap_or(""),
         meeting,
         count,
         window,
         is_kept: found.get_flag("keep"),
         is_verbose: found.get_flag("verbose"),
-    })
+    }))
 }
 
 /// What the matches of `remote` ask for.
@@ -109,14 +117,14 @@ fn asked_remote<'a>(found: &ArgMatches<'a>) -> Result<Tunnel<'a>, BadOption<'a>>
     let window = window_of(found)?;
     let workers = number_of(found, "workers", 1, 1024)?;
     let meeting = meeting_of(found, "call", "bind")?;
-    Ok(Tunnel::Remote {
+    Ok(Tunnel::Remote(AskedRemote {
         meeting,
         target: found.get_str("target").unwrap_or(""),
         window,
         workers: workers.unwrap_or(DEFAULT_WORKERS),
         is_kept: found.get_flag("keep"),
         is_verbose: found.get_flag("verbose"),
-    })
+    }))
 }
 
 /// How the peer is met: by a call of the address that `--CALLS` was given, or by listening at that of `--AWAITS`, just
@@ -318,51 +326,37 @@ pub(crate) fn run_tunnel<
     ensures unsaid { IsNotVerbose asked.entry → IsUntouched (change_of L.contents L.failures lines.old lines.new) }
 {
     match asked {
-        Tunnel::Local {
-            listen,
-            meeting,
-            count,
-            window,
-            is_kept,
-            is_verbose,
-        } => {
-            let Some(listen) = read_address(listen, errors) else {
+        Tunnel::Local(asked) => {
+            let Some(listen) = read_address(asked.listen, errors) else {
                 return 2;
             };
-            let Some(meeting) = read_meeting(meeting, errors) else {
+            let Some(meeting) = read_meeting(asked.meeting, errors) else {
                 return 2;
             };
             let local = Local {
                 listen,
                 meeting,
-                count,
-                window,
-                is_kept,
-                is_verbose,
+                count: asked.count,
+                window: asked.window,
+                is_kept: asked.is_kept,
+                is_verbose: asked.is_verbose,
             };
             run_local(rt, alloc, local, errors, lines)
         }
-        Tunnel::Remote {
-            meeting,
-            target,
-            window,
-            workers,
-            is_kept,
-            is_verbose,
-        } => {
-            let Some(meeting) = read_meeting(meeting, errors) else {
+        Tunnel::Remote(asked) => {
+            let Some(meeting) = read_meeting(asked.meeting, errors) else {
                 return 2;
             };
-            let Some(target) = read_address(target, errors) else {
+            let Some(target) = read_address(asked.target, errors) else {
                 return 2;
             };
             let remote = Remote {
                 meeting,
                 target,
-                window,
-                workers,
-                is_kept,
-                is_verbose,
+                window: asked.window,
+                workers: asked.workers,
+                is_kept: asked.is_kept,
+                is_verbose: asked.is_verbose,
             };
             run_remote(rt, alloc, remote, errors, lines)
         }
