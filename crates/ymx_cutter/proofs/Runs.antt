@@ -96,16 +96,7 @@ Gathers-fault limit text g fault r =
 -- it stands there whatever follows
 abbrev pub FaultStands-more : (limit : ℕ) (text more : List ℕ) (offset : ℕ) (fault : Fault) → FaultStands limit text offset fault → FaultStands limit (text ++ more) offset fault
 FaultStands-more limit text more offset fault s =
-    record {
-      before = s.before;
-      header = s.header;
-      more = s.more ++ more;
-      each = s.each;
-      fills = s.fills;
-      in_range = s.in_range;
-      has_fault = s.has_fault;
-      whole = ap (λ (x : List ℕ). x ++ more) s.whole ∙ (append_assoc (joined s.before) (spelling s.header ++ s.more) more ∙ ap (λ (x : List ℕ). joined s.before ++ x) (append_assoc (spelling s.header) s.more more));
-    }
+    record { before = s.before; header = s.header; more = s.more ++ more; each = s.each; fills = s.fills; in_range = s.in_range; has_fault = s.has_fault; whole = ap (λ (x : List ℕ). x ++ more) s.whole ∙ (append_assoc (joined s.before) (spelling s.header ++ s.more) more ∙ ap (λ (x : List ℕ). joined s.before ++ x) (append_assoc (spelling s.header) s.more more)) }
 
 -- what was read where a fault stands is the fault
 pub reads_the_fault : (limit : ℕ) (text : List ℕ) (g : Gathered) (seen : Seen) (offset : ℕ) (fault : Fault) → Gathers limit text g seen → FaultStands limit text offset fault → seen ≡ Broken fault

@@ -72,18 +72,7 @@ less-room id room less bytes w h s = record {
   stream = s.stream;
   offered = s.offered;
   agrees = s.agrees;
-  stage = record {
-    own = s.stage.own;
-    me = s.stage.me;
-    you = s.stage.you;
-    here = s.stage.here;
-    way = s.stage.way;
-    fin = s.stage.fin;
-    rst_outbound = s.stage.rst_outbound;
-    rst_inbound = s.stage.rst_inbound;
-    credit = omega arith;
-    offered_none = s.stage.offered_none;
-  };
+  stage = record { own = s.stage.own; me = s.stage.me; you = s.stage.you; here = s.stage.here; way = s.stage.way; fin = s.stage.fin; rst_outbound = s.stage.rst_outbound; rst_inbound = s.stage.rst_inbound; credit = omega arith; offered_none = s.stage.offered_none };
 }
 
 -- where nothing was left, a read gives no bytes

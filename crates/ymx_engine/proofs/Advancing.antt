@@ -151,22 +151,7 @@ quiet k none id (e ∷ es) h = let two = both (k e.0) (list_all (λ e. k e.0) es
 -- ---- what is passed on
 
 pub passes_none : (id : ℕ) (a : Engine) (d : Seen) (n : ℕ) → PassesOn id a a d d n
-passes_none id a d n = record {
-  events = [];
-  happen = refl;
-  own = refl;
-  fronts = tt;
-  inward = refl;
-  outward = Appends-nil d.had;
-  fails = false;
-  failed = or_same d.failed;
-  reset = refl;
-  outgoing = refl;
-  left = refl;
-  over = refl;
-  ended = or_same d.ended;
-  few = omega arith;
-}
+passes_none id a d n = record { events = []; happen = refl; own = refl; fronts = tt; inward = refl; outward = Appends-nil d.had; fails = false; failed = or_same d.failed; reset = refl; outgoing = refl; left = refl; over = refl; ended = or_same d.ended; few = omega arith }
 
 and_both : (a b : Bool) → a ≡ true → b ≡ true → (a && b) ≡ true
 and_both true b h k = k

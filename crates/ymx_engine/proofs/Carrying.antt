@@ -53,60 +53,13 @@ flushes_then a b c p q r n m x y = record {
 }
 
 pub flushes_more : (a b : Engine) (p q : Seen) (n m : ℕ) → n ≤ m → FlushesWire a b p q n → FlushesWire a b p q m
-flushes_more a b p q n m le x = record {
-  events = x.events;
-  happen = x.happen;
-  own = x.own;
-  sent = x.sent;
-  took = x.took;
-  outward = x.outward;
-  fails = x.fails;
-  failed = x.failed;
-  lost = x.lost;
-  incoming = x.incoming;
-  left = x.left;
-  over = x.over;
-  ended = x.ended;
-  few = let i = x.few in omega arith;
-}
+flushes_more a b p q n m le x = record { events = x.events; happen = x.happen; own = x.own; sent = x.sent; took = x.took; outward = x.outward; fails = x.fails; failed = x.failed; lost = x.lost; incoming = x.incoming; left = x.left; over = x.over; ended = x.ended; few = let i = x.few in omega arith }
 
 pub flushes_same : (a : Engine) (d : Seen) (n : ℕ) → FlushesWire a a d d n
-flushes_same a d n = record {
-  events = [];
-  happen = refl;
-  own = refl;
-  sent = [];
-  took = Appends-nil d.had;
-  outward = append-nil a.outgoing;
-  fails = false;
-  failed = or_same d.failed;
-  lost = refl;
-  incoming = refl;
-  left = refl;
-  over = refl;
-  ended = refl;
-  few = omega arith;
-}
+flushes_same a d n = record { events = []; happen = refl; own = refl; sent = []; took = Appends-nil d.had; outward = append-nil a.outgoing; fails = false; failed = or_same d.failed; lost = refl; incoming = refl; left = refl; over = refl; ended = refl; few = omega arith }
 
 pub reads_same : (a : Engine) (d : Seen) (n : ℕ) → ReadsWire a a d d n
-reads_same a d n = record {
-  events = [];
-  happen = refl;
-  own = refl;
-  came = [];
-  gave = Consumes-nil d.left;
-  fronts = tt;
-  inward = append-nil a.incoming;
-  said_end = false;
-  over = or_same d.over;
-  fails = false;
-  failed = or_same d.failed;
-  lost = refl;
-  outgoing = refl;
-  had = refl;
-  ended = refl;
-  few = omega arith;
-}
+reads_same a d n = record { events = []; happen = refl; own = refl; came = []; gave = Consumes-nil d.left; fronts = tt; inward = append-nil a.incoming; said_end = false; over = or_same d.over; fails = false; failed = or_same d.failed; lost = refl; outgoing = refl; had = refl; ended = refl; few = omega arith }
 
 pub gives_from : (e : Event) (told : Reply) (s t u : Session) → s ≡ u → Gives in_turn s e told t → Gives in_turn u e told t
 gives_from e told s t u same g = subst (λ (v : Session). Gives in_turn v e told t) same g
@@ -114,15 +67,7 @@ gives_from e told s t u same g = subst (λ (v : Session). Gives in_turn v e told
 -- ---- parts of a turn
 
 pub handles_in_none : (a : Engine) → HandlesIn false a a
-handles_in_none a = record {
-  events = [];
-  happen = refl;
-  own = refl;
-  fronts = tt;
-  inward = refl;
-  outgoing = refl;
-  heard = refl;
-}
+handles_in_none a = record { events = []; happen = refl; own = refl; fronts = tt; inward = refl; outgoing = refl; heard = refl }
 
 pub handles_out_none : (a : Engine) → HandlesOut false a a
 handles_out_none a = record {
@@ -136,42 +81,10 @@ handles_out_none a = record {
 
 -- no bytes were called for
 pub reads_handled : (a b : Engine) (d : Seen) (n : ℕ) → HandlesIn false a b → ReadsWire a b d d n
-reads_handled a b d n x = record {
-  events = x.events;
-  happen = x.happen;
-  own = x.own;
-  came = [];
-  gave = Consumes-nil d.left;
-  fronts = subst (λ (v : List ℕ). FeedsFront v x.events) (sym (append-nil a.incoming)) x.fronts;
-  inward = append-nil a.incoming ∙ x.inward;
-  said_end = false;
-  over = or_same d.over;
-  fails = false;
-  failed = or_same d.failed;
-  lost = x.heard;
-  outgoing = x.outgoing;
-  had = refl;
-  ended = refl;
-  few = omega arith;
-}
+reads_handled a b d n x = record { events = x.events; happen = x.happen; own = x.own; came = []; gave = Consumes-nil d.left; fronts = subst (λ (v : List ℕ). FeedsFront v x.events) (sym (append-nil a.incoming)) x.fronts; inward = append-nil a.incoming ∙ x.inward; said_end = false; over = or_same d.over; fails = false; failed = or_same d.failed; lost = x.heard; outgoing = x.outgoing; had = refl; ended = refl; few = omega arith }
 
 pub flushes_handled : (a b : Engine) (d : Seen) (n : ℕ) → HandlesOut false a b → FlushesWire a b d d n
-flushes_handled a b d n x = record {
-  events = x.events;
-  happen = x.happen;
-  own = x.own;
-  sent = [];
-  took = Appends-nil d.had;
-  outward = x.outward;
-  fails = false;
-  failed = or_same d.failed;
-  lost = x.heard;
-  incoming = x.incoming;
-  left = refl;
-  over = refl;
-  ended = refl;
-  few = omega arith;
-}
+flushes_handled a b d n x = record { events = x.events; happen = x.happen; own = x.own; sent = []; took = Appends-nil d.had; outward = x.outward; fails = false; failed = or_same d.failed; lost = x.heard; incoming = x.incoming; left = refl; over = refl; ended = refl; few = omega arith }
 
 -- the wire was called for bytes, and what it said was heard
 pub pulled_heard : (r : Pulled) (a b c : Engine) (d e : Seen) → a.incoming ≡ [] → TakesIn r a b d e → HandlesIn (is_end r || is_pull_failure r) b c → ReadsWireSo (is_end r) (is_pull_failure r) a c d e 1
@@ -244,25 +157,10 @@ feeds_one a b told s bytes same waits h incoming outgoing =
     }
 
 pub loses_in : (a b : Engine) (s : Session) → s ≡ a.session → Gives in_turn s event.FeedEnd reply.Done b.session → b.incoming ≡ a.incoming → b.outgoing ≡ a.outgoing → HandlesIn true a b
-loses_in a b s same h incoming outgoing = let g = gives_from event.FeedEnd reply.Done s b.session a.session same h in record {
-  events = (event.FeedEnd, reply.Done) ∷ [];
-  happen = (b.session, g, refl);
-  own = refl;
-  fronts = (tt, tt);
-  inward = sym incoming;
-  outgoing = outgoing;
-  heard = refl;
-}
+loses_in a b s same h incoming outgoing = let g = gives_from event.FeedEnd reply.Done s b.session a.session same h in record { events = (event.FeedEnd, reply.Done) ∷ []; happen = (b.session, g, refl); own = refl; fronts = (tt, tt); inward = sym incoming; outgoing = outgoing; heard = refl }
 
 pub loses_out : (a b : Engine) (s : Session) → s ≡ a.session → Gives in_turn s event.FeedEnd reply.Done b.session → b.incoming ≡ a.incoming → b.outgoing ≡ a.outgoing → HandlesOut true a b
-loses_out a b s same h incoming outgoing = let g = gives_from event.FeedEnd reply.Done s b.session a.session same h in record {
-  events = (event.FeedEnd, reply.Done) ∷ [];
-  happen = (b.session, g, refl);
-  own = refl;
-  outward = append-nil a.outgoing ∙ sym outgoing;
-  incoming = incoming;
-  heard = refl;
-}
+loses_out a b s same h incoming outgoing = let g = gives_from event.FeedEnd reply.Done s b.session a.session same h in record { events = (event.FeedEnd, reply.Done) ∷ []; happen = (b.session, g, refl); own = refl; outward = append-nil a.outgoing ∙ sym outgoing; incoming = incoming; heard = refl }
 
 pub empty_of : (xs ys : List ℕ) (b : Bool) → b ≡ (length xs == 0) → xs ≡ ys → b ≡ true → ys ≡ []
 empty_of [] ys b e s t = sym s

@@ -82,13 +82,7 @@ starts_front xs ys = take-append_seam xs ys
 -- a read failed
 pub read_fails : (limit : ℕ) (was is had has after : Option (List ℕ)) (read reads written writes : ℕ) (p : Printer) → RoundsHavePrinted limit was is had has read reads written writes p → Keeps is after →
     (text : List ℕ) × (output : List ℕ) × Consumes was after text × Appends had has output × PrintsPart limit text output
-read_fails limit was is had has after read reads written writes p h kept = (
-  h.text,
-  h.done,
-  Consumes-kept was is after h.text h.consumes kept,
-  h.appends,
-  (h.done ++ p.lines.items, inl (prints_now limit h.text (h.done ++ p.lines.items) p h.printing.so_far), starts_front h.done p.lines.items),
-)
+read_fails limit was is had has after read reads written writes p h kept = (h.text, h.done, Consumes-kept was is after h.text h.consumes kept, h.appends, (h.done ++ p.lines.items, inl (prints_now limit h.text (h.done ++ p.lines.items) p h.printing.so_far), starts_front h.done p.lines.items))
 
 -- a read that gave no bytes was the last
 pub last_read : (count : ℕ) (buffer : List ℕ) (P : Type 0) → count ≤ length buffer → 0 < length buffer → (count ≡ 0 → 0 < length buffer → P) → take count buffer ≡ [] → P

@@ -14,12 +14,4 @@ use Rattle.ymx_law_audit.proofs.Orders.{are-answered}
 pub are-one-run : (may : Choice → Session → Bool) (xs ys : List Entry) (steps : List Step) → IsJointOrder xs ys steps → AreOneRun may xs ys steps
 are-one-run may xs ys steps order wa fa wb fb s t g r k =
     let h = are-answered may xs ys steps order.0 (new_session Client wa fa) (new_session Server wb fb) s t order.1 r k in
-    record {
-      turns = order.0;
-      joint = order.1;
-      world = h.world;
-      runs = h.runs;
-      side_a = h.side_a;
-      side_b = h.side_b;
-      machine = h.machine (new_machine wa fa wb fb) (begins wa fa wb fb g.low_a g.high_a g.low_b g.high_b g.client g.server g.small_a g.some_b g.small_b);
-    }
+    record { turns = order.0; joint = order.1; world = h.world; runs = h.runs; side_a = h.side_a; side_b = h.side_b; machine = h.machine (new_machine wa fa wb fb) (begins wa fa wb fb g.low_a g.high_a g.low_b g.high_b g.client g.server g.small_a g.some_b g.small_b) }

@@ -20,22 +20,4 @@ accepts_at feeder taker = record { position = 0; seat = feeder; event = event.Fe
     ∷ record { position = 1; seat = taker; event = event.Call Accept; reply = reply.Accepted (Some 1) } ∷ []
 
 pub worked-joint : (opener sender feeder taker : ℕ) → IsJoint (true ∷ true ∷ false ∷ false ∷ []) new_pipe new_pipe (opens_at opener sender) (accepts_at feeder taker) joint_steps
-worked-joint opener sender feeder taker = (
-  _,
-  _,
-  new_pipe,
-  _,
-  refl,
-  refl,
-  refl,
-  (
-    _,
-    _,
-    new_pipe,
-    _,
-    refl,
-    (window_frame 1 1, refl, refl),
-    refl,
-    (_, _, new_pipe, _, refl, (fed_whole, refl, omega arith, omega arith, refl, refl), refl, (_, _, new_pipe, _, refl, refl, refl, (refl, refl, refl))),
-  ),
-)
+worked-joint opener sender feeder taker = (_, _, new_pipe, _, refl, refl, refl, (_, _, new_pipe, _, refl, (window_frame 1 1, refl, refl), refl, (_, _, new_pipe, _, refl, (fed_whole, refl, omega arith, omega arith, refl, refl), refl, (_, _, new_pipe, _, refl, refl, refl, (refl, refl, refl)))))

@@ -79,24 +79,7 @@ advanced e f x = λ to from.
       before = d;
       after = d;
       calls = 0;
-      reads = record {
-        events = x.events;
-        happen = x.happen;
-        own = x.own;
-        came = [];
-        gave = Consumes-nil d.left;
-        fronts = subst (λ (v : List ℕ). FeedsFront v x.events) (sym (append-nil e.incoming)) x.fronts;
-        inward = append-nil e.incoming ∙ x.inward;
-        said_end = false;
-        over = or_same d.over;
-        fails = false;
-        failed = or_same d.failed;
-        lost = x.heard;
-        outgoing = x.outgoing;
-        had = refl;
-        ended = refl;
-        few = omega arith;
-      };
+      reads = record { events = x.events; happen = x.happen; own = x.own; came = []; gave = Consumes-nil d.left; fronts = subst (λ (v : List ℕ). FeedsFront v x.events) (sym (append-nil e.incoming)) x.fronts; inward = append-nil e.incoming ∙ x.inward; said_end = false; over = or_same d.over; fails = false; failed = or_same d.failed; lost = x.heard; outgoing = x.outgoing; had = refl; ended = refl; few = omega arith };
       events = refl;
       left = refl;
       left_new = refl;

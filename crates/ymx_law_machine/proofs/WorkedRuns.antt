@@ -281,18 +281,4 @@ still-one m s e a b c d f g h = record {
 
 -- after the resets that cross nothing is under way
 pub crossing_still : IsStillMachine crossing_13
-crossing_still = still-one crossing_13 _ refl refl refl refl refl refl refl (record {
-  me_born = refl;
-  you_born = refl;
-  me_gone = refl;
-  you_gone = refl;
-  way_outbound = refl;
-  way_inbound = refl;
-  fin_outbound = refl;
-  fin_inbound = refl;
-  ack = refl;
-  rst_outbound = refl;
-  rst_inbound = refl;
-  little_outbound = λ a b c. absurd (cc);
-  little_inbound = λ a b c. absurd (cc);
-})
+crossing_still = still-one crossing_13 _ refl refl refl refl refl refl refl (record { me_born = refl; you_born = refl; me_gone = refl; you_gone = refl; way_outbound = refl; way_inbound = refl; fin_outbound = refl; fin_inbound = refl; ack = refl; rst_outbound = refl; rst_inbound = refl; little_outbound = λ a b c. absurd (cc); little_inbound = λ a b c. absurd (cc) })

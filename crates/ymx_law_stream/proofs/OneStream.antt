@@ -35,13 +35,7 @@ related-mine : (wx wy : ℕ) (x x' y : End) (xy yx : List Part) (s : Stream) →
 related-mine wx wy x x' y xy yx s e c = subst (λ k. Related wx wy k y xy yx s) e c
 
 pub one-flip : (ox oy : Bool) (wx wy : ℕ) (x y : End) (xy yx : List Part) (s : Stream) → IsOneStream ox oy wx wy x y xy yx s → IsOneStream oy ox wy wx y x yx xy (flip s)
-one-flip ox oy wx wy x y xy yx s c = record {
-  mine = c.yours;
-  yours = c.mine;
-  mine_stands = c.yours_stands;
-  yours_stands = c.mine_stands;
-  related = related-flip wx wy c.mine c.yours xy yx s c.related;
-}
+one-flip ox oy wx wy x y xy yx s c = record { mine = c.yours; yours = c.mine; mine_stands = c.yours_stands; yours_stands = c.mine_stands; related = related-flip wx wy c.mine c.yours xy yx s c.related }
 
 -- at a side that isn't over each end stands for itself
 pub stands-itself : (e g : End) → Stands false e g → e ≡ g
@@ -164,13 +158,7 @@ one-pieces bytes rest oy wx wy x y xy yx s c =
 
 pub one-over : (ox oy : Bool) (wx wy : ℕ) (x y : End) (xy yx : List Part) (s : Stream) →
     IsOneStream ox oy wx wy x y xy (Data [] ∷ yx) s → IsOneStream ox oy wx wy x y xy yx s
-one-over ox oy wx wy x y xy yx s c = record {
-  mine = c.mine;
-  yours = c.yours;
-  mine_stands = c.mine_stands;
-  yours_stands = c.yours_stands;
-  related = payload-over wx wy c.mine c.yours xy yx s c.related;
-}
+one-over ox oy wx wy x y xy yx s c = record { mine = c.mine; yours = c.yours; mine_stands = c.mine_stands; yours_stands = c.yours_stands; related = payload-over wx wy c.mine c.yours xy yx s c.related }
 
 -- ---- a side is lost or closed
 

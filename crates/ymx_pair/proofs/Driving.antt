@@ -85,19 +85,7 @@ moves_none id d = record {
 
 -- one exchange
 pub exchange_moves : (id : ℕ) (e f : Engine) (a b : Seen) (lost : List ℕ) → (x : Exchange id e.session f.session a b lost) → Moves id x.events a b
-exchange_moves id e f a b lost x = record {
-  came = taken id x.events ++ lost;
-  loses = has_bytes lost;
-  gave = x.inward;
-  inward = λ h. ap (λ (v : List ℕ). taken id x.events ++ v) (no_bytes_of lost h) ∙ append-nil (taken id x.events);
-  outward = x.outward;
-  whole = x.whole;
-  over = x.over;
-  ended = x.ended;
-  fails = x.fails;
-  failed = x.failed;
-  reset = x.reset;
-}
+exchange_moves id e f a b lost x = record { came = taken id x.events ++ lost; loses = has_bytes lost; gave = x.inward; inward = λ h. ap (λ (v : List ℕ). taken id x.events ++ v) (no_bytes_of lost h) ∙ append-nil (taken id x.events); outward = x.outward; whole = x.whole; over = x.over; ended = x.ended; fails = x.fails; failed = x.failed; reset = x.reset }
 
 -- payload that was passed on
 
@@ -247,23 +235,11 @@ none_beside B (es ∷ more) = none_beside B more
 
 pub passes_at_client : (id : ℕ) (e f b : Engine) (ab ba : List ℕ) (old new : Seen) → PassesOn id e f old new 2 →
     PassesAt A id (record { a = e; b = b; ab = ab; ba = ba }) (record { a = f; b = b; ab = ab; ba = ba }) old new
-passes_at_client id e f b ab ba old new x = record {
-  passed = x;
-  turns = turns_at A (each_alone x.events);
-  took = client_takes (each_alone x.events) e f b ab ba (passed id e f old new 2 x);
-  here = all_alone A x.events;
-  beside = none_beside A (each_alone x.events);
-}
+passes_at_client id e f b ab ba old new x = record { passed = x; turns = turns_at A (each_alone x.events); took = client_takes (each_alone x.events) e f b ab ba (passed id e f old new 2 x); here = all_alone A x.events; beside = none_beside A (each_alone x.events) }
 
 pub passes_at_server : (id : ℕ) (a e f : Engine) (ab ba : List ℕ) (old new : Seen) → PassesOn id e f old new 2 →
     PassesAt B id (record { a = a; b = e; ab = ab; ba = ba }) (record { a = a; b = f; ab = ab; ba = ba }) old new
-passes_at_server id a e f ab ba old new x = record {
-  passed = x;
-  turns = turns_at B (each_alone x.events);
-  took = server_takes (each_alone x.events) a e f ab ba (passed id e f old new 2 x);
-  here = all_alone B x.events;
-  beside = none_beside B (each_alone x.events);
-}
+passes_at_server id a e f ab ba old new x = record { passed = x; turns = turns_at B (each_alone x.events); took = server_takes (each_alone x.events) a e f ab ba (passed id e f old new 2 x); here = all_alone B x.events; beside = none_beside B (each_alone x.events) }
 
 pub passes_at : (k side : Side) (id : ℕ) (old p q : Pair) (d e : Seen) → side ≡ k → old ≡ p → PassesAt k id old q d e → PassesAt side id p q d e
 passes_at k side id old p q d e i v x = subst (λ (s : Side). PassesAt s id p q d e) (sym i) (subst (λ (z : Pair). PassesAt k id z q d e) v x)
@@ -373,15 +349,7 @@ drives_round id_a id_b p q r a0 a1 b0 b1 x y =
     drives_then id_a id_b p q r a0 a1 a1 b0 b0 b1 (drives_at_client id_a id_b p q a0 a1 b0 x) (drives_at_server id_a id_b q r a1 b0 b1 y)
 
 pub reached_by : (ts : List Turn) (p q : Pair) → IsReached p → TakeTurns ts p q → IsReached q
-reached_by ts p q x t = record {
-  window_a = x.window_a;
-  first_a = x.first_a;
-  window_b = x.window_b;
-  first_b = x.first_b;
-  good = x.good;
-  turns = x.turns ++ ts;
-  took = turns_then x.turns ts _ p q x.took t;
-}
+reached_by ts p q x t = record { window_a = x.window_a; first_a = x.first_a; window_b = x.window_b; first_b = x.first_b; good = x.good; turns = x.turns ++ ts; took = turns_then x.turns ts _ p q x.took t }
 
 -- ---- a side by its name
 

@@ -58,34 +58,10 @@ abbrev pub seen_of : (from to : List ℕ) → Seen
 seen_of from to = record { left = Some from; had = Some to; over = Some false; ended = None; failed = Some false; calls = 0 }
 
 read_once : (e f : Engine) (to from to_new from_new : List ℕ) (n : ℕ) → ReadsWire e f (seen_of from to) (seen_of from_new to_new) n → IsReadOnce e f to from to_new from_new
-read_once e f to from to_new from_new n x = (
-  x.events,
-  record {
-    before = seen_of from to;
-    after = seen_of from_new to_new;
-    calls = n;
-    reads = x;
-    events = refl;
-    left = refl;
-    left_new = refl;
-    same_to = some_same to_new to x.had;
-  },
-)
+read_once e f to from to_new from_new n x = (x.events, record { before = seen_of from to; after = seen_of from_new to_new; calls = n; reads = x; events = refl; left = refl; left_new = refl; same_to = some_same to_new to x.had })
 
 flushed : (e f : Engine) (to from to_new from_new : List ℕ) (n : ℕ) → FlushesWire e f (seen_of from to) (seen_of from_new to_new) n → IsFlushed e f to from to_new from_new
-flushed e f to from to_new from_new n x = (
-  x.events,
-  record {
-    before = seen_of from to;
-    after = seen_of from_new to_new;
-    calls = n;
-    flushes = x;
-    events = refl;
-    had = refl;
-    had_new = refl;
-    same_from = some_same from_new from x.left;
-  },
-)
+flushed e f to from to_new from_new n x = (x.events, record { before = seen_of from to; after = seen_of from_new to_new; calls = n; flushes = x; events = refl; had = refl; had_new = refl; same_from = some_same from_new from x.left })
 
 -- what was noted before changed nothing
 pub read_noted : (d e f : Engine) (to from to_new from_new : List ℕ) (n : ℕ) → e ≡ d → ReadsWire e f (seen_of from to) (seen_of from_new to_new) n → IsReadOnce d f to from to_new from_new
@@ -132,15 +108,7 @@ made_new s t a b ab ba p made_a made_b none_ab none_ba is =
 
 pub reached_new : (window_a first_a window_b first_b : ℕ) (p : Pair) → AreGood window_a first_a window_b first_b →
     p ≡ pair_of (new_session Client window_a first_a) (new_session Server window_b first_b) → IsReached p
-reached_new window_a first_a window_b first_b p good is = record {
-  window_a = window_a;
-  first_a = first_a;
-  window_b = window_b;
-  first_b = first_b;
-  good = good;
-  turns = [];
-  took = is;
-}
+reached_new window_a first_a window_b first_b p good is = record { window_a = window_a; first_a = first_a; window_b = window_b; first_b = first_b; good = good; turns = []; took = is }
 
 -- ---- a side by its name
 

@@ -20,16 +20,7 @@ bad_if bytes after p ended other f (Mistaken one mistake rest ends) = Mistaken o
 bad_if bytes after p ended other f (LastMistaken end one mistake last) = LastMistaken (f end) one mistake last
 
 pub mistake_if : (text done : List ℕ) (ended other : Type 0) (l : Lines) → (ended → other) → IsAtMistake text done ended l → IsAtMistake text done other l
-mistake_if text done ended other l f h = record {
-  before = h.before;
-  bytes = h.bytes;
-  after = h.after;
-  p = h.p;
-  whole = h.whole;
-  plays = h.plays;
-  bad = bad_if h.bytes h.after h.p ended other f h.bad;
-  numbered = h.numbered;
-}
+mistake_if text done ended other l f h = record { before = h.before; bytes = h.bytes; after = h.after; p = h.p; whole = h.whole; plays = h.plays; bad = bad_if h.bytes h.after h.p ended other f h.bad; numbered = h.numbered }
 
 -- what is printed of the first lines is a part of it
 pub front_part : (text output : List ℕ) (ended : Type 0) → PrintsFirstLines text output → PrintsBeginning text ended output

@@ -42,18 +42,7 @@ cut_short text output short ended Writing h s = part_short text output short end
 cut_short text output short ended Memory h s = part_short text output short ended h s
 
 mistake_of : (text : List ℕ) (number : ℕ) (output : List ℕ) (ended other : Type 0) → (ended → other) → PrintsMistake text number output ended → PrintsMistake text number output other
-mistake_of text number output ended other f h = record {
-  before = h.before;
-  bytes = h.bytes;
-  after = h.after;
-  p = h.p;
-  printed = h.printed;
-  whole = h.whole;
-  plays = h.plays;
-  bad = bad_if h.bytes h.after h.p ended other f h.bad;
-  numbered = h.numbered;
-  told = h.told;
-}
+mistake_of text number output ended other f h = record { before = h.before; bytes = h.bytes; after = h.after; p = h.p; printed = h.printed; whole = h.whole; plays = h.plays; bad = bad_if h.bytes h.after h.p ended other f h.bad; numbered = h.numbered; told = h.told }
 
 some_if : (text output : List ℕ) (ended other : Type 0) → (ended → other) → PrintsSome text ended output → PrintsSome text other output
 some_if text output ended other f (inl h) = inl h
@@ -121,13 +110,7 @@ run_part was is had has read reads written writes l h = record { one = h.reading
 -- a read failed
 pub read_fails : (was is had has after : Option (List ℕ)) (read reads written writes : ℕ) (l : Lines) (ended : Type 0) → RoundsHavePlayed was is had has read reads written writes l → Keeps is after →
     (text : List ℕ) × (output : List ℕ) × Consumes was after text × Appends had has output × PrintsBeginning text ended output
-read_fails was is had has after read reads written writes l ended h kept = (
-  h.text,
-  h.done,
-  Consumes-kept was is after h.text h.consumes kept,
-  h.appends,
-  (h.done ++ l.player.text.items, inl (reading_front h.text h.done l h.reading), starts_front h.done l.player.text.items),
-)
+read_fails was is had has after read reads written writes l ended h kept = (h.text, h.done, Consumes-kept was is after h.text h.consumes kept, h.appends, (h.done ++ l.player.text.items, inl (reading_front h.text h.done l h.reading), starts_front h.done l.player.text.items))
 
 -- a write failed after a read
 pub write_fails : (was is had has after then_has : Option (List ℕ)) (read reads written writes count : ℕ) (buffer lines : List ℕ) (l m : Lines) (end : Option ScriptEnd) →

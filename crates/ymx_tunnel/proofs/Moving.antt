@@ -92,13 +92,7 @@ fill_ends was is had has after bytes failed fails count buffer h (consumes, ende
 pub fill_goes_on : (was is had has after then_has : Option (List ℕ)) (bytes failed fails fails' more count : ℕ) (buffer : List ℕ) → HasFilled was is had has bytes failed fails →
     Consumes is after (take count buffer) → Appends has then_has (take count buffer) → count ≤ length buffer → fails' ≡ fails → more ≡ min (bytes + count) most →
     HasFilled was after had then_has more failed fails'
-fill_goes_on was is had has after then_has bytes failed fails fails' more count buffer h consumes appends fits kept m = record {
-  moved = h.moved ++ take count buffer;
-  consumes = Consumes-trans was is after _ _ h.consumes consumes;
-  appends = Appends-trans had has then_has _ _ h.appends appends;
-  count = counts_more h.moved (take count buffer) bytes more count h.count (length-take-le count buffer fits) m;
-  kept = kept ∙ h.kept;
-}
+fill_goes_on was is had has after then_has bytes failed fails fails' more count buffer h consumes appends fits kept m = record { moved = h.moved ++ take count buffer; consumes = Consumes-trans was is after _ _ h.consumes consumes; appends = Appends-trans had has then_has _ _ h.appends appends; count = counts_more h.moved (take count buffer) bytes more count h.count (length-take-le count buffer fits) m; kept = kept ∙ h.kept }
 
 -- the first ones of the first ones
 starts_part : (moved : List ℕ) (count part : ℕ) (buffer : List ℕ) → StartsWith (moved ++ take count buffer) (moved ++ take part (take count buffer))
@@ -118,11 +112,7 @@ fill_stops was is had has after then_has bytes failed fails more count part buff
   h.moved ++ take part (take count buffer),
   Consumes-trans was is after _ _ h.consumes consumes,
   Appends-trans had has then_has _ _ h.appends appends,
-  record {
-    beginning = starts_part h.moved count part buffer;
-    counted = counts_more h.moved (take part (take count buffer)) bytes more part h.count (length-take-le part (take count buffer) fits) m;
-    all = λ e. absurd (no_end e);
-  },
+  record { beginning = starts_part h.moved count part buffer; counted = counts_more h.moved (take part (take count buffer)) bytes more part h.count (length-take-le part (take count buffer) fits) m; all = λ e. absurd (no_end e) },
   λ e. absurd (no_end e),
 )
 
@@ -215,13 +205,7 @@ empty_at_end was is had has after bytes failed fails count buffer why h gives no
 pub empty_goes_on : (was is had has after then_has : Option (List ℕ)) (bytes failed fails fails' more count : ℕ) (buffer : List ℕ) → HasEmptied was is had has bytes failed fails →
     Appends is after (take count buffer) → Appends has then_has (take count buffer) → count ≤ length buffer → fails' ≡ fails → more ≡ min (bytes + count) most →
     HasEmptied was after had then_has more failed fails'
-empty_goes_on was is had has after then_has bytes failed fails fails' more count buffer h gives appends fits kept m = record {
-  moved = h.moved ++ take count buffer;
-  gives = Appends-trans was is after _ _ h.gives gives;
-  appends = Appends-trans had has then_has _ _ h.appends appends;
-  count = counts_more h.moved (take count buffer) bytes more count h.count (length-take-le count buffer fits) m;
-  kept = kept ∙ h.kept;
-}
+empty_goes_on was is had has after then_has bytes failed fails fails' more count buffer h gives appends fits kept m = record { moved = h.moved ++ take count buffer; gives = Appends-trans was is after _ _ h.gives gives; appends = Appends-trans had has then_has _ _ h.appends appends; count = counts_more h.moved (take count buffer) bytes more count h.count (length-take-le count buffer fits) m; kept = kept ∙ h.kept }
 
 -- the writer took some of a round, and failed
 pub empty_stops : (was is had has after then_has : Option (List ℕ)) (bytes failed fails more count part : ℕ) (buffer : List ℕ) → HasEmptied was is had has bytes failed fails →
@@ -232,9 +216,5 @@ empty_stops was is had has after then_has bytes failed fails more count part buf
   h.moved ++ take part (take count buffer),
   Appends-trans was is after _ _ h.gives gives,
   Appends-trans had has then_has _ _ h.appends appends,
-  record {
-    beginning = starts_part h.moved count part buffer;
-    counted = counts_more h.moved (take part (take count buffer)) bytes more part h.count (length-take-le part (take count buffer) fits) m;
-    all = λ e. cc;
-  },
+  record { beginning = starts_part h.moved count part buffer; counted = counts_more h.moved (take part (take count buffer)) bytes more part h.count (length-take-le part (take count buffer) fits) m; all = λ e. cc },
 )

@@ -45,17 +45,7 @@ pub good_world : (a b : Config) → new_fault Client a ≡ None → new_fault Se
 good_world a b fine_a fine_b small_a small_b =
     let g = good_config Client a fine_a in
     let h = good_config Server b fine_b in
-    record {
-      low_a = g.low;
-      high_a = g.high;
-      low_b = h.low;
-      high_b = h.high;
-      client = g.own;
-      server = h.own;
-      small_a = small_id (a.first == 0) 1 a.first (omega arith) small_a;
-      some_b = some_id (b.first == 0) 2 b.first refl (omega arith);
-      small_b = small_id (b.first == 0) 2 b.first (omega arith) small_b;
-    }
+    record { low_a = g.low; high_a = g.high; low_b = h.low; high_b = h.high; client = g.own; server = h.own; small_a = small_id (a.first == 0) 1 a.first (omega arith) small_a; some_b = some_id (b.first == 0) 2 b.first refl (omega arith); small_b = small_id (b.first == 0) 2 b.first (omega arith) small_b }
 
 -- two new sessions with nothing on its way between them are a new world
 made_new : (window_a first_a window_b first_b : ℕ) (a b : Session) (w : World) →
@@ -67,16 +57,7 @@ made_new window_a first_a window_b first_b a b w made_a made_b is =
 pub reached_new : (window_a first_a window_b first_b : ℕ) (a b : Session) (w : World) → AreGood window_a first_a window_b first_b →
     a ≡ new_session Client window_a first_a → b ≡ new_session Server window_b first_b → w ≡ record { a = a; b = b; ab = new_pipe; ba = new_pipe } → IsReached w
 reached_new window_a first_a window_b first_b a b w good made_a made_b is =
-    subst IsReached (made_new window_a first_a window_b first_b a b w made_a made_b is) (record {
-      window_a = window_a;
-      first_a = first_a;
-      window_b = window_b;
-      first_b = first_b;
-      good = good;
-      steps = [];
-      answers = [];
-      runs = refl;
-    })
+    subst IsReached (made_new window_a first_a window_b first_b a b w made_a made_b is) (record { window_a = window_a; first_a = first_a; window_b = window_b; first_b = first_b; good = good; steps = []; answers = []; runs = refl })
 
 -- the new machine agrees with it
 pub agrees_new : (window_a first_a window_b first_b : ℕ) (a b : Session) (w : World) → AreGood window_a first_a window_b first_b →

@@ -32,16 +32,7 @@ reached_on st given w v r one = record {
 
 -- a run leads to a world that can be
 pub reached_along : (steps : List Step) (answers : List Answer) (w v : World) → IsReached w → Runs in_turn steps answers w v → IsReached v
-reached_along steps answers w v r run = record {
-  window_a = r.window_a;
-  first_a = r.first_a;
-  window_b = r.window_b;
-  first_b = r.first_b;
-  good = r.good;
-  steps = r.steps ++ steps;
-  answers = r.answers ++ answers;
-  runs = runs-on in_turn r.steps steps r.answers answers _ w v r.runs run;
-}
+reached_along steps answers w v r run = record { window_a = r.window_a; first_a = r.first_a; window_b = r.window_b; first_b = r.first_b; good = r.good; steps = r.steps ++ steps; answers = r.answers ++ answers; runs = runs-on in_turn r.steps steps r.answers answers _ w v r.runs run }
 
 -- a step that is made, or not, leads to a world that can be
 pub reached_if : {E : Type 0} (given : Result Answer E) (st : Step) (w v : World) → IsReached w →

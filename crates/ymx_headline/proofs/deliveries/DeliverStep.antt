@@ -54,20 +54,7 @@ deaf-byte x y no_memory b rest w m h e deaf still =
       now = m;
       moves = [];
       did = (refl, refl);
-      agrees = record {
-        roles = h.roles;
-        streams = h.streams;
-        refines = h.refines;
-        a = h.a;
-        b = h.b;
-        ab = h.ab;
-        ba = record {
-          machine = h.ba.machine;
-          streams = record { same = h.ba.streams.same; empty = λ t. (let no : true ≡ false = sym t ∙ not_stopped in absurd cc) };
-          text = λ on. (let no : false ≡ true = rw (not_stopped, still) at on in absurd cc);
-        };
-        order = h.order;
-      };
+      agrees = record { roles = h.roles; streams = h.streams; refines = h.refines; a = h.a; b = h.b; ab = h.ab; ba = record { machine = h.ba.machine; streams = record { same = h.ba.streams.same; empty = λ t. (let no : true ≡ false = sym t ∙ not_stopped in absurd cc) }; text = λ on. (let no : false ≡ true = rw (not_stopped, still) at on in absurd cc) }; order = h.order };
     })
 
 -- ---- the last byte of a header

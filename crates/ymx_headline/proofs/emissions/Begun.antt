@@ -62,30 +62,9 @@ says-as : (id j : ℕ) (bytes : List ℕ) (parts : List Part) → (header_of byt
 says-as id j bytes parts p q r = rw (r, p, q) refl
 
 pub spelled-is : (k : FrameKind) (window limit id : ℕ) (e : End) → window < 2 ^ 32 → e.reader.owed < 2 ^ 32 → id < 2 ^ 32 → limit ≤ first_credit → IsStreamFrame id (parts_of k window limit e) (spelled k window limit id e)
-spelled-is Open window limit id e w o i l = record {
-  one = short-frame 1 1 id (window - first_credit) (omega arith) (omega arith);
-  plain = record { reset = λ t. absurd cc; away = λ t. absurd cc };
-  says = says-as id id (spelled Open window limit id e) (parts_of Open window limit e) (id-is 1 1 id (window - first_credit) [] i) (said Open window limit id e w o) refl;
-  away = refl;
-  asks_none = λ n. refl;
-  replies_none = λ n. refl;
-}
-spelled-is OpenWith window limit id e w o i l = record {
-  one = data-one 1 id limit e.writer.unsent l;
-  plain = record { reset = λ t. absurd cc; away = λ t. absurd cc };
-  says = says-as id id (spelled OpenWith window limit id e) (parts_of OpenWith window limit e) (id-is 0 1 id (length (take limit e.writer.unsent)) (take limit e.writer.unsent) i) (said OpenWith window limit id e w o) refl;
-  away = refl;
-  asks_none = λ n. refl;
-  replies_none = λ n. refl;
-}
-spelled-is Accept window limit id e w o i l = record {
-  one = short-frame 1 2 id (window - first_credit) (omega arith) (omega arith);
-  plain = record { reset = λ t. absurd cc; away = λ t. absurd cc };
-  says = says-as id id (spelled Accept window limit id e) (parts_of Accept window limit e) (id-is 1 2 id (window - first_credit) [] i) (said Accept window limit id e w o) refl;
-  away = refl;
-  asks_none = λ n. refl;
-  replies_none = λ n. refl;
-}
+spelled-is Open window limit id e w o i l = record { one = short-frame 1 1 id (window - first_credit) (omega arith) (omega arith); plain = record { reset = λ t. absurd cc; away = λ t. absurd cc }; says = says-as id id (spelled Open window limit id e) (parts_of Open window limit e) (id-is 1 1 id (window - first_credit) [] i) (said Open window limit id e w o) refl; away = refl; asks_none = λ n. refl; replies_none = λ n. refl }
+spelled-is OpenWith window limit id e w o i l = record { one = data-one 1 id limit e.writer.unsent l; plain = record { reset = λ t. absurd cc; away = λ t. absurd cc }; says = says-as id id (spelled OpenWith window limit id e) (parts_of OpenWith window limit e) (id-is 0 1 id (length (take limit e.writer.unsent)) (take limit e.writer.unsent) i) (said OpenWith window limit id e w o) refl; away = refl; asks_none = λ n. refl; replies_none = λ n. refl }
+spelled-is Accept window limit id e w o i l = record { one = short-frame 1 2 id (window - first_credit) (omega arith) (omega arith); plain = record { reset = λ t. absurd cc; away = λ t. absurd cc }; says = says-as id id (spelled Accept window limit id e) (parts_of Accept window limit e) (id-is 1 2 id (window - first_credit) [] i) (said Accept window limit id e w o) refl; away = refl; asks_none = λ n. refl; replies_none = λ n. refl }
 spelled-is Reset window limit id e w o i l = record {
   one = short-frame 1 8 id 0 (omega arith) (omega arith);
   plain = record { reset = λ t. (refl, refl, refl); away = λ t. absurd cc };
@@ -168,21 +147,7 @@ begun-text s r bytes parts id more f open_ none is t = record {
 -- ---- a byte of the frame begun goes onto the pipe
 
 moved-text : (s : Sender) (r : Receiver) (bytes : List ℕ) (parts : List (ℕ × Part)) (b : ℕ) (rest : List ℕ) → s.outgoing ≡ b ∷ rest → Text s r bytes parts → Text (record s { outgoing = rest }) r (bytes ++ b ∷ []) parts
-moved-text s r bytes parts b rest e t = record {
-  cut = t.cut;
-  tail = t.tail;
-  frames = t.frames;
-  kept = t.kept;
-  missing = t.missing;
-  each = t.each;
-  plain = t.plain;
-  says = t.says;
-  text = (let was : held_bytes r.incoming ++ (bytes ++ ((b ∷ rest) ++ t.cut)) ≡ t.tail ++ concat t.frames = rw e at t.text in
-      ap (λ xs. held_bytes r.incoming ++ xs) (append_assoc bytes (b ∷ []) (rest ++ t.cut)) ∙ was);
-  away = record { once = t.away.once; means = t.away.means; said = t.away.said };
-  pings = record { once = t.pings.once; means = t.pings.means; asked = t.pings.asked };
-  pongs = record { once = t.pongs.once; means = t.pongs.means; there = t.pongs.there };
-}
+moved-text s r bytes parts b rest e t = record { cut = t.cut; tail = t.tail; frames = t.frames; kept = t.kept; missing = t.missing; each = t.each; plain = t.plain; says = t.says; text = (let was : held_bytes r.incoming ++ (bytes ++ ((b ∷ rest) ++ t.cut)) ≡ t.tail ++ concat t.frames = rw e at t.text in ap (λ xs. held_bytes r.incoming ++ xs) (append_assoc bytes (b ∷ []) (rest ++ t.cut)) ∙ was); away = record { once = t.away.once; means = t.away.means; said = t.away.said }; pings = record { once = t.pings.once; means = t.pings.means; asked = t.pings.asked }; pongs = record { once = t.pongs.once; means = t.pongs.means; there = t.pongs.there } }
 
 moved-on : (s : Sender) (r : Receiver) (p : Pipe) (parts : List (ℕ × Part)) (g m : Bool) (b : ℕ) (rest : List ℕ) → s.outgoing ≡ b ∷ rest → AgreesOn s r p parts g m → AgreesOn (record s { outgoing = rest }) r (pushed (b ∷ []) p) parts g m
 moved-on s r p parts g m b rest e h =

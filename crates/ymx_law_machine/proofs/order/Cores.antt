@@ -32,15 +32,7 @@ pub record Core : Type 0 where
   pub offered_you : List ℕ
 
 abbrev pub core : Machine → Core
-core m = record {
-  streams = m.streams;
-  window_me = m.me.window;
-  window_you = m.you.window;
-  next_me = m.me.next;
-  next_you = m.you.next;
-  offered_me = m.me.offered;
-  offered_you = m.you.offered;
-}
+core m = record { streams = m.streams; window_me = m.me.window; window_you = m.you.window; next_me = m.me.next; next_you = m.you.next; offered_me = m.me.offered; offered_you = m.you.offered }
 
 pub core-unmoved : (m n : Machine) → Unmoved m n → core n ≡ core m
 core-unmoved m n u = rw (u.streams, u.you, u.window, u.next, u.offered) refl

@@ -77,27 +77,11 @@ above_zero n e = grind (arith, nat_tests)
 -- a stray payload is dropped
 pub stray-keeps : (h : Header) (s : Session) → IsWithin s → IsWithin (expects h true s)
 stray-keeps h s w =
-    split IsWithin (payload h == 0) s (record s { incoming = Payload h.id (payload h) (has_fin h) true }) (λ t. w) (λ f. record {
-      table = w.table;
-      offered = w.offered;
-      pings = w.pings;
-      answers = record { count = w.answers.count; room = λ t. absurd cc };
-      outgoing = w.outgoing;
-      incoming = above_zero (payload h) f;
-      next = w.next;
-    })
+    split IsWithin (payload h == 0) s (record s { incoming = Payload h.id (payload h) (has_fin h) true }) (λ t. w) (λ f. record { table = w.table; offered = w.offered; pings = w.pings; answers = record { count = w.answers.count; room = λ t. absurd cc }; outgoing = w.outgoing; incoming = above_zero (payload h) f; next = w.next })
 
 taken-keeps : (h : Header) (s : Session) → (0 < payload h → IsPayloadWithin h.id (payload h) s.role s.next s.table.entries) → IsWithin s → IsWithin (expects h false s)
 taken-keeps h s p w =
-    split IsWithin (payload h == 0) s (record s { incoming = Payload h.id (payload h) (has_fin h) false }) (λ t. w) (λ f. record {
-      table = w.table;
-      offered = w.offered;
-      pings = w.pings;
-      answers = record { count = w.answers.count; room = λ t. absurd cc };
-      outgoing = w.outgoing;
-      incoming = p (above_zero (payload h) f);
-      next = w.next;
-    })
+    split IsWithin (payload h == 0) s (record s { incoming = Payload h.id (payload h) (has_fin h) false }) (λ t. w) (λ f. record { table = w.table; offered = w.offered; pings = w.pings; answers = record { count = w.answers.count; room = λ t. absurd cc }; outgoing = w.outgoing; incoming = p (above_zero (payload h) f); next = w.next })
 
 -- ---- a head for a record
 

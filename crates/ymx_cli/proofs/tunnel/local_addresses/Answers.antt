@@ -11,7 +11,4 @@ returns c =
     let local_one = c.in_ok-arg.ensures.globals ∙ ap₂ either c.titled.ensures.1 c.address.ensures.1 in
     let two = c.in_ok-arg-2.ensures.shape c.meeting_address.ensures.1 ∙ ap₂ with_rule one c.meeting_address.ensures.0 in
     let local_two = c.in_ok-arg-2.ensures.globals ∙ ap₂ either local_one c.meeting_address.ensures.1 in
-    IfOk-weaker c.arg-3.result _ _ (λ r added. (
-      added.shape c.meeting_address-2.ensures.1 ∙ ap₂ with_rule two c.meeting_address-2.ensures.0,
-      added.globals ∙ ap₂ either local_two c.meeting_address-2.ensures.1,
-    )) c.arg-3.ensures
+    IfOk-weaker c.arg-3.result _ _ (λ r added. (added.shape c.meeting_address-2.ensures.1 ∙ ap₂ with_rule two c.meeting_address-2.ensures.0, added.globals ∙ ap₂ either local_two c.meeting_address-2.ensures.1)) c.arg-3.ensures

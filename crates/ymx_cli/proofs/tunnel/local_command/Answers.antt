@@ -14,7 +14,4 @@ returns c =
     let local_one = c.in_ok-arg-2.ensures.globals ∙ ap₂ either local_kept c.count_argument.ensures.1 in
     let two = c.in_ok-arg-3.ensures.shape c.window_argument.ensures.1 ∙ ap₂ with_rule one c.window_argument.ensures.0 in
     let local_two = c.in_ok-arg-3.ensures.globals ∙ ap₂ either local_one c.window_argument.ensures.1 in
-    IfOk-weaker c.arg-4.result _ _ (λ r added. (
-      ap (λ (a : App). a.top) (added.shape c.verbose_argument.ensures.1 ∙ ap₂ with_rule two c.verbose_argument.ensures.0),
-      added.globals ∙ ap₂ either local_two c.verbose_argument.ensures.1,
-    )) c.arg-4.ensures
+    IfOk-weaker c.arg-4.result _ _ (λ r added. (ap (λ (a : App). a.top) (added.shape c.verbose_argument.ensures.1 ∙ ap₂ with_rule two c.verbose_argument.ensures.0), added.globals ∙ ap₂ either local_two c.verbose_argument.ensures.1)) c.arg-4.ensures
