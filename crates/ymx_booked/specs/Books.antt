@@ -1,5 +1,6 @@
 -- What an event under the lock adds to the list of its seat, and to the history that its seat has seen (this project's own).
 use Rattle.std.specs.Prelude.{◌≡◌, ℕ, ◌<◌, ◌⊎◌, List, [], ◌∷◌, ◌++◌, length, Bool, true, false, Option, Some, None, Result, Ok, Err}
+use Rattle.ymx_memory.specs.declared.refused.RefusedAllocation.{RefusedAllocation}
 use Rattle.ymx_machine.specs.shared.Evidence.{evidence}
 use Rattle.ymx_machine.specs.declared.types.CallFault.{CallFault}
 use Rattle.ymx_model.specs.session.Events.{Event}
@@ -102,9 +103,9 @@ Asks event told seat (Err fault) added =
     ⊎ ((why : CallFault) × (fault ≡ hub_fault_of why) × One seat event (told (Err why)) added)
 
 -- one entry, whose reply is the answer; or there was no memory for it
-abbrev pub Does : {A : Type 0} → Event → (A → Reply) → ℕ → Result A HubFault → List Entry → Type 0
+abbrev pub Does : {A : Type 0} → Event → (A → Reply) → ℕ → Result A RefusedAllocation → List Entry → Type 0
 Does event told seat (Ok x) added = One seat event (told x) added
-Does event told seat (Err fault) added = (fault ≡ Memory evidence) × (added ≡ [])
+Does event told seat (Err refused) added = added ≡ []
 
 -- ---- streams that are handed out
 

@@ -1,5 +1,6 @@
 -- What a call does to what is under the lock (this project's own).
 use Rattle.std.specs.Prelude.{◌≡◌, ℕ, ◌+◌, ◌^◌, ◌≤◌, ◌⊎◌, List, [], ◌++◌, length, Bool, true, false, Option, Some, None, Result, Ok, Err}
+use Rattle.ymx_memory.specs.declared.refused.RefusedAllocation.{RefusedAllocation}
 use Rattle.ymx_machine.specs.shared.Evidence.{evidence}
 use Rattle.ymx_machine.specs.declared.types.CallFault.{CallFault}
 use Rattle.ymx_model.specs.session.Events.{Event}
@@ -33,20 +34,20 @@ pub record Steps (keeps : Bool) (seat : ℕ) (event : Event) (told : Reply) (old
   }
 
 -- there was no memory for the entry, which only a recorder that keeps it needs, and nothing was done
-abbrev pub LacksEntry : (keeps : Bool) → HubFault → (old new : BookedView) → Type 0
-LacksEntry keeps fault old new = (keeps ≡ true) × (fault ≡ Memory evidence) × (new ≡ old)
+abbrev pub LacksEntry : (keeps : Bool) (old new : BookedView) → Type 0
+LacksEntry keeps old new = (keeps ≡ true) × (new ≡ old)
 
 -- one event, whose reply is the answer, also where that is a refusal; or no memory for its entry
 abbrev pub StepsAsked : {A : Type 0} (keeps : Bool) → Event → (Result A CallFault → Reply) → (seat : ℕ) → Result A HubFault → (old new : BookedView) → Type 0
 StepsAsked keeps event told seat (Ok x) old new = Steps keeps seat event (told (Ok x)) old new
 StepsAsked keeps event told seat (Err fault) old new =
-    LacksEntry keeps fault old new
+    ((fault ≡ Memory evidence) × LacksEntry keeps old new)
     ⊎ ((why : CallFault) × (fault ≡ hub_fault_of why) × Steps keeps seat event (told (Err why)) old new)
 
 -- one event that can't be refused, whose reply is the answer; or no memory for its entry
-abbrev pub StepsTold : {A : Type 0} (keeps : Bool) → Event → (A → Reply) → (seat : ℕ) → Result A HubFault → (old new : BookedView) → Type 0
+abbrev pub StepsTold : {A : Type 0} (keeps : Bool) → Event → (A → Reply) → (seat : ℕ) → Result A RefusedAllocation → (old new : BookedView) → Type 0
 StepsTold keeps event told seat (Ok x) old new = Steps keeps seat event (told x) old new
-StepsTold keeps event told seat (Err fault) old new = LacksEntry keeps fault old new
+StepsTold keeps event told seat (Err refused) old new = LacksEntry keeps old new
 
 -- ---- streams that are handed out
 

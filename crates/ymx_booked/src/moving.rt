@@ -9,8 +9,8 @@ ghost use Rattle.ymx_booked.specs.Gained.{GainedAlike};
 ghost use Rattle.ymx_booked.specs.Steps.{StepsTold};
 
 use crate::booked::Booked;
-use crate::faults::HubFault;
 use crate::replies;
+use ymx_memory::RefusedAllocation;
 use ymx_model::{Event, Fed, Lent, Reply};
 use ymx_seats::{Recorder, Seat};
 use ymx_session::Touched;
@@ -25,7 +25,7 @@ impl<R: Recorder> Booked<R> {
         seat: &mut Seat<R>,
         bytes: &[u8],
         touched: &mut Touched,
-    ) -> Result<Fed, HubFault>
+    ) -> Result<Fed, RefusedAllocation>
         ensures booked { Books R.KEEPS seat.old seat.new (Does (event.Feed bytes.now) reply.Fed seat.old.number result) }
         ensures steps { StepsTold R.KEEPS (event.Feed bytes.now) reply.Fed seat.old.number result self.old self.new }
         ensures alike { GainedAlike self.old.entries self.new.entries seat.old.entries seat.new.entries }
@@ -50,7 +50,7 @@ impl<R: Recorder> Booked<R> {
 
     /// The peer's bytes have ended.
     #[tactic(auto, using(crate::proofs::History::kept_after, crate::proofs::Journals::journaled_after, crate::proofs::Journals::witnessed_after, crate::proofs::Books::books_one))]
-    pub fn feed_end(&mut self, seat: &mut Seat<R>) -> Result<(), HubFault>
+    pub fn feed_end(&mut self, seat: &mut Seat<R>) -> Result<(), RefusedAllocation>
         ensures booked { Books R.KEEPS seat.old seat.new (Does event.FeedEnd (λ _. reply.Done) seat.old.number result) }
         ensures steps { StepsTold R.KEEPS event.FeedEnd (λ _. reply.Done) seat.old.number result self.old self.new }
         ensures alike { GainedAlike self.old.entries self.new.entries seat.old.entries seat.new.entries }
@@ -65,7 +65,11 @@ impl<R: Recorder> Booked<R> {
     /// Emits into the buffer as much as is due and fits, and returns how many bytes stand at its front. The rest of
     /// the buffer stays as it was.
     #[tactic(auto, using(crate::proofs::History::kept_after, crate::proofs::Journals::journaled_after, crate::proofs::Journals::witnessed_after, crate::proofs::Books::books_one))]
-    pub fn emit(&mut self, seat: &mut Seat<R>, buffer: &mut [u8]) -> Result<usize, HubFault>
+    pub fn emit(
+        &mut self,
+        seat: &mut Seat<R>,
+        buffer: &mut [u8],
+    ) -> Result<usize, RefusedAllocation>
         ensures booked { Books R.KEEPS seat.old seat.new (Does (event.Emit (length buffer.old)) (λ count. reply.Emitted (take count buffer.new)) seat.old.number result) }
         ensures steps { StepsTold R.KEEPS (event.Emit (length buffer.old)) (λ count. reply.Emitted (take count buffer.new)) seat.old.number result self.old self.new }
         ensures alike { GainedAlike self.old.entries self.new.entries seat.old.entries seat.new.entries }

@@ -2,17 +2,15 @@
 //! takes its seat, makes calls, of which the feeds stand here, and ends. Each other call that gives no seat keeps it alone
 //! as they do.
 
-ghost use Rattle.std.specs.Prelude.{◌≡◌, ◌∷◌, [], false, IfOk, IfErr};
-ghost use Rattle.ymx_machine.specs.shared.Evidence.{evidence};
+ghost use Rattle.std.specs.Prelude.{◌≡◌, ◌∷◌, [], ◌⊎◌, false, IfOk, IfErr};
 ghost use Rattle.ymx_machine.specs.declared.types.Fed.{Fed};
 ghost use Rattle.ymx_machine.specs.declared.types.Reply.TheVariants as reply;
 ghost use Rattle.ymx_model.specs.declared.types.Event.TheVariants as event;
 ghost use Rattle.ymx_seats.specs.Views.{SeatView, entry};
 ghost use Rattle.ymx_booked.specs.Alone.{IsAlone};
-ghost use Rattle.ymx_booked.specs.declared.faults.HubFault.TheVariants as hub;
 
 use crate::booked::Booked;
-use crate::faults::HubFault;
+use ymx_memory::RefusedAllocation;
 use ymx_seats::{Full, Seat, Transcript};
 use ymx_session::Touched;
 
@@ -31,29 +29,30 @@ pub fn seat_alone(booked: &mut Booked<Full>) -> Seat<Full>
     }
 }
 
-/// Feeds the session these bytes, and then the end, as its only caller, who stays so. `Memory`, where there is none for
-/// an entry, is the only fault.
+/// Feeds the session these bytes, and then the end, as its only caller, who stays so. `RefusedAllocation` where there is
+/// no memory for one of the two entries: it stands at neither event, or at the end alone.
 pub fn feed_alone(
     booked: &mut Booked<Full>,
     seat: &mut Seat<Full>,
     bytes: &[u8],
     touched: &mut Touched,
-) -> Result<(), HubFault>
+) -> Result<(), RefusedAllocation>
     requires alone { IsAlone seat.old booked.old }
     requires empty { booked.old.entries ≡ [] }
-    ensures alone { IfOk result (λ _. IsAlone seat.new booked.new) }
-    ensures of { IfOk result (λ _. (booked.new.role ≡ booked.old.role) × (booked.new.config ≡ booked.old.config)) }
+    ensures alone { IsAlone seat.new booked.new }
+    ensures of { (booked.new.role ≡ booked.old.role) × (booked.new.config ≡ booked.old.config) }
     ensures entries { IfOk result (λ _. (fed : Fed) ×
         (booked.new.entries ≡ entry 0 0 (event.Feed bytes.now) (reply.Fed fed) ∷ entry 1 0 event.FeedEnd reply.Done ∷ [])) }
-    ensures fault { IfErr result (λ fault. fault ≡ hub.Memory evidence) }
+    ensures begun { IfErr result (λ _. (booked.new.entries ≡ [])
+        ⊎ ((fed : Fed) × (booked.new.entries ≡ entry 0 0 (event.Feed bytes.now) (reply.Fed fed) ∷ []))) }
 {
     match booked.feed(seat, bytes, touched) {
         Ok(_) => {}
-        Err(fault) => return Err(fault),
+        Err(refused) => return Err(refused),
     }
     match booked.feed_end(seat) {
         Ok(()) => Ok(()),
-        Err(fault) => Err(fault),
+        Err(refused) => Err(refused),
     }
 }
 

@@ -10,7 +10,7 @@ use crate::awaiting::{await_bell, take_lock};
 use crate::hub::Hub;
 use crate::shared::Shared;
 use std::sync::{MutexGuard, Wait};
-use ymx_booked::HubFault;
+use ymx_memory::RefusedAllocation;
 use ymx_model::{Fed, Status, Why};
 use ymx_seats::{Recorder, Seat};
 
@@ -26,9 +26,14 @@ pub enum Turn {
 }
 
 impl<R: Recorder> Hub<R> {
-    /// Feeds bytes that came from the peer, and wakes whom they concern. `Memory`, and nothing is done, where there
-    /// is none for the entry.
-    pub fn feed<W: Wait>(&self, rt: &W, seat: &mut Seat<R>, bytes: &[u8]) -> Result<Fed, HubFault>
+    /// Feeds bytes that came from the peer, and wakes whom they concern. `RefusedAllocation`, and nothing is
+    /// done, where there is no memory for the entry.
+    pub fn feed<W: Wait>(
+        &self,
+        rt: &W,
+        seat: &mut Seat<R>,
+        bytes: &[u8],
+    ) -> Result<Fed, RefusedAllocation>
         ensures booked { Books R.KEEPS seat.old seat.new (Does (event.Feed bytes.now) reply.Fed seat.old.number result) }
         ensures within { IfOk result (λ fed. fed.taken ≤ length bytes.now) }
         ensures off { R.KEEPS ≡ false → IsOk result }
@@ -41,7 +46,7 @@ impl<R: Recorder> Hub<R> {
                 self.wake_concerned(shared, fed.why, was_due, offered);
                 Ok(fed)
             }
-            Err(fault) => Err(fault),
+            Err(refused) => Err(refused),
         }
     }
 
@@ -65,9 +70,9 @@ impl<R: Recorder> Hub<R> {
         self.bells.ring(&woken);
     }
 
-    /// The peer's bytes have ended: wakes all who wait. `Memory`, and nothing is done, where there is none for the
-    /// entry.
-    pub fn feed_end<W: Wait>(&self, rt: &W, seat: &mut Seat<R>) -> Result<(), HubFault>
+    /// The peer's bytes have ended: wakes all who wait. `RefusedAllocation`, and nothing is done, where there is no
+    /// memory for the entry.
+    pub fn feed_end<W: Wait>(&self, rt: &W, seat: &mut Seat<R>) -> Result<(), RefusedAllocation>
         ensures booked { Books R.KEEPS seat.old seat.new (Does event.FeedEnd (λ _. reply.Done) seat.old.number result) }
         ensures off { R.KEEPS ≡ false → IsOk result }
     {
@@ -87,14 +92,14 @@ impl<R: Recorder> Hub<R> {
         }
     }
 
-    /// Emits into the buffer if something is due. The rest of the buffer stays as it was. `Memory`, and nothing is done,
-    /// where there is none for the entry.
+    /// Emits into the buffer if something is due. The rest of the buffer stays as it was. `RefusedAllocation`, and
+    /// nothing is done, where there is no memory for the entry.
     pub fn emit_turn<W: Wait>(
         &self,
         rt: &W,
         seat: &mut Seat<R>,
         buffer: &mut [u8],
-    ) -> Result<Turn, HubFault>
+    ) -> Result<Turn, RefusedAllocation>
         ensures booked { Books R.KEEPS seat.old seat.new (EmitsOnce (length buffer.old) buffer.new seat.old.number result) }
         ensures within { IfOk result (λ turn. emitted_count turn ≤ length buffer.old) }
         ensures length { length buffer.new ≡ length buffer.old }

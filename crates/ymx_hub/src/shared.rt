@@ -9,6 +9,7 @@ ghost use Rattle.ymx_booked.specs.Books.{Books, Asks, Does, to_write, to_read};
 
 use crate::bells::Waiters;
 use ymx_booked::{Booked, HubFault};
+use ymx_memory::RefusedAllocation;
 use ymx_model::{Fed, Got, Wrote};
 use ymx_seats::{Recorder, Seat};
 use ymx_session::Touched;
@@ -42,7 +43,11 @@ impl<R: Recorder> Shared<R> {
     }
 
     /// Feeds bytes that came from the peer, and notes the streams that they touch.
-    pub(crate) fn feed(&mut self, seat: &mut Seat<R>, bytes: &[u8]) -> Result<Fed, HubFault>
+    pub(crate) fn feed(
+        &mut self,
+        seat: &mut Seat<R>,
+        bytes: &[u8],
+    ) -> Result<Fed, RefusedAllocation>
         ensures booked { Books R.KEEPS seat.old seat.new (Does (event.Feed bytes.now) reply.Fed seat.old.number result) }
         ensures within { IfOk result (λ fed. fed.taken ≤ length bytes.now) }
         ensures off { R.KEEPS ≡ false → IsOk result }
