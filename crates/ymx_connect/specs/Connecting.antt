@@ -1,12 +1,12 @@
 -- What the front door answers (this project's own).
-use Rattle.std.specs.Prelude.{◌≡◌, None}
+use Rattle.std.specs.Prelude.{◌≡◌, Bool, true, false, None}
 use denote.Ref.{Bor}
 use Rattle.std.specs.Fn.{Once, FnOnceReturnsAt}
-use Rattle.ymx_header.specs.declared.fault.Fault.{Fault}
 use Rattle.ymx_model.specs.declared.types.Role.{Role}
 use Rattle.ymx_model.specs.declared.types.Config.{Config}
 use Rattle.ymx_session.specs.NewSessions.{new_fault, IsNewFault}
-use Rattle.ymx_pumps.specs.declared.pump_end.PumpWhy.TheVariants.{Memory as NoMemory, Broken}
+use Rattle.ymx_pumps.specs.declared.pump_end.PumpWhy.{PumpWhy}
+use Rattle.ymx_pumps.specs.declared.pump_end.PumpWhy.TheVariants as why
 use Rattle.ymx_connect.specs.declared.connect_fault.ConnectFault.{ConnectFault}
 use Rattle.ymx_connect.specs.declared.connect_fault.ConnectFault.TheVariants.{Session, Memory, NoThread, NoJournal}
 use Rattle.ymx_connect.specs.declared.ended.Ended.{Ended}
@@ -20,11 +20,21 @@ IsConnectFault role config (Memory _) = new_fault role config ≡ None
 IsConnectFault role config NoThread = new_fault role config ≡ None
 IsConnectFault role config NoJournal = ⊥
 
--- no pump ended for want of memory, and the write pump not with a fault of the peer's
+-- the pumps ended by themselves: not for want of memory or of a thread, and not by a gate
+abbrev pub may_end : PumpWhy → Bool
+may_end (why.Memory refused) = false
+may_end why.Gate = false
+may_end why.NoThread = false
+may_end _ = true
+
+-- the write pump not with a fault of the peer's
+abbrev pub may_end_writing : PumpWhy → Bool
+may_end_writing (why.Broken fault) = false
+may_end_writing other = may_end other
+
 pub record IsSpared (ended : Ended) : Type 0 where
-  pub read : ended.read ≡ NoMemory → ⊥
-  pub written : ended.written ≡ NoMemory → ⊥
-  pub whole : (fault : Fault) → ended.written ≡ Broken fault → ⊥
+  pub read : may_end ended.read ≡ true
+  pub written : may_end_writing ended.written ≡ true
 
 -- the answer is one of the caller's function, called with some running session
 abbrev pub Answered : {F T : Type 0} → Once F (Bor Handle × Unit {0}) T → F → T → Type 0

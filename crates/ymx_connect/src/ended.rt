@@ -5,9 +5,9 @@ use ymx_pumps::PumpWhy;
 /// How both pumps ended.
 #[derive(Clone, Copy, Debug, PartialEq, Eq)]
 pub struct Ended {
-    /// Why the read pump ended. It is never `Memory`.
+    /// Why the read pump ended: with `End`, `Device`, `Broken` or `NoSeat`.
     pub read: PumpWhy,
-    /// Why the write pump ended. It is never `Memory`, and never `Broken`.
+    /// Why the write pump ended: with `End`, `Device` or `NoSeat`.
     pub written: PumpWhy,
     /// How many bytes the session took. The count stays at the greatest `u64`.
     pub read_bytes: u64,

@@ -1,8 +1,7 @@
 //! The two pumps, each in a thread of its own.
 
-ghost use Rattle.std.specs.Prelude.{◌≡◌, ◌<◌, vec_len, false};
-ghost use Rattle.ymx_header.specs.declared.fault.Fault.{Fault};
-ghost use Rattle.ymx_pumps.specs.declared.pump_end.PumpWhy.TheVariants.{Memory, Broken};
+ghost use Rattle.std.specs.Prelude.{◌≡◌, ◌<◌, vec_len, true, false};
+ghost use Rattle.ymx_connect.specs.Connecting.{may_end, may_end_writing};
 
 use std::alloc::Global;
 use std::sync::Wait;
@@ -31,7 +30,7 @@ pub struct PumpedIn {
     pub why: PumpWhy,
     /// How many bytes it fed.
     pub moved: u64,
-    ghost spared: { why ≡ Memory → ⊥ },
+    ghost spared: { may_end why ≡ true },
 }
 
 /// How the write pump ended, as its thread says.
@@ -41,8 +40,7 @@ pub struct PumpedOut {
     pub why: PumpWhy,
     /// How many bytes it wrote.
     pub moved: u64,
-    ghost spared: { why ≡ Memory → ⊥ },
-    ghost whole: { (fault : Fault) → why ≡ Broken fault → ⊥ },
+    ghost spared: { may_end_writing why ≡ true },
 }
 
 /// Lets a pump run.
@@ -79,8 +77,9 @@ impl Buffer {
     }
 }
 
-/// Runs the read pump with a seat of its own, until it ends. A hub that gives it none, as it has given 4,294,967,295 or has
-/// handed its transcript out, counts as a gate that lets nothing through.
+/// Runs the read pump with a seat of its own, until it ends. `NoSeat` where the hub gives it none, as it has given
+/// 4,294,967,295 or has handed its transcript out.
+#[tactic(auto, using(crate::proofs::PumpEnds::may_read))]
 pub fn pump_in<R: Recorder, W: Wait, I: Inlet + Drop>(
     rt: &W,
     hub: &Hub<R>,
@@ -91,7 +90,7 @@ pub fn pump_in<R: Recorder, W: Wait, I: Inlet + Drop>(
 {
     let Ok(seat) = hub.seat(rt) else {
         return PumpedIn {
-            why: PumpWhy::Gate,
+            why: PumpWhy::NoSeat,
             moved: 0,
         };
     };
@@ -103,8 +102,9 @@ pub fn pump_in<R: Recorder, W: Wait, I: Inlet + Drop>(
     PumpedIn { why, moved }
 }
 
-/// Runs the write pump with a seat of its own, until it ends. A hub that gives it none, as it has given 4,294,967,295 or has
-/// handed its transcript out, counts as a gate that lets nothing through; then nothing goes out.
+/// Runs the write pump with a seat of its own, until it ends. `NoSeat`, and nothing goes out, where the hub gives it none,
+/// as it has given 4,294,967,295 or has handed its transcript out.
+#[tactic(auto, using(crate::proofs::PumpEnds::may_write))]
 pub fn pump_out<R: Recorder, W: Wait, O: Outlet + Drop>(
     rt: &W,
     hub: &Hub<R>,
@@ -116,7 +116,7 @@ pub fn pump_out<R: Recorder, W: Wait, O: Outlet + Drop>(
     let Ok(seat) = hub.seat(rt) else {
         hub.give_up(rt);
         return PumpedOut {
-            why: PumpWhy::Gate,
+            why: PumpWhy::NoSeat,
             moved: 0,
         };
     };

@@ -10,14 +10,14 @@ use Rattle.ymx_model.specs.declared.types.Event.TheVariants as event
 use Rattle.ymx_machine.specs.declared.types.Reply.TheVariants as reply
 use Rattle.ymx_model.specs.declared.types.Entry.{Entry}
 use Rattle.ymx_seats.specs.Views.{SeatView}
-use Rattle.ymx_booked.specs.declared.faults.HubFault.{HubFault}
+use Rattle.ymx_memory.specs.declared.refused.RefusedAllocation.{RefusedAllocation}
 use Rattle.ymx_booked.specs.Books.{Books, One}
 use Rattle.ymx_hub.specs.declared.moving.Turn.{Turn}
 use Rattle.ymx_hub.specs.declared.moving.Turn.TheVariants.{Emitted, Idle, Over}
 use Rattle.ymx_hub.specs.Pumped.{EmitsOnce}
 use Rattle.ymx_hub.proofs.Booked.{books_same, books_at, books_weaker}
 use Rattle.ymx_pumps.specs.declared.pump_end.PumpWhy.{PumpWhy}
-use Rattle.ymx_pumps.specs.declared.pump_end.PumpWhy.TheVariants.{End, Device, Broken, Memory, Gate}
+use Rattle.ymx_pumps.specs.declared.pump_end.PumpWhy.TheVariants.{End, Device, Broken, Memory, Gate, NoThread}
 use Rattle.ymx_pumps.specs.declared.pump_end.Stop.{Stop}
 use Rattle.ymx_pumps.specs.Pumps.{byte_count, IsEmit, AreEmits, IsWritten, EndsWrite, WriteAdds, PumpWrote}
 use Rattle.ymx_pumps.specs.Turns.{Pushed, SaysEnd, TurnWrote}
@@ -137,10 +137,10 @@ turn_gated keeps size fails buffer before old new g =
     turn_ends keeps size fails fails Gate before before old new (Keeps-refl before) (books_weaker keeps old new (EmitsOnce size buffer old.number (Ok Idle)) (EndsWrite old.number Gate) (λ es o. o) g)
 
 -- there was no memory for the emission
-pub turn_lacked : (keeps : Bool) (size fails : ℕ) (fault : HubFault) (buffer : List ℕ) (before : Option (List ℕ)) (old new : SeatView) → Books keeps old new (EmitsOnce size buffer old.number (Err fault)) →
-    TurnWrote keeps size fails fails before before old new (Err (record { moved = 0; why = Memory }))
-turn_lacked keeps size fails fault buffer before old new g =
-    turn_ends keeps size fails fails Memory before before old new (Keeps-refl before) (books_weaker keeps old new (EmitsOnce size buffer old.number (Err fault)) (EndsWrite old.number Memory) (λ es o. o.1) g)
+pub turn_lacked : (keeps : Bool) (size fails : ℕ) (refused : RefusedAllocation) (buffer : List ℕ) (before : Option (List ℕ)) (old new : SeatView) → Books keeps old new (EmitsOnce size buffer old.number (Err refused)) →
+    TurnWrote keeps size fails fails before before old new (Err (record { moved = 0; why = Memory refused }))
+turn_lacked keeps size fails refused buffer before old new g =
+    turn_ends keeps size fails fails (Memory refused) before before old new (Keeps-refl before) (books_weaker keeps old new (EmitsOnce size buffer old.number (Err refused)) (EndsWrite old.number (Memory refused)) (λ es o. o) g)
 
 -- nothing more will be due, and then the writer was ended
 pub turn_over : (keeps : Bool) (size fails failed : ℕ) (why : PumpWhy) (buffer : List ℕ) (before after : Option (List ℕ)) (old mid new : SeatView) → Keeps before after →
@@ -213,10 +213,10 @@ written_last keeps size larger fails failed failing before mid after old between
     }
 
 -- a pump that did nothing
-pub wrote_none : (keeps : Bool) (size : ℕ) (failed : Bool) (before : Option (List ℕ)) (old : SeatView) → PumpWrote keeps size failed before before old old 0 Memory
+pub wrote_none : (keeps : Bool) (size : ℕ) (failed : Bool) (before : Option (List ℕ)) (old : SeatView) → PumpWrote keeps size failed before before old old 0 NoThread
 wrote_none keeps size failed before old = record {
   written = [];
   took = Appends-nil before;
   amount = counted_none;
-  booked = books_same keeps old (WriteAdds size old.number failed [] Memory) (adds_end size old.number failed Memory [] refl);
+  booked = books_same keeps old (WriteAdds size old.number failed [] NoThread) (adds_end size old.number failed NoThread [] refl);
 }

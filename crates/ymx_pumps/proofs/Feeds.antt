@@ -12,11 +12,11 @@ use Rattle.ymx_model.specs.declared.types.Event.TheVariants as event
 use Rattle.ymx_machine.specs.declared.types.Reply.TheVariants as reply
 use Rattle.ymx_model.specs.declared.types.Entry.{Entry}
 use Rattle.ymx_seats.specs.Views.{SeatView}
-use Rattle.ymx_booked.specs.declared.faults.HubFault.{HubFault}
+use Rattle.ymx_memory.specs.declared.refused.RefusedAllocation.{RefusedAllocation}
 use Rattle.ymx_booked.specs.Books.{Books, One, Does}
 use Rattle.ymx_hub.proofs.Booked.{books_same, books_at, books_weaker}
 use Rattle.ymx_pumps.specs.declared.pump_end.PumpWhy.{PumpWhy}
-use Rattle.ymx_pumps.specs.declared.pump_end.PumpWhy.TheVariants.{End, Device, Broken, Memory, Gate}
+use Rattle.ymx_pumps.specs.declared.pump_end.PumpWhy.TheVariants.{End, Device, Broken, Memory, Gate, NoThread, NoSeat}
 use Rattle.ymx_pumps.specs.declared.pump_end.Stop.{Stop}
 use Rattle.ymx_pumps.specs.Pumps.{byte_count, IsFeed, AreFeeds, fault_of_feed, fault_told, fault_of_end, TellsLast, IsLeft, EndsRead, ReadAdds, PumpRead}
 use Rattle.ymx_pumps.specs.Turns.{IsInside, SaysEnd, FeedsTo, FeedsFirst, TurnFed, FedAll, TurnRead}
@@ -91,14 +91,18 @@ inside_left : (why : PumpWhy) (last : List ℕ) → IsInside why → IsLeft why 
 inside_left End last i = absurd i
 inside_left Device last i = absurd i
 inside_left (Broken fault) last i = tt
-inside_left Memory last i = tt
+inside_left (Memory refused) last i = tt
+inside_left NoThread last i = absurd i
+inside_left NoSeat last i = absurd i
 inside_left Gate last i = tt
 
 inside_ends : (seat : ℕ) (why : PumpWhy) → IsInside why → EndsRead seat why []
 inside_ends seat End i = absurd i
 inside_ends seat Device i = absurd i
 inside_ends seat (Broken fault) i = refl
-inside_ends seat Memory i = refl
+inside_ends seat (Memory refused) i = refl
+inside_ends seat NoThread i = absurd i
+inside_ends seat NoSeat i = absurd i
 inside_ends seat Gate i = refl
 
 -- a pump that said that its input ended, or had no memory for it, ended with no fault
@@ -111,7 +115,9 @@ none_left : (why : PumpWhy) → IsLeft why []
 none_left End = refl
 none_left Device = refl
 none_left (Broken fault) = tt
-none_left Memory = tt
+none_left (Memory refused) = tt
+none_left NoThread = tt
+none_left NoSeat = tt
 none_left Gate = tt
 
 -- ---- a feed
@@ -125,9 +131,9 @@ none_fed : (seat : ℕ) (bytes : List ℕ) → FeedsTo seat bytes (take 0 bytes)
 none_fed seat bytes = ((grind (arith, common_steps), grind (arith, common_steps)), refl)
 
 -- there was no memory for it
-pub fed_none : (keeps : Bool) (old new : SeatView) (bytes : List ℕ) (fault : HubFault) → Books keeps old new (Does {A = Fed} (event.Feed bytes) reply.Fed old.number (Err fault)) → FeedsFirst keeps old new bytes 0 None
-fed_none keeps old new bytes fault g =
-    (omega arith, books_weaker keeps old new _ (FeedsTo old.number bytes (take 0 bytes) (drop 0 bytes) None) (λ es o. subst (λ (v : List Entry). FeedsTo old.number bytes (take 0 bytes) (drop 0 bytes) None v) (sym o.1) (none_fed old.number bytes)) g)
+pub fed_none : (keeps : Bool) (old new : SeatView) (bytes : List ℕ) (refused : RefusedAllocation) → Books keeps old new (Does {A = Fed} (event.Feed bytes) reply.Fed old.number (Err refused)) → FeedsFirst keeps old new bytes 0 None
+fed_none keeps old new bytes refused g =
+    (omega arith, books_weaker keeps old new _ (FeedsTo old.number bytes (take 0 bytes) (drop 0 bytes) None) (λ es o. subst (λ (v : List Entry). FeedsTo old.number bytes (take 0 bytes) (drop 0 bytes) None v) (sym o) (none_fed old.number bytes)) g)
 
 drop_drop : (m n : ℕ) (xs : List ℕ) → drop n (drop m xs) ≡ drop (m + n) xs
 drop_drop m n xs = grind (arith, common_steps)

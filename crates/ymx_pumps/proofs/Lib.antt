@@ -1,3 +1,4 @@
 pub mod Counts
 pub mod Emits
+pub mod Ends
 pub mod Feeds

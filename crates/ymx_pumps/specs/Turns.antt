@@ -2,6 +2,7 @@
 use Rattle.std.specs.Prelude.{◌≡◌, ℕ, ◌≤◌, ◌⊎◌, List, [], ◌++◌, length, take, drop, Bool, true, Option, None, Result, Ok, Err}
 use Rattle.std.specs.Io.KnownBytes.{Appends, Consumes}
 use Rattle.ymx_header.specs.declared.fault.Fault.{Fault}
+use Rattle.ymx_machine.specs.shared.Evidence.{evidence}
 use Rattle.ymx_model.specs.devices.Devices.{has_failed}
 use Rattle.ymx_model.specs.declared.types.Event.TheVariants as event
 use Rattle.ymx_machine.specs.declared.types.Reply.TheVariants as reply
@@ -9,20 +10,22 @@ use Rattle.ymx_model.specs.declared.types.Entry.{Entry}
 use Rattle.ymx_seats.specs.Views.{SeatView}
 use Rattle.ymx_booked.specs.Books.{Books, One}
 use Rattle.ymx_pumps.specs.declared.pump_end.PumpWhy.{PumpWhy}
-use Rattle.ymx_pumps.specs.declared.pump_end.PumpWhy.TheVariants.{End, Device, Memory}
+use Rattle.ymx_pumps.specs.declared.pump_end.PumpWhy.TheVariants.{End, Device, Memory, NoThread, NoSeat}
 use Rattle.ymx_pumps.specs.declared.pump_end.Stop.{Stop}
 use Rattle.ymx_pumps.specs.Pumps.{AreEmits, WriteAdds, AreFeeds, TellsLast, fault_of_end, IsLeft, ReadAdds}
 
--- the pump ended for no reason of its device
+-- the pump ran, and ended for no reason of its device
 abbrev pub IsInside : PumpWhy → Type 0
 IsInside End = ⊥
 IsInside Device = ⊥
+IsInside NoThread = ⊥
+IsInside NoSeat = ⊥
 IsInside _ = Unit {0}
 
 -- the end of the input was said, or there was no memory for it
 abbrev pub SaysEnd : ℕ → PumpWhy → PumpWhy → List Entry → Type 0
 SaysEnd seat why result added =
-    ((result ≡ why) × One seat event.FeedEnd reply.Done added) ⊎ ((result ≡ Memory) × (added ≡ []))
+    ((result ≡ why) × One seat event.FeedEnd reply.Done added) ⊎ ((result ≡ Memory evidence) × (added ≡ []))
 
 -- ---- the write pump
 

@@ -3,6 +3,7 @@
 ghost use Rattle.std.specs.Prelude.{◌≡◌};
 
 use ymx_header::Fault;
+use ymx_memory::RefusedAllocation;
 use ymx_seats::{Recorder, Seat};
 
 /// Why a pump ended.
@@ -15,10 +16,14 @@ pub enum PumpWhy {
     Device,
     /// The session broke: of a read pump alone.
     Broken(Fault),
-    /// There was no memory for an entry, or for the thread of the pump.
-    Memory,
+    /// There was no memory for an entry. It holds the evidence: an allocation was refused.
+    Memory(RefusedAllocation),
     /// The gate said so.
     Gate,
+    /// No thread could be made for the pump: of the write pump of both alone.
+    NoThread,
+    /// The hub had no seat for the pump: of pumps alone that take their seats themselves.
+    NoSeat,
 }
 
 /// The end of a pump.

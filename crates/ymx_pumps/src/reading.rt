@@ -1,9 +1,9 @@
 //! The read pump.
 
-ghost use Rattle.std.specs.Prelude.{◌≡◌, ◌<◌, ◌⊎◌, length, true, false, IfErr};
-ghost use Rattle.std.specs.Io.KnownBytes.{IsAtEnd};
-ghost use Rattle.ymx_model.specs.devices.Devices.{has_failed};
+ghost use Rattle.std.specs.Prelude.{◌≡◌, ◌<◌, ◌⊎◌, length, true, IfErr};
 ghost use Rattle.ymx_booked.specs.Books.{Books};
+ghost use Rattle.ymx_machine.specs.shared.Evidence.{evidence};
+ghost use Rattle.ymx_pumps.specs.Ends.{ReadEnd, FeedEnd};
 ghost use Rattle.ymx_pumps.specs.Pumps.{PumpRead};
 ghost use Rattle.ymx_pumps.specs.Turns.{SaysEnd, TurnFed, FedAll, TurnRead};
 
@@ -23,11 +23,11 @@ fn feed_turn<R: Recorder, W: Wait, G: Gate>(
     bytes: &[u8],
 ) -> Result<usize, Stop>
     ensures fed { TurnFed R.KEEPS seat.old seat.new bytes.now result }
-    ensures gate { IfErr result (λ stop. stop.why ≡ PumpWhy.Gate → G.has_refused gate.new ≡ true) }
-    ensures off { R.KEEPS ≡ false → IfErr result (λ stop. stop.why ≡ PumpWhy.Memory → ⊥) }
+    ensures ended { IfErr result (λ stop. FeedEnd R.KEEPS (G.has_refused gate.new) stop.why) }
 {
-    let Ok(fed) = hub.feed(rt, seat, bytes) else {
-        return Err(Stop::at_once(PumpWhy::Memory));
+    let fed = match hub.feed(rt, seat, bytes) {
+        Ok(fed) => fed,
+        Err(refused) => return Err(Stop::at_once(PumpWhy::Memory(refused))),
     };
     let moved = fed.taken;
     match fed.why {
@@ -58,8 +58,7 @@ fn feed_all<R: Recorder, W: Wait, G: Gate>(
     bytes: &[u8],
 ) -> Result<(), Stop>
     ensures fed { FedAll R.KEEPS seat.old seat.new bytes.now result }
-    ensures gate { IfErr result (λ stop. stop.why ≡ PumpWhy.Gate → G.has_refused gate.new ≡ true) }
-    ensures off { R.KEEPS ≡ false → IfErr result (λ stop. stop.why ≡ PumpWhy.Memory → ⊥) }
+    ensures ended { IfErr result (λ stop. FeedEnd R.KEEPS (G.has_refused gate.new) stop.why) }
 {
     let mut at = 0;
     for _ in rt.forever() {
@@ -87,12 +86,11 @@ fn end_input<R: Recorder, W: Wait>(
     why: PumpWhy,
 ) -> PumpWhy
     ensures ended { Books R.KEEPS seat.old seat.new (SaysEnd seat.old.number why result) }
-    ensures why { (result ≡ why) ⊎ (result ≡ PumpWhy.Memory) }
-    ensures off { R.KEEPS ≡ false → result ≡ why }
+    ensures reason { (result ≡ why) ⊎ ((R.KEEPS ≡ true) × (result ≡ PumpWhy.Memory evidence)) }
 {
     match hub.feed_end(rt, seat) {
         Ok(()) => why,
-        Err(_) => PumpWhy::Memory,
+        Err(refused) => PumpWhy::Memory(refused),
     }
 }
 
@@ -105,12 +103,10 @@ fn read_turn<R: Recorder, W: Wait, I: Inlet, G: Gate>(
     gate: &mut G,
     buffer: &mut [u8],
 ) -> Result<usize, Stop>
+    requires { 0 < length buffer.old }
     ensures length { length buffer.new ≡ length buffer.old }
     ensures turned { TurnRead R.KEEPS (I.failures reader.old) (I.failures reader.new) (I.remaining reader.old) (I.remaining reader.new) seat.old seat.new result }
-    ensures at_end { 0 < length buffer.old → IfErr result (λ stop. stop.why ≡ PumpWhy.End → IsAtEnd (I.remaining reader.new)) }
-    ensures device { IfErr result (λ stop. stop.why ≡ PumpWhy.Device → has_failed (I.failures reader.old) (I.failures reader.new) ≡ true) }
-    ensures gate { IfErr result (λ stop. stop.why ≡ PumpWhy.Gate → G.has_refused gate.new ≡ true) }
-    ensures off { R.KEEPS ≡ false → IfErr result (λ stop. stop.why ≡ PumpWhy.Memory → ⊥) }
+    ensures ended { IfErr result (λ stop. ReadEnd R.KEEPS (I.failures reader.old) (I.failures reader.new) (I.remaining reader.new) (G.has_refused gate.new) stop.why) }
 {
     if !gate.before_read() {
         return Err(Stop::at_once(PumpWhy::Gate));
@@ -137,11 +133,9 @@ pub(crate) fn read_on<R: Recorder, W: Wait, I: Inlet, G: Gate>(
     gate: &mut G,
     buffer: &mut [u8],
 ) -> Moved
+    requires { 0 < length buffer.old }
     ensures gave { PumpRead R.KEEPS (I.remaining reader.old) (I.remaining reader.new) seat.old seat.new result.count result.why }
-    ensures at_end { 0 < length buffer.old → result.why ≡ PumpWhy.End → IsAtEnd (I.remaining reader.new) }
-    ensures device { result.why ≡ PumpWhy.Device → has_failed (I.failures reader.old) (I.failures reader.new) ≡ true }
-    ensures gate { result.why ≡ PumpWhy.Gate → G.has_refused gate.new ≡ true }
-    ensures off { R.KEEPS ≡ false → result.why ≡ PumpWhy.Memory → ⊥ }
+    ensures ended { ReadEnd R.KEEPS (I.failures reader.old) (I.failures reader.new) (I.remaining reader.new) (G.has_refused gate.new) result.why }
 {
     let mut count = 0u64;
     for _ in rt.forever() {
@@ -175,10 +169,7 @@ pub fn read_pump<R: Recorder, W: Wait, I: Inlet, G: Gate>(
 ) -> PumpEnd<R>
     requires { 0 < length buffer.old }
     ensures gave { PumpRead R.KEEPS (I.remaining reader.old) (I.remaining reader.new) seat result.seat result.moved result.why }
-    ensures at_end { result.why ≡ PumpWhy.End → IsAtEnd (I.remaining reader.new) }
-    ensures device { result.why ≡ PumpWhy.Device → has_failed (I.failures reader.old) (I.failures reader.new) ≡ true }
-    ensures gate { result.why ≡ PumpWhy.Gate → G.has_refused gate.new ≡ true }
-    ensures off { R.KEEPS ≡ false → result.why ≡ PumpWhy.Memory → ⊥ }
+    ensures ended { ReadEnd R.KEEPS (I.failures reader.old) (I.failures reader.new) (I.remaining reader.new) (G.has_refused gate.new) result.why }
 {
     let mut seat = seat;
     let Moved { count, why } = read_on(rt, hub, &mut seat, reader, gate, buffer);

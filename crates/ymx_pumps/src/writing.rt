@@ -1,10 +1,11 @@
 //! The write pump.
 
-ghost use Rattle.std.specs.Prelude.{◌≡◌, ◌<◌, ◌⊎◌, length, true, false, IfErr};
+ghost use Rattle.std.specs.Prelude.{◌≡◌, ◌<◌, ◌⊎◌, length, Bool, true, IfErr};
 ghost use Rattle.std.specs.Io.KnownBytes.{Keeps};
-ghost use Rattle.ymx_header.specs.declared.fault.Fault.{Fault as FaultValue};
 ghost use Rattle.ymx_model.specs.devices.Devices.{has_failed};
 ghost use Rattle.ymx_booked.specs.Books.{Books};
+ghost use Rattle.ymx_machine.specs.shared.Evidence.{evidence};
+ghost use Rattle.ymx_pumps.specs.Ends.{WriteEnd};
 ghost use Rattle.ymx_pumps.specs.Pumps.{PumpWrote, EndsWrite};
 ghost use Rattle.ymx_pumps.specs.Turns.{Pushed, SaysEnd, TurnWrote};
 
@@ -32,14 +33,13 @@ fn push_all<O: Outlet>(writer: &mut O, bytes: &[u8]) -> Result<(), usize>
 /// The writer failed: the session is lost, and nothing goes out any more.
 fn lose_writer<R: Recorder, W: Wait>(rt: &W, hub: &Hub<R>, seat: &mut Seat<R>) -> PumpWhy
     ensures ended { Books R.KEEPS seat.old seat.new (SaysEnd seat.old.number PumpWhy.Device result) }
-    ensures why { (result ≡ PumpWhy.Device) ⊎ (result ≡ PumpWhy.Memory) }
-    ensures off { R.KEEPS ≡ false → result ≡ PumpWhy.Device }
+    ensures reason { (result ≡ PumpWhy.Device) ⊎ ((R.KEEPS ≡ true) × (result ≡ PumpWhy.Memory evidence)) }
 {
     let ended = hub.feed_end(rt, seat);
     hub.give_up(rt);
     match ended {
         Ok(()) => PumpWhy::Device,
-        Err(_) => PumpWhy::Memory,
+        Err(refused) => PumpWhy::Memory(refused),
     }
 }
 
@@ -52,12 +52,7 @@ fn end_writer<R: Recorder, W: Wait, O: Outlet>(
 ) -> PumpWhy
     ensures kept { Keeps (O.contents writer.old) (O.contents writer.new) }
     ensures ended { Books R.KEEPS seat.old seat.new (EndsWrite seat.old.number result) }
-    ensures unfailed { result ≡ PumpWhy.End → O.failures writer.new ≡ O.failures writer.old }
-    ensures shut { result ≡ PumpWhy.End → O.is_ended writer.new ≡ true }
-    ensures device { result ≡ PumpWhy.Device → has_failed (O.failures writer.old) (O.failures writer.new) ≡ true }
-    ensures gate { result ≡ PumpWhy.Gate → ⊥ }
-    ensures whole { (fault : FaultValue) → result ≡ PumpWhy.Broken fault → ⊥ }
-    ensures off { R.KEEPS ≡ false → result ≡ PumpWhy.Memory → ⊥ }
+    ensures reason { (has_refused : Bool) → WriteEnd R.KEEPS (O.failures writer.old) (O.failures writer.new) (O.is_ended writer.new) has_refused result }
 {
     match writer.end() {
         Ok(()) => PumpWhy::End,
@@ -76,12 +71,7 @@ fn write_turn<R: Recorder, W: Wait, O: Outlet, G: Gate>(
 ) -> Result<usize, Stop>
     ensures length { length buffer.new ≡ length buffer.old }
     ensures turned { TurnWrote R.KEEPS (length buffer.old) (O.failures writer.old) (O.failures writer.new) (O.contents writer.old) (O.contents writer.new) seat.old seat.new result }
-    ensures unfailed { IfErr result (λ stop. stop.why ≡ PumpWhy.End → O.failures writer.new ≡ O.failures writer.old) }
-    ensures shut { IfErr result (λ stop. stop.why ≡ PumpWhy.End → O.is_ended writer.new ≡ true) }
-    ensures device { IfErr result (λ stop. stop.why ≡ PumpWhy.Device → has_failed (O.failures writer.old) (O.failures writer.new) ≡ true) }
-    ensures whole { IfErr result (λ stop. (fault : FaultValue) → stop.why ≡ PumpWhy.Broken fault → ⊥) }
-    ensures gate { IfErr result (λ stop. stop.why ≡ PumpWhy.Gate → G.has_refused gate.new ≡ true) }
-    ensures off { R.KEEPS ≡ false → IfErr result (λ stop. stop.why ≡ PumpWhy.Memory → ⊥) }
+    ensures ended { IfErr result (λ stop. WriteEnd R.KEEPS (O.failures writer.old) (O.failures writer.new) (O.is_ended writer.new) (G.has_refused gate.new) stop.why) }
 {
     match hub.emit_turn(rt, seat, buffer) {
         Ok(Turn::Emitted(count)) => {
@@ -100,9 +90,9 @@ fn write_turn<R: Recorder, W: Wait, O: Outlet, G: Gate>(
             Ok(0)
         }
         Ok(Turn::Over) => Err(Stop::at_once(end_writer(rt, hub, seat, writer))),
-        Err(_) => {
+        Err(refused) => {
             hub.give_up(rt);
-            Err(Stop::at_once(PumpWhy::Memory))
+            Err(Stop::at_once(PumpWhy::Memory(refused)))
         }
     }
 }
@@ -117,12 +107,7 @@ pub(crate) fn write_on<R: Recorder, W: Wait, O: Outlet, G: Gate>(
     buffer: &mut [u8],
 ) -> Moved
     ensures wrote { PumpWrote R.KEEPS (length buffer.old) (has_failed (O.failures writer.old) (O.failures writer.new)) (O.contents writer.old) (O.contents writer.new) seat.old seat.new result.count result.why }
-    ensures unfailed { result.why ≡ PumpWhy.End → O.failures writer.new ≡ O.failures writer.old }
-    ensures shut { result.why ≡ PumpWhy.End → O.is_ended writer.new ≡ true }
-    ensures device { result.why ≡ PumpWhy.Device → has_failed (O.failures writer.old) (O.failures writer.new) ≡ true }
-    ensures whole { (fault : FaultValue) → result.why ≡ PumpWhy.Broken fault → ⊥ }
-    ensures gate { result.why ≡ PumpWhy.Gate → G.has_refused gate.new ≡ true }
-    ensures off { R.KEEPS ≡ false → result.why ≡ PumpWhy.Memory → ⊥ }
+    ensures ended { WriteEnd R.KEEPS (O.failures writer.old) (O.failures writer.new) (O.is_ended writer.new) (G.has_refused gate.new) result.why }
 {
     let mut count = 0u64;
     for _ in rt.forever() {
@@ -154,12 +139,7 @@ pub fn write_pump<R: Recorder, W: Wait, O: Outlet, G: Gate>(
 ) -> PumpEnd<R>
     requires { 0 < length buffer.old }
     ensures wrote { PumpWrote R.KEEPS (length buffer.old) (has_failed (O.failures writer.old) (O.failures writer.new)) (O.contents writer.old) (O.contents writer.new) seat result.seat result.moved result.why }
-    ensures unfailed { result.why ≡ PumpWhy.End → O.failures writer.new ≡ O.failures writer.old }
-    ensures shut { result.why ≡ PumpWhy.End → O.is_ended writer.new ≡ true }
-    ensures device { result.why ≡ PumpWhy.Device → has_failed (O.failures writer.old) (O.failures writer.new) ≡ true }
-    ensures whole { (fault : FaultValue) → result.why ≡ PumpWhy.Broken fault → ⊥ }
-    ensures gate { result.why ≡ PumpWhy.Gate → G.has_refused gate.new ≡ true }
-    ensures off { R.KEEPS ≡ false → result.why ≡ PumpWhy.Memory → ⊥ }
+    ensures ended { WriteEnd R.KEEPS (O.failures writer.old) (O.failures writer.new) (O.is_ended writer.new) (G.has_refused gate.new) result.why }
 {
     let mut seat = seat;
     let Moved { count, why } = write_on(rt, hub, &mut seat, writer, gate, buffer);

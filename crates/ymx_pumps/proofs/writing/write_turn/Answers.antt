@@ -20,8 +20,11 @@ returns-in-Ok-Over-clause-turned g c =
 
 pub returns-in-Err-clause-turned : goal.returns-in-Err-clause-turned
 returns-in-Err-clause-turned g c =
-    rw c.at_once-in-Err.ensures (turn_lacked g.R.Recorder.KEEPS (length c.args.buffer.now) (g.O.Outlet.failures c.args.writer.now) c.in-Err.field-0 c.emit_turn.new.buffer (g.O.Outlet.contents c.args.writer.now) c.args.seat.now c.emit_turn.new.seat c.in-Err.ensures.booked)
+    rw c.at_once-in-Err.ensures (turn_lacked g.R.Recorder.KEEPS (length c.args.buffer.now) (g.O.Outlet.failures c.args.writer.now) c.in-Err.refused c.emit_turn.new.buffer (g.O.Outlet.contents c.args.writer.now) c.args.seat.now c.emit_turn.new.seat c.in-Err.ensures.booked)
 
 pub returns-else-not-before_wait-clause-turned : goal.returns-else-not-before_wait-clause-turned
 returns-else-not-before_wait-clause-turned g c =
     turn_idle g.R.Recorder.KEEPS (length c.args.buffer.now) (g.O.Outlet.failures c.args.writer.now) (g.O.Outlet.failures c.args.writer.now) c.emit_turn.new.buffer (g.O.Outlet.contents c.args.writer.now) (g.O.Outlet.contents c.args.writer.now) c.args.seat.now c.emit_turn.new.seat refl refl (rw c.in-Ok-Idle.field-0-is at c.in-Ok-Idle.ensures.booked)
+
+pub returns-in-Ok-Over-clause-ended : goal.returns-in-Ok-Over-clause-ended
+returns-in-Ok-Over-clause-ended g c = rw c.at_once-in-Ok-Over.ensures (c.end_writer.ensures.reason (g.G.Gate.has_refused c.args.gate.now))
