@@ -4,7 +4,6 @@ ghost use Rattle.std.specs.Prelude.{◌≡◌, None, IfOk, IfErr};
 ghost use Rattle.ymx_session.specs.NewSessions.{new_fault};
 ghost use Rattle.ymx_witness.specs.Settings.{with_first, IsWitnessFault};
 
-use crate::begin;
 use std::alloc::Global;
 use std::marker::Model;
 use std::sync::Arc;
@@ -50,10 +49,14 @@ impl Begun {
         ensures config { IfOk result (λ begun. begun.config ≡ with_first role config) }
         ensures refused { IfErr result (λ fault. IsWitnessFault role config fault) }
     {
-        match begin(alloc, role, config) {
-            Ok((session, opened)) => Ok(Begun { session, opened }),
-            Err(fault) => Err(fault),
-        }
+        let session = match Session::new(alloc, role, config) {
+            Ok(session) => session,
+            Err(fault) => return Err(ConnectFault::Session(fault)),
+        };
+        let Ok(opened) = Opened::new(alloc) else {
+            return Err(ConnectFault::NoJournal);
+        };
+        Ok(Begun { session, opened })
     }
 
     /// The hub of this session, by the name that its journal has. `RefusedAllocation` where there is no memory for it.

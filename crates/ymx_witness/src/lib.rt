@@ -11,7 +11,7 @@ mod running;
 
 ghost use Rattle.std.specs.Prelude.{◌≡◌, None, IfOk, IfErr};
 ghost use Rattle.ymx_session.specs.NewSessions.{new_fault};
-ghost use Rattle.ymx_witness.specs.Settings.{with_first, IsMadeWith, IsNamed, IsWitnessFault};
+ghost use Rattle.ymx_witness.specs.Settings.{with_first, IsWitnessFault};
 
 pub use begun::Begun;
 pub use connecting::connected;
@@ -21,11 +21,10 @@ use std::marker::Brand;
 use std::sync::{Arc, Wait};
 use ymx_connect::ConnectFault;
 use ymx_hub::Hub;
-use ymx_journal::{Naming, Opened};
+use ymx_journal::Naming;
 use ymx_memory::RefusedAllocation;
 use ymx_model::{Config, Role};
 use ymx_seats::Witnessed;
-use ymx_session::Session;
 
 /// What a program does with a session whose history stands in proofs.
 pub trait Program: Drop {
@@ -63,34 +62,14 @@ pub fn witnessed<P: Program, W: Wait>(
     ensures may { IfOk result (λ answer. new_fault role config ≡ None) }
     ensures refused { IfErr result (λ fault. IsWitnessFault role config fault) }
 {
-    let (session, opened) = match begin(alloc, role, config) {
+    let begun = match Begun::new(alloc, role, config) {
         Ok(begun) => begun,
         Err(fault) => return Err(fault),
     };
-    match run_with::<Brand, P, W>(rt, alloc, role, config, session, opened, program) {
+    match run_with::<Brand, P, W>(rt, alloc, role, config, begun, program) {
         Ok(answer) => Ok(answer),
         Err(refused) => Err(ConnectFault::Memory(refused)),
     }
-}
-
-/// A new session, and a journal that has no name yet.
-pub(crate) fn begin(
-    alloc: Global,
-    role: Role,
-    config: Config,
-) -> Result<(Session, Opened), ConnectFault>
-    ensures may { IfOk result (λ begun. new_fault role config ≡ None) }
-    ensures made { IfOk result (λ begun. IsMadeWith role config begun.0) }
-    ensures refused { IfErr result (λ fault. IsWitnessFault role config fault) }
-{
-    let session = match Session::new(alloc, role, config) {
-        Ok(session) => session,
-        Err(fault) => return Err(ConnectFault::Session(fault)),
-    };
-    let Ok(opened) = Opened::new(alloc) else {
-        return Err(ConnectFault::NoJournal);
-    };
-    Ok((session, opened))
 }
 
 /// Runs a program with the hub of this session, whose journal has this name. `RefusedAllocation`, and it has not run,
@@ -100,13 +79,13 @@ fn run_with<J: Naming + Send + Sync, P: Program, W: Wait>(
     alloc: Global,
     role: Role,
     config: Config,
-    session: Session,
-    opened: Opened,
+    begun: Begun,
     program: P,
 ) -> Result<P::Answer, RefusedAllocation>
-    requires made { IsMadeWith role config session }
-    requires named { IsNamed role config opened J.role J.config J.table }
+    requires named { begun ≡ record { role = J.role; config = J.config; table = J.table } }
+    requires role { begun.role ≡ role }
+    requires config { begun.config ≡ with_first role config }
 {
-    let hub = Hub::<Witnessed<J>>::witnessed(alloc, session, opened)?;
+    let hub = begun.hub::<J>(alloc)?;
     Ok(program.run(rt, role, config, hub))
 }

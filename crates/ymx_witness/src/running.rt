@@ -1,15 +1,16 @@
 //! Both pumps of a hub, while a function works with it.
 
-ghost use Rattle.std.specs.Prelude.{IfOk, IfSome};
+ghost use Rattle.std.specs.Prelude.{IfOk, IfErr, IfSome};
+ghost use Rattle.std.specs.Fn.{FnOnceReturns};
 ghost use Rattle.ymx_connect.specs.Connecting.{IsSpared};
+ghost use Rattle.ymx_witness.specs.Settings.{IsPumpFault};
 
-use crate::connecting::buffers;
 use std::alloc::Global;
 use std::net::TcpStream;
 use std::sync::Wait;
 use std::thread;
 use std::thread::Threads;
-use ymx_connect::pumping::{pump_in, pump_out};
+use ymx_connect::pumping::{Buffer, pump_in, pump_out};
 use ymx_connect::{ConnectFault, Connected, ConnectionReader, ConnectionWriter, both_ended};
 use ymx_hub::Hub;
 use ymx_journal::Naming;
@@ -26,7 +27,9 @@ pub fn pumped_tcp<J: Naming + Send + Sync, W: Threads + Wait + Sync, T: Drop, F:
     work: F,
 ) -> Result<Connected<T>, ConnectFault>
     requires { F.IsAlwaysCallable work }
-    ensures { IfOk result (λ connected. IsSpared connected.ended) }
+    ensures answered { IfOk result (λ connected. FnOnceReturns F.FnOnce work tt connected.answer) }
+    ensures spared { IfOk result (λ connected. IsSpared connected.ended) }
+    ensures refused { IfErr result IsPumpFault }
 {
     let _ = connection.set_nodelay(true);
     let reader = ConnectionReader::new(connection);
@@ -58,12 +61,12 @@ pub fn pumped<
     work: F,
 ) -> Result<Connected<T>, ConnectFault>
     requires { F.IsAlwaysCallable work }
-    ensures { IfOk result (λ connected. IsSpared connected.ended) }
+    ensures answered { IfOk result (λ connected. FnOnceReturns F.FnOnce work tt connected.answer) }
+    ensures spared { IfOk result (λ connected. IsSpared connected.ended) }
+    ensures refused { IfErr result IsPumpFault }
 {
-    let (into, out_of) = match buffers(alloc) {
-        Ok(buffers) => buffers,
-        Err(refused) => return Err(ConnectFault::Memory(refused)),
-    };
+    let into = Buffer::for_reading(alloc)?;
+    let out_of = Buffer::for_writing(alloc)?;
     let Ok(mut seat) = hub.seat(rt) else {
         return Err(ConnectFault::NoJournal);
     };
@@ -73,7 +76,8 @@ pub fn pumped<
         rt,
         |scope| -> Option<Connected<T>>
             requires { F.IsAlwaysCallable work }
-            ensures { IfSome result (λ connected. IsSpared connected.ended) }
+            ensures answered { IfSome result (λ connected. FnOnceReturns F.FnOnce work tt connected.answer) }
+            ensures spared { IfSome result (λ connected. IsSpared connected.ended) }
         {
             let writing = scope.spawn(move || pump_out(rt, hub, writer, out_of)).ok()?;
             let reading = scope.spawn(move || pump_in(rt, hub, reader, into)).ok();

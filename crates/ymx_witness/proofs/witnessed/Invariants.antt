@@ -1,6 +1,5 @@
-use Rattle.ymx_witness.specs.Settings.{with_first}
 use Rattle.ymx_witness.proofs.witnessed.Given as goal
 
 -- the journal that was just opened, of the session that was just made
 abbrev pub ghosts-run_with : goal.ghosts-run_with
-ghosts-run_with g a = record { table = a.opened; role = a.role; config = with_first a.role a.config }
+ghosts-run_with g a = record { table = a.begun.table; role = a.begun.role; config = a.begun.config }
