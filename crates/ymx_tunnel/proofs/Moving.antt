@@ -9,7 +9,7 @@ use Rattle.std.proofs.Math.Seq.{take-append_seam, take-add}
 use Rattle.std.proofs.lemmas.Grind.{common_steps}
 use Rattle.ymx_model.specs.devices.Devices.{has_failed, most_failures}
 use Rattle.ymx_tunnel.specs.declared.copied.CopyWhy.{CopyWhy}
-use Rattle.ymx_tunnel.specs.declared.copied.CopyWhy.TheVariants.{End, Source, Sink, Reset, Lost, Memory}
+use Rattle.ymx_tunnel.specs.declared.copied.CopyWhy.TheVariants.{End, Source, Sink, Reset, Lost, Memory, NoThread}
 use Rattle.ymx_tunnel.specs.Copies.{CopiesIn, CopiesOut, StopsFor, copy_reason}
 use Rattle.ymx_machine.specs.declared.types.CallFault.TheVariants as refusal
 use Rattle.ymx_booked.specs.declared.faults.HubFault.{HubFault}
@@ -124,7 +124,8 @@ by_end Source = Unit {0}
 by_end Sink = Unit {0}
 by_end Reset = Unit {0}
 by_end Lost = Unit {0}
-by_end Memory = Unit {0}
+by_end (Memory refused) = Unit {0}
+by_end NoThread = Unit {0}
 
 pub sink_is_no_end : Sink ≡ End → ⊥
 unfolding by_end

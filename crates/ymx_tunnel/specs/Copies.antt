@@ -12,7 +12,7 @@ use Rattle.ymx_tunnel.specs.declared.copied.CopyWhy.TheVariants.{End, Reset, Los
 abbrev pub copy_reason : HubFault → CopyWhy → CopyWhy
 copy_reason (Call refusal.Reset) own = Reset
 copy_reason (Call refusal.Lost) own = Lost
-copy_reason (NoMemory _) own = Memory
+copy_reason (NoMemory refused) own = Memory refused
 copy_reason fault own = own
 
 -- of what was given, this beginning was moved on, and counted as far as 64 bits go; it is all of it if the copy came to its end

@@ -9,6 +9,7 @@ use std::net::{Shutdown, TcpStream};
 use std::sync::atomic::{AtomicBool, Ordering};
 use std::sync::{Arc, Mutex, Wait};
 use ymx_connect::{ConnectionReader, ConnectionWriter};
+use ymx_memory::RefusedAllocation;
 use ymx_model::{DeviceFault, Inlet, Outlet};
 
 /// The connections of a server that are open.
@@ -101,29 +102,23 @@ impl Connections {
         }
     }
 
-    /// Adds a connection. Without memory it closes it.
+    /// Adds a connection. `RefusedAllocation`, and it is closed, where there is no memory for it.
     pub(crate) fn add<W: Wait>(
         &self,
         rt: &W,
         alloc: Global,
         stream: TcpStream,
-    ) -> Option<Arc<Connection, Global>> {
+    ) -> Result<Arc<Connection, Global>, RefusedAllocation> {
         let mut open = self.open.lock(rt);
         let number = open.added;
-        let Ok(connection) = Arc::new(alloc, Connection::new(stream, number)) else {
-            return None;
-        };
-        let Ok(other) = Arc::try_clone(&connection) else {
-            return None;
-        };
-        if open.connections.push(other).is_err() {
-            return None;
-        }
+        let connection = ymx_memory::shared(alloc, Connection::new(stream, number))?;
+        let other = ymx_memory::share(&connection)?;
+        ymx_memory::push(&mut open.connections, other)?;
         open.added = number.saturating_add(1);
         if open.is_over {
             connection.shut();
         }
-        Some(connection)
+        Ok(connection)
     }
 
     /// Removes a connection, which closes once its last owner drops it.

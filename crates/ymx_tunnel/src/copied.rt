@@ -4,6 +4,7 @@ ghost use Rattle.std.specs.Prelude.{◌≡◌};
 ghost use Rattle.ymx_tunnel.specs.Copies.{copy_reason};
 
 use ymx_hub::HubFault;
+use ymx_memory::RefusedAllocation;
 use ymx_model::CallFault;
 
 /// Why a copy ended.
@@ -20,9 +21,18 @@ pub enum CopyWhy {
     Reset,
     /// The session was lost.
     Lost,
-    /// There was no memory for what the stream has to send; or, of a connection, none for it or for a buffer, or no
-    /// thread.
-    Memory,
+    /// There was no memory for what the stream has to send; or, of a connection, none for it or for a buffer. It holds the
+    /// evidence: an allocation was refused.
+    Memory(RefusedAllocation),
+    /// No thread could be made: of a connection alone.
+    NoThread,
+}
+
+impl CopyWhy {
+    /// Whether memory or a thread was wanting.
+    pub(crate) fn is_lack(self) -> bool {
+        matches!(self, CopyWhy::Memory(_) | CopyWhy::NoThread)
+    }
 }
 
 /// The end of a copy.
@@ -44,7 +54,7 @@ pub(crate) fn why_of_fault(fault: HubFault, own: CopyWhy) -> CopyWhy
     match fault {
         HubFault::Call(CallFault::Reset) => CopyWhy::Reset,
         HubFault::Call(CallFault::Lost) => CopyWhy::Lost,
-        HubFault::Memory(_) => CopyWhy::Memory,
+        HubFault::Memory(refused) => CopyWhy::Memory(refused),
         HubFault::Call(_) | HubFault::Seats => own,
     }
 }

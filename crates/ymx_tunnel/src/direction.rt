@@ -5,10 +5,11 @@ ghost use Rattle.std.specs.Prelude.{◌<◌, vec_len, IfOk};
 use crate::connections::{Connection, TrackedReader, TrackedWriter};
 use crate::copied::{Copied, CopyWhy};
 use crate::copying::{copy_in, copy_out};
-use std::alloc::{AllocError, Global};
+use std::alloc::Global;
 use std::sync::{Mutex, Wait};
 use ymx_connect::{Reader, Writer};
 use ymx_hub::{Off, Seat};
+use ymx_memory::RefusedAllocation;
 
 /// Bytes that a copy reads at once.
 const COPY_BUFFER: usize = 65_536;
@@ -57,9 +58,12 @@ pub(crate) fn inward<R: Wait>(
     let Some(writer) = lent.take(rt) else {
         return ended(connection, 0, CopyWhy::Sink);
     };
-    let Ok(mut buffer) = copy_buffer(alloc) else {
-        let _ = writer.reset(rt);
-        return ended(connection, 0, CopyWhy::Memory);
+    let mut buffer = match copy_buffer(alloc) {
+        Ok(buffer) => buffer,
+        Err(refused) => {
+            let _ = writer.reset(rt);
+            return ended(connection, 0, CopyWhy::Memory(refused));
+        }
     };
     let mut inlet = TrackedReader::new(connection);
     let sink = writer.into_half();
@@ -78,9 +82,12 @@ pub(crate) fn outward<R: Wait>(
     let Some(reader) = lent.take(rt) else {
         return ended(connection, 0, CopyWhy::Source);
     };
-    let Ok(mut buffer) = copy_buffer(alloc) else {
-        let _ = reader.close(rt);
-        return ended(connection, 0, CopyWhy::Memory);
+    let mut buffer = match copy_buffer(alloc) {
+        Ok(buffer) => buffer,
+        Err(refused) => {
+            let _ = reader.close(rt);
+            return ended(connection, 0, CopyWhy::Memory(refused));
+        }
     };
     let mut outlet = TrackedWriter::new(connection);
     let source = reader.into_half();
@@ -90,10 +97,10 @@ pub(crate) fn outward<R: Wait>(
 }
 
 /// The buffer of one copy.
-fn copy_buffer(alloc: Global) -> Result<Vec<u8>, AllocError>
+fn copy_buffer(alloc: Global) -> Result<Vec<u8>, RefusedAllocation>
     ensures { IfOk result (λ buffer. 0 < vec_len buffer) }
 {
-    vec![in alloc; 0u8; COPY_BUFFER]
+    ymx_memory::zeros(alloc, COPY_BUFFER)
 }
 
 /// One direction has ended. At a fault the connection is shut both ways, so that the other direction ends too. It
@@ -102,7 +109,9 @@ pub(crate) fn ended(connection: &Connection, bytes: u64, why: CopyWhy) -> EndedC
     match why {
         CopyWhy::End => {}
         CopyWhy::Reset | CopyWhy::Lost => connection.shut_down(),
-        CopyWhy::Source | CopyWhy::Sink | CopyWhy::Memory => connection.break_off(),
+        CopyWhy::Source | CopyWhy::Sink | CopyWhy::Memory(_) | CopyWhy::NoThread => {
+            connection.break_off();
+        }
     }
     EndedCopy { bytes, why }
 }

@@ -22,7 +22,7 @@ pub struct EndedConnection {
 impl EndedConnection {
     /// Whether no memory was found for a buffer, for a thread, or for what the stream has to send.
     pub fn lacked_memory(&self) -> bool {
-        self.inward.why == CopyWhy::Memory || self.outward.why == CopyWhy::Memory
+        self.inward.why.is_lack() || self.outward.why.is_lack()
     }
 
     /// There was no connection to join.
@@ -30,9 +30,9 @@ impl EndedConnection {
         EndedConnection::of_nothing(CopyWhy::Source, CopyWhy::Sink)
     }
 
-    /// There was no memory to join a connection.
-    fn without_memory() -> EndedConnection {
-        EndedConnection::of_nothing(CopyWhy::Memory, CopyWhy::Memory)
+    /// A connection could not be joined, for want of memory or of a thread.
+    fn unjoined(why: CopyWhy) -> EndedConnection {
+        EndedConnection::of_nothing(why, why)
     }
 
     /// Nothing was copied.
@@ -61,9 +61,12 @@ pub(crate) fn join_both<R: Threads + Wait + Sync>(
     writer: Writer,
     reader: Reader,
 ) -> EndedConnection {
-    let Some(connection) = connections.add(rt, alloc, stream) else {
-        spend(rt, Some(writer), Some(reader));
-        return EndedConnection::without_memory();
+    let connection = match connections.add(rt, alloc, stream) {
+        Ok(connection) => connection,
+        Err(refused) => {
+            spend(rt, Some(writer), Some(reader));
+            return EndedConnection::unjoined(CopyWhy::Memory(refused));
+        }
     };
     let (writer, reader) = (Lent::new(writer), Lent::new(reader));
     let joined = copy_both(rt, alloc, &connection, &writer, &reader);
@@ -84,7 +87,7 @@ fn copy_both<'x, R: Threads + Wait + Sync>(
     thread::scope(thread::scope_env(), rt, move |scope| {
         let Ok(other) = scope.spawn(move || outward(rt, alloc, connection, reader)) else {
             connection.break_off();
-            return EndedConnection::without_memory();
+            return EndedConnection::unjoined(CopyWhy::NoThread);
         };
         let inward = inward(rt, alloc, connection, writer);
         let outward = other.join(rt);
