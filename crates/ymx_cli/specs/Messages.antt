@@ -69,7 +69,7 @@ reason Rest = []
 reason Faulty = []
 reason Reading = codes "ymx: reading failed\n"
 reason Writing = writing_failed
-reason Memory = out_of_memory
+reason (Memory _) = out_of_memory
 
 -- why the playing of a script ended, where a device or memory failed
 abbrev pub script_reason : ScriptEnd → List ℕ

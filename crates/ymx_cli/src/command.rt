@@ -485,7 +485,7 @@ fn finish<E: Outlet>(end: FramesEnd, errors: &mut E) -> u8
         FramesEnd::Fault | FramesEnd::Rest => 1,
         FramesEnd::Reading => refuse(errors, b"ymx: reading failed\n"),
         FramesEnd::Writing => refuse(errors, b"ymx: writing failed\n"),
-        FramesEnd::Memory => refuse(errors, b"ymx: out of memory\n"),
+        FramesEnd::Memory(_) => refuse(errors, b"ymx: out of memory\n"),
     }
 }
 

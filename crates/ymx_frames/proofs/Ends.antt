@@ -6,6 +6,7 @@ use Rattle.ymx_frames.proofs.Pushed.{whole_end}
 use Rattle.std.proofs.lemmas.Bool.Decides.{nat_tests}
 use Rattle.std.specs.Io.{StartsWith}
 use Rattle.std.specs.Result.{result_unwrap_or}
+use Rattle.ymx_machine.specs.shared.Evidence.{evidence}
 use Rattle.ymx_header.specs.Headers.{header_of}
 use Rattle.ymx_header.specs.declared.header.Header.{Header}
 use Rattle.ymx_header.specs.declared.fault.Fault.{Fault}
@@ -217,7 +218,7 @@ prints_if limit text output if_ended ended Good f h = (f h.0, h.1)
 prints_if limit text output if_ended ended Rest f h = (f h.0, h.1)
 prints_if limit text output if_ended ended Faulty f h = h
 prints_if limit text output if_ended ended Reading f h = h
-prints_if limit text output if_ended ended Memory f h = h
+prints_if limit text output if_ended ended (Memory m) f h = h
 prints_if limit text output if_ended ended Writing f (inl h) = inl h
 prints_if limit text output if_ended ended Writing f (inr h) = inr (f h.0, h.1)
 
@@ -226,7 +227,7 @@ abbrev pub Leaves : ℕ → List ℕ → List ℕ → List ℕ → Printer → O
 Leaves limit text input output p end = MatchOption end (IsPrinting limit (text ++ input) output p) (λ e. Prints limit (text ++ input) (input ≡ []) e output)
 
 pub leaves_end : {E : Type 0} (limit : ℕ) (text input done old new : List ℕ) (p q : Printer) (r : Result (Option FramesEnd) E) (end : Option FramesEnd) → IsPrinting limit text (done ++ old) p → input ≡ [] →
-    IfOk r (λ end. IfSome end (λ e. Prints limit text (Unit {0}) e (done ++ new))) → IfOk r (λ end. IsSomeAnd end IsOwnEnd) → OnErr r (new ≡ old) → end ≡ result_unwrap_or r (Some Memory) →
+    IfOk r (λ end. IfSome end (λ e. Prints limit text (Unit {0}) e (done ++ new))) → IfOk r (λ end. IsSomeAnd end IsOwnEnd) → OnErr r (new ≡ old) → end ≡ result_unwrap_or r (Some (Memory evidence)) →
     Leaves limit text input (done ++ new) q end
 leaves_end limit text input done old new p q (Ok (Some e)) end pr empty ok some err is = rw (is, empty, append-nil text) (prints_if limit text (done ++ new) (Unit {0}) _ e (λ _. refl) ok)
 leaves_end limit text input done old new p q (Ok None) end pr empty ok some err is = absurd some
@@ -234,19 +235,19 @@ leaves_end limit text input done old new p q (Err x) end pr empty ok some err is
 
 pub leaves_bytes : {E : Type 0} (limit : ℕ) (text input done new : List ℕ) (q : Printer) (r : Result (Option FramesEnd) E) (end : Option FramesEnd) →
     IfOk r (λ end. MatchOption end (IsPrinting limit (text ++ input) (done ++ new) q) (λ e. (e ≡ Faulty) × PrintsFault limit (text ++ input) (done ++ new))) →
-    OnErr r (PrintsFront limit (text ++ input) (done ++ new)) → end ≡ result_unwrap_or r (Some Memory) →
+    OnErr r (PrintsFront limit (text ++ input) (done ++ new)) → end ≡ result_unwrap_or r (Some (Memory evidence)) →
     Leaves limit text input (done ++ new) q end
 leaves_bytes limit text input done new q (Ok (Some e)) end ok err is = rw (is, ok.0) ok.1
 leaves_bytes limit text input done new q (Ok None) end ok err is = rw is ok
 leaves_bytes limit text input done new q (Err x) end ok err is = rw is (front_part limit (text ++ input) (done ++ new) err)
 
 -- such an end blames no device
-pub own_end : {E : Type 0} (r : Result (Option FramesEnd) E) (end : Option FramesEnd) → IfOk r (λ end. IsSomeAnd end IsOwnEnd) → end ≡ result_unwrap_or r (Some Memory) → IfSome end IsOwnEnd
+pub own_end : {E : Type 0} (r : Result (Option FramesEnd) E) (end : Option FramesEnd) → IfOk r (λ end. IsSomeAnd end IsOwnEnd) → end ≡ result_unwrap_or r (Some (Memory evidence)) → IfSome end IsOwnEnd
 own_end (Ok (Some e)) end own is = rw is own
 own_end (Ok None) end own is = absurd own
 own_end (Err x) end own is = rw is tt
 
-pub own_fault : {E : Type 0} (r : Result (Option FramesEnd) E) (end : Option FramesEnd) → IfOk r (λ end. IfSome end (λ e. e ≡ Faulty)) → end ≡ result_unwrap_or r (Some Memory) → IfSome end IsOwnEnd
+pub own_fault : {E : Type 0} (r : Result (Option FramesEnd) E) (end : Option FramesEnd) → IfOk r (λ end. IfSome end (λ e. e ≡ Faulty)) → end ≡ result_unwrap_or r (Some (Memory evidence)) → IfSome end IsOwnEnd
 own_fault (Ok (Some e)) end ok is = rw (is, ok) tt
 own_fault (Ok None) end ok is = rw is tt
 own_fault (Err x) end ok is = rw is tt

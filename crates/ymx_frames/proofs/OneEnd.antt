@@ -52,13 +52,13 @@ one_end limit text Faulty Rest output printed o p (offset, fault, s, f) (b, (fs,
 one_end limit text Faulty Faulty output printed o p h k = (refl, same_fault limit text output printed h k)
 one_end limit text Reading other output printed o p h k = absurd o
 one_end limit text Writing other output printed o p h k = absurd o
-one_end limit text Memory other output printed o p h k = absurd o
+one_end limit text (Memory m) other output printed o p h k = absurd o
 one_end limit text Good Reading output printed o p h k = absurd p
 one_end limit text Good Writing output printed o p h k = absurd p
-one_end limit text Good Memory output printed o p h k = absurd p
+one_end limit text Good (Memory m) output printed o p h k = absurd p
 one_end limit text Rest Reading output printed o p h k = absurd p
 one_end limit text Rest Writing output printed o p h k = absurd p
-one_end limit text Rest Memory output printed o p h k = absurd p
+one_end limit text Rest (Memory m) output printed o p h k = absurd p
 one_end limit text Faulty Reading output printed o p h k = absurd p
 one_end limit text Faulty Writing output printed o p h k = absurd p
-one_end limit text Faulty Memory output printed o p h k = absurd p
+one_end limit text Faulty (Memory m) output printed o p h k = absurd p

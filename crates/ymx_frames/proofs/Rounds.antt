@@ -40,7 +40,7 @@ cut_short limit text output short ended Good (end, (frames, cuts, printed)) s =
 cut_short limit text output short ended Rest (end, rest) s = inr (end, (output, rest, s))
 cut_short limit text output short ended Faulty h s = inl (output, inr h, s)
 cut_short limit text output short ended Reading h s = inl (part_short limit text output short h s)
-cut_short limit text output short ended Memory h s = inl (part_short limit text output short h s)
+cut_short limit text output short ended (Memory m) h s = inl (part_short limit text output short h s)
 cut_short limit text output short ended Writing (inl h) s = inl (part_short limit text output short h s)
 cut_short limit text output short ended Writing (inr (end, (full, rest, starts))) s = inr (end, (full, rest, starts_through full output short starts s))
 

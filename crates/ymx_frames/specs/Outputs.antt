@@ -42,7 +42,7 @@ Prints limit text ended Good output = ended × PrintsAll limit text output
 Prints limit text ended Rest output = ended × PrintsRest limit text output
 Prints limit text ended Faulty output = PrintsFault limit text output
 Prints limit text ended Reading output = PrintsPart limit text output
-Prints limit text ended Memory output = PrintsPart limit text output
+Prints limit text ended (Memory _) output = PrintsPart limit text output
 Prints limit text ended Writing output = PrintsPart limit text output ⊎ (ended × ((full : List ℕ) × PrintsRest limit text full × StartsWith full output))
 
 -- an end that blames no device
@@ -52,7 +52,7 @@ IsOwnEnd Rest = ⊤
 IsOwnEnd Faulty = ⊤
 IsOwnEnd Reading = ⊥
 IsOwnEnd Writing = ⊥
-IsOwnEnd Memory = ⊤
+IsOwnEnd (Memory _) = ⊤
 
 -- an end at which all was printed that the text says
 abbrev pub IsWhole : FramesEnd → Type 0
@@ -61,4 +61,4 @@ IsWhole Rest = ⊤
 IsWhole Faulty = ⊤
 IsWhole Reading = ⊥
 IsWhole Writing = ⊥
-IsWhole Memory = ⊥
+IsWhole (Memory _) = ⊥

@@ -8,9 +8,9 @@ ghost use Rattle.ymx_frames.specs.Lines.{fault_line, fields_text, flags_text, ki
 
 use arrayvec::ArrayVec;
 use itoa::{Buffer, Integer};
-use std::alloc::AllocError;
 use std::marker::Model;
 use ymx_header::{Fault, Header, TYPE_DATA, TYPE_PING, TYPE_WINDOW_UPDATE};
+use ymx_memory::{RefusedAllocation, extend};
 
 /// How many bytes of a payload a line shows.
 const SHOWN: usize = 16;
@@ -53,7 +53,7 @@ impl Preview {
     }
 
     /// Appends its text to a line.
-    fn write(&self, text: &mut Vec<u8>) -> Result<(), AllocError>
+    fn write(&self, text: &mut Vec<u8>) -> Result<(), RefusedAllocation>
         ensures ok { OnOk result (text.new.items ≡ text.old.items ++ preview_text self.now) }
         ensures kept { StartsWith text.new.items text.old.items }
     {
@@ -63,14 +63,14 @@ impl Preview {
         }
         write_digits(text, shown)?;
         if self.more {
-            return text.extend_from_slice(b"..");
+            return extend(text, b"..");
         }
         Ok(())
     }
 }
 
 /// Appends a space and these bytes, at most sixteen, in hexadecimal.
-fn write_digits(text: &mut Vec<u8>, shown: &[u8]) -> Result<(), AllocError>
+fn write_digits(text: &mut Vec<u8>, shown: &[u8]) -> Result<(), RefusedAllocation>
     requires { length shown.now ≤ 16 }
     ensures ok { OnOk result (text.new.items ≡ text.old.items ++ (codes " " ++ encode_lower shown.now)) }
     ensures kept { StartsWith text.new.items text.old.items }
@@ -78,18 +78,22 @@ fn write_digits(text: &mut Vec<u8>, shown: &[u8]) -> Result<(), AllocError>
     let mut digits = [0; 2 * SHOWN];
     let digits = &mut digits[..2 * shown.len()];
     let _ = hex::encode_to_slice(shown, digits);
-    text.extend_from_slice(b" ")?;
-    text.extend_from_slice(digits)
+    extend(text, b" ")?;
+    extend(text, digits)
 }
 
 /// Appends a name and a number in decimal digits.
-fn write_number<N: Integer>(text: &mut Vec<u8>, name: &[u8], number: N) -> Result<(), AllocError>
+fn write_number<N: Integer>(
+    text: &mut Vec<u8>,
+    name: &[u8],
+    number: N,
+) -> Result<(), RefusedAllocation>
     ensures ok { OnOk result (text.new.items ≡ text.old.items ++ (name.now ++ N.text number)) }
     ensures kept { StartsWith text.new.items text.old.items }
 {
     let mut buffer = Buffer::new();
-    text.extend_from_slice(name)?;
-    text.extend_from_slice(buffer.format(number).as_bytes())
+    extend(text, name)?;
+    extend(text, buffer.format(number).as_bytes())
 }
 
 /// The word for a type of frame. A header of another type is never printed.
@@ -114,17 +118,17 @@ fn digits_of(flags: u16) -> [u8; 4]
 }
 
 /// Appends the type and the flags of a header.
-fn write_kind(text: &mut Vec<u8>, header: &Header) -> Result<(), AllocError>
+fn write_kind(text: &mut Vec<u8>, header: &Header) -> Result<(), RefusedAllocation>
     ensures ok { OnOk result (text.new.items ≡ text.old.items ++ (kind_word header.now.kind ++ flags_text header.now.flags)) }
     ensures kept { StartsWith text.new.items text.old.items }
 {
-    text.extend_from_slice(word_of(header.kind))?;
-    text.extend_from_slice(b" flags=")?;
-    text.extend_from_slice(&digits_of(header.flags))
+    extend(text, word_of(header.kind))?;
+    extend(text, b" flags=")?;
+    extend(text, &digits_of(header.flags))
 }
 
 /// Appends the fields of a header.
-fn write_fields(text: &mut Vec<u8>, header: &Header) -> Result<(), AllocError>
+fn write_fields(text: &mut Vec<u8>, header: &Header) -> Result<(), RefusedAllocation>
     ensures ok { OnOk result (text.new.items ≡ text.old.items ++ fields_text header.now) }
     ensures kept { StartsWith text.new.items text.old.items }
 {
@@ -134,7 +138,11 @@ fn write_fields(text: &mut Vec<u8>, header: &Header) -> Result<(), AllocError>
 }
 
 /// Appends the line of a frame. Where there is no memory for it nothing is appended.
-pub fn write_line(text: &mut Vec<u8>, header: &Header, preview: &Preview) -> Result<(), AllocError>
+pub fn write_line(
+    text: &mut Vec<u8>,
+    header: &Header,
+    preview: &Preview,
+) -> Result<(), RefusedAllocation>
     ensures ok { OnOk result (text.new.items ≡ text.old.items ++ line_text header.now preview.now) }
     ensures err { OnErr result (text.new.items ≡ text.old.items) }
 {
@@ -145,7 +153,7 @@ pub fn write_line(text: &mut Vec<u8>, header: &Header, preview: &Preview) -> Res
 
 /// Appends the line of a fault, whose frame begins at this place of the input. Where there is no
 /// memory for it nothing is appended.
-pub fn write_fault(text: &mut Vec<u8>, fault: Fault, offset: u64) -> Result<(), AllocError>
+pub fn write_fault(text: &mut Vec<u8>, fault: Fault, offset: u64) -> Result<(), RefusedAllocation>
     ensures ok { OnOk result (text.new.items ≡ text.old.items ++ fault_line fault offset) }
     ensures err { OnErr result (text.new.items ≡ text.old.items) }
 {
@@ -155,7 +163,7 @@ pub fn write_fault(text: &mut Vec<u8>, fault: Fault, offset: u64) -> Result<(), 
 }
 
 /// Appends the line of a rest of so many bytes. Where there is no memory for it nothing is appended.
-pub fn write_rest(text: &mut Vec<u8>, count: usize) -> Result<(), AllocError>
+pub fn write_rest(text: &mut Vec<u8>, count: usize) -> Result<(), RefusedAllocation>
     ensures ok { OnOk result (text.new.items ≡ text.old.items ++ rest_line count) }
     ensures err { OnErr result (text.new.items ≡ text.old.items) }
 {
@@ -168,8 +176,8 @@ pub fn write_rest(text: &mut Vec<u8>, count: usize) -> Result<(), AllocError>
 fn whole_or_none(
     text: &mut Vec<u8>,
     start: usize,
-    written: Result<(), AllocError>,
-) -> Result<(), AllocError>
+    written: Result<(), RefusedAllocation>,
+) -> Result<(), RefusedAllocation>
     ensures same { result ≡ written }
     ensures ok { OnOk written (text.new.items ≡ text.old.items) }
     ensures err { OnErr written (text.new.items ≡ take start text.old.items) }
@@ -181,30 +189,34 @@ fn whole_or_none(
 }
 
 /// Appends the line of a frame, or where there is no memory a beginning of it.
-fn append_frame(text: &mut Vec<u8>, header: &Header, preview: &Preview) -> Result<(), AllocError>
+fn append_frame(
+    text: &mut Vec<u8>,
+    header: &Header,
+    preview: &Preview,
+) -> Result<(), RefusedAllocation>
     ensures ok { OnOk result (text.new.items ≡ text.old.items ++ line_text header.now preview.now) }
     ensures kept { StartsWith text.new.items text.old.items }
 {
     write_fields(text, header)?;
     preview.write(text)?;
-    text.extend_from_slice(b"\n")
+    extend(text, b"\n")
 }
 
 /// Appends the line of a fault, or where there is no memory a beginning of it.
-fn append_fault(text: &mut Vec<u8>, fault: Fault, offset: u64) -> Result<(), AllocError>
+fn append_fault(text: &mut Vec<u8>, fault: Fault, offset: u64) -> Result<(), RefusedAllocation>
     ensures ok { OnOk result (text.new.items ≡ text.old.items ++ fault_line fault offset) }
     ensures kept { StartsWith text.new.items text.old.items }
 {
     write_number(text, b"fault B", fault.number())?;
     write_number(text, b" at ", offset)?;
-    text.extend_from_slice(b"\n")
+    extend(text, b"\n")
 }
 
 /// Appends the line of a rest, or where there is no memory a beginning of it.
-fn append_rest(text: &mut Vec<u8>, count: usize) -> Result<(), AllocError>
+fn append_rest(text: &mut Vec<u8>, count: usize) -> Result<(), RefusedAllocation>
     ensures ok { OnOk result (text.new.items ≡ text.old.items ++ rest_line count) }
     ensures kept { StartsWith text.new.items text.old.items }
 {
     write_number(text, b"rest ", count)?;
-    text.extend_from_slice(b"\n")
+    extend(text, b"\n")
 }

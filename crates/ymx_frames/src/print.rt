@@ -10,6 +10,7 @@ use crate::output::push_all;
 use crate::printer::Printer;
 use std::alloc::Global;
 use std::sync::Wait;
+use ymx_memory::{RefusedAllocation, zeros};
 use ymx_model::{Inlet, Outlet};
 
 /// How the printing of frames ended.
@@ -25,8 +26,8 @@ pub enum FramesEnd {
     Reading,
     /// The writer failed.
     Writing,
-    /// There was no memory.
-    Memory,
+    /// There was no memory. It holds the evidence: an allocation was refused.
+    Memory(RefusedAllocation),
 }
 
 /// What is printed of an input, and whether that ends as `Good`, `Rest` or `Fault`, is settled by the
@@ -65,10 +66,10 @@ pub fn frames<R: Inlet, W: Outlet>(
     ensures reader_kept { (result ≡ FramesEnd.Reading) ⊎ (R.failures reader.new ≡ R.failures reader.old) }
     ensures writer_kept { (result ≡ FramesEnd.Writing) ⊎ (W.failures writer.new ≡ W.failures writer.old) }
 {
-    let Ok(mut input) = vec![in alloc; 0u8; INPUT] else {
-        return FramesEnd::Memory;
-    };
-    print_all(rt, alloc, reader, writer, limit, input.as_mut_slice())
+    match zeros(alloc, INPUT) {
+        Ok(mut input) => print_all(rt, alloc, reader, writer, limit, input.as_mut_slice()),
+        Err(refused) => FramesEnd::Memory(refused),
+    }
 }
 
 /// The same, with the buffer that is read into.
@@ -90,8 +91,9 @@ fn print_all<R: Inlet, W: Outlet>(
     ensures reader_kept { (result ≡ FramesEnd.Reading) ⊎ (R.failures reader.new ≡ R.failures reader.old) }
     ensures writer_kept { (result ≡ FramesEnd.Writing) ⊎ (W.failures writer.new ≡ W.failures writer.old) }
 {
-    let Ok(mut printer) = Printer::new(alloc, limit, LINES) else {
-        return FramesEnd::Memory;
+    let mut printer = match Printer::new(alloc, limit, LINES) {
+        Ok(printer) => printer,
+        Err(refused) => return FramesEnd::Memory(refused),
     };
     'round: for _ in rt.forever() {
         let Ok(count) = reader.pull(input) else {

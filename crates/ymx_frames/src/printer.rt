@@ -1,6 +1,8 @@
 //! Prints the frames of a text that comes in pieces.
 
 ghost use Rattle.std.specs.Prelude.{ℕ, List, ◌≡◌, ◌+◌, ◌<◌, ◌≤◌, ◌++◌, [], length, take, Some, IfOk, OnOk, OnErr, IsSomeAnd, IfSome, IfNone, MatchOption, min, ◌^◌, ◌-◌};
+ghost use Rattle.std.specs.Result.{result_unwrap_or};
+ghost use Rattle.ymx_machine.specs.shared.Evidence.{evidence};
 ghost use Rattle.ymx_header.specs.declared.fault.Fault.{Fault as FaultValue};
 ghost use Rattle.ymx_cutter.specs.Cutters.Seen.{Broken};
 ghost use Rattle.ymx_header.specs.Frames.{payload_length};
@@ -10,9 +12,10 @@ ghost use Rattle.ymx_frames.specs.Printing.{HasPrinted, IsPrinting, NoFault};
 
 use crate::lines::{Preview, write_fault, write_line, write_rest};
 use crate::print::FramesEnd;
-use std::alloc::{AllocError, Global};
+use std::alloc::Global;
 use ymx_cutter::{Cutter, Item};
 use ymx_header::{Fault, HEADER_LENGTH, Header, decode};
+use ymx_memory::{RefusedAllocation, vec_with_capacity};
 
 /// Prints the frames of a text that comes in pieces. Of the frame begun it keeps the header and at
 /// most sixteen bytes of payload.
@@ -28,7 +31,7 @@ pub struct Printer {
 
 impl Printer {
     /// Nothing is read yet. There is room for so many bytes of lines before more memory is needed.
-    pub fn new(alloc: Global, limit: u32, room: usize) -> Result<Printer, AllocError>
+    pub fn new(alloc: Global, limit: u32, room: usize) -> Result<Printer, RefusedAllocation>
         ensures { IfOk result (λ printer. (printer.lines.items ≡ []) × IsPrinting limit [] [] printer) }
     {
         Ok(Printer {
@@ -36,7 +39,7 @@ impl Printer {
             header: decode(&[0; HEADER_LENGTH]),
             preview: Preview::new(),
             offset: 0,
-            lines: Vec::with_capacity(alloc, room)?,
+            lines: vec_with_capacity(alloc, room)?,
         })
     }
 
@@ -66,13 +69,13 @@ impl Printer {
         ensures ends { input.now ≡ [] → IsSomeAnd result IsOwnEnd }
     {
         if input.is_empty() {
-            return self.print_end().unwrap_or(Some(FramesEnd::Memory));
+            return end_of(self.print_end());
         }
-        self.print_bytes(input).unwrap_or(Some(FramesEnd::Memory))
+        end_of(self.print_bytes(input))
     }
 
     /// Prints what the end of the input makes of the frame begun.
-    fn print_end(&mut self) -> Result<Option<FramesEnd>, AllocError>
+    fn print_end(&mut self) -> Result<Option<FramesEnd>, RefusedAllocation>
         ensures ok { (limit : ℕ) (text done : List ℕ) → IsPrinting limit text (done ++ self.old.lines.items) self.old →
             IfOk result (λ end. IfSome end (λ e. Prints limit text (Unit {0}) e (done ++ self.new.lines.items))) }
         ensures ends { IfOk result (λ end. IsSomeAnd end IsOwnEnd) }
@@ -87,7 +90,7 @@ impl Printer {
     }
 
     /// Prints what the next bytes of the input make, up to a fault.
-    fn print_bytes(&mut self, input: &[u8]) -> Result<Option<FramesEnd>, AllocError>
+    fn print_bytes(&mut self, input: &[u8]) -> Result<Option<FramesEnd>, RefusedAllocation>
         ensures ok { (limit : ℕ) (text done : List ℕ) → IsPrinting limit text (done ++ self.old.lines.items) self.old →
             IfOk result (λ end. MatchOption end
             (IsPrinting limit (text ++ input.now) (done ++ self.new.lines.items) self.new)
@@ -110,7 +113,7 @@ impl Printer {
 
     /// Prints what the first bytes of the input make. Answers how many they are, or the fault that
     /// was found.
-    fn print_item(&mut self, input: &[u8]) -> Result<(usize, Option<Fault>), AllocError>
+    fn print_item(&mut self, input: &[u8]) -> Result<(usize, Option<Fault>), RefusedAllocation>
         ensures within { IfOk result (λ r. r.0 ≤ length input.now) }
         ensures goes_on { IfOk result (λ r. IfNone r.1 (0 < length input.now → 0 < r.0)) }
         ensures printing { (limit : ℕ) (text done : List ℕ) → HasPrinted limit text (done ++ self.old.lines.items) self.old →
@@ -141,7 +144,7 @@ impl Printer {
     }
 
     /// The frame begun is whole: prints its line.
-    fn print_frame(&mut self) -> Result<(), AllocError>
+    fn print_frame(&mut self) -> Result<(), RefusedAllocation>
         ensures printed { OnOk result (self.new.lines.items ≡ self.old.lines.items ++ line_text self.old.header self.old.preview) }
         ensures placed { OnOk result (self.new.offset ≡ min (self.old.offset + (12 + payload_length self.old.header)) (2 ^ 64 - 1)) }
         ensures fresh { OnOk result (self.new.preview ≡ preview []) }
@@ -153,5 +156,15 @@ impl Printer {
         self.offset = self.offset.saturating_add(length);
         self.preview = Preview::new();
         Ok(())
+    }
+}
+
+/// How the printing ends, if it does: where memory was refused, so.
+fn end_of(printed: Result<Option<FramesEnd>, RefusedAllocation>) -> Option<FramesEnd>
+    ensures { result ≡ result_unwrap_or printed (Some (FramesEnd.Memory evidence)) }
+{
+    match printed {
+        Ok(end) => end,
+        Err(refused) => Some(FramesEnd::Memory(refused)),
     }
 }

@@ -5,18 +5,18 @@ use Rattle.ymx_frames.proofs.Pushed.{counted}
 use Rattle.ymx_frames.proofs.Rounds.{nothing_printed_of_nothing, run_begins, read_fails, write_fails, run_ends, run_goes_on, if_failed, if_not_failed}
 use Rattle.ymx_frames.proofs.print.print_all.Goals as goal
 
-pub returns-in_default-clause-printed : goal.returns-in_default-clause-printed
-returns-in_default-clause-printed g c = ([], [], Consumes-nil _, Appends-nil _, nothing_printed_of_nothing c.args.limit)
+pub returns-in-Err-clause-printed : goal.returns-in-Err-clause-printed
+returns-in-Err-clause-printed g c = ([], [], Consumes-nil _, Appends-nil _, nothing_printed_of_nothing c.args.limit)
 
 pub round-init : goal.round-init
 round-init g c = run_begins _ _ _ _ _ _ c.in-Ok.ensures
 
-pub returns-in_default-pull-clause-printed : goal.returns-in_default-pull-clause-printed
-returns-in_default-pull-clause-printed g c = read_fails _ _ _ _ _ _ _ _ _ _ _ c.round.invariant c.in_default-pull.ensures.moved
+pub returns-in_default-clause-printed : goal.returns-in_default-clause-printed
+returns-in_default-clause-printed g c = read_fails _ _ _ _ _ _ _ _ _ _ _ c.round.invariant c.in_default.ensures.moved
 
-pub returns-in_default-pull-clause-reading : goal.returns-in_default-pull-clause-reading
-returns-in_default-pull-clause-reading g c = λ e.
-    counted _ _ (c.in_default-pull.ensures.counted ∙ ap (λ n. min (n + 1) most_failures) c.round.invariant.reader)
+pub returns-in_default-clause-reading : goal.returns-in_default-clause-reading
+returns-in_default-clause-reading g c = λ e.
+    counted _ _ (c.in_default.ensures.counted ∙ ap (λ n. min (n + 1) most_failures) c.round.invariant.reader)
 
 pub returns-then-is_err-clause-printed : goal.returns-then-is_err-clause-printed
 returns-then-is_err-clause-printed g c =
