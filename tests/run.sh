@@ -39,6 +39,7 @@ try 'each allocation fails once' "$root/tests/no_memory/run.sh"
 # compiled together, as most of the time goes into what they share
 try 'sessions, engines, threads and units' "$root/tests/try_tests.sh" session worlds engine hub tunnel connect no_memory/parts units
 try 'the C interface' "$root/tests/capi/run.sh"
+try "the guide's client and server" "$root/tests/examples/run.sh" guide
 if [ "${1-}" = --all ]; then
     try 'the programs of the guide' "$root/tests/examples/run.sh"
     try 'wrong bodies' "$root/tests/wrong_bodies.sh"
