@@ -65,9 +65,9 @@ WritesUntil fault id seat bytes added =
 -- ---- a copy
 
 -- the seats of both halves behind a copy: what was read, by reads that are such, was written, by writes that are such
-abbrev pub Carries : (keeps_reads keeps_writes : Bool) (reader writer : HalfView) (reads writes : SeatView) →
+abbrev pub BooksCopy : (keeps_reads keeps_writes : Bool) (reader writer : HalfView) (reads writes : SeatView) →
     (Read Written : ℕ → ℕ → List Entry → Type 0) → Type 0
-Carries keeps_reads keeps_writes reader writer reads writes Read Written =
+BooksCopy keeps_reads keeps_writes reader writer reads writes Read Written =
     Books keeps_reads reader.seat reads (Read reader.id reader.seat.number)
     × Books keeps_writes writer.seat writes (Written writer.id writer.seat.number)
 
@@ -76,8 +76,8 @@ Carries keeps_reads keeps_writes reader writer reads writes Read Written =
 abbrev pub Copies : (keeps_reads keeps_writes : Bool) (reader writer : HalfView) (reads writes : SeatView) → Result ℕ HubFault → Type 0
 Copies keeps_reads keeps_writes reader writer reads writes (Ok count) =
     (bytes : List ℕ) × (count ≡ min (length bytes) (2 ^ 64 - 1))
-    × Carries keeps_reads keeps_writes reader writer reads writes (λ id seat. ReadsUpTo reply.ReadEnd id seat bytes) (λ id seat. WritesOn id seat bytes)
+    × BooksCopy keeps_reads keeps_writes reader writer reads writes (λ id seat. ReadsUpTo reply.ReadEnd id seat bytes) (λ id seat. WritesOn id seat bytes)
 Copies keeps_reads keeps_writes reader writer reads writes (Err fault) =
-    ((bytes : List ℕ) × Carries keeps_reads keeps_writes reader writer reads writes (λ id seat. ReadsUntil fault id seat bytes) (λ id seat. WritesOn id seat bytes))
+    ((bytes : List ℕ) × BooksCopy keeps_reads keeps_writes reader writer reads writes (λ id seat. ReadsUntil fault id seat bytes) (λ id seat. WritesOn id seat bytes))
     ⊎ ((given : List ℕ) × (taken : List ℕ) × StartsWith given taken
-    × Carries keeps_reads keeps_writes reader writer reads writes (λ id seat. ReadsOn id seat given) (λ id seat. WritesUntil fault id seat taken))
+    × BooksCopy keeps_reads keeps_writes reader writer reads writes (λ id seat. ReadsOn id seat given) (λ id seat. WritesUntil fault id seat taken))

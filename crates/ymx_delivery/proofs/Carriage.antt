@@ -27,7 +27,7 @@ use Rattle.ymx_model.specs.world.Worlds.{World}
 use Rattle.ymx_headline.specs.Agrees.{RunsAlike}
 use Rattle.ymx_headline.specs.Laws.{is_carriage}
 use Rattle.ymx_world.specs.Settled.{no_memory_of, no_memory_in}
-use Rattle.ymx_delivery.specs.Stages.{Numbers, alone, IsBeforeAccept, IsComing, IsUnderWay, IsSettled}
+use Rattle.ymx_delivery.specs.Stages.{Numbers, alone, IsBeforeAccept, IsComing, IsComingOrRefused, IsSettled}
 use Rattle.ymx_delivery.proofs.Machines.{mirror-mirror, from-mirror}
 use Rattle.ymx_delivery.proofs.Moves.{IsAt, IsAtB, still-counts, move-a, move-b, offered-not_unborn}
 
@@ -57,20 +57,20 @@ releases-count K f (id ∷ ids) before m n h k =
 
 -- ---- a move, an emission, a delivery
 
-moves-a : (k : Numbers) (id : ℕ) (bytes : List ℕ) (v : FreeMove) (before : ℕ) (m : Machine) → MayMove v m → IsAt k id (IsUnderWay before id bytes) m →
-    IsAt k id (IsUnderWay (before + counted_by v) id bytes) (moved_by v m)
+moves-a : (k : Numbers) (id : ℕ) (bytes : List ℕ) (v : FreeMove) (before : ℕ) (m : Machine) → MayMove v m → IsAt k id (IsComingOrRefused before id bytes) m →
+    IsAt k id (IsComingOrRefused (before + counted_by v) id bytes) (moved_by v m)
 moves-a k id bytes v before m a h =
-    subst (λ (x : Machine). IsAt k id (IsUnderWay (before + counted_by v) id bytes) (moved_by v x)) (sym h.is)
+    subst (λ (x : Machine). IsAt k id (IsComingOrRefused (before + counted_by v) id bytes) (moved_by v x)) (sym h.is)
     (move-a k id before bytes v h.stream h.offered (subst (MayMove v) h.is a) h.stage)
 
-moves-b : (k : Numbers) (id : ℕ) (bytes : List ℕ) (v : FreeMove) (before : ℕ) (m : Machine) → MayMove v m → IsAtB k id (IsUnderWay before id bytes) m →
-    IsAtB k id (IsUnderWay (before + counted_by v) id bytes) (moved_by v m)
+moves-b : (k : Numbers) (id : ℕ) (bytes : List ℕ) (v : FreeMove) (before : ℕ) (m : Machine) → MayMove v m → IsAtB k id (IsComingOrRefused before id bytes) m →
+    IsAtB k id (IsComingOrRefused (before + counted_by v) id bytes) (moved_by v m)
 moves-b k id bytes v before m a h =
-    subst (λ (x : Machine). IsAtB k id (IsUnderWay (before + counted_by v) id bytes) (moved_by v x)) (sym h.is)
+    subst (λ (x : Machine). IsAtB k id (IsComingOrRefused (before + counted_by v) id bytes) (moved_by v x)) (sym h.is)
     (move-b k id before bytes v h.stream h.offered (subst (MayMove v) h.is a) h.stage)
 
 -- the refusal counts as long as the count isn't 0
-at-counts : (k : Numbers) (id before now : ℕ) (bytes : List ℕ) (m : Machine) → (0 < before → 0 < now) → IsAt k id (IsUnderWay before id bytes) m → IsAt k id (IsUnderWay now id bytes) m
+at-counts : (k : Numbers) (id before now : ℕ) (bytes : List ℕ) (m : Machine) → (0 < before → 0 < now) → IsAt k id (IsComingOrRefused before id bytes) m → IsAt k id (IsComingOrRefused now id bytes) m
 at-counts k id before now bytes m f h = record { stream = h.stream; offered = h.offered; is = h.is; stage = still-counts id before now bytes h.stream h.offered f h.stage }
 
 -- a delivery that refused some tells so
@@ -84,33 +84,33 @@ told-none : (before now : ℕ) (given : Answer) → now ≡ before + no_memory_o
 told-none before now given e some = omega (arith, e, some)
 
 carriage-step : (k : Numbers) (id before now : ℕ) (bytes : List ℕ) (st : Step) (given : Answer) (m n : Machine) → now ≡ before + no_memory_of given → is_carriage st ≡ true → MachineStep st given m n →
-    IsAt k id (IsUnderWay before id bytes) m → IsAt k id (IsUnderWay now id bytes) n
+    IsAt k id (IsComingOrRefused before id bytes) m → IsAt k id (IsComingOrRefused now id bytes) n
 carriage-step k id before now bytes (step.Emit A room) given m n e c s h =
     at-counts k id before now bytes n (told-none before now given e)
-    (releases-count (λ (i : ℕ). IsAt k id (IsUnderWay i id bytes)) (moves-a k id bytes) s.1 before m n s.3 h)
+    (releases-count (λ (i : ℕ). IsAt k id (IsComingOrRefused i id bytes)) (moves-a k id bytes) s.1 before m n s.3 h)
 carriage-step k id before now bytes (step.Emit B room) given m n e c s h =
     at-counts k id before now bytes n (told-none before now given e)
-    (at-a k id (IsUnderWay before id bytes) n
-    (releases-count (λ (i : ℕ). IsAtB k id (IsUnderWay i id bytes)) (moves-b k id bytes) s.1 before (mirror_machine m) (mirror_machine n) s.3 (at-b k id (IsUnderWay before id bytes) m h)))
+    (at-a k id (IsComingOrRefused before id bytes) n
+    (releases-count (λ (i : ℕ). IsAtB k id (IsComingOrRefused i id bytes)) (moves-b k id bytes) s.1 before (mirror_machine m) (mirror_machine n) s.3 (at-b k id (IsComingOrRefused before id bytes) m h)))
 carriage-step k id before now bytes (step.Deliver AB count) given m n e c s h =
     at-counts k id (before + s.2) now bytes n (told-some before now s.2 given s.0 e s.3 s.5)
-    (at-a k id (IsUnderWay (before + s.2) id bytes) n
-    (moves-count (λ (i : ℕ). IsAtB k id (IsUnderWay i id bytes)) (moves-b k id bytes) s.1 before (before + s.2) s.2 (mirror_machine m) (mirror_machine n) refl s.6
-    (at-b k id (IsUnderWay before id bytes) m h)))
+    (at-a k id (IsComingOrRefused (before + s.2) id bytes) n
+    (moves-count (λ (i : ℕ). IsAtB k id (IsComingOrRefused i id bytes)) (moves-b k id bytes) s.1 before (before + s.2) s.2 (mirror_machine m) (mirror_machine n) refl s.6
+    (at-b k id (IsComingOrRefused before id bytes) m h)))
 carriage-step k id before now bytes (step.Deliver BA count) given m n e c s h =
     let moves : FreeMoves s.1 m s.2 (mirror_machine (mirror_machine n)) = subst (λ (x : Machine). FreeMoves s.1 x s.2 (mirror_machine (mirror_machine n))) (mirror-mirror m) s.6 in
     at-counts k id (before + s.2) now bytes n (told-some before now s.2 given s.0 e s.3 s.5)
-    (subst (IsAt k id (IsUnderWay (before + s.2) id bytes)) (mirror-mirror n)
-    (moves-count (λ (i : ℕ). IsAt k id (IsUnderWay i id bytes)) (moves-a k id bytes) s.1 before (before + s.2) s.2 m (mirror_machine (mirror_machine n)) refl moves h))
+    (subst (IsAt k id (IsComingOrRefused (before + s.2) id bytes)) (mirror-mirror n)
+    (moves-count (λ (i : ℕ). IsAt k id (IsComingOrRefused i id bytes)) (moves-a k id bytes) s.1 before (before + s.2) s.2 m (mirror_machine (mirror_machine n)) refl moves h))
 carriage-step k id before now bytes (step.At side call) given m n e c s h = absurd cc
 carriage-step k id before now bytes (step.Stop direction) given m n e c s h = absurd cc
 carriage-step k id before now bytes (step.End direction) given m n e c s h = absurd cc
 
 -- all of them
 pub carriage-run : (k : Numbers) (id before now : ℕ) (bytes : List ℕ) (may : Choice → Session → Bool) (sts : List Step) (given : List Answer) (w v : World) (m n : Machine) →
-    now ≡ before + no_memory_in given → All (λ st. is_carriage st ≡ true) sts → RunsAlike may sts given w m v n → IsAt k id (IsUnderWay before id bytes) m → IsAt k id (IsUnderWay now id bytes) n
+    now ≡ before + no_memory_in given → All (λ st. is_carriage st ≡ true) sts → RunsAlike may sts given w m v n → IsAt k id (IsComingOrRefused before id bytes) m → IsAt k id (IsComingOrRefused now id bytes) n
 carriage-run k id before now bytes may [] [] w v m n e c r h =
-    subst (IsAt k id (IsUnderWay now id bytes)) (sym r.1) (at-counts k id before now bytes m (λ some. omega (arith, e, some)) h)
+    subst (IsAt k id (IsComingOrRefused now id bytes)) (sym r.1) (at-counts k id before now bytes m (λ some. omega (arith, e, some)) h)
 carriage-run k id before now bytes may [] (given ∷ more) w v m n e c r h = absurd r
 carriage-run k id before now bytes may (st ∷ sts) [] w v m n e c r h = absurd r
 carriage-run k id before now bytes may (st ∷ sts) (given ∷ more) w v m n e c r h =
@@ -130,7 +130,7 @@ is-offered : (id : ℕ) (s : Stream) (offered : List ℕ) → is_unborn s.you �
 is-offered id s offered e (inl h) = let k : is_unborn Unborn ≡ false = subst (λ (p : Phase). is_unborn p ≡ false) h.0 e in absurd cc
 is-offered id s offered e (inr h) = h.1
 
-settled : (mine yours id no_memory : ℕ) (bytes : List ℕ) (s : Stream) (offered : List ℕ) → IsStill mine yours s → IsUnderWay no_memory id bytes s offered → IsSettled no_memory id bytes s offered
+settled : (mine yours id no_memory : ℕ) (bytes : List ℕ) (s : Stream) (offered : List ℕ) → IsStill mine yours s → IsComingOrRefused no_memory id bytes s offered → IsSettled no_memory id bytes s offered
 settled mine yours id no_memory bytes s offered still (inl h) = inl (record {
   you = offered-not_unborn id s offered still.you_born h.you;
   here = sym (append-nil s.outbound.here) ∙ (ap (λ (z : List ℕ). s.outbound.here ++ z) (sym still.way_outbound) ∙ h.split);
@@ -140,7 +140,7 @@ settled mine yours id no_memory bytes s offered still (inl h) = inl (record {
 settled mine yours id no_memory bytes s offered still (inr h) = inr h
 
 -- where nothing is under way, all has come or the stream was refused
-pub settled-machine : (k : Numbers) (id no_memory : ℕ) (bytes : List ℕ) (s : Stream) (offered : List ℕ) → IsStillMachine (alone k id s offered) → IsUnderWay no_memory id bytes s offered →
+pub settled-machine : (k : Numbers) (id no_memory : ℕ) (bytes : List ℕ) (s : Stream) (offered : List ℕ) → IsStillMachine (alone k id s offered) → IsComingOrRefused no_memory id bytes s offered →
     IsSettled no_memory id bytes s offered
 settled-machine k id no_memory bytes s offered still h =
     settled k.mine k.yours id no_memory bytes s offered (All-head (λ (p : ℕ × Stream). IsStill k.mine k.yours p.1) (id, s) [] still.streams) h

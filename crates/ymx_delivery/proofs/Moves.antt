@@ -12,7 +12,7 @@ use Rattle.ymx_machine.specs.machine.Machines.PingPlace.{Asked, There}
 use Rattle.ymx_machine.specs.machine.FreeMoves.{FreeMove, MayMove, moved_by, counted_by, move_is_syn, is_reset_arriving, machine_refuses}
 use Rattle.ymx_machine.specs.machine.FreeMoves.FreeMove.{OfStream, SynArrives, AwayArrives, PingThere, PingBack}
 use Rattle.ymx_law_machine.proofs.faces.LaneFaces.{halves}
-use Rattle.ymx_delivery.specs.Stages.{Numbers, alone, IsBeforeAccept, IsComing, IsRefused, IsUnderWay}
+use Rattle.ymx_delivery.specs.Stages.{Numbers, alone, IsBeforeAccept, IsComing, IsRefused, IsComingOrRefused}
 use Rattle.ymx_delivery.proofs.Machines.{flip-flip, change-one, found-one}
 
 -- ---- a machine of one stream at a stage, as A sees it, and as B does
@@ -135,18 +135,18 @@ refused-a no_memory Released s offered y a h = let k : is_lingering Lingering �
 -- ---- under way, either way
 
 -- the refusal counts as long as the count isn't 0
-pub still-counts : (id before now : ℕ) (bytes : List ℕ) (s : Stream) (offered : List ℕ) → (0 < before → 0 < now) → IsUnderWay before id bytes s offered → IsUnderWay now id bytes s offered
+pub still-counts : (id before now : ℕ) (bytes : List ℕ) (s : Stream) (offered : List ℕ) → (0 < before → 0 < now) → IsComingOrRefused before id bytes s offered → IsComingOrRefused now id bytes s offered
 still-counts id before now bytes s offered f (inl h) = inl h
 still-counts id before now bytes s offered f (inr h) =
     inr (record { own = h.own; you = h.you; born = h.born; stays = h.stays; offered_none = h.offered_none; counts = f h.counts })
 
-way-b : (id no_memory : ℕ) (bytes : List ℕ) (v : Move) (s : Stream) (offered : List ℕ) → move_is_syn v ≡ false → Allowed v (flip s) → IsUnderWay no_memory id bytes s offered →
-    IsUnderWay no_memory id bytes (at_b v s) (if is_reset_arriving v then drop_id id offered else offered)
+way-b : (id no_memory : ℕ) (bytes : List ℕ) (v : Move) (s : Stream) (offered : List ℕ) → move_is_syn v ≡ false → Allowed v (flip s) → IsComingOrRefused no_memory id bytes s offered →
+    IsComingOrRefused no_memory id bytes (at_b v s) (if is_reset_arriving v then drop_id id offered else offered)
 way-b id no_memory bytes v s offered y a (inl h) = inl (coming-b id bytes v s offered y a h)
 way-b id no_memory bytes v s offered y a (inr h) = inr (refused-b id no_memory v s offered y a h)
 
-way-a : (id no_memory : ℕ) (bytes : List ℕ) (v : Move) (s : Stream) (offered : List ℕ) → move_is_syn v ≡ false → Allowed v s → IsUnderWay no_memory id bytes s offered →
-    IsUnderWay no_memory id bytes (after_move v s) offered
+way-a : (id no_memory : ℕ) (bytes : List ℕ) (v : Move) (s : Stream) (offered : List ℕ) → move_is_syn v ≡ false → Allowed v s → IsComingOrRefused no_memory id bytes s offered →
+    IsComingOrRefused no_memory id bytes (after_move v s) offered
 way-a id no_memory bytes v s offered y a (inl h) = inl (coming-a id bytes v s offered y a h)
 way-a id no_memory bytes v s offered y a (inr h) = inr (refused-a no_memory v s offered y a h)
 
@@ -175,7 +175,7 @@ refuses-none k id s offered e f = rw (e, f) refl
 -- it is refused where the refusal counts, that is for want of memory
 begin-b : (k : Numbers) (id no_memory : ℕ) (bytes : List ℕ) (counted : Bool) (s : Stream) (offered : List ℕ) → s.you ≡ Unborn → offered ≡ [] → IsComing id bytes s offered →
     (let m = mirror_machine (alone k id s offered) in
-    IsAtB k id (IsUnderWay (no_memory + counted_by (SynArrives id counted)) id bytes) (
+    IsAtB k id (IsComingOrRefused (no_memory + counted_by (SynArrives id counted)) id bytes) (
     if counted then record m { streams = change id (after_move SynRefused) m.streams }
     else record m { streams = change id (after_move SynOffered) m.streams; me = record m.me { offered = m.me.offered ++ id ∷ [] } }
     ))
@@ -204,8 +204,8 @@ unborn-none : (id : ℕ) (s : Stream) (offered : List ℕ) → s.you ≡ Unborn 
 unborn-none id s offered e (inl h) = h.1
 unborn-none id s offered e (inr h) = let k : Offered ≡ Unborn = sym h.0 ∙ e in absurd cc
 
-syn-b : (k : Numbers) (id no_memory : ℕ) (bytes : List ℕ) (counted : Bool) (s : Stream) (offered : List ℕ) → s.you ≡ Unborn → IsUnderWay no_memory id bytes s offered →
-    IsAtB k id (IsUnderWay (no_memory + counted_by (SynArrives id counted)) id bytes) (moved_by (SynArrives id counted) (mirror_machine (alone k id s offered)))
+syn-b : (k : Numbers) (id no_memory : ℕ) (bytes : List ℕ) (counted : Bool) (s : Stream) (offered : List ℕ) → s.you ≡ Unborn → IsComingOrRefused no_memory id bytes s offered →
+    IsAtB k id (IsComingOrRefused (no_memory + counted_by (SynArrives id counted)) id bytes) (moved_by (SynArrives id counted) (mirror_machine (alone k id s offered)))
 syn-b k id no_memory bytes counted s offered e (inl h) =
     let none = unborn-none id s offered e h.you in
     rw (refuses-none k id s offered e none) (begin-b k id no_memory bytes counted s offered e none h)
@@ -217,12 +217,12 @@ flip-you : (s t : Stream) (p : Phase) → t ≡ flip s → t.me ≡ p → s.you 
 flip-you s t p e h = ap (λ (x : Stream). x.me) (sym e) ∙ h
 
 pub move-b : (k : Numbers) (id no_memory : ℕ) (bytes : List ℕ) (v : FreeMove) (s : Stream) (offered : List ℕ) → MayMove v (mirror_machine (alone k id s offered)) →
-    IsUnderWay no_memory id bytes s offered → IsAtB k id (IsUnderWay (no_memory + counted_by v) id bytes) (moved_by v (mirror_machine (alone k id s offered)))
+    IsComingOrRefused no_memory id bytes s offered → IsAtB k id (IsComingOrRefused (no_memory + counted_by v) id bytes) (moved_by v (mirror_machine (alone k id s offered)))
 move-b k id no_memory bytes (OfStream i v) s offered a h =
     let f = found-one i id (flip s) a.2.0 a.2.1 in
     let may : Allowed v (flip s) = subst (Allowed v) f.1 a.2.2 in
     let none : no_memory + 0 ≡ no_memory = omega arith in
-    rw none (subst (λ (j : ℕ). IsAtB k id (IsUnderWay no_memory id bytes) (moved_by (OfStream j v) (mirror_machine (alone k id s offered)))) (sym f.0) (record {
+    rw none (subst (λ (j : ℕ). IsAtB k id (IsComingOrRefused no_memory id bytes) (moved_by (OfStream j v) (mirror_machine (alone k id s offered)))) (sym f.0) (record {
       stream = at_b v s;
       offered = if is_reset_arriving v then drop_id id offered else offered;
       is = moved-b k id (after_move v) (is_reset_arriving v) s offered;
@@ -230,23 +230,23 @@ move-b k id no_memory bytes (OfStream i v) s offered a h =
     }))
 move-b k id no_memory bytes (SynArrives i counted) s offered a h =
     let f = found-one i id (flip s) a.1.0 a.1.1 in
-    subst (λ (j : ℕ). IsAtB k id (IsUnderWay (no_memory + counted_by (SynArrives j counted)) id bytes) (moved_by (SynArrives j counted) (mirror_machine (alone k id s offered)))) (sym f.0)
+    subst (λ (j : ℕ). IsAtB k id (IsComingOrRefused (no_memory + counted_by (SynArrives j counted)) id bytes) (moved_by (SynArrives j counted) (mirror_machine (alone k id s offered)))) (sym f.0)
     (syn-b k id no_memory bytes counted s offered (flip-you s a.1.0 Unborn f.1 a.1.2) h)
 move-b k id no_memory bytes AwayArrives s offered a h = let q : Unsaid ≡ Said = a.1 in absurd cc
 move-b k id no_memory bytes (PingThere number) s offered a h = let q : (let none : Option PingPlace = None in none ≡ Some Asked) = a.1 in absurd cc
 move-b k id no_memory bytes (PingBack number) s offered a h = let q : (let none : Option PingPlace = None in none ≡ Some There) = a.1 in absurd cc
 
-born-a : (id no_memory : ℕ) (bytes : List ℕ) (s : Stream) (offered : List ℕ) → s.me ≡ Unborn → IsUnderWay no_memory id bytes s offered → ⊥
+born-a : (id no_memory : ℕ) (bytes : List ℕ) (s : Stream) (offered : List ℕ) → s.me ≡ Unborn → IsComingOrRefused no_memory id bytes s offered → ⊥
 born-a id no_memory bytes s offered e (inl h) = let q : Live ≡ Unborn = sym h.me ∙ e in absurd cc
 born-a id no_memory bytes s offered e (inr h) = let q : is_unborn Unborn ≡ false = subst (λ (p : Phase). is_unborn p ≡ false) e h.born in absurd cc
 
-pub move-a : (k : Numbers) (id no_memory : ℕ) (bytes : List ℕ) (v : FreeMove) (s : Stream) (offered : List ℕ) → MayMove v (alone k id s offered) → IsUnderWay no_memory id bytes s offered →
-    IsAt k id (IsUnderWay (no_memory + counted_by v) id bytes) (moved_by v (alone k id s offered))
+pub move-a : (k : Numbers) (id no_memory : ℕ) (bytes : List ℕ) (v : FreeMove) (s : Stream) (offered : List ℕ) → MayMove v (alone k id s offered) → IsComingOrRefused no_memory id bytes s offered →
+    IsAt k id (IsComingOrRefused (no_memory + counted_by v) id bytes) (moved_by v (alone k id s offered))
 move-a k id no_memory bytes (OfStream i v) s offered a h =
     let f = found-one i id s a.2.0 a.2.1 in
     let may : Allowed v s = subst (Allowed v) f.1 a.2.2 in
     let none : no_memory + 0 ≡ no_memory = omega arith in
-    rw none (subst (λ (j : ℕ). IsAt k id (IsUnderWay no_memory id bytes) (moved_by (OfStream j v) (alone k id s offered))) (sym f.0) (record {
+    rw none (subst (λ (j : ℕ). IsAt k id (IsComingOrRefused no_memory id bytes) (moved_by (OfStream j v) (alone k id s offered))) (sym f.0) (record {
       stream = after_move v s;
       offered = offered;
       is = moved-a k id (after_move v) (is_reset_arriving v) s offered;

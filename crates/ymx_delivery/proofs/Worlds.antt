@@ -23,7 +23,7 @@ use Rattle.ymx_model.specs.world.Worlds.{World, Steps, new_world}
 use Rattle.ymx_headline.specs.Agrees.{Agrees, Follows}
 use Rattle.ymx_headline.specs.Laws.{IsOpenPipe, IsOpenWorld}
 use Rattle.ymx_world.specs.Settled.{no_memory_in, IsCarriedOn}
-use Rattle.ymx_delivery.specs.Stages.{Numbers, alone, IsWritable, IsComing, IsUnderWay, IsSettled, IsReadable, Stands, IsNewWorld}
+use Rattle.ymx_delivery.specs.Stages.{Numbers, alone, IsWritable, IsComing, IsComingOrRefused, IsSettled, IsReadable, Stands, IsNewWorld}
 use Rattle.ymx_delivery.proofs.Moves.{IsAt, still-counts}
 use Rattle.ymx_delivery.proofs.Carriage.{carriage-run, settled-machine}
 use Rattle.ymx_delivery.proofs.CallSteps.{opened_numbers, open-step, write-step, finish-step, accept-step, read-step}
@@ -111,7 +111,7 @@ settles no_memory id bytes w v h carried still =
     let at = carriage-run h.numbers id 0 total bytes in_turn carried.steps carried.answers w v (alone h.numbers id h.stream h.offered) f.0 all carried.alone f.1
     (record { stream = h.stream; offered = h.offered; is = refl; stage = inl h.stage }) in
     let b : Agrees v (alone h.numbers id at.stream at.offered) = subst (Agrees v) at.is f.2 in
-    let stage : IsUnderWay no_memory id bytes at.stream at.offered =
+    let stage : IsComingOrRefused no_memory id bytes at.stream at.offered =
     still-counts id total no_memory bytes at.stream at.offered (some-counted total no_memory carried.counted) at.stage in record {
       open_world = carried.on h.open_world;
       numbers = h.numbers;

@@ -50,8 +50,8 @@ pub record IsRefused (no_memory : ℕ) (s : Stream) (offered : List ℕ) : Type 
   pub counts : 0 < no_memory
 
 -- while A's bytes are carried, on whose way so many streams were refused for want of memory
-abbrev pub IsUnderWay : (no_memory id : ℕ) → List ℕ → Stream → List ℕ → Type 0
-IsUnderWay no_memory id bytes s offered = IsComing id bytes s offered ⊎ IsRefused no_memory s offered
+abbrev pub IsComingOrRefused : (no_memory id : ℕ) → List ℕ → Stream → List ℕ → Type 0
+IsComingOrRefused no_memory id bytes s offered = IsComing id bytes s offered ⊎ IsRefused no_memory s offered
 
 -- the bytes and the end behind them have come, and the stream waits to be accepted
 pub record IsThere (id : ℕ) (bytes : List ℕ) (s : Stream) (offered : List ℕ) : Type 0 where
