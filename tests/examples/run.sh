@@ -32,11 +32,16 @@ compile() {
         "out/$crate.o" "$kit/c/libos_c.a" "$kit/c/liblibc_c.a"
 }
 
+# crate_of NAME: the name of the crate that examples/NAME.rattle is
+crate_of() {
+    echo "example_$1" | tr / _
+}
+
 # prove NAME LIBRARY..: examples/NAME.rattle as a crate over these libraries; `crate` is its name then. What `main` picks
 # in its proof stands in main.invariants beside it, with CRATE for that name.
 prove() {
     source=$1
-    crate=example_$(echo "$source" | tr / _)
+    crate=$(crate_of "$source")
     shift
     mkdir -p "$scratch/crates/$crate/src"
     cp "$root/examples/$source.rattle" "$scratch/crates/$crate/src/main.rt"
@@ -45,13 +50,14 @@ prove() {
         mkdir -p "$scratch/crates/$crate/proofs/main"
         sed "s/CRATE/$crate/" "$picked" > "$scratch/crates/$crate/proofs/main/Invariants.antt"
     fi
+    check=$scratch/check_of_$crate
     if [ "$is_from_gate" = yes ]; then
-        (cd "$scratch/crates/$crate" && compile "$@" > "$scratch/check" 2>&1) || fail "examples/$source.rattle isn't proved" "$scratch/check"
+        (cd "$scratch/crates/$crate" && compile "$@" > "$check" 2>&1) || fail "examples/$source.rattle isn't proved" "$check"
         return
     fi
     echo "$crate: $* anyhow" >> "$scratch/crates.txt"
-    (cd "$scratch/crates/$crate" && rt check > "$scratch/check" 2>&1) || fail "examples/$source.rattle isn't proved" "$scratch/check"
-    grep -q '^logic=proved ' "$scratch/check" || fail "examples/$source.rattle isn't proved" "$scratch/check"
+    (cd "$scratch/crates/$crate" && rt check > "$check" 2>&1) || fail "examples/$source.rattle isn't proved" "$check"
+    grep -q '^logic=proved ' "$check" || fail "examples/$source.rattle isn't proved" "$check"
 }
 
 # build: `program` is the program of this crate. `rt run` builds what is proved, and runs it: a client that finds nobody
@@ -69,9 +75,18 @@ pair() {
     serving=$1
     asking=$2
     shift 2
-    prove "$serving" "$@"
-    server=$crate
-    prove "$asking" "$@"
+    server=$(crate_of "$serving")
+    if [ "$is_from_gate" = yes ]; then
+        # both at once, as no proof is kept
+        prove "$serving" "$@" &
+        jobs=$!
+        prove "$asking" "$@"
+        wait "$jobs" || exit 1
+        jobs=
+    else
+        prove "$serving" "$@"
+        prove "$asking" "$@"
+    fi
     build
     if [ "$is_from_gate" = yes ]; then
         timeout 300 "$scratch/crates/$server/out/$server" < /dev/null > "$scratch/server.out" 2>&1 &
