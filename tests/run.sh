@@ -7,14 +7,24 @@ set -eu
 here=$(cd "$(dirname "$0")" && pwd)
 . "$here/over.sh"
 
+# spend: `spent` is the processor time of the commands that have ended, in seconds. `times` says it of this shell alone,
+# so it stands in no pipe.
+spend() {
+    times > "$scratch/times"
+    spent=$(sed -n 2p "$scratch/times" | tr 'ms' '  ' | awk '{ printf "%.0f", 60 * ($1 + $3) + $2 + $4 }')
+}
+
 # try NAME COMMAND..: one test
 try() {
     name=$1
     shift
     began=$(date +%s)
+    spend
+    before=$spent
     if "$@" > "$scratch/log" 2>&1 < /dev/null; then
         good
-        echo "ok    $name: $(tail -n 1 "$scratch/log") ($(($(date +%s) - began)) seconds)"
+        spend
+        echo "ok    $name: $(tail -n 1 "$scratch/log") ($(($(date +%s) - began)) seconds, $((spent - before)) of processor time)"
     else
         bad "$name" "$scratch/log"
     fi
