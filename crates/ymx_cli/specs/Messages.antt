@@ -77,7 +77,7 @@ script_reason script.Good = []
 script_reason (script.Line number) = []
 script_reason script.Reading = codes "ymx: reading failed\n"
 script_reason script.Writing = writing_failed
-script_reason script.Memory = out_of_memory
+script_reason (script.Memory _) = out_of_memory
 
 -- Frames are printed with this limit, in bytes of payload: the status is 0 at their good end and else 1, and what failed is said.
 -- A device is blamed only if it failed. Given are the changes of the input, the output and the error device.

@@ -501,7 +501,7 @@ fn finish_script<E: Outlet>(end: ScriptEnd, errors: &mut E) -> u8
         ScriptEnd::Line(_) => 1,
         ScriptEnd::Reading => refuse(errors, b"ymx: reading failed\n"),
         ScriptEnd::Writing => refuse(errors, b"ymx: writing failed\n"),
-        ScriptEnd::Memory => refuse(errors, b"ymx: out of memory\n"),
+        ScriptEnd::Memory(_) => refuse(errors, b"ymx: out of memory\n"),
     }
 }
 

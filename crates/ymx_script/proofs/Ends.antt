@@ -41,7 +41,7 @@ tells text done ended mid new (Line number) t h = record {
   numbered = t.0 ∙ h.numbered;
   told = ap (λ (zs : List ℕ). done ++ zs) t.1 ∙ sym (append_assoc done mid.player.text.items (error_line number));
 }
-tells text done ended mid new Memory t h =
+tells text done ended mid new (Memory _) t h =
     let front : PrintsFirstLines text (done ++ mid.player.text.items) = record { before = h.before; after = h.bytes ++ h.after; p = h.p; whole = h.whole; plays = h.plays } in
     subst (λ (zs : List ℕ). PrintsBeginning text ended (done ++ zs)) (sym t) (front_part text (done ++ mid.player.text.items) ended front)
 tells text done ended mid new Good t h = absurd t

@@ -1,7 +1,6 @@
 -- Lines that are played one after another.
 use Rattle.std.proofs.Common.{◌≡◌, ℕ, ◌+◌, ◌-◌, ◌^◌, ◌<◌, ◌≤◌, min, List, [], ◌∷◌, ◌++◌, length, take, drop, Bool, true, false, Result, Ok, Err, IfOk, OnErr, refl, sym, ap, subst, ◌∙◌, append_assoc, arith}
 use Rattle.std.proofs.lemmas.Grind.{common_steps}
-use Rattle.std.specs.declared.alloc.AllocError.{AllocError}
 use Rattle.ymx_script.specs.declared.lines.Lines.{Lines}
 use Rattle.ymx_script.specs.declared.player.Player.{Player}
 use Rattle.ymx_script.specs.Language.{command}
@@ -145,14 +144,14 @@ next_to P bytes end old mid ends goes f text done r =
     append_assoc text (take end bytes) (10 ∷ drop (end + 1) bytes) ∙ ap (λ (zs : List ℕ). text ++ zs) (sym ends.cut) in
     subst (λ (zs : List ℕ). P zs done) cut (f (text ++ take end bytes) done (drop (end + 1) bytes) (goes text done r))
 
-pub next_bad : (result : Result Bool AllocError) (bytes : List ℕ) (end : ℕ) (old mid new : Lines) → EndsLine bytes end →
+pub next_bad : {E : Type 0} (result : Result Bool E) (bytes : List ℕ) (end : ℕ) (old mid new : Lines) → EndsLine bytes end →
     ((text done : List ℕ) → IsReading text done old → IsReading (text ++ take end bytes) done mid) →
     IfOk result (λ good. good ≡ false → (text done more : List ℕ) → IsReading text done mid → IsAtMistake (text ++ 10 ∷ more) done ⊥ new) →
     IfOk result (λ good. good ≡ false → (text done : List ℕ) → IsReading text done old → IsAtMistake (text ++ bytes) done ⊥ new)
 next_bad (Ok good) bytes end old mid new ends goes f = λ bad. next_to (λ zs done. IsAtMistake zs done ⊥ new) bytes end old mid ends goes (f bad)
 next_bad (Err e) bytes end old mid new ends goes f = f
 
-pub next_err : (result : Result Bool AllocError) (bytes : List ℕ) (end : ℕ) (old mid new : Lines) → EndsLine bytes end →
+pub next_err : {E : Type 0} (result : Result Bool E) (bytes : List ℕ) (end : ℕ) (old mid new : Lines) → EndsLine bytes end →
     ((text done : List ℕ) → IsReading text done old → IsReading (text ++ take end bytes) done mid) →
     OnErr result ((text done more : List ℕ) → IsReading text done mid → IsFront (text ++ more) done new) →
     OnErr result ((text done : List ℕ) → IsReading text done old → IsFront (text ++ bytes) done new)
@@ -191,7 +190,7 @@ all_with_last text done now old new some played printed r =
           (plays_more r.before old.part.items first_place (place_of old.player) (place_of new) (done ++ old.player.text.items) now r.played.plays played)),
     )
 
-pub all_if_last : (result : Result Bool AllocError) (old : Lines) (new : Player) (line : List ℕ) → line ≡ old.part.items → 0 < length old.part.items →
+pub all_if_last : {E : Type 0} (result : Result Bool E) (old : Lines) (new : Player) (line : List ℕ) → line ≡ old.part.items → 0 < length old.part.items →
     IfOk result (λ good. good ≡ true → (now : List ℕ) × IsPlayed line (place_of old.player) now (place_of new) × (new.text.items ≡ old.player.text.items ++ now)) →
     IfOk result (λ good. good ≡ true → (text done : List ℕ) → IsReading text done old → PrintsWhole text (done ++ new.text.items))
 all_if_last (Ok good) old new line is some f = λ yes text done r.
@@ -199,11 +198,11 @@ all_if_last (Ok good) old new line is some f = λ yes text done r.
     all_with_last text done h.0 old new some (subst (λ (zs : List ℕ). IsPlayed zs (place_of old.player) h.0 (place_of new)) is h.1) h.2 r
 all_if_last (Err e) old new line is some f = f
 
-pub on_err_any : {X : Type 0} (result : Result Bool AllocError) → X → OnErr result X
+pub on_err_any : {X E : Type 0} (result : Result Bool E) → X → OnErr result X
 on_err_any (Ok good) x = tt
 on_err_any (Err e) x = x
 
-pub last_bad : (result : Result Bool AllocError) (piece rest : List ℕ) (old mid new : Lines) → HasTaken piece rest old mid →
+pub last_bad : {E : Type 0} (result : Result Bool E) (piece rest : List ℕ) (old mid new : Lines) → HasTaken piece rest old mid →
     IfOk result (λ good. good ≡ false → (text done more : List ℕ) → IsReading text done mid → IsAtMistake (text ++ (rest ++ more)) done ⊥ new) →
     IfOk result (λ good. good ≡ false → (text done : List ℕ) → IsReading text done old → IsAtMistake (text ++ piece) done ⊥ new)
 last_bad (Ok good) piece rest old mid new h f = λ bad.
@@ -211,7 +210,7 @@ last_bad (Ok good) piece rest old mid new h f = λ bad.
     (λ text done r. subst (λ (zs : List ℕ). IsAtMistake (text ++ zs) done ⊥ new) (grind (arith, common_steps)) (f bad text done [] r))
 last_bad (Err e) piece rest old mid new h f = f
 
-pub last_err : (result : Result Bool AllocError) (piece rest : List ℕ) (old mid new : Lines) → HasTaken piece rest old mid →
+pub last_err : {E : Type 0} (result : Result Bool E) (piece rest : List ℕ) (old mid new : Lines) → HasTaken piece rest old mid →
     OnErr result ((text done more : List ℕ) → IsReading text done mid → IsFront (text ++ more) done new) →
     OnErr result ((text done : List ℕ) → IsReading text done old → IsFront (text ++ piece) done new)
 last_err (Ok good) piece rest old mid new h f = f

@@ -39,7 +39,7 @@ cut_short text output short ended Good h s = (output, inr (inl h), s)
 cut_short text output short ended (Line number) h s = (output, inr (inr (number, h)), s)
 cut_short text output short ended Reading h s = part_short text output short ended h s
 cut_short text output short ended Writing h s = part_short text output short ended h s
-cut_short text output short ended Memory h s = part_short text output short ended h s
+cut_short text output short ended (Memory _) h s = part_short text output short ended h s
 
 mistake_of : (text : List ℕ) (number : ℕ) (output : List ℕ) (ended other : Type 0) → (ended → other) → PrintsMistake text number output ended → PrintsMistake text number output other
 mistake_of text number output ended other f h = record { before = h.before; bytes = h.bytes; after = h.after; p = h.p; printed = h.printed; whole = h.whole; plays = h.plays; bad = bad_if h.bytes h.after h.p ended other f h.bad; numbered = h.numbered; told = h.told }
@@ -57,7 +57,7 @@ prints_if text output ended other Good f h = (f h.0, h.1)
 prints_if text output ended other (Line number) f h = mistake_of text number output ended other f h
 prints_if text output ended other Reading f h = part_if text output ended other f h
 prints_if text output ended other Writing f h = part_if text output ended other f h
-prints_if text output ended other Memory f h = part_if text output ended other f h
+prints_if text output ended other (Memory _) f h = part_if text output ended other f h
 
 -- the lines that were played are the first of the text
 reading_front : (text done : List ℕ) (l : Lines) → IsReading text done l → PrintsFirstLines text (done ++ l.player.text.items)

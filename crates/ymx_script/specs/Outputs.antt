@@ -22,7 +22,7 @@ PrintsByEnd text ended Good output = ended × PrintsWhole text output
 PrintsByEnd text ended (Line number) output = PrintsMistake text number output ended
 PrintsByEnd text ended Reading output = PrintsBeginning text ended output
 PrintsByEnd text ended Writing output = PrintsBeginning text ended output
-PrintsByEnd text ended Memory output = PrintsBeginning text ended output
+PrintsByEnd text ended (Memory _) output = PrintsBeginning text ended output
 
 -- What a piece of the text leaves: the script goes on, or has ended. No bytes are its end.
 abbrev pub Leaves : (text piece done : List ℕ) → Lines → Option ScriptEnd → Type 0
@@ -32,7 +32,7 @@ Leaves text piece done l (Some e) = PrintsByEnd (text ++ piece) (piece ≡ []) e
 -- the line of a mistake is told, or there was no memory for it
 abbrev pub Tells : Lines → Lines → ScriptEnd → Type 0
 Tells old new (Line number) = (number ≡ old.number) × (new.player.text.items ≡ old.player.text.items ++ error_line number)
-Tells old new Memory = new.player.text.items ≡ old.player.text.items
+Tells old new (Memory _) = new.player.text.items ≡ old.player.text.items
 Tells old new Good = ⊥
 Tells old new Reading = ⊥
 Tells old new Writing = ⊥
@@ -43,4 +43,4 @@ BlamesNoDevice Good = ⊤
 BlamesNoDevice (Line number) = ⊤
 BlamesNoDevice Reading = ⊥
 BlamesNoDevice Writing = ⊥
-BlamesNoDevice Memory = ⊤
+BlamesNoDevice (Memory _) = ⊤

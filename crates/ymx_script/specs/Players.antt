@@ -7,7 +7,7 @@ use Rattle.ymx_script.specs.Scripts.{Place}
 
 -- the place of a player
 abbrev pub place_of : Player → Place
-place_of s = record { a = s.a; b = s.b; world = s.world }
+place_of s = record { a = s.settings.a; b = s.settings.b; world = s.world }
 
 -- a command that asks something of the world
 abbrev pub asks_world : Command → Bool

@@ -4,7 +4,8 @@ ghost use Rattle.std.specs.Prelude.{◌≡◌, IfOk};
 ghost use Rattle.ymx_script.specs.Language.{bare_call, call_of, counted_call, numbered_call, of_one, of_two, of_three, of_four, other_of_three, command};
 
 use crate::words::{Words, count_of, direction_of, is, number_of, payload_of, side_of};
-use std::alloc::{AllocError, Global};
+use std::alloc::Global;
+use ymx_memory::{RefusedAllocation, zeros};
 use ymx_model::{Bytes, Call, Direction, Side, Step};
 
 /// What a line says.
@@ -28,9 +29,9 @@ pub enum Command {
     Show(Direction),
 }
 
-/// What this line says, without its line feed. `None` if it is not of the language, and `AllocError` where there
-/// is no memory for the bytes that it spells.
-pub fn command_of(alloc: Global, line: &[u8]) -> Result<Option<Command>, AllocError>
+/// What this line says, without its line feed. `None` if it is not of the language, and `RefusedAllocation` where
+/// there is no memory for the bytes that it spells.
+pub fn command_of(alloc: Global, line: &[u8]) -> Result<Option<Command>, RefusedAllocation>
     ensures { IfOk result (λ found. found ≡ command line.now) }
 {
     if line.is_empty() || line[0] == b'#' {
@@ -112,7 +113,7 @@ fn of_three(
     verb: &[u8],
     word: &[u8],
     last: &[u8],
-) -> Result<Option<Command>, AllocError>
+) -> Result<Option<Command>, RefusedAllocation>
     ensures { IfOk result (λ found. found ≡ of_three verb.now word.now last.now) }
 {
     match side_of(verb) {
@@ -148,7 +149,7 @@ fn call_of(
     side: Side,
     verb: &[u8],
     word: &[u8],
-) -> Result<Option<Command>, AllocError>
+) -> Result<Option<Command>, RefusedAllocation>
     ensures { IfOk result (λ found. found ≡ call_of side verb.now word.now) }
 {
     if is(verb, b"openwith") {
@@ -185,7 +186,7 @@ fn of_four(
     verb: &[u8],
     word: &[u8],
     last: &[u8],
-) -> Result<Option<Command>, AllocError>
+) -> Result<Option<Command>, RefusedAllocation>
     ensures { IfOk result (λ found. found ≡ of_four first.now verb.now word.now last.now) }
 {
     let Some(side) = side_of(first) else {
@@ -213,11 +214,13 @@ fn counted_call(
     verb: &[u8],
     id: u32,
     count: usize,
-) -> Result<Option<Command>, AllocError>
+) -> Result<Option<Command>, RefusedAllocation>
     ensures { IfOk result (λ found. found ≡ counted_call side verb.now id count) }
 {
     if is(verb, b"fill") {
-        let bytes = Bytes::from_vec(vec![in alloc; b'x'; count]?);
+        let mut bytes = zeros(alloc, count)?;
+        bytes.fill(b'x');
+        let bytes = Bytes::from_vec(bytes);
         return Ok(Some(Command::Do(Step::At(side, Call::Write(id, bytes)))));
     }
     if is(verb, b"read") {

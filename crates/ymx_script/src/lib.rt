@@ -8,6 +8,7 @@ mod lines;
 mod player;
 mod playing;
 mod printing;
+mod settings;
 mod words;
 
 pub use command::{Command, command_of};

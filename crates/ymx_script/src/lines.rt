@@ -7,7 +7,8 @@ ghost use Rattle.ymx_script.specs.Scripts.{EndsLine, IsTextPart, PrintsWhole, ha
 
 use crate::player::{Player, feed_in};
 use crate::words::bytes_from;
-use std::alloc::{AllocError, Global};
+use std::alloc::Global;
+use ymx_memory::{RefusedAllocation, extend};
 
 /// The longest line, in bytes.
 const LONGEST: usize = 65_536;
@@ -23,8 +24,8 @@ pub enum ScriptEnd {
     Reading,
     /// The writer failed.
     Writing,
-    /// There was no memory.
-    Memory,
+    /// There was no memory. It holds the evidence: an allocation was refused.
+    Memory(RefusedAllocation),
 }
 
 /// A place in a script, what has come of its next line, and the number of that line.
@@ -48,7 +49,7 @@ impl Lines {
     }
 
     /// More of the line has come. Answers `false` if it is too long.
-    fn add(&mut self, piece: &[u8]) -> Result<bool, AllocError>
+    fn add(&mut self, piece: &[u8]) -> Result<bool, RefusedAllocation>
         requires one { has_feed piece.now ≡ false }
         requires part { IsTextPart self.old.part.items }
         ensures part { IfOk result (λ good. good ≡ true → IsTextPart self.new.part.items) }
@@ -56,7 +57,7 @@ impl Lines {
         ensures bad { IfOk result (λ good. good ≡ false → (text done more : List ℕ) → IsReading text done self.old → IsAtMistake (text ++ (piece.now ++ more)) done ⊥ self.new) }
         ensures err { OnErr result ((text done more : List ℕ) → IsReading text done self.old → IsFront (text ++ more) done self.new) }
     {
-        self.part.extend_from_slice(piece)?;
+        extend(&mut self.part, piece)?;
         if self.part.len() > LONGEST {
             return Ok(false);
         }
@@ -64,7 +65,7 @@ impl Lines {
     }
 
     /// The line has ended, and is played. Answers `false` if it is a mistake.
-    fn end_line(&mut self) -> Result<bool, AllocError>
+    fn end_line(&mut self) -> Result<bool, RefusedAllocation>
         requires { IsTextPart self.old.part.items }
         ensures part { IfOk result (λ good. good ≡ true → IsTextPart self.new.part.items) }
         ensures good { IfOk result (λ good. good ≡ true → (text done : List ℕ) → IsReading text done self.old → IsReading (text ++ 10 ∷ []) done self.new) }
@@ -81,7 +82,7 @@ impl Lines {
     }
 
     /// The first line of these bytes, which ends at this place, is played. Answers `false` if it is bad.
-    fn next_line(&mut self, bytes: &[u8], end: usize) -> Result<bool, AllocError>
+    fn next_line(&mut self, bytes: &[u8], end: usize) -> Result<bool, RefusedAllocation>
         requires ends { EndsLine bytes.now end }
         requires part { IsTextPart self.old.part.items }
         ensures part { IfOk result (λ good. good ≡ true → IsTextPart self.new.part.items) }
@@ -97,7 +98,7 @@ impl Lines {
     }
 
     /// More of the text has come. Answers `false` if a line of it is bad.
-    fn read(&mut self, piece: &[u8]) -> Result<bool, AllocError>
+    fn read(&mut self, piece: &[u8]) -> Result<bool, RefusedAllocation>
         requires { IsTextPart self.old.part.items }
         ensures good { IfOk result (λ good. good ≡ true → (text done : List ℕ) → IsReading text done self.old → IsReading (text ++ piece.now) done self.new) }
         ensures bad { IfOk result (λ good. good ≡ false → (text done : List ℕ) → IsReading text done self.old → IsAtMistake (text ++ piece.now) done ⊥ self.new) }
@@ -116,7 +117,7 @@ impl Lines {
 
     /// The text has ended: what has come of a line is its last, and is played. Answers `false` if it is a
     /// mistake.
-    fn finish(&mut self) -> Result<bool, AllocError>
+    fn finish(&mut self) -> Result<bool, RefusedAllocation>
         requires { IsTextPart self.old.part.items }
         ensures good { IfOk result (λ good. good ≡ true → (text done : List ℕ) → IsReading text done self.old → PrintsWhole text (done ++ self.new.player.text.items)) }
         ensures bad { IfOk result (λ good. good ≡ false → (text done : List ℕ) → IsReading text done self.old → IsAtMistake text done (Unit {0}) self.new) }
@@ -133,10 +134,10 @@ impl Lines {
         ensures told { Tells self.old self.new result }
         ensures own { BlamesNoDevice result }
     {
-        if self.player.append_error(self.number).is_err() {
-            return ScriptEnd::Memory;
+        match self.player.append_error(self.number) {
+            Ok(()) => ScriptEnd::Line(self.number),
+            Err(refused) => ScriptEnd::Memory(refused),
         }
-        ScriptEnd::Line(self.number)
     }
 
     /// Plays a piece of the text, of which no bytes are the end. Answers how the script ended, if it did.
@@ -149,13 +150,13 @@ impl Lines {
             return match self.finish() {
                 Ok(true) => Some(ScriptEnd::Good),
                 Ok(false) => Some(self.tell_mistake()),
-                Err(_) => Some(ScriptEnd::Memory),
+                Err(refused) => Some(ScriptEnd::Memory(refused)),
             };
         }
         match self.read(piece) {
             Ok(true) => None,
             Ok(false) => Some(self.tell_mistake()),
-            Err(_) => Some(ScriptEnd::Memory),
+            Err(refused) => Some(ScriptEnd::Memory(refused)),
         }
     }
 

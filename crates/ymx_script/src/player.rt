@@ -1,50 +1,39 @@
 //! The lines of a script, played one after another.
 
-ghost use Rattle.std.specs.Prelude.{◌≡◌, ◌==◌, [], ◌≤◌, ◌++◌, length, MatchOption, ℕ, List, true, false, Some, None, is_none, take, IfOk, OnOk, OnErr, codes};
+ghost use Rattle.std.specs.Prelude.{◌≡◌, ◌==◌, [], ◌≤◌, ◌++◌, length, MatchOption, ℕ, List, true, false, Some, None, is_none, take, IfOk, OnOk, OnErr};
 ghost use Rattle.std.specs.Io.{StartsWith};
 ghost use Rattle.std.specs.List.{position};
 ghost use Rattle.ymx_machine.specs.declared.types.Answer.{Answer as AnswerValue};
 ghost use Rattle.ymx_model.specs.session.Emissions.{in_turn};
 ghost use Rattle.ymx_model.specs.world.Worlds.{Steps};
-ghost use Rattle.ymx_session.specs.NewSessions.{new_fault};
 ghost use Rattle.ymx_script.specs.Language.{command};
-ghost use Rattle.ymx_script.specs.Printing.{error_line, with_line_feed, yes_or_no, answer_text, pipe_text};
+ghost use Rattle.ymx_script.specs.Printing.{error_line, with_line_feed, yes_or_no, answer_text};
 ghost use Rattle.ymx_script.specs.Players.{place_of, asks_world};
-ghost use Rattle.ymx_script.specs.Scripts.{EndsLine, IsPlayed, Says, SaysAt, SaysIn, config_of, has_feed, is_bad_setting, is_mistake, longest, first_place, unless_late, with_config, world_or_new};
+ghost use Rattle.ymx_script.specs.Scripts.{EndsLine, IsPlayed, Says, SaysAt, SaysIn, has_feed, is_bad_setting, is_mistake, longest, first_place, unless_late, with_config, world_or_new};
 
 use crate::command::{Command, command_of};
 use crate::printing::{append_answer, append_number, append_pipe, append_yes_or_no};
-use std::alloc::{AllocError, Global};
-use ymx_header::{FIRST_CREDIT, WIDEST_WINDOW};
-use ymx_model::{Answer, Config, Role, Side, Step};
+use crate::settings::Settings;
+use std::alloc::Global;
+use ymx_memory::{RefusedAllocation, extend};
+use ymx_model::{Answer, Config, Side, Step};
 use ymx_world::World;
 
 /// A place in a script, and what was printed and not yet written.
 #[derive(Drop)]
 pub(crate) struct Player {
     alloc: Global,
-    a: Config,
-    b: Config,
+    settings: Settings,
     world: Option<World>,
     text: Vec<u8>,
-}
-
-/// Whether a session can be made with this config.
-fn is_good(role: Role, config: Config) -> bool
-    ensures { result ≡ is_none (new_fault role config) }
-{
-    if config.window < FIRST_CREDIT || config.window > WIDEST_WINDOW {
-        return false;
-    }
-    config.first == 0 || role.is_own(config.first)
 }
 
 /// Takes back what was appended behind `start` if not all of it was.
 fn whole_or_none(
     text: &mut Vec<u8>,
     start: usize,
-    appended: Result<(), AllocError>,
-) -> Result<(), AllocError>
+    appended: Result<(), RefusedAllocation>,
+) -> Result<(), RefusedAllocation>
     ensures same { result ≡ appended }
     ensures ok { OnOk appended (text.new.items ≡ text.old.items) }
     ensures err { OnErr appended (text.new.items ≡ take start text.old.items) }
@@ -61,22 +50,22 @@ fn append_line(
     text: &mut Vec<u8>,
     shown: bool,
     answer: &Answer,
-) -> Result<(), AllocError>
+) -> Result<(), RefusedAllocation>
     ensures ok { OnOk result (text.new.items ≡ text.old.items ++ with_line_feed (answer_text shown answer.now)) }
     ensures kept { StartsWith text.new.items text.old.items }
 {
     append_answer(alloc, text, shown, answer)?;
-    text.extend_from_slice(b"\n")
+    extend(text, b"\n")
 }
 
 /// Appends a line of a word and a yes or no.
-fn append_test(text: &mut Vec<u8>, name: &[u8], yes: bool) -> Result<(), AllocError>
+fn append_test(text: &mut Vec<u8>, name: &[u8], yes: bool) -> Result<(), RefusedAllocation>
     ensures ok { OnOk result (text.new.items ≡ text.old.items ++ with_line_feed (name.now ++ yes_or_no yes)) }
     ensures kept { StartsWith text.new.items text.old.items }
 {
-    text.extend_from_slice(name)?;
+    extend(text, name)?;
     append_yes_or_no(text, yes)?;
-    text.extend_from_slice(b"\n")
+    extend(text, b"\n")
 }
 
 /// Makes a step, and appends the line of its answer.
@@ -86,7 +75,7 @@ fn perform_step(
     text: &mut Vec<u8>,
     shown: bool,
     step: &Step,
-) -> Result<(), AllocError>
+) -> Result<(), RefusedAllocation>
     ensures ok { OnOk result ((given : AnswerValue) × Steps in_turn step.now given world.old world.new × (text.new.items ≡ text.old.items ++ with_line_feed (answer_text shown given))) }
     ensures kept { StartsWith text.new.items text.old.items }
 {
@@ -100,7 +89,7 @@ fn perform(
     world: &mut World,
     text: &mut Vec<u8>,
     command: &Command,
-) -> Result<(), AllocError>
+) -> Result<(), RefusedAllocation>
     requires { asks_world command.now ≡ true }
     ensures ok { OnOk result ((now : List ℕ) × SaysIn command.now world.old now world.new × (text.new.items ≡ text.old.items ++ now)) }
     ensures kept { StartsWith text.new.items text.old.items }
@@ -112,7 +101,7 @@ fn perform(
         Command::Due(side) => append_test(text, b"due ", world.due(*side)),
         Command::Show(direction) => {
             append_pipe(alloc, text, world.pipe(*direction))?;
-            text.extend_from_slice(b"\n")
+            extend(text, b"\n")
         }
         _ => Ok(()),
     }
@@ -124,14 +113,9 @@ impl Player {
         ensures place { place_of result ≡ first_place }
         ensures text { result.text.items ≡ [] }
     {
-        let config = Config {
-            window: FIRST_CREDIT,
-            first: 0,
-        };
         Player {
             alloc,
-            a: config,
-            b: config,
+            settings: Settings::new(),
             world: None,
             text: Vec::new(alloc),
         }
@@ -152,16 +136,6 @@ impl Player {
         self.text.clear();
     }
 
-    /// The config of a side.
-    fn config(&self, side: Side) -> Config
-        ensures { result ≡ config_of side (place_of self.now) }
-    {
-        match side {
-            Side::A => self.a,
-            Side::B => self.b,
-        }
-    }
-
     /// Sets the config of a side, if the world isn't there and a session can be made with it.
     fn set(&mut self, side: Side, config: Config) -> bool
         ensures good { result ≡ true → unless_late self.old.world (with_config side config (place_of self.old)) ≡ Some (place_of self.new) }
@@ -171,32 +145,17 @@ impl Player {
         if self.world.is_some() {
             return false;
         }
-        match side {
-            Side::A => {
-                if !is_good(Role::Client, config) {
-                    return false;
-                }
-                self.a = config;
-                true
-            }
-            Side::B => {
-                if !is_good(Role::Server, config) {
-                    return false;
-                }
-                self.b = config;
-                true
-            }
-        }
+        self.settings.set(side, config)
     }
 
     /// Does what a command asks of the world, which is made where it isn't there, and appends its line, or
     /// nothing where there is no memory.
-    fn ask(&mut self, command: &Command) -> Result<(), AllocError>
+    fn ask(&mut self, command: &Command) -> Result<(), RefusedAllocation>
         requires { asks_world command.now ≡ true }
         ensures ok { OnOk result ((now : List ℕ) × SaysAt command.now (place_of self.old) now (place_of self.new) × (self.new.text.items ≡ self.old.text.items ++ now)) }
         ensures err { OnErr result (self.new.text.items ≡ self.old.text.items) }
     {
-        let mut world = world_or_new(self.alloc, self.a, self.b, self.world.take())?;
+        let mut world = world_or_new(self.alloc, self.settings, self.world.take())?;
         let start = self.text.len();
         let done = perform(self.alloc, &mut world, &mut self.text, command);
         // none was there: by a call, so that the drop of its parts is not proved here
@@ -205,7 +164,7 @@ impl Player {
     }
 
     /// Does what a line says. Answers `false` for a bad setting.
-    fn play(&mut self, command: &Command) -> Result<bool, AllocError>
+    fn play(&mut self, command: &Command) -> Result<bool, RefusedAllocation>
         ensures said { IfOk result (λ good. good ≡ true → (now : List ℕ) × Says command.now (place_of self.old) now (place_of self.new) × (self.new.text.items ≡ self.old.text.items ++ now)) }
         ensures bad { IfOk result (λ good. good ≡ false → (is_bad_setting command.now (place_of self.old) ≡ true) × (self.new.text.items ≡ self.old.text.items)) }
         ensures err { OnErr result (self.new.text.items ≡ self.old.text.items) }
@@ -213,7 +172,7 @@ impl Player {
         match command {
             Command::Nothing => Ok(true),
             Command::First(side, first) => {
-                let window = self.config(*side).window;
+                let window = self.settings.config(*side).window;
                 Ok(self.set(
                     *side,
                     Config {
@@ -223,7 +182,7 @@ impl Player {
                 ))
             }
             Command::Window(side, window) => {
-                let first = self.config(*side).first;
+                let first = self.settings.config(*side).first;
                 let window = *window;
                 Ok(self.set(*side, Config { window, first }))
             }
@@ -239,7 +198,7 @@ impl Player {
     }
 
     /// Appends the line of a mistake, or nothing where there is no memory.
-    pub(crate) fn append_error(&mut self, number: u64) -> Result<(), AllocError>
+    pub(crate) fn append_error(&mut self, number: u64) -> Result<(), RefusedAllocation>
         ensures ok { OnOk result (self.new.text.items ≡ self.old.text.items ++ error_line number) }
         ensures err { OnErr result (self.new.text.items ≡ self.old.text.items) }
     {
@@ -249,7 +208,7 @@ impl Player {
     }
 
     /// Plays a line, without its line feed. Answers `false` for a mistake, which prints nothing.
-    pub(crate) fn play_line(&mut self, line: &[u8]) -> Result<bool, AllocError>
+    pub(crate) fn play_line(&mut self, line: &[u8]) -> Result<bool, RefusedAllocation>
         requires one { has_feed line.now ≡ false }
         requires short { length line.now ≤ longest }
         ensures played { IfOk result (λ good. good ≡ true → (now : List ℕ) × IsPlayed line.now (place_of self.old) now (place_of self.new) × (self.new.text.items ≡ self.old.text.items ++ now)) }
@@ -264,29 +223,25 @@ impl Player {
 }
 
 /// Appends the line of a mistake.
-fn append_error(text: &mut Vec<u8>, number: u64) -> Result<(), AllocError>
+fn append_error(text: &mut Vec<u8>, number: u64) -> Result<(), RefusedAllocation>
     ensures ok { OnOk result (text.new.items ≡ text.old.items ++ error_line number) }
     ensures kept { StartsWith text.new.items text.old.items }
 {
     append_number(text, b"error line ", number)?;
-    text.extend_from_slice(b"\n")
+    extend(text, b"\n")
 }
 
-/// The world, which is made of these configs where it isn't there.
+/// The world, which is made with these settings where it isn't there.
 fn world_or_new(
     alloc: Global,
-    a: Config,
-    b: Config,
+    settings: Settings,
     world: Option<World>,
-) -> Result<World, AllocError>
-    ensures { IfOk result (λ made. made ≡ world_or_new a b world) }
+) -> Result<World, RefusedAllocation>
+    ensures { IfOk result (λ made. made ≡ world_or_new settings.a settings.b world) }
 {
-    if let Some(world) = world {
-        return Ok(world);
-    }
-    match World::new(alloc, a, b) {
-        Ok(world) => Ok(world),
-        Err(_) => Err(AllocError),
+    match world {
+        Some(world) => Ok(world),
+        None => settings.new_world(alloc),
     }
 }
 

@@ -12,6 +12,7 @@ use crate::lines::{Lines, ScriptEnd};
 use std::alloc::Global;
 use std::sync::Wait;
 use ymx_frames::push_all;
+use ymx_memory::zeros;
 use ymx_model::{Inlet, Outlet};
 
 /// Bytes read at once.
@@ -40,10 +41,10 @@ pub fn script<R: Inlet, W: Outlet>(
     ensures reader_kept { (result ≡ ScriptEnd.Reading) ⊎ (R.failures reader.new ≡ R.failures reader.old) }
     ensures writer_kept { (result ≡ ScriptEnd.Writing) ⊎ (W.failures writer.new ≡ W.failures writer.old) }
 {
-    let Ok(mut input) = vec![in alloc; 0u8; INPUT] else {
-        return ScriptEnd::Memory;
-    };
-    play_into(rt, alloc, reader, writer, input.as_mut_slice())
+    match zeros(alloc, INPUT) {
+        Ok(mut input) => play_into(rt, alloc, reader, writer, input.as_mut_slice()),
+        Err(refused) => ScriptEnd::Memory(refused),
+    }
 }
 
 /// The same, with the buffer that is read into.

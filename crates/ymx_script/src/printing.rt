@@ -2,10 +2,11 @@
 
 ghost use Rattle.std.specs.Prelude.{◌≡◌, ◌++◌, take, OnOk, codes};
 ghost use Rattle.std.specs.Io.{StartsWith};
-ghost use Rattle.ymx_script.specs.Printing.{accepted_text, answer_text, digits_text, fed_text, pipe_digits, pipe_text, read_text, refusal_text, starved_text, stop_text, wrote_text, yes_or_no};
+ghost use Rattle.ymx_script.specs.Printing.{accepted_text, answer_text, digits_text, fed_text, pipe_digits, pipe_text, read_text, refusal_text, stop_text, wrote_text, yes_or_no};
 
 use itoa::{Buffer, Integer};
-use std::alloc::{AllocError, Global};
+use std::alloc::Global;
+use ymx_memory::{RefusedAllocation, extend, zeros};
 use ymx_model::{Answer, CallFault, Fed, Why, Wrote};
 
 /// How many bytes of a pipe are shown.
@@ -16,13 +17,13 @@ pub(crate) fn append_number<N: Integer>(
     text: &mut Vec<u8>,
     name: &[u8],
     number: N,
-) -> Result<(), AllocError>
+) -> Result<(), RefusedAllocation>
     ensures ok { OnOk result (text.new.items ≡ text.old.items ++ (name.now ++ N.text number)) }
     ensures kept { StartsWith text.new.items text.old.items }
 {
     let mut buffer = Buffer::new();
-    text.extend_from_slice(name)?;
-    text.extend_from_slice(buffer.format(number).as_bytes())
+    extend(text, name)?;
+    extend(text, buffer.format(number).as_bytes())
 }
 
 /// Appends an answer, in words; `shown`: with the bytes that were read.
@@ -31,7 +32,7 @@ pub(crate) fn append_answer(
     text: &mut Vec<u8>,
     shown: bool,
     answer: &Answer,
-) -> Result<(), AllocError>
+) -> Result<(), RefusedAllocation>
     ensures ok { OnOk result (text.new.items ≡ text.old.items ++ answer_text shown answer.now) }
     ensures kept { StartsWith text.new.items text.old.items }
 {
@@ -44,46 +45,46 @@ pub(crate) fn append_answer(
         Answer::Accepted(id) => append_accepted(text, *id),
         Answer::Wrote(wrote) => append_wrote(text, *wrote),
         Answer::Read(bytes) => append_read(alloc, text, shown, bytes.as_slice()),
-        Answer::ReadEnd => text.extend_from_slice(b"end"),
-        Answer::ReadWait => text.extend_from_slice(b"wait"),
-        Answer::Done => text.extend_from_slice(b"ok"),
+        Answer::ReadEnd => extend(text, b"end"),
+        Answer::ReadWait => extend(text, b"wait"),
+        Answer::Done => extend(text, b"ok"),
         Answer::Pinged(number) => append_number(text, b"ping ", *number),
         Answer::Ponged(back) => append_yes_or_no(text, *back),
         Answer::Refused(fault) => append_refusal(text, *fault),
         Answer::Emitted(count) => append_number(text, b"emitted ", *count),
         Answer::Fed(fed) => append_fed(text, fed),
-        Answer::NotStopped => text.extend_from_slice(b"not stopped"),
+        Answer::NotStopped => extend(text, b"not stopped"),
     }
 }
 
-fn append_accepted(text: &mut Vec<u8>, id: Option<u32>) -> Result<(), AllocError>
+fn append_accepted(text: &mut Vec<u8>, id: Option<u32>) -> Result<(), RefusedAllocation>
     ensures ok { OnOk result (text.new.items ≡ text.old.items ++ accepted_text id) }
     ensures kept { StartsWith text.new.items text.old.items }
 {
     match id {
         Some(id) => append_number(text, b"accepted ", id),
-        None => text.extend_from_slice(b"none"),
+        None => extend(text, b"none"),
     }
 }
 
-fn append_wrote(text: &mut Vec<u8>, wrote: Wrote) -> Result<(), AllocError>
+fn append_wrote(text: &mut Vec<u8>, wrote: Wrote) -> Result<(), RefusedAllocation>
     ensures ok { OnOk result (text.new.items ≡ text.old.items ++ wrote_text wrote) }
     ensures kept { StartsWith text.new.items text.old.items }
 {
     match wrote {
         Wrote::Took(count) => append_number(text, b"took ", count),
-        Wrote::Wait => text.extend_from_slice(b"wait"),
+        Wrote::Wait => extend(text, b"wait"),
     }
 }
 
-pub(crate) fn append_yes_or_no(text: &mut Vec<u8>, yes: bool) -> Result<(), AllocError>
+pub(crate) fn append_yes_or_no(text: &mut Vec<u8>, yes: bool) -> Result<(), RefusedAllocation>
     ensures ok { OnOk result (text.new.items ≡ text.old.items ++ yes_or_no yes) }
     ensures kept { StartsWith text.new.items text.old.items }
 {
     if yes {
-        text.extend_from_slice(b"yes")
+        extend(text, b"yes")
     } else {
-        text.extend_from_slice(b"no")
+        extend(text, b"no")
     }
 }
 
@@ -92,7 +93,7 @@ fn append_read(
     text: &mut Vec<u8>,
     shown: bool,
     bytes: &[u8],
-) -> Result<(), AllocError>
+) -> Result<(), RefusedAllocation>
     ensures ok { OnOk result (text.new.items ≡ text.old.items ++ read_text shown bytes.now) }
     ensures kept { StartsWith text.new.items text.old.items }
 {
@@ -104,24 +105,25 @@ fn append_read(
 }
 
 /// Appends bytes in hexadecimal behind a space, if there are any.
-fn append_digits(alloc: Global, text: &mut Vec<u8>, bytes: &[u8]) -> Result<(), AllocError>
+fn append_digits(alloc: Global, text: &mut Vec<u8>, bytes: &[u8]) -> Result<(), RefusedAllocation>
     ensures ok { OnOk result (text.new.items ≡ text.old.items ++ digits_text bytes.now) }
     ensures kept { StartsWith text.new.items text.old.items }
 {
     if bytes.is_empty() {
         return Ok(());
     }
-    let digits = hex::encode(alloc, bytes)?;
-    text.extend_from_slice(b" ")?;
-    text.extend_from_slice(digits.as_bytes())
+    let mut digits = zeros(alloc, 2 * bytes.len())?;
+    let _ = hex::encode_to_slice(bytes, digits.as_mut_slice());
+    extend(text, b" ")?;
+    extend(text, digits.as_slice())
 }
 
-fn append_refusal(text: &mut Vec<u8>, fault: CallFault) -> Result<(), AllocError>
+fn append_refusal(text: &mut Vec<u8>, fault: CallFault) -> Result<(), RefusedAllocation>
     ensures ok { OnOk result (text.new.items ≡ text.old.items ++ (codes "refused " ++ refusal_text fault)) }
     ensures kept { StartsWith text.new.items text.old.items }
 {
-    text.extend_from_slice(b"refused ")?;
-    text.extend_from_slice(name_of(fault))
+    extend(text, b"refused ")?;
+    extend(text, name_of(fault))
 }
 
 /// The number of a refusal and its name.
@@ -143,7 +145,7 @@ fn name_of(fault: CallFault) -> &'static [u8]
     }
 }
 
-fn append_fed(text: &mut Vec<u8>, fed: &Fed) -> Result<(), AllocError>
+fn append_fed(text: &mut Vec<u8>, fed: &Fed) -> Result<(), RefusedAllocation>
     ensures ok { OnOk result (text.new.items ≡ text.old.items ++ fed_text fed.now) }
     ensures kept { StartsWith text.new.items text.old.items }
 {
@@ -156,7 +158,7 @@ fn append_fed(text: &mut Vec<u8>, fed: &Fed) -> Result<(), AllocError>
 }
 
 /// Appends why a delivery stopped, and how many bytes it took.
-fn append_stop(text: &mut Vec<u8>, why: Why, taken: usize) -> Result<(), AllocError>
+fn append_stop(text: &mut Vec<u8>, why: Why, taken: usize) -> Result<(), RefusedAllocation>
     ensures ok { OnOk result (text.new.items ≡ text.old.items ++ stop_text why taken) }
     ensures kept { StartsWith text.new.items text.old.items }
 {
@@ -171,7 +173,11 @@ fn append_stop(text: &mut Vec<u8>, why: Why, taken: usize) -> Result<(), AllocEr
 }
 
 /// Appends what is on its way in a direction: how many bytes, and the first of them.
-pub(crate) fn append_pipe(alloc: Global, text: &mut Vec<u8>, bytes: &[u8]) -> Result<(), AllocError>
+pub(crate) fn append_pipe(
+    alloc: Global,
+    text: &mut Vec<u8>,
+    bytes: &[u8],
+) -> Result<(), RefusedAllocation>
     ensures ok { OnOk result (text.new.items ≡ text.old.items ++ pipe_text bytes.now) }
     ensures kept { StartsWith text.new.items text.old.items }
 {
@@ -180,13 +186,17 @@ pub(crate) fn append_pipe(alloc: Global, text: &mut Vec<u8>, bytes: &[u8]) -> Re
 }
 
 /// Appends the first bytes on their way, with two dots if there are more.
-fn append_pipe_digits(alloc: Global, text: &mut Vec<u8>, bytes: &[u8]) -> Result<(), AllocError>
+fn append_pipe_digits(
+    alloc: Global,
+    text: &mut Vec<u8>,
+    bytes: &[u8],
+) -> Result<(), RefusedAllocation>
     ensures ok { OnOk result (text.new.items ≡ text.old.items ++ pipe_digits bytes.now) }
     ensures kept { StartsWith text.new.items text.old.items }
 {
     append_digits(alloc, text, front_of(bytes, SHOWN))?;
     if bytes.len() > SHOWN {
-        return text.extend_from_slice(b"..");
+        return extend(text, b"..");
     }
     Ok(())
 }

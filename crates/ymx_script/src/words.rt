@@ -4,9 +4,9 @@ ghost use Rattle.std.specs.Prelude.{◌≡◌, ◌≤◌, ◌==◌, ◌∷◌, [
 ghost use Rattle.std.specs.List.{position};
 ghost use Rattle.ymx_script.specs.Words.{count, digits, direction, is, number, payload_word, side, words};
 
-use hex::{FromHexError, decode};
-use std::alloc::{AllocError, Global};
+use std::alloc::Global;
 use std::marker::Model;
+use ymx_memory::{RefusedAllocation, zeros};
 use ymx_model::{Bytes, Direction, Side};
 
 /// The words of a line that are left. One space stands between two of them.
@@ -140,7 +140,7 @@ pub(crate) fn count_of(word: &[u8]) -> Option<usize>
 }
 
 /// Bytes: pairs of hexadecimal digits of either case; no bytes is `-`.
-pub(crate) fn payload_of(alloc: Global, word: &[u8]) -> Result<Option<Bytes>, AllocError>
+pub(crate) fn payload_of(alloc: Global, word: &[u8]) -> Result<Option<Bytes>, RefusedAllocation>
     ensures { IfOk result (λ found. found ≡ payload_word word.now) }
 {
     if is(word, b"-") {
@@ -149,9 +149,9 @@ pub(crate) fn payload_of(alloc: Global, word: &[u8]) -> Result<Option<Bytes>, Al
     if word.is_empty() {
         return Ok(None);
     }
-    match decode(alloc, word) {
-        Ok(bytes) => Ok(Some(Bytes::from_vec(bytes))),
-        Err(FromHexError::OutOfMemory) => Err(AllocError),
+    let mut bytes = zeros(alloc, word.len() / 2)?;
+    match hex::decode_to_slice(word, bytes.as_mut_slice()) {
+        Ok(()) => Ok(Some(Bytes::from_vec(bytes))),
         Err(_) => Ok(None),
     }
 }
