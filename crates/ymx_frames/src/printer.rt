@@ -159,7 +159,7 @@ impl Printer {
     }
 }
 
-/// How the printing ends, if it does: where memory was refused, so.
+/// How the printing ends, if it does. An allocation that was refused ends it.
 fn end_of(printed: Result<Option<FramesEnd>, RefusedAllocation>) -> Option<FramesEnd>
     ensures { result ≡ result_unwrap_or printed (Some (FramesEnd.Memory evidence)) }
 {
