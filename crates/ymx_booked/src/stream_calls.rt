@@ -1,6 +1,6 @@
 //! Bytes of a stream, and its halves that are spent, with their entries.
 
-ghost use Rattle.std.specs.Prelude.{◌≡◌, ◌<◌, ◌≤◌, ◌++◌, length, take, drop, false, IfOk, MatchResult};
+ghost use Rattle.std.specs.Prelude.{◌≡◌, ◌<◌, ◌≤◌, length, drop, false, IfOk, MatchResult};
 ghost use Rattle.ymx_model.specs.session.Emissions.{in_turn};
 ghost use Rattle.ymx_model.specs.session.Histories.{Gives};
 ghost use Rattle.ymx_session.specs.Replies.{done_or, is_out_of_memory, wrote_or, read_or, got_count};

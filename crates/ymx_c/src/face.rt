@@ -1,6 +1,6 @@
 //! The calls of a session, with numbers for answers.
 
-ghost use Rattle.std.specs.Prelude.{◌≡◌, ◌≤◌, ◌<◌, ◌^◌, length, min, ◌⊎◌, pos, false, Some, None, IfOk, IfErr};
+ghost use Rattle.std.specs.Prelude.{◌≡◌, ◌<◌, ◌^◌, length, min, ◌⊎◌, pos, false, Some, None, IfOk, IfErr};
 ghost use Rattle.std.specs.Ptr.{as_ptr};
 ghost use Rattle.ymx_model.specs.declared.types.Event.TheVariants as event;
 ghost use Rattle.ymx_machine.specs.declared.types.Call.TheVariants as call;

@@ -1,6 +1,6 @@
 //! The command line of `ymx`.
 
-ghost use Rattle.std.specs.Prelude.{ℕ, List, Option, None, ◌≡◌, ◌≢◌, ◌≤◌, ◌↔◌, ◌⊎◌, ◌<◌, ◌^◌, Some, codes, decimal, true, false, map, option_and_then, option_map, IfErr, IfOk, IfSome, IsErr, IsSomeAnd, IsTrue, MatchResult};
+ghost use Rattle.std.specs.Prelude.{ℕ, List, Option, None, ◌≡◌, ◌≢◌, ◌≤◌, ◌↔◌, ◌⊎◌, ◌<◌, Some, codes, decimal, true, false, map, option_and_then, option_map, IfErr, IfOk, IfSome, IsErr, IsSomeAnd, IsTrue, MatchResult};
 ghost use Rattle.std.specs.IoError.{error_kind};
 ghost use Rattle.std.specs.declared.io.ErrorKind.TheVariants.{InvalidData};
 ghost use Rattle.std.specs.Io.KnownBytes.{Keeps};

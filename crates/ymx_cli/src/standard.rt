@@ -1,8 +1,8 @@
 //! Readers, writers and files of the standard library as devices.
 
-ghost use Rattle.std.specs.Prelude.{◌≡◌, ◌<◌, ◌≤◌, length, true, IfOk, None, OnErr, ⊤};
+ghost use Rattle.std.specs.Prelude.{◌<◌, true, None, ⊤};
 ghost use Rattle.std.specs.Io.{ReadsAtMost, WritesAtMost};
-ghost use Rattle.std.specs.Io.KnownBytes.{Keeps, ReadConsumes, WriteAppends};
+ghost use Rattle.std.specs.Io.KnownBytes.{ReadConsumes, WriteAppends};
 
 use crate::command::FileOpener;
 use std::io::{ErrorKind, Read, Write};

@@ -1,6 +1,5 @@
 //! A running session, as the caller's function sees it.
 
-ghost use Rattle.std.specs.Prelude.{◌≤◌, length, IfOk};
 ghost use Rattle.ymx_booked.specs.Answers.{IsNotMemory};
 
 use crate::halves::{Reader, Writer, discard};

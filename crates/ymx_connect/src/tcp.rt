@@ -1,7 +1,7 @@
 //! A TCP connection as an inlet and as an outlet, which different threads may use at once. No contract says what bytes
 //! a connection gives or takes.
 
-ghost use Rattle.std.specs.Prelude.{None, ◌≤◌, ◌<◌, length, IfOk};
+ghost use Rattle.std.specs.Prelude.{None, ◌<◌};
 ghost use Rattle.std.specs.Io.{ReadsAtMost, WritesAtMost};
 
 use std::io;

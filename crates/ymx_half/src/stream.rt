@@ -1,7 +1,6 @@
 //! The record of a stream.
 
 ghost use Rattle.std.specs.Prelude.{◌≡◌, ◌+◌, ◌<◌, ◌≤◌, ◌++◌, ℕ, true, false, length, take, drop, min, is_some, Some, IsOk, IfOk, OnErr};
-ghost use Rattle.std.specs.Option.{option_map};
 ghost use Rattle.ymx_machine.specs.shared.Limits.{first_credit, greatest_number};
 ghost use Rattle.ymx_header.specs.Headers.{spelling};
 ghost use Rattle.ymx_machine.specs.shared.Phases.{takes, is_offered, is_lingering};

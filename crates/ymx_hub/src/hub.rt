@@ -1,6 +1,6 @@
 //! The hub, and its calls that wait for nothing but the lock.
 
-ghost use Rattle.std.specs.Prelude.{◌≡◌, ◌+◌, List, [], length, true, false, IfOk, MatchResult};
+ghost use Rattle.std.specs.Prelude.{◌≡◌, List, [], true, false, IfOk, MatchResult};
 ghost use Rattle.std.specs.List.Sorted.{IsPermutation};
 ghost use Rattle.ymx_session.specs.Replies.{done_or};
 ghost use Rattle.ymx_seats.specs.Tallies.{Tallies};

@@ -24,7 +24,7 @@ ghost use Rattle.ymx_model.specs.session.Sessions.{Session, new_session, is_own,
 ghost use Rattle.ymx_model.specs.session.Sessions.Incoming.{Head, Payload};
 ghost use Rattle.ymx_model.specs.session.Calls.{outcome};
 ghost use Rattle.ymx_model.specs.session.Arrivals.{head_comes, piece_comes, payload};
-ghost use Rattle.ymx_model.specs.session.Feeds.{Takes, Feeds, FeedDone, feed, is_stuck};
+ghost use Rattle.ymx_model.specs.session.Feeds.{Takes, Feeds, feed, is_stuck};
 ghost use Rattle.ymx_model.specs.session.Emissions.{Choice, begin, Ready, Flows, Emits, moves_on, is_ready, freely, in_turn};
 ghost use Rattle.ymx_model.specs.session.Emissions.Choice.{AStream};
 ghost use Rattle.ymx_model.specs.session.Histories.{Gives, ReplaysFrom};

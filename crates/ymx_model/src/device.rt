@@ -1,6 +1,6 @@
 //! Devices: where bytes come from, and where they go to.
 
-ghost use Rattle.std.specs.Prelude.{ℕ, List, Option, Bool, ◌≡◌, ◌<◌, ◌≤◌, length, true, IfOk, OnErr, OnOk, MatchResult};
+ghost use Rattle.std.specs.Prelude.{ℕ, List, Option, Bool, ◌≡◌, ◌<◌, ◌≤◌, length, true, IfOk, MatchResult};
 ghost use Rattle.std.specs.Io.KnownBytes.{Keeps, ReadConsumes, WriteAppends};
 ghost use Rattle.ymx_model.specs.devices.Devices.{CountsFailures};
 

@@ -1,9 +1,9 @@
 //! The comparison of the seats' lists with the log. It takes no memory.
 
-ghost use Rattle.std.specs.Prelude.{◌≡◌, ◌↔◌, IsTrue, ◌<◌, length, List, All};
+ghost use Rattle.std.specs.Prelude.{◌≡◌, ◌↔◌, IsTrue, ◌<◌, List, All};
 ghost use Rattle.std.specs.List.Sorted.{IsPermutation, IsNonDecreasingBy};
 ghost use Rattle.ymx_journal.specs.Journals.{part};
-ghost use Rattle.ymx_seats.specs.Tallies.{NumberedFrom, RisesFrom, IsOwn, Tallies};
+ghost use Rattle.ymx_seats.specs.Tallies.{NumberedFrom, RisesFrom, Tallies};
 ghost use Rattle.ymx_seats.specs.Views.{SeatView};
 
 use crate::recorder::Recorder;

@@ -1,6 +1,6 @@
 //! The seat of a caller: its own list of what it did.
 
-ghost use Rattle.std.specs.Prelude.{◌≡◌, ◌-◌, ◌+◌, ◌<◌, ◌≤◌, ◌++◌, ◌∷◌, [], true, false, None, vec_capacity, vec_len, IsOk, OnOk, OnErr};
+ghost use Rattle.std.specs.Prelude.{◌≡◌, ◌-◌, ◌+◌, ◌<◌, ◌≤◌, ◌++◌, ◌∷◌, [], false, None, vec_capacity, vec_len, OnOk};
 
 use crate::recorder::Recorder;
 use std::alloc::Global;

@@ -1,6 +1,6 @@
 //! The memory of an entry, which is found before its event.
 
-ghost use Rattle.std.specs.Prelude.{◌≡◌, ◌≤◌, [], length, vec_len, vec_capacity, IfOk};
+ghost use Rattle.std.specs.Prelude.{◌≡◌, ◌≤◌, [], length, vec_capacity, IfOk};
 ghost use Rattle.ymx_machine.specs.shared.Replies.{bytes_told};
 ghost use Rattle.ymx_seats.specs.Slips.{Hold};
 

@@ -1,6 +1,6 @@
 //! The law of turns, over definitions alone.
 
-ghost use Rattle.std.specs.Prelude.{◌≡◌, ◌+◌, ◌<◌, ◌≤◌, ℕ, List, true, false, Some};
+ghost use Rattle.std.specs.Prelude.{◌≡◌, ◌+◌, ◌<◌, ℕ, List, true, false, Some};
 ghost use Rattle.ymx_model.specs.session.Tables.{due_count};
 ghost use Rattle.ymx_model.specs.session.Sessions.{Session};
 ghost use Rattle.ymx_model.specs.session.Emissions.{Choice, begin, moves_on, in_turn};

@@ -5,7 +5,6 @@ ghost use Rattle.ymx_machine.specs.declared.types.Call.TheVariants as call;
 ghost use Rattle.ymx_machine.specs.declared.types.Reply.TheVariants.{ReadEnd, ReadWait, Wrote as WroteReply};
 ghost use Rattle.ymx_machine.specs.shared.Lists.{look};
 ghost use Rattle.ymx_model.specs.session.Calls.{write_to, read_from, finish, reset, forget, takes_memory};
-ghost use Rattle.ymx_law_session.specs.Limits.{IsWithin};
 ghost use Rattle.ymx_session.specs.Streams.{waiting, room_of};
 ghost use Rattle.ymx_session.specs.Replies.{wrote_or, read_or, count_of, done_or, is_out_of_memory, stream_fault};
 

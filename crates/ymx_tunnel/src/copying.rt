@@ -1,7 +1,6 @@
 //! Copies between a device and a half of a stream.
 
-ghost use Rattle.std.specs.Prelude.{ℕ, List, Result, Ok, Err, ◌≡◌, ◌⊎◌, ◌<◌, ◌≤◌, length, take, IsTrue, OnOk, OnErr, IfErr};
-ghost use Rattle.std.specs.Io.{StartsWith};
+ghost use Rattle.std.specs.Prelude.{Result, Ok, Err, ◌≡◌, ◌⊎◌, ◌<◌, ◌≤◌, length, take, IsTrue, OnOk, OnErr, IfErr};
 ghost use Rattle.std.specs.Io.KnownBytes.{Appends};
 ghost use Rattle.ymx_model.specs.devices.Devices.{has_failed};
 ghost use Rattle.ymx_booked.specs.declared.faults.HubFault.{HubFault as Fault};
