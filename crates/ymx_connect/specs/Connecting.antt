@@ -8,7 +8,7 @@ use Rattle.ymx_session.specs.NewSessions.{new_fault, IsNewFault}
 use Rattle.ymx_pumps.specs.declared.pump_end.PumpWhy.{PumpWhy}
 use Rattle.ymx_pumps.specs.declared.pump_end.PumpWhy.TheVariants as why
 use Rattle.ymx_connect.specs.declared.connect_fault.ConnectFault.{ConnectFault}
-use Rattle.ymx_connect.specs.declared.connect_fault.ConnectFault.TheVariants.{Session, Memory, NoThread, NoJournal}
+use Rattle.ymx_connect.specs.declared.connect_fault.ConnectFault.TheVariants.{Session, Memory, NoThread, NoSeat}
 use Rattle.ymx_connect.specs.declared.ended.Ended.{Ended}
 use Rattle.ymx_connect.specs.declared.handle.Handle.{Handle}
 
@@ -18,7 +18,7 @@ abbrev pub IsConnectFault : Role → Config → ConnectFault → Type 0
 IsConnectFault role config (Session fault) = IsNewFault role config fault
 IsConnectFault role config (Memory _) = new_fault role config ≡ None
 IsConnectFault role config NoThread = new_fault role config ≡ None
-IsConnectFault role config NoJournal = ⊥
+IsConnectFault role config NoSeat = ⊥
 
 -- the pumps ended by themselves: not for want of memory or of a thread, and not by a gate
 abbrev pub may_end : PumpWhy → Bool

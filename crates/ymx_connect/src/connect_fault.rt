@@ -12,15 +12,17 @@ pub enum ConnectFault {
     /// No session can be made: `BadWindow` or `BadFirst` for this configuration, or `OutOfMemory`.
     #[error("{0}")]
     Session(NewFault),
-    /// There was no memory for the hub or for the buffers of the pumps. It holds the evidence: an allocation was refused.
+    /// There was no memory for the hub, its journal or the buffers of the pumps. It holds the evidence: an allocation was
+    /// refused.
     #[error("Memory")]
     Memory(RefusedAllocation),
     /// No thread could be made for one of the pumps.
     #[error("NoThread")]
     NoThread,
-    /// There was no memory for the journal of a history, or no seat. `connect` and `connect_tcp` never answer it.
-    #[error("NoJournal")]
-    NoJournal,
+    /// The hub of a history gives no seat: it has given all, or its transcript was handed out. `connect` and
+    /// `connect_tcp` never answer it.
+    #[error("NoSeat")]
+    NoSeat,
 }
 
 impl From<RefusedAllocation> for ConnectFault {

@@ -1,14 +1,15 @@
 //! The journal and its witnesses.
 
-ghost use Rattle.std.specs.Prelude.{◌≡◌, ◌+◌, ◌++◌, ◌∷◌, [], IfOk};
+ghost use Rattle.std.specs.Prelude.{◌≡◌, ◌+◌, ◌++◌, ◌∷◌, []};
 ghost use mathlib.Core.List.{IsPrefix};
 ghost use Rattle.ymx_journal.specs.Journals.{part};
 
 use crate::plays::{Adds, Counts, Knowledge, Naming, Numbers, OneHistory, Saying, Shows, Visit};
 use atomic_table::{Badge, Seat, Table};
-use std::alloc::{AllocError, Global};
+use std::alloc::Global;
 use std::marker::{Model, PhantomData};
 use std::mem;
+use ymx_memory::{RefusedAllocation, table_of_words};
 
 /// A journal with no entry, which has no name yet. A contract sees its table.
 #[derive(Drop)]
@@ -30,9 +31,9 @@ impl Model for Opened {
 }
 
 impl Opened {
-    /// A journal with no entry. `AllocError` where there is no memory for its one word.
-    pub fn new(alloc: Global) -> Result<Opened, AllocError> {
-        let (table, keeper) = Table::of_words(alloc, &[0], &())?;
+    /// A journal with no entry. `RefusedAllocation` where there is no memory for its one word.
+    pub fn new(alloc: Global) -> Result<Opened, RefusedAllocation> {
+        let (table, keeper) = table_of_words(alloc, &[0], &())?;
         Ok(Opened { table, keeper })
     }
 

@@ -11,4 +11,4 @@ pub use blocks::{
     shared, vec_with_capacity, zeros,
 };
 pub use refused::{RefusalCount, RefusedAllocation};
-pub use tables::{insert, reserve_set, set_with_capacity};
+pub use tables::{insert, reserve_set, set_with_capacity, table_of_words};

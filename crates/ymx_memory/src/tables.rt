@@ -1,10 +1,12 @@
-//! Tables with an order.
+//! Tables with an order, and those of words that threads share.
 
-ghost use Rattle.std.specs.Prelude.{◌≡◌, ◌≤◌, nat_eq, IfOk, OnOk, OnErr};
+ghost use Rattle.std.specs.Prelude.{◌≡◌, ◌≤◌, [], length, nat_eq, IfOk, OnOk, OnErr};
+ghost use Rattle.atomic_table.specs.Table.{opening};
 ghost use Rattle.indexmap.specs.IndexMap.{insert_entry, IsUnchanged};
 ghost use Rattle.indexmap.specs.IndexSet.{spare as set_spare, IsEmpty as IsEmptySet, IsUnchanged as IsUnchangedSet, KeepsRoom, index_set_len};
 
 use crate::refused::RefusedAllocation;
+use atomic_table::{Seat, Table, TableRule};
 use indexmap::{IndexMap, IndexSet};
 use std::alloc::Global;
 
@@ -43,6 +45,21 @@ pub fn reserve_set(set: &mut IndexSet<u32>, additional: usize) -> Result<(), Ref
 {
     match set.reserve(additional) {
         Ok(()) => Ok(()),
+        Err(_) => Err(RefusedAllocation::new()),
+    }
+}
+
+/// A table of these words that threads share, with no slot, and its first seat.
+pub fn table_of_words<S, V, K, P: TableRule<S, V, K>>(
+    alloc: Global,
+    words: &[u64],
+    about: &K,
+) -> Result<(Table<S, V, K, P, Global>, Seat<S, V>), RefusedAllocation>
+    requires { P.holds about.now (opening words.now [] (P.first about.now)) }
+    ensures { IfOk result (λ t. (t.0.shared.table_id.words ≡ length words.now) × (t.0.shared.table_id.slots ≡ 0) × (t.1.table_id ≡ t.0.shared.table_id) × (t.1.id ≡ 0) × (t.1.me ≡ (P.first about.now, [])) × (t.0.shared.key ≡ about.now)) }
+{
+    match Table::of_words(alloc, words, about) {
+        Ok(made) => Ok(made),
         Err(_) => Err(RefusedAllocation::new()),
     }
 }

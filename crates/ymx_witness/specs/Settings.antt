@@ -6,7 +6,7 @@ use Rattle.ymx_model.specs.declared.types.Config.{Config}
 use Rattle.ymx_session.specs.NewSessions.{first_id, new_fault}
 use Rattle.ymx_connect.specs.Connecting.{IsConnectFault}
 use Rattle.ymx_connect.specs.declared.connect_fault.ConnectFault.{ConnectFault}
-use Rattle.ymx_connect.specs.declared.connect_fault.ConnectFault.TheVariants.{Session as NoSession, NoJournal}
+use Rattle.ymx_connect.specs.declared.connect_fault.ConnectFault.TheVariants.{Session as NoSession, NoSeat}
 
 -- a config whose first own id is said: 0 stood for the least
 abbrev pub with_first : Role → Config → Config
@@ -18,9 +18,9 @@ pub record BegunView : Type 0 where
   pub config : Config
   pub table : TableId
 
--- why no program runs: as of a connection, or there was no memory for the journal of a session that could be made
+-- why no program runs: as of a connection, or the hub of a session that could be made gave no seat
 abbrev pub IsWitnessFault : Role → Config → ConnectFault → Type 0
-IsWitnessFault role config fault = IsConnectFault role config fault ⊎ ((fault ≡ NoJournal) × (new_fault role config ≡ None))
+IsWitnessFault role config fault = IsConnectFault role config fault ⊎ ((fault ≡ NoSeat) × (new_fault role config ≡ None))
 
 -- why no pump ran: there was no memory, no seat or no thread
 abbrev pub IsPumpFault : ConnectFault → Type 0

@@ -2,7 +2,8 @@
 
 ghost use Rattle.std.specs.Prelude.{◌≡◌, None, IfOk, IfErr};
 ghost use Rattle.ymx_session.specs.NewSessions.{new_fault};
-ghost use Rattle.ymx_witness.specs.Settings.{with_first, IsWitnessFault};
+ghost use Rattle.ymx_connect.specs.Connecting.{IsConnectFault};
+ghost use Rattle.ymx_witness.specs.Settings.{with_first};
 
 use std::alloc::Global;
 use std::marker::Model;
@@ -42,20 +43,18 @@ impl Begun {
     /// A session of this role and config (bytes of its window, and the first own id), and a journal.
     ///
     /// `Session` comes where no session can be made: `BadWindow` or `BadFirst` for this config, or `OutOfMemory`.
-    /// `NoJournal` comes where there is no memory for the journal.
+    /// `Memory` comes where there is none for the journal.
     pub fn new(alloc: Global, role: Role, config: Config) -> Result<Begun, ConnectFault>
         ensures may { IfOk result (λ begun. new_fault role config ≡ None) }
         ensures role { IfOk result (λ begun. begun.role ≡ role) }
         ensures config { IfOk result (λ begun. begun.config ≡ with_first role config) }
-        ensures refused { IfErr result (λ fault. IsWitnessFault role config fault) }
+        ensures refused { IfErr result (λ fault. IsConnectFault role config fault) }
     {
         let session = match Session::new(alloc, role, config) {
             Ok(session) => session,
             Err(fault) => return Err(ConnectFault::Session(fault)),
         };
-        let Ok(opened) = Opened::new(alloc) else {
-            return Err(ConnectFault::NoJournal);
-        };
+        let opened = Opened::new(alloc)?;
         Ok(Begun { session, opened })
     }
 

@@ -21,9 +21,8 @@ use ymx_model::{Config, Inlet, Outlet, Role};
 /// `ymx_connect::connect` does.
 ///
 /// `Session` comes where no session can be made: `BadWindow` or `BadFirst` for this config, or `OutOfMemory`. `Memory`
-/// comes where there is none for the hub or the buffers, `NoJournal` where there is none for the journal, and `NoThread`
-/// where a thread can't be made. In each case the program has not run, and no byte was written; the writer may have been
-/// ended.
+/// comes where there is none for the hub, the journal or the buffers, and `NoThread` where a thread can't be made. In each
+/// case the program has not run, and no byte was written; the writer may have been ended.
 pub fn connected<
     P: Program,
     W: Threads + Wait + Sync,

@@ -11,7 +11,8 @@ mod running;
 
 ghost use Rattle.std.specs.Prelude.{◌≡◌, None, IfOk, IfErr};
 ghost use Rattle.ymx_session.specs.NewSessions.{new_fault};
-ghost use Rattle.ymx_witness.specs.Settings.{with_first, IsWitnessFault};
+ghost use Rattle.ymx_connect.specs.Connecting.{IsConnectFault};
+ghost use Rattle.ymx_witness.specs.Settings.{with_first};
 
 pub use begun::Begun;
 pub use connecting::connected;
@@ -50,8 +51,7 @@ pub trait Program: Drop {
 /// program with them.
 ///
 /// `Session` comes where no session can be made: `BadWindow` or `BadFirst` for this config, or `OutOfMemory`. `Memory`
-/// comes where there is none for the hub, and `NoJournal` where there is none for the journal. In each case the program
-/// has not run.
+/// comes where there is none for the hub or the journal. In each case the program has not run.
 pub fn witnessed<P: Program, W: Wait>(
     rt: &W,
     alloc: Global,
@@ -60,7 +60,7 @@ pub fn witnessed<P: Program, W: Wait>(
     program: P,
 ) -> Result<P::Answer, ConnectFault>
     ensures may { IfOk result (λ answer. new_fault role config ≡ None) }
-    ensures refused { IfErr result (λ fault. IsWitnessFault role config fault) }
+    ensures refused { IfErr result (λ fault. IsConnectFault role config fault) }
 {
     let begun = match Begun::new(alloc, role, config) {
         Ok(begun) => begun,

@@ -43,7 +43,7 @@ pub fn pumped_tcp<J: Naming + Send + Sync, W: Threads + Wait + Sync, T: Drop, F:
 /// Once the function has answered it waits until nothing is due, closes the session, and waits for both pumps, as
 /// `ymx_connect::connect` does.
 ///
-/// `Memory` comes where there is none for the buffers, `NoJournal` where there is no seat, and `NoThread` where a thread
+/// `Memory` comes where there is none for the buffers, `NoSeat` where the hub gives none, and `NoThread` where a thread
 /// can't be made. In each case the function was not called.
 pub fn pumped<
     J: Naming + Send + Sync,
@@ -68,7 +68,7 @@ pub fn pumped<
     let into = Buffer::for_reading(alloc)?;
     let out_of = Buffer::for_writing(alloc)?;
     let Ok(mut seat) = hub.seat(rt) else {
-        return Err(ConnectFault::NoJournal);
+        return Err(ConnectFault::NoSeat);
     };
     let mine = &mut seat;
     let connected = thread::scope(
