@@ -9,6 +9,11 @@ use Rattle.ymx_machine.specs.declared.types.Wrote.{Wrote}
 use Rattle.ymx_machine.specs.declared.types.Wrote.TheVariants as wrote
 use Rattle.ymx_booked.specs.declared.faults.HubFault.{HubFault}
 use Rattle.ymx_booked.specs.declared.faults.HubFault.TheVariants.{Call, Memory}
+use Rattle.ymx_booked.specs.declared.refused_seat.RefusedSeat.{RefusedSeat}
+
+-- the one value of the evidence that no seat was left
+abbrev pub refused_seat : RefusedSeat
+refused_seat = record { seal = tt }
 
 -- want of memory is the hub's own fault, whoever found it
 abbrev pub hub_fault_of : CallFault → HubFault

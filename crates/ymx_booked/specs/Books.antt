@@ -16,7 +16,7 @@ use Rattle.ymx_booked.specs.declared.faults.HubFault.{HubFault}
 use Rattle.ymx_booked.specs.declared.stream_calls.Ending.{Ending}
 use Rattle.ymx_booked.specs.declared.stream_calls.Ending.TheVariants as ending
 use Rattle.ymx_booked.specs.declared.faults.HubFault.TheVariants.{Memory, Seats}
-use Rattle.ymx_booked.specs.Answers.{hub_fault_of}
+use Rattle.ymx_booked.specs.Answers.{hub_fault_of, refused_seat}
 
 -- ---- the events
 
@@ -112,7 +112,7 @@ Does event told seat (Err refused) added = added ≡ []
 -- the event was not done, for want of memory or of seats, or it was refused
 abbrev pub IsRefused : Event → ℕ → HubFault → List Entry → Type 0
 IsRefused event seat fault added =
-    (((fault ≡ Memory evidence) ⊎ (fault ≡ Seats)) × (added ≡ []))
+    (((fault ≡ Memory evidence) ⊎ (fault ≡ Seats refused_seat)) × (added ≡ []))
     ⊎ ((why : CallFault) × (fault ≡ hub_fault_of why) × One seat event (reply.Refused why) added)
 
 -- A seat starts after this entry: its own have later positions; and the history that it has seen, where there is a journal,

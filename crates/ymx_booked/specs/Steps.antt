@@ -13,7 +13,7 @@ use Rattle.ymx_session.specs.Replies.{done_or}
 use Rattle.ymx_seats.specs.Views.{SeatView, kept_entries, entry, journal_after, with_caller, whole_of, IsNewcomer}
 use Rattle.ymx_booked.specs.declared.faults.HubFault.{HubFault}
 use Rattle.ymx_booked.specs.declared.faults.HubFault.TheVariants.{Memory, Seats}
-use Rattle.ymx_booked.specs.Answers.{hub_fault_of, hub_answer}
+use Rattle.ymx_booked.specs.Answers.{hub_fault_of, hub_answer, refused_seat}
 use Rattle.ymx_booked.specs.Books.{to_open, to_open_with, to_accept, to_forget}
 use Rattle.ymx_booked.specs.Booked.{BookedView, is_half_spent, spent}
 
@@ -72,7 +72,7 @@ pub record HandsOut (keeps : Bool) (seat : ℕ) (event : Event) (told : Reply) (
 -- no memory, or no two seats left, and nothing was done; or the session refused it
 abbrev pub HandsNone : (keeps : Bool) (seat : ℕ) → Event → HubFault → (old new : BookedView) → Type 0
 HandsNone keeps seat event fault old new =
-    (((fault ≡ Memory evidence) ⊎ ((fault ≡ Seats) × (2 ^ 32 ≤ old.given + 2))) × (new ≡ old))
+    (((fault ≡ Memory evidence) ⊎ ((fault ≡ Seats refused_seat) × (2 ^ 32 ≤ old.given + 2))) × (new ≡ old))
     ⊎ ((why : CallFault) × (fault ≡ hub_fault_of why) × Steps keeps seat event (reply.Refused why) old new)
 
 -- the stream that was opened

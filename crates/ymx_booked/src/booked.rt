@@ -9,7 +9,7 @@ ghost use Rattle.ymx_model.specs.session.Emissions.{is_ready};
 ghost use Rattle.ymx_seats.specs.Tallies.{Tallies};
 ghost use Rattle.ymx_seats.specs.Transcripts.{IsNew};
 ghost use Rattle.ymx_seats.specs.Views.{SeatView, whole_of, with_caller, IsBehind};
-ghost use Rattle.ymx_booked.specs.Answers.{IsNotMemory};
+ghost use Rattle.ymx_booked.specs.Answers.{IsNotMemory, refused_seat};
 ghost use Rattle.ymx_booked.specs.Booked.{fresh, config_of, IsUnused};
 ghost use Rattle.ymx_booked.specs.Shown.{IsHistoryOf};
 ghost use Rattle.ymx_booked.specs.Steps.{IsNext};
@@ -17,6 +17,7 @@ ghost use Rattle.ymx_booked.specs.declared.end_fault.EndWhy.TheVariants.{SeatsOu
 
 use crate::end_fault::{EndFault, EndWhy};
 use crate::faults::HubFault;
+use crate::refused_seat::seats_left;
 use indexmap::IndexSet;
 use std::alloc::Global;
 use std::marker::Model;
@@ -122,14 +123,12 @@ impl<R: Recorder> Booked<R> {
         ensures new { IfOk result (IsNext self.old.given self.old.entries (whole_of self.old.journal)) }
         ensures counted { MatchResult result (λ seat. self.new ≡ record self.old { given = self.old.given + 1; journal = with_caller self.old.journal }) (λ fault. self.new ≡ self.old) }
         ensures goes_on { OnOk result ((self.old.ended ≡ false) × (self.old.given + 1 < 2 ^ 32)) }
-        ensures refused { IfErr result (λ fault. ((fault ≡ HubFault.Call CallFault.Closed) × (self.old.ended ≡ true)) ⊎ ((fault ≡ HubFault.Seats) × (self.old.ended ≡ false) × (self.old.given + 1 ≡ 2 ^ 32))) }
+        ensures refused { IfErr result (λ fault. ((fault ≡ HubFault.Call CallFault.Closed) × (self.old.ended ≡ true)) ⊎ ((fault ≡ HubFault.Seats refused_seat) × (self.old.ended ≡ false) × (self.old.given + 1 ≡ 2 ^ 32))) }
     {
         if self.ended {
             return Err(HubFault::Call(CallFault::Closed));
         }
-        if self.given == u32::MAX {
-            return Err(HubFault::Seats);
-        }
+        seats_left(self.given, 1)?;
         let seat = self.log.seat(self.alloc, self.given);
         self.given += 1;
         Ok(seat)

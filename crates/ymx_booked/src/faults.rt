@@ -1,9 +1,10 @@
 //! Why a call of a hub fails.
 
 ghost use Rattle.std.specs.Prelude.{◌≡◌};
-ghost use Rattle.ymx_booked.specs.Answers.{hub_answer, hub_fault_of};
+ghost use Rattle.ymx_booked.specs.Answers.{hub_answer, hub_fault_of, refused_seat};
 ghost use Rattle.ymx_machine.specs.shared.Evidence.{evidence};
 
+use crate::refused_seat::RefusedSeat;
 use thiserror::Error;
 use ymx_memory::RefusedAllocation;
 use ymx_model::CallFault;
@@ -18,9 +19,9 @@ pub enum HubFault {
     /// allocation was refused.
     #[error("Memory")]
     Memory(RefusedAllocation),
-    /// 4,294,967,295 seats were given.
+    /// Not enough seats were left, of 4,294,967,295 in all. It holds the evidence.
     #[error("Seats")]
-    Seats,
+    Seats(RefusedSeat),
 }
 
 impl From<RefusedAllocation> for HubFault {
@@ -31,6 +32,17 @@ impl From<RefusedAllocation> for HubFault {
 
     fn from(refused: RefusedAllocation) -> HubFault {
         HubFault::Memory(refused)
+    }
+}
+
+impl From<RefusedSeat> for HubFault {
+    ghost use Rattle.std.specs.Prelude.{◌≡◌};
+    ghost use Rattle.ymx_booked.specs.declared.faults.HubFault.TheVariants.{Seats};
+
+    ghost from_gives = { λ _ fault. fault ≡ Seats refused_seat };
+
+    fn from(refused: RefusedSeat) -> HubFault {
+        HubFault::Seats(refused)
     }
 }
 

@@ -2,6 +2,7 @@
 
 ghost use Rattle.std.specs.Prelude.{◌≡◌, ◌⊎◌, ◌+◌, ◌^◌, ◌<◌, ◌≤◌, [], IfOk, IfErr, OnOk};
 ghost use Rattle.indexmap.specs.IndexSet.{spare, IsUnchanged};
+ghost use Rattle.ymx_booked.specs.Answers.{refused_seat};
 ghost use Rattle.ymx_booked.specs.Books.{Books, Opens, OpensWith, AcceptsOnce};
 ghost use Rattle.ymx_seats.specs.Views.{HasNumbered, IsWitnessed, whole_of, with_caller};
 ghost use Rattle.ymx_booked.specs.Gained.{GainedAlike};
@@ -10,6 +11,7 @@ ghost use Rattle.ymx_machine.specs.shared.Evidence.{evidence};
 
 use crate::booked::Booked;
 use crate::faults::{HubFault, hub_fault};
+use crate::refused_seat::seats_left;
 use crate::replies;
 use indexmap::IndexSet;
 use std::alloc::Global;
@@ -139,11 +141,9 @@ fn make_room(given: u32, unspent: usize, half_spent: &mut IndexSet<u32>) -> Resu
     ensures keys { IsUnchanged half_spent.old half_spent.new }
     ensures keeps { spare half_spent.old ≤ spare half_spent.new }
     ensures room { OnOk result ((given + 2 < 2 ^ 32) × (unspent + 1 ≤ spare half_spent.new)) }
-    ensures refused { IfErr result (λ fault. (fault ≡ HubFault.Memory evidence) ⊎ ((fault ≡ HubFault.Seats) × (2 ^ 32 ≤ given + 2))) }
+    ensures refused { IfErr result (λ fault. (fault ≡ HubFault.Memory evidence) ⊎ ((fault ≡ HubFault.Seats refused_seat) × (2 ^ 32 ≤ given + 2))) }
 {
-    if given > u32::MAX - 2 {
-        return Err(HubFault::Seats);
-    }
+    seats_left(given, 2)?;
     ymx_memory::reserve_set(half_spent, unspent + 1)?;
     Ok(())
 }

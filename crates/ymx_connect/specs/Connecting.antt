@@ -17,7 +17,7 @@ use Rattle.ymx_connect.specs.declared.handle.Handle.{Handle}
 abbrev pub IsConnectFault : Role → Config → ConnectFault → Type 0
 IsConnectFault role config (Session fault) = IsNewFault role config fault
 IsConnectFault role config (Memory _) = new_fault role config ≡ None
-IsConnectFault role config NoThread = new_fault role config ≡ None
+IsConnectFault role config (NoThread _) = new_fault role config ≡ None
 IsConnectFault role config NoSeat = ⊥
 
 -- the pumps ended by themselves: not for want of memory or of a thread, and not by a gate

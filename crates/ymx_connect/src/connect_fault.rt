@@ -2,6 +2,7 @@
 
 ghost use Rattle.ymx_machine.specs.shared.Evidence.{evidence};
 
+use crate::starting::RefusedThread;
 use thiserror::Error;
 use ymx_memory::RefusedAllocation;
 use ymx_session::NewFault;
@@ -16,9 +17,9 @@ pub enum ConnectFault {
     /// refused.
     #[error("Memory")]
     Memory(RefusedAllocation),
-    /// No thread could be made for one of the pumps.
+    /// No thread could be made for one of the pumps. It holds the evidence.
     #[error("NoThread")]
-    NoThread,
+    NoThread(RefusedThread),
     /// The hub of a history gives no seat: it has given all, or its transcript was handed out. `connect` and
     /// `connect_tcp` never answer it.
     #[error("NoSeat")]

@@ -1,6 +1,6 @@
 //! One call that runs a session over a connection.
 
-ghost use Rattle.std.specs.Prelude.{◌≡◌, None, IfOk, IfErr, IfSome};
+ghost use Rattle.std.specs.Prelude.{◌≡◌, None, IfOk, IfErr};
 ghost use Rattle.ymx_session.specs.NewSessions.{new_fault};
 ghost use Rattle.ymx_seats.specs.Transcripts.{IsNew};
 ghost use Rattle.ymx_connect.specs.Connecting.{IsConnectFault, IsSpared, Answered};
@@ -9,6 +9,7 @@ use crate::connect_fault::ConnectFault;
 use crate::ended::{Connected, Ended};
 use crate::handle::Handle;
 use crate::pumping::{Buffer, PumpedIn, PumpedOut, pump_in, pump_out};
+use crate::starting::{RefusedThread, start};
 use crate::tcp::{ConnectionReader, ConnectionWriter};
 use std::alloc::Global;
 use std::net::TcpStream;
@@ -92,8 +93,8 @@ pub fn connect<
         Err(fault) => return Err(fault),
     };
     match run(rt, prepared, reader, writer, work) {
-        Some(connected) => Ok(connected),
-        None => Err(ConnectFault::NoThread),
+        Ok(connected) => Ok(connected),
+        Err(refused) => Err(ConnectFault::NoThread(refused)),
     }
 }
 
@@ -128,18 +129,18 @@ fn surround(alloc: Global, session: Session) -> Result<Prepared, RefusedAllocati
     })
 }
 
-/// Runs the pumps, each in a thread, while the caller's function works. `None`, and it was not called, if a thread
-/// can't be made.
+/// Runs the pumps, each in a thread, while the caller's function works. `RefusedThread`, and it was not called, if a
+/// thread can't be made.
 fn run<
     W: Threads + Wait + Sync,
     I: Inlet + Send + Drop,
     O: Outlet + Send + Drop,
     T: Drop,
     F: FnOnce(&Handle) -> T,
->(rt: &W, prepared: Prepared, reader: I, writer: O, work: F) -> Option<Connected<T>>
+>(rt: &W, prepared: Prepared, reader: I, writer: O, work: F) -> Result<Connected<T>, RefusedThread>
     requires { F.IsAlwaysCallable work }
-    ensures answered { IfSome result (λ connected. Answered F.FnOnce work connected.answer) }
-    ensures spared { IfSome result (λ connected. IsSpared connected.ended) }
+    ensures answered { IfOk result (λ connected. Answered F.FnOnce work connected.answer) }
+    ensures spared { IfOk result (λ connected. IsSpared connected.ended) }
 {
     let Prepared {
         hub,
@@ -151,21 +152,21 @@ fn run<
     thread::scope(
         thread::scope_env(),
         rt,
-        |scope| -> Option<Connected<T>>
+        |scope| -> Result<Connected<T>, RefusedThread>
             requires { F.IsAlwaysCallable work }
-            ensures answered { IfSome result (λ connected. Answered F.FnOnce work connected.answer) }
-            ensures spared { IfSome result (λ connected. IsSpared connected.ended) }
+            ensures answered { IfOk result (λ connected. Answered F.FnOnce work connected.answer) }
+            ensures spared { IfOk result (λ connected. IsSpared connected.ended) }
         {
-            let writing = scope.spawn(move || pump_out(rt, hub, writer, out_of)).ok()?;
-            let reading = scope.spawn(move || pump_in(rt, hub, reader, into)).ok();
-            if reading.is_none() {
+            let writing = start(scope, move || pump_out(rt, hub, writer, out_of))?;
+            let reading = start(scope, move || pump_in(rt, hub, reader, into));
+            if reading.is_err() {
                 let _ = handle.close(rt);
             }
             let reading = reading?;
             let answer = work_and_close(rt, handle, work);
             let written = writing.join(rt);
             let read = reading.join(rt);
-            Some(Connected {
+            Ok(Connected {
                 answer,
                 ended: both_ended(read, written),
             })

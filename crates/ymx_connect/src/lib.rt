@@ -10,6 +10,7 @@ mod ended;
 mod halves;
 mod handle;
 pub mod pumping;
+pub mod starting;
 mod tcp;
 
 pub use connect_fault::ConnectFault;
@@ -17,6 +18,7 @@ pub use connecting::{USUAL_CONFIG, both_ended, connect, connect_tcp};
 pub use ended::{Connected, Ended};
 pub use halves::{Reader, Writer, close_stream, copy};
 pub use handle::Handle;
+pub use starting::RefusedThread;
 pub use tcp::{ConnectionReader, ConnectionWriter};
 pub use ymx_hub::{HubFault, Undrained, WriteFault};
 pub use ymx_model::{CallFault, Config, Role};

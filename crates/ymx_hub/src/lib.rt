@@ -26,5 +26,5 @@ pub use moving::Turn;
 pub use opener::Opener;
 pub use undrained::Undrained;
 pub use write_fault::WriteFault;
-pub use ymx_booked::{EndFault, EndWhy, HubFault};
+pub use ymx_booked::{EndFault, EndWhy, HubFault, RefusedSeat};
 pub use ymx_seats::{Full, Off, Recorder, Seat, Transcript};

@@ -125,7 +125,7 @@ by_end Sink = Unit {0}
 by_end Reset = Unit {0}
 by_end Lost = Unit {0}
 by_end (Memory refused) = Unit {0}
-by_end NoThread = Unit {0}
+by_end (NoThread refused) = Unit {0}
 
 pub sink_is_no_end : Sink ≡ End → ⊥
 unfolding by_end
@@ -168,7 +168,7 @@ own_case (Call refusal.Reset) own f e = cc
 own_case (Call refusal.Lost) own f e = cc
 own_case (Call _) own f e = f e
 own_case (NoMemory _) own f e = cc
-own_case Seats own f e = f e
+own_case (Seats _) own f e = f e
 
 pub no_end : (fault : HubFault) (why own : CopyWhy) → why ≡ copy_reason fault own → (own ≡ End → ⊥) → why ≡ End → ⊥
 no_end fault why own e f w = own_case fault own f (sym e ∙ w)

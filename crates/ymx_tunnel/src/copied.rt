@@ -3,6 +3,7 @@
 ghost use Rattle.std.specs.Prelude.{◌≡◌};
 ghost use Rattle.ymx_tunnel.specs.Copies.{copy_reason};
 
+use ymx_connect::RefusedThread;
 use ymx_hub::HubFault;
 use ymx_memory::RefusedAllocation;
 use ymx_model::CallFault;
@@ -24,14 +25,14 @@ pub enum CopyWhy {
     /// There was no memory for what the stream has to send; or, of a connection, none for it or for a buffer. It holds the
     /// evidence: an allocation was refused.
     Memory(RefusedAllocation),
-    /// No thread could be made: of a connection alone.
-    NoThread,
+    /// No thread could be made: of a connection alone. It holds the evidence.
+    NoThread(RefusedThread),
 }
 
 impl CopyWhy {
     /// Whether memory or a thread was wanting.
     pub(crate) fn is_lack(self) -> bool {
-        matches!(self, CopyWhy::Memory(_) | CopyWhy::NoThread)
+        matches!(self, CopyWhy::Memory(_) | CopyWhy::NoThread(_))
     }
 }
 
@@ -55,6 +56,6 @@ pub(crate) fn why_of_fault(fault: HubFault, own: CopyWhy) -> CopyWhy
         HubFault::Call(CallFault::Reset) => CopyWhy::Reset,
         HubFault::Call(CallFault::Lost) => CopyWhy::Lost,
         HubFault::Memory(refused) => CopyWhy::Memory(refused),
-        HubFault::Call(_) | HubFault::Seats => own,
+        HubFault::Call(_) | HubFault::Seats(_) => own,
     }
 }

@@ -109,7 +109,7 @@ pub(crate) fn ended(connection: &Connection, bytes: u64, why: CopyWhy) -> EndedC
     match why {
         CopyWhy::End => {}
         CopyWhy::Reset | CopyWhy::Lost => connection.shut_down(),
-        CopyWhy::Source | CopyWhy::Sink | CopyWhy::Memory(_) | CopyWhy::NoThread => {
+        CopyWhy::Source | CopyWhy::Sink | CopyWhy::Memory(_) | CopyWhy::NoThread(_) => {
             connection.break_off();
         }
     }

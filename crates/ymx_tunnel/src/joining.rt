@@ -8,6 +8,7 @@ use std::net::TcpStream;
 use std::sync::Wait;
 use std::thread;
 use std::thread::Threads;
+use ymx_connect::starting::start;
 use ymx_connect::{Reader, Writer};
 
 /// A connection that has ended.
@@ -85,9 +86,12 @@ fn copy_both<'x, R: Threads + Wait + Sync>(
     reader: &'x Lent<Reader>,
 ) -> EndedConnection {
     thread::scope(thread::scope_env(), rt, move |scope| {
-        let Ok(other) = scope.spawn(move || outward(rt, alloc, connection, reader)) else {
-            connection.break_off();
-            return EndedConnection::unjoined(CopyWhy::NoThread);
+        let other = match start(scope, move || outward(rt, alloc, connection, reader)) {
+            Ok(other) => other,
+            Err(refused) => {
+                connection.break_off();
+                return EndedConnection::unjoined(CopyWhy::NoThread(refused));
+            }
         };
         let inward = inward(rt, alloc, connection, writer);
         let outward = other.join(rt);

@@ -10,7 +10,8 @@ use std::sync::Wait;
 use std::sync::atomic::{AtomicBool, AtomicU64, Ordering};
 use std::thread;
 use std::thread::Threads;
-use ymx_connect::{Handle, HubFault, Reader, Writer};
+use ymx_connect::starting::start;
+use ymx_connect::{Handle, HubFault, Reader, RefusedThread, Writer};
 use ymx_model::CallFault;
 
 /// Why a connection got no stream.
@@ -18,8 +19,8 @@ use ymx_model::CallFault;
 pub enum Declined {
     /// The hub refused one.
     ByHub(HubFault),
-    /// No thread could be made for it.
-    NoThread,
+    /// No thread could be made for it. It holds the evidence.
+    NoThread(RefusedThread),
 }
 
 /// Who is told of connections that have ended. Connections are numbered 1, 2, 3, .. as they begin, and each is told of
@@ -90,11 +91,8 @@ pub fn serve_local<R: Threads + Wait + Sync, V: Watcher>(
                 lent.refused(rt, number, Declined::ByHub(HubFault::Call(CallFault::Lost)));
                 break;
             }
-            if scope
-                .spawn(move || serve_connection(rt, lent, number, stream))
-                .is_err()
-            {
-                lent.refused(rt, number, Declined::NoThread);
+            if let Err(refused) = start(scope, move || serve_connection(rt, lent, number, stream)) {
+                lent.refused(rt, number, Declined::NoThread(refused));
             }
         }
         accept_failed
@@ -119,10 +117,7 @@ pub fn serve_remote<R: Threads + Wait + Sync, N: Network, V: Watcher>(
     let lent = &shared;
     thread::scope(thread::scope_env(), rt, |scope| {
         for _ in 1..workers {
-            if scope
-                .spawn(move || serve_streams(rt, lent, network, target))
-                .is_err()
-            {
+            if start(scope, move || serve_streams(rt, lent, network, target)).is_err() {
                 lent.lack_memory();
             }
         }
@@ -233,7 +228,7 @@ impl<'a, V: Watcher> Shared<'a, V> {
     /// No stream was to be had for a connection.
     fn refused<R: Wait>(&self, rt: &R, number: u64, why: Declined) {
         match why {
-            Declined::NoThread | Declined::ByHub(HubFault::Memory(_)) => self.lack_memory(),
+            Declined::NoThread(_) | Declined::ByHub(HubFault::Memory(_)) => self.lack_memory(),
             Declined::ByHub(_) => {}
         }
         self.watcher.refused(rt, number, why);

@@ -1,6 +1,6 @@
 //! Both pumps of a hub, while a function works with it.
 
-ghost use Rattle.std.specs.Prelude.{IfOk, IfErr, IfSome};
+ghost use Rattle.std.specs.Prelude.{IfOk, IfErr};
 ghost use Rattle.std.specs.Fn.{FnOnceReturns};
 ghost use Rattle.ymx_connect.specs.Connecting.{IsSpared};
 ghost use Rattle.ymx_witness.specs.Settings.{IsPumpFault};
@@ -11,7 +11,10 @@ use std::sync::Wait;
 use std::thread;
 use std::thread::Threads;
 use ymx_connect::pumping::{Buffer, pump_in, pump_out};
-use ymx_connect::{ConnectFault, Connected, ConnectionReader, ConnectionWriter, both_ended};
+use ymx_connect::starting::start;
+use ymx_connect::{
+    ConnectFault, Connected, ConnectionReader, ConnectionWriter, RefusedThread, both_ended,
+};
 use ymx_hub::Hub;
 use ymx_journal::Naming;
 use ymx_model::{Inlet, Outlet};
@@ -74,14 +77,14 @@ pub fn pumped<
     let connected = thread::scope(
         thread::scope_env(),
         rt,
-        |scope| -> Option<Connected<T>>
+        |scope| -> Result<Connected<T>, RefusedThread>
             requires { F.IsAlwaysCallable work }
-            ensures answered { IfSome result (λ connected. FnOnceReturns F.FnOnce work tt connected.answer) }
-            ensures spared { IfSome result (λ connected. IsSpared connected.ended) }
+            ensures answered { IfOk result (λ connected. FnOnceReturns F.FnOnce work tt connected.answer) }
+            ensures spared { IfOk result (λ connected. IsSpared connected.ended) }
         {
-            let writing = scope.spawn(move || pump_out(rt, hub, writer, out_of)).ok()?;
-            let reading = scope.spawn(move || pump_in(rt, hub, reader, into)).ok();
-            if reading.is_none() {
+            let writing = start(scope, move || pump_out(rt, hub, writer, out_of))?;
+            let reading = start(scope, move || pump_in(rt, hub, reader, into));
+            if reading.is_err() {
                 let _ = hub.close(rt, mine);
             }
             let reading = reading?;
@@ -90,7 +93,7 @@ pub fn pumped<
             let _ = hub.close(rt, mine);
             let written = writing.join(rt);
             let read = reading.join(rt);
-            Some(Connected {
+            Ok(Connected {
                 answer,
                 ended: both_ended(read, written),
             })
@@ -98,7 +101,7 @@ pub fn pumped<
     );
     let _ = seat.into_entries();
     match connected {
-        Some(connected) => Ok(connected),
-        None => Err(ConnectFault::NoThread),
+        Ok(connected) => Ok(connected),
+        Err(refused) => Err(ConnectFault::NoThread(refused)),
     }
 }
