@@ -1,14 +1,14 @@
 -- What a hub answers for what its session answered (this project's own).
-use Rattle.std.specs.Prelude.{◌≡◌, ℕ, ◌<◌, Result, Ok, Err, IfErr}
+use Rattle.std.specs.Prelude.{◌≡◌, ◌⊎◌, ℕ, ◌<◌, Result, Ok, Err, IfErr}
 use Rattle.ymx_machine.specs.shared.Evidence.{evidence}
 use Rattle.ymx_machine.specs.declared.types.CallFault.{CallFault}
-use Rattle.ymx_machine.specs.declared.types.CallFault.TheVariants.{OutOfMemory}
+use Rattle.ymx_machine.specs.declared.types.CallFault.TheVariants.{OutOfMemory, Closed}
 use Rattle.ymx_model.specs.declared.types.Got.{Got}
 use Rattle.ymx_model.specs.declared.types.Got.TheVariants as got
 use Rattle.ymx_machine.specs.declared.types.Wrote.{Wrote}
 use Rattle.ymx_machine.specs.declared.types.Wrote.TheVariants as wrote
 use Rattle.ymx_booked.specs.declared.faults.HubFault.{HubFault}
-use Rattle.ymx_booked.specs.declared.faults.HubFault.TheVariants.{Call, Memory}
+use Rattle.ymx_booked.specs.declared.faults.HubFault.TheVariants.{Call, Memory, Seats}
 use Rattle.ymx_booked.specs.declared.refused_seat.RefusedSeat.{RefusedSeat}
 
 -- the one value of the evidence that no seat was left
@@ -27,6 +27,10 @@ hub_answer (Err fault) = Err (hub_fault_of fault)
 -- the answer is no want of memory
 abbrev pub IsNotMemory : {A : Type 0} → Result A HubFault → Type 0
 IsNotMemory result = IfErr result (λ fault. fault ≡ Memory evidence → ⊥)
+
+-- why there is no seat: the transcript was handed out, or no seat was left
+abbrev pub IsSeatFault : HubFault → Type 0
+IsSeatFault fault = (fault ≡ Call Closed) ⊎ (fault ≡ Seats refused_seat)
 
 -- how many bytes a write took
 abbrev pub took_count : Wrote → ℕ

@@ -1,6 +1,6 @@
 //! The hub, and its calls that wait for nothing but the lock.
 
-ghost use Rattle.std.specs.Prelude.{◌≡◌, List, [], true, false, IfOk, MatchResult};
+ghost use Rattle.std.specs.Prelude.{◌≡◌, List, [], true, false, IfOk, IfErr, MatchResult};
 ghost use Rattle.std.specs.List.Sorted.{IsPermutation};
 ghost use Rattle.ymx_session.specs.Replies.{done_or};
 ghost use Rattle.ymx_seats.specs.Tallies.{Tallies};
@@ -8,7 +8,7 @@ ghost use Rattle.ymx_seats.specs.Transcripts.{IsNew};
 ghost use Rattle.ymx_seats.specs.Views.{SeatView, IsNewcomer};
 ghost use Rattle.ymx_booked.specs.Booked.{config_of};
 ghost use Rattle.ymx_hub.specs.Shown.{IsShown};
-ghost use Rattle.ymx_booked.specs.Answers.{IsNotMemory};
+ghost use Rattle.ymx_booked.specs.Answers.{IsNotMemory, IsSeatFault};
 ghost use Rattle.ymx_booked.specs.Books.{Books, Asks, Opens, OpensWith, Spends, Closes, to_finish, to_reset, to_go_away, to_close};
 
 use crate::awaiting::take_lock;
@@ -82,7 +82,7 @@ impl<R: Recorder> Hub<R> {
     pub fn seat<W: Wait>(&self, rt: &W) -> Result<Seat<R>, HubFault>
         ensures empty { IfOk result (λ seat. seat.entries ≡ []) }
         ensures newcomer { IfOk result (λ seat. IsNewcomer seat.number seat.seen) }
-        ensures spares { IsNotMemory result }
+        ensures refused { IfErr result IsSeatFault }
     {
         take_lock(rt, &self.shared).booked.seat()
     }
