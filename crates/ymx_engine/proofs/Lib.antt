@@ -2,3 +2,4 @@ pub mod Exchanging
 pub mod Carrying
 pub mod Refusing
 pub mod Advancing
+pub mod Feeding

@@ -1,6 +1,7 @@
 -- What a contract sees of the tunnel of one end, and what its calls leave alone (this project's own).
-use Rattle.std.specs.Prelude.{ℕ, ◌≡◌, List}
+use Rattle.std.specs.Prelude.{ℕ, ◌≡◌, ◌⊎◌, List, [], true}
 use Rattle.ymx_model.specs.session.Sessions.{Session}
+use Rattle.ymx_model.specs.session.Feeds.{is_stuck}
 
 -- The session, the bytes that it emitted and the wire has not taken, and those that the wire gave and the session
 -- has not taken.
@@ -13,3 +14,7 @@ pub record Engine : Type 0 where
 pub record KeepsWire (old new : Engine) : Type 0 where
   pub outgoing : new.outgoing ≡ old.outgoing
   pub incoming : new.incoming ≡ old.incoming
+
+-- All that the wire gave was fed; or the session takes no byte now, as it is broken or its row of answers is full.
+abbrev pub IsFedOrStuck : Engine → Type 0
+IsFedOrStuck e = (e.incoming ≡ []) ⊎ (is_stuck e.session ≡ true)

@@ -1,11 +1,12 @@
 //! Memory for bytes on their way to the peer or from it.
 
-ghost use Rattle.std.specs.Prelude.{ℕ, List, ◌≡◌, ◌≤◌, [], length, take, drop, IfOk};
+ghost use Rattle.std.specs.Prelude.{ℕ, List, ◌≡◌, ◌≤◌, ◌<◌, ◌⊎◌, [], length, take, drop, true, false, IfOk, IsSome};
 ghost use Rattle.ymx_model.specs.declared.types.Event.TheVariants as event;
 ghost use Rattle.ymx_machine.specs.declared.types.Reply.TheVariants as reply;
 ghost use Rattle.ymx_model.specs.session.Emissions.{in_turn};
+ghost use Rattle.ymx_model.specs.session.Feeds.{is_stuck};
 ghost use Rattle.ymx_model.specs.session.Histories.{Gives};
-ghost use Rattle.ymx_session.specs.Passing.{FeedsSome};
+ghost use Rattle.ymx_session.specs.Passing.{passing, FeedsSome};
 ghost use Rattle.ymx_engine.specs.Devices.{IsPulled, pulled_count};
 
 use crate::device::{Device, Pulled};
@@ -93,6 +94,8 @@ impl Block {
     ) -> Fed
         ensures fed { FeedsSome session.old self.old result session.new }
         ensures rest { self.new ≡ drop result.taken self.old }
+        ensures some { is_stuck session.old ≡ false → 0 < count → 0 < length self.old → 0 < result.taken }
+        ensures stops { result.taken < count → result.taken < length self.old → is_stuck session.new ≡ true }
     {
         let waiting = self.waiting();
         let front = &waiting[..count.min(waiting.len())];
@@ -105,6 +108,7 @@ impl Block {
     pub(crate) fn feed_to_payload(&mut self, session: &mut Session, touched: &mut Touched) -> Fed
         ensures fed { FeedsSome session.old self.old result session.new }
         ensures rest { self.new ≡ drop result.taken self.old }
+        ensures stops { result.taken < length self.old → (is_stuck session.new ≡ true) ⊎ IsSome (passing session.new) }
     {
         let fed = session.feed_to_payload(self.waiting(), touched);
         self.drop_front(fed.taken);

@@ -1,14 +1,17 @@
 //! The type `Engine`, and its calls.
 
-ghost use Rattle.std.specs.Prelude.{◌≡◌, ◌<◌, ◌≤◌, ◌+◌, ◌||◌, [], length, true, false, IfOk, IfErr, IfSome, IfNone, Some};
+ghost use Rattle.std.specs.Prelude.{◌≡◌, ◌<◌, ◌≤◌, ◌+◌, ◌⊎◌, ◌||◌, [], length, drop, true, false, IfOk, IfErr, IfSome, IfNone, IsSome, Some, None};
 ghost use Rattle.ymx_model.specs.declared.types.Event.TheVariants as event;
 ghost use Rattle.ymx_machine.specs.declared.types.Call.TheVariants as call;
 ghost use Rattle.ymx_machine.specs.shared.Events.{Reply};
 ghost use Rattle.ymx_machine.specs.declared.types.Reply.TheVariants as reply;
 ghost use Rattle.ymx_model.specs.session.Emissions.{in_turn};
+ghost use Rattle.ymx_model.specs.session.Feeds.{is_stuck};
 ghost use Rattle.ymx_model.specs.session.Histories.{Gives};
+ghost use Rattle.ymx_session.specs.declared.passing.Passing.{Passing};
+ghost use Rattle.ymx_session.specs.Passing.{passing};
 ghost use Rattle.ymx_engine.specs.Devices.{is_end, is_pull_failure, is_push_failure};
-ghost use Rattle.ymx_engine.specs.Engines.{KeepsWire};
+ghost use Rattle.ymx_engine.specs.Engines.{KeepsWire, IsFedOrStuck};
 ghost use Rattle.ymx_engine.specs.Exchanges.{Exchanges};
 ghost use Rattle.ymx_engine.specs.Passes.{IsPayload, PassesOn};
 ghost use Rattle.ymx_engine.specs.Refusals.{GivesUp, OpensNone, OffersNone, AcceptsNone};
@@ -240,9 +243,11 @@ impl Engine {
     /// Reads from the wire once, where all that it gave before was fed, and feeds what waits. It makes at most one call
     /// of the wire. Once the wire has ended or failed the session is lost.
     ///
-    /// It is `pull_wire` and then a feed of all that waits, so that all payload goes into the rings of its streams.
+    /// It is `pull_wire` and then a feed of all that waits, so that all payload goes into the rings of its streams. What
+    /// waits still is bytes that the session takes only later, or never (clause `rest`).
     pub fn read_wire<D: Device>(&mut self, wire: &mut D)
-        ensures { ReadsWire self.old self.new (D.seen wire.old) (D.seen wire.new) 1 }
+        ensures moved { ReadsWire self.old self.new (D.seen wire.old) (D.seen wire.new) 1 }
+        ensures rest { IsFedOrStuck self.new }
     {
         self.pull_wire(wire);
         if !self.is_fed() {
@@ -313,7 +318,8 @@ impl Engine {
 
     /// Feeds all that waits, and queues the streams that it touches.
     fn feed(&mut self)
-        ensures { HandlesIn false self.old self.new }
+        ensures fed { HandlesIn false self.old self.new }
+        ensures rest { IsFedOrStuck self.new }
     {
         let all = self.incoming.waiting().len();
         self.feed_front(all);
@@ -321,7 +327,9 @@ impl Engine {
 
     /// Feeds the first of the bytes that wait, so many at most, and queues the streams that they touch.
     fn feed_front(&mut self, count: usize)
-        ensures { HandlesIn false self.old self.new }
+        ensures fed { HandlesIn false self.old self.new }
+        ensures some { is_stuck self.old.session ≡ false → 0 < count → 0 < length self.old.incoming → length self.new.incoming < length self.old.incoming }
+        ensures rest { length self.old.incoming ≤ count → IsFedOrStuck self.new }
     {
         let fed = self
             .incoming
@@ -343,14 +351,17 @@ impl Engine {
     // ---- payload that is passed on
 
     /// Feeds what waits up to a payload that `pass` may give to its connection's device, and returns the id of that
-    /// connection. `None` where all that can be fed now was fed. A payload whose device may not take bytes now goes into
-    /// its stream's ring, and so does one of which fewer than `least` bytes wait: for so few a call of the device is not
-    /// worth making, as they gather in the ring.
+    /// connection. `None` where all that can be fed now was fed (clause `rest`). A payload whose device may not take bytes
+    /// now goes into its stream's ring, and so does one of which fewer than `least` bytes wait: for so few a call of the
+    /// device is not worth making, as they gather in the ring.
     pub fn advance(&mut self, least: usize) -> Option<u32>
         ensures fed { HandlesIn false self.old self.new }
         ensures payload { IfSome result (λ id. IsPayload id 1 self.new) }
+        ensures rest { IfNone result (IsFedOrStuck self.new) }
     {
-        'payload: for turn in 0..BLOCK {
+        // each turn that goes on feeds a byte at least
+        let turns = self.incoming.waiting().len().max(1);
+        'payload: for turn in 0..turns {
             self.feed_to_payload();
             match self.next_payload() {
                 None => return None,
@@ -358,7 +369,7 @@ impl Engine {
                     if self.may_pass(id, least) {
                         return Some(id);
                     }
-                    self.feed_front(self.payload_count(id));
+                    self.feed_front(self.payload_count(id).max(1));
                 }
             }
         }
@@ -367,7 +378,8 @@ impl Engine {
 
     /// Feeds what waits up to a payload that may be passed on.
     fn feed_to_payload(&mut self)
-        ensures { HandlesIn false self.old self.new }
+        ensures fed { HandlesIn false self.old self.new }
+        ensures rest { (self.new.incoming ≡ []) ⊎ ((is_stuck self.new.session ≡ true) ⊎ IsSome (passing self.new.session)) }
     {
         let fed = self
             .incoming
@@ -377,20 +389,22 @@ impl Engine {
 
     /// The stream whose payload waits, where it may be passed on.
     fn next_payload(&self) -> Option<u32>
-        ensures { IfSome result (λ id. IsPayload id 1 self.now) }
+        ensures waits { IfSome result (λ id. 0 < length self.now.incoming × ((payload : Passing) × (passing self.now.session ≡ Some payload) × (payload.id ≡ id))) }
+        ensures none { IfNone result ((self.now.incoming ≡ []) ⊎ (passing self.now.session ≡ None)) }
     {
         if self.incoming.waiting().is_empty() {
             return None;
         }
         match self.session.passing() {
-            Some(payload) if payload.missing > 0 => Some(payload.id),
-            _ => None,
+            Some(payload) => Some(payload.id),
+            None => None,
         }
     }
 
     /// How many bytes of a payload of this stream wait that may be passed on.
     fn payload_count(&self, id: u32) -> usize
-        ensures { 0 < result → IsPayload id result self.now }
+        ensures payload { 0 < result → IsPayload id result self.now }
+        ensures some { IsPayload id 1 self.now → 0 < result }
     {
         match self.session.passing() {
             Some(payload) if payload.id == id => {
@@ -400,10 +414,12 @@ impl Engine {
         }
     }
 
-    /// Whether so many bytes of this stream's payload wait, and its device may take some.
-    fn may_pass(&self, id: u32, least: usize) -> bool {
+    /// Whether so many bytes of this stream's payload wait, one at least, and its device may take some.
+    fn may_pass(&self, id: u32, least: usize) -> bool
+        ensures { result ≡ true → IsPayload id 1 self.now }
+    {
         match self.connections.get(id) {
-            Some(connection) => connection.may_push() && self.payload_count(id) >= least,
+            Some(connection) => connection.may_push() && self.payload_count(id) >= least.max(1),
             None => false,
         }
     }
@@ -413,9 +429,11 @@ impl Engine {
     /// device. Where the device fails, its stream is reset and the device shut. Nothing is offered where no payload of
     /// this stream waits that may be passed on, or where its device may not take bytes.
     ///
-    /// What the device took is what the stream gave (record `PassesOn`).
+    /// What the device took is what the stream gave (record `PassesOn`). Where payload of this stream waits that may be
+    /// passed on, a byte of it at least waits no more (clause `some`).
     pub fn pass<D: Device>(&mut self, id: u32, device: &mut D)
-        ensures { PassesOn id self.old self.new (D.seen device.old) (D.seen device.new) 2 }
+        ensures passed { PassesOn id self.old self.new (D.seen device.old) (D.seen device.new) 2 }
+        ensures some { IsPayload id 1 self.old → length self.new.incoming < length self.old.incoming }
     {
         let count = self.payload_count(id);
         if count == 0 {
@@ -430,7 +448,9 @@ impl Engine {
     /// Offers the first bytes that wait, payload of this stream, to its connection's device. How many it took.
     fn offer<D: Device>(&mut self, id: u32, count: usize, device: &mut D) -> usize
         requires { IsPayload id count self.old }
-        ensures { PassesOn id self.old self.new (D.seen device.old) (D.seen device.new) 2 }
+        ensures passed { PassesOn id self.old self.new (D.seen device.old) (D.seen device.new) 2 }
+        ensures taken { self.new.incoming ≡ drop result self.old.incoming }
+        ensures goes_on { result ≡ 0 → is_stuck self.new.session ≡ false }
     {
         match self.connections.get(id) {
             Some(connection) if connection.may_push() => {
@@ -450,7 +470,9 @@ impl Engine {
         device: &mut D,
     ) -> usize
         requires { IsPayload id count self.old }
-        ensures { PassesOn id self.old self.new (D.seen device.old) (D.seen device.new) 2 }
+        ensures passed { PassesOn id self.old self.new (D.seen device.old) (D.seen device.new) 2 }
+        ensures taken { self.new.incoming ≡ drop result self.old.incoming }
+        ensures goes_on { result ≡ 0 → is_stuck self.new.session ≡ false }
     {
         let mut connection = connection;
         let bytes = &self.incoming.waiting()[..count];

@@ -1,11 +1,12 @@
 //! Two engines and the pipes between them.
 
-ghost use Rattle.std.specs.Prelude.{◌≡◌, IfOk, IfErr, IfSome, IfNone, Some, false};
+ghost use Rattle.std.specs.Prelude.{◌≡◌, ◌<◌, length, IfOk, IfErr, IfSome, IfNone, Some, false};
 ghost use Rattle.ymx_model.specs.declared.types.Event.TheVariants as event;
 ghost use Rattle.ymx_machine.specs.declared.types.Call.TheVariants as call;
 ghost use Rattle.ymx_machine.specs.declared.types.Reply.TheVariants as reply;
 ghost use Rattle.ymx_model.specs.session.Emissions.{in_turn};
 ghost use Rattle.ymx_model.specs.session.Histories.{Gives};
+ghost use Rattle.ymx_engine.specs.Engines.{IsFedOrStuck};
 ghost use Rattle.ymx_engine.specs.Passes.{IsPayload};
 ghost use Rattle.ymx_engine.specs.Wires.{HandlesIn};
 ghost use Rattle.ymx_engine.specs.Refusals.{OpensNone, AcceptsNone};
@@ -128,6 +129,7 @@ impl Joined {
         ensures turn { HasWireTurn side self.old self.new }
         ensures fed { HandlesIn false (engine_at side self.old) (engine_at side self.new) }
         ensures payload { IfSome result (λ id. IsPayload id 1 (engine_at side self.new)) }
+        ensures rest { IfNone result (IsFedOrStuck (engine_at side self.new)) }
     {
         match side {
             Side::A => self.a.advance(least),
@@ -137,7 +139,8 @@ impl Joined {
 
     /// A side's engine passes payload of this stream that waits on to the device of its connection.
     pub(crate) fn pass<D: Device>(&mut self, side: Side, id: u32, device: &mut D)
-        ensures { PassesAt side id self.old self.new (D.seen device.old) (D.seen device.new) }
+        ensures passed { PassesAt side id self.old self.new (D.seen device.old) (D.seen device.new) }
+        ensures some { IsPayload id 1 (engine_at side self.old) → length (engine_at side self.new).incoming < length (engine_at side self.old).incoming }
     {
         match side {
             Side::A => self.a.pass(id, device),

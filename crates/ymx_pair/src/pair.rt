@@ -1,6 +1,6 @@
 //! The type `EnginePair`, and its calls.
 
-ghost use Rattle.std.specs.Prelude.{◌≡◌, IfOk, IfErr, IfSome, IfNone, Some, None, false};
+ghost use Rattle.std.specs.Prelude.{◌≡◌, ◌<◌, length, IfOk, IfErr, IfSome, IfNone, Some, None, false};
 ghost use Rattle.ymx_model.specs.declared.types.Event.TheVariants as event;
 ghost use Rattle.ymx_machine.specs.declared.types.Call.TheVariants as call;
 ghost use Rattle.ymx_machine.specs.declared.types.Reply.TheVariants as reply;
@@ -10,6 +10,7 @@ ghost use Rattle.ymx_model.specs.session.Emissions.{in_turn};
 ghost use Rattle.ymx_model.specs.session.Histories.{Gives};
 ghost use Rattle.ymx_session.specs.NewSessions.{first_id, new_fault};
 ghost use Rattle.ymx_engine.specs.Exchanges.{Exchanges};
+ghost use Rattle.ymx_engine.specs.Engines.{IsFedOrStuck};
 ghost use Rattle.ymx_engine.specs.Passes.{IsPayload};
 ghost use Rattle.ymx_engine.specs.Wires.{HandlesIn};
 ghost use Rattle.ymx_engine.specs.Refusals.{OpensNone, AcceptsNone};
@@ -141,6 +142,7 @@ impl EnginePair {
         ensures turn { HasTurn side self.old self.new }
         ensures fed { HandlesIn false (engine_at side self.old) (engine_at side self.new) }
         ensures payload { IfSome result (λ id. IsPayload id 1 (engine_at side self.new)) }
+        ensures rest { IfNone result (IsFedOrStuck (engine_at side self.new)) }
     {
         self.joined.advance(side, least)
     }
@@ -148,7 +150,8 @@ impl EnginePair {
     /// A side's engine offers payload of this stream that waits to its connection's device, as `Engine::pass`. What the
     /// device took is what the stream gave; all that happened were turns of this side (record `PassesAt`).
     pub fn pass<D: Device>(&mut self, side: Side, id: u32, device: &mut D)
-        ensures { PassesAt side id self.old self.new (D.seen device.old) (D.seen device.new) }
+        ensures passed { PassesAt side id self.old self.new (D.seen device.old) (D.seen device.new) }
+        ensures some { IsPayload id 1 (engine_at side self.old) → length (engine_at side self.new).incoming < length (engine_at side self.old).incoming }
     {
         self.joined.pass(side, id, device);
     }

@@ -1,11 +1,19 @@
+use Rattle.std.proofs.Common.{◌+◌, ◌<◌, ◌≤◌, length, false, arith}
 use Rattle.ymx_engine.proofs.Advancing.{handles_then}
+use Rattle.ymx_engine.proofs.Feeding.{takes_payload, no_longer}
 use Rattle.ymx_engine.proofs.engine.Engine.advance.Goals as goal
 
 pub returns-in-None-clause-fed : goal.returns-in-None-clause-fed
-returns-in-None-clause-fed c = handles_then _ _ _ c.payload.invariant c.feed_to_payload.ensures
+returns-in-None-clause-fed c = handles_then _ _ _ c.payload.invariant.0 c.feed_to_payload.ensures.fed
 
 pub returns-then-may_pass-clause-fed : goal.returns-then-may_pass-clause-fed
-returns-then-may_pass-clause-fed c = handles_then _ _ _ c.payload.invariant c.feed_to_payload.ensures
+returns-then-may_pass-clause-fed c = handles_then _ _ _ c.payload.invariant.0 c.feed_to_payload.ensures.fed
 
 pub payload-preserved : goal.payload-preserved
-payload-preserved c = handles_then _ _ _ c.payload.invariant (handles_then _ _ _ c.feed_to_payload.ensures c.feed_front.ensures)
+payload-preserved c =
+    let waits = c.in-Some.ensures.waits in
+    let least = c.max.ensures in
+    let fewer : length c.feed_front.new.self.incoming < length c.feed_to_payload.new.self.incoming = c.feed_front.ensures.some (takes_payload c.feed_to_payload.new.self.session waits.1.0 waits.1.1) (omega arith) waits.0 in
+    let same : length c.feed_to_payload.new.self.incoming ≤ length c.payload.self.incoming = no_longer false _ _ c.feed_to_payload.ensures.fed in
+    let before : length c.payload.self.incoming + c.payload.turn ≤ length c.args.self.now.incoming = c.payload.invariant.1 in
+    (handles_then _ _ _ c.payload.invariant.0 (handles_then _ _ _ c.feed_to_payload.ensures.fed c.feed_front.ensures.fed), omega arith)

@@ -1,6 +1,6 @@
-use Rattle.std.proofs.Common.{false}
+use Rattle.std.proofs.Common.{◌+◌, ◌≤◌, length, false}
 use Rattle.ymx_engine.specs.Wires.{HandlesIn}
 use Rattle.ymx_engine.proofs.engine.Engine.advance.Given as goal
 
 abbrev pub invariant-payload : goal.invariant-payload
-invariant-payload l = HandlesIn false l.initial.self l.self
+invariant-payload l = HandlesIn false l.initial.self l.self × (length l.self.incoming + l.turn ≤ length l.initial.self.incoming)
