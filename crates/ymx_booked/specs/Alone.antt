@@ -1,5 +1,5 @@
 -- A caller alone (this project's own).
-use Rattle.std.specs.Prelude.{◌≡◌, ◌≤◌, ℕ, List, length, false}
+use Rattle.std.specs.Prelude.{◌≡◌, ◌≤◌, length, false}
 use Rattle.ymx_seats.specs.Views.{SeatView}
 use Rattle.ymx_seats.specs.Tallies.{IsOwn, behind_all}
 use Rattle.ymx_booked.specs.Booked.{BookedView}

@@ -1,7 +1,7 @@
 -- How the pumps behind the front door have ended: their gates let them run, and their recorder keeps nothing.
 use Rattle.std.proofs.Common.{◌≡◌, ℕ, List, Bool, true, false, Option, refl, sym, ◌∙◌}
 use Rattle.ymx_pumps.specs.declared.pump_end.PumpWhy.{PumpWhy}
-use Rattle.ymx_pumps.specs.declared.pump_end.PumpWhy.TheVariants.{End, Device, Broken, Memory, Gate, NoThread, NoSeat}
+use Rattle.ymx_pumps.specs.declared.pump_end.PumpWhy.TheVariants.{Broken, Memory, Gate, NoThread}
 use Rattle.ymx_pumps.specs.Ends.{ReadEnd, WriteEnd}
 use Rattle.ymx_connect.specs.Connecting.{may_end, may_end_writing}
 

@@ -1,11 +1,10 @@
 -- What reads and writes of a stream add, call after call.
-use Rattle.std.proofs.Common.{◌≡◌, ℕ, ◌+◌, ◌-◌, ◌^◌, ◌<◌, ◌≤◌, ◌⊎◌, inl, inr, min, List, [], ◌∷◌, ◌++◌, length, take, drop, Bool, Result, Ok, Err, arith, refl, sym, ◌∙◌, ap, subst, append-nil, append_assoc, take-append-drop}
+use Rattle.std.proofs.Common.{◌≡◌, ℕ, ◌+◌, ◌-◌, ◌^◌, ◌<◌, ◌≤◌, inl, inr, min, List, [], ◌∷◌, ◌++◌, length, take, drop, Bool, Ok, Err, arith, refl, sym, ◌∙◌, ap, subst, append-nil, append_assoc, take-append-drop}
 use Rattle.std.specs.Io.{StartsWith}
-use Rattle.std.proofs.lemmas.List.{take_all, length-take-le}
+use Rattle.std.proofs.lemmas.List.{length-take-le}
 use Rattle.std.proofs.lemmas.Grind.{common_steps}
 use Rattle.std.proofs.Math.Seq.{take-append_seam}
 use Rattle.ymx_machine.specs.shared.Evidence.{evidence}
-use Rattle.ymx_machine.specs.declared.types.CallFault.{CallFault}
 use Rattle.ymx_machine.specs.declared.types.Wrote.TheVariants.{Took}
 use Rattle.ymx_machine.specs.shared.Events.{Reply}
 use Rattle.ymx_machine.specs.declared.types.Reply.TheVariants as reply
@@ -20,7 +19,7 @@ use Rattle.ymx_hub.specs.Turns.{took_of, AreWaits, AreWrites, EndsIn, HasTaken, 
 use Rattle.ymx_hub.specs.Carried.{read_bytes, bytes_written}
 use Rattle.ymx_hub.proofs.Booked.{books_same, books_at, books_weaker}
 use Rattle.ymx_hub.proofs.Carried.{read_append, written_append, waits_read, one_read, all_written, some_written}
-use Rattle.ymx_connect.specs.Streams.{AreReads, ReadsOn, ReadsUpTo, ReadsUntil, AreWritesTo, WritesOf, WritesOn, WritesUntil, BooksCopy, Copies}
+use Rattle.ymx_connect.specs.Streams.{AreReads, ReadsOn, ReadsUpTo, ReadsUntil, AreWritesTo, WritesOf, WritesOn, WritesUntil, Copies}
 
 -- ---- reads
 

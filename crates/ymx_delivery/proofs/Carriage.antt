@@ -27,7 +27,7 @@ use Rattle.ymx_model.specs.world.Worlds.{World}
 use Rattle.ymx_headline.specs.Agrees.{RunsAlike}
 use Rattle.ymx_headline.specs.Laws.{is_carriage}
 use Rattle.ymx_world.specs.Settled.{no_memory_of, no_memory_in}
-use Rattle.ymx_delivery.specs.Stages.{Numbers, alone, IsBeforeAccept, IsComing, IsComingOrRefused, IsSettled}
+use Rattle.ymx_delivery.specs.Stages.{Numbers, alone, IsBeforeAccept, IsComingOrRefused, IsSettled}
 use Rattle.ymx_delivery.proofs.Machines.{mirror-mirror, from-mirror}
 use Rattle.ymx_delivery.proofs.Moves.{IsAt, IsAtB, still-counts, move-a, move-b, offered-not_unborn}
 

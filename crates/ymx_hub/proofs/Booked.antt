@@ -1,5 +1,5 @@
 -- What one call after another adds to a seat.
-use Rattle.std.proofs.Common.{◌≡◌, ℕ, List, [], ◌++◌, Bool, true, false, refl, sym, append-nil, subst}
+use Rattle.std.proofs.Common.{ℕ, List, [], ◌++◌, Bool, true, false, refl, sym, append-nil, subst}
 use Rattle.ymx_model.specs.declared.types.Entry.{Entry}
 use Rattle.ymx_seats.specs.Views.{SeatView}
 use Rattle.ymx_booked.specs.Books.{Gains, Books}

@@ -1,5 +1,5 @@
 -- What a seat sees of the whole history is behind what it had seen.
-use Rattle.std.proofs.Common.{◌≡◌, ℕ, List, Option, Some, None}
+use Rattle.std.proofs.Common.{ℕ, List, Option, Some, None}
 use Rattle.ymx_model.specs.declared.types.Entry.{Entry}
 use Rattle.ymx_journal.specs.Journals.{JournalView}
 use Rattle.ymx_seats.specs.Views.{whole_of, IsBehind}

@@ -1,10 +1,9 @@
 -- Calls that wait: what their turns add.
-use Rattle.std.proofs.Common.{◌≡◌, ◌<◌, ℕ, List, [], ◌∷◌, ◌++◌, Bool, true, false, refl, ap, ◌∙◌, append_assoc, take, Result, Ok, Err, Option, Some, None, subst, inl, inr}
+use Rattle.std.proofs.Common.{◌≡◌, ◌<◌, ℕ, List, [], ◌∷◌, ◌++◌, Bool, true, false, refl, take, Result, Ok, Err, subst, inl, inr}
 use Rattle.ymx_model.specs.declared.types.Entry.{Entry}
 use Rattle.ymx_model.specs.session.Events.{Event}
-use Rattle.ymx_machine.specs.declared.types.CallFault.{CallFault}
 use Rattle.ymx_machine.specs.shared.Events.{Reply}
-use Rattle.ymx_machine.specs.declared.types.Reply.TheVariants.{Accepted, Pinged, Ponged, Read, ReadWait, ReadEnd, Refused}
+use Rattle.ymx_machine.specs.declared.types.Reply.TheVariants.{Pinged, Ponged, Read, ReadWait, ReadEnd}
 use Rattle.ymx_model.specs.declared.types.Got.{Got}
 use Rattle.ymx_model.specs.declared.types.Got.TheVariants as got
 use Rattle.ymx_session.specs.Replies.{pinged_or, ponged_or, read_or}
@@ -13,7 +12,6 @@ use Rattle.ymx_booked.specs.declared.faults.HubFault.{HubFault}
 use Rattle.ymx_booked.specs.Books.{Books, One, Asks, to_ping, to_collect, to_read}
 use Rattle.ymx_hub.specs.Turns.{AreWaits, Turns, PongsLast, IsPinged, PingTurns, ReadTurns, ReadsLast}
 use Rattle.ymx_hub.proofs.Booked.{books_same, books_at, books_weaker}
-use Rattle.ymx_booked.proofs.Books.{books_both}
 
 waits_append : (seat : ℕ) (event : Event) (told : Reply) (es ds : List Entry) → AreWaits seat event told es → AreWaits seat event told ds → AreWaits seat event told (es ++ ds)
 waits_append seat event told [] ds w v = v

@@ -1,5 +1,5 @@
 -- The calls of an engine that leave its wire alone, as turns.
-use Rattle.std.proofs.Common.{◌≡◌, ℕ, ◌⊎◌, inl, inr, List, [], ◌∷◌, ◌++◌, length, take, drop, Bool, true, false, ◌&&◌, None, Some, refl, sym, ap, ◌∙◌, subst, arith, append-nil, append_assoc, take-append-drop}
+use Rattle.std.proofs.Common.{◌≡◌, ℕ, inl, inr, List, [], ◌∷◌, ◌++◌, length, take, drop, Bool, true, false, ◌&&◌, None, Some, refl, sym, ap, ◌∙◌, subst, arith, append-nil, append_assoc, take-append-drop}
 use Rattle.std.proofs.KnownBytes.{Consumes-nil}
 use Rattle.std.specs.List.{list_all}
 use Rattle.ymx_machine.specs.shared.Events.{Call}
@@ -16,12 +16,12 @@ use Rattle.ymx_engine.specs.Devices.{Seen}
 use Rattle.ymx_engine.specs.Engines.{Engine, KeepsWire}
 use Rattle.ymx_engine.specs.Events.{Happen, is_on}
 use Rattle.ymx_engine.specs.Passes.{is_of_pass, PassesOn}
-use Rattle.ymx_engine.specs.Wires.{fed_at, fed, OffersFront, FeedsFront, ReadsWire, HandlesIn}
+use Rattle.ymx_engine.specs.Wires.{fed_at, fed, OffersFront, FeedsFront, HandlesIn}
 use Rattle.ymx_engine.proofs.Advancing.{drop_front, drop_twice, rest_of}
 use Rattle.ymx_engine.proofs.Exchanging.{or_same}
 use Rattle.ymx_engine.specs.Exchanges.{Exchange}
-use Rattle.ymx_engine.specs.Refusals.{GivesUp, OpensNone, OffersNone, AcceptsNone}
-use Rattle.ymx_law_engine.specs.Pairs.{is_call, IsCalls, IsRead, IsTurn, HasCalls, HasFeeds, HasTurns, each_alone}
+use Rattle.ymx_engine.specs.Refusals.{GivesUp, OpensNone, AcceptsNone}
+use Rattle.ymx_law_engine.specs.Pairs.{is_call, IsCalls, IsTurn, HasCalls, HasFeeds, HasTurns, each_alone}
 use Rattle.ymx_law_engine.proofs.Piping.{both}
 
 calls_of : (es : List (Event × Reply)) (e f : Engine) → KeepsWire e f → Happen es e.session f.session → list_all (λ x. is_call x.0) es ≡ true → HasCalls es e f

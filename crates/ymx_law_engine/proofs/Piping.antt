@@ -13,7 +13,7 @@ use Rattle.ymx_machine.specs.declared.types.Reply.TheVariants as reply
 use Rattle.ymx_model.specs.session.Events.{Event}
 use Rattle.ymx_model.specs.declared.types.Event.TheVariants as event
 use Rattle.ymx_model.specs.declared.types.Entry.{Entry}
-use Rattle.ymx_model.specs.session.Sessions.{Session, new_session}
+use Rattle.ymx_model.specs.session.Sessions.{Session}
 use Rattle.ymx_model.specs.session.Emissions.{in_turn}
 use Rattle.ymx_model.specs.session.Feeds.{Feeds}
 use Rattle.ymx_model.specs.session.Histories.{Gives}
@@ -23,7 +23,7 @@ use Rattle.ymx_law_audit.proofs.Events.{put-ended}
 use Rattle.ymx_law_audit.proofs.OneRun.{are-one-run}
 use Rattle.ymx_engine.specs.Engines.{Engine}
 use Rattle.ymx_engine.specs.Events.{Happen}
-use Rattle.ymx_engine.specs.Wires.{emitted_at, emitted, fed_at, fed, is_of_read, is_of_flush, OffersFront, FeedsFront, ReadsWire, FlushesWire}
+use Rattle.ymx_engine.specs.Wires.{emitted_at, emitted, fed_at, fed, is_of_read, is_of_flush, OffersFront, FeedsFront}
 use Rattle.ymx_engine.proofs.Exchanging.{happen_then}
 use Rattle.ymx_law_engine.specs.Tunnels.{entries_from, entries}
 use Rattle.ymx_law_engine.specs.Pairs.{Pair, is_call, IsCalls, IsRead, IsFlush, IsTurn, Turn, TakesTurn, TakeTurns, at_a, at_b, events_at_a, events_at_b, AreOnePipedRun}

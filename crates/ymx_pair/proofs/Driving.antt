@@ -1,10 +1,9 @@
 -- How many turns of two engines in memory go on, and what devices and streams move in them.
-use Rattle.std.proofs.Common.{◌≡◌, ◌⊎◌, inl, inr, ℕ, List, [], ◌∷◌, ◌++◌, Option, Bool, true, false, ◌&&◌, ◌||◌, refl, sym, ap, ◌∙◌, subst, append-nil, append_assoc}
-use Rattle.std.specs.Prelude.{option_map, IfSome}
+use Rattle.std.proofs.Common.{◌≡◌, inl, inr, ℕ, List, [], ◌∷◌, ◌++◌, Option, Bool, true, false, ◌&&◌, ◌||◌, refl, sym, ap, ◌∙◌, subst, append-nil, append_assoc}
+use Rattle.std.specs.Prelude.{option_map}
 use Rattle.std.specs.List.{list_all}
-use Rattle.std.specs.Io.KnownBytes.{Appends, Consumes}
+use Rattle.std.specs.Io.KnownBytes.{Appends}
 use Rattle.std.proofs.KnownBytes.{Appends-nil, Appends-trans, Consumes-nil, Consumes-trans}
-use Rattle.std.proofs.Math.Bool.{or_assoc}
 use Rattle.ymx_machine.specs.declared.types.Side.{Side}
 use Rattle.ymx_machine.specs.declared.types.Side.TheVariants.{A, B}
 use Rattle.ymx_machine.specs.declared.types.Call.TheVariants as call
@@ -13,7 +12,7 @@ use Rattle.ymx_model.specs.session.Events.{Event}
 use Rattle.ymx_model.specs.declared.types.Event.TheVariants as event
 use Rattle.ymx_engine.specs.Devices.{Seen}
 use Rattle.ymx_engine.specs.Engines.{Engine, KeepsWire}
-use Rattle.ymx_engine.specs.Events.{taken_at, taken, given, has_end, finishes_at, has_finish, has_reset}
+use Rattle.ymx_engine.specs.Events.{taken_at, taken, has_end, finishes_at, has_finish, has_reset}
 use Rattle.ymx_engine.specs.Passes.{is_of_pass, PassesOn}
 use Rattle.ymx_engine.specs.Exchanges.{has_bytes, Exchange, Exchanges}
 use Rattle.ymx_engine.specs.Wires.{is_of_read, is_of_flush, HandlesIn}
@@ -22,7 +21,7 @@ use Rattle.ymx_engine.proofs.Advancing.{quiet}
 use Rattle.ymx_law_engine.proofs.Calling.{served, advanced, passed}
 use Rattle.ymx_law_engine.proofs.Piping.{both}
 use Rattle.ymx_law_engine.specs.Pairs.{Pair, Turn, TakesTurn, TakeTurns, HasTurns, each_alone, IsRead, IsFlush, at_a, at_b, events_at_a, events_at_b}
-use Rattle.ymx_pair.specs.Reached.{engine_at, HasTurn, IsReached, IsReadOnce, IsFlushed}
+use Rattle.ymx_pair.specs.Reached.{engine_at, IsReached, IsReadOnce, IsFlushed}
 use Rattle.ymx_pair.specs.Drives.{Moves, Drives, is_of_wire, HasWireTurn, Serves, events_of, events_beside, PassesAt, Works}
 use Rattle.ymx_pair.proofs.Turns.{turns_then}
 

@@ -1,5 +1,5 @@
 -- How two engines in memory go on.
-use Rattle.std.proofs.Common.{◌≡◌, ◌⊎◌, inl, inr, ℕ, List, [], ◌∷◌, ◌++◌, Option, None, Some, true, false, refl, sym, ap, ◌∙◌, subst}
+use Rattle.std.proofs.Common.{◌≡◌, inl, ℕ, List, [], ◌∷◌, ◌++◌, Option, None, Some, false, refl, sym, ap, ◌∙◌, subst}
 use Rattle.std.specs.Prelude.{Result, Ok, Err, IfOk, IfErr, IfSome, IfNone}
 use Rattle.ymx_machine.specs.declared.types.Side.TheVariants.{A, B}
 use Rattle.ymx_machine.specs.declared.types.Side.{Side}
@@ -19,7 +19,7 @@ use Rattle.ymx_engine.specs.Wires.{ReadsWire, FlushesWire}
 use Rattle.ymx_model.specs.declared.types.Role.TheVariants.{Client, Server}
 use Rattle.ymx_model.specs.session.Sessions.{Session, new_session}
 use Rattle.ymx_headline.specs.Laws.{AreGood}
-use Rattle.ymx_law_engine.specs.Pairs.{Pair, Turn, TakesTurn, TakeTurns, HasCalls, engine_of, pair_of}
+use Rattle.ymx_law_engine.specs.Pairs.{Pair, Turn, TakeTurns, HasCalls, engine_of, pair_of}
 use Rattle.ymx_law_engine.proofs.Calling.{served, called, opens_none, accepts_none}
 use Rattle.ymx_law_engine.proofs.Piping.{are_one_piped_run}
 use Rattle.ymx_pair.specs.Reached.{engine_at, HasTurn, IsReadOnce, IsFlushed, IsReached, AreOneRunSoFar}

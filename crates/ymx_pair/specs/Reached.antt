@@ -6,7 +6,7 @@ use Rattle.ymx_machine.specs.shared.Events.{Reply}
 use Rattle.ymx_machine.specs.declared.types.Step.{Step}
 use Rattle.ymx_model.specs.session.Events.{Event}
 use Rattle.ymx_model.specs.declared.types.Role.TheVariants.{Client, Server}
-use Rattle.ymx_model.specs.session.Sessions.{Session, new_session}
+use Rattle.ymx_model.specs.session.Sessions.{new_session}
 use Rattle.ymx_model.specs.session.Emissions.{in_turn}
 use Rattle.ymx_headline.specs.Laws.{AreGood}
 use Rattle.ymx_law_audit.specs.Told.{IsOneRun}

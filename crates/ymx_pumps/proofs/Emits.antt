@@ -1,5 +1,5 @@
 -- What a write pump emits and writes.
-use Rattle.std.proofs.Common.{◌≡◌, ℕ, ◌+◌, ◌-◌, ◌^◌, ◌≤◌, List, [], ◌∷◌, ◌++◌, length, take, drop, min, Bool, true, false, Option, Result, Ok, Err, inl, inr, arith, refl, sym, ap, ◌∙◌, subst, append_assoc, append-nil}
+use Rattle.std.proofs.Common.{◌≡◌, ℕ, ◌+◌, ◌-◌, ◌^◌, ◌≤◌, List, [], ◌∷◌, ◌++◌, length, take, drop, min, Bool, true, false, Option, Ok, Err, inl, inr, arith, refl, sym, ap, ◌∙◌, subst, append_assoc, append-nil}
 use Rattle.std.proofs.lemmas.Grind.{common_steps}
 use Rattle.std.proofs.lemmas.List.{take_all}
 use Rattle.std.proofs.Math.Seq.{take-append-add, take-add}
@@ -12,14 +12,13 @@ use Rattle.ymx_model.specs.declared.types.Entry.{Entry}
 use Rattle.ymx_seats.specs.Views.{SeatView}
 use Rattle.ymx_memory.specs.declared.refused.RefusedAllocation.{RefusedAllocation}
 use Rattle.ymx_booked.specs.Books.{Books, One}
-use Rattle.ymx_hub.specs.declared.moving.Turn.{Turn}
 use Rattle.ymx_hub.specs.declared.moving.Turn.TheVariants.{Emitted, Idle, Over}
 use Rattle.ymx_hub.specs.Pumped.{EmitsOnce}
 use Rattle.ymx_hub.proofs.Booked.{books_same, books_at, books_weaker}
 use Rattle.ymx_pumps.specs.declared.pump_end.PumpWhy.{PumpWhy}
-use Rattle.ymx_pumps.specs.declared.pump_end.PumpWhy.TheVariants.{End, Device, Broken, Memory, Gate, NoThread}
+use Rattle.ymx_pumps.specs.declared.pump_end.PumpWhy.TheVariants.{Device, Memory, Gate, NoThread}
 use Rattle.ymx_pumps.specs.declared.pump_end.Stop.{Stop}
-use Rattle.ymx_pumps.specs.Pumps.{byte_count, IsEmit, AreEmits, IsWritten, EndsWrite, WriteAdds, PumpWrote}
+use Rattle.ymx_pumps.specs.Pumps.{byte_count, AreEmits, IsWritten, EndsWrite, WriteAdds, PumpWrote}
 use Rattle.ymx_pumps.specs.Turns.{Pushed, SaysEnd, TurnWrote}
 use Rattle.ymx_pumps.proofs.Counts.{fails_once, counted_on, counted_none}
 

@@ -1,10 +1,10 @@
 -- Why a pump has ended.
-use Rattle.std.proofs.Common.{◌≡◌, ◌⊎◌, ℕ, List, Bool, true, false, Option, inl, inr, refl, sym, subst}
+use Rattle.std.proofs.Common.{◌≡◌, ◌⊎◌, ℕ, List, Bool, true, false, Option, inl, inr, refl, subst}
 use Rattle.std.specs.Io.KnownBytes.{IsAtEnd}
 use Rattle.ymx_machine.specs.shared.Evidence.{evidence}
 use Rattle.ymx_model.specs.devices.Devices.{has_failed}
 use Rattle.ymx_pumps.specs.declared.pump_end.PumpWhy.{PumpWhy}
-use Rattle.ymx_pumps.specs.declared.pump_end.PumpWhy.TheVariants.{End, Device, Broken, Memory, Gate, NoThread, NoSeat}
+use Rattle.ymx_pumps.specs.declared.pump_end.PumpWhy.TheVariants.{End, Device, Broken, Memory, NoThread, NoSeat}
 use Rattle.ymx_pumps.specs.Ends.{WriteEnd, WriteEndOrNone, ReadEnd, FeedEnd}
 
 -- what isn't false is true

@@ -1,4 +1,4 @@
-use Rattle.std.proofs.Common.{arith, rules, refl}
+use Rattle.std.proofs.Common.{rules, refl}
 use Rattle.ymx_pumps.proofs.Feeds.{fed_nothing, fed_more, fed_last}
 use Rattle.ymx_pumps.proofs.reading.read_on.Goals as goal
 

@@ -1,4 +1,4 @@
-use Rattle.std.proofs.Common.{ℕ, take, inl, inr, refl, subst, [], arith, rules}
+use Rattle.std.proofs.Common.{ℕ, take, inl, inr, refl, subst, []}
 use Rattle.std.specs.Io.KnownBytes.{Consumes}
 use Rattle.std.proofs.KnownBytes.{Consumes-nil, Consumes-kept}
 use Rattle.ymx_pumps.specs.declared.pump_end.PumpWhy.TheVariants.{End, Device, Gate}

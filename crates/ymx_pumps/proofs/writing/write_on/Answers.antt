@@ -1,4 +1,4 @@
-use Rattle.std.proofs.Common.{length, arith, rules, refl}
+use Rattle.std.proofs.Common.{length, rules, refl}
 use Rattle.ymx_pumps.proofs.Emits.{written_none, written_more, written_last}
 use Rattle.ymx_pumps.proofs.writing.write_on.Goals as goal
 

@@ -1,4 +1,4 @@
-use Rattle.std.proofs.Common.{rules, ◌∙◌, ℕ, ◌+◌, Option, Ok, Err, length, refl, sym, ap, subst}
+use Rattle.std.proofs.Common.{rules, ◌∙◌, ℕ, ◌+◌, Option, Ok, Err, length, sym, ap, subst}
 use Rattle.ymx_session.specs.Replies.{opened_with_or}
 use Rattle.ymx_booked.specs.Books.{to_open_with, OpensWith}
 use Rattle.ymx_machine.specs.declared.types.Reply.TheVariants as reply

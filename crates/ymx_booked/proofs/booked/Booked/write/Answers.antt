@@ -1,4 +1,4 @@
-use Rattle.std.proofs.Common.{◌∙◌, length, refl, ap}
+use Rattle.std.proofs.Common.{◌∙◌, length, ap}
 use Rattle.ymx_session.specs.Replies.{wrote_or}
 use Rattle.ymx_booked.specs.Books.{to_write}
 use Rattle.ymx_seats.specs.Views.{whole_of}

@@ -1,4 +1,4 @@
-use Rattle.std.proofs.Common.{ℕ, Option, Some, None, Ok, subst}
+use Rattle.std.proofs.Common.{ℕ, Option, None, Ok, subst}
 use Rattle.ymx_machine.specs.declared.types.Reply.TheVariants.{Accepted}
 use Rattle.ymx_seats.specs.Views.{SeatView}
 use Rattle.ymx_booked.specs.Books.{Books, AcceptsOnce, to_accept}
