@@ -2,9 +2,10 @@
 # The programs of docs/GUIDE.md: proves those of examples/, runs each server, and its client against it over TCP on the
 # loopback, and compares what they print. Those that the guide shows must have under 40 lines. Without blank lines and
 # comments, those of examples/echo must have under 40 together, and those of examples/witnessed under 80 each. The history
-# that two hubs keep must be one run. The repository is left alone: the programs are crates in a copy, which takes over
-# what was proved before. With `guide` it is the client and the server of the guide alone. With YMX_FROM_GATE=yes they are
-# proved over the libraries as `rt ci` has proved and built them, by the compiler that it calls.
+# that two hubs keep must be one run. The client of the guide must say so where a thread can't be made, and send nothing.
+# The repository is left alone: the programs are crates in a copy, which takes over what was proved before. With `guide` it
+# is the client and the server of the guide alone. With YMX_FROM_GATE=yes they are proved over the libraries as `rt ci` has
+# proved and built them, by the compiler that it calls.
 set -eu
 here=$(cd "$(dirname "$0")" && pwd)
 . "$here/../over.sh"
@@ -108,6 +109,28 @@ same_came_back() {
     grep -q 'streams served: 1$' "$scratch/server.out" || fail 'the server printed something else' "$scratch/server.out"
 }
 
+# without_thread NUMBER: where no thread of this number can be made, the client of the guide says so, its function is not
+# called, and no byte comes to the peer
+without_thread() {
+    rm -f "$scratch/failed"
+    python3 "$here/peer.py" > "$scratch/peer.out" 2>&1 &
+    jobs=$!
+    until grep -q listening "$scratch/peer.out"; do
+        kill -0 "$jobs" 2> /dev/null || fail 'the peer failed' "$scratch/peer.out"
+        sleep 0.1
+    done
+    if FAIL_THREAD_AT=$1 FAILED=$scratch/failed LD_PRELOAD=$scratch/failing_malloc.so timeout 60 "$program" \
+        < /dev/null > "$scratch/client.out" 2> "$scratch/client.err"; then
+        fail "the client came to a good end without thread $1" "$scratch/client.out"
+    fi
+    wait "$jobs" || fail 'the peer failed' "$scratch/peer.out"
+    jobs=
+    [ -e "$scratch/failed" ] || fail "the client made no thread $1" "$scratch/client.err"
+    grep -q 'NoThread' "$scratch/client.err" || fail "the client said something else without thread $1" "$scratch/client.err"
+    [ ! -s "$scratch/client.out" ] || fail "the client went on without thread $1" "$scratch/client.out"
+    grep -qx 'bytes: 0' "$scratch/peer.out" || fail "bytes came without thread $1" "$scratch/peer.out"
+}
+
 for name in server client; do
     [ "$(wc -l < "$root/examples/$name.rattle")" -lt 40 ] || fail "examples/$name.rattle has 40 lines or more"
     [ "$(grep -cv '^ *\(//.*\)\{0,1\}$' "$root/examples/witnessed/$name.rattle")" -lt 80 ] || fail "examples/witnessed/$name.rattle has 80 lines or more"
@@ -117,6 +140,10 @@ done
 : > "$scratch/input"
 pair server client ymx_connect
 same_came_back
+# the threads of both pumps
+"${CC:-cc}" -O2 -Wall -shared -fPIC -o "$scratch/failing_malloc.so" "$root/tests/no_memory/failing_malloc.c"
+without_thread 1
+without_thread 2
 if [ "${1-}" = guide ]; then
     echo '2 programs proved and run'
     exit 0

@@ -1,0 +1,13 @@
+"""Takes one connection at the address of the guide's server, and says how many bytes came before its end."""
+import socket
+
+with socket.create_server(("127.0.0.1", 47100)) as listener:
+    listener.settimeout(60)
+    print("listening", flush=True)
+    connection, _ = listener.accept()
+    connection.settimeout(60)
+    count = 0
+    with connection:
+        while came := connection.recv(65536):
+            count += len(came)
+print("bytes:", count)
