@@ -1,4 +1,4 @@
-"""Plays the peers of `ymx remote --call` and of `ymx local --await`, with --keep and without, and looks whether the side
+"""Plays the peers of `ymx remote --peer` and of `ymx local --bind`, with --keep and without, and looks whether the side
 that calls serves as one that listens does.
 
 It says which tests failed, and nothing where none did. No test follows one that hangs.
@@ -24,15 +24,15 @@ ATTEMPTS = 3
 
 
 def calling(*words):
-    """`ymx remote -v --call`, its peers' listener, where that is, and its target."""
+    """`ymx remote -v --peer`, its peers' listener, where that is, and its target."""
     listener, place = listen()
     target, address = listen()
-    return Program("remote", "-v", "--call", place, "--target", address, *words), listener, place, target
+    return Program("remote", "-v", "--peer", place, "--target", address, *words), listener, place, target
 
 
 def awaiting(*words):
-    """`ymx local -v --await`, where it listens for its peer, and that peer."""
-    program = Program("local", "-v", "--await", ANY, "--listen", ANY, *words)
+    """`ymx local -v --bind`, where it listens for its peer, and that peer."""
+    program = Program("local", "-v", "--bind", ANY, "--listen", ANY, *words)
     place = program.place()
     return program, place, Peer(call(place))
 
@@ -70,7 +70,7 @@ def remote_calls():
 def local_awaits():
     """The same at the other side, which listens for users once its peer is there."""
     users = free_place()
-    program = Program("local", "-v", "--await", ANY, "--listen", users, "--count", "2")
+    program = Program("local", "-v", "--bind", ANY, "--listen", users, "--count", "2")
     place = program.place()
     assert is_refused(users), "users can connect, and there is no peer"
     peer = Peer(call(place))
@@ -103,7 +103,7 @@ def roles():
 
 
 def both_programs():
-    """A connection through both."""
+    """A connection through both, whose options go by their older names."""
     near = Program("local", "-v", "--await", ANY, "--listen", ANY, "--count", "1")
     target, address = listen()
     far = Program("remote", "-v", "--call", near.place(), "--target", address)
@@ -122,9 +122,9 @@ def both_programs():
 def no_meeting():
     """The peer can't be reached, or awaited."""
     place = free_place()
-    assert Program("remote", "--call", place, "--target", place).end() == (1, f"ymx: cannot reach {place}\n")
+    assert Program("remote", "--peer", place, "--target", place).end() == (1, f"ymx: cannot reach {place}\n")
     said = f"ymx: cannot listen at {NOWHERE}\n"
-    assert Program("local", "--await", NOWHERE, "--listen", ANY).end() == (1, said)
+    assert Program("local", "--bind", NOWHERE, "--listen", ANY).end() == (1, said)
 
 
 # ---- one session after another
@@ -134,7 +134,7 @@ def a_peer_that_is_called_again():
     """It is called until it is there, also at first, and again once it has gone."""
     target, address = listen()
     place = free_place()
-    program = Program("remote", "-v", "--keep", "--call", place, "--target", address)
+    program = Program("remote", "-v", "--keep", "--peer", place, "--target", address)
     unreached = f"ymx: cannot reach {place}\n"
     says(program, unreached)
     listener = listen_again(place)
@@ -166,7 +166,7 @@ def pauses():
     read late."""
     place = free_place()
     began = time.monotonic()
-    program = Program("remote", "-v", "--keep", "--call", place, "--target", place)
+    program = Program("remote", "-v", "--keep", "--peer", place, "--target", place)
     for seconds in 0, 1, 3, 7:
         says(program, f"ymx: cannot reach {place}\n")
         passed = time.monotonic() - began
@@ -266,12 +266,12 @@ def killed_programs():
     target, address = listen()
 
     def near_side():
-        program = Program("local", "-v", "--keep", "--await", meeting, "--listen", users)
+        program = Program("local", "-v", "--keep", "--bind", meeting, "--listen", users)
         says(program, f"ymx: listening at {meeting}\n")
         return program
 
     def far_side():
-        return Program("remote", "-v", "--keep", "--call", meeting, "--target", address)
+        return Program("remote", "-v", "--keep", "--peer", meeting, "--target", address)
 
     def ask():
         user = call(users)

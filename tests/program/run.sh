@@ -50,7 +50,10 @@ expect 0 echoed nothing nothing selftest
 expect 2 nothing "$(says 'ymx: bad address localhost:1')" nothing local --listen localhost:1 --peer x
 expect 2 nothing "$(says 'ymx: bad address 127.0.0.1')" nothing local --listen 127.0.0.1:1 --peer 127.0.0.1
 expect 2 nothing "$(says 'ymx: bad address 127.0.0.1:65536')" nothing remote --bind 127.0.0.1:65536 --target x
+expect 2 nothing "$(says 'ymx: bad address x')" nothing local --listen 127.0.0.1:1 --bind x
 expect 2 nothing "$(says 'ymx: bad address x')" nothing local --listen 127.0.0.1:1 --await x
+expect 2 nothing "$(says 'ymx: bad address 1')" nothing local --listen 1 --peer x
+expect 2 nothing "$(says 'ymx: bad address x')" nothing remote --target 1 --peer x
 expect 2 nothing "$(says 'ymx: bad address ')" nothing remote --call '' --target x
 
 # port_of FILE: the port that a program has said in this file, once it has
@@ -165,15 +168,24 @@ refuses 'error: '
 refuses 'error: ' frame
 refuses 'error: ' local
 refuses 'error: ' remote --bind 127.0.0.1:0
+refuses 'error: ' remote --peer 127.0.0.1:1
 refuses 'error: ' remote --call 127.0.0.1:1
 # just one way to meet the peer
 neither='error: the following required arguments were not provided:'
 refuses "$neither" local --listen 127.0.0.1:0
-says_next '  <--peer <ADDRESS>|--await <ADDRESS>>'
+says_next '  <--peer <ADDRESS>|--bind <ADDRESS>>'
 refuses "$neither" remote --target 127.0.0.1:1
-says_next '  <--call <ADDRESS>|--bind <ADDRESS>>'
-refuses "error: the argument '--peer <ADDRESS>' cannot be used with '--await <ADDRESS>'" local --listen 127.0.0.1:0 --peer 127.0.0.1:1 --await 127.0.0.1:0
-refuses "error: the argument '--call <ADDRESS>' cannot be used with '--bind <ADDRESS>'" remote --target 127.0.0.1:1 --bind 127.0.0.1:0 --call 127.0.0.1:1
+says_next '  <--peer <ADDRESS>|--bind <ADDRESS>>'
+both="error: the argument '--peer <ADDRESS>' cannot be used with '--bind <ADDRESS>'"
+# `--await` and `--call` are older names of `--bind` and `--peer`
+for listens in --bind --await; do
+    refuses "$both" local --listen 127.0.0.1:0 --peer 127.0.0.1:1 $listens 127.0.0.1:0
+done
+for connects in --peer --call; do
+    refuses "$both" remote --target 127.0.0.1:1 --bind 127.0.0.1:0 $connects 127.0.0.1:1
+done
+refuses 'error: ' local --listen 127.0.0.1:0 --bind 127.0.0.1:0 --await 127.0.0.1:0
+refuses 'error: ' remote --target 127.0.0.1:1 --peer 127.0.0.1:1 --call 127.0.0.1:1
 # a number is decimal digits alone: no sign, no blank, no empty text
 for limit in 262143 16777217 x -1 +262144 -262144 ' 262144' '262144 ' 262_144 0x40000 ''; do
     refuses 'error: ' frames "--limit=$limit"

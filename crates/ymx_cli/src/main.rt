@@ -1,17 +1,17 @@
-//! The program `ymx`: its command line and its standard devices.
+//! The program `ymx`: it does what its command line asks for, over the standard devices.
 #![tactic(auto)]
 
-mod arguments;
 mod command;
-mod standard;
+mod disk;
 mod tunnel;
 
 use command::{no_words, ymx_main};
-use standard::{Disk, ReaderInlet, WriterOutlet};
+use disk::Disk;
 use std::alloc::Global;
 use std::process::ExitCode;
 use std::rt::Env;
 use std::{env, io};
+use ymx_devices::{ReaderInlet, WriterOutlet};
 
 fn main(rt: HostRuntime) -> ExitCode {
     let mut reader = ReaderInlet {

@@ -3,17 +3,19 @@
 ghost use Rattle.std.specs.Prelude.{◌≡◌, ◌≤◌};
 ghost use Rattle.std.specs.Io.KnownBytes.{Keeps};
 
-use crate::meeting::{Meeting, Met};
-use crate::programs::{Local, Remote, report_session};
+use crate::meeting::Met;
+use crate::notices::ProgramWatcher;
+use crate::peer::Peer;
+use crate::programs::report_session;
 use crate::sockets::{accept, connect, listen};
 use crate::tell::cannot_listen;
-use crate::watching::ProgramWatcher;
+use crate::tunnel_end::TunnelEnd;
 use std::alloc::Global;
 use std::io;
 use std::net::{Net, SocketAddr, TcpListener, TcpStream};
 use std::sync::Wait;
 use std::time::{Clock, Duration, Instant};
-use ymx_loop::{Peer, Station};
+use ymx_arguments::{LocalOptions, PeerAddress, RemoteOptions};
 use ymx_model::Outlet;
 
 /// How many seconds a session lasts at least behind which the peer is called again at once.
@@ -43,8 +45,8 @@ pub(crate) fn keep_local<
     rt: &R,
     alloc: Global,
     met: Met,
-    station: &mut Station,
-    asked: Local,
+    tunnel_end: &mut TunnelEnd,
+    options: LocalOptions,
     watcher: &mut V,
     errors: &mut E,
 ) -> u8
@@ -59,15 +61,15 @@ pub(crate) fn keep_local<
     let mut next = session_over(Some(connection));
     for _ in rt.forever() {
         let served = match next {
-            Next::Peer(peer) => serve_local(rt, alloc, peer, station, asked, watcher, errors),
+            Next::Peer(peer) => serve_local(rt, alloc, peer, tunnel_end, options, watcher, errors),
             Next::Unreached => 0,
-            Next::Over => return end_status(alloc, station, asked, address, status, errors),
+            Next::Over => return end_status(alloc, tunnel_end, options, address, status, errors),
         };
         if status == 0 {
             status = served;
         }
-        station.refuse_waiting(watcher);
-        next = next_session(rt, alloc, station, asked.meeting, address, watcher);
+        tunnel_end.refuse_waiting(watcher);
+        next = next_session(rt, alloc, tunnel_end, options.peer, address, watcher);
     }
     unreachable!()
 }
@@ -78,8 +80,8 @@ fn serve_local<R: Net + Wait, V: ProgramWatcher, E: Outlet>(
     rt: &R,
     alloc: Global,
     peer: Peer,
-    station: &mut Station,
-    asked: Local,
+    tunnel_end: &mut TunnelEnd,
+    options: LocalOptions,
     watcher: &mut V,
     errors: &mut E,
 ) -> u8
@@ -87,8 +89,8 @@ fn serve_local<R: Net + Wait, V: ProgramWatcher, E: Outlet>(
     ensures good { result ≡ 0 → Keeps (E.contents errors.old) (E.contents errors.new) }
 {
     watcher.came();
-    let forwarded = station.forward_peer(rt, alloc, peer, asked.window, watcher);
-    if let Meeting::Calls(_) = asked.meeting {
+    let forwarded = tunnel_end.forward_peer(rt, alloc, peer, options.window, watcher);
+    if let PeerAddress::Connect(_) = options.peer {
         watcher.gone();
     }
     report_session(alloc, forwarded, errors)
@@ -106,17 +108,17 @@ fn session_over(connection: Option<TcpStream>) -> Next {
 fn next_session<R: Net<Stream = TcpStream, Listener = TcpListener> + Wait, V: ProgramWatcher>(
     rt: &R,
     alloc: Global,
-    station: &mut Station,
-    meeting: Meeting,
+    tunnel_end: &mut TunnelEnd,
+    peer: PeerAddress,
     address: SocketAddr,
     watcher: &mut V,
 ) -> Next {
-    match meeting {
-        Meeting::Calls(_) if station.await_connection(rt, alloc) => {
+    match peer {
+        PeerAddress::Connect(_) if tunnel_end.await_connection(rt, alloc) => {
             session_over(connect(rt, address))
         }
-        Meeting::Calls(_) => Next::Over,
-        Meeting::Awaits(_) => match next_peer(rt, alloc, station, address, watcher) {
+        PeerAddress::Connect(_) => Next::Over,
+        PeerAddress::Listen(_) => match next_peer(rt, alloc, tunnel_end, address, watcher) {
             Some(peer) => Next::Peer(peer),
             None => Next::Over,
         },
@@ -128,24 +130,24 @@ fn next_session<R: Net<Stream = TcpStream, Listener = TcpListener> + Wait, V: Pr
 fn next_peer<R: Net<Stream = TcpStream, Listener = TcpListener> + Wait, V: ProgramWatcher>(
     rt: &R,
     alloc: Global,
-    station: &mut Station,
+    tunnel_end: &mut TunnelEnd,
     address: SocketAddr,
     watcher: &mut V,
 ) -> Option<Peer> {
-    let listener = if station.is_over() {
+    let listener = if tunnel_end.is_over() {
         None
     } else {
         listen(rt, address)
     };
     watcher.gone();
-    station.await_peer(rt, alloc, listener?, watcher)
+    tunnel_end.await_peer(rt, alloc, listener?, watcher)
 }
 
 /// The exit status where no session follows: `status`, unless connections can't be accepted any more, or peers.
 fn end_status<E: Outlet>(
     alloc: Global,
-    station: &Station,
-    asked: Local,
+    tunnel_end: &TunnelEnd,
+    options: LocalOptions,
     peers: SocketAddr,
     status: u8,
     errors: &mut E,
@@ -154,11 +156,11 @@ fn end_status<E: Outlet>(
     ensures status { result ≤ 1 }
     ensures good { result ≡ 0 → (status ≡ 0) × Keeps (E.contents errors.old) (E.contents errors.new) }
 {
-    if station.accept_failed() {
-        return cannot_listen(alloc, asked.listen, errors);
+    if tunnel_end.accept_failed() {
+        return cannot_listen(alloc, options.listen, errors);
     }
-    match asked.meeting {
-        Meeting::Awaits(_) if !station.is_over() => cannot_listen(alloc, peers, errors),
+    match options.peer {
+        PeerAddress::Listen(_) if !tunnel_end.is_over() => cannot_listen(alloc, peers, errors),
         _ => status,
     }
 }
@@ -174,8 +176,8 @@ pub(crate) fn keep_remote<
     rt: &R,
     alloc: Global,
     met: Met,
-    station: &mut Station,
-    asked: Remote,
+    tunnel_end: &mut TunnelEnd,
+    options: RemoteOptions,
     watcher: &mut V,
     errors: &mut E,
 ) -> u8
@@ -191,7 +193,7 @@ pub(crate) fn keep_remote<
             return cannot_listen(alloc, address, errors);
         };
         watcher.came();
-        let forwarded = station.forward(rt, alloc, connection, asked.window, watcher);
+        let forwarded = tunnel_end.forward(rt, alloc, connection, options.window, watcher);
         report_session(alloc, forwarded, errors);
         next = next_connection(rt, address, watcher);
     }
@@ -217,8 +219,8 @@ pub(crate) fn keep_calling<R: Net<Stream = TcpStream> + Clock + Wait, V: Program
     rt: &R,
     alloc: Global,
     peer: SocketAddr,
-    station: &mut Station,
-    asked: Remote,
+    tunnel_end: &mut TunnelEnd,
+    options: RemoteOptions,
     watcher: &mut V,
     errors: &mut E,
 ) -> u8
@@ -226,10 +228,10 @@ pub(crate) fn keep_calling<R: Net<Stream = TcpStream> + Clock + Wait, V: Program
 {
     let mut seconds = 1u64;
     for _ in rt.forever() {
-        if has_served(rt, alloc, peer, station, asked, watcher, errors) {
+        if has_served(rt, alloc, peer, tunnel_end, options, watcher, errors) {
             seconds = 1;
         } else {
-            station.pause(alloc, Duration::from_secs(seconds));
+            tunnel_end.pause(alloc, Duration::from_secs(seconds));
             seconds = seconds.saturating_mul(2).min(LONGEST_PAUSE);
         }
     }
@@ -241,8 +243,8 @@ fn has_served<R: Net<Stream = TcpStream> + Clock + Wait, V: ProgramWatcher, E: O
     rt: &R,
     alloc: Global,
     peer: SocketAddr,
-    station: &mut Station,
-    asked: Remote,
+    tunnel_end: &mut TunnelEnd,
+    options: RemoteOptions,
     watcher: &mut V,
     errors: &mut E,
 ) -> bool {
@@ -252,7 +254,7 @@ fn has_served<R: Net<Stream = TcpStream> + Clock + Wait, V: ProgramWatcher, E: O
     };
     let began = Instant::now(rt);
     watcher.came();
-    let forwarded = station.forward(rt, alloc, connection, asked.window, watcher);
+    let forwarded = tunnel_end.forward(rt, alloc, connection, options.window, watcher);
     report_session(alloc, forwarded, errors);
     watcher.gone();
     has_lasted(rt, began)

@@ -1,15 +1,24 @@
 //! What `ymx local`, `ymx remote` and `ymx selftest` do once their command lines are read: they make the connections,
-//! run one end of a tunnel over them, and say what went wrong.
+//! run one end of a tunnel over them, and say what went wrong. An end is one thread: an engine that is driven by what
+//! epoll says of its wire, its listener and its connections.
 #![tactic(auto)]
 
+mod accepting;
+mod closing;
+mod forwarding;
 mod keeping;
 mod meeting;
+mod notices;
+mod peer;
 mod programs;
 mod selftest;
+mod sides;
+mod socket;
 mod sockets;
 mod tell;
+mod tunnel;
+mod tunnel_end;
 mod watching;
 
-pub use meeting::Meeting;
-pub use programs::{Local, Remote, run_local, run_remote};
+pub use programs::{run_local, run_remote};
 pub use selftest::run_selftest;

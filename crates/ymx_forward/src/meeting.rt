@@ -3,21 +3,13 @@
 ghost use Rattle.std.specs.Prelude.{IfSome};
 ghost use Rattle.std.specs.Io.KnownBytes.{Keeps};
 
+use crate::notices::ProgramWatcher;
 use crate::sockets::{accept, connect, listen};
 use crate::tell::{cannot_listen, cannot_reach};
-use crate::watching::ProgramWatcher;
 use std::alloc::Global;
 use std::net::{Net, SocketAddr, TcpListener, TcpStream};
+use ymx_arguments::PeerAddress;
 use ymx_model::Outlet;
-
-/// How a side meets its peer.
-#[derive(Clone, Copy)]
-pub enum Meeting {
-    /// It calls the peer at this address.
-    Calls(SocketAddr),
-    /// It listens at this address for the peer.
-    Awaits(SocketAddr),
-}
 
 /// A peer that was met.
 #[derive(Drop)]
@@ -32,15 +24,15 @@ pub(crate) fn meet<
     R: Net<Stream = TcpStream, Listener = TcpListener>,
     V: ProgramWatcher,
     E: Outlet,
->(rt: &R, alloc: Global, meeting: Meeting, watcher: &mut V, errors: &mut E) -> Option<Met>
+>(rt: &R, alloc: Global, peer: PeerAddress, watcher: &mut V, errors: &mut E) -> Option<Met>
     ensures { IfSome result (λ _. Keeps (E.contents errors.old) (E.contents errors.new)) }
 {
-    let met = match meeting {
-        Meeting::Calls(address) => call(rt, address),
-        Meeting::Awaits(address) => receive(rt, address, watcher),
+    let met = match peer {
+        PeerAddress::Connect(address) => call(rt, address),
+        PeerAddress::Listen(address) => receive(rt, address, watcher),
     };
     if met.is_none() {
-        cannot_meet(alloc, meeting, errors);
+        cannot_meet(alloc, peer, errors);
     }
     met
 }
@@ -69,9 +61,9 @@ fn receive<R: Net<Stream = TcpStream, Listener = TcpListener>, V: ProgramWatcher
 }
 
 /// Says that the peer can't be met so.
-fn cannot_meet<E: Outlet>(alloc: Global, meeting: Meeting, errors: &mut E) {
-    match meeting {
-        Meeting::Calls(address) => cannot_reach(alloc, address, errors),
-        Meeting::Awaits(address) => cannot_listen(alloc, address, errors),
+fn cannot_meet<E: Outlet>(alloc: Global, peer: PeerAddress, errors: &mut E) {
+    match peer {
+        PeerAddress::Connect(address) => cannot_reach(alloc, address, errors),
+        PeerAddress::Listen(address) => cannot_listen(alloc, address, errors),
     };
 }

@@ -4,68 +4,37 @@ ghost use Rattle.std.specs.Prelude.{◌≡◌, ◌≤◌, false};
 ghost use Rattle.std.specs.Io.KnownBytes.{Keeps};
 
 use crate::keeping::{keep_calling, keep_local, keep_remote};
-use crate::meeting::{Meeting, meet};
+use crate::meeting::meet;
+use crate::notices::{Notices, ProgramWatcher};
+use crate::sides::{Forwarded, TunnelSide};
 use crate::sockets::listen;
 use crate::tell::{cannot_listen, lacks_memory, session_broken};
-use crate::watching::{Notices, ProgramWatcher};
+use crate::tunnel_end::TunnelEnd;
+use crate::watching::Unwatched;
 use std::alloc::Global;
 use std::net::{Net, SocketAddr, TcpListener, TcpStream};
 use std::sync::Wait;
 use std::time::Clock;
-use ymx_loop::{Forwarded, Station, TunnelSide, Unwatched};
+use ymx_arguments::{LocalOptions, PeerAddress, RemoteOptions};
 use ymx_model::Outlet;
-
-/// What `ymx local` is asked.
-#[derive(Clone, Copy)]
-pub struct Local {
-    /// Where connections come from.
-    pub listen: SocketAddr,
-    /// How it meets the peer of its session.
-    pub meeting: Meeting,
-    /// How many connections are forwarded, or as many as come.
-    pub count: Option<u32>,
-    /// How many bytes of a stream may be unread here, 262,144 to 16,777,216.
-    pub window: u32,
-    /// Whether it meets its peer again once a session was lost: it calls it at the next connection, or awaits it.
-    pub is_kept: bool,
-    /// Whether it says that it is ready, and how each connection ended.
-    pub is_verbose: bool,
-}
-
-/// What `ymx remote` is asked.
-#[derive(Clone, Copy)]
-pub struct Remote {
-    /// How it meets the peer of its session.
-    pub meeting: Meeting,
-    /// Where connections go to.
-    pub target: SocketAddr,
-    /// How many bytes of a stream may be unread here, 262,144 to 16,777,216.
-    pub window: u32,
-    /// How many streams are served at once.
-    pub workers: u32,
-    /// Whether it meets the next peer once one has gone.
-    pub is_kept: bool,
-    /// Whether it says that it is ready, and how each connection ended.
-    pub is_verbose: bool,
-}
 
 /// Meets the peer, and forwards each connection that comes as a stream. Says faults on `errors`, and the lines
 /// that `is_verbose` asks for on `lines`. Answers the exit status.
 pub fn run_local<R: Net<Stream = TcpStream, Listener = TcpListener> + Wait, E: Outlet, L: Outlet>(
     rt: &R,
     alloc: Global,
-    asked: Local,
+    options: LocalOptions,
     errors: &mut E,
     lines: &mut L,
 ) -> u8
     ensures status { result ≤ 1 }
     ensures good { result ≡ 0 → Keeps (E.contents errors.old) (E.contents errors.new) }
-    ensures silent { asked.is_verbose ≡ false → Keeps (L.contents lines.old) (L.contents lines.new) }
+    ensures silent { options.is_verbose ≡ false → Keeps (L.contents lines.old) (L.contents lines.new) }
 {
-    if asked.is_verbose {
-        local_end(rt, alloc, asked, &mut Notices::new(lines), errors)
+    if options.is_verbose {
+        local_end(rt, alloc, options, &mut Notices::new(lines), errors)
     } else {
-        local_end(rt, alloc, asked, &mut Unwatched, errors)
+        local_end(rt, alloc, options, &mut Unwatched, errors)
     }
 }
 
@@ -74,27 +43,27 @@ fn local_end<
     R: Net<Stream = TcpStream, Listener = TcpListener> + Wait,
     V: ProgramWatcher,
     E: Outlet,
->(rt: &R, alloc: Global, asked: Local, watcher: &mut V, errors: &mut E) -> u8
+>(rt: &R, alloc: Global, options: LocalOptions, watcher: &mut V, errors: &mut E) -> u8
     ensures status { result ≤ 1 }
     ensures good { result ≡ 0 → Keeps (E.contents errors.old) (E.contents errors.new) }
 {
-    let Some(met) = meet(rt, alloc, asked.meeting, watcher, errors) else {
+    let Some(met) = meet(rt, alloc, options.peer, watcher, errors) else {
         return 1;
     };
-    let Some(listener) = listen(rt, asked.listen) else {
-        return cannot_listen(alloc, asked.listen, errors);
+    let Some(listener) = listen(rt, options.listen) else {
+        return cannot_listen(alloc, options.listen, errors);
     };
-    watcher.listening(&listener, asked.listen);
-    let count = asked.count;
+    watcher.listening(&listener, options.listen);
+    let count = options.count;
     let side = TunnelSide::Local { listener, count };
-    let Some(mut station) = Station::new(rt, side, asked.is_kept) else {
+    let Some(mut tunnel_end) = TunnelEnd::new(rt, side, options.is_kept) else {
         return lacks_memory(errors);
     };
-    if asked.is_kept {
-        return keep_local(rt, alloc, met, &mut station, asked, watcher, errors);
+    if options.is_kept {
+        return keep_local(rt, alloc, met, &mut tunnel_end, options, watcher, errors);
     }
-    let forwarded = station.forward(rt, alloc, met.connection, asked.window, watcher);
-    report(alloc, asked.listen, forwarded, errors)
+    let forwarded = tunnel_end.forward(rt, alloc, met.connection, options.window, watcher);
+    report(alloc, options.listen, forwarded, errors)
 }
 
 /// Meets one peer, and connects each of its streams to the target. Says faults on `errors`, and the
@@ -103,15 +72,15 @@ pub fn run_remote<
     R: Net<Stream = TcpStream, Listener = TcpListener> + Clock + Wait,
     E: Outlet,
     L: Outlet,
->(rt: &R, alloc: Global, asked: Remote, errors: &mut E, lines: &mut L) -> u8
+>(rt: &R, alloc: Global, options: RemoteOptions, errors: &mut E, lines: &mut L) -> u8
     ensures status { result ≤ 1 }
     ensures good { result ≡ 0 → Keeps (E.contents errors.old) (E.contents errors.new) }
-    ensures silent { asked.is_verbose ≡ false → Keeps (L.contents lines.old) (L.contents lines.new) }
+    ensures silent { options.is_verbose ≡ false → Keeps (L.contents lines.old) (L.contents lines.new) }
 {
-    if asked.is_verbose {
-        remote_end(rt, alloc, asked, &mut Notices::new(lines), errors)
+    if options.is_verbose {
+        remote_end(rt, alloc, options, &mut Notices::new(lines), errors)
     } else {
-        remote_end(rt, alloc, asked, &mut Unwatched, errors)
+        remote_end(rt, alloc, options, &mut Unwatched, errors)
     }
 }
 
@@ -120,23 +89,23 @@ fn remote_end<
     R: Net<Stream = TcpStream, Listener = TcpListener> + Clock + Wait,
     V: ProgramWatcher,
     E: Outlet,
->(rt: &R, alloc: Global, asked: Remote, watcher: &mut V, errors: &mut E) -> u8
+>(rt: &R, alloc: Global, options: RemoteOptions, watcher: &mut V, errors: &mut E) -> u8
     ensures status { result ≤ 1 }
     ensures good { result ≡ 0 → Keeps (E.contents errors.old) (E.contents errors.new) }
 {
-    if let (Meeting::Calls(peer), true) = (asked.meeting, asked.is_kept) {
-        return calling_end(rt, alloc, peer, asked, watcher, errors);
+    if let (PeerAddress::Connect(peer), true) = (options.peer, options.is_kept) {
+        return calling_end(rt, alloc, peer, options, watcher, errors);
     }
-    let Some(met) = meet(rt, alloc, asked.meeting, watcher, errors) else {
+    let Some(met) = meet(rt, alloc, options.peer, watcher, errors) else {
         return 1;
     };
-    let Some(mut station) = Station::new(rt, remote_side(asked), asked.is_kept) else {
+    let Some(mut tunnel_end) = TunnelEnd::new(rt, remote_side(options), options.is_kept) else {
         return lacks_memory(errors);
     };
-    if asked.is_kept {
-        return keep_remote(rt, alloc, met, &mut station, asked, watcher, errors);
+    if options.is_kept {
+        return keep_remote(rt, alloc, met, &mut tunnel_end, options, watcher, errors);
     }
-    let forwarded = station.forward(rt, alloc, met.connection, asked.window, watcher);
+    let forwarded = tunnel_end.forward(rt, alloc, met.connection, options.window, watcher);
     report_session(alloc, forwarded, errors)
 }
 
@@ -145,23 +114,23 @@ fn calling_end<R: Net<Stream = TcpStream> + Clock + Wait, V: ProgramWatcher, E: 
     rt: &R,
     alloc: Global,
     peer: SocketAddr,
-    asked: Remote,
+    options: RemoteOptions,
     watcher: &mut V,
     errors: &mut E,
 ) -> u8
     ensures { result ≡ 1 }
 {
-    let Some(mut station) = Station::new(rt, remote_side(asked), true) else {
+    let Some(mut tunnel_end) = TunnelEnd::new(rt, remote_side(options), true) else {
         return lacks_memory(errors);
     };
-    keep_calling(rt, alloc, peer, &mut station, asked, watcher, errors)
+    keep_calling(rt, alloc, peer, &mut tunnel_end, options, watcher, errors)
 }
 
 /// The side that `remote` serves.
-fn remote_side(asked: Remote) -> TunnelSide {
+fn remote_side(options: RemoteOptions) -> TunnelSide {
     TunnelSide::Remote {
-        target: asked.target,
-        workers: asked.workers,
+        target: options.target,
+        workers: options.workers,
     }
 }
 

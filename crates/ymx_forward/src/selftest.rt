@@ -7,16 +7,18 @@
 ghost use Rattle.std.specs.Prelude.{◌≡◌, ◌≤◌};
 ghost use Rattle.std.specs.Io.KnownBytes.{Keeps};
 
+use crate::forwarding::forward;
+use crate::sides::TunnelSide;
 use crate::sockets::{connect, listen};
-use crate::tell::{cannot_listen, lacks_memory, refuse};
+use crate::tell::{cannot_listen, lacks_memory, say_fault};
+use crate::watching::Unwatched;
 use std::alloc::Global;
 use std::io::{Read, Write};
 use std::net::{Ipv4Addr, Net, Shutdown, SocketAddr, SocketAddrV4, TcpListener, TcpStream};
 use std::sync::Wait;
 use std::thread::Threads;
 use std::{io, thread};
-use ymx_frames::push_all;
-use ymx_loop::{TunnelSide, Unwatched, forward};
+use ymx_devices::push_all;
 use ymx_model::Outlet;
 
 /// How many bytes each connection sends.
@@ -36,7 +38,7 @@ const CHUNK_SIZE: u32 = 4_096;
 
 /// Where two of the servers listen.
 #[derive(Clone, Copy)]
-struct Places {
+struct Addresses {
     echo: SocketAddr,
     local: SocketAddr,
 }
@@ -73,14 +75,14 @@ pub fn run_selftest<
     ensures status { result ≤ 1 }
     ensures good { result ≡ 0 → Keeps (E.contents errors.old) (E.contents errors.new) }
 {
-    let Some((places, owned)) = prepare(rt) else {
+    let Some((addresses, owned)) = prepare(rt) else {
         return cannot_listen(alloc, any_port(), errors);
     };
-    let whole = run_all(rt, alloc, places, owned);
+    let whole = run_all(rt, alloc, addresses, owned);
     match print_lines(alloc, whole, writer) {
         Ok(()) => 0,
         Err(Stop::Connection(number)) => failed(alloc, number, errors),
-        Err(Stop::Writing) => refuse(errors, b"ymx: writing failed\n"),
+        Err(Stop::Writing) => say_fault(errors, b"ymx: writing failed\n"),
         Err(Stop::Memory) => lacks_memory(errors),
     }
 }
@@ -90,7 +92,7 @@ pub fn run_selftest<
 fn run_all<R: Net<Stream = TcpStream, Listener = TcpListener> + Threads + Wait + Sync>(
     rt: &R,
     alloc: Global,
-    places: Places,
+    addresses: Addresses,
     owned: Owned,
 ) -> u32 {
     let Owned {
@@ -102,17 +104,17 @@ fn run_all<R: Net<Stream = TcpStream, Listener = TcpListener> + Threads + Wait +
     thread::scope(thread::scope_env(), rt, move |scope| {
         let has_echo = scope.spawn(move || serve_echoes(echo)).is_ok();
         let has_far = scope
-            .spawn(move || run_remote_end(rt, alloc, far, places.echo))
+            .spawn(move || run_remote_end(rt, alloc, far, addresses.echo))
             .is_ok();
         let has_near = scope
             .spawn(move || run_local_end(rt, alloc, near, local))
             .is_ok();
         let whole = if has_echo && has_far && has_near {
-            run_client(rt, places.local)
+            run_client(rt, addresses.local)
         } else {
             0
         };
-        release(rt, places);
+        release(rt, addresses);
         whole
     })
 }
@@ -123,14 +125,16 @@ fn any_port() -> SocketAddr {
 }
 
 /// Listens at two ports, and connects both ends of the session, so that neither has to wait for the other.
-fn prepare<R: Net<Stream = TcpStream, Listener = TcpListener>>(rt: &R) -> Option<(Places, Owned)> {
+fn prepare<R: Net<Stream = TcpStream, Listener = TcpListener>>(
+    rt: &R,
+) -> Option<(Addresses, Owned)> {
     let echo = listen(rt, any_port())?;
     let local = listen(rt, any_port())?;
     let (near, far) = connect_session(rt)?;
     let (Ok(echo_address), Ok(local_address)) = (echo.local_addr(), local.local_addr()) else {
         return None;
     };
-    let places = Places {
+    let addresses = Addresses {
         echo: echo_address,
         local: local_address,
     };
@@ -140,7 +144,7 @@ fn prepare<R: Net<Stream = TcpStream, Listener = TcpListener>>(rt: &R) -> Option
         near,
         far,
     };
-    Some((places, owned))
+    Some((addresses, owned))
 }
 
 /// Both ends of a connection. The system makes it before it is accepted, so the accept doesn't wait.
@@ -181,28 +185,28 @@ fn failed<E: Outlet>(alloc: Global, number: u32, errors: &mut E) -> u8
     ensures { result ≡ 1 }
 {
     match format!(in alloc; "ymx: selftest failed: connection {number}\n") {
-        Ok(text) => refuse(errors, text.as_bytes()),
+        Ok(text) => say_fault(errors, text.as_bytes()),
         Err(_) => lacks_memory(errors),
     }
 }
 
 /// Connects to each listener as often as its server accepts, so that none waits any longer. A listener that has closed
 /// refuses it.
-fn release<R: Net<Stream = TcpStream, Listener = TcpListener>>(rt: &R, places: Places) {
+fn release<R: Net<Stream = TcpStream, Listener = TcpListener>>(rt: &R, addresses: Addresses) {
     for _ in 0..CONNECTIONS {
-        let _ = connect(rt, places.local);
-        let _ = connect(rt, places.echo);
+        let _ = connect(rt, addresses.local);
+        let _ = connect(rt, addresses.echo);
     }
 }
 
 /// Sends back what each of three connections sends.
 fn serve_echoes(listener: TcpListener) {
     for _ in 0..CONNECTIONS {
-        let Ok((stream, _)) = listener.accept() else {
+        let Ok((socket, _)) = listener.accept() else {
             return;
         };
-        let _ = io::copy(&mut &stream, &mut &stream);
-        let _ = stream.shutdown(Shutdown::Write);
+        let _ = io::copy(&mut &socket, &mut &socket);
+        let _ = socket.shutdown(Shutdown::Write);
     }
 }
 
@@ -249,16 +253,16 @@ fn run_client<R: Net<Stream = TcpStream>>(rt: &R, address: SocketAddr) -> u32 {
 /// Whether so many bytes come back from a connection to this address.
 fn is_whole<R: Net<Stream = TcpStream>>(rt: &R, address: SocketAddr, size: u32) -> bool {
     match connect(rt, address) {
-        Some(stream) => is_echoed(&stream, size).unwrap_or(false),
+        Some(socket) => is_echoed(&socket, size).unwrap_or(false),
         None => false,
     }
 }
 
 /// Sends so many bytes, closes the writing side, and reads: whether just these bytes came back.
-fn is_echoed(stream: &TcpStream, size: u32) -> io::Result<bool> {
-    write_pattern(stream, size)?;
-    stream.shutdown(Shutdown::Write)?;
-    reads_pattern(stream, size)
+fn is_echoed(socket: &TcpStream, size: u32) -> io::Result<bool> {
+    write_pattern(socket, size)?;
+    socket.shutdown(Shutdown::Write)?;
+    reads_pattern(socket, size)
 }
 
 /// The byte at this place of what is sent.
@@ -267,13 +271,13 @@ fn pattern(place: u32) -> u8 {
 }
 
 /// Writes the first so many bytes of the pattern.
-fn write_pattern(mut stream: &TcpStream, size: u32) -> io::Result<()> {
+fn write_pattern(mut socket: &TcpStream, size: u32) -> io::Result<()> {
     for start in 0..size {
         if start % CHUNK_SIZE == 0 {
             let mut chunk = [0u8; CHUNK];
             fill(&mut chunk, start);
             let length = (size - start).min(CHUNK_SIZE);
-            stream.write_all(&chunk[..length as usize])?;
+            socket.write_all(&chunk[..length as usize])?;
         }
     }
     Ok(())
@@ -289,11 +293,11 @@ fn fill(chunk: &mut [u8], start: u32) {
 }
 
 /// Reads up to the end: whether it is the first so many bytes of the pattern.
-fn reads_pattern(mut stream: &TcpStream, size: u32) -> io::Result<bool> {
+fn reads_pattern(mut socket: &TcpStream, size: u32) -> io::Result<bool> {
     let mut chunk = [0u8; CHUNK];
     let mut place = 0u32;
     for _ in 0..=size {
-        let count = stream.read(&mut chunk)?;
+        let count = socket.read(&mut chunk)?;
         if count == 0 {
             return Ok(place == size);
         }

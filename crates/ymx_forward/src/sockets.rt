@@ -11,11 +11,11 @@ pub(crate) fn connect<R: Net<Stream = TcpStream>>(
     rt: &R,
     address: SocketAddr,
 ) -> Option<TcpStream> {
-    let Ok(stream) = TcpStream::connect(rt, address) else {
+    let Ok(socket) = TcpStream::connect(rt, address) else {
         return None;
     };
-    let _ = stream.set_nodelay(true);
-    Some(stream)
+    let _ = socket.set_nodelay(true);
+    Some(socket)
 }
 
 /// Listens at this address. `None` if it can't.
@@ -30,7 +30,7 @@ pub(crate) fn listen<R: Net<Stream = TcpStream, Listener = TcpListener>>(
 pub(crate) fn accept(listener: TcpListener) -> Option<TcpStream> {
     for _ in 0..RETRIES {
         match listener.accept() {
-            Ok((stream, _)) => return Some(stream),
+            Ok((socket, _)) => return Some(socket),
             Err(e) if e.kind() == ErrorKind::ConnectionAborted => {}
             Err(_) => return None,
         }

@@ -4,11 +4,11 @@ ghost use Rattle.std.specs.Prelude.{◌≡◌};
 
 use std::alloc::Global;
 use std::net::SocketAddr;
-use ymx_frames::push_all;
+use ymx_devices::push_all;
 use ymx_model::Outlet;
 
 /// Says a text, and answers the status of a fault. Where the error device fails too there is nobody left to tell.
-pub(crate) fn refuse<E: Outlet>(errors: &mut E, text: &[u8]) -> u8
+pub(crate) fn say_fault<E: Outlet>(errors: &mut E, text: &[u8]) -> u8
     ensures { result ≡ 1 }
 {
     let _ = push_all(errors, text);
@@ -19,7 +19,7 @@ pub(crate) fn refuse<E: Outlet>(errors: &mut E, text: &[u8]) -> u8
 pub(crate) fn lacks_memory<E: Outlet>(errors: &mut E) -> u8
     ensures { result ≡ 1 }
 {
-    refuse(errors, b"ymx: out of memory\n")
+    say_fault(errors, b"ymx: out of memory\n")
 }
 
 /// Says that no connection can be had at this address.
@@ -27,7 +27,7 @@ pub(crate) fn cannot_reach<E: Outlet>(alloc: Global, address: SocketAddr, errors
     ensures { result ≡ 1 }
 {
     match format!(in alloc; "ymx: cannot reach {address}\n") {
-        Ok(text) => refuse(errors, text.as_bytes()),
+        Ok(text) => say_fault(errors, text.as_bytes()),
         Err(_) => lacks_memory(errors),
     }
 }
@@ -37,7 +37,7 @@ pub(crate) fn cannot_listen<E: Outlet>(alloc: Global, address: SocketAddr, error
     ensures { result ≡ 1 }
 {
     match format!(in alloc; "ymx: cannot listen at {address}\n") {
-        Ok(text) => refuse(errors, text.as_bytes()),
+        Ok(text) => say_fault(errors, text.as_bytes()),
         Err(_) => lacks_memory(errors),
     }
 }
@@ -47,7 +47,7 @@ pub(crate) fn session_broken<E: Outlet>(alloc: Global, number: u8, errors: &mut 
     ensures { result ≡ 1 }
 {
     match format!(in alloc; "ymx: session broken: B{number}\n") {
-        Ok(text) => refuse(errors, text.as_bytes()),
+        Ok(text) => say_fault(errors, text.as_bytes()),
         Err(_) => lacks_memory(errors),
     }
 }

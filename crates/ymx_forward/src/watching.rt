@@ -1,140 +1,119 @@
-//! What `-v` asks for: lines about a tunnel while it runs.
+//! Who is told how connections ended, and what is told.
 
-use arrayvec::ArrayString;
-use std::fmt::Write;
-use std::net::{SocketAddr, TcpListener};
-use ymx_frames::push_all;
-use ymx_loop::{Declined, EndedConnection, Ending, Unwatched, Watcher};
-use ymx_model::{CallFault, Outlet};
+use crate::socket::{Socket, SocketFault};
+use ymx_engine::{Connection, Way};
+use ymx_model::CallFault;
 
-/// Room for the longest line, in bytes: that of a connection with the greatest numbers has 159.
-const LINE: usize = 192;
-
-/// A line, which takes no memory.
-type Line = ArrayString<LINE>;
-
-/// Who is told of what a program does besides.
-pub(crate) trait ProgramWatcher: Watcher {
-    /// It listens here, and was asked to listen at this address.
-    fn listening(&mut self, listener: &TcpListener, asked: SocketAddr);
-
-    /// A session with a peer begins, after which another may come.
-    fn came(&mut self);
-
-    /// That session has ended.
-    fn gone(&mut self);
-
-    /// The peer at this address can't be reached, and is called again.
-    fn unreached(&mut self, peer: SocketAddr);
+/// Why one direction of a connection ended.
+#[derive(Clone, Copy, PartialEq, Eq)]
+pub(crate) enum Ending {
+    /// Its sender ended it, and all was passed on.
+    Ended,
+    /// The connection failed, or could not be made.
+    ConnectionFailed,
+    /// The stream was reset.
+    Reset,
+    /// The session was lost.
+    Lost,
+    /// There was no memory for it.
+    NoMemory,
+    /// The stream refused for another reason.
+    Refused,
 }
 
-impl ProgramWatcher for Unwatched {
-    fn listening(&mut self, _listener: &TcpListener, _asked: SocketAddr) {}
-
-    fn came(&mut self) {}
-
-    fn gone(&mut self) {}
-
-    fn unreached(&mut self, _peer: SocketAddr) {}
+/// What went one way through a connection that has ended.
+#[derive(Clone, Copy)]
+pub(crate) struct Passed {
+    /// How many bytes; it stays at the greatest `u64`.
+    pub bytes: u64,
+    /// Why it ended.
+    pub ending: Ending,
 }
 
-/// Says that a tunnel is ready, and how each of its connections ended, a line each. Where the device fails the line is
-/// lost, and nobody is told.
+/// How a connection ended.
+#[derive(Clone, Copy)]
+pub(crate) struct EndedConnection {
+    /// From the connection into its stream, to the peer.
+    pub inward: Passed,
+    /// From the stream to the connection.
+    pub outward: Passed,
+}
+
+/// Why a connection got no stream.
+#[derive(Clone, Copy)]
+pub(crate) enum Declined {
+    /// The session refused one.
+    BySession(CallFault),
+    /// There was no memory to watch the connection, here or in the system.
+    NoMemory,
+}
+
+/// Who is told of connections that have ended. Connections are numbered 1, 2, 3, .. as they begin, and each is told of
+/// once, by one of the two calls.
+pub(crate) trait Watcher {
+    /// A connection that had a stream has ended.
+    fn ended(&mut self, number: u64, ended: &EndedConnection);
+
+    /// A connection was closed, as no stream was to be had for it.
+    fn refused(&mut self, number: u64, why: Declined);
+}
+
+/// Watches nothing.
 #[derive(Drop)]
-pub(crate) struct Notices<'a, L: Outlet> {
-    device: &'a mut L,
+pub(crate) struct Unwatched;
+
+impl Watcher for Unwatched {
+    fn ended(&mut self, _number: u64, _ended: &EndedConnection) {}
+
+    fn refused(&mut self, _number: u64, _why: Declined) {}
 }
 
-impl<'a, L: Outlet> Notices<'a, L> {
-    /// Says its lines on this device.
-    pub(crate) fn new(device: &'a mut L) -> Notices<'a, L> {
-        Notices { device }
-    }
-
-    /// Says a line.
-    fn say(&mut self, line: &Line) {
-        let _ = push_all(&mut *self.device, line.as_str().as_bytes());
-    }
-
-    /// Says this text as a line.
-    fn say_text(&mut self, text: &str) {
-        let mut line = Line::new();
-        let _ = writeln!(line, "{text}");
-        self.say(&line);
-    }
-}
-
-impl<L: Outlet> Watcher for Notices<'_, L> {
-    fn ended(&mut self, number: u64, ended: &EndedConnection) {
-        self.say(&end_line(number, ended));
-    }
-
-    fn refused(&mut self, number: u64, why: Declined) {
-        self.say(&refusal_line(number, why));
-    }
-}
-
-impl<L: Outlet> ProgramWatcher for Notices<'_, L> {
-    /// At port 0 the system chose a port, which is said.
-    fn listening(&mut self, listener: &TcpListener, asked: SocketAddr) {
-        let address = listener.local_addr().unwrap_or(asked);
-        let mut line = Line::new();
-        let _ = writeln!(line, "ymx: listening at {address}");
-        self.say(&line);
-    }
-
-    fn came(&mut self) {
-        self.say_text("ymx: the peer has come");
-    }
-
-    fn gone(&mut self) {
-        self.say_text("ymx: the peer has gone");
-    }
-
-    fn unreached(&mut self, peer: SocketAddr) {
-        let mut line = Line::new();
-        let _ = writeln!(line, "ymx: cannot reach {peer}");
-        self.say(&line);
-    }
-}
-
-/// The line of a connection that has ended.
-fn end_line(number: u64, ended: &EndedConnection) -> Line {
-    let EndedConnection { inward, outward } = *ended;
-    let sent = inward.bytes;
-    let sent_why = word_of(inward.ending);
-    let got = outward.bytes;
-    let got_why = word_of(outward.ending);
-    let mut line = Line::new();
-    let _ = writeln!(
-        line,
-        "ymx: connection {number}: {sent} bytes to the peer ({sent_why}), {got} bytes from the peer ({got_why})"
-    );
-    line
-}
-
-/// The line of a connection that was closed, as there was no stream for it.
-fn refusal_line(number: u64, why: Declined) -> Line {
-    let mut line = Line::new();
-    let _ = match why {
-        Declined::NoMemory | Declined::BySession(CallFault::OutOfMemory(_)) => {
-            writeln!(line, "ymx: connection {number}: no stream: Memory")
+impl EndedConnection {
+    /// Nothing was passed on, for this reason.
+    pub(crate) fn of_nothing(ending: Ending) -> EndedConnection {
+        let passed = Passed { bytes: 0, ending };
+        EndedConnection {
+            inward: passed,
+            outward: passed,
         }
-        Declined::BySession(fault) => {
-            writeln!(line, "ymx: connection {number}: no stream: {fault}")
+    }
+
+    /// How the connection of this socket ended, whose ways stand so. `is_lost` says whether the session was lost.
+    pub(crate) fn of(socket: &Socket, connection: Connection, is_lost: bool) -> EndedConnection {
+        let (inward, outward) = broken_endings(socket.fault(), is_lost);
+        EndedConnection {
+            inward: Passed {
+                bytes: socket.pulled(),
+                ending: ending_of(connection.inward, inward),
+            },
+            outward: Passed {
+                bytes: socket.pushed(),
+                ending: ending_of(connection.outward, outward),
+            },
         }
-    };
-    line
+    }
+
+    /// Whether it ended for want of memory.
+    pub(crate) fn lacked_memory(&self) -> bool {
+        self.inward.ending == Ending::NoMemory || self.outward.ending == Ending::NoMemory
+    }
 }
 
-/// The words for why one way of a connection ended.
-fn word_of(ending: Ending) -> &'static str {
-    match ending {
-        Ending::Ended => "ended",
-        Ending::ConnectionFailed => "connection failed",
-        Ending::Reset => "reset",
-        Ending::Lost => "lost",
-        Ending::NoMemory => "no memory",
-        Ending::Refused => "refused",
+/// Why a way ended that stands so, if it broke off for this reason.
+fn ending_of(way: Way, broken: Ending) -> Ending {
+    match way {
+        Way::Ended => Ending::Ended,
+        Way::Open | Way::Broken => broken,
+    }
+}
+
+/// Why the ways of a connection broke off, inward and outward: at its own fault, or else its stream's.
+fn broken_endings(fault: Option<SocketFault>, is_lost: bool) -> (Ending, Ending) {
+    let of_stream = if is_lost { Ending::Lost } else { Ending::Reset };
+    match fault {
+        Some(SocketFault::Pull) => (Ending::ConnectionFailed, of_stream),
+        Some(SocketFault::Push) => (Ending::ConnectionFailed, Ending::ConnectionFailed),
+        Some(SocketFault::Memory) => (Ending::NoMemory, of_stream),
+        None => (of_stream, of_stream),
     }
 }

@@ -1,6 +1,5 @@
 pub mod Previews
 pub mod Joined
-pub mod Pushed
 pub mod Printed
 pub mod Ends
 pub mod OneEnd

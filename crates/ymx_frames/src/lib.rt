@@ -4,9 +4,7 @@
 #![tactic(auto)]
 
 mod lines;
-mod output;
 mod print;
 mod printer;
 
-pub use output::push_all;
 pub use print::{FramesEnd, frames, one_printing};

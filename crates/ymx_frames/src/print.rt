@@ -6,10 +6,10 @@ ghost use Rattle.ymx_model.specs.devices.Devices.{has_failed};
 ghost use Rattle.ymx_frames.specs.declared.print.FramesEnd.{FramesEnd as End};
 ghost use Rattle.ymx_frames.specs.Outputs.{IsWhole, Prints};
 
-use crate::output::push_all;
 use crate::printer::Printer;
 use std::alloc::Global;
 use std::sync::Wait;
+use ymx_devices::push_all;
 use ymx_memory::{RefusedAllocation, zeros};
 use ymx_model::{Inlet, Outlet};
 

@@ -11,7 +11,7 @@ ghost use Rattle.ymx_script.specs.Scripts.{IsTextPart};
 use crate::lines::{Lines, ScriptEnd};
 use std::alloc::Global;
 use std::sync::Wait;
-use ymx_frames::push_all;
+use ymx_devices::push_all;
 use ymx_memory::zeros;
 use ymx_model::{Inlet, Outlet};
 

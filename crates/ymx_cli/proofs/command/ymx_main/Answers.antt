@@ -1,9 +1,9 @@
 use Rattle.std.proofs.Common.{◌≡◌, ◌≤◌, ℕ, zero, suc, arith, Option, Some, None, [], rules, ap, subst, sym, inl, inr, refl, true≢false}
 use Rattle.std.specs.Prelude.{◌⊎◌, unwrap_or}
 use Rattle.std.specs.Io.KnownBytes.{Keeps}
-use Rattle.clap.specs.Words.{Text, kind_of}
-use Rattle.ymx_cli.specs.CommandLine.{IsFrames, IsMistake, IsScript}
-use Rattle.ymx_cli.specs.declared.command.Task.TheVariants.{Frames, Script, Tunnel}
+use Rattle.clap.specs.Words.{Text}
+use Rattle.ymx_arguments.specs.CommandLine.{IsFrames, IsScript, SaysMistake}
+use Rattle.ymx_arguments.specs.declared.reading.Task.TheVariants.{Frames, Script, Tunnel}
 use Rattle.ymx_cli.proofs.command.ymx_main.Goals as goal
 
 not_some : (name : Text) → None ≡ Some name → ⊥
@@ -52,13 +52,13 @@ returns-in-Ok-Frames-default-Some-clause-file g c = λ limit name asks.
 pub returns-in-Ok-Tunnel-clause-frames : goal.returns-in-Ok-Tunnel-clause-frames
 returns-in-Ok-Tunnel-clause-frames g c = λ limit asks.
     let e = c.in-Ok-Tunnel in
-    let is : e.field-0 ≡ Tunnel e.asked = cc in
+    let is : e.field-0 ≡ Tunnel e.command = cc in
     absurd (subst (IsFrames limit None) is (e.ensures.frames limit None asks))
 
 pub returns-in-Ok-Tunnel-clause-file : goal.returns-in-Ok-Tunnel-clause-file
 returns-in-Ok-Tunnel-clause-file g c = λ limit name asks.
     let e = c.in-Ok-Tunnel in
-    let is : e.field-0 ≡ Tunnel e.asked = cc in
+    let is : e.field-0 ≡ Tunnel e.command = cc in
     absurd (subst (IsFrames limit (Some name)) is (e.ensures.frames limit (Some name) asks))
 
 pub returns-in-Err-clause-frames : goal.returns-in-Err-clause-frames
@@ -100,13 +100,13 @@ returns-in-Ok-Frames-default-Some-clause-script_file g c = λ name asks.
 pub returns-in-Ok-Tunnel-clause-script : goal.returns-in-Ok-Tunnel-clause-script
 returns-in-Ok-Tunnel-clause-script g c = λ asks.
     let e = c.in-Ok-Tunnel in
-    let is : e.field-0 ≡ Tunnel e.asked = cc in
+    let is : e.field-0 ≡ Tunnel e.command = cc in
     absurd (subst (IsScript None) is (e.ensures.script None asks))
 
 pub returns-in-Ok-Tunnel-clause-script_file : goal.returns-in-Ok-Tunnel-clause-script_file
 returns-in-Ok-Tunnel-clause-script_file g c = λ name asks.
     let e = c.in-Ok-Tunnel in
-    let is : e.field-0 ≡ Tunnel e.asked = cc in
+    let is : e.field-0 ≡ Tunnel e.command = cc in
     absurd (subst (IsScript (Some name)) is (e.ensures.script (Some name) asks))
 
 pub returns-in-Ok-Script-None-clause-frames : goal.returns-in-Ok-Script-None-clause-frames
@@ -203,5 +203,5 @@ returns-in-Ok-Tunnel-clause-options g c = λ bad no_help. absurd (true≢false (
 
 pub returns-in-Err-clause-options : goal.returns-in-Err-clause-options
 returns-in-Err-clause-options g c = λ bad no_help.
-    let mistake : IsMistake (kind_of c.in-Err.error) = c.in-Err.ensures.mistake no_help in
+    let mistake : SaysMistake c.in-Err.fault = c.in-Err.ensures.mistake no_help in
     by_status c.explain.result _ c.explain.ensures.status (λ e. (c.explain.ensures.help e).0 mistake) (λ e. by_reason _ _ _ _ mistake (c.explain.ensures.failed e))

@@ -1,0 +1,26 @@
+use Rattle.std.proofs.Common.{inl, inr, subst, sym, codes}
+use Rattle.clap.specs.Words.{Text, found_of, rows_of}
+use Rattle.clap.proofs.WalkLemmas.{first_value-rows}
+use Rattle.ymx_arguments.specs.CommandLine.{IsBad, IsBadEnd}
+use Rattle.ymx_arguments.proofs.Read.{local_mistakes, remote_mistakes}
+use Rattle.ymx_arguments.proofs.options.tunnel_command.Goals as goal
+
+pub returns-in-local-clause-options : goal.returns-in-local-clause-options
+returns-in-local-clause-options c = λ bad.
+    let found = found_of c.args.found.now in
+    let options = local_mistakes (rows_of found) (subst (λ (name : Text). IsBadEnd name (rows_of found)) c.in-local.is bad) in
+    elim options [
+      | inl h ↦ c.local_options.ensures.count (subst (IsBad 0 4294967295) (sym (first_value-rows found (codes "count"))) h)
+      | inr (inl h) ↦ c.local_options.ensures.window (subst (IsBad 262144 16777216) (sym (first_value-rows found (codes "window"))) h)
+      | inr (inr h) ↦ c.local_options.ensures.peer (rw (first_value-rows found (codes "peer"), first_value-rows found (codes "bind")) h)
+    ]
+
+pub returns-in-remote-clause-options : goal.returns-in-remote-clause-options
+returns-in-remote-clause-options c = λ bad.
+    let found = found_of c.args.found.now in
+    let options = remote_mistakes (rows_of found) (subst (λ (name : Text). IsBadEnd name (rows_of found)) c.in-remote.is bad) in
+    elim options [
+      | inl h ↦ c.remote_options.ensures.window (subst (IsBad 262144 16777216) (sym (first_value-rows found (codes "window"))) h)
+      | inr (inl h) ↦ c.remote_options.ensures.workers (subst (IsBad 1 1024) (sym (first_value-rows found (codes "workers"))) h)
+      | inr (inr h) ↦ c.remote_options.ensures.peer (rw (first_value-rows found (codes "peer"), first_value-rows found (codes "bind")) h)
+    ]

@@ -1,0 +1,359 @@
+-- The command line of the program (this project's own).
+use Rattle.std.specs.Prelude.{◌≡◌, ◌≢◌, ⊤, ◌≤◌, ◌⊎◌, ◌++◌, ℕ, ℤ, List, [], ◌∷◌, Bool, Option, Some, None, true, false, IfSome, IsSomeAnd, if◌then◌else◌, option_map, codes, decimal, pos, slice_get, unwrap_or}
+use Rattle.std.specs.Str.{bytes_eq}
+use Rattle.std.specs.Str.Parse.{IsNumeral, digits_value}
+use Rattle.std.specs.Net.Grammar.{IsSocketV4Text}
+use Rattle.std.specs.declared.net.socket_addr.SocketAddr.{SocketAddr}
+use Rattle.std.specs.declared.net.socket_addr.SocketAddr.TheVariants as socket
+use Rattle.clap.specs.Kinds.{IsAmong}
+use Rattle.clap.specs.Faults.{fault_of}
+use Rattle.clap.specs.Walk.{first_of}
+use Rattle.clap.specs.Words.{App, Row, Rule, Shape, Text, kind_of, new_app, new_rule, one_of, subcommand_of, with_rule, with_subcommand}
+use Rattle.clap.specs.declared.builder.action.ArgAction.TheVariants.{Set, SetTrue}
+use Rattle.clap.specs.declared.builder.value_parser.ValueParser.TheVariants as parser
+use Rattle.clap.specs.declared.error.kind.ErrorKind.{ErrorKind}
+use Rattle.clap.specs.declared.error.kind.ErrorKind.TheVariants.{ArgumentConflict, DisplayHelp, DisplayVersion, MissingRequiredArgument, OutOfMemory, ValueValidation}
+use Rattle.ymx_arguments.specs.declared.arguments.BadOption.{BadOption}
+use Rattle.ymx_arguments.specs.declared.arguments.BadOption.TheVariants as bad
+use Rattle.ymx_arguments.specs.declared.options.PeerAddress.{PeerAddress}
+use Rattle.ymx_arguments.specs.declared.options.PeerAddress.TheVariants as peer
+use Rattle.ymx_arguments.specs.declared.options.TunnelCommand.{TunnelCommand}
+use Rattle.ymx_arguments.specs.declared.options.TunnelCommand.TheVariants as tunnel
+use Rattle.ymx_arguments.specs.declared.reading.CommandFault.{CommandFault}
+use Rattle.ymx_arguments.specs.declared.reading.CommandFault.TheVariants.{Clap, BadAddress}
+use Rattle.ymx_arguments.specs.declared.reading.Task.{Task}
+use Rattle.ymx_arguments.specs.declared.reading.Task.TheVariants.{Frames, Script, Tunnel as ATunnel}
+
+-- The words give this limit, in bytes of payload: no words 262144, and `--limit N` or `--limit=N` the number N, from 262144 to
+-- 16777216 in decimal digits.
+abbrev pub GivesLimit : List Text → ℕ → Type 0
+GivesLimit words limit =
+    ((words ≡ []) × (limit ≡ 262144))
+    ⊎ (((words ≡ codes "--limit" ∷ decimal limit ∷ []) ⊎ (words ≡ (codes "--limit=" ++ decimal limit) ∷ [])) × (262144 ≤ limit) × (limit ≤ 16777216))
+
+-- The words name what is read: no word or `-` standard input, and another word, which doesn't begin with `-`, the file of that name.
+abbrev pub GivesFile : List Text → Option Text → Type 0
+GivesFile words None = (words ≡ []) ⊎ (words ≡ codes "-" ∷ [])
+GivesFile words (Some file) = (words ≡ file ∷ []) × (slice_get file 0 ≢ Some 45)
+
+-- The words, the first of which is the program's name, ask for the frames of standard input or of this file, with this limit.
+abbrev pub AsksFrames : List Text → ℕ → Option Text → Type 0
+AsksFrames words limit file =
+    (name : Text) × (limits : List Text) × (files : List Text) × GivesLimit limits limit × GivesFile files file
+    × (words ≡ name ∷ codes "frames" ∷ (limits ++ files))
+
+-- The words ask for the script of standard input or of this file.
+abbrev pub AsksScript : List Text → Option Text → Type 0
+AsksScript words file = (name : Text) × (files : List Text) × GivesFile files file × (words ≡ name ∷ codes "script" ∷ files)
+
+-- The task is to print frames, with this limit, of standard input or of this file.
+abbrev pub IsFrames : ℕ → Option Text → Task → Type 0
+IsFrames limit file (Frames l f) = (l ≡ limit) × (option_map (λ name. name.now) f ≡ file)
+IsFrames limit file (Script f) = ⊥
+IsFrames limit file (ATunnel command) = ⊥
+
+-- The task is to play a script, that of standard input or of this file.
+abbrev pub IsScript : Option Text → Task → Type 0
+IsScript file (Script f) = option_map (λ name. name.now) f ≡ file
+IsScript file (Frames l f) = ⊥
+IsScript file (ATunnel command) = ⊥
+
+-- ---- the same command line, as clap reads it
+
+-- `--NAME`, whose value is a number in this range
+abbrev pub number_rule : Text → ℤ → ℤ → Rule
+number_rule name least most = record (new_rule name) {
+  long = Some name;
+  action = Some Set;
+  value_names = 1;
+  parser = Some (parser.Signed least most);
+}
+
+-- `--NAME`, whose value is a number of bytes, 262144 where none is given
+abbrev pub bytes_rule : Text → Rule
+bytes_rule name = record (number_rule name (pos 262144) (pos 16777216)) { defaults = codes "262144" ∷ [] }
+
+-- `--limit`, whose value is a number in its range
+abbrev pub limit_rule : Rule
+limit_rule = bytes_rule (codes "limit")
+
+-- the word that names a file
+abbrev pub file_rule : Rule
+file_rule = record (new_rule (codes "file")) {
+  action = Some Set;
+  value_names = 1;
+}
+
+-- `frames`
+abbrev pub frames_shape : Shape
+frames_shape = (with_rule (with_rule (new_app (codes "frames")) limit_rule) file_rule).top
+
+-- `script`
+abbrev pub script_shape : Shape
+script_shape = (with_rule (new_app (codes "script")) file_rule).top
+
+-- `--NAME`, whose value is an address
+abbrev pub address_rule : Text → Rule
+address_rule name = record (new_rule name) {
+  long = Some name;
+  action = Some Set;
+  value_names = 1;
+}
+
+-- the same, which must be given
+abbrev pub needed_address_rule : Text → Rule
+needed_address_rule name = record (address_rule name) { required = true }
+
+-- `--NAME`, whose value is an address, and which is also taken under an older name
+abbrev pub renamed_address_rule : (name old_name : Text) → Rule
+renamed_address_rule name old_name = record (address_rule name) { aliases = old_name ∷ [] }
+
+-- `--count`, whose value is a number of 32 bits
+abbrev pub count_rule : Rule
+count_rule = number_rule (codes "count") (pos 0) (pos 4294967295)
+
+-- `--window`, whose value is a number in its range
+abbrev pub window_rule : Rule
+window_rule = bytes_rule (codes "window")
+
+-- `--workers`, whose value is a number in its range
+abbrev pub workers_rule : Rule
+workers_rule = record (number_rule (codes "workers") (pos 1) (pos 1024)) { defaults = codes "1024" ∷ [] }
+
+-- `--verbose`, or `-v`, a flag
+abbrev pub verbose_rule : Rule
+verbose_rule = record (new_rule (codes "verbose")) {
+  short = Some 118;
+  long = Some (codes "verbose");
+  action = Some SetTrue;
+}
+
+-- `--keep`, a flag
+abbrev pub keep_rule : Rule
+keep_rule = record (new_rule (codes "keep")) {
+  long = Some (codes "keep");
+  action = Some SetTrue;
+}
+
+-- `local` with its addresses
+abbrev pub local_start : App
+local_start = with_rule (with_rule (with_rule (new_app (codes "local")) (needed_address_rule (codes "listen"))) (address_rule (codes "peer")))
+    (renamed_address_rule (codes "bind") (codes "await"))
+
+-- `local`
+abbrev pub local_shape : Shape
+local_shape = (with_rule (with_rule (with_rule (with_rule local_start keep_rule) count_rule) window_rule) verbose_rule).top
+
+-- `remote` with its addresses
+abbrev pub remote_start : App
+remote_start = with_rule (with_rule (with_rule (new_app (codes "remote")) (address_rule (codes "bind")))
+    (renamed_address_rule (codes "peer") (codes "call"))) (needed_address_rule (codes "target"))
+
+-- `remote`
+abbrev pub remote_shape : Shape
+remote_shape = (with_rule (with_rule (with_rule (with_rule remote_start keep_rule) window_rule) workers_rule) verbose_rule).top
+
+-- a subcommand that takes nothing
+abbrev pub bare_shape : List ℕ → Shape
+bare_shape name = (new_app name).top
+
+-- the program by itself, which has a version and wants a subcommand
+abbrev pub top_app : App
+top_app =
+    let app = new_app (codes "ymx") in
+    record app { top = record app.top { has_version = true; subcommand_required = true } }
+
+-- the program
+abbrev pub ymx_app : App
+ymx_app = with_subcommand (with_subcommand (with_subcommand (with_subcommand (with_subcommand top_app
+    frames_shape) script_shape) local_shape) remote_shape) (bare_shape (codes "selftest"))
+
+-- of a subcommand that was met: its name, the text of its limit, and the word that names a file
+abbrev pub named_words : Option (Text × List Row) → Option (Text × Option Text × Option Text)
+named_words = option_map (λ p. (p.0, first_of (codes "limit") p.1, first_of (codes "file") p.1))
+
+-- the file of this word: `-` is none
+abbrev pub file_of : Text → Option Text
+file_of word = if bytes_eq word (codes "-") then None else Some word
+
+-- ---- numbers
+
+-- The text is a number of this range: decimal digits alone, at least one.
+abbrev pub IsNumberIn : (least most : ℕ) → Text → Type 0
+IsNumberIn least most text = IsNumeral 10 text × (least ≤ digits_value 10 text) × (digits_value 10 text ≤ most)
+
+-- What was given to an option is read so: no text as no number, and a number of the range as what it spells.
+abbrev pub ReadsAs : (least most : ℕ) → Option Text → Option ℕ → Type 0
+ReadsAs least most None number = number ≡ None
+ReadsAs least most (Some text) number = IsNumberIn least most text × (number ≡ Some (digits_value 10 text))
+
+-- The same, where no text is read as this default.
+abbrev pub ReadsOr : (least most default : ℕ) → Option Text → ℕ → Type 0
+ReadsOr least most default None number = number ≡ default
+ReadsOr least most default (Some text) number = IsNumberIn least most text × (number ≡ digits_value 10 text)
+
+-- A text was given that is no number of the range.
+abbrev pub IsBad : (least most : ℕ) → Option Text → Type 0
+IsBad least most given = IsSomeAnd given (λ text. IsNumberIn least most text → ⊥)
+
+-- Of two options, of which just one must be given, none was given these texts, or both.
+abbrev pub IsUndecided : Option Text → Option Text → Type 0
+IsUndecided None None = ⊤
+IsUndecided None (Some text) = ⊥
+IsUndecided (Some text) None = ⊥
+IsUndecided (Some text) (Some other) = ⊤
+
+-- of an end of a tunnel: a text was given to one of its options that is no number of its range, or no way to meet its peer, or two
+abbrev pub IsBadEnd : Text → List Row → Type 0
+IsBadEnd name rows =
+    ((name ≡ codes "local") × (IsBad 0 4294967295 (first_of (codes "count") rows) ⊎ (IsBad 262144 16777216 (first_of (codes "window") rows)
+    ⊎ IsUndecided (first_of (codes "peer") rows) (first_of (codes "bind") rows))))
+    ⊎ ((name ≡ codes "remote") × (IsBad 262144 16777216 (first_of (codes "window") rows) ⊎ (IsBad 1 1024 (first_of (codes "workers") rows)
+    ⊎ IsUndecided (first_of (codes "peer") rows) (first_of (codes "bind") rows))))
+
+-- of a subcommand that was met: the same
+abbrev pub HasBadOption : Text × List Row → Type 0
+HasBadOption (name, rows) = ((name ≡ codes "frames") × IsBad 262144 16777216 (first_of (codes "limit") rows)) ⊎ IsBadEnd name rows
+
+-- The words name a subcommand, and give one of its options a text that is no number of its range, or an end of a tunnel no way to
+-- meet its peer, or two.
+abbrev pub GivesBadOption : List Text → Type 0
+GivesBadOption words = IsSomeAnd (subcommand_of ymx_app words) HasBadOption
+
+-- ---- words that print nothing on standard output
+
+-- clap has a mistake to tell: neither the help nor the version was asked for
+abbrev pub IsMistake : ErrorKind → Type 0
+IsMistake kind = (kind ≢ DisplayHelp) × (kind ≢ DisplayVersion)
+
+-- the words name `local` or `remote`
+abbrev pub NamesAnother : List Text → Type 0
+NamesAnother words = IsSomeAnd (subcommand_of ymx_app words) (λ p. (p.0 ≡ codes "local") ⊎ (p.0 ≡ codes "remote"))
+
+-- an end of a tunnel: it writes nothing to standard output
+abbrev pub IsEnd : TunnelCommand → Type 0
+IsEnd (tunnel.Local local) = ⊤
+IsEnd (tunnel.Remote remote) = ⊤
+IsEnd tunnel.Selftest = ⊥
+
+-- the task is an end of a tunnel
+abbrev pub IsEndTask : Task → Type 0
+IsEndTask (ATunnel command) = IsEnd command
+IsEndTask (Frames limit file) = ⊥
+IsEndTask (Script file) = ⊥
+
+-- the words ask for no help and no version: what clap may find at them is a mistake
+abbrev pub AsksNoHelp : List Text → Type 0
+AsksNoHelp words = (kind : ErrorKind) → IsAmong kind (fault_of ymx_app words) → IsMistake kind
+
+-- ---- words that ask for no lines on standard error
+
+-- a flag, of which clap keeps this text, wasn't given
+abbrev pub IsNotSaid : Option Text → Type 0
+IsNotSaid text = (text ≡ None) ⊎ (text ≡ Some (codes "false"))
+
+-- no end of a tunnel that says lines
+abbrev pub IsNotVerbose : TunnelCommand → Type 0
+IsNotVerbose (tunnel.Local local) = local.is_verbose ≡ false
+IsNotVerbose (tunnel.Remote remote) = remote.is_verbose ≡ false
+IsNotVerbose tunnel.Selftest = ⊤
+
+-- no task that says lines
+abbrev pub IsSilentTask : Task → Type 0
+IsSilentTask (ATunnel command) = IsNotVerbose command
+IsSilentTask (Frames limit file) = ⊤
+IsSilentTask (Script file) = ⊤
+
+-- the words of a subcommand, if they name one, have no `-v`
+abbrev pub AsksNoLines : List Text → Type 0
+AsksNoLines words = IfSome (subcommand_of ymx_app words) (λ p. IsNotSaid (one_of (codes "verbose") p.1))
+
+-- ---- why words name no task
+
+-- clap has something of this kind to say
+abbrev pub IsClap : ErrorKind → CommandFault → Type 0
+IsClap kind (Clap error) = kind_of error ≡ kind
+IsClap kind (BadAddress text) = ⊥
+
+-- there was no memory to read the words
+abbrev pub LacksMemory : CommandFault → Type 0
+LacksMemory = IsClap OutOfMemory
+
+-- the words have a mistake: neither the help nor the version was asked for
+abbrev pub SaysMistake : CommandFault → Type 0
+SaysMistake (Clap error) = IsMistake (kind_of error)
+SaysMistake (BadAddress text) = ⊤
+
+-- such a mistake of the options is said so
+abbrev pub IsFaultFor : BadOption → CommandFault → Type 0
+IsFaultFor (bad.Number name text) fault = IsClap ValueValidation fault
+IsFaultFor bad.NoPeer fault = IsClap MissingRequiredArgument fault
+IsFaultFor bad.TwoPeers fault = IsClap ArgumentConflict fault
+IsFaultFor (bad.Address text) (BadAddress said) = said.now ≡ text.now
+IsFaultFor (bad.Address text) (Clap error) = ⊥
+
+-- ---- the options of an end of a tunnel
+
+-- a flag, of which clap keeps this text, is read so
+abbrev pub ReadsFlag : Option Text → Bool → Type 0
+ReadsFlag text flag = (IsNotSaid text → flag ≡ false) × (text ≡ Some (codes "true") → flag ≡ true)
+
+-- what was given to an option is a text, and spells this IPv4 address with its port
+abbrev pub IsAddressOf : Option Text → SocketAddr → Type 0
+IsAddressOf None address = ⊥
+IsAddressOf (Some text) (socket.V4 address) = IsSocketV4Text text address
+IsAddressOf (Some text) (socket.V6 address) = ⊥
+
+-- what was given to an option spells no address, and the mistake shows it
+abbrev pub IsNoAddress : Option Text → BadOption → Type 0
+IsNoAddress given (bad.Address text) = (text.now ≡ unwrap_or given []) × ((address : SocketAddr) → IsAddressOf given address → ⊥)
+IsNoAddress given (bad.Number name text) = ⊥
+IsNoAddress given bad.NoPeer = ⊥
+IsNoAddress given bad.TwoPeers = ⊥
+
+-- The peer is met there, where each option was given this text, or none: it is connected to at the address of `--peer`, or awaited
+-- at that of `--bind`. Just one of them was given.
+abbrev pub IsPeerOf : (given : Text → Option Text) → PeerAddress → Type 0
+IsPeerOf given (peer.Connect address) = IsAddressOf (given (codes "peer")) address × (given (codes "bind") ≡ None)
+IsPeerOf given (peer.Listen address) = (given (codes "peer") ≡ None) × IsAddressOf (given (codes "bind")) address
+
+-- the mistake says that no way to meet the peer was given, or two were, or that the one that was given has no address
+abbrev pub IsBadPeer : (given : Text → Option Text) → BadOption → Type 0
+IsBadPeer given (bad.Number name text) = ⊥
+IsBadPeer given bad.NoPeer = (given (codes "peer") ≡ None) × (given (codes "bind") ≡ None)
+IsBadPeer given bad.TwoPeers = (given (codes "peer") ≢ None) × (given (codes "bind") ≢ None)
+IsBadPeer given (bad.Address text) =
+    (IsNoAddress (given (codes "peer")) (bad.Address text) × (given (codes "bind") ≡ None))
+    ⊎ ((given (codes "peer") ≡ None) × IsNoAddress (given (codes "bind")) (bad.Address text))
+
+-- the options of `local` can't be taken: a number isn't in its range, or this mistake says what is wrong with an address
+abbrev pub IsBadLocal : (given : Text → Option Text) → BadOption → Type 0
+IsBadLocal given mistake =
+    IsBad 0 4294967295 (given (codes "count")) ⊎ (IsBad 262144 16777216 (given (codes "window"))
+    ⊎ (IsBadPeer given mistake ⊎ IsNoAddress (given (codes "listen")) mistake))
+
+-- the same of `remote`
+abbrev pub IsBadRemote : (given : Text → Option Text) → BadOption → Type 0
+IsBadRemote given mistake =
+    IsBad 262144 16777216 (given (codes "window")) ⊎ (IsBad 1 1024 (given (codes "workers"))
+    ⊎ (IsBadPeer given mistake ⊎ IsNoAddress (given (codes "target")) mistake))
+
+-- `local` is told what its options say, of which each was given this text, or none: addresses and numbers as they are spelled, one
+-- way to meet its peer, and defaults where nothing was given.
+abbrev pub IsLocalOf : (given : Text → Option Text) → (flag : Text → Option Text) → TunnelCommand → Type 0
+IsLocalOf given flag (tunnel.Local local) =
+    IsAddressOf (given (codes "listen")) local.listen × IsPeerOf given local.peer
+    × ReadsAs 0 4294967295 (given (codes "count")) local.count × ReadsOr 262144 16777216 262144 (given (codes "window")) local.window
+    × ReadsFlag (flag (codes "keep")) local.is_kept × ReadsFlag (flag (codes "verbose")) local.is_verbose
+IsLocalOf given flag (tunnel.Remote remote) = ⊥
+IsLocalOf given flag tunnel.Selftest = ⊥
+
+-- the same of `remote`
+abbrev pub IsRemoteOf : (given : Text → Option Text) → (flag : Text → Option Text) → TunnelCommand → Type 0
+IsRemoteOf given flag (tunnel.Remote remote) =
+    IsPeerOf given remote.peer × IsAddressOf (given (codes "target")) remote.target
+    × ReadsOr 262144 16777216 262144 (given (codes "window")) remote.window
+    × ReadsOr 1 1024 1024 (given (codes "workers")) remote.workers
+    × ReadsFlag (flag (codes "keep")) remote.is_kept × ReadsFlag (flag (codes "verbose")) remote.is_verbose
+IsRemoteOf given flag (tunnel.Local local) = ⊥
+IsRemoteOf given flag tunnel.Selftest = ⊥

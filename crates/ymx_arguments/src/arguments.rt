@@ -1,0 +1,91 @@
+//! What several subcommands have. A chain of builder calls is cut into short functions, each with a contract of its own.
+
+ghost use Rattle.std.specs.Prelude.{◌≡◌, false, MatchOption, MatchResult};
+ghost use Rattle.std.specs.Str.Parse.{digits_value};
+ghost use Rattle.clap.specs.Words.{app_of, first_value, found_of, new_app, rule_of};
+ghost use Rattle.clap.specs.declared.builder.command.Command.TheViews.{out-Command as fields_of};
+ghost use Rattle.ymx_arguments.specs.CommandLine.{IsBad, IsNumberIn, ReadsAs, bytes_rule, number_rule};
+
+use clap::builder::ValueParser;
+use clap::{Arg, ArgAction, ArgMatches, Command};
+use std::alloc::Global;
+
+/// A subcommand that takes nothing yet.
+pub(crate) fn titled<'a>(alloc: Global, name: &'a str, about: &'a str, help: &'a str) -> Command<'a>
+    ensures { (app_of result ≡ new_app name.entry.now) × ((fields_of result).has_globals ≡ false) }
+{
+    Command::new(alloc, name).about(about).after_help(help)
+}
+
+/// An argument `--NAME`, whose value is a number from `least` to `most`. Clap reads it as an `i64`, so that one parser
+/// serves every range of `u32`; it lets signs through, which `number_of` refuses.
+pub(crate) fn number_argument<'a>(
+    alloc: Global,
+    name: &'a str,
+    value_name: &'a str,
+    least: i64,
+    most: i64,
+    help: &'a str,
+) -> Arg<'a>
+    ensures { (rule_of result ≡ number_rule name.entry.now least most) × (result.global ≡ false) }
+{
+    Arg::new(alloc, name)
+        .long(name)
+        .value_name(value_name)
+        .action(ArgAction::Set)
+        .value_parser(ValueParser::signed(least, most))
+        .help(help)
+}
+
+/// An argument `--NAME`, whose value is a number of bytes from 262,144 to 16,777,216: the first of these where none is
+/// given.
+pub(crate) fn bytes_argument<'a>(alloc: Global, name: &'a str, help: &'a str) -> Arg<'a>
+    ensures { (rule_of result ≡ bytes_rule name.entry.now) × (result.global ≡ false) }
+{
+    number_argument(alloc, name, "BYTES", 262_144, 16_777_216, help).default_value("262144")
+}
+
+/// Why the options of a subcommand can't be taken, of which clap has found none bad.
+#[derive(Clone, Copy)]
+pub(crate) enum BadOption<'a> {
+    /// This text is no number of the option of this name.
+    Number { name: &'a str, text: &'a str },
+    /// Neither `--peer` nor `--bind` was given, of which one must be.
+    NoPeer,
+    /// Both `--peer` and `--bind` were given, of which one must be.
+    TwoPeers,
+    /// This text is no IPv4 address with a port.
+    Address { text: &'a str },
+}
+
+/// The number that `--NAME` was given, if it was given one: decimal digits alone, with a value from `least` to `most`.
+pub(crate) fn number_of<'a>(
+    found: &ArgMatches<'a>,
+    name: &'a str,
+    least: u32,
+    most: u32,
+) -> Result<Option<u32>, BadOption<'a>>
+    ensures { MatchResult result (ReadsAs least most (first_value (found_of found.now) name.now)) (λ _. IsBad least most (first_value (found_of found.now) name.now)) }
+{
+    let Some(text) = found.get_str(name) else {
+        return Ok(None);
+    };
+    match number_in(text, least, most) {
+        Some(number) => Ok(Some(number)),
+        None => Err(BadOption::Number { name, text }),
+    }
+}
+
+/// The number that this text spells: one decimal digit or more and nothing else, with a value from `least` to `most`.
+fn number_in(text: &str, least: u32, most: u32) -> Option<u32>
+    ensures { MatchOption result (IsNumberIn least most text.now → ⊥) (λ number. IsNumberIn least most text.now × (number ≡ digits_value 10 text.now)) }
+{
+    // `parse` takes a plus sign too
+    if text.starts_with('+') {
+        return None;
+    }
+    match text.parse::<u32>() {
+        Ok(number) if least <= number && number <= most => Some(number),
+        _ => None,
+    }
+}

@@ -1,0 +1,189 @@
+//! The subcommands `local` and `remote`, as the command line's library knows them.
+
+ghost use Rattle.std.specs.Prelude.{◌≡◌, false, IfOk};
+ghost use Rattle.clap.specs.Words.{app_of, rule_of, shape_of};
+ghost use Rattle.clap.specs.declared.builder.command.Command.TheViews.{out-Command as fields_of};
+ghost use Rattle.ymx_arguments.specs.CommandLine.{address_rule, count_rule, keep_rule, local_shape, local_start, needed_address_rule, remote_shape, remote_start, renamed_address_rule, verbose_rule, window_rule, workers_rule};
+
+use crate::arguments::{bytes_argument, number_argument, titled};
+use clap::{Arg, ArgAction, Command};
+use std::alloc::{AllocError, Global};
+
+/// The subcommand `local`.
+pub(crate) fn local_command<'a>(alloc: Global) -> Result<Command<'a>, AllocError>
+    ensures { IfOk result (λ command. (shape_of command ≡ local_shape) × ((fields_of command).has_globals ≡ false)) }
+{
+    local_addresses(alloc)?
+        .arg(keep_argument(alloc, "Meet the peer again, once it was lost"))?
+        .arg(count_argument(alloc))?
+        .arg(window_argument(alloc))?
+        .arg(verbose_argument(alloc))
+}
+
+/// The subcommand `local` with its addresses.
+fn local_addresses<'a>(alloc: Global) -> Result<Command<'a>, AllocError>
+    ensures { IfOk result (λ command. (app_of command ≡ local_start) × ((fields_of command).has_globals ≡ false)) }
+{
+    titled(
+        alloc,
+        "local",
+        "Forward local connections through a session",
+        LOCAL_HELP,
+    )
+    .arg(needed_address(
+        alloc,
+        "listen",
+        "Where connections come from, as 127.0.0.1:8080",
+    ))?
+    .arg(address(
+        alloc,
+        "peer",
+        "Where `ymx remote` listens, to connect there",
+    ))?
+    .arg(renamed_address(
+        alloc,
+        "bind",
+        "await",
+        "Where to listen for `ymx remote`, in place of --peer",
+    )?)
+}
+
+/// The subcommand `remote`.
+pub(crate) fn remote_command<'a>(alloc: Global) -> Result<Command<'a>, AllocError>
+    ensures { IfOk result (λ command. (shape_of command ≡ remote_shape) × ((fields_of command).has_globals ≡ false)) }
+{
+    remote_addresses(alloc)?
+        .arg(keep_argument(alloc, "Meet the next peer once one has gone"))?
+        .arg(window_argument(alloc))?
+        .arg(workers_argument(alloc))?
+        .arg(verbose_argument(alloc))
+}
+
+/// The subcommand `remote` with its addresses.
+fn remote_addresses<'a>(alloc: Global) -> Result<Command<'a>, AllocError>
+    ensures { IfOk result (λ command. (app_of command ≡ remote_start) × ((fields_of command).has_globals ≡ false)) }
+{
+    titled(
+        alloc,
+        "remote",
+        "Connect the streams of a session to a target",
+        REMOTE_HELP,
+    )
+    .arg(address(alloc, "bind", "Where to listen for `ymx local`"))?
+    .arg(renamed_address(
+        alloc,
+        "peer",
+        "call",
+        "Where `ymx local` listens, to connect there in place of --bind",
+    )?)?
+    .arg(needed_address(alloc, "target", "Where each stream is connected to"))
+}
+
+/// An argument that is an address, and must be given.
+fn needed_address<'a>(alloc: Global, name: &'a str, help: &'a str) -> Arg<'a>
+    ensures { (rule_of result ≡ needed_address_rule name.entry.now) × (result.global ≡ false) }
+{
+    address(alloc, name, help).required(true)
+}
+
+/// An argument that is an address, and is also taken under an older name, which the help doesn't show.
+fn renamed_address<'a>(
+    alloc: Global,
+    name: &'a str,
+    old_name: &'a str,
+    help: &'a str,
+) -> Result<Arg<'a>, AllocError>
+    ensures { IfOk result (λ arg. (rule_of arg ≡ renamed_address_rule name.entry.now old_name.entry.now) × (arg.global ≡ false)) }
+{
+    address(alloc, name, help).alias(old_name)
+}
+
+/// An argument that is an address.
+fn address<'a>(alloc: Global, name: &'a str, help: &'a str) -> Arg<'a>
+    ensures { (rule_of result ≡ address_rule name.entry.now) × (result.global ≡ false) }
+{
+    Arg::new(alloc, name)
+        .long(name)
+        .value_name("ADDRESS")
+        .action(ArgAction::Set)
+        .help(help)
+}
+
+/// The argument `--keep`, a flag.
+fn keep_argument<'a>(alloc: Global, help: &'a str) -> Arg<'a>
+    ensures { (rule_of result ≡ keep_rule) × (result.global ≡ false) }
+{
+    Arg::new(alloc, "keep")
+        .long("keep")
+        .action(ArgAction::SetTrue)
+        .help(help)
+}
+
+/// The argument `--count` of `local`.
+fn count_argument<'a>(alloc: Global) -> Arg<'a>
+    ensures { (rule_of result ≡ count_rule) × (result.global ≡ false) }
+{
+    number_argument(
+        alloc,
+        "count",
+        "N",
+        0,
+        4_294_967_295,
+        "End after so many connections",
+    )
+}
+
+/// The argument `--window`.
+fn window_argument<'a>(alloc: Global) -> Arg<'a>
+    ensures { (rule_of result ≡ window_rule) × (result.global ≡ false) }
+{
+    bytes_argument(
+        alloc,
+        "window",
+        "How much of a stream may be unread here, from 262144 to 16777216",
+    )
+}
+
+/// The argument `--workers` of `remote`.
+fn workers_argument<'a>(alloc: Global) -> Arg<'a>
+    ensures { (rule_of result ≡ workers_rule) × (result.global ≡ false) }
+{
+    number_argument(
+        alloc,
+        "workers",
+        "N",
+        1,
+        1024,
+        "How many streams are served at once, from 1 to 1024",
+    )
+    .default_value("1024")
+}
+
+/// The argument `--verbose`, or `-v`.
+fn verbose_argument<'a>(alloc: Global) -> Arg<'a>
+    ensures { (rule_of result ≡ verbose_rule) × (result.global ≡ false) }
+{
+    Arg::new(alloc, "verbose")
+        .short('v')
+        .long("verbose")
+        .action(ArgAction::SetTrue)
+        .help("Say on standard error where it listens, and how each connection ended")
+}
+
+/// What the help of `local` says at its end.
+const LOCAL_HELP: &str =
+    "It connects to the peer, and then listens. An address is an IPv4 address and a port.
+With --bind, in place of --peer, it listens for its peer first, and takes one.
+With --keep it goes on once the connection to its peer has ended.
+
+Example:
+  ymx local --listen 127.0.0.1:8080 --peer 192.0.2.7:4000";
+
+/// What the help of `remote` says at its end.
+const REMOTE_HELP: &str =
+    "It accepts one connection, and ends with it. An address is an IPv4 address and a port.
+With --peer, in place of --bind, it connects to its peer, as behind a firewall.
+With --keep it goes on with the next one, and never ends by itself.
+
+Example:
+  ymx remote --bind 192.0.2.7:4000 --target 127.0.0.1:80";

@@ -1,0 +1,182 @@
+//! What the two ends of a tunnel are told to do.
+
+ghost use Rattle.std.specs.Prelude.{◌≡◌, ◌⊎◌, codes, IfErr, IfOk, IsErr, MatchResult};
+ghost use Rattle.clap.specs.Words.{first_value, found_of, one_text, rows_of};
+ghost use Rattle.ymx_arguments.specs.CommandLine.{IsAddressOf, IsBad, IsBadEnd, IsBadLocal, IsBadPeer, IsBadRemote, IsEnd, IsLocalOf, IsNoAddress, IsNotSaid, IsNotVerbose, IsPeerOf, IsRemoteOf, IsUndecided, ReadsOr};
+
+use crate::arguments::{BadOption, number_of};
+use clap::ArgMatches;
+use std::net::{SocketAddr, SocketAddrV4};
+
+/// How many bytes of a stream may be unread where the command line says nothing.
+const DEFAULT_WINDOW: u32 = 262_144;
+
+/// How many streams `remote` serves at once where the command line says nothing.
+const DEFAULT_WORKERS: u32 = 1_024;
+
+/// Where an end of the tunnel meets its peer.
+#[derive(Clone, Copy)]
+pub enum PeerAddress {
+    /// It connects to the peer at this address.
+    Connect(SocketAddr),
+    /// It listens at this address for the peer.
+    Listen(SocketAddr),
+}
+
+/// A subcommand of the tunnel.
+#[derive(Clone, Copy)]
+pub enum TunnelCommand {
+    /// `local`.
+    Local(LocalOptions),
+    /// `remote`.
+    Remote(RemoteOptions),
+    /// `selftest`.
+    Selftest,
+}
+
+/// The options of `ymx local`.
+#[derive(Clone, Copy)]
+pub struct LocalOptions {
+    /// Where connections come from.
+    pub listen: SocketAddr,
+    /// Where it meets the peer of its session.
+    pub peer: PeerAddress,
+    /// How many connections are forwarded, or as many as come.
+    pub count: Option<u32>,
+    /// How many bytes of a stream may be unread here, 262,144 to 16,777,216.
+    pub window: u32,
+    /// Whether it meets its peer again once a session was lost: it connects at the next connection, or listens.
+    pub is_kept: bool,
+    /// Whether it says that it is ready, and how each connection ended.
+    pub is_verbose: bool,
+}
+
+/// The options of `ymx remote`.
+#[derive(Clone, Copy)]
+pub struct RemoteOptions {
+    /// Where it meets the peer of its session.
+    pub peer: PeerAddress,
+    /// Where connections go to.
+    pub target: SocketAddr,
+    /// How many bytes of a stream may be unread here, 262,144 to 16,777,216.
+    pub window: u32,
+    /// How many streams are served at once, 1 to 1,024.
+    pub workers: u32,
+    /// Whether it meets the next peer once one has gone.
+    pub is_kept: bool,
+    /// Whether it says that it is ready, and how each connection ended.
+    pub is_verbose: bool,
+}
+
+/// What the matches of this subcommand ask for.
+pub(crate) fn tunnel_command<'a>(
+    name: &str,
+    found: &ArgMatches<'a>,
+) -> Result<TunnelCommand, BadOption<'a>>
+    ensures end { (name.now ≡ codes "local") ⊎ (name.now ≡ codes "remote") → IfOk result IsEnd }
+    ensures silent { IsNotSaid (one_text (found_of found.now) (codes "verbose")) → IfOk result IsNotVerbose }
+    ensures options { IsBadEnd name.now (rows_of (found_of found.now)) → IsErr result }
+{
+    match name {
+        "local" => local_options(found),
+        "remote" => remote_options(found),
+        _ => Ok(TunnelCommand::Selftest),
+    }
+}
+
+/// The options of `local`.
+fn local_options<'a>(found: &ArgMatches<'a>) -> Result<TunnelCommand, BadOption<'a>>
+    ensures end { IfOk result IsEnd }
+    ensures silent { IsNotSaid (one_text (found_of found.now) (codes "verbose")) → IfOk result IsNotVerbose }
+    ensures count { IsBad 0 4294967295 (first_value (found_of found.now) (codes "count")) → IsErr result }
+    ensures window { IsBad 262144 16777216 (first_value (found_of found.now) (codes "window")) → IsErr result }
+    ensures peer { IsUndecided (first_value (found_of found.now) (codes "peer")) (first_value (found_of found.now) (codes "bind")) → IsErr result }
+    ensures read { MatchResult result (IsLocalOf (first_value (found_of found.now)) (one_text (found_of found.now)))
+        (IsBadLocal (first_value (found_of found.now))) }
+{
+    let count = number_of(found, "count", 0, u32::MAX)?;
+    let window = window_of(found)?;
+    check_peer(found)?;
+    let listen = address_of(found, "listen")?;
+    let peer = peer_of(found)?;
+    Ok(TunnelCommand::Local(LocalOptions {
+        listen,
+        peer,
+        count,
+        window,
+        is_kept: found.get_flag("keep"),
+        is_verbose: found.get_flag("verbose"),
+    }))
+}
+
+/// The options of `remote`.
+fn remote_options<'a>(found: &ArgMatches<'a>) -> Result<TunnelCommand, BadOption<'a>>
+    ensures end { IfOk result IsEnd }
+    ensures silent { IsNotSaid (one_text (found_of found.now) (codes "verbose")) → IfOk result IsNotVerbose }
+    ensures window { IsBad 262144 16777216 (first_value (found_of found.now) (codes "window")) → IsErr result }
+    ensures workers { IsBad 1 1024 (first_value (found_of found.now) (codes "workers")) → IsErr result }
+    ensures peer { IsUndecided (first_value (found_of found.now) (codes "peer")) (first_value (found_of found.now) (codes "bind")) → IsErr result }
+    ensures read { MatchResult result (IsRemoteOf (first_value (found_of found.now)) (one_text (found_of found.now)))
+        (IsBadRemote (first_value (found_of found.now))) }
+{
+    let window = window_of(found)?;
+    let workers = number_of(found, "workers", 1, 1024)?;
+    check_peer(found)?;
+    let peer = peer_of(found)?;
+    let target = address_of(found, "target")?;
+    Ok(TunnelCommand::Remote(RemoteOptions {
+        peer,
+        target,
+        window,
+        workers: workers.unwrap_or(DEFAULT_WORKERS),
+        is_kept: found.get_flag("keep"),
+        is_verbose: found.get_flag("verbose"),
+    }))
+}
+
+/// Whether just one of `--peer` and `--bind` was given. Their addresses are read behind all else that may be wrong.
+fn check_peer<'a>(found: &ArgMatches<'a>) -> Result<(), BadOption<'a>>
+    ensures undecided { IsUndecided (first_value (found_of found.now) (codes "peer")) (first_value (found_of found.now) (codes "bind")) → IsErr result }
+    ensures mistake { IfErr result (IsBadPeer (first_value (found_of found.now))) }
+{
+    match (found.get_str("peer"), found.get_str("bind")) {
+        (Some(_), None) | (None, Some(_)) => Ok(()),
+        (None, None) => Err(BadOption::NoPeer),
+        (Some(_), Some(_)) => Err(BadOption::TwoPeers),
+    }
+}
+
+/// Where the peer is met: it is connected to at the address of `--peer`, or awaited at that of `--bind`, just one of
+/// which must be given.
+fn peer_of<'a>(found: &ArgMatches<'a>) -> Result<PeerAddress, BadOption<'a>>
+    ensures read { MatchResult result (IsPeerOf (first_value (found_of found.now))) (IsBadPeer (first_value (found_of found.now))) }
+{
+    match (found.get_str("peer"), found.get_str("bind")) {
+        (Some(_), None) => Ok(PeerAddress::Connect(address_of(found, "peer")?)),
+        (None, Some(_)) => Ok(PeerAddress::Listen(address_of(found, "bind")?)),
+        (None, None) => Err(BadOption::NoPeer),
+        (Some(_), Some(_)) => Err(BadOption::TwoPeers),
+    }
+}
+
+/// The IPv4 address with its port that `--NAME` was given.
+fn address_of<'a>(found: &ArgMatches<'a>, name: &str) -> Result<SocketAddr, BadOption<'a>>
+    ensures { MatchResult result (IsAddressOf (first_value (found_of found.now) name.now)) (IsNoAddress (first_value (found_of found.now) name.now)) }
+{
+    let Some(text) = found.get_str(name) else {
+        return Err(BadOption::Address { text: "" });
+    };
+    match text.parse::<SocketAddrV4>() {
+        Ok(address) => Ok(SocketAddr::V4(address)),
+        Err(_) => Err(BadOption::Address { text }),
+    }
+}
+
+/// The value of `--window`, or the default one.
+fn window_of<'a>(found: &ArgMatches<'a>) -> Result<u32, BadOption<'a>>
+    ensures read { MatchResult result (ReadsOr 262144 16777216 262144 (first_value (found_of found.now) (codes "window"))) (λ _. IsBad 262144 16777216 (first_value (found_of found.now) (codes "window"))) }
+    ensures bad { IsBad 262144 16777216 (first_value (found_of found.now) (codes "window")) → IsErr result }
+{
+    let window = number_of(found, "window", 262_144, 16_777_216)?;
+    Ok(window.unwrap_or(DEFAULT_WINDOW))
+}

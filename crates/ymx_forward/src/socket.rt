@@ -1,0 +1,300 @@
+//! A socket that never waits, as a device of an engine.
+
+ghost use Rattle.std.specs.Prelude.{◌≡◌, ◌≤◌, ◌+◌, ◌-◌, ◌^◌, ◌||◌, length, is_some, min, true};
+ghost use Rattle.ymx_engine.specs.Devices.{IsEnded, IsPulled, IsPushed, IsShut, pulled_count, pushed_count, is_end, is_pull_failure, is_push_failure};
+
+use mio::net::TcpStream;
+use std::io;
+use std::io::ErrorKind;
+use std::net::Shutdown;
+use ymx_devices::{read, write};
+use ymx_engine::{Device, Pulled, Pushed};
+
+/// Whether a socket has its peer.
+#[derive(Clone, Copy, PartialEq, Eq)]
+enum ConnectState {
+    /// Its connection is being made.
+    Connecting,
+    /// It is there.
+    Connected,
+    /// It could not be made.
+    Unreachable,
+}
+
+/// What was the matter with a socket.
+#[derive(Clone, Copy)]
+pub(crate) enum SocketFault {
+    /// It gave no bytes, and no end.
+    Pull,
+    /// It took no bytes.
+    Push,
+    /// There was no memory for the bytes that it gave.
+    Memory,
+}
+
+/// The bytes that went through a socket.
+#[derive(Clone, Copy)]
+struct Traffic {
+    /// How many it gave. It stays at the greatest `u64`.
+    pulled: u64,
+    /// How many it took. It stays at the greatest `u64`.
+    pushed: u64,
+    /// The last call gave some.
+    just_gave: bool,
+    /// There was no memory for some that it gave.
+    lacked_memory: bool,
+}
+
+impl Traffic {
+    fn none() -> Traffic {
+        Traffic {
+            pulled: 0,
+            pushed: 0,
+            just_gave: false,
+            lacked_memory: false,
+        }
+    }
+}
+
+/// A socket, and what it has moved. No contract sees its bytes; but whether it said that no more come, whether its end
+/// was passed on, whether it has failed, and how many calls of it were made.
+#[derive(Drop)]
+pub(crate) struct Socket {
+    socket: TcpStream,
+    state: ConnectState,
+    /// What was first the matter with a call of it.
+    failure: Option<SocketFault>,
+    traffic: Traffic,
+    /// It has said that no more bytes come from it.
+    has_ended: bool,
+    /// Its writing side was shut, as the stream's end was read.
+    was_finished: bool,
+    /// It was shut both ways.
+    was_shut: bool,
+    /// How many calls of it as a device were made. It stays at the greatest `u64`.
+    calls: u64,
+}
+
+impl Socket {
+    /// A connection that is there, and never waits.
+    pub(crate) fn connected(socket: TcpStream) -> Socket {
+        Socket::new(socket, ConnectState::Connected)
+    }
+
+    /// A connection that is being made, and never waits.
+    pub(crate) fn connecting(socket: TcpStream) -> Socket {
+        Socket::new(socket, ConnectState::Connecting)
+    }
+
+    fn new(socket: TcpStream, state: ConnectState) -> Socket {
+        Socket {
+            socket,
+            state,
+            failure: None,
+            traffic: Traffic::none(),
+            has_ended: false,
+            was_finished: false,
+            was_shut: false,
+            calls: 0,
+        }
+    }
+
+    /// The socket itself, to be registered.
+    pub(crate) fn source(&mut self) -> &mut TcpStream {
+        &mut self.socket
+    }
+
+    /// How many bytes it has given. It stays at the greatest `u64`.
+    pub(crate) fn pulled(&self) -> u64 {
+        self.traffic.pulled
+    }
+
+    /// How many bytes it has taken. It stays at the greatest `u64`.
+    pub(crate) fn pushed(&self) -> u64 {
+        self.traffic.pushed
+    }
+
+    /// What was first the matter with it.
+    pub(crate) fn fault(&self) -> Option<SocketFault> {
+        if self.traffic.lacked_memory {
+            return Some(SocketFault::Memory);
+        }
+        self.failure
+    }
+
+    /// Whether its connection is still being made.
+    pub(crate) fn is_connecting(&self) -> bool {
+        self.state == ConnectState::Connecting
+    }
+
+    /// Whether it has said that no more bytes come from it, or has failed.
+    pub(crate) fn is_over(&self) -> bool {
+        self.has_ended || self.failure.is_some() || self.traffic.lacked_memory
+    }
+
+    /// Whether nothing more goes to it.
+    pub(crate) fn was_ended(&self) -> bool {
+        self.was_finished || self.was_shut
+    }
+
+    /// An event came for a connection that was being made: now it is there, or can't be made.
+    pub(crate) fn note_event(&mut self) {
+        if !self.is_connecting() {
+            return;
+        }
+        match self.socket.take_error() {
+            Ok(None) if self.socket.peer_addr().is_ok() => self.state = ConnectState::Connected,
+            Ok(None) => {}
+            _ => self.state = ConnectState::Unreachable,
+        }
+    }
+
+    /// What it gave before was taken.
+    pub(crate) fn begin_turn(&mut self) {
+        self.traffic.just_gave = false;
+    }
+
+    /// Whether it failed, though it reads an end. The system tells of a failure once: where it told a write, a read
+    /// finds an end. But a connection that failed has no peer any more, and one that didn't has none only if it was
+    /// ended here too.
+    fn is_broken(&self) -> bool {
+        !self.was_ended() && self.socket.peer_addr().is_err()
+    }
+
+    /// A call of it is made.
+    fn count_call(&mut self)
+        ensures { self.new ≡ record self.old { calls = min (self.old.calls + 1) (2 ^ 64 - 1) } }
+    {
+        self.calls = self.calls.saturating_add(1);
+    }
+
+    /// A call of it failed.
+    fn fail(&mut self, fault: SocketFault)
+        ensures failed { is_some self.new.failure ≡ true }
+        ensures rest { (self.new.has_ended ≡ self.old.has_ended) × (self.new.was_finished ≡ self.old.was_finished) × (self.new.calls ≡ self.old.calls) }
+    {
+        if self.failure.is_none() {
+            self.failure = Some(fault);
+        }
+    }
+
+    /// Reads once into this buffer.
+    fn give(&mut self, buffer: &mut [u8]) -> Pulled
+        ensures within { pulled_count result ≤ length buffer.new }
+        ensures ended { self.new.has_ended ≡ (self.old.has_ended || is_end result) }
+        ensures failed { is_some self.new.failure ≡ (is_some self.old.failure || is_pull_failure result) }
+        ensures rest { (self.new.was_finished ≡ self.old.was_finished) × (self.new.calls ≡ self.old.calls) }
+    {
+        self.traffic.just_gave = false;
+        match read(&mut &self.socket, buffer) {
+            Ok(count) if count > 0 => {
+                self.traffic.pulled = self.traffic.pulled.saturating_add(count as u64);
+                self.traffic.just_gave = true;
+                Pulled::Gave(count)
+            }
+            other => self.give_nothing(other),
+        }
+    }
+
+    /// Writes these bytes once.
+    fn take(&mut self, bytes: &[u8]) -> Pushed
+        ensures within { pushed_count result ≤ length bytes.now }
+        ensures failed { is_some self.new.failure ≡ (is_some self.old.failure || is_push_failure result) }
+        ensures rest { (self.new.has_ended ≡ self.old.has_ended) × (self.new.was_finished ≡ self.old.was_finished) × (self.new.calls ≡ self.old.calls) }
+    {
+        match write(&mut &self.socket, bytes) {
+            Ok(count) if count > 0 || bytes.is_empty() => {
+                self.traffic.pushed = self.traffic.pushed.saturating_add(count as u64);
+                Pushed::Took(count)
+            }
+            Err(e) if e.kind() == ErrorKind::WouldBlock => Pushed::NotNow,
+            _ => {
+                self.fail(SocketFault::Push);
+                Pushed::Failed
+            }
+        }
+    }
+
+    /// What came of a read that found nothing or failed.
+    fn give_nothing(&mut self, read: io::Result<usize>) -> Pulled
+        ensures none { pulled_count result ≡ 0 }
+        ensures ended { self.new.has_ended ≡ (self.old.has_ended || is_end result) }
+        ensures failed { is_some self.new.failure ≡ (is_some self.old.failure || is_pull_failure result) }
+        ensures rest { (self.new.was_finished ≡ self.old.was_finished) × (self.new.calls ≡ self.old.calls) }
+    {
+        match read {
+            Ok(_) if !self.is_broken() => {
+                self.has_ended = true;
+                Pulled::Ended
+            }
+            Err(e) if e.kind() == ErrorKind::WouldBlock => Pulled::NotNow,
+            _ => {
+                self.fail(SocketFault::Pull);
+                Pulled::Failed
+            }
+        }
+    }
+}
+
+impl Device for Socket {
+    ghost use Rattle.std.specs.Prelude.{None, Some, is_some};
+
+    ghost seen = { λ s. record { left = None; had = None; over = Some s.has_ended; ended = Some s.was_finished; failed = Some (is_some s.failure); calls = s.calls } };
+
+    fn pull(&mut self, buffer: &mut [u8]) -> Pulled
+        ensures moved { IsPulled result buffer.new (⟦<Socket as Device>⟧.seen self.old) (⟦<Socket as Device>⟧.seen self.new) }
+        ensures counted { self.new.calls ≡ min (self.old.calls + 1) (2 ^ 64 - 1) }
+    {
+        self.count_call();
+        match self.state {
+            ConnectState::Connecting => Pulled::NotNow,
+            ConnectState::Unreachable => {
+                self.fail(SocketFault::Push);
+                Pulled::Failed
+            }
+            ConnectState::Connected => self.give(buffer),
+        }
+    }
+
+    fn push(&mut self, bytes: &[u8]) -> Pushed
+        ensures moved { IsPushed result bytes.now (⟦<Socket as Device>⟧.seen self.old) (⟦<Socket as Device>⟧.seen self.new) }
+        ensures counted { self.new.calls ≡ min (self.old.calls + 1) (2 ^ 64 - 1) }
+    {
+        self.count_call();
+        match self.state {
+            ConnectState::Connecting => Pushed::NotNow,
+            ConnectState::Unreachable => {
+                self.fail(SocketFault::Push);
+                Pushed::Failed
+            }
+            ConnectState::Connected => self.take(bytes),
+        }
+    }
+
+    /// Shuts the writing side: the other end reads what was written, and then the end.
+    fn end(&mut self)
+        ensures ended { IsEnded (⟦<Socket as Device>⟧.seen self.old) (⟦<Socket as Device>⟧.seen self.new) }
+        ensures counted { self.new.calls ≡ min (self.old.calls + 1) (2 ^ 64 - 1) }
+    {
+        self.count_call();
+        self.was_finished = true;
+        if self.state == ConnectState::Connected {
+            let _ = self.socket.shutdown(Shutdown::Write);
+        }
+    }
+
+    /// Shuts it both ways. Right behind bytes that it gave this says that there was no memory for them.
+    fn shut(&mut self)
+        ensures shut { IsShut (⟦<Socket as Device>⟧.seen self.old) (⟦<Socket as Device>⟧.seen self.new) }
+        ensures counted { self.new.calls ≡ min (self.old.calls + 1) (2 ^ 64 - 1) }
+    {
+        self.count_call();
+        if self.traffic.just_gave {
+            self.traffic.lacked_memory = true;
+        }
+        self.was_shut = true;
+        if self.state == ConnectState::Connected {
+            let _ = self.socket.shutdown(Shutdown::Both);
+        }
+    }
+}
