@@ -1,6 +1,6 @@
 //! Readers and writers of the standard library as devices.
 
-ghost use Rattle.std.specs.Prelude.{◌≡◌, ◌+◌, ◌<◌, ◌-◌, ◌^◌, ◌==◌, true};
+ghost use Rattle.std.specs.Prelude.{◌≡◌, ◌+◌, ◌<◌, ◌-◌, ◌^◌, true};
 
 use crate::retrying::{read, write};
 use std::io::{Read, Write};
@@ -44,13 +44,6 @@ pub struct WriterOutlet<W> {
 }
 
 impl<W> WriterOutlet<W> {
-    /// Whether so many calls have failed that each further one fails.
-    pub fn is_worn_out(&self) -> bool
-        ensures { result ≡ (self.now.failures == 2 ^ 64 - 1) }
-    {
-        self.failures == u64::MAX
-    }
-
     /// Counts a failure of a call that was made past it, as of one that shuts the writer.
     pub fn fail(&mut self) -> DeviceFault
         requires { self.old.failures < 2 ^ 64 - 1 }
