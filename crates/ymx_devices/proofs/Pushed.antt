@@ -1,9 +1,8 @@
 -- What a device has taken of some bytes, and what a call of it that fails says.
-use Rattle.std.proofs.Common.{◌≡◌, ℕ, ◌+◌, ◌≤◌, List, ◌-◌, length, take, drop, Option, Result, Ok, Err, OnErr, arith, refl, sym, subst, IsTrue, min}
-use Rattle.std.specs.Io.{StartsWith}
+use Rattle.std.proofs.Common.{◌≡◌, ℕ, ◌+◌, List, ◌-◌, length, take, drop, Option, Result, Ok, Err, OnErr, arith, sym, subst, IsTrue, min}
 use Rattle.std.specs.Io.KnownBytes.{Appends}
 use Rattle.std.proofs.KnownBytes.{Appends-trans}
-use Rattle.std.proofs.lemmas.List.{take_all, length-drop, length-take-le}
+use Rattle.std.proofs.lemmas.List.{take_all, length-drop}
 use Rattle.std.proofs.lemmas.Bool.Decides.{nat_tests}
 use Rattle.std.proofs.Math.Seq.{take-add}
 use Rattle.ymx_model.specs.devices.Devices.{has_failed, most_failures}
@@ -18,15 +17,6 @@ pub pushed_more : (bytes : List ℕ) (taken count : ℕ) (before mid after : Opt
 pushed_more bytes taken count before mid after p q =
     let q' : Appends mid after (take count (drop taken bytes)) = subst (λ (l : List ℕ). Appends mid after (take count l)) (whole_end taken bytes) q in
     subst (Appends before after) (sym (take-add taken count bytes)) (Appends-trans before mid after _ _ p q')
-
-pub pushed_all : (bytes : List ℕ) (taken : ℕ) (before after : Option (List ℕ)) → Appends before after (take taken bytes) → length bytes ≤ taken → Appends before after bytes
-pushed_all bytes taken before after p e = subst (Appends before after) (take_all taken bytes e) p
-
--- the first bytes of some are a beginning of them
-pub begins : (bytes : List ℕ) (taken : ℕ) → taken ≤ length bytes → StartsWith bytes (take taken bytes)
-begins bytes taken fits =
-    let long : length (take taken bytes) ≡ taken = length-take-le taken bytes fits in
-    rw long refl
 
 -- a call that fails is counted
 pub counted : (old new : ℕ) → new ≡ min (old + 1) most_failures → IsTrue (has_failed old new)
