@@ -54,6 +54,10 @@ pub write_last : (keeps : Bool) (fails between failed : ℕ) (is_ended has_refus
     WriteEnd keeps between failed is_ended has_refused why → WriteEnd keeps fails failed is_ended has_refused why
 write_last keeps fails between failed is_ended has_refused why e r = subst (λ (n : ℕ). WriteEnd keeps n failed is_ended has_refused why) e r
 
+-- a pump that ran has a thread
+pub has_thread : (keeps : Bool) (fails failed : ℕ) (is_ended has_refused : Bool) (why : PumpWhy) → WriteEnd keeps fails failed is_ended has_refused why → why ≡ NoThread → ⊥
+has_thread keeps fails failed is_ended has_refused why w e = rw e at w
+
 -- a thread was made, and the pump has ended so
 pub write_ran : (keeps : Bool) (fails failed : ℕ) (is_ended has_refused : Bool) (why : PumpWhy) → WriteEnd keeps fails failed is_ended has_refused why →
     WriteEndOrNone keeps fails failed is_ended has_refused why

@@ -1,12 +1,12 @@
 //! Both pumps at once.
 
-ghost use Rattle.std.specs.Prelude.{◌<◌, length};
+ghost use Rattle.std.specs.Prelude.{◌≡◌, ◌<◌, length};
 ghost use Rattle.ymx_model.specs.devices.Devices.{has_failed};
 ghost use Rattle.ymx_pumps.specs.Ends.{ReadEnd, WriteEndOrNone};
 ghost use Rattle.ymx_pumps.specs.Pumps.{PumpRead, PumpWrote};
 
 use crate::gate::Gate;
-use crate::pump_end::{Moved, PumpEnd, PumpWhy};
+use crate::pump_end::{PumpEnd, PumpWhy, Stop};
 use crate::reading::read_on;
 use crate::start::{Start, await_begin, begin};
 use crate::writing::write_on;
@@ -26,16 +26,14 @@ fn write_if_begun<R: Recorder, W: Wait, O: Outlet, G: Gate>(
     writer: &mut O,
     gate: &mut G,
     buffer: &mut [u8],
-) -> Moved
-    ensures wrote { PumpWrote R.KEEPS (length buffer.old) (has_failed (O.failures writer.old) (O.failures writer.new)) (O.contents writer.old) (O.contents writer.new) seat.old seat.new result.count result.why }
+) -> Stop
+    ensures wrote { PumpWrote R.KEEPS (length buffer.old) (has_failed (O.failures writer.old) (O.failures writer.new)) (O.contents writer.old) (O.contents writer.new) seat.old seat.new result.moved result.why }
     ensures ended { WriteEndOrNone R.KEEPS (O.failures writer.old) (O.failures writer.new) (O.is_ended writer.new) (G.has_refused gate.new) result.why }
+    ensures unrun { result.why ≡ PumpWhy.NoThread → (result.moved ≡ 0) × (seat.new ≡ seat.old) × (writer.new ≡ writer.old) }
 {
     if !begin(rt, start) {
         hub.give_up(rt);
-        return Moved {
-            count: 0,
-            why: PumpWhy::NoThread,
-        };
+        return Stop::at_once(PumpWhy::NoThread);
     }
     write_on(rt, hub, seat, writer, gate, buffer)
 }
@@ -49,9 +47,9 @@ fn read_after<R: Recorder, W: Wait, I: Inlet, G: Gate>(
     reader: &mut I,
     gate: &mut G,
     buffer: &mut [u8],
-) -> Moved
+) -> Stop
     requires { 0 < length buffer.old }
-    ensures gave { PumpRead R.KEEPS (I.remaining reader.old) (I.remaining reader.new) seat.old seat.new result.count result.why }
+    ensures gave { PumpRead R.KEEPS (I.remaining reader.old) (I.remaining reader.new) seat.old seat.new result.moved result.why }
     ensures ended { ReadEnd R.KEEPS (I.failures reader.old) (I.failures reader.new) (I.remaining reader.new) (G.has_refused gate.new) result.why }
 {
     await_begin(rt, start);
@@ -79,17 +77,18 @@ fn run_lent<
     write_gate: &'x mut H,
     read_buffer: &'x mut [u8],
     write_buffer: &'x mut [u8],
-) -> (Moved, Moved)
+) -> (Stop, Stop)
     requires { 0 < length read_buffer.old }
-    ensures wrote { PumpWrote R.KEEPS (length write_buffer.old) (has_failed (O.failures writer.old) (O.failures writer.new)) (O.contents writer.old) (O.contents writer.new) write_seat.old write_seat.new result.0.count result.0.why }
-    ensures gave { PumpRead R.KEEPS (I.remaining reader.old) (I.remaining reader.new) read_seat.old read_seat.new result.1.count result.1.why }
+    ensures wrote { PumpWrote R.KEEPS (length write_buffer.old) (has_failed (O.failures writer.old) (O.failures writer.new)) (O.contents writer.old) (O.contents writer.new) write_seat.old write_seat.new result.0.moved result.0.why }
+    ensures gave { PumpRead R.KEEPS (I.remaining reader.old) (I.remaining reader.new) read_seat.old read_seat.new result.1.moved result.1.why }
     ensures written { WriteEndOrNone R.KEEPS (O.failures writer.old) (O.failures writer.new) (O.is_ended writer.new) (H.has_refused write_gate.new) result.0.why }
+    ensures unrun { result.0.why ≡ PumpWhy.NoThread → (result.0.moved ≡ 0) × (write_seat.new ≡ write_seat.old) × (writer.new ≡ writer.old) }
     ensures read { ReadEnd R.KEEPS (I.failures reader.old) (I.failures reader.new) (I.remaining reader.new) (G.has_refused read_gate.new) result.1.why }
 {
     join_mut(
         rt,
         &mut || write_if_begun(rt, start, hub, write_seat, writer, write_gate, write_buffer),
-        &mut || -> Moved
+        &mut || -> Stop
             requires { 0 < length read_buffer.now }
         { read_after(rt, start, hub, read_seat, reader, read_gate, read_buffer) },
     )
@@ -98,7 +97,7 @@ fn run_lent<
 /// Runs a read pump and a write pump at once, each in a thread, until both have ended. Gives the read pump's end,
 /// and then the write pump's.
 ///
-/// The write pump ends with `NoThread`, and has done no event, where no thread can be made for it.
+/// The write pump ends with `NoThread`, and has done no event and written no byte, where no thread can be made for it.
 pub fn run_pumps<
     R: Recorder,
     W: Wait + Threads + Sync,
@@ -123,6 +122,8 @@ pub fn run_pumps<
     ensures wrote { PumpWrote R.KEEPS (length write_buffer.old) (has_failed (O.failures writer.old) (O.failures writer.new)) (O.contents writer.old) (O.contents writer.new) seats.1 result.1.seat result.1.moved result.1.why }
     ensures read { ReadEnd R.KEEPS (I.failures reader.old) (I.failures reader.new) (I.remaining reader.new) (G.has_refused read_gate.new) result.0.why }
     ensures written { WriteEndOrNone R.KEEPS (O.failures writer.old) (O.failures writer.new) (O.is_ended writer.new) (H.has_refused write_gate.new) result.1.why }
+    // The write pump for which no thread could be made has done no event and written no byte: its seat and its writer are as they were.
+    ensures unrun { result.1.why ≡ PumpWhy.NoThread → (result.1.moved ≡ 0) × (result.1.seat ≡ seats.1) × (writer.new ≡ writer.old) }
 {
     let (mut read_seat, mut write_seat) = seats;
     let start = Mutex::new(Start::new());
@@ -142,12 +143,12 @@ pub fn run_pumps<
     (
         PumpEnd {
             seat: read_seat,
-            moved: fed.count,
+            moved: fed.moved,
             why: fed.why,
         },
         PumpEnd {
             seat: write_seat,
-            moved: wrote.count,
+            moved: wrote.moved,
             why: wrote.why,
         },
     )

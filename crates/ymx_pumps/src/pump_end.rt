@@ -20,7 +20,7 @@ pub enum PumpWhy {
     Memory(RefusedAllocation),
     /// The gate said so.
     Gate,
-    /// No thread could be made for the pump: of the write pump of both alone.
+    /// No thread could be made for the pump, which has done nothing: of the write pump of both alone.
     NoThread,
     /// The hub had no seat for the pump: of pumps alone that take their seats themselves.
     NoSeat,
@@ -36,20 +36,11 @@ pub struct PumpEnd<R: Recorder> {
     pub why: PumpWhy,
 }
 
-/// What a pump moved, and why it ended, while its seat is lent.
-#[derive(Clone, Copy, Debug, PartialEq, Eq)]
-pub(crate) struct Moved {
-    /// How many bytes; it stays at the greatest `u64`.
-    pub(crate) count: u64,
-    /// Why it ended.
-    pub(crate) why: PumpWhy,
-}
-
-/// Why a turn ended its pump.
-#[derive(Clone, Copy, Debug, PartialEq, Eq)]
+/// Why a pump stops while its seat is lent.
+#[derive(Drop)]
 pub(crate) struct Stop {
-    /// How many bytes were moved before: written, or taken by feeds.
-    pub(crate) moved: usize,
+    /// How many bytes were moved before: written, or taken by feeds. Of a whole pump it stays at the greatest `u64`.
+    pub(crate) moved: u64,
     /// Why.
     pub(crate) why: PumpWhy,
 }

@@ -8,7 +8,7 @@ ghost use Rattle.ymx_pumps.specs.Pumps.{PumpRead};
 ghost use Rattle.ymx_pumps.specs.Turns.{SaysEnd, TurnFed, FedAll, TurnRead};
 
 use crate::gate::Gate;
-use crate::pump_end::{Moved, PumpEnd, PumpWhy, Stop};
+use crate::pump_end::{PumpEnd, PumpWhy, Stop};
 use std::sync::Wait;
 use ymx_hub::Hub;
 use ymx_model::{Inlet, Why};
@@ -33,13 +33,13 @@ fn feed_turn<R: Recorder, W: Wait, G: Gate>(
     match fed.why {
         Why::All => Ok(moved),
         Why::Broken(fault) => Err(Stop {
-            moved,
+            moved: moved as u64,
             why: PumpWhy::Broken(fault),
         }),
         Why::Held => {
             if !gate.before_wait() {
                 return Err(Stop {
-                    moved,
+                    moved: moved as u64,
                     why: PumpWhy::Gate,
                 });
             }
@@ -69,7 +69,7 @@ fn feed_all<R: Recorder, W: Wait, G: Gate>(
             Ok(taken) => at += taken,
             Err(stop) => {
                 return Err(Stop {
-                    moved: at + stop.moved,
+                    moved: at as u64 + stop.moved,
                     why: stop.why,
                 });
             }
@@ -132,9 +132,9 @@ pub(crate) fn read_on<R: Recorder, W: Wait, I: Inlet, G: Gate>(
     reader: &mut I,
     gate: &mut G,
     buffer: &mut [u8],
-) -> Moved
+) -> Stop
     requires { 0 < length buffer.old }
-    ensures gave { PumpRead R.KEEPS (I.remaining reader.old) (I.remaining reader.new) seat.old seat.new result.count result.why }
+    ensures gave { PumpRead R.KEEPS (I.remaining reader.old) (I.remaining reader.new) seat.old seat.new result.moved result.why }
     ensures ended { ReadEnd R.KEEPS (I.failures reader.old) (I.failures reader.new) (I.remaining reader.new) (G.has_refused gate.new) result.why }
 {
     let mut count = 0u64;
@@ -142,8 +142,8 @@ pub(crate) fn read_on<R: Recorder, W: Wait, I: Inlet, G: Gate>(
         match read_turn(rt, hub, seat, reader, gate, buffer) {
             Ok(taken) => count = count.saturating_add(taken as u64),
             Err(stop) => {
-                return Moved {
-                    count: count.saturating_add(stop.moved as u64),
+                return Stop {
+                    moved: count.saturating_add(stop.moved),
                     why: stop.why,
                 };
             }
@@ -172,10 +172,6 @@ pub fn read_pump<R: Recorder, W: Wait, I: Inlet, G: Gate>(
     ensures ended { ReadEnd R.KEEPS (I.failures reader.old) (I.failures reader.new) (I.remaining reader.new) (G.has_refused gate.new) result.why }
 {
     let mut seat = seat;
-    let Moved { count, why } = read_on(rt, hub, &mut seat, reader, gate, buffer);
-    PumpEnd {
-        seat,
-        moved: count,
-        why,
-    }
+    let Stop { moved, why } = read_on(rt, hub, &mut seat, reader, gate, buffer);
+    PumpEnd { seat, moved, why }
 }

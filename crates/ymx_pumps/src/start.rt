@@ -18,7 +18,7 @@ pub(crate) struct Start {
 }
 
 impl Start {
-    /// Neither.
+    /// The first pump has not begun, and was not given up: of two that are about to be run.
     pub(crate) fn new() -> Start {
         Start {
             has_begun: false,
@@ -27,7 +27,7 @@ impl Start {
     }
 }
 
-/// Says that the first pump has begun, unless it was given up.
+/// Says that the first pump has begun. `false`, and it may not run, where it was given up before.
 pub(crate) fn begin<W: Wait>(rt: &W, start: &Mutex<Start>) -> bool {
     let mut now = start.lock(rt);
     if now.is_given_up {

@@ -10,7 +10,7 @@ ghost use Rattle.ymx_pumps.specs.Pumps.{PumpWrote, EndsWrite};
 ghost use Rattle.ymx_pumps.specs.Turns.{Pushed, SaysEnd, TurnWrote};
 
 use crate::gate::Gate;
-use crate::pump_end::{Moved, PumpEnd, PumpWhy, Stop};
+use crate::pump_end::{PumpEnd, PumpWhy, Stop};
 use std::sync::Wait;
 use ymx_hub::{Hub, Turn};
 use ymx_model::Outlet;
@@ -77,7 +77,10 @@ fn write_turn<R: Recorder, W: Wait, O: Outlet, G: Gate>(
         Ok(Turn::Emitted(count)) => {
             if let Err(moved) = push_all(writer, &buffer[..count]) {
                 let why = lose_writer(rt, hub, seat);
-                return Err(Stop { moved, why });
+                return Err(Stop {
+                    moved: moved as u64,
+                    why,
+                });
             }
             gate.after_write(count);
             Ok(count)
@@ -105,8 +108,8 @@ pub(crate) fn write_on<R: Recorder, W: Wait, O: Outlet, G: Gate>(
     writer: &mut O,
     gate: &mut G,
     buffer: &mut [u8],
-) -> Moved
-    ensures wrote { PumpWrote R.KEEPS (length buffer.old) (has_failed (O.failures writer.old) (O.failures writer.new)) (O.contents writer.old) (O.contents writer.new) seat.old seat.new result.count result.why }
+) -> Stop
+    ensures wrote { PumpWrote R.KEEPS (length buffer.old) (has_failed (O.failures writer.old) (O.failures writer.new)) (O.contents writer.old) (O.contents writer.new) seat.old seat.new result.moved result.why }
     ensures ended { WriteEnd R.KEEPS (O.failures writer.old) (O.failures writer.new) (O.is_ended writer.new) (G.has_refused gate.new) result.why }
 {
     let mut count = 0u64;
@@ -114,8 +117,8 @@ pub(crate) fn write_on<R: Recorder, W: Wait, O: Outlet, G: Gate>(
         match write_turn(rt, hub, seat, writer, gate, buffer) {
             Ok(written) => count = count.saturating_add(written as u64),
             Err(stop) => {
-                return Moved {
-                    count: count.saturating_add(stop.moved as u64),
+                return Stop {
+                    moved: count.saturating_add(stop.moved),
                     why: stop.why,
                 };
             }
@@ -142,10 +145,6 @@ pub fn write_pump<R: Recorder, W: Wait, O: Outlet, G: Gate>(
     ensures ended { WriteEnd R.KEEPS (O.failures writer.old) (O.failures writer.new) (O.is_ended writer.new) (G.has_refused gate.new) result.why }
 {
     let mut seat = seat;
-    let Moved { count, why } = write_on(rt, hub, &mut seat, writer, gate, buffer);
-    PumpEnd {
-        seat,
-        moved: count,
-        why,
-    }
+    let Stop { moved, why } = write_on(rt, hub, &mut seat, writer, gate, buffer);
+    PumpEnd { seat, moved, why }
 }
