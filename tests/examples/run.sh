@@ -148,7 +148,7 @@ if [ "${1-}" = guide ]; then
     echo '2 programs proved and run'
     exit 0
 fi
-pair witnessed/server witnessed/client ymx_witness ymx_connect ymx_hub ymx_booked ymx_seats ymx_journal ymx_memory ymx_session ymx_model ymx_machine
+pair witnessed/server witnessed/client ymx_connect ymx_hub ymx_booked ymx_seats ymx_journal ymx_memory ymx_session ymx_model ymx_machine
 same_came_back
 
 printf 'one\n\nthree\n' > "$scratch/input"

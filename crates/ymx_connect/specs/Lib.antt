@@ -1,2 +1,3 @@
 pub mod Connecting
+pub mod Settings
 pub mod Streams

@@ -20,8 +20,8 @@ pub enum ConnectFault {
     /// No thread could be made for one of the pumps. It holds the evidence.
     #[error("NoThread")]
     NoThread(RefusedThread),
-    /// The hub of a history gives no seat: it has given all, or its transcript was handed out. `connect` and
-    /// `connect_tcp` never answer it.
+    /// The hub gives no seat: it has given all 4,294,967,295, or has handed its transcript out. Of `pumped` and
+    /// `pumped_tcp` alone.
     #[error("NoSeat")]
     NoSeat,
 }

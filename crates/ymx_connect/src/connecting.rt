@@ -6,15 +6,15 @@ ghost use Rattle.ymx_seats.specs.Transcripts.{IsNew};
 ghost use Rattle.ymx_connect.specs.Connecting.{IsConnectFault, IsSpared, Answered};
 
 use crate::connect_fault::ConnectFault;
-use crate::ended::{Connected, Ended};
+use crate::ended::Connected;
+use crate::halves::discard;
 use crate::handle::Handle;
-use crate::pumping::{Buffer, PumpedIn, PumpedOut, pump_in, pump_out};
-use crate::starting::{RefusedThread, start};
+use crate::running::{Buffers, run_beside};
+use crate::starting::RefusedThread;
 use crate::tcp::{ConnectionReader, ConnectionWriter};
 use std::alloc::Global;
 use std::net::TcpStream;
 use std::sync::{Arc, Wait};
-use std::thread;
 use std::thread::Threads;
 use ymx_hub::{Hub, Off};
 use ymx_memory::RefusedAllocation;
@@ -31,8 +31,7 @@ pub const USUAL_CONFIG: Config = Config {
 struct Prepared {
     hub: Arc<Hub<Off>, Global>,
     handle: Handle,
-    into: Buffer,
-    out_of: Buffer,
+    buffers: Buffers,
 }
 
 /// Runs a session over a TCP connection. It is `connect` with this connection as reader and writer, and what is
@@ -40,7 +39,7 @@ struct Prepared {
 pub fn connect_tcp<W: Threads + Wait + Sync, T: Drop, F: FnOnce(&Handle) -> T>(
     rt: &W,
     alloc: Global,
-    connection: &TcpStream,
+    socket: &TcpStream,
     role: Role,
     config: Config,
     work: F,
@@ -51,9 +50,9 @@ pub fn connect_tcp<W: Threads + Wait + Sync, T: Drop, F: FnOnce(&Handle) -> T>(
     ensures spared { IfOk result (λ connected. IsSpared connected.ended) }
     ensures refused { IfErr result (λ fault. IsConnectFault role config fault) }
 {
-    let _ = connection.set_nodelay(true);
-    let reader = ConnectionReader::new(connection);
-    let writer = ConnectionWriter::new(connection);
+    let _ = socket.set_nodelay(true);
+    let reader = ConnectionReader::new(socket);
+    let writer = ConnectionWriter::new(socket);
     connect(rt, alloc, reader, writer, role, config, work)
 }
 
@@ -119,13 +118,11 @@ fn surround(alloc: Global, session: Session) -> Result<Prepared, RefusedAllocati
 {
     let hub = Hub::new(alloc, session, Off)?;
     let handle = Handle::new(alloc, &hub)?;
-    let into = Buffer::for_reading(alloc)?;
-    let out_of = Buffer::for_writing(alloc)?;
+    let buffers = Buffers::new(alloc)?;
     Ok(Prepared {
         hub,
         handle,
-        into,
-        out_of,
+        buffers,
     })
 }
 
@@ -145,56 +142,21 @@ fn run<
     let Prepared {
         hub,
         handle,
-        into,
-        out_of,
+        buffers,
     } = prepared;
-    let hub = &*hub;
-    thread::scope(
-        thread::scope_env(),
+    let mut seat = handle.seat();
+    let connected = run_beside(
         rt,
-        |scope| -> Result<Connected<T>, RefusedThread>
+        &*hub,
+        &mut seat,
+        reader,
+        writer,
+        buffers,
+        move || -> T
             requires { F.IsAlwaysCallable work }
-            ensures answered { IfOk result (λ connected. Answered F.FnOnce work connected.answer) }
-            ensures spared { IfOk result (λ connected. IsSpared connected.ended) }
-        {
-            let writing = start(scope, move || pump_out(rt, hub, writer, out_of))?;
-            let reading = start(scope, move || pump_in(rt, hub, reader, into));
-            if reading.is_err() {
-                let _ = handle.close(rt);
-            }
-            let reading = reading?;
-            let answer = work_and_close(rt, handle, work);
-            let written = writing.join(rt);
-            let read = reading.join(rt);
-            Ok(Connected {
-                answer,
-                ended: both_ended(read, written),
-            })
-        },
-    )
-}
-
-/// Calls the caller's function, waits until all is sent, and closes the session.
-fn work_and_close<W: Wait, T, F: FnOnce(&Handle) -> T>(rt: &W, handle: Handle, work: F) -> T
-    requires { F.IsAlwaysCallable work }
-    ensures { Answered F.FnOnce work result }
-{
-    let answer = work(&handle);
-    let _ = handle.drain(rt);
-    let _ = handle.close(rt);
-    answer
-}
-
-/// How both pumps ended.
-pub fn both_ended(read: PumpedIn, written: PumpedOut) -> Ended
-    ensures spared { IsSpared result }
-    ensures read { (result.read ≡ read.why) × (result.read_bytes ≡ read.moved) }
-    ensures written { (result.written ≡ written.why) × (result.written_bytes ≡ written.moved) }
-{
-    Ended {
-        read: read.why,
-        written: written.why,
-        read_bytes: read.moved,
-        written_bytes: written.moved,
-    }
+            ensures { Answered F.FnOnce work result }
+        { work(&handle) },
+    );
+    discard(seat);
+    connected
 }

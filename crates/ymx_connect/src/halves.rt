@@ -13,7 +13,7 @@ ghost use Rattle.ymx_connect.specs.Streams.{ReadsUpTo, ReadsUntil, Copies};
 use std::alloc::Global;
 use std::marker::Model;
 use std::sync::Wait;
-use ymx_hub::{HubFault, Off, ReadHalf, Recorder, Seat, WriteFault, WriteHalf};
+use ymx_hub::{HubFault as StreamFault, Off, ReadHalf, Recorder, Seat, WriteFault, WriteHalf};
 
 /// Bytes that `read_all` reads at once.
 const CHUNK: usize = 4_096;
@@ -78,7 +78,7 @@ impl<R: Recorder> Writer<R> {
     /// whatever is answered.
     ///
     /// Refused with `Closed`, `Reset` and `Lost`.
-    pub fn finish<W: Wait>(self, rt: &W) -> Result<(), HubFault>
+    pub fn finish<W: Wait>(self, rt: &W) -> Result<(), StreamFault>
         ensures { R.KEEPS ≡ false → IsNotMemory result }
     {
         let Writer { half } = self;
@@ -91,7 +91,7 @@ impl<R: Recorder> Writer<R> {
     /// spent whatever is answered.
     ///
     /// Refused with `Closed`, with `Reset` where the peer was first, and with `Lost`.
-    pub fn reset<W: Wait>(self, rt: &W) -> Result<(), HubFault>
+    pub fn reset<W: Wait>(self, rt: &W) -> Result<(), StreamFault>
         ensures { R.KEEPS ≡ false → IsNotMemory result }
     {
         let Writer { half } = self;
@@ -122,7 +122,7 @@ impl<R: Recorder> Reader<R> {
     ///
     /// Refused with `Closed` and with `Reset`, and with `Lost` once what was there is read, before it waits or while
     /// it does.
-    pub fn read<W: Wait>(&mut self, rt: &W, buffer: &mut [u8]) -> Result<usize, HubFault>
+    pub fn read<W: Wait>(&mut self, rt: &W, buffer: &mut [u8]) -> Result<usize, StreamFault>
         requires { 0 < length buffer.old }
         ensures same { self.new.id ≡ self.old.id }
         ensures booked { Books R.KEEPS self.old.seat self.new.seat (ReadTurns self.old.id (length buffer.old) buffer.new self.old.seat.number result) }
@@ -136,7 +136,7 @@ impl<R: Recorder> Reader<R> {
 
     /// Reads up to the end, and gives all bytes that were read, in order. `Memory` comes where there is none for the
     /// bytes, and any fault of the half when it comes; what was read before is gone then.
-    pub fn read_all<W: Wait>(&mut self, rt: &W, alloc: Global) -> Result<Vec<u8>, HubFault>
+    pub fn read_all<W: Wait>(&mut self, rt: &W, alloc: Global) -> Result<Vec<u8>, StreamFault>
         ensures same { self.new.id ≡ self.old.id }
         ensures all { IfOk result (λ bytes. Books R.KEEPS self.old.seat self.new.seat (ReadsUpTo reply.ReadEnd self.old.id self.old.seat.number bytes.items)) }
         ensures stopped { IfErr result (λ fault. (bytes : List ℕ) × Books R.KEEPS self.old.seat self.new.seat (ReadsUntil fault self.old.id self.old.seat.number bytes)) }
@@ -153,7 +153,7 @@ impl<R: Recorder> Reader<R> {
             }
             match ymx_memory::extend(&mut bytes, &buffer[..count]) {
                 Ok(()) => {}
-                Err(refused) => return Err(HubFault::Memory(refused)),
+                Err(refused) => return Err(StreamFault::Memory(refused)),
             }
         }
         unreachable!()
@@ -163,7 +163,7 @@ impl<R: Recorder> Reader<R> {
     /// are dropped.
     ///
     /// Refused with `Closed`, only where the stream is given up.
-    pub fn close<W: Wait>(self, rt: &W) -> Result<(), HubFault>
+    pub fn close<W: Wait>(self, rt: &W) -> Result<(), StreamFault>
         ensures { R.KEEPS ≡ false → IsNotMemory result }
     {
         let Reader { half } = self;
@@ -179,7 +179,7 @@ pub fn copy<W: Wait, R: Recorder, S: Recorder>(
     rt: &W,
     reader: &mut Reader<R>,
     writer: &mut Writer<S>,
-) -> Result<u64, HubFault>
+) -> Result<u64, StreamFault>
     ensures same { (reader.new.id ≡ reader.old.id) × (writer.new.id ≡ writer.old.id) }
     ensures copied { Copies R.KEEPS S.KEEPS reader.old writer.old reader.new.seat writer.new.seat result }
 {
@@ -203,7 +203,7 @@ pub fn copy<W: Wait, R: Recorder, S: Recorder>(
 
 /// Half-closes the stream, spends its reading half, and so gives the stream up. Where the peer's end has not come it is
 /// reset. Answers the first refusal.
-pub fn close_stream<W: Wait>(rt: &W, writer: Writer, reader: Reader) -> Result<(), HubFault>
+pub fn close_stream<W: Wait>(rt: &W, writer: Writer, reader: Reader) -> Result<(), StreamFault>
     ensures { IsNotMemory result }
 {
     let finished = writer.finish(rt);

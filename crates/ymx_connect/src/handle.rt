@@ -5,7 +5,7 @@ ghost use Rattle.ymx_booked.specs.Answers.{IsNotMemory};
 use crate::halves::{Reader, Writer, discard};
 use std::alloc::Global;
 use std::sync::{Arc, Wait};
-use ymx_hub::{Acceptor, Hub, HubFault, Off, Opener, Seat, Undrained};
+use ymx_hub::{Acceptor, Hub, HubFault as StreamFault, Off, Opener, Seat, Undrained};
 use ymx_memory::RefusedAllocation;
 
 /// A running session, as the caller's function sees it. Threads may share it, and each may make any call.
@@ -13,11 +13,6 @@ use ymx_memory::RefusedAllocation;
 pub struct Handle {
     hub: Arc<Hub<Off>, Global>,
     alloc: Global,
-}
-
-/// A seat. With the recorder `Off` nothing is booked at a seat, so it needs no hub.
-fn unbooked(alloc: Global) -> Seat<Off> {
-    Seat::new(alloc, 0, 0)
 }
 
 impl Handle {
@@ -32,12 +27,17 @@ impl Handle {
         })
     }
 
+    /// A seat. With the recorder `Off` nothing is booked at a seat, so it needs no hub.
+    pub(crate) fn seat(&self) -> Seat<Off> {
+        Seat::new(self.alloc, 0, 0)
+    }
+
     /// Opens a stream (stream identifiers). It doesn't wait for the peer, and bytes may be written at once.
     ///
     /// Refused, in this order, with `Closed`, `Lost`, `PeerAway` after the peer's Go Away, `Exhausted` where the ids
     /// are used up, `OpensPending` while 256 own streams are neither acknowledged, reset nor given up, and `TooMany`
     /// while 1,024 streams are there. `Memory` where there is none for the stream: no stream is opened then.
-    pub fn open<W: Wait>(&self, rt: &W) -> Result<(Writer, Reader), HubFault> {
+    pub fn open<W: Wait>(&self, rt: &W) -> Result<(Writer, Reader), StreamFault> {
         let mut opener = self.opener()?;
         let opened = opener.open(rt);
         discard(opener.into_seat());
@@ -51,7 +51,7 @@ impl Handle {
         &self,
         rt: &W,
         bytes: &[u8],
-    ) -> Result<(Writer, Reader, usize), HubFault> {
+    ) -> Result<(Writer, Reader, usize), StreamFault> {
         let mut opener = self.opener()?;
         let opened = opener.open_with(rt, bytes);
         discard(opener.into_seat());
@@ -63,9 +63,9 @@ impl Handle {
     /// none left.
     ///
     /// `Memory` where there is none for its halves: no stream is taken then, and the same call may be made again.
-    pub fn accept<W: Wait>(&self, rt: &W) -> Result<Option<(Writer, Reader)>, HubFault> {
+    pub fn accept<W: Wait>(&self, rt: &W) -> Result<Option<(Writer, Reader)>, StreamFault> {
         let hub = ymx_memory::share(&self.hub)?;
-        let mut acceptor = Acceptor::new(hub, unbooked(self.alloc));
+        let mut acceptor = Acceptor::new(hub, self.seat());
         let accepted = acceptor.accept(rt);
         discard(acceptor.into_seat());
         match accepted {
@@ -78,20 +78,20 @@ impl Handle {
     /// Asks the peer for a sign of life, waits for it, and returns the ping's number (ping).
     ///
     /// Refused with `Closed`, `Lost`, and `PingsPending` while 16 pings wait; while it waits with `Closed` or `Lost`.
-    pub fn ping<W: Wait>(&self, rt: &W) -> Result<u32, HubFault>
+    pub fn ping<W: Wait>(&self, rt: &W) -> Result<u32, StreamFault>
         ensures { IsNotMemory result }
     {
-        let mut seat = unbooked(self.alloc);
+        let mut seat = self.seat();
         let ponged = self.hub.ping(rt, &mut seat);
         discard(seat);
         ponged
     }
 
     /// Takes no more streams of the peer's (go away). Refused, in this order, with `Closed` and `Lost`.
-    pub fn go_away<W: Wait>(&self, rt: &W) -> Result<(), HubFault>
+    pub fn go_away<W: Wait>(&self, rt: &W) -> Result<(), StreamFault>
         ensures { IsNotMemory result }
     {
-        let mut seat = unbooked(self.alloc);
+        let mut seat = self.seat();
         let said = self.hub.go_away(rt, &mut seat);
         discard(seat);
         said
@@ -101,7 +101,7 @@ impl Handle {
     ///
     /// `Undrained`: something is due, and the write pump has ended with `Device`, so that nothing goes out any more.
     pub fn drain<W: Wait>(&self, rt: &W) -> Result<(), Undrained> {
-        let mut seat = unbooked(self.alloc);
+        let mut seat = self.seat();
         let drained = self.hub.drain(rt, &mut seat);
         discard(seat);
         drained
@@ -109,10 +109,10 @@ impl Handle {
 
     /// Closes the session at once, and wakes all who wait: they answer `Closed`. What is not sent is dropped. It is
     /// refused in no case; a second close changes nothing.
-    pub fn close<W: Wait>(&self, rt: &W) -> Result<(), HubFault>
+    pub fn close<W: Wait>(&self, rt: &W) -> Result<(), StreamFault>
         ensures { IsNotMemory result }
     {
-        let mut seat = unbooked(self.alloc);
+        let mut seat = self.seat();
         let closed = self.hub.close(rt, &mut seat);
         discard(seat);
         closed
@@ -120,7 +120,7 @@ impl Handle {
 
     /// Whether the session goes on: it is neither lost, broken nor closed.
     pub fn is_running<W: Wait>(&self, rt: &W) -> bool {
-        let mut seat = unbooked(self.alloc);
+        let mut seat = self.seat();
         let is_running = self.hub.is_running(rt, &mut seat);
         discard(seat);
         is_running
@@ -132,8 +132,8 @@ impl Handle {
     }
 
     /// Who opens a stream.
-    fn opener(&self) -> Result<Opener<Off>, HubFault> {
+    fn opener(&self) -> Result<Opener<Off>, StreamFault> {
         let hub = ymx_memory::share(&self.hub)?;
-        Ok(Opener::new(hub, unbooked(self.alloc)))
+        Ok(Opener::new(hub, self.seat()))
     }
 }

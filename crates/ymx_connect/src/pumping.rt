@@ -18,36 +18,36 @@ const WRITE_BUFFER: usize = 8 * (12 + 16_384);
 
 /// What a pump moves bytes through.
 #[derive(Drop)]
-pub struct Buffer {
+pub(crate) struct Buffer {
     bytes: Vec<u8>,
     ghost not_empty: { 0 < vec_len bytes },
 }
 
 /// How the read pump ended, as its thread says.
-#[derive(Clone, Copy, Drop)]
-pub struct PumpedIn {
+#[derive(Drop)]
+pub(crate) struct PumpedIn {
     /// Why it ended.
-    pub why: PumpWhy,
+    pub(crate) why: PumpWhy,
     /// How many bytes it fed.
-    pub moved: u64,
+    pub(crate) moved: u64,
     ghost spared: { may_end why ≡ true },
 }
 
 /// How the write pump ended, as its thread says.
-#[derive(Clone, Copy, Drop)]
-pub struct PumpedOut {
+#[derive(Drop)]
+pub(crate) struct PumpedOut {
     /// Why it ended.
-    pub why: PumpWhy,
+    pub(crate) why: PumpWhy,
     /// How many bytes it wrote.
-    pub moved: u64,
+    pub(crate) moved: u64,
     ghost spared: { may_end_writing why ≡ true },
 }
 
 /// Lets a pump run.
 #[derive(Drop)]
-struct Open;
+struct AlwaysOpen;
 
-impl Gate for Open {
+impl Gate for AlwaysOpen {
     ghost has_refused = { λ _. false };
 
     fn before_read(&mut self) -> bool {
@@ -65,13 +65,13 @@ impl Gate for Open {
 
 impl Buffer {
     /// What the read pump moves bytes through.
-    pub fn for_reading(alloc: Global) -> Result<Buffer, RefusedAllocation> {
+    pub(crate) fn for_reading(alloc: Global) -> Result<Buffer, RefusedAllocation> {
         let bytes = ymx_memory::zeros(alloc, READ_BUFFER)?;
         Ok(Buffer { bytes })
     }
 
     /// What the write pump moves bytes through.
-    pub fn for_writing(alloc: Global) -> Result<Buffer, RefusedAllocation> {
+    pub(crate) fn for_writing(alloc: Global) -> Result<Buffer, RefusedAllocation> {
         let bytes = ymx_memory::zeros(alloc, WRITE_BUFFER)?;
         Ok(Buffer { bytes })
     }
@@ -80,7 +80,7 @@ impl Buffer {
 /// Runs the read pump with a seat of its own, until it ends. `NoSeat` where the hub gives it none, as it has given
 /// 4,294,967,295 or has handed its transcript out.
 #[tactic(auto, using(crate::proofs::PumpEnds::may_read))]
-pub fn pump_in<R: Recorder, W: Wait, I: Inlet + Drop>(
+pub(crate) fn pump_in<R: Recorder, W: Wait, I: Inlet + Drop>(
     rt: &W,
     hub: &Hub<R>,
     reader: I,
@@ -96,7 +96,14 @@ pub fn pump_in<R: Recorder, W: Wait, I: Inlet + Drop>(
     };
     let Buffer { mut bytes } = buffer;
     let mut reader = reader;
-    let end = read_pump(rt, hub, seat, &mut reader, &mut Open, bytes.as_mut_slice());
+    let end = read_pump(
+        rt,
+        hub,
+        seat,
+        &mut reader,
+        &mut AlwaysOpen,
+        bytes.as_mut_slice(),
+    );
     let PumpEnd { seat, moved, why } = end;
     let _ = seat.into_entries();
     PumpedIn { why, moved }
@@ -105,7 +112,7 @@ pub fn pump_in<R: Recorder, W: Wait, I: Inlet + Drop>(
 /// Runs the write pump with a seat of its own, until it ends. `NoSeat`, and nothing goes out, where the hub gives it none,
 /// as it has given 4,294,967,295 or has handed its transcript out.
 #[tactic(auto, using(crate::proofs::PumpEnds::may_write))]
-pub fn pump_out<R: Recorder, W: Wait, O: Outlet + Drop>(
+pub(crate) fn pump_out<R: Recorder, W: Wait, O: Outlet + Drop>(
     rt: &W,
     hub: &Hub<R>,
     writer: O,
@@ -122,7 +129,14 @@ pub fn pump_out<R: Recorder, W: Wait, O: Outlet + Drop>(
     };
     let Buffer { mut bytes } = buffer;
     let mut writer = writer;
-    let end = write_pump(rt, hub, seat, &mut writer, &mut Open, bytes.as_mut_slice());
+    let end = write_pump(
+        rt,
+        hub,
+        seat,
+        &mut writer,
+        &mut AlwaysOpen,
+        bytes.as_mut_slice(),
+    );
     let PumpEnd { seat, moved, why } = end;
     let _ = seat.into_entries();
     PumpedOut { why, moved }

@@ -1,14 +1,14 @@
-//! A session and its journal, before anybody has named it.
+//! A session and its journal, before the journal has a name.
 
 ghost use Rattle.std.specs.Prelude.{◌≡◌, None, IfOk, IfErr};
 ghost use Rattle.ymx_session.specs.NewSessions.{new_fault};
 ghost use Rattle.ymx_connect.specs.Connecting.{IsConnectFault};
-ghost use Rattle.ymx_witness.specs.Settings.{with_first};
+ghost use Rattle.ymx_connect.specs.Settings.{with_first};
 
+use crate::connect_fault::ConnectFault;
 use std::alloc::Global;
 use std::marker::Model;
 use std::sync::Arc;
-use ymx_connect::ConnectFault;
 use ymx_hub::Hub;
 use ymx_journal::{Naming, Opened};
 use ymx_memory::RefusedAllocation;
@@ -19,35 +19,35 @@ use ymx_session::Session;
 /// A session that has done nothing, and its journal, which has no name yet. A contract sees the role and the config of the
 /// session, where 0 as the first own id stands for 1 at a client and 2 at a server, and the journal.
 ///
-/// A program that is generic in the name takes it, and is called once with the name `Brand`: the caller's proof picks what
-/// this shows as what the name stands for.
+/// A program takes it in a function that is generic in the name, and calls that function once, with `Brand` as the name.
+/// The proof of the caller says that the name stands for what a contract sees here.
 #[derive(Drop)]
-pub struct Begun {
+pub struct UnnamedSession {
     session: Session,
     opened: Opened,
 }
 
-impl Model for Begun {
+impl Model for UnnamedSession {
     ghost use Rattle.ymx_booked.specs.Booked.{config_of};
     ghost use Rattle.ymx_seats.specs.Transcripts.{IsNew};
-    ghost use Rattle.ymx_witness.specs.Settings.{BegunView};
+    ghost use Rattle.ymx_connect.specs.Settings.{UnnamedSessionView};
 
-    ghost Value = { BegunView };
+    ghost Value = { UnnamedSessionView };
 
     ghost view = { λ b. record { role = b.session.role; config = config_of b.session; table = b.opened } };
 
     ghost invariant = { λ b. IsNew b.session };
 }
 
-impl Begun {
+impl UnnamedSession {
     /// A session of this role and config (bytes of its window, and the first own id), and a journal.
     ///
     /// `Session` comes where no session can be made: `BadWindow` or `BadFirst` for this config, or `OutOfMemory`.
     /// `Memory` comes where there is none for the journal.
-    pub fn new(alloc: Global, role: Role, config: Config) -> Result<Begun, ConnectFault>
-        ensures may { IfOk result (λ begun. new_fault role config ≡ None) }
-        ensures role { IfOk result (λ begun. begun.role ≡ role) }
-        ensures config { IfOk result (λ begun. begun.config ≡ with_first role config) }
+    pub fn new(alloc: Global, role: Role, config: Config) -> Result<UnnamedSession, ConnectFault>
+        ensures may { IfOk result (λ unnamed. new_fault role config ≡ None) }
+        ensures role { IfOk result (λ unnamed. unnamed.role ≡ role) }
+        ensures config { IfOk result (λ unnamed. unnamed.config ≡ with_first role config) }
         ensures refused { IfErr result (λ fault. IsConnectFault role config fault) }
     {
         let session = match Session::new(alloc, role, config) {
@@ -55,7 +55,7 @@ impl Begun {
             Err(fault) => return Err(ConnectFault::Session(fault)),
         };
         let opened = Opened::new(alloc)?;
-        Ok(Begun { session, opened })
+        Ok(UnnamedSession { session, opened })
     }
 
     /// The hub of this session, by the name that its journal has. `RefusedAllocation` where there is no memory for it.
@@ -65,7 +65,7 @@ impl Begun {
     ) -> Result<Arc<Hub<Witnessed<J>>, Global>, RefusedAllocation>
         requires { self ≡ record { role = J.role; config = J.config; table = J.table } }
     {
-        let Begun { session, opened } = self;
+        let UnnamedSession { session, opened } = self;
         Hub::<Witnessed<J>>::witnessed(alloc, session, opened)
     }
 }

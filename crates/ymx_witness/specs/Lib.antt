@@ -1,2 +1,0 @@
--- The definitions.
-pub mod Settings
