@@ -15,12 +15,12 @@ use ymx_model::{DeviceFault, Inlet, Outlet};
 /// The connections of a server that are open.
 #[derive(Drop)]
 pub struct Connections {
-    open: Mutex<Open>,
+    open: Mutex<OpenConnections>,
 }
 
 /// What stands under the lock.
 #[derive(Drop)]
-struct Open {
+struct OpenConnections {
     connections: Vec<Arc<Connection, Global>>,
     /// How many were added so far; it stays at the greatest `u64`.
     added: u64,
@@ -31,7 +31,7 @@ struct Open {
 /// A connection that is open.
 #[derive(Drop)]
 pub(crate) struct Connection {
-    pub(crate) stream: TcpStream,
+    pub(crate) socket: TcpStream,
     number: u64,
     /// It has said that no more bytes come from it.
     has_ended: AtomicBool,
@@ -43,9 +43,9 @@ pub(crate) struct Connection {
 
 impl Connection {
     /// A connection that was just made.
-    fn new(stream: TcpStream, number: u64) -> Connection {
+    fn new(socket: TcpStream, number: u64) -> Connection {
         Connection {
-            stream,
+            socket,
             number,
             has_ended: AtomicBool::new(false),
             was_ended: AtomicBool::new(false),
@@ -56,7 +56,7 @@ impl Connection {
     /// Shuts the connection both ways, so that both directions end.
     pub(crate) fn shut_down(&self) {
         self.was_ended.store(true, Ordering::SeqCst);
-        let _ = self.stream.shutdown(Shutdown::Both);
+        let _ = self.socket.shutdown(Shutdown::Both);
     }
 
     /// The same, where what is read then is no end.
@@ -69,7 +69,7 @@ impl Connection {
     /// connection that failed has no peer any more, and one that didn't has none only if it was ended here too.
     fn is_broken(&self) -> bool {
         self.has_broken.load(Ordering::SeqCst)
-            || (!self.was_ended.load(Ordering::SeqCst) && self.stream.peer_addr().is_err())
+            || (!self.was_ended.load(Ordering::SeqCst) && self.socket.peer_addr().is_err())
     }
 
     /// Shuts the connection both ways, unless it has ended: then what came for it may still go out.
@@ -84,7 +84,7 @@ impl Connections {
     /// None is open.
     pub fn new(alloc: Global) -> Connections {
         Connections {
-            open: Mutex::new(Open {
+            open: Mutex::new(OpenConnections {
                 connections: Vec::new(alloc),
                 added: 0,
                 is_over: false,
@@ -107,11 +107,11 @@ impl Connections {
         &self,
         rt: &W,
         alloc: Global,
-        stream: TcpStream,
+        socket: TcpStream,
     ) -> Result<Arc<Connection, Global>, RefusedAllocation> {
         let mut open = self.open.lock(rt);
         let number = open.added;
-        let connection = ymx_memory::shared(alloc, Connection::new(stream, number))?;
+        let connection = ymx_memory::shared(alloc, Connection::new(socket, number))?;
         let other = ymx_memory::share(&connection)?;
         ymx_memory::push(&mut open.connections, other)?;
         open.added = number.saturating_add(1);
@@ -156,7 +156,7 @@ impl<'a> TrackedReader<'a> {
     pub(crate) fn new(connection: &'a Connection) -> TrackedReader<'a> {
         TrackedReader {
             connection,
-            reader: ConnectionReader::new(&connection.stream),
+            reader: ConnectionReader::new(&connection.socket),
             failures: 0,
         }
     }
@@ -167,7 +167,7 @@ impl<'a> TrackedWriter<'a> {
     pub(crate) fn new(connection: &'a Connection) -> TrackedWriter<'a> {
         TrackedWriter {
             connection,
-            writer: ConnectionWriter::new(&connection.stream),
+            writer: ConnectionWriter::new(&connection.socket),
         }
     }
 }

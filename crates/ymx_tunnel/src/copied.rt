@@ -3,7 +3,6 @@
 ghost use Rattle.std.specs.Prelude.{◌≡◌};
 ghost use Rattle.ymx_tunnel.specs.Copies.{copy_reason};
 
-use ymx_connect::RefusedThread;
 use ymx_hub::HubFault;
 use ymx_memory::RefusedAllocation;
 use ymx_model::CallFault;
@@ -22,18 +21,9 @@ pub enum CopyWhy {
     Reset,
     /// The session was lost.
     Lost,
-    /// There was no memory for what the stream has to send; or, of a connection, none for it or for a buffer. It holds the
-    /// evidence: an allocation was refused.
+    /// There was no memory for what the stream has to send, or for the buffer. It holds the evidence: an allocation was
+    /// refused.
     Memory(RefusedAllocation),
-    /// No thread could be made: of a connection alone. It holds the evidence.
-    NoThread(RefusedThread),
-}
-
-impl CopyWhy {
-    /// Whether memory or a thread was wanting.
-    pub(crate) fn is_lack(self) -> bool {
-        matches!(self, CopyWhy::Memory(_) | CopyWhy::NoThread(_))
-    }
 }
 
 /// The end of a copy.

@@ -14,24 +14,15 @@ use ymx_memory::RefusedAllocation;
 /// Bytes that a copy reads at once.
 const COPY_BUFFER: usize = 65_536;
 
-/// One direction of a connection that has ended.
-#[derive(Clone, Copy, Debug, PartialEq, Eq)]
-pub struct EndedCopy {
-    /// How many bytes were copied; it stays at the greatest `u64`.
-    pub bytes: u64,
-    /// Why the copy ended.
-    pub why: CopyWhy,
-}
-
-/// A half of a stream, lent to the thread that spends it.
-pub(crate) struct Lent<H> {
+/// A half of a stream, for the thread that spends it.
+pub(crate) struct Handover<H> {
     half: Mutex<Option<H>>,
 }
 
-impl<H> Lent<H> {
+impl<H> Handover<H> {
     /// Nobody has taken it yet.
-    pub(crate) fn new(half: H) -> Lent<H> {
-        Lent {
+    pub(crate) fn new(half: H) -> Handover<H> {
+        Handover {
             half: Mutex::new(Some(half)),
         }
     }
@@ -43,57 +34,65 @@ impl<H> Lent<H> {
 
     /// What nobody has taken.
     pub(crate) fn into_inner(self) -> Option<H> {
-        let Lent { half } = self;
+        let Handover { half } = self;
         half.into_inner()
     }
 }
 
-/// Copies from the connection into the stream by the half that is lent, and spends it.
+/// Copies from the connection into the stream by the half that is handed over, and spends it: why it ended.
 pub(crate) fn inward<R: Wait>(
     rt: &R,
     alloc: Global,
     connection: &Connection,
-    lent: &Lent<Writer>,
-) -> EndedCopy {
-    let Some(writer) = lent.take(rt) else {
-        return ended(connection, 0, CopyWhy::Sink);
+    handover: &Handover<Writer>,
+) -> CopyWhy {
+    let Some(writer) = handover.take(rt) else {
+        return ended(connection, CopyWhy::Sink);
     };
     let mut buffer = match copy_buffer(alloc) {
         Ok(buffer) => buffer,
         Err(refused) => {
             let _ = writer.reset(rt);
-            return ended(connection, 0, CopyWhy::Memory(refused));
+            return ended(connection, CopyWhy::Memory(refused));
         }
     };
     let mut inlet = TrackedReader::new(connection);
     let sink = writer.into_half();
-    let Copied { bytes, why, left } = copy_in(rt, &mut inlet, sink, buffer.as_mut_slice());
+    let Copied {
+        bytes: _,
+        why,
+        left,
+    } = copy_in(rt, &mut inlet, sink, buffer.as_mut_slice());
     discard(left);
-    ended(connection, bytes, why)
+    ended(connection, why)
 }
 
-/// Copies from the stream out to the connection by the half that is lent, and spends it.
+/// Copies from the stream out to the connection by the half that is handed over, and spends it: why it ended.
 pub(crate) fn outward<R: Wait>(
     rt: &R,
     alloc: Global,
     connection: &Connection,
-    lent: &Lent<Reader>,
-) -> EndedCopy {
-    let Some(reader) = lent.take(rt) else {
-        return ended(connection, 0, CopyWhy::Source);
+    handover: &Handover<Reader>,
+) -> CopyWhy {
+    let Some(reader) = handover.take(rt) else {
+        return ended(connection, CopyWhy::Source);
     };
     let mut buffer = match copy_buffer(alloc) {
         Ok(buffer) => buffer,
         Err(refused) => {
             let _ = reader.close(rt);
-            return ended(connection, 0, CopyWhy::Memory(refused));
+            return ended(connection, CopyWhy::Memory(refused));
         }
     };
     let mut outlet = TrackedWriter::new(connection);
     let source = reader.into_half();
-    let Copied { bytes, why, left } = copy_out(rt, source, &mut outlet, buffer.as_mut_slice());
+    let Copied {
+        bytes: _,
+        why,
+        left,
+    } = copy_out(rt, source, &mut outlet, buffer.as_mut_slice());
     discard(left);
-    ended(connection, bytes, why)
+    ended(connection, why)
 }
 
 /// The buffer of one copy.
@@ -103,17 +102,15 @@ fn copy_buffer(alloc: Global) -> Result<Vec<u8>, RefusedAllocation>
     ymx_memory::zeros(alloc, COPY_BUFFER)
 }
 
-/// One direction has ended. At a fault the connection is shut both ways, so that the other direction ends too. It
+/// One direction has ended for this reason. At a fault the connection is shut both ways, so that the other direction ends too. It
 /// doesn't take that for an end: where the stream was reset or the session lost, its half of the stream says so.
-pub(crate) fn ended(connection: &Connection, bytes: u64, why: CopyWhy) -> EndedCopy {
+fn ended(connection: &Connection, why: CopyWhy) -> CopyWhy {
     match why {
         CopyWhy::End => {}
         CopyWhy::Reset | CopyWhy::Lost => connection.shut_down(),
-        CopyWhy::Source | CopyWhy::Sink | CopyWhy::Memory(_) | CopyWhy::NoThread(_) => {
-            connection.break_off();
-        }
+        CopyWhy::Source | CopyWhy::Sink | CopyWhy::Memory(_) => connection.break_off(),
     }
-    EndedCopy { bytes, why }
+    why
 }
 
 /// Spends the halves that are left: resets the stream, and closes it.

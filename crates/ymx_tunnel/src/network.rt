@@ -20,11 +20,11 @@ pub struct Sockets<'a, T> {
 
 impl<T: Net<Stream = TcpStream, Listener = TcpListener> + Sync> Network for Sockets<'_, T> {
     fn connect(&self, address: SocketAddr) -> Option<TcpStream> {
-        let Ok(stream) = TcpStream::connect(self.rt, address) else {
+        let Ok(socket) = TcpStream::connect(self.rt, address) else {
             return None;
         };
-        let _ = stream.set_nodelay(true);
-        Some(stream)
+        let _ = socket.set_nodelay(true);
+        Some(socket)
     }
 
     fn listen(&self, address: SocketAddr) -> Option<TcpListener> {
