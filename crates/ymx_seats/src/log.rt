@@ -103,7 +103,7 @@ impl<R: Recorder> Log<R> {
         &mut self,
         alloc: Global,
         seat: &mut Seat<R>,
-        event: Event<Lent<'_>>,
+        event: &Event<Lent<'_>>,
         bytes: usize,
         entries: usize,
     ) -> Result<Slip, RefusedAllocation>
@@ -113,7 +113,7 @@ impl<R: Recorder> Log<R> {
         ensures start { seat.new.start ≡ seat.old.start }
         ensures seat_entries { seat.new.entries ≡ seat.old.entries }
         ensures seen { seat.new.seen ≡ seat.old.seen }
-        ensures ready { IfOk result (λ s. IsReady R.KEEPS s event.entry bytes) }
+        ensures ready { IfOk result (λ s. IsReady R.KEEPS s event.now bytes) }
         ensures room { R.KEEPS ≡ true → OnOk result ((entries ≤ self.new.room) × (entries ≤ seat.new.room)) }
         ensures grows { (self.old.room ≤ self.new.room) × (seat.old.room ≤ seat.new.room) }
         ensures off { R.KEEPS ≡ false → IsOk result }
@@ -124,7 +124,7 @@ impl<R: Recorder> Log<R> {
         ymx_memory::reserve(&mut self.entries, entries)?;
         seat.make_room(entries)?;
         Ok(Slip {
-            copies: Some(copies_of(alloc, &event, bytes)?),
+            copies: Some(copies_of(alloc, event, bytes)?),
         })
     }
 
@@ -135,22 +135,22 @@ impl<R: Recorder> Log<R> {
         &mut self,
         seat: &mut Seat<R>,
         slip: Slip,
-        event: Event<Lent<'_>>,
+        event: &Event<Lent<'_>>,
         reply: Reply<Lent<'_>>,
     )
-        requires ready { IsReady R.KEEPS slip event (bytes_told reply) }
+        requires ready { IsReady R.KEEPS slip event.now (bytes_told reply) }
         requires room { R.KEEPS ≡ true → (0 < self.old.room) × (0 < seat.old.room) }
-        requires history { IsWitnessed R.WITNESSED R.role R.config (whole_of (journal_after seat.old.number event reply self.old.journal)) }
+        requires history { IsWitnessed R.WITNESSED R.role R.config (whole_of (journal_after seat.old.number event.now reply self.old.journal)) }
         ensures number { seat.new.number ≡ seat.old.number }
         ensures start { seat.new.start ≡ seat.old.start }
-        ensures entries { self.new.entries ≡ self.old.entries ++ kept_entries R.KEEPS (entry (length self.old.entries) seat.old.number event.entry reply.entry) }
-        ensures seat_entries { seat.new.entries ≡ seat.old.entries ++ kept_entries R.KEEPS (entry (length self.old.entries) seat.old.number event.entry reply.entry) }
+        ensures entries { self.new.entries ≡ self.old.entries ++ kept_entries R.KEEPS (entry (length self.old.entries) seat.old.number event.now reply.entry) }
+        ensures seat_entries { seat.new.entries ≡ seat.old.entries ++ kept_entries R.KEEPS (entry (length self.old.entries) seat.old.number event.now reply.entry) }
         ensures left { R.KEEPS ≡ true → (self.new.room + 1 ≡ self.old.room) × (seat.new.room + 1 ≡ seat.old.room) }
-        ensures journal { self.new.journal ≡ journal_after seat.old.number event.entry reply.entry self.old.journal }
+        ensures journal { self.new.journal ≡ journal_after seat.old.number event.now reply.entry self.old.journal }
         ensures seen { seat.new.seen ≡ whole_of self.new.journal }
         ensures behind { IsBehind seat.old.number seat.old.seen self.old.journal }
     {
-        self.attest(seat, &event, &reply);
+        self.attest(seat, event, &reply);
         let Some(copies) = slip.copies else {
             return;
         };
