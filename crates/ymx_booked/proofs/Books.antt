@@ -9,9 +9,9 @@ use Rattle.ymx_journal.specs.Journals.{JournalView}
 use Rattle.ymx_seats.specs.Views.{SeatView, kept_entries, entry, journal_after, whole_of, IsBehind, HasIf}
 use Rattle.ymx_booked.specs.Answers.{hub_answer, hub_fault_of}
 use Rattle.ymx_session.specs.Replies.{done_or}
-use Rattle.ymx_booked.specs.Books.{Gains, Extends, Books, One, Asks, Does, StartsAfter, StartsBehind, IsGiven, IsRefused, Spends, Forgets, Closes, to_forget}
+use Rattle.ymx_booked.specs.Books.{Gains, Extends, Books, One, Does, StartsAfter, StartsBehind, IsGiven, IsRefused, Spends, Forgets, to_forget}
 use Rattle.ymx_booked.specs.declared.faults.HubFault.{HubFault}
-use Rattle.ymx_booked.proofs.Extends.{extends_none, extends_one, extends_on}
+use Rattle.ymx_booked.proofs.Extends.{extends_none, extends_one, extends_on, extends_weaker}
 
 gains_none : (keeps : Bool) (before after : List Entry) (Such : List Entry → Type 0) → after ≡ before → Such [] → Gains keeps before after Such
 gains_none true before after Such e p = ([], e ∙ sym (append-nil before), p)
@@ -24,6 +24,19 @@ books_none keeps old new Such n s e w p = record {
   start = s;
   gains = gains_none keeps old.entries new.entries Such e p;
   extends = extends_none old.number old.seen new.seen Such w p;
+}
+
+gains_weaker : (keeps : Bool) (before after : List Entry) (Such Other : List Entry → Type 0) → ((es : List Entry) → Such es → Other es) → Gains keeps before after Such → Gains keeps before after Other
+gains_weaker true before after Such Other f g = (g.0, g.1, f g.0 g.2)
+gains_weaker false before after Such Other f g = tt
+
+-- what was added is such, and so is other
+pub books_weaker : (keeps : Bool) (old new : SeatView) (Such Other : List Entry → Type 0) → ((es : List Entry) → Such es → Other es) → Books keeps old new Such → Books keeps old new Other
+books_weaker keeps old new Such Other f b = record {
+  number = b.number;
+  start = b.start;
+  gains = gains_weaker keeps old.entries new.entries Such Other f b.gains;
+  extends = extends_weaker old.number old.seen new.seen Such Other f b.extends;
 }
 
 gains_one : (keeps : Bool) (before after : List Entry) (x : Entry) (Such : List Entry → Type 0) → after ≡ before ++ kept_entries keeps x → (keeps ≡ true → Such (x ∷ [])) → Gains keeps before after Such
@@ -43,26 +56,6 @@ books_one keeps old new event told position log Such n s e w b p q = record {
 pub does_one : {A : Type 0} (keeps : Bool) (old new : SeatView) (event : Event) (told : A → Reply) (position : ℕ) (log : Option JournalView) (x : A) → new.number ≡ old.number → new.start ≡ old.start → new.entries ≡ old.entries ++ kept_entries keeps (entry position old.number event (told x)) → new.seen ≡ whole_of (journal_after old.number event (told x) log) → IsBehind old.number old.seen log → Books keeps old new (Does event told old.number (Ok x))
 does_one keeps old new event told position log x n s e w b =
     books_one keeps old new event (told x) position log (Does event told old.number (Ok x)) n s e w b (λ _. (position, refl)) (λ p _. (p, refl))
-
-asks_by : {A : Type 0} (event : Event) (told : Result A CallFault → Reply) (seat position : ℕ) (given : Result A CallFault) → Asks event told seat (hub_answer given) (entry position seat event (told given) ∷ [])
-asks_by event told seat position (Ok x) = (position, refl)
-asks_by event told seat position (Err why) = inr (why, refl, (position, refl))
-
--- a call, whose reply is the answer
-pub asks_one : {A : Type 0} (keeps : Bool) (old new : SeatView) (event : Event) (told : Result A CallFault → Reply) (position : ℕ) (log : Option JournalView) (given : Result A CallFault) (result : Result A HubFault) → result ≡ hub_answer given → new.number ≡ old.number → new.start ≡ old.start → new.entries ≡ old.entries ++ kept_entries keeps (entry position old.number event (told given)) → new.seen ≡ whole_of (journal_after old.number event (told given) log) → IsBehind old.number old.seen log → Books keeps old new (Asks event told old.number result)
-asks_one keeps old new event told position log given result a n s e w b =
-    books_one keeps old new event (told given) position log (Asks event told old.number result) n s e w b
-    (λ _. rw a (asks_by event told old.number position given)) (λ p _. rw a (asks_by event told old.number p given))
-
-closes_by : (id seat position : ℕ) (given : Result (Unit {0}) CallFault) → Closes id seat (hub_answer given) (entry position seat (to_forget id) (done_or given) ∷ [])
-closes_by id seat position (Ok u) = inr (position, refl)
-closes_by id seat position (Err why) = inr (why, refl, (position, refl))
-
--- the second half of a stream is closed
-pub closes_one : (keeps : Bool) (old new : SeatView) (id position : ℕ) (log : Option JournalView) (given : Result (Unit {0}) CallFault) (result : Result (Unit {0}) HubFault) → result ≡ hub_answer given → new.number ≡ old.number → new.start ≡ old.start → new.entries ≡ old.entries ++ kept_entries keeps (entry position old.number (to_forget id) (done_or given)) → new.seen ≡ whole_of (journal_after old.number (to_forget id) (done_or given) log) → IsBehind old.number old.seen log → Books keeps old new (Closes id old.number result)
-closes_one keeps old new id position log given result a n s e w b =
-    books_one keeps old new (to_forget id) (done_or given) position log (Closes id old.number result) n s e w b
-    (λ _. rw a (closes_by id old.number position given)) (λ p _. rw a (closes_by id old.number p given))
 
 -- ---- streams that are handed out
 

@@ -5,9 +5,9 @@ use Rattle.ymx_machine.specs.shared.Events.{Reply}
 use Rattle.ymx_model.specs.declared.types.Entry.{Entry}
 use Rattle.ymx_journal.specs.Journals.{JournalView, part}
 use Rattle.ymx_journal.proofs.Moves.{part-append}
-use Rattle.ymx_seats.specs.Views.{SeatView, entry, kept_entries, journal_after, whole_of, IsBehind, HasIf}
+use Rattle.ymx_seats.specs.Views.{entry, kept_entries, journal_after, whole_of, IsBehind, HasIf}
 use Rattle.ymx_booked.specs.Books.{Grows, Extends}
-use Rattle.ymx_booked.specs.Steps.{entries_after, IsNext}
+use Rattle.ymx_booked.specs.Steps.{entries_after}
 
 grows_on : (n : ℕ) (v : List Entry) (es : List Entry) (m : List Entry) (ds : List Entry) (w : List Entry) → Grows n v es m → Grows n m ds w → Grows n v (es ++ ds) w
 grows_on n v [] m ds w g h = subst (λ (x : List Entry). Grows n x ds w) g h
@@ -81,6 +81,3 @@ after_at keeps n m d e q r es fs gs is a b c d' = is ∙ (λ i. entries_after ke
 pub kept_longer : (keeps : Bool) (es fs : List Entry) (e : Entry) (start : ℕ) → start ≡ length fs → fs ≡ es ++ kept_entries keeps e → keeps ≡ true → length es < start
 kept_longer true es fs e start s f k = omega (arith, s, ap length f, length-append es (e ∷ []))
 kept_longer false es fs e start s f k = cc
-
-pub next_at : (n : ℕ) (es fs : List Entry) (h k : Option (List Entry)) (seat : SeatView) → es ≡ fs → h ≡ k → IsNext n es h seat → IsNext n fs k seat
-next_at n es fs h k seat p q x = (x.0, x.1 ∙ ap length p, x.2, x.3 ∙ q, x.4)

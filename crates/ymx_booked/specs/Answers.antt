@@ -5,6 +5,8 @@ use Rattle.ymx_machine.specs.declared.types.CallFault.{CallFault}
 use Rattle.ymx_machine.specs.declared.types.CallFault.TheVariants.{OutOfMemory, Closed}
 use Rattle.ymx_model.specs.declared.types.Got.{Got}
 use Rattle.ymx_model.specs.declared.types.Got.TheVariants as got
+use Rattle.ymx_machine.specs.declared.types.Call.TheVariants as call
+use Rattle.ymx_machine.specs.shared.Events.{Call as CallOfLists}
 use Rattle.ymx_machine.specs.declared.types.Wrote.{Wrote}
 use Rattle.ymx_machine.specs.declared.types.Wrote.TheVariants as wrote
 use Rattle.ymx_booked.specs.declared.faults.HubFault.{HubFault}
@@ -27,6 +29,13 @@ hub_answer (Err fault) = Err (hub_fault_of fault)
 -- the answer is no want of memory
 abbrev pub IsNotMemory : {A : Type 0} → Result A HubFault → Type 0
 IsNotMemory result = IfErr result (λ fault. fault ≡ Memory evidence → ⊥)
+
+-- the call takes no memory but that of its entry
+abbrev pub TakesNone : CallOfLists → Type 0
+TakesNone call.Open = ⊥
+TakesNone (call.OpenWith bytes) = ⊥
+TakesNone (call.Write id bytes) = ⊥
+TakesNone _ = Unit {0}
 
 -- why there is no seat: the transcript was handed out, or no seat was left
 abbrev pub IsSeatFault : HubFault → Type 0

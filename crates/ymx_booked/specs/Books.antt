@@ -10,11 +10,13 @@ use Rattle.ymx_machine.specs.shared.Events.{Reply}
 use Rattle.ymx_machine.specs.declared.types.Reply.TheVariants as reply
 use Rattle.ymx_model.specs.declared.types.Entry.{Entry}
 use Rattle.ymx_session.specs.Replies.{done_or}
+use Rattle.ymx_session.specs.Applied.{in_buffer}
+use Rattle.ymx_machine.specs.declared.types.Reply.{Reply as ReplyOf}
 use Rattle.ymx_journal.specs.Journals.{part}
 use Rattle.ymx_seats.specs.Views.{SeatView, entry}
 use Rattle.ymx_booked.specs.declared.faults.HubFault.{HubFault}
-use Rattle.ymx_booked.specs.declared.stream_calls.Ending.{Ending}
-use Rattle.ymx_booked.specs.declared.stream_calls.Ending.TheVariants as ending
+use Rattle.ymx_booked.specs.declared.stream_calls.HalfCall.{HalfCall}
+use Rattle.ymx_booked.specs.declared.stream_calls.HalfCall.TheVariants as half
 use Rattle.ymx_booked.specs.declared.faults.HubFault.TheVariants.{Memory, Seats}
 use Rattle.ymx_booked.specs.Answers.{hub_fault_of, refused_seat}
 
@@ -42,9 +44,9 @@ abbrev pub to_reset : ℕ → Event
 to_reset id = event.Call (call.Reset id)
 
 -- the call that ends a half of a stream
-abbrev pub to_end : Ending → ℕ → Event
-to_end ending.Finish id = to_finish id
-to_end ending.Reset id = to_reset id
+abbrev pub to_end : HalfCall → ℕ → Event
+to_end half.Finish id = to_finish id
+to_end half.Reset id = to_reset id
 
 abbrev pub to_forget : ℕ → Event
 to_forget id = event.Call (call.Forget id)
@@ -102,6 +104,11 @@ Asks event told seat (Err fault) added =
     ((fault ≡ Memory evidence) × (added ≡ []))
     ⊎ ((why : CallFault) × (fault ≡ hub_fault_of why) × One seat event (told (Err why)) added)
 
+-- what was told, or a refusal, with the bytes that stand in this buffer
+abbrev pub told_or : List ℕ → Result (ReplyOf ℕ) CallFault → Reply
+told_or buffer (Ok told) = in_buffer buffer told
+told_or buffer (Err why) = reply.Refused why
+
 -- one entry, whose reply is the answer; or there was no memory for it
 abbrev pub Does : {A : Type 0} → Event → (A → Reply) → ℕ → Result A RefusedAllocation → List Entry → Type 0
 Does event told seat (Ok x) added = One seat event (told x) added
@@ -129,6 +136,32 @@ abbrev pub IsGiven : Event → Reply → ℕ → SeatView → SeatView → List 
 IsGiven event told seat one other added =
     (position : ℕ) × (added ≡ entry position seat event told ∷ []) × StartsAfter (entry position seat event told) one
     × StartsAfter (entry position seat event told) other × (one.entries ≡ []) × (other.entries ≡ [])
+
+-- the event asks for a stream
+abbrev pub AsksStream : Event → Type 0
+AsksStream (event.Call call.Open) = Unit {0}
+AsksStream (event.Call (call.OpenWith bytes)) = Unit {0}
+AsksStream (event.Call call.Accept) = Unit {0}
+AsksStream _ = ⊥
+
+-- the reply says that this stream was given, with so many of its first bytes taken
+abbrev pub TellsStream : Event → (id taken : ℕ) → Reply → Type 0
+TellsStream (event.Call call.Open) id taken told = told ≡ reply.Opened id
+TellsStream (event.Call (call.OpenWith bytes)) id taken told = told ≡ reply.OpenedWith id taken
+TellsStream (event.Call call.Accept) id taken told = told ≡ reply.Accepted (Some id)
+TellsStream _ id taken told = ⊥
+
+-- the stream that was given by an event that was answered so
+abbrev pub IsStreamOf : Event → ReplyOf ℕ → Result (Option (ℕ × ℕ)) CallFault → Type 0
+IsStreamOf event told (Ok (Some made)) = (buffer : List ℕ) → TellsStream event made.0 made.1 (in_buffer buffer told)
+IsStreamOf event told (Ok None) = (event ≡ to_accept) × (told ≡ reply.Accepted None)
+IsStreamOf event told (Err why) = told ≡ reply.Refused why
+
+-- the stream that was given, or that none is offered yet
+abbrev pub GivesStream : Event → ℕ → Result (Option (ℕ × ℕ × SeatView × SeatView)) HubFault → List Entry → Type 0
+GivesStream event seat (Ok (Some made)) added = (told : Reply) × TellsStream event made.0 made.1 told × IsGiven event told seat made.2 made.3 added
+GivesStream event seat (Ok None) added = One seat event (reply.Accepted None) added
+GivesStream event seat (Err fault) added = IsRefused event seat fault added
 
 -- the stream that was opened
 abbrev pub Opens : ℕ → Result (ℕ × SeatView × SeatView) HubFault → List Entry → Type 0

@@ -14,7 +14,7 @@ use Rattle.ymx_seats.specs.Views.{SeatView, kept_entries, entry, journal_after, 
 use Rattle.ymx_booked.specs.declared.faults.HubFault.{HubFault}
 use Rattle.ymx_booked.specs.declared.faults.HubFault.TheVariants.{Memory, Seats}
 use Rattle.ymx_booked.specs.Answers.{hub_fault_of, hub_answer, refused_seat}
-use Rattle.ymx_booked.specs.Books.{to_open, to_open_with, to_accept, to_forget}
+use Rattle.ymx_booked.specs.Books.{TellsStream, to_open, to_open_with, to_accept, to_forget}
 use Rattle.ymx_booked.specs.Booked.{BookedView, is_half_spent, spent}
 
 -- ---- one event
@@ -74,6 +74,12 @@ abbrev pub HandsNone : (keeps : Bool) (seat : ℕ) → Event → HubFault → (o
 HandsNone keeps seat event fault old new =
     (((fault ≡ Memory evidence) ⊎ ((fault ≡ Seats refused_seat) × (2 ^ 32 ≤ old.given + 2))) × (new ≡ old))
     ⊎ ((why : CallFault) × (fault ≡ hub_fault_of why) × Steps keeps seat event (reply.Refused why) old new)
+
+-- the stream that was given, or that none is offered yet
+abbrev pub StepsGiven : Event → (keeps : Bool) (seat : ℕ) → Result (Option (ℕ × ℕ × SeatView × SeatView)) HubFault → (old new : BookedView) → Type 0
+StepsGiven event keeps seat (Ok (Some made)) old new = (told : Reply) × TellsStream event made.0 made.1 told × HandsOut keeps seat event told made.2 made.3 old new
+StepsGiven event keeps seat (Ok None) old new = Steps keeps seat event (reply.Accepted None) old new
+StepsGiven event keeps seat (Err fault) old new = HandsNone keeps seat event fault old new
 
 -- the stream that was opened
 abbrev pub StepsOpened : (keeps : Bool) (seat : ℕ) → Result (ℕ × SeatView × SeatView) HubFault → (old new : BookedView) → Type 0

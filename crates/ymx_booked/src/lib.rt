@@ -1,10 +1,12 @@
 //! What stands under the lock of a hub: a session, the log of its events, and which streams are half spent. It
 //! uses no threads: each call is what a hub does in one hold of its lock.
 //!
-//! `Booked` is the type. Its calls stand in `opening` (a stream is handed out), `stream_calls` (bytes, and halves
-//! that are spent), `session_calls` and `moving` (what comes and goes).
+//! `Booked` is the type, and `book` the door that each of its events goes through, which adds its entry. Its calls stand in
+//! `opening` (a stream is handed out), `stream_calls` (bytes, and halves that are spent), `session_calls` and `moving`
+//! (what comes and goes).
 #![tactic(auto)]
 
+mod book;
 mod booked;
 mod end_fault;
 mod faults;
@@ -12,7 +14,6 @@ mod moving;
 mod one_caller;
 mod opening;
 mod refused_seat;
-mod replies;
 mod session_calls;
 mod stream_calls;
 

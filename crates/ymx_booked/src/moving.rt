@@ -3,13 +3,13 @@
 ghost use Rattle.std.specs.Prelude.{◌≡◌, ◌≤◌, length, take, drop, false, IfOk, IsOk, MatchResult};
 ghost use Rattle.ymx_model.specs.declared.types.Event.TheVariants as event;
 ghost use Rattle.ymx_machine.specs.declared.types.Reply.TheVariants as reply;
+ghost use Rattle.ymx_machine.specs.shared.Replies.{bytes_told};
 ghost use Rattle.ymx_session.specs.Touched.{NotesChanges, NotesOnly, StaysNoted};
 ghost use Rattle.ymx_booked.specs.Books.{Books, Does};
 ghost use Rattle.ymx_booked.specs.Gained.{GainedAlike};
 ghost use Rattle.ymx_booked.specs.Steps.{StepsTold};
 
 use crate::booked::Booked;
-use crate::replies;
 use ymx_memory::RefusedAllocation;
 use ymx_model::{Event, Fed, Lent, Reply};
 use ymx_seats::{Recorder, Seat};
@@ -35,36 +35,28 @@ impl<R: Recorder> Booked<R> {
         ensures only { MatchResult result (λ fed. NotesOnly (take fed.taken bytes.now) self.old.session touched.old touched.new) (λ fault. touched.new ≡ touched.old) }
         ensures off { R.KEEPS ≡ false → IsOk result }
     {
-        let slip = self
-            .log
-            .prepare(self.alloc, seat, Event::Feed(Lent::new(bytes)), 0, 1)?;
+        let event = Event::Feed(Lent::new(bytes));
+        let slip = self.log.prepare(self.alloc, seat, &event, 0, 1)?;
         let fed = self.session.feed_touching(bytes, touched);
-        self.log.add(
-            seat,
-            slip,
-            Event::Feed(Lent::new(bytes)),
-            replies::fed(&fed),
-        );
+        self.log.add(seat, slip, &event, told(&fed));
         Ok(fed)
     }
 
     /// The peer's bytes have ended.
-    #[tactic(auto, using(crate::proofs::History::kept_after, crate::proofs::Journals::journaled_after, crate::proofs::Journals::witnessed_after, crate::proofs::Books::books_one))]
     pub fn feed_end(&mut self, seat: &mut Seat<R>) -> Result<(), RefusedAllocation>
         ensures booked { Books R.KEEPS seat.old seat.new (Does event.FeedEnd (λ _. reply.Done) seat.old.number result) }
         ensures steps { StepsTold R.KEEPS event.FeedEnd (λ _. reply.Done) seat.old.number result self.old self.new }
         ensures alike { GainedAlike self.old.entries self.new.entries seat.old.entries seat.new.entries }
         ensures off { R.KEEPS ≡ false → IsOk result }
     {
-        let slip = self.log.prepare(self.alloc, seat, Event::FeedEnd, 0, 1)?;
-        self.session.feed_end();
-        self.log.add(seat, slip, Event::FeedEnd, Reply::Done);
-        Ok(())
+        match self.book(seat, &Event::FeedEnd, &mut [])? {
+            Reply::Done => Ok(()),
+            _ => unreachable!(),
+        }
     }
 
     /// Emits into the buffer as much as is due and fits, and returns how many bytes stand at its front. The rest of
     /// the buffer stays as it was.
-    #[tactic(auto, using(crate::proofs::History::kept_after, crate::proofs::Journals::journaled_after, crate::proofs::Journals::witnessed_after, crate::proofs::Books::books_one))]
     pub fn emit(
         &mut self,
         seat: &mut Seat<R>,
@@ -78,17 +70,17 @@ impl<R: Recorder> Booked<R> {
         ensures rest { MatchResult result (λ count. drop count buffer.new ≡ drop count buffer.old) (λ fault. buffer.new ≡ buffer.old) }
         ensures off { R.KEEPS ≡ false → IsOk result }
     {
-        let size = buffer.len();
-        let slip = self
-            .log
-            .prepare(self.alloc, seat, Event::Emit(size), size, 1)?;
-        let count = self.session.emit(buffer);
-        self.log.add(
-            seat,
-            slip,
-            Event::Emit(size),
-            replies::emitted(count, buffer),
-        );
-        Ok(count)
+        match self.book(seat, &Event::Emit(buffer.len()), buffer)? {
+            Reply::Emitted(count) => Ok(count),
+            _ => unreachable!(),
+        }
     }
+}
+
+/// The reply of a feed.
+fn told(fed: &Fed) -> Reply<Lent<'static>>
+    ensures reply { result ≡ reply.Fed fed.now }
+    ensures short { bytes_told result ≡ 0 }
+{
+    Reply::Fed(*fed)
 }

@@ -1,61 +1,42 @@
 //! Streams that are handed out, with a seat for each half.
 
-ghost use Rattle.std.specs.Prelude.{◌≡◌, ◌⊎◌, ◌+◌, ◌^◌, ◌<◌, ◌≤◌, [], IfOk, IfErr, OnOk};
+ghost use Rattle.std.specs.Prelude.{◌≡◌, ◌⊎◌, ◌+◌, ◌^◌, ◌<◌, ◌≤◌, [], None, IfOk, IfErr, OnOk};
 ghost use Rattle.indexmap.specs.IndexSet.{spare, IsUnchanged};
+ghost use Rattle.ymx_session.specs.Applied.{IsReplyTo};
 ghost use Rattle.ymx_booked.specs.Answers.{refused_seat};
-ghost use Rattle.ymx_booked.specs.Books.{Books, Opens, OpensWith, AcceptsOnce};
+ghost use Rattle.ymx_booked.specs.Books.{Books, Opens, OpensWith, AcceptsOnce, AsksStream, GivesStream, IsStreamOf, to_accept};
 ghost use Rattle.ymx_seats.specs.Views.{HasNumbered, IsWitnessed, whole_of, with_caller};
 ghost use Rattle.ymx_booked.specs.Gained.{GainedAlike};
-ghost use Rattle.ymx_booked.specs.Steps.{IsNext, StepsOpened, StepsOpenedWith, StepsAccepted};
+ghost use Rattle.ymx_booked.specs.Steps.{IsNext, StepsOpened, StepsOpenedWith, StepsAccepted, StepsGiven};
 ghost use Rattle.ymx_machine.specs.shared.Evidence.{evidence};
 
+use crate::book::carry_out;
 use crate::booked::Booked;
 use crate::faults::{HubFault, hub_fault};
 use crate::refused_seat::seats_left;
-use crate::replies;
 use indexmap::IndexSet;
 use std::alloc::Global;
-use ymx_model::{Call, Event, Lent};
+use ymx_model::{Call, CallFault, Event, Lent, Reply};
 use ymx_seats::{Log, Recorder, Seat};
 
 impl<R: Recorder> Booked<R> {
     /// Opens the next own stream, with a seat for each of its halves, which start after the entry of it.
     ///
     /// Without seats or memory for the halves and the entry, `Seats` or `Memory` comes, and nothing is done.
-    #[tactic(auto, using(crate::proofs::History::kept_after, crate::proofs::Journals::journaled_after, crate::proofs::Journals::witnessed_after))]
     pub fn open(&mut self, seat: &mut Seat<R>) -> Result<(u32, Seat<R>, Seat<R>), HubFault>
         ensures booked { Books R.KEEPS seat.old seat.new (Opens seat.old.number result) }
         ensures steps { StepsOpened R.KEEPS seat.old.number result self.old self.new }
         ensures alike { GainedAlike self.old.entries self.new.entries seat.old.entries seat.new.entries }
         ensures empty { IfOk result (λ made. (made.1.entries ≡ []) × (made.2.entries ≡ [])) }
     {
-        make_room(self.given, self.unspent, &mut self.half_spent)?;
-        let slip = self
-            .log
-            .prepare(self.alloc, seat, Event::Call(Call::Open), 0, 1)?;
-        let opened = self.session.open();
-        self.log.add(
-            seat,
-            slip,
-            Event::Call(Call::Open),
-            replies::opened(&opened),
-        );
-        match opened {
-            Ok(id) => {
-                let (first, second) = hand_out(
-                    &mut self.log,
-                    self.alloc,
-                    &mut self.given,
-                    &mut self.unspent,
-                );
-                Ok((id, first, second))
-            }
-            Err(fault) => Err(hub_fault(fault)),
+        match self.give(seat, &Event::Call(Call::Open)) {
+            Ok(Some((id, _, first, second))) => Ok((id, first, second)),
+            Ok(None) => unreachable!(),
+            Err(fault) => Err(fault),
         }
     }
 
     /// Opens the next own stream with these first bytes, as `open`, and says how many of them were taken.
-    #[tactic(auto, using(crate::proofs::History::kept_after, crate::proofs::Journals::journaled_after, crate::proofs::Journals::witnessed_after))]
     pub fn open_with(
         &mut self,
         seat: &mut Seat<R>,
@@ -66,38 +47,15 @@ impl<R: Recorder> Booked<R> {
         ensures alike { GainedAlike self.old.entries self.new.entries seat.old.entries seat.new.entries }
         ensures empty { IfOk result (λ made. (made.2.entries ≡ []) × (made.3.entries ≡ [])) }
     {
-        make_room(self.given, self.unspent, &mut self.half_spent)?;
-        let slip = self.log.prepare(
-            self.alloc,
-            seat,
-            Event::Call(Call::OpenWith(Lent::new(bytes))),
-            0,
-            1,
-        )?;
-        let opened = self.session.open_with(bytes);
-        self.log.add(
-            seat,
-            slip,
-            Event::Call(Call::OpenWith(Lent::new(bytes))),
-            replies::opened_with(&opened),
-        );
-        match opened {
-            Ok((id, taken)) => {
-                let (first, second) = hand_out(
-                    &mut self.log,
-                    self.alloc,
-                    &mut self.given,
-                    &mut self.unspent,
-                );
-                Ok((id, taken, first, second))
-            }
-            Err(fault) => Err(hub_fault(fault)),
+        match self.give(seat, &Event::Call(Call::OpenWith(Lent::new(bytes)))) {
+            Ok(Some(given)) => Ok(given),
+            Ok(None) => unreachable!(),
+            Err(fault) => Err(fault),
         }
     }
 
     /// One turn of an accept: the offered stream that came first, with a seat for each of its halves, or `None` if
     /// none is offered yet.
-    #[tactic(auto, using(crate::proofs::History::kept_after, crate::proofs::Journals::journaled_after, crate::proofs::Journals::witnessed_after))]
     pub fn accept(
         &mut self,
         seat: &mut Seat<R>,
@@ -106,31 +64,60 @@ impl<R: Recorder> Booked<R> {
         ensures steps { StepsAccepted R.KEEPS seat.old.number result self.old self.new }
         ensures alike { GainedAlike self.old.entries self.new.entries seat.old.entries seat.new.entries }
     {
+        match self.give(seat, &Event::Call(Call::Accept)) {
+            Ok(Some((id, _, first, second))) => Ok(Some((id, first, second))),
+            Ok(None) => Ok(None),
+            Err(fault) => Err(fault),
+        }
+    }
+
+    /// Makes a call that gives a stream: its id, how many first bytes were taken (0 where it carries none), and a seat for
+    /// each of its halves. `None` where an accept finds no stream offered.
+    #[tactic(auto, using(crate::proofs::History::kept_after, crate::proofs::Journals::journaled_after, crate::proofs::Journals::witnessed_after))]
+    fn give(
+        &mut self,
+        seat: &mut Seat<R>,
+        event: &Event<Lent<'_>>,
+    ) -> Result<Option<(u32, usize, Seat<R>, Seat<R>)>, HubFault>
+        requires { AsksStream event.now }
+        ensures booked { Books R.KEEPS seat.old seat.new (GivesStream event.now seat.old.number result) }
+        ensures steps { StepsGiven event.now R.KEEPS seat.old.number result self.old self.new }
+        ensures alike { GainedAlike self.old.entries self.new.entries seat.old.entries seat.new.entries }
+        ensures none { IfOk result (λ given. given ≡ None → event.now ≡ to_accept) }
+    {
         make_room(self.given, self.unspent, &mut self.half_spent)?;
-        let slip = self
-            .log
-            .prepare(self.alloc, seat, Event::Call(Call::Accept), 0, 1)?;
-        let accepted = self.session.accept();
-        self.log.add(
-            seat,
-            slip,
-            Event::Call(Call::Accept),
-            replies::accepted(&accepted),
-        );
-        let offer = match accepted {
-            Ok(offer) => offer,
-            Err(fault) => return Err(hub_fault(fault)),
-        };
-        let Some(id) = offer else {
-            return Ok(None);
-        };
-        let (first, second) = hand_out(
-            &mut self.log,
-            self.alloc,
-            &mut self.given,
-            &mut self.unspent,
-        );
-        Ok(Some((id, first, second)))
+        let slip = self.log.prepare(self.alloc, seat, event, 0, 1)?;
+        let told = carry_out(&mut self.log, &mut self.session, seat, slip, event, &mut []);
+        match given_by(event, &told) {
+            Ok(Some((id, taken))) => {
+                let (first, second) = hand_out(
+                    &mut self.log,
+                    self.alloc,
+                    &mut self.given,
+                    &mut self.unspent,
+                );
+                Ok(Some((id, taken, first, second)))
+            }
+            Ok(None) => Ok(None),
+            Err(fault) => Err(hub_fault(fault)),
+        }
+    }
+}
+
+/// Which stream a call gave that was answered so, and how many first bytes were taken: 0 where it carries none. `None` where
+/// an accept found no stream offered.
+fn given_by(event: &Event<Lent<'_>>, told: &Reply<usize>) -> Result<Option<(u32, usize)>, CallFault>
+    requires asks { AsksStream event.now }
+    requires answer { IsReplyTo event.now told.now }
+    ensures { IsStreamOf event.now told.now result }
+{
+    match told {
+        Reply::Opened(id) => Ok(Some((*id, 0))),
+        Reply::OpenedWith(id, taken) => Ok(Some((*id, *taken))),
+        Reply::Accepted(Some(id)) => Ok(Some((*id, 0))),
+        Reply::Accepted(None) => Ok(None),
+        Reply::Refused(fault) => Err(*fault),
+        _ => unreachable!(),
     }
 }
 

@@ -1,29 +1,8 @@
-use Rattle.std.proofs.Common.{◌∙◌, length, refl, ap}
-use Rattle.ymx_session.specs.Replies.{done_or}
-use Rattle.ymx_booked.specs.Books.{to_go_away}
-use Rattle.ymx_seats.specs.Views.{whole_of}
-use Rattle.ymx_booked.proofs.Books.{asks_one}
-use Rattle.ymx_booked.proofs.Extends.{behind_at, journal_at, entries_at, after_at}
-use Rattle.ymx_booked.proofs.Journals.{witnessed_by}
-use Rattle.ymx_booked.proofs.Steps.{asked, steps_of}
+use Rattle.ymx_booked.proofs.Books.{books_weaker}
 use Rattle.ymx_booked.proofs.booked.Booked.go_away.Goals as goal
 
-pub add-requires-clause-history : goal.add-requires-clause-history
-add-requires-clause-history g c = λ κs free.
-    witnessed_by g.R.Recorder.WITNESSED g.R.Naming.role g.R.Naming.config c.self.inside.role c.self.inside.config c.self.inside.log.journal _ c.self.inside.session _ c.self.inside.given _ _ to_go_away _ (done_or c.go_away-said.result)
-    c.prepare.ensures.journal refl c.done.ensures.reply c.self.invariant.4 c.go_away-said.ensures.event
+pub returns-in-Ok-Done-clause-booked : goal.returns-in-Ok-Done-clause-booked
+returns-in-Ok-Done-clause-booked g c = books_weaker g.R.Recorder.KEEPS c.args.seat.now c.ask.new.seat _ _ (λ es x. x) (rw c.in-Ok-Done.field-0-is at c.in-Ok-Done.ensures.booked)
 
-pub returns-clause-booked : goal.returns-clause-booked
-returns-clause-booked g c =
-    asks_one g.R.Recorder.KEEPS c.args.seat.now c.add.new.seat to_go_away done_or (length c.prepare.new.self.entries) c.self.inside.log.journal c.go_away-said.result c.answered.result c.answered.ensures
-    (c.add.ensures.number ∙ c.prepare.ensures.number) (c.add.ensures.start ∙ c.prepare.ensures.start)
-    (entries_at g.R.Recorder.KEEPS _ _ _ _ to_go_away _ (done_or c.go_away-said.result) _ _ _ c.add.ensures.seat_entries c.prepare.ensures.number refl c.done.ensures.reply c.prepare.ensures.seat_entries)
-    (c.add.ensures.seen ∙ ap whole_of (journal_at _ c.args.seat.now.number _ to_go_away _ (done_or c.go_away-said.result) _ c.self.inside.log.journal _ c.add.ensures.journal c.prepare.ensures.number refl c.done.ensures.reply c.prepare.ensures.journal))
-    (behind_at _ _ _ _ _ _ c.prepare.ensures.number c.prepare.ensures.seen c.prepare.ensures.journal c.add.ensures.behind)
-
-pub returns-clause-steps : goal.returns-clause-steps
-returns-clause-steps g c =
-    asked g.R.Recorder.KEEPS to_go_away done_or c.args.seat.now.number c.go_away-said.result c.answered.result _ _ c.answered.ensures
-    (steps_of g.R.Recorder.KEEPS to_go_away (done_or c.go_away-said.result) c.args.seat.now.number c.args.self.now _ _ c.self.inside.session _ c.self.inside.log.entries _ c.self.inside.log.journal _ _ _ _ _ (cc) c.go_away-said.ensures.event
-    (after_at g.R.Recorder.KEEPS _ c.args.seat.now.number _ to_go_away _ (done_or c.go_away-said.result) _ c.self.inside.log.entries _ c.add.ensures.entries c.prepare.ensures.number refl c.done.ensures.reply c.prepare.ensures.entries)
-    (journal_at _ c.args.seat.now.number _ to_go_away _ (done_or c.go_away-said.result) _ c.self.inside.log.journal _ c.add.ensures.journal c.prepare.ensures.number refl c.done.ensures.reply c.prepare.ensures.journal))
+pub returns-in-Err-clause-booked : goal.returns-in-Err-clause-booked
+returns-in-Err-clause-booked g c = books_weaker g.R.Recorder.KEEPS c.args.seat.now c.ask.new.seat _ _ (λ es x. x) c.in-Err.ensures.booked
