@@ -121,7 +121,7 @@ pub(crate) fn pump_out<R: Recorder, W: Wait, O: Outlet + Drop>(
     requires { R.KEEPS ≡ false }
 {
     let Ok(seat) = hub.seat(rt) else {
-        hub.give_up(rt);
+        hub.mute(rt);
         return PumpedOut {
             why: PumpWhy::NoSeat,
             moved: 0,

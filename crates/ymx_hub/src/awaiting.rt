@@ -1,17 +1,18 @@
 //! How a thread waits.
 //!
-//! To put a thread to sleep and to wake it costs some ten microseconds, and most waits here are shorter. So a thread
-//! looks for a while first, and lets others run between two looks. A ring costs no call of the system then.
+//! To put a thread to sleep and to wake it costs some ten microseconds, and most waits here are shorter. So a thread first
+//! looks for a while whether it was notified, and lets other threads run between two looks. Who notifies it then makes no
+//! call of the system.
 //!
 //! Where waits are long, looking is in vain, and takes the processor from those who work. So each purpose has its
-//! `SpinBudget`: few look at once, and after some looks in vain the next waits do without.
+//! `SpinBudget`: few threads look at once, and after some looks in vain the next waits go to sleep at once.
 
 use std::sync::atomic::{AtomicU64, Ordering};
 use std::sync::{Condvar, Mutex, MutexGuard, Wait};
 use std::thread;
 use std::time::Duration;
 
-/// How often a thread looks whether its bell has rung, before it sleeps.
+/// How often a thread looks whether it was notified, before it sleeps.
 const LOOKS: u32 = 200;
 
 /// How often a thread tries a lock, before it sleeps.
@@ -66,27 +67,27 @@ impl SpinBudget {
         true
     }
 
-    /// Looks for a while: whether the bell rang since it had rung so often.
-    fn look(&self, bell: &Condvar, rung: u64) -> bool {
+    /// Looks for a while: whether there was a notification behind the first `before` ones.
+    fn look(&self, condition: &Condvar, before: u64) -> bool {
         if !self.lets_look() {
             return false;
         }
         self.lookers.fetch_add(1, Ordering::SeqCst);
-        let has_rung = has_rung_soon(bell, rung);
+        let is_notified = is_notified_soon(condition, before);
         self.lookers.fetch_sub(1, Ordering::SeqCst);
-        if has_rung {
+        if is_notified {
             self.in_vain.store(0, Ordering::SeqCst);
         } else {
             self.in_vain.fetch_add(1, Ordering::SeqCst);
         }
-        has_rung
+        is_notified
     }
 }
 
-/// Looks for a while: whether the bell rang since it had rung so often.
-fn has_rung_soon(bell: &Condvar, rung: u64) -> bool {
+/// Looks for a while: whether there was a notification behind the first `before` ones.
+fn is_notified_soon(condition: &Condvar, before: u64) -> bool {
     for _ in 0..LOOKS {
-        if bell.notifications() != rung {
+        if condition.notifications() != before {
             return true;
         }
         thread::yield_now();
@@ -94,18 +95,18 @@ fn has_rung_soon(bell: &Condvar, rung: u64) -> bool {
     false
 }
 
-/// Waits until this bell rings, with the lock given up. As at any `Condvar` it may end with no ring.
-pub(crate) fn await_bell<'a, W: Wait, T>(
+/// Gives the lock up, waits for a notification, and takes the lock again. As at any `Condvar` it may end with none.
+pub(crate) fn await_wakeup<'a, W: Wait, T>(
     rt: &W,
-    bell: &Condvar,
+    condition: &Condvar,
     budget: &SpinBudget,
     guard: MutexGuard<'a, T>,
 ) -> MutexGuard<'a, T> {
-    // Whoever rings has taken the waiters under the lock, so its ring comes behind this line.
-    let rung = bell.notifications();
+    // Who notifies has taken the waiters under the lock, so its notification comes behind this line.
+    let before = condition.notifications();
     let mutex = MutexGuard::unlock(guard);
-    if !budget.look(bell, rung) {
-        bell.sleep(rt, rung, Duration::from_secs(NAP_SECONDS));
+    if !budget.look(condition, before) {
+        condition.sleep(rt, before, Duration::from_secs(NAP_SECONDS));
     }
     take_lock(rt, mutex)
 }

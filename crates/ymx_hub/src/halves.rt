@@ -15,10 +15,12 @@ use ymx_booked::HubFault;
 use ymx_memory::RefusedAllocation;
 use ymx_seats::{Recorder, Seat};
 
-/// The hub twice.
+/// Two handles of one hub, one for each half of a stream.
 pub(crate) type HubTwice<R> = (Arc<Hub<R>, Global>, Arc<Hub<R>, Global>);
 
-/// The hub twice, for the two halves of a stream.
+/// Two more handles of this hub, for the two halves of a stream that is to be opened or accepted. They are made before, so
+/// that a stream that is there has its halves. `RefusedAllocation` where there is no memory for a handle: then neither is
+/// made.
 pub(crate) fn hub_twice<R: Recorder>(
     hub: &Arc<Hub<R>, Global>,
 ) -> Result<HubTwice<R>, RefusedAllocation> {
@@ -88,8 +90,11 @@ impl<R: Recorder> WriteHalf<R> {
     /// Refused with `Closed`, with `Reset` where the peer has reset the stream, and with `Lost`, before it waits or
     /// while it does. `Memory` where there is none for an entry, or for more than 262,144 unsent bytes.
     pub fn write_all<W: Wait>(&mut self, rt: &W, bytes: &[u8]) -> Result<(), WriteFault>
+        // It stays the half of its stream.
         ensures same { self.new.id ≡ self.old.id }
+        // The entries of its turns stand in the list of its seat: together they took the bytes that were written.
         ensures booked { Books R.KEEPS self.old.seat self.new.seat (WriteTurns self.old.id bytes.now self.old.seat.number result) }
+        // At a fault these were a beginning of the bytes.
         ensures within { IfErr result (λ stop. stop.taken ≤ length bytes.now) }
     {
         self.hub.write_all(rt, &mut self.seat, self.id, bytes)
@@ -100,7 +105,9 @@ impl<R: Recorder> WriteHalf<R> {
     ///
     /// Refused with `Closed`, `Reset` and `Lost`. `Memory`, and nothing is done, where there is none for the entries.
     pub fn finish<W: Wait>(self, rt: &W) -> (Seat<R>, Result<(), HubFault>)
+        // The entries of this call stand in the list of its seat, with the answer.
         ensures booked { Books R.KEEPS self.seat result.0 (Spends (to_finish self.id) self.id self.seat.number result.1) }
+        // Where no entries are kept, it is not refused for want of memory.
         ensures off { R.KEEPS ≡ false → IsNotMemory result.1 }
     {
         let WriteHalf { hub, mut seat, id } = self;
@@ -114,7 +121,9 @@ impl<R: Recorder> WriteHalf<R> {
     /// Refused with `Closed`, with `Reset` where the peer was first, and with `Lost`. `Memory`, and nothing is done,
     /// where there is none for the entries.
     pub fn reset<W: Wait>(self, rt: &W) -> (Seat<R>, Result<(), HubFault>)
+        // The entries of this call stand in the list of its seat, with the answer.
         ensures booked { Books R.KEEPS self.seat result.0 (Spends (to_reset self.id) self.id self.seat.number result.1) }
+        // Where no entries are kept, it is not refused for want of memory.
         ensures off { R.KEEPS ≡ false → IsNotMemory result.1 }
     {
         let WriteHalf { hub, mut seat, id } = self;
@@ -138,12 +147,16 @@ impl<R: Recorder> ReadHalf<R> {
     /// does. `Memory` where there is none for an entry: no byte is read then.
     pub fn read<W: Wait>(&mut self, rt: &W, buffer: &mut [u8]) -> Result<usize, HubFault>
         requires { 0 < length buffer.old }
+        // It stays the half of its stream.
         ensures same { self.new.id ≡ self.old.id }
+        // The entries of its turns stand in the list of its seat: the last has the bytes at the front of the buffer, or the end.
         ensures booked { Books R.KEEPS self.old.seat self.new.seat (ReadTurns self.old.id (length buffer.old) buffer.new self.old.seat.number result) }
         ensures end { IfOk result (λ count. count ≡ 0 → Books R.KEEPS self.old.seat self.new.seat (EndsIn (λ told. told ≡ reply.ReadEnd))) }
+        // Behind those bytes the buffer is as it was, and all of it where the call is refused.
         ensures within { IfOk result (λ count. count ≤ length buffer.old) }
         ensures length { length buffer.new ≡ length buffer.old }
         ensures rest { MatchResult result (λ count. drop count buffer.new ≡ drop count buffer.old) (λ fault. buffer.new ≡ buffer.old) }
+        // Where no entries are kept, it is not refused for want of memory.
         ensures off { R.KEEPS ≡ false → IsNotMemory result }
     {
         self.hub.read(rt, &mut self.seat, self.id, buffer)
@@ -154,7 +167,9 @@ impl<R: Recorder> ReadHalf<R> {
     ///
     /// Refused with `Closed`, and `Memory` where there is none for the entry, only where the stream is given up.
     pub fn close<W: Wait>(self, rt: &W) -> (Seat<R>, Result<(), HubFault>)
+        // The entry of the stream that is given up stands in the list of its seat, with the answer; none where it is not given up.
         ensures booked { Books R.KEEPS self.seat result.0 (Closes self.id self.seat.number result.1) }
+        // Where no entries are kept, it is not refused for want of memory.
         ensures off { R.KEEPS ≡ false → IsNotMemory result.1 }
     {
         let ReadHalf { hub, mut seat, id } = self;

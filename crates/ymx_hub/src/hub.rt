@@ -12,8 +12,8 @@ ghost use Rattle.ymx_booked.specs.Answers.{IsNotMemory, IsSeatFault};
 ghost use Rattle.ymx_booked.specs.Books.{Books, Asks, Opens, OpensWith, Spends, Closes, to_finish, to_reset, to_go_away, to_close};
 
 use crate::awaiting::take_lock;
-use crate::bells::Bells;
 use crate::shared::Shared;
+use crate::wakeups::Wakeups;
 use std::alloc::Global;
 use std::sync::{Arc, Mutex, MutexGuard, Wait};
 use ymx_booked::{Booked, EndFault, HubFault};
@@ -26,7 +26,7 @@ use ymx_session::{Session, Touched};
 #[derive(Drop)]
 pub struct Hub<R: Recorder> {
     pub(crate) shared: Mutex<Shared<R>>,
-    pub(crate) bells: Bells,
+    pub(crate) wakeups: Wakeups,
 }
 
 impl<R: Recorder> Hub<R> {
@@ -72,7 +72,7 @@ impl<R: Recorder> Hub<R> {
         };
         let hub = Hub {
             shared: Mutex::new(Shared::new(booked, touched)),
-            bells: Bells::new(),
+            wakeups: Wakeups::new(),
         };
         ymx_memory::shared(alloc, hub)
     }
@@ -80,8 +80,10 @@ impl<R: Recorder> Hub<R> {
     /// A new seat, which has no entry; where there is a journal, none of the history that it has seen is its own. `Seats`
     /// after 4,294,967,295 of them, and `Closed` once the transcript was handed out.
     pub fn seat<W: Wait>(&self, rt: &W) -> Result<Seat<R>, HubFault>
+        // The seat has made no call.
         ensures empty { IfOk result (λ seat. seat.entries ≡ []) }
         ensures newcomer { IfOk result (λ seat. IsNewcomer seat.number seat.seen) }
+        // A refusal has one of two reasons, and memory is none of them.
         ensures refused { IfErr result IsSeatFault }
     {
         take_lock(rt, &self.shared).booked.seat()
@@ -91,8 +93,10 @@ impl<R: Recorder> Hub<R> {
     /// later calls of each come behind all that the other has seen. It is no event of the session.
     #[tactic(auto, using(crate::proofs::Shown::grown))]
     pub fn meet<W: Wait>(&self, rt: &W, one: &mut Seat<R>, other: &mut Seat<R>)
+        // Each seat has seen all that it had seen before, and perhaps more; its list stays.
         ensures one { IsShown one.old one.new }
         ensures other { IsShown other.old other.new }
+        // Both have then seen the same.
         ensures same { one.new.seen ≡ other.new.seen }
     {
         let mut shared = take_lock(rt, &self.shared);
@@ -110,7 +114,7 @@ impl<R: Recorder> Hub<R> {
     /// Wakes a write pump where something is due now, and nothing was.
     pub(crate) fn tell_due(&self, was_due: bool, is_due: bool) {
         if is_due && !was_due {
-            self.bells.due.notify_one();
+            self.wakeups.due.notify_one();
         }
     }
 
@@ -119,8 +123,8 @@ impl<R: Recorder> Hub<R> {
         let mut shared = shared;
         let woken = shared.take_all();
         drop(shared);
-        self.bells.ring(&woken);
-        self.bells.due.notify_all();
+        self.wakeups.notify(&woken);
+        self.wakeups.due.notify_all();
     }
 
     /// Opens a stream, with a seat for each of its halves.
@@ -182,8 +186,8 @@ impl<R: Recorder> Hub<R> {
         let was_due = shared.booked.due();
         let was_reset = shared.booked.reset(seat, id);
         self.unlock(shared, was_due);
-        self.bells.reader(id).notify_all();
-        self.bells.writer(id).notify_all();
+        self.wakeups.reader(id).notify_all();
+        self.wakeups.writer(id).notify_all();
         was_reset
     }
 
@@ -207,7 +211,9 @@ impl<R: Recorder> Hub<R> {
     /// Takes no more streams of the peer's. Refused, in this order, with `Closed` and `Lost`. `Memory`, and nothing is
     /// done, where there is none for the entry.
     pub fn go_away<W: Wait>(&self, rt: &W, seat: &mut Seat<R>) -> Result<(), HubFault>
+        // Its one entry stands in the list of its seat, with the answer.
         ensures booked { Books R.KEEPS seat.old seat.new (Asks to_go_away done_or seat.old.number result) }
+        // Where no entries are kept, it is not refused for want of memory.
         ensures off { R.KEEPS ≡ false → IsNotMemory result }
     {
         let mut shared = take_lock(rt, &self.shared);
@@ -220,7 +226,9 @@ impl<R: Recorder> Hub<R> {
     /// Closes the session at once, and wakes all who wait: they answer `Closed`. `Memory`, and it is not closed, where
     /// there is none for the entry.
     pub fn close<W: Wait>(&self, rt: &W, seat: &mut Seat<R>) -> Result<(), HubFault>
+        // Its one entry stands in the list of its seat, with the answer.
         ensures booked { Books R.KEEPS seat.old seat.new (Asks to_close done_or seat.old.number result) }
+        // Where no entries are kept, it is not refused for want of memory.
         ensures off { R.KEEPS ≡ false → IsNotMemory result }
     {
         let mut shared = take_lock(rt, &self.shared);

@@ -1,22 +1,22 @@
 //! A running session: one lock round it, and many callers in many threads.
 //!
 //! `Hub` is the session under its lock. `Opener` and `Acceptor` hand out streams, each as a `WriteHalf` and a
-//! `ReadHalf`. Each caller has a seat, in which its calls are booked. `moving` has the turns of the pumps; `bells`
-//! and `shared` say who wakes whom, and `awaiting` how.
+//! `ReadHalf`. Each caller has a seat, in which its calls are booked. `moving` has the turns of the pumps; `wakeups`
+//! and `shared` say who waits and who is woken, and `awaiting` how a thread waits.
 #![tactic(auto)]
 
 mod acceptor;
 mod awaiting;
-mod bell_set;
-mod bells;
 mod halves;
 mod hub;
 mod moving;
 mod opener;
 mod shared;
+mod slot_set;
 mod status;
 mod undrained;
 mod waiting_calls;
+mod wakeups;
 mod write_fault;
 
 pub use acceptor::Acceptor;

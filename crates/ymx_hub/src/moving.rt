@@ -6,7 +6,7 @@ ghost use Rattle.ymx_machine.specs.declared.types.Reply.TheVariants as reply;
 ghost use Rattle.ymx_booked.specs.Books.{Books, Does};
 ghost use Rattle.ymx_hub.specs.Pumped.{EmitsOnce, emitted_count};
 
-use crate::awaiting::{await_bell, take_lock};
+use crate::awaiting::{await_wakeup, take_lock};
 use crate::hub::Hub;
 use crate::shared::Shared;
 use std::sync::{MutexGuard, Wait};
@@ -34,8 +34,11 @@ impl<R: Recorder> Hub<R> {
         seat: &mut Seat<R>,
         bytes: &[u8],
     ) -> Result<Fed, RefusedAllocation>
+        // Its one entry stands in the list of its seat, with these bytes and the answer.
         ensures booked { Books R.KEEPS seat.old seat.new (Does (event.Feed bytes.now) reply.Fed seat.old.number result) }
+        // It takes a beginning of the bytes.
         ensures within { IfOk result (λ fed. fed.taken ≤ length bytes.now) }
+        // Where no entries are kept, it is not refused for want of memory.
         ensures off { R.KEEPS ≡ false → IsOk result }
     {
         let mut shared = take_lock(rt, &self.shared);
@@ -67,13 +70,15 @@ impl<R: Recorder> Hub<R> {
         shared.is_full = why == Why::Held;
         let woken = shared.take_concerned(offered_before);
         self.unlock(shared, was_due);
-        self.bells.ring(&woken);
+        self.wakeups.notify(&woken);
     }
 
     /// The peer's bytes have ended: wakes all who wait. `RefusedAllocation`, and nothing is done, where there is no
     /// memory for the entry.
     pub fn feed_end<W: Wait>(&self, rt: &W, seat: &mut Seat<R>) -> Result<(), RefusedAllocation>
+        // Its one entry stands in the list of its seat.
         ensures booked { Books R.KEEPS seat.old seat.new (Does event.FeedEnd (λ _. reply.Done) seat.old.number result) }
+        // Where no entries are kept, it is not refused for want of memory.
         ensures off { R.KEEPS ≡ false → IsOk result }
     {
         let mut shared = take_lock(rt, &self.shared);
@@ -87,8 +92,8 @@ impl<R: Recorder> Hub<R> {
     pub fn wait_for_room<W: Wait>(&self, rt: &W) {
         let mut shared = take_lock(rt, &self.shared);
         if shared.is_full && shared.booked.status() == Status::Running {
-            shared.waiters.emptiers = true;
-            drop(self.bells.emptied.wait(rt, shared));
+            shared.waiters.drainers = true;
+            drop(self.wakeups.drained.wait(rt, shared));
         }
     }
 
@@ -100,10 +105,13 @@ impl<R: Recorder> Hub<R> {
         seat: &mut Seat<R>,
         buffer: &mut [u8],
     ) -> Result<Turn, RefusedAllocation>
+        // Its one entry stands in the list of its seat, with the bytes at the front of the buffer; none where nothing is due.
         ensures booked { Books R.KEEPS seat.old seat.new (EmitsOnce (length buffer.old) buffer.new seat.old.number result) }
+        // Behind those bytes the buffer is as it was.
         ensures within { IfOk result (λ turn. emitted_count turn ≤ length buffer.old) }
         ensures length { length buffer.new ≡ length buffer.old }
         ensures rest { MatchResult result (λ turn. drop (emitted_count turn) buffer.new ≡ drop (emitted_count turn) buffer.old) (λ fault. buffer.new ≡ buffer.old) }
+        // Where no entries are kept, it is not refused for want of memory.
         ensures off { R.KEEPS ≡ false → IsOk result }
     {
         let mut shared = take_lock(rt, &self.shared);
@@ -115,10 +123,10 @@ impl<R: Recorder> Hub<R> {
         }
         let count = shared.booked.emit(seat, buffer)?;
         shared.is_full = false;
-        let has_emptiers = shared.waiters.take_emptiers();
+        let has_drainers = shared.waiters.take_drainers();
         drop(shared);
-        if has_emptiers {
-            self.bells.emptied.notify_all();
+        if has_drainers {
+            self.wakeups.drained.notify_all();
         }
         Ok(Turn::Emitted(count))
     }
@@ -127,18 +135,19 @@ impl<R: Recorder> Hub<R> {
     pub fn wait_until_due<W: Wait>(&self, rt: &W) {
         let shared = take_lock(rt, &self.shared);
         if !shared.booked.due() && shared.booked.status() == Status::Running {
-            drop(await_bell(rt, &self.bells.due, &self.bells.budgets.pumping, shared));
+            drop(await_wakeup(rt, &self.wakeups.due, &self.wakeups.budgets.pumping, shared));
         }
     }
 
-    /// Notes that a write pump has given up, so that nothing goes out any more, and wakes those who drain.
-    pub fn give_up<W: Wait>(&self, rt: &W) {
+    /// Notes that no write pump goes on, so that nothing goes out any more, and wakes those who drain: `drain` answers
+    /// `Undrained` from then on where something is due. It is no event of the session.
+    pub fn mute<W: Wait>(&self, rt: &W) {
         let mut shared = take_lock(rt, &self.shared);
         shared.is_mute = true;
-        let has_emptiers = shared.waiters.take_emptiers();
+        let has_drainers = shared.waiters.take_drainers();
         drop(shared);
-        if has_emptiers {
-            self.bells.emptied.notify_all();
+        if has_drainers {
+            self.wakeups.drained.notify_all();
         }
     }
 }

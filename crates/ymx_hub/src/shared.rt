@@ -7,7 +7,7 @@ ghost use Rattle.ymx_session.specs.Replies.{wrote_or, read_or, got_count};
 ghost use Rattle.ymx_booked.specs.Answers.{IsNotMemory, GivesSome, took_count};
 ghost use Rattle.ymx_booked.specs.Books.{Books, Asks, Does, to_write, to_read};
 
-use crate::bells::Waiters;
+use crate::wakeups::Waiters;
 use ymx_booked::{Booked, HubFault};
 use ymx_memory::RefusedAllocation;
 use ymx_model::{Fed, Got, Wrote};
@@ -115,8 +115,8 @@ impl<R: Recorder> Shared<R> {
         if self.touched.has_pong() {
             self.waiters.wake_pingers(&mut woken);
         }
-        if !self.booked.due() && self.waiters.take_emptiers() {
-            woken.emptiers = true;
+        if !self.booked.due() && self.waiters.take_drainers() {
+            woken.drainers = true;
         }
         woken
     }

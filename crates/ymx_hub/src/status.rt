@@ -16,7 +16,9 @@ impl<R: Recorder> Hub<R> {
     /// journal, it shows the whole history to the seat, and the answer is of the session that this history leads to.
     #[tactic(auto, using(crate::proofs::Shown::grown))]
     pub fn is_running<W: Wait>(&self, rt: &W, seat: &mut Seat<R>) -> bool
+        // The list of the seat stays, and it has seen all that it had seen before.
         ensures shown { IsShown seat.old seat.new }
+        // The answer is of the session that the history in its sight leads to.
         ensures status { (s : Session) × IsHistoryOf R.WITNESSED R.role R.config seat.new.seen s × (result ≡ is_running s.status) }
     {
         let mut shared = take_lock(rt, &self.shared);

@@ -10,7 +10,7 @@ ghost use Rattle.ymx_booked.specs.Shown.{IsHistoryOf};
 ghost use Rattle.ymx_hub.specs.Shown.{IsShown};
 ghost use Rattle.ymx_hub.specs.Turns.{AcceptsInTurns, ReadTurns, EndsIn, PingTurns, WriteTurns};
 
-use crate::awaiting::{await_bell, take_lock};
+use crate::awaiting::{await_wakeup, take_lock};
 use crate::hub::Hub;
 use crate::undrained::Undrained;
 use crate::write_fault::WriteFault;
@@ -39,7 +39,7 @@ impl<R: Recorder> Hub<R> {
                 }
                 Ok(None) => {
                     shared.waiters.add_acceptor();
-                    shared = self.bells.offered.wait(rt, shared);
+                    shared = self.wakeups.offered.wait(rt, shared);
                     shared.waiters.remove_acceptor();
                     was_woken = true;
                 }
@@ -47,7 +47,7 @@ impl<R: Recorder> Hub<R> {
                     let refused = none_or(fault);
                     if was_woken && refused.is_err() {
                         // The stream is still offered, and another may have memory for it.
-                        self.bells.offered.notify_one();
+                        self.wakeups.offered.notify_one();
                     }
                     return refused;
                 }
@@ -82,10 +82,10 @@ impl<R: Recorder> Hub<R> {
                 }
                 Ok(Got::End) => return Ok(0),
                 Ok(Got::Wait) => {
-                    shared = await_bell(
+                    shared = await_wakeup(
                         rt,
-                        self.bells.reader(id),
-                        &self.bells.budgets.reading,
+                        self.wakeups.reader(id),
+                        &self.wakeups.budgets.reading,
                         shared,
                     );
                 }
@@ -120,10 +120,10 @@ impl<R: Recorder> Hub<R> {
                     self.tell_due(was_due, shared.booked.due());
                 }
                 Ok(Wrote::Wait) => {
-                    shared = await_bell(
+                    shared = await_wakeup(
                         rt,
-                        self.bells.writer(id),
-                        &self.bells.budgets.writing,
+                        self.wakeups.writer(id),
+                        &self.wakeups.budgets.writing,
                         shared,
                     );
                 }
@@ -138,7 +138,9 @@ impl<R: Recorder> Hub<R> {
     /// Refused with `Closed`, `Lost`, and `PingsPending` while 16 pings wait; while it waits with `Closed` or `Lost`.
     /// `Memory` where there is none for an entry; the ping may then have been asked already.
     pub fn ping<W: Wait>(&self, rt: &W, seat: &mut Seat<R>) -> Result<u32, HubFault>
+        // The entries of the ping, and of each look for its answer, stand in the list of its seat, in their order.
         ensures booked { Books R.KEEPS seat.old seat.new (PingTurns seat.old.number result) }
+        // Where no entries are kept, it is not refused for want of memory.
         ensures off { R.KEEPS ≡ false → IsNotMemory result }
     {
         let mut shared = take_lock(rt, &self.shared);
@@ -153,10 +155,10 @@ impl<R: Recorder> Hub<R> {
                 Ok(true) => return Ok(number),
                 Ok(false) => {
                     shared.waiters.pingers = true;
-                    shared = await_bell(
+                    shared = await_wakeup(
                         rt,
-                        &self.bells.ponged,
-                        &self.bells.budgets.pinging,
+                        &self.wakeups.ponged,
+                        &self.wakeups.budgets.pinging,
                         shared,
                     );
                 }
@@ -173,7 +175,9 @@ impl<R: Recorder> Hub<R> {
     /// goes out any more.
     #[tactic(auto, using(crate::proofs::Shown::grown))]
     pub fn drain<W: Wait>(&self, rt: &W, seat: &mut Seat<R>) -> Result<(), Undrained>
+        // The list of the seat stays, and it has seen all that it had seen before.
         ensures shown { IsShown seat.old seat.new }
+        // The answer is of the session that the history in its sight leads to.
         ensures due { (s : Session) × IsHistoryOf R.WITNESSED R.role R.config seat.new.seen s × MatchResult result (λ _. is_ready s ≡ false) (λ _. is_ready s ≡ true) }
     {
         let mut shared = take_lock(rt, &self.shared);
@@ -186,8 +190,8 @@ impl<R: Recorder> Hub<R> {
                 shared.booked.show(seat);
                 return Err(Undrained);
             }
-            shared.waiters.emptiers = true;
-            shared = self.bells.emptied.wait(rt, shared);
+            shared.waiters.drainers = true;
+            shared = self.wakeups.drained.wait(rt, shared);
         }
         unreachable!()
     }

@@ -32,7 +32,7 @@ fn write_if_begun<R: Recorder, W: Wait, O: Outlet, G: Gate>(
     ensures unrun { result.why ≡ PumpWhy.NoThread → (result.moved ≡ 0) × (seat.new ≡ seat.old) × (writer.new ≡ writer.old) }
 {
     if !begin(rt, start) {
-        hub.give_up(rt);
+        hub.mute(rt);
         return Stop::at_once(PumpWhy::NoThread);
     }
     write_on(rt, hub, seat, writer, gate, buffer)

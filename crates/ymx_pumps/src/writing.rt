@@ -36,7 +36,7 @@ fn lose_writer<R: Recorder, W: Wait>(rt: &W, hub: &Hub<R>, seat: &mut Seat<R>) -
     ensures reason { (result ≡ PumpWhy.Device) ⊎ ((R.KEEPS ≡ true) × (result ≡ PumpWhy.Memory evidence)) }
 {
     let ended = hub.feed_end(rt, seat);
-    hub.give_up(rt);
+    hub.mute(rt);
     match ended {
         Ok(()) => PumpWhy::Device,
         Err(refused) => PumpWhy::Memory(refused),
@@ -94,7 +94,7 @@ fn write_turn<R: Recorder, W: Wait, O: Outlet, G: Gate>(
         }
         Ok(Turn::Over) => Err(Stop::at_once(end_writer(rt, hub, seat, writer))),
         Err(refused) => {
-            hub.give_up(rt);
+            hub.mute(rt);
             Err(Stop::at_once(PumpWhy::Memory(refused)))
         }
     }

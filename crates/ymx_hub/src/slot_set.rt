@@ -1,42 +1,42 @@
-//! Sets of the bells that streams share.
+//! Sets of slots. Streams share 1,024 slots, by their ids.
 
 ghost use Rattle.std.specs.Prelude.{◌<◌};
 
 use std::mem;
 
-/// A set of the bells 0 to 1,023, a bit each. To add, take or look up a bell touches two words, and to go over the
+/// A set of the slots 0 to 1,023, a bit each. To add, take or look up a slot touches two words, and to go over the
 /// set those that have bits.
 #[derive(Drop)]
-pub(crate) struct BellSet {
+pub(crate) struct SlotSet {
     /// A bit for each of the words that has bits.
     filled: u64,
     words: [u64; 16],
 }
 
-impl BellSet {
-    /// No bell.
-    pub(crate) fn none() -> BellSet {
-        BellSet {
+impl SlotSet {
+    /// No slot.
+    pub(crate) fn none() -> SlotSet {
+        SlotSet {
             filled: 0,
             words: [0; 16],
         }
     }
 
-    /// Adds a bell.
-    pub(crate) fn add(&mut self, bell: u32)
-        requires { bell < 1_024 }
+    /// Adds a slot.
+    pub(crate) fn add(&mut self, slot: u32)
+        requires { slot < 1_024 }
     {
-        let place = bell / 64;
-        self.words[place as usize] |= 1 << (bell % 64);
+        let place = slot / 64;
+        self.words[place as usize] |= 1 << (slot % 64);
         self.filled |= 1 << place;
     }
 
-    /// Takes a bell out: whether it was in the set.
-    pub(crate) fn take(&mut self, bell: u32) -> bool
-        requires { bell < 1_024 }
+    /// Takes a slot out: whether it was in the set.
+    pub(crate) fn take(&mut self, slot: u32) -> bool
+        requires { slot < 1_024 }
     {
-        let place = bell / 64;
-        let bit = 1u64 << (bell % 64);
+        let place = slot / 64;
+        let bit = 1u64 << (slot % 64);
         let word = self.words[place as usize];
         if word & bit == 0 {
             return false;
@@ -49,16 +49,16 @@ impl BellSet {
         true
     }
 
-    /// Whether a bell is in the set.
-    pub(crate) fn has(&self, bell: u32) -> bool
-        requires { bell < 1_024 }
+    /// Whether a slot is in the set.
+    pub(crate) fn has(&self, slot: u32) -> bool
+        requires { slot < 1_024 }
     {
-        let place = bell / 64;
-        self.words[place as usize] & (1 << (bell % 64)) != 0
+        let place = slot / 64;
+        self.words[place as usize] & (1 << (slot % 64)) != 0
     }
 
-    /// Moves all its bells to another set.
-    pub(crate) fn move_to(&mut self, other: &mut BellSet) {
+    /// Moves all its slots to another set.
+    pub(crate) fn move_to(&mut self, other: &mut SlotSet) {
         let mut filled = mem::take(&mut self.filled);
         other.filled |= filled;
         for _ in 0..filled.count_ones() {
@@ -72,7 +72,7 @@ impl BellSet {
         self.filled
     }
 
-    /// The word at this place: the bells from 64 times its place on.
+    /// The word at this place: the slots from 64 times its place on.
     pub(crate) fn word(&self, place: u32) -> u64
         requires { place < 16 }
     {

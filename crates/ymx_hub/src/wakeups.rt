@@ -1,70 +1,71 @@
-//! Who wakes whom.
+//! Who waits, and who is woken.
 //!
-//! Whoever waits says so under the lock, in `Waiters`, and sleeps on the bell of its purpose; for the bytes or the
-//! credit of a stream that is one of 1,024, which streams share by their ids. Whoever changes what others may wait for
-//! takes the waiters under the lock, and rings their bells behind it. So a bell that nobody waits at costs nothing,
-//! and no wake-up is lost: who waits has said so before its event could come.
+//! A thread that has to wait says so under the lock, in `Waiters`. Then it sleeps on a condition variable. There is one
+//! for each purpose. Those who read or write a stream sleep on one of 1,024, its slot, which streams share by their ids.
 //!
-//! Those who wait for an offered stream are woken one by one. Each counts itself before it sleeps, and takes itself
-//! back once it has the lock again, so the count is never below the number of sleepers. A feed rings as often as more
-//! streams are offered behind it than before, but no more often than the count, and a ring wakes a sleeper if there is
-//! one. So for each offered stream an acceptor is awake or a ring is to come, or else a ring is to come for each
-//! sleeper. Who is woken and finds the stream taken by another sleeps again: nothing is offered then. Who is woken and
-//! refused leaves the stream, and rings once more.
+//! A thread that changes what others wait for takes those waiters out, still under the lock. It gives the lock up, and
+//! notifies their condition variables. So a condition variable that nobody waits at costs nothing. No wake-up is lost
+//! either: a waiter has said that it waits before its event can come.
 //!
-//! Whom a feed concerns the session says: a stream that a feed doesn't touch is as it was, so whoever waits for it
-//! would have to wait again. Of the streams that it touches, those are woken whose call would no longer wait: a reader
-//! where bytes, the end or a reset came, a writer where credit or a reset did. Who would still wait stays among the
-//! waiters, for the next feed. Once the session has stopped running, all are woken.
+//! Those who wait for an offered stream are woken one by one, as one stream serves one of them. Each adds one to a count
+//! before it sleeps, and takes it back once it has the lock again. So the count is never below the number of sleepers. A
+//! feed notifies once for each stream that it offers, but no more often than the count says. So for each offered stream
+//! a thread is awake or will be woken. A thread that wakes and finds the stream taken sleeps again, as nothing is
+//! offered then. A thread that wakes and is refused leaves the stream, and notifies once more.
+//!
+//! The session says which streams a feed touched. A stream that was not touched is as it was, so who waits for it would
+//! have to wait again. Of the streams that were touched, a reader is woken where bytes, the end or a reset came, and a
+//! writer where credit or a reset came. Who would still have to wait stays among the waiters, for the next feed. Once
+//! the session has stopped running, all are woken.
 
 ghost use Rattle.std.specs.Prelude.{◌<◌};
 
 use crate::awaiting::SpinBudget;
-use crate::bell_set::{BellSet, take_lowest};
+use crate::slot_set::{SlotSet, take_lowest};
 use std::sync::Condvar;
 use std::{array, mem};
 
-/// How many bells the streams share, for reading and for writing each.
-const BELLS: u32 = 1_024;
+/// How many slots the streams share, for reading and for writing each.
+const SLOTS: u32 = 1_024;
 
 /// Who waits, and for what; or who is to be woken.
 #[derive(Drop)]
 pub(crate) struct Waiters {
-    /// The bells of those who read a stream.
-    readers: BellSet,
-    /// The bells of those who write a stream.
-    writers: BellSet,
+    /// The slots of those who read a stream.
+    readers: SlotSet,
+    /// The slots of those who write a stream.
+    writers: SlotSet,
     /// How many wait for a stream that is offered.
     acceptors: usize,
     /// Somebody waits for the answer to a ping.
     pub(crate) pingers: bool,
     /// Somebody waits until nothing is due, or until fewer answers are unsent.
-    pub(crate) emptiers: bool,
+    pub(crate) drainers: bool,
 }
 
 impl Waiters {
     /// Nobody.
     pub(crate) fn none() -> Waiters {
         Waiters {
-            readers: BellSet::none(),
-            writers: BellSet::none(),
+            readers: SlotSet::none(),
+            writers: SlotSet::none(),
             acceptors: 0,
             pingers: false,
-            emptiers: false,
+            drainers: false,
         }
     }
 
-    /// Somebody will wait who reads this stream.
+    /// Notes that somebody will wait for bytes of this stream.
     pub(crate) fn add_reader(&mut self, id: u32) {
-        self.readers.add(bell_of(id));
+        self.readers.add(slot_of(id));
     }
 
-    /// Somebody will wait who writes this stream.
+    /// Notes that somebody will wait for credit of this stream.
     pub(crate) fn add_writer(&mut self, id: u32) {
-        self.writers.add(bell_of(id));
+        self.writers.add(slot_of(id));
     }
 
-    /// One more will wait for an offered stream.
+    /// Notes that one more will wait for an offered stream.
     pub(crate) fn add_acceptor(&mut self) {
         self.acceptors = self.acceptors.saturating_add(1);
     }
@@ -74,29 +75,29 @@ impl Waiters {
         self.acceptors = self.acceptors.saturating_sub(1);
     }
 
-    /// Whether somebody may wait who reads this stream.
+    /// Whether somebody may wait for bytes of this stream: true too where one waits at another stream of its slot.
     pub(crate) fn has_reader(&self, id: u32) -> bool {
-        self.readers.has(bell_of(id))
+        self.readers.has(slot_of(id))
     }
 
-    /// Whether somebody may wait who writes this stream.
+    /// Whether somebody may wait for credit of this stream: true too where one waits at another stream of its slot.
     pub(crate) fn has_writer(&self, id: u32) -> bool {
-        self.writers.has(bell_of(id))
+        self.writers.has(slot_of(id))
     }
 
     /// Moves who reads this stream to those who are woken.
     pub(crate) fn wake_reader(&mut self, id: u32, woken: &mut Waiters) {
-        let bell = bell_of(id);
-        if self.readers.take(bell) {
-            woken.readers.add(bell);
+        let slot = slot_of(id);
+        if self.readers.take(slot) {
+            woken.readers.add(slot);
         }
     }
 
     /// Moves who writes this stream to those who are woken.
     pub(crate) fn wake_writer(&mut self, id: u32, woken: &mut Waiters) {
-        let bell = bell_of(id);
-        if self.writers.take(bell) {
-            woken.writers.add(bell);
+        let slot = slot_of(id);
+        if self.writers.take(slot) {
+            woken.writers.add(slot);
         }
     }
 
@@ -113,8 +114,8 @@ impl Waiters {
     }
 
     /// Takes those who wait until bytes went out: whether there are any.
-    pub(crate) fn take_emptiers(&mut self) -> bool {
-        mem::take(&mut self.emptiers)
+    pub(crate) fn take_drainers(&mut self) -> bool {
+        mem::take(&mut self.drainers)
     }
 
     /// Moves who reads or writes any stream to those who are woken.
@@ -128,22 +129,22 @@ impl Waiters {
         self.wake_streams(woken);
         self.wake_acceptors(self.acceptors, woken);
         self.wake_pingers(woken);
-        if self.take_emptiers() {
-            woken.emptiers = true;
+        if self.take_drainers() {
+            woken.drainers = true;
         }
     }
 }
 
-/// The bell of a stream: ids of one side differ by two.
-fn bell_of(id: u32) -> u32
+/// The slot of a stream, 0 to 1,023. Ids of one side differ by two, so neighbours have slots of their own.
+fn slot_of(id: u32) -> u32
     ensures { result < 1_024 }
 {
-    id / 2 % BELLS
+    id / 2 % SLOTS
 }
 
-/// What waiters sleep on.
+/// The condition variables that waiters sleep on.
 #[derive(Drop)]
-pub(crate) struct Bells {
+pub(crate) struct Wakeups {
     readers: [Condvar; 1_024],
     writers: [Condvar; 1_024],
     /// A stream is offered.
@@ -151,7 +152,7 @@ pub(crate) struct Bells {
     /// The answer to a ping is back.
     pub(crate) ponged: Condvar,
     /// Bytes went out.
-    pub(crate) emptied: Condvar,
+    pub(crate) drained: Condvar,
     /// Something is due.
     pub(crate) due: Condvar,
     pub(crate) budgets: Budgets,
@@ -181,55 +182,55 @@ impl Budgets {
     }
 }
 
-impl Bells {
-    /// Bells that nobody waits at. Takes no memory.
-    pub(crate) fn new() -> Bells {
-        Bells {
+impl Wakeups {
+    /// Wakeups that nobody waits at. Takes no memory.
+    pub(crate) fn new() -> Wakeups {
+        Wakeups {
             readers: array::from_fn(|_| Condvar::new()),
             writers: array::from_fn(|_| Condvar::new()),
             offered: Condvar::new(),
             ponged: Condvar::new(),
-            emptied: Condvar::new(),
+            drained: Condvar::new(),
             due: Condvar::new(),
             budgets: Budgets::new(),
         }
     }
 
-    /// The bell of who reads this stream.
+    /// What those who read this stream sleep on, and who reads another stream of its slot.
     pub(crate) fn reader(&self, id: u32) -> &Condvar {
-        &self.readers[bell_of(id) as usize]
+        &self.readers[slot_of(id) as usize]
     }
 
-    /// The bell of who writes this stream.
+    /// What those who write this stream sleep on, and who writes another stream of its slot.
     pub(crate) fn writer(&self, id: u32) -> &Condvar {
-        &self.writers[bell_of(id) as usize]
+        &self.writers[slot_of(id) as usize]
     }
 
-    /// Wakes these waiters.
-    pub(crate) fn ring(&self, waiters: &Waiters) {
-        ring_set(&self.readers, &waiters.readers);
-        ring_set(&self.writers, &waiters.writers);
+    /// Wakes these waiters. The lock is not held then.
+    pub(crate) fn notify(&self, waiters: &Waiters) {
+        notify_set(&self.readers, &waiters.readers);
+        notify_set(&self.writers, &waiters.writers);
         for _ in 0..waiters.acceptors {
             self.offered.notify_one();
         }
         if waiters.pingers {
             self.ponged.notify_all();
         }
-        if waiters.emptiers {
-            self.emptied.notify_all();
+        if waiters.drainers {
+            self.drained.notify_all();
         }
     }
 }
 
-/// Rings the bells of this set.
-fn ring_set(bells: &[Condvar; 1_024], set: &BellSet) {
+/// Wakes all who sleep at the slots of this set.
+fn notify_set(conditions: &[Condvar; 1_024], set: &SlotSet) {
     let mut filled = set.filled();
     for _ in 0..filled.count_ones() {
         let place = take_lowest(&mut filled) % 16;
         let mut word = set.word(place);
         for _ in 0..word.count_ones() {
-            let bell = place * 64 + take_lowest(&mut word);
-            bells[bell as usize].notify_all();
+            let slot = place * 64 + take_lowest(&mut word);
+            conditions[slot as usize].notify_all();
         }
     }
 }
