@@ -1,5 +1,6 @@
 /* The C half of libymx: each call looks whether its pointers are NULL, and then calls the proved function of its
- * name. The proved functions are those of crates/ymx_c. They ask for pointers that aren't NULL, even to no bytes. */
+ * name. The proved functions are those of crates/ymx_c. They ask for pointers that aren't NULL, even to no bytes. Of a
+ * role they ask nothing: all but 0 is a server to them, so ymx_new refuses here what is no role. */
 #include "ymx.h"
 
 /* Two rather than one, so that YMX_VERSION_MAJOR is replaced by its number before it is made a text. */
@@ -53,6 +54,7 @@ static int is_bad(const ymx_session *session, const void *bytes, size_t len) {
 int64_t ymx_new(ymx_role role, uint32_t window, uint32_t first, ymx_session **out) {
     if (out == NULL) return YMX_E_NULL;
     *out = NULL;
+    if (role != YMX_CLIENT && role != YMX_SERVER) return YMX_E_BAD_ROLE;
     return ymx_core_new(role == YMX_CLIENT ? 0 : 1, window, first, out);
 }
 
@@ -212,8 +214,15 @@ const char *ymx_error_name(int64_t code) {
     case YMX_E_BAD_WINDOW: return "BAD_WINDOW";
     case YMX_E_BAD_FIRST: return "BAD_FIRST";
     case YMX_E_NULL: return "NULL";
+    case YMX_E_BAD_ROLE: return "BAD_ROLE";
     default: return "UNKNOWN";
     }
+}
+
+const char *ymx_fault_name(int64_t fault) {
+    static const char *const names[] = {"B1", "B2", "B3", "B4", "B5", "B6", "B7", "B8", "B9"};
+    if (fault < YMX_FAULT_BAD_VERSION || fault > YMX_FAULT_PEER_SAW_INTERNAL_ERROR) return "UNKNOWN";
+    return names[fault - YMX_FAULT_BAD_VERSION];
 }
 
 const char *ymx_version(void) {

@@ -4,8 +4,9 @@
  * caller feeds it the bytes that came from the peer, and writes out the bytes that it emits. A call that would
  * have to wait says so. docs/C.md has a whole server, and says what is proved.
  *
- * Answers. A call answers a number: 0 or more is good, less than 0 is an ymx_error. A refusal changes nothing. Where a
- * pointer is NULL that may not be, a call answers YMX_E_NULL and changes no session.
+ * Answers. A call answers a number. 0 or more is good. YMX_WAIT says that there is nothing to do yet. Any other number
+ * below 0 is an ymx_error: a refusal, which changes nothing. Where several refusals apply, the one that is listed first
+ * for the call is answered. Where a pointer is NULL that may not be, a call answers YMX_E_NULL and changes no session.
  *
  * Threads. One thread at a time uses a session; it may be another one each time. Two sessions share nothing, and
  * nothing of the library's own is ever written. No call belongs into a signal handler.
@@ -26,6 +27,9 @@
 #define YMX_VERSION_MINOR 2
 #define YMX_VERSION_PATCH 0
 
+/* The same as one number, for #if: 203 is 0.2.3, and 10203 is 1.2.3. */
+#define YMX_VERSION_NUM (YMX_VERSION_MAJOR * 10000 + YMX_VERSION_MINOR * 100 + YMX_VERSION_PATCH)
+
 /* The least and the widest window of a stream, in bytes (flow control). */
 #define YMX_LEAST_WINDOW 262144
 #define YMX_WIDEST_WINDOW 16777216
@@ -33,6 +37,22 @@
 /* How many streams a ymx_touched names at most. No more than these are touched by 12,276 bytes, as a frame has at least
  * 12 (framing). */
 #define YMX_MOST_TOUCHED 1024
+
+/* How many streams a session has, at most: those that were opened, or came from the peer, and are not forgotten, and
+ * those that are forgotten and have something unsent. */
+#define YMX_MOST_STREAMS 1024
+
+/* How many own streams are neither acknowledged, reset nor forgotten, at most. */
+#define YMX_MOST_OPENS_PENDING 256
+
+/* How many streams of the peer's wait for ymx_accept, at most. */
+#define YMX_MOST_OFFERED 256
+
+/* How many pings are not collected by ymx_ponged, at most. */
+#define YMX_MOST_PINGS_PENDING 16
+
+/* How many answers to the peer are unsent, at most: ymx_feed takes nothing more then. */
+#define YMX_MOST_ANSWERS 1024
 
 #if defined(__GNUC__) && __GNUC__ >= 4
 #define YMX_API __attribute__((visibility("default")))
@@ -61,23 +81,36 @@ typedef enum ymx_error {
     YMX_E_LOST = -4,           /* the connection is lost, or the session broke */
     YMX_E_CLOSED = -5,         /* the session was closed */
     YMX_E_PEER_AWAY = -6,      /* the peer takes no more streams (go away) */
-    YMX_E_OPENS_PENDING = -7,  /* 256 own streams are neither acknowledged, reset nor forgotten */
-    YMX_E_TOO_MANY = -8,       /* 1,024 streams are there */
+    YMX_E_OPENS_PENDING = -7,  /* YMX_MOST_OPENS_PENDING own streams are not acknowledged, reset or forgotten */
+    YMX_E_TOO_MANY = -8,       /* YMX_MOST_STREAMS streams are there */
     YMX_E_EXHAUSTED = -9,      /* the own stream ids are used up */
-    YMX_E_PINGS_PENDING = -10, /* 16 pings are not collected */
+    YMX_E_PINGS_PENDING = -10, /* YMX_MOST_PINGS_PENDING pings are not collected */
     YMX_E_NO_MEMORY = -11,     /* malloc gave none */
-    YMX_WAIT = -12,            /* no refusal: nothing to read yet, or no credit to write; ask again later */
     YMX_E_BAD_WINDOW = -13,    /* the window is below YMX_LEAST_WINDOW or above YMX_WIDEST_WINDOW */
     YMX_E_BAD_FIRST = -14,     /* the first stream id is one that the peer opens */
-    YMX_E_NULL = -15           /* a pointer is NULL that may not be; nothing was done */
+    YMX_E_NULL = -15,          /* a pointer is NULL that may not be; nothing was done */
+    YMX_E_BAD_ROLE = -16       /* the role is neither YMX_CLIENT nor YMX_SERVER */
 } ymx_error;
 
-/* What ymx_status answers. A session that broke answers YMX_BROKEN and the number of the fault, so 101 to 109:
- * 1 a frame's version is not 0, 2 an unknown type (framing), 3 a SYN for stream 0 or for an id of this side's, 4 a
- * SYN for a stream that is there (stream identifiers), 5 Data beyond the window, 6 a credit above 4,294,967,295
- * (flow control), 7 an unknown Go Away code, 8 and 9 the peer says that it found a protocol error, or that it has an
- * internal one (go away). */
+/* No error: nothing is there to read yet, or there is no credit to write. Ask again once bytes have touched the
+ * stream. */
+enum { YMX_WAIT = -12 };
+
+/* What ymx_status answers. A session that broke answers YMX_BROKEN and a ymx_fault, so 101 to 109. */
 enum { YMX_RUNNING = 0, YMX_LOST = 1, YMX_CLOSED = 2, YMX_BROKEN = 100 };
+
+/* Why a session broke. This side has found the first seven, the peer says the last two. */
+typedef enum ymx_fault {
+    YMX_FAULT_BAD_VERSION = 1,             /* a frame's version is not 0 (framing) */
+    YMX_FAULT_UNKNOWN_TYPE = 2,            /* a frame's type is above 3 (framing) */
+    YMX_FAULT_BAD_SYN = 3,                 /* a SYN for stream 0, or for an id of this side's (stream identifiers) */
+    YMX_FAULT_STREAM_IN_USE = 4,           /* a SYN for a stream that is there (stream identifiers) */
+    YMX_FAULT_WINDOW_EXCEEDED = 5,         /* Data beyond the window (flow control) */
+    YMX_FAULT_CREDIT_OVERFLOW = 6,         /* a credit above 4,294,967,295 bytes (flow control) */
+    YMX_FAULT_BAD_GO_AWAY_CODE = 7,        /* a Go Away code above 2 (go away) */
+    YMX_FAULT_PEER_SAW_PROTOCOL_ERROR = 8, /* the peer says that it found a protocol error (go away) */
+    YMX_FAULT_PEER_SAW_INTERNAL_ERROR = 9  /* the peer says that it has an internal error (go away) */
+} ymx_fault;
 
 /* ---- a session comes and goes */
 
@@ -86,19 +119,19 @@ enum { YMX_RUNNING = 0, YMX_LOST = 1, YMX_CLOSED = 2, YMX_BROKEN = 100 };
  * `window` is how many bytes the peer may have unread on one stream: YMX_LEAST_WINDOW, which is the usual one, to
  * YMX_WIDEST_WINDOW. `first` is the first own stream id: odd at a client, even at a server; or 0 for the least.
  *
- * Otherwise *out is NULL, and it answers YMX_E_BAD_WINDOW, then YMX_E_BAD_FIRST, then YMX_E_NO_MEMORY; with `out`
- * NULL, YMX_E_NULL. */
+ * Otherwise *out is NULL, and it answers YMX_E_BAD_ROLE, YMX_E_BAD_WINDOW, YMX_E_BAD_FIRST or YMX_E_NO_MEMORY: the
+ * first that applies. With `out` NULL it answers YMX_E_NULL. */
 YMX_API int64_t ymx_new(ymx_role role, uint32_t window, uint32_t first, ymx_session **out);
 
-/* Ends a session and gives back its memory. Nothing is sent: ymx_go_away or ymx_close come before it. NULL is
- * allowed, and does nothing. */
+/* Ends a session and gives back its memory. The peer is told nothing. Whoever would tell it calls ymx_go_away before
+ * this, and sends what ymx_emit gives. NULL is allowed, and does nothing. */
 YMX_API void ymx_free(ymx_session *session);
 
 /* ---- bytes of the connection */
 
 /* Feeds `len` bytes that came from the peer, in pieces of any length (framing), and answers how many were taken.
  *
- * Fewer than `len` are taken where 1,024 answers are unsent: then emit, and feed the rest. Or the session broke,
+ * Fewer than `len` are taken where YMX_MOST_ANSWERS are unsent: then emit, and feed the rest. Or the session broke,
  * now or before, as ymx_status says: then emit what is due, and hang up. A session that is lost or closed takes all
  * and drops it. It never fails for want of memory: a stream that the peer opens is then rejected. */
 YMX_API int64_t ymx_feed(ymx_session *session, const void *bytes, size_t len);
@@ -120,7 +153,12 @@ YMX_API int64_t ymx_feed_end(ymx_session *session);
  * in order. 0 where nothing is due. Fewer than `len` come only if nothing is left due. Streams take turns. */
 YMX_API int64_t ymx_emit(ymx_session *session, void *buffer, size_t len);
 
-/* 1 where ymx_emit would give at least one byte, else 0. No stream is looked at. */
+/* 1 where ymx_emit would give at least one byte, else 0. No stream is looked at.
+ *
+ * Bytes can become due by ymx_open, ymx_write, ymx_finish, ymx_reset, ymx_ping and ymx_go_away. And by ymx_feed and
+ * ymx_feed_touching, which answer the peer; by ymx_accept, which acknowledges the stream; by ymx_read and ymx_consume,
+ * which give the peer credit; and by ymx_forget, which may reset the stream. So look behind each of these, or once
+ * behind a turn of them. No other call makes bytes due. */
 YMX_API int64_t ymx_due(const ymx_session *session);
 
 /* ---- streams */
@@ -136,20 +174,22 @@ YMX_API int64_t ymx_open(ymx_session *session);
  * Refused with YMX_E_CLOSED, and YMX_E_LOST once none waits. */
 YMX_API int64_t ymx_accept(ymx_session *session);
 
-/* How many streams of the peer's ymx_accept would give: 256 at most. */
+/* How many streams of the peer's ymx_accept would give: YMX_MOST_OFFERED at most. */
 YMX_API int64_t ymx_offered_count(const ymx_session *session);
 
 /* Writes to a stream, and answers how many of the `len` bytes were taken: as many as the peer's credit allows, from
- * the first on (flow control). YMX_WAIT where there is no credit.
+ * the first on (flow control). YMX_WAIT where there is no credit. Where `len` is 0 it answers 0, also without credit.
  *
  * Refused with YMX_E_CLOSED, YMX_E_NO_STREAM, YMX_E_RESET, YMX_E_FINISHED, YMX_E_LOST, YMX_E_NO_MEMORY. */
 YMX_API int64_t ymx_write(ymx_session *session, uint32_t id, const void *bytes, size_t len);
 
 /* Reads from a stream into `buffer`, at most `len` bytes, and answers how many: as many as are there and fit. The
  * rest of the buffer stays as it was. 0 at the end, once the peer has finished and all was read; YMX_WAIT where
- * nothing is there yet. Into a buffer of length 0 it reads 0 bytes.
+ * nothing is there yet.
  *
- * Refused with YMX_E_CLOSED, YMX_E_NO_STREAM, YMX_E_RESET, YMX_E_LOST. */
+ * Refused with YMX_E_CLOSED, YMX_E_NO_STREAM, YMX_E_RESET; and with YMX_E_LOST where no byte waits and no end has come.
+ * Where `len` is 0 it answers 0, or one of the first three: that 0 says nothing of the end, or of a session that is
+ * lost. */
 YMX_API int64_t ymx_read(ymx_session *session, uint32_t id, void *buffer, size_t len);
 
 /* How many bytes a ymx_write would take now, at most 4,294,967,295: the peer's credit (flow control). 0 where it would
@@ -168,10 +208,11 @@ YMX_API int64_t ymx_is_at_end(const ymx_session *session, uint32_t id);
 YMX_API int64_t ymx_unread(const ymx_session *session, uint32_t id, const void **bytes);
 
 /* Takes out the first `count` bytes that wait on a stream, or as many as are there: a ymx_read of bytes that the caller
- * has seen by ymx_unread. The peer gets credit for them. Answers 0; YMX_WAIT where `count` is above 0 and nothing is
- * there yet.
+ * has seen by ymx_unread. The peer gets credit for them. Answers 0, also at the end; YMX_WAIT where `count` is above 0
+ * and nothing is there yet.
  *
- * Refused with YMX_E_CLOSED, YMX_E_NO_STREAM, YMX_E_RESET, YMX_E_LOST. */
+ * Refused with YMX_E_CLOSED, YMX_E_NO_STREAM, YMX_E_RESET; and with YMX_E_LOST where `count` is above 0, no byte waits
+ * and no end has come. */
 YMX_API int64_t ymx_consume(ymx_session *session, uint32_t id, size_t count);
 
 /* Half-closes a stream: nothing more is written to it, and its end goes out behind the last byte (half-close).
@@ -195,7 +236,9 @@ YMX_API int64_t ymx_forget(ymx_session *session, uint32_t id);
 
 /* ---- the session as a whole */
 
-/* Asks the peer for a sign of life, and answers the number of the ping (ping).
+/* Asks the peer for a sign of life, and answers the number of the ping (ping). A ping stays pending until ymx_ponged
+ * has said that its answer is back. So collect each one, also where nobody waits for its answer: behind
+ * YMX_MOST_PINGS_PENDING that nobody collects, no more are taken.
  *
  * Refused with YMX_E_CLOSED, YMX_E_LOST, YMX_E_PINGS_PENDING. */
 YMX_API int64_t ymx_ping(ymx_session *session);
@@ -210,7 +253,8 @@ YMX_API int64_t ymx_ponged(ymx_session *session, uint32_t number);
  * Refused with YMX_E_CLOSED, YMX_E_LOST. */
 YMX_API int64_t ymx_go_away(ymx_session *session);
 
-/* Closes the session at once: nothing more is emitted, unsent bytes are dropped. Answers 0. */
+/* Closes the session at once: nothing more is emitted, unsent bytes are dropped. The peer is told nothing: it sees the
+ * connection end. Answers 0. */
 YMX_API int64_t ymx_close(ymx_session *session);
 
 /* YMX_RUNNING, YMX_LOST, YMX_CLOSED, or YMX_BROKEN and the number of a fault. */
@@ -245,9 +289,13 @@ YMX_API int64_t ymx_touched_clear(ymx_touched *touched);
 
 /* ---- texts */
 
-/* The name of an error without its prefix, as "RESET"; "OK" of 0 and more, "UNKNOWN" of any other number. It is
- * static, and never NULL. */
+/* The name of an error without its prefix, as "RESET"; "OK" of 0 and more, "WAIT" of YMX_WAIT, "UNKNOWN" of any other
+ * number. It is static, and never NULL. */
 YMX_API const char *ymx_error_name(int64_t code);
+
+/* The name of a ymx_fault as docs/PROTOCOL.md has it, "B1" to "B9"; "UNKNOWN" of any other number. Of a session that
+ * broke it is ymx_fault_name(ymx_status(session) - YMX_BROKEN). It is static, and never NULL. */
+YMX_API const char *ymx_fault_name(int64_t fault);
 
 /* The library's version, as "0.2.0". It is static. */
 YMX_API const char *ymx_version(void);

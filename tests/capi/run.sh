@@ -1,6 +1,6 @@
 #!/bin/sh
 # Tries libymx as a C program gets it: ymx.h in C99 and C++11 without a warning, the libraries' names, each constant
-# against the proved crate's, NULL everywhere, bytes in pieces, touched streams and lent bytes, each allocation refused,
+# against the proved crate's, what ymx.h says in words, NULL everywhere, bytes in pieces, touched streams and lent bytes, each allocation refused,
 # every byte over a socketpair under the sanitizers, an installed copy by pkg-config, and a copy of the repository that
 # builds it from the release with no toolchain but C's. It ends with a line that says the count.
 # c/build.sh says what it is built from.
@@ -74,6 +74,10 @@ numbers_of_crate() {
     sed -n 's/^ *if number == \(.*\) {$/YMX_CLIENT \1/p' "$root/crates/ymx_c/src/face.rt"
     sed -n 's/^pub const FIRST_CREDIT: u32 = \(.*\);/YMX_LEAST_WINDOW \1/p; s/^pub const WIDEST_WINDOW: u32 = \(.*\);/YMX_WIDEST_WINDOW \1/p' "$root/crates/ymx_header/src/wire.rt" | tr -d _ |
         sed 's/YMX\(LEAST\|WIDEST\)WINDOW/YMX_\1_WINDOW/'
+    sed -n 's/^ *Fault::\([A-Za-z]*\) => \([0-9]\),/\1 \2/p' "$root/crates/ymx_header/src/fault.rt" |
+        sed 's/\([a-z]\)\([A-Z]\)/\1_\2/g' | awk '{ print "YMX_FAULT_" toupper($1), $2 }'
+    # the table of the faults, in which two may share a line
+    sed -n '/^## Faults/,/^## /s/^| \(B[^|]*\) |.*/\1/p' "$root/docs/PROTOCOL.md" | tr -d ' ' | tr ',' '\n' | sed 's/^B\([0-9]\)$/& \1/'
 }
 
 same_numbers() {
@@ -82,7 +86,7 @@ same_numbers() {
 
 by_pkg_config() {
     export PKG_CONFIG_PATH=$scratch/installed/lib/pkgconfig PKG_CONFIG_SYSROOT_DIR=$scratch
-    version=$(sed -n 's/^#define YMX_VERSION_[A-Z]* //p' "$root/c/ymx.h" | paste -sd.)
+    version=$(sed -n 's/^#define YMX_VERSION_[A-Z]* \([0-9]*\)$/\1/p' "$root/c/ymx.h" | paste -sd.)
     [ "$(pkg-config --modversion ymx)" = "$version" ] || return 1
     # shellcheck disable=SC2046
     cc -o installed_pair "$root/examples/c/pair.c" $(pkg-config --cflags --libs ymx)
@@ -93,6 +97,7 @@ is "ymx.h and a program in C++11" in_cpp
 is "the libraries show what ymx.h declares, and nothing else" only_ours
 is "the shared library needs libc alone" only_libc
 is "each constant is the proved crate's" same_numbers
+is "what ymx.h says in words" built_and_run words "$here/words.c" -O1 -fsanitize=address,undefined -fno-sanitize-recover=all
 is "NULL" built_and_run nulls "$here/nulls.c" -fsanitize=address,undefined -fno-sanitize-recover=all
 is "bytes one by one and at once" built_and_run pieces "$here/pieces.c" -O1 -fsanitize=address,undefined -fno-sanitize-recover=all
 is "touched streams, lent bytes, room and the end" built_and_run touched "$here/touched.c" -O1 -fsanitize=address,undefined -fno-sanitize-recover=all
