@@ -1,7 +1,12 @@
 #!/bin/sh
-# Builds libymx.a, libymx.so.1, ymx.pc and installs them.
-# Usage: c/build.sh [--prove] [FOLDER]          into FOLDER, or c/out: include/ymx.h, lib/libymx.a, lib/libymx.so*, lib/pkgconfig/ymx.pc
-#        PREFIX=/usr/local c/build.sh [--prove] install       builds, and copies all to PREFIX (below DESTDIR, where that is set)
+# Builds libymx.a, libymx.so.0, and what pkg-config and CMake read of them, and installs them.
+# Usage: c/build.sh [--prove] [FOLDER]           into FOLDER, or c/out: include/ymx.h, lib/libymx.a, lib/libymx.so*,
+#                                                lib/pkgconfig/ymx.pc, lib/cmake/ymx/
+#        c/build.sh [--prove] install [FOLDER]   builds, in a folder that goes if none is named, and installs
+#        c/build.sh uninstall                    takes away what `install` of the same version has put there
+# PREFIX says where to: /usr/local, if it is left out. LIBDIR is where the libraries lie, below PREFIX unless it begins
+# with a /: lib, if it is left out. With DESTDIR all is put below that folder, to be moved from there to PREFIX. Modes are
+# the same under any umask.
 # The proved part is that of release/, if it was made from these very sources: this needs no toolchain but C's. Where a
 # source has changed, `rt lib` in crates/ymx_c proves what isn't proved yet. --prove proves all crates of the library from
 # nothing with `rt`, and compares what it built with the release. Or YMX_ARCHIVE names the crate's archive. CC and CFLAGS
@@ -9,22 +14,96 @@
 set -eu
 here=$(cd "$(dirname "$0")" && pwd)
 root=$(cd "$here/.." && pwd)
-prefix=${PREFIX-/usr/local}
+
+# absolute PATH: the same, from /
+absolute() {
+    case $1 in
+    /*) printf '%s\n' "$1" ;;
+    *) printf '%s\n' "$PWD/$1" ;;
+    esac
+}
+
+prefix=$(absolute "${PREFIX-/usr/local}")
+prefix=${prefix%/}
+libdir=${LIBDIR-lib}
+case $libdir in
+/*) ;;
+*) libdir=$prefix/$libdir ;;
+esac
+libdir=${libdir%/}
+destdir=${DESTDIR-}
+[ -z "$destdir" ] || destdir=$(absolute "$destdir")
+destdir=${destdir%/}
 compiler=${CC-cc}
 prove=no
-install=no
+task=build
 [ "${1-}" != --prove ] || { prove=yes; shift; }
-[ "${1-}" != install ] || { install=yes; shift; }
-target=${1-$here/out}
-mkdir -p "$target/include" "$target/lib/pkgconfig"
-target=$(cd "$target" && pwd)
-scratch=$(mktemp -d)
-trap 'rm -rf "$scratch"' EXIT
-trap 'exit 130' INT TERM
+case ${1-} in
+install | uninstall) task=$1 && shift ;;
+esac
+
+usage() {
+    echo 'usage: c/build.sh [--prove] [install] [FOLDER], or c/build.sh uninstall' >&2
+    exit 2
+}
+
+case ${1-} in
+-*) usage ;;
+esac
+[ $# -le 1 ] || usage
+[ "$task" != uninstall ] || [ "$prove $#" = 'no 0' ] || usage
 
 # The version stands in ymx.h alone.
 part() { sed -n "s/^#define YMX_VERSION_$1 //p" "$here/ymx.h"; }
-version=$(part MAJOR).$(part MINOR).$(part PATCH)
+major=$(part MAJOR)
+version=$major.$(part MINOR).$(part PATCH)
+
+# The number behind libymx.so is the major version, so 0 in 0.x. A program that was built with one version runs with each
+# later one of the same number: calls, their parameters and the values of ymx.h stay, and new ones raise the minor version.
+# What takes one away, or gives it another meaning in a program that is already built, raises the major version, and with
+# it this number. Version 1.0 has the number 1 in any case.
+soname=libymx.so.$major
+
+# ---- where things lie, once installed
+
+files="$prefix/include/ymx.h
+$libdir/libymx.a
+$libdir/libymx.so.$version
+$libdir/$soname
+$libdir/libymx.so
+$libdir/pkgconfig/ymx.pc
+$libdir/cmake/ymx/ymxConfig.cmake
+$libdir/cmake/ymx/ymxConfigVersion.cmake
+$prefix/share/man/man3/ymx.3"
+# of the program and of the library
+license=$prefix/share/doc/ymx/LICENSE
+
+if [ "$task" = uninstall ]; then
+    printf '%s\n' "$files" | while read -r file; do
+        rm -f "$destdir$file"
+    done
+    # the licence stays as long as the program does
+    [ -e "$destdir$prefix/bin/ymx" ] || rm -f "$destdir$license"
+    # (a folder that something else is in stays)
+    rmdir "$destdir$libdir/cmake/ymx" "$destdir$prefix/share/doc/ymx" 2> /dev/null || true
+    echo "libymx $version is no longer below $destdir$prefix"
+    exit
+fi
+
+# ---- building
+
+scratch=$(mktemp -d)
+trap 'rm -rf "$scratch"' EXIT
+trap 'exit 130' INT TERM
+if [ $# = 1 ]; then
+    target=$1
+elif [ "$task" = install ]; then
+    target=$scratch/target
+else
+    target=$here/out
+fi
+mkdir -p "$target/include" "$target/lib/pkgconfig" "$target/lib/cmake/ymx"
+target=$(cd "$target" && pwd)
 
 # Only proved crates are compiled.
 need_rt() {
@@ -52,7 +131,7 @@ else
     (cd "$root/crates/ymx_c" && rt lib) > "$scratch/log" 2>&1 || { cat "$scratch/log" >&2; exit 1; }
     archive=$root/crates/ymx_c/out/libymx_c.a
 fi
-case $archive in /*) ;; *) archive=$PWD/$archive ;; esac
+archive=$(absolute "$archive")
 
 # One object of all three parts: what is proved, the kit's malloc and free, and ymx.c. Only ymx.h's names stay visible.
 # The release has the kit's part with it.
@@ -66,19 +145,75 @@ nm ymx.o | sed -n 's/^[0-9a-f]* T //p' | grep '^ymx_' > names
 objcopy --keep-global-symbols=names libymx.o
 rm -f "$target/lib/libymx.a"
 ar rcs "$target/lib/libymx.a" libymx.o
-$compiler -shared -Wl,-soname,libymx.so.1 -Wl,-z,relro,-z,now,-z,noexecstack -Wl,--no-undefined \
+$compiler -shared "-Wl,-soname,$soname" -Wl,-z,relro,-z,now,-z,noexecstack -Wl,--no-undefined \
     -o "$target/lib/libymx.so.$version" libymx.o
-ln -sf "libymx.so.$version" "$target/lib/libymx.so.1"
-ln -sf libymx.so.1 "$target/lib/libymx.so"
+ln -sf "libymx.so.$version" "$target/lib/$soname"
+ln -sf "$soname" "$target/lib/libymx.so"
 cp "$here/ymx.h" "$target/include/ymx.h"
-sed "s|@prefix@|$prefix|; s|@version@|$version|" "$here/ymx.pc.in" > "$target/lib/pkgconfig/ymx.pc"
-echo "libymx $version in $target"
 
-if [ $install = yes ]; then
-    place=${DESTDIR-}$prefix
-    mkdir -p "$place/include" "$place/lib/pkgconfig"
-    cp -P "$target/include/ymx.h" "$place/include/"
-    cp -P "$target"/lib/libymx.* "$place/lib/"
-    cp -P "$target/lib/pkgconfig/ymx.pc" "$place/lib/pkgconfig/"
-    echo "installed below $place"
-fi
+# within FOLDER PATH: the path from that folder to one in it, or nothing where it lies elsewhere
+within() {
+    case $2 in
+    "$1"/*) printf '%s\n' "${2#"$1"/}" ;;
+    esac
+}
+
+# literal TEXT: what stands for it in the second half of a sed command
+literal() {
+    printf '%s\n' "$1" | sed 's/[\\&|]/\\&/g'
+}
+
+# fill FILE WORD TEXT ..: prints c/FILE.in with each @WORD@ replaced by its text
+fill() {
+    template=$here/$1.in
+    shift
+    edits=$(while [ $# -gt 0 ]; do
+        printf 's|@%s@|%s|\n' "$1" "$(literal "$2")"
+        shift 2
+    done)
+    sed "$edits" "$template"
+}
+
+# describe FOLDER PREFIX LIBDIR: what pkg-config and CMake read of a library that lies there, into this folder
+describe() {
+    below=$(within "$2" "$3")
+    # shellcheck disable=SC2016
+    fill ymx.pc prefix "$2" libdir "${below:+\${prefix\}/}${below:-$3}" version "$version" > "$1/ymx.pc"
+    if [ -n "$below" ]; then
+        include="\${_ymx_lib}/$(printf '%s\n' "$below" | sed 's|[^/][^/]*|..|g')/include"
+    else
+        include=$2/include
+    fi
+    fill ymxConfig.cmake include "$include" version "$version" soname "$soname" > "$1/ymxConfig.cmake"
+    fill ymxConfigVersion.cmake version "$version" major "$major" > "$1/ymxConfigVersion.cmake"
+}
+
+mkdir built installed
+describe built "$target" "$target/lib"
+cp built/ymx.pc "$target/lib/pkgconfig/"
+cp built/ymxConfig.cmake built/ymxConfigVersion.cmake "$target/lib/cmake/ymx/"
+[ "$task" = install ] || { echo "libymx $version in $target"; exit; }
+
+# ---- installing
+
+# put MODE FILE PLACE: this file, to be found at the place
+put() {
+    mkdir -p "$(dirname "$destdir$3")"
+    install -m "$1" "$2" "$destdir$3"
+}
+
+# for the folders that are made
+umask 022
+describe installed "$prefix" "$libdir"
+put 644 "$target/include/ymx.h" "$prefix/include/ymx.h"
+put 644 "$target/lib/libymx.a" "$libdir/libymx.a"
+put 755 "$target/lib/libymx.so.$version" "$libdir/libymx.so.$version"
+ln -sf "libymx.so.$version" "$destdir$libdir/$soname"
+ln -sf "$soname" "$destdir$libdir/libymx.so"
+put 644 installed/ymx.pc "$libdir/pkgconfig/ymx.pc"
+put 644 installed/ymxConfig.cmake "$libdir/cmake/ymx/ymxConfig.cmake"
+put 644 installed/ymxConfigVersion.cmake "$libdir/cmake/ymx/ymxConfigVersion.cmake"
+put 644 "$here/ymx.3" "$prefix/share/man/man3/ymx.3"
+put 644 "$root/LICENSE" "$license"
+echo "libymx $version installed below $destdir$prefix"
+[ -n "$destdir" ] || echo "a program may find $soname in $libdir only once \`ldconfig\` has run"

@@ -16,7 +16,7 @@ LEAST_WINDOW, WIDEST_WINDOW = 262144, 16777216
 RUNNING, LOST, CLOSED, BROKEN = 0, 1, 2, 100
 _WAIT, _BLOCK = -12, 65536
 
-_library = ctypes.CDLL(os.environ.get("YMX_LIBRARY") or ctypes.util.find_library("ymx") or "libymx.so.1")
+_library = ctypes.CDLL(os.environ.get("YMX_LIBRARY") or ctypes.util.find_library("ymx") or "libymx.so.0")
 _session, _id, _bytes, _size = ctypes.c_void_p, ctypes.c_uint32, ctypes.c_char_p, ctypes.c_size_t
 
 

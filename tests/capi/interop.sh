@@ -20,7 +20,7 @@ trap 'stop; rm -rf "$scratch"' EXIT
 trap 'exit 130' INT TERM
 PREFIX=$scratch/built "$root/c/build.sh" "$scratch/built"
 built=$scratch/built
-export PKG_CONFIG_PATH=$built/lib/pkgconfig YMX_LIBRARY=$built/lib/libymx.so.1 PYTHONPATH=$root/examples/python PYTHONDONTWRITEBYTECODE=1
+export PKG_CONFIG_PATH=$built/lib/pkgconfig YMX_LIBRARY=$built/lib/libymx.so.0 PYTHONPATH=$root/examples/python PYTHONDONTWRITEBYTECODE=1
 cd "$scratch"
 GO111MODULE=off GOPATH=/usr/share/gocode go build -o go_echo "$here/go_echo.go"
 cc -O2 -I"$built/include" -o echo_server "$root/examples/c/echo_server.c" "$built/lib/libymx.a"

@@ -1,8 +1,9 @@
 #!/bin/sh
 # Tries libymx as a C program gets it: ymx.h in C99 and C++11 without a warning, the libraries' names, each constant
-# against the proved crate's, what ymx.h says in words, NULL everywhere, bytes in pieces, touched streams and lent bytes, each allocation refused,
-# every byte over a socketpair under the sanitizers, an installed copy by pkg-config, and a copy of the repository that
-# builds it from the release with no toolchain but C's. It ends with a line that says the count.
+# against the proved crate's, what ymx.h says in words, NULL everywhere, bytes in pieces, touched streams and lent bytes,
+# each allocation refused, every byte over a socketpair under the sanitizers, the manual, what is installed and found by
+# pkg-config and CMake, and a copy of the repository that builds it from the release with no toolchain but C's. It ends
+# with a line that says the count.
 # c/build.sh says what it is built from.
 set -eu
 here=$(cd "$(dirname "$0")" && pwd)
@@ -12,7 +13,7 @@ trap 'rm -rf "$scratch"' EXIT
 trap 'exit 130' INT TERM
 passed=0
 failed=0
-DESTDIR=$scratch PREFIX=/installed "$root/c/build.sh" install "$scratch/built"
+"$root/c/build.sh" "$scratch/built"
 library=$scratch/built/lib
 cd "$scratch"
 
@@ -51,16 +52,16 @@ in_cpp() {
 }
 
 only_ours() {
-    nm -D --defined-only "$library/libymx.so.1" | sed 's/.* //' | sort > shown
+    nm -D --defined-only "$library/libymx.so" | sed 's/.* //' | sort > shown
     sed -n 's/^YMX_API.*[ *]\(ymx_[a-z_]*\)(.*/\1/p' "$root/c/ymx.h" | sort > declared
     nm -g --defined-only "$library/libymx.a" | sed -n 's/.* T //p' | sort > linked
     diff declared shown && diff declared linked
 }
 
 only_libc() {
-    readelf -d "$library/libymx.so.1" | sed -n 's/.*(NEEDED).*\[\(.*\)\]/\1/p' > needs
+    readelf -d "$library/libymx.so" | sed -n 's/.*(NEEDED).*\[\(.*\)\]/\1/p' > needs
     echo libc.so.6 | diff - needs
-    nm -D --undefined-only "$library/libymx.so.1" | sed 's/^ *[Uw] //; s/@.*//' | grep -v '^_' | sort > asks
+    nm -D --undefined-only "$library/libymx.so" | sed 's/^ *[Uw] //; s/@.*//' | grep -v '^_' | sort > asks
     cat asks
     ! grep -qvE '^(malloc|realloc|free|memcpy|memmove|memset|memcmp)$' asks
 }
@@ -84,13 +85,14 @@ same_numbers() {
     in_c constants "$here/constants.c" && ./constants | sort > ours && numbers_of_crate | sort > theirs && diff ours theirs
 }
 
-by_pkg_config() {
-    export PKG_CONFIG_PATH=$scratch/installed/lib/pkgconfig PKG_CONFIG_SYSROOT_DIR=$scratch
-    version=$(sed -n 's/^#define YMX_VERSION_[A-Z]* \([0-9]*\)$/\1/p' "$root/c/ymx.h" | paste -sd.)
-    [ "$(pkg-config --modversion ymx)" = "$version" ] || return 1
-    # shellcheck disable=SC2046
-    cc -o installed_pair "$root/examples/c/pair.c" $(pkg-config --cflags --libs ymx)
-    LD_LIBRARY_PATH=$scratch/installed/lib ./installed_pair
+# what ymx.h declares is what the man page shows, word for word, and names as an error
+same_manual() {
+    sed -n 's/^YMX_API //p' "$root/c/ymx.h" | sort > declared
+    sed -n 's/^\.B \(.*(.*);\)$/\1/p' "$root/c/ymx.3" | sort > shown
+    diff declared shown || return 1
+    sed -n 's/^ *\(YMX_E_[A-Z_]*\) = .*/\1/p' "$root/c/ymx.h" | sort > declared
+    sed -n '/^\.TP$/{n;s/^\.B \(YMX_E_[A-Z_]*\)$/\1/p}' "$root/c/ymx.3" | sort > shown
+    diff declared shown
 }
 
 is "ymx.h and a program in C++11" in_cpp
@@ -104,7 +106,14 @@ is "touched streams, lent bytes, room and the end" built_and_run touched "$here/
 is "each allocation refused" built_and_run refused_memory "$here/refused_memory.c" -Wl,--wrap=malloc,--wrap=realloc,--wrap=free
 is "every byte over a socketpair, with no leak" built_and_run pair "$root/examples/c/pair.c" -O1 -fsanitize=address,undefined -fno-sanitize-recover=all
 is "the echo server" in_c echo_server "$root/examples/c/echo_server.c"
-is "an installed copy, by pkg-config" by_pkg_config
+is "the manual shows what ymx.h declares" same_manual
+is "what is installed, under any umask, and uninstalled" "$here/installed.sh" modes
+is "a program of its own, by pkg-config" "$here/installed.sh" pkg_config
+if command -v cmake > /dev/null && command -v make > /dev/null; then
+    is "a program of its own, by CMake" "$here/installed.sh" cmake
+else
+    echo "--    a program of its own, by CMake: left out: there is no cmake, or no make"
+fi
 is "a copy with no toolchain builds it from the release" "$here/from_release.sh"
 is "the proofs are those that c/write_proofs.py writes" python3 "$root/c/write_proofs.py" --same "$root/crates/ymx_c"
 echo "$passed passed, $failed failed"
