@@ -1,7 +1,8 @@
 #!/bin/sh
 # The released program. Behind the gate: it is, byte for byte, what the gate has just built, and a program that is one
 # byte off is refused. And a copy of the repository in which nothing was built runs it within three seconds, with no
-# toolchain on the PATH.
+# toolchain on the PATH; also through a symlink, and where it can't be written. A machine that it isn't for is told so in
+# one line.
 set -eu
 here=$(cd "$(dirname "$0")" && pwd)
 . "$here/../over.sh"
@@ -15,7 +16,7 @@ printf 'window flags=0001 id=1 len=0\ndata flags=0000 id=1 len=5 68656c6c6f\n' >
 
 # What every system has, and no rt.
 mkdir bare
-for name in sh awk cat chmod cmp cp cut dirname env find gzip grep mkdir mv rm sed sha256sum sort timeout tr uname xargs; do
+for name in sh awk cat chmod cmp cp cut dirname env find gzip grep mkdir mv readlink rm sed sha256sum sort timeout tr uname xargs; do
     ln -s "$(command -v $name)" bare/
 done
 began=$(date +%s%N)
@@ -24,10 +25,73 @@ took=$((($(date +%s%N) - began) / 1000000))
 cmp got wanted || fail 'the released program prints something else'
 [ "$took" -lt 3000 ] || fail "the first use took $took ms"
 
+# only_says LINE COMMAND..: the command fails, and says this line alone
+only_says() {
+    line=$1
+    shift
+    if "$@" > got 2> said; then fail "$* does not fail"; fi
+    if [ -s got ] || ! printf '%s\n' "$line" | cmp -s - said; then fail "$* does not say just '$line':" got said; fi
+}
+
+# Through a symlink to a symlink, from elsewhere.
+mkdir elsewhere
+ln -s ../ymx elsewhere/near
+ln -s near elsewhere/far
+(cd / && PATH=$scratch/bare "$scratch/elsewhere/far" frames "$scratch/examples/hello.yamux") > got || fail 'it does not run through a symlink'
+cmp got wanted || fail 'through a symlink it prints something else'
+
+# Where nothing can be written here, it is unpacked into a folder of the user's; where neither can be, it says so. What
+# stands in the way is a file, as the superuser may write everywhere.
+mv out kept
+: > out
+PATH=$scratch/bare XDG_CACHE_HOME=$scratch/cache ./ymx frames examples/hello.yamux > got || fail 'it does not run where it cannot be written'
+cmp got wanted || fail 'where it cannot be written it prints something else'
+folder=$(echo cache/ymx/*)
+[ -x "$folder/ymx" ] || fail 'it is not unpacked into the folder of the user'
+PATH=$scratch/bare XDG_CACHE_HOME='' HOME=$scratch/home ./ymx --version > got || fail 'it is not unpacked into the home folder'
+[ -x "home/.cache/ymx/${folder##*/}/ymx" ] || fail 'it is not unpacked into .cache'
+only_says "ymx: the program is unpacked into $scratch/out or $scratch/ymx/ymx/${folder##*/}, and neither can be written" \
+    env PATH="$scratch/bare" XDG_CACHE_HOME="$scratch/ymx" ./ymx --version
+only_says "ymx: the proofs are made by a checker, and the Rattle toolchain's rt is not on the PATH, so they can't be proved and built here" \
+    env PATH="$scratch/bare" ./ymx --prove
+
+# A copy of the program, and nothing else.
+PATH=$scratch/bare ./ymx --copy copied > got 2>&1 || fail 'the program is not copied' got
+[ ! -s got ] || fail 'a copy of the program prints something' got
+./copied frames examples/hello.yamux > got || fail 'the copied program does not run'
+cmp got wanted || fail 'the copied program prints something else'
+
+# Another processor, as `uname` says, and an old C library, as the program's loader says.
+rm out
+mkdir other old
+cp -P bare/* other/
+rm other/uname
+printf '#!/bin/sh\necho Linux aarch64\n' > other/uname
+cp -P bare/* old/
+printf '#!/bin/sh\necho glibc 2.31\n' > old/getconf
+chmod +x other/uname old/getconf
+only_says 'ymx: the released program is for x86_64 Linux, and this machine is Linux aarch64' env PATH="$scratch/other" ./ymx --version
+cp -r release kept_release
+cat > loaded << 'END_OF_PROGRAM'
+#!/bin/sh
+echo "$0: libc.so.6: version \`GLIBC_2.34' not found (required by $0)" >&2
+exit 1
+END_OF_PROGRAM
+gzip -9nc loaded > release/ymx.gz
+sed -i "s/^program: .*/program: $(sha256sum < loaded | cut -d ' ' -f 1)/" release/RELEASE
+only_says 'ymx: the released program needs x86_64 Linux with glibc 2.34 or later, and this machine has glibc 2.31' env PATH="$scratch/old" ./ymx --version
+only_says 'ymx: the released program needs x86_64 Linux with glibc 2.34 or later, and this machine has another C library' env PATH="$scratch/bare" ./ymx --version
+printf 'no program\n' | gzip -9nc > release/ymx.gz
+only_says "ymx: release/ymx.gz isn't the program of which release/RELEASE speaks" env PATH="$scratch/bare" ./ymx --version
+rm -rf release out
+mv kept_release release
+mv kept out
+
 # A source that has changed wants a proof.
 echo '//' >> crates/ymx_header/src/lib.rt
 if PATH=$scratch/bare ./ymx frames examples/hello.yamux > got 2> said; then fail 'a changed source runs the old program'; fi
 grep -q 'the sources have changed since the release' said || fail 'a changed source is not told'
+[ "$(wc -l < said)" = 1 ] || fail 'a changed source is told in more than a line' said
 cp "$root/crates/ymx_header/src/lib.rt" crates/ymx_header/src/lib.rt
 
 program=$root/crates/ymx_cli/out/ymx_cli
