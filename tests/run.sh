@@ -42,6 +42,7 @@ try 'the picture of the speeds' "$root/docs/speeds.py" --same
 try 'wrong bodies and the sources' "$root/tests/wrong_bodies.sh" --fit
 try 'the released program' "$root/tests/release/run.sh"
 try 'the program from outside' "$root/tests/program/run.sh"
+try 'the program, installed' "$root/tests/release/installed.sh"
 try '500 random connections' "$root/tests/kill/random.sh" 500
 try 'scripts and what they print' "$root/tests/script/run.sh"
 try 'programs that must not compile' "$root/tests/must_not_compile/run.sh"

@@ -1,0 +1,75 @@
+#!/bin/sh
+# Installs the program ymx, with its man pages, completions for bash, zsh and fish, and services for systemd.
+# Usage: release/install.sh [PREFIX]               PREFIX is /usr/local, if it is left out
+#        release/install.sh --uninstall [PREFIX]   takes away what was installed there
+# With DESTDIR all is put below that folder, to be moved from there to PREFIX. Modes are the same under any umask. The
+# program is that of ./ymx: the released one, where it was made from these very sources. The services' files of options,
+# in /etc/ymx, are the user's: none is made or taken away.
+set -eu
+here=$(cd "$(dirname "$0")" && pwd)
+root=$(cd "$here/.." && pwd)
+task=install
+[ "${1-}" != --uninstall ] || { task=uninstall; shift; }
+case ${1-} in
+-*) set -- too many ;;
+esac
+if [ $# -gt 1 ]; then
+    echo 'usage: release/install.sh [--uninstall] [PREFIX]' >&2
+    exit 2
+fi
+
+# absolute PATH: the same, from /
+absolute() {
+    case $1 in
+    /*) printf '%s\n' "$1" ;;
+    *) printf '%s\n' "$PWD/$1" ;;
+    esac
+}
+
+prefix=$(absolute "${1-/usr/local}")
+prefix=${prefix%/}
+place=${DESTDIR-}
+[ -z "$place" ] || place=$(absolute "$place")
+place=${place%/}$prefix
+
+# Each file: its mode, what it is made from, and where it lies below PREFIX.
+files='755 ymx bin/ymx
+644 ymx.1 share/man/man1/ymx.1
+644 ymx-local.1 share/man/man1/ymx-local.1
+644 ymx-remote.1 share/man/man1/ymx-remote.1
+644 ymx.bash share/bash-completion/completions/ymx
+644 _ymx share/zsh/site-functions/_ymx
+644 ymx.fish share/fish/vendor_completions.d/ymx.fish
+644 ymx-local@.service lib/systemd/system/ymx-local@.service
+644 ymx-remote@.service lib/systemd/system/ymx-remote@.service
+644 LICENSE share/doc/ymx/LICENSE'
+
+if [ $task = uninstall ]; then
+    printf '%s\n' "$files" | while read -r _ _ file; do
+        # the licence stays as long as the library for C does
+        if [ "$file" = share/doc/ymx/LICENSE ] && [ -e "$place/include/ymx.h" ]; then continue; fi
+        rm -f "$place/$file"
+    done
+    # (a folder that something else is in stays)
+    rmdir "$place/share/doc/ymx" 2> /dev/null || true
+    echo "ymx is no longer below $place"
+    exit
+fi
+
+scratch=$(mktemp -d)
+trap 'rm -rf "$scratch"' EXIT
+trap 'exit 130' INT TERM
+"$root/ymx" --copy "$scratch/ymx"
+cp "$root/LICENSE" "$here/share"/* "$scratch/"
+# the services name the program by its place
+literal=$(printf '%s\n' "$prefix" | sed 's/[\\&|]/\\&/g')
+for end in local remote; do
+    sed "s|@prefix@|$literal|" "$here/share/ymx-$end@.service.in" > "$scratch/ymx-$end@.service"
+done
+# for the folders that are made
+umask 022
+printf '%s\n' "$files" | while read -r mode source file; do
+    mkdir -p "$(dirname "$place/$file")"
+    install -m "$mode" "$scratch/$source" "$place/$file"
+done
+echo "$("$scratch/ymx" --version) installed below $place"

@@ -1,0 +1,31 @@
+# Completions of ymx for bash.
+_ymx() {
+    local word=${COMP_WORDS[COMP_CWORD]} previous=${COMP_WORDS[COMP_CWORD - 1]} command='' options
+    COMPREPLY=()
+    [ "$COMP_CWORD" -lt 2 ] || command=${COMP_WORDS[1]}
+    case $command in
+    '') options='frames script local remote selftest help --help -h --version -V' ;;
+    frames) options='--limit --help -h' ;;
+    script | selftest) options='--help -h' ;;
+    local) options='--listen --peer --bind --keep --count --window --verbose -v --help -h' ;;
+    remote) options='--bind --peer --target --keep --window --workers --verbose -v --help -h' ;;
+    help) options='frames script local remote selftest help' ;;
+    *) return ;;
+    esac
+    # the value of an option is a number or an address
+    case $command$previous in
+    *=) return ;;
+    frames--limit | local--listen | local--peer | local--bind | local--count | local--window) return ;;
+    remote--bind | remote--peer | remote--target | remote--window | remote--workers) return ;;
+    esac
+    case $command,$word in
+    frames,-* | script,-*) ;;
+    frames,* | script,*)
+        compopt -o filenames 2> /dev/null
+        mapfile -t COMPREPLY < <(compgen -f -- "$word")
+        return
+        ;;
+    esac
+    mapfile -t COMPREPLY < <(compgen -W "$options" -- "$word")
+}
+complete -F _ymx ymx

@@ -1,0 +1,97 @@
+#!/bin/sh
+# release/install.sh: what is put where, with which modes, is the same under umask 022 and 077; the program that was
+# installed runs; SIGTERM ends it by the signal, which systemd takes for a clean end; `--uninstall` leaves no file, and
+# takes nothing that isn't the program's. And the man pages and the completions have the options of that program.
+set -eu
+here=$(cd "$(dirname "$0")" && pwd)
+. "$here/../over.sh"
+cd "$scratch"
+unset DESTDIR PREFIX
+
+# what_lies FOLDER: each folder and file in it, with its mode
+what_lies() {
+    (cd "$1" && find . -mindepth 1 -printf '%M %P\n' | LC_ALL=C sort -k 2)
+}
+
+cat > wanted << 'END_OF_LIST'
+drwxr-xr-x opt
+drwxr-xr-x opt/bin
+-rwxr-xr-x opt/bin/ymx
+drwxr-xr-x opt/lib
+drwxr-xr-x opt/lib/systemd
+drwxr-xr-x opt/lib/systemd/system
+-rw-r--r-- opt/lib/systemd/system/ymx-local@.service
+-rw-r--r-- opt/lib/systemd/system/ymx-remote@.service
+drwxr-xr-x opt/share
+drwxr-xr-x opt/share/bash-completion
+drwxr-xr-x opt/share/bash-completion/completions
+-rw-r--r-- opt/share/bash-completion/completions/ymx
+drwxr-xr-x opt/share/doc
+drwxr-xr-x opt/share/doc/ymx
+-rw-r--r-- opt/share/doc/ymx/LICENSE
+drwxr-xr-x opt/share/fish
+drwxr-xr-x opt/share/fish/vendor_completions.d
+-rw-r--r-- opt/share/fish/vendor_completions.d/ymx.fish
+drwxr-xr-x opt/share/man
+drwxr-xr-x opt/share/man/man1
+-rw-r--r-- opt/share/man/man1/ymx-local.1
+-rw-r--r-- opt/share/man/man1/ymx-remote.1
+-rw-r--r-- opt/share/man/man1/ymx.1
+drwxr-xr-x opt/share/zsh
+drwxr-xr-x opt/share/zsh/site-functions
+-rw-r--r-- opt/share/zsh/site-functions/_ymx
+END_OF_LIST
+for mask in 022 077; do
+    mkdir "place$mask"
+    (umask $mask && DESTDIR=place$mask "$root/release/install.sh" /opt) > said 2>&1 || fail "it is not installed under umask $mask:" said
+    what_lies "place$mask" > found
+    if diff wanted found > differs; then
+        good
+    else
+        bad "under umask $mask other things are put:" differs
+    fi
+done
+
+# without DESTDIR, into a folder with a blank, of which the services speak
+"$root/release/install.sh" "in stalled" > said 2>&1 || fail 'it is not installed without DESTDIR:' said
+installed="$scratch/in stalled"
+for end in local remote; do
+    if grep -qxF "ExecStart=\"$installed/bin/ymx\" $end \$OPTIONS" "$installed/lib/systemd/system/ymx-$end@.service"; then
+        good
+    else
+        bad "the service of ymx $end does not start the program that was installed"
+    fi
+    if grep -qxF "ExecStart=\"/opt/bin/ymx\" $end \$OPTIONS" "place022/opt/lib/systemd/system/ymx-$end@.service"; then
+        good
+    else
+        bad "the service of ymx $end speaks of DESTDIR"
+    fi
+done
+
+printf 'connection %s bytes echoed\n' '1: 0' '2: 1' '3: 300000' > echoed
+if "$installed/bin/ymx" selftest > got && cmp got echoed; then good; else bad 'the installed program fails its selftest' got; fi
+
+begin_anywhere remote_says "$installed/bin/ymx" remote -v --bind 127.0.0.1:0 --target 127.0.0.1:1
+remote=${jobs##* }
+kill -TERM "$remote"
+status=0
+wait "$remote" 2> /dev/null || status=$?
+jobs=
+if [ $status = 143 ]; then good; else bad "SIGTERM ends the program with status $status" remote_says; fi
+
+if python3 "$here/options.py" "$installed/bin/ymx" > said 2>&1; then
+    good
+else
+    bad 'the man pages and the completions have other options than the program:' said
+fi
+
+# the library's header, and so the licence, stay
+mkdir -p place022/opt/include
+: > place022/opt/include/ymx.h
+DESTDIR=$scratch/place022 "$root/release/install.sh" --uninstall /opt > said
+find place022 ! -type d | LC_ALL=C sort > left
+if printf 'place022/opt/%s\n' include/ymx.h share/doc/ymx/LICENSE | diff - left > differs; then good; else bad "what is the library's goes too:" differs; fi
+DESTDIR=place077 "$root/release/install.sh" --uninstall /opt > said
+"$root/release/install.sh" --uninstall "in stalled" > said
+if [ -z "$(find place077 "$installed" ! -type d -o -path '*/doc/ymx')" ]; then good; else bad 'something is left' said; fi
+counted
