@@ -53,10 +53,12 @@ fail() {
 
 # ---- the program and its crates
 
-# find_program: `ymx` is the program, as ./ymx finds or builds it
+# find_program: `ymx` is the program, as ./ymx finds or builds it, or the one whose path YMX has
 find_program() {
-    ymx=$root/out/ymx
-    "$root/ymx" --version > /dev/null
+    ymx=${YMX:-$root/out/ymx}
+    if [ -z "${YMX-}" ]; then
+        "$root/ymx" --version > /dev/null
+    fi
 }
 
 # below CRATE: the crates that it stands on, as crates.txt has them
