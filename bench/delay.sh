@@ -1,0 +1,201 @@
+#!/bin/sh
+# Measures the tunnel over a long line: how fast one connection is with each `--window`, where a round trip between the
+# two ends takes 50 milliseconds. Between them stands a line that delays, and doesn't limit: two network namespaces with
+# `tc netem` where the machine lets us make them, and else the relay bench/delay.py. It says which.
+#
+#     bench/delay.sh [--relay] [MILLISECONDS [RUNS]]
+#
+# MILLISECONDS is the round trip, 50 if it is left out. RUNS is how often each is measured, 3 if it is left out: the
+# median is printed. `--relay` takes the relay in any case. The last column is what a window can carry at most: the
+# window once a round trip. The last row is the line alone, without the tunnel. Needs Python 3 and iproute2.
+set -eu
+here=$(cd "$(dirname "$0")" && pwd)
+. "$here/../tests/over.sh"
+netem=try
+if [ "${1-}" = --relay ]; then
+    netem=no
+    shift
+fi
+trip=${1-50}
+runs=${2-3}
+find_program
+
+# The two namespaces, if there are any; a name for each process, since several may run at once.
+near=ymx_near_$$
+far=ymx_far_$$
+drop_namespaces() {
+    ip netns del $near 2> /dev/null || true
+    ip netns del $far 2> /dev/null || true
+}
+trap 'stop; drop_namespaces; rm -rf "$scratch"' EXIT
+
+# make_namespaces: two of them, joined by a line that delays each way by half of the trip
+make_namespaces() {
+    half=$(awk "BEGIN { print $trip / 2 }")ms
+    ip netns add $near && ip netns add $far &&
+        ip link add ymx0 netns $near type veth peer name ymx1 netns $far &&
+        ip -n $near addr add 10.77.0.1/24 dev ymx0 && ip -n $far addr add 10.77.0.2/24 dev ymx1 &&
+        ip -n $near link set ymx0 up && ip -n $far link set ymx1 up &&
+        ip -n $near link set lo up && ip -n $far link set lo up &&
+        tc -n $near qdisc add dev ymx0 root netem delay "$half" limit 1000000 &&
+        tc -n $far qdisc add dev ymx1 root netem delay "$half" limit 1000000
+}
+
+if [ $netem = try ] && make_namespaces > "$scratch/netem" 2>&1; then
+    echo "line: two network namespaces, tc netem"
+else
+    [ $netem = no ] || echo "no netem here: $(tail -n 1 "$scratch/netem")"
+    echo "line: the relay bench/delay.py"
+    drop_namespaces
+    near=
+    far=
+fi
+PYTHONPATH=$root/tests python3 -B - "$ymx" "$here/delay.py" "$trip" "$runs" "$near" "$far" << 'PYTHON'
+import ctypes
+import os
+import socket
+import statistics
+import subprocess
+import sys
+import threading
+import time
+
+from ports import free_port
+
+ymx, relay, trip, runs, near, far = sys.argv[1:]
+trip, runs = float(trip), int(runs)
+WINDOWS = [262_144, 1 << 20, 4 << 20, 8 << 20, 16 << 20]
+# Each connection is measured for so many seconds, behind some in which it gets going.
+WARM, MEASURED = 1.0, 3.0
+PIECE = 1 << 20
+CLONE_NEWNET = 0x40000000
+FAR_HOST = "10.77.0.2" if far else "127.0.0.1"
+
+
+def enter(namespace):
+    """Takes this thread into a namespace."""
+    if namespace:
+        file = os.open(f"/run/netns/{namespace}", os.O_RDONLY)
+        libc = ctypes.CDLL(None, use_errno=True)
+        if libc.setns(file, CLONE_NEWNET) != 0:
+            raise OSError(ctypes.get_errno(), "setns")
+        os.close(file)
+
+
+def inside(namespace, words):
+    return (["ip", "netns", "exec", namespace] if namespace else []) + words
+
+
+def wait_for_listener(namespace, port):
+    for _ in range(300):
+        said = subprocess.run(inside(namespace, ["ss", "-ltn"]), capture_output=True, text=True, check=True).stdout
+        if f":{port} " in said:
+            return
+        time.sleep(0.05)
+    raise SystemExit(f"nobody listens at port {port}")
+
+
+class Sender:
+    """A server beside the far end, which sends zeros to each who calls."""
+
+    def __init__(self):
+        self.ready = threading.Event()
+        threading.Thread(target=self.run, daemon=True).start()
+        self.ready.wait()
+
+    def run(self):
+        enter(far)
+        with socket.create_server(("0.0.0.0" if far else "127.0.0.1", 0), backlog=64) as listener:
+            self.port = listener.getsockname()[1]
+            self.ready.set()
+            while True:
+                threading.Thread(target=self.send, args=(listener.accept()[0],), daemon=True).start()
+
+    def send(self, connection):
+        piece = bytes(PIECE)
+        try:
+            while True:
+                connection.sendall(piece)
+        except OSError:
+            connection.close()
+
+
+def speed(host, port):
+    """What a connection there brings, in bytes a second."""
+    answer = []
+
+    def run():
+        enter(near)
+        with socket.create_connection((host, port), timeout=60) as one:
+            end = time.monotonic() + WARM
+            buffer = bytearray(PIECE)
+            while time.monotonic() < end:
+                one.recv_into(buffer)
+            began, came = time.monotonic(), 0
+            while time.monotonic() < began + MEASURED:
+                came += one.recv_into(buffer)
+            answer.append(came / (time.monotonic() - began))
+
+    thread = threading.Thread(target=run)
+    thread.start()
+    thread.join()
+    return answer[0]
+
+
+class Line:
+    """What starts between the two ends: `host` and `port` are what the near one calls."""
+
+    def __init__(self, processes, target):
+        self.host, self.port = FAR_HOST, target
+        if not far:
+            self.port = free_port()
+            words = [sys.executable, relay, f"127.0.0.1:{self.port}", f"127.0.0.1:{target}", str(trip / 2)]
+            processes.append(subprocess.Popen(words))
+            wait_for_listener("", self.port)
+
+
+def through_tunnel(sender, window):
+    processes = []
+    try:
+        inner, outer = free_port(), free_port()
+        options = ["--window", str(window)]
+        processes.append(subprocess.Popen(inside(far, [
+            ymx, "remote", "--bind", f"{FAR_HOST}:{inner}", "--target", f"127.0.0.1:{sender.port}", *options])))
+        wait_for_listener(far, inner)
+        line = Line(processes, inner)
+        processes.append(subprocess.Popen(inside(near, [
+            ymx, "local", "--listen", f"127.0.0.1:{outer}", "--peer", f"{line.host}:{line.port}", *options])))
+        wait_for_listener(near, outer)
+        return speed("127.0.0.1", outer)
+    finally:
+        end(processes)
+
+
+def line_alone(sender):
+    processes = []
+    try:
+        line = Line(processes, sender.port)
+        return speed(line.host, line.port)
+    finally:
+        end(processes)
+
+
+def end(processes):
+    for one in processes:
+        one.kill()
+    for one in processes:
+        one.wait()
+
+
+def row(name, speeds, most=""):
+    low, middle, high = min(speeds), statistics.median(speeds), max(speeds)
+    print(f"{name:>12} | {middle / 1e6:8.1f} | {low / 1e6:6.1f} to {high / 1e6:6.1f} | {most:>14}", flush=True)
+
+
+sender = Sender()
+print(f"a round trip of {trip:g} ms; one connection, from `remote` to `local`; medians of {runs}")
+print(f"{'--window':>12} | {'MB/s':>8} | {'least and most':>16} | {'window a trip':>14}")
+for window in WINDOWS:
+    row(f"{window:,}", [through_tunnel(sender, window) for _ in range(runs)], f"{window / trip * 1000 / 1e6:.1f}")
+row("no tunnel", [line_alone(sender) for _ in range(runs)])
+PYTHON
