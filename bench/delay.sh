@@ -6,8 +6,9 @@
 #     bench/delay.sh [--relay] [MILLISECONDS [RUNS]]
 #
 # MILLISECONDS is the round trip, 50 if it is left out. RUNS is how often each is measured, 3 if it is left out: the
-# median is printed. `--relay` takes the relay in any case. The last column is what a window can carry at most: the
-# window once a round trip. The last row is the line alone, without the tunnel. Needs Python 3 and iproute2.
+# median is printed, and the least and the most. `--relay` takes the relay in any case. Where Go and its yamux stand, as
+# tests/interop/run.sh needs them, the same is measured of them, in turn. The last column is what a window can carry at
+# most: the window once a round trip. The last row is the line alone. Needs Python 3 and iproute2.
 set -eu
 here=$(cd "$(dirname "$0")" && pwd)
 . "$here/../tests/over.sh"
@@ -19,6 +20,11 @@ fi
 trip=${1-50}
 runs=${2-3}
 find_program
+peer=
+if has_go; then
+    peer=$scratch/peer
+    go_program "$root/tests/interop/peer.go" "$peer"
+fi
 
 # The two namespaces, if there are any; a name for each process, since several may run at once.
 near=ymx_near_$$
@@ -50,7 +56,7 @@ else
     near=
     far=
 fi
-PYTHONPATH=$root/tests python3 -B - "$ymx" "$here/delay.py" "$trip" "$runs" "$near" "$far" << 'PYTHON'
+PYTHONPATH=$root/tests python3 -B - "$ymx" "$here/delay.py" "$trip" "$runs" "$near" "$far" "$peer" << 'PYTHON'
 import ctypes
 import os
 import socket
@@ -62,7 +68,7 @@ import time
 
 from ports import free_port
 
-ymx, relay, trip, runs, near, far = sys.argv[1:]
+ymx, relay, trip, runs, near, far, peer = sys.argv[1:]
 trip, runs = float(trip), int(runs)
 WINDOWS = [262_144, 1 << 20, 4 << 20, 8 << 20, 16 << 20]
 # Each connection is measured for so many seconds, behind some in which it gets going.
@@ -154,17 +160,35 @@ class Line:
             wait_for_listener("", self.port)
 
 
-def through_tunnel(sender, window):
+def words_of_ymx(window, place, target):
+    """How `remote` begins here, and how `local` does."""
+    options = ["--window", str(window)]
+    return (lambda inner: [ymx, "remote", "--bind", inner, "--target", target, *options]), (
+        lambda line: [ymx, "local", "--listen", place, "--peer", line, *options]
+    )
+
+
+def words_of_go(window, place, target):
+    """The same of Go's yamux."""
+    options = ["-window", str(window)]
+    return (lambda inner: [peer, "remote", "-at", inner, "-to", target, *options]), (
+        lambda line: [peer, "local", "-at", place, "-to", line, *options]
+    )
+
+
+def begin(namespace, words):
+    return subprocess.Popen(inside(namespace, words), stdout=subprocess.DEVNULL)
+
+
+def through_tunnel(words_of, sender, window):
     processes = []
     try:
         inner, outer = free_port(), free_port()
-        options = ["--window", str(window)]
-        processes.append(subprocess.Popen(inside(far, [
-            ymx, "remote", "--bind", f"{FAR_HOST}:{inner}", "--target", f"127.0.0.1:{sender.port}", *options])))
+        remote, local = words_of(window, f"127.0.0.1:{outer}", f"127.0.0.1:{sender.port}")
+        processes.append(begin(far, remote(f"{FAR_HOST}:{inner}")))
         wait_for_listener(far, inner)
         line = Line(processes, inner)
-        processes.append(subprocess.Popen(inside(near, [
-            ymx, "local", "--listen", f"127.0.0.1:{outer}", "--peer", f"{line.host}:{line.port}", *options])))
+        processes.append(begin(near, local(f"{line.host}:{line.port}")))
         wait_for_listener(near, outer)
         return speed("127.0.0.1", outer)
     finally:
@@ -187,15 +211,28 @@ def end(processes):
         one.wait()
 
 
-def row(name, speeds, most=""):
-    low, middle, high = min(speeds), statistics.median(speeds), max(speeds)
-    print(f"{name:>12} | {middle / 1e6:8.1f} | {low / 1e6:6.1f} to {high / 1e6:6.1f} | {most:>14}", flush=True)
+def shown(speeds):
+    """The median, and the least and the most, in MB a second."""
+    if not speeds:
+        return f"{'':>22}"
+    low, middle, high = (at(speeds) / 1e6 for at in (min, statistics.median, max))
+    return f"{middle:6.1f} ({low:.1f}, {high:.1f})".ljust(22)
+
+
+def row(name, ours, theirs, most):
+    print(f"{name:>12} | {shown(ours)} | {shown(theirs)} | {most:>12}", flush=True)
 
 
 sender = Sender()
-print(f"a round trip of {trip:g} ms; one connection, from `remote` to `local`; medians of {runs}")
-print(f"{'--window':>12} | {'MB/s':>8} | {'least and most':>16} | {'window a trip':>14}")
+print(f"a round trip of {trip:g} ms; one connection, from `remote` to `local`; MB a second, medians of {runs}")
+theirs = "Go's yamux" if peer else "(no Go here)"
+print(f"{'--window':>12} | {'ymx':22} | {theirs:22} | window a trip")
 for window in WINDOWS:
-    row(f"{window:,}", [through_tunnel(sender, window) for _ in range(runs)], f"{window / trip * 1000 / 1e6:.1f}")
-row("no tunnel", [line_alone(sender) for _ in range(runs)])
+    speeds = {words_of_ymx: [], words_of_go: []}
+    for _ in range(runs):
+        for words_of, found in speeds.items():
+            if words_of is words_of_ymx or peer:
+                found.append(through_tunnel(words_of, sender, window))
+    row(f"{window:,}", *speeds.values(), f"{window / trip * 1000 / 1e6:.1f}")
+row("no tunnel", [line_alone(sender) for _ in range(runs)], [], "")
 PYTHON
