@@ -12,7 +12,7 @@ import socket
 import sys
 import threading
 
-PATIENCE = 120
+PATIENCE = 60
 SUBSCRIBERS = 8
 OTHERS = 4
 

@@ -79,10 +79,10 @@ end_of_tunnel() {
     [ $listens = yes ]
 }
 
-# has COMMAND PACKAGE: whether it is here; if not, a word of it
+# has COMMAND PACKAGE [WAY]: whether it is here; if not, a word of the service, or of its way, that is left out
 has() {
     command -v "$1" > /dev/null || {
-        echo "--    $service: left out: no $1 (apt-get install $2)"
+        echo "--    $service${3:+, $3}: left out: no $1 (apt-get install $2)"
         return 1
     }
 }
@@ -150,7 +150,7 @@ make_certificate() {
 each_way() {
     for each in plain turned stunnel; do
         if [ $each = stunnel ]; then
-            has stunnel stunnel4 || continue
+            has stunnel stunnel4 stunnel || continue
             make_certificate
         fi
         if join $each; then
@@ -252,7 +252,7 @@ run_redis() {
 
 # ---- ssh
 
-# copy FROM TO: by scp; the last lines of `files` say what came
+# copy FROM TO: by scp
 copy() {
     limited scp -q -F ssh.conf -P "$near" "$1" "$2"
 }
