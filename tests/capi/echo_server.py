@@ -1,4 +1,4 @@
-"""An echo server of examples/python/ymx.py: it says where it listens."""
+"""An echo server of bindings/python/ymx.py: it says where it listens."""
 import asyncio
 import sys
 

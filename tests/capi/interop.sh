@@ -20,7 +20,7 @@ trap 'stop; rm -rf "$scratch"' EXIT
 trap 'exit 130' INT TERM
 PREFIX=$scratch/built "$root/c/build.sh" "$scratch/built"
 built=$scratch/built
-export PKG_CONFIG_PATH=$built/lib/pkgconfig YMX_LIBRARY=$built/lib/libymx.so.0 PYTHONPATH=$root/examples/python PYTHONDONTWRITEBYTECODE=1
+export PKG_CONFIG_PATH=$built/lib/pkgconfig YMX_LIBRARY=$built/lib/libymx.so.1 PYTHONPATH=$root/bindings/python PYTHONDONTWRITEBYTECODE=1
 cd "$scratch"
 GO111MODULE=off GOPATH=/usr/share/gocode go build -o go_echo "$here/go_echo.go"
 cc -O2 -I"$built/include" -o echo_server "$root/examples/c/echo_server.c" "$built/lib/libymx.a"
@@ -57,19 +57,19 @@ is() {
 }
 
 in_go() {
-    (cd "$root/examples/go" && LD_LIBRARY_PATH=$built/lib GOCACHE=$scratch/go_cache timeout 120 go run .)
+    (cd "$root/bindings/go" && LD_LIBRARY_PATH=$built/lib timeout 120 go test ./...)
 }
 
 in_rust() {
-    (cd "$root/examples/rust" && YMX_LIB_DIR=$built/lib CARGO_TARGET_DIR=$scratch/cargo timeout 120 cargo test --offline --workspace) > tests 2>&1 || { cat tests; return 1; }
+    (cd "$root/bindings/rust" && YMX_LIB_DIR=$built/lib CARGO_TARGET_DIR=$scratch/cargo timeout 120 cargo test --offline --workspace) > tests 2>&1 || { cat tests; return 1; }
     echo "$(grep -c '^test .* ok$' tests) tests"
     grep -q '^test .* ok$' tests
 }
 
 begin ./go_echo serve
-is "Python's client, Go's server" timeout 120 python3 "$root/examples/python/ymx.py" 127.0.0.1 "${address##*:}" 500 20000
+is "Python's client, Go's server" timeout 120 python3 "$root/bindings/python/ymx.py" 127.0.0.1 "${address##*:}" 500 20000
 begin ./go_echo serve
-is "Python's client, Go's server, wide streams" timeout 120 python3 "$root/examples/python/ymx.py" 127.0.0.1 "${address##*:}" 5 3000000
+is "Python's client, Go's server, wide streams" timeout 120 python3 "$root/bindings/python/ymx.py" 127.0.0.1 "${address##*:}" 5 3000000
 begin ./echo_server
 is "Go's client, the server in C" timeout 120 ./go_echo call "$address" 500 20000
 begin ./echo_server

@@ -1,0 +1,166 @@
+package yamux
+
+/*
+#cgo pkg-config: ymx
+#include <stdlib.h>
+#include <ymx.h>
+
+// A session, and what the last call said of it. It lies in C's memory, so that Go reads the answers without a call.
+typedef struct core {
+    ymx_session *session;
+    ymx_touched *touched;
+    int64_t count;   // of ids: the streams that the fed bytes have touched
+    int64_t all;     // 1 where more were touched than ids has room for
+    int64_t pong;    // 1 where an answer to a ping came
+    int64_t offered; // streams that wait to be accepted
+    int64_t due;     // 1 where bytes wait to be emitted
+    int64_t status;
+    const void *lent; // bytes that wait on a stream
+    uint32_t ids[YMX_MOST_TOUCHED];
+} core;
+
+static void core_free(core *c) {
+    ymx_touched_free(c->touched);
+    ymx_free(c->session);
+    free(c);
+}
+
+// NULL, and the reason, where there is none.
+static core *core_new(int role, uint32_t window, int64_t *fault) {
+    core *c = calloc(1, sizeof *c);
+    if (c == NULL) {
+        *fault = YMX_E_NO_MEMORY;
+        return NULL;
+    }
+    *fault = ymx_new(role == 0 ? YMX_CLIENT : YMX_SERVER, window, 0, &c->session);
+    if (*fault == 0) *fault = ymx_touched_new(&c->touched);
+    if (*fault == 0) return c;
+    core_free(c);
+    return NULL;
+}
+
+// Feeds bytes, and says what they did: one call in place of seven.
+static int64_t core_feed(core *c, const uint8_t *bytes, size_t len) {
+    int64_t taken = ymx_feed_touching(c->session, bytes, len, c->touched);
+    c->count = ymx_touched_ids(c->touched, c->ids, YMX_MOST_TOUCHED);
+    c->all = ymx_touched_is_all(c->touched);
+    c->pong = ymx_touched_has_pong(c->touched);
+    ymx_touched_clear(c->touched);
+    c->offered = ymx_offered_count(c->session);
+    c->due = ymx_due(c->session);
+    c->status = ymx_status(c->session);
+    return taken;
+}
+
+// A read may make credit due, which the caller has to send.
+static int64_t core_read(core *c, uint32_t id, uint8_t *buffer, size_t len) {
+    int64_t count = ymx_read(c->session, id, buffer, len);
+    if (count > 0) c->due = ymx_due(c->session);
+    return count;
+}
+
+// Go looks through what a void pointer leads to, and refuses a buffer that lies beside Go pointers. So bytes come here.
+static int64_t core_write(core *c, uint32_t id, const uint8_t *bytes, size_t len) {
+    return ymx_write(c->session, id, bytes, len);
+}
+
+static int64_t core_emit(core *c, uint8_t *buffer, size_t len) {
+    return ymx_emit(c->session, buffer, len);
+}
+
+static int64_t core_unread(core *c, uint32_t id) {
+    return ymx_unread(c->session, id, &c->lent);
+}
+*/
+import "C"
+
+import "unsafe"
+
+// core is libymx's session, which does no input or output. The lock of the Session that has it is held during each call.
+type core struct{ c *C.core }
+
+func newCore(client bool, window uint32) (core, error) {
+	role := C.int(C.YMX_SERVER)
+	if client {
+		role = C.YMX_CLIENT
+	}
+	var fault C.int64_t
+	c := C.core_new(role, C.uint32_t(window), &fault)
+	if c == nil {
+		return core{}, refusal(int64(fault))
+	}
+	return core{c}, nil
+}
+
+func (core core) free() { C.core_free(core.c) }
+
+// first is the address of the first byte, or NULL.
+func first(bytes []byte) *C.uint8_t {
+	if len(bytes) == 0 {
+		return nil
+	}
+	return (*C.uint8_t)(&bytes[0])
+}
+
+// feed says how many bytes were taken. touched, hasPong, offered, isDue and status are anew then.
+func (core core) feed(bytes []byte) int {
+	return int(C.core_feed(core.c, first(bytes), C.size_t(len(bytes))))
+}
+
+// touched gives the streams that the last feed has touched. With isAll there were more.
+func (core core) touched() (ids []C.uint32_t, isAll bool) {
+	return core.c.ids[:core.c.count], core.c.all == 1
+}
+
+func (core core) hasPong() bool  { return core.c.pong == 1 }
+func (core core) offered() int64 { return int64(core.c.offered) }
+func (core core) isDue() bool    { return core.c.due == 1 }
+func (core core) status() int64  { return int64(core.c.status) }
+
+// emit fills the buffer with bytes for the peer. Where it is not full, nothing is left due.
+func (core core) emit(buffer []byte) int {
+	return int(C.core_emit(core.c, first(buffer), C.size_t(len(buffer))))
+}
+
+func (core core) open() int64   { return int64(C.ymx_open(core.c.session)) }
+func (core core) accept() int64 { return int64(C.ymx_accept(core.c.session)) }
+
+func (core core) write(id uint32, bytes []byte) int64 {
+	return int64(C.core_write(core.c, C.uint32_t(id), first(bytes), C.size_t(len(bytes))))
+}
+
+// read renews isDue where it gives bytes.
+func (core core) read(id uint32, buffer []byte) int64 {
+	return int64(C.core_read(core.c, C.uint32_t(id), first(buffer), C.size_t(len(buffer))))
+}
+
+func (core core) atEnd(id uint32) bool   { return C.ymx_is_at_end(core.c.session, C.uint32_t(id)) == 1 }
+func (core core) finish(id uint32) int64 { return int64(C.ymx_finish(core.c.session, C.uint32_t(id))) }
+func (core core) reset(id uint32) int64  { return int64(C.ymx_reset(core.c.session, C.uint32_t(id))) }
+func (core core) forget(id uint32)       { C.ymx_forget(core.c.session, C.uint32_t(id)) }
+
+// take appends the bytes that wait on a stream to some, by at most `most` bytes. They are copied from where they lie.
+func (core core) take(id uint32, some []byte, most int) []byte {
+	for most > 0 {
+		count := int(C.core_unread(core.c, C.uint32_t(id)))
+		if count <= 0 {
+			break
+		}
+		if count > most {
+			count = most
+		}
+		some = append(some, unsafe.Slice((*byte)(core.c.lent), count)...)
+		C.ymx_consume(core.c.session, C.uint32_t(id), C.size_t(count))
+		most -= count
+	}
+	return some
+}
+
+// isReset says whether the stream was reset. A write of no bytes tells it.
+func (core core) isReset(id uint32) bool { return core.write(id, nil) == C.YMX_E_RESET }
+
+func (core core) ping() int64 { return int64(C.ymx_ping(core.c.session)) }
+func (core core) ponged(number uint32) bool {
+	return C.ymx_ponged(core.c.session, C.uint32_t(number)) == 1
+}
+func (core core) goAway() int64 { return int64(C.ymx_go_away(core.c.session)) }

@@ -1,0 +1,108 @@
+package yamux
+
+/*
+#include <ymx.h>
+*/
+import "C"
+
+import "errors"
+
+// netError is an error that says whether it is a timeout, as net.Error asks.
+type netError struct {
+	text               string
+	timeout, temporary bool
+}
+
+func (e *netError) Error() string   { return e.text }
+func (e *netError) Timeout() bool   { return e.timeout }
+func (e *netError) Temporary() bool { return e.temporary }
+
+// The errors have the names and texts of github.com/hashicorp/yamux. Compare them by == or errors.Is.
+var (
+	// ErrInvalidVersion: the peer sent a frame of another version.
+	ErrInvalidVersion = errors.New("invalid protocol version")
+	// ErrInvalidMsgType: the peer sent a frame of an unknown type.
+	ErrInvalidMsgType = errors.New("invalid msg type")
+	// ErrSessionShutdown: the session has ended, before the call or during it.
+	ErrSessionShutdown = errors.New("session shutdown")
+	// ErrStreamsExhausted: all ids for streams are used up. Make a new session.
+	ErrStreamsExhausted = errors.New("streams exhausted")
+	// ErrDuplicateStream: the peer opened a stream that is there.
+	ErrDuplicateStream = errors.New("duplicate stream initiated")
+	// ErrRecvWindowExceeded: the peer sent more than its credit.
+	ErrRecvWindowExceeded = errors.New("recv window exceeded")
+	// ErrTimeout: a deadline has passed, or no answer to a ping came. It is a net.Error whose Timeout is true.
+	ErrTimeout error = &netError{"i/o deadline reached", true, true}
+	// ErrStreamClosed: this side has closed the stream.
+	ErrStreamClosed = errors.New("stream closed")
+	// ErrUnexpectedFlag is here for programs that name it. No call returns it: such a frame is passed over.
+	ErrUnexpectedFlag = errors.New("unexpected flag")
+	// ErrRemoteGoAway: the peer takes no more streams.
+	ErrRemoteGoAway = errors.New("remote end is not accepting connections")
+	// ErrConnectionReset: either side has reset the stream. The peer does so with a stream that it can't take.
+	ErrConnectionReset = errors.New("connection reset")
+	// ErrConnectionWriteTimeout: the connection took no bytes for Config.ConnectionWriteTimeout. It is a net.Error whose
+	// Timeout is true.
+	ErrConnectionWriteTimeout error = &netError{"connection write timeout", true, false}
+	// ErrKeepAliveTimeout: a keepalive had no answer, so the session has ended.
+	ErrKeepAliveTimeout = errors.New("keepalive timeout")
+
+	// ErrTooManyStreams: the session has 1,024 streams, as many as it can. HashiCorp's package has no such limit.
+	ErrTooManyStreams = errors.New("too many streams")
+	// ErrNoMemory: C's malloc gave none. The call may be made again.
+	ErrNoMemory = errors.New("no memory")
+)
+
+// refusal is the error for a negative answer of libymx.
+func refusal(answer int64) error {
+	switch answer {
+	case C.YMX_E_FINISHED:
+		return ErrStreamClosed
+	case C.YMX_E_RESET:
+		return ErrConnectionReset
+	case C.YMX_E_LOST, C.YMX_E_CLOSED, C.YMX_E_NO_STREAM:
+		return ErrSessionShutdown
+	case C.YMX_E_PEER_AWAY:
+		return ErrRemoteGoAway
+	case C.YMX_E_EXHAUSTED:
+		return ErrStreamsExhausted
+	case C.YMX_E_TOO_MANY:
+		return ErrTooManyStreams
+	case C.YMX_E_NO_MEMORY:
+		return ErrNoMemory
+	}
+	return errors.New("libymx: " + C.GoString(C.ymx_error_name(C.int64_t(answer))))
+}
+
+// These answers are no refusals: the caller waits, and asks again.
+const (
+	answerWait         = C.YMX_WAIT
+	answerOpensPending = C.YMX_E_OPENS_PENDING
+	answerPingsPending = C.YMX_E_PINGS_PENDING
+)
+
+// broken is the error for a status of YMX_BROKEN and more.
+func broken(status int64) error {
+	switch status - C.YMX_BROKEN {
+	case 1:
+		return ErrInvalidVersion
+	case 2:
+		return ErrInvalidMsgType
+	case 3:
+		return errors.New("stream id of the wrong side initiated")
+	case 4:
+		return ErrDuplicateStream
+	case 5:
+		return ErrRecvWindowExceeded
+	case 6:
+		return errors.New("send window above 4,294,967,295")
+	case 7:
+		return errors.New("unexpected go away received")
+	case 8:
+		return errors.New("yamux protocol error")
+	}
+	return errors.New("remote yamux internal error")
+}
+
+// statusBroken is the least status of a session that broke.
+const statusBroken = C.YMX_BROKEN

@@ -1,0 +1,3 @@
+module ymx/yamux
+
+go 1.19

@@ -1,0 +1,515 @@
+// Package yamux carries many streams over one connection. It has the calls of github.com/hashicorp/yamux, over libymx,
+// whose session is proved. The README says how to build it, and where it differs.
+package yamux
+
+import (
+	"context"
+	"io"
+	"log"
+	"net"
+	"strings"
+	"sync"
+	"time"
+)
+
+// One block has room for the window of one stream and the headers of its frames, so that what one write made due goes
+// out in one piece.
+const blockSize = leastWindow + 16*1024
+
+// Session is one side of a connection. All its calls may be made by many goroutines at once.
+//
+// Two goroutines move the bytes: one reads, feeds, and wakes those who wait for a stream that was touched; the other
+// emits into one block and writes it. Nobody holds the lock while it reads from the connection or writes to it.
+type Session struct {
+	config     *Config
+	logger     *log.Logger
+	connection io.ReadWriteCloser
+	done       chan struct{} // closed as the session ends
+	readerDone chan struct{} // closed as the reading goroutine ends
+	pingSeats  chan struct{} // the pings that the library keeps: 16 at most
+
+	lock     sync.Mutex // guards all below, and each call of the core
+	core     core
+	over     bool
+	failure  error // why it is over, or will be once the last bytes are out
+	due      bool  // the writing goroutine has something to emit
+	offered  int64 // streams that wait for AcceptStream
+	unacked  int   // own streams that the peer has not acknowledged
+	streams  map[uint32]*Stream
+	leaving  map[uint32]*Stream // forgotten by the library, but their end is not out
+	pings    map[uint32]*ping
+	out      outgoing
+	drains   uint64    // emissions after which nothing was due
+	outside  uint64    // how many of them the connection has taken
+	flushing []*Stream // of which calls wait for their bytes to be out
+	away     bool      // our Go Away is out
+	watching bool      // a look at those who wait for the connection to take their bytes is planned
+
+	dueCond    *sync.Cond // due or over
+	emitted    *sync.Cond // bytes were emitted
+	acceptable *sync.Cond // a stream waits for AcceptStream
+	openable   *sync.Cond // a stream was acknowledged, or is gone
+	written    *sync.Cond // a Go Away was written
+}
+
+type ping struct {
+	back chan struct{} // closed once the answer is back
+	sent bool
+}
+
+func newSession(config *Config, connection io.ReadWriteCloser, client bool) (*Session, error) {
+	window := config.MaxStreamWindowSize
+	if window > widestWindow {
+		window = widestWindow
+	}
+	core, err := newCore(client, window)
+	if err != nil {
+		return nil, err
+	}
+	logger := config.Logger
+	if logger == nil {
+		logger = log.New(config.LogOutput, "", log.LstdFlags)
+	}
+	s := &Session{
+		config:     config,
+		logger:     logger,
+		connection: connection,
+		done:       make(chan struct{}),
+		readerDone: make(chan struct{}),
+		pingSeats:  make(chan struct{}, 16),
+		core:       core,
+		streams:    make(map[uint32]*Stream),
+		leaving:    make(map[uint32]*Stream),
+		pings:      make(map[uint32]*ping),
+	}
+	for _, cond := range []**sync.Cond{&s.dueCond, &s.emitted, &s.acceptable, &s.openable, &s.written} {
+		*cond = sync.NewCond(&s.lock)
+	}
+	go s.receive()
+	go s.send()
+	if config.EnableKeepAlive {
+		go s.keepAlive()
+	}
+	return s, nil
+}
+
+// ---- the end
+
+// IsClosed says whether the session has ended.
+func (s *Session) IsClosed() bool {
+	select {
+	case <-s.done:
+		return true
+	default:
+		return false
+	}
+}
+
+// CloseChan gives a channel that is closed as the session ends.
+func (s *Session) CloseChan() <-chan struct{} { return s.done }
+
+// Close ends the session and its connection, and all streams. What has come of a stream can still be read.
+func (s *Session) Close() error {
+	s.end(ErrSessionShutdown)
+	<-s.readerDone
+	return nil
+}
+
+// end ends the session, for this reason if it is the first.
+func (s *Session) end(reason error) {
+	s.lock.Lock()
+	if s.over {
+		s.lock.Unlock()
+		return
+	}
+	s.over = true
+	if s.failure == nil {
+		s.failure = reason
+	}
+	for _, stream := range s.streams {
+		stream.abandon()
+	}
+	s.core.free()
+	close(s.done)
+	for _, cond := range []*sync.Cond{s.dueCond, s.emitted, s.acceptable, s.openable, s.written} {
+		cond.Broadcast()
+	}
+	s.lock.Unlock()
+	s.connection.Close()
+}
+
+// ---- bytes that come
+
+func (s *Session) receive() {
+	defer close(s.readerDone)
+	block := make([]byte, blockSize)
+	for {
+		count, err := s.connection.Read(block)
+		if count > 0 && !s.feed(block[:count]) {
+			return
+		}
+		if err != nil {
+			if !s.IsClosed() && err != io.EOF && !strings.Contains(err.Error(), "closed") && !strings.Contains(err.Error(), "reset by peer") {
+				s.logger.Printf("[ERR] yamux: Failed to read: %v", err)
+			}
+			s.end(err)
+			return
+		}
+	}
+}
+
+// feed feeds all of it, and says whether the session goes on.
+func (s *Session) feed(bytes []byte) bool {
+	s.lock.Lock()
+	defer s.lock.Unlock()
+	for !s.over {
+		taken := s.core.feed(bytes)
+		bytes = bytes[taken:]
+		s.serve()
+		if s.core.status() >= statusBroken {
+			s.breakOff(broken(s.core.status()))
+			return false
+		}
+		if len(bytes) == 0 {
+			return true
+		}
+		s.emitted.Wait() // as many answers are unsent as the library keeps
+	}
+	return false
+}
+
+// serve wakes those for whom the fed bytes have changed something.
+func (s *Session) serve() {
+	ids, isAll := s.core.touched()
+	if isAll {
+		for _, stream := range s.streams {
+			stream.touch()
+		}
+	} else {
+		for _, id := range ids {
+			if stream := s.streams[uint32(id)]; stream != nil {
+				stream.touch()
+			}
+		}
+	}
+	if s.core.offered() > s.offered {
+		s.acceptable.Broadcast()
+	}
+	s.offered = s.core.offered()
+	if s.core.hasPong() {
+		for number, ping := range s.pings {
+			if s.core.ponged(number) {
+				delete(s.pings, number)
+				close(ping.back)
+				<-s.pingSeats
+			}
+		}
+	}
+	if s.core.isDue() {
+		s.wakeWriter()
+	}
+}
+
+// breakOff ends the session once the Go Away that names the peer's fault is out, or can't get out.
+func (s *Session) breakOff(reason error) {
+	s.logger.Printf("[ERR] yamux: the peer broke the rules: %v", reason)
+	s.failure = reason
+	if !s.due {
+		go s.end(reason)
+		return
+	}
+	time.AfterFunc(s.config.ConnectionWriteTimeout, func() { s.end(reason) })
+}
+
+// ---- bytes that go
+
+func (s *Session) wakeWriter() {
+	if !s.due {
+		s.due = true
+		s.dueCond.Signal()
+	}
+}
+
+func (s *Session) send() {
+	block := make([]byte, blockSize)
+	for {
+		count := s.emit(block)
+		if count == 0 {
+			return
+		}
+		for rest := block[:count]; len(rest) > 0; {
+			written, err := s.connection.Write(rest)
+			if err != nil {
+				if !s.IsClosed() {
+					s.logger.Printf("[ERR] yamux: Failed to write: %v", err)
+				}
+				s.end(err)
+				return
+			}
+			rest = rest[written:]
+		}
+		s.lock.Lock()
+		s.sent(block[:count])
+		s.drained()
+		last := s.failure != nil && !s.due
+		s.lock.Unlock()
+		if last {
+			s.end(nil)
+			return
+		}
+	}
+}
+
+// emit waits until something is due, and emits it. 0 once the session is over.
+func (s *Session) emit(block []byte) int {
+	s.lock.Lock()
+	defer s.lock.Unlock()
+	for !s.over {
+		if !s.due {
+			s.dueCond.Wait()
+			continue
+		}
+		count := s.core.emit(block)
+		s.due = count == len(block)
+		if !s.due {
+			s.drains++
+		}
+		s.emitted.Broadcast()
+		if count > 0 {
+			return count
+		}
+		s.drained()
+	}
+	return 0
+}
+
+// drained notes that all that was emitted is out, and wakes those who wait for no more than that.
+func (s *Session) drained() {
+	if s.outside == s.drains {
+		return
+	}
+	s.outside = s.drains
+	for _, stream := range s.flushing {
+		stream.isFlushing = false
+		stream.readable.Broadcast()
+		stream.writable.Broadcast()
+	}
+	s.flushing = s.flushing[:0]
+}
+
+// overdue says whether who has waited since then for the connection to take its bytes should give up. It plans a look.
+func (s *Session) overdue(since time.Time) bool {
+	if time.Since(since) >= s.config.ConnectionWriteTimeout {
+		return true
+	}
+	if !s.watching {
+		s.watching = true
+		time.AfterFunc(s.config.ConnectionWriteTimeout/4, s.look)
+	}
+	return false
+}
+
+// look wakes those who wait for the connection to take their bytes, so that they see how late it is.
+func (s *Session) look() {
+	s.lock.Lock()
+	defer s.lock.Unlock()
+	s.watching = false
+	s.written.Broadcast()
+	for _, streams := range []map[uint32]*Stream{s.streams, s.leaving} {
+		for _, stream := range streams {
+			stream.readable.Broadcast()
+			stream.writable.Broadcast()
+		}
+	}
+}
+
+// ---- streams
+
+// NumStreams says how many streams there are: opened or accepted, and not ended on both sides.
+func (s *Session) NumStreams() int {
+	s.lock.Lock()
+	defer s.lock.Unlock()
+	return len(s.streams)
+}
+
+// Open is OpenStream for programs that want a net.Conn.
+func (s *Session) Open() (net.Conn, error) {
+	stream, err := s.OpenStream()
+	if err != nil {
+		return nil, err
+	}
+	return stream, nil
+}
+
+// OpenStream opens a stream. It waits while AcceptBacklog streams are not acknowledged.
+func (s *Session) OpenStream() (*Stream, error) {
+	s.lock.Lock()
+	defer s.lock.Unlock()
+	for !s.over {
+		if s.unacked >= s.config.AcceptBacklog {
+			s.openable.Wait()
+			continue
+		}
+		answer := s.core.open()
+		if answer == answerOpensPending {
+			s.openable.Wait()
+			continue
+		}
+		if answer < 0 {
+			return nil, refusal(answer)
+		}
+		stream := newStream(s, uint32(answer))
+		stream.isUnacked = true
+		s.unacked++
+		if limit := s.config.StreamOpenTimeout; limit > 0 {
+			stream.openTimer = time.AfterFunc(limit, stream.endUnacked)
+		}
+		return stream.begun()
+	}
+	return nil, ErrSessionShutdown
+}
+
+// Accept is AcceptStream for programs that want a net.Conn. With it a Session is a net.Listener.
+func (s *Session) Accept() (net.Conn, error) {
+	stream, err := s.AcceptStream()
+	if err != nil {
+		return nil, err
+	}
+	return stream, nil
+}
+
+// AcceptStream waits for a stream of the peer's. Once the session is over it returns why.
+func (s *Session) AcceptStream() (*Stream, error) {
+	return s.AcceptStreamWithContext(context.Background())
+}
+
+// AcceptStreamWithContext is AcceptStream, and stops waiting with the context's error once that is done.
+func (s *Session) AcceptStreamWithContext(waits context.Context) (*Stream, error) {
+	if waits.Done() != nil {
+		stop := make(chan struct{})
+		defer close(stop)
+		go func() {
+			select {
+			case <-waits.Done():
+				s.lock.Lock()
+				s.acceptable.Broadcast()
+				s.lock.Unlock()
+			case <-stop:
+			}
+		}()
+	}
+	s.lock.Lock()
+	defer s.lock.Unlock()
+	for !s.over {
+		if err := waits.Err(); err != nil {
+			return nil, err
+		}
+		if s.offered == 0 {
+			s.acceptable.Wait()
+			continue
+		}
+		s.offered--
+		answer := s.core.accept()
+		if answer == 0 {
+			s.offered = 0
+			continue
+		}
+		if answer < 0 {
+			return nil, refusal(answer)
+		}
+		return newStream(s, uint32(answer)).begun()
+	}
+	return nil, s.failure
+}
+
+// ---- the session as a whole
+
+// GoAway tells the peer that no more of its streams are taken. Streams that are there go on.
+func (s *Session) GoAway() error {
+	s.lock.Lock()
+	defer s.lock.Unlock()
+	if s.over {
+		return ErrSessionShutdown
+	}
+	if answer := s.core.goAway(); answer < 0 {
+		return refusal(answer)
+	}
+	s.wakeWriter()
+	for since := time.Now(); !s.away; s.written.Wait() {
+		if s.over {
+			return ErrSessionShutdown
+		}
+		if s.overdue(since) {
+			return ErrConnectionWriteTimeout
+		}
+	}
+	return nil
+}
+
+// Ping says how long the peer takes to answer.
+func (s *Session) Ping() (time.Duration, error) {
+	timer := time.NewTimer(s.config.ConnectionWriteTimeout)
+	defer timer.Stop()
+	ping, err := s.beginPing(timer.C)
+	if err != nil {
+		return 0, err
+	}
+	began := time.Now()
+	select {
+	case <-ping.back:
+		return time.Since(began), nil
+	case <-s.done:
+		return 0, ErrSessionShutdown
+	case <-timer.C:
+	}
+	s.lock.Lock()
+	defer s.lock.Unlock()
+	if !ping.sent {
+		return 0, ErrConnectionWriteTimeout
+	}
+	return 0, ErrTimeout
+}
+
+// beginPing sends a ping, once fewer than 16 have no answer.
+func (s *Session) beginPing(timeout <-chan time.Time) (*ping, error) {
+	select {
+	case s.pingSeats <- struct{}{}:
+	case <-s.done:
+		return nil, ErrSessionShutdown
+	case <-timeout:
+		return nil, ErrConnectionWriteTimeout
+	}
+	s.lock.Lock()
+	defer s.lock.Unlock()
+	if s.over {
+		return nil, ErrSessionShutdown
+	}
+	answer := s.core.ping()
+	if answer < 0 {
+		<-s.pingSeats
+		return nil, refusal(answer)
+	}
+	ping := &ping{back: make(chan struct{})}
+	s.pings[uint32(answer)] = ping
+	s.wakeWriter()
+	return ping, nil
+}
+
+func (s *Session) keepAlive() {
+	ticker := time.NewTicker(s.config.KeepAliveInterval)
+	defer ticker.Stop()
+	for {
+		select {
+		case <-ticker.C:
+		case <-s.done:
+			return
+		}
+		if _, err := s.Ping(); err != nil {
+			if err != ErrSessionShutdown {
+				s.logger.Printf("[ERR] yamux: keepalive failed: %v", err)
+				s.end(ErrKeepAliveTimeout)
+			}
+			return
+		}
+	}
+}

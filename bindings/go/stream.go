@@ -1,0 +1,461 @@
+package yamux
+
+import (
+	"io"
+	"sync"
+	"time"
+)
+
+// Stream is one stream of a session: a net.Conn. All its calls may be made by many goroutines at once.
+type Stream struct {
+	session *Session
+	id      uint32
+	sending sync.Mutex // one Write at a time
+
+	// The session's lock guards all below.
+	readable *sync.Cond // something has come, or the end; or a credit is out
+	writable *sync.Cond // credit has come, or the end; or bytes are out
+	reading  deadline
+	writing  deadline
+
+	nothing bool   // a read would wait
+	stalled bool   // a write would wait
+	rest    []byte // what has come after Close, or before the session ended
+	end     error  // what Read returns behind that, once the library has forgotten the stream; nil before
+
+	finished   bool // our end is on its way, or out
+	closed     bool
+	isUnacked  bool // the peer has not acknowledged it
+	openTimer  *time.Timer
+	closeTimer *time.Timer
+
+	taken   uint64 // bytes that the library took from Write
+	gone    uint64 // how many of them are out
+	begins  bool   // its first frame is out
+	ends    bool   // our end is out
+	credits uint64 // how many credits are out
+
+	isFlushing bool // it is in the session's list of those
+}
+
+func newStream(session *Session, id uint32) *Stream {
+	stream := &Stream{session: session, id: id}
+	stream.readable, stream.writable = sync.NewCond(&session.lock), sync.NewCond(&session.lock)
+	session.streams[id] = stream
+	return stream
+}
+
+// begun waits until the first frame of a stream that was just opened or accepted is out.
+func (st *Stream) begun() (*Stream, error) {
+	st.session.wakeWriter()
+	if err := st.flush(st.writable, func() bool { return st.begins }); err != nil {
+		st.breakOff(err)
+		return nil, err
+	}
+	return st, nil
+}
+
+// Session gives the stream's session.
+func (st *Stream) Session() *Session { return st.session }
+
+// StreamID gives the stream's number on the wire.
+func (st *Stream) StreamID() uint32 { return st.id }
+
+// Shrink does nothing. It is here for programs that call it: the library keeps a stream's memory until its end.
+func (st *Stream) Shrink() {}
+
+// ---- reading
+
+// Read reads what has come, and waits while there is nothing. io.EOF comes once the peer has ended the stream and all was
+// read. After Close it goes on to give what comes. Where the session ends before the stream, it is ErrSessionShutdown.
+func (st *Stream) Read(buffer []byte) (int, error) {
+	if len(buffer) == 0 {
+		return 0, nil
+	}
+	s := st.session
+	s.lock.Lock()
+	defer s.lock.Unlock()
+	for {
+		if len(st.rest) > 0 {
+			count := copy(buffer, st.rest)
+			st.rest = st.rest[count:]
+			return count, nil
+		}
+		if st.end != nil {
+			return 0, st.end
+		}
+		if !st.nothing {
+			answer := s.core.read(st.id, buffer)
+			if answer > 0 {
+				return int(answer), st.credit()
+			}
+			if answer == 0 {
+				if st.closed {
+					st.leave(io.EOF)
+				}
+				return 0, io.EOF
+			}
+			if answer != answerWait {
+				st.leave(refusal(answer))
+				continue
+			}
+			st.nothing = true
+		}
+		if st.reading.isPast() {
+			return 0, ErrTimeout
+		}
+		st.readable.Wait()
+	}
+}
+
+// credit sends what a read has made due, and waits until it is out.
+func (st *Stream) credit() error {
+	s := st.session
+	if s.due || !s.core.isDue() {
+		return nil
+	}
+	s.wakeWriter()
+	wanted := st.credits + 1
+	err := st.flush(st.readable, func() bool { return st.credits >= wanted || st.reading.isPast() })
+	if err == ErrSessionShutdown {
+		return nil // the bytes have come, and the next call tells it
+	}
+	return err
+}
+
+// ---- writing
+
+// Write writes all of it, and waits until the connection has taken it. The count is of bytes that the connection took.
+func (st *Stream) Write(bytes []byte) (int, error) {
+	st.sending.Lock()
+	defer st.sending.Unlock()
+	s := st.session
+	s.lock.Lock()
+	defer s.lock.Unlock()
+	before, all := st.taken, len(bytes)
+	err := st.hand(bytes)
+	fault := st.flush(st.writable, func() bool { return st.gone >= st.taken || st.writing.isPast() })
+	if err == nil {
+		err = fault
+	}
+	if st.gone >= before+uint64(all) {
+		return all, nil
+	}
+	if err == nil {
+		err = st.unsent()
+	}
+	if st.gone <= before {
+		return 0, err
+	}
+	return int(st.gone - before), err
+}
+
+// unsent is why bytes of a Write didn't get out.
+func (st *Stream) unsent() error {
+	if st.end == nil && st.session.core.isReset(st.id) {
+		st.leave(ErrConnectionReset)
+	}
+	if st.end != nil {
+		return st.writeFault()
+	}
+	return ErrTimeout
+}
+
+// hand gives all of it to the library, as the peer grants credit.
+func (st *Stream) hand(bytes []byte) error {
+	s := st.session
+	for len(bytes) > 0 {
+		if err := st.writeFault(); err != nil {
+			return err
+		}
+		if !st.stalled {
+			answer := s.core.write(st.id, bytes)
+			if answer > 0 {
+				st.taken += uint64(answer)
+				bytes = bytes[answer:]
+				s.wakeWriter()
+				st.stalled = len(bytes) > 0
+				continue
+			}
+			if answer != answerWait {
+				return st.refused(answer)
+			}
+			st.stalled = true
+		}
+		if st.writing.isPast() {
+			return ErrTimeout
+		}
+		st.writable.Wait()
+	}
+	return nil
+}
+
+// writeFault is why nothing can be written any more.
+func (st *Stream) writeFault() error {
+	if st.finished {
+		return ErrStreamClosed
+	}
+	if st.end == io.EOF {
+		return ErrStreamClosed
+	}
+	return st.end
+}
+
+// refused is the error for a refusal, and lets a stream that was reset go.
+func (st *Stream) refused(answer int64) error {
+	err := refusal(answer)
+	if err == ErrConnectionReset {
+		st.leave(err)
+	}
+	return err
+}
+
+// flush waits until it holds that these bytes of the stream are out, or all that was due is: a reset or the peer's end
+// may have made them needless.
+func (st *Stream) flush(cond *sync.Cond, areOut func() bool) error {
+	s := st.session
+	enough := s.drains
+	if s.due {
+		enough++
+	}
+	for since := time.Now(); !areOut() && s.outside < enough; cond.Wait() {
+		if s.over {
+			return ErrSessionShutdown
+		}
+		if s.overdue(since) {
+			return ErrConnectionWriteTimeout
+		}
+		if !st.isFlushing {
+			st.isFlushing = true
+			s.flushing = append(s.flushing, st)
+		}
+	}
+	return nil
+}
+
+// sent notes that so many bytes of Write are out.
+func (st *Stream) sent(count uint64) {
+	st.gone += count
+	if st.gone >= st.taken {
+		st.writable.Broadcast()
+	}
+}
+
+// sentFrame notes what a frame that is out, or its header, says beside its payload.
+func (st *Stream) sentFrame(kind byte, flags uint16, length uint32) {
+	if flags&(flagSYN|flagACK) != 0 {
+		st.begins = true
+		st.writable.Broadcast()
+	}
+	if flags&flagFIN != 0 {
+		st.ends = true
+		st.writable.Broadcast()
+		delete(st.session.leaving, st.id)
+	}
+	if kind == frameWindowUpdate && length > 0 {
+		st.credits++
+		st.readable.Broadcast()
+	}
+}
+
+// ---- the end
+
+// CloseWrite ends the writing side, behind the last byte. It may still be read.
+func (st *Stream) CloseWrite() error {
+	st.session.lock.Lock()
+	defer st.session.lock.Unlock()
+	return st.finish()
+}
+
+// Close ends the writing side, behind the last byte, and lets the stream go once the peer has ended its own. What comes
+// until then can still be read, or is thrown away at the latest after StreamCloseTimeout, with a reset.
+func (st *Stream) Close() error {
+	s := st.session
+	s.lock.Lock()
+	defer s.lock.Unlock()
+	if st.closed || st.end != nil {
+		st.closed = true
+		return nil
+	}
+	st.closed = true
+	if limit := s.config.StreamCloseTimeout; limit > 0 {
+		st.closeTimer = time.AfterFunc(limit, st.endClosed)
+	}
+	st.finish()
+	if st.end == nil {
+		st.tidy()
+	}
+	return nil
+}
+
+// finish ends the writing side, and waits until the end is out.
+func (st *Stream) finish() error {
+	if st.finished || st.end != nil {
+		return nil
+	}
+	st.finished = true
+	if answer := st.session.core.finish(st.id); answer < 0 {
+		return st.refused(answer)
+	}
+	st.session.wakeWriter()
+	st.writable.Broadcast()
+	return st.flush(st.writable, func() bool { return st.ends })
+}
+
+// Reset breaks the stream off, both ways. Both sides' calls return ErrConnectionReset.
+func (st *Stream) Reset() error {
+	st.session.lock.Lock()
+	defer st.session.lock.Unlock()
+	if st.end == nil {
+		st.breakOff(ErrConnectionReset)
+	}
+	return nil
+}
+
+// breakOff resets the stream, and lets it go.
+func (st *Stream) breakOff(reason error) {
+	if st.end != nil {
+		return
+	}
+	st.session.core.reset(st.id)
+	st.leave(reason)
+}
+
+// touch is called where bytes have come for this stream.
+func (st *Stream) touch() {
+	st.acknowledged()
+	st.nothing, st.stalled = false, false
+	st.readable.Broadcast()
+	if st.closed {
+		st.tidy()
+	}
+	st.writable.Broadcast()
+}
+
+func (st *Stream) acknowledged() {
+	if !st.isUnacked {
+		return
+	}
+	st.isUnacked = false
+	st.session.unacked--
+	st.session.openable.Broadcast()
+	if st.openTimer != nil {
+		st.openTimer.Stop()
+	}
+}
+
+// tidy lets a closed stream go, if the peer has ended it. The library tells the end only behind the last byte, so what
+// has come is taken out of it: as much as one window. More waits there for Read.
+func (st *Stream) tidy() {
+	s := st.session
+	st.rest = s.core.take(st.id, st.rest, leastWindow-len(st.rest))
+	s.wakeWriter() // there may be credit to send
+	if s.core.atEnd(st.id) {
+		st.leave(io.EOF)
+		return
+	}
+	if answer := s.core.read(st.id, nil); answer < 0 && answer != answerWait {
+		st.leave(refusal(answer))
+	}
+}
+
+// leave has the library forget the stream.
+func (st *Stream) leave(reason error) {
+	s := st.session
+	st.acknowledged()
+	s.core.forget(st.id)
+	s.wakeWriter()
+	delete(s.streams, st.id)
+	if st.finished && !st.ends {
+		s.leaving[st.id] = st
+	}
+	st.over(reason)
+}
+
+// abandon keeps what has come, as the session ends.
+func (st *Stream) abandon() {
+	st.rest = st.session.core.take(st.id, st.rest, widestWindow)
+	reason := ErrSessionShutdown
+	if st.session.core.atEnd(st.id) {
+		reason = io.EOF
+	}
+	delete(st.session.streams, st.id)
+	st.over(reason)
+}
+
+func (st *Stream) over(reason error) {
+	st.end = reason
+	for _, timer := range []*time.Timer{st.openTimer, st.closeTimer} {
+		if timer != nil {
+			timer.Stop()
+		}
+	}
+	st.readable.Broadcast()
+	st.writable.Broadcast()
+}
+
+// endClosed is called where the peer hasn't ended a closed stream in time.
+func (st *Stream) endClosed() {
+	st.session.lock.Lock()
+	defer st.session.lock.Unlock()
+	st.rest = nil
+	st.breakOff(ErrStreamClosed)
+}
+
+// endUnacked is called where the peer hasn't acknowledged a stream in time.
+func (st *Stream) endUnacked() {
+	s := st.session
+	s.lock.Lock()
+	late := st.isUnacked && !s.over
+	s.lock.Unlock()
+	if late {
+		s.logger.Printf("[ERR] yamux: aborted stream open: i/o deadline reached")
+		s.end(ErrTimeout)
+	}
+}
+
+// ---- deadlines
+
+// deadline is a time, and a timer that wakes who waits.
+type deadline struct {
+	at    time.Time
+	timer *time.Timer
+}
+
+func (d *deadline) isPast() bool { return !d.at.IsZero() && !time.Now().Before(d.at) }
+
+func (d *deadline) set(at time.Time, cond *sync.Cond) {
+	cond.L.Lock()
+	defer cond.L.Unlock()
+	if d.timer != nil {
+		d.timer.Stop()
+		d.timer = nil
+	}
+	d.at = at
+	if !at.IsZero() {
+		d.timer = time.AfterFunc(time.Until(at), func() {
+			cond.L.Lock()
+			cond.Broadcast()
+			cond.L.Unlock()
+		})
+	}
+	cond.Broadcast()
+}
+
+// SetDeadline sets both deadlines. The zero time is none.
+func (st *Stream) SetDeadline(at time.Time) error {
+	st.SetReadDeadline(at)
+	return st.SetWriteDeadline(at)
+}
+
+// SetReadDeadline sets when a Read that waits returns ErrTimeout, also one that waits already.
+func (st *Stream) SetReadDeadline(at time.Time) error {
+	st.reading.set(at, st.readable)
+	return nil
+}
+
+// SetWriteDeadline sets when a Write that waits returns ErrTimeout, also one that waits already.
+func (st *Stream) SetWriteDeadline(at time.Time) error {
+	st.writing.set(at, st.writable)
+	return nil
+}

@@ -1,0 +1,350 @@
+package yamux
+
+import (
+	"bytes"
+	"context"
+	"encoding/binary"
+	"errors"
+	"io"
+	"math/rand"
+	"net"
+	"sync"
+	"testing"
+	"time"
+)
+
+func quiet() *Config {
+	config := DefaultConfig()
+	config.LogOutput = io.Discard
+	return config
+}
+
+func good(t *testing.T, err error) {
+	t.Helper()
+	if err != nil {
+		t.Fatal(err)
+	}
+}
+
+// overTCP gives both sides of a connection on the loopback.
+func overTCP(t *testing.T, config *Config) (client, server *Session) {
+	t.Helper()
+	listener, err := net.Listen("tcp", "127.0.0.1:0")
+	good(t, err)
+	defer listener.Close()
+	near, err := net.Dial("tcp", listener.Addr().String())
+	good(t, err)
+	far, err := listener.Accept()
+	good(t, err)
+	client, err = Client(near, config)
+	good(t, err)
+	server, err = Server(far, config)
+	good(t, err)
+	t.Cleanup(func() { client.Close(); server.Close() })
+	return client, server
+}
+
+func pair(t *testing.T, client, server *Session) (near, far *Stream) {
+	t.Helper()
+	near, err := client.OpenStream()
+	good(t, err)
+	far, err = server.AcceptStream()
+	good(t, err)
+	return near, far
+}
+
+func random(seed, size int) []byte {
+	block := make([]byte, size)
+	rand.New(rand.NewSource(int64(seed))).Read(block)
+	return block
+}
+
+// soon waits until it holds, for at most five seconds.
+func soon(t *testing.T, what string, holds func() bool) {
+	t.Helper()
+	for tries := 0; !holds(); tries++ {
+		if tries == 1000 {
+			t.Fatal("not so: " + what)
+		}
+		time.Sleep(5 * time.Millisecond)
+	}
+}
+
+func TestManyStreamsCarryTheirBytes(t *testing.T) {
+	for _, window := range []uint32{leastWindow, 1 << 20} {
+		config := quiet()
+		config.MaxStreamWindowSize = window
+		client, server := overTCP(t, config)
+		go func() {
+			for {
+				stream, err := server.AcceptStream()
+				if err != nil {
+					return
+				}
+				go func() {
+					io.Copy(stream, stream)
+					stream.Close()
+				}()
+			}
+		}()
+		var all sync.WaitGroup
+		for number := 0; number < 200; number++ {
+			all.Add(1)
+			go func(number int) {
+				defer all.Done()
+				stream, err := client.OpenStream()
+				if err != nil {
+					t.Error(err)
+					return
+				}
+				sent := random(number, number*7919%700000)
+				go func() {
+					stream.Write(sent)
+					stream.CloseWrite()
+				}()
+				came, err := io.ReadAll(stream)
+				if err != nil || !bytes.Equal(came, sent) {
+					t.Errorf("stream %d: %d of %d bytes, %v", number, len(came), len(sent), err)
+				}
+				stream.Close()
+			}(number)
+		}
+		all.Wait()
+		soon(t, "all streams are gone", func() bool { return client.NumStreams() == 0 && server.NumStreams() == 0 })
+	}
+}
+
+func TestCloseGoesOnToRead(t *testing.T) {
+	client, server := overTCP(t, quiet())
+	near, far := pair(t, client, server)
+	good(t, near.Close())
+	if _, err := near.Write([]byte("x")); err != ErrStreamClosed {
+		t.Fatal(err)
+	}
+	sent := random(1, 3*leastWindow)
+	go func() {
+		far.Write(sent)
+		far.Close()
+	}()
+	time.Sleep(20 * time.Millisecond)
+	came, err := io.ReadAll(near)
+	if err != nil || !bytes.Equal(came, sent) {
+		t.Fatal(len(came), err)
+	}
+}
+
+func TestCloseWithUnreadBytesLetsTheStreamGo(t *testing.T) {
+	client, server := overTCP(t, quiet())
+	near, far := pair(t, client, server)
+	_, err := far.Write(random(2, 1000))
+	good(t, err)
+	good(t, near.Close())
+	good(t, far.Close())
+	soon(t, "the streams are gone", func() bool { return client.NumStreams() == 0 && server.NumStreams() == 0 })
+	came, err := io.ReadAll(near)
+	if err != nil || len(came) != 1000 {
+		t.Fatal(len(came), err)
+	}
+}
+
+func TestCloseTimeoutResets(t *testing.T) {
+	config := quiet()
+	config.StreamCloseTimeout = 50 * time.Millisecond
+	client, server := overTCP(t, config)
+	near, far := pair(t, client, server)
+	good(t, near.Close())
+	_, err := far.Write(random(3, 5*leastWindow))
+	if err != ErrConnectionReset {
+		t.Fatal(err)
+	}
+	if client.NumStreams() != 0 {
+		t.Fatal("the stream is still there")
+	}
+}
+
+func TestResetReachesBothSides(t *testing.T) {
+	client, server := overTCP(t, quiet())
+	near, far := pair(t, client, server)
+	good(t, far.Reset())
+	if _, err := near.Read(make([]byte, 1)); err != ErrConnectionReset {
+		t.Fatal(err)
+	}
+	if _, err := near.Write([]byte("x")); err != ErrConnectionReset {
+		t.Fatal(err)
+	}
+	if _, err := far.Read(make([]byte, 1)); err != ErrConnectionReset {
+		t.Fatal(err)
+	}
+	if client.NumStreams() != 0 || server.NumStreams() != 0 {
+		t.Fatal("a stream is still there")
+	}
+}
+
+func TestALostConnectionIsNoEnd(t *testing.T) {
+	client, server := overTCP(t, quiet())
+	near, far := pair(t, client, server)
+	ended, ending := pair(t, client, server)
+	_, err := ending.Write([]byte("all"))
+	good(t, err)
+	good(t, ending.Close())
+	_, err = far.Write([]byte("a beginning"))
+	good(t, err)
+	server.connection.Close()
+	came, err := io.ReadAll(near)
+	if string(came) != "a beginning" || err != ErrSessionShutdown {
+		t.Fatalf("%q %v", came, err)
+	}
+	came, err = io.ReadAll(ended)
+	if string(came) != "all" || err != nil {
+		t.Fatalf("%q %v", came, err)
+	}
+	if _, err = client.AcceptStream(); err == nil {
+		t.Fatal("a lost session accepts")
+	}
+	if _, err = client.OpenStream(); err != ErrSessionShutdown {
+		t.Fatal(err)
+	}
+	if _, err = near.Write([]byte("x")); err != ErrSessionShutdown {
+		t.Fatal(err)
+	}
+}
+
+func TestDeadlinesEndCallsThatWait(t *testing.T) {
+	client, server := overTCP(t, quiet())
+	near, _ := pair(t, client, server)
+	isTimeout := func(err error) {
+		t.Helper()
+		var timeout net.Error
+		if err != ErrTimeout || !errors.As(err, &timeout) || !timeout.Timeout() {
+			t.Fatal(err)
+		}
+	}
+	time.AfterFunc(20*time.Millisecond, func() { near.SetDeadline(time.Now()) })
+	_, err := near.Read(make([]byte, 1))
+	isTimeout(err)
+	good(t, near.SetDeadline(time.Time{}))
+	time.AfterFunc(20*time.Millisecond, func() { near.SetWriteDeadline(time.Now()) })
+	count, err := near.Write(make([]byte, 2*leastWindow))
+	isTimeout(err)
+	if count != leastWindow {
+		t.Fatal(count)
+	}
+}
+
+func TestAcceptStopsWithItsContext(t *testing.T) {
+	client, server := overTCP(t, quiet())
+	waits, stop := context.WithTimeout(context.Background(), 20*time.Millisecond)
+	defer stop()
+	if _, err := server.AcceptStreamWithContext(waits); err != context.DeadlineExceeded {
+		t.Fatal(err)
+	}
+	pair(t, client, server)
+}
+
+func TestOpenWaitsForTheBacklog(t *testing.T) {
+	config := quiet()
+	config.AcceptBacklog = 2
+	client, server := overTCP(t, config)
+	for count := 0; count < 2; count++ {
+		_, err := client.OpenStream()
+		good(t, err)
+	}
+	opened := make(chan error)
+	go func() {
+		_, err := client.OpenStream()
+		opened <- err
+	}()
+	select {
+	case <-opened:
+		t.Fatal("a third stream was opened")
+	case <-time.After(20 * time.Millisecond):
+	}
+	_, err := server.AcceptStream()
+	good(t, err)
+	good(t, <-opened)
+}
+
+func TestOpenTimeoutEndsTheSession(t *testing.T) {
+	config := quiet()
+	config.StreamOpenTimeout = 20 * time.Millisecond
+	client, _ := overTCP(t, config)
+	_, err := client.OpenStream()
+	good(t, err)
+	select {
+	case <-client.CloseChan():
+	case <-time.After(5 * time.Second):
+		t.Fatal("the session goes on")
+	}
+}
+
+func TestNoMoreThan1024Streams(t *testing.T) {
+	client, server := overTCP(t, quiet())
+	for count := 0; count < 1024; count++ {
+		pair(t, client, server)
+	}
+	if _, err := client.OpenStream(); err != ErrTooManyStreams {
+		t.Fatal(err)
+	}
+}
+
+func TestAFaultOfThePeersIsNamed(t *testing.T) {
+	near, far := net.Pipe()
+	session, err := Server(near, quiet())
+	good(t, err)
+	defer session.Close()
+	go far.Write([]byte{9, 0, 0, 0, 0, 0, 0, 1, 0, 0, 0, 0})
+	answer := make([]byte, 12)
+	_, err = io.ReadFull(far, answer)
+	good(t, err)
+	if answer[1] != frameGoAway || binary.BigEndian.Uint32(answer[8:]) != 1 {
+		t.Fatal(answer)
+	}
+	if _, err = session.AcceptStream(); err != ErrInvalidVersion {
+		t.Fatal(err)
+	}
+}
+
+// Go refuses a call of C with a pointer into a block that has Go pointers, unless its type says that it leads to bytes.
+func TestBuffersMayLieBesidePointers(t *testing.T) {
+	client, server := overTCP(t, quiet())
+	near, far := pair(t, client, server)
+	block := &struct {
+		pointer *int
+		bytes   [16]byte
+	}{pointer: new(int)}
+	_, err := near.Write(block.bytes[:])
+	good(t, err)
+	_, err = far.Read(block.bytes[:])
+	good(t, err)
+}
+
+func TestPingsWaitForOneAnother(t *testing.T) {
+	client, _ := overTCP(t, quiet())
+	var all sync.WaitGroup
+	for count := 0; count < 100; count++ {
+		all.Add(1)
+		go func() {
+			defer all.Done()
+			if _, err := client.Ping(); err != nil {
+				t.Error(err)
+			}
+		}()
+	}
+	all.Wait()
+}
+
+func TestConfigsAreVerified(t *testing.T) {
+	for _, spoil := range []func(*Config){
+		func(config *Config) { config.AcceptBacklog = 0 },
+		func(config *Config) { config.KeepAliveInterval = 0 },
+		func(config *Config) { config.MaxStreamWindowSize = leastWindow - 1 },
+		func(config *Config) { config.LogOutput = nil },
+	} {
+		config := DefaultConfig()
+		spoil(config)
+		if _, err := Client(nil, config); err == nil {
+			t.Fatal("a bad configuration passes")
+		}
+	}
+	good(t, VerifyConfig(DefaultConfig()))
+}

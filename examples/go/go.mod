@@ -1,3 +1,0 @@
-module ymx_example
-
-go 1.15

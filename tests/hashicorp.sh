@@ -1,0 +1,93 @@
+#!/bin/sh
+# Runs the tests of HashiCorp's yamux for Go over bindings/go: both sides ours, and ours against theirs on either side;
+# and over their own package, to compare. The tests are taken from Debian's package golang-github-hashicorp-yamux-dev,
+# into a folder that goes again: nothing of theirs is in this repository. tests/hashicorp has what stands for the private
+# names that they use. Prints a table of how many tries passed, then the reasons below, and ends with a count.
+# Needs Go, that package and a C compiler. With a number it makes so many tries of each test in place of 3.
+set -eu
+here=$(cd "$(dirname "$0")" && pwd)
+. "$here/over.sh"
+tries=${1-3}
+theirs=/usr/share/gocode/src/github.com/hashicorp/yamux
+has_go || fail "Go or its yamux is not here: apt-get install golang-go golang-github-hashicorp-yamux-dev"
+
+# Tests that need not pass each time: the name; `never`, or `race` for one that has to pass once in 20 tries; at which
+# sides, client/server or any; and why. All other tests have to pass, each time.
+cat > "$scratch/excused" <<'END'
+TestSession_PartialReadWindowUpdate never any it reads the private credit of a stream behind its Close, where libymx tells none
+TestSession_WindowUpdateWriteDuringRead never theirs/ours it wants 262,143 bytes by one Read, which their side gives frame by frame, and libymx sends frames of 16,384
+TestSession_WindowUpdateWriteDuringRead race any if the peer's end has come before the Read, libymx sends no credit, so the Read needn't wait
+TestHalfClose race ours/theirs their Read says EOF after Close where the bytes have not come yet
+TestBacklogExceeded_Accept race any nothing waits for the goroutine that accepts, and an error in it fails the test
+TestGoAway race any nothing waits for the Go Away to be read; theirs fails it too, less often
+TestSendData_Small race any it counts the streams before the last end is read; theirs fails it too
+END
+
+PREFIX=$scratch/built "$root/c/build.sh" "$scratch/built" > "$scratch/log" 2>&1 || fail "libymx can't be built" "$scratch/log"
+export PKG_CONFIG_PATH="$scratch/built/lib/pkgconfig" LD_LIBRARY_PATH="$scratch/built/lib"
+mkdir "$scratch/ours" "$scratch/theirs" "$scratch/tests"
+cd "$scratch"
+printf 'module scratch\n\ngo 1.19\n' > go.mod
+cp "$root"/bindings/go/*.go "$here/hashicorp/our_hooks.go" ours/
+cp "$theirs"/*.go "$here/hashicorp/their_hooks.go" theirs/
+rm -f ours/*_test.go theirs/*_test.go
+cp "$theirs/const.go" "$theirs/util.go" "$theirs"/*_test.go "$here/hashicorp/sides.go" tests/
+# a field of theirs is a call in sides.go
+sed -i 's/wr\.sendWindow\>/wr.sendWindow()/g' tests/session_test.go
+go test -c -vet=off -o their_tests ./tests > log 2>&1 || fail "the tests don't compile over the binding" log
+
+# pass TEST SIDES: one try
+pass() {
+    CLIENT=${2%/*} SERVER=${2#*/} timeout 120 ./their_tests -test.run "^$1\$" -test.timeout 100s > said 2>&1
+}
+
+# excuse TEST SIDES: `never`, `race` or nothing
+excuse() {
+    awk -v test="$1" -v sides="$2" '$1 == test && ($3 == sides || $3 == "any") { print $2; exit }' excused
+}
+
+# cell TEST SIDES: how many tries passed, of how many
+cell() {
+    want=$tries
+    [ "$1" != TestSendData_VeryLarge ] || want=1
+    passes=0
+    made=0
+    while [ $made -lt "$want" ]; do
+        made=$((made + 1))
+        if pass "$1" "$2"; then
+            passes=$((passes + 1))
+        else
+            cp said "said.$1.$(echo "$2" | tr / .)"
+        fi
+        [ $made != "$want" ] || [ "$passes" != 0 ] || [ "$(excuse "$1" "$2")" != race ] || [ "$want" -ge 20 ] || want=$((want + 1))
+    done
+    text=$passes/$made
+    if [ "$2" = theirs/theirs ]; then
+        return
+    elif [ $passes = $made ]; then
+        good
+    else
+        case $(excuse "$1" "$2") in
+        never) text="$text *" ;;
+        race) if [ $passes = 0 ]; then bad "$1 at $2" "said.$1.$(echo "$2" | tr / .)"; else good; text="$text *"; fi ;;
+        *) bad "$1 at $2" "said.$1.$(echo "$2" | tr / .)" ;;
+        esac
+    fi
+}
+
+echo "Tries that passed, by client/server; * see below"
+printf '%-42s %-10s %-12s %-12s %s\n' test ours/ours ours/theirs theirs/ours theirs/theirs
+for test in $(sed -n 's/^func \(Test[A-Za-z_]*\).*/\1/p' tests/session_test.go); do
+    row=$(printf '%-42s' "$test")
+    for sides in ours/ours ours/theirs theirs/ours theirs/theirs; do
+        cell "$test" $sides
+        row="$row $(printf '%-11s' "$text")"
+    done
+    echo "$row"
+done
+echo
+echo "Not run, as they call private helpers of their package and no session:"
+sed -n 's/^func \(Test[A-Za-z_]*\).*/    \1/p' tests/const_test.go tests/util_test.go
+echo "May fail, at client/server:"
+awk '{ test = $1; kind = $2; sides = $3; $1 = $2 = $3 = ""; print "    " test " (" sides "):" $0 (kind == "race" ? " (a race)" : "") }' excused
+counted

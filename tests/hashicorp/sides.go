@@ -1,0 +1,197 @@
+// The Session and Stream of HashiCorp's tests, over either package: CLIENT and SERVER say `ours` or `theirs`. The tests
+// name some private fields and calls; what stands for them here says so. hashicorp.sh puts this beside their tests.
+package yamux
+
+import (
+	"bytes"
+	"io"
+	"log"
+	"net"
+	"os"
+	"sync"
+	"time"
+
+	ours "scratch/ours"
+	theirs "scratch/theirs"
+)
+
+// Config has the fields of their package.
+type Config struct {
+	AcceptBacklog          int
+	EnableKeepAlive        bool
+	KeepAliveInterval      time.Duration
+	ConnectionWriteTimeout time.Duration
+	MaxStreamWindowSize    uint32
+	LogOutput              io.Writer
+	Logger                 *log.Logger
+}
+
+func DefaultConfig() *Config {
+	config := theirs.DefaultConfig()
+	return &Config{config.AcceptBacklog, config.EnableKeepAlive, config.KeepAliveInterval, config.ConnectionWriteTimeout,
+		config.MaxStreamWindowSize, config.LogOutput, config.Logger}
+}
+
+// What both packages' sessions have.
+type session interface {
+	IsClosed() bool
+	CloseChan() <-chan struct{}
+	NumStreams() int
+	Open() (net.Conn, error)
+	Accept() (net.Conn, error)
+	GoAway() error
+	Ping() (time.Duration, error)
+	Close() error
+	SendNoWait([]byte) error
+}
+
+// What both packages' streams have.
+type stream interface {
+	net.Conn
+	StreamID() uint32
+	Shrink()
+	SendWindow() uint32
+}
+
+type Session struct {
+	session
+	conn   io.ReadWriteCloser
+	config *Config
+	logger *log.Logger
+
+	// The pings that went out are counted on the connection.
+	pingLock sync.Mutex
+	pingID   uint32
+}
+
+type Stream struct {
+	stream
+	recvBuf *bytes.Buffer // a test logs its size
+}
+
+// A connection that counts the pings in writes of headers alone.
+type counting struct {
+	io.ReadWriteCloser
+	session *Session
+}
+
+func (c counting) Write(p []byte) (int, error) {
+	for rest := p; len(p)%headerSize == 0 && len(rest) > 0; rest = rest[headerSize:] {
+		if h := header(rest); h.MsgType() == typePing && h.Flags() == flagSYN {
+			c.session.pingLock.Lock()
+			c.session.pingID++
+			c.session.pingLock.Unlock()
+		}
+	}
+	return c.ReadWriteCloser.Write(p)
+}
+
+// A log's lines go to the logger that the test has put in last.
+type forwarding struct{ session *Session }
+
+func (f forwarding) Write(line []byte) (int, error) {
+	f.session.logger.Print(string(line))
+	return len(line), nil
+}
+
+func Client(conn io.ReadWriteCloser, config *Config) (*Session, error) {
+	return begin(os.Getenv("CLIENT"), conn, config, ours.Client, theirs.Client)
+}
+
+func Server(conn io.ReadWriteCloser, config *Config) (*Session, error) {
+	return begin(os.Getenv("SERVER"), conn, config, ours.Server, theirs.Server)
+}
+
+func begin(side string, conn io.ReadWriteCloser, config *Config,
+	beginOurs func(io.ReadWriteCloser, *ours.Config) (*ours.Session, error),
+	beginTheirs func(io.ReadWriteCloser, *theirs.Config) (*theirs.Session, error)) (*Session, error) {
+	s := &Session{conn: conn, config: config, logger: log.New(config.LogOutput, "", log.LstdFlags)}
+	logger := log.New(forwarding{s}, "", 0)
+	var err error
+	if side == "ours" {
+		inner := ours.DefaultConfig()
+		inner.AcceptBacklog, inner.EnableKeepAlive, inner.KeepAliveInterval = config.AcceptBacklog, config.EnableKeepAlive, config.KeepAliveInterval
+		inner.ConnectionWriteTimeout, inner.MaxStreamWindowSize = config.ConnectionWriteTimeout, config.MaxStreamWindowSize
+		inner.LogOutput, inner.Logger = nil, logger
+		s.session, err = beginOurs(counting{conn, s}, inner)
+	} else {
+		inner := theirs.DefaultConfig()
+		inner.AcceptBacklog, inner.EnableKeepAlive, inner.KeepAliveInterval = config.AcceptBacklog, config.EnableKeepAlive, config.KeepAliveInterval
+		inner.ConnectionWriteTimeout, inner.MaxStreamWindowSize = config.ConnectionWriteTimeout, config.MaxStreamWindowSize
+		inner.LogOutput, inner.Logger = nil, logger
+		s.session, err = beginTheirs(counting{conn, s}, inner)
+	}
+	return s, same(err)
+}
+
+// An error of either package is the one of its name here.
+var errorsOfBoth = map[error]error{
+	ours.ErrInvalidVersion: ErrInvalidVersion, theirs.ErrInvalidVersion: ErrInvalidVersion,
+	ours.ErrInvalidMsgType: ErrInvalidMsgType, theirs.ErrInvalidMsgType: ErrInvalidMsgType,
+	ours.ErrSessionShutdown: ErrSessionShutdown, theirs.ErrSessionShutdown: ErrSessionShutdown,
+	ours.ErrStreamsExhausted: ErrStreamsExhausted, theirs.ErrStreamsExhausted: ErrStreamsExhausted,
+	ours.ErrDuplicateStream: ErrDuplicateStream, theirs.ErrDuplicateStream: ErrDuplicateStream,
+	ours.ErrRecvWindowExceeded: ErrRecvWindowExceeded, theirs.ErrRecvWindowExceeded: ErrRecvWindowExceeded,
+	ours.ErrTimeout: ErrTimeout, theirs.ErrTimeout: ErrTimeout,
+	ours.ErrStreamClosed: ErrStreamClosed, theirs.ErrStreamClosed: ErrStreamClosed,
+	ours.ErrUnexpectedFlag: ErrUnexpectedFlag, theirs.ErrUnexpectedFlag: ErrUnexpectedFlag,
+	ours.ErrRemoteGoAway: ErrRemoteGoAway, theirs.ErrRemoteGoAway: ErrRemoteGoAway,
+	ours.ErrConnectionReset: ErrConnectionReset, theirs.ErrConnectionReset: ErrConnectionReset,
+	ours.ErrConnectionWriteTimeout: ErrConnectionWriteTimeout, theirs.ErrConnectionWriteTimeout: ErrConnectionWriteTimeout,
+	ours.ErrKeepAliveTimeout: ErrKeepAliveTimeout, theirs.ErrKeepAliveTimeout: ErrKeepAliveTimeout,
+}
+
+func same(err error) error {
+	if here, ok := errorsOfBoth[err]; ok {
+		return here
+	}
+	return err
+}
+
+func streamOf(conn net.Conn, err error) (*Stream, error) {
+	if err != nil {
+		return nil, same(err)
+	}
+	return &Stream{conn.(stream), new(bytes.Buffer)}, nil
+}
+
+func (s *Session) OpenStream() (*Stream, error)   { return streamOf(s.session.Open()) }
+func (s *Session) AcceptStream() (*Stream, error) { return streamOf(s.session.Accept()) }
+
+func (s *Session) Open() (net.Conn, error) {
+	stream, err := s.OpenStream()
+	if err != nil {
+		return nil, err
+	}
+	return stream, nil
+}
+
+func (s *Session) Accept() (net.Conn, error) {
+	stream, err := s.AcceptStream()
+	if err != nil {
+		return nil, err
+	}
+	return stream, nil
+}
+
+func (s *Session) GoAway() error { return same(s.session.GoAway()) }
+
+func (s *Session) Ping() (time.Duration, error) {
+	took, err := s.session.Ping()
+	return took, same(err)
+}
+
+func (s *Session) sendNoWait(h header) error { return same(s.session.SendNoWait(h)) }
+
+// A field in their package. hashicorp.sh writes the tests' mention of it as a call.
+func (s *Stream) sendWindow() uint32 { return s.stream.SendWindow() }
+
+func (s *Stream) Read(p []byte) (int, error) {
+	count, err := s.stream.Read(p)
+	return count, same(err)
+}
+
+func (s *Stream) Write(p []byte) (int, error) {
+	count, err := s.stream.Write(p)
+	return count, same(err)
+}
