@@ -114,8 +114,14 @@ func (core core) touched() (ids []C.uint32_t, isAll bool) {
 
 func (core core) hasPong() bool  { return core.c.pong == 1 }
 func (core core) offered() int64 { return int64(core.c.offered) }
-func (core core) isDue() bool    { return core.c.due == 1 }
-func (core core) status() int64  { return int64(core.c.status) }
+
+// isDue says whether something was due behind the last feed or read.
+func (core core) isDue() bool { return core.c.due == 1 }
+
+// dueNow asks the library.
+func (core core) dueNow() bool { return C.ymx_due(core.c.session) == 1 }
+
+func (core core) status() int64 { return int64(core.c.status) }
 
 // emit fills the buffer with bytes for the peer. Where it is not full, nothing is left due.
 func (core core) emit(buffer []byte) int {

@@ -18,12 +18,14 @@ const blockSize = leastWindow + 16*1024
 
 // Session is one side of a connection. All its calls may be made by many goroutines at once.
 //
-// Two goroutines move the bytes: one reads, feeds, and wakes those who wait for a stream that was touched; the other
-// emits into one block and writes it. Nobody holds the lock while it reads from the connection or writes to it.
+// One goroutine reads, feeds, and wakes those who wait for a stream that was touched. Who has bytes to send emits them
+// into one block and writes it, as far as the connection takes it at once; another goroutine writes the rest. Nobody
+// holds the lock while it reads from the connection or writes to it.
 type Session struct {
 	config     *Config
 	logger     *log.Logger
 	connection io.ReadWriteCloser
+	atOnce     *atOnce       // nil where the connection has no call that writes what it takes at once
 	done       chan struct{} // closed as the session ends
 	readerDone chan struct{} // closed as the reading goroutine ends
 	pingSeats  chan struct{} // the pings that the library keeps: 16 at most
@@ -32,12 +34,15 @@ type Session struct {
 	core     core
 	over     bool
 	failure  error // why it is over, or will be once the last bytes are out
-	due      bool  // the writing goroutine has something to emit
+	due      bool  // there is something to emit
+	busy     bool  // somebody writes to the connection
 	offered  int64 // streams that wait for AcceptStream
 	unacked  int   // own streams that the peer has not acknowledged
 	streams  map[uint32]*Stream
 	leaving  map[uint32]*Stream // forgotten by the library, but their end is not out
 	pings    map[uint32]*ping
+	block    []byte // for what is emitted
+	rest     []byte // what of it the connection has not taken
 	out      outgoing
 	drains   uint64    // emissions after which nothing was due
 	outside  uint64    // how many of them the connection has taken
@@ -45,7 +50,7 @@ type Session struct {
 	away     bool      // our Go Away is out
 	watching bool      // a look at those who wait for the connection to take their bytes is planned
 
-	dueCond    *sync.Cond // due or over
+	sender     *sync.Cond // the writing goroutine has something to do
 	emitted    *sync.Cond // bytes were emitted
 	acceptable *sync.Cond // a stream waits for AcceptStream
 	openable   *sync.Cond // a stream was acknowledged, or is gone
@@ -74,6 +79,8 @@ func newSession(config *Config, connection io.ReadWriteCloser, client bool) (*Se
 		config:     config,
 		logger:     logger,
 		connection: connection,
+		atOnce:     newAtOnce(connection),
+		block:      make([]byte, blockSize),
 		done:       make(chan struct{}),
 		readerDone: make(chan struct{}),
 		pingSeats:  make(chan struct{}, 16),
@@ -82,7 +89,7 @@ func newSession(config *Config, connection io.ReadWriteCloser, client bool) (*Se
 		leaving:    make(map[uint32]*Stream),
 		pings:      make(map[uint32]*ping),
 	}
-	for _, cond := range []**sync.Cond{&s.dueCond, &s.emitted, &s.acceptable, &s.openable, &s.written} {
+	for _, cond := range []**sync.Cond{&s.sender, &s.emitted, &s.acceptable, &s.openable, &s.written} {
 		*cond = sync.NewCond(&s.lock)
 	}
 	go s.receive()
@@ -131,7 +138,7 @@ func (s *Session) end(reason error) {
 	}
 	s.core.free()
 	close(s.done)
-	for _, cond := range []*sync.Cond{s.dueCond, s.emitted, s.acceptable, s.openable, s.written} {
+	for _, cond := range []*sync.Cond{s.sender, s.emitted, s.acceptable, s.openable, s.written} {
 		cond.Broadcast()
 	}
 	s.lock.Unlock()
@@ -223,69 +230,89 @@ func (s *Session) breakOff(reason error) {
 
 // ---- bytes that go
 
+// wakeWriter has the writing goroutine send what is due.
 func (s *Session) wakeWriter() {
 	if !s.due {
 		s.due = true
-		s.dueCond.Signal()
+		s.sender.Signal()
 	}
 }
 
+// send is the writing goroutine.
 func (s *Session) send() {
-	block := make([]byte, blockSize)
-	for {
-		count := s.emit(block)
-		if count == 0 {
-			return
-		}
-		for rest := block[:count]; len(rest) > 0; {
-			written, err := s.connection.Write(rest)
-			if err != nil {
-				if !s.IsClosed() {
-					s.logger.Printf("[ERR] yamux: Failed to write: %v", err)
-				}
-				s.end(err)
-				return
-			}
-			rest = rest[written:]
-		}
-		s.lock.Lock()
-		s.sent(block[:count])
-		s.drained()
-		last := s.failure != nil && !s.due
-		s.lock.Unlock()
-		if last {
-			s.end(nil)
-			return
-		}
-	}
-}
-
-// emit waits until something is due, and emits it. 0 once the session is over.
-func (s *Session) emit(block []byte) int {
 	s.lock.Lock()
 	defer s.lock.Unlock()
 	for !s.over {
-		if !s.due {
-			s.dueCond.Wait()
+		if s.busy || !s.fill() {
+			s.sender.Wait()
 			continue
 		}
-		count := s.core.emit(block)
-		s.due = count == len(block)
-		if !s.due {
-			s.drains++
+		if err := s.writeRest(s.connection.Write); err != nil && !s.over {
+			s.logger.Printf("[ERR] yamux: Failed to write: %v", err)
+			go s.end(err)
+			return
 		}
-		s.emitted.Broadcast()
-		if count > 0 {
-			return count
-		}
-		s.drained()
 	}
-	return 0
 }
 
-// drained notes that all that was emitted is out, and wakes those who wait for no more than that.
+// fill emits what is due, once all that was emitted is out, and says whether there is something to write.
+func (s *Session) fill() bool {
+	if len(s.rest) > 0 {
+		return true
+	}
+	if !s.due {
+		return false
+	}
+	count := s.core.emit(s.block)
+	s.rest = s.block[:count]
+	s.due = count == len(s.block)
+	if !s.due {
+		s.drains++
+	}
+	s.emitted.Broadcast()
+	s.drained()
+	return count > 0
+}
+
+// writeRest writes what was emitted, without the lock, and notes what the connection took.
+func (s *Session) writeRest(write func([]byte) (int, error)) error {
+	rest := s.rest
+	s.busy = true
+	s.lock.Unlock()
+	count, err := write(rest)
+	s.lock.Lock()
+	s.busy = false
+	if !s.over {
+		s.rest = rest[count:]
+		s.sent(rest[:count])
+		s.drained()
+		if s.failure != nil && !s.due && len(s.rest) == 0 {
+			go s.end(s.failure)
+		}
+	}
+	return err
+}
+
+// writeHere writes what is due in the calling goroutine, as far as the connection takes it at once. It says whether it
+// wrote a whole block. Where not, somebody else goes on.
+func (s *Session) writeHere() bool {
+	if s.busy || s.over || !s.fill() {
+		return false
+	}
+	if s.atOnce == nil {
+		s.sender.Signal()
+		return false
+	}
+	s.writeRest(s.atOnce.write)
+	if s.due || len(s.rest) > 0 {
+		s.sender.Signal()
+	}
+	return len(s.rest) == 0
+}
+
+// drained notes that all that was emitted is out, if it is, and wakes those who wait for no more than that.
 func (s *Session) drained() {
-	if s.outside == s.drains {
+	if s.outside == s.drains || len(s.rest) > 0 {
 		return
 	}
 	s.outside = s.drains

@@ -47,7 +47,7 @@ func newStream(session *Session, id uint32) *Stream {
 
 // begun waits until the first frame of a stream that was just opened or accepted is out.
 func (st *Stream) begun() (*Stream, error) {
-	st.session.wakeWriter()
+	st.session.due = true
 	if err := st.flush(st.writable, func() bool { return st.begins }); err != nil {
 		st.breakOff(err)
 		return nil, err
@@ -114,7 +114,7 @@ func (st *Stream) credit() error {
 	if s.due || !s.core.isDue() {
 		return nil
 	}
-	s.wakeWriter()
+	s.due = true
 	wanted := st.credits + 1
 	err := st.flush(st.readable, func() bool { return st.credits >= wanted || st.reading.isPast() })
 	if err == ErrSessionShutdown {
@@ -173,7 +173,7 @@ func (st *Stream) hand(bytes []byte) error {
 			if answer > 0 {
 				st.taken += uint64(answer)
 				bytes = bytes[answer:]
-				s.wakeWriter()
+				s.due = true
 				st.stalled = len(bytes) > 0
 				continue
 			}
@@ -181,6 +181,9 @@ func (st *Stream) hand(bytes []byte) error {
 				return st.refused(answer)
 			}
 			st.stalled = true
+		}
+		if s.writeHere() {
+			continue // credit may have come meanwhile
 		}
 		if st.writing.isPast() {
 			return ErrTimeout
@@ -218,9 +221,21 @@ func (st *Stream) flush(cond *sync.Cond, areOut func() bool) error {
 	if s.due {
 		enough++
 	}
-	for since := time.Now(); !areOut() && s.outside < enough; cond.Wait() {
+	var since time.Time
+	for ; !areOut() && s.outside < enough; cond.Wait() {
+		for s.writeHere() {
+			if areOut() || s.outside >= enough {
+				return nil
+			}
+		}
 		if s.over {
 			return ErrSessionShutdown
+		}
+		if areOut() || s.outside >= enough {
+			return nil
+		}
+		if since.IsZero() {
+			since = time.Now()
 		}
 		if s.overdue(since) {
 			return ErrConnectionWriteTimeout
@@ -297,7 +312,7 @@ func (st *Stream) finish() error {
 	if answer := st.session.core.finish(st.id); answer < 0 {
 		return st.refused(answer)
 	}
-	st.session.wakeWriter()
+	st.session.due = true
 	st.writable.Broadcast()
 	return st.flush(st.writable, func() bool { return st.ends })
 }
@@ -349,7 +364,9 @@ func (st *Stream) acknowledged() {
 func (st *Stream) tidy() {
 	s := st.session
 	st.rest = s.core.take(st.id, st.rest, leastWindow-len(st.rest))
-	s.wakeWriter() // there may be credit to send
+	if s.core.dueNow() {
+		s.wakeWriter() // there is credit to send
+	}
 	if s.core.atEnd(st.id) {
 		st.leave(io.EOF)
 		return
@@ -364,7 +381,9 @@ func (st *Stream) leave(reason error) {
 	s := st.session
 	st.acknowledged()
 	s.core.forget(st.id)
-	s.wakeWriter()
+	if s.core.dueNow() {
+		s.wakeWriter() // there is a reset to send
+	}
 	delete(s.streams, st.id)
 	if st.finished && !st.ends {
 		s.leaving[st.id] = st

@@ -1,0 +1,45 @@
+#!/bin/sh
+# Times yamux for Go over libymx (bindings/go) and HashiCorp's package in turn, over TCP on the loopback: words of 64
+# bytes there and back, one stream, and 64 streams at once. Medians of five runs of the speed and the processor time of
+# both sides, and ours as a part of HashiCorp's. Needs Go, golang-github-hashicorp-yamux-dev and a C compiler. With a number it makes so many runs.
+set -eu
+top=$(cd "$(dirname "$0")/.." && pwd)
+theirs=/usr/share/gocode/src/github.com/hashicorp/yamux
+work=$(mktemp -d)
+trap 'rm -rf "$work"' EXIT
+trap 'exit 130' INT TERM
+PREFIX=$work/built "$top/c/build.sh" "$work/built" > "$work/log" 2>&1 || { cat "$work/log" >&2; exit 1; }
+export PKG_CONFIG_PATH="$work/built/lib/pkgconfig" LD_LIBRARY_PATH="$work/built/lib"
+mkdir "$work/bench"
+cp "$top/bench/go_bench.go" "$work/bench/main.go"
+cd "$work/bench"
+cat > go.mod <<END
+module bench
+
+go 1.19
+
+require (
+	github.com/hashicorp/yamux v0.0.0
+	ymx/yamux v0.0.0
+)
+
+replace (
+	github.com/hashicorp/yamux => $theirs
+	ymx/yamux => $top/bindings/go
+)
+END
+go build -o go_bench .
+echo "load before: $(cut -d ' ' -f 1-3 /proc/loadavg)"
+./go_bench "${1-5}" > figures
+echo "load after: $(cut -d ' ' -f 1-3 /proc/loadavg)"
+# median COLUMN: of each name and package
+median() {
+    sort -k1,1 -k2,2 -k"$1,$1n" figures | awk -v column="$1" '
+      { if ($1 " " $2 != key) { if (key != "") print key, value[int((n + 1) / 2)]; key = $1 " " $2; n = 0 } value[++n] = $column }
+      END { print key, value[int((n + 1) / 2)] }'
+}
+median 3 > speeds
+median 4 > times
+paste -d ' ' speeds times | awk '
+  $2 == "hashicorp" { speed = $3; time = $6 }
+  $2 == "ymx" { printf "%-14s ymx %d, hashicorp %d a second: %.2f; processor time %d, %d ms: %.2f\n", $1, $3, speed, $3 / speed, $6, time, $6 / time }'
