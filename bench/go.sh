@@ -38,8 +38,8 @@ median() {
       { if ($1 " " $2 != key) { if (key != "") print key, value[int((n + 1) / 2)]; key = $1 " " $2; n = 0 } value[++n] = $column }
       END { print key, value[int((n + 1) / 2)] }'
 }
-median 3 > speeds
-median 4 > times
-paste -d ' ' speeds times | awk '
+median 3 > speed
+median 4 > spent
+paste -d ' ' speed spent | awk '
   $2 == "hashicorp" { speed = $3; time = $6 }
   $2 == "ymx" { printf "%-14s ymx %d, hashicorp %d a second: %.2f; processor time %d, %d ms: %.2f\n", $1, $3, speed, $3 / speed, $6, time, $6 / time }'

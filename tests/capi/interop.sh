@@ -1,8 +1,9 @@
 #!/bin/sh
-# Tries libymx against HashiCorp's yamux for Go over TCP on the loopback, in both roles: Python's client and Go's
-# server, Go's client and the C and Python servers; 500 streams each, whose bytes are compared. And the bindings for Go
-# and for Rust, and one busy stream beside 1,000 idle ones. Beside the gate. Needs python3, and Debian's packages
-# golang-go and golang-github-hashicorp-yamux-dev; Rust's binding is left out where there is no cargo.
+# Tries libymx over TCP on the loopback, crosswise: the clients and servers of the bindings for Go, Python and Rust, and of
+# HashiCorp's yamux for Go, and the server in C. 500 streams of 20,000 bytes and 5 of 3,000,000, whose bytes are compared;
+# a stream that the server resets, one that the client resets, and a connection that breaks off in the middle of a
+# stream. Then each binding's own tests, and one busy stream beside 1,000 idle ones. Beside the gate. Needs Debian's
+# packages golang-go and golang-github-hashicorp-yamux-dev; what needs a toolchain that isn't here is left out with a word.
 set -eu
 here=$(cd "$(dirname "$0")" && pwd)
 root=$(cd "$here/../.." && pwd)
@@ -20,9 +21,12 @@ trap 'stop; rm -rf "$scratch"' EXIT
 trap 'exit 130' INT TERM
 PREFIX=$scratch/built "$root/c/build.sh" "$scratch/built"
 built=$scratch/built
-export PKG_CONFIG_PATH=$built/lib/pkgconfig YMX_LIBRARY=$built/lib/libymx.so.1 PYTHONPATH=$root/bindings/python PYTHONDONTWRITEBYTECODE=1
+export PKG_CONFIG_PATH="$built/lib/pkgconfig" LD_LIBRARY_PATH="$built/lib"
+export YMX_LIBRARY="$built/lib/libymx.so.1" PYTHONPATH="$root/bindings/python/src" PYTHONDONTWRITEBYTECODE=1
+export YMX_LIB_DIR="$built/lib" CARGO_TARGET_DIR="$scratch/cargo"
 cd "$scratch"
 GO111MODULE=off GOPATH=/usr/share/gocode go build -o go_echo "$here/go_echo.go"
+(cd "$root/bindings/go" && go build -o "$scratch/echo_in_go" ./examples/echo)
 cc -O2 -I"$built/include" -o echo_server "$root/examples/c/echo_server.c" "$built/lib/libymx.a"
 cc -O2 -I"$built/include" -o idle "$here/idle.c" "$built/lib/libymx.a"
 passed=0
@@ -53,33 +57,93 @@ is() {
         echo "FAIL  $name:"
         cat said
     fi
-    stop
 }
 
-in_go() {
-    (cd "$root/bindings/go" && LD_LIBRARY_PATH=$built/lib timeout 120 go test ./...)
+tests_in_go() {
+    (cd "$root/bindings/go" && go vet ./... && timeout 300 go test -count 1 .)
 }
 
-in_rust() {
-    (cd "$root/bindings/rust" && YMX_LIB_DIR=$built/lib CARGO_TARGET_DIR=$scratch/cargo timeout 120 cargo test --offline --workspace) > tests 2>&1 || { cat tests; return 1; }
+tests_in_python() {
+    timeout 120 python3 -W ignore -m unittest discover -s "$root/bindings/python/tests"
+}
+
+tests_in_rust() {
+    (cd "$root/bindings/rust" && timeout 300 cargo test --offline --workspace) > tests 2>&1 || { cat tests; return 1; }
     echo "$(grep -c '^test .* ok$' tests) tests"
     grep -q '^test .* ok$' tests
 }
 
-begin ./go_echo serve
-is "Python's client, Go's server" timeout 120 python3 "$root/bindings/python/ymx.py" 127.0.0.1 "${address##*:}" 500 20000
-begin ./go_echo serve
-is "Python's client, Go's server, wide streams" timeout 120 python3 "$root/bindings/python/ymx.py" 127.0.0.1 "${address##*:}" 5 3000000
-begin ./echo_server
-is "Go's client, the server in C" timeout 120 ./go_echo call "$address" 500 20000
-begin ./echo_server
-is "Go's client, the server in C, wide streams" timeout 120 ./go_echo call "$address" 5 3000000
-begin python3 "$here/echo_server.py"
-is "Go's client, Python's server" timeout 120 ./go_echo call "$address" 500 20000
-is "one busy stream beside 1,000 idle ones" timeout 120 ./idle
-is "the binding for Go" in_go
-if command -v cargo > /dev/null; then
-    is "the binding for Rust" in_rust
+# try NAME COMMAND..: with two minutes of time
+try() {
+    name=$1
+    shift
+    is "$name" timeout 120 "$@"
+}
+
+# left_out NAME: a binding that can't be tried here
+left_out() {
+    echo "--    $1: left out: no $2"
+}
+
+clients='hashicorp go'
+servers='hashicorp c go'
+if command -v python3 > /dev/null; then
+    clients="$clients python"
+    servers="$servers python"
+else
+    left_out Python python3
 fi
+if command -v cargo > /dev/null; then
+    (cd "$root/bindings/rust" && cargo build --offline --release --examples) > said 2>&1 || { cat said; exit 1; }
+    clients="$clients rust"
+    servers="$servers rust"
+else
+    left_out Rust cargo
+fi
+
+# program NAME: the command of a client or server
+program() {
+    case $1 in
+    hashicorp) echo ./go_echo ;;
+    c) echo ./echo_server ;;
+    go) echo ./echo_in_go ;;
+    python) echo python3 "$root/bindings/python/examples/echo.py" ;;
+    rust) echo "$CARGO_TARGET_DIR/release/examples/echo" ;;
+    esac
+}
+
+# can WORD CLIENT SERVER: the server in C echoes alone; HashiCorp's package can't reset a stream, and takes a lost
+# connection for an end
+can() {
+    case $1 in
+    reset) [ "$3" != c ] && [ "$3" != hashicorp ] ;;
+    count | lost) [ "$2" != hashicorp ] && [ "$3" != c ] ;;
+    esac
+}
+
+# cross CLIENT SERVER: all that both can
+cross() {
+    # shellcheck disable=SC2046
+    begin $(program "$2") serve
+    # shellcheck disable=SC2046
+    try "$1 calls $2" $(program "$1") call "$address" 500 20000
+    # shellcheck disable=SC2046
+    try "$1 calls $2, wide streams" $(program "$1") call "$address" 5 3000000
+    for word in reset count lost; do
+        # shellcheck disable=SC2046
+        ! can $word "$1" "$2" || try "$1 calls $2, $word" $(program "$1") $word "$address"
+    done
+    stop
+}
+
+for one in $clients; do
+    for other in $servers; do
+        [ "$one $other" = 'hashicorp hashicorp' ] || cross "$one" "$other"
+    done
+done
+is "one busy stream beside 1,000 idle ones" timeout 120 ./idle
+is "the tests of the binding for Go" tests_in_go
+[ "${clients#*python}" = "$clients" ] || is "the tests of the binding for Python" tests_in_python
+[ "${clients#*rust}" = "$clients" ] || is "the tests of the binding for Rust" tests_in_rust
 echo "$passed passed, $failed failed"
 [ $failed = 0 ]

@@ -242,10 +242,11 @@ func lost(address string) error {
 		return err
 	}
 	defer session.Close()
-	stream, err := ask(session, "break")
+	stream, err := session.OpenStream()
 	if err != nil {
 		return err
 	}
+	stream.Write([]byte("break")) // the server may have broken off before this is done
 	came, err := io.ReadAll(stream)
 	if err == nil {
 		return errors.New("a lost connection reads as an end")

@@ -3,7 +3,7 @@ for as the system does."""
 import ctypes
 import ctypes.util
 import os
-from typing import Any, Callable
+from typing import Any
 
 LEAST_WINDOW, WIDEST_WINDOW = 262144, 16777216
 MOST_TOUCHED = 1024
@@ -14,7 +14,7 @@ _pointer, _id, _bytes, _size = ctypes.c_void_p, ctypes.c_uint32, ctypes.c_char_p
 _place = ctypes.POINTER(ctypes.c_void_p)
 
 
-def _declared(name: str, *arguments: Any, answers: Any = ctypes.c_int64) -> Callable[..., Any]:
+def _declared(name: str, *arguments: Any, answers: Any = ctypes.c_int64) -> Any:
     call = getattr(_library, "ymx_" + name)
     call.argtypes, call.restype = arguments, answers
     return call

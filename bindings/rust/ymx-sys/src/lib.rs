@@ -11,9 +11,31 @@ pub struct ymx_session {
     _not_shared: core::marker::PhantomData<*mut u8>,
 }
 
+/// A note of the streams that bytes have touched. It may go to another thread, and one at a time uses it.
+#[repr(C)]
+pub struct ymx_touched {
+    _inside: [u8; 0],
+    _not_shared: core::marker::PhantomData<*mut u8>,
+}
+
 pub const YMX_CLIENT: c_int = 0;
 pub const YMX_SERVER: c_int = 1;
+pub const YMX_E_NO_STREAM: i64 = -1;
+pub const YMX_E_FINISHED: i64 = -2;
+pub const YMX_E_RESET: i64 = -3;
+pub const YMX_E_LOST: i64 = -4;
+pub const YMX_E_CLOSED: i64 = -5;
+pub const YMX_E_PEER_AWAY: i64 = -6;
+pub const YMX_E_OPENS_PENDING: i64 = -7;
+pub const YMX_E_TOO_MANY: i64 = -8;
+pub const YMX_E_EXHAUSTED: i64 = -9;
+pub const YMX_E_PINGS_PENDING: i64 = -10;
+pub const YMX_E_NO_MEMORY: i64 = -11;
 pub const YMX_WAIT: i64 = -12;
+pub const YMX_E_BAD_WINDOW: i64 = -13;
+pub const YMX_E_BAD_FIRST: i64 = -14;
+pub const YMX_E_NULL: i64 = -15;
+pub const YMX_MOST_TOUCHED: usize = 1024;
 pub const YMX_LEAST_WINDOW: u32 = 262_144;
 pub const YMX_WIDEST_WINDOW: u32 = 16_777_216;
 pub const YMX_RUNNING: i64 = 0;
@@ -25,13 +47,19 @@ extern "C" {
     pub fn ymx_new(role: c_int, window: u32, first: u32, out: *mut *mut ymx_session) -> i64;
     pub fn ymx_free(session: *mut ymx_session);
     pub fn ymx_feed(session: *mut ymx_session, bytes: *const c_void, len: usize) -> i64;
+    pub fn ymx_feed_touching(session: *mut ymx_session, bytes: *const c_void, len: usize, touched: *mut ymx_touched) -> i64;
     pub fn ymx_feed_end(session: *mut ymx_session) -> i64;
     pub fn ymx_emit(session: *mut ymx_session, buffer: *mut c_void, len: usize) -> i64;
     pub fn ymx_due(session: *const ymx_session) -> i64;
     pub fn ymx_open(session: *mut ymx_session) -> i64;
     pub fn ymx_accept(session: *mut ymx_session) -> i64;
+    pub fn ymx_offered_count(session: *const ymx_session) -> i64;
     pub fn ymx_write(session: *mut ymx_session, id: u32, bytes: *const c_void, len: usize) -> i64;
     pub fn ymx_read(session: *mut ymx_session, id: u32, buffer: *mut c_void, len: usize) -> i64;
+    pub fn ymx_room(session: *const ymx_session, id: u32) -> i64;
+    pub fn ymx_is_at_end(session: *const ymx_session, id: u32) -> i64;
+    pub fn ymx_unread(session: *const ymx_session, id: u32, bytes: *mut *const c_void) -> i64;
+    pub fn ymx_consume(session: *mut ymx_session, id: u32, count: usize) -> i64;
     pub fn ymx_finish(session: *mut ymx_session, id: u32) -> i64;
     pub fn ymx_reset(session: *mut ymx_session, id: u32) -> i64;
     pub fn ymx_forget(session: *mut ymx_session, id: u32) -> i64;
@@ -40,6 +68,12 @@ extern "C" {
     pub fn ymx_go_away(session: *mut ymx_session) -> i64;
     pub fn ymx_close(session: *mut ymx_session) -> i64;
     pub fn ymx_status(session: *const ymx_session) -> i64;
+    pub fn ymx_touched_new(out: *mut *mut ymx_touched) -> i64;
+    pub fn ymx_touched_free(touched: *mut ymx_touched);
+    pub fn ymx_touched_ids(touched: *const ymx_touched, ids: *mut u32, len: usize) -> i64;
+    pub fn ymx_touched_is_all(touched: *const ymx_touched) -> i64;
+    pub fn ymx_touched_has_pong(touched: *const ymx_touched) -> i64;
+    pub fn ymx_touched_clear(touched: *mut ymx_touched) -> i64;
     pub fn ymx_error_name(code: i64) -> *const c_char;
     pub fn ymx_version() -> *const c_char;
 }

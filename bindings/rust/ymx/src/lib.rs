@@ -1,5 +1,9 @@
-//! yamux over libymx: a `Session` does no input or output.
+//! yamux over libymx. A [`Connection`] runs over a socket, with a half of a stream for reading and one for writing. A
+//! [`Session`] does no input or output.
 
+mod connection;
+
+pub use connection::{Connection, ReadHalf, Side, WriteHalf};
 use std::{ffi::CStr, fmt, ptr};
 use ymx_sys::*;
 
@@ -71,6 +75,11 @@ impl Session {
         good(unsafe { ymx_feed(self.0.as_ptr(), bytes.as_ptr().cast(), bytes.len()) })
     }
 
+    /// Feeds bytes as `feed` does, and notes the streams that they touch. A stream that isn't noted is as it was.
+    pub fn feed_touching(&mut self, bytes: &[u8], touched: &mut Touched) -> Result<usize, Refused> {
+        good(unsafe { ymx_feed_touching(self.0.as_ptr(), bytes.as_ptr().cast(), bytes.len(), touched.0.as_ptr()) })
+    }
+
     /// The peer's bytes have ended.
     pub fn feed_end(&mut self) -> Result<(), Refused> {
         good(unsafe { ymx_feed_end(self.0.as_ptr()) }).map(drop)
@@ -81,7 +90,7 @@ impl Session {
         good(unsafe { ymx_emit(self.0.as_ptr(), buffer.as_mut_ptr().cast(), buffer.len()) })
     }
 
-    /// Whether an emission would give bytes.
+    /// Whether an emission would give bytes. Reading, accepting and forgetting streams can make some due, too.
     pub fn due(&self) -> bool {
         unsafe { ymx_due(self.0.as_ptr()) == 1 }
     }
@@ -94,6 +103,16 @@ impl Session {
     /// The id of a stream of the peer's.
     pub fn accept(&mut self) -> Result<Option<u32>, Refused> {
         good(unsafe { ymx_accept(self.0.as_ptr()) }).map(|id| (id > 0).then_some(id as u32))
+    }
+
+    /// How many streams `accept` would give.
+    pub fn offered(&self) -> usize {
+        good(unsafe { ymx_offered_count(self.0.as_ptr()) }).unwrap_or(0)
+    }
+
+    /// How many bytes a `write` would take.
+    pub fn room(&self, id: u32) -> usize {
+        good(unsafe { ymx_room(self.0.as_ptr(), id) }).unwrap_or(0)
     }
 
     /// Writes to a stream, and returns how many bytes were taken; `None` where there is no credit.
@@ -109,6 +128,23 @@ impl Session {
             Some(0) => Got::End,
             Some(count) => Got::Bytes(count),
         })
+    }
+
+    /// Whether the peer has finished the stream, and all was read.
+    pub fn is_at_end(&self, id: u32) -> bool {
+        unsafe { ymx_is_at_end(self.0.as_ptr(), id) == 1 }
+    }
+
+    /// The first bytes that wait on a stream, where they lie. More may come once these are consumed.
+    pub fn unread(&self, id: u32) -> &[u8] {
+        let mut at = ptr::null();
+        let count = good(unsafe { ymx_unread(self.0.as_ptr(), id, &mut at) }).unwrap_or(0);
+        if at.is_null() { &[] } else { unsafe { std::slice::from_raw_parts(at.cast(), count) } }
+    }
+
+    /// Takes out the first `count` bytes that wait on a stream, or as many as are there.
+    pub fn consume(&mut self, id: u32, count: usize) -> Result<(), Refused> {
+        unless_wait(unsafe { ymx_consume(self.0.as_ptr(), id, count) }).map(drop)
     }
 
     /// Half-closes a stream.
@@ -155,5 +191,47 @@ impl Session {
 impl Drop for Session {
     fn drop(&mut self) {
         unsafe { ymx_free(self.0.as_ptr()) }
+    }
+}
+
+/// The streams that bytes have touched.
+pub struct Touched(ptr::NonNull<ymx_touched>);
+
+// As of a session.
+unsafe impl Send for Touched {}
+
+impl Touched {
+    /// One that notes nothing.
+    pub fn new() -> Result<Touched, Refused> {
+        let mut at = ptr::null_mut();
+        let answer = unsafe { ymx_touched_new(&mut at) };
+        good(answer)?;
+        ptr::NonNull::new(at).map(Touched).ok_or(Refused { code: answer })
+    }
+
+    /// The streams, the first touched first; `None` where there are more than can be named, so that any may have changed.
+    pub fn ids(&self) -> Option<Vec<u32>> {
+        if unsafe { ymx_touched_is_all(self.0.as_ptr()) == 1 } {
+            return None;
+        }
+        let mut ids = vec![0; unsafe { ymx_touched_ids(self.0.as_ptr(), ptr::null_mut(), 0) } as usize];
+        unsafe { ymx_touched_ids(self.0.as_ptr(), ids.as_mut_ptr(), ids.len()) };
+        Some(ids)
+    }
+
+    /// Whether an answer to a ping came.
+    pub fn has_pong(&self) -> bool {
+        unsafe { ymx_touched_has_pong(self.0.as_ptr()) == 1 }
+    }
+
+    /// Notes nothing from here on.
+    pub fn clear(&mut self) {
+        unsafe { ymx_touched_clear(self.0.as_ptr()) };
+    }
+}
+
+impl Drop for Touched {
+    fn drop(&mut self) {
+        unsafe { ymx_touched_free(self.0.as_ptr()) }
     }
 }
