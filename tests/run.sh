@@ -57,8 +57,10 @@ if [ "${1-}" = --all ]; then
     try 'wrong statements' "$root/tests/refused.sh"
     if has_go; then
         try "the tunnel and Go's yamux" "$root/tests/interop/run.sh"
+        try 'the bindings, crosswise' "$root/tests/capi/interop.sh"
+        try "HashiCorp's tests over the binding for Go" "$root/tests/hashicorp.sh"
     else
-        echo "--    the tunnel and Go's yamux: left out: no Go, or not its yamux"
+        echo "--    the tunnel and the bindings with Go's yamux: left out: no Go, or not its yamux"
     fi
     if command -v python3 > /dev/null; then
         try '10,000 random connections' "$root/tests/kill/random.sh"

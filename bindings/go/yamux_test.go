@@ -8,6 +8,7 @@ import (
 	"io"
 	"math/rand"
 	"net"
+	"runtime"
 	"sync"
 	"testing"
 	"time"
@@ -44,6 +45,18 @@ func overTCP(t *testing.T, config *Config) (client, server *Session) {
 	return client, server
 }
 
+// overPipe gives both sides of a connection that is no socket.
+func overPipe(t *testing.T, config *Config) (client, server *Session) {
+	t.Helper()
+	near, far := net.Pipe()
+	client, err := Client(near, config)
+	good(t, err)
+	server, err = Server(far, config)
+	good(t, err)
+	t.Cleanup(func() { client.Close(); server.Close() })
+	return client, server
+}
+
 func pair(t *testing.T, client, server *Session) (near, far *Stream) {
 	t.Helper()
 	near, err := client.OpenStream()
@@ -71,10 +84,10 @@ func soon(t *testing.T, what string, holds func() bool) {
 }
 
 func TestManyStreamsCarryTheirBytes(t *testing.T) {
-	for _, window := range []uint32{leastWindow, 1 << 20} {
+	for number, begin := range []func(*testing.T, *Config) (*Session, *Session){overTCP, overTCP, overPipe} {
 		config := quiet()
-		config.MaxStreamWindowSize = window
-		client, server := overTCP(t, config)
+		config.MaxStreamWindowSize <<= 2 * number
+		client, server := begin(t, config)
 		go func() {
 			for {
 				stream, err := server.AcceptStream()
@@ -207,6 +220,85 @@ func TestALostConnectionIsNoEnd(t *testing.T) {
 	if _, err = near.Write([]byte("x")); err != ErrSessionShutdown {
 		t.Fatal(err)
 	}
+}
+
+// Whoever calls and waits when a connection breaks off gets back, whatever the others do.
+func TestACutConnectionLetsEverybodyGo(t *testing.T) {
+	before := runtime.NumGoroutine()
+	for round := 0; round < 30; round++ {
+		begin := overTCP
+		if round%3 == 0 {
+			begin = overPipe
+		}
+		client, server := begin(t, quiet())
+		var all sync.WaitGroup
+		run := func(call func()) {
+			all.Add(1)
+			go func() {
+				defer all.Done()
+				call()
+			}()
+		}
+		use := func(stream *Stream) {
+			run(func() {
+				io.Copy(io.Discard, stream)
+				stream.Close()
+			})
+			run(func() {
+				for {
+					if _, err := stream.Write(random(round, 50000)); err != nil {
+						return
+					}
+				}
+			})
+		}
+		for _, session := range []*Session{client, server} {
+			session := session
+			run(func() {
+				for {
+					stream, err := session.AcceptStream()
+					if err != nil {
+						return
+					}
+					use(stream)
+				}
+			})
+			run(func() {
+				for number := 0; ; number++ {
+					stream, err := session.OpenStream()
+					if err != nil {
+						return
+					}
+					switch number % 4 {
+					case 0:
+						stream.Reset()
+					case 1:
+						stream.Close()
+					default:
+						use(stream)
+					}
+				}
+			})
+			run(func() {
+				for {
+					if _, err := session.Ping(); err != nil {
+						return
+					}
+				}
+			})
+		}
+		time.Sleep(time.Duration(round) * time.Millisecond)
+		switch round % 2 {
+		case 0:
+			client.connection.Close()
+		case 1:
+			server.Close()
+		}
+		all.Wait()
+		client.Close()
+		server.Close()
+	}
+	soon(t, "all goroutines have ended", func() bool { return runtime.NumGoroutine() <= before+2 })
 }
 
 func TestDeadlinesEndCallsThatWait(t *testing.T) {

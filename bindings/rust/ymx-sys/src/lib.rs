@@ -47,7 +47,12 @@ extern "C" {
     pub fn ymx_new(role: c_int, window: u32, first: u32, out: *mut *mut ymx_session) -> i64;
     pub fn ymx_free(session: *mut ymx_session);
     pub fn ymx_feed(session: *mut ymx_session, bytes: *const c_void, len: usize) -> i64;
-    pub fn ymx_feed_touching(session: *mut ymx_session, bytes: *const c_void, len: usize, touched: *mut ymx_touched) -> i64;
+    pub fn ymx_feed_touching(
+        session: *mut ymx_session,
+        bytes: *const c_void,
+        len: usize,
+        touched: *mut ymx_touched,
+    ) -> i64;
     pub fn ymx_feed_end(session: *mut ymx_session) -> i64;
     pub fn ymx_emit(session: *mut ymx_session, buffer: *mut c_void, len: usize) -> i64;
     pub fn ymx_due(session: *const ymx_session) -> i64;

@@ -70,7 +70,9 @@ fn answer(connection: &Connection, mut reader: ReadHalf, mut writer: WriteHalf) 
         b"count" => writer.write_all(RESETS.load(Ordering::SeqCst).to_string().as_bytes())?,
         _ => {
             writer.write_all(&word)?;
-            if io::copy(&mut reader, &mut writer).is_err_and(|error| error.kind() == ErrorKind::ConnectionReset) {
+            if io::copy(&mut reader, &mut writer)
+                .is_err_and(|error| error.kind() == ErrorKind::ConnectionReset)
+            {
                 RESETS.fetch_add(1, Ordering::SeqCst);
             }
         }
@@ -117,7 +119,11 @@ fn echoed(connection: &Connection, seed: usize, size: usize) -> Outcome {
 }
 
 fn call(address: &str, streams: &str, size: &str) -> Outcome {
-    let (connection, count, length) = (dial(address)?, streams.parse::<usize>()?, size.parse::<usize>()?);
+    let (connection, count, length) = (
+        dial(address)?,
+        streams.parse::<usize>()?,
+        size.parse::<usize>()?,
+    );
     let next = AtomicUsize::new(0);
     thread::scope(|threads| {
         let seats: Vec<_> = (0..count.min(100))
@@ -133,17 +139,23 @@ fn call(address: &str, streams: &str, size: &str) -> Outcome {
                 })
             })
             .collect();
-        seats.into_iter().try_for_each(|seat| seat.join().unwrap().map(drop))
+        seats
+            .into_iter()
+            .try_for_each(|seat| seat.join().unwrap().map(drop))
     })?;
     connection.ping()?;
-    Ok(format!("{streams} streams of {size} bytes echoed and compared, a ping answered"))
+    Ok(format!(
+        "{streams} streams of {size} bytes echoed and compared, a ping answered"
+    ))
 }
 
 fn reset(address: &str) -> Outcome {
     let connection = dial(address)?;
     let (mut reader, _writer) = ask(&connection, b"reset")?;
     match reader.read(&mut [0; 9]) {
-        Err(error) if error.kind() == ErrorKind::ConnectionReset => echoed(&connection, 1, 100_000)?,
+        Err(error) if error.kind() == ErrorKind::ConnectionReset => {
+            echoed(&connection, 1, 100_000)?
+        }
         other => return Err(format!("a reset reads as {other:?}").into()),
     };
     Ok("the stream was reset, and another one goes on".into())

@@ -28,7 +28,11 @@ impl TryFrom<TcpStream> for Side {
     fn try_from(socket: TcpStream) -> io::Result<Side> {
         socket.set_nodelay(true)?;
         let (reader, end) = (socket.try_clone()?, socket.try_clone()?);
-        Ok(Side { reader: Box::new(reader), writer: Box::new(socket), shut: Box::new(move || drop(end.shutdown(Shutdown::Both))) })
+        Ok(Side {
+            reader: Box::new(reader),
+            writer: Box::new(socket),
+            shut: Box::new(move || drop(end.shutdown(Shutdown::Both))),
+        })
     }
 }
 
@@ -114,11 +118,19 @@ impl Connection {
             emitted: Condvar::new(),
             changed: Condvar::new(),
         });
-        let Side { reader, writer, shut } = side;
+        let Side {
+            reader,
+            writer,
+            shut,
+        } = side;
         let receiving = Arc::clone(&shared);
-        thread::Builder::new().name("ymx reader".into()).spawn(move || receiving.receive(reader, touched))?;
+        thread::Builder::new()
+            .name("ymx reader".into())
+            .spawn(move || receiving.receive(reader, touched))?;
         let sending = Arc::clone(&shared);
-        let sender = thread::Builder::new().name("ymx writer".into()).spawn(move || sending.send(writer, shut));
+        let sender = thread::Builder::new()
+            .name("ymx writer".into())
+            .spawn(move || sending.send(writer, shut));
         if let Err(error) = sender {
             shared.end("no thread");
             return Err(error);
@@ -135,7 +147,9 @@ impl Connection {
             }
             match state.session.open() {
                 Ok(id) => return Ok(self.0.stream(&mut state, id)),
-                Err(Refused { code: YMX_E_OPENS_PENDING }) => state = wait(&self.0.changed, state),
+                Err(Refused {
+                    code: YMX_E_OPENS_PENDING,
+                }) => state = wait(&self.0.changed, state),
                 Err(refused) => return Err(refused.into()),
             }
         }
@@ -165,7 +179,9 @@ impl Connection {
             }
             match state.session.ping() {
                 Ok(number) => break number,
-                Err(Refused { code: YMX_E_PINGS_PENDING }) => state = wait(&self.0.changed, state),
+                Err(Refused {
+                    code: YMX_E_PINGS_PENDING,
+                }) => state = wait(&self.0.changed, state),
                 Err(refused) => return Err(refused.into()),
             }
         };
@@ -208,12 +224,16 @@ impl Drop for Connection {
 }
 
 fn wait<'a, T>(condition: &Condvar, guard: MutexGuard<'a, T>) -> MutexGuard<'a, T> {
-    condition.wait(guard).unwrap_or_else(|poisoned| poisoned.into_inner())
+    condition
+        .wait(guard)
+        .unwrap_or_else(|poisoned| poisoned.into_inner())
 }
 
 impl Shared {
     fn lock(&self) -> MutexGuard<'_, State> {
-        self.state.lock().unwrap_or_else(|poisoned| poisoned.into_inner())
+        self.state
+            .lock()
+            .unwrap_or_else(|poisoned| poisoned.into_inner())
     }
 
     fn stream(self: &Arc<Shared>, state: &mut State, id: u32) -> (ReadHalf, WriteHalf) {
@@ -288,7 +308,10 @@ impl Shared {
 
     /// Wakes those for whom the fed bytes have changed something.
     fn serve(&self, state: &mut State, touched: &Touched) {
-        for id in touched.ids().unwrap_or_else(|| state.streams.keys().copied().collect()) {
+        for id in touched
+            .ids()
+            .unwrap_or_else(|| state.streams.keys().copied().collect())
+        {
             if let Some(stream) = state.streams.get(&id).cloned() {
                 stream.readable.notify_all();
                 stream.writable.notify_all();
@@ -312,7 +335,11 @@ impl Shared {
     fn send(&self, mut writer: Box<dyn Write + Send>, shut: Box<dyn Fn() + Send>) {
         let mut block = vec![0; BLOCK];
         while let Some(count) = self.emit(&mut block) {
-            if writer.write_all(&block[..count]).and_then(|()| writer.flush()).is_err() {
+            if writer
+                .write_all(&block[..count])
+                .and_then(|()| writer.flush())
+                .is_err()
+            {
                 self.end("the connection has ended");
                 break;
             }
@@ -339,7 +366,9 @@ impl Shared {
 
 impl Stream {
     fn halves(&self) -> MutexGuard<'_, Halves> {
-        self.halves.lock().unwrap_or_else(|poisoned| poisoned.into_inner())
+        self.halves
+            .lock()
+            .unwrap_or_else(|poisoned| poisoned.into_inner())
     }
 
     /// Throws away what has come where the reading half is gone, and has the session forget the stream once both sides

@@ -22,7 +22,9 @@ pub struct Refused {
 
 impl Refused {
     pub fn name(self) -> &'static str {
-        unsafe { CStr::from_ptr(ymx_error_name(self.code)) }.to_str().unwrap_or("UNKNOWN")
+        unsafe { CStr::from_ptr(ymx_error_name(self.code)) }
+            .to_str()
+            .unwrap_or("UNKNOWN")
     }
 }
 
@@ -57,17 +59,27 @@ fn good(answer: i64) -> Result<usize, Refused> {
 
 /// `None` where it would have to wait.
 fn unless_wait(answer: i64) -> Result<Option<usize>, Refused> {
-    if answer == YMX_WAIT { Ok(None) } else { good(answer).map(Some) }
+    if answer == YMX_WAIT {
+        Ok(None)
+    } else {
+        good(answer).map(Some)
+    }
 }
 
 impl Session {
     /// A session with this window, 262,144 to 16,777,216 bytes; `first` is the first own stream id, or 0.
     pub fn new(role: Role, window: u32, first: u32) -> Result<Session, Refused> {
         let mut at = ptr::null_mut();
-        let role = if role == Role::Client { YMX_CLIENT } else { YMX_SERVER };
+        let role = if role == Role::Client {
+            YMX_CLIENT
+        } else {
+            YMX_SERVER
+        };
         let answer = unsafe { ymx_new(role, window, first, &mut at) };
         good(answer)?;
-        ptr::NonNull::new(at).map(Session).ok_or(Refused { code: answer })
+        ptr::NonNull::new(at)
+            .map(Session)
+            .ok_or(Refused { code: answer })
     }
 
     /// Feeds bytes of the peer's, and returns how many were taken.
@@ -77,7 +89,14 @@ impl Session {
 
     /// Feeds bytes as `feed` does, and notes the streams that they touch. A stream that isn't noted is as it was.
     pub fn feed_touching(&mut self, bytes: &[u8], touched: &mut Touched) -> Result<usize, Refused> {
-        good(unsafe { ymx_feed_touching(self.0.as_ptr(), bytes.as_ptr().cast(), bytes.len(), touched.0.as_ptr()) })
+        good(unsafe {
+            ymx_feed_touching(
+                self.0.as_ptr(),
+                bytes.as_ptr().cast(),
+                bytes.len(),
+                touched.0.as_ptr(),
+            )
+        })
     }
 
     /// The peer's bytes have ended.
@@ -122,7 +141,14 @@ impl Session {
 
     /// Reads from a stream. Into an empty buffer it reads nothing, and says `End`.
     pub fn read(&mut self, id: u32, buffer: &mut [u8]) -> Result<Got, Refused> {
-        let answer = unsafe { ymx_read(self.0.as_ptr(), id, buffer.as_mut_ptr().cast(), buffer.len()) };
+        let answer = unsafe {
+            ymx_read(
+                self.0.as_ptr(),
+                id,
+                buffer.as_mut_ptr().cast(),
+                buffer.len(),
+            )
+        };
         Ok(match unless_wait(answer)? {
             None => Got::Wait,
             Some(0) => Got::End,
@@ -139,7 +165,11 @@ impl Session {
     pub fn unread(&self, id: u32) -> &[u8] {
         let mut at = ptr::null();
         let count = good(unsafe { ymx_unread(self.0.as_ptr(), id, &mut at) }).unwrap_or(0);
-        if at.is_null() { &[] } else { unsafe { std::slice::from_raw_parts(at.cast(), count) } }
+        if at.is_null() {
+            &[]
+        } else {
+            unsafe { std::slice::from_raw_parts(at.cast(), count) }
+        }
     }
 
     /// Takes out the first `count` bytes that wait on a stream, or as many as are there.
@@ -206,7 +236,9 @@ impl Touched {
         let mut at = ptr::null_mut();
         let answer = unsafe { ymx_touched_new(&mut at) };
         good(answer)?;
-        ptr::NonNull::new(at).map(Touched).ok_or(Refused { code: answer })
+        ptr::NonNull::new(at)
+            .map(Touched)
+            .ok_or(Refused { code: answer })
     }
 
     /// The streams, the first touched first; `None` where there are more than can be named, so that any may have changed.
@@ -214,7 +246,8 @@ impl Touched {
         if unsafe { ymx_touched_is_all(self.0.as_ptr()) == 1 } {
             return None;
         }
-        let mut ids = vec![0; unsafe { ymx_touched_ids(self.0.as_ptr(), ptr::null_mut(), 0) } as usize];
+        let mut ids =
+            vec![0; unsafe { ymx_touched_ids(self.0.as_ptr(), ptr::null_mut(), 0) } as usize];
         unsafe { ymx_touched_ids(self.0.as_ptr(), ids.as_mut_ptr(), ids.len()) };
         Some(ids)
     }

@@ -12,17 +12,25 @@ fn sockets() -> (TcpStream, TcpStream) {
 
 fn pair() -> (Connection, Connection) {
     let (near, far) = sockets();
-    (Connection::over(Role::Client, near).unwrap(), Connection::over(Role::Server, far).unwrap())
+    (
+        Connection::over(Role::Client, near).unwrap(),
+        Connection::over(Role::Server, far).unwrap(),
+    )
 }
 
 fn text(seed: usize, size: usize) -> Vec<u8> {
-    (0..size).map(|at| (at * 31 + at / 251 * 7 + seed) as u8).collect()
+    (0..size)
+        .map(|at| (at * 31 + at / 251 * 7 + seed) as u8)
+        .collect()
 }
 
 fn soon(holds: impl Fn() -> bool) {
     let began = Instant::now();
     while !holds() {
-        assert!(began.elapsed() < Duration::from_secs(5), "it doesn't come to hold");
+        assert!(
+            began.elapsed() < Duration::from_secs(5),
+            "it doesn't come to hold"
+        );
         thread::sleep(Duration::from_millis(5));
     }
 }
@@ -75,9 +83,18 @@ fn a_reset_reaches_both_sides() {
     let (client, server) = pair();
     let (mut reader, mut writer) = client.open().unwrap();
     server.accept().unwrap().0.reset();
-    assert_eq!(reader.read(&mut [0; 9]).unwrap_err().kind(), ErrorKind::ConnectionReset);
-    assert_eq!(writer.write(b"x").unwrap_err().kind(), ErrorKind::ConnectionReset);
-    assert_eq!(writer.finish().unwrap_err().kind(), ErrorKind::ConnectionReset);
+    assert_eq!(
+        reader.read(&mut [0; 9]).unwrap_err().kind(),
+        ErrorKind::ConnectionReset
+    );
+    assert_eq!(
+        writer.write(b"x").unwrap_err().kind(),
+        ErrorKind::ConnectionReset
+    );
+    assert_eq!(
+        writer.finish().unwrap_err().kind(),
+        ErrorKind::ConnectionReset
+    );
     drop(reader);
     soon(|| client.stream_count() == 0 && server.stream_count() == 0);
 }
@@ -86,16 +103,25 @@ fn a_reset_reaches_both_sides() {
 fn a_lost_connection_is_no_end() {
     let (near, far) = sockets();
     let cut = far.try_clone().unwrap();
-    let (client, server) = (Connection::over(Role::Client, near).unwrap(), Connection::over(Role::Server, far).unwrap());
+    let (client, server) = (
+        Connection::over(Role::Client, near).unwrap(),
+        Connection::over(Role::Server, far).unwrap(),
+    );
     let (mut reader, mut writer) = client.open().unwrap();
     let (_kept, mut far) = server.accept().unwrap();
     far.write_all(b"a beginning").unwrap();
     server.ping().unwrap();
     cut.shutdown(std::net::Shutdown::Both).unwrap();
     let mut came = Vec::new();
-    assert_eq!(reader.read_to_end(&mut came).unwrap_err().kind(), ErrorKind::ConnectionAborted);
+    assert_eq!(
+        reader.read_to_end(&mut came).unwrap_err().kind(),
+        ErrorKind::ConnectionAborted
+    );
     assert_eq!(came, b"a beginning");
-    assert_eq!(writer.write(b"x").unwrap_err().kind(), ErrorKind::ConnectionAborted);
+    assert_eq!(
+        writer.write(b"x").unwrap_err().kind(),
+        ErrorKind::ConnectionAborted
+    );
     assert!(client.open().is_err() && client.accept().is_err() && client.ping().is_err());
 }
 
