@@ -3,11 +3,14 @@ package yamux
 import (
 	"bytes"
 	"context"
+	"crypto/tls"
 	"encoding/binary"
 	"errors"
 	"io"
 	"math/rand"
 	"net"
+	"net/http"
+	"net/http/httptest"
 	"runtime"
 	"sync"
 	"testing"
@@ -57,6 +60,29 @@ func overPipe(t *testing.T, config *Config) (client, server *Session) {
 	return client, server
 }
 
+func overTLS(t *testing.T, config *Config) (client, server *Session) {
+	t.Helper()
+	site := httptest.NewTLSServer(nil) // it has a certificate
+	certificates := site.TLS.Certificates
+	site.Close()
+	listener, err := tls.Listen("tcp", "127.0.0.1:0", &tls.Config{Certificates: certificates})
+	good(t, err)
+	defer listener.Close()
+	dialled := make(chan net.Conn)
+	go func() {
+		near, _ := tls.Dial("tcp", listener.Addr().String(), &tls.Config{InsecureSkipVerify: true})
+		dialled <- near
+	}()
+	far, err := listener.Accept()
+	good(t, err)
+	server, err = Server(far, config)
+	good(t, err)
+	client, err = Client(<-dialled, config)
+	good(t, err)
+	t.Cleanup(func() { client.Close(); server.Close() })
+	return client, server
+}
+
 func pair(t *testing.T, client, server *Session) (near, far *Stream) {
 	t.Helper()
 	near, err := client.OpenStream()
@@ -72,6 +98,12 @@ func random(seed, size int) []byte {
 	return block
 }
 
+var (
+	_ net.Listener = (*Session)(nil)
+	_ net.Conn     = (*Stream)(nil)
+	_ net.Error    = ErrTimeout.(net.Error)
+)
+
 // soon waits until it holds, for at most five seconds.
 func soon(t *testing.T, what string, holds func() bool) {
 	t.Helper()
@@ -84,7 +116,7 @@ func soon(t *testing.T, what string, holds func() bool) {
 }
 
 func TestManyStreamsCarryTheirBytes(t *testing.T) {
-	for number, begin := range []func(*testing.T, *Config) (*Session, *Session){overTCP, overTCP, overPipe} {
+	for number, begin := range []func(*testing.T, *Config) (*Session, *Session){overTCP, overTLS, overPipe} {
 		config := quiet()
 		config.MaxStreamWindowSize <<= 2 * number
 		client, server := begin(t, config)
@@ -299,6 +331,43 @@ func TestACutConnectionLetsEverybodyGo(t *testing.T) {
 		server.Close()
 	}
 	soon(t, "all goroutines have ended", func() bool { return runtime.NumGoroutine() <= before+2 })
+}
+
+// net/http takes a Session for a listener. Its server ends reads that wait by deadlines.
+func TestHTTPOverStreams(t *testing.T) {
+	for _, begin := range []func(*testing.T, *Config) (*Session, *Session){overTCP, overPipe} {
+		client, server := begin(t, quiet())
+		go http.Serve(server, http.HandlerFunc(func(answer http.ResponseWriter, request *http.Request) {
+			body, _ := io.ReadAll(request.Body)
+			answer.Write(body)
+		}))
+		caller := &http.Client{Transport: &http.Transport{
+			DialContext: func(context.Context, string, string) (net.Conn, error) { return client.Open() },
+		}}
+		var all sync.WaitGroup
+		for number := 0; number < 50; number++ {
+			all.Add(1)
+			go func(number int) {
+				defer all.Done()
+				sent := random(number, number*10007)
+				for times := 0; times < 3; times++ {
+					answer, err := caller.Post("http://there/", "text/plain", bytes.NewReader(sent))
+					if err != nil {
+						t.Error(err)
+						return
+					}
+					came, err := io.ReadAll(answer.Body)
+					answer.Body.Close()
+					if err != nil || !bytes.Equal(came, sent) {
+						t.Errorf("%d of %d bytes, %v", len(came), len(sent), err)
+					}
+				}
+			}(number)
+		}
+		all.Wait()
+		caller.CloseIdleConnections()
+		soon(t, "all streams are gone", func() bool { return client.NumStreams() == 0 && server.NumStreams() == 0 })
+	}
 }
 
 func TestDeadlinesEndCallsThatWait(t *testing.T) {
