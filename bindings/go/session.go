@@ -36,6 +36,7 @@ type Session struct {
 	failure  error // why it is over, or will be once the last bytes are out
 	due      bool  // there is something to emit
 	busy     bool  // somebody writes to the connection
+	full     bool  // the connection didn't take all at once, so the writing goroutine waits for it
 	offered  int64 // streams that wait for AcceptStream
 	unacked  int   // own streams that the peer has not acknowledged
 	streams  map[uint32]*Stream
@@ -136,6 +137,7 @@ func (s *Session) end(reason error) {
 	for _, stream := range s.streams {
 		stream.abandon()
 	}
+	s.wakeFlushing() // also of streams that the library has forgotten
 	s.core.free()
 	close(s.done)
 	for _, cond := range []*sync.Cond{s.sender, s.emitted, s.acceptable, s.openable, s.written} {
@@ -247,7 +249,9 @@ func (s *Session) send() {
 			s.sender.Wait()
 			continue
 		}
-		if err := s.writeRest(s.connection.Write); err != nil && !s.over {
+		err := s.writeRest(s.connection.Write)
+		s.full = false
+		if err != nil && !s.over {
 			s.logger.Printf("[ERR] yamux: Failed to write: %v", err)
 			go s.end(err)
 			return
@@ -293,10 +297,10 @@ func (s *Session) writeRest(write func([]byte) (int, error)) error {
 	return err
 }
 
-// writeHere writes what is due in the calling goroutine, as far as the connection takes it at once. It says whether it
-// wrote a whole block. Where not, somebody else goes on.
+// writeHere writes what is due in the calling goroutine, as far as the connection takes it at once, and says whether it
+// did. Then the lock was released meanwhile, so the caller looks anew before it waits. The writing goroutine goes on.
 func (s *Session) writeHere() bool {
-	if s.busy || s.over || !s.fill() {
+	if s.busy || s.full || s.over || !s.fill() {
 		return false
 	}
 	if s.atOnce == nil {
@@ -304,10 +308,11 @@ func (s *Session) writeHere() bool {
 		return false
 	}
 	s.writeRest(s.atOnce.write)
-	if s.due || len(s.rest) > 0 {
+	s.full = len(s.rest) > 0
+	if s.due || s.full {
 		s.sender.Signal()
 	}
-	return len(s.rest) == 0
+	return true
 }
 
 // drained notes that all that was emitted is out, if it is, and wakes those who wait for no more than that.
@@ -316,6 +321,11 @@ func (s *Session) drained() {
 		return
 	}
 	s.outside = s.drains
+	s.wakeFlushing()
+}
+
+// wakeFlushing wakes all who wait for their bytes to be out. Who goes on waiting enters the list anew.
+func (s *Session) wakeFlushing() {
 	for _, stream := range s.flushing {
 		stream.isFlushing = false
 		stream.readable.Broadcast()
@@ -342,12 +352,7 @@ func (s *Session) look() {
 	defer s.lock.Unlock()
 	s.watching = false
 	s.written.Broadcast()
-	for _, streams := range []map[uint32]*Stream{s.streams, s.leaving} {
-		for _, stream := range streams {
-			stream.readable.Broadcast()
-			stream.writable.Broadcast()
-		}
-	}
+	s.wakeFlushing()
 }
 
 // ---- streams

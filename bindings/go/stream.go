@@ -417,8 +417,10 @@ func (st *Stream) over(reason error) {
 func (st *Stream) endClosed() {
 	st.session.lock.Lock()
 	defer st.session.lock.Unlock()
-	st.rest = nil
-	st.breakOff(ErrStreamClosed)
+	if st.end == nil {
+		st.rest = nil
+		st.breakOff(ErrStreamClosed)
+	}
 }
 
 // endUnacked is called where the peer hasn't acknowledged a stream in time.

@@ -148,6 +148,7 @@ class Connection(asyncio.Protocol):
         self._feed()
 
     def connection_lost(self, error: Optional[Exception]) -> None:
+        self._transport = None
         self._end(ConnectionLost("the connection has ended" if error is None else str(error)))
         if not self._closed.done():
             self._closed.set_result(None)
@@ -241,6 +242,7 @@ class Connection(asyncio.Protocol):
     def _end(self, reason: Exception) -> None:
         if self._over is not None:
             return
+        self._paused = False  # the transport takes the rest, and sends it before it closes
         self._send()
         self._over = reason
         for transport in list(self._streams.values()):
