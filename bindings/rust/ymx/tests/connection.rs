@@ -182,3 +182,48 @@ fn pings_wait_for_one_another() {
         }
     });
 }
+
+/// Whoever calls and waits when a connection breaks off gets back, whatever the others do.
+#[test]
+fn a_cut_connection_lets_everybody_go() {
+    for round in 0..20 {
+        let (near, far) = sockets();
+        let cut = near.try_clone().unwrap();
+        let sides = [
+            Connection::over(Role::Client, near).unwrap(),
+            Connection::over(Role::Server, far).unwrap(),
+        ];
+        thread::scope(|threads| {
+            let pass = move |reader: ymx::ReadHalf, writer: ymx::WriteHalf| {
+                let (mut reader, mut writer) = (reader, writer);
+                threads.spawn(move || std::io::copy(&mut reader, &mut std::io::sink()).is_ok());
+                threads.spawn(move || while writer.write_all(&[7; 50_000]).is_ok() {});
+            };
+            for side in &sides {
+                threads.spawn(move || {
+                    while let Ok((reader, writer)) = side.accept() {
+                        pass(reader, writer);
+                    }
+                });
+                threads.spawn(move || {
+                    for number in 0.. {
+                        match (side.open(), number % 4) {
+                            (Err(_), _) => return,
+                            (Ok((reader, _)), 0) => reader.reset(),
+                            (Ok(halves), 1) => drop(halves),
+                            (Ok((reader, writer)), _) if number < 100 => pass(reader, writer),
+                            _ => thread::sleep(Duration::from_millis(1)),
+                        }
+                    }
+                });
+                threads.spawn(move || while side.ping().is_ok() {});
+            }
+            thread::sleep(Duration::from_millis(3 * round));
+            if round % 2 == 0 {
+                cut.shutdown(std::net::Shutdown::Both).unwrap();
+            } else {
+                sides[1].close();
+            }
+        });
+    }
+}
