@@ -5,7 +5,7 @@ use Rattle.ymx_machine.specs.declared.types.CallFault.{CallFault}
 use Rattle.ymx_model.specs.session.Events.{Event}
 use Rattle.ymx_machine.specs.shared.Events.{Reply}
 use Rattle.ymx_machine.specs.declared.types.Reply.TheVariants as reply
-use Rattle.ymx_journal.specs.Journals.{JournalView}
+use Rattle.ymx_seats.specs.Journals.{JournalView}
 use Rattle.ymx_seats.specs.Views.{SeatView, kept_entries, entry, journal_after, whole_of, IsBehind, HasIf}
 use Rattle.ymx_booked.specs.Answers.{hub_answer, hub_fault_of}
 use Rattle.ymx_session.specs.Replies.{done_or}

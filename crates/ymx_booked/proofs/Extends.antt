@@ -3,8 +3,8 @@ use Rattle.std.proofs.Common.{◌≡◌, ℕ, ◌<◌, List, [], ◌∷◌, ◌+
 use Rattle.ymx_model.specs.session.Events.{Event}
 use Rattle.ymx_machine.specs.shared.Events.{Reply}
 use Rattle.ymx_model.specs.declared.types.Entry.{Entry}
-use Rattle.ymx_journal.specs.Journals.{JournalView, part}
-use Rattle.ymx_journal.proofs.Moves.{part-append}
+use Rattle.ymx_seats.specs.Journals.{JournalView, part}
+use Rattle.ymx_seats.proofs.Moves.{part-append}
 use Rattle.ymx_seats.specs.Views.{entry, kept_entries, journal_after, whole_of, IsBehind, HasIf}
 use Rattle.ymx_booked.specs.Books.{Grows, Extends}
 use Rattle.ymx_booked.specs.Steps.{entries_after}

@@ -7,7 +7,7 @@ use Rattle.ymx_model.specs.declared.types.Config.{Config}
 use Rattle.ymx_model.specs.session.Sessions.{Session, new_session}
 use Rattle.ymx_model.specs.session.Emissions.{in_turn}
 use Rattle.ymx_model.specs.session.Histories.{Gives}
-use Rattle.ymx_journal.specs.Journals.{JournalView}
+use Rattle.ymx_seats.specs.Journals.{JournalView}
 use Rattle.ymx_seats.specs.Transcripts.{IsNew}
 use Rattle.ymx_seats.specs.Views.{entry, journal_after, with_caller, whole_of, HasNumbered, IsWitnessed}
 use Rattle.ymx_booked.specs.Booked.{IsJournaled, IsUnused, config_of}

@@ -8,7 +8,7 @@ use Rattle.ymx_model.specs.declared.types.Entry.{Entry}
 use Rattle.ymx_model.specs.session.Sessions.{Session, new_session}
 use Rattle.ymx_model.specs.session.Emissions.{in_turn}
 use Rattle.ymx_model.specs.session.Histories.{Gives}
-use Rattle.ymx_journal.specs.Journals.{JournalView}
+use Rattle.ymx_seats.specs.Journals.{JournalView}
 use Rattle.ymx_seats.specs.Views.{entry, journal_after, whole_of, IsWitnessed}
 use Rattle.ymx_booked.specs.Booked.{IsJournaled}
 use Rattle.ymx_booked.specs.Shown.{IsHistoryOf}

@@ -11,7 +11,7 @@ use Rattle.ymx_model.specs.session.Sessions.{Session}
 use Rattle.ymx_model.specs.session.Emissions.{in_turn}
 use Rattle.ymx_model.specs.session.Histories.{Gives}
 use Rattle.ymx_session.specs.Replies.{done_or}
-use Rattle.ymx_journal.specs.Journals.{JournalView}
+use Rattle.ymx_seats.specs.Journals.{JournalView}
 use Rattle.ymx_seats.specs.Views.{journal_after}
 use Rattle.ymx_booked.specs.declared.faults.HubFault.{HubFault}
 use Rattle.ymx_booked.specs.Answers.{hub_fault_of, hub_answer}

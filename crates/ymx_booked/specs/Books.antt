@@ -12,7 +12,7 @@ use Rattle.ymx_model.specs.declared.types.Entry.{Entry}
 use Rattle.ymx_session.specs.Replies.{done_or}
 use Rattle.ymx_session.specs.Applied.{in_buffer}
 use Rattle.ymx_machine.specs.declared.types.Reply.{Reply as ReplyOf}
-use Rattle.ymx_journal.specs.Journals.{part}
+use Rattle.ymx_seats.specs.Journals.{part}
 use Rattle.ymx_seats.specs.Views.{SeatView, entry}
 use Rattle.ymx_booked.specs.declared.faults.HubFault.{HubFault}
 use Rattle.ymx_booked.specs.declared.stream_calls.HalfCall.{HalfCall}

@@ -6,7 +6,7 @@ ghost use Rattle.ymx_model.specs.declared.types.Event.TheVariants as asked;
 ghost use Rattle.ymx_model.specs.session.Emissions.{in_turn};
 ghost use Rattle.ymx_model.specs.session.Histories.{Gives};
 ghost use Rattle.ymx_session.specs.Applied.{IsSizeOf, IsSizeOfCall, IsReplyTo, IsDoneBy, in_buffer, counted};
-ghost use Rattle.ymx_seats.specs.Slips.{IsReady};
+ghost use Rattle.ymx_seats.specs.EntryRooms.{IsReady};
 ghost use Rattle.ymx_seats.specs.Views.{kept_entries, entry, journal_after, whole_of, IsBehind};
 ghost use Rattle.ymx_booked.specs.Answers.{IsNotMemory, TakesNone};
 ghost use Rattle.ymx_booked.specs.Books.{Books, Asks, Does, told_or};
@@ -18,7 +18,7 @@ use crate::booked::Booked;
 use crate::faults::{HubFault, hub_fault};
 use ymx_memory::RefusedAllocation;
 use ymx_model::{Call, Event, Lent, Reply};
-use ymx_seats::{Log, Recorder, Seat, Slip};
+use ymx_seats::{Log, Recorder, Seat, EntryRoom};
 use ymx_session::Session;
 
 impl<R: Recorder> Booked<R> {
@@ -41,8 +41,8 @@ impl<R: Recorder> Booked<R> {
         ensures rest { MatchResult result (λ told. drop (counted told) buffer.new ≡ drop (counted told) buffer.old) (λ refused. buffer.new ≡ buffer.old) }
         ensures off { R.KEEPS ≡ false → IsOk result }
     {
-        let slip = self.log.prepare(self.alloc, seat, event, buffer.len(), 1)?;
-        let told = carry_out(&mut self.log, &mut self.session, seat, slip, event, buffer);
+        let room = self.log.prepare(self.alloc, seat, event, buffer.len(), 1)?;
+        let told = carry_out(&mut self.log, &mut self.session, seat, room, event, buffer);
         Ok(told)
     }
 
@@ -75,12 +75,12 @@ pub(crate) fn carry_out<R: Recorder>(
     log: &mut Log<R>,
     session: &mut Session,
     seat: &mut Seat<R>,
-    slip: Slip,
+    room: EntryRoom,
     event: &Event<Lent<'_>>,
     buffer: &mut [u8],
 ) -> Reply<usize>
     requires size { IsSizeOf event.now (length buffer.old) }
-    requires ready { IsReady R.KEEPS slip event.now (length buffer.old) }
+    requires ready { IsReady R.KEEPS room event.now (length buffer.old) }
     requires room { R.KEEPS ≡ true → (0 < log.old.room) × (0 < seat.old.room) }
     requires history { IsHistoryOf R.WITNESSED R.role R.config (whole_of log.old.journal) session.old }
     ensures event { Gives in_turn session.old event.now (in_buffer buffer.new result) session.new }
@@ -98,7 +98,7 @@ pub(crate) fn carry_out<R: Recorder>(
     ensures history { IsHistoryOf R.WITNESSED R.role R.config (whole_of log.new.journal) session.new }
 {
     let told = session.apply(event, buffer);
-    log.add(seat, slip, event, with_bytes(&told, buffer));
+    log.add(seat, room, event, with_bytes(&told, buffer));
     told
 }
 

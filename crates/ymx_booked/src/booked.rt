@@ -21,9 +21,8 @@ use crate::refused_seat::seats_left;
 use indexmap::IndexSet;
 use std::alloc::Global;
 use std::marker::Model;
-use ymx_journal::Opened;
 use ymx_model::{CallFault, Config, Role, Status};
-use ymx_seats::{Log, Recorder, Seat, Transcript, agree, discard};
+use ymx_seats::{Log, NewJournal, Recorder, Seat, Transcript, agree, discard};
 use ymx_session::Session;
 
 /// A session, with what it was made, the log of its events, how many seats were given, how many streams have both
@@ -78,7 +77,7 @@ impl<R: Recorder> Booked<R> {
 
     /// Holds a session that has done nothing, with no entries and no seats, and the journal that this opens. The recorder
     /// names the journal, and the session's role and config. Takes no memory.
-    pub fn witnessed(alloc: Global, session: Session, opened: Opened) -> Booked<R>
+    pub fn witnessed(alloc: Global, session: Session, opened: NewJournal) -> Booked<R>
         requires new { IsNew session }
         requires witnessed { R.WITNESSED ≡ true }
         requires named { opened ≡ R.table }

@@ -36,9 +36,9 @@ impl<R: Recorder> Booked<R> {
         ensures off { R.KEEPS ≡ false → IsOk result }
     {
         let event = Event::Feed(Lent::new(bytes));
-        let slip = self.log.prepare(self.alloc, seat, &event, 0, 1)?;
+        let room = self.log.prepare(self.alloc, seat, &event, 0, 1)?;
         let fed = self.session.feed_touching(bytes, touched);
-        self.log.add(seat, slip, &event, told(&fed));
+        self.log.add(seat, room, &event, told(&fed));
         Ok(fed)
     }
 

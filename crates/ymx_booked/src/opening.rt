@@ -86,8 +86,8 @@ impl<R: Recorder> Booked<R> {
         ensures none { IfOk result (λ given. given ≡ None → event.now ≡ to_accept) }
     {
         make_room(self.given, self.unspent, &mut self.half_spent)?;
-        let slip = self.log.prepare(self.alloc, seat, event, 0, 1)?;
-        let told = carry_out(&mut self.log, &mut self.session, seat, slip, event, &mut []);
+        let room = self.log.prepare(self.alloc, seat, event, 0, 1)?;
+        let told = carry_out(&mut self.log, &mut self.session, seat, room, event, &mut []);
         match given_by(event, &told) {
             Ok(Some((id, taken))) => {
                 let (first, second) = hand_out(

@@ -10,10 +10,9 @@ use std::alloc::Global;
 use std::marker::Model;
 use std::sync::Arc;
 use ymx_hub::Hub;
-use ymx_journal::{Naming, Opened};
 use ymx_memory::RefusedAllocation;
 use ymx_model::{Config, Role};
-use ymx_seats::Witnessed;
+use ymx_seats::{Naming, NewJournal, Witnessed};
 use ymx_session::Session;
 
 /// A session that has done nothing, and its journal, which has no name yet. A contract sees the role and the config of the
@@ -24,7 +23,7 @@ use ymx_session::Session;
 #[derive(Drop)]
 pub struct UnnamedSession {
     session: Session,
-    opened: Opened,
+    opened: NewJournal,
 }
 
 impl Model for UnnamedSession {
@@ -54,7 +53,7 @@ impl UnnamedSession {
             Ok(session) => session,
             Err(fault) => return Err(ConnectFault::Session(fault)),
         };
-        let opened = Opened::new(alloc)?;
+        let opened = NewJournal::new(alloc)?;
         Ok(UnnamedSession { session, opened })
     }
 

@@ -15,9 +15,8 @@ use std::net::TcpStream;
 use std::sync::Wait;
 use std::thread::Threads;
 use ymx_hub::Hub;
-use ymx_journal::Naming;
 use ymx_model::{Inlet, Outlet};
-use ymx_seats::Witnessed;
+use ymx_seats::{Naming, Witnessed};
 
 /// Runs both pumps of a hub over a TCP connection, while a function works with the hub. It is `pumped` with this connection
 /// as reader and writer, and what is written goes out at once.

@@ -2,7 +2,7 @@
 
 /// One way of a connection.
 #[derive(Clone, Copy, Debug, PartialEq, Eq)]
-pub enum Way {
+pub enum Flow {
     /// Bytes may move.
     Open,
     /// Its end was passed on.
@@ -21,9 +21,9 @@ pub struct Connection {
     /// Its device's end is near: a short read does not say that nothing is left.
     pub is_closing: bool,
     /// From the device to the stream.
-    pub inward: Way,
+    pub to_peer: Flow,
     /// From the stream to the device.
-    pub outward: Way,
+    pub from_peer: Flow,
     /// It waits for its turn.
     pub(crate) is_queued: bool,
     /// It waits until nothing waits for the wire.
@@ -37,8 +37,8 @@ impl Connection {
             can_pull: ready,
             can_push: ready,
             is_closing: false,
-            inward: Way::Open,
-            outward: Way::Open,
+            to_peer: Flow::Open,
+            from_peer: Flow::Open,
             is_queued: false,
             is_held: false,
         }
@@ -46,31 +46,31 @@ impl Connection {
 
     /// Whether bytes may go to the device now.
     pub(crate) fn may_push(&self) -> bool {
-        self.can_push && self.outward == Way::Open
+        self.can_push && self.from_peer == Flow::Open
     }
 
     /// Whether bytes of the device may be asked for now.
     pub(crate) fn may_pull(&self) -> bool {
-        self.can_pull && self.inward == Way::Open
+        self.can_pull && self.to_peer == Flow::Open
     }
 
     /// Whether nothing more goes to the device, though bytes of it may still come.
     pub(crate) fn is_half_over(&self) -> bool {
-        self.outward != Way::Open && self.inward == Way::Open
+        self.from_peer != Flow::Open && self.to_peer == Flow::Open
     }
 
     /// Both ways that are open break off.
     pub(crate) fn break_off(&mut self) {
-        if self.inward == Way::Open {
-            self.inward = Way::Broken;
+        if self.to_peer == Flow::Open {
+            self.to_peer = Flow::Broken;
         }
-        if self.outward == Way::Open {
-            self.outward = Way::Broken;
+        if self.from_peer == Flow::Open {
+            self.from_peer = Flow::Broken;
         }
     }
 
     /// Whether neither way is open.
     pub fn is_over(&self) -> bool {
-        self.inward != Way::Open && self.outward != Way::Open
+        self.to_peer != Flow::Open && self.from_peer != Flow::Open
     }
 }

@@ -22,7 +22,7 @@ use crate::connection::Connection;
 use crate::connections::Connections;
 use crate::device::{Device, Pulled, Pushed};
 use crate::exchange::serve;
-use crate::memory::{BLOCK, Memory};
+use crate::buffers::{BLOCK, Buffers};
 use crate::passing::offer;
 use std::alloc::Global;
 use std::marker::Model;
@@ -69,7 +69,7 @@ impl Engine {
     pub fn new(alloc: Global, session: Session) -> Result<Engine, RefusedAllocation>
         ensures { IfOk result (λ engine. engine ≡ record { session = session; outgoing = []; incoming = [] }) }
     {
-        let memory = Memory::new(alloc)?;
+        let memory = Buffers::new(alloc)?;
         Ok(Engine {
             session,
             touched: memory.touched,

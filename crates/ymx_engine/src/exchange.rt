@@ -11,7 +11,7 @@ ghost use Rattle.ymx_engine.specs.Devices.{IsShut};
 ghost use Rattle.ymx_engine.specs.Exchanges.{Exchange, Exchanges, ExchangesOnce};
 
 use crate::calls::{Silence, ask, finish, is_stopped, reset, take_out, write};
-use crate::connection::{Connection, Way};
+use crate::connection::{Connection, Flow};
 use crate::device::{Device, Pulled, Pushed};
 use ymx_session::Session;
 
@@ -84,7 +84,7 @@ fn push_once<D: Device>(
             false
         }
         Pushed::Failed => {
-            give_up(session, id, connection, device);
+            reset_and_shut(session, id, connection, device);
             false
         }
     }
@@ -104,7 +104,7 @@ fn hear_silence<D: Device>(
     match ask(session, id) {
         Silence::Wait => {}
         Silence::End => {
-            connection.outward = Way::Ended;
+            connection.from_peer = Flow::Ended;
             device.end();
         }
         Silence::Stopped => {
@@ -129,7 +129,7 @@ fn hear_stop<D: Device>(session: &mut Session, id: u32, connection: &mut Connect
 }
 
 /// The device failed: its stream is reset.
-pub(crate) fn give_up<D: Device>(
+pub(crate) fn reset_and_shut<D: Device>(
     session: &mut Session,
     id: u32,
     connection: &mut Connection,
@@ -208,14 +208,14 @@ fn pull_into<D: Device>(
             if write(session, id, &buffer[..count]) {
                 return true;
             }
-            give_up(session, id, connection, device);
+            reset_and_shut(session, id, connection, device);
         }
         Pulled::NotNow => connection.can_pull = false,
         Pulled::Ended => {
             finish(session, id);
-            connection.inward = Way::Ended;
+            connection.to_peer = Flow::Ended;
         }
-        Pulled::Failed => give_up(session, id, connection, device),
+        Pulled::Failed => reset_and_shut(session, id, connection, device),
     }
     false
 }

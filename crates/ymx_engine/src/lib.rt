@@ -9,9 +9,9 @@ mod connections;
 mod device;
 mod engine;
 mod exchange;
-mod memory;
+mod buffers;
 mod passing;
 
-pub use connection::{Connection, Way};
+pub use connection::{Connection, Flow};
 pub use device::{Device, Pulled, Pushed};
 pub use engine::Engine;

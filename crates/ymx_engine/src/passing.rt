@@ -9,7 +9,7 @@ ghost use Rattle.ymx_engine.specs.Passes.{OffersOnce};
 use crate::calls::pass;
 use crate::connection::Connection;
 use crate::device::{Device, Pushed};
-use crate::exchange::give_up;
+use crate::exchange::reset_and_shut;
 use ymx_session::Session;
 
 /// Offers these bytes, the next of the stream's payload, to its device in one call. How many it took: these came, and
@@ -39,7 +39,7 @@ pub(crate) fn offer<D: Device>(
             0
         }
         Pushed::Failed => {
-            give_up(session, id, connection, device);
+            reset_and_shut(session, id, connection, device);
             0
         }
     }

@@ -1,7 +1,7 @@
 //! Who is told how connections ended, and what is told.
 
 use crate::socket::{Socket, SocketFault};
-use ymx_engine::{Connection, Way};
+use ymx_engine::{Connection, Flow};
 use ymx_model::CallFault;
 
 /// Why one direction of a connection ended.
@@ -84,11 +84,11 @@ impl EndedConnection {
         EndedConnection {
             inward: Passed {
                 bytes: socket.pulled(),
-                ending: ending_of(connection.inward, inward),
+                ending: ending_of(connection.to_peer, inward),
             },
             outward: Passed {
                 bytes: socket.pushed(),
-                ending: ending_of(connection.outward, outward),
+                ending: ending_of(connection.from_peer, outward),
             },
         }
     }
@@ -100,10 +100,10 @@ impl EndedConnection {
 }
 
 /// Why a way ended that stands so, if it broke off for this reason.
-fn ending_of(way: Way, broken: Ending) -> Ending {
+fn ending_of(way: Flow, broken: Ending) -> Ending {
     match way {
-        Way::Ended => Ending::Ended,
-        Way::Open | Way::Broken => broken,
+        Flow::Ended => Ending::Ended,
+        Flow::Open | Flow::Broken => broken,
     }
 }
 

@@ -1,7 +1,7 @@
 -- What a seat sees of the whole history is behind what it had seen.
 use Rattle.std.proofs.Common.{ℕ, List, Option, Some, None}
 use Rattle.ymx_model.specs.declared.types.Entry.{Entry}
-use Rattle.ymx_journal.specs.Journals.{JournalView}
+use Rattle.ymx_seats.specs.Journals.{JournalView}
 use Rattle.ymx_seats.specs.Views.{whole_of, IsBehind}
 use Rattle.ymx_hub.specs.Shown.{HasGrown}
 

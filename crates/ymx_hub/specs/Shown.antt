@@ -2,7 +2,7 @@
 use Rattle.std.specs.Prelude.{◌≡◌, ℕ, List, Option, Some, None}
 use mathlib.Core.List.{IsPrefix}
 use Rattle.ymx_model.specs.declared.types.Entry.{Entry}
-use Rattle.ymx_journal.specs.Journals.{part}
+use Rattle.ymx_seats.specs.Journals.{part}
 use Rattle.ymx_seats.specs.Views.{SeatView}
 
 -- the history that was seen goes on, and no entry of this caller is new

@@ -17,9 +17,8 @@ use crate::wakeups::Wakeups;
 use std::alloc::Global;
 use std::sync::{Arc, Mutex, MutexGuard, Wait};
 use ymx_booked::{Booked, EndFault, HubFault};
-use ymx_journal::Opened;
 use ymx_memory::RefusedAllocation;
-use ymx_seats::{Recorder, Seat, Transcript};
+use ymx_seats::{NewJournal, Recorder, Seat, Transcript};
 use ymx_session::{Session, Touched};
 
 /// A session under one lock. What its recorder keeps of it is, whenever the lock is free, the history of the session.
@@ -49,7 +48,7 @@ impl<R: Recorder> Hub<R> {
     pub fn witnessed(
         alloc: Global,
         session: Session,
-        opened: Opened,
+        opened: NewJournal,
     ) -> Result<Arc<Hub<R>>, RefusedAllocation>
         requires new { IsNew session }
         requires witnessed { R.WITNESSED ≡ true }

@@ -6,7 +6,7 @@ use Rattle.std.proofs.lemmas.List.Sums.{sum_by-cons}
 use Rattle.std.proofs.lemmas.List.Elements.{All-cons, All-nil, All-head, All-tail, All-weaker}
 use Rattle.ymx_model.specs.declared.types.Entry.{Entry}
 use Rattle.ymx_seats.specs.Views.{SeatView}
-use Rattle.ymx_journal.specs.Journals.{part}
+use Rattle.ymx_seats.specs.Journals.{part}
 use Rattle.ymx_seats.specs.Tallies.{NumberedFrom, RisesFrom, IsOwn, Tallies}
 use Rattle.ymx_seats.proofs.Equality.{is_same, same_is, same_as_itself, not_same}
 use Rattle.ymx_seats.proofs.Parts.{one_by}

@@ -8,7 +8,7 @@ use Rattle.std.proofs.lemmas.List.Sums.{sum_by-cons}
 use Rattle.std.proofs.lemmas.List.Elements.{All-cons, All-nil, All-head, All-tail, All-push, filter-append}
 use Rattle.ymx_model.specs.declared.types.Entry.{Entry}
 use Rattle.ymx_seats.specs.Views.{SeatView}
-use Rattle.ymx_journal.specs.Journals.{part}
+use Rattle.ymx_seats.specs.Journals.{part}
 use Rattle.ymx_seats.specs.Tallies.{NumberedFrom, RisesFrom, behind_all, IsOwn, Tallies}
 
 pub rises_more : (es : List Entry) (from : ℕ) (e : Entry) → RisesFrom from es → behind_all from es ≤ e.position → RisesFrom from (es ++ e ∷ [])

@@ -1,4 +1,5 @@
+pub mod Journals
 pub mod Views
-pub mod Slips
+pub mod EntryRooms
 pub mod Tallies
 pub mod Transcripts

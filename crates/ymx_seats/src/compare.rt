@@ -2,7 +2,7 @@
 
 ghost use Rattle.std.specs.Prelude.{◌≡◌, ◌↔◌, IsTrue, ◌<◌, List, All};
 ghost use Rattle.std.specs.List.Sorted.{IsPermutation, IsNonDecreasingBy};
-ghost use Rattle.ymx_journal.specs.Journals.{part};
+ghost use Rattle.ymx_seats.specs.Journals.{part};
 ghost use Rattle.ymx_seats.specs.Tallies.{NumberedFrom, RisesFrom, Tallies};
 ghost use Rattle.ymx_seats.specs.Views.{SeatView};
 

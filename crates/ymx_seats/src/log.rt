@@ -2,16 +2,17 @@
 
 ghost use Rattle.std.specs.Prelude.{◌≡◌, ◌-◌, ◌+◌, ◌<◌, ◌≤◌, ◌++◌, ◌∷◌, [], true, false, Some, None, vec_capacity, vec_len, length, IsOk, IfOk, OnOk};
 ghost use mathlib.Core.List.{IsPrefix};
-ghost use Rattle.ymx_journal.specs.Journals.{part};
+ghost use Rattle.ymx_seats.specs.Journals.{part};
 ghost use Rattle.ymx_seats.specs.Views.{entry};
 
-use crate::recorder::{Question, Recorder};
+use crate::journal::{Journal, NewJournal, Witness};
+use crate::plays::EntryName;
+use crate::recorder::{RecorderKey, Recorder};
 use crate::seat::Seat;
-use crate::slips::{Copies, Slip, copies_of, kept_reply};
+use crate::entry_room::{Copies, EntryRoom, copies_of, kept_reply};
 use std::alloc::Global;
 use std::marker::{Brand, Model, PhantomData};
 use std::mem;
-use ymx_journal::{Journal, Opened, Saying, Witness};
 use ymx_memory::RefusedAllocation;
 use ymx_model::{Entry, Event, Lent, Reply};
 
@@ -39,7 +40,7 @@ impl<R: Recorder> Model for Log<R> {
 impl<R: Recorder> Log<R> {
     ghost use Rattle.ymx_seats.specs.Tallies.{RisesFrom};
     ghost use Rattle.ymx_seats.specs.Views.{kept_entries, entry, journal_after, with_caller, whole_of, HasNumbered, IsBehind, IsWitnessed, IsNewcomer};
-    ghost use Rattle.ymx_seats.specs.Slips.{IsReady};
+    ghost use Rattle.ymx_seats.specs.EntryRooms.{IsReady};
     ghost use Rattle.ymx_machine.specs.shared.Replies.{bytes_told};
 
     /// No entries, and no journal.
@@ -56,7 +57,7 @@ impl<R: Recorder> Log<R> {
     }
 
     /// No entries, with the journal that this opens.
-    pub fn witnessed(alloc: Global, opened: Opened) -> Log<R>
+    pub fn witnessed(alloc: Global, opened: NewJournal) -> Log<R>
         requires witnessed { R.WITNESSED ≡ true }
         requires named { opened ≡ R.table }
         ensures entries { result.entries ≡ [] }
@@ -106,7 +107,7 @@ impl<R: Recorder> Log<R> {
         event: &Event<Lent<'_>>,
         bytes: usize,
         entries: usize,
-    ) -> Result<Slip, RefusedAllocation>
+    ) -> Result<EntryRoom, RefusedAllocation>
         ensures entries { self.new.entries ≡ self.old.entries }
         ensures journal { self.new.journal ≡ self.old.journal }
         ensures number { seat.new.number ≡ seat.old.number }
@@ -118,27 +119,27 @@ impl<R: Recorder> Log<R> {
         ensures grows { (self.old.room ≤ self.new.room) × (seat.old.room ≤ seat.new.room) }
         ensures off { R.KEEPS ≡ false → IsOk result }
     {
-        if !R::keeps(Question::new()) {
-            return Ok(Slip { copies: None });
+        if !R::keeps(RecorderKey::new()) {
+            return Ok(EntryRoom { copies: None });
         }
         ymx_memory::reserve(&mut self.entries, entries)?;
         seat.make_room(entries)?;
-        Ok(Slip {
+        Ok(EntryRoom {
             copies: Some(copies_of(alloc, event, bytes)?),
         })
     }
 
-    /// Adds the entry of an event to the log and to its seat, in the memory of its slip, and to the journal. What the seat
+    /// Adds the entry of an event to the log and to its seat, in the memory of its room, and to the journal. What the seat
     /// had seen is a beginning of the journal's history before, and no other entry of that is the seat's. The seat has then
     /// seen all.
     pub fn add(
         &mut self,
         seat: &mut Seat<R>,
-        slip: Slip,
+        room: EntryRoom,
         event: &Event<Lent<'_>>,
         reply: Reply<Lent<'_>>,
     )
-        requires ready { IsReady R.KEEPS slip event.now (bytes_told reply) }
+        requires ready { IsReady R.KEEPS room event.now (bytes_told reply) }
         requires room { R.KEEPS ≡ true → (0 < self.old.room) × (0 < seat.old.room) }
         requires history { IsWitnessed R.WITNESSED R.role R.config (whole_of (journal_after seat.old.number event.now reply self.old.journal)) }
         ensures number { seat.new.number ≡ seat.old.number }
@@ -151,7 +152,7 @@ impl<R: Recorder> Log<R> {
         ensures behind { IsBehind seat.old.number seat.old.seen self.old.journal }
     {
         self.attest(seat, event, &reply);
-        let Some(copies) = slip.copies else {
+        let Some(copies) = room.copies else {
             return;
         };
         let position = self.entries.len() as u64;
@@ -219,7 +220,7 @@ impl<R: Recorder> Log<R> {
 }
 
 /// Adds the entry of an event to a journal.
-fn note<R: Recorder, N: Saying>(
+fn note<R: Recorder, N: EntryName>(
     journal: &mut Journal<R>,
     witness: &mut Witness<R>,
     event: &Event<Lent<'_>>,

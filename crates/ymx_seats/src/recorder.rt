@@ -1,18 +1,18 @@
 //! What a hub keeps of what is done to its session.
 
+use crate::plays::Naming;
 use std::marker::PhantomData;
-use ymx_journal::Naming;
 
 /// What a recorder is asked with. This crate alone can make one.
 #[derive(Drop)]
-pub struct Question {
+pub struct RecorderKey {
     _mine: (),
 }
 
-impl Question {
-    /// The question of this crate.
-    pub(crate) fn new() -> Question {
-        Question { _mine: () }
+impl RecorderKey {
+    /// The key of this crate.
+    pub(crate) fn new() -> RecorderKey {
+        RecorderKey { _mine: () }
     }
 }
 
@@ -27,7 +27,7 @@ pub trait Recorder: Naming + Drop + Send + Sync {
     ghost WITNESSED: { Bool };
 
     /// Whether entries are kept.
-    fn keeps(question: Question) -> bool
+    fn keeps(key: RecorderKey) -> bool
         ensures { result ≡ KEEPS };
 }
 
@@ -48,7 +48,7 @@ pub struct Witnessed<J: Naming> {
 
 impl Naming for Off {
     ghost use Rattle.ymx_model.specs.declared.types.Role.TheVariants.{Client};
-    ghost use Rattle.ymx_journal.specs.Journals.{no_table, no_config};
+    ghost use Rattle.ymx_seats.specs.Journals.{no_table, no_config};
 
     ghost table = { no_table };
 
@@ -64,14 +64,14 @@ impl Recorder for Off {
 
     ghost WITNESSED = { false };
 
-    fn keeps(_question: Question) -> bool {
+    fn keeps(_key: RecorderKey) -> bool {
         false
     }
 }
 
 impl Naming for Full {
     ghost use Rattle.ymx_model.specs.declared.types.Role.TheVariants.{Client};
-    ghost use Rattle.ymx_journal.specs.Journals.{no_table, no_config};
+    ghost use Rattle.ymx_seats.specs.Journals.{no_table, no_config};
 
     ghost table = { no_table };
 
@@ -87,7 +87,7 @@ impl Recorder for Full {
 
     ghost WITNESSED = { false };
 
-    fn keeps(_question: Question) -> bool {
+    fn keeps(_key: RecorderKey) -> bool {
         true
     }
 }
@@ -107,7 +107,7 @@ impl<J: Naming + Send + Sync> Recorder for Witnessed<J> {
 
     ghost WITNESSED = { true };
 
-    fn keeps(_question: Question) -> bool {
+    fn keeps(_key: RecorderKey) -> bool {
         false
     }
 }

@@ -2,10 +2,10 @@
 
 ghost use Rattle.std.specs.Prelude.{◌≡◌, ◌-◌, ◌+◌, ◌<◌, ◌≤◌, ◌++◌, ◌∷◌, [], false, None, vec_capacity, vec_len, OnOk};
 
+use crate::journal::Witness;
 use crate::recorder::Recorder;
 use std::alloc::Global;
 use std::marker::{Model, PhantomData};
-use ymx_journal::Witness;
 use ymx_memory::RefusedAllocation;
 use ymx_model::Entry;
 

@@ -207,7 +207,7 @@ impl State {
         }
         let lost = self.is_lost();
         self.table.forget(id, lost);
-        self.settle(id);
+        self.drop_if_done(id);
         Ok(())
     }
 }

@@ -11,7 +11,7 @@ use Rattle.ymx_machine.specs.shared.Limits.{data_limit}
 use Rattle.ymx_headline.proofs.bounds.Loads.{turn-order}
 use Rattle.ymx_headline.proofs.bounds.Bound.{bound}
 use Rattle.ymx_headline.proofs.emissions.Begun.{runs-open}
-use Rattle.ymx_law_world.specs.Texts.{is_open}
+use Rattle.ymx_headline.specs.world.Texts.{is_open}
 use Rattle.ymx_world.proofs.Headlines.{reached-frames}
 use Rattle.ymx_world.specs.Reached.{IsReached}
 use Rattle.ymx_world.specs.Bounds.{IsBoundedRun}

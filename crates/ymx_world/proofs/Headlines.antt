@@ -9,8 +9,8 @@ use Rattle.ymx_machine.specs.declared.types.Answer.{Answer}
 use Rattle.ymx_headline.specs.Laws.{breaks_off}
 use Rattle.ymx_headline.proofs.runs.Runs.{run-alike, runs-alike, none-breaks}
 use Rattle.ymx_law_session.proofs.limits.HistoriesKeep.{new-keeps, odd_some}
-use Rattle.ymx_law_world.specs.Texts.{AreWithin, AreFrames}
-use Rattle.ymx_law_world.proofs.Worlds.{run-frames, new-frames}
+use Rattle.ymx_headline.specs.world.Texts.{AreWithin, AreFrames}
+use Rattle.ymx_headline.proofs.world.Worlds.{run-frames, new-frames}
 use Rattle.ymx_world.specs.Reached.{IsReached}
 
 pub ok-then : {A E : Type 0} (r : Result A E) (P Q : A → Type 0) → ((x : A) → P x → Q x) → IfOk r P → IfOk r Q

@@ -10,7 +10,7 @@ use Rattle.ymx_model.specs.declared.types.Event.TheVariants as event
 use Rattle.ymx_model.specs.declared.types.Entry.{Entry}
 use Rattle.ymx_model.specs.world.Worlds.{Pipe, new_pipe, pushed, without_front}
 use Rattle.std.specs.Prelude.{MatchBool}
-use Rattle.ymx_law_audit.specs.Joints.{emitted_of, sent_into, TakesFront, Gets, world_steps, Advances, IsStuck, IsJoint, IsJointOrder}
+use Rattle.ymx_headline.specs.audit.Joints.{emitted_of, sent_into, TakesFront, Gets, world_steps, Advances, IsStuck, IsJoint, IsJointOrder}
 
 -- ---- one pipe
 

@@ -10,8 +10,8 @@ use Rattle.ymx_model.specs.session.Emissions.{Choice, in_turn}
 use Rattle.ymx_model.specs.world.Worlds.{World, Steps, is_quiet}
 use Rattle.ymx_machine.specs.machine.Machines.{Machine}
 use Rattle.ymx_session.specs.NewSessions.{first_id, new_fault}
-use Rattle.ymx_law_machine.specs.Faces.{AreFaces, FitWindows}
-use Rattle.ymx_law_machine.specs.Runs.{StillRun}
+use Rattle.ymx_headline.specs.machine.Faces.{AllDeliverInOrder, FitWindows}
+use Rattle.ymx_headline.specs.machine.Runs.{StillRun}
 use Rattle.ymx_headline.specs.QuietRuns.{QuietRuns}
 use Rattle.ymx_headline.proofs.relation.Begins.{begins}
 use Rattle.ymx_headline.proofs.runs.Runs.{run-faces}
@@ -50,7 +50,7 @@ played_on steps w i st p q within is so one =
 
 -- what holds of such a run
 pub record IsTopRun (a b : Config) (steps : List Step) (answers : List Answer) (quiet : List Bool) : Type 0 where
-  pub face : AreFaces steps answers
+  pub face : AllDeliverInOrder steps answers
   pub windows : FitWindows a.window b.window steps answers
   pub queues : (m : Machine) × StillRun steps answers quiet (machine_of a b) m
 

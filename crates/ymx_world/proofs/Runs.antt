@@ -6,7 +6,7 @@ use Rattle.ymx_machine.specs.declared.types.Answer.{Answer}
 use Rattle.ymx_model.specs.session.Sessions.{Session}
 use Rattle.ymx_model.specs.session.Emissions.{Choice, in_turn}
 use Rattle.ymx_model.specs.world.Worlds.{World, Steps, Runs}
-use Rattle.ymx_law_audit.proofs.Orders.{runs-on}
+use Rattle.ymx_headline.proofs.audit.Orders.{runs-on}
 use Rattle.ymx_world.specs.Reached.{IsReached}
 
 -- a run goes on by one more step

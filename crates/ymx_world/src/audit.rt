@@ -3,7 +3,7 @@
 ghost use Rattle.std.specs.Prelude.{◌≡◌, ◌<◌, ◌+◌, ◌++◌, length, drop, List, true, false, IfOk, IfSome, IfNone};
 ghost use Rattle.ymx_machine.specs.declared.types.Step.{Step as TheStep};
 ghost use Rattle.ymx_model.specs.world.Worlds.{Pipe as PipeValue};
-ghost use Rattle.ymx_law_audit.specs.Joints.{into, sent_into, Gets, world_steps, Advances, IsStuck, IsJointOrder};
+ghost use Rattle.ymx_headline.specs.audit.Joints.{into, sent_into, Gets, world_steps, Advances, IsStuck, IsJointOrder};
 
 use crate::pipe::Pipe;
 use std::alloc::Global;

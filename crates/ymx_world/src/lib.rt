@@ -7,7 +7,7 @@
 
 mod audit;
 mod calls;
-mod joined;
+mod pipes;
 mod pipe;
 mod played;
 mod settled;

@@ -2,7 +2,7 @@
 
 ghost use Rattle.std.specs.Prelude.{◌≡◌, ◌≤◌, ◌↔◌, false, length, take, vec_len, IsTrue, IfOk, OnOk, OnErr};
 ghost use Rattle.ymx_model.specs.world.Worlds.{new_pipe, pushed, without_front, stopped_now, is_quiet_pipe};
-ghost use Rattle.ymx_law_audit.specs.Joints.{ended_pipe};
+ghost use Rattle.ymx_headline.specs.audit.Joints.{ended_pipe};
 ghost use Rattle.ymx_world.specs.Acts.{IsAppended, IsEmitted, IsFed, IsEnded};
 ghost use Rattle.ymx_world.specs.Settled.{is_open_pipe};
 

@@ -11,19 +11,19 @@ ghost use Rattle.ymx_headline.specs.Laws.{HasRun, IsOpenWorld, breaks_off, carri
 ghost use Rattle.ymx_session.specs.NewSessions.{first_id, new_fault, IsNewFault};
 ghost use Rattle.ymx_machine.specs.declared.types.Step.{Step as TheStep};
 ghost use Rattle.ymx_machine.specs.declared.types.Answer.{Answer as TheAnswer};
-ghost use Rattle.ymx_law_audit.specs.Joints.{IsJointOrder};
-ghost use Rattle.ymx_law_audit.specs.Told.{AreAnswered, AreOneRun};
+ghost use Rattle.ymx_headline.specs.audit.Joints.{IsJointOrder};
+ghost use Rattle.ymx_headline.specs.audit.Told.{AreAnswered, AreOneRun};
 ghost use Rattle.ymx_world.specs.Bounds.{IsBoundedRun};
 ghost use Rattle.ymx_world.specs.Acts.{session_of, pipe_of};
 ghost use Rattle.ymx_world.specs.Progress.{GoesForward};
 ghost use Rattle.ymx_world.specs.Settled.{IsCarriedOn, IsDueCarriage};
 ghost use Rattle.ymx_world.specs.Played.{machine_of, world_of, WhereStopped, IsPlayFault};
-ghost use Rattle.ymx_law_machine.specs.Faces.{AreFaces, FitWindows};
-ghost use Rattle.ymx_law_machine.specs.Runs.{StillRun};
+ghost use Rattle.ymx_headline.specs.machine.Faces.{AllDeliverInOrder, FitWindows};
+ghost use Rattle.ymx_headline.specs.machine.Runs.{StillRun};
 ghost use Rattle.ymx_headline.specs.QuietRuns.{QuietRuns};
 
 use crate::audit::audit;
-use crate::joined::Joined;
+use crate::pipes::SessionPipes;
 use crate::played::{PlayFault, Played};
 use crate::settled::{Settled, refused_by};
 use crate::stopped::Stopped;
@@ -42,7 +42,7 @@ const ROOM: usize = 65_584;
 /// A is the client and B the server; the direction AB carries A's bytes.
 #[derive(Drop)]
 pub struct World {
-    joined: Joined,
+    pipes: SessionPipes,
 }
 
 impl Model for World {
@@ -51,9 +51,9 @@ impl Model for World {
 
     ghost Value = { WorldValue };
 
-    ghost view = { λ w. w.joined };
+    ghost view = { λ w. w.pipes };
 
-    ghost invariant = { λ w. IsReached w.joined };
+    ghost invariant = { λ w. IsReached w.pipes };
 }
 
 impl World {
@@ -70,8 +70,8 @@ impl World {
     {
         let a = Session::new(alloc, Role::Client, config_a)?;
         let b = Session::new(alloc, Role::Server, config_b)?;
-        let joined = Joined::new(alloc, a, b);
-        Ok(World { joined })
+        let pipes = SessionPipes::new(alloc, a, b);
+        Ok(World { pipes })
     }
 
     /// One step: a call at a side; an emission, which goes onto the side's pipe, or vanishes where that was
@@ -90,7 +90,7 @@ impl World {
         // An emission gives what is due. A delivery takes a byte, or its receiver is held and has an answer due.
         ensures forward { IfOk result (λ given. GoesForward step.now given self.old) }
     {
-        self.joined.step(step)
+        self.pipes.step(step)
     }
 
     /// Some steps, one after another, and their answers. `Stopped` where there was no memory of the world's
@@ -118,7 +118,7 @@ impl World {
         ensures bounded_so_far { IfErr result (λ stopped. let made = take (length stopped.answers.items) steps.now in
             IsOpenWorld self.old → All (λ step. is_carriage step ≡ true) made → IsBoundedRun made stopped.answers.items self.old self.new) }
     {
-        self.joined.run(steps)
+        self.pipes.run(steps)
     }
 
     /// A run from two new sessions: the steps one after another, their answers, and after which of them the
@@ -138,7 +138,7 @@ impl World {
         config_b: Config,
         steps: &[Step],
     ) -> Result<Played, PlayFault>
-        ensures face { IfOk result (λ played. AreFaces steps.now played.answers.items) }
+        ensures face { IfOk result (λ played. AllDeliverInOrder steps.now played.answers.items) }
         ensures windows { IfOk result (λ played. FitWindows config_a.window config_b.window steps.now played.answers.items) }
         ensures queues { IfOk result (λ played. (m : Machine) × StillRun steps.now played.answers.items played.quiet.items (machine_of config_a config_b) m) }
         // It was done by two sessions and the pipes between them. No other clause names these.
@@ -146,7 +146,7 @@ impl World {
         ensures made { IfOk result (λ played. (new_fault Client config_a ≡ None) × (new_fault Server config_b ≡ None)) }
         ensures refused { IfErr result (λ fault. IsPlayFault config_a config_b fault) }
         ensures before { IfErr result (WhereStopped (λ played. length played.answers.items < length steps.now)) }
-        ensures face_so_far { IfErr result (WhereStopped (λ played. AreFaces (take (length played.answers.items) steps.now) played.answers.items)) }
+        ensures face_so_far { IfErr result (WhereStopped (λ played. AllDeliverInOrder (take (length played.answers.items) steps.now) played.answers.items)) }
         ensures windows_so_far { IfErr result (WhereStopped (λ played.
             FitWindows config_a.window config_b.window (take (length played.answers.items) steps.now) played.answers.items)) }
         ensures queues_so_far { IfErr result (WhereStopped (λ played.
@@ -178,14 +178,14 @@ impl World {
         ensures goes_on { IsOpenWorld self.now → result ≡ false →
             (step : TheStep) × (given : TheAnswer) × (v : TheWorld) × Steps in_turn step given self.now v × (carries_bytes step given ≡ true) }
     {
-        self.joined.is_quiet()
+        self.pipes.is_quiet()
     }
 
     /// Whether nothing was stopped, ended, closed or broken.
     pub fn is_open(&self) -> bool
         ensures { IsTrue result ↔ IsOpenWorld self.now }
     {
-        self.joined.is_open()
+        self.pipes.is_open()
     }
 
     /// Emits and delivers until the world is quiet, and answers whether it is: not where something was stopped,
@@ -206,7 +206,7 @@ impl World {
         ensures carried_so_far { IfErr result (λ _. (no_memory : ℕ) × IsCarriedOn no_memory self.old self.new) }
     {
         let mut no_memory = RefusalCount::zero();
-        if !self.joined.is_open() {
+        if !self.pipes.is_open() {
             return Ok(Settled {
                 quiet: false,
                 no_memory,
@@ -250,14 +250,14 @@ impl World {
     pub fn due(&self, side: Side) -> bool
         ensures { result ≡ is_ready (session_of side self.now) }
     {
-        self.joined.due(side)
+        self.pipes.due(side)
     }
 
     /// The bytes that are on their way in this direction.
     pub fn pipe(&self, direction: Direction) -> &[u8]
         ensures { result.now ≡ (pipe_of direction self.now).bytes }
     {
-        self.joined.pipe(direction)
+        self.pipes.pipe(direction)
     }
 
     /// Steps of the world in which the histories of its two sides, A's and B's, each keep their order: `None`

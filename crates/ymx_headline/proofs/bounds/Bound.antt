@@ -26,10 +26,10 @@ use Rattle.ymx_law_session.specs.Limits.{IsWithin}
 use Rattle.ymx_law_session.proofs.limits.EmissionsKeep.{begin-keeps, moves-keep}
 use Rattle.ymx_law_session.proofs.limits.HistoriesKeep.{gives-keep}
 use Rattle.ymx_machine.proofs.Tests.{when}
-use Rattle.ymx_law_machine.proofs.lanes.StreamFacts.{if-so_true, if-so_false}
-use Rattle.ymx_law_world.specs.Texts.{AreWithin}
-use Rattle.ymx_law_world.proofs.Emitted.{empty-bytes}
-use Rattle.ymx_law_world.proofs.Fed.{Follow, takes-heard, all-first, all-rest}
+use Rattle.ymx_headline.proofs.machine.lanes.StreamFacts.{if-so_true, if-so_false}
+use Rattle.ymx_headline.specs.world.Texts.{AreWithin}
+use Rattle.ymx_headline.proofs.world.Emitted.{empty-bytes}
+use Rattle.ymx_headline.proofs.world.Fed.{Follow, takes-heard, all-first, all-rest}
 use Rattle.ymx_headline.specs.Laws.{IsOpenWorld, Carries, fed_by, is_carriage, made_whole}
 use Rattle.ymx_headline.proofs.bounds.Loads.{SendsAtLeast, effort, weights, weights-append, weights-most, effort-most, begin-starts, sheds}
 use Rattle.ymx_headline.proofs.bounds.LoadBytes.{takes-bytes}

@@ -8,8 +8,8 @@ use Rattle.ymx_model.specs.session.Sessions.{Session}
 use Rattle.ymx_model.specs.session.Emissions.{Choice}
 use Rattle.ymx_model.specs.world.Worlds.{World, Steps}
 use Rattle.ymx_machine.specs.machine.Machines.{Machine}
-use Rattle.ymx_law_world.specs.Texts.{AreWithin, AreFrames, is_open}
-use Rattle.ymx_law_world.proofs.Worlds.{step-frames}
+use Rattle.ymx_headline.specs.world.Texts.{AreWithin, AreFrames, is_open}
+use Rattle.ymx_headline.proofs.world.Worlds.{step-frames}
 use Rattle.ymx_headline.specs.Agrees.{Agrees}
 use Rattle.ymx_headline.specs.Laws.{IsOpenWorld, KeepsCarrying, is_carriage, carries_bytes, breaks_off}
 use Rattle.ymx_headline.proofs.relation.Still.{still}

@@ -17,8 +17,8 @@ use Rattle.ymx_law_session.proofs.limits.FeedsKeep.{byte-keeps, payload_some}
 use Rattle.ymx_law_session.proofs.pieces.Frames.{Awaits, head-awaits}
 use Rattle.ymx_law_session.proofs.pieces.Pieces.{piece-status}
 use Rattle.ymx_machine.proofs.Tests.{agrees, none_of}
-use Rattle.ymx_law_world.proofs.Fed.{Follow, no-tail, all-first, all-rest, assoc, behind, same-header, drop-length, piece-incoming}
-use Rattle.ymx_law_world.proofs.Frames.{no-fault}
+use Rattle.ymx_headline.proofs.world.Fed.{Follow, no-tail, all-first, all-rest, assoc, behind, same-header, drop-length, piece-incoming}
+use Rattle.ymx_headline.proofs.world.Frames.{no-fault}
 use Rattle.ymx_headline.specs.Laws.{begins_payload, after_byte, made_whole}
 use Rattle.ymx_headline.proofs.bounds.Loads.{one_if-most, effort, may_answer, weight, weights}
 use Rattle.ymx_headline.proofs.bounds.LoadArrivals.{head-heads, head-awake, piece-eases}

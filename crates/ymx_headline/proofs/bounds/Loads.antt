@@ -28,8 +28,8 @@ use Rattle.ymx_model.specs.world.Load.{frames_of, record_load, session_load, one
 use Rattle.ymx_law_session.specs.Limits.{IsWithin}
 use Rattle.ymx_law_session.proofs.limits.EmissionsKeep.{some_if, none_if, if_some}
 use Rattle.ymx_machine.proofs.Tests.{split, agrees, differs, both_of, none_of, not_lt}
-use Rattle.ymx_law_world.proofs.Frames.{short-frame}
-use Rattle.ymx_law_world.proofs.Emitted.{first_and_rest, only_one, spelled-one}
+use Rattle.ymx_headline.proofs.world.Frames.{short-frame}
+use Rattle.ymx_headline.proofs.world.Emitted.{first_and_rest, only_one, spelled-one}
 
 -- ---- sums
 

@@ -19,10 +19,10 @@ use Rattle.ymx_machine.specs.machine.Runs.{why_is_broken}
 use Rattle.ymx_model.specs.world.Worlds.{World, StepOfA, Steps, pushed, mirror_world}
 use Rattle.ymx_model.specs.world.UnderWay.{IsOneFrame, IsUnderWay, held_bytes, lacking}
 use Rattle.ymx_machine.proofs.Tests.{when}
-use Rattle.ymx_law_machine.proofs.lanes.StreamFacts.{if-so_true, if-so_false}
+use Rattle.ymx_headline.proofs.machine.lanes.StreamFacts.{if-so_true, if-so_false}
 use Rattle.ymx_law_session.specs.Limits.{IsWithin}
-use Rattle.ymx_law_world.specs.Texts.{AreWithin}
-use Rattle.ymx_law_world.proofs.Fed.{Follow, all-first, all-rest}
+use Rattle.ymx_headline.specs.world.Texts.{AreWithin}
+use Rattle.ymx_headline.proofs.world.Fed.{Follow, all-first, all-rest}
 use Rattle.ymx_headline.specs.Laws.{IsOpenWorld, IsOpenPipe, is_carriage, carries_bytes, breaks_off}
 use Rattle.ymx_headline.proofs.bounds.Loads.{any-order}
 use Rattle.ymx_headline.proofs.bounds.Bound.{Under, potential, carried, falls, gave, under-open, pushed-open}

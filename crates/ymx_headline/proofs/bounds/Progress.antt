@@ -20,7 +20,7 @@ use Rattle.ymx_machine.specs.shared.Steps.{is_of_a}
 use Rattle.ymx_law_session.specs.Limits.{IsWithin}
 use Rattle.ymx_law_session.proofs.due.Ready.{due-gives}
 use Rattle.ymx_machine.proofs.Tests.{when}
-use Rattle.ymx_law_world.specs.Texts.{AreWithin}
+use Rattle.ymx_headline.specs.world.Texts.{AreWithin}
 use Rattle.ymx_headline.specs.Laws.{IsOpenWorld, IsOpenPipe, carries_bytes}
 use Rattle.ymx_headline.proofs.calls.StreamCalls.{so-true, so-false}
 use Rattle.ymx_headline.proofs.relation.Still.{IsIdle, idle}

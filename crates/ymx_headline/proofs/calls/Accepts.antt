@@ -21,9 +21,9 @@ use Rattle.ymx_model.specs.session.Histories.CallGives.{Outcome as HasOutcome, N
 use Rattle.ymx_model.specs.world.Worlds.{World}
 use Rattle.ymx_machine.specs.machine.Machines.{Machine}
 use Rattle.ymx_machine.specs.machine.CallRules.{Rule, AcceptRule}
-use Rattle.ymx_law_stream.specs.Worlds.{Can, put}
-use Rattle.ymx_law_stream.specs.Worlds.Act.{Accepts}
-use Rattle.ymx_law_stream.proofs.Worlds.{step}
+use Rattle.ymx_headline.specs.stream.Worlds.{Can, put}
+use Rattle.ymx_headline.specs.stream.Worlds.Act.{Accepts}
+use Rattle.ymx_headline.proofs.stream.Worlds.{step}
 use Rattle.ymx_law_session.specs.Limits.{IsWithin, is_listed, is_offered_at}
 use Rattle.ymx_law_session.specs.Settled.{IsSettled}
 use Rattle.ymx_machine.proofs.Lists.{look-change_same, look-change_other}

@@ -15,16 +15,16 @@ use Rattle.ymx_model.specs.session.Emissions.{Choice}
 use Rattle.ymx_model.specs.world.Worlds.{World, Pipe, StepOfA, stopped_now}
 use Rattle.ymx_machine.specs.machine.Machines.{Machine, SideState}
 use Rattle.ymx_machine.specs.machine.Runs.{MachineStepOfA, side_input_ends as side_ends}
-use Rattle.ymx_law_stream.specs.Worlds.{StreamWorld as Streams, StreamSide as Ends, Streams as Found, flip_some, Refines, happens}
-use Rattle.ymx_law_stream.specs.Worlds.Act.{Ends as ActEnds}
-use Rattle.ymx_law_stream.specs.Worlds.Happening.{AtB}
-use Rattle.ymx_law_stream.proofs.Worlds.{step_at, mirrored-back}
+use Rattle.ymx_headline.specs.stream.Worlds.{StreamWorld as Streams, StreamSide as Ends, Streams as Found, flip_some, Refines, happens}
+use Rattle.ymx_headline.specs.stream.Worlds.Act.{Ends as ActEnds}
+use Rattle.ymx_headline.specs.stream.Worlds.Happening.{AtB}
+use Rattle.ymx_headline.proofs.stream.Worlds.{step_at, mirrored-back}
 use Rattle.ymx_machine.proofs.Tests.{split, when}
 use Rattle.ymx_law_session.proofs.limits.HistoriesKeep.{gives-keep}
 use Rattle.ymx_law_session.proofs.given_up.SettledFrames.{gives-settled}
-use Rattle.ymx_law_machine.proofs.lanes.StreamFacts.{if-so_true, if-so_false}
-use Rattle.ymx_law_machine.proofs.order.Cores.{core-ends, sound-is}
-use Rattle.ymx_law_machine.proofs.order.Openers.{numbered-is}
+use Rattle.ymx_headline.proofs.machine.lanes.StreamFacts.{if-so_true, if-so_false}
+use Rattle.ymx_headline.proofs.machine.order.Cores.{core-ends, sound-is}
+use Rattle.ymx_headline.proofs.machine.order.Openers.{numbered-is}
 use Rattle.ymx_headline.specs.Agrees.{AgreesAs, IsNumbered, AgreesAt, SameSide, Receiver, Text, sending, hearing, found, arrives}
 use Rattle.ymx_headline.proofs.relation.Mirrors.{Positive, refines-same, orders, order-same, has-order, parity}
 

@@ -26,16 +26,16 @@ use Rattle.ymx_model.specs.session.Histories.CallGives.{Outcome as HasOutcome, N
 use Rattle.ymx_model.specs.world.Worlds.{World}
 use Rattle.ymx_machine.specs.machine.Machines.{Machine, recorded, unacknowledged}
 use Rattle.ymx_machine.specs.machine.CallRules.{Rule, OpenSideRule, OpenRule, is_close, open_refusal, machine_opened as machine_opened}
-use Rattle.ymx_law_stream.specs.Worlds.{StreamWorld as Streams, Adds, Can, put}
-use Rattle.ymx_law_stream.specs.Worlds.Act.{Opens}
-use Rattle.ymx_law_stream.proofs.Worlds.{step}
+use Rattle.ymx_headline.specs.stream.Worlds.{StreamWorld as Streams, Adds, Can, put}
+use Rattle.ymx_headline.specs.stream.Worlds.Act.{Opens}
+use Rattle.ymx_headline.proofs.stream.Worlds.{step}
 use Rattle.ymx_law_session.specs.Limits.{IsWithin}
 use Rattle.ymx_law_session.specs.Settled.{IsSettled}
 use Rattle.ymx_machine.proofs.Lists.{look-added_same, look-added_other}
 use Rattle.ymx_law_session.proofs.limits.HistoriesKeep.{gives-keep}
 use Rattle.ymx_law_session.proofs.given_up.SettledFrames.{gives-settled}
-use Rattle.ymx_law_machine.proofs.order.Openers.{free}
-use Rattle.ymx_law_machine.proofs.order.Cores.{core}
+use Rattle.ymx_headline.proofs.machine.order.Openers.{free}
+use Rattle.ymx_headline.proofs.machine.order.Cores.{core}
 use Rattle.ymx_machine.proofs.Tests.{when}
 use Rattle.ymx_headline.specs.Agrees.{AgreesAs, IsNumbered, Keeps, found, is_rejected}
 use Rattle.ymx_headline.proofs.relation.Mirrors.{refines-same, orders, order-call, parity}

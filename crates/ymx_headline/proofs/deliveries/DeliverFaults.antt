@@ -12,8 +12,8 @@ use Rattle.ymx_model.specs.session.Parts.Part.{Ack, Data, Credit, Fin}
 use Rattle.ymx_machine.specs.shared.Lists.{look}
 use Rattle.ymx_model.specs.session.Sessions.{Session, is_own}
 use Rattle.ymx_model.specs.session.Arrivals.{is_data, payload, delta, record_fault, header_fault, syn_fault, offer}
-use Rattle.ymx_law_record.specs.Sides.{frame_says}
-use Rattle.ymx_law_record.proofs.Comes.{data-delta, no-delta}
+use Rattle.ymx_headline.specs.records.Sides.{frame_says}
+use Rattle.ymx_headline.proofs.records.Comes.{data-delta, no-delta}
 use Rattle.ymx_machine.proofs.Tests.{both_of}
 use Rattle.ymx_headline.proofs.deliveries.DeliverMoves.{AllBreakNothing}
 

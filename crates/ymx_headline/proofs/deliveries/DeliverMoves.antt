@@ -13,18 +13,18 @@ use Rattle.ymx_machine.specs.shared.Lists.{look, change, drop_id}
 use Rattle.ymx_machine.specs.machine.Machines.{Machine, hears}
 use Rattle.ymx_machine.specs.machine.FreeMoves.{FreeMove, FreeMoves, moved_by, counted_by, move_is_syn as is_syn_move, is_reset_arriving, machine_refuses}
 use Rattle.ymx_machine.specs.machine.FreeMoves.FreeMove.{OfStream, SynArrives}
-use Rattle.ymx_law_stream.specs.Flight.{load, part_is_syn, part_is_rst}
-use Rattle.ymx_law_stream.specs.Arrivals.{comes_to, MovesOf}
-use Rattle.ymx_law_stream.specs.Faults.{BreaksNothing}
-use Rattle.ymx_law_stream.specs.Worlds.{StreamWorld as Streams, Streams as Found, AreOne, Changes, Same, Refines, Delivers, Can, came, came_in, parts_of_stream, tagged, put, put_end}
-use Rattle.ymx_law_stream.specs.Answers.{end_released}
-use Rattle.ymx_law_stream.specs.Worlds.Act.{Comes, ComesIn, Releases as ActReleases}
-use Rattle.ymx_law_stream.proofs.Worlds.{step, put-same, put-other}
-use Rattle.ymx_law_stream.proofs.OneStream.{one-shows}
+use Rattle.ymx_headline.specs.stream.Flight.{load, part_is_syn, part_is_rst}
+use Rattle.ymx_headline.specs.stream.Arrivals.{comes_to, MovesOf}
+use Rattle.ymx_headline.specs.stream.Faults.{BreaksNothing}
+use Rattle.ymx_headline.specs.stream.Worlds.{StreamWorld as Streams, Streams as Found, AreOne, Changes, Same, Refines, Delivers, Can, came, came_in, parts_of_stream, tagged, put, put_end}
+use Rattle.ymx_headline.specs.stream.Answers.{end_released}
+use Rattle.ymx_headline.specs.stream.Worlds.Act.{Comes, ComesIn, Releases as ActReleases}
+use Rattle.ymx_headline.proofs.stream.Worlds.{step, put-same, put-other}
+use Rattle.ymx_headline.proofs.stream.OneStream.{one-shows}
 use Rattle.ymx_law_session.specs.Limits.{is_listed}
 use Rattle.ymx_machine.proofs.Tests.{same_or_not}
-use Rattle.ymx_law_record.specs.Sides.{all_come}
-use Rattle.ymx_law_machine.proofs.order.Maps.{look-change, look-change_other}
+use Rattle.ymx_headline.specs.records.Sides.{all_come}
+use Rattle.ymx_headline.proofs.machine.order.Maps.{look-change, look-change_other}
 use Rattle.ymx_headline.specs.Agrees.{found}
 use Rattle.ymx_headline.proofs.relation.Mirrors.{refines-same}
 

@@ -24,7 +24,7 @@ use Rattle.ymx_law_session.specs.Limits.{IsWithin}
 use Rattle.ymx_law_session.specs.Settled.{IsSettled}
 use Rattle.ymx_machine.proofs.Tests.{same_or_not}
 use Rattle.ymx_law_session.proofs.limits.Pings.{pending-staged}
-use Rattle.ymx_law_machine.proofs.order.Maps.{look-change, look-change_other}
+use Rattle.ymx_headline.proofs.machine.order.Maps.{look-change, look-change_other}
 use Rattle.ymx_headline.specs.Agrees.{AgreesAs, RejectsOnce, SamePings, Sender, Receiver, Text, PingsUnderWay, PongsUnderWay, pongs_of, sending, hearing, is_rejected, is_asked_at, is_there_at, number_of, entry_number, asks, replies, is_go_away, count_in, pongs}
 use Rattle.ymx_headline.proofs.deliveries.DeliverTexts.{count-skip, count-first, away-rest, pings-rest, pongs-rest}
 use Rattle.ymx_headline.proofs.relation.Texts.{same-text}

@@ -18,15 +18,15 @@ use Rattle.ymx_model.specs.session.Arrivals.{expects, acknowledges, meets, meets
 use Rattle.ymx_model.specs.session.Feeds.{byte_comes, starves}
 use Rattle.ymx_model.specs.world.Worlds.{World}
 use Rattle.ymx_machine.specs.machine.Machines.{Machine}
-use Rattle.ymx_law_stream.specs.Answers.{end_released}
-use Rattle.ymx_law_stream.specs.Worlds.{StreamWorld as Streams, put, put_end, tagged}
+use Rattle.ymx_headline.specs.stream.Answers.{end_released}
+use Rattle.ymx_headline.specs.stream.Worlds.{StreamWorld as Streams, put, put_end, tagged}
 use Rattle.ymx_law_session.specs.Limits.{is_offered_at, is_listed}
 use Rattle.ymx_machine.proofs.Tests.{both_of, when}
 use Rattle.ymx_machine.proofs.Lists.{look-change_same, look-change_other, look-without_same, look-without_other, distinct-change}
-use Rattle.ymx_law_record.specs.Sides.{frame_says}
+use Rattle.ymx_headline.specs.records.Sides.{frame_says}
 use Rattle.ymx_headline.specs.Agrees.{AgreesAs, Keeps, OnlyRejects, IsPlain, all_parts, is_absent, is_rejected}
 use Rattle.ymx_headline.proofs.relation.Tables.{keeps-put}
-use Rattle.ymx_law_record.proofs.Calls.{lingers, none_due}
+use Rattle.ymx_headline.proofs.records.Calls.{lingers, none_due}
 use Rattle.ymx_headline.proofs.emissions.Emits.{is_not}
 use Rattle.ymx_headline.proofs.deliveries.DeliverMoves.{Arrives, part_came, drop-none, reset-comes, release-comes}
 use Rattle.ymx_headline.proofs.deliveries.DeliverTexts.{awaited}

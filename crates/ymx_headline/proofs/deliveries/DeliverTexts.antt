@@ -9,7 +9,7 @@ use Rattle.ymx_model.specs.session.Sessions.Incoming.{Head, Payload}
 use Rattle.ymx_model.specs.session.Arrivals.{payload}
 use Rattle.ymx_model.specs.world.UnderWay.{IsOneFrame, held_bytes, lacking}
 use Rattle.ymx_machine.proofs.Tests.{split, agrees}
-use Rattle.ymx_law_world.proofs.Fed.{all-first, all-rest, behind, same-header, drop-length, assoc, no-tail}
+use Rattle.ymx_headline.proofs.world.Fed.{all-first, all-rest, behind, same-header, drop-length, assoc, no-tail}
 use Rattle.ymx_headline.specs.Agrees.{Sender, Receiver, Text, AwayUnderWay, PingsUnderWay, PongsUnderWay, IsPlainFrame, parts_in, all_parts, parts_left, asks, replies, is_go_away, count_in, pongs}
 
 -- ---- a byte of a header that isn't the last

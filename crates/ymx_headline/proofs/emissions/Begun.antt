@@ -23,17 +23,17 @@ use Rattle.ymx_model.specs.session.Sessions.{Session, Outgoing, is_running, is_c
 use Rattle.ymx_model.specs.world.Worlds.{World, Pipe, pushed}
 use Rattle.ymx_model.specs.world.UnderWay.{IsOneFrame, held_bytes}
 use Rattle.ymx_machine.specs.machine.Machines.{Machine}
-use Rattle.ymx_law_stream.specs.Worlds.{StreamWorld as Streams, Refines, Can, acts, tagged}
-use Rattle.ymx_law_stream.specs.Worlds.Act.{Sends}
-use Rattle.ymx_law_stream.proofs.Worlds.{step}
+use Rattle.ymx_headline.specs.stream.Worlds.{StreamWorld as Streams, Refines, Can, acts, tagged}
+use Rattle.ymx_headline.specs.stream.Worlds.Act.{Sends}
+use Rattle.ymx_headline.proofs.stream.Worlds.{step}
 use Rattle.ymx_law_session.specs.Limits.{IsWithin}
 use Rattle.ymx_law_session.specs.Settled.{IsSettled}
 use Rattle.ymx_machine.proofs.Tests.{split}
-use Rattle.ymx_law_machine.specs.Numbers.{HasNumber, HasNumberAt}
+use Rattle.ymx_headline.specs.machine.Numbers.{HasNumber, HasNumberAt}
 use Rattle.ymx_machine.proofs.Lists.{look-change_same, look-change_other}
-use Rattle.ymx_law_record.specs.Sides.{bytes_say}
-use Rattle.ymx_law_record.proofs.Frames.{said}
-use Rattle.ymx_law_world.proofs.Frames.{data-frame, short-frame}
+use Rattle.ymx_headline.specs.records.Sides.{bytes_say}
+use Rattle.ymx_headline.proofs.records.Frames.{said}
+use Rattle.ymx_headline.proofs.world.Frames.{data-frame, short-frame}
 use Rattle.ymx_headline.specs.Agrees.{AgreesAs, IsNumbered, AgreesOn, Keeps, Sender, Receiver, Text, sending, hearing, found, IsPlainFrame, parts_in, all_parts, parts_left, count_in, is_go_away, asks, replies}
 use Rattle.ymx_headline.proofs.relation.Mirrors.{refines-same}
 use Rattle.ymx_headline.proofs.relation.Sides.{in-streams}

@@ -18,18 +18,18 @@ use Rattle.ymx_model.specs.world.Worlds.{World, Pipe, pushed}
 use Rattle.ymx_machine.specs.machine.Machines.{Machine}
 use Rattle.ymx_machine.specs.machine.FreeMoves.{moved_by, Releases}
 use Rattle.ymx_machine.specs.machine.FreeMoves.FreeMove.{OfStream}
-use Rattle.ymx_law_stream.specs.Answers.{end_released}
-use Rattle.ymx_law_stream.specs.Worlds.{Can, put}
-use Rattle.ymx_law_stream.specs.Worlds.Act.{Releases as ActReleases}
-use Rattle.ymx_law_stream.proofs.Worlds.{step}
+use Rattle.ymx_headline.specs.stream.Answers.{end_released}
+use Rattle.ymx_headline.specs.stream.Worlds.{Can, put}
+use Rattle.ymx_headline.specs.stream.Worlds.Act.{Releases as ActReleases}
+use Rattle.ymx_headline.proofs.stream.Worlds.{step}
 use Rattle.ymx_law_session.specs.Limits.{IsWithin}
 use Rattle.ymx_law_session.specs.Settled.{IsSettled}
 use Rattle.ymx_machine.proofs.Tests.{split, both_of, none_of, not_lt}
 use Rattle.ymx_machine.proofs.Lists.{look-without_same, look-without_other}
 use Rattle.ymx_law_session.proofs.limits.EmissionsKeep.{some_if, none_if, if_some, begin-keeps, moves-keep}
 use Rattle.ymx_law_session.proofs.given_up.SettledFrames.{begin-settled, moves-settled}
-use Rattle.ymx_law_record.proofs.Calls.{lingers, none_due}
-use Rattle.ymx_law_world.proofs.Emitted.{empty-bytes, first_and_rest, only_one}
+use Rattle.ymx_headline.proofs.records.Calls.{lingers, none_due}
+use Rattle.ymx_headline.proofs.world.Emitted.{empty-bytes, first_and_rest, only_one}
 use Rattle.ymx_headline.specs.Agrees.{AgreesAs, Keeps, found}
 use Rattle.ymx_headline.proofs.relation.Mirrors.{refines-same, order-releases, parity}
 use Rattle.ymx_headline.proofs.relation.Tables.{change-found, keeps-put}

@@ -23,8 +23,8 @@ use Rattle.ymx_law_session.proofs.limits.Pings.{pending-staged}
 use Rattle.ymx_machine.proofs.Tests.{both_of, same_or_not}
 use Rattle.ymx_law_session.proofs.limits.EmissionsKeep.{some_if, if_some, begin-keeps}
 use Rattle.ymx_law_session.proofs.given_up.SettledFrames.{begin-settled}
-use Rattle.ymx_law_world.proofs.Emitted.{empty-bytes}
-use Rattle.ymx_law_world.proofs.Frames.{short-frame}
+use Rattle.ymx_headline.proofs.world.Emitted.{empty-bytes}
+use Rattle.ymx_headline.proofs.world.Frames.{short-frame}
 use Rattle.ymx_headline.specs.Agrees.{AgreesAs, SameEnds, Sender, Receiver, Text, sending, hearing, count_in, is_go_away, asks, replies, pongs, pongs_of, is_asked_at}
 use Rattle.ymx_headline.proofs.relation.Sides.{beside-streams}
 use Rattle.ymx_headline.proofs.relation.Texts.{text-changes}

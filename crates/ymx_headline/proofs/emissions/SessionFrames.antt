@@ -19,8 +19,8 @@ use Rattle.ymx_law_session.specs.Limits.{IsWithin}
 use Rattle.ymx_law_session.specs.Settled.{IsSettled}
 use Rattle.ymx_law_session.proofs.limits.EmissionsKeep.{some_if, begin-keeps}
 use Rattle.ymx_law_session.proofs.given_up.SettledFrames.{begin-settled}
-use Rattle.ymx_law_world.proofs.Emitted.{empty-bytes}
-use Rattle.ymx_law_world.proofs.Frames.{short-frame}
+use Rattle.ymx_headline.proofs.world.Emitted.{empty-bytes}
+use Rattle.ymx_headline.proofs.world.Frames.{short-frame}
 use Rattle.ymx_headline.specs.Agrees.{AgreesAs, Sender, Receiver, Text, AwayUnderWay, PingsUnderWay, PongsUnderWay, sending, hearing, IsPlainFrame, parts_in, all_parts, parts_left, count_in, is_go_away, asks, replies}
 use Rattle.ymx_headline.proofs.relation.Sides.{beside-streams}
 use Rattle.ymx_headline.proofs.relation.Texts.{text-changes}

@@ -16,9 +16,9 @@ use Rattle.ymx_model.specs.session.Sessions.{is_own}
 use Rattle.ymx_model.specs.session.Calls.{is_unacknowledged}
 use Rattle.ymx_model.specs.world.Worlds.{World}
 use Rattle.ymx_machine.specs.machine.Machines.{Machine, recorded, unacknowledged}
-use Rattle.ymx_law_stream.specs.Worlds.{StreamWorld as Streams, AreOne, parts_of_stream}
-use Rattle.ymx_law_stream.proofs.OneStream.{one-shows}
-use Rattle.ymx_law_machine.specs.Numbers.{NumbersOnce, HasNumber, HasNumberAt}
+use Rattle.ymx_headline.specs.stream.Worlds.{StreamWorld as Streams, AreOne, parts_of_stream}
+use Rattle.ymx_headline.proofs.stream.OneStream.{one-shows}
+use Rattle.ymx_headline.specs.machine.Numbers.{NumbersOnce, HasNumber, HasNumberAt}
 use Rattle.ymx_machine.proofs.Lists.{look-without_other, look-without_same, distinct-without}
 use Rattle.ymx_machine.proofs.Tests.{same_or_not, agrees, when}
 use Rattle.ymx_headline.specs.Agrees.{AgreesAs, Keeps, is_absent}

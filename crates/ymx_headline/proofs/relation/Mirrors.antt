@@ -15,16 +15,16 @@ use Rattle.ymx_machine.specs.machine.Machines.{Machine, SideState, mirror_machin
 use Rattle.ymx_machine.specs.machine.CallRules.{Rule}
 use Rattle.ymx_machine.specs.machine.FreeMoves.{FreeMove, MayMove, moved_by, FreeMoves, Releases, is_reset_arriving, machine_refuses}
 use Rattle.ymx_machine.specs.machine.FreeMoves.FreeMove.{OfStream, SynArrives, AwayArrives, PingThere, PingBack}
-use Rattle.ymx_law_stream.specs.Worlds.{StreamWorld as Streams, Streams as Found, stream_mirror as streams_mirror, mirrored, flip_some, AreOne, Refines, Same}
-use Rattle.ymx_law_stream.proofs.Worlds.{mirrors}
-use Rattle.ymx_law_machine.specs.Numbers.{NumbersOnce, HasNumberAt, IsOfferedList, offered_here, offered_there}
+use Rattle.ymx_headline.specs.stream.Worlds.{StreamWorld as Streams, Streams as Found, stream_mirror as streams_mirror, mirrored, flip_some, AreOne, Refines, Same}
+use Rattle.ymx_headline.proofs.stream.Worlds.{mirrors}
+use Rattle.ymx_headline.specs.machine.Numbers.{NumbersOnce, HasNumberAt, IsOfferedList, offered_here, offered_there}
 use Rattle.ymx_machine.proofs.Tests.{same_or_not, split}
-use Rattle.ymx_law_machine.proofs.order.Maps.{look-add_other, look-mirror, flipped}
-use Rattle.ymx_law_machine.proofs.faces.Effects.{Effect, effect}
-use Rattle.ymx_law_machine.proofs.faces.Effects.Effect.{Idles, OpensOne, AcceptsOne, TouchesOne}
+use Rattle.ymx_headline.proofs.machine.order.Maps.{look-add_other, look-mirror, flipped}
+use Rattle.ymx_headline.proofs.machine.faces.Effects.{Effect, effect}
+use Rattle.ymx_headline.proofs.machine.faces.Effects.Effect.{Idles, OpensOne, AcceptsOne, TouchesOne}
 use Rattle.ymx_machine.proofs.Lists.{look-change_same, look-change_other}
-use Rattle.ymx_law_machine.proofs.order.Cores.{Core, core, core-unmoved, kept-moves, kept-releases, Sound, sound-effect, sound-move, sound-mirror}
-use Rattle.ymx_law_machine.proofs.order.Openers.{Numbered, numbered-effect, numbered-move, numbered-mirror}
+use Rattle.ymx_headline.proofs.machine.order.Cores.{Core, core, core-unmoved, kept-moves, kept-releases, Sound, sound-effect, sound-move, sound-mirror}
+use Rattle.ymx_headline.proofs.machine.order.Openers.{Numbered, numbered-effect, numbered-move, numbered-mirror}
 use Rattle.ymx_headline.specs.Agrees.{AgreesAs, IsNumbered, found}
 
 -- ---- the machine's streams as a function

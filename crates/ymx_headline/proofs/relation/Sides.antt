@@ -8,7 +8,7 @@ use Rattle.ymx_model.specs.session.Tables.{Table}
 use Rattle.ymx_model.specs.session.Sessions.{Session, Outgoing}
 use Rattle.ymx_machine.specs.stream.Lanes.{Mark}
 use Rattle.ymx_machine.specs.machine.Machines.{SideState, PingPlace}
-use Rattle.ymx_law_stream.specs.Worlds.{StreamSide as Ends}
+use Rattle.ymx_headline.specs.stream.Worlds.{StreamSide as Ends}
 use Rattle.ymx_law_session.specs.Limits.{IsWithin}
 use Rattle.ymx_law_session.specs.Settled.{IsSettled}
 use Rattle.ymx_headline.specs.Agrees.{AgreesAt, SameEnds, SamePings, SameAway}

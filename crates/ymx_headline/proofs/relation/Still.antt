@@ -25,17 +25,17 @@ use Rattle.ymx_model.specs.world.UnderWay.{IsOneFrame, held_bytes, lacking}
 use Rattle.ymx_machine.specs.machine.Machines.{Machine, PingPlace, mirror_machine}
 use Rattle.ymx_machine.specs.machine.Machines.PingPlace.{Asked, There, Back}
 use Rattle.ymx_machine.specs.machine.Runs.{IsStillMachine, place_is_back}
-use Rattle.ymx_law_stream.specs.Worlds.{IsQuietWorld, StillIf}
-use Rattle.ymx_law_stream.specs.OneStream.{IsQuiet}
-use Rattle.ymx_law_stream.proofs.Worlds.{all-still}
-use Rattle.ymx_law_machine.specs.Numbers.{NumbersOnce}
+use Rattle.ymx_headline.specs.stream.Worlds.{IsQuietWorld, StillIf}
+use Rattle.ymx_headline.specs.stream.OneStream.{IsQuiet}
+use Rattle.ymx_headline.proofs.stream.Worlds.{all-still}
+use Rattle.ymx_headline.specs.machine.Numbers.{NumbersOnce}
 use Rattle.ymx_law_session.specs.Limits.{IsWithin}
 use Rattle.ymx_law_session.proofs.limits.FeedsKeep.{header_few, payload_some}
 use Rattle.ymx_law_session.proofs.limits.Pings.{asked-some}
 use Rattle.ymx_law_session.proofs.due.Ready.{any-of}
 use Rattle.ymx_law_session.proofs.given_up.SettledFrames.{none-linger}
 use Rattle.ymx_machine.proofs.Tests.{none_of, both_of, same_or_not}
-use Rattle.ymx_law_world.proofs.Emitted.{empty-bytes}
+use Rattle.ymx_headline.proofs.world.Emitted.{empty-bytes}
 use Rattle.ymx_headline.specs.Agrees.{AgreesAs, Keeps, OnlyRejects, Text, sending, hearing, found, is_absent, is_rejected, parts_left, count_in, is_go_away, asks, replies, is_asked_at, is_there_at}
 use Rattle.ymx_headline.proofs.emissions.Begun.{runs-open}
 use Rattle.ymx_headline.proofs.relation.Mirrors.{mirrors-agree}

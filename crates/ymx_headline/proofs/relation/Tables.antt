@@ -14,14 +14,14 @@ use Rattle.ymx_model.specs.session.Sessions.{is_running, is_lost, is_closed}
 use Rattle.ymx_model.specs.world.Worlds.{World}
 use Rattle.ymx_machine.specs.machine.Machines.{Machine}
 use Rattle.ymx_machine.specs.machine.CallRules.{OnStream}
-use Rattle.ymx_law_stream.specs.Answers.{EndRule}
-use Rattle.ymx_law_stream.specs.Worlds.{StreamWorld as Streams, Streams as Found, Changes, Adds, Same, Refines, acts, put}
-use Rattle.ymx_law_stream.specs.Worlds.Act.{Calls}
-use Rattle.ymx_law_stream.proofs.Worlds.{step, put-same, put-other}
+use Rattle.ymx_headline.specs.stream.Answers.{EndRule}
+use Rattle.ymx_headline.specs.stream.Worlds.{StreamWorld as Streams, Streams as Found, Changes, Adds, Same, Refines, acts, put}
+use Rattle.ymx_headline.specs.stream.Worlds.Act.{Calls}
+use Rattle.ymx_headline.proofs.stream.Worlds.{step, put-same, put-other}
 use Rattle.ymx_law_session.specs.Limits.{IsWithin}
 use Rattle.ymx_law_session.specs.Settled.{IsSettled}
 use Rattle.ymx_machine.proofs.Tests.{same_or_not}
-use Rattle.ymx_law_machine.proofs.order.Maps.{look-change, look-change_other, look-add, look-add_other}
+use Rattle.ymx_headline.proofs.machine.order.Maps.{look-change, look-change_other, look-add, look-add_other}
 use Rattle.ymx_headline.specs.Agrees.{AgreesAs, IsNumbered, Keeps, found}
 use Rattle.ymx_headline.proofs.relation.Mirrors.{refines-same}
 use Rattle.ymx_headline.proofs.relation.Sides.{in-streams}

@@ -6,7 +6,7 @@ use Rattle.ymx_model.specs.session.Sessions.{Session}
 use Rattle.ymx_model.specs.session.Emissions.{Choice}
 use Rattle.ymx_model.specs.world.Worlds.{World, Runs}
 use Rattle.ymx_machine.specs.machine.Machines.{Machine}
-use Rattle.ymx_law_machine.specs.Runs.{StillRun}
+use Rattle.ymx_headline.specs.machine.Runs.{StillRun}
 use Rattle.ymx_headline.specs.Agrees.{Agrees}
 use Rattle.ymx_headline.specs.QuietRuns.{QuietRuns}
 use Rattle.ymx_headline.proofs.runs.Runs.{follows}

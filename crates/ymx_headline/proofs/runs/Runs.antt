@@ -32,14 +32,14 @@ use Rattle.ymx_model.specs.world.Worlds.{World, Steps, Runs, StepOfA, new_world,
 use Rattle.ymx_machine.specs.shared.Steps.{answer_of, is_of_a}
 use Rattle.ymx_machine.specs.machine.Machines.{Machine, mirror_machine, new_machine}
 use Rattle.ymx_machine.specs.machine.Runs.{MachineStep, MachineStepOfA}
-use Rattle.ymx_law_stream.specs.Worlds.{StreamWorld as Streams}
-use Rattle.ymx_law_stream.proofs.OneStream.{one-shows}
-use Rattle.ymx_law_machine.specs.Runs.{ObeysAt}
-use Rattle.ymx_law_machine.specs.Faces.{IsFaceWithin, AreFaces, FitWindows}
-use Rattle.ymx_law_machine.proofs.order.Maps.{look-mirror, flipped}
-use Rattle.ymx_law_machine.proofs.lanes.MachineLaws.{law}
-use Rattle.ymx_law_machine.proofs.faces.RunFaces.{face, odd-even}
-use Rattle.ymx_law_machine.proofs.lanes.StreamFacts.{if-so_true, if-so_false}
+use Rattle.ymx_headline.specs.stream.Worlds.{StreamWorld as Streams}
+use Rattle.ymx_headline.proofs.stream.OneStream.{one-shows}
+use Rattle.ymx_headline.specs.machine.Runs.{ObeysAt}
+use Rattle.ymx_headline.specs.machine.Faces.{DeliversWithin, AllDeliverInOrder, FitWindows}
+use Rattle.ymx_headline.proofs.machine.order.Maps.{look-mirror, flipped}
+use Rattle.ymx_headline.proofs.machine.lanes.MachineLaws.{law}
+use Rattle.ymx_headline.proofs.machine.faces.RunFaces.{face, odd-even}
+use Rattle.ymx_headline.proofs.machine.lanes.StreamFacts.{if-so_true, if-so_false}
 use Rattle.ymx_headline.specs.Agrees.{RunsAlike, Agrees, Follows}
 use Rattle.ymx_headline.specs.Laws.{AreGood, HasRun, breaks_off}
 use Rattle.ymx_headline.proofs.relation.Begins.{begins}
@@ -173,7 +173,7 @@ run-alike may sts given wa fa wb fb w g r =
     runs-alike may sts given (new_world wa fa wb fb) w (new_machine wa fa wb fb) r (begins wa fa wb fb g.low_a g.high_a g.low_b g.high_b g.client g.server g.small_a g.some_b g.small_b)
 
 pub run-face : (may : Choice → Session → Bool) (sts : List Step) (given : List Answer) (wa fa wb fb : ℕ) (w : World) → AreGood wa fa wb fb → Runs may sts given (new_world wa fa wb fb) w → (id : ℕ) →
-    IsFaceWithin wb A B id sts given × IsFaceWithin wa B A id sts given
+    DeliversWithin wb A B id sts given × DeliversWithin wa B A id sts given
 run-face may sts given wa fa wb fb w g r id =
     let k = run-alike may sts given wa fa wb fb w g r in
     let both = both-runs may sts given (new_world wa fa wb fb) w (new_machine wa fa wb fb) k.0 k.1 in
@@ -189,12 +189,12 @@ first-run may (suc made) (st ∷ sts) [] w v r = absurd r
 
 -- at every moment of a run
 pub record FacesWithin (wa wb : ℕ) (sts : List Step) (given : List Answer) : Type 0 where
-  pub faces : AreFaces sts given
+  pub faces : AllDeliverInOrder sts given
   pub windows : FitWindows wa wb sts given
 
 pub run-faces : (may : Choice → Session → Bool) (sts : List Step) (given : List Answer) (wa fa wb fb : ℕ) (w : World) → AreGood wa fa wb fb → Runs may sts given (new_world wa fa wb fb) w → FacesWithin wa wb sts given
 run-faces may sts given wa fa wb fb w g r =
-    let at : (made id : ℕ) → IsFaceWithin wb A B id (take made sts) (take made given) × IsFaceWithin wa B A id (take made sts) (take made given) =
+    let at : (made id : ℕ) → DeliversWithin wb A B id (take made sts) (take made given) × DeliversWithin wa B A id (take made sts) (take made given) =
     λ made id. (let first = first-run may made sts given (new_world wa fa wb fb) w r in run-face may (take made sts) (take made given) wa fa wb fb first.0 g first.1 id) in
     record {
       faces = λ made id. ((at made id).0.face, (at made id).1.face);

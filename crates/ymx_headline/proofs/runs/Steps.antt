@@ -22,7 +22,7 @@ use Rattle.ymx_machine.specs.shared.Steps.{is_of_a}
 use Rattle.ymx_machine.specs.machine.Machines.{Machine, mirror_machine, flip_entry}
 use Rattle.ymx_machine.specs.machine.Runs.{MachineStepOfA, MachineRun}
 use Rattle.ymx_machine.proofs.Tests.{when}
-use Rattle.ymx_law_machine.proofs.lanes.StreamFacts.{if-so_true, if-so_false}
+use Rattle.ymx_headline.proofs.machine.lanes.StreamFacts.{if-so_true, if-so_false}
 use Rattle.ymx_headline.specs.Agrees.{RunsAlike, Agrees, AgreesAs, Follows}
 use Rattle.ymx_headline.proofs.relation.Mirrors.{mirrors-agree}
 use Rattle.ymx_headline.proofs.relation.Still.{still}

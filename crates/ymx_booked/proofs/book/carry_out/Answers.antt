@@ -1,6 +1,6 @@
 use Rattle.std.proofs.Common.{Option, sym, subst}
 use Rattle.ymx_machine.specs.shared.Events.{Reply}
-use Rattle.ymx_journal.specs.Journals.{JournalView}
+use Rattle.ymx_seats.specs.Journals.{JournalView}
 use Rattle.ymx_seats.specs.Views.{whole_of, journal_after}
 use Rattle.ymx_booked.specs.Shown.{IsHistoryOf}
 use Rattle.ymx_booked.proofs.Shown.{history_more, witnessed_of}

@@ -11,8 +11,8 @@ returns-then-write-clause-moved g c =
 pub returns-else-write-clause-moved : goal.returns-else-write-clause-moved
 returns-else-write-clause-moved g c =
     let h = c.write.ensures.refused c.if-write.false in
-    let k = c.give_up.ensures.reset in
-    loses _ _ _ _ _ _ (bytes_lost _ _ h.0 k.0 _ _ _ _ _ _ _ _ c.in-Gave.ensures h.1 h.2 h.3 (grind (arith, common_steps)) k.1 c.give_up.ensures.shut)
+    let k = c.reset_and_shut.ensures.reset in
+    loses _ _ _ _ _ _ (bytes_lost _ _ h.0 k.0 _ _ _ _ _ _ _ _ c.in-Gave.ensures h.1 h.2 h.3 (grind (arith, common_steps)) k.1 c.reset_and_shut.ensures.shut)
 
 pub returns-in-NotNow-clause-moved : goal.returns-in-NotNow-clause-moved
 returns-in-NotNow-clause-moved g c = once _ _ _ _ _ _ (pulled_none _ _ _ _ _ _ c.in-NotNow.ensures refl refl refl)
@@ -24,5 +24,5 @@ returns-in-Ended-clause-moved g c =
 
 pub returns-in-Failed-clause-moved : goal.returns-in-Failed-clause-moved
 returns-in-Failed-clause-moved g c =
-    let h = c.give_up-in-Failed.ensures.reset in
-    once _ _ _ _ _ _ (pull_failed _ h.0 _ _ _ _ _ _ c.in-Failed.ensures h.1 c.give_up-in-Failed.ensures.shut)
+    let h = c.reset_and_shut-in-Failed.ensures.reset in
+    once _ _ _ _ _ _ (pull_failed _ h.0 _ _ _ _ _ _ c.in-Failed.ensures h.1 c.reset_and_shut-in-Failed.ensures.shut)

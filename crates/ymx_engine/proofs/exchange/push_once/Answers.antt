@@ -12,5 +12,5 @@ returns-in-NotNow-clause-moved g c = pushed_none _ _ _ _ _ _ c.in-NotNow.ensures
 
 pub returns-in-Failed-clause-moved : goal.returns-in-Failed-clause-moved
 returns-in-Failed-clause-moved g c =
-    let h = c.give_up.ensures.reset in
-    push_failed _ h.0 _ _ _ _ _ _ c.in-Failed.ensures h.1 c.give_up.ensures.shut
+    let h = c.reset_and_shut.ensures.reset in
+    push_failed _ h.0 _ _ _ _ _ _ c.in-Failed.ensures h.1 c.reset_and_shut.ensures.shut

@@ -1,7 +1,7 @@
 use Rattle.std.proofs.Common.{◌≡◌, All, subst, arith}
 use Rattle.std.proofs.lemmas.Grind.{common_steps}
 use Rattle.std.proofs.lemmas.List.{take_all}
-use Rattle.ymx_journal.specs.Journals.{part}
+use Rattle.ymx_seats.specs.Journals.{part}
 use Rattle.ymx_seats.specs.Tallies.{RisesFrom}
 use Rattle.ymx_seats.proofs.Parts.{parts_on, risings_on}
 use Rattle.ymx_seats.proofs.compare.are_parts.Goals as goal

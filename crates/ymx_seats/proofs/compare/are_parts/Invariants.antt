@@ -1,5 +1,5 @@
 use Rattle.std.proofs.Common.{◌≡◌, take, All}
-use Rattle.ymx_journal.specs.Journals.{part}
+use Rattle.ymx_seats.specs.Journals.{part}
 use Rattle.ymx_seats.specs.Tallies.{RisesFrom}
 use Rattle.ymx_seats.proofs.compare.are_parts.Given as goal
 

@@ -1,5 +1,5 @@
 use Rattle.std.proofs.Common.{◌≡◌, ◌≤◌, length, take}
-use Rattle.ymx_journal.specs.Journals.{part}
+use Rattle.ymx_seats.specs.Journals.{part}
 use Rattle.ymx_seats.proofs.compare.is_part.Given as goal
 
 abbrev pub invariant-loop-entry : goal.invariant-loop-entry

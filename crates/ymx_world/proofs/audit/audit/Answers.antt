@@ -1,6 +1,6 @@
 use Rattle.std.proofs.Common.{◌<◌, ◌+◌, length, drop, subst, length-drop, arith, rules}
 use Rattle.ymx_model.specs.world.Worlds.{Pipe}
-use Rattle.ymx_law_audit.specs.Joints.{IsStuck}
+use Rattle.ymx_headline.specs.audit.Joints.{IsStuck}
 use Rattle.ymx_world.proofs.Orders.{sound_start, whole_start, sound_on_a, sound_on_b, whole_on_a, whole_on_b, sound_same, whole_same, done_all, none_left}
 use Rattle.ymx_world.proofs.audit.audit.Goals.{then-i-a, else-i-a+then-j-b}
 use Rattle.ymx_world.proofs.audit.audit.Goals as goal

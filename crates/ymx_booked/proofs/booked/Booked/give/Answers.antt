@@ -2,7 +2,7 @@ use Rattle.std.proofs.Common.{rules, ◌∙◌, ℕ, ◌+◌, Option, Some, None
 use Rattle.ymx_session.specs.Applied.{in_buffer}
 use Rattle.ymx_booked.specs.Books.{GivesStream}
 use Rattle.ymx_machine.specs.declared.types.Reply.TheVariants as reply
-use Rattle.ymx_journal.specs.Journals.{JournalView}
+use Rattle.ymx_seats.specs.Journals.{JournalView}
 use Rattle.ymx_seats.specs.Views.{whole_of, with_caller}
 use Rattle.ymx_booked.specs.Booked.{Kept, IsJournaled}
 use Rattle.ymx_booked.proofs.History.{kept_after}

@@ -17,4 +17,4 @@ returns-then-is_offered c e there =
 
 pub returns : goal.returns
 returns c e there =
-    reset-rest c.args.header.now.id e _ _ _ _ _ _ c.self-2.view_is c.acknowledge.ensures c.receive_rst.ensures c.settle.ensures (sym (c.is_offered.ensures e there) ∙ c.if-is_offered.false)
+    reset-rest c.args.header.now.id e _ _ _ _ _ _ c.self-2.view_is c.acknowledge.ensures c.receive_rst.ensures c.drop_if_done.ensures (sym (c.is_offered.ensures e there) ∙ c.if-is_offered.false)

@@ -1,6 +1,6 @@
 use Rattle.ymx_model.specs.session.Emissions.{in_turn}
-use Rattle.ymx_law_audit.proofs.OneRun.{are-one-run}
-use Rattle.ymx_law_audit.proofs.Orders.{are-answered}
+use Rattle.ymx_headline.proofs.audit.OneRun.{are-one-run}
+use Rattle.ymx_headline.proofs.audit.Orders.{are-answered}
 use Rattle.ymx_world.proofs.Headlines.{ok-then, some-then}
 use Rattle.ymx_world.proofs.world.World.audit.Goals as goal
 

@@ -39,9 +39,9 @@ returns-clause-bounded_so_far c =
 
 pub returns-clause-no_fault : goal.returns-clause-no_fault
 returns-clause-no_fault c =
-    ok-then c.run.result _ _ (λ answers run. reached-sound c.args.steps.now answers.items c.self.inside.joined _ c.self.invariant run) c.run.ensures.runs
+    ok-then c.run.result _ _ (λ answers run. reached-sound c.args.steps.now answers.items c.self.inside.pipes _ c.self.invariant run) c.run.ensures.runs
 
 pub returns-clause-no_fault_so_far : goal.returns-clause-no_fault_so_far
 returns-clause-no_fault_so_far c =
-    err-then c.run.result _ _ (λ stopped run. reached-sound (take (length stopped.answers.items) c.args.steps.now) stopped.answers.items c.self.inside.joined _ c.self.invariant run)
+    err-then c.run.result _ _ (λ stopped run. reached-sound (take (length stopped.answers.items) c.args.steps.now) stopped.answers.items c.self.inside.pipes _ c.self.invariant run)
     c.run.ensures.stopped

@@ -14,13 +14,13 @@ invariant_of-self c = reached_if c.step.result c.args.step.now _ c.step.new.self
 
 pub returns-clause-machine : goal.returns-clause-machine
 returns-clause-machine c =
-    ok-then c.step.result _ _ (λ given s m h. follows in_turn _ given c.self.inside.joined _ m s (subst (λ (z : World). Agrees z m) (sym c.self.view_is) h))
+    ok-then c.step.result _ _ (λ given s m h. follows in_turn _ given c.self.inside.pipes _ m s (subst (λ (z : World). Agrees z m) (sym c.self.view_is) h))
     c.step.ensures.steps
 
 pub returns-clause-no_fault : goal.returns-clause-no_fault
-returns-clause-no_fault c = ok-then c.step.result _ _ (λ given s. step-sound _ given c.self.inside.joined _ c.self.invariant s) c.step.ensures.steps
+returns-clause-no_fault c = ok-then c.step.result _ _ (λ given s. step-sound _ given c.self.inside.pipes _ c.self.invariant s) c.step.ensures.steps
 
 pub returns-clause-forward : goal.returns-clause-forward
 returns-clause-forward c =
     ok-then c.step.result _ _ (λ given s. subst (λ (z : World). GoesForward c.args.step.now given z) c.self.view_is
-    (goes-forward _ given c.self.inside.joined _ s (step-sound _ given c.self.inside.joined _ c.self.invariant s))) c.step.ensures.steps
+    (goes-forward _ given c.self.inside.pipes _ s (step-sound _ given c.self.inside.pipes _ c.self.invariant s))) c.step.ensures.steps

@@ -1,0 +1,6 @@
+-- The queue machine by itself.
+pub mod faces
+pub mod lanes
+pub mod order
+pub mod RunStates
+pub mod WorkedRuns

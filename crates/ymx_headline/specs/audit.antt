@@ -1,0 +1,4 @@
+-- Two histories, as one run.
+pub mod Joints
+pub mod Told
+pub mod Example

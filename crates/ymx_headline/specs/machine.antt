@@ -1,0 +1,7 @@
+-- The queue machine by itself.
+pub mod LaneLaws
+pub mod Runs
+pub mod Faces
+pub mod Numbers
+pub mod Others
+pub mod Examples

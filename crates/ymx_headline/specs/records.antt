@@ -1,0 +1,2 @@
+-- What a session does to each of its streams.
+pub mod Sides

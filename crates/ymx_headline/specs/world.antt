@@ -1,0 +1,2 @@
+-- What is under way between two sessions.
+pub mod Texts

@@ -1,0 +1,13 @@
+pub mod Machines
+pub mod Moves
+pub mod Carriage
+pub mod CallSteps
+pub mod Worlds
+pub mod Told
+pub mod NewWorlds
+mod Certificates
+pub mod Histories
+pub mod Piping
+pub mod Calling
+pub mod Turns
+pub mod Driving

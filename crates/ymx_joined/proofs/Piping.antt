@@ -1,0 +1,341 @@
+-- Turns of two engines over two pipes, in a joint order.
+use Rattle.std.proofs.Common.{◌≡◌, ℕ, ◌+◌, ◌≤◌, ◌⊎◌, inl, inr, List, [], ◌∷◌, ◌++◌, length, take, drop, Bool, true, false, ◌&&◌, Option, Some, refl, sym, ap, subst, ◌∙◌, arith, append-nil, append_assoc, length-append, drop-drop}
+use Rattle.std.specs.Prelude.{MatchBool}
+use Rattle.std.specs.List.{list_all}
+use Rattle.std.specs.Io.KnownBytes.{Appends, Consumes}
+use Rattle.std.proofs.lemmas.List.{drop-append-le, length-take-le}
+use Rattle.ymx_machine.specs.declared.types.Side.{Side}
+use Rattle.ymx_machine.specs.declared.types.Side.TheVariants.{A, B}
+use Rattle.ymx_machine.specs.declared.types.Step.{Step}
+use Rattle.ymx_machine.specs.declared.types.Fed.{Fed}
+use Rattle.ymx_machine.specs.shared.Events.{Reply}
+use Rattle.ymx_machine.specs.declared.types.Reply.TheVariants as reply
+use Rattle.ymx_model.specs.session.Events.{Event}
+use Rattle.ymx_model.specs.declared.types.Event.TheVariants as event
+use Rattle.ymx_model.specs.declared.types.Entry.{Entry}
+use Rattle.ymx_model.specs.session.Sessions.{Session}
+use Rattle.ymx_model.specs.session.Emissions.{in_turn}
+use Rattle.ymx_model.specs.session.Feeds.{Feeds}
+use Rattle.ymx_model.specs.session.Histories.{Gives}
+use Rattle.ymx_model.specs.world.Worlds.{Pipe, new_pipe}
+use Rattle.ymx_headline.specs.audit.Joints.{ended_pipe, sent_into, TakesFront, Gets, world_steps, IsJoint}
+use Rattle.ymx_headline.proofs.audit.Events.{put-ended}
+use Rattle.ymx_headline.proofs.audit.OneRun.{are-one-run}
+use Rattle.ymx_engine.specs.Engines.{Engine}
+use Rattle.ymx_engine.specs.Events.{Happen}
+use Rattle.ymx_engine.specs.Wires.{emitted_at, emitted, fed_at, fed, is_of_read, is_of_flush, OffersFront, FeedsFront}
+use Rattle.ymx_engine.proofs.Exchanging.{happen_then}
+use Rattle.ymx_joined.specs.Tunnels.{entries_from, entries}
+use Rattle.ymx_joined.specs.Pairs.{Pair, is_call, IsCalls, IsRead, IsFlush, IsTurn, Turn, TakesTurn, TakeTurns, at_a, at_b, events_at_a, events_at_b, AreOnePipedRun}
+use Rattle.ymx_joined.proofs.Histories.{replays}
+
+-- ---- a pipe of the world beside the bytes under way
+
+abbrev open_pipe : List ℕ → Pipe
+open_pipe bytes = record { bytes = bytes; stopped = false; ended = false }
+
+-- its end was told, or it carries these bytes
+abbrev Holds : Pipe → List ℕ → Type 0
+Holds p bytes = (p.ended ≡ true) ⊎ (p ≡ open_pipe bytes)
+
+same_holds : (p : Pipe) (xs ys : List ℕ) → xs ≡ ys → Holds p xs → Holds p ys
+same_holds p xs ys e h = subst (λ (v : List ℕ). Holds p v) e h
+
+sent_open : (e : Event) (told : Reply) (s t : Session) (bytes : List ℕ) → Gives in_turn s e told t → sent_into e told (open_pipe bytes) ≡ open_pipe (bytes ++ emitted_at e told)
+sent_open (event.Call c) told s t bytes g = ap open_pipe (sym (append-nil bytes))
+sent_open (event.Feed bs) told s t bytes g = ap open_pipe (sym (append-nil bytes))
+sent_open event.FeedEnd told s t bytes g = ap open_pipe (sym (append-nil bytes))
+sent_open (event.Emit n) told s t bytes g = subst (λ (r : Reply). sent_into (event.Emit n) r (open_pipe bytes) ≡ open_pipe (bytes ++ emitted_at (event.Emit n) r)) (sym g.1) refl
+
+sends_one : (e : Event) (told : Reply) (s t : Session) (p : Pipe) (bytes : List ℕ) → Gives in_turn s e told t → Holds p bytes → Holds (sent_into e told p) (bytes ++ emitted_at e told)
+sends_one e told s t p bytes g (inl over) = inl (put-ended e told p ∙ over)
+sends_one e told s t p bytes g (inr same) = inr (ap (sent_into e told) same ∙ sent_open e told s t bytes g)
+
+abbrev sent_all : List (Event × Reply) → Pipe → Pipe
+sent_all [] p = p
+sent_all (e ∷ es) p = sent_all es (sent_into e.0 e.1 p)
+
+sends_all : (es : List (Event × Reply)) (s t : Session) (p : Pipe) (bytes : List ℕ) → Happen es s t → Holds p bytes → Holds (sent_all es p) (bytes ++ emitted es)
+sends_all [] s t p bytes h k = same_holds p bytes (bytes ++ []) (sym (append-nil bytes)) k
+sends_all (e ∷ es) s t p bytes h k =
+    same_holds _ _ _ (append_assoc bytes (emitted_at e.0 e.1) (emitted es))
+    (sends_all es h.0 t (sent_into e.0 e.1 p) (bytes ++ emitted_at e.0 e.1) h.2 (sends_one e.0 e.1 s h.0 p bytes h.1 k))
+
+front_is : (bytes r rest : List ℕ) → take (length bytes) ((bytes ++ r) ++ rest) ≡ bytes
+front_is [] r rest = refl
+front_is (b ∷ bytes) r rest = ap (λ (v : List ℕ). b ∷ v) (front_is bytes r rest)
+
+front_fits : (bytes r rest : List ℕ) → length bytes ≤ length ((bytes ++ r) ++ rest)
+front_fits bytes r rest =
+    let i = length-append (bytes ++ r) rest in
+    let j = length-append bytes r in omega arith
+
+front_within : (bytes r : List ℕ) → length bytes ≤ length (bytes ++ r)
+front_within bytes r = let j = length-append bytes r in omega arith
+
+length_front : (n : ℕ) (xs : List ℕ) → n ≤ length xs → length (take n xs) ≡ n
+length_front n xs h = length-take-le n xs h
+
+drop_twice : (xs ys zs : List ℕ) → drop (length ys) (drop (length xs) zs) ≡ drop (length (xs ++ ys)) zs
+drop_twice xs ys zs = drop-drop (length ys) (length xs) zs ∙ ap (λ (n : ℕ). drop n zs) (sym (length-append xs ys))
+
+drop_front : (xs ys : List ℕ) → drop (length xs) (xs ++ ys) ≡ ys
+drop_front [] ys = refl
+drop_front (x ∷ xs) ys = drop_front xs ys
+
+-- what a pipe is after an event of its receiver
+record Got (e : Event) (told : Reply) (p : Pipe) (bytes : List ℕ) : Type 0 where
+  pipe : Pipe
+  gets : Gets e told p pipe
+  holds : Holds pipe bytes
+
+ended_gets : (bytes : List ℕ) (told : Reply) (p : Pipe) → p.ended ≡ true → MatchBool p.ended (p ≡ p) (TakesFront bytes told p p)
+ended_gets bytes told p over = subst (λ (b : Bool). MatchBool b (p ≡ p) (TakesFront bytes told p p)) (sym over) refl
+
+gets_open : (bytes r rest : List ℕ) (f : Fed) (s t : Session) → Feeds s bytes f t → Got (event.Feed bytes) (reply.Fed f) (open_pipe ((bytes ++ r) ++ rest)) (drop (length (take f.taken bytes)) (bytes ++ r) ++ rest)
+gets_open bytes r rest f s t g =
+    let fits : f.taken ≤ length bytes = g.fits in
+    let more : length bytes ≤ length (bytes ++ r) = front_within bytes r in
+    let within : f.taken ≤ length (bytes ++ r) = omega arith in
+    record {
+      pipe = open_pipe (drop f.taken ((bytes ++ r) ++ rest));
+      gets = (f, refl, fits, front_fits bytes r rest, front_is bytes r rest, refl);
+      holds = inr (ap open_pipe (drop-append-le f.taken (bytes ++ r) rest within ∙ ap (λ (n : ℕ). drop n (bytes ++ r) ++ rest) (sym (length_front f.taken bytes fits))));
+    }
+
+gets_one : (e : Event) (told : Reply) (s t : Session) (p : Pipe) (waits rest : List ℕ) → Gives in_turn s e told t → OffersFront waits e → Holds p (waits ++ rest) →
+    Got e told p (drop (length (fed_at e told)) waits ++ rest)
+gets_one (event.Call c) told s t p waits rest g f h = record { pipe = p; gets = refl; holds = h }
+gets_one (event.Emit n) told s t p waits rest g f h = record { pipe = p; gets = (g.0, g.1, refl); holds = h }
+gets_one event.FeedEnd told s t p waits rest g f h = record { pipe = ended_pipe; gets = refl; holds = inl refl }
+gets_one (event.Feed bytes) told s t p waits rest g f (inl over) = record { pipe = p; gets = ended_gets bytes told p over; holds = inl over }
+gets_one (event.Feed bytes) told s t p waits rest g f (inr same) =
+    let all : open_pipe ((bytes ++ f.0) ++ rest) ≡ p = sym (same ∙ ap (λ (v : List ℕ). open_pipe (v ++ rest)) f.1) in
+    let one : Got (event.Feed bytes) (reply.Fed g.0) (open_pipe ((bytes ++ f.0) ++ rest)) (drop (length (take (g.0).taken bytes)) (bytes ++ f.0) ++ rest) = gets_open bytes f.0 rest g.0 s t g.2 in
+    let two : Got (event.Feed bytes) (reply.Fed g.0) p (drop (length (take (g.0).taken bytes)) waits ++ rest) =
+    subst (λ (v : List ℕ). Got (event.Feed bytes) (reply.Fed g.0) p (drop (length (take (g.0).taken bytes)) v ++ rest)) (sym f.1)
+    (subst (λ (z : Pipe). Got (event.Feed bytes) (reply.Fed g.0) z (drop (length (take (g.0).taken bytes)) (bytes ++ f.0) ++ rest)) all one) in
+    subst (λ (r : Reply). Got (event.Feed bytes) r p (drop (length (fed_at (event.Feed bytes) r)) waits ++ rest)) (sym g.1) two
+
+abbrev GetsAll : List (Event × Reply) → Pipe → Pipe → Type 0
+GetsAll [] p q = q ≡ p
+GetsAll (e ∷ es) p q = (m : Pipe) × Gets e.0 e.1 p m × GetsAll es m q
+
+record GotAll (es : List (Event × Reply)) (p : Pipe) (bytes : List ℕ) : Type 0 where
+  pipe : Pipe
+  gets : GetsAll es p pipe
+  holds : Holds pipe bytes
+
+gets_all : (es : List (Event × Reply)) (s t : Session) (p : Pipe) (waits rest : List ℕ) → Happen es s t → FeedsFront waits es → Holds p (waits ++ rest) →
+    GotAll es p (drop (length (fed es)) waits ++ rest)
+gets_all [] s t p waits rest h f k = record { pipe = p; gets = refl; holds = k }
+gets_all (e ∷ es) s t p waits rest h f k =
+    let one : Got e.0 e.1 p (drop (length (fed_at e.0 e.1)) waits ++ rest) = gets_one e.0 e.1 s h.0 p waits rest h.1 f.0 k in
+    let all = gets_all es h.0 t one.pipe (drop (length (fed_at e.0 e.1)) waits) rest h.2 f.1 one.holds in record {
+      pipe = all.pipe;
+      gets = (one.pipe, one.gets, all.gets);
+      holds = same_holds all.pipe _ _ (ap (λ (v : List ℕ). v ++ rest) (drop_twice (fed_at e.0 e.1) (fed es) waits)) all.holds;
+    }
+
+-- ---- what a turn moves
+
+pub both : (a b : Bool) → (a && b) ≡ true → (a ≡ true) × (b ≡ true)
+both true b h = (refl, h)
+both false b h = let no : ⊥ = cc in absurd no
+
+unfed_one : (k : Event → Bool) (none : (bytes : List ℕ) → k (event.Feed bytes) ≡ false) (e : Event) (told : Reply) (waits : List ℕ) → k e ≡ true → OffersFront waits e × (fed_at e told ≡ [])
+unfed_one k none (event.Call c) told waits h = (tt, refl)
+unfed_one k none (event.Emit n) told waits h = (tt, refl)
+unfed_one k none event.FeedEnd told waits h = (tt, refl)
+unfed_one k none (event.Feed bytes) told waits h = let e : k (event.Feed bytes) ≡ false = none bytes in let no : ⊥ = cc in absurd no
+
+-- where no event is a feed
+unfed : (k : Event → Bool) (none : (bytes : List ℕ) → k (event.Feed bytes) ≡ false) (es : List (Event × Reply)) (waits : List ℕ) → list_all (λ e. k e.0) es ≡ true → FeedsFront waits es × (fed es ≡ [])
+unfed k none [] waits h = (tt, refl)
+unfed k none (e ∷ es) waits h =
+    let two = both (k e.0) (list_all (λ e. k e.0) es) h in
+    let one = unfed_one k none e.0 e.1 waits two.0 in
+    let more = unfed k none es (drop (length (fed_at e.0 e.1)) waits) two.1 in
+    ((one.0, more.0), ap (λ (v : List ℕ). v ++ fed es) one.1 ∙ more.1)
+
+unsent_one : (k : Event → Bool) (none : (n : ℕ) → k (event.Emit n) ≡ false) (e : Event) (told : Reply) → k e ≡ true → emitted_at e told ≡ []
+unsent_one k none (event.Call c) told h = refl
+unsent_one k none (event.Feed bytes) told h = refl
+unsent_one k none event.FeedEnd told h = refl
+unsent_one k none (event.Emit n) told h = let e : k (event.Emit n) ≡ false = none n in let no : ⊥ = cc in absurd no
+
+-- where no event is an emission
+unsent : (k : Event → Bool) (none : (n : ℕ) → k (event.Emit n) ≡ false) (es : List (Event × Reply)) → list_all (λ e. k e.0) es ≡ true → emitted es ≡ []
+unsent k none [] h = refl
+unsent k none (e ∷ es) h =
+    let two = both (k e.0) (list_all (λ e. k e.0) es) h in
+    ap (λ (v : List ℕ). v ++ emitted es) (unsent_one k none e.0 e.1 two.0) ∙ unsent k none es two.1
+
+-- what came was the front of one pipe, and what went is behind the other
+record Moves (es : List (Event × Reply)) (old new : Engine) (to from to_new from_new : List ℕ) : Type 0 where
+  happen : Happen es old.session new.session
+  came : List ℕ
+  gave : from ≡ came ++ from_new
+  fronts : FeedsFront (old.incoming ++ came) es
+  inward : old.incoming ++ came ≡ fed es ++ new.incoming
+  sent : List ℕ
+  took : to_new ≡ to ++ sent
+  outward : old.outgoing ++ emitted es ≡ sent ++ new.outgoing
+
+calls_move : (es : List (Event × Reply)) (old new : Engine) (to from to_new from_new : List ℕ) → IsCalls es old new to from to_new from_new → Moves es old new to from to_new from_new
+calls_move es old new to from to_new from_new x =
+    let quiet = unfed is_call (λ bytes. refl) es (old.incoming ++ []) x.own in
+    let mute : emitted es ≡ [] = unsent is_call (λ n. refl) es x.own in
+    record {
+      happen = x.happen;
+      came = [];
+      gave = sym x.same_from;
+      fronts = quiet.0;
+      inward = append-nil old.incoming ∙ sym x.wire.incoming ∙ ap (λ (v : List ℕ). v ++ new.incoming) (sym quiet.1);
+      sent = [];
+      took = x.same_to ∙ sym (append-nil to);
+      outward = ap (λ (v : List ℕ). old.outgoing ++ v) mute ∙ append-nil old.outgoing ∙ sym x.wire.outgoing;
+    }
+
+consumed : (a b : Option (List ℕ)) (from from_new came : List ℕ) → a ≡ Some from → b ≡ Some from_new → Consumes a b came → from ≡ came ++ from_new
+consumed a b from from_new came e f h = subst (λ (o : Option (List ℕ)). Consumes (Some from) o came) f (subst (λ (o : Option (List ℕ)). Consumes o b came) e h)
+
+appended : (a b : Option (List ℕ)) (to to_new sent : List ℕ) → a ≡ Some to → b ≡ Some to_new → Appends a b sent → to_new ≡ to ++ sent
+appended a b to to_new sent e f h = subst (λ (o : Option (List ℕ)). Appends (Some to) o sent) f (subst (λ (o : Option (List ℕ)). Appends o b sent) e h)
+
+read_moves : (es : List (Event × Reply)) (old new : Engine) (to from to_new from_new : List ℕ) → IsRead es old new to from to_new from_new → Moves es old new to from to_new from_new
+read_moves es old new to from to_new from_new x =
+    let r = x.reads in
+    let mute : emitted r.events ≡ [] = unsent is_of_read (λ n. refl) r.events r.own in
+    let moves : Moves r.events old new to from to_new from_new = record {
+      happen = r.happen;
+      came = r.came;
+      gave = consumed x.before.left x.after.left from from_new r.came x.left x.left_new r.gave;
+      fronts = r.fronts;
+      inward = r.inward;
+      sent = [];
+      took = x.same_to ∙ sym (append-nil to);
+      outward = ap (λ (v : List ℕ). old.outgoing ++ v) mute ∙ append-nil old.outgoing ∙ sym r.outgoing;
+    } in subst (λ (v : List (Event × Reply)). Moves v old new to from to_new from_new) (sym x.events) moves
+
+flush_moves : (es : List (Event × Reply)) (old new : Engine) (to from to_new from_new : List ℕ) → IsFlush es old new to from to_new from_new → Moves es old new to from to_new from_new
+flush_moves es old new to from to_new from_new x =
+    let r = x.flushes in
+    let quiet = unfed is_of_flush (λ bytes. refl) r.events (old.incoming ++ []) r.own in
+    let moves : Moves r.events old new to from to_new from_new = record {
+      happen = r.happen;
+      came = [];
+      gave = sym x.same_from;
+      fronts = quiet.0;
+      inward = append-nil old.incoming ∙ sym r.incoming ∙ ap (λ (v : List ℕ). v ++ new.incoming) (sym quiet.1);
+      sent = r.sent;
+      took = appended x.before.had x.after.had to to_new r.sent x.had x.had_new r.took;
+      outward = r.outward;
+    } in subst (λ (v : List (Event × Reply)). Moves v old new to from to_new from_new) (sym x.events) moves
+
+turn_moves : (es : List (Event × Reply)) (old new : Engine) (to from to_new from_new : List ℕ) → IsTurn es old new to from to_new from_new → Moves es old new to from to_new from_new
+turn_moves es old new to from to_new from_new (inl x) = calls_move es old new to from to_new from_new x
+turn_moves es old new to from to_new from_new (inr (inl x)) = read_moves es old new to from to_new from_new x
+turn_moves es old new to from to_new from_new (inr (inr x)) = flush_moves es old new to from to_new from_new x
+
+-- the pipe that a turn's side writes to, and `far` is what waits at the other side
+to_holds : (es : List (Event × Reply)) (old new : Engine) (to from to_new from_new far : List ℕ) (p : Pipe) → Moves es old new to from to_new from_new →
+    Holds p (far ++ (to ++ old.outgoing)) → Holds (sent_all es p) (far ++ (to_new ++ new.outgoing))
+to_holds es old new to from to_new from_new far p m h =
+    let same : (far ++ (to ++ old.outgoing)) ++ emitted es ≡ far ++ (to_new ++ new.outgoing) =
+    append_assoc far (to ++ old.outgoing) (emitted es)
+    ∙ ap (λ (v : List ℕ). far ++ v) (append_assoc to old.outgoing (emitted es) ∙ ap (λ (v : List ℕ). to ++ v) m.outward ∙ sym (append_assoc to m.sent new.outgoing)
+    ∙ ap (λ (v : List ℕ). v ++ new.outgoing) (sym m.took)) in
+    same_holds (sent_all es p) _ _ same (sends_all es old.session new.session p _ m.happen h)
+
+-- the pipe that it reads, and `far` is what the other side has to send
+from_holds : (es : List (Event × Reply)) (old new : Engine) (to from to_new from_new far : List ℕ) (p : Pipe) → Moves es old new to from to_new from_new →
+    Holds p (old.incoming ++ (from ++ far)) → GotAll es p (new.incoming ++ (from_new ++ far))
+from_holds es old new to from to_new from_new far p m h =
+    let same : old.incoming ++ (from ++ far) ≡ (old.incoming ++ m.came) ++ (from_new ++ far) =
+    ap (λ (v : List ℕ). old.incoming ++ (v ++ far)) m.gave ∙ ap (λ (v : List ℕ). old.incoming ++ v) (append_assoc m.came from_new far) ∙ sym (append_assoc old.incoming m.came (from_new ++ far)) in
+    let got = gets_all es old.session new.session p (old.incoming ++ m.came) (from_new ++ far) m.happen m.fronts (same_holds p _ _ same h) in
+    let left : drop (length (fed es)) (old.incoming ++ m.came) ≡ new.incoming = ap (drop (length (fed es))) m.inward ∙ drop_front (fed es) new.incoming in
+    subst (λ (v : List ℕ). GotAll es p (v ++ (from_new ++ far))) left got
+
+-- ---- a joint order
+
+record Joint (ab ba : Pipe) (xs ys : List Entry) : Type 0 where
+  turns : List Bool
+  steps : List Step
+  joint : IsJoint turns ab ba xs ys steps
+
+joint_a : (es more : List (Event × Reply)) (i : ℕ) (ab ba q : Pipe) (ys : List Entry) → GetsAll es ba q → ((k : ℕ) → Joint (sent_all es ab) q (entries_from k more) ys) →
+    Joint ab ba (entries_from i (es ++ more)) ys
+joint_a [] more i ab ba q ys g rest = subst (λ (z : Pipe). Joint ab z (entries_from i more) ys) g (rest i)
+joint_a (e ∷ es) more i ab ba q ys g rest =
+    let r = joint_a es more (i + 1) (sent_into e.0 e.1 ab) g.0 q ys g.2 rest in record {
+      turns = true ∷ r.turns;
+      steps = world_steps A ba e.0 ++ r.steps;
+      joint = (record { position = i; seat = 0; event = e.0; reply = e.1 }, entries_from (i + 1) (es ++ more), g.0, r.steps, refl, g.1, refl, r.joint);
+    }
+
+joint_b : (es more : List (Event × Reply)) (i : ℕ) (ab ba q : Pipe) (xs : List Entry) → GetsAll es ab q → ((k : ℕ) → Joint q (sent_all es ba) xs (entries_from k more)) →
+    Joint ab ba xs (entries_from i (es ++ more))
+joint_b [] more i ab ba q xs g rest = subst (λ (z : Pipe). Joint z ba xs (entries_from i more)) g (rest i)
+joint_b (e ∷ es) more i ab ba q xs g rest =
+    let r = joint_b es more (i + 1) g.0 (sent_into e.0 e.1 ba) q xs g.2 rest in record {
+      turns = false ∷ r.turns;
+      steps = world_steps B ab e.0 ++ r.steps;
+      joint = (record { position = i; seat = 0; event = e.0; reply = e.1 }, entries_from (i + 1) (es ++ more), g.0, r.steps, refl, g.1, refl, r.joint);
+    }
+
+-- a pipe of the world carries what A has to send, what is in the pipe, and what waits to be fed to B
+abbrev HoldsAB : Pipe → Pair → Type 0
+HoldsAB pipe p = Holds pipe (p.b.incoming ++ (p.ab ++ p.a.outgoing))
+
+abbrev HoldsBA : Pipe → Pair → Type 0
+HoldsBA pipe p = Holds pipe (p.a.incoming ++ (p.ba ++ p.b.outgoing))
+
+joint_turn : (side : Side) (es more_a more_b : List (Event × Reply)) (p q : Pair) (ab ba : Pipe) (i j : ℕ) → TakesTurn side es p q → HoldsAB ab p → HoldsBA ba p →
+    ((ab2 ba2 : Pipe) (i2 j2 : ℕ) → HoldsAB ab2 q → HoldsBA ba2 q → Joint ab2 ba2 (entries_from i2 more_a) (entries_from j2 more_b)) →
+    Joint ab ba (entries_from i (at_a side es ++ more_a)) (entries_from j (at_b side es ++ more_b))
+joint_turn A es more_a more_b p q ab ba i j t h k rest =
+    let m = turn_moves es p.a q.a p.ab p.ba q.ab q.ba t.0 in
+    let got = from_holds es p.a q.a p.ab p.ba q.ab q.ba p.b.outgoing ba m k in
+    let to : HoldsAB (sent_all es ab) q = same_holds (sent_all es ab) _ _ (ap (λ (e : Engine). e.incoming ++ (q.ab ++ q.a.outgoing)) (sym t.1)) (to_holds es p.a q.a p.ab p.ba q.ab q.ba p.b.incoming ab m h) in
+    let from : HoldsBA got.pipe q = same_holds got.pipe _ _ (ap (λ (e : Engine). q.a.incoming ++ (q.ba ++ e.outgoing)) (sym t.1)) got.holds in
+    joint_a es more_a i ab ba got.pipe (entries_from j more_b) got.gets (λ n. rest (sent_all es ab) got.pipe n j to from)
+joint_turn B es more_a more_b p q ab ba i j t h k rest =
+    let m = turn_moves es p.b q.b p.ba p.ab q.ba q.ab t.0 in
+    let got = from_holds es p.b q.b p.ba p.ab q.ba q.ab p.a.outgoing ab m h in
+    let to : HoldsBA (sent_all es ba) q = same_holds (sent_all es ba) _ _ (ap (λ (e : Engine). e.incoming ++ (q.ba ++ q.b.outgoing)) (sym t.1)) (to_holds es p.b q.b p.ba p.ab q.ba q.ab p.a.incoming ba m k) in
+    let from : HoldsAB got.pipe q = same_holds got.pipe _ _ (ap (λ (e : Engine). q.b.incoming ++ (q.ab ++ e.outgoing)) (sym t.1)) got.holds in
+    joint_b es more_b j ab ba got.pipe (entries_from i more_a) got.gets (λ n. rest got.pipe (sent_all es ba) i n from to)
+
+joint_turns : (ts : List Turn) (p q : Pair) (ab ba : Pipe) (i j : ℕ) → TakeTurns ts p q → HoldsAB ab p → HoldsBA ba p →
+    Joint ab ba (entries_from i (events_at_a ts)) (entries_from j (events_at_b ts))
+joint_turns [] p q ab ba i j r h k = record { turns = []; steps = []; joint = (refl, refl, refl) }
+joint_turns (t ∷ ts) p q ab ba i j r h k =
+    joint_turn t.side t.events (events_at_a ts) (events_at_b ts) p r.0 ab ba i j r.1 h k (λ ab2 ba2 i2 j2 h2 k2. joint_turns ts r.0 q ab2 ba2 i2 j2 r.2 h2 k2)
+
+-- ---- what happened at each side
+
+turn_happens_a : (side : Side) (es more : List (Event × Reply)) (p q : Pair) (s : Session) → TakesTurn side es p q → Happen more q.a.session s → Happen (at_a side es ++ more) p.a.session s
+turn_happens_a A es more p q s t h = happen_then es more p.a.session q.a.session s (turn_moves es p.a q.a p.ab p.ba q.ab q.ba t.0).happen h
+turn_happens_a B es more p q s t h = subst (λ (e : Engine). Happen more e.session s) t.1 h
+
+turn_happens_b : (side : Side) (es more : List (Event × Reply)) (p q : Pair) (s : Session) → TakesTurn side es p q → Happen more q.b.session s → Happen (at_b side es ++ more) p.b.session s
+turn_happens_b A es more p q s t h = subst (λ (e : Engine). Happen more e.session s) t.1 h
+turn_happens_b B es more p q s t h = happen_then es more p.b.session q.b.session s (turn_moves es p.b q.b p.ba p.ab q.ba q.ab t.0).happen h
+
+happens_a : (ts : List Turn) (p q : Pair) → TakeTurns ts p q → Happen (events_at_a ts) p.a.session q.a.session
+happens_a [] p q r = ap (λ (z : Pair). z.a.session) r
+happens_a (t ∷ ts) p q r = turn_happens_a t.side t.events (events_at_a ts) p r.0 q.a.session r.1 (happens_a ts r.0 q r.2)
+
+happens_b : (ts : List Turn) (p q : Pair) → TakeTurns ts p q → Happen (events_at_b ts) p.b.session q.b.session
+happens_b [] p q r = ap (λ (z : Pair). z.b.session) r
+happens_b (t ∷ ts) p q r = turn_happens_b t.side t.events (events_at_b ts) p r.0 q.b.session r.1 (happens_b ts r.0 q r.2)
+
+pub are_one_piped_run : (ts : List Turn) → AreOnePipedRun ts
+are_one_piped_run ts = λ wa fa wb fb q good r.
+    let j = joint_turns ts _ q new_pipe new_pipe 0 0 r (inr refl) (inr refl) in (
+      j.steps,
+      are-one-run in_turn (entries (events_at_a ts)) (entries (events_at_b ts)) j.steps (j.turns, j.joint) wa fa wb fb q.a.session q.b.session good
+          (replays 0 (events_at_a ts) _ q.a.session (happens_a ts _ q r)) (replays 0 (events_at_b ts) _ q.b.session (happens_b ts _ q r)),
+    )

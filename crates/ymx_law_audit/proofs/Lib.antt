@@ -1,5 +1,0 @@
-pub mod Over
-pub mod Events
-pub mod Orders
-pub mod OneRun
-pub mod Worked

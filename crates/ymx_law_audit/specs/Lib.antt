@@ -1,3 +1,0 @@
-pub mod Joints
-pub mod Told
-pub mod Example

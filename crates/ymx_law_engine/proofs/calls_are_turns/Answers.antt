@@ -1,5 +1,0 @@
-use Rattle.ymx_law_engine.proofs.Calling.{served, called, given_up, opens_none, accepts_none, advanced, passed}
-use Rattle.ymx_law_engine.proofs.calls_are_turns.Goals as goal
-
-pub returns : goal.returns
-returns c = assumption (served, called, given_up, opens_none, accepts_none, advanced, passed)

@@ -1,3 +1,0 @@
-pub mod Tunnels
-pub mod Example
-pub mod Pairs

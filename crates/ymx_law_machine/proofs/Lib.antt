@@ -1,5 +1,0 @@
-pub mod faces
-pub mod lanes
-pub mod order
-pub mod RunStates
-pub mod WorkedRuns

@@ -1,5 +1,0 @@
-use Rattle.ymx_law_machine.proofs.order.Others.{one-answer}
-use Rattle.ymx_law_machine.proofs.one_answer.Goals as goal
-
-pub returns : goal.returns
-returns c = λ call m n k r other h h' d. one-answer call m r other n k h h' d

@@ -1,6 +1,0 @@
-pub mod LaneLaws
-pub mod Runs
-pub mod Faces
-pub mod Numbers
-pub mod Others
-pub mod Examples

@@ -1,4 +1,0 @@
-pub mod Calls
-pub mod Frames
-pub mod Starts
-pub mod Comes

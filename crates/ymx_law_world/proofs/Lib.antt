@@ -1,7 +1,0 @@
-pub mod Frames
-pub mod Emitted
-pub mod Fed
-pub mod Called
-pub mod OneText
-pub mod Worlds
-pub mod Quiet

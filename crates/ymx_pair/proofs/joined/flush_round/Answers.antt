@@ -1,6 +1,0 @@
-use Rattle.ymx_pair.specs.Reached.{IsFlushed}
-use Rattle.ymx_pair.proofs.Turns.{round}
-use Rattle.ymx_pair.proofs.joined.flush_round.Goals as goal
-
-pub returns : goal.returns
-returns c = round (IsFlushed _ _) _ _ _ _ _ _ _ _ c.turn_round.ensures c.turn_round-2.ensures c.flush.ensures
