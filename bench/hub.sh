@@ -10,16 +10,9 @@ runs=${1-5}
 work=$(mktemp -d)
 trap 'rm -rf "$work"' EXIT
 trap 'exit 130' INT TERM
-mkdir -p "$work/crates/hub_bench/src"
-for crate in ymx_memory ymx_header ymx_cutter ymx_credit ymx_ring ymx_machine ymx_model ymx_law_session ymx_control ymx_half ymx_table ymx_session \
-    ymx_journal ymx_seats ymx_booked ymx_hub ymx_pumps ymx_connect ymx_tunnel; do
-    cp -r "$top/crates/$crate" "$work/crates/$crate"
-    grep "^$crate[ :]" "$top/crates.txt" >> "$work/crates.txt"
-done
-below=$(sed -n 's/^ymx_tunnel [^:]*: //p' "$top/crates.txt")
-echo "hub_bench: ymx_tunnel ymx_ring $below anyhow" >> "$work/crates.txt"
+# shellcheck disable=SC2046
+"$top/tools/kit.py" copy "$work" hub_bench ymx_tunnel ymx_ring $("$top/tools/kit.py" uses ymx_tunnel) anyhow
 cp "$top/bench/hub_bench.rattle" "$work/crates/hub_bench/src/main.rt"
-cp "$top/HANDLES" "$work/HANDLES"
 echo "proving and building the bench (some minutes)" >&2
 cd "$work/crates/hub_bench"
 rt run > "$work/first" 2> "$work/log" || { tail -n 20 "$work/log" >&2; exit 1; }

@@ -4,11 +4,8 @@ set -eu
 top=$(cd "$(dirname "$0")/.." && pwd)
 work=$(mktemp -d)
 trap 'rm -rf "$work"' EXIT
-mkdir -p "$work/crates/ring_bench/src"
-cp -r "$top/crates/ymx_ring" "$work/crates/ymx_ring"
+"$top/tools/kit.py" copy "$work" ring_bench ymx_ring
 cp "$top/bench/ring_bench.rattle" "$work/crates/ring_bench/src/main.rt"
-cp "$top/HANDLES" "$work/HANDLES"
-printf 'ymx_ring: circular_buffer\nring_bench: ymx_ring\n' > "$work/crates.txt"
 echo "proving and building the bench (a few minutes)" >&2
 cd "$work/crates/ring_bench"
 for run in 1 2 3 4 5; do

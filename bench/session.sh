@@ -6,14 +6,8 @@ set -eu
 top=$(cd "$(dirname "$0")/.." && pwd)
 work=$(mktemp -d)
 trap 'rm -rf "$work"' EXIT
-mkdir -p "$work/crates/session_bench/src"
-for crate in ymx_memory ymx_header ymx_cutter ymx_credit ymx_ring ymx_machine ymx_model ymx_law_session ymx_control ymx_half ymx_table ymx_session; do
-  cp -r "$top/crates/$crate" "$work/crates/$crate"
-  grep "^$crate:" "$top/crates.txt" >> "$work/crates.txt"
-done
-echo 'session_bench: ymx_session ymx_model anyhow' >> "$work/crates.txt"
+"$top/tools/kit.py" copy "$work" session_bench ymx_session ymx_model anyhow
 cp "$top/bench/session_bench.rattle" "$work/crates/session_bench/src/main.rt"
-cp "$top/HANDLES" "$work/HANDLES"
 echo "proving and building the bench (some minutes)" >&2
 cd "$work/crates/session_bench"
 for run in 1 2 3 4 5; do

@@ -5,14 +5,8 @@ set -eu
 top=$(cd "$(dirname "$0")/.." && pwd)
 work=$(mktemp -d)
 trap 'rm -rf "$work"' EXIT
-mkdir -p "$work/crates/table_bench/src"
-for crate in ymx_memory ymx_header ymx_machine ymx_model ymx_credit ymx_ring ymx_half ymx_table; do
-  cp -r "$top/crates/$crate" "$work/crates/$crate"
-  grep "^$crate:" "$top/crates.txt" >> "$work/crates.txt"
-done
-echo 'table_bench: ymx_table ymx_half anyhow' >> "$work/crates.txt"
+"$top/tools/kit.py" copy "$work" table_bench ymx_table ymx_half anyhow
 cp "$top/bench/table_bench.rattle" "$work/crates/table_bench/src/main.rt"
-cp "$top/HANDLES" "$work/HANDLES"
 echo "proving and building the bench (some minutes)" >&2
 cd "$work/crates/table_bench"
 rt run 2> "$work/log" | grep records || { tail -n 20 "$work/log" >&2; exit 1; }

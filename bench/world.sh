@@ -42,16 +42,9 @@ middle = sorted(times)[2]
 print(f"1 GiB by fills, emissions and deliveries of 64 KiB: {ROUNDS * BLOCK / middle / 1e6:,.0f} MB a second ({middle:.3f} s)")
 PYTHON
 
-mkdir -p "$work/crates/audit_bench/src"
-below=$(sed -n 's/^ymx_world: //p' "$top/crates.txt")
-for crate in ymx_cutter ymx_credit ymx_ring ymx_control ymx_half ymx_table ymx_world $below; do
-    [ -d "$top/crates/$crate" ] || continue
-    cp -r "$top/crates/$crate" "$work/crates/$crate"
-    grep "^$crate[ :]" "$top/crates.txt" >> "$work/crates.txt"
-done
-echo "audit_bench: ymx_world $below anyhow" >> "$work/crates.txt"
+# shellcheck disable=SC2046
+"$top/tools/kit.py" copy "$work" audit_bench ymx_world $("$top/tools/kit.py" uses ymx_world) anyhow
 cp "$top/bench/audit_bench.rattle" "$work/crates/audit_bench/src/main.rt"
-cp "$top/HANDLES" "$work/HANDLES"
 echo "proving and building the bench (some minutes)" >&2
 cd "$work/crates/audit_bench"
 for run in 1 2 3 4 5; do

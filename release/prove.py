@@ -23,30 +23,14 @@ import threading
 import time
 
 TOP = os.path.dirname(os.path.dirname(os.path.realpath(__file__)))
+sys.dont_write_bytecode = True
+sys.path.insert(0, f"{TOP}/tools")
+import kit
+
 LAST = "ymx_cli"
 LIBRARY = "ymx_c"
 KNOWN_SECONDS = f"{TOP}/release/seconds"
 MEMORY_OF_A_CHECK = 3_000_000_000
-
-
-def listed():
-    """The crates of crates.txt, each with what it uses."""
-    crates = {}
-    with open(f"{TOP}/crates.txt", encoding="utf-8") as lines:
-        for line in lines:
-            head, colon, uses = line.partition("#")[0].partition(":")
-            if colon:
-                crates[head.split()[0]] = uses.split()
-    return crates
-
-
-def needed(crates, name):
-    """The repository's crates below this one, each behind those that it uses."""
-    found = []
-    for used in crates[name]:
-        if used in crates:
-            found += [it for it in [*needed(crates, used), used] if it not in found]
-    return found
 
 
 def sources(name):
@@ -60,12 +44,12 @@ def sources(name):
 class Crate:
     """One crate, and how it is proved."""
 
-    def __init__(self, kit, room, crates, name):
-        self.kit, self.room, self.name, self.uses = kit, room, name, crates[name]
+    def __init__(self, tools, room, crates, name):
+        self.tools, self.room, self.name, self.crates = tools, room, name, crates
+        self.uses = crates[name]
         self.own = [it for it in self.uses if it in crates]
-        self.below = needed(crates, name)
-        self.is_program = os.path.isfile(f"{TOP}/crates/{name}/src/main.rt")
-        self.is_static = name == LIBRARY
+        self.below = kit.below(crates, name)
+        self.is_program, self.is_static = kit.is_program(name), kit.is_static(name)
         self.ending = ".o" if self.is_program else ".a" if self.is_static else ".rlib"
         self.seconds = 60.0
         self.took = 0.0
@@ -75,19 +59,9 @@ class Crate:
 
     def words(self, jobs, is_kept):
         """The compiler's words."""
-        top = "src/main.rt" if self.is_program else "src/lib.rt"
-        words = [f"{self.kit}/bin/rattle", "build", "--crate-name", self.name, top]
-        for it in ["std", *(it for it in self.uses if it not in self.own)]:
-            words += ["--extern", f"{it}={self.kit}/rlibs/{it}.rlib"]
-        words += ["-L", f"dependency={self.kit}/rlibs"]
-        for it in self.own:
-            words += ["--extern", f"{it}={self.room}/{it}/{it}.rlib"]
-        for it in self.below:
-            words += ["-L", f"dependency={self.room}/{it}"]
-        words += ["--antt-project", f"{self.kit}/rattle/logic/antt-project.json"]
-        words += ["--logic-built", f"{self.kit}/logic_built", "--jobs", str(jobs), "--links", f"{self.name}="]
+        words = self.tools.proving("build", self.name, self.crates, lambda it: f"{self.room}/{it}", jobs)
         if self.is_program or self.is_static:
-            words += ["--toolchain", f"{self.kit}/toolchain"]
+            words += self.tools.compiling()
         if self.is_static:
             words += ["--crate-type", "staticlib", "--backend", "llvm"]
         if is_kept:
@@ -225,8 +199,7 @@ def take_over(crates):
 
 def link(crate, program):
     """Links the program, as `rt ci` does."""
-    words = [f"{crate.kit}/bin/rattle-link", "--target", "x86_64-unknown-linux-gnu", "--toolchain", f"{crate.kit}/toolchain"]
-    words += ["-o", crate.made(""), crate.made(".o"), f"{crate.kit}/c/libos_c.a", f"{crate.kit}/c/liblibc_c.a"]
+    words = crate.tools.linking(crate.made(".o"), crate.made(""))
     if subprocess.run(words, stdin=subprocess.DEVNULL).returncode:
         return False
     shutil.copyfile(crate.made(""), f"{program}.new")
@@ -238,7 +211,7 @@ def link(crate, program):
 def pack(crate, archive):
     """Packs the library's archive: the crate's object and the kit's malloc and free, with no time in it."""
     with tempfile.TemporaryDirectory() as folder:
-        for file, member in ((crate.made(".a"), f"{crate.name}.o"), (f"{crate.kit}/c/liblibc_c.a", "heap.pic.o")):
+        for file, member in ((crate.made(".a"), f"{crate.name}.o"), (f"{crate.tools.folder}/c/liblibc_c.a", "heap.pic.o")):
             with open(f"{folder}/{member}", "wb") as it:
                 subprocess.run(["ar", "p", file, member], stdout=it, check=True)
         subprocess.run(["ar", "rcsD", "new.a", f"{crate.name}.o", "heap.pic.o"], cwd=folder, check=True)
@@ -256,13 +229,13 @@ def main():
     if not asked.library and not asked.program:
         print(__doc__, end="", file=sys.stderr)
         return 2
-    kit = os.path.dirname(subprocess.run(["rt", "doc"], capture_output=True, text=True, check=True).stdout.strip())
-    Crate.kit_line = subprocess.run(["rt", "version"], capture_output=True, text=True, check=True).stdout.strip()
-    crates, seconds = listed(), known_seconds()
+    tools = kit.Kit()
+    Crate.kit_line = tools.version()
+    crates, seconds = kit.listed(), known_seconds()
     room = f"{TOP}/out/{'kept' if asked.kept else 'proved'}"
     wanted = [LAST] * bool(asked.program) + [LIBRARY] * bool(asked.library)
-    names = [it for last in wanted for it in [*needed(crates, last), last]]
-    own = [Crate(kit, room, crates, it) for it in dict.fromkeys(names)]
+    names = [it for last in wanted for it in [*kit.below(crates, last), last]]
+    own = [Crate(tools, room, crates, it) for it in dict.fromkeys(names)]
     for it in own:
         it.seconds = seconds.get(it.name, it.seconds)
     if not asked.kept:

@@ -1,6 +1,7 @@
 #!/bin/sh
 # Prints a hash of all sources that the program ymx is made of, or with ymx_c those of the library for C: the crates below
 # it, their lines of crates.txt, and HANDLES. Tests, documents and crates beside it don't count.
+# `./ymx` calls it at each start, also where there is no Python, so it reads crates.txt without tools/kit.py.
 set -eu
 last=${1:-ymx_cli}
 cd "$(dirname "$0")/.."

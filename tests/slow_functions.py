@@ -11,43 +11,16 @@ import re
 import subprocess
 import sys
 
-ROOT = os.path.dirname(os.path.dirname(os.path.abspath(__file__)))
+sys.dont_write_bytecode = True
+sys.path.insert(0, f"{os.path.dirname(os.path.dirname(os.path.realpath(__file__)))}/tools")
+import kit
+
 CLOCK = os.sysconf("SC_CLK_TCK")
 
 
-def dependencies():
-    """The crates of crates.txt, each with those that its line names."""
-    found = {}
-    with open(f"{ROOT}/crates.txt", encoding="utf-8") as file:
-        for line in file:
-            head, colon, rest = line.partition("#")[0].partition(":")
-            if colon:
-                found[head.split()[0]] = rest.split()
-    return found
-
-
-def below(name, uses):
-    """The crates of the repository that a crate stands on."""
-    found = []
-    for lower in uses[name]:
-        if lower in uses:
-            found += [it for it in [*below(lower, uses), lower] if it not in found]
-    return found
-
-
-def command(name, uses):
-    """The words that check a crate from nothing, as `rt` writes them."""
-    kit = os.path.dirname(subprocess.check_output(["rt", "doc"], text=True).strip())
-    root_file = "main" if os.path.exists(f"{ROOT}/crates/{name}/src/main.rt") else "lib"
-    words = [f"{kit}/bin/rattle", "check", "--crate-name", name, f"src/{root_file}.rt"]
-    words += ["--antt-project", f"{kit}/rattle/logic/antt-project.json", "--logic-built", f"{kit}/logic_built"]
-    words += ["--jobs", "1", "--progress", "--links", f"{name}=", "-L", f"dependency={kit}/rlibs"]
-    for lower in ["std", *uses[name]]:
-        place = f"{ROOT}/crates/{lower}/out/rlib" if lower in uses else f"{kit}/rlibs"
-        words += ["--extern", f"{lower}={place}/{lower}.rlib"]
-    for lower in below(name, uses):
-        words += ["-L", f"dependency={ROOT}/crates/{lower}/out/rlib"]
-    return words
+def command(name):
+    """The words that check a crate from nothing at one job, and tell of each function that is proved."""
+    return [*kit.Kit().proving("check", name, kit.listed(), lambda it: f"{kit.TOP}/crates/{it}/out/rlib", 1), "--progress"]
 
 
 def seconds(process):
@@ -59,7 +32,7 @@ def seconds(process):
 
 def main():
     name, count = sys.argv[1], int(sys.argv[2]) if len(sys.argv) > 2 else 15
-    run = subprocess.Popen(command(name, dependencies()), cwd=f"{ROOT}/crates/{name}", text=True,
+    run = subprocess.Popen(command(name), cwd=f"{kit.TOP}/crates/{name}", text=True,
                            stdin=subprocess.DEVNULL, stdout=subprocess.PIPE, stderr=subprocess.STDOUT)
     times, before, last = [], None, ""
     for last in run.stdout:

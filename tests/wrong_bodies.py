@@ -1,27 +1,16 @@
 """Tries wrong bodies over kept work: see wrong_bodies.sh."""
-import importlib.machinery
-import importlib.util
 import os
 import re
 import shutil
-import subprocess
 import sys
 import tempfile
 import threading
 from concurrent.futures import ThreadPoolExecutor
 
 TOP = os.path.dirname(os.path.dirname(os.path.realpath(__file__)))
-
-
-def load_rt():
-    """The toolchain's rt, whose own functions apply an edit and judge what the check says of it, as `rt ci` does."""
-    page = subprocess.run(["rt", "doc"], capture_output=True, text=True, check=True).stdout.strip()
-    file = f"{os.path.dirname(page)}/bin/rt"
-    loader = importlib.machinery.SourceFileLoader("rt", file)
-    made = importlib.util.module_from_spec(importlib.util.spec_from_loader("rt", loader))
-    sys.dont_write_bytecode = True
-    loader.exec_module(made)
-    return made
+sys.dont_write_bytecode = True
+sys.path.insert(0, f"{TOP}/tools")
+import kit
 
 
 def edits_of(folder):
@@ -213,7 +202,7 @@ def main(names):
 def start():
     """Loads rt, and goes to the top of the repository."""
     global rt
-    rt = load_rt()
+    rt = kit.Kit().rt()
     rt.rtlib.guarded()
     os.chdir(TOP)
 
