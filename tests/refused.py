@@ -1,9 +1,10 @@
-"""Tries the wrong statements of docs/refused: see refused.sh."""
+"""Tries the wrong statements of tests/refused: see refused.sh."""
 import os
 import re
 import shutil
 import sys
 
+sys.dont_write_bytecode = True
 import wrong_bodies
 
 TOP = wrong_bodies.TOP
@@ -21,7 +22,7 @@ def check(name, file):
     try:
         with open(f"{crate.folder}/proofs/Lib.antt", encoding="utf-8") as it:
             listed = it.read()
-        with open(f"{TOP}/docs/refused/{file}", encoding="utf-8") as it:
+        with open(f"{TOP}/tests/refused/{file}", encoding="utf-8") as it:
             wrong = it.read()
         texts = {"proofs/Wrong.antt": wrong, "proofs/Lib.antt": listed + "pub mod Wrong\n"}
         ran = wrong_bodies.rt.checked(crate, texts, ["--jobs", "1"], kept)
@@ -34,10 +35,10 @@ def main():
     wrong, said, status = check("ymx_headline", "headline.txt")
     untrue = len(re.findall(r"(?m)^(?:pub )?not-\S+ :", wrong))
     if status:
-        print(f"docs/refused/headline.txt isn't proved:\n{said[-2000:]}")
+        print(f"tests/refused/headline.txt isn't proved:\n{said[-2000:]}")
         return 1
     print(f"ok    headline.txt: {untrue} lemmas, each of which proves a wrong statement false")
-    wrong, said, status = check("ymx_law_stream", "stream_law.txt")
+    wrong, said, status = check("ymx_headline", "stream_law.txt")
     names = re.findall(r"(?m)^(wrong-\S+) :", wrong)
     passed = [it for it in names if not re.search(rf"Wrong\.antt:\d+:\d+: error: `{it}`|error.*\b{it}\b", said)]
     if not status or passed:

@@ -76,7 +76,7 @@ def main(words):
     if words == ["--same"]:
         wrong = list(strange_figures(page))
         if not PICTURE.exists() or PICTURE.read_text() != picture_of(page):
-            wrong.append("docs/speeds.svg is not what docs/speeds.py draws: run it again")
+            wrong.append("docs/speeds.svg is not what tools/speeds.py draws: run it again")
         print("\n".join(wrong) or f"{len(rows_of(page))} rows, as in bench/README.md")
         return 1 if wrong else 0
     if words:

@@ -10,7 +10,7 @@ What it compares, layout aside:
   it. It must stand in the specs of a crate.
 - in README.md and docs/GUIDE.md a block of Rust: its lines must stand so, one behind another, in a file of examples/.
 - everywhere in them and in docs/PROVED.md a formula between backticks: it must stand in a clause or a definition.
-- in docs/THEOREMS.md the table of the lines that a reader must believe: docs/lines_to_believe.py must count as
+- in docs/THEOREMS.md the table of the lines that a reader must believe: tools/lines_to_believe.py must count as
   many, and README.md must say the same.
 - in docs/ARCHITECTURE.md and docs/PROVED.md the rows of crates: each crate of crates.txt must have one.
 - in the documents of `OF_OURS` a name between backticks: it must stand in the repository.
@@ -23,6 +23,9 @@ import re
 import subprocess
 import sys
 from pathlib import Path
+
+sys.dont_write_bytecode = True
+import kit
 
 ROOT = Path(__file__).resolve().parent.parent
 WORD = re.compile(r"[(){}\[\],;]|[^\s(){}\[\],;]+")
@@ -288,7 +291,7 @@ def compare_promise():
 
 def compare_crates():
     """Each crate has a row in the tables of docs/ARCHITECTURE.md and docs/PROVED.md."""
-    crates = re.findall(r"^(\w+)(?: [^:#\n]*)?:", (ROOT / "crates.txt").read_text(), re.M)
+    crates = kit.listed(ROOT)
     for name in ("docs/ARCHITECTURE.md", "docs/PROVED.md"):
         rows = set(re.findall(r"^\| `(\w+)` \|", (ROOT / name).read_text(), re.M))
         yield from (f"{name}: there is no row of {crate}" for crate in crates if crate not in rows)
@@ -315,7 +318,7 @@ def counts_begun():
     for number, line in enumerate(Document("docs/THEOREMS.md").lines, 1):
         row = re.fullmatch(r"\|.*\| ([\d,]+) \| ([\d,]+) \| `(\w+\.specs\..*)` \|", line)
         if row:
-            command = [sys.executable, str(ROOT / "docs/lines_to_believe.py"), *row.group(3).split()]
+            command = [sys.executable, str(ROOT / "tools/lines_to_believe.py"), *row.group(3).split()]
             counting = subprocess.Popen(command, stdout=subprocess.PIPE, stderr=subprocess.STDOUT, text=True)
             yield number, f"{row.group(1)}  lines in {row.group(2)} files".replace(",", ""), counting
 
