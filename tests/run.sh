@@ -37,8 +37,9 @@ case ${1-} in
     exit 2
     ;;
 esac
-try 'what the documents quote' "$root/docs/quotes.py"
-try 'the picture of the speeds' "$root/docs/speeds.py" --same
+try 'what the documents quote' "$root/tools/quotes.py"
+try 'the links of the documents' "$root/tools/links.py"
+try 'the picture of the speeds' "$root/tools/speeds.py" --same
 try 'wrong bodies and the sources' "$root/tests/wrong_bodies.sh" --fit
 try 'the released program' "$root/tests/release/run.sh"
 try 'the program from outside' "$root/tests/program/run.sh"
