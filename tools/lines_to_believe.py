@@ -1,7 +1,7 @@
 #!/usr/bin/env python3
 """lines_to_believe.py MODULE NAME [MODULE NAME ..]: what a reader must believe of a statement.
 
-It takes the definitions named, as `ymx_law_machine.specs.Faces AllDeliverInOrder`, and all that these name in turn, in the
+It takes the definitions named, as `ymx_machine.specs.Promise AllDeliverInOrder`, and all that these name in turn, in the
 specs of this repository. It prints each file, how many lines of it are needed, and the names that stand there. Lines are
 counted without imports, blank lines and comments. The plain types of the sources (`declared`) and the library are not
 counted.
