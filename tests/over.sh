@@ -61,9 +61,9 @@ find_program() {
     fi
 }
 
-# below CRATE: the crates that it stands on, as crates.txt has them
+# below CRATE: what it uses, as crates.txt has it
 below() {
-    sed -n "s/^$1\( [^:]*\)\{0,1\}: //p" "$root/crates.txt"
+    "$root/tools/kit.py" uses "$1"
 }
 
 # copy_repository [NAME..]: the crates, and what else is named, to `scratch`; nothing that was built

@@ -19,20 +19,6 @@ if [ "$is_from_gate" = no ]; then
     done
 fi
 
-# compile LIBRARY..: proves and compiles this crate over these libraries and anyhow, as `rt ci` has left them
-compile() {
-    kit=$(dirname "$(rt doc)")
-    set -- $(for name in "$@"; do echo "--extern $name=$root/crates/$name/out/rlib/$name.rlib"; done) \
-        $(for made in "$root"/crates/*/out/rlib; do echo "-L dependency=$made"; done)
-    mkdir out
-    "$kit/bin/rattle" build --crate-name "$crate" src/main.rt --extern "std=$kit/rlibs/std.rlib" \
-        --extern "anyhow=$kit/rlibs/anyhow.rlib" -L "dependency=$kit/rlibs" "$@" --jobs 1 --links "$crate=" \
-        --antt-project "$kit/rattle/logic/antt-project.json" --logic-built "$kit/logic_built" \
-        --toolchain "$kit/toolchain" -o "out/$crate.o"
-    "$kit/bin/rattle-link" --target x86_64-unknown-linux-gnu --toolchain "$kit/toolchain" -o "out/$crate" \
-        "out/$crate.o" "$kit/c/libos_c.a" "$kit/c/liblibc_c.a"
-}
-
 # crate_of NAME: the name of the crate that examples/NAME.rattle is
 crate_of() {
     echo "example_$1" | tr / _
@@ -53,7 +39,7 @@ prove() {
     fi
     check=$scratch/check_of_$crate
     if [ "$is_from_gate" = yes ]; then
-        (cd "$scratch/crates/$crate" && compile "$@" > "$check" 2>&1) || fail "examples/$source.rattle isn't proved" "$check"
+        "$root/tools/kit.py" program "$scratch/crates/$crate" "$crate" "$@" anyhow > "$check" 2>&1 || fail "examples/$source.rattle isn't proved" "$check"
         return
     fi
     echo "$crate: $* anyhow" >> "$scratch/crates.txt"
