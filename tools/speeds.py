@@ -2,9 +2,9 @@
 """speeds.py [--same]: draws docs/speeds.svg from the table of bench/README.md.
 
 It takes the rows `hubs over TCP, .. : Off; Full; Go's yamux` and `tunnel, ..: ymx; Go's yamux; plain copying`, and the
-day and the machine that the page tells of them. Each row has a scale of its own: its longest bar is its highest figure.
-With --same it draws nothing: it fails where the picture is another one, or where a figure of README.md's table isn't
-that of bench/README.md.
+days and the machine that the page tells of them. Each row has a scale of its own: its longest bar is its highest figure.
+With --same it draws nothing: it fails where the picture is another one, or where what README.md says of the tunnel's
+speed isn't what bench/README.md says.
 """
 import re
 import sys
@@ -13,7 +13,7 @@ from pathlib import Path
 ROOT = Path(__file__).resolve().parent.parent
 PICTURE = ROOT / "docs/speeds.svg"
 COLOURS = {"ymx": "#2b6cb0", "Go's yamux": "#d69e4a", "plain copying": "#a3aebb"}
-LEFT, LONGEST, BAR, WIDTH = 110, 430, 13, 760
+LEFT, LONGEST, BAR, WIDTH = 110, 430, 13, 640
 
 
 def rows_of(page):
@@ -32,43 +32,72 @@ def rows_of(page):
 
 
 def taken_at(page):
-    """When and on what the figures of the tunnel were taken."""
-    told = re.search(r"The tunnel's figures are medians of \w+ runs on ([^,]*), on (a virtual machine with [^,]*? GHz)", page)
-    if told is None:
-        sys.exit("bench/README.md doesn't say any more when and where the tunnel's figures were taken, in words that this script knows")
-    return f"Medians, taken on {told.group(1)}", f"on {told.group(2)}."
+    """When the figures of each group of rows were taken, and on what."""
+    told = {
+        "tunnel": re.search(r"The tunnel's figures are medians of (\w+) runs on ([^,]*), on a virtual machine with ([^,]*? GHz)", page),
+        "hubs over TCP": re.search(r"The hubs' figures are medians of (\w+) runs on ([^,]*), on such a machine", page),
+    }
+    for group, found in told.items():
+        if found is None:
+            sys.exit(f"bench/README.md doesn't say any more when the figures of '{group}' were taken, in words that this script knows")
+    return {group: (found.group(1), found.group(2)) for group, found in told.items()}, told["tunnel"].group(3)
+
+
+def group_of(what):
+    return "tunnel" if what.startswith("tunnel") else "hubs over TCP"
+
+
+def bars(y, what, unit, pairs):
+    """The lines of one row, and where the next begins."""
+    most = max(int(figure.replace(",", "")) for _, figure in pairs)
+    lines = [f'  <text x="{LEFT}" y="{y}" font-weight="bold">{what} ({unit})</text>']
+    y += 6
+    for who, figure in pairs:
+        long = LONGEST * int(figure.replace(",", "")) // most
+        lines.append(f'  <rect x="{LEFT}" y="{y}" width="{long}" height="{BAR - 2}" fill="{COLOURS[who]}"/>')
+        lines.append(f'  <text x="{LEFT - 6}" y="{y + BAR - 4}" text-anchor="end">{who}</text>')
+        lines.append(f'  <text x="{LEFT + long + 5}" y="{y + BAR - 4}">{figure}</text>')
+        y += BAR
+    return lines, y + 18
 
 
 def picture_of(page):
-    lines, y = [], 62
-    for what, unit, pairs in sorted(rows_of(page), key=lambda row: not row[0].startswith("tunnel")):
-        most = max(int(figure.replace(",", "")) for _, figure in pairs)
-        lines.append(f'  <text x="{LEFT}" y="{y}" font-weight="bold">{what} ({unit})</text>')
-        y += 6
-        for who, figure in pairs:
-            long = LONGEST * int(figure.replace(",", "")) // most
-            lines.append(f'  <rect x="{LEFT}" y="{y}" width="{long}" height="{BAR - 2}" fill="{COLOURS[who]}"/>')
-            lines.append(f'  <text x="{LEFT - 6}" y="{y + BAR - 4}" text-anchor="end">{who}</text>')
-            lines.append(f'  <text x="{LEFT + long + 5}" y="{y + BAR - 4}">{figure}</text>')
-            y += BAR
-        y += 18
+    days, machine = taken_at(page)
+    lines, y, above = [], 62, None
+    for what, unit, pairs in sorted(rows_of(page), key=lambda row: group_of(row[0]) != "tunnel"):
+        group = group_of(what)
+        if group != above:
+            y += 10 if above else 0
+            runs, day = days[group]
+            lines.append(f'  <text x="{LEFT}" y="{y}" font-style="italic">{group}: medians of {runs} runs on {day}</text>')
+            above, y = group, y + 20
+        more, y = bars(y, what.removeprefix(f"{group}, "), unit, pairs)
+        lines += more
     head = [
         f'<svg xmlns="http://www.w3.org/2000/svg" viewBox="0 0 {WIDTH} {y}" font-family="sans-serif" font-size="11" fill="#1f2d3a" role="img" '
         'aria-label="Speeds of ymx, of Go\'s yamux and of plain copying, as bars; bench/README.md has the figures">',
-        f'  <rect width="{WIDTH}" height="{y}" fill="#ffffff"/>',
-        f'  <text x="{LEFT}" y="20">{" ".join(taken_at(page))}</text>',
-        f'  <text x="{LEFT}" y="36">A longer bar is faster. Each group has its own scale.</text>',
+        f'  <rect x="0.5" y="0.5" width="{WIDTH - 1}" height="{y - 1}" rx="8" fill="#ffffff" stroke="#c8d2dc"/>',
+        f'  <text x="{LEFT}" y="22">A longer bar is faster. Each group of bars has its own scale.</text>',
+        f'  <text x="{LEFT}" y="38">A virtual machine with {machine}.</text>',
     ]
     return "\n".join([*head, *lines, "</svg>", ""])
 
 
+TOLD = r"1 GiB goes through the tunnel at ([\d,]+) MB/s, through Go's yamux in its place at ([\d,]+), and by plain copying at ([\d,]+): medians of (\w+) runs on ([^,]*),"
+
+
 def strange_figures(page):
-    """The rows of README.md's table whose figures aren't those of the page."""
-    known = {what.removeprefix("tunnel, "): [figure for _, figure in pairs] for what, _, pairs in rows_of(page)}
-    for what, told in re.findall(r"^\| (\d[\d,]* (?:empty )?connections? .*?) \| (.*) \|$", (ROOT / "README.md").read_text(), re.M):
-        figures = re.findall(r"\d[\d,]*", told)
-        if known.get(what) != figures:
-            yield f"README.md says {figures} of '{what}', and bench/README.md {known.get(what)}"
+    """What README.md says of the tunnel's speed, where it isn't what the page says."""
+    known = {what: [figure for _, figure in pairs] for what, _, pairs in rows_of(page)}
+    told = re.search(TOLD, (ROOT / "README.md").read_text())
+    if told is None:
+        yield "README.md doesn't tell the tunnel's speed in words that this script knows"
+        return
+    *figures, runs, day = told.groups()
+    if figures != known.get("tunnel, 1 connection of 1 GiB"):
+        yield f"README.md says {figures} of 1 GiB, and bench/README.md {known.get('tunnel, 1 connection of 1 GiB')}"
+    if (runs, day) != taken_at(page)[0]["tunnel"]:
+        yield f"README.md says {runs} runs on {day}, and bench/README.md {taken_at(page)[0]['tunnel']}"
 
 
 def main(words):
