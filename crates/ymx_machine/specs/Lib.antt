@@ -1,4 +1,6 @@
 -- The definitions, in reading order.
+-- What callers are promised, and nothing else.
+pub mod Promise
 -- What machine and session share on purpose.
 pub mod shared
 -- One stream of the queue machine.

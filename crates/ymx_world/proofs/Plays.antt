@@ -10,7 +10,7 @@ use Rattle.ymx_model.specs.session.Emissions.{Choice, in_turn}
 use Rattle.ymx_model.specs.world.Worlds.{World, Steps, is_quiet}
 use Rattle.ymx_machine.specs.machine.Machines.{Machine}
 use Rattle.ymx_session.specs.NewSessions.{first_id, new_fault}
-use Rattle.ymx_headline.specs.machine.Faces.{AllDeliverInOrder, FitWindows}
+use Rattle.ymx_headline.specs.machine.Faces.{FitWindows}
 use Rattle.ymx_headline.specs.machine.Runs.{StillRun}
 use Rattle.ymx_headline.specs.QuietRuns.{QuietRuns}
 use Rattle.ymx_headline.proofs.relation.Begins.{begins}
@@ -19,6 +19,7 @@ use Rattle.ymx_headline.proofs.runs.QuietRuns.{still-run, told-run}
 use Rattle.ymx_world.specs.declared.played.Played.{Played}
 use Rattle.ymx_world.specs.Played.{machine_of, world_of, IsOneMore, IsSamePlay}
 use Rattle.ymx_world.proofs.NewWorlds.{good_world}
+use Rattle.ymx_machine.specs.Promise.{AllDeliverInOrder}
 
 -- a run that tells goes on by one more step
 quiet_more : (may : Choice → Session → Bool) (steps : List Step) (answers : List Answer) (told : List Bool) (st : Step) (given : Answer) (now : Bool) (w x v : World) →

@@ -18,9 +18,10 @@ ghost use Rattle.ymx_world.specs.Acts.{session_of, pipe_of};
 ghost use Rattle.ymx_world.specs.Progress.{GoesForward};
 ghost use Rattle.ymx_world.specs.Settled.{IsCarriedOn, IsDueCarriage};
 ghost use Rattle.ymx_world.specs.Played.{machine_of, world_of, WhereStopped, IsPlayFault};
-ghost use Rattle.ymx_headline.specs.machine.Faces.{AllDeliverInOrder, FitWindows};
+ghost use Rattle.ymx_headline.specs.machine.Faces.{FitWindows};
 ghost use Rattle.ymx_headline.specs.machine.Runs.{StillRun};
 ghost use Rattle.ymx_headline.specs.QuietRuns.{QuietRuns};
+ghost use Rattle.ymx_machine.specs.Promise.{AllDeliverInOrder};
 
 use crate::audit::audit;
 use crate::pipes::SessionPipes;

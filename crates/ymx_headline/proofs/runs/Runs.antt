@@ -35,7 +35,7 @@ use Rattle.ymx_machine.specs.machine.Runs.{MachineStep, MachineStepOfA}
 use Rattle.ymx_headline.specs.stream.Worlds.{StreamWorld as Streams}
 use Rattle.ymx_headline.proofs.stream.OneStream.{one-shows}
 use Rattle.ymx_headline.specs.machine.Runs.{ObeysAt}
-use Rattle.ymx_headline.specs.machine.Faces.{DeliversWithin, AllDeliverInOrder, FitWindows}
+use Rattle.ymx_headline.specs.machine.Faces.{DeliversWithin, FitWindows}
 use Rattle.ymx_headline.proofs.machine.order.Maps.{look-mirror, flipped}
 use Rattle.ymx_headline.proofs.machine.lanes.MachineLaws.{law}
 use Rattle.ymx_headline.proofs.machine.faces.RunFaces.{face, odd-even}
@@ -47,6 +47,7 @@ use Rattle.ymx_headline.proofs.relation.Counts.{Stands, stands, no-record}
 use Rattle.ymx_headline.proofs.relation.Mirrors.{mirrors-agree}
 use Rattle.ymx_headline.proofs.deliveries.DeliverStep.{delivers}
 use Rattle.ymx_headline.proofs.runs.Steps.{calls, emissions, stops, ends, both-runs}
+use Rattle.ymx_machine.specs.Promise.{AllDeliverInOrder}
 
 -- ---- every step
 

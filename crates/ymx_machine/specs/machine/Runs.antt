@@ -1,5 +1,5 @@
--- Runs of the queue machine beside the steps of a world, and what was written and got (this project's own).
-use Rattle.std.specs.Prelude.{ℕ, if◌then◌else◌, ◌≡◌, ◌∷◌, ◌==◌, ◌&&◌, ◌++◌, Bool, true, false, List, min, [], take, All, MatchBool}
+-- Runs of the queue machine beside the steps of a world (this project's own).
+use Rattle.std.specs.Prelude.{ℕ, if◌then◌else◌, ◌≡◌, ◌∷◌, Bool, true, false, List, min, [], All, MatchBool}
 use Rattle.ymx_machine.specs.shared.Limits.{greatest_number}
 use Rattle.ymx_machine.specs.declared.types.Why.{Why}
 use Rattle.ymx_machine.specs.machine.Machines.{SideState, Machine, mirror_machine, PingPlace}
@@ -7,18 +7,15 @@ use Rattle.ymx_machine.specs.declared.types.Fed.{Fed}
 use Rattle.ymx_machine.specs.declared.types.Step.{Step}
 use Rattle.ymx_machine.specs.declared.types.Answer.{Answer}
 use Rattle.ymx_machine.specs.shared.Events.{Reply}
-use Rattle.ymx_machine.specs.shared.Steps.{answer_of, is_of_a, is_same_side}
+use Rattle.ymx_machine.specs.shared.Steps.{answer_of, is_of_a}
 use Rattle.ymx_machine.specs.machine.CallRules.{Rule}
 use Rattle.ymx_machine.specs.machine.FreeMoves.{FreeMove, FreeMoves, Releases}
-use Rattle.ymx_machine.specs.declared.types.Side.{Side}
-use Rattle.ymx_machine.specs.declared.types.Wrote.TheVariants.{Took}
 use Rattle.ymx_machine.specs.machine.Machines.PingPlace.{Asked, There, Back}
 use Rattle.ymx_machine.specs.stream.Lanes.{is_said}
 use Rattle.ymx_machine.specs.stream.Streams.{IsStill}
 use Rattle.ymx_machine.specs.declared.types.Why.TheVariants as why
 use Rattle.ymx_machine.specs.declared.types.Step.TheVariants as step
 use Rattle.ymx_machine.specs.declared.types.Answer.TheVariants as answer
-use Rattle.ymx_machine.specs.declared.types.Call.TheVariants as call
 
 abbrev pub why_is_broken : Why → Bool
 why_is_broken why.All = false
@@ -54,30 +51,6 @@ MachineRun [] [] m n = n ≡ m
 MachineRun (st ∷ sts) (given ∷ more) m n = (mid : Machine) × MachineStep st given m mid × MachineRun sts more mid n
 MachineRun [] (given ∷ more) m n = ⊥
 MachineRun (st ∷ sts) [] m n = ⊥
-
--- the bytes that a step wrote to a stream at a side
-abbrev pub written_by : Side → ℕ → Step → Answer → List ℕ
-written_by side id (step.At at (call.Write to bytes)) (answer.Wrote (Took n)) =
-    if is_same_side side at && to == id then take n bytes else []
-written_by side id (step.At at (call.OpenWith bytes)) (answer.OpenedWith to n) =
-    if is_same_side side at && to == id then take n bytes else []
-written_by side id _ _ = []
-
--- the bytes that a step read from a stream at a side
-abbrev pub got_by : Side → ℕ → Step → Answer → List ℕ
-got_by side id (step.At at (call.Read from max)) (answer.Read bytes) = if is_same_side side at && from == id then bytes else []
-got_by side id _ _ = []
-
--- joined, over a run
-abbrev pub written : Side → ℕ → List Step → List Answer → List ℕ
-written side id [] given = []
-written side id (st ∷ sts) [] = []
-written side id (st ∷ sts) (given ∷ more) = written_by side id st given ++ written side id sts more
-
-abbrev pub got : Side → ℕ → List Step → List Answer → List ℕ
-got side id [] given = []
-got side id (st ∷ sts) [] = []
-got side id (st ∷ sts) (given ∷ more) = got_by side id st given ++ got side id sts more
 
 -- ---- still
 

@@ -5,7 +5,6 @@ use Rattle.ymx_machine.specs.shared.Events.{Reply}
 use Rattle.ymx_machine.specs.declared.types.Side.TheVariants.{A, B}
 use Rattle.ymx_machine.specs.declared.types.Direction.TheVariants.{AB, BA}
 use Rattle.ymx_machine.specs.declared.types.Step.{Step}
-use Rattle.ymx_machine.specs.declared.types.Side.{Side}
 use Rattle.ymx_machine.specs.declared.types.Answer.TheVariants as answer
 use Rattle.ymx_machine.specs.declared.types.Reply.TheVariants as reply
 use Rattle.ymx_machine.specs.declared.types.Step.TheVariants as step
@@ -37,9 +36,3 @@ is_of_a (step.Stop AB) = true
 is_of_a (step.Stop BA) = false
 is_of_a (step.End AB) = true
 is_of_a (step.End BA) = false
-
-abbrev pub is_same_side : Side → Side → Bool
-is_same_side A A = true
-is_same_side A B = false
-is_same_side B A = false
-is_same_side B B = true

@@ -15,17 +15,18 @@ use Rattle.ymx_machine.specs.shared.Limits.{first_credit}
 use Rattle.ymx_machine.specs.shared.Phases.{Phase, is_up}
 use Rattle.ymx_machine.specs.stream.Streams.{Stream}
 use Rattle.ymx_machine.specs.shared.Lists.{look}
-use Rattle.ymx_machine.specs.shared.Steps.{is_of_a, answer_of, is_same_side}
+use Rattle.ymx_machine.specs.shared.Steps.{is_of_a, answer_of}
 use Rattle.ymx_machine.specs.machine.Machines.{Machine, mirror_machine, new_machine}
-use Rattle.ymx_machine.specs.machine.Runs.{MachineStepOfA, MachineStep, MachineRun, written_by, got_by, written, got}
+use Rattle.ymx_machine.specs.machine.Runs.{MachineStepOfA, MachineStep, MachineRun}
 use Rattle.ymx_machine.proofs.Tests.{when, or_true}
 use Rattle.ymx_headline.proofs.machine.faces.Pasts.{Past, Faces, HasFace}
-use Rattle.ymx_headline.specs.machine.Faces.{finished_by, ended_by, finished, ended, DeliversWithin}
+use Rattle.ymx_headline.specs.machine.Faces.{DeliversWithin}
 use Rattle.ymx_headline.proofs.machine.faces.LaneFaces.{wrote, gave}
 use Rattle.ymx_headline.proofs.machine.lanes.StreamFacts.{if-so_true, if-so_false}
 use Rattle.ymx_headline.proofs.machine.faces.Effects.{tell_outbound, tell_inbound, effect}
 use Rattle.ymx_headline.proofs.machine.order.Cores.{core, core-ends, kept-moves, kept-releases, sound-new}
 use Rattle.ymx_headline.proofs.machine.faces.MachineFaces.{IsBlank, FaceAt, Faced, faced-is, faced-past, faced-effect, faced-move, faced-mirror, faced-unmirror}
+use Rattle.ymx_machine.specs.Promise.{is_same_side, written_by, got_by, written, got, finished_by, ended_by, finished, ended}
 
 -- a step adds to the past of the lane from one side to the other
 abbrev pub grown : Side → Side → ℕ → Step → Answer → Past → Past
