@@ -11,6 +11,7 @@ use Rattle.ymx_model.specs.session.Calls.{accept, accept_of, answers, refused}
 use Rattle.ymx_model.specs.session.Emissions.{in_turn}
 use Rattle.ymx_model.specs.session.Histories.{Gives}
 use Rattle.ymx_session.specs.Replies.{opened_or}
+use Rattle.ymx_session.proofs.Sounds.{called}
 use Rattle.ymx_engine.proofs.Carrying.{gives_from}
 use Rattle.ymx_engine.specs.Refusals.{OffersNone}
 
@@ -34,14 +35,14 @@ none_keeps true ids s r = refl
 none_keeps false [] s r = empty_keeps (is_lost s.status) s
 none_keeps false (id ∷ ids) s r = cc
 
-pub offers_none : (s t u : Session) → s ≡ u → Gives in_turn s (event.Call call.Accept) (reply.Accepted None) t → reply.Accepted None ≡ (accept s).reply → t ≡ (accept s).next → OffersNone u t
-offers_none s t u same g r n =
-    (n ∙ none_keeps (is_closed s.status) s.offered s r ∙ same, inl (gives_from (event.Call call.Accept) (reply.Accepted None) s t u same g))
+pub offers_none : (s t u : Session) → s ≡ u → Gives in_turn s (event.Call call.Accept) (reply.Accepted None) t → OffersNone u t
+offers_none s t u same g =
+    let k : (reply.Accepted None ≡ (accept s).reply) × (t ≡ (accept s).next) = called call.Accept s t (reply.Accepted None) refl g in
+    (k.1 ∙ none_keeps (is_closed s.status) s.offered s k.0 ∙ same, inl (gives_from (event.Call call.Accept) (reply.Accepted None) s t u same g))
 
-pub offer_is : (offered : Option ℕ) (s t u : Session) → s ≡ u → Gives in_turn s (event.Call call.Accept) (reply.Accepted offered) t → reply.Accepted offered ≡ (accept s).reply → t ≡ (accept s).next →
-    IfNone offered (OffersNone u t)
-offer_is None s t u same g r n = offers_none s t u same g r n
-offer_is (Some id) s t u same g r n = tt
+pub offer_is : (offered : Option ℕ) (s t u : Session) → s ≡ u → Gives in_turn s (event.Call call.Accept) (reply.Accepted offered) t → IfNone offered (OffersNone u t)
+offer_is None s t u same g = offers_none s t u same g
+offer_is (Some id) s t u same g = tt
 
 pub refuses_all : (fault : CallFault) (s t u : Session) → s ≡ u → Gives in_turn s (event.Call call.Accept) (reply.Refused fault) t → t ≡ s → OffersNone u t
 refuses_all fault s t u same g still = (still ∙ same, inr (fault, gives_from (event.Call call.Accept) (reply.Refused fault) s t u same g))

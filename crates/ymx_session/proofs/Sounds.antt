@@ -60,6 +60,15 @@ memory-gives {A} r c told s t found lack f = of (is_out_of_memory r) refl
     of true e = let k = lack e in NoMemory k.0 (wants_memory r e told f) k.1
     of false e = let k = found e in HasOutcome k.0 k.1
 
+-- a call that takes no memory has its outcome
+pub called : (c : Call) (s t : Session) (told : Reply) → takes_memory c s ≡ false → CallGives s c told t → (told ≡ (outcome c s).reply) × (t ≡ (outcome c s).next)
+called c s t told spares (HasOutcome answer state) = (answer, state)
+called c s t told spares (NoMemory needs answer state) = absurd (no_both (takes_memory c s) needs spares)
+  where
+    no_both : (b : Bool) → b ≡ true → b ≡ false → ⊥
+    no_both true e f = cc
+    no_both false e f = cc
+
 -- ---- a refusal
 
 refused-same : {A : Type 0} (r : Result A CallFault) (c : Call) (told : Reply) (s t : Session) → CallGives s c told t → ((fault : CallFault) → r ≡ Err fault → told ≡ Refused fault) → OnErr r (t ≡ s)

@@ -11,7 +11,7 @@ returns-clause-none c =
     let same = ap (λ (e : Engine). e.session) c.self.view_is in
     elim c.match-accept.branch [
       | in-Ok w ↦ subst (λ (o : Option ℕ). IfNone o (OffersNone c.args.self.now.session c.accept.new.self)) (sym w.result-is)
-          (offer_is w.in-Ok.offered _ _ _ same w.in-Ok.ensures.event w.in-Ok.ensures.reply w.in-Ok.ensures.state)
+          (offer_is w.in-Ok.offered _ _ _ same w.in-Ok.ensures.event)
       | in-Err w ↦ subst (λ (o : Option ℕ). IfNone o (OffersNone c.args.self.now.session c.accept.new.self)) (sym w.result-is)
           (refuses_all w.in-Err.field-0 _ _ _ same w.in-Err.ensures.event w.in-Err.ensures.refused)
     ]
