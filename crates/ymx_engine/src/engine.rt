@@ -10,6 +10,7 @@ ghost use Rattle.ymx_model.specs.session.Feeds.{is_stuck};
 ghost use Rattle.ymx_model.specs.session.Histories.{Gives};
 ghost use Rattle.ymx_session.specs.declared.passing.Passing.{Passing};
 ghost use Rattle.ymx_session.specs.Passing.{passing};
+ghost use Rattle.ymx_session.specs.Replies.{pinged_or, ponged_or};
 ghost use Rattle.ymx_engine.specs.Devices.{is_end, is_pull_failure, is_push_failure};
 ghost use Rattle.ymx_engine.specs.Engines.{KeepsWire, IsFedOrStuck};
 ghost use Rattle.ymx_engine.specs.Exchanges.{Exchanges};
@@ -18,11 +19,11 @@ ghost use Rattle.ymx_engine.specs.Refusals.{GivesUp, OpensNone, OffersNone, Acce
 ghost use Rattle.ymx_engine.specs.Wires.{ReadsWire, ReadsWireSo, FlushesWire, FlushesWireSo, HandlesIn, HandlesOut, TakesIn, GivesOut};
 
 use crate::block::Block;
+use crate::buffers::{BLOCK, Buffers};
 use crate::connection::Connection;
 use crate::connections::Connections;
 use crate::device::{Device, Pulled, Pushed};
 use crate::exchange::serve;
-use crate::buffers::{BLOCK, Buffers};
 use crate::passing::offer;
 use std::alloc::Global;
 use std::marker::Model;
@@ -115,8 +116,10 @@ impl Engine {
     /// `Session::open`, and change nothing; `OutOfMemory` comes also where there is no memory to keep the connection:
     /// then the stream is reset and forgotten.
     pub fn open(&mut self) -> Result<u32, CallFault>
+        // A stream was opened, or the session refused it and nothing is left of it.
         ensures opened { IfOk result (λ id. Gives in_turn self.old.session (event.Call call.Open) (reply.Opened id) self.new.session) }
         ensures refused { IfErr result (λ fault. OpensNone fault self.old.session self.new.session) }
+        // The bytes that wait on the wire's two sides stay.
         ensures wire { KeepsWire self.old self.new }
     {
         let id = self.open_stream()?;
@@ -140,8 +143,10 @@ impl Engine {
     /// `None` where none waits, where the session refuses, and where there is no memory to keep the connection: then the
     /// stream is reset and forgotten.
     pub fn accept(&mut self) -> Option<u32>
+        // The stream that was offered first, or none, and then nothing is left of it.
         ensures accepted { IfSome result (λ id. Gives in_turn self.old.session (event.Call call.Accept) (reply.Accepted (Some id)) self.new.session) }
         ensures none { IfNone result (AcceptsNone self.old.session self.new.session) }
+        // The bytes that wait on the wire's two sides stay.
         ensures wire { KeepsWire self.old self.new }
     {
         let id = self.accept_stream()?;
@@ -173,7 +178,8 @@ impl Engine {
         let _ = self.session.forget(id);
     }
 
-    /// Gives a connection up whose device can't be made: its stream is reset and forgotten.
+    /// Gives a connection up whose device can't be made, and which was never served: its stream is reset and forgotten, so
+    /// an RST is due to the peer (flags). Nothing happens to a stream that isn't there.
     pub fn refuse(&mut self, id: u32)
         ensures given_up { GivesUp id self.old.session self.new.session }
         ensures wire { KeepsWire self.old self.new }
@@ -189,6 +195,24 @@ impl Engine {
     {
         self.connections.remove(id);
         let _ = self.session.forget(id);
+    }
+
+    /// Asks the peer for a sign of life, and returns the ping's number (ping). The refusals are those of `Session::ping`,
+    /// and change nothing.
+    pub fn ping(&mut self) -> Result<u32, CallFault>
+        ensures event { Gives in_turn self.old.session (event.Call call.Ping) (pinged_or result) self.new.session }
+        ensures wire { KeepsWire self.old self.new }
+    {
+        self.session.ping()
+    }
+
+    /// Whether the answer to the pending ping of this number is back. If so it is collected (ping). The refusals are those
+    /// of `Session::ponged`, and change nothing.
+    pub fn ponged(&mut self, number: u32) -> Result<bool, CallFault>
+        ensures event { Gives in_turn self.old.session (event.Call (call.Ponged number)) (ponged_or result) self.new.session }
+        ensures wire { KeepsWire self.old self.new }
+    {
+        self.session.ponged(number)
     }
 
     /// What is known of a connection.
@@ -213,7 +237,9 @@ impl Engine {
     ///
     /// What the stream took is what the device gave, and what the device took is what the stream gave (clause `moved`).
     pub fn serve<D: Device>(&mut self, id: u32, device: &mut D)
+        // What the stream took is what the device gave, and what the device took is what the stream gave.
         ensures moved { Exchanges id self.old.session self.new.session (D.seen device.old) (D.seen device.new) }
+        // A turn is short, and is no turn of the wire.
         ensures calls { (D.seen device.new).calls ≤ (D.seen device.old).calls + 13 }
         ensures wire { KeepsWire self.old self.new }
     {
@@ -246,7 +272,9 @@ impl Engine {
     /// It is `pull_wire` and then a feed of all that waits, so that all payload goes into the rings of its streams. What
     /// waits still is bytes that the session takes only later, or never (clause `rest`).
     pub fn read_wire<D: Device>(&mut self, wire: &mut D)
+        // What the wire gave was fed in its order, or waits.
         ensures moved { ReadsWire self.old self.new (D.seen wire.old) (D.seen wire.new) 1 }
+        // Nothing waits that the session would take now.
         ensures rest { IsFedOrStuck self.new }
     {
         self.pull_wire(wire);
@@ -355,7 +383,9 @@ impl Engine {
     /// now goes into its stream's ring, and so does one of which fewer than `least` bytes wait: for so few a call of the
     /// device is not worth making, as they gather in the ring.
     pub fn advance(&mut self, least: usize) -> Option<u32>
+        // What was fed is the front of what waited.
         ensures fed { HandlesIn false self.old self.new }
+        // It stops where a payload may be passed on, or where the session takes no more now.
         ensures payload { IfSome result (λ id. IsPayload id 1 self.new) }
         ensures rest { IfNone result (IsFedOrStuck self.new) }
     {
@@ -432,7 +462,9 @@ impl Engine {
     /// What the device took is what the stream gave (record `PassesOn`). Where payload of this stream waits that may be
     /// passed on, a byte of it at least waits no more (clause `some`).
     pub fn pass<D: Device>(&mut self, id: u32, device: &mut D)
+        // What the device took came and was read on this stream, and the rest of what was fed is in its ring.
         ensures passed { PassesOn id self.old self.new (D.seen device.old) (D.seen device.new) 2 }
+        // Where such payload waits, less of it waits behind the call.
         ensures some { IsPayload id 1 self.old → length self.new.incoming < length self.old.incoming }
     {
         let count = self.payload_count(id);
@@ -579,7 +611,8 @@ impl Engine {
 
     // ---- how it stands
 
-    /// Whether a further round would move anything with no further event.
+    /// Whether a round may move something though no event comes: a connection is queued, the wire may have bytes or bytes
+    /// of it wait to be fed, or something is due that the wire may take. If not, the caller may wait for the next event.
     pub fn has_work(&self) -> bool {
         self.connections.queued_count() > 0
             || self.may_read_wire()
@@ -600,7 +633,7 @@ impl Engine {
         self.can_pull_wire && !self.is_wire_over
     }
 
-    /// Whether nothing is due, and the wire has taken all that was emitted.
+    /// Whether all has gone out: the session has nothing due, and the wire has taken each byte that was emitted.
     pub fn is_flushed(&self) -> bool {
         self.outgoing.waiting().is_empty() && !self.session.due()
     }
