@@ -19,36 +19,8 @@ use Rattle.ymx_pumps.specs.declared.pump_end.PumpWhy.{PumpWhy}
 use Rattle.ymx_pumps.specs.declared.pump_end.PumpWhy.TheVariants.{Device, Memory, Gate, NoThread}
 use Rattle.ymx_pumps.specs.declared.pump_end.Stop.{Stop}
 use Rattle.ymx_pumps.specs.Pumps.{byte_count, AreEmits, IsWritten, EndsWrite, WriteAdds, PumpWrote}
-use Rattle.ymx_pumps.specs.Turns.{Pushed, SaysEnd, TurnWrote}
+use Rattle.ymx_pumps.specs.Turns.{SaysEnd, TurnWrote}
 use Rattle.ymx_pumps.proofs.Counts.{fails_once, counted_on, counted_none}
-
--- ---- what a loop of pushes did
-
-pub record HasPushed (before after : Option (List ℕ)) (fails failed : ℕ) (bytes : List ℕ) (at : ℕ) : Type 0 where
-  pub within : at ≤ length bytes
-  pub took : Appends before after (take at bytes)
-  pub failures : failed ≡ fails
-
-pub pushed_none : (before : Option (List ℕ)) (fails : ℕ) (bytes : List ℕ) → HasPushed before before fails fails bytes 0
-pushed_none before fails bytes = record { within = omega arith; took = Appends-nil before; failures = refl }
-
-pub pushed_more : (before mid after : Option (List ℕ)) (fails failed failing : ℕ) (bytes rest : List ℕ) (at n : ℕ) → HasPushed before mid fails failed bytes at → rest ≡ drop at bytes → n ≤ length rest →
-    Appends mid after (take n rest) → failing ≡ failed → HasPushed before after fails failing bytes (at + n)
-pushed_more before mid after fails failed failing bytes rest at n h e l a f = record {
-  within = grind (arith, common_steps, h.within, l, e);
-  took = subst (λ (v : List ℕ). Appends before after v) (sym (take-add at n bytes))
-      (Appends-trans before mid after (take at bytes) (take n (drop at bytes)) h.took (subst (λ (v : List ℕ). Appends mid after (take n v)) e a));
-  failures = f ∙ h.failures;
-}
-
-pub pushed_all : (before after : Option (List ℕ)) (fails failed : ℕ) (bytes : List ℕ) (at : ℕ) (u : Unit {0}) → HasPushed before after fails failed bytes at → length bytes ≤ at → Pushed before after fails failed bytes (Ok u)
-pushed_all before after fails failed bytes at u h l =
-    (subst (λ (v : List ℕ). Appends before after v) (take_all at bytes l) h.took, h.failures)
-
-pub pushed_part : (before mid after : Option (List ℕ)) (fails failed failing : ℕ) (bytes : List ℕ) (at : ℕ) → HasPushed before mid fails failed bytes at → Keeps mid after → failing ≡ min (failed + 1) most_failures →
-    Pushed before after fails failing bytes (Err at)
-pushed_part before mid after fails failed failing bytes at h k f =
-    (h.within, Appends-kept before mid after (take at bytes) h.took k, subst (λ (x : ℕ). has_failed x failing ≡ true) h.failures (fails_once failed failing f))
 
 -- ---- emissions
 

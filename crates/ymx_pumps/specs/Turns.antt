@@ -29,11 +29,6 @@ SaysEnd seat why result added =
 
 -- ---- the write pump
 
--- the writer took all the bytes, or the first so many up to a failure
-abbrev pub Pushed : (before after : Option (List ℕ)) → (old new : ℕ) → List ℕ → Result (Unit {0}) ℕ → Type 0
-Pushed before after old new bytes (Ok u) = Appends before after bytes × (new ≡ old)
-Pushed before after old new bytes (Err n) = (n ≤ length bytes) × Appends before after (take n bytes) × (has_failed old new ≡ true)
-
 -- a turn that went well, or the last one
 abbrev pub TurnWrote : (keeps : Bool) → (size fails failed : ℕ) → (before after : Option (List ℕ)) → (old new : SeatView) → Result ℕ Stop → Type 0
 TurnWrote keeps size fails failed before after old new (Ok n) =

@@ -7,28 +7,15 @@ ghost use Rattle.ymx_booked.specs.Books.{Books};
 ghost use Rattle.ymx_machine.specs.shared.Evidence.{evidence};
 ghost use Rattle.ymx_pumps.specs.Ends.{WriteEnd};
 ghost use Rattle.ymx_pumps.specs.Pumps.{PumpWrote, EndsWrite};
-ghost use Rattle.ymx_pumps.specs.Turns.{Pushed, SaysEnd, TurnWrote};
+ghost use Rattle.ymx_pumps.specs.Turns.{SaysEnd, TurnWrote};
 
 use crate::gate::Gate;
 use crate::pump_end::{PumpEnd, PumpWhy, Stop};
 use std::sync::Wait;
+use ymx_devices::push_all;
 use ymx_hub::{Hub, Turn};
 use ymx_model::Outlet;
 use ymx_seats::{Recorder, Seat};
-
-/// Pushes all bytes. At a failure it gives how many were taken.
-fn push_all<O: Outlet>(writer: &mut O, bytes: &[u8]) -> Result<(), usize>
-    ensures pushed { Pushed (O.contents writer.old) (O.contents writer.new) (O.failures writer.old) (O.failures writer.new) bytes.now result }
-{
-    let mut at = 0;
-    while at < bytes.len() {
-        match writer.push(&bytes[at..]) {
-            Ok(count) => at += count,
-            Err(_) => return Err(at),
-        }
-    }
-    Ok(())
-}
 
 /// The writer failed: the session is lost, and nothing goes out any more.
 fn lose_writer<R: Recorder, W: Wait>(rt: &W, hub: &Hub<R>, seat: &mut Seat<R>) -> PumpWhy

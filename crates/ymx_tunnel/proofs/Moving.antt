@@ -9,7 +9,7 @@ use Rattle.std.proofs.Math.Seq.{take-append_seam, take-add}
 use Rattle.std.proofs.lemmas.Grind.{common_steps}
 use Rattle.ymx_model.specs.devices.Devices.{has_failed, most_failures}
 use Rattle.ymx_tunnel.specs.declared.copied.CopyWhy.{CopyWhy}
-use Rattle.ymx_tunnel.specs.declared.copied.CopyWhy.TheVariants.{End, Source, Sink, Reset, Lost, Memory, NoThread}
+use Rattle.ymx_tunnel.specs.declared.copied.CopyWhy.TheVariants.{End, Source, Sink, Reset, Lost, Memory}
 use Rattle.ymx_tunnel.specs.Copies.{CopiesIn, CopiesOut, StopsFor, copy_reason}
 use Rattle.ymx_machine.specs.declared.types.CallFault.TheVariants as refusal
 use Rattle.ymx_booked.specs.declared.faults.HubFault.{HubFault}
@@ -18,20 +18,6 @@ use Rattle.ymx_booked.specs.declared.faults.HubFault.TheVariants.{Call, Memory a
 -- a call that fails is counted
 pub counted : (first old new : ℕ) → new ≡ min (old + 1) most_failures → old ≡ first → IsTrue (has_failed first new)
 counted first old new e same = grind (arith, nat_tests)
-
--- all that is behind the first ones
-whole_end : (n : ℕ) (bytes : List ℕ) → take (length bytes - n) (drop n bytes) ≡ drop n bytes
-whole_end n bytes = take_all (length bytes - n) (drop n bytes) (omega (arith, length-drop n bytes))
-
--- of these bytes the first so many were pushed, and then some more
-pub pushed_more : (bytes : List ℕ) (taken count : ℕ) (before mid after : Option (List ℕ)) →
-    Appends before mid (take taken bytes) → Appends mid after (take count (take (length bytes - taken) (drop taken bytes))) → Appends before after (take (taken + count) bytes)
-pushed_more bytes taken count before mid after p q =
-    let q' : Appends mid after (take count (drop taken bytes)) = subst (λ (l : List ℕ). Appends mid after (take count l)) (whole_end taken bytes) q in
-    subst (Appends before after) (sym (take-add taken count bytes)) (Appends-trans before mid after _ _ p q')
-
-pub pushed_all : (bytes : List ℕ) (taken : ℕ) (before after : Option (List ℕ)) → Appends before after (take taken bytes) → length bytes ≤ taken → Appends before after bytes
-pushed_all bytes taken before after p e = subst (Appends before after) (take_all taken bytes e) p
 
 -- ---- counts
 
@@ -125,7 +111,6 @@ by_end Sink = Unit {0}
 by_end Reset = Unit {0}
 by_end Lost = Unit {0}
 by_end (Memory refused) = Unit {0}
-by_end (NoThread refused) = Unit {0}
 
 pub sink_is_no_end : Sink ≡ End → ⊥
 unfolding by_end

@@ -1,7 +1,6 @@
 //! Copies between a device and a half of a stream.
 
-ghost use Rattle.std.specs.Prelude.{Result, Ok, Err, ◌≡◌, ◌⊎◌, ◌<◌, ◌≤◌, length, take, IsTrue, OnOk, OnErr, IfErr};
-ghost use Rattle.std.specs.Io.KnownBytes.{Appends};
+ghost use Rattle.std.specs.Prelude.{Result, Ok, Err, ◌≡◌, ◌⊎◌, ◌<◌, length, IsTrue};
 ghost use Rattle.ymx_model.specs.devices.Devices.{has_failed};
 ghost use Rattle.ymx_booked.specs.declared.faults.HubFault.{HubFault as Fault};
 ghost use Rattle.ymx_tunnel.specs.Copies.{CopiesIn, CopiesOut, StopsFor, copy_reason};
@@ -9,6 +8,7 @@ ghost use Rattle.ymx_tunnel.specs.Copies.{CopiesIn, CopiesOut, StopsFor, copy_re
 use crate::copied::{Copied, CopyWhy, why_of_fault};
 use crate::ends::{Sink, Source};
 use std::sync::Wait;
+use ymx_devices::push_all;
 use ymx_model::{Inlet, Outlet};
 
 /// Copies what the reader gives into the sink, up to the reader's end; then it finishes the sink. At a fault it
@@ -143,21 +143,4 @@ fn empty<W: Wait, S: Source, O: Outlet>(
         }
     }
     unreachable!()
-}
-
-/// Pushes all of these bytes. At a failure it answers how many the writer had taken.
-fn push_all<O: Outlet>(writer: &mut O, bytes: &[u8]) -> Result<(), usize>
-    ensures ok { OnOk result (Appends (O.contents writer.old) (O.contents writer.new) bytes.now) }
-    ensures kept { OnOk result (O.failures writer.new ≡ O.failures writer.old) }
-    ensures err { IfErr result (λ taken. (taken ≤ length bytes.now) × Appends (O.contents writer.old) (O.contents writer.new) (take taken bytes.now)) }
-    ensures failed { OnErr result (IsTrue (has_failed (O.failures writer.old) (O.failures writer.new))) }
-{
-    let mut taken = 0;
-    'push: while taken < bytes.len() {
-        match writer.push(&bytes[taken..]) {
-            Ok(count) => taken += count,
-            Err(_) => return Err(taken),
-        }
-    }
-    Ok(())
 }

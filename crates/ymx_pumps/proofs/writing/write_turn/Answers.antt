@@ -4,9 +4,9 @@ use Rattle.ymx_pumps.proofs.writing.write_turn.Goals as goal
 
 pub returns-in-Err-push_all-clause-turned : goal.returns-in-Err-push_all-clause-turned
 returns-in-Err-push_all-clause-turned g c =
-    turn_failed g.R.Recorder.KEEPS (length c.args.buffer.now) c.in-Ok-Emitted.count c.in-Err-push_all.moved (g.O.Outlet.failures c.args.writer.now) (g.O.Outlet.failures c.push_all.new.writer) c.lose_writer-why.result c.emit_turn.new.buffer (g.O.Outlet.contents c.args.writer.now) (g.O.Outlet.contents c.push_all.new.writer)
+    turn_failed g.R.Recorder.KEEPS (length c.args.buffer.now) c.in-Ok-Emitted.count c.in-Err-push_all.moved (g.O.Outlet.failures c.args.writer.now) (g.O.Outlet.failures c.push_all.new.outlet) c.lose_writer-why.result c.emit_turn.new.buffer (g.O.Outlet.contents c.args.writer.now) (g.O.Outlet.contents c.push_all.new.outlet)
     c.args.seat.now c.emit_turn.new.seat c.lose_writer-why.new.seat
-    (search rules) (search rules) c.in-Err-push_all.ensures.pushed.2 c.in-Err-push_all.ensures.pushed.1 (rw c.in-Ok-Emitted.field-0-is at c.in-Ok-Emitted.ensures.booked) c.lose_writer-why.ensures.ended
+    (search rules) (search rules) c.in-Err-push_all.ensures.failed c.in-Err-push_all.ensures.taken.1 (rw c.in-Ok-Emitted.field-0-is at c.in-Ok-Emitted.ensures.booked) c.lose_writer-why.ensures.ended
 
 pub returns-then-not-before_wait-clause-turned : goal.returns-then-not-before_wait-clause-turned
 returns-then-not-before_wait-clause-turned g c =

@@ -39,7 +39,7 @@ returns-in-Err-clause-writer_kept g c = inr c.round.invariant.kept
 
 pub returns-in-Err-push_all-clause-moved : goal.returns-in-Err-push_all-clause-moved
 returns-in-Err-push_all-clause-moved g c =
-    empty_stops _ _ _ _ _ _ _ _ _ _ c.in-Ok.count c.in-Err-push_all.taken c.read.new.buffer c.round.invariant c.in-Ok.ensures.gave c.in-Err-push_all.ensures.err
+    empty_stops _ _ _ _ _ _ _ _ _ _ c.in-Ok.count c.in-Err-push_all.taken c.read.new.buffer c.round.invariant c.in-Ok.ensures.gave c.in-Err-push_all.ensures.taken
     c.saturating_add.ensures
 
 pub returns-in-Err-push_all-clause-ended : goal.returns-in-Err-push_all-clause-ended
