@@ -155,8 +155,16 @@ fn run<
         move || -> T
             requires { F.IsAlwaysCallable work }
             ensures { Answered F.FnOnce work result }
-        { work(&handle) },
+        { answer_of(&handle, work) },
     );
     discard(seat);
     connected
+}
+
+/// What the caller's function answers.
+fn answer_of<T, F: FnOnce(&Handle) -> T>(handle: &Handle, work: F) -> T
+    requires { F.IsAlwaysCallable work }
+    ensures { Answered F.FnOnce work result }
+{
+    work(handle)
 }

@@ -1,5 +1,8 @@
 //! The front door: one call that runs a session over a connection while a function of the caller's works with it.
 //!
+//! Its contracts say which errors fit, and of kept histories what `read_all` and `copy` did. `connect` runs with the
+//! recorder `Off`: of its bytes nothing is said.
+//!
 //! `connect_tcp` takes a TCP connection, and `connect` any reader and writer. The caller's function is given a `Handle`,
 //! which opens and accepts streams. A stream comes as a `Writer` and a `Reader`.
 //!

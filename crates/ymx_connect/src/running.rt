@@ -66,8 +66,18 @@ pub(crate) fn run_beside<
             ensures answered { IfOk result (λ connected. FnOnceReturns F.FnOnce work tt connected.answer) }
             ensures spared { IfOk result (λ connected. IsSpared connected.ended) }
         {
-            let writing = start(scope, move || pump_out(rt, hub, writer, out_of))?;
-            let reading = start(scope, move || pump_in(rt, hub, reader, into));
+            let writing = start(
+                scope,
+                move || -> PumpedOut
+                    requires { R.KEEPS ≡ false }
+                { pump_out(rt, hub, writer, out_of) },
+            )?;
+            let reading = start(
+                scope,
+                move || -> PumpedIn
+                    requires { R.KEEPS ≡ false }
+                { pump_in(rt, hub, reader, into) },
+            );
             if reading.is_err() {
                 let _ = hub.close(rt, seat);
             }

@@ -29,7 +29,9 @@ fn write_if_begun<R: Recorder, W: Wait, O: Outlet, G: Gate>(
 ) -> Stop
     ensures wrote { PumpWrote R.KEEPS (length buffer.old) (has_failed (O.failures writer.old) (O.failures writer.new)) (O.contents writer.old) (O.contents writer.new) seat.old seat.new result.moved result.why }
     ensures ended { WriteEndOrNone R.KEEPS (O.failures writer.old) (O.failures writer.new) (O.is_ended writer.new) (G.has_refused gate.new) result.why }
-    ensures unrun { result.why ≡ PumpWhy.NoThread → (result.moved ≡ 0) × (seat.new ≡ seat.old) × (writer.new ≡ writer.old) }
+    ensures unmoved { result.why ≡ PumpWhy.NoThread → result.moved ≡ 0 }
+    ensures unbooked { result.why ≡ PumpWhy.NoThread → seat.new ≡ seat.old }
+    ensures unwritten { result.why ≡ PumpWhy.NoThread → writer.new ≡ writer.old }
 {
     if !begin(rt, start) {
         hub.mute(rt);
@@ -82,7 +84,9 @@ fn run_lent<
     ensures wrote { PumpWrote R.KEEPS (length write_buffer.old) (has_failed (O.failures writer.old) (O.failures writer.new)) (O.contents writer.old) (O.contents writer.new) write_seat.old write_seat.new result.0.moved result.0.why }
     ensures gave { PumpRead R.KEEPS (I.remaining reader.old) (I.remaining reader.new) read_seat.old read_seat.new result.1.moved result.1.why }
     ensures written { WriteEndOrNone R.KEEPS (O.failures writer.old) (O.failures writer.new) (O.is_ended writer.new) (H.has_refused write_gate.new) result.0.why }
-    ensures unrun { result.0.why ≡ PumpWhy.NoThread → (result.0.moved ≡ 0) × (write_seat.new ≡ write_seat.old) × (writer.new ≡ writer.old) }
+    ensures unmoved { result.0.why ≡ PumpWhy.NoThread → result.0.moved ≡ 0 }
+    ensures unbooked { result.0.why ≡ PumpWhy.NoThread → write_seat.new ≡ write_seat.old }
+    ensures unwritten { result.0.why ≡ PumpWhy.NoThread → writer.new ≡ writer.old }
     ensures read { ReadEnd R.KEEPS (I.failures reader.old) (I.failures reader.new) (I.remaining reader.new) (G.has_refused read_gate.new) result.1.why }
 {
     join_mut(
@@ -123,7 +127,9 @@ pub fn run_pumps<
     ensures read { ReadEnd R.KEEPS (I.failures reader.old) (I.failures reader.new) (I.remaining reader.new) (G.has_refused read_gate.new) result.0.why }
     ensures written { WriteEndOrNone R.KEEPS (O.failures writer.old) (O.failures writer.new) (O.is_ended writer.new) (H.has_refused write_gate.new) result.1.why }
     // The write pump for which no thread could be made has done no event and written no byte: its seat and its writer are as they were.
-    ensures unrun { result.1.why ≡ PumpWhy.NoThread → (result.1.moved ≡ 0) × (result.1.seat ≡ seats.1) × (writer.new ≡ writer.old) }
+    ensures unmoved { result.1.why ≡ PumpWhy.NoThread → result.1.moved ≡ 0 }
+    ensures unbooked { result.1.why ≡ PumpWhy.NoThread → result.1.seat ≡ seats.1 }
+    ensures unwritten { result.1.why ≡ PumpWhy.NoThread → writer.new ≡ writer.old }
 {
     let (mut read_seat, mut write_seat) = seats;
     let start = Mutex::new(Start::new());

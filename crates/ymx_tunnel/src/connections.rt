@@ -198,7 +198,7 @@ impl Inlet for TrackedReader<'_> {
 impl Outlet for TrackedWriter<'_> {
     ghost contents = { λ _. None };
 
-    ghost failures = { λ s. s.writer.failures };
+    ghost failures = { λ s. s.writer.outlet.failures };
 
     ghost is_ended = { λ s. s.writer.was_shut };
 

@@ -8,5 +8,11 @@ pub returns-then-not-begin-clause-wrote : goal.returns-then-not-begin-clause-wro
 returns-then-not-begin-clause-wrote g c =
     rw c.at_once.ensures (wrote_none g.R.Recorder.KEEPS (length c.args.buffer.now) (has_failed (g.O.Outlet.failures c.args.writer.now) (g.O.Outlet.failures c.args.writer.now)) (g.O.Outlet.contents c.args.writer.now) c.args.seat.now)
 
-pub returns-clause-unrun : goal.returns-clause-unrun
-returns-clause-unrun g c = λ e. absurd (has_thread _ _ _ _ _ _ c.write_on.ensures.ended e)
+pub returns-clause-unmoved : goal.returns-clause-unmoved
+returns-clause-unmoved g c = λ e. absurd (has_thread _ _ _ _ _ _ c.write_on.ensures.ended e)
+
+pub returns-clause-unbooked : goal.returns-clause-unbooked
+returns-clause-unbooked g c = λ e. absurd (has_thread _ _ _ _ _ _ c.write_on.ensures.ended e)
+
+pub returns-clause-unwritten : goal.returns-clause-unwritten
+returns-clause-unwritten g c = λ e. absurd (has_thread _ _ _ _ _ _ c.write_on.ensures.ended e)
