@@ -47,6 +47,12 @@ expect 1 nothing "$(says 'ymx: reading failed')" hello frames .
 # the tunnel: three connections through it, and addresses that are none, the first of which is told
 printf 'connection %s bytes echoed\n' '1: 0' '2: 1' '3: 300000' > echoed
 expect 0 echoed nothing nothing selftest
+"${CC-cc}" -O2 -shared -fPIC -o slow.so "$here/slow_connect.c" -ldl
+if timeout 60 "$here/as_they_come.py" "$ymx" "$scratch/slow.so" > log 2>&1; then
+    good
+else
+    bad "a line of selftest doesn't come with its connection:" log
+fi
 expect 2 nothing "$(says 'ymx: bad address localhost:1')" nothing local --listen localhost:1 --peer x
 expect 2 nothing "$(says 'ymx: bad address 127.0.0.1')" nothing local --listen 127.0.0.1:1 --peer 127.0.0.1
 expect 2 nothing "$(says 'ymx: bad address 127.0.0.1:65536')" nothing remote --bind 127.0.0.1:65536 --target x

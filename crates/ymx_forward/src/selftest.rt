@@ -1,4 +1,5 @@
-//! Both ends of a tunnel and an echo server in one process, and three connections through them.
+//! Both ends of a tunnel and an echo server in one process, and three connections through them. One thread makes the
+//! connections and sends what became of each, and this one prints it as it comes.
 //!
 //! Each server owns where it listens and its end of the session, so these close when its thread ends, or can't be made.
 //! Then whoever waits there is told at once. Who could still wait for a connection that nobody makes is released at the
@@ -12,6 +13,7 @@ use crate::sides::TunnelSide;
 use crate::sockets::{connect, listen};
 use crate::tell::{cannot_listen, lacks_memory, say_fault};
 use crate::watching::Unwatched;
+use crossbeam_channel::{Receiver, Sender, bounded};
 use std::alloc::Global;
 use std::io::{Read, Write};
 use std::net::{Ipv4Addr, Net, Shutdown, SocketAddr, SocketAddrV4, TcpListener, TcpStream};
@@ -35,6 +37,16 @@ const CHUNK: usize = 4_096;
 
 /// The same as a number of 32 bits.
 const CHUNK_SIZE: u32 = 4_096;
+
+/// How many results may wait to be printed.
+const WAITING_RESULTS: usize = 3;
+
+/// What became of a connection.
+#[derive(Clone, Copy)]
+struct Echoed {
+    number: u32,
+    is_whole: bool,
+}
 
 /// Where two of the servers listen.
 #[derive(Clone, Copy)]
@@ -78,8 +90,7 @@ pub fn run_selftest<
     let Some((addresses, owned)) = prepare(rt) else {
         return cannot_listen(alloc, any_port(), errors);
     };
-    let whole = run_all(rt, alloc, addresses, owned);
-    match print_lines(alloc, whole, writer) {
+    match run_all(rt, alloc, addresses, owned, writer) {
         Ok(()) => 0,
         Err(Stop::Connection(number)) => failed(alloc, number, errors),
         Err(Stop::Writing) => say_fault(errors, b"ymx: writing failed\n"),
@@ -87,14 +98,18 @@ pub fn run_selftest<
     }
 }
 
-/// Runs the three servers in threads, and the client in this one. Says how many connections were whole before one
-/// failed; none was where a thread can't be made.
-fn run_all<R: Net<Stream = TcpStream, Listener = TcpListener> + Threads + Wait + Sync>(
+/// Runs the three servers and the client in threads, and prints a line for each connection as it ends. Where a thread
+/// can't be made the first connection has failed.
+fn run_all<R: Net<Stream = TcpStream, Listener = TcpListener> + Threads + Wait + Sync, W: Outlet>(
     rt: &R,
     alloc: Global,
     addresses: Addresses,
     owned: Owned,
-) -> u32 {
+    writer: &mut W,
+) -> Result<(), Stop> {
+    let Ok((sender, receiver)) = bounded::<Echoed, Global>(alloc, WAITING_RESULTS) else {
+        return Err(Stop::Memory);
+    };
     let Owned {
         echo,
         local,
@@ -109,13 +124,19 @@ fn run_all<R: Net<Stream = TcpStream, Listener = TcpListener> + Threads + Wait +
         let has_near = scope
             .spawn(move || run_local_end(rt, alloc, near, local))
             .is_ok();
-        let whole = if has_echo && has_far && has_near {
-            run_client(rt, addresses.local)
+        let are_running = has_echo
+            && has_far
+            && has_near
+            && scope
+                .spawn(move || run_client(rt, addresses.local, sender))
+                .is_ok();
+        let printed = if are_running {
+            print_all(rt, alloc, &receiver, writer)
         } else {
-            0
+            Err(Stop::Connection(1))
         };
         release(rt, addresses);
-        whole
+        printed
     })
 }
 
@@ -162,20 +183,39 @@ fn connect_session<R: Net<Stream = TcpStream, Listener = TcpListener>>(
     Some((near, far))
 }
 
-/// Prints a line for each of the first `whole` connections. Stops at the first other one.
-fn print_lines<W: Outlet>(alloc: Global, whole: u32, writer: &mut W) -> Result<(), Stop> {
+/// Prints a line for each connection as it ends. Stops at the first that failed. A result that doesn't come, or that of
+/// another connection, counts as a failure of the one awaited.
+fn print_all<R: Wait, W: Outlet>(
+    rt: &R,
+    alloc: Global,
+    receiver: &Receiver<Echoed, Global>,
+    writer: &mut W,
+) -> Result<(), Stop> {
     let mut number = 0u32;
     for size in SIZES {
         number = number.saturating_add(1);
-        if number > whole {
-            return Err(Stop::Connection(number));
+        match receiver.recv(rt) {
+            Ok(echoed) if echoed.number == number && echoed.is_whole => {
+                print_line(alloc, number, size, writer)?;
+            }
+            _ => return Err(Stop::Connection(number)),
         }
-        let Ok(line) = format!(in alloc; "connection {number}: {size} bytes echoed\n") else {
-            return Err(Stop::Memory);
-        };
-        if push_all(writer, line.as_bytes()).is_err() {
-            return Err(Stop::Writing);
-        }
+    }
+    Ok(())
+}
+
+/// Prints the line of a connection.
+fn print_line<W: Outlet>(
+    alloc: Global,
+    number: u32,
+    size: u32,
+    writer: &mut W,
+) -> Result<(), Stop> {
+    let Ok(line) = format!(in alloc; "connection {number}: {size} bytes echoed\n") else {
+        return Err(Stop::Memory);
+    };
+    if push_all(writer, line.as_bytes()).is_err() {
+        return Err(Stop::Writing);
     }
     Ok(())
 }
@@ -238,16 +278,20 @@ fn run_local_end<R: Net<Stream = TcpStream, Listener = TcpListener> + Wait>(
     let _ = forward(rt, alloc, connection, side, WINDOW, &mut Unwatched);
 }
 
-/// Makes the three connections, one after the other, up to the first that fails, and says how many were whole.
-fn run_client<R: Net<Stream = TcpStream>>(rt: &R, address: SocketAddr) -> u32 {
-    let mut whole = 0u32;
+/// Makes the three connections, one after the other, and sends what became of each.
+fn run_client<R: Net<Stream = TcpStream> + Wait>(
+    rt: &R,
+    address: SocketAddr,
+    sender: Sender<Echoed, Global>,
+) {
+    let mut number = 0u32;
     for size in SIZES {
-        if !is_whole(rt, address, size) {
-            return whole;
+        number = number.saturating_add(1);
+        let is_whole = is_whole(rt, address, size);
+        if sender.send(rt, Echoed { number, is_whole }).is_err() {
+            return;
         }
-        whole = whole.saturating_add(1);
     }
-    whole
 }
 
 /// Whether so many bytes come back from a connection to this address.
