@@ -7,7 +7,7 @@ use std::marker::Model;
 use ymx_model::GoAwayMark;
 
 /// Whether this side has said Go Away, and whether the peer has (go away). A contract sees both.
-#[derive(Clone, Copy, Debug, PartialEq, Eq)]
+#[derive(Clone, Copy)]
 pub struct Away {
     here: GoAwayMark,
     there: bool,

@@ -12,7 +12,7 @@ use ymx_memory::RefusedAllocation;
 use ymx_model::PingStage;
 
 /// A ping that was asked and not collected.
-#[derive(Clone, Copy, Debug, PartialEq, Eq)]
+#[derive(Clone, Copy)]
 struct Ping {
     number: u32,
     stage: PingStage,
@@ -30,7 +30,7 @@ impl Model for Ping {
 
 /// The own pings that were asked and not collected, at most 16, and the number that is tried next
 /// (ping). A contract sees both, the pings in the order in which they were asked.
-#[derive(Debug, Drop)]
+#[derive(Drop)]
 pub struct Pings {
     next: u32,
     pending: Vec<Ping>,

@@ -19,7 +19,7 @@ pub type Answers = BoundedQueue<Response, 1_024>;
 
 /// At most `N` items, the oldest first. The memory for all of them is taken at the start. A contract
 /// sees the list of the items.
-#[derive(Debug, Drop)]
+#[derive(Drop)]
 pub struct BoundedQueue<T, const N: usize> {
     items: VecDeque<T>,
 }

@@ -7,7 +7,7 @@ use ymx_header::Fault;
 
 /// How many bytes may still be written to a stream (flow control): at most 4,294,967,295. A contract
 /// sees that number.
-#[derive(Clone, Copy, Debug, PartialEq, Eq)]
+#[derive(Clone, Copy)]
 pub struct Credit {
     left: u32,
 }

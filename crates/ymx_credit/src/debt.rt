@@ -6,7 +6,7 @@ use std::marker::Model;
 
 /// The window of one direction of a stream, and how many of its bytes were read and not yet
 /// announced to the peer (flow control). A contract sees a record of both.
-#[derive(Clone, Copy, Debug, PartialEq, Eq)]
+#[derive(Clone, Copy)]
 pub struct Debt {
     window: u32,
     owed: u32,

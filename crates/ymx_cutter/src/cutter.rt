@@ -11,7 +11,7 @@ use std::marker::Model;
 use ymx_header::{Fault, HEADER_LENGTH, Header, check};
 
 /// What has come of the frame begun.
-#[derive(Debug, Drop)]
+#[derive(Drop)]
 enum Begun {
     Header(HeaderBytes),
     Payload { came: u32, missing: u32 },
@@ -21,7 +21,7 @@ enum Begun {
 /// Cuts the bytes of a session into frames, in whatever pieces they come (framing).
 ///
 /// It keeps at most eleven bytes of a header, and no payload. After a fault it takes no more bytes.
-#[derive(Debug, Drop)]
+#[derive(Drop)]
 pub struct Cutter {
     limit: u32,
     begun: Begun,

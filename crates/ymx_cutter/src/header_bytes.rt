@@ -7,7 +7,7 @@ use std::marker::Model;
 use ymx_header::{HEADER_LENGTH, Header, decode};
 
 /// The first bytes of a header, fewer than twelve.
-#[derive(Debug, Drop)]
+#[derive(Drop)]
 pub struct HeaderBytes {
     bytes: [u8; 12],
     count: usize,

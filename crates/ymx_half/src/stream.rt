@@ -19,7 +19,7 @@ use ymx_header::{FLAG_ACK, FLAG_FIN, FLAG_RST, FLAG_SYN, HEADER_LENGTH, Header};
 use ymx_memory::RefusedAllocation;
 
 /// How far a stream has come at this end.
-#[derive(Clone, Copy, Debug, PartialEq, Eq)]
+#[derive(Clone, Copy, PartialEq, Eq)]
 pub enum Stage {
     /// The peer opened it, and nobody has accepted it yet.
     Offered,

@@ -90,7 +90,7 @@ pub struct Entry {
 }
 
 /// How far an own ping has come (ping).
-#[derive(Clone, Copy, Debug, PartialEq, Eq)]
+#[derive(Clone, Copy, PartialEq, Eq)]
 pub enum PingStage {
     /// Its frame is due.
     Asked,
@@ -101,7 +101,7 @@ pub enum PingStage {
 }
 
 /// How far the own Go Away has come (go away).
-#[derive(Clone, Copy, Debug, PartialEq, Eq)]
+#[derive(Clone, Copy, PartialEq, Eq)]
 pub enum GoAwayMark {
     /// Not said.
     Unsaid,
@@ -121,7 +121,7 @@ pub enum Response {
 }
 
 /// A frame of a stream, in the order in which those that are due go out (flags).
-#[derive(Clone, Copy, Debug, PartialEq, Eq)]
+#[derive(Clone, Copy, PartialEq, Eq)]
 pub enum FrameKind {
     /// A Window Update with SYN, which opens the stream and announces its window.
     Open,

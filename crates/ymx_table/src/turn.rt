@@ -12,7 +12,7 @@ use crate::Table;
 use ymx_half::FrameKind;
 
 /// A frame of a stream that can go now.
-#[derive(Clone, Copy, Debug, PartialEq, Eq)]
+#[derive(Clone, Copy)]
 pub struct NextFrame {
     /// The stream's id.
     pub id: u32,
