@@ -1,4 +1,6 @@
 //! The command line of `ymx`: its words are read as a task, with the options of its subcommand.
+//!
+//! `parse` says which words ask for which task, and which are a mistake.
 #![tactic(auto)]
 
 mod arguments;

@@ -18,7 +18,7 @@ use crate::booked::Booked;
 use crate::faults::{HubFault, hub_fault};
 use ymx_memory::RefusedAllocation;
 use ymx_model::{Call, Event, Lent, Reply};
-use ymx_seats::{Log, Recorder, Seat, EntryRoom};
+use ymx_seats::{EntryRoom, Log, Recorder, Seat};
 use ymx_session::Session;
 
 impl<R: Recorder> Booked<R> {

@@ -160,7 +160,8 @@ pub(crate) fn go_away(session: &mut Session) -> i64
     }
 }
 
-/// 0.
+/// Closes the session at once: nothing more is emitted, not even the rest of a frame begun, and each later call that can
+/// be refused is refused. It answers 0, also where the session was closed before.
 pub(crate) fn close(session: &mut Session) -> i64
     ensures { Answers session.old (event.Call call.Close) result session.new }
 {

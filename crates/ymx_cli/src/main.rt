@@ -1,4 +1,6 @@
 //! The program `ymx`: it does what its command line asks for, over the standard devices.
+//!
+//! `ymx_main` says which words get which frames or scripts, with which exit status, and what is said on standard error.
 #![tactic(auto)]
 
 mod command;

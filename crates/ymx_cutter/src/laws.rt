@@ -25,8 +25,9 @@ pub fn one_way()
         Cuts limit text frames rest → FaultStands limit text offset fault → offset ≡ length (joined frames) }
 {}
 
-/// What was read is how the text is cut. What was gathered are its frames, what is begun is its
-/// rest, and a fault that was seen stands there.
+/// A cutter that has read a whole text has found all its frames and nothing else. The frames that were gathered are
+/// those that the text is cut into, the frame that is begun has the rest of its bytes, and a fault is told exactly where
+/// one stands, behind the frames before it.
 pub fn what_is_read()
     ensures nothing { (limit : ℕ) → Gathers limit [] nothing (InHeader []) }
     ensures cuts { (limit : ℕ) (text : List ℕ) (g : Gathered) (seen : Seen) → Gathers limit text g seen →

@@ -1,6 +1,9 @@
 //! What `ymx local`, `ymx remote` and `ymx selftest` do once their command lines are read: they make the connections,
 //! run one end of a tunnel over them, and say what went wrong. An end is one thread: an engine that is driven by what
 //! epoll says of its wire, its listener and its connections.
+//!
+//! Whatever the system answers, nothing aborts; at a good end no fault is said. Which bytes a socket carries, no contract
+//! sees.
 #![tactic(auto)]
 
 mod accepting;

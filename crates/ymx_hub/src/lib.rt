@@ -1,5 +1,8 @@
 //! A running session: one lock round it, and many callers in many threads.
 //!
+//! Each call, if it returns, adds to its seat the entry of its answer, where entries are kept or stand in proofs. With the
+//! recorder `Off` no contract says what it answers.
+//!
 //! `Hub` is the session under its lock. `Opener` and `Acceptor` hand out streams, each as a `WriteHalf` and a
 //! `ReadHalf`. Each caller has a seat, in which its calls are booked. `moving` has the turns of the pumps; `wakeups`
 //! and `shared` say who waits and who is woken, and `awaiting` how a thread waits.

@@ -34,7 +34,7 @@ impl<R: Recorder> Opener<R> {
         Opener { hub, seat }
     }
 
-    /// Its seat.
+    /// Gives back the seat, at which no more streams are opened. It is handed in at `Hub::end`.
     pub fn into_seat(self) -> Seat<R>
         ensures { result ≡ self }
     {

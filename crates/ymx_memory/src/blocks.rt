@@ -81,7 +81,9 @@ pub fn reserve<T>(vec: &mut Vec<T>, additional: usize) -> Result<(), RefusedAllo
     }
 }
 
-/// Room in a queue for so many more items. A refusal leaves its items.
+/// Makes room in a queue for `additional` items beyond those that stand in it. The items stay.
+///
+/// `RefusedAllocation` where the queue must grow and the allocator has no memory.
 pub fn reserve_queue<T>(queue: &mut VecDeque<T>, additional: usize) -> Result<(), RefusedAllocation>
     ensures items { queue.new.items ≡ queue.old.items }
     ensures room { OnOk result (deque_len queue.new + additional ≤ deque_capacity queue.new) }
@@ -121,7 +123,9 @@ pub fn shared<T: Drop>(alloc: Global, value: T) -> Result<Arc<T, Global>, Refuse
     }
 }
 
-/// One more handle to a shared block. It is refused only where more than can be counted are there.
+/// One more handle to a shared block. It takes no memory.
+///
+/// `RefusedAllocation` where there are as many handles already as can be counted.
 pub fn share<T>(whole: &Arc<T, Global>) -> Result<Arc<T, Global>, RefusedAllocation> {
     match Arc::try_clone(whole) {
         Ok(handle) => Ok(handle),

@@ -1,5 +1,6 @@
 //! Want of memory, with its cause. A [`RefusedAllocation`] is made in this crate alone, and only where the allocator has
-//! refused. So a function that answers with one has met a refusal: no body can make one up.
+//! refused. So a function that answers with one has met a refusal, in this call or before. That it asked for no more than
+//! it needed, no contract says.
 #![tactic(auto)]
 
 mod blocks;

@@ -10,7 +10,10 @@ use atomic_table::{Seat, Table, TableRule};
 use indexmap::{IndexMap, IndexSet};
 use std::alloc::Global;
 
-/// The value stands under its key, behind the others if it is new. A refusal drops it, and leaves the map.
+/// Puts the value under its key: in the place of the one that stood there, or behind all others where the key is new.
+///
+/// `RefusedAllocation` where a new key needs memory and the allocator has none: the value is dropped, and the map is as
+/// it was.
 pub fn insert<V: Drop>(
     map: &mut IndexMap<u32, V>,
     key: u32,

@@ -1,5 +1,8 @@
 //! What moves bytes between a hub and its devices: pumps, which touch no device under the lock.
 //!
+//! Of devices that tell their bytes: what was written is what the emissions gave, and what was fed is a beginning of what
+//! was read.
+//!
 //! `write_pump` takes what the hub emits to a writer, `read_pump` what a reader gives to the hub, and `run_pumps`
 //! runs one of each at once. A `Gate` may end a pump from outside, and `PumpEnd` says how one ended.
 #![tactic(auto)]

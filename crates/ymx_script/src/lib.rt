@@ -1,5 +1,7 @@
 //! The language of `ymx script`: steps of a world of two sessions, a line each, and what they answer, a
 //! line each.
+//!
+//! What is written is the answers of a run of a world that the lines ask for.
 #![tactic(auto)]
 
 mod command;

@@ -20,6 +20,6 @@ HoldIf true None event bytes = ⊥
 HoldIf false (Some c) event bytes = ⊥
 HoldIf false None event bytes = Unit {0}
 
--- the slip has what this recorder needs for the entry of such an event
+-- the room has what this recorder needs for the entry of such an event
 abbrev pub IsReady : Bool → EntryRoom → Event → ℕ → Type 0
-IsReady keeps slip event bytes = HoldIf keeps slip.copies event bytes
+IsReady keeps room event bytes = HoldIf keeps room.copies event bytes

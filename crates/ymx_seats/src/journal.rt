@@ -4,7 +4,7 @@ ghost use Rattle.std.specs.Prelude.{◌≡◌, ◌+◌, ◌++◌, ◌∷◌, []}
 ghost use mathlib.Core.List.{IsPrefix};
 ghost use Rattle.ymx_seats.specs.Journals.{part};
 
-use crate::plays::{Adds, Counts, Knowledge, Naming, Numbers, OneHistory, EntryName, Shows, Visit};
+use crate::plays::{Adds, Counts, EntryName, Knowledge, Naming, Numbers, OneHistory, Shows, Visit};
 use atomic_table::{Badge, Seat, Table};
 use std::alloc::Global;
 use std::marker::{Model, PhantomData};

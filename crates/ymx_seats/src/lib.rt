@@ -7,19 +7,19 @@
 #![tactic(auto)]
 
 mod compare;
+mod entry_room;
 mod journal;
 mod log;
 mod plays;
 mod recorder;
 mod seat;
-mod entry_room;
 mod transcript;
 
 pub use compare::{agree, same};
+pub use entry_room::EntryRoom;
 pub use journal::{Journal, NewJournal, Witness};
 pub use log::Log;
-pub use plays::{Knowledge, Naming, EntryName};
+pub use plays::{EntryName, Knowledge, Naming};
 pub use recorder::{Full, Off, Recorder, Witnessed};
 pub use seat::{Seat, discard};
-pub use entry_room::EntryRoom;
 pub use transcript::Transcript;

@@ -5,11 +5,11 @@ ghost use mathlib.Core.List.{IsPrefix};
 ghost use Rattle.ymx_seats.specs.Journals.{part};
 ghost use Rattle.ymx_seats.specs.Views.{entry};
 
+use crate::entry_room::{Copies, EntryRoom, copies_of, kept_reply};
 use crate::journal::{Journal, NewJournal, Witness};
 use crate::plays::EntryName;
-use crate::recorder::{RecorderKey, Recorder};
+use crate::recorder::{Recorder, RecorderKey};
 use crate::seat::Seat;
-use crate::entry_room::{Copies, EntryRoom, copies_of, kept_reply};
 use std::alloc::Global;
 use std::marker::{Brand, Model, PhantomData};
 use std::mem;

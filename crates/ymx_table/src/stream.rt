@@ -117,8 +117,10 @@ impl Table {
         self.change(id, |stream| stream.accept(lost));
     }
 
-    /// Both directions of the stream are over, and its RST is due (flags). It is then at `stage`, which is
-    /// `Reset` or `Lingering`. Before, it is neither reset nor given up.
+    /// Resets a stream that was neither reset nor given up before (flags). Its unread bytes, and its unsent bytes of no
+    /// frame begun, are dropped; an ACK, credit and a FIN that were due are due no more; its RST is due.
+    ///
+    /// `stage` is where it stands then: `Reset` while its caller still has it, `Lingering` where it is given up.
     pub fn reset(&mut self, id: u32, stage: Stage)
         requires there { IsSome (look id self.old.entries) }
         requires up { ForSome (look id self.old.entries) (λ e. takes e.phase ≡ true) }

@@ -1,14 +1,17 @@
 //! Two sessions of `ymx_session`, joined by two pipes in memory: the client A, the server B, and what each
 //! has emitted and the other not yet been fed. Whoever holds a `World` drives it by hand, a step at a time.
-//! `world` is the type and its calls. Behind it: `joined` (the sessions and the pipes), `pipe` (one
+//!
+//! The answers of a run are those of the queue machine (`run`, `play`).
+//!
+//! `world` is the type and its calls. Behind it: `pipes` (the sessions and the pipes), `pipe` (one
 //! direction), `calls` (a call on one session, and its answer), `audit` (a joint order of two histories),
 //! `stopped` (a run that found no memory), `played` (a run from new sessions), `settled` (what settling answers).
 #![tactic(auto)]
 
 mod audit;
 mod calls;
-mod pipes;
 mod pipe;
+mod pipes;
 mod played;
 mod settled;
 mod stopped;
