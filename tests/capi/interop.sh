@@ -22,7 +22,7 @@ trap 'exit 130' INT TERM
 PREFIX=$scratch/built "$root/c/build.sh" "$scratch/built"
 built=$scratch/built
 export PKG_CONFIG_PATH="$built/lib/pkgconfig" LD_LIBRARY_PATH="$built/lib"
-export YMX_LIBRARY="$built/lib/libymx.so.1" PYTHONPATH="$root/bindings/python/src" PYTHONDONTWRITEBYTECODE=1
+export YMX_LIBRARY="$built/lib/libymx.so.0" PYTHONPATH="$root/bindings/python/src" PYTHONDONTWRITEBYTECODE=1
 export YMX_LIB_DIR="$built/lib" CARGO_TARGET_DIR="$scratch/cargo"
 cd "$scratch"
 GO111MODULE=off GOPATH=/usr/share/gocode go build -o go_echo "$here/go_echo.go"

@@ -7,7 +7,7 @@
     echo.py lost ADDRESS                 has the server break the connection off in the middle of a stream
 
 A stream that begins with `reset`, `count` or `break` asks the server for that; any other is echoed. YMX_LIBRARY names
-libymx.so.1, where the system doesn't find it.
+libymx.so.0, where the system doesn't find it.
 """
 import asyncio
 import os

@@ -9,7 +9,7 @@ LEAST_WINDOW, WIDEST_WINDOW = 262144, 16777216
 MOST_TOUCHED = 1024
 WAIT, OPENS_PENDING, RESET = -12, -7, -3
 
-_library = ctypes.CDLL(os.environ.get("YMX_LIBRARY") or ctypes.util.find_library("ymx") or "libymx.so.1")
+_library = ctypes.CDLL(os.environ.get("YMX_LIBRARY") or ctypes.util.find_library("ymx") or "libymx.so.0")
 _pointer, _id, _bytes, _size = ctypes.c_void_p, ctypes.c_uint32, ctypes.c_char_p, ctypes.c_size_t
 _place = ctypes.POINTER(ctypes.c_void_p)
 
