@@ -100,11 +100,11 @@ impl<L: Outlet> ProgramWatcher for Notices<'_, L> {
 
 /// The line of a connection that has ended.
 fn end_line(number: u64, ended: &EndedConnection) -> Line {
-    let EndedConnection { inward, outward } = *ended;
-    let sent = inward.bytes;
-    let sent_why = word_of(inward.ending);
-    let got = outward.bytes;
-    let got_why = word_of(outward.ending);
+    let EndedConnection { to_peer, from_peer } = *ended;
+    let sent = to_peer.bytes;
+    let sent_why = word_of(to_peer.ending);
+    let got = from_peer.bytes;
+    let got_why = word_of(from_peer.ending);
     let mut line = Line::new();
     let _ = writeln!(
         line,
@@ -117,7 +117,7 @@ fn end_line(number: u64, ended: &EndedConnection) -> Line {
 fn refusal_line(number: u64, why: Declined) -> Line {
     let mut line = Line::new();
     let _ = match why {
-        Declined::NoMemory | Declined::BySession(CallFault::OutOfMemory(_)) => {
+        Declined::OutOfMemory | Declined::BySession(CallFault::OutOfMemory(_)) => {
             writeln!(line, "ymx: connection {number}: no stream: Memory")
         }
         Declined::BySession(fault) => {
@@ -134,7 +134,7 @@ fn word_of(ending: Ending) -> &'static str {
         Ending::ConnectionFailed => "connection failed",
         Ending::Reset => "reset",
         Ending::Lost => "lost",
-        Ending::NoMemory => "no memory",
+        Ending::OutOfMemory => "no memory",
         Ending::Refused => "refused",
     }
 }

@@ -266,7 +266,7 @@ impl<'a> Tunnel<'a> {
             Ok(id) => {
                 if !self.join(id, number, Socket::connected(socket)) {
                     self.refuse(id);
-                    watcher.refused(number, Declined::NoMemory);
+                    watcher.refused(number, Declined::OutOfMemory);
                 }
             }
             Err(fault) => {
@@ -323,7 +323,7 @@ impl<'a> Tunnel<'a> {
         let _ = socket.set_nodelay(true);
         if !self.join(id, number, Socket::connecting(socket)) {
             self.refuse(id);
-            let ended = EndedConnection::of_nothing(Ending::NoMemory);
+            let ended = EndedConnection::of_nothing(Ending::OutOfMemory);
             watcher.ended(number, &ended);
         }
     }
@@ -461,7 +461,7 @@ impl<'a> Tunnel<'a> {
         self.lacked_memory = true;
         for place in 0..self.connections.len() {
             if let Some((_, connection)) = self.connections.get_index(place) {
-                let ended = EndedConnection::of_nothing(Ending::NoMemory);
+                let ended = EndedConnection::of_nothing(Ending::OutOfMemory);
                 watcher.ended(connection.number, &ended);
             }
         }

@@ -16,7 +16,7 @@ pub(crate) enum Ending {
     /// The session was lost.
     Lost,
     /// There was no memory for it.
-    NoMemory,
+    OutOfMemory,
     /// The stream refused for another reason.
     Refused,
 }
@@ -34,9 +34,9 @@ pub(crate) struct Passed {
 #[derive(Clone, Copy)]
 pub(crate) struct EndedConnection {
     /// From the connection into its stream, to the peer.
-    pub inward: Passed,
+    pub to_peer: Passed,
     /// From the stream to the connection.
-    pub outward: Passed,
+    pub from_peer: Passed,
 }
 
 /// Why a connection got no stream.
@@ -45,7 +45,7 @@ pub(crate) enum Declined {
     /// The session refused one.
     BySession(CallFault),
     /// There was no memory to watch the connection, here or in the system.
-    NoMemory,
+    OutOfMemory,
 }
 
 /// Who is told of connections that have ended. Connections are numbered 1, 2, 3, .. as they begin, and each is told of
@@ -73,47 +73,48 @@ impl EndedConnection {
     pub(crate) fn of_nothing(ending: Ending) -> EndedConnection {
         let passed = Passed { bytes: 0, ending };
         EndedConnection {
-            inward: passed,
-            outward: passed,
+            to_peer: passed,
+            from_peer: passed,
         }
     }
 
     /// How the connection of this socket ended, whose ways stand so. `is_lost` says whether the session was lost.
     pub(crate) fn of(socket: &Socket, connection: Connection, is_lost: bool) -> EndedConnection {
-        let (inward, outward) = broken_endings(socket.fault(), is_lost);
+        let (to_peer, from_peer) = broken_endings(socket.fault(), is_lost);
         EndedConnection {
-            inward: Passed {
+            to_peer: Passed {
                 bytes: socket.pulled(),
-                ending: ending_of(connection.to_peer, inward),
+                ending: ending_of(connection.to_peer, to_peer),
             },
-            outward: Passed {
+            from_peer: Passed {
                 bytes: socket.pushed(),
-                ending: ending_of(connection.from_peer, outward),
+                ending: ending_of(connection.from_peer, from_peer),
             },
         }
     }
 
     /// Whether it ended for want of memory.
     pub(crate) fn lacked_memory(&self) -> bool {
-        self.inward.ending == Ending::NoMemory || self.outward.ending == Ending::NoMemory
+        self.to_peer.ending == Ending::OutOfMemory || self.from_peer.ending == Ending::OutOfMemory
     }
 }
 
-/// Why a way ended that stands so, if it broke off for this reason.
-fn ending_of(way: Flow, broken: Ending) -> Ending {
-    match way {
+/// Why a flow ended that stands so, if it broke off for this reason.
+fn ending_of(flow: Flow, broken: Ending) -> Ending {
+    match flow {
         Flow::Ended => Ending::Ended,
         Flow::Open | Flow::Broken => broken,
     }
 }
 
-/// Why the ways of a connection broke off, inward and outward: at its own fault, or else its stream's.
+/// Why both flows of a connection broke off, the one to the peer and the one from it: at its own fault, or else its
+/// stream's.
 fn broken_endings(fault: Option<SocketFault>, is_lost: bool) -> (Ending, Ending) {
     let of_stream = if is_lost { Ending::Lost } else { Ending::Reset };
     match fault {
         Some(SocketFault::Pull) => (Ending::ConnectionFailed, of_stream),
         Some(SocketFault::Push) => (Ending::ConnectionFailed, Ending::ConnectionFailed),
-        Some(SocketFault::Memory) => (Ending::NoMemory, of_stream),
+        Some(SocketFault::Memory) => (Ending::OutOfMemory, of_stream),
         None => (of_stream, of_stream),
     }
 }

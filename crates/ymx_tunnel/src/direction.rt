@@ -40,7 +40,7 @@ impl<H> Handover<H> {
 }
 
 /// Copies from the connection into the stream by the half that is handed over, and spends it: why it ended.
-pub(crate) fn inward<R: Wait>(
+pub(crate) fn to_peer<R: Wait>(
     rt: &R,
     alloc: Global,
     connection: &Connection,
@@ -68,7 +68,7 @@ pub(crate) fn inward<R: Wait>(
 }
 
 /// Copies from the stream out to the connection by the half that is handed over, and spends it: why it ended.
-pub(crate) fn outward<R: Wait>(
+pub(crate) fn from_peer<R: Wait>(
     rt: &R,
     alloc: Global,
     connection: &Connection,

@@ -2,7 +2,7 @@
 
 use crate::connections::{Connection, Connections};
 use crate::copied::CopyWhy;
-use crate::direction::{Handover, inward, outward, spend};
+use crate::direction::{Handover, from_peer, spend, to_peer};
 use std::alloc::Global;
 use std::net::TcpStream;
 use std::sync::Wait;
@@ -52,13 +52,13 @@ fn copy_both<'x, R: Threads + Wait + Sync>(
     reader: &'x Handover<Reader>,
 ) -> Joining {
     thread::scope(thread::scope_env(), rt, move |scope| {
-        let Ok(other) = start(scope, move || outward(rt, alloc, connection, reader)) else {
+        let Ok(other) = start(scope, move || from_peer(rt, alloc, connection, reader)) else {
             connection.break_off();
             return Joining::Lacked;
         };
-        let inward = inward(rt, alloc, connection, writer);
-        let outward = other.join(rt);
-        if matches!(inward, CopyWhy::Memory(_)) || matches!(outward, CopyWhy::Memory(_)) {
+        let to_peer = to_peer(rt, alloc, connection, writer);
+        let from_peer = other.join(rt);
+        if matches!(to_peer, CopyWhy::Memory(_)) || matches!(from_peer, CopyWhy::Memory(_)) {
             return Joining::Lacked;
         }
         Joining::Ended
