@@ -134,14 +134,14 @@ if [ "${1-}" = guide ]; then
     echo '2 programs proved and run'
     exit 0
 fi
-pair witnessed/server witnessed/client ymx_connect ymx_hub ymx_booked ymx_seats ymx_journal ymx_memory ymx_session ymx_model ymx_machine
+pair witnessed/server witnessed/client ymx_connect ymx_hub ymx_booked ymx_seats ymx_memory ymx_session ymx_model ymx_machine
 same_came_back
 
 printf 'one\n\nthree\n' > "$scratch/input"
 pair echo/server echo/client ymx_connect
 cmp "$scratch/input" "$scratch/client.out" || fail 'the echo is another text' "$scratch/client.out"
 
-prove history/main ymx_certify ymx_pumps ymx_hub ymx_session ymx_seats ymx_model
+prove history/main ymx_joined ymx_pumps ymx_hub ymx_session ymx_seats ymx_model
 build
 "$program" > "$scratch/history.out"
 printf 'the word has come: true\nboth histories are one run: true\n' | cmp - "$scratch/history.out" || fail 'the history is another' "$scratch/history.out"
