@@ -8,6 +8,7 @@ ghost use Rattle.ymx_model.specs.session.FramesDue.{is_empty};
 use crate::{DeadHalf, DoneHalf, EndedHalf, RecvHalf, SendHalf};
 use std::mem;
 use ymx_memory::RefusedAllocation;
+use ymx_ring::Warm;
 
 /// The sending direction of a stream, by its half.
 #[derive(Drop)]
@@ -25,7 +26,7 @@ impl Sending {
     ghost use Rattle.ymx_half.specs.Through.{writer_spend};
 
     /// Takes the first bytes that the credit allows, of which a dead half has none. See `SendHalf::write`.
-    pub(crate) fn write(&mut self, bytes: &[u8]) -> Result<usize, RefusedAllocation>
+    pub(crate) fn write(&mut self, warm: &mut Warm, bytes: &[u8]) -> Result<usize, RefusedAllocation>
         requires { (writer_of self.old).finished ≡ false }
         ensures took_min { IfOk result (λ count. count ≡ min (length bytes.now) (writer_of self.old).credit) }
         ensures wrote { IfOk result (λ count. writer_of self.new ≡ writer_write (take count bytes.now) (writer_of self.old)) }
@@ -34,7 +35,7 @@ impl Sending {
         ensures same_state { sends_nothing self.new ≡ sends_nothing self.old }
     {
         match self {
-            Sending::Open(half) => half.write(bytes),
+            Sending::Open(half) => half.write(warm, bytes),
             Sending::Done(_) | Sending::Dead(_) => Ok(0),
         }
     }
@@ -66,15 +67,15 @@ impl Sending {
     }
 
     /// Moves the next bytes of a frame out into `buffer`.
-    pub(crate) fn take(&mut self, buffer: &mut [u8]) -> usize
+    pub(crate) fn take(&mut self, warm: &mut Warm, buffer: &mut [u8]) -> usize
         ensures count { result ≡ min (length buffer.old) (length (writer_of self.old).unsent) }
         ensures taken { buffer.new ≡ take result (writer_of self.old).unsent ++ drop result buffer.old }
         ensures left { writer_of self.new ≡ writer_send result (writer_of self.old) }
         ensures same_state { sends_nothing self.new ≡ sends_nothing self.old }
     {
         match self {
-            Sending::Open(half) => half.take(buffer),
-            Sending::Done(half) => half.take(buffer),
+            Sending::Open(half) => half.take(warm, buffer),
+            Sending::Done(half) => half.take(warm, buffer),
             Sending::Dead(_) => 0,
         }
     }
@@ -104,10 +105,10 @@ impl Sending {
     }
 
     /// The stream is reset.
-    pub(crate) fn reset(self) -> DeadHalf {
+    pub(crate) fn reset(self, warm: &mut Warm) -> DeadHalf {
         match self {
-            Sending::Open(half) => half.reset(),
-            Sending::Done(half) => half.reset(),
+            Sending::Open(half) => half.reset(warm),
+            Sending::Done(half) => half.reset(warm),
             Sending::Dead(half) => half,
         }
     }
@@ -170,7 +171,7 @@ impl Receiving {
     ghost use Rattle.ymx_half.specs.Passing.{reader_pass};
 
     /// These bytes come, before the end.
-    pub(crate) fn arrive(&mut self, bytes: &[u8])
+    pub(crate) fn arrive(&mut self, warm: &mut Warm, bytes: &[u8])
         requires receives { receives_nothing self.old ≡ false }
         requires open { (reader_of self.old).ended ≡ false }
         requires fits { length bytes.now ≤ (reader_of self.old).granted }
@@ -178,20 +179,20 @@ impl Receiving {
         ensures same_state { receives_nothing self.new ≡ receives_nothing self.old }
     {
         if let Receiving::Open(half) = self {
-            half.arrive(bytes);
+            half.arrive(warm, bytes);
         }
     }
 
     /// Moves the first unread bytes into `buffer`.
-    pub(crate) fn read(&mut self, buffer: &mut [u8]) -> usize
+    pub(crate) fn read(&mut self, warm: &mut Warm, buffer: &mut [u8]) -> usize
         ensures count { result ≡ min (length buffer.old) (length (reader_of self.old).unread) }
         ensures gave { buffer.new ≡ take result (reader_of self.old).unread ++ drop result buffer.old }
         ensures after { reader_of self.new ≡ reader_read result (reader_of self.old) }
         ensures same_state { receives_nothing self.new ≡ receives_nothing self.old }
     {
         match self {
-            Receiving::Open(half) => half.read(buffer),
-            Receiving::Ended(half) => half.read(buffer),
+            Receiving::Open(half) => half.read(warm, buffer),
+            Receiving::Ended(half) => half.read(warm, buffer),
             Receiving::Dead(_) => 0,
         }
     }
@@ -209,14 +210,14 @@ impl Receiving {
     }
 
     /// Drops the first unread bytes, as a read of them would take them out.
-    pub(crate) fn consume(&mut self, count: usize) -> usize
+    pub(crate) fn consume(&mut self, warm: &mut Warm, count: usize) -> usize
         ensures count { result ≡ min count (length (reader_of self.old).unread) }
         ensures after { reader_of self.new ≡ reader_read result (reader_of self.old) }
         ensures same_state { receives_nothing self.new ≡ receives_nothing self.old }
     {
         match self {
-            Receiving::Open(half) => half.consume(count),
-            Receiving::Ended(half) => half.consume(count),
+            Receiving::Open(half) => half.consume(warm, count),
+            Receiving::Ended(half) => half.consume(warm, count),
             Receiving::Dead(_) => 0,
         }
     }
@@ -259,21 +260,21 @@ impl Receiving {
     }
 
     /// What is unread behind the end is dropped.
-    pub(crate) fn empty(&mut self)
+    pub(crate) fn empty(&mut self, warm: &mut Warm)
         requires { (reader_of self.old).ended ≡ true }
         ensures emptied { reader_of self.new ≡ reader_empty (reader_of self.old) }
         ensures same_state { receives_nothing self.new ≡ receives_nothing self.old }
     {
         if let Receiving::Ended(half) = self {
-            half.empty();
+            half.empty(warm);
         }
     }
 
     /// The stream is reset.
-    pub(crate) fn reset(self) -> DeadHalf {
+    pub(crate) fn reset(self, warm: &mut Warm) -> DeadHalf {
         match self {
-            Receiving::Open(half) => half.reset(),
-            Receiving::Ended(half) => half.reset(),
+            Receiving::Open(half) => half.reset(warm),
+            Receiving::Ended(half) => half.reset(warm),
             Receiving::Dead(half) => half,
         }
     }

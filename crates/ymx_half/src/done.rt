@@ -7,7 +7,7 @@ ghost use Rattle.ymx_model.specs.session.Records.{writer_send, writer_grant, wri
 use crate::DeadHalf;
 use std::marker::Model;
 use ymx_credit::Credit;
-use ymx_ring::Ring;
+use ymx_ring::{Ring, Warm};
 
 /// A sending half that was finished: its unsent bytes still go out, and then its end. Nothing is
 /// written to it.
@@ -49,12 +49,12 @@ impl DoneHalf {
 
     /// Moves the next bytes of a frame out of the half into `buffer`, as many as are there and fit, and
     /// returns their number. The rest of `buffer` stays as it was.
-    pub fn take(&mut self, buffer: &mut [u8]) -> usize
+    pub fn take(&mut self, warm: &mut Warm, buffer: &mut [u8]) -> usize
         ensures count { result ≡ min (length buffer.old) (length self.old.unsent) }
         ensures taken { buffer.new ≡ take result self.old.unsent ++ drop result buffer.old }
         ensures left { self.new ≡ writer_send result self.old }
     {
-        self.unsent.take(buffer)
+        self.unsent.take_warm(warm, buffer)
     }
 
     /// The frame with FIN begins (half-close): once, and behind the last byte.
@@ -67,7 +67,9 @@ impl DoneHalf {
     }
 
     /// The stream is reset: the unsent bytes and the end are dropped, and the memory is given back.
-    pub fn reset(self) -> DeadHalf {
+    pub fn reset(self, warm: &mut Warm) -> DeadHalf {
+        let DoneHalf { unsent, .. } = self;
+        unsent.end(warm);
         DeadHalf
     }
 

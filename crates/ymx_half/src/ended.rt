@@ -6,7 +6,7 @@ ghost use Rattle.ymx_model.specs.session.Records.{reader_read, reader_announce, 
 use crate::DeadHalf;
 use std::marker::Model;
 use ymx_credit::Debt;
-use ymx_ring::Ring;
+use ymx_ring::{Ring, Warm};
 
 /// A receiving half whose end has arrived. What is unread can still be read. Nothing more comes, and so
 /// no credit is returned.
@@ -47,12 +47,12 @@ impl EndedHalf {
 
     /// Moves the first unread bytes into `buffer`, as many as are there and fit, and returns their
     /// number. The rest of `buffer` stays as it was. Where nothing is unread, the end is reached.
-    pub fn read(&mut self, buffer: &mut [u8]) -> usize
+    pub fn read(&mut self, warm: &mut Warm, buffer: &mut [u8]) -> usize
         ensures count { result ≡ min (length buffer.old) (length self.old.unread) }
         ensures gave { buffer.new ≡ take result self.old.unread ++ drop result buffer.old }
         ensures after { self.new ≡ reader_read result self.old }
     {
-        let count = self.unread.take(buffer);
+        let count = self.unread.take_warm(warm, buffer);
         self.debt.read(count as u32);
         count
     }
@@ -67,12 +67,12 @@ impl EndedHalf {
 
     /// Drops the first `count` unread bytes, or as many as are there, as a read of them would take them out, and
     /// returns their number.
-    pub fn consume(&mut self, count: usize) -> usize
+    pub fn consume(&mut self, warm: &mut Warm, count: usize) -> usize
         ensures count { result ≡ min count (length self.old.unread) }
         ensures after { self.new ≡ reader_read result self.old }
     {
         let taken = count.min(self.unread.len());
-        self.unread.skip(taken);
+        self.unread.skip_warm(warm, taken);
         self.debt.read(taken as u32);
         taken
     }
@@ -88,14 +88,16 @@ impl EndedHalf {
     }
 
     /// What is unread is dropped: the stream is given up.
-    pub fn empty(&mut self)
+    pub fn empty(&mut self, warm: &mut Warm)
         ensures { self.new ≡ reader_empty self.old }
     {
-        self.unread.clear();
+        self.unread.cool(warm);
     }
 
     /// The stream is reset: the unread bytes are dropped, and their memory is given back.
-    pub fn reset(self) -> DeadHalf {
+    pub fn reset(self, warm: &mut Warm) -> DeadHalf {
+        let EndedHalf { unread, .. } = self;
+        unread.end(warm);
         DeadHalf
     }
 

@@ -10,7 +10,7 @@ use std::alloc::Global;
 use std::marker::Model;
 use ymx_credit::Debt;
 use ymx_memory::RefusedAllocation;
-use ymx_ring::Ring;
+use ymx_ring::{Ring, Warm};
 
 /// A receiving half whose end has not arrived (flow control).
 ///
@@ -43,11 +43,11 @@ impl RecvHalf {
     /// it answers `RefusedAllocation`.
     ///
     /// Example: of a window of 1,048,576 bytes 786,432 are owed from the start.
-    pub fn new(alloc: Global, window: u32) -> Result<RecvHalf, RefusedAllocation>
+    pub fn new(alloc: Global, warm: &mut Warm, window: u32) -> Result<RecvHalf, RefusedAllocation>
         requires { first_credit ≤ window }
         ensures { IfOk result (λ half. half ≡ new_reader window) }
     {
-        let unread = Ring::new(alloc, window as usize)?;
+        let unread = Ring::new_warm(alloc, warm, window as usize)?;
         Ok(RecvHalf {
             unread,
             granted: FIRST_CREDIT,
@@ -56,22 +56,22 @@ impl RecvHalf {
     }
 
     /// These bytes come. They are no more than the peer may send, and so there is room for them.
-    pub fn arrive(&mut self, bytes: &[u8])
+    pub fn arrive(&mut self, warm: &mut Warm, bytes: &[u8])
         requires { length bytes.now ≤ self.old.granted }
         ensures { self.new ≡ reader_arrive bytes.now self.old }
     {
-        self.unread.put(bytes);
+        self.unread.put_warm(warm, bytes);
         self.granted -= bytes.len() as u32;
     }
 
     /// Moves the first unread bytes into `buffer`, as many as are there and fit, and returns their
     /// number. They are owed to the peer from then on. The rest of `buffer` stays as it was.
-    pub fn read(&mut self, buffer: &mut [u8]) -> usize
+    pub fn read(&mut self, warm: &mut Warm, buffer: &mut [u8]) -> usize
         ensures count { result ≡ min (length buffer.old) (length self.old.unread) }
         ensures gave { buffer.new ≡ take result self.old.unread ++ drop result buffer.old }
         ensures after { self.new ≡ reader_read result self.old }
     {
-        let count = self.unread.take(buffer);
+        let count = self.unread.take_warm(warm, buffer);
         self.debt.read(count as u32);
         count
     }
@@ -86,12 +86,12 @@ impl RecvHalf {
 
     /// Drops the first `count` unread bytes, or as many as are there, as a read of them would take them out, and
     /// returns their number.
-    pub fn consume(&mut self, count: usize) -> usize
+    pub fn consume(&mut self, warm: &mut Warm, count: usize) -> usize
         ensures count { result ≡ min count (length self.old.unread) }
         ensures after { self.new ≡ reader_read result self.old }
     {
         let taken = count.min(self.unread.len());
-        self.unread.skip(taken);
+        self.unread.skip_warm(warm, taken);
         self.debt.read(taken as u32);
         taken
     }
@@ -133,7 +133,9 @@ impl RecvHalf {
     }
 
     /// The stream is reset: the unread bytes are dropped, and their memory is given back.
-    pub fn reset(self) -> DeadHalf {
+    pub fn reset(self, warm: &mut Warm) -> DeadHalf {
+        let RecvHalf { unread, .. } = self;
+        unread.end(warm);
         DeadHalf
     }
 

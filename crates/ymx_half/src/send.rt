@@ -9,7 +9,7 @@ use std::alloc::Global;
 use std::marker::Model;
 use ymx_credit::Credit;
 use ymx_memory::RefusedAllocation;
-use ymx_ring::Ring;
+use ymx_ring::{Ring, Warm};
 
 /// A sending half to which bytes may still be written (flow control).
 ///
@@ -38,10 +38,10 @@ impl SendHalf {
 
     /// Makes the half of a new stream: 262,144 bytes may be written, and there is memory for so many
     /// unsent ones. Without that memory it answers `RefusedAllocation`.
-    pub fn new(alloc: Global) -> Result<SendHalf, RefusedAllocation>
+    pub fn new(alloc: Global, warm: &mut Warm) -> Result<SendHalf, RefusedAllocation>
         ensures { IfOk result (λ half. half ≡ new_writer) }
     {
-        let unsent = Ring::new(alloc, FIRST_CREDIT as usize)?;
+        let unsent = Ring::new_warm(alloc, warm, FIRST_CREDIT as usize)?;
         Ok(SendHalf {
             credit: Credit::new(FIRST_CREDIT),
             unsent,
@@ -55,7 +55,7 @@ impl SendHalf {
     ///
     /// Example: of 300,000 bytes a new half takes 262,144. The next write takes none, until the peer
     /// grants more.
-    pub fn write(&mut self, bytes: &[u8]) -> Result<usize, RefusedAllocation>
+    pub fn write(&mut self, warm: &mut Warm, bytes: &[u8]) -> Result<usize, RefusedAllocation>
         ensures took_min { IfOk result (λ count. count ≡ min (length bytes.now) self.old.credit) }
         ensures wrote { IfOk result (λ count. self.new ≡ writer_write (take count bytes.now) self.old) }
         ensures in_room { length self.old.unsent + min (length bytes.now) self.old.credit ≤ first_credit → IsOk result }
@@ -68,7 +68,7 @@ impl SendHalf {
         if needed > capacity && self.unsent.grow(needed.max(2 * capacity)).is_err() {
             self.unsent.grow(needed)?;
         }
-        self.unsent.put(&bytes[..count]);
+        self.unsent.put_warm(warm, &bytes[..count]);
         self.credit.spend(count as u32);
         Ok(count)
     }
@@ -93,12 +93,12 @@ impl SendHalf {
 
     /// Moves the next bytes of a frame out of the half into `buffer`, as many as are there and fit, and
     /// returns their number. The rest of `buffer` stays as it was.
-    pub fn take(&mut self, buffer: &mut [u8]) -> usize
+    pub fn take(&mut self, warm: &mut Warm, buffer: &mut [u8]) -> usize
         ensures count { result ≡ min (length buffer.old) (length self.old.unsent) }
         ensures taken { buffer.new ≡ take result self.old.unsent ++ drop result buffer.old }
         ensures left { self.new ≡ writer_send result self.old }
     {
-        self.unsent.take(buffer)
+        self.unsent.take_warm(warm, buffer)
     }
 
     /// Nothing more is written (half-close): the unsent bytes go out, and then the end.
@@ -110,7 +110,9 @@ impl SendHalf {
     }
 
     /// The stream is reset: the unsent bytes are dropped, and their memory is given back.
-    pub fn reset(self) -> DeadHalf {
+    pub fn reset(self, warm: &mut Warm) -> DeadHalf {
+        let SendHalf { unsent, .. } = self;
+        unsent.end(warm);
         DeadHalf
     }
 

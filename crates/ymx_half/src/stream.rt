@@ -17,6 +17,7 @@ use std::mem;
 use ymx_credit::is_half_owed;
 use ymx_header::{FLAG_ACK, FLAG_FIN, FLAG_RST, FLAG_SYN, HEADER_LENGTH, Header};
 use ymx_memory::RefusedAllocation;
+use ymx_ring::Warm;
 
 /// How far a stream has come at this end.
 #[derive(Clone, Copy, PartialEq, Eq)]
@@ -148,14 +149,15 @@ impl StreamRec {
     /// is due next.
     pub fn opened(
         alloc: Global,
+        warm: &mut Warm,
         window: u32,
         with_data: bool,
     ) -> Result<StreamRec, RefusedAllocation>
         requires { first_credit ≤ window }
         ensures { IfOk result (λ stream. stream ≡ new_end window LivePhase true with_data) }
     {
-        let writer = Sending::Open(SendHalf::new(alloc)?);
-        let reader = Receiving::Open(RecvHalf::new(alloc, window)?);
+        let writer = Sending::Open(SendHalf::new(alloc, warm)?);
+        let reader = Receiving::Open(RecvHalf::new(alloc, warm, window)?);
         let marks = Marks {
             syn: true,
             with_data,
@@ -175,12 +177,12 @@ impl StreamRec {
     /// Makes the record of a stream that the peer opened, with memory as for `opened`. Nothing is due of
     /// it yet. Before it is accepted no ACK and no credit is; bytes that are written, an end and a reset
     /// are due at once. Without the memory it answers `RefusedAllocation`.
-    pub fn offered(alloc: Global, window: u32) -> Result<StreamRec, RefusedAllocation>
+    pub fn offered(alloc: Global, warm: &mut Warm, window: u32) -> Result<StreamRec, RefusedAllocation>
         requires { first_credit ≤ window }
         ensures { IfOk result (λ stream. stream ≡ new_end window OfferedPhase false false) }
     {
-        let writer = Sending::Open(SendHalf::new(alloc)?);
-        let reader = Receiving::Open(RecvHalf::new(alloc, window)?);
+        let writer = Sending::Open(SendHalf::new(alloc, warm)?);
+        let reader = Receiving::Open(RecvHalf::new(alloc, warm, window)?);
         let marks = Marks {
             syn: false,
             with_data: false,
@@ -296,14 +298,14 @@ impl StreamRec {
     /// more. Without that memory it answers `RefusedAllocation`, and nothing has changed.
     ///
     /// Example: of 300,000 bytes a new stream takes 262,144, and then none, until the peer grants more.
-    pub fn write(&mut self, bytes: &[u8]) -> Result<usize, RefusedAllocation>
+    pub fn write(&mut self, warm: &mut Warm, bytes: &[u8]) -> Result<usize, RefusedAllocation>
         requires { self.old.writer.finished ≡ false }
         ensures took_min { IfOk result (λ count. count ≡ min (length bytes.now) self.old.writer.credit) }
         ensures wrote { IfOk result (λ count. self.new ≡ end_write (take count bytes.now) self.old) }
         ensures in_room { length self.old.writer.unsent + min (length bytes.now) self.old.writer.credit ≤ first_credit → IsOk result }
         ensures refused_unchanged { OnErr result (self.new ≡ self.old) }
     {
-        self.writer.write(bytes)
+        self.writer.write(warm, bytes)
     }
 
     /// Moves the first unread bytes into `buffer`, as many as are there and fit, and returns their
@@ -311,21 +313,21 @@ impl StreamRec {
     ///
     /// Example: of a window of 262,144 bytes the first 131,071 that are read make no credit due, and one
     /// byte more does.
-    pub fn read(&mut self, buffer: &mut [u8]) -> usize
+    pub fn read(&mut self, warm: &mut Warm, buffer: &mut [u8]) -> usize
         ensures count { result ≡ min (length buffer.old) (length self.old.reader.unread) }
         ensures gave { buffer.new ≡ take result self.old.reader.unread ++ drop result buffer.old }
         ensures after { self.new ≡ end_read result self.old }
     {
-        self.reader.read(buffer)
+        self.reader.read(warm, buffer)
     }
 
     /// Drops the first `count` unread bytes, or as many as are there, as a read of them would take them out, and
     /// returns their number. The caller has seen them by `unread`.
-    pub fn consume(&mut self, count: usize) -> usize
+    pub fn consume(&mut self, warm: &mut Warm, count: usize) -> usize
         ensures count { result ≡ min count (length self.old.reader.unread) }
         ensures after { self.new ≡ end_read result self.old }
     {
-        self.reader.consume(count)
+        self.reader.consume(warm, count)
     }
 
     /// Nothing more is written (half-close): the unsent bytes go out, and then the end.
@@ -348,12 +350,12 @@ impl StreamRec {
     /// Both directions of a stream that was neither reset nor given up are over (flags): what is unread
     /// and unsent is dropped, with its memory. An RST is due, behind a SYN that hasn't gone out, and nothing
     /// else. The stream is then at `stage`, which is `Reset` or `Lingering`.
-    pub fn reset(&mut self, stage: Stage)
+    pub fn reset(&mut self, warm: &mut Warm, stage: Stage)
         requires up { takes self.old.phase ≡ true }
         requires over { takes (phase_of stage) ≡ false }
         ensures { self.new ≡ end_reset (phase_of stage) self.old }
     {
-        self.drop_halves(stage);
+        self.drop_halves(warm, stage);
         self.marks = self.marks.only(self.marks.syn, true);
     }
 
@@ -362,33 +364,40 @@ impl StreamRec {
     /// In a lost session nothing is sent any more. A stream that was reset stays so. One that was finished
     /// here, and whose peer has ended, drops what is unread, and still sends its bytes and its FIN. Any
     /// other is reset.
-    pub fn forget(&mut self, lost: bool)
+    pub fn forget(&mut self, warm: &mut Warm, lost: bool)
         requires { is_lingering self.old.phase ≡ false }
         ensures { self.new ≡ end_forget lost self.old }
     {
         if lost {
-            self.drop_halves(Stage::Lingering);
+            self.drop_halves(warm, Stage::Lingering);
             self.marks = self.marks.only(false, false);
             return;
         }
         if self.stage != Stage::Reset {
             if self.writer.is_finished() && self.reader.has_ended() {
-                self.reader.empty();
+                self.reader.empty(warm);
             } else {
-                self.reset(Stage::Lingering);
+                self.reset(warm, Stage::Lingering);
             }
         }
         self.stage = Stage::Lingering;
     }
 
     /// Both halves are over.
-    fn drop_halves(&mut self, stage: Stage)
+    fn drop_halves(&mut self, warm: &mut Warm, stage: Stage)
         requires { takes (phase_of stage) ≡ false }
         ensures { self.new ≡ record self.old { phase = phase_of stage; writer = dead_writer; reader = dead_reader } }
     {
-        mem::replace(&mut self.writer, Sending::Dead(DeadHalf)).reset();
-        mem::replace(&mut self.reader, Receiving::Dead(DeadHalf)).reset();
+        mem::replace(&mut self.writer, Sending::Dead(DeadHalf)).reset(warm);
+        mem::replace(&mut self.reader, Receiving::Dead(DeadHalf)).reset(warm);
         self.stage = stage;
+    }
+
+    /// The record goes: the blocks of its rings are kept for the next stream.
+    pub fn end(self, warm: &mut Warm) {
+        let StreamRec { writer, reader, .. } = self;
+        writer.reset(warm);
+        reader.reset(warm);
     }
 
     // ---- frames that come
@@ -398,11 +407,11 @@ impl StreamRec {
     /// drops the piece and the end.
     ///
     /// Example: a new stream takes 262,144 bytes, and then none, until it has announced more.
-    pub fn receive_piece(&mut self, fin: bool, bytes: &[u8])
+    pub fn receive_piece(&mut self, warm: &mut Warm, fin: bool, bytes: &[u8])
         requires { takes_payload self.old ≡ true → length bytes.now ≤ self.old.reader.granted }
         ensures { self.new ≡ receive_piece fin bytes.now self.old }
     {
-        self.receive_data(bytes);
+        self.receive_data(warm, bytes);
         if fin {
             self.receive_fin();
         }
@@ -444,7 +453,7 @@ impl StreamRec {
 
     /// The peer has reset the stream (flags): what is unread and unsent is dropped, with its memory, and
     /// nothing is due any more. The record of an offered stream goes instead.
-    pub fn receive_rst(&mut self)
+    pub fn receive_rst(&mut self, warm: &mut Warm)
         requires { is_offered self.old.phase ≡ false }
         ensures { self.new ≡ receive_rst self.old }
     {
@@ -452,17 +461,17 @@ impl StreamRec {
             Stage::Lingering => Stage::Lingering,
             _ => Stage::Reset,
         };
-        self.drop_halves(stage);
+        self.drop_halves(warm, stage);
         self.marks = self.marks.only(false, false);
     }
 
     /// Payload comes, which a stream that doesn't take it drops.
-    fn receive_data(&mut self, bytes: &[u8])
+    fn receive_data(&mut self, warm: &mut Warm, bytes: &[u8])
         requires { takes_payload self.old ≡ true → length bytes.now ≤ self.old.reader.granted }
         ensures { self.new ≡ receive_data bytes.now self.old }
     {
         if self.takes_payload() {
-            self.reader.arrive(bytes);
+            self.reader.arrive(warm, bytes);
         }
     }
 
@@ -538,6 +547,7 @@ impl StreamRec {
     /// from now on.
     pub fn begin_frame(
         &mut self,
+        warm: &mut Warm,
         kind: FrameKind,
         window: u32,
         limit: u32,
@@ -554,7 +564,7 @@ impl StreamRec {
         let count = self.payload_len(kind, limit) as usize;
         put_header(&header, buffer);
         self.mark_begun(kind, window);
-        self.put_payload(count, buffer);
+        self.put_payload(warm, count, buffer);
         HEADER_LENGTH + count
     }
 
@@ -636,13 +646,13 @@ impl StreamRec {
     }
 
     /// Moves the next `count` unsent bytes to the place behind a header.
-    fn put_payload(&mut self, count: usize, buffer: &mut [u8])
+    fn put_payload(&mut self, warm: &mut Warm, count: usize, buffer: &mut [u8])
         requires there { count ≤ length self.old.writer.unsent }
         requires fits { 12 + count ≤ length buffer.old }
         ensures written { buffer.new ≡ take 12 buffer.old ++ take count self.old.writer.unsent ++ drop (12 + count) buffer.old }
         ensures goes { self.new ≡ record self.old { writer = writer_send count self.old.writer } }
     {
         self.writer
-            .take(&mut buffer[HEADER_LENGTH..HEADER_LENGTH + count]);
+            .take(warm, &mut buffer[HEADER_LENGTH..HEADER_LENGTH + count]);
     }
 }

@@ -5,9 +5,12 @@
 
 ghost use Rattle.std.specs.Prelude.{◌≡◌, ◌+◌, ◌^◌, ◌<◌, ◌≤◌, ◌↔◌, [], ◌++◌, length, take, drop, min, IsTrue, IfOk, OnOk, OnErr};
 
+mod warm;
+
 use circular_buffer::HeapCircularBuffer;
 use std::alloc::Global;
 use std::marker::Model;
+pub use warm::Warm;
 use ymx_memory::RefusedAllocation;
 
 /// A queue of bytes in one block of memory. Its capacity is set when it is made, and only `grow` changes it.
@@ -68,6 +71,82 @@ impl Ring {
         ensures same_capacity { self.new.capacity ≡ self.old.capacity }
     {
         self.bytes.read_into(buffer)
+    }
+
+    /// As `put`. An empty ring first exchanges its block for the one of `warm` that was used last.
+    pub fn put_warm(&mut self, warm: &mut Warm, bytes: &[u8])
+        requires { length self.old.items + length bytes.now ≤ self.old.capacity }
+        ensures at_back { self.new.items ≡ self.old.items ++ bytes.now }
+        ensures same_capacity { self.new.capacity ≡ self.old.capacity }
+    {
+        if !bytes.is_empty() {
+            warm.lend(&mut self.bytes);
+        }
+        self.bytes.fill_from_slice(bytes);
+    }
+
+    /// As `take`. A ring that gets empty gives its block to `warm`, for one that was used longer ago.
+    pub fn take_warm(&mut self, warm: &mut Warm, buffer: &mut [u8]) -> usize
+        ensures count { result ≡ min (length buffer.old) (length self.old.items) }
+        ensures taken { buffer.new ≡ take result self.old.items ++ drop result buffer.old }
+        ensures left { self.new.items ≡ drop result self.old.items }
+        ensures same_capacity { self.new.capacity ≡ self.old.capacity }
+    {
+        let count = self.len();
+        if count == 0 || count > buffer.len() {
+            return self.bytes.read_into(buffer);
+        }
+        // All go: `clear` leaves the place where the block's bytes begin, which `read_into` would move on.
+        let (first, wrapped) = self.bytes.as_slices();
+        let cut = first.len();
+        buffer[..cut].copy_from_slice(first);
+        buffer[cut..count].copy_from_slice(wrapped);
+        self.bytes.clear();
+        warm.give_back(&mut self.bytes);
+        count
+    }
+
+    /// As `skip`. A ring that gets empty gives its block to `warm`, for one that was used longer ago.
+    pub fn skip_warm(&mut self, warm: &mut Warm, count: usize)
+        requires { count ≤ length self.old.items }
+        ensures left { self.new.items ≡ drop count self.old.items }
+        ensures same_capacity { self.new.capacity ≡ self.old.capacity }
+    {
+        if count < self.len() {
+            self.skip(count);
+        } else if count > 0 {
+            self.cool(warm);
+        }
+    }
+
+    /// As `clear`. The block goes to `warm`, for one that was used longer ago.
+    pub fn cool(&mut self, warm: &mut Warm)
+        ensures empty { self.new.items ≡ [] }
+        ensures same_capacity { self.new.capacity ≡ self.old.capacity }
+    {
+        self.bytes.clear();
+        warm.give_back(&mut self.bytes);
+    }
+
+    /// As `new`, but with a block of this capacity that `warm` kept of a ring that is gone, where it has one.
+    pub fn new_warm(
+        alloc: Global,
+        warm: &mut Warm,
+        capacity: usize,
+    ) -> Result<Ring, RefusedAllocation>
+        ensures empty { IfOk result (λ ring. ring.items ≡ []) }
+        ensures of_capacity { IfOk result (λ ring. ring.capacity ≡ capacity) }
+    {
+        match warm.kept(capacity) {
+            Some(bytes) => Ok(Ring { bytes }),
+            None => Ring::new(alloc, capacity),
+        }
+    }
+
+    /// Ends the ring. Its block is kept for the next one, if there is room for it in `warm`.
+    pub fn end(self, warm: &mut Warm) {
+        let Ring { bytes } = self;
+        warm.keep(bytes);
     }
 
     /// Returns the first bytes, as they lie in the ring's block. None is taken out.

@@ -18,6 +18,7 @@ mod due;
 mod due_places;
 mod flags;
 mod law;
+mod making;
 mod stream;
 mod turn;
 mod unacknowledged;
@@ -30,6 +31,7 @@ use std::marker::Model;
 pub use turn::NextFrame;
 use ymx_half::StreamRec;
 use ymx_memory::RefusedAllocation;
+use ymx_ring::Warm;
 
 /// How many records a table holds at most: 1,024.
 pub const MOST_RECORDS: usize = 1024;
@@ -47,6 +49,8 @@ pub struct Table {
     due: DuePlaces,
     /// Where a record was found last. A following call on the same stream finds it there, and hashes no id.
     last: usize,
+    /// The blocks of memory with which the streams' rings take turns, and those of streams that are gone.
+    warm: Warm,
 }
 
 impl Model for Table {
@@ -74,6 +78,7 @@ impl Table {
             turn: 0,
             due: DuePlaces::new(),
             last: 0,
+            warm: Warm::new(alloc),
         }
     }
 
@@ -162,7 +167,7 @@ impl Table {
         ensures { self.new ≡ remove_record id self.old }
     {
         let place = self.place_of(id);
-        self.records.shift_remove_index(place);
+        end_of(self.records.shift_remove_index(place), &mut self.warm);
         self.due.remove(place);
         if place < self.turn {
             self.turn -= 1;
@@ -211,5 +216,12 @@ impl Table {
         ensures { StandsAt id self.now result }
     {
         self.find_near(id, near).unwrap()
+    }
+}
+
+/// The record that was removed ends. Its memory is kept for the next stream.
+fn end_of(removed: Option<(u32, StreamRec)>, warm: &mut Warm) {
+    if let Some((_, stream)) = removed {
+        stream.end(warm);
     }
 }

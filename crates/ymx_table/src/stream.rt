@@ -38,7 +38,7 @@ impl Table {
         let place = self.place_of(id);
         self.last = place;
         let stream = &mut self.records[place];
-        let wrote = stream.write(bytes);
+        let wrote = stream.write(&mut self.warm, bytes);
         let is_due = stream.is_due(self.window);
         self.due.set(place, is_due);
         wrote
@@ -77,7 +77,7 @@ impl Table {
         let place = self.place_of(id);
         self.last = place;
         let stream = &mut self.records[place];
-        let count = stream.read(buffer);
+        let count = stream.read(&mut self.warm, buffer);
         let is_due = stream.is_due(self.window);
         self.due.set(place, is_due);
         count
@@ -93,7 +93,7 @@ impl Table {
         let place = self.place_of(id);
         self.last = place;
         let stream = &mut self.records[place];
-        let taken = stream.consume(count);
+        let taken = stream.consume(&mut self.warm, count);
         let is_due = stream.is_due(self.window);
         self.due.set(place, is_due);
         taken
@@ -127,7 +127,12 @@ impl Table {
         requires over { takes (phase_of stage) ≡ false }
         ensures { self.new ≡ with_record id (end_reset (phase_of stage)) self.old }
     {
-        self.change(id, |stream| stream.reset(stage));
+        let place = self.place_of(id);
+        self.last = place;
+        let stream = &mut self.records[place];
+        stream.reset(&mut self.warm, stage);
+        let is_due = stream.is_due(self.window);
+        self.due.set(place, is_due);
     }
 
     /// The stream is given up, and lingers until what it still has to send went out. In a lost session that
@@ -137,7 +142,12 @@ impl Table {
         requires held { ForSome (look id self.old.entries) (λ e. is_lingering e.phase ≡ false) }
         ensures { self.new ≡ with_record id (end_forget lost) self.old }
     {
-        self.change(id, |stream| stream.forget(lost));
+        let place = self.place_of(id);
+        self.last = place;
+        let stream = &mut self.records[place];
+        stream.forget(&mut self.warm, lost);
+        let is_due = stream.is_due(self.window);
+        self.due.set(place, is_due);
     }
 
     // ---- frames that come
@@ -148,7 +158,14 @@ impl Table {
         requires { IfSome (look id self.old.entries) (λ e. takes_payload e ≡ true → length bytes.now ≤ e.reader.granted) }
         ensures { self.new ≡ with_record id (receive_piece fin bytes.now) self.old }
     {
-        self.change(id, |stream| stream.receive_piece(fin, bytes));
+        let Some(place) = self.find(id) else {
+            return;
+        };
+        self.last = place;
+        let stream = &mut self.records[place];
+        stream.receive_piece(&mut self.warm, fin, bytes);
+        let is_due = stream.is_due(self.window);
+        self.due.set(place, is_due);
     }
 
     /// A piece of a payload comes, and behind it the peer's end if `fin`, and is read at once: `receive_piece` of these
@@ -179,7 +196,12 @@ impl Table {
         requires not_offered { ForSome (look id self.old.entries) (λ e. is_offered e.phase ≡ false) }
         ensures { self.new ≡ with_record id receive_rst self.old }
     {
-        self.change(id, |stream| stream.receive_rst());
+        let place = self.place_of(id);
+        self.last = place;
+        let stream = &mut self.records[place];
+        stream.receive_rst(&mut self.warm);
+        let is_due = stream.is_due(self.window);
+        self.due.set(place, is_due);
     }
 
     /// Changes the record under this id, and its flag with it. `None` if there is none.

@@ -1,8 +1,13 @@
--- One record changes.
-use Rattle.std.proofs.Common.{rules}
+-- One record changes, and its flag with it.
 use Rattle.ymx_model.specs.session.Records.{end_forget}
-use Rattle.ymx_table.proofs.Writes.{changed}
+use Rattle.ymx_table.proofs.Writes.{written, kept-written, flags_within}
 use Rattle.ymx_table.proofs.Table.forget.Goals as goal
 
+pub set-requires : goal.set-requires
+set-requires c = flags_within c.self.view_is c.self.invariant c.place_of-place.ensures
+
+pub invariant_of-self : goal.invariant_of-self
+invariant_of-self c = kept-written c.self.view_is c.place_of-place.ensures c.index_mut-stream.ensures.value _ c.self.invariant c.is_due-is_due.ensures c.set.ensures
+
 pub returns : goal.returns
-returns c = changed _ c.args.id (end_forget c.args.lost) _ _ _ c.change.ensures (λ e after answer ran. search rules)
+returns c = written c.self.view_is c.place_of-place.ensures c.index_mut-stream.ensures.value (end_forget c.args.lost) _ c.forget.ensures

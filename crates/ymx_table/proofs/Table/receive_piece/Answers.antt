@@ -1,8 +1,13 @@
--- One record changes.
-use Rattle.std.proofs.Common.{rules}
+-- One record changes, or none, and its flag with it.
 use Rattle.ymx_model.specs.session.Records.{receive_piece}
-use Rattle.ymx_table.proofs.Writes.{changed}
+use Rattle.ymx_table.proofs.Writes.{untouched, written, kept-written}
 use Rattle.ymx_table.proofs.Table.receive_piece.Goals as goal
 
+pub returns-in_default : goal.returns-in_default
+returns-in_default c = untouched c.args.id (receive_piece c.args.fin c.args.bytes.now) c.args.self.now c.in_default.ensures
+
+pub invariant_of-self : goal.invariant_of-self
+invariant_of-self c = kept-written c.self.view_is c.in-Some.ensures c.index_mut-stream.ensures.value _ c.self.invariant c.is_due-is_due.ensures c.set.ensures
+
 pub returns : goal.returns
-returns c = changed _ c.args.id (receive_piece c.args.fin c.args.bytes.now) _ _ _ c.change.ensures (λ e after answer ran. search rules)
+returns c = written c.self.view_is c.in-Some.ensures c.index_mut-stream.ensures.value (receive_piece c.args.fin c.args.bytes.now) _ c.receive_piece.ensures

@@ -1,0 +1,103 @@
+//! Blocks of memory that rings take turns with.
+
+ghost use Rattle.std.specs.Prelude.{◌≡◌, [], Some, IfSome};
+ghost use Rattle.circular_buffer.specs.Buffer.{buffer};
+
+use circular_buffer::HeapCircularBuffer;
+use std::alloc::Global;
+use std::mem;
+
+/// How many blocks are lent at most.
+const MOST_LENT: usize = 16;
+
+/// How many blocks of rings that are gone are kept at most.
+const MOST_KEPT: usize = 32;
+
+/// Blocks that rings use one after another, so that few of them are in use at a time and the processor's caches hold
+/// them. A ring always has a block of its own: one that is put into while it is empty exchanges it for the block that
+/// was given back last, and gives that one back as soon as it is empty again. Only empty blocks of one capacity are
+/// exchanged, so no contract of a ring sees it.
+///
+/// Beside these it keeps the blocks of rings that are gone for the rings of later streams.
+#[derive(Drop)]
+pub struct Warm {
+    /// The blocks that are lent: the first `given` were given back, the last of them last.
+    lent: Vec<HeapCircularBuffer<u8>>,
+    given: usize,
+    kept: Vec<HeapCircularBuffer<u8>>,
+}
+
+impl Warm {
+    /// Makes one with no block. It takes no memory.
+    pub fn new(alloc: Global) -> Warm {
+        Warm {
+            lent: Vec::new(alloc),
+            given: 0,
+            kept: Vec::new(alloc),
+        }
+    }
+
+    /// Has one more block of this capacity to lend, unless 16 are there. Without memory for it nothing changes.
+    pub fn stock(&mut self, alloc: Global, capacity: usize) {
+        if self.lent.len() < MOST_LENT {
+            if let Ok(block) = ymx_memory::ring(alloc, capacity) {
+                let _stocked = ymx_memory::push(&mut self.lent, block);
+            }
+        }
+    }
+
+    /// Exchanges the block of a ring that is about to be put into for the one that was given back last, if it is empty.
+    pub(crate) fn lend(&mut self, block: &mut HeapCircularBuffer<u8>)
+        ensures { block.new ≡ block.old }
+    {
+        if self.given > 0 && self.given <= self.lent.len() && block.is_empty() {
+            self.given -= 1;
+            exchange(block, &mut self.lent[self.given]);
+        }
+    }
+
+    /// Takes the block of a ring that got empty, for one that was given back longer ago, if it is empty.
+    pub(crate) fn give_back(&mut self, block: &mut HeapCircularBuffer<u8>)
+        ensures { block.new ≡ block.old }
+    {
+        let count = self.lent.len();
+        if count > 0 && block.is_empty() {
+            let at = self.given.min(count - 1);
+            exchange(block, &mut self.lent[at]);
+            self.given = at + 1;
+        }
+    }
+
+    /// A block of this capacity that was kept, the last one.
+    pub(crate) fn kept(&mut self, capacity: usize) -> Option<HeapCircularBuffer<u8>>
+        ensures { IfSome result (λ block. block ≡ buffer [] capacity) }
+    {
+        let last = self.kept.len().checked_sub(1)?;
+        // A stream's two rings are kept one after the other, and may have two capacities.
+        let before = last.saturating_sub(1);
+        let at = if self.kept[last].capacity() == capacity { last } else { before };
+        let mut block = self.kept.swap_remove(at);
+        block.clear();
+        if block.capacity() != capacity {
+            return None;
+        }
+        Some(block)
+    }
+
+    /// Keeps the block of a ring that is gone, unless 32 are kept or there is no memory to note it.
+    pub(crate) fn keep(&mut self, block: HeapCircularBuffer<u8>) {
+        if self.kept.len() < MOST_KEPT {
+            let _kept = ymx_memory::push(&mut self.kept, block);
+        }
+    }
+}
+
+/// Swaps two empty blocks of one capacity. Others stay where they are.
+fn exchange(block: &mut HeapCircularBuffer<u8>, other: &mut HeapCircularBuffer<u8>)
+    requires { block.old.items ≡ [] }
+    ensures { block.new ≡ block.old }
+{
+    if other.is_empty() && other.capacity() == block.capacity() {
+        mem::swap(block, other);
+    }
+}
