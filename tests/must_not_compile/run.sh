@@ -11,7 +11,7 @@ here=$(cd "$(dirname "$0")" && pwd)
 copy_repository
 mkdir -p "$scratch/crates/misuse/src" "$scratch/crates/misuse_of_hubs/src" "$scratch/crates/misuse_of_the_door/src"
 {
-    echo "misuse: ymx_half ymx_memory"
+    echo "misuse: ymx_half ymx_ring ymx_memory"
     echo "misuse_of_hubs: ymx_hub $(below ymx_hub)"
     echo "misuse_of_the_door: ymx_connect $(below ymx_connect)"
 } >> "$scratch/crates.txt"

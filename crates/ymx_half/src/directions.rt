@@ -26,7 +26,11 @@ impl Sending {
     ghost use Rattle.ymx_half.specs.Through.{writer_spend};
 
     /// Takes the first bytes that the credit allows, of which a dead half has none. See `SendHalf::write`.
-    pub(crate) fn write(&mut self, warm: &mut Warm, bytes: &[u8]) -> Result<usize, RefusedAllocation>
+    pub(crate) fn write(
+        &mut self,
+        warm: &mut Warm,
+        bytes: &[u8],
+    ) -> Result<usize, RefusedAllocation>
         requires { (writer_of self.old).finished ≡ false }
         ensures took_min { IfOk result (λ count. count ≡ min (length bytes.now) (writer_of self.old).credit) }
         ensures wrote { IfOk result (λ count. writer_of self.new ≡ writer_write (take count bytes.now) (writer_of self.old)) }

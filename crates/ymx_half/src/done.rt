@@ -66,7 +66,8 @@ impl DoneHalf {
         self.fin_sent = true;
     }
 
-    /// The stream is reset: the unsent bytes and the end are dropped, and the memory is given back.
+    /// The stream is reset: the unsent bytes and the end are dropped, and `warm` has their block for the next
+    /// stream.
     pub fn reset(self, warm: &mut Warm) -> DeadHalf {
         let DoneHalf { unsent, .. } = self;
         unsent.end(warm);

@@ -94,7 +94,7 @@ impl EndedHalf {
         self.unread.cool(warm);
     }
 
-    /// The stream is reset: the unread bytes are dropped, and their memory is given back.
+    /// The stream is reset: the unread bytes are dropped, and `warm` has their block for the next stream.
     pub fn reset(self, warm: &mut Warm) -> DeadHalf {
         let EndedHalf { unread, .. } = self;
         unread.end(warm);

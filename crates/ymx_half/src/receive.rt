@@ -132,7 +132,7 @@ impl RecvHalf {
         EndedHalf::new(unread, granted, debt)
     }
 
-    /// The stream is reset: the unread bytes are dropped, and their memory is given back.
+    /// The stream is reset: the unread bytes are dropped, and `warm` has their block for the next stream.
     pub fn reset(self, warm: &mut Warm) -> DeadHalf {
         let RecvHalf { unread, .. } = self;
         unread.end(warm);

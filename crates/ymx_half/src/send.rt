@@ -109,7 +109,7 @@ impl SendHalf {
         DoneHalf::new(credit, unsent)
     }
 
-    /// The stream is reset: the unsent bytes are dropped, and their memory is given back.
+    /// The stream is reset: the unsent bytes are dropped, and `warm` has their block for the next stream.
     pub fn reset(self, warm: &mut Warm) -> DeadHalf {
         let SendHalf { unsent, .. } = self;
         unsent.end(warm);

@@ -177,7 +177,11 @@ impl StreamRec {
     /// Makes the record of a stream that the peer opened, with memory as for `opened`. Nothing is due of
     /// it yet. Before it is accepted no ACK and no credit is; bytes that are written, an end and a reset
     /// are due at once. Without the memory it answers `RefusedAllocation`.
-    pub fn offered(alloc: Global, warm: &mut Warm, window: u32) -> Result<StreamRec, RefusedAllocation>
+    pub fn offered(
+        alloc: Global,
+        warm: &mut Warm,
+        window: u32,
+    ) -> Result<StreamRec, RefusedAllocation>
         requires { first_credit ≤ window }
         ensures { IfOk result (λ stream. stream ≡ new_end window OfferedPhase false false) }
     {
@@ -348,7 +352,7 @@ impl StreamRec {
     }
 
     /// Both directions of a stream that was neither reset nor given up are over (flags): what is unread
-    /// and unsent is dropped, with its memory. An RST is due, behind a SYN that hasn't gone out, and nothing
+    /// and unsent is dropped, and `warm` has its memory. An RST is due, behind a SYN that hasn't gone out, and nothing
     /// else. The stream is then at `stage`, which is `Reset` or `Lingering`.
     pub fn reset(&mut self, warm: &mut Warm, stage: Stage)
         requires up { takes self.old.phase ≡ true }
@@ -451,7 +455,7 @@ impl StreamRec {
         }
     }
 
-    /// The peer has reset the stream (flags): what is unread and unsent is dropped, with its memory, and
+    /// The peer has reset the stream (flags): what is unread and unsent is dropped, and `warm` has its memory;
     /// nothing is due any more. The record of an offered stream goes instead.
     pub fn receive_rst(&mut self, warm: &mut Warm)
         requires { is_offered self.old.phase ≡ false }

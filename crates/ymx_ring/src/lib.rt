@@ -82,7 +82,7 @@ impl Ring {
         if !bytes.is_empty() {
             warm.lend(&mut self.bytes);
         }
-        self.bytes.fill_from_slice(bytes);
+        self.put(bytes);
     }
 
     /// As `take`. A ring that gets empty gives its block to `warm`, for one that was used longer ago.
@@ -94,15 +94,14 @@ impl Ring {
     {
         let count = self.len();
         if count == 0 || count > buffer.len() {
-            return self.bytes.read_into(buffer);
+            return self.take(buffer);
         }
         // All go: `clear` leaves the place where the block's bytes begin, which `read_into` would move on.
         let (first, wrapped) = self.bytes.as_slices();
         let cut = first.len();
         buffer[..cut].copy_from_slice(first);
         buffer[cut..count].copy_from_slice(wrapped);
-        self.bytes.clear();
-        warm.give_back(&mut self.bytes);
+        self.cool(warm);
         count
     }
 
@@ -124,7 +123,7 @@ impl Ring {
         ensures empty { self.new.items ≡ [] }
         ensures same_capacity { self.new.capacity ≡ self.old.capacity }
     {
-        self.bytes.clear();
+        self.clear();
         warm.give_back(&mut self.bytes);
     }
 

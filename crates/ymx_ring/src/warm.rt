@@ -75,7 +75,11 @@ impl Warm {
         let last = self.kept.len().checked_sub(1)?;
         // A stream's two rings are kept one after the other, and may have two capacities.
         let before = last.saturating_sub(1);
-        let at = if self.kept[last].capacity() == capacity { last } else { before };
+        let at = if self.kept[last].capacity() == capacity {
+            last
+        } else {
+            before
+        };
         let mut block = self.kept.swap_remove(at);
         block.clear();
         if block.capacity() != capacity {

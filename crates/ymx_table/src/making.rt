@@ -12,8 +12,8 @@ use ymx_memory::RefusedAllocation;
 
 impl Table {
     /// Makes the record of a stream that is opened here, with as many of these first bytes as its credit allows, and
-    /// says how many these are. See `StreamRec::opened`. It takes memory where no stream left any. The table is as it
-    /// was.
+    /// says how many these are. See `StreamRec::opened`. It takes memory where no stream left any; without it it
+    /// answers `RefusedAllocation`. The table is as it was.
     pub fn opened(
         &mut self,
         alloc: Global,
@@ -32,7 +32,7 @@ impl Table {
     }
 
     /// Makes the record of a stream that the peer opened. See `StreamRec::offered`. It takes memory where no stream
-    /// left any. The table is as it was.
+    /// left any; without it it answers `RefusedAllocation`. The table is as it was.
     pub fn offered(&mut self, alloc: Global) -> Result<StreamRec, RefusedAllocation>
         ensures made { IfOk result (λ stream. stream ≡ new_end self.old.window OfferedPhase false false) }
         ensures same { self.new ≡ self.old }

@@ -59,7 +59,14 @@ impl Table {
     {
         let place = self.place_near(next.id, next.place);
         let stream = &mut self.records[place];
-        let count = stream.begin_frame(&mut self.warm, next.kind, self.window, limit, next.id, buffer);
+        let count = stream.begin_frame(
+            &mut self.warm,
+            next.kind,
+            self.window,
+            limit,
+            next.id,
+            buffer,
+        );
         let is_due = stream.is_due(self.window);
         self.due.set(place, is_due);
         self.turn = place + 1;
