@@ -1,7 +1,8 @@
 //! Which streams what came has changed.
 
-ghost use Rattle.std.specs.Prelude.{◌≡◌, ◌≤◌, length, nat_eq, true, false, IfOk};
+ghost use Rattle.std.specs.Prelude.{◌≡◌, ◌+◌, ◌≤◌, [], length, nat_eq, true, false, IfOk};
 ghost use Rattle.std.specs.List.{IsDistinct};
+ghost use Rattle.indexmap.specs.IndexSet.{index_set_len, spare};
 ghost use Rattle.ymx_machine.specs.shared.Limits.{most_records};
 ghost use Rattle.ymx_session.specs.Touched.{nothing_noted, note, note_head};
 
@@ -11,6 +12,10 @@ use std::marker::Model;
 use ymx_header::{Header, TYPE_GO_AWAY, TYPE_PING};
 use ymx_memory::RefusedAllocation;
 use ymx_table::MOST_RECORDS;
+
+/// How many ids are taken out one by one. The index of a set holds up to 12 in a group, and a group that was once too
+/// full stays marked, and later searches go on behind it, until the whole index is cleared. So few mark none.
+const FEW: usize = 12;
 
 /// The streams that what came has touched, each once, in the order in which they were first touched, and whether
 /// an answer to a ping came. The caller owns it and lends it to each `feed_touching`, which adds to it.
@@ -98,7 +103,7 @@ impl Touched {
     pub fn clear(&mut self)
         ensures { self.new ≡ nothing_noted self.old.blind }
     {
-        self.ids.clear();
+        forget_ids(&mut self.ids);
         self.last = None;
         self.all = self.blind;
         self.ponged = self.blind;
@@ -130,5 +135,19 @@ impl Touched {
             TYPE_GO_AWAY => {}
             _ => self.note(header.id),
         }
+    }
+}
+
+/// Takes all ids out, and keeps the memory. The cost is that of the ids that are there: a session is fed up to twice a
+/// frame, mostly of one stream, and a set that is cleared writes the 8 KiB of its whole index.
+fn forget_ids(ids: &mut IndexSet<u32>)
+    ensures none { ids.new.keys ≡ [] }
+    ensures once { IsDistinct nat_eq ids.new.keys }
+    ensures room { index_set_len ids.old + spare ids.old ≤ spare ids.new }
+{
+    if ids.len() <= FEW {
+        ids.truncate(0);
+    } else {
+        ids.clear();
     }
 }
