@@ -226,6 +226,13 @@ impl StreamRec {
         self.writer.credit()
     }
 
+    /// How many bytes were written and belong to no frame yet.
+    pub fn unsent_len(&self) -> usize
+        ensures { result ≡ length self.now.writer.unsent }
+    {
+        self.writer.unsent_len()
+    }
+
     /// Whether the peer's end has arrived.
     pub fn has_ended(&self) -> bool
         ensures { result ≡ self.now.reader.ended }

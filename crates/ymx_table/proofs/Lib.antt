@@ -6,3 +6,4 @@ pub mod Writes
 pub mod Bits
 pub mod FlagWords
 pub mod DueFlags
+pub mod HeldIds

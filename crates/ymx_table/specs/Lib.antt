@@ -4,3 +4,4 @@ pub mod Others
 pub mod Flags
 pub mod Turns
 pub mod Changes
+pub mod Listing

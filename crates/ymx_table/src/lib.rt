@@ -18,6 +18,7 @@ mod due;
 mod due_places;
 mod flags;
 mod law;
+mod listing;
 mod making;
 mod stream;
 mod turn;
