@@ -1,8 +1,10 @@
--- What a stream of the caller's can give and take now (flow control).
-use Rattle.std.specs.Prelude.{ℕ, List, [], ◌||◌, is_some, if◌then◌else◌, Option, None, Some}
+-- What a caller can ask of its streams (flow control, half-close, flags).
+use Rattle.std.specs.Prelude.{ℕ, List, [], ◌||◌, is_some, if◌then◌else◌, Bool, false, Option, None, Some}
 use Rattle.ymx_model.specs.session.Records.{End}
 use Rattle.ymx_machine.specs.shared.Lists.{look}
 use Rattle.ymx_model.specs.session.Sessions.{Session, is_lost}
+use Rattle.ymx_model.specs.session.Calls.{unsent_count}
+use Rattle.ymx_table.specs.Listing.{held_ids}
 use Rattle.ymx_session.specs.Replies.{stream_fault}
 
 -- the bytes of a stream that came and were not read
@@ -22,3 +24,30 @@ open_credit (Some e) = if e.writer.finished then 0 else e.writer.credit
 -- how many bytes may be written now to the stream that the caller has under this id; 0, if there is no such stream
 abbrev pub room_of : ℕ → Session → ℕ
 room_of id s = if is_some (stream_fault id s) || is_lost s.status then 0 else open_credit (look id s.table.entries)
+
+-- the peer's end of a stream has arrived
+abbrev pub ended_of : Option End → Bool
+ended_of None = false
+ended_of (Some e) = e.reader.ended
+
+-- the peer's end has arrived of the stream that the caller has under this id; false, if there is no such stream
+abbrev pub has_ended : ℕ → Session → Bool
+has_ended id s = if is_some (stream_fault id s) then false else ended_of (look id s.table.entries)
+
+-- how many bytes are written to the stream that the caller has under this id, and stand in no frame begun yet; 0, if
+-- there is no such stream
+abbrev pub unsent_of : ℕ → Session → ℕ
+unsent_of id s = if is_some (stream_fault id s) then 0 else unsent_count (look id s.table.entries)
+
+-- the peer has acknowledged a stream
+abbrev pub acknowledged_of : Option End → Bool
+acknowledged_of None = false
+acknowledged_of (Some e) = e.marks.acked
+
+-- the peer has acknowledged the stream that the caller has under this id; false, if there is no such stream
+abbrev pub is_acknowledged : ℕ → Session → Bool
+is_acknowledged id s = if is_some (stream_fault id s) then false else acknowledged_of (look id s.table.entries)
+
+-- the streams that the caller has, in the order of the table
+abbrev pub stream_ids : Session → List ℕ
+stream_ids s = held_ids [] s.table.entries

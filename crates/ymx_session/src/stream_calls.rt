@@ -2,10 +2,12 @@
 
 ghost use Rattle.std.specs.Prelude.{◌≡◌, ◌<◌, ◌≤◌, ◌↔◌, ◌++◌, [], ◌∷◌, length, take, drop, true, false, None, Some, IsTrue, IfOk, IfErr};
 ghost use Rattle.ymx_machine.specs.declared.types.Call.TheVariants as call;
+ghost use Rattle.ymx_machine.specs.declared.types.CallFault.TheVariants.{Reset};
 ghost use Rattle.ymx_machine.specs.declared.types.Reply.TheVariants.{ReadEnd, ReadWait, Wrote as WroteReply};
 ghost use Rattle.ymx_machine.specs.shared.Lists.{look};
 ghost use Rattle.ymx_model.specs.session.Calls.{write_to, read_from, finish, reset, forget, takes_memory};
-ghost use Rattle.ymx_session.specs.Streams.{waiting, room_of};
+ghost use Rattle.ymx_session.specs.Releases.{has_stream, goes_on};
+ghost use Rattle.ymx_session.specs.Streams.{waiting, room_of, has_ended, unsent_of, is_acknowledged};
 ghost use Rattle.ymx_session.specs.Replies.{wrote_or, read_or, count_of, done_or, is_out_of_memory, stream_fault};
 
 use crate::state::State;
@@ -159,6 +161,76 @@ impl State {
         match self.stream(id) {
             Ok(stream) => { stream.credit() == 0 && !stream.is_finished() && !self.is_lost() }
             Err(_) => false,
+        }
+    }
+
+    /// Whether the peer's end of the stream has arrived.
+    pub(crate) fn has_ended(&self, id: u32) -> bool
+        ensures { result ≡ has_ended id self.now }
+    {
+        match self.stream(id) {
+            Ok(stream) => stream.has_ended(),
+            Err(_) => false,
+        }
+    }
+
+    /// How many bytes were written and stand in no frame begun yet.
+    pub(crate) fn unsent(&self, id: u32) -> usize
+        ensures { result ≡ unsent_of id self.now }
+    {
+        match self.stream(id) {
+            Ok(stream) => stream.unsent_len(),
+            Err(_) => 0,
+        }
+    }
+
+    /// How many bytes wait to be read.
+    pub(crate) fn waiting_count(&self, id: u32) -> usize
+        ensures { result ≡ length (waiting id self.now) }
+    {
+        match self.stream(id) {
+            Ok(stream) => stream.unread_len(),
+            Err(_) => 0,
+        }
+    }
+
+    /// Whether the peer has acknowledged the stream.
+    pub(crate) fn is_acknowledged(&self, id: u32) -> bool
+        ensures { result ≡ is_acknowledged id self.now }
+    {
+        match self.stream(id) {
+            Ok(stream) => stream.is_acknowledged(),
+            Err(_) => false,
+        }
+    }
+
+    /// Whether the stream was reset, by either side.
+    pub(crate) fn is_reset(&self, id: u32) -> bool
+        ensures { IsTrue result ↔ (stream_fault id self.now ≡ Some Reset) }
+    {
+        matches!(self.stream(id), Err(CallFault::Reset))
+    }
+
+    /// Whether the caller has the stream: it was opened or accepted, and not forgotten.
+    pub(crate) fn has_stream(&self, id: u32) -> bool
+        ensures { result ≡ has_stream id self.now }
+    {
+        match self.table.get(id) {
+            Some(stream) => matches!(stream.stage(), Stage::Live | Stage::Reset),
+            None => false,
+        }
+    }
+
+    /// Whether more may come of the stream.
+    pub(crate) fn goes_on(&self, id: u32) -> bool
+        ensures { result ≡ goes_on id self.now }
+    {
+        if self.status != Status::Running {
+            return false;
+        }
+        match self.table.get(id) {
+            Some(stream) => stream.stage() == Stage::Live && !stream.has_ended(),
+            None => false,
         }
     }
 
