@@ -1,33 +1,42 @@
 #!/usr/bin/env python3
 """Writes the proofs of those exports of crates/ymx_c that take or write an address, proofs/ymx_core_NAME/Proof.antt.
 Usage: c/write_proofs.py [--same] crates/ymx_c [NAME..]; with --same it writes nothing, and says which files differ.
-Those that take one are one text, where what lies there differs, how many numbers there are, and a slice that is read or
-written. Those that write one are another."""
+Those that take one are one text, where what lies there differs, how many numbers there are, and slices that are read or
+written. Those that take two are another, and so are those that write one."""
 import functools, os, re, sys
 same = sys.argv[1] == '--same'
 out, *only = sys.argv[2:] if same else sys.argv[1:]
 FNS = {
- 'open': ('', '', 'Answers x (event.Call call.Open) u m'),
- 'accept': ('', '', 'Answers x (event.Call call.Accept) u m'),
- 'ping': ('', '', 'Answers x (event.Call call.Ping) u m'),
- 'ponged': ('id', '', 'Answers x (event.Call (call.Ponged i)) u m'),
- 'go_away': ('', '', 'Answers x (event.Call call.GoAway) u m'),
- 'close': ('', '', 'Answers x (event.Call call.Close) u m'),
- 'write': ('id', 'shr', 'Answers x (event.Call (call.Write i s.now)) u m'),
- 'read': ('id', 'mut', 'Fills x (event.Call (call.Read i (length s.now))) u w m'),
- 'finish': ('id', '', 'Answers x (event.Call (call.Finish i)) u m'),
- 'reset': ('id', '', 'Answers x (event.Call (call.Reset i)) u m'),
- 'forget': ('id', '', 'Answers x (event.Call (call.Forget i)) u m'),
- 'feed': ('', 'shr', 'Answers x (event.Feed s.now) u m'),
- 'feed_end': ('', '', 'Answers x event.FeedEnd u m'),
- 'emit': ('', 'mut', 'Fills x (event.Emit (length s.now)) u w m'),
- 'due': ('', '', '(u ≡ flag (is_ready x)) × (m ≡ x)'),
- 'status': ('', '', '(u ≡ status_number x.status) × (m ≡ x)'),
- 'offered_count': ('', '', 'CountsOffered x u × (m ≡ x)'),
- 'consume': ('id count', '', 'Consumes i j x u m'),
- 'unread': ('id', 'addresses', 'Shows i x u × IsPlaced s.now w × (m ≡ x)'),
- 'room': ('id', '', 'TellsRoom i x u × (m ≡ x)'),
+ 'open': ('', '', 'AnswersIn x (event.Call call.Open) u m'),
+ 'accept': ('', '', 'AnswersIn x (event.Call call.Accept) u m'),
+ 'ping': ('', '', 'AnswersIn x (event.Call call.Ping) u m'),
+ 'ponged': ('id', '', 'AnswersIn x (event.Call (call.Ponged i)) u m'),
+ 'go_away': ('', '', 'AnswersIn x (event.Call call.GoAway) u m'),
+ 'close': ('', '', 'AnswersIn x (event.Call call.Close) u m'),
+ 'write': ('id', 'shr', 'AnswersOf i x (event.Call (call.Write i s.now)) u m'),
+ 'read': ('id', 'mut', 'FillsOf i x (event.Call (call.Read i (length s.now))) u s.now w m'),
+ 'finish': ('id', '', 'AnswersOf i x (event.Call (call.Finish i)) u m'),
+ 'reset': ('id', '', 'AnswersOf i x (event.Call (call.Reset i)) u m'),
+ 'forget': ('id', '', 'AnswersOf i x (event.Call (call.Forget i)) u m'),
+ 'release': ('id', '', 'ReleasesOne i x u m'),
+ 'feed': ('', 'shr', 'AnswersThenSettles x (event.Feed s.now) u m'),
+ 'feed_end': ('', '', 'AnswersThenSettles x event.FeedEnd u m'),
+ 'emit': ('', 'mut', 'FillsIn x (event.Emit (length s.now)) u w m'),
+ 'due': ('', '', '(u ≡ flag (is_ready x.session)) × (m ≡ x)'),
+ 'status': ('', '', '(u ≡ status_number x.session.status) × (m ≡ x)'),
+ 'offered_count': ('', '', 'CountsOffered x.session u × (m ≡ x)'),
+ 'consume': ('id count', '', 'ConsumesOf i j x u m'),
+ 'unread': ('id', 'addresses', 'ShowsOf i x u × IsPlaced s.now w × (m ≡ x)'),
+ 'room': ('id', '', '(u ≡ told i x (at_most (room_of i x.session))) × (m ≡ x)'),
  'is_at_end': ('id', '', 'TellsEnd i x u × (m ≡ x)'),
+ 'has_ended': ('id', '', '(u ≡ told i x (flag (has_ended i x.session))) × (m ≡ x)'),
+ 'unsent': ('id', '', '(u ≡ told i x (at_most (unsent_of i x.session))) × (m ≡ x)'),
+ 'is_acknowledged': ('id', '', '(u ≡ told i x (flag (is_acknowledged i x.session))) × (m ≡ x)'),
+ 'is_reset': ('id', '', 'TellsReset i x u × (m ≡ x)'),
+ 'streams': ('', 'ids', 'ListsStreams x u s.now w × (m ≡ x)'),
+ 'passing': ('', 'ids', 'TellsPassing x u s.now w × (m ≡ x)'),
+ 'pass': ('', 'shr', 'PassesSome x s.now u m'),
+ 'write_through': ('id', 'shr mut', 'WritesOn i s.now t.now w x u m'),
  'touched_ids': ('', 'ids', 'ListsIds x u s.now w × (m ≡ x)'),
  'touched_is_all': ('', '', '(u ≡ flag x.all) × (m ≡ x)'),
  'touched_has_pong': ('', '', '(u ≡ flag x.ponged) × (m ≡ x)'),
@@ -46,38 +55,40 @@ IMPORTS = {
 'denote.Slice': 'shr_slice_vals shr_slice_Tells mut_slice_vals mut_slice_Tells',
 'denote.Triple.Spec': 'triple_of', 'denote.Triple.Table': 'framed enters', 'denote.Triple.Walked': 'walk_of ends_at',
 'the row': 'the_row',
-'Rattle.ymx_model.specs.session.Sessions': 'Session', 'Rattle.ymx_model.specs.session.Emissions': 'is_ready',
+'Rattle.ymx_c.specs.declared.handle.Handle': 'Handle', 'Rattle.ymx_model.specs.session.Emissions': 'is_ready',
 'Rattle.ymx_session.specs.Touched': 'Noted',
-'Rattle.ymx_c.specs.Answers': 'Answers Fills flag status_number',
-'Rattle.ymx_c.specs.Readiness': 'Shows Consumes CountsOffered TellsRoom TellsEnd ListsIds IsCleared IsPlaced',
+'Rattle.ymx_c.specs.Answers': 'flag status_number',
+'Rattle.ymx_c.specs.Handles': 'AnswersIn AnswersOf FillsIn FillsOf AnswersThenSettles ConsumesOf ShowsOf ListsStreams TellsPassing PassesSome WritesOn',
+'Rattle.ymx_c.specs.Readiness': 'CountsOffered ListsIds IsCleared IsPlaced',
 'Rattle.ymx_c.proofs.Lending': 'all_left all_fit all_go behind at_block held calls_lent',
 }
 # where the type of what lies at the pointer is defined
-ROWS = {'Session': 'Rattle.ymx_session.specs.contracts.session.Session', 'Noted': 'Rattle.ymx_session.specs.contracts.touched.Touched'}
+ROWS = {'Handle': 'Rattle.ymx_c.specs.contracts.handle.Handle', 'Noted': 'Rattle.ymx_session.specs.contracts.touched.Touched'}
 def nest(items):
     return functools.reduce(lambda rest, item: f'({item}, {rest})', reversed(items), 'tt')
-def text(name, numbers, sl, fact):
-    n = 1 if sl else 0
-    # what lies at the pointer, the numbers' names, and the slice's elements
-    value = 'Noted' if name.startswith('touched_') else 'Session'
+def text(name, numbers, slices, fact):
+    # what lies at the pointer, the numbers' names, and the slices': their names, whether they are written, and their elements
+    value = 'Noted' if name.startswith('touched_') else 'Handle'
     ints = 'i j'.split()[:len(numbers.split())]
-    elem = {'ids':'u32','addresses':'RawPtr'}.get(sl,'u8')
-    sl = 'mut' if elem != 'u8' else sl
-    k = 1 + len(ints) + bool(sl)            # the number of parameters, and of the last one's local
+    slices = [(it, 'shr' if sl == 'shr' else 'mut', {'ids': 'u32', 'addresses': 'RawPtr'}.get(sl, 'u8')) for it, sl in zip('st', slices.split())]
+    n = len(slices)
+    k = 1 + len(ints) + n                   # the number of parameters, and of the last one's local
     at = lambda it, place: it + '.1' * (1 + place) + '.0'
-    P = at('are',len(ints))+'.0.1.0'
-    sty = f'(tt, (tt, (record {{ fits = {P} }}, tt)))'
+    stys = [f'(tt, (tt, (record {{ fits = {at("are", len(ints) + place)}.0.1.0 }}, tt)))' for place in range(n)]
     itys = [f'(tt, record {{ fits = {at("are",p)}.1 }})' for p in range(len(ints))]
-    vals, tells = {'shr':('shr_slice_vals','shr_slice_Tells'),'mut':('mut_slice_vals','mut_slice_Tells'),'':('','')}[sl]
-    spell = nest(['rawptr_vals']+['uint_vals w32']*len(ints)+[vals]*bool(sl))
-    tell = nest(['rawptr_Tells']+['uint_Tells w32']*len(ints)+[f'{tells} (named 0) κs.0 {elem}']*bool(sl))
-    vss = nest([f'vint w32 {it} ∷ []' for it in ints]+[f'{vals} s']*bool(sl))
-    lets = ''.join(f'let {it} = {at("a",p)} in ' for p,it in enumerate(ints))+(f'let s = {at("a",len(ints))} in ' if sl else '')
-    last = 'w' + '.1' * len(ints) + '.0'
+    lifetime = lambda place: f'(named {place}) κs' + '.1' * place + '.0'
+    spell = nest(['rawptr_vals']+['uint_vals w32']*len(ints)+[f'{kind}_slice_vals' for it, kind, elem in slices])
+    tell = nest(['rawptr_Tells']+['uint_Tells w32']*len(ints)+[f'{kind}_slice_Tells {lifetime(place)} {elem}' for place, (it, kind, elem) in enumerate(slices)])
+    vss = nest([f'vint w32 {it} ∷ []' for it in ints]+[f'{kind}_slice_vals {it}' for it, kind, elem in slices])
+    lets = ''.join(f'let {it} = {at("a",p)} in ' for p,it in enumerate(ints + [it for it, kind, elem in slices]))
+    last = 'w' + '.1' * (len(ints) + n - 1) + '.0'
     F = fact.replace(' w ', f' {last} ')
-    copies = ''.join(f' sets ! (of_opd ! (get ! refl)) refl {t} $' for t in ['(tt, tt)']+itys+([sty] if sl=='shr' else []))
-    if sl == 'mut':
-        copies += f'\n    sets ! (addr ! (from ! (fld ! refl (hop ! (look_in_at ! {k} (sub ! 0 refl (whole !))) (stop !))))) refl (tt, tt) $ sets ! (agg ! (and_then ! (get ! refl) (and_then ! (get_in ! (fld ! refl (stop !)) (sub ! 1 refl (whole !))) (no_more !)))) refl {sty} $'
+    copies = ''.join(f' sets ! (of_opd ! (get ! refl)) refl {t} $' for t in ['(tt, tt)']+itys)
+    for place, (it, kind, elem) in enumerate(slices):
+        if kind == 'shr':
+            copies += f' sets ! (of_opd ! (get ! refl)) refl {stys[place]} $'
+        else:
+            copies += f'\n    sets ! (addr ! (from ! (fld ! refl (hop ! (look_in_at ! {2 + len(ints) + place} (sub ! 0 refl (whole !))) (stop !))))) refl (tt, tt) $ sets ! (agg ! (and_then ! (get ! refl) (and_then ! (get_in ! (fld ! refl (stop !)) (sub ! 1 refl (whole !))) (no_more !)))) refl {stys[place]} $'
     opds = functools.reduce(lambda r, _:f'(and_then ! (get ! refl) {r})', range(k), '(no_more !)')
     at_rest = f'𝓛 the_row x {n} (behind f.ended.signature.params) f.ended.kept.1 κs qs a.1 vss'
     body = f'''pub ymx_core_{name}_spec : {{M : Type 1}} → statement M
@@ -87,7 +98,7 @@ ymx_core_{name}_spec 𝓤 𝓛 𝓜 𝓡 wired =
     {lets}let vss : Valss (types_at (behind f.ended.signature.params) κs) = {vss} in let y : Ptr → W.Ghost = λ p. ((κs, qs, bounds, (p, a.1), (rawptr_vals p, vss)), x) in
     at_block {at_rest} a.0 (λ p. WpFn 𝓤 𝓛.H 𝓣.C 𝓣.Λ code.function (flat (types_at f.ended.signature.params κs) (rawptr_vals p, vss)) (W.post (y p))) (λ b o.
     let z : ℕ → GName → G.Ghost = λ α δ. let r : MutBor {value} = record {{ ref_ptr = (b, o); ghost_name = δ; now = x }} in (((α ∷ [], κs), (full_share, qs), tt, (r, a.1), (vptr b o ∷ [], vss)), tt) in
-    qed 𝓛 (held {at_rest} b o ∷ []) ∵ enter ! _ _ _ _ _ $ alloc_all ! (λ l. pass_all ! refl {nest(["(tt, tt)"]+itys+[sty]*bool(sl))} $ first ! $ blocks ! $ sets ! (of_opd ! (get ! refl)) refl (tt, tt) $ sets ! (of_opd ! (get ! refl)) refl (tt, tt) $ sets_last ! (addr ! (through ! refl (stop !))) refl (tt, tt) $
+    qed 𝓛 (held {at_rest} b o ∷ []) ∵ enter ! _ _ _ _ _ $ alloc_all ! (λ l. pass_all ! refl {nest(["(tt, tt)"]+itys+stys)} $ first ! $ blocks ! $ sets ! (of_opd ! (get ! refl)) refl (tt, tt) $ sets ! (of_opd ! (get ! refl)) refl (tt, tt) $ sets_last ! (addr ! (through ! refl (stop !))) refl (tt, tt) $
     exec ! 𝓣.C 𝓣.Λ (env code.Mir.locals l) code.Mir.t-2 (at_ret _ (W.post (y (block_ptr b o)))) ${copies}
     calls_lent {at_rest} (λ u m w. {F}) b o ! (framed 𝓤 𝓛.H 𝓜 𝓣) (enters 𝓤 𝓛.H 𝓜 𝓣 _) (flat (types_at (behind f.ended.signature.params) κs) vss) G (met 𝓤 𝓛 𝓜 𝓡 (code.calls-ymx_c::face::{name} 𝓡.env wired)) z (λ α δ. refl) (λ α δ. id⊢ 𝓤 _) (λ α δ v. id⊢ 𝓤 _) {opds} (λ v u w is.
     lands_as ! refl refl ((sint_Lawful 𝓛 w64).typed u _ is).0 $ returns ! (look_at ! 0 refl) $ free_all ! refl $ by ! (ends_at 𝓛 f.ended hs c (y (block_ptr b o)) v u (tt, w) (all_fit κs f.ended.signature.params f.ended.kept a (tt, w)))))))
@@ -112,11 +123,13 @@ use base.Logic.{id⊢}
 use mir.Val.{vint, vptr}
 use denote.Triple.Spec.{triple_of}
 use ROW.{the_row}
-use Rattle.ymx_model.specs.session.Sessions.{Session}
 use Rattle.ymx_model.specs.session.Emissions.{is_ready}
+use Rattle.ymx_session.specs.Streams.{room_of, has_ended, unsent_of, is_acknowledged}
 use Rattle.ymx_session.specs.Touched.{Noted}
-use Rattle.ymx_c.specs.Answers.{Answers, flag, status_number}
-use Rattle.ymx_c.specs.Readiness.{CountsOffered, TellsRoom, TellsEnd, IsCleared}
+use Rattle.ymx_c.specs.declared.handle.Handle.{Handle}
+use Rattle.ymx_c.specs.Answers.{flag, status_number}
+use Rattle.ymx_c.specs.Handles.{AnswersIn, AnswersOf, AnswersThenSettles, ReleasesOne, told, at_most, TellsEnd, TellsReset}
+use Rattle.ymx_c.specs.Readiness.{CountsOffered, IsCleared}
 use Rattle.ymx_c.proofs.Exports.{SHAPE}
 use Rattle.ymx_c.specs.contracts.ymx_core_NAME as f
 use Rattle.ymx_c.proofs.ymx_core_NAME.Statement.{statement}
@@ -132,16 +145,120 @@ ymx_core_NAME_spec 𝓤 𝓛 𝓜 𝓡 wired =
     (λ κs qs a x b o α δ. refl) (λ κs qs a x b o α δ. id⊢ 𝓤 _) (λ κs qs a x b o α δ v. id⊢ 𝓤 _)
 """
 def shaped(name, numbers, fact):
-    value = 'Noted' if name.startswith('touched_') else 'Session'
+    value = 'Noted' if name.startswith('touched_') else 'Handle'
     filled = {'NAME': name, 'ROW': ROWS[value], 'VALUE': value, 'FACT': fact, 'SHAPE': 'lends_numbered' if numbers else 'lends_alone',
         'KNOWN': 'x i u m' if numbers else 'x u m', 'OTHERS': '(vint w32 a.1.0 ∷ [], tt)' if numbers else 'tt'}
     head = ''.join(f'use {module} as {word}\n' for word, module in VARIANTS.items() if f'{word}.' in fact)
     return only_used(re.sub('|'.join(filled), lambda it: filled[it[0]], SHAPED.replace('use Rattle.ymx_c.specs.contracts.ymx_core_NAME', head + 'use Rattle.ymx_c.specs.contracts.ymx_core_NAME', 1)))
 VARIANTS = {'event': 'Rattle.ymx_model.specs.declared.types.Event.TheVariants', 'call': 'Rattle.ymx_machine.specs.declared.types.Call.TheVariants'}
+# Those that feed bytes and note whom they touch: what is proved of each.
+NOTERS = {'feed_touching': 'TouchesThenSettles', 'feed_to_payload': 'ToPayloadThenSettles'}
+NOTER = """-- `ymx_core_NAME` meets its contract: what lies at the two pointers is lent to `face::NAME` for lifetimes made for the call, and comes back.
+use Rattle.std.proofs.Common.{[], ◌∷◌, ◌++◌, refl, w64, MutBor, ℤ}
+use Rattle.std.proofs.raw_atomic.Walks.{proved}
+use base.Fraction.{full_share}
+use base.Logic.{id⊢, sep}
+use base.Fml.{GName, ftrue, flft, flent}
+use mir.Syntax.{named}
+use mir.Val.{vptr}
+use contract.Monad.{fact}
+use contract.Running.{tables}
+use prog.Wp.{WpFn}
+use types.Logic.{sem}
+use types.Kit.{‵, raw, ◌⊛◌, some, later, prop, at_ret, ◌$◌, ◌∵◌, !, qed, done, move, keep, use1, use2, use3, split, join, fsplit, await, pick, frame, group, regoal, suffices, show}
+use types.Tokens.{lft_new, lft_end}
+use types.SemTy.{Body}
+use types.Run.{enter, of_opd, addr, stop, no_more, and_then, first, blocks, exec, returns}
+use types.ByLocal.{alloc_all, pass_all, free_all, look_at, get, through, sets, sets_last, lands_as, env}
+use denote.Builtin.{u8, i64, SliceRefOf}
+use denote.Exit.{yes}
+use denote.Laws.{Is, shows}
+use denote.Lend.{lends_ref, ref_back}
+use denote.Memory.{part_at, mem}
+use denote.Signed.{sint_Lawful}
+use denote.RawPtr.{Ptr, RawPtr, block_ptr, rawptr_vals, rawptr_Tells, lies_at, in_a_block}
+use denote.Ref.{MutRef}
+use denote.Slice.{ShrSlice, shr_slice_vals, shr_slice_Tells}
+use denote.Signature.{plain}
+use denote.Steps.{nothing, heard, peeks}
+use denote.Triple.Call.{calls_at}
+use denote.Triple.Clauses.{lasts}
+use denote.Triple.Spec.{triple_of}
+use denote.Triple.Table.{framed}
+use denote.Triple.Walked.{says, Stays, walk_of, stay_dropped, Goes-dropped, ends_at}
+use Rattle.ymx_c.specs.contracts.handle.Handle.{the_row}
+use Rattle.ymx_session.specs.contracts.touched.Touched.{the_row as touched_row}
+use Rattle.ymx_session.specs.Touched.{Noted}
+use Rattle.ymx_c.specs.declared.handle.Handle.{Handle}
+use Rattle.ymx_c.specs.Handles.{FACT}
+use Rattle.ymx_c.specs.contracts.ymx_core_NAME as f
+use Rattle.ymx_c.proofs.ymx_core_NAME.Statement.{statement}
+use Rattle.ymx_c.proofs.ymx_core_NAME.Code as code
+use Rattle.ymx_c.specs.contracts.face.NAME as g
+use Rattle.ymx_c.proofs.face.NAME.Met.{met}
+
+abbrev stayed : Stays f.ended.signature.params f.ended.kept
+stayed = (stay_dropped _ yes, (stay_dropped _ yes, (stay_dropped _ yes, tt)))
+
+pub ymx_core_NAME_spec : {M : Type 1} → statement M
+ymx_core_NAME_spec 𝓤 𝓛 𝓜 𝓡 wired =
+    let c = f.clauses 𝓛 𝓜.mem 𝓡.returns in let W = walk_of 𝓛 f.ended stayed c in let 𝓣 = tables 𝓤 𝓛.H 𝓜 𝓡 𝓡.env in
+    proved 𝓛 f.ended stayed c 𝓜 𝓡 (Goes-dropped 𝓛 1 (plain (λ _. RawPtr)) yes (λ κs x w. refl), (Goes-dropped 𝓛 1 (SliceRefOf (0 ∷ []) tt (plain (λ _. u8)) (λ κs. tt)) yes (λ κs x w. refl), (Goes-dropped 𝓛 1 (plain (λ _. RawPtr)) yes (λ κs x w. refl), tt)))
+    f.Key.name code.function (code.unfolded 𝓤 𝓛.H 𝓜 𝓡 wired)
+    (λ κs. (rawptr_vals, (shr_slice_vals, (rawptr_vals, tt)))) (λ κs. (rawptr_Tells, (shr_slice_Tells (named 0) κs.0 u8, (rawptr_Tells, tt)))) (λ κs qs bounds a x are.
+    let κ = κs.0 in let q = qs.0 in let s = a.1.0 in let ss = shr_slice_vals s in
+    let y : Ptr → Ptr → W.Ghost = λ p r. ((κs, qs, bounds, (p, (s, (r, tt))), (rawptr_vals p, (ss, (rawptr_vals r, tt)))), x) in
+    qed 𝓛 (((‵ (flft κ q) ⊛ ‵ ftrue) ⊛ (‵ (RawPtr.own_val a.0 (rawptr_vals a.0)) ⊛ ‵ ((ShrSlice (named 0) κ u8).own_val s ss) ⊛ ‵ (RawPtr.own_val a.1.1.0 (rawptr_vals a.1.1.0)) ⊛ ‵ ftrue)) ∷ (‵ (lies_at the_row full_share a.0 x.0) ⊛ ‵ (lies_at touched_row full_share a.1.1.0 x.1)) ∷ []) ∵
+    split ! $ split ! $ move ! (2 ∷ []) $ split ! $ move ! (1 ∷ []) $ split ! $ keep ! (5 ∷ 0 ∷ 3 ∷ []) $ split ! $
+    -- what lies at each pointer, the slice and its token
+    in_a_block ! a.0 (λ p. lies_at the_row full_share p x.0) (id⊢ 𝓤 _) (λ b o e.
+    regoal ! (λ p. prop (WpFn 𝓤 𝓛.H 𝓣.C 𝓣.Λ code.function (rawptr_vals p ++ (ss ++ (rawptr_vals a.1.1.0 ++ []))) (W.post (y p a.1.1.0)))) e refl $ move ! (1 ∷ []) $
+    in_a_block ! a.1.1.0 (λ p. lies_at touched_row full_share p x.1) (id⊢ 𝓤 _) (λ d i e₂.
+    regoal ! (λ p. prop (WpFn 𝓤 𝓛.H 𝓣.C 𝓣.Λ code.function (rawptr_vals (block_ptr b o) ++ (ss ++ (rawptr_vals p ++ []))) (W.post (y (block_ptr b o) p)))) e₂ refl $ move ! (1 ∷ []) $
+    enter ! _ _ _ _ _ $ alloc_all ! (λ l. pass_all ! refl ((tt, tt), ((tt, (tt, (record { fits = are.1.0.0.1.0 }, tt))), ((tt, tt), tt))) $
+    first ! $ blocks ! $ sets ! (of_opd ! (get ! refl)) refl (tt, tt) $ sets ! (of_opd ! (get ! refl)) refl (tt, tt) $ sets_last ! (addr ! (through ! refl (stop !))) refl (tt, tt) $
+    exec ! 𝓣.C 𝓣.Λ (env code.Mir.locals l) code.Mir.t-2 (at_ret (env code.Mir.locals l) (W.post (y (block_ptr b o) (block_ptr d i)))) $
+    sets ! (of_opd ! (get ! refl)) refl (tt, tt) $
+    sets ! (of_opd ! (get ! refl)) refl (tt, (tt, (record { fits = are.1.0.0.1.0 }, tt))) $
+    first ! $ blocks ! $ sets ! (of_opd ! (get ! refl)) refl (tt, tt) $ sets ! (of_opd ! (get ! refl)) refl (tt, tt) $ sets_last ! (addr ! (through ! refl (stop !))) refl (tt, tt) $
+    exec ! 𝓣.C 𝓣.Λ (env code.Mir.locals l) code.Mir.t-5 (at_ret (env code.Mir.locals l) (W.post (y (block_ptr b o) (block_ptr d i)))) $
+    sets ! (of_opd ! (get ! refl)) refl (tt, tt) $
+    -- each is lent for a new lifetime
+    lft_new ! tt (λ α. move ! (1 ∷ []) $
+    use1 𝓛 (later (some (λ (δ : GName). ‵ ((MutRef (named 0) (α ∷ []) the_row).own_val (record { ref_ptr = (b, o); ghost_name = δ; now = x.0 }) (vptr b o ∷ [])) ⊛ ‵ (flent (α ∷ []) (Body (mem the_row) b o δ)))))
+    (lends_ref 𝓛 the_row (named 0) (α ∷ []) x.0 b o) $ await ! tt $ pick ! (λ δ. split ! $
+    lft_new ! tt (λ β. move ! (4 ∷ []) $
+    use1 𝓛 (later (some (λ (ε : GName). ‵ ((MutRef (named 0) (β ∷ []) touched_row).own_val (record { ref_ptr = (d, i); ghost_name = ε; now = x.1 }) (vptr d i ∷ [])) ⊛ ‵ (flent (β ∷ []) (Body (mem touched_row) d i ε)))))
+    (lends_ref 𝓛 touched_row (named 0) (β ∷ []) x.1 d i) $ await ! tt $ pick ! (λ ε. split ! $
+    let r : MutBor Handle = record { ref_ptr = (b, o); ghost_name = δ; now = x.0 } in
+    let t : MutBor Noted = record { ref_ptr = (d, i); ghost_name = ε; now = x.1 } in
+    let G = triple_of 𝓛 g.signature (g.spec 𝓛 𝓜.mem 𝓡.returns) in
+    let z : G.Ghost = (((α ∷ [], (κ, (β ∷ [], tt))), (full_share, (q, (full_share, tt))), tt, (r, (s, (t, tt))), (vptr b o ∷ [], (ss, (vptr d i ∷ [], tt)))), tt) in
+    -- [the note's reference; its loan; β; the session's reference; its loan; α; the slice; its token]
+    nothing ! $ move ! (1 ∷ []) $ join ! $ move ! (6 ∷ []) $ join ! $ move ! (3 ∷ []) $ join ! $
+    nothing ! $ move ! (3 ∷ []) $ join ! $ move ! (5 ∷ []) $ join ! $ move ! (4 ∷ []) $ join ! $ join ! $ nothing ! $ move ! (1 ∷ 0 ∷ []) $ use2 𝓛 (raw (G.pre z)) (id⊢ 𝓤 _) $
+    calls_at ! (framed 𝓤 𝓛.H 𝓜 𝓣) G (met 𝓤 𝓛 𝓜 𝓡 (code.calls-ymx_c::face::NAME 𝓡.env wired)) z (and_then ! (get ! refl) (and_then ! (get ! refl) (and_then ! (get ! refl) (no_more !)))) (λ v.
+    use1 𝓛 (later (some (λ (u : ℤ). ((‵ (flft (α ∷ []) full_share) ⊛ ‵ (flft κ q) ⊛ ‵ (flft (β ∷ []) full_share) ⊛ ‵ ftrue) ⊛ ‵ (i64.own_val u (v ∷ []))) ⊛ some (λ (ws : Handle × (Unit {0} × (Noted × Unit {0}))). ‵ (lasts g.ended z.0.0 z.0.3 ws) ⊛ raw (fact 𝓤 (FACT x.0 x.1 s.now u ws.0 ws.1.1.0)))))) (id⊢ 𝓤 _) $
+    await ! tt $ pick ! (λ u. split ! $ split ! $ split ! $ lft_end ! tt $ move ! (1 ∷ []) $ split ! $ move ! (1 ∷ []) $ split ! $ lft_end ! tt $
+    -- [β has ended; nothing; the slice's token; α has ended; the answer; the rest; the note's loan; the session's]
+    move ! (4 ∷ []) $ peeks ! i64 (Is i64) (shows 𝓛 i64) u (v ∷ []) (λ is. lands_as ! refl refl ((sint_Lawful 𝓛 w64).typed u _ is).0 $
+    -- and both come back
+    move ! (5 ∷ []) $ pick ! (λ ws. split ! $ fsplit ! $ fsplit ! $
+    move ! (8 ∷ 10 ∷ 0 ∷ []) $ use3 𝓛 (later (‵ (part_at the_row full_share ws.0 b o))) (ref_back 𝓛 the_row (α ∷ []) δ ws.0 b o) $ await ! tt $
+    move ! (2 ∷ []) $ fsplit ! $ move ! (1 ∷ []) $ fsplit ! $ fsplit ! $
+    move ! (8 ∷ 11 ∷ 0 ∷ []) $ use3 𝓛 (later (‵ (part_at touched_row full_share ws.1.1.0 d i))) (ref_back 𝓛 touched_row (β ∷ []) ε ws.1.1.0 d i) $ await ! tt $
+    returns ! (look_at ! 0 refl) $ free_all ! refl $ keep ! (6 ∷ 7 ∷ 8 ∷ 9 ∷ 4 ∷ 0 ∷ []) $ heard ! (FACT x.0 x.1 s.now u ws.0 ws.1.1.0) (λ says_so.
+    move ! (2 ∷ 1 ∷ []) $ join ! $ move ! (1 ∷ []) $
+    suffices ! _ (ends_at 𝓛 f.ended stayed c (y (block_ptr b o) (block_ptr d i)) v u (tt, (tt, (tt, tt))) (tt, (tt, (tt, tt)))) $
+    nothing ! $ nothing ! $ join ! $ nothing ! $ join ! $ nothing ! $ join ! $ move ! (2 ∷ 0 ∷ 1 ∷ []) $ group ! 3 $ frame ! $
+    show ! (λ (m : Handle × Noted). sep 𝓤 (sem 𝓛 (lies_at the_row full_share (block_ptr b o) m.0)) (sep 𝓤 (sem 𝓛 (lies_at touched_row full_share (block_ptr d i) m.1)) (fact 𝓤 (FACT x.0 x.1 s.now u m.0 m.1)))) (ws.0, ws.1.1.0) $ frame ! $ says ! says_so $ done !)))))))))))))
+"""
+def noter(name):
+    return NOTER.replace('NAME', name).replace('FACT', NOTERS[name])
 # What is made: what lies at the address, how many numbers there are, what is made, and when it is or isn't, with the
 # places of the fact on the address in these two.
 MAKERS = {
- 'new': ('Session', 3, 'new_session (role_of i) j (first_id (role_of i) k)', 'IsMade i j k', 2, 'IsRefused i j k', 3),
+ 'new': ('Handle', 3, 'new_handle i j k', 'IsMade i j k', 2, 'IsRefused i j k', 3),
  'touched_new': ('Noted', 0, 'nothing_noted false', 'IsNoteMade', 1, 'IsNoNote', 1),
 }
 MAKER = """-- `ymx_core_NAME` meets its contract: what `face::FACE` made is taken apart, and its address is written.
@@ -177,10 +294,8 @@ use denote.Triple.Table.{framed}
 use denote.Triple.Walked.{Stays, stay_dropped, Goes-dropped, stay_ref, Goes-ref, walk_of, ends_at}
 use Rattle.std.specs.Prelude.{Some, None, false}
 use ROW.{the_row}
-use Rattle.ymx_model.specs.session.Sessions.{new_session}
-use Rattle.ymx_session.specs.NewSessions.{first_id}
 use Rattle.ymx_session.specs.Touched.{nothing_noted}
-use Rattle.ymx_c.specs.Answers.{role_of}
+use Rattle.ymx_c.specs.Handles.{new_handle}
 use Rattle.ymx_c.specs.NewAnswers.{IsSomewhere, IsMade, IsRefused, IsNoteMade, IsNoNote}
 use Rattle.ymx_c.proofs.Handing.{made_out, made_typed, number, settled}
 use Rattle.ymx_c.specs.contracts.made.Made as made
@@ -278,7 +393,7 @@ def maker(name):
     return only_used(body)
 def export(name, numbers, sl, fact):
     return text(name, numbers, sl, fact) if sl or ' ' in numbers else shaped(name, numbers, fact)
-texts = {name: (lambda name=name, it=it: export(name, *it)) for name, it in FNS.items()} | {name: (lambda name=name: maker(name)) for name in MAKERS}
+texts = {name: (lambda name=name, it=it: export(name, *it)) for name, it in FNS.items()} | {name: (lambda name=name: maker(name)) for name in MAKERS} | {name: (lambda name=name: noter(name)) for name in NOTERS}
 differs = 0
 for name, write in texts.items():
     if only and name not in only: continue

@@ -32,6 +32,17 @@ int64_t ymx_core_room(ymx_session *session, uint32_t id);
 int64_t ymx_core_is_at_end(ymx_session *session, uint32_t id);
 int64_t ymx_core_unread(ymx_session *session, uint32_t id, const void **places, size_t len);
 int64_t ymx_core_consume(ymx_session *session, uint32_t id, uint32_t count);
+int64_t ymx_core_has_ended(ymx_session *session, uint32_t id);
+int64_t ymx_core_unsent(ymx_session *session, uint32_t id);
+int64_t ymx_core_is_acknowledged(ymx_session *session, uint32_t id);
+int64_t ymx_core_is_reset(ymx_session *session, uint32_t id);
+int64_t ymx_core_streams(ymx_session *session, uint32_t *ids, size_t len);
+int64_t ymx_core_release(ymx_session *session, uint32_t id);
+int64_t ymx_core_write_through(ymx_session *session, uint32_t id, const void *bytes, size_t len, void *buffer,
+                               size_t size);
+int64_t ymx_core_feed_to_payload(ymx_session *session, const void *bytes, size_t len, ymx_touched *touched);
+int64_t ymx_core_passing(ymx_session *session, uint32_t *ids, size_t len);
+int64_t ymx_core_pass(ymx_session *session, const void *bytes, size_t len);
 int64_t ymx_core_touched_new(ymx_touched **out);
 void ymx_core_touched_drop(ymx_touched *touched);
 int64_t ymx_core_touched_ids(ymx_touched *touched, uint32_t *ids, size_t len);
@@ -43,7 +54,7 @@ int64_t ymx_core_touched_clear(ymx_touched *touched);
 void rattle_dealloc(void *block);
 
 /* Where a slice of no bytes lies. Nothing reads or writes it. */
-static unsigned char nowhere;
+static unsigned char nowhere, no_room;
 static uint32_t no_ids;
 
 /* No session, or bytes that lie at NULL. */
@@ -77,6 +88,30 @@ int64_t ymx_emit(ymx_session *session, void *buffer, size_t len) {
 int64_t ymx_feed_touching(ymx_session *session, const void *bytes, size_t len, ymx_touched *touched) {
     if (is_bad(session, bytes, len) || touched == NULL) return YMX_E_NULL;
     return ymx_core_feed_touching(session, bytes == NULL ? &nowhere : bytes, len, touched);
+}
+
+int64_t ymx_feed_to_payload(ymx_session *session, const void *bytes, size_t len, ymx_touched *touched) {
+    if (is_bad(session, bytes, len) || touched == NULL) return YMX_E_NULL;
+    return ymx_core_feed_to_payload(session, bytes == NULL ? &nowhere : bytes, len, touched);
+}
+
+/* The proved function writes the id where there is one. */
+int64_t ymx_passing(const ymx_session *session, uint32_t *id) {
+    if (id == NULL) return YMX_E_NULL;
+    *id = 0;
+    return session == NULL ? YMX_E_NULL : ymx_core_passing((ymx_session *)session, id, 1);
+}
+
+int64_t ymx_pass(ymx_session *session, const void *bytes, size_t len) {
+    if (is_bad(session, bytes, len)) return YMX_E_NULL;
+    return ymx_core_pass(session, bytes == NULL ? &nowhere : bytes, len);
+}
+
+int64_t ymx_write_through(ymx_session *session, uint32_t id, const void *bytes, size_t len, void *buffer,
+                          size_t size) {
+    if (is_bad(session, bytes, len) || is_bad(session, buffer, size)) return YMX_E_NULL;
+    return ymx_core_write_through(session, id, bytes == NULL ? &nowhere : bytes, len, buffer == NULL ? &no_room : buffer,
+                                  size);
 }
 
 int64_t ymx_write(ymx_session *session, uint32_t id, const void *bytes, size_t len) {
@@ -122,6 +157,27 @@ int64_t ymx_is_at_end(const ymx_session *session, uint32_t id) {
     return session == NULL ? YMX_E_NULL : ymx_core_is_at_end((ymx_session *)session, id);
 }
 
+int64_t ymx_has_ended(const ymx_session *session, uint32_t id) {
+    return session == NULL ? YMX_E_NULL : ymx_core_has_ended((ymx_session *)session, id);
+}
+
+int64_t ymx_unsent(const ymx_session *session, uint32_t id) {
+    return session == NULL ? YMX_E_NULL : ymx_core_unsent((ymx_session *)session, id);
+}
+
+int64_t ymx_is_acknowledged(const ymx_session *session, uint32_t id) {
+    return session == NULL ? YMX_E_NULL : ymx_core_is_acknowledged((ymx_session *)session, id);
+}
+
+int64_t ymx_is_reset(const ymx_session *session, uint32_t id) {
+    return session == NULL ? YMX_E_NULL : ymx_core_is_reset((ymx_session *)session, id);
+}
+
+int64_t ymx_streams(const ymx_session *session, uint32_t *ids, size_t len) {
+    if (session == NULL || (ids == NULL && len > 0)) return YMX_E_NULL;
+    return ymx_core_streams((ymx_session *)session, ids == NULL ? &no_ids : ids, len);
+}
+
 /* The address of no bytes leads nowhere, so NULL is written for it. */
 int64_t ymx_unread(const ymx_session *session, uint32_t id, const void **bytes) {
     int64_t count;
@@ -149,6 +205,10 @@ int64_t ymx_reset(ymx_session *session, uint32_t id) {
 
 int64_t ymx_forget(ymx_session *session, uint32_t id) {
     return session == NULL ? YMX_E_NULL : ymx_core_forget(session, id);
+}
+
+int64_t ymx_release(ymx_session *session, uint32_t id) {
+    return session == NULL ? YMX_E_NULL : ymx_core_release(session, id);
 }
 
 int64_t ymx_ping(ymx_session *session) {

@@ -145,6 +145,27 @@ YMX_API int64_t ymx_feed(ymx_session *session, const void *bytes, size_t len);
  * by ymx_accept. */
 YMX_API int64_t ymx_feed_touching(ymx_session *session, const void *bytes, size_t len, ymx_touched *touched);
 
+/* Feeds bytes as ymx_feed_touching does, but no further than to the first payload that ymx_pass may take, and answers
+ * how many were taken. So payload is taken from where it lies in `bytes`, and the session copies none of it.
+ *
+ * Where fewer than `len` are taken, ymx_passing says of which stream the next byte is, and how many of its bytes may be
+ * passed on. Where it answers 0, feed the rest, unless nothing was taken: then the session takes no more for now, and
+ * ymx_feed says why. Payload that nobody wants to take this way, ymx_feed_touching takes: then it waits to be read as
+ * ever. What comes of a stream that was released is taken and dropped. */
+YMX_API int64_t ymx_feed_to_payload(ymx_session *session, const void *bytes, size_t len, ymx_touched *touched);
+
+/* How many bytes are still to come of the payload to which the next byte belongs, where that may be passed on; its
+ * stream's id is written to *id. Else it answers 0, and *id is 0.
+ *
+ * It may be passed on as long as the session runs, if the caller has the stream, its end has not come, and nothing of
+ * it is unread. With `id` NULL it answers YMX_E_NULL. */
+YMX_API int64_t ymx_passing(const ymx_session *session, uint32_t *id);
+
+/* Passes bytes on that came from the peer, and that the caller has taken: the first bytes of what ymx_passing says,
+ * `len` of them, or as many as it says. Answers how many, and 0 where none may be passed on. This is a ymx_feed of
+ * these bytes, and then a ymx_read of as many on their stream: the peer gets credit for them. */
+YMX_API int64_t ymx_pass(ymx_session *session, const void *bytes, size_t len);
+
 /* The connection has ended or failed: nothing more will come. Answers 0. Bytes that are there are still read; after
  * them calls answer YMX_E_LOST. */
 YMX_API int64_t ymx_feed_end(ymx_session *session);
@@ -155,10 +176,10 @@ YMX_API int64_t ymx_emit(ymx_session *session, void *buffer, size_t len);
 
 /* 1 where ymx_emit would give at least one byte, else 0. No stream is looked at.
  *
- * Bytes can become due by ymx_open, ymx_write, ymx_finish, ymx_reset, ymx_ping and ymx_go_away. And by ymx_feed and
- * ymx_feed_touching, which answer the peer; by ymx_accept, which acknowledges the stream; by ymx_read and ymx_consume,
- * which give the peer credit; and by ymx_forget, which may reset the stream. So look behind each of these, or once
- * behind a turn of them. No other call makes bytes due. */
+ * Bytes can become due by ymx_open, ymx_write, ymx_finish, ymx_reset, ymx_release, ymx_ping and ymx_go_away. And by
+ * ymx_feed, ymx_feed_touching and ymx_feed_to_payload, which answer the peer; by ymx_accept, which acknowledges the
+ * stream; by ymx_read, ymx_consume and ymx_pass, which give the peer credit; and by ymx_forget, which may reset the
+ * stream. So look behind each of these, or once behind a turn of them. No other call makes bytes due. */
 YMX_API int64_t ymx_due(const ymx_session *session);
 
 /* ---- streams */
@@ -183,6 +204,15 @@ YMX_API int64_t ymx_offered_count(const ymx_session *session);
  * Refused with YMX_E_CLOSED, YMX_E_NO_STREAM, YMX_E_RESET, YMX_E_FINISHED, YMX_E_LOST, YMX_E_NO_MEMORY. */
 YMX_API int64_t ymx_write(ymx_session *session, uint32_t id, const void *bytes, size_t len);
 
+/* Writes `len` bytes to a stream and emits the frame that carries them, at once: into `buffer`, which has `size`
+ * bytes, and does not overlap with them. Answers how many bytes stand at its front for the peer: 12 more than `len`
+ * (framing). They are sent as those of ymx_emit are. This is a ymx_write of all of them and a ymx_emit, with one copy
+ * less.
+ *
+ * 0 where it can't be done, and then nothing has changed: `len` is not 1 to 16,384, ymx_room is less, `buffer` has no
+ * room for 12 bytes more, or something else is due. Then ymx_write and ymx_emit say what goes. */
+YMX_API int64_t ymx_write_through(ymx_session *session, uint32_t id, const void *bytes, size_t len, void *buffer, size_t size);
+
 /* Reads from a stream into `buffer`, at most `len` bytes, and answers how many: as many as are there and fit. The
  * rest of the buffer stays as it was. 0 at the end, once the peer has finished and all was read; YMX_WAIT where
  * nothing is there yet.
@@ -198,6 +228,27 @@ YMX_API int64_t ymx_room(const ymx_session *session, uint32_t id);
 
 /* 1 where a ymx_read would answer the end (half-close), else 0, also where it would be refused. */
 YMX_API int64_t ymx_is_at_end(const ymx_session *session, uint32_t id);
+
+/* 1 where the peer's end of a stream has arrived, also while bytes wait to be read, which are then the last (half-
+ * close); else 0, also where a ymx_read would be refused with any error but YMX_E_LOST. A stream that has ended and is
+ * finished is safe to forget: what was written still goes out. */
+YMX_API int64_t ymx_has_ended(const ymx_session *session, uint32_t id);
+
+/* How many bytes were written to a stream and stand in no frame begun yet (framing). Once it is 0, and ymx_due is, all
+ * that was written was emitted. 0 where the stream is none of the caller's, or was reset. */
+YMX_API int64_t ymx_unsent(const ymx_session *session, uint32_t id);
+
+/* 1 where the peer has acknowledged a stream that was opened here (flags); else 0, also where the stream is none of the
+ * caller's, or was reset. */
+YMX_API int64_t ymx_is_acknowledged(const ymx_session *session, uint32_t id);
+
+/* 1 where a stream was reset, by either side, and is not forgotten (flags); else 0. */
+YMX_API int64_t ymx_is_reset(const ymx_session *session, uint32_t id);
+
+/* How many streams the caller has, and their ids in the order in which they came: as many as fit stand at the front of
+ * `ids`, which has room for `len`. The rest of `ids` stays as it was. The caller has a stream from ymx_open or
+ * ymx_accept until ymx_forget or ymx_release. */
+YMX_API int64_t ymx_streams(const ymx_session *session, uint32_t *ids, size_t len);
 
 /* Lends the first bytes that wait to be read on a stream, as they lie in the session: writes their address to *bytes,
  * and answers how many there are. Nothing is copied or taken out. More may wait behind them, and come once these are
@@ -228,11 +279,22 @@ YMX_API int64_t ymx_finish(ymx_session *session, uint32_t id);
 YMX_API int64_t ymx_reset(ymx_session *session, uint32_t id);
 
 /* Gives a stream up: its id is none of the caller's from now on. Answers 0. Where both sides have finished it, its
- * unsent bytes still go out; where not, it is reset. Every stream that was opened or accepted is to be forgotten
- * once, or it keeps its memory as long as the session.
+ * unsent bytes still go out; where not, it is reset. Every stream that was opened or accepted is to be forgotten or
+ * released once, or it keeps its memory as long as the session.
  *
  * Refused with YMX_E_CLOSED, YMX_E_NO_STREAM. */
 YMX_API int64_t ymx_forget(ymx_session *session, uint32_t id);
+
+/* Lets a stream go whose user is done with it, so that what was written still arrives. Answers 0. It is finished, what
+ * comes of it is dropped, so that the peer gets its credit back, and it is forgotten by itself once the peer's end is
+ * there, or it was reset, or the session runs no more. Its id is none of the caller's from now on; ymx_touched_ids may
+ * still name it.
+ *
+ * So nothing is lost, as it is by a ymx_forget before the peer's end. But a peer that never ends the stream keeps it
+ * among the YMX_MOST_STREAMS: whoever won't wait for that calls ymx_forget.
+ *
+ * Refused with YMX_E_CLOSED, YMX_E_NO_STREAM. */
+YMX_API int64_t ymx_release(ymx_session *session, uint32_t id);
 
 /* ---- the session as a whole */
 

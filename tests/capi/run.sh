@@ -1,7 +1,7 @@
 #!/bin/sh
 # Tries libymx as a C program gets it: ymx.h in C99 and C++11 without a warning, the libraries' names, each constant
 # against the proved crate's, what ymx.h says in words, NULL everywhere, bytes in pieces, touched streams and lent bytes,
-# each allocation refused, every byte over a socketpair under the sanitizers, the manual, what is installed and found by
+# streams that are released, bytes without copies, each allocation refused, every byte over a socketpair under the sanitizers, the manual, what is installed and found by
 # pkg-config and CMake, and a copy of the repository that builds it from the release with no toolchain but C's. It ends
 # with a line that says the count.
 # c/build.sh says what it is built from.
@@ -103,6 +103,8 @@ is "what ymx.h says in words" built_and_run words "$here/words.c" -O1 -fsanitize
 is "NULL" built_and_run nulls "$here/nulls.c" -fsanitize=address,undefined -fno-sanitize-recover=all
 is "bytes one by one and at once" built_and_run pieces "$here/pieces.c" -O1 -fsanitize=address,undefined -fno-sanitize-recover=all
 is "touched streams, lent bytes, room and the end" built_and_run touched "$here/touched.c" -O1 -fsanitize=address,undefined -fno-sanitize-recover=all
+is "what is asked of streams, and streams that are released" built_and_run streams "$here/streams.c" -O1 -fsanitize=address,undefined -fno-sanitize-recover=all
+is "bytes without copies" built_and_run through "$here/through.c" -O1 -fsanitize=address,undefined -fno-sanitize-recover=all
 is "each allocation refused" built_and_run refused_memory "$here/refused_memory.c" -Wl,--wrap=malloc,--wrap=realloc,--wrap=free
 is "every byte over a socketpair, with no leak" built_and_run pair "$root/examples/c/pair.c" -O1 -fsanitize=address,undefined -fno-sanitize-recover=all
 is "the echo server" in_c echo_server "$root/examples/c/echo_server.c"

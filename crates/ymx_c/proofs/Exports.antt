@@ -23,7 +23,7 @@ use denote.Exit.{yes}
 use denote.Laws.{Is, shows}
 use denote.Memory.{lone}
 use denote.Plain.{uint_vals, uint_Tells}
-use denote.RattleType.{RattleType, flat, Valss}
+use denote.RattleType.{RattleType, flat}
 use denote.RawPtr.{Ptr, RawPtr, block_ptr, lies_at, room_at, in_a_block, rawptr_vals, rawptr_Tells}
 use denote.Signature.{plain, types_at}
 use denote.Signed.{sint_Lawful}
@@ -35,7 +35,7 @@ use denote.Triple.Spec.{Meets}
 use denote.Triple.Statement.{Contract, Triple}
 use denote.Triple.Table.{framed, enters}
 use denote.Triple.Walked.{Stays, stay_dropped, Goes-dropped, walk_of, ends_at}
-use Rattle.ymx_c.proofs.Lending.{all_left, all_fit, all_go, behind, at_block, held, calls_lent, Brought, Given}
+use Rattle.ymx_c.proofs.Lending.{all_left, all_fit, all_go, at_block, held, calls_lent, Brought, Given}
 
 -- the signature of an export of a pointer alone
 abbrev pub alone : Ended
@@ -162,15 +162,15 @@ module _ {M : Type 1} {𝓤 : Ura M} (𝓛 : Logic 𝓤) (𝓜 : Model 𝓤 𝓛
   abbrev Taken : (R : RattleType) → R.Denot → Val → SProp 𝓤
   Taken R x v = sep 𝓤 (sep 𝓤 (sem 𝓛 ftrue) (sem 𝓛 (fsep (R.own_val x (v ∷ [])) ftrue))) (emp 𝓤)
 
-  abbrev Ended_by : Val → SProp 𝓤
-  Ended_by u = ex 𝓤 (λ (r : Unit {0}). sep 𝓤 (sep 𝓤 (sem 𝓛 ftrue) (sem 𝓛 (unit.own_val r (u ∷ [])))) (ex 𝓤 (λ (ws : Unit {0} × Unit {0}). sep 𝓤 (sem 𝓛 (fsep ftrue ftrue)) (sem 𝓛 ftrue))))
+  abbrev Ended_by : (rest : Unit {0} → SProp 𝓤) → Val → SProp 𝓤
+  Ended_by rest u = ex 𝓤 (λ (r : Unit {0}). sep 𝓤 (sep 𝓤 (sem 𝓛 ftrue) (sem 𝓛 (unit.own_val r (u ∷ [])))) (rest r))
 
   pub ends : (R : RattleType) (T : Ty) (name k : Callee) (G : Contract 𝓤) → One R → ((x : R.Denot) (v : Val) → Is R x (v ∷ []) → Holds (has_ty T v) × WT v)
       → Closed 𝓤 𝓛.H 𝓣.C 𝓣.Λ name (ending_code R T k) → Triple 𝓤 (𝓣.C k) G
       → (z : (x : R.Denot) (v : Val) → G.Ghost) → ((x : R.Denot) (v : Val) → G.args (z x v) ≡ v ∷ [])
-      → ((x : R.Denot) (v : Val) → ent 𝓤 (Taken R x v) (G.pre (z x v))) → ((x : R.Denot) (v u : Val) → ent 𝓤 (G.post (z x v) u) (𝓛.H.⇛ (Ended_by u)))
+      → ((x : R.Denot) (v : Val) → ent 𝓤 (Taken R x v) (G.pre (z x v))) → (rest : R.Denot → Unit {0} → SProp 𝓤) → ((x : R.Denot) (v u : Val) → ent 𝓤 (G.post (z x v) u) (𝓛.H.⇛ (Ended_by (rest x) u)))
       → Meets 𝓛 ending.signature (𝓣.C name) (closing 𝓛 ending (ending_says 𝓛 R))
-  ends R T name k G one typed_as closed met z args takes gives =
+  ends R T name k G one typed_as closed met z args takes rest gives =
       let c = ending_says 𝓛 R in let W = walk_of 𝓛 ending stays c in
       proved 𝓛 ending stays c 𝓜 𝓡 (Goes-dropped 𝓛 0 (plain (λ _. RawPtr)) yes (λ κs x w. refl), tt) name (ending_code R T k) closed (λ κs. (rawptr_vals, tt)) (λ κs. (rawptr_Tells, tt)) (λ κs qs bounds a x are.
       let y : Ptr → W.Ghost = λ p. ((κs, qs, bounds, (p, tt), (rawptr_vals p, tt)), x) in
@@ -187,7 +187,7 @@ module _ {M : Type 1} {𝓤 : Ura M} (𝓛 : Logic 𝓤) (𝓜 : Model 𝓤 𝓛
       sets ! (of_opd ! (get ! refl)) refl (typed_as x v is) $ forget ! 0 refl $
       nothing ! $ move ! (2 ∷ []) $ fjoin ! $ nothing ! $ join ! $ nothing ! $ move ! (1 ∷ 0 ∷ []) $ use2 𝓛 (raw (G.pre (z x v))) (takes x v) $
       calls_from ! (framed 𝓤 𝓛.H 𝓜 𝓣) (raw (G.pre (z x v))) (v ∷ []) (G.post (z x v)) (subst (λ (ns : List Val). ent 𝓤 (G.pre (z x v)) (𝓣.C k ns (G.post (z x v)))) (args x v) (met (z x v))) (and_then ! (get ! refl) (no_more !)) (λ u.
-      use1 𝓛 (later (some (λ (r : Unit {0}). (‵ ftrue ⊛ ‵ (unit.own_val r (u ∷ []))) ⊛ some (λ (ws : Unit {0} × Unit {0}). ‵ (fsep ftrue ftrue) ⊛ ‵ ftrue)))) (gives x v u) $
+      use1 𝓛 (later (some (λ (r : Unit {0}). (‵ ftrue ⊛ ‵ (unit.own_val r (u ∷ []))) ⊛ raw (rest x r)))) (gives x v u) $
       await ! tt $ pick ! (λ r. split ! $ split ! $ drop ! $ feq_l ! (λ is_unit. lands_as ! (ap only is_unit) refl (tt, tt) $
       sets ! (of_opd ! (unit_lit !)) refl (tt, tt) $
       returns ! (look_at ! 0 refl) $ free_all ! refl $ keep ! (1 ∷ []) $

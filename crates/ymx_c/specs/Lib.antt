@@ -2,3 +2,4 @@ pub mod Answers
 pub mod Handed
 pub mod NewAnswers
 pub mod Readiness
+pub mod Handles

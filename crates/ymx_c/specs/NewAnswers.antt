@@ -1,5 +1,5 @@
 -- What making a session answers to C.
-use Rattle.std.specs.Prelude.{◌≡◌, ℕ, ℤ, pos, negsuc, Option, None, Some}
+use Rattle.std.specs.Prelude.{◌≡◌, ℕ, ℤ, pos, negsuc, None}
 use denote.RawPtr.{Ptr, null_ptr, block_ptr}
 use Rattle.ymx_model.specs.declared.types.Config.{Config}
 use Rattle.ymx_session.specs.declared.new_fault.NewFault.{NewFault}

@@ -1,19 +1,17 @@
 -- What C learns of streams without a read or a write: what waits, what fits, and which ones bytes have touched.
-use Rattle.std.specs.Prelude.{◌≡◌, ◌↔◌, ◌≤◌, ◌<◌, ◌++◌, ℕ, ℤ, pos, List, [], ◌∷◌, length, take, drop, min, Bool, IsTrue}
+use Rattle.std.specs.Prelude.{◌≡◌, ◌≤◌, ◌<◌, ◌++◌, ℕ, ℤ, pos, List, [], ◌∷◌, length, take, drop, min}
 use Rattle.ymx_model.specs.declared.types.Event.TheVariants as event
 use Rattle.ymx_machine.specs.declared.types.Call.TheVariants as call
 use Rattle.ymx_machine.specs.shared.Events.{Reply}
-use Rattle.ymx_machine.specs.declared.types.Reply.TheVariants as reply
 use Rattle.ymx_machine.specs.declared.types.Reply.TheVariants.{Read}
 use Rattle.ymx_model.specs.session.Sessions.{Session}
-use Rattle.ymx_model.specs.session.Calls.{read_from}
 use Rattle.ymx_model.specs.session.Emissions.{in_turn}
 use Rattle.ymx_model.specs.session.Histories.{Gives}
-use Rattle.ymx_session.specs.Streams.{waiting, room_of}
+use Rattle.ymx_session.specs.Streams.{waiting}
 use Rattle.ymx_session.specs.Touched.{Noted, NotesChanges, NotesOnly, StaysNoted, nothing_noted}
 use Rattle.std.specs.Ptr.{Ptr}
 use Rattle.ymx_c.specs.NewAnswers.{IsSomewhere}
-use Rattle.ymx_c.specs.Answers.{Answers, flag, code}
+use Rattle.ymx_c.specs.Answers.{Answers, code}
 
 -- The largest number of bytes or streams that is answered where the call moves none. No credit is above it (flow control).
 abbrev pub number_limit : ℕ
@@ -44,16 +42,6 @@ seen_code answer = code answer
 -- this was a read of so many bytes, and the number stands for its reply
 abbrev pub Consumes : (id count : ℕ) → Session → ℤ → Session → Type 0
 Consumes id count old n new = (answer : Reply) × Gives in_turn old (event.Call (call.Read id count)) answer new × (n ≡ seen_code answer)
-
--- 1 where a read would answer the end, else 0
-pub record TellsEnd (id : ℕ) (s : Session) (n : ℤ) : Type 0 where
-  pub told : Bool
-  pub answer : n ≡ flag told
-  pub ends : IsTrue told ↔ ((read_from id 1 s).reply ≡ reply.ReadEnd)
-
--- how many bytes a write would take
-abbrev pub TellsRoom : ℕ → Session → ℤ → Type 0
-TellsRoom id s n = n ≡ pos (min (room_of id s) number_limit)
 
 -- how many streams of the peer's wait to be accepted
 abbrev pub CountsOffered : Session → ℤ → Type 0

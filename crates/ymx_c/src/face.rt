@@ -4,19 +4,21 @@ ghost use Rattle.std.specs.Prelude.{◌≡◌, ◌<◌, ◌^◌, length, min, �
 ghost use Rattle.std.specs.Ptr.{as_ptr};
 ghost use Rattle.ymx_model.specs.declared.types.Event.TheVariants as event;
 ghost use Rattle.ymx_machine.specs.declared.types.Call.TheVariants as call;
-ghost use Rattle.ymx_model.specs.session.Sessions.{new_session};
 ghost use Rattle.ymx_model.specs.session.Emissions.{is_ready};
-ghost use Rattle.ymx_session.specs.NewSessions.{first_id, new_fault, IsNewFault};
+ghost use Rattle.ymx_session.specs.NewSessions.{new_fault, IsNewFault};
 ghost use Rattle.ymx_session.specs.Touched.{nothing_noted};
-ghost use Rattle.ymx_c.specs.Answers.{Answers, Fills, refusal, status_number, flag, role_of};
+ghost use Rattle.ymx_session.specs.Streams.{room_of, has_ended, unsent_of, is_acknowledged};
+ghost use Rattle.ymx_c.specs.Answers.{refusal, status_number, flag, role_of};
+ghost use Rattle.ymx_c.specs.Handles.{new_handle, AnswersIn, AnswersOf, FillsIn, FillsOf, ConsumesOf, told, at_most, ShowsOf, TellsEnd, TellsReset, ListsStreams, ReleasesOne, AnswersThenSettles, TouchesThenSettles, ToPayloadThenSettles, passing_of, TellsPassing, PassesSome, WritesOn};
 ghost use Rattle.ymx_c.specs.NewAnswers.{new_refusal, config_of, IsMade, IsRefused, IsNoteMade, IsNoNote};
-ghost use Rattle.ymx_c.specs.Readiness.{Touches, Shows, Consumes, TellsEnd, TellsRoom, CountsOffered, ListsIds, IsCleared, IsPlaced, number_limit};
+ghost use Rattle.ymx_c.specs.Readiness.{CountsOffered, ListsIds, IsCleared, IsPlaced, number_limit};
 
+use crate::handle::Handle;
 use crate::made::Made;
 use std::alloc::Global;
 use ymx_memory::RefusedAllocation;
 use ymx_model::{CallFault, Config, Got, Role, Status, Wrote};
-use ymx_session::{NewFault, Session, Touched};
+use ymx_session::{NewFault, Passing, Releases, Session, Touched};
 
 /// There is nothing to do yet: no credit, or no bytes.
 const WAIT: i64 = -12;
@@ -62,25 +64,26 @@ fn role(number: u32) -> Role
     }
 }
 
-/// A session in a block of its own.
+/// A session in a block of its own, of which no stream is released.
 fn boxed(
     alloc: Global,
     number: u32,
     window: u32,
     first: u32,
-) -> Result<Box<Session, Global>, NewFault>
-    ensures made { IfOk result (λ whole. whole.value ≡ new_session (role_of number) window (first_id (role_of number) first)) }
+) -> Result<Box<Handle, Global>, NewFault>
+    ensures made { IfOk result (λ whole. whole.value ≡ new_handle number window first) }
     ensures may { IfOk result (λ whole. new_fault (role_of number) (config_of window first) ≡ None) }
     ensures refused { IfErr result (λ fault. IsNewFault (role_of number) (config_of window first) fault) }
 {
     let session = Session::new(alloc, role(number), Config { window, first })?;
-    let whole = ymx_memory::boxed(alloc, session)?;
+    let releases = Releases::new(alloc)?;
+    let whole = ymx_memory::boxed(alloc, Handle { session, releases })?;
     Ok(whole)
 }
 
 /// A new session with its address, or NULL and why there is none.
-pub(crate) fn make(alloc: Global, number: u32, window: u32, first: u32) -> Made<Session>
-    ensures { (IsMade number window first result.answer result.at × (result.value ≡ Some (new_session (role_of number) window (first_id (role_of number) first)))) ⊎ (IsRefused number window first result.answer result.at × (result.value ≡ None)) }
+pub(crate) fn make(alloc: Global, number: u32, window: u32, first: u32) -> Made<Handle>
+    ensures { (IsMade number window first result.answer result.at × (result.value ≡ Some (new_handle number window first))) ⊎ (IsRefused number window first result.answer result.at × (result.value ≡ None)) }
 {
     match boxed(alloc, number, window, first) {
         Ok(whole) => Made::of(whole),
@@ -109,20 +112,20 @@ pub(crate) fn make_touched(alloc: Global) -> Made<Touched>
 // ---- calls on the session
 
 /// The id, or the refusal.
-pub(crate) fn open(session: &mut Session) -> i64
-    ensures { Answers session.old (event.Call call.Open) result session.new }
+pub(crate) fn open(handle: &mut Handle) -> i64
+    ensures { AnswersIn handle.old (event.Call call.Open) result handle.new }
 {
-    match session.open() {
+    match handle.session.open() {
         Ok(id) => id as i64,
         Err(fault) => refusal(fault),
     }
 }
 
 /// The id, 0 if none waits, or the refusal.
-pub(crate) fn accept(session: &mut Session) -> i64
-    ensures { Answers session.old (event.Call call.Accept) result session.new }
+pub(crate) fn accept(handle: &mut Handle) -> i64
+    ensures { AnswersIn handle.old (event.Call call.Accept) result handle.new }
 {
-    match session.accept() {
+    match handle.session.accept() {
         Ok(Some(id)) => id as i64,
         Ok(None) => 0,
         Err(fault) => refusal(fault),
@@ -130,20 +133,20 @@ pub(crate) fn accept(session: &mut Session) -> i64
 }
 
 /// The ping's number, or the refusal.
-pub(crate) fn ping(session: &mut Session) -> i64
-    ensures { Answers session.old (event.Call call.Ping) result session.new }
+pub(crate) fn ping(handle: &mut Handle) -> i64
+    ensures { AnswersIn handle.old (event.Call call.Ping) result handle.new }
 {
-    match session.ping() {
+    match handle.session.ping() {
         Ok(number) => number as i64,
         Err(fault) => refusal(fault),
     }
 }
 
 /// 1 once the answer is back, 0 before, or the refusal.
-pub(crate) fn ponged(session: &mut Session, number: u32) -> i64
-    ensures { Answers session.old (event.Call (call.Ponged number)) result session.new }
+pub(crate) fn ponged(handle: &mut Handle, number: u32) -> i64
+    ensures { AnswersIn handle.old (event.Call (call.Ponged number)) result handle.new }
 {
-    match session.ponged(number) {
+    match handle.session.ponged(number) {
         Ok(true) => 1,
         Ok(false) => 0,
         Err(fault) => refusal(fault),
@@ -151,10 +154,10 @@ pub(crate) fn ponged(session: &mut Session, number: u32) -> i64
 }
 
 /// 0, or the refusal.
-pub(crate) fn go_away(session: &mut Session) -> i64
-    ensures { Answers session.old (event.Call call.GoAway) result session.new }
+pub(crate) fn go_away(handle: &mut Handle) -> i64
+    ensures { AnswersIn handle.old (event.Call call.GoAway) result handle.new }
 {
-    match session.go_away() {
+    match handle.session.go_away() {
         Ok(()) => 0,
         Err(fault) => refusal(fault),
     }
@@ -162,27 +165,30 @@ pub(crate) fn go_away(session: &mut Session) -> i64
 
 /// Closes the session at once: nothing more is emitted, not even the rest of a frame begun, and each later call that can
 /// be refused is refused. It answers 0, also where the session was closed before.
-pub(crate) fn close(session: &mut Session) -> i64
-    ensures { Answers session.old (event.Call call.Close) result session.new }
+pub(crate) fn close(handle: &mut Handle) -> i64
+    ensures { AnswersIn handle.old (event.Call call.Close) result handle.new }
 {
-    session.close();
+    handle.session.close();
     0
 }
 
 /// How many offered streams wait to be accepted.
-pub(crate) fn offered_count(session: &mut Session) -> i64
-    ensures { CountsOffered session.old result × (session.new ≡ session.old) }
+pub(crate) fn offered_count(handle: &mut Handle) -> i64
+    ensures { CountsOffered handle.old.session result × (handle.new ≡ handle.old) }
 {
-    limited(session.offered_count())
+    limited(handle.session.offered_count())
 }
 
 // ---- calls on a stream
 
 /// How many bytes were taken, `WAIT`, or the refusal.
-pub(crate) fn write(session: &mut Session, id: u32, bytes: &[u8]) -> i64
-    ensures { Answers session.old (event.Call (call.Write id bytes.now)) result session.new }
+pub(crate) fn write(handle: &mut Handle, id: u32, bytes: &[u8]) -> i64
+    ensures { AnswersOf id handle.old (event.Call (call.Write id bytes.now)) result handle.new }
 {
-    match session.write(id, bytes) {
+    if handle.is_released(id) {
+        return handle.no_stream();
+    }
+    match handle.session.write(id, bytes) {
         Ok(Wrote::Took(count)) => number(count),
         Ok(Wrote::Wait) => WAIT,
         Err(fault) => refusal(fault),
@@ -190,10 +196,13 @@ pub(crate) fn write(session: &mut Session, id: u32, bytes: &[u8]) -> i64
 }
 
 /// How many bytes stand at the front, 0 at the end, `WAIT`, or the refusal.
-pub(crate) fn read(session: &mut Session, id: u32, buffer: &mut [u8]) -> i64
-    ensures { Fills session.old (event.Call (call.Read id (length buffer.old))) result buffer.new session.new }
+pub(crate) fn read(handle: &mut Handle, id: u32, buffer: &mut [u8]) -> i64
+    ensures { FillsOf id handle.old (event.Call (call.Read id (length buffer.old))) result buffer.old buffer.new handle.new }
 {
-    match session.read(id, buffer) {
+    if handle.is_released(id) {
+        return handle.no_stream();
+    }
+    match handle.session.read(id, buffer) {
         Ok(Got::Bytes(count)) => number(count),
         Ok(Got::End) => 0,
         Ok(Got::Wait) => WAIT,
@@ -203,10 +212,14 @@ pub(crate) fn read(session: &mut Session, id: u32, buffer: &mut [u8]) -> i64
 
 /// How many bytes wait at the address that is written to `out`, where there is room for one; more may wait behind
 /// them.
-pub(crate) fn unread(session: &mut Session, id: u32, out: &mut [*const u8]) -> i64
-    ensures { Shows id session.old result × IsPlaced out.old out.new × (session.new ≡ session.old) }
+pub(crate) fn unread(handle: &mut Handle, id: u32, out: &mut [*const u8]) -> i64
+    ensures { ShowsOf id handle.old result × IsPlaced out.old out.new × (handle.new ≡ handle.old) }
 {
-    let bytes = session.unread(id);
+    let bytes: &[u8] = if handle.is_released(id) {
+        &[]
+    } else {
+        handle.session.unread(id)
+    };
     if out.len() > 0 {
         out[0] = address(bytes);
     }
@@ -221,10 +234,13 @@ fn address(bytes: &[u8]) -> *const u8
 }
 
 /// 0, also at the end, `WAIT`, or the refusal.
-pub(crate) fn consume(session: &mut Session, id: u32, count: u32) -> i64
-    ensures { Consumes id count session.old result session.new }
+pub(crate) fn consume(handle: &mut Handle, id: u32, count: u32) -> i64
+    ensures { ConsumesOf id count handle.old result handle.new }
 {
-    match session.consume(id, count as usize) {
+    if handle.is_released(id) {
+        return handle.no_stream();
+    }
+    match handle.session.consume(id, count as usize) {
         Ok(Got::Bytes(_)) => 0,
         Ok(Got::End) => 0,
         Ok(Got::Wait) => WAIT,
@@ -232,101 +248,243 @@ pub(crate) fn consume(session: &mut Session, id: u32, count: u32) -> i64
     }
 }
 
-/// How many bytes a write would take.
-pub(crate) fn room(session: &mut Session, id: u32) -> i64
-    ensures { TellsRoom id session.old result × (session.new ≡ session.old) }
+/// 0, or the refusal.
+pub(crate) fn finish(handle: &mut Handle, id: u32) -> i64
+    ensures { AnswersOf id handle.old (event.Call (call.Finish id)) result handle.new }
 {
-    limited(session.room(id))
+    if handle.is_released(id) {
+        return handle.no_stream();
+    }
+    match handle.session.finish(id) {
+        Ok(()) => 0,
+        Err(fault) => refusal(fault),
+    }
+}
+
+/// 0, or the refusal.
+pub(crate) fn reset(handle: &mut Handle, id: u32) -> i64
+    ensures { AnswersOf id handle.old (event.Call (call.Reset id)) result handle.new }
+{
+    if handle.is_released(id) {
+        return handle.no_stream();
+    }
+    match handle.session.reset(id) {
+        Ok(()) => 0,
+        Err(fault) => refusal(fault),
+    }
+}
+
+/// 0, or the refusal.
+pub(crate) fn forget(handle: &mut Handle, id: u32) -> i64
+    ensures { AnswersOf id handle.old (event.Call (call.Forget id)) result handle.new }
+{
+    if handle.is_released(id) {
+        return handle.no_stream();
+    }
+    match handle.session.forget(id) {
+        Ok(()) => 0,
+        Err(fault) => refusal(fault),
+    }
+}
+
+/// 0, or the refusal. The stream is none of the caller's from now on.
+pub(crate) fn release(handle: &mut Handle, id: u32) -> i64
+    ensures { ReleasesOne id handle.old result handle.new }
+{
+    match handle.releases.release(&mut handle.session, id) {
+        Ok(()) => 0,
+        Err(fault) => refusal(fault),
+    }
+}
+
+// ---- what is asked of a stream
+
+/// How many bytes a write would take.
+pub(crate) fn room(handle: &mut Handle, id: u32) -> i64
+    ensures { (result ≡ told id handle.old (at_most (room_of id handle.old.session))) × (handle.new ≡ handle.old) }
+{
+    if handle.is_released(id) {
+        return 0;
+    }
+    limited(handle.session.room(id))
 }
 
 /// 1 where a read would answer the end, else 0.
-pub(crate) fn is_at_end(session: &mut Session, id: u32) -> i64
-    ensures { TellsEnd id session.old result × (session.new ≡ session.old) }
+pub(crate) fn is_at_end(handle: &mut Handle, id: u32) -> i64
+    ensures { TellsEnd id handle.old result × (handle.new ≡ handle.old) }
 {
-    if session.is_at_end(id) { 1 } else { 0 }
+    if handle.is_released(id) {
+        return 0;
+    }
+    flag(handle.session.is_at_end(id))
 }
 
-/// 0, or the refusal.
-pub(crate) fn finish(session: &mut Session, id: u32) -> i64
-    ensures { Answers session.old (event.Call (call.Finish id)) result session.new }
+/// 1 where the peer's end has arrived, else 0.
+pub(crate) fn has_ended(handle: &mut Handle, id: u32) -> i64
+    ensures { (result ≡ told id handle.old (flag (has_ended id handle.old.session))) × (handle.new ≡ handle.old) }
 {
-    match session.finish(id) {
-        Ok(()) => 0,
-        Err(fault) => refusal(fault),
+    if handle.is_released(id) {
+        return 0;
     }
+    flag(handle.session.has_ended(id))
 }
 
-/// 0, or the refusal.
-pub(crate) fn reset(session: &mut Session, id: u32) -> i64
-    ensures { Answers session.old (event.Call (call.Reset id)) result session.new }
+/// How many bytes stand in no frame begun yet.
+pub(crate) fn unsent(handle: &mut Handle, id: u32) -> i64
+    ensures { (result ≡ told id handle.old (at_most (unsent_of id handle.old.session))) × (handle.new ≡ handle.old) }
 {
-    match session.reset(id) {
-        Ok(()) => 0,
-        Err(fault) => refusal(fault),
+    if handle.is_released(id) {
+        return 0;
     }
+    limited(handle.session.unsent(id))
 }
 
-/// 0, or the refusal.
-pub(crate) fn forget(session: &mut Session, id: u32) -> i64
-    ensures { Answers session.old (event.Call (call.Forget id)) result session.new }
+/// 1 where the peer has acknowledged it, else 0.
+pub(crate) fn is_acknowledged(handle: &mut Handle, id: u32) -> i64
+    ensures { (result ≡ told id handle.old (flag (is_acknowledged id handle.old.session))) × (handle.new ≡ handle.old) }
 {
-    match session.forget(id) {
-        Ok(()) => 0,
-        Err(fault) => refusal(fault),
+    if handle.is_released(id) {
+        return 0;
     }
+    flag(handle.session.is_acknowledged(id))
+}
+
+/// 1 where it was reset, else 0.
+pub(crate) fn is_reset(handle: &mut Handle, id: u32) -> i64
+    ensures { TellsReset id handle.old result × (handle.new ≡ handle.old) }
+{
+    if handle.is_released(id) {
+        return 0;
+    }
+    flag(handle.session.is_reset(id))
+}
+
+/// How many streams the caller has. As many of their ids as fit stand at the buffer's front.
+pub(crate) fn streams(handle: &mut Handle, ids: &mut [u32]) -> i64
+    ensures { ListsStreams handle.old result ids.old ids.new × (handle.new ≡ handle.old) }
+{
+    limited(handle.releases.streams(&handle.session, ids))
 }
 
 // ---- what comes and goes
 
 /// How many bytes were taken.
-pub(crate) fn feed(session: &mut Session, input: &[u8]) -> i64
-    ensures { Answers session.old (event.Feed input.now) result session.new }
+pub(crate) fn feed(handle: &mut Handle, input: &[u8]) -> i64
+    ensures { AnswersThenSettles handle.old (event.Feed input.now) result handle.new }
 {
-    let fed = session.feed(input);
+    let fed = handle.session.feed(input);
+    handle.settle_all();
     number(fed.taken)
 }
 
 /// How many bytes were taken. The streams that they touched are noted.
-pub(crate) fn feed_touching(session: &mut Session, input: &[u8], touched: &mut Touched) -> i64
-    ensures { Touches session.old touched.old input.now result session.new touched.new }
+pub(crate) fn feed_touching(handle: &mut Handle, input: &[u8], touched: &mut Touched) -> i64
+    ensures { TouchesThenSettles handle.old touched.old input.now result handle.new touched.new }
 {
-    let fed = session.feed_touching(input, touched);
+    let fed = handle.session.feed_touching(input, touched);
+    handle.settle(touched);
     number(fed.taken)
 }
 
 /// 0.
-pub(crate) fn feed_end(session: &mut Session) -> i64
-    ensures { Answers session.old event.FeedEnd result session.new }
+pub(crate) fn feed_end(handle: &mut Handle) -> i64
+    ensures { AnswersThenSettles handle.old event.FeedEnd result handle.new }
 {
-    session.feed_end();
+    handle.session.feed_end();
+    handle.settle_all();
     0
 }
 
 /// How many bytes stand at the front.
-pub(crate) fn emit(session: &mut Session, buffer: &mut [u8]) -> i64
-    ensures { Fills session.old (event.Emit (length buffer.old)) result buffer.new session.new }
+pub(crate) fn emit(handle: &mut Handle, buffer: &mut [u8]) -> i64
+    ensures { FillsIn handle.old (event.Emit (length buffer.old)) result buffer.new handle.new }
 {
-    let count = session.emit(buffer);
+    let count = handle.session.emit(buffer);
     number(count)
 }
 
 /// 1 or 0.
-pub(crate) fn due(session: &mut Session) -> i64
-    ensures { (result ≡ flag (is_ready session.old)) × (session.new ≡ session.old) }
+pub(crate) fn due(handle: &mut Handle) -> i64
+    ensures { (result ≡ flag (is_ready handle.old.session)) × (handle.new ≡ handle.old) }
 {
-    if session.due() { 1 } else { 0 }
+    flag(handle.session.due())
 }
 
 /// 0 running, 1 lost, 2 closed, and 100 and the fault's number where it broke.
-pub(crate) fn status(session: &mut Session) -> i64
-    ensures { (result ≡ status_number session.old.status) × (session.new ≡ session.old) }
+pub(crate) fn status(handle: &mut Handle) -> i64
+    ensures { (result ≡ status_number handle.old.session.status) × (handle.new ≡ handle.old) }
 {
-    match session.status() {
+    match handle.session.status() {
         Status::Running => 0,
         Status::Lost => 1,
         Status::Closed => 2,
         Status::Broken(fault) => 100 + fault.number() as i64,
     }
+}
+
+// ---- without copies
+
+/// How many bytes stand at the buffer's front, or 0, and then nothing has changed.
+pub(crate) fn write_through(handle: &mut Handle, id: u32, bytes: &[u8], buffer: &mut [u8]) -> i64
+    ensures { WritesOn id bytes.now buffer.old buffer.new handle.old result handle.new }
+{
+    if handle.is_released(id) {
+        return 0;
+    }
+    match handle.session.write_through(id, bytes, buffer) {
+        Some(count) => number(count),
+        None => 0,
+    }
+}
+
+/// How many bytes were taken. The streams that they touched are noted.
+pub(crate) fn feed_to_payload(handle: &mut Handle, input: &[u8], touched: &mut Touched) -> i64
+    ensures { ToPayloadThenSettles handle.old touched.old input.now result handle.new touched.new }
+{
+    let fed = handle.session.feed_to_payload(input, touched);
+    let dropped = handle.drop_payload(&input[fed.taken..]);
+    handle.settle(touched);
+    number(fed.taken + dropped)
+}
+
+/// The payload that may be passed on, unless its stream was released.
+fn passing_of(handle: &Handle) -> Option<Passing>
+    ensures { result ≡ passing_of handle.now }
+{
+    let payload = handle.session.passing()?;
+    if handle.is_released(payload.id) {
+        return None;
+    }
+    Some(payload)
+}
+
+/// How many bytes of the payload may still be passed on. The stream's id is written to `out`, where there is room for one.
+pub(crate) fn passing(handle: &mut Handle, out: &mut [u32]) -> i64
+    ensures { TellsPassing handle.old result out.old out.new × (handle.new ≡ handle.old) }
+{
+    match passing_of(handle) {
+        Some(payload) => {
+            if out.len() > 0 {
+                out[0] = payload.id;
+            }
+            payload.missing as i64
+        }
+        None => 0,
+    }
+}
+
+/// How many of the bytes were passed on.
+pub(crate) fn pass(handle: &mut Handle, bytes: &[u8]) -> i64
+    ensures { PassesSome handle.old bytes.now result handle.new }
+{
+    let Some(payload) = passing_of(handle) else {
+        return 0;
+    };
+    let count = bytes.len().min(payload.missing as usize);
+    if count > 0 {
+        handle.session.pass(&bytes[..count]);
+    }
+    number(count)
 }
 
 // ---- the streams that were touched
@@ -345,14 +503,14 @@ pub(crate) fn touched_ids(touched: &mut Touched, buffer: &mut [u32]) -> i64
 pub(crate) fn touched_is_all(touched: &mut Touched) -> i64
     ensures { (result ≡ flag touched.old.all) × (touched.new ≡ touched.old) }
 {
-    if touched.is_all() { 1 } else { 0 }
+    flag(touched.is_all())
 }
 
 /// 1 where an answer to a ping came, else 0.
 pub(crate) fn touched_has_pong(touched: &mut Touched) -> i64
     ensures { (result ≡ flag touched.old.ponged) × (touched.new ≡ touched.old) }
 {
-    if touched.has_pong() { 1 } else { 0 }
+    flag(touched.has_pong())
 }
 
 /// 0.
@@ -370,6 +528,13 @@ pub(crate) fn end_touched(touched: Touched) {
 
 // ---- numbers
 
+/// 1 for yes, 0 for no.
+fn flag(is_so: bool) -> i64
+    ensures { result ≡ flag is_so }
+{
+    if is_so { 1 } else { 0 }
+}
+
 /// A count as a number, and 4,294,967,295 for any that is larger.
 fn limited(count: usize) -> i64
     ensures { result ≡ pos (min count number_limit) }
@@ -386,6 +551,6 @@ fn number(count: usize) -> i64
 }
 
 /// Gives back all that a session keeps.
-pub(crate) fn end(session: Session) {
-    let _ended = session;
+pub(crate) fn end(handle: Handle) {
+    let _ended = handle;
 }

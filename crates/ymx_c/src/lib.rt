@@ -8,6 +8,7 @@
 #![tactic(auto)]
 
 mod face;
+mod handle;
 mod made;
 
 ghost use Rattle.std.specs.Prelude.{◌≡◌, ◌⊎◌, false, length};
@@ -15,20 +16,22 @@ ghost use Rattle.std.specs.Borrow.{full_share, sem};
 ghost use Rattle.std.specs.Ptr.{lies_at, room_at};
 ghost use Rattle.ymx_model.specs.declared.types.Event.TheVariants as event;
 ghost use Rattle.ymx_machine.specs.declared.types.Call.TheVariants as call;
-ghost use Rattle.ymx_model.specs.session.Sessions.{Session as SessionValue, new_session};
 ghost use Rattle.ymx_model.specs.session.Emissions.{is_ready};
-ghost use Rattle.ymx_session.specs.NewSessions.{first_id};
+ghost use Rattle.ymx_session.specs.Streams.{room_of, has_ended, unsent_of, is_acknowledged};
 ghost use Rattle.ymx_session.specs.Touched.{Noted, nothing_noted};
-ghost use Rattle.ymx_session.specs.contracts.session.Session.{the_row};
 ghost use Rattle.ymx_session.specs.contracts.touched.Touched.{the_row as touched_row};
-ghost use Rattle.ymx_c.specs.Answers.{Answers, Fills, status_number, flag, role_of};
+ghost use Rattle.ymx_c.specs.Answers.{status_number, flag};
+ghost use Rattle.ymx_c.specs.contracts.handle.Handle.{the_row};
+ghost use Rattle.ymx_c.specs.declared.handle.Handle.{Handle as HandleValue};
 ghost use Rattle.ymx_c.specs.Handed.{handed};
 ghost use Rattle.ymx_c.specs.NewAnswers.{IsMade, IsRefused, IsNoteMade, IsNoNote};
-ghost use Rattle.ymx_c.specs.Readiness.{Touches, Shows, Consumes, TellsEnd, TellsRoom, CountsOffered, ListsIds, IsCleared, IsPlaced};
+ghost use Rattle.ymx_c.specs.Handles.{new_handle, AnswersIn, AnswersOf, FillsIn, FillsOf, ConsumesOf, told, at_most, ShowsOf, TellsEnd, TellsReset, ListsStreams, ReleasesOne, AnswersThenSettles, TouchesThenSettles, ToPayloadThenSettles, TellsPassing, PassesSome, WritesOn};
+ghost use Rattle.ymx_c.specs.Readiness.{CountsOffered, ListsIds, IsCleared, IsPlaced};
 
+use crate::handle::Handle;
 use crate::made::Made;
 use std::alloc::Global;
-use ymx_session::{Session, Touched};
+use ymx_session::Touched;
 
 /// Makes a session that has done nothing, and writes its address to `out`. 0, or why there is none, and then
 /// NULL is written: -13 for a window below 262,144 or above 16,777,216 bytes (flow control), -14 for a first
@@ -43,7 +46,7 @@ pub extern "C" fn ymx_core_new(
     out: &mut *mut u8,
 ) -> i64
     ensures answer { IsMade role window first result out.new ⊎ IsRefused role window first result out.new }
-    ensures* memory { sem 𝓛 (handed the_row out.new (new_session (role_of role) window (first_id (role_of role) first))) }
+    ensures* memory { sem 𝓛 (handed the_row out.new (new_handle role window first)) }
 {
     let Made { at, answer } = face::make(alloc, role, window, first);
     *out = at as *mut u8;
@@ -53,11 +56,11 @@ pub extern "C" fn ymx_core_new(
 /// Ends a session and gives back all that it keeps. What it lay in is room again.
 #[unsafe(no_mangle)]
 pub unsafe extern "C" fn ymx_core_drop(at: *mut u8)
-    ghost old: { SessionValue }
+    ghost old: { HandleValue }
     requires* { sem 𝓛 (lies_at the_row full_share at old) }
     ensures* { sem 𝓛 (room_at the_row at) }
 {
-    face::end(unsafe { (at as *mut Session).read() });
+    face::end(unsafe { (at as *mut Handle).read() });
 }
 
 // ---- the calls
@@ -65,185 +68,246 @@ pub unsafe extern "C" fn ymx_core_drop(at: *mut u8)
 /// Opens the next own stream: its id, or a refusal.
 #[unsafe(no_mangle)]
 pub unsafe extern "C" fn ymx_core_open(at: *mut u8) -> i64
-    ghost old: { SessionValue }
+    ghost old: { HandleValue }
     requires* { sem 𝓛 (lies_at the_row full_share at old) }
-    ensures* { ∃ₛ (λ (now : SessionValue). sem 𝓛 (lies_at the_row full_share at now) ∗ ⌜ Answers old (event.Call call.Open) result now ⌝) }
+    ensures* { ∃ₛ (λ (now : HandleValue). sem 𝓛 (lies_at the_row full_share at now) ∗ ⌜ AnswersIn old (event.Call call.Open) result now ⌝) }
 {
-    face::open(unsafe { &mut *(at as *mut Session) })
+    face::open(unsafe { &mut *(at as *mut Handle) })
 }
 
 /// Takes the offered stream that came first: its id, 0 if none waits, or a refusal.
 #[unsafe(no_mangle)]
 pub unsafe extern "C" fn ymx_core_accept(at: *mut u8) -> i64
-    ghost old: { SessionValue }
+    ghost old: { HandleValue }
     requires* { sem 𝓛 (lies_at the_row full_share at old) }
-    ensures* { ∃ₛ (λ (now : SessionValue). sem 𝓛 (lies_at the_row full_share at now) ∗ ⌜ Answers old (event.Call call.Accept) result now ⌝) }
+    ensures* { ∃ₛ (λ (now : HandleValue). sem 𝓛 (lies_at the_row full_share at now) ∗ ⌜ AnswersIn old (event.Call call.Accept) result now ⌝) }
 {
-    face::accept(unsafe { &mut *(at as *mut Session) })
+    face::accept(unsafe { &mut *(at as *mut Handle) })
 }
 
 /// How many streams of the peer's wait to be accepted.
 #[unsafe(no_mangle)]
 pub unsafe extern "C" fn ymx_core_offered_count(at: *mut u8) -> i64
-    ghost old: { SessionValue }
+    ghost old: { HandleValue }
     requires* { sem 𝓛 (lies_at the_row full_share at old) }
-    ensures* { ∃ₛ (λ (now : SessionValue). sem 𝓛 (lies_at the_row full_share at now) ∗ ⌜ CountsOffered old result × (now ≡ old) ⌝) }
+    ensures* { ∃ₛ (λ (now : HandleValue). sem 𝓛 (lies_at the_row full_share at now) ∗ ⌜ CountsOffered old.session result × (now ≡ old) ⌝) }
 {
-    face::offered_count(unsafe { &mut *(at as *mut Session) })
+    face::offered_count(unsafe { &mut *(at as *mut Handle) })
 }
 
 /// Asks the peer for a sign of life (ping): the number of the ping, or a refusal.
 #[unsafe(no_mangle)]
 pub unsafe extern "C" fn ymx_core_ping(at: *mut u8) -> i64
-    ghost old: { SessionValue }
+    ghost old: { HandleValue }
     requires* { sem 𝓛 (lies_at the_row full_share at old) }
-    ensures* { ∃ₛ (λ (now : SessionValue). sem 𝓛 (lies_at the_row full_share at now) ∗ ⌜ Answers old (event.Call call.Ping) result now ⌝) }
+    ensures* { ∃ₛ (λ (now : HandleValue). sem 𝓛 (lies_at the_row full_share at now) ∗ ⌜ AnswersIn old (event.Call call.Ping) result now ⌝) }
 {
-    face::ping(unsafe { &mut *(at as *mut Session) })
+    face::ping(unsafe { &mut *(at as *mut Handle) })
 }
 
 /// Whether the answer to the ping of this number is back: 1, 0 if not, or a refusal. With 1 it is collected.
 #[unsafe(no_mangle)]
 pub unsafe extern "C" fn ymx_core_ponged(at: *mut u8, number: u32) -> i64
-    ghost old: { SessionValue }
+    ghost old: { HandleValue }
     requires* { sem 𝓛 (lies_at the_row full_share at old) }
-    ensures* { ∃ₛ (λ (now : SessionValue). sem 𝓛 (lies_at the_row full_share at now) ∗ ⌜ Answers old (event.Call (call.Ponged number)) result now ⌝) }
+    ensures* { ∃ₛ (λ (now : HandleValue). sem 𝓛 (lies_at the_row full_share at now) ∗ ⌜ AnswersIn old (event.Call (call.Ponged number)) result now ⌝) }
 {
-    face::ponged(unsafe { &mut *(at as *mut Session) }, number)
+    face::ponged(unsafe { &mut *(at as *mut Handle) }, number)
 }
 
 /// Takes no more streams of the peer's (go away): 0, or a refusal.
 #[unsafe(no_mangle)]
 pub unsafe extern "C" fn ymx_core_go_away(at: *mut u8) -> i64
-    ghost old: { SessionValue }
+    ghost old: { HandleValue }
     requires* { sem 𝓛 (lies_at the_row full_share at old) }
-    ensures* { ∃ₛ (λ (now : SessionValue). sem 𝓛 (lies_at the_row full_share at now) ∗ ⌜ Answers old (event.Call call.GoAway) result now ⌝) }
+    ensures* { ∃ₛ (λ (now : HandleValue). sem 𝓛 (lies_at the_row full_share at now) ∗ ⌜ AnswersIn old (event.Call call.GoAway) result now ⌝) }
 {
-    face::go_away(unsafe { &mut *(at as *mut Session) })
+    face::go_away(unsafe { &mut *(at as *mut Handle) })
 }
 
 /// Closes the session at once: 0.
 #[unsafe(no_mangle)]
 pub unsafe extern "C" fn ymx_core_close(at: *mut u8) -> i64
-    ghost old: { SessionValue }
+    ghost old: { HandleValue }
     requires* { sem 𝓛 (lies_at the_row full_share at old) }
-    ensures* { ∃ₛ (λ (now : SessionValue). sem 𝓛 (lies_at the_row full_share at now) ∗ ⌜ Answers old (event.Call call.Close) result now ⌝) }
+    ensures* { ∃ₛ (λ (now : HandleValue). sem 𝓛 (lies_at the_row full_share at now) ∗ ⌜ AnswersIn old (event.Call call.Close) result now ⌝) }
 {
-    face::close(unsafe { &mut *(at as *mut Session) })
+    face::close(unsafe { &mut *(at as *mut Handle) })
 }
 
 /// Writes to a stream: how many bytes were taken, -12 where there is no credit (flow control), or a refusal.
 #[unsafe(no_mangle)]
 pub unsafe extern "C" fn ymx_core_write(at: *mut u8, id: u32, bytes: &[u8]) -> i64
-    ghost old: { SessionValue }
+    ghost old: { HandleValue }
     requires* { sem 𝓛 (lies_at the_row full_share at old) }
-    ensures* { ∃ₛ (λ (now : SessionValue). sem 𝓛 (lies_at the_row full_share at now) ∗ ⌜ Answers old (event.Call (call.Write id bytes.now)) result now ⌝) }
+    ensures* { ∃ₛ (λ (now : HandleValue). sem 𝓛 (lies_at the_row full_share at now) ∗ ⌜ AnswersOf id old (event.Call (call.Write id bytes.now)) result now ⌝) }
 {
-    face::write(unsafe { &mut *(at as *mut Session) }, id, bytes)
+    face::write(unsafe { &mut *(at as *mut Handle) }, id, bytes)
 }
 
 /// Reads from a stream: how many bytes stand at the buffer's front, 0 at the end, -12 where nothing is
 /// there yet, or a refusal.
 #[unsafe(no_mangle)]
 pub unsafe extern "C" fn ymx_core_read(at: *mut u8, id: u32, buffer: &mut [u8]) -> i64
-    ghost old: { SessionValue }
+    ghost old: { HandleValue }
     requires* { sem 𝓛 (lies_at the_row full_share at old) }
-    ensures* { ∃ₛ (λ (now : SessionValue). sem 𝓛 (lies_at the_row full_share at now) ∗ ⌜ Fills old (event.Call (call.Read id (length buffer.old))) result buffer.new now ⌝) }
+    ensures* { ∃ₛ (λ (now : HandleValue). sem 𝓛 (lies_at the_row full_share at now) ∗ ⌜ FillsOf id old (event.Call (call.Read id (length buffer.old))) result buffer.old buffer.new now ⌝) }
 {
-    face::read(unsafe { &mut *(at as *mut Session) }, id, buffer)
+    face::read(unsafe { &mut *(at as *mut Handle) }, id, buffer)
 }
 
 /// Shows the first bytes that wait on a stream, as they lie in its ring: writes their address to the first place of
 /// `out`, and answers how many they are, 0 if none waits. The address is good until the next call that changes the session.
 #[unsafe(no_mangle)]
 pub unsafe extern "C" fn ymx_core_unread(at: *mut u8, id: u32, out: &mut [*const u8]) -> i64
-    ghost old: { SessionValue }
+    ghost old: { HandleValue }
     requires* { sem 𝓛 (lies_at the_row full_share at old) }
-    ensures* { ∃ₛ (λ (now : SessionValue). sem 𝓛 (lies_at the_row full_share at now) ∗ ⌜ Shows id old result × IsPlaced out.old out.new × (now ≡ old) ⌝) }
+    ensures* { ∃ₛ (λ (now : HandleValue). sem 𝓛 (lies_at the_row full_share at now) ∗ ⌜ ShowsOf id old result × IsPlaced out.old out.new × (now ≡ old) ⌝) }
 {
-    face::unread(unsafe { &mut *(at as *mut Session) }, id, out)
+    face::unread(unsafe { &mut *(at as *mut Handle) }, id, out)
 }
 
 /// Takes out the first `count` bytes that wait on a stream, or as many as are there, as a read of `count` bytes
 /// does: 0, also at the end, -12 where nothing is there yet, or a refusal.
 #[unsafe(no_mangle)]
 pub unsafe extern "C" fn ymx_core_consume(at: *mut u8, id: u32, count: u32) -> i64
-    ghost old: { SessionValue }
+    ghost old: { HandleValue }
     requires* { sem 𝓛 (lies_at the_row full_share at old) }
-    ensures* { ∃ₛ (λ (now : SessionValue). sem 𝓛 (lies_at the_row full_share at now) ∗ ⌜ Consumes id count old result now ⌝) }
+    ensures* { ∃ₛ (λ (now : HandleValue). sem 𝓛 (lies_at the_row full_share at now) ∗ ⌜ ConsumesOf id count old result now ⌝) }
 {
-    face::consume(unsafe { &mut *(at as *mut Session) }, id, count)
+    face::consume(unsafe { &mut *(at as *mut Handle) }, id, count)
 }
 
 /// How many bytes a write to a stream would take now (flow control). 0 where it would be refused.
 #[unsafe(no_mangle)]
 pub unsafe extern "C" fn ymx_core_room(at: *mut u8, id: u32) -> i64
-    ghost old: { SessionValue }
+    ghost old: { HandleValue }
     requires* { sem 𝓛 (lies_at the_row full_share at old) }
-    ensures* { ∃ₛ (λ (now : SessionValue). sem 𝓛 (lies_at the_row full_share at now) ∗ ⌜ TellsRoom id old result × (now ≡ old) ⌝) }
+    ensures* { ∃ₛ (λ (now : HandleValue). sem 𝓛 (lies_at the_row full_share at now) ∗ ⌜ (result ≡ told id old (at_most (room_of id old.session))) × (now ≡ old) ⌝) }
 {
-    face::room(unsafe { &mut *(at as *mut Session) }, id)
+    face::room(unsafe { &mut *(at as *mut Handle) }, id)
 }
 
 /// Whether a read of a stream would answer the end (half-close): 1, or 0.
 #[unsafe(no_mangle)]
 pub unsafe extern "C" fn ymx_core_is_at_end(at: *mut u8, id: u32) -> i64
-    ghost old: { SessionValue }
+    ghost old: { HandleValue }
     requires* { sem 𝓛 (lies_at the_row full_share at old) }
-    ensures* { ∃ₛ (λ (now : SessionValue). sem 𝓛 (lies_at the_row full_share at now) ∗ ⌜ TellsEnd id old result × (now ≡ old) ⌝) }
+    ensures* { ∃ₛ (λ (now : HandleValue). sem 𝓛 (lies_at the_row full_share at now) ∗ ⌜ TellsEnd id old result × (now ≡ old) ⌝) }
 {
-    face::is_at_end(unsafe { &mut *(at as *mut Session) }, id)
+    face::is_at_end(unsafe { &mut *(at as *mut Handle) }, id)
+}
+
+/// Whether the peer's end of a stream has arrived, also with bytes unread (half-close): 1, or 0.
+#[unsafe(no_mangle)]
+pub unsafe extern "C" fn ymx_core_has_ended(at: *mut u8, id: u32) -> i64
+    ghost old: { HandleValue }
+    requires* { sem 𝓛 (lies_at the_row full_share at old) }
+    ensures* { ∃ₛ (λ (now : HandleValue). sem 𝓛 (lies_at the_row full_share at now) ∗ ⌜ (result ≡ told id old (flag (has_ended id old.session))) × (now ≡ old) ⌝) }
+{
+    face::has_ended(unsafe { &mut *(at as *mut Handle) }, id)
+}
+
+/// How many bytes were written to a stream and stand in no frame begun yet.
+#[unsafe(no_mangle)]
+pub unsafe extern "C" fn ymx_core_unsent(at: *mut u8, id: u32) -> i64
+    ghost old: { HandleValue }
+    requires* { sem 𝓛 (lies_at the_row full_share at old) }
+    ensures* { ∃ₛ (λ (now : HandleValue). sem 𝓛 (lies_at the_row full_share at now) ∗ ⌜ (result ≡ told id old (at_most (unsent_of id old.session))) × (now ≡ old) ⌝) }
+{
+    face::unsent(unsafe { &mut *(at as *mut Handle) }, id)
+}
+
+/// Whether the peer has acknowledged a stream (flags): 1, or 0.
+#[unsafe(no_mangle)]
+pub unsafe extern "C" fn ymx_core_is_acknowledged(at: *mut u8, id: u32) -> i64
+    ghost old: { HandleValue }
+    requires* { sem 𝓛 (lies_at the_row full_share at old) }
+    ensures* { ∃ₛ (λ (now : HandleValue). sem 𝓛 (lies_at the_row full_share at now) ∗ ⌜ (result ≡ told id old (flag (is_acknowledged id old.session))) × (now ≡ old) ⌝) }
+{
+    face::is_acknowledged(unsafe { &mut *(at as *mut Handle) }, id)
+}
+
+/// Whether a stream was reset, by either side (flags): 1, or 0.
+#[unsafe(no_mangle)]
+pub unsafe extern "C" fn ymx_core_is_reset(at: *mut u8, id: u32) -> i64
+    ghost old: { HandleValue }
+    requires* { sem 𝓛 (lies_at the_row full_share at old) }
+    ensures* { ∃ₛ (λ (now : HandleValue). sem 𝓛 (lies_at the_row full_share at now) ∗ ⌜ TellsReset id old result × (now ≡ old) ⌝) }
+{
+    face::is_reset(unsafe { &mut *(at as *mut Handle) }, id)
+}
+
+/// The ids of the streams that the caller has, as many as fit, at the buffer's front: how many it has.
+#[unsafe(no_mangle)]
+pub unsafe extern "C" fn ymx_core_streams(at: *mut u8, ids: &mut [u32]) -> i64
+    ghost old: { HandleValue }
+    requires* { sem 𝓛 (lies_at the_row full_share at old) }
+    ensures* { ∃ₛ (λ (now : HandleValue). sem 𝓛 (lies_at the_row full_share at now) ∗ ⌜ ListsStreams old result ids.old ids.new × (now ≡ old) ⌝) }
+{
+    face::streams(unsafe { &mut *(at as *mut Handle) }, ids)
 }
 
 /// Half-closes a stream (half-close): 0, or a refusal.
 #[unsafe(no_mangle)]
 pub unsafe extern "C" fn ymx_core_finish(at: *mut u8, id: u32) -> i64
-    ghost old: { SessionValue }
+    ghost old: { HandleValue }
     requires* { sem 𝓛 (lies_at the_row full_share at old) }
-    ensures* { ∃ₛ (λ (now : SessionValue). sem 𝓛 (lies_at the_row full_share at now) ∗ ⌜ Answers old (event.Call (call.Finish id)) result now ⌝) }
+    ensures* { ∃ₛ (λ (now : HandleValue). sem 𝓛 (lies_at the_row full_share at now) ∗ ⌜ AnswersOf id old (event.Call (call.Finish id)) result now ⌝) }
 {
-    face::finish(unsafe { &mut *(at as *mut Session) }, id)
+    face::finish(unsafe { &mut *(at as *mut Handle) }, id)
 }
 
 /// Resets a stream (flags): 0, or a refusal.
 #[unsafe(no_mangle)]
 pub unsafe extern "C" fn ymx_core_reset(at: *mut u8, id: u32) -> i64
-    ghost old: { SessionValue }
+    ghost old: { HandleValue }
     requires* { sem 𝓛 (lies_at the_row full_share at old) }
-    ensures* { ∃ₛ (λ (now : SessionValue). sem 𝓛 (lies_at the_row full_share at now) ∗ ⌜ Answers old (event.Call (call.Reset id)) result now ⌝) }
+    ensures* { ∃ₛ (λ (now : HandleValue). sem 𝓛 (lies_at the_row full_share at now) ∗ ⌜ AnswersOf id old (event.Call (call.Reset id)) result now ⌝) }
 {
-    face::reset(unsafe { &mut *(at as *mut Session) }, id)
+    face::reset(unsafe { &mut *(at as *mut Handle) }, id)
 }
 
 /// Gives a stream up: 0, or a refusal.
 #[unsafe(no_mangle)]
 pub unsafe extern "C" fn ymx_core_forget(at: *mut u8, id: u32) -> i64
-    ghost old: { SessionValue }
+    ghost old: { HandleValue }
     requires* { sem 𝓛 (lies_at the_row full_share at old) }
-    ensures* { ∃ₛ (λ (now : SessionValue). sem 𝓛 (lies_at the_row full_share at now) ∗ ⌜ Answers old (event.Call (call.Forget id)) result now ⌝) }
+    ensures* { ∃ₛ (λ (now : HandleValue). sem 𝓛 (lies_at the_row full_share at now) ∗ ⌜ AnswersOf id old (event.Call (call.Forget id)) result now ⌝) }
 {
-    face::forget(unsafe { &mut *(at as *mut Session) }, id)
+    face::forget(unsafe { &mut *(at as *mut Handle) }, id)
+}
+
+/// Releases a stream: it is finished, what comes of it is dropped, and it is forgotten once the peer's end is there. 0, or a
+/// refusal.
+#[unsafe(no_mangle)]
+pub unsafe extern "C" fn ymx_core_release(at: *mut u8, id: u32) -> i64
+    ghost old: { HandleValue }
+    requires* { sem 𝓛 (lies_at the_row full_share at old) }
+    ensures* { ∃ₛ (λ (now : HandleValue). sem 𝓛 (lies_at the_row full_share at now) ∗ ⌜ ReleasesOne id old result now ⌝) }
+{
+    face::release(unsafe { &mut *(at as *mut Handle) }, id)
 }
 
 /// Feeds bytes that came from the peer (framing): how many were taken.
 #[unsafe(no_mangle)]
 pub unsafe extern "C" fn ymx_core_feed(at: *mut u8, input: &[u8]) -> i64
-    ghost old: { SessionValue }
+    ghost old: { HandleValue }
     requires* { sem 𝓛 (lies_at the_row full_share at old) }
-    ensures* { ∃ₛ (λ (now : SessionValue). sem 𝓛 (lies_at the_row full_share at now) ∗ ⌜ Answers old (event.Feed input.now) result now ⌝) }
+    ensures* { ∃ₛ (λ (now : HandleValue). sem 𝓛 (lies_at the_row full_share at now) ∗ ⌜ AnswersThenSettles old (event.Feed input.now) result now ⌝) }
 {
-    face::feed(unsafe { &mut *(at as *mut Session) }, input)
+    face::feed(unsafe { &mut *(at as *mut Handle) }, input)
 }
 
 /// Feeds bytes that came from the peer, as `ymx_core_feed` does, and notes at `noted` the streams that they touch.
 #[unsafe(no_mangle)]
 pub unsafe extern "C" fn ymx_core_feed_touching(at: *mut u8, input: &[u8], noted: *mut u8) -> i64
-    ghost old: { SessionValue × Noted }
+    ghost old: { HandleValue × Noted }
     requires* { sem 𝓛 (lies_at the_row full_share at old.0) ∗ sem 𝓛 (lies_at touched_row full_share noted old.1) }
-    ensures* { ∃ₛ (λ (now : SessionValue × Noted). sem 𝓛 (lies_at the_row full_share at now.0) ∗ sem 𝓛 (lies_at touched_row full_share noted now.1) ∗ ⌜ Touches old.0 old.1 input.now result now.0 now.1 ⌝) }
+    ensures* { ∃ₛ (λ (now : HandleValue × Noted). sem 𝓛 (lies_at the_row full_share at now.0) ∗ sem 𝓛 (lies_at touched_row full_share noted now.1) ∗ ⌜ TouchesThenSettles old.0 old.1 input.now result now.0 now.1 ⌝) }
 {
     face::feed_touching(
-        unsafe { &mut *(at as *mut Session) },
+        unsafe { &mut *(at as *mut Handle) },
         input,
         unsafe { &mut *(noted as *mut Touched) },
     )
@@ -252,41 +316,93 @@ pub unsafe extern "C" fn ymx_core_feed_touching(at: *mut u8, input: &[u8], noted
 /// The peer's bytes have ended: 0.
 #[unsafe(no_mangle)]
 pub unsafe extern "C" fn ymx_core_feed_end(at: *mut u8) -> i64
-    ghost old: { SessionValue }
+    ghost old: { HandleValue }
     requires* { sem 𝓛 (lies_at the_row full_share at old) }
-    ensures* { ∃ₛ (λ (now : SessionValue). sem 𝓛 (lies_at the_row full_share at now) ∗ ⌜ Answers old event.FeedEnd result now ⌝) }
+    ensures* { ∃ₛ (λ (now : HandleValue). sem 𝓛 (lies_at the_row full_share at now) ∗ ⌜ AnswersThenSettles old event.FeedEnd result now ⌝) }
 {
-    face::feed_end(unsafe { &mut *(at as *mut Session) })
+    face::feed_end(unsafe { &mut *(at as *mut Handle) })
 }
 
 /// Emits what is due and fits (framing): how many bytes stand at the buffer's front.
 #[unsafe(no_mangle)]
 pub unsafe extern "C" fn ymx_core_emit(at: *mut u8, buffer: &mut [u8]) -> i64
-    ghost old: { SessionValue }
+    ghost old: { HandleValue }
     requires* { sem 𝓛 (lies_at the_row full_share at old) }
-    ensures* { ∃ₛ (λ (now : SessionValue). sem 𝓛 (lies_at the_row full_share at now) ∗ ⌜ Fills old (event.Emit (length buffer.old)) result buffer.new now ⌝) }
+    ensures* { ∃ₛ (λ (now : HandleValue). sem 𝓛 (lies_at the_row full_share at now) ∗ ⌜ FillsIn old (event.Emit (length buffer.old)) result buffer.new now ⌝) }
 {
-    face::emit(unsafe { &mut *(at as *mut Session) }, buffer)
+    face::emit(unsafe { &mut *(at as *mut Handle) }, buffer)
 }
 
 /// Whether an emission into a buffer that isn't empty gives a byte: 1, or 0.
 #[unsafe(no_mangle)]
 pub unsafe extern "C" fn ymx_core_due(at: *mut u8) -> i64
-    ghost old: { SessionValue }
+    ghost old: { HandleValue }
     requires* { sem 𝓛 (lies_at the_row full_share at old) }
-    ensures* { ∃ₛ (λ (now : SessionValue). sem 𝓛 (lies_at the_row full_share at now) ∗ ⌜ (result ≡ flag (is_ready old)) × (now ≡ old) ⌝) }
+    ensures* { ∃ₛ (λ (now : HandleValue). sem 𝓛 (lies_at the_row full_share at now) ∗ ⌜ (result ≡ flag (is_ready old.session)) × (now ≡ old) ⌝) }
 {
-    face::due(unsafe { &mut *(at as *mut Session) })
+    face::due(unsafe { &mut *(at as *mut Handle) })
 }
 
 /// The state of the session: 0 running, 1 lost, 2 closed, 101 to 109 broken by the fault of that number.
 #[unsafe(no_mangle)]
 pub unsafe extern "C" fn ymx_core_status(at: *mut u8) -> i64
-    ghost old: { SessionValue }
+    ghost old: { HandleValue }
     requires* { sem 𝓛 (lies_at the_row full_share at old) }
-    ensures* { ∃ₛ (λ (now : SessionValue). sem 𝓛 (lies_at the_row full_share at now) ∗ ⌜ (result ≡ status_number old.status) × (now ≡ old) ⌝) }
+    ensures* { ∃ₛ (λ (now : HandleValue). sem 𝓛 (lies_at the_row full_share at now) ∗ ⌜ (result ≡ status_number old.session.status) × (now ≡ old) ⌝) }
 {
-    face::status(unsafe { &mut *(at as *mut Session) })
+    face::status(unsafe { &mut *(at as *mut Handle) })
+}
+
+// ---- without copies
+
+/// Writes bytes to a stream and emits the frame that carries them, at once: how many bytes stand at the buffer's front, or 0
+/// where they don't go through, and then nothing has changed.
+#[unsafe(no_mangle)]
+pub unsafe extern "C" fn ymx_core_write_through(
+    at: *mut u8,
+    id: u32,
+    bytes: &[u8],
+    buffer: &mut [u8],
+) -> i64
+    ghost old: { HandleValue }
+    requires* { sem 𝓛 (lies_at the_row full_share at old) }
+    ensures* { ∃ₛ (λ (now : HandleValue). sem 𝓛 (lies_at the_row full_share at now) ∗ ⌜ WritesOn id bytes.now buffer.old buffer.new old result now ⌝) }
+{
+    face::write_through(unsafe { &mut *(at as *mut Handle) }, id, bytes, buffer)
+}
+
+/// Feeds bytes as `ymx_core_feed_touching` does, up to the first payload that may be passed on.
+#[unsafe(no_mangle)]
+pub unsafe extern "C" fn ymx_core_feed_to_payload(at: *mut u8, input: &[u8], noted: *mut u8) -> i64
+    ghost old: { HandleValue × Noted }
+    requires* { sem 𝓛 (lies_at the_row full_share at old.0) ∗ sem 𝓛 (lies_at touched_row full_share noted old.1) }
+    ensures* { ∃ₛ (λ (now : HandleValue × Noted). sem 𝓛 (lies_at the_row full_share at now.0) ∗ sem 𝓛 (lies_at touched_row full_share noted now.1) ∗ ⌜ ToPayloadThenSettles old.0 old.1 input.now result now.0 now.1 ⌝) }
+{
+    face::feed_to_payload(
+        unsafe { &mut *(at as *mut Handle) },
+        input,
+        unsafe { &mut *(noted as *mut Touched) },
+    )
+}
+
+/// How many bytes of a payload may be passed on, or 0. Its stream's id is written to the first place of `out`.
+#[unsafe(no_mangle)]
+pub unsafe extern "C" fn ymx_core_passing(at: *mut u8, out: &mut [u32]) -> i64
+    ghost old: { HandleValue }
+    requires* { sem 𝓛 (lies_at the_row full_share at old) }
+    ensures* { ∃ₛ (λ (now : HandleValue). sem 𝓛 (lies_at the_row full_share at now) ∗ ⌜ TellsPassing old result out.old out.new × (now ≡ old) ⌝) }
+{
+    face::passing(unsafe { &mut *(at as *mut Handle) }, out)
+}
+
+/// Passes bytes on that the caller has taken right from what came: how many of them.
+#[unsafe(no_mangle)]
+pub unsafe extern "C" fn ymx_core_pass(at: *mut u8, bytes: &[u8]) -> i64
+    ghost old: { HandleValue }
+    requires* { sem 𝓛 (lies_at the_row full_share at old) }
+    ensures* { ∃ₛ (λ (now : HandleValue). sem 𝓛 (lies_at the_row full_share at now) ∗ ⌜ PassesSome old bytes.now result now ⌝) }
+{
+    face::pass(unsafe { &mut *(at as *mut Handle) }, bytes)
 }
 
 // ---- the streams that were touched

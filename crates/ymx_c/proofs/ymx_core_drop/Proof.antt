@@ -2,8 +2,8 @@
 use Rattle.std.proofs.Common.{◌∷◌, [], refl}
 use base.Logic.{id⊢}
 use denote.Triple.Spec.{triple_of}
-use Rattle.ymx_session.specs.contracts.session.Session.{the_row}
-use Rattle.ymx_session.proofs.session.Session.TheLaws.{the_row_laws}
+use Rattle.ymx_c.specs.contracts.handle.Handle.{the_row}
+use Rattle.ymx_c.proofs.handle.Handle.TheLaws.{the_row_laws}
 use Rattle.ymx_c.proofs.Exports.{ends}
 use Rattle.ymx_c.specs.contracts.ymx_core_drop as f
 use Rattle.ymx_c.proofs.ymx_core_drop.Statement.{statement}
@@ -15,4 +15,4 @@ pub ymx_core_drop_spec : {M : Type 1} → statement M
 ymx_core_drop_spec 𝓤 𝓛 𝓜 𝓡 wired =
     ends 𝓛 𝓜 𝓡 the_row _ f.Key.name g.Key.name (triple_of 𝓛 g.signature (g.spec 𝓛 𝓜.mem 𝓡.returns)) refl (λ x v is. ((the_row_laws.lawful 𝓛).typed x (v ∷ []) is).0)
     (code.unfolded 𝓤 𝓛.H 𝓜 𝓡 wired) (met 𝓤 𝓛 𝓜 𝓡 (code.calls-ymx_c::face::end 𝓡.env wired))
-    (λ x v. ((tt, tt, tt, (x, tt), (v ∷ [], tt)), tt)) (λ x v. refl) (λ x v. id⊢ 𝓤 _) (λ x v u. id⊢ 𝓤 _)
+    (λ x v. ((tt, tt, tt, (x, tt), (v ∷ [], tt)), tt)) (λ x v. refl) (λ x v. id⊢ 𝓤 _) (λ x r. (g.spec 𝓛 𝓜.mem 𝓡.returns tt (x, tt)).ensures tt r) (λ x v u. id⊢ 𝓤 _)

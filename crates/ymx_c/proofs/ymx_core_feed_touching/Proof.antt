@@ -1,5 +1,5 @@
 -- `ymx_core_feed_touching` meets its contract: what lies at the two pointers is lent to `face::feed_touching` for lifetimes made for the call, and comes back.
-use Rattle.std.proofs.Common.{[], ◌∷◌, ◌++◌, refl, w64, MutBor, Bor, ℤ}
+use Rattle.std.proofs.Common.{[], ◌∷◌, ◌++◌, refl, w64, MutBor, ℤ}
 use Rattle.std.proofs.raw_atomic.Walks.{proved}
 use base.Fraction.{full_share}
 use base.Logic.{id⊢, sep}
@@ -10,7 +10,7 @@ use contract.Monad.{fact}
 use contract.Running.{tables}
 use prog.Wp.{WpFn}
 use types.Logic.{sem}
-use types.Kit.{‵, raw, ◌⊛◌, some, later, prop, at_ret, ◌$◌, ◌∵◌, !, qed, done, drop, move, keep, use1, use2, use3, split, join, fsplit, await, pick, frame, group, regoal, suffices, show}
+use types.Kit.{‵, raw, ◌⊛◌, some, later, prop, at_ret, ◌$◌, ◌∵◌, !, qed, done, move, keep, use1, use2, use3, split, join, fsplit, await, pick, frame, group, regoal, suffices, show}
 use types.Tokens.{lft_new, lft_end}
 use types.SemTy.{Body}
 use types.Run.{enter, of_opd, addr, stop, no_more, and_then, first, blocks, exec, returns}
@@ -31,11 +31,11 @@ use denote.Triple.Clauses.{lasts}
 use denote.Triple.Spec.{triple_of}
 use denote.Triple.Table.{framed}
 use denote.Triple.Walked.{says, Stays, walk_of, stay_dropped, Goes-dropped, ends_at}
-use Rattle.ymx_session.specs.contracts.session.Session.{the_row}
+use Rattle.ymx_c.specs.contracts.handle.Handle.{the_row}
 use Rattle.ymx_session.specs.contracts.touched.Touched.{the_row as touched_row}
 use Rattle.ymx_session.specs.Touched.{Noted}
-use Rattle.ymx_model.specs.session.Sessions.{Session}
-use Rattle.ymx_c.specs.Readiness.{Touches}
+use Rattle.ymx_c.specs.declared.handle.Handle.{Handle}
+use Rattle.ymx_c.specs.Handles.{TouchesThenSettles}
 use Rattle.ymx_c.specs.contracts.ymx_core_feed_touching as f
 use Rattle.ymx_c.proofs.ymx_core_feed_touching.Statement.{statement}
 use Rattle.ymx_c.proofs.ymx_core_feed_touching.Code as code
@@ -75,7 +75,7 @@ ymx_core_feed_touching_spec 𝓤 𝓛 𝓜 𝓡 wired =
     lft_new ! tt (λ β. move ! (4 ∷ []) $
     use1 𝓛 (later (some (λ (ε : GName). ‵ ((MutRef (named 0) (β ∷ []) touched_row).own_val (record { ref_ptr = (d, i); ghost_name = ε; now = x.1 }) (vptr d i ∷ [])) ⊛ ‵ (flent (β ∷ []) (Body (mem touched_row) d i ε)))))
     (lends_ref 𝓛 touched_row (named 0) (β ∷ []) x.1 d i) $ await ! tt $ pick ! (λ ε. split ! $
-    let r : MutBor Session = record { ref_ptr = (b, o); ghost_name = δ; now = x.0 } in
+    let r : MutBor Handle = record { ref_ptr = (b, o); ghost_name = δ; now = x.0 } in
     let t : MutBor Noted = record { ref_ptr = (d, i); ghost_name = ε; now = x.1 } in
     let G = triple_of 𝓛 g.signature (g.spec 𝓛 𝓜.mem 𝓡.returns) in
     let z : G.Ghost = (((α ∷ [], (κ, (β ∷ [], tt))), (full_share, (q, (full_share, tt))), tt, (r, (s, (t, tt))), (vptr b o ∷ [], (ss, (vptr d i ∷ [], tt)))), tt) in
@@ -83,7 +83,7 @@ ymx_core_feed_touching_spec 𝓤 𝓛 𝓜 𝓡 wired =
     nothing ! $ move ! (1 ∷ []) $ join ! $ move ! (6 ∷ []) $ join ! $ move ! (3 ∷ []) $ join ! $
     nothing ! $ move ! (3 ∷ []) $ join ! $ move ! (5 ∷ []) $ join ! $ move ! (4 ∷ []) $ join ! $ join ! $ nothing ! $ move ! (1 ∷ 0 ∷ []) $ use2 𝓛 (raw (G.pre z)) (id⊢ 𝓤 _) $
     calls_at ! (framed 𝓤 𝓛.H 𝓜 𝓣) G (met 𝓤 𝓛 𝓜 𝓡 (code.calls-ymx_c::face::feed_touching 𝓡.env wired)) z (and_then ! (get ! refl) (and_then ! (get ! refl) (and_then ! (get ! refl) (no_more !)))) (λ v.
-    use1 𝓛 (later (some (λ (u : ℤ). ((‵ (flft (α ∷ []) full_share) ⊛ ‵ (flft κ q) ⊛ ‵ (flft (β ∷ []) full_share) ⊛ ‵ ftrue) ⊛ ‵ (i64.own_val u (v ∷ []))) ⊛ some (λ (ws : Session × (Unit {0} × (Noted × Unit {0}))). ‵ (lasts g.ended z.0.0 z.0.3 ws) ⊛ raw (fact 𝓤 (Touches x.0 x.1 s.now u ws.0 ws.1.1.0)))))) (id⊢ 𝓤 _) $
+    use1 𝓛 (later (some (λ (u : ℤ). ((‵ (flft (α ∷ []) full_share) ⊛ ‵ (flft κ q) ⊛ ‵ (flft (β ∷ []) full_share) ⊛ ‵ ftrue) ⊛ ‵ (i64.own_val u (v ∷ []))) ⊛ some (λ (ws : Handle × (Unit {0} × (Noted × Unit {0}))). ‵ (lasts g.ended z.0.0 z.0.3 ws) ⊛ raw (fact 𝓤 (TouchesThenSettles x.0 x.1 s.now u ws.0 ws.1.1.0)))))) (id⊢ 𝓤 _) $
     await ! tt $ pick ! (λ u. split ! $ split ! $ split ! $ lft_end ! tt $ move ! (1 ∷ []) $ split ! $ move ! (1 ∷ []) $ split ! $ lft_end ! tt $
     -- [β has ended; nothing; the slice's token; α has ended; the answer; the rest; the note's loan; the session's]
     move ! (4 ∷ []) $ peeks ! i64 (Is i64) (shows 𝓛 i64) u (v ∷ []) (λ is. lands_as ! refl refl ((sint_Lawful 𝓛 w64).typed u _ is).0 $
@@ -92,8 +92,8 @@ ymx_core_feed_touching_spec 𝓤 𝓛 𝓜 𝓡 wired =
     move ! (8 ∷ 10 ∷ 0 ∷ []) $ use3 𝓛 (later (‵ (part_at the_row full_share ws.0 b o))) (ref_back 𝓛 the_row (α ∷ []) δ ws.0 b o) $ await ! tt $
     move ! (2 ∷ []) $ fsplit ! $ move ! (1 ∷ []) $ fsplit ! $ fsplit ! $
     move ! (8 ∷ 11 ∷ 0 ∷ []) $ use3 𝓛 (later (‵ (part_at touched_row full_share ws.1.1.0 d i))) (ref_back 𝓛 touched_row (β ∷ []) ε ws.1.1.0 d i) $ await ! tt $
-    returns ! (look_at ! 0 refl) $ free_all ! refl $ keep ! (6 ∷ 7 ∷ 8 ∷ 9 ∷ 4 ∷ 0 ∷ []) $ heard ! (Touches x.0 x.1 s.now u ws.0 ws.1.1.0) (λ says_so.
+    returns ! (look_at ! 0 refl) $ free_all ! refl $ keep ! (6 ∷ 7 ∷ 8 ∷ 9 ∷ 4 ∷ 0 ∷ []) $ heard ! (TouchesThenSettles x.0 x.1 s.now u ws.0 ws.1.1.0) (λ says_so.
     move ! (2 ∷ 1 ∷ []) $ join ! $ move ! (1 ∷ []) $
     suffices ! _ (ends_at 𝓛 f.ended stayed c (y (block_ptr b o) (block_ptr d i)) v u (tt, (tt, (tt, tt))) (tt, (tt, (tt, tt)))) $
     nothing ! $ nothing ! $ join ! $ nothing ! $ join ! $ nothing ! $ join ! $ move ! (2 ∷ 0 ∷ 1 ∷ []) $ group ! 3 $ frame ! $
-    show ! (λ (m : Session × Noted). sep 𝓤 (sem 𝓛 (lies_at the_row full_share (block_ptr b o) m.0)) (sep 𝓤 (sem 𝓛 (lies_at touched_row full_share (block_ptr d i) m.1)) (fact 𝓤 (Touches x.0 x.1 s.now u m.0 m.1)))) (ws.0, ws.1.1.0) $ frame ! $ says ! says_so $ done !)))))))))))))
+    show ! (λ (m : Handle × Noted). sep 𝓤 (sem 𝓛 (lies_at the_row full_share (block_ptr b o) m.0)) (sep 𝓤 (sem 𝓛 (lies_at touched_row full_share (block_ptr d i) m.1)) (fact 𝓤 (TouchesThenSettles x.0 x.1 s.now u m.0 m.1)))) (ws.0, ws.1.1.0) $ frame ! $ says ! says_so $ done !)))))))))))))

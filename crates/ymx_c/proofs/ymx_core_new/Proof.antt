@@ -30,10 +30,8 @@ use denote.Triple.Spec.{triple_of}
 use denote.Triple.Table.{framed}
 use denote.Triple.Walked.{Stays, stay_dropped, Goes-dropped, stay_ref, Goes-ref, walk_of, ends_at}
 use Rattle.std.specs.Prelude.{Some, None}
-use Rattle.ymx_session.specs.contracts.session.Session.{the_row}
-use Rattle.ymx_model.specs.session.Sessions.{new_session}
-use Rattle.ymx_session.specs.NewSessions.{first_id}
-use Rattle.ymx_c.specs.Answers.{role_of}
+use Rattle.ymx_c.specs.contracts.handle.Handle.{the_row}
+use Rattle.ymx_c.specs.Handles.{new_handle}
 use Rattle.ymx_c.specs.NewAnswers.{IsSomewhere, IsMade, IsRefused}
 use Rattle.ymx_c.proofs.Handing.{made_out, made_typed, number, settled}
 use Rattle.ymx_c.specs.contracts.made.Made as made
@@ -48,9 +46,9 @@ stayed = (stay_dropped _ yes, (stay_dropped _ yes, (stay_dropped _ yes, (stay_dr
 
 -- what `face::make` says
 abbrev Told : ℕ → ℕ → ℕ → (made.the_row the_row).Denot → Type 0
-Told i j k m = (IsMade i j k m.answer m.at × (m.value ≡ Some (new_session (role_of i) j (first_id (role_of i) k)))) ⊎ (IsRefused i j k m.answer m.at × (m.value ≡ None))
+Told i j k m = (IsMade i j k m.answer m.at × (m.value ≡ Some (new_handle i j k))) ⊎ (IsRefused i j k m.answer m.at × (m.value ≡ None))
 
-there : (i : ℕ) (j : ℕ) (k : ℕ) (m : (made.the_row the_row).Denot) → Told i j k m → (IsSomewhere m.at × (m.value ≡ Some (new_session (role_of i) j (first_id (role_of i) k)))) ⊎ ((m.at ≡ null_ptr) × (m.value ≡ None))
+there : (i : ℕ) (j : ℕ) (k : ℕ) (m : (made.the_row the_row).Denot) → Told i j k m → (IsSomewhere m.at × (m.value ≡ Some (new_handle i j k))) ⊎ ((m.at ≡ null_ptr) × (m.value ≡ None))
 there i j k m (inl is) = inl (is.0.2, is.1)
 there i j k m (inr is) = inr (is.0.3, is.1)
 
@@ -91,5 +89,5 @@ ymx_core_new_spec 𝓤 𝓛 𝓜 𝓡 wired =
     returns ! (look_at ! 0 refl) $ free_all ! refl $ keep ! (3 ∷ 0 ∷ 1 ∷ 2 ∷ 4 ∷ 5 ∷ []) $
     suffices ! _ (ends_at 𝓛 f.ended stayed c y (number m.answer) m.answer (tt, (tt, (tt, (tt, (m.at, tt))))) (tt, (tt, (tt, (tt, (tt, tt)))))) $
     group ! 3 $ nothing ! $ move ! (1 ∷ 0 ∷ []) $ join ! $ nothing ! $ join ! $ nothing ! $ join ! $ nothing ! $ join ! $ nothing ! $ join ! $ nothing ! $ move ! (2 ∷ 0 ∷ []) $ join ! $ group ! 3 $
-    move ! (1 ∷ []) $ rewrite ! 0 (λ (F : Fml). ‵ F) (settled the_row m.at m.value (new_session (role_of i) j (first_id (role_of i) k)) (there i j k m told)) refl $
+    move ! (1 ∷ []) $ rewrite ! 0 (λ (F : Fml). ‵ F) (settled the_row m.at m.value (new_handle i j k) (there i j k m told)) refl $
     use0 𝓛 (raw (fact 𝓤 (IsMade i j k m.answer m.at ⊎ IsRefused i j k m.answer m.at))) (fact_i 𝓤 (IsMade i j k m.answer m.at ⊎ IsRefused i j k m.answer m.at) (emp 𝓤) (said i j k m told)) $ move ! (2 ∷ 0 ∷ 1 ∷ []) $ done !)))))))))
