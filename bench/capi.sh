@@ -1,7 +1,8 @@
 #!/bin/sh
 # Times two sessions that talk in one thread over a buffer of 64 KiB each way, from C over libymx and from Rattle, in
-# turn: the figures of bench/session.sh. Medians of five runs, and the ratio. Needs `rt` and a C compiler; proves and
-# builds the bench in Rattle over what the crates' out/ keep, in a temporary folder.
+# turn: the figures of bench/session.sh. And from C alone bytes by copies and without, on one stream and on 64. Medians of
+# five runs, and the ratio. Needs `rt` and a C compiler; proves and builds the bench in Rattle over what the crates' out/
+# keep, in a temporary folder.
 set -eu
 top=$(cd "$(dirname "$0")/.." && pwd)
 work=$(mktemp -d)
@@ -22,5 +23,6 @@ grep -E '^[a-z_0-9]+ [0-9]+ [0-9]+$' "$work/figures" | awk '{ printf "%s %.0f\n"
   END {
     for (i = 1; i <= names; i++) median[name[i]] = value[name[i], int((n[name[i]] + 1) / 2)]
     for (i = 1; i <= names; i++)
-      if (name[i] !~ /^c_/) printf "%s %s a second, from C %s, ratio %.2f\n", name[i], median[name[i]], median["c_" name[i]], median["c_" name[i]] / median[name[i]]
+      if (sub(/_without_copies$/, "", name[i])) printf "%s from C without copies %s a second, by copies %s, ratio %.2f\n", substr(name[i], 3), median[name[i] "_without_copies"], median[name[i]], median[name[i] "_without_copies"] / median[name[i]]
+      else if (name[i] !~ /^c_/) printf "%s %s a second, from C %s, ratio %.2f\n", name[i], median[name[i]], median["c_" name[i]], median["c_" name[i]] / median[name[i]]
   }'

@@ -1,5 +1,6 @@
 /* How fast two sessions of one thread talk over a buffer of 64 KiB each way, from C: the work of session_bench.rattle,
- * call for call. A line has a name, how many units, and the nanoseconds that they took. */
+ * call for call; and bytes on one stream and on 64, by copies and without. A line has a name, how many units, and the
+ * nanoseconds that they took. */
 #define _POSIX_C_SOURCE 200809L
 #include <ymx.h>
 
@@ -74,6 +75,65 @@ static void one_stream(const char *name, int idle) {
         back(p);
     }
     say(name, bytes, began);
+    end_pair(p);
+}
+
+/* What the client has emitted goes to the server, which takes payload from where it lies. How many bytes of it came. */
+static double take(struct pair *p, const unsigned char *bytes, size_t len, ymx_touched *touched) {
+    double came = 0;
+    while (len > 0) {
+        uint32_t id;
+        size_t taken = (size_t)ymx_feed_to_payload(p->server, bytes, len, touched);
+        bytes += taken;
+        len -= taken;
+        if (ymx_passing(p->server, &id) == 0 && taken == 0) break;
+        taken = (size_t)ymx_pass(p->server, bytes, len);
+        bytes += taken;
+        len -= taken;
+        came += (double)taken;
+    }
+    ymx_touched_clear(touched);
+    return came;
+}
+
+/* So many streams, each of which sends 16,384 bytes in turn: written, emitted, fed and read. */
+static void in_turn(const char *name, int streams) {
+    struct pair *p = make_pair();
+    double bytes = 0, began;
+    uint32_t ids[64];
+    for (int i = 0; i < streams; i++) ids[i] = open_one(p);
+    began = now();
+    for (int round = 0; round < 160000 / streams; round++) {
+        int64_t count;
+        for (int i = 0; i < streams; i++) ymx_write(p->client, ids[i], block, 16384);
+        while ((count = ymx_emit(p->client, p->there, BUFFER)) > 0) ymx_feed(p->server, p->there, (size_t)count);
+        for (int i = 0; i < streams; i++)
+            while ((count = ymx_read(p->server, ids[i], out, BUFFER)) > 0) bytes += (double)count;
+        back(p);
+    }
+    say(name, bytes, began);
+    end_pair(p);
+}
+
+/* The same without a copy in a session: the sender's is the one into the buffer that goes out. */
+static void in_turn_through(const char *name, int streams) {
+    struct pair *p = make_pair();
+    ymx_touched *touched;
+    double bytes = 0, began;
+    uint32_t ids[64];
+    if (ymx_touched_new(&touched) != 0) exit(1);
+    for (int i = 0; i < streams; i++) ids[i] = open_one(p);
+    began = now();
+    for (int round = 0; round < 160000 / streams; round++) {
+        for (int i = 0; i < streams; i++) {
+            int64_t count = ymx_write_through(p->client, ids[i], block, 16384, p->there, BUFFER);
+            if (count <= 0) exit(1);
+            bytes += take(p, p->there, (size_t)count, touched);
+        }
+        back(p);
+    }
+    say(name, bytes, began);
+    ymx_touched_free(touched);
     end_pair(p);
 }
 
@@ -159,6 +219,10 @@ int main(void) {
     make_frames();
     one_stream("one_stream_bytes", 0);
     one_stream("one_stream_beside_1000_idle_bytes", 1000);
+    in_turn("bulk_bytes", 1);
+    in_turn_through("bulk_bytes_without_copies", 1);
+    in_turn("bulk_bytes_on_64", 64);
+    in_turn_through("bulk_bytes_on_64_without_copies", 64);
     messages("messages_of_100_bytes", 0);
     messages("messages_beside_960_idle", 960);
     streams("streams");
