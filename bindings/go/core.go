@@ -162,8 +162,15 @@ func (core core) take(id uint32, some []byte, most int) []byte {
 	return some
 }
 
-// isReset says whether the stream was reset. A write of no bytes tells it.
-func (core core) isReset(id uint32) bool { return core.write(id, nil) == C.YMX_E_RESET }
+// hasEnded says whether the peer's end has arrived, also with bytes unread.
+func (core core) hasEnded(id uint32) bool { return C.ymx_has_ended(core.c.session, C.uint32_t(id)) == 1 }
+
+// isAcknowledged says whether the peer has acknowledged a stream that was opened here.
+func (core core) isAcknowledged(id uint32) bool {
+	return C.ymx_is_acknowledged(core.c.session, C.uint32_t(id)) == 1
+}
+
+func (core core) isReset(id uint32) bool { return C.ymx_is_reset(core.c.session, C.uint32_t(id)) == 1 }
 
 func (core core) ping() int64 { return int64(C.ymx_ping(core.c.session)) }
 func (core core) ponged(number uint32) bool {

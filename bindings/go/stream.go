@@ -338,7 +338,9 @@ func (st *Stream) breakOff(reason error) {
 
 // touch is called where bytes have come for this stream.
 func (st *Stream) touch() {
-	st.acknowledged()
+	if core := st.session.core; st.isUnacked && (core.isAcknowledged(st.id) || core.isReset(st.id)) {
+		st.acknowledged()
+	}
 	st.nothing, st.stalled = false, false
 	st.readable.Broadcast()
 	if st.closed {
@@ -347,6 +349,7 @@ func (st *Stream) touch() {
 	st.writable.Broadcast()
 }
 
+// acknowledged lets the next stream be opened: the peer has this one, or doesn't want it, or it is gone.
 func (st *Stream) acknowledged() {
 	if !st.isUnacked {
 		return
@@ -359,15 +362,11 @@ func (st *Stream) acknowledged() {
 	}
 }
 
-// tidy lets a closed stream go, if the peer has ended it. The library tells the end only behind the last byte, so what
-// has come is taken out of it: as much as one window. More waits there for Read.
+// tidy lets a closed stream go, once the peer has ended it. What has come waits for Read.
 func (st *Stream) tidy() {
 	s := st.session
-	st.rest = s.core.take(st.id, st.rest, leastWindow-len(st.rest))
-	if s.core.dueNow() {
-		s.wakeWriter() // there is credit to send
-	}
-	if s.core.atEnd(st.id) {
+	if s.core.hasEnded(st.id) {
+		st.rest = s.core.take(st.id, st.rest, widestWindow)
 		st.leave(io.EOF)
 		return
 	}

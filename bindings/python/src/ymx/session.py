@@ -51,7 +51,7 @@ class Session:
         return ctypes.string_at(self._buffer, good(_library.emit(self._at, self._buffer, _BLOCK)))
 
     def due(self) -> bool:
-        """Whether emit gives bytes. Reading, accepting and forgetting streams can make some due, too."""
+        """Whether emit gives bytes. Reading, accepting, forgetting and releasing streams can make some due, too."""
         return bool(_library.due(self._at) == 1)
 
     def open(self) -> int:
@@ -85,6 +85,26 @@ class Session:
         """Whether the peer has finished the stream, and all was read."""
         return bool(_library.is_at_end(self._at, stream) == 1)
 
+    def has_ended(self, stream: int) -> bool:
+        """Whether the peer's end has arrived, also while bytes wait to be read."""
+        return bool(_library.has_ended(self._at, stream) == 1)
+
+    def unsent(self, stream: int) -> int:
+        """How many bytes were written and stand in no frame yet."""
+        return good(_library.unsent(self._at, stream))
+
+    def is_acknowledged(self, stream: int) -> bool:
+        """Whether the peer has acknowledged a stream that was opened here."""
+        return bool(_library.is_acknowledged(self._at, stream) == 1)
+
+    def is_reset(self, stream: int) -> bool:
+        """Whether either side has reset the stream."""
+        return bool(_library.is_reset(self._at, stream) == 1)
+
+    def streams(self) -> List[int]:
+        """The streams that were opened or accepted, and not forgotten or released, in the order in which they came."""
+        return self._ids[: good(_library.streams(self._at, self._ids, MOST_TOUCHED))]
+
     def finish(self, stream: int) -> None:
         """Half-closes a stream."""
         good(_library.finish(self._at, stream))
@@ -96,6 +116,11 @@ class Session:
     def forget(self, stream: int) -> None:
         """Gives a stream up. It is reset, unless both sides have finished it."""
         good(_library.forget(self._at, stream))
+
+    def release(self, stream: int) -> None:
+        """Lets a stream go so that what was written still arrives. What comes of it is dropped, and it is forgotten by
+        itself once the peer's end is there."""
+        good(_library.release(self._at, stream))
 
     def ping(self) -> int:
         """Asks the peer for a sign of life, and returns the ping's number."""

@@ -63,11 +63,33 @@ extern "C" {
     pub fn ymx_read(session: *mut ymx_session, id: u32, buffer: *mut c_void, len: usize) -> i64;
     pub fn ymx_room(session: *const ymx_session, id: u32) -> i64;
     pub fn ymx_is_at_end(session: *const ymx_session, id: u32) -> i64;
+    pub fn ymx_has_ended(session: *const ymx_session, id: u32) -> i64;
+    pub fn ymx_unsent(session: *const ymx_session, id: u32) -> i64;
+    pub fn ymx_is_acknowledged(session: *const ymx_session, id: u32) -> i64;
+    pub fn ymx_is_reset(session: *const ymx_session, id: u32) -> i64;
+    pub fn ymx_streams(session: *const ymx_session, ids: *mut u32, len: usize) -> i64;
     pub fn ymx_unread(session: *const ymx_session, id: u32, bytes: *mut *const c_void) -> i64;
     pub fn ymx_consume(session: *mut ymx_session, id: u32, count: usize) -> i64;
     pub fn ymx_finish(session: *mut ymx_session, id: u32) -> i64;
     pub fn ymx_reset(session: *mut ymx_session, id: u32) -> i64;
     pub fn ymx_forget(session: *mut ymx_session, id: u32) -> i64;
+    pub fn ymx_release(session: *mut ymx_session, id: u32) -> i64;
+    pub fn ymx_write_through(
+        session: *mut ymx_session,
+        id: u32,
+        bytes: *const c_void,
+        len: usize,
+        buffer: *mut c_void,
+        size: usize,
+    ) -> i64;
+    pub fn ymx_feed_to_payload(
+        session: *mut ymx_session,
+        bytes: *const c_void,
+        len: usize,
+        touched: *mut ymx_touched,
+    ) -> i64;
+    pub fn ymx_passing(session: *const ymx_session, id: *mut u32) -> i64;
+    pub fn ymx_pass(session: *mut ymx_session, bytes: *const c_void, len: usize) -> i64;
     pub fn ymx_ping(session: *mut ymx_session) -> i64;
     pub fn ymx_ponged(session: *mut ymx_session, number: u32) -> i64;
     pub fn ymx_go_away(session: *mut ymx_session) -> i64;

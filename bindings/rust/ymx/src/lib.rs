@@ -109,7 +109,7 @@ impl Session {
         good(unsafe { ymx_emit(self.0.as_ptr(), buffer.as_mut_ptr().cast(), buffer.len()) })
     }
 
-    /// Whether an emission would give bytes. Reading, accepting and forgetting streams can make some due, too.
+    /// Whether an emission would give bytes. Reading, accepting, forgetting and releasing streams can make some due, too.
     pub fn due(&self) -> bool {
         unsafe { ymx_due(self.0.as_ptr()) == 1 }
     }
@@ -177,6 +177,34 @@ impl Session {
         unless_wait(unsafe { ymx_consume(self.0.as_ptr(), id, count) }).map(drop)
     }
 
+    /// Whether the peer's end of a stream has arrived, also while bytes wait to be read.
+    pub fn has_ended(&self, id: u32) -> bool {
+        unsafe { ymx_has_ended(self.0.as_ptr(), id) == 1 }
+    }
+
+    /// How many bytes were written to a stream and stand in no frame yet.
+    pub fn unsent(&self, id: u32) -> usize {
+        good(unsafe { ymx_unsent(self.0.as_ptr(), id) }).unwrap_or(0)
+    }
+
+    /// Whether the peer has acknowledged a stream that was opened here.
+    pub fn is_acknowledged(&self, id: u32) -> bool {
+        unsafe { ymx_is_acknowledged(self.0.as_ptr(), id) == 1 }
+    }
+
+    /// Whether either side has reset a stream.
+    pub fn is_reset(&self, id: u32) -> bool {
+        unsafe { ymx_is_reset(self.0.as_ptr(), id) == 1 }
+    }
+
+    /// The streams that were opened or accepted, and not forgotten or released, in the order in which they came.
+    pub fn streams(&self) -> Vec<u32> {
+        let count = good(unsafe { ymx_streams(self.0.as_ptr(), ptr::null_mut(), 0) }).unwrap_or(0);
+        let mut ids = vec![0; count];
+        unsafe { ymx_streams(self.0.as_ptr(), ids.as_mut_ptr(), ids.len()) };
+        ids
+    }
+
     /// Half-closes a stream.
     pub fn finish(&mut self, id: u32) -> Result<(), Refused> {
         good(unsafe { ymx_finish(self.0.as_ptr(), id) }).map(drop)
@@ -190,6 +218,61 @@ impl Session {
     /// Gives a stream up.
     pub fn forget(&mut self, id: u32) -> Result<(), Refused> {
         good(unsafe { ymx_forget(self.0.as_ptr(), id) }).map(drop)
+    }
+
+    /// Lets a stream go so that what was written still arrives. What comes of it is dropped, and it is forgotten by itself
+    /// once the peer's end is there.
+    pub fn release(&mut self, id: u32) -> Result<(), Refused> {
+        good(unsafe { ymx_release(self.0.as_ptr(), id) }).map(drop)
+    }
+
+    /// Writes these bytes to a stream and puts the frame that carries them into the buffer, and returns how many bytes that
+    /// are; `None` where something else is due, or they don't fit, and then nothing has changed.
+    pub fn write_through(
+        &mut self,
+        id: u32,
+        bytes: &[u8],
+        buffer: &mut [u8],
+    ) -> Result<Option<usize>, Refused> {
+        let answer = unsafe {
+            ymx_write_through(
+                self.0.as_ptr(),
+                id,
+                bytes.as_ptr().cast(),
+                bytes.len(),
+                buffer.as_mut_ptr().cast(),
+                buffer.len(),
+            )
+        };
+        good(answer).map(|count| (count > 0).then_some(count))
+    }
+
+    /// Feeds bytes as `feed_touching` does, but no further than to the first payload that `pass` may take.
+    pub fn feed_to_payload(
+        &mut self,
+        bytes: &[u8],
+        touched: &mut Touched,
+    ) -> Result<usize, Refused> {
+        good(unsafe {
+            ymx_feed_to_payload(
+                self.0.as_ptr(),
+                bytes.as_ptr().cast(),
+                bytes.len(),
+                touched.0.as_ptr(),
+            )
+        })
+    }
+
+    /// The stream of the payload that comes next, and how many bytes of it are to come, where it may be passed on.
+    pub fn passing(&self) -> Option<(u32, usize)> {
+        let mut id = 0;
+        let count = good(unsafe { ymx_passing(self.0.as_ptr(), &mut id) }).unwrap_or(0);
+        (count > 0).then_some((id, count))
+    }
+
+    /// Passes bytes on that the caller has taken right from what came, and returns how many.
+    pub fn pass(&mut self, bytes: &[u8]) -> Result<usize, Refused> {
+        good(unsafe { ymx_pass(self.0.as_ptr(), bytes.as_ptr().cast(), bytes.len()) })
     }
 
     /// Asks the peer for a sign of life, and returns the ping's number.
