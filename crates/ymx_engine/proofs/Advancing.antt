@@ -21,16 +21,16 @@ use Rattle.ymx_session.specs.Passing.{all_fed, Passes, FeedsSome}
 use Rattle.ymx_engine.specs.declared.device.Pushed.{Pushed}
 use Rattle.ymx_engine.specs.declared.device.Pushed.TheVariants as pushed
 use Rattle.ymx_engine.specs.Devices.{Seen, pushed_count, is_push_failure, IsPushed, IsShut}
-use Rattle.ymx_engine.specs.Events.{Happen, given, has_end, has_finish, has_reset, taken}
+use Rattle.ymx_engine.specs.Events.{Happen, given, has_end, has_finish, has_reset, has_stop, taken}
 use Rattle.ymx_engine.specs.Engines.{Engine}
 use Rattle.ymx_engine.specs.Wires.{fed_at, fed, is_of_read, ends_feed, has_feed_end, OffersFront, FeedsFront, ReadsWire, HandlesIn}
 use Rattle.ymx_engine.specs.Passes.{is_of_pass, PassesOn, OffersOnce}
 use Rattle.ymx_engine.proofs.Carrying.{feed_end_then, gives_from}
-use Rattle.ymx_engine.proofs.Exchanging.{happen_then, given_then, end_then, reset_then, or_same, or_none, same_id, none_pushed, take_both, still}
+use Rattle.ymx_engine.proofs.Exchanging.{happen_then, given_then, end_then, reset_then, stop_then, or_same, or_none, or_true, same_id, none_pushed, take_both, still}
 
 -- ---- what is fed
 
-fed_then : (es fs : List (Event × Reply)) → fed (es ++ fs) ≡ fed es ++ fed fs
+pub fed_then : (es fs : List (Event × Reply)) → fed (es ++ fs) ≡ fed es ++ fed fs
 fed_then [] fs = refl
 fed_then (e ∷ es) fs = ap (λ (xs : List ℕ). fed_at e.0 e.1 ++ xs) (fed_then es fs) ∙ sym (append_assoc (fed_at e.0 e.1) (fed es) (fed fs))
 
@@ -45,7 +45,7 @@ pub drop_twice : (xs ys zs : List ℕ) → drop (length (xs ++ ys)) zs ≡ drop 
 drop_twice xs ys zs = ap (λ (n : ℕ). drop n zs) (length-append xs ys) ∙ sym (drop-drop (length ys) (length xs) zs)
 
 -- feeds behind feeds offer the front of what waits then
-fronts_then : (es fs : List (Event × Reply)) (waits next : List ℕ) → drop (length (fed es)) waits ≡ next → FeedsFront waits es → FeedsFront next fs → FeedsFront waits (es ++ fs)
+pub fronts_then : (es fs : List (Event × Reply)) (waits next : List ℕ) → drop (length (fed es)) waits ≡ next → FeedsFront waits es → FeedsFront next fs → FeedsFront waits (es ++ fs)
 fronts_then [] fs waits next e h k = subst (λ (v : List ℕ). FeedsFront v fs) (sym e) k
 fronts_then (e ∷ es) fs waits next same h k = (h.0, fronts_then es fs (drop (length (fed_at e.0 e.1)) waits) next (sym (drop_twice (fed_at e.0 e.1) (fed es) waits) ∙ same) h.1 k)
 
@@ -61,8 +61,8 @@ handles_then a b c x y = record {
   events = x.events ++ y.events;
   happen = happen_then x.events y.events _ _ _ x.happen y.happen;
   own = rw (list_all-append (λ (e : Event × Reply). is_of_read e.0) x.events y.events, x.own, y.own) refl;
-  fronts = fronts_then x.events y.events a.incoming b.incoming (rest_of x.events a.incoming b.incoming x.inward) x.fronts y.fronts;
-  inward = fed_on x.events y.events a.incoming b.incoming c.incoming x.inward y.inward;
+  fronts = fronts_then x.events y.events a.incoming b.incoming (rest_of x.events a.incoming b.incoming x.from_wire) x.fronts y.fronts;
+  from_wire = fed_on x.events y.events a.incoming b.incoming c.incoming x.from_wire y.from_wire;
   outgoing = y.outgoing ∙ x.outgoing;
   heard = feed_end_then x.events y.events ∙ ap (λ (v : Bool). v || has_feed_end y.events) x.heard ∙ y.heard;
 }
@@ -75,8 +75,8 @@ reads_then_handles a b c p q n x y = record {
   own = rw (list_all-append (λ (e : Event × Reply). is_of_read e.0) x.events y.events, x.own, y.own) refl;
   came = x.came;
   gave = x.gave;
-  fronts = fronts_then x.events y.events (a.incoming ++ x.came) b.incoming (rest_of x.events (a.incoming ++ x.came) b.incoming x.inward) x.fronts y.fronts;
-  inward = fed_on x.events y.events (a.incoming ++ x.came) b.incoming c.incoming x.inward y.inward;
+  fronts = fronts_then x.events y.events (a.incoming ++ x.came) b.incoming (rest_of x.events (a.incoming ++ x.came) b.incoming x.from_wire) x.fronts y.fronts;
+  from_wire = fed_on x.events y.events (a.incoming ++ x.came) b.incoming c.incoming x.from_wire y.from_wire;
   said_end = x.said_end;
   over = x.over;
   fails = x.fails;
@@ -85,6 +85,7 @@ reads_then_handles a b c p q n x y = record {
   outgoing = y.outgoing ∙ x.outgoing;
   had = x.had;
   ended = x.ended;
+  shut = x.shut;
   few = x.few;
 }
 
@@ -123,7 +124,7 @@ feeds_some a b told s waits same all x incoming outgoing =
       happen = (b.session, g, refl);
       own = refl;
       fronts = ((drop y.count a.incoming, sym (take-append-drop y.count a.incoming)), tt);
-      inward = sym (take-append-drop told.taken a.incoming) ∙ ap (λ (v : List ℕ). v ++ drop told.taken a.incoming) (sym (takes_same s b.session a.incoming told y) ∙ sym (append-nil (take told.taken (take y.count a.incoming))))
+      from_wire = sym (take-append-drop told.taken a.incoming) ∙ ap (λ (v : List ℕ). v ++ drop told.taken a.incoming) (sym (takes_same s b.session a.incoming told y) ∙ sym (append-nil (take told.taken (take y.count a.incoming))))
           ∙ ap (λ (v : List ℕ). (take told.taken (take y.count a.incoming) ++ []) ++ v) (sym incoming);
       outgoing = outgoing;
       heard = refl;
@@ -132,7 +133,7 @@ feeds_some a b told s waits same all x incoming outgoing =
 -- ---- events that are no calls on a stream
 
 abbrev pub IsQuiet : ℕ → List (Event × Reply) → Type 0
-IsQuiet id es = (taken id es ≡ []) × (given id es ≡ []) × (has_end id es ≡ false) × (has_finish id es ≡ false) × (has_reset id es ≡ false)
+IsQuiet id es = (taken id es ≡ []) × (given id es ≡ []) × (has_end id es ≡ false) × (has_finish id es ≡ false) × (has_reset id es ≡ false) × (has_stop id es ≡ false)
 
 quiet_behind : (k : Event → Bool) (none : (c : Call) → k (event.Call c) ≡ false) (id : ℕ) (e : Event) (told : Reply) (es : List (Event × Reply)) → k e ≡ true → IsQuiet id es → IsQuiet id ((e, told) ∷ es)
 quiet_behind k none id (event.Call c) told es h x = let e : k (event.Call c) ≡ false = none c in let no : ⊥ = cc in absurd no
@@ -140,18 +141,18 @@ quiet_behind k none id (event.Feed bytes) told es h x = x
 quiet_behind k none id event.FeedEnd told es h x = x
 quiet_behind k none id (event.Emit room) told es h x = x
 
-both : (a b : Bool) → (a && b) ≡ true → (a ≡ true) × (b ≡ true)
+pub both : (a b : Bool) → (a && b) ≡ true → (a ≡ true) × (b ≡ true)
 both true b h = (refl, h)
 both false b h = let no : ⊥ = cc in absurd no
 
 pub quiet : (k : Event → Bool) (none : (c : Call) → k (event.Call c) ≡ false) (id : ℕ) (es : List (Event × Reply)) → list_all (λ e. k e.0) es ≡ true → IsQuiet id es
-quiet k none id [] h = (refl, refl, refl, refl, refl)
+quiet k none id [] h = (refl, refl, refl, refl, refl, refl)
 quiet k none id (e ∷ es) h = let two = both (k e.0) (list_all (λ e. k e.0) es) h in quiet_behind k none id e.0 e.1 es two.0 (quiet k none id es two.1)
 
 -- ---- what is passed on
 
 pub passes_none : (id : ℕ) (a : Engine) (d : Seen) (n : ℕ) → PassesOn id a a d d n
-passes_none id a d n = record { events = []; happen = refl; own = refl; fronts = tt; inward = refl; outward = Appends-nil d.had; fails = false; failed = or_same d.failed; reset = refl; outgoing = refl; left = refl; over = refl; ended = or_same d.ended; few = omega arith }
+passes_none id a d n = record { events = []; happen = refl; own = refl; fronts = tt; from_wire = refl; from_peer = Appends-nil d.had; fails = false; failed = or_same d.failed; reset = refl; outgoing = refl; left = refl; over = refl; ended = or_same d.ended; shut = or_same d.shut; few = omega arith }
 
 and_both : (a b : Bool) → a ≡ true → b ≡ true → (a && b) ≡ true
 and_both true b h k = k
@@ -184,9 +185,9 @@ passes_then_handles id a b c p q n x y =
       events = x.events ++ y.events;
       happen = happen_then x.events y.events _ _ _ x.happen y.happen;
       own = rw (list_all-append (λ (e : Event × Reply). is_of_pass id e.0) x.events y.events, x.own, of_feeds id y.events y.own y.heard) refl;
-      fronts = fronts_then x.events y.events a.incoming b.incoming (rest_of x.events a.incoming b.incoming x.inward) x.fronts y.fronts;
-      inward = fed_on x.events y.events a.incoming b.incoming c.incoming x.inward y.inward;
-      outward = subst (Appends p.had q.had) all x.outward;
+      fronts = fronts_then x.events y.events a.incoming b.incoming (rest_of x.events a.incoming b.incoming x.from_wire) x.fronts y.fronts;
+      from_wire = fed_on x.events y.events a.incoming b.incoming c.incoming x.from_wire y.from_wire;
+      from_peer = subst (Appends p.had q.had) all x.from_peer;
       fails = x.fails;
       failed = x.failed;
       reset = reset_then id x.events y.events ∙ ap (λ (v : Bool). has_reset id x.events || v) still_there.4 ∙ or_none (has_reset id x.events) ∙ x.reset;
@@ -194,6 +195,7 @@ passes_then_handles id a b c p q n x y =
       left = x.left;
       over = x.over;
       ended = x.ended ∙ ap (λ (v : Bool). option_map (λ b. b || v) p.ended) (sym (end_then id x.events y.events ∙ ap (λ (v : Bool). has_end id x.events || v) still_there.2 ∙ or_none (has_end id x.events)));
+      shut = x.shut ∙ ap (λ (v : Bool). option_map (λ b. b || v) p.shut) (sym (stop_then id x.events y.events ∙ ap (λ (v : Bool). has_stop id x.events || v) still_there.5 ∙ or_none (has_stop id x.events)));
       few = x.few;
     }
 
@@ -208,13 +210,14 @@ offered_none id s r bytes a b p n well = record {
   fronts = tt;
   within = omega arith;
   took = refl;
-  outward = none_pushed r bytes a b p n;
+  from_peer = none_pushed r bytes a b p n;
   fails = false;
   failed = still (is_push_failure r) a.failed b.failed p.failed well ∙ or_same a.failed;
   reset = refl;
   left = p.left;
   over = p.over;
   ended = p.ended ∙ or_same a.ended;
+  shut = p.shut ∙ or_same a.shut;
   few = let i = p.counted in omega arith;
 }
 
@@ -234,13 +237,14 @@ offered_some id n s t bytes front a b p same x =
       fronts = ((drop n bytes, sym (take-append-drop n bytes) ∙ ap (λ (v : List ℕ). v ++ drop n bytes) (sym same)), (tt, tt));
       within = p.within;
       took = append-nil (take (length front) front) ∙ take_all front ∙ same;
-      outward = rw i (subst (Appends a.had b.had) (sym same ∙ sym (append-nil front)) p.took);
+      from_peer = rw i (subst (Appends a.had b.had) (sym same ∙ sym (append-nil front)) p.took);
       fails = false;
       failed = p.failed;
       reset = refl;
       left = p.left;
       over = p.over;
       ended = rw i (p.ended ∙ or_same a.ended);
+      shut = rw i (p.shut ∙ or_same a.shut);
       few = let j = p.counted in omega arith;
     }
 
@@ -257,13 +261,14 @@ offered_failed id told s t bytes a b c p g q =
       fronts = (tt, tt);
       within = omega arith;
       took = refl;
-      outward = subst (λ (o : Option (List ℕ)). Appends a.had o []) (sym q.had) (none_pushed pushed.Failed bytes a b p refl);
+      from_peer = subst (λ (o : Option (List ℕ)). Appends a.had o []) (sym q.had) (none_pushed pushed.Failed bytes a b p refl);
       fails = true;
       failed = q.failed ∙ p.failed;
       reset = rw i refl;
       left = q.left ∙ p.left;
       over = q.over ∙ p.over;
       ended = q.ended ∙ p.ended ∙ or_same a.ended;
+      shut = rw i (q.shut ∙ ap (option_map (λ x. true)) p.shut ∙ or_true a.shut);
       few = let j = p.counted in let k = q.counted in omega arith;
     }
 
@@ -283,7 +288,7 @@ fed_fits waits (event.Feed bytes) (reply.Fed f) h = taken_fits f.taken bytes h.0
 fed_fits waits e told h = omega arith
 
 -- where more waits behind what is offered
-fronts_more : (waits more : List ℕ) (es : List (Event × Reply)) → FeedsFront waits es → FeedsFront (waits ++ more) es
+pub fronts_more : (waits more : List ℕ) (es : List (Event × Reply)) → FeedsFront waits es → FeedsFront (waits ++ more) es
 fronts_more waits more [] h = tt
 fronts_more waits more (e ∷ es) h = (
   front_more waits more e.0 h.0,
@@ -302,8 +307,8 @@ offers_front id n count bytes a b s d e same first x incoming outgoing =
       happen = subst (λ (v : Session). Happen y.events v b.session) same y.happen;
       own = y.own;
       fronts = subst (λ (v : List ℕ). FeedsFront v y.events) (take-append-drop n a.incoming) (fronts_more (take n a.incoming) (drop n a.incoming) y.events y.fronts);
-      inward = sym (take-append-drop count a.incoming) ∙ ap (λ (v : List ℕ). v ++ drop count a.incoming) (sym (take_both count n a.incoming le) ∙ sym y.took) ∙ ap (λ (v : List ℕ). fed y.events ++ v) (sym incoming);
-      outward = y.outward;
+      from_wire = sym (take-append-drop count a.incoming) ∙ ap (λ (v : List ℕ). v ++ drop count a.incoming) (sym (take_both count n a.incoming le) ∙ sym y.took) ∙ ap (λ (v : List ℕ). fed y.events ++ v) (sym incoming);
+      from_peer = y.from_peer;
       fails = y.fails;
       failed = y.failed;
       reset = y.reset;
@@ -311,5 +316,6 @@ offers_front id n count bytes a b s d e same first x incoming outgoing =
       left = y.left;
       over = y.over;
       ended = y.ended;
+      shut = y.shut;
       few = y.few;
     }

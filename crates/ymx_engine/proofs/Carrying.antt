@@ -21,7 +21,7 @@ use Rattle.ymx_engine.specs.Engines.{Engine}
 use Rattle.ymx_engine.specs.Wires.{emitted_at, emitted, is_of_flush, ends_feed, has_feed_end, FeedsFront, ReadsWire, ReadsWireSo, FlushesWire, FlushesWireSo, HandlesIn, HandlesOut, TakesIn, GivesOut}
 use Rattle.ymx_engine.proofs.Exchanging.{happen_then, or_same, or_twice}
 
-emitted_then : (es fs : List (Event × Reply)) → emitted (es ++ fs) ≡ emitted es ++ emitted fs
+pub emitted_then : (es fs : List (Event × Reply)) → emitted (es ++ fs) ≡ emitted es ++ emitted fs
 emitted_then [] fs = refl
 emitted_then (e ∷ es) fs = ap (λ (xs : List ℕ). emitted_at e.0 e.1 ++ xs) (emitted_then es fs) ∙ sym (append_assoc (emitted_at e.0 e.1) (emitted es) (emitted fs))
 
@@ -30,7 +30,7 @@ feed_end_then [] fs = refl
 feed_end_then (e ∷ es) fs = ap (λ (b : Bool). ends_feed e.0 || b) (feed_end_then es fs) ∙ sym (or_assoc (ends_feed e.0) (has_feed_end es) (has_feed_end fs))
 
 -- what waited and came is what went and waits, twice
-waits_on : (a b c came went more gone : List ℕ) → a ++ came ≡ went ++ b → b ++ more ≡ gone ++ c → a ++ (came ++ more) ≡ (went ++ gone) ++ c
+pub waits_on : (a b c came went more gone : List ℕ) → a ++ came ≡ went ++ b → b ++ more ≡ gone ++ c → a ++ (came ++ more) ≡ (went ++ gone) ++ c
 waits_on a b c came went more gone p q =
     sym (append_assoc a came more) ∙ ap (λ (v : List ℕ). v ++ more) p ∙ append_assoc went b more ∙ ap (λ (v : List ℕ). went ++ v) q ∙ sym (append_assoc went gone c)
 
@@ -41,7 +41,7 @@ flushes_then a b c p q r n m x y = record {
   own = rw (list_all-append (λ (e : Event × Reply). is_of_flush e.0) x.events y.events, x.own, y.own) refl;
   sent = x.sent ++ y.sent;
   took = Appends-trans p.had q.had r.had _ _ x.took y.took;
-  outward = ap (λ (v : List ℕ). a.outgoing ++ v) (emitted_then x.events y.events) ∙ waits_on a.outgoing b.outgoing c.outgoing (emitted x.events) x.sent (emitted y.events) y.sent x.outward y.outward;
+  to_wire = ap (λ (v : List ℕ). a.outgoing ++ v) (emitted_then x.events y.events) ∙ waits_on a.outgoing b.outgoing c.outgoing (emitted x.events) x.sent (emitted y.events) y.sent x.to_wire y.to_wire;
   fails = x.fails || y.fails;
   failed = y.failed ∙ ap (option_map (λ b. b || y.fails)) x.failed ∙ or_twice x.fails y.fails p.failed;
   lost = feed_end_then x.events y.events ∙ ap (λ (b : Bool). b || has_feed_end y.events) x.lost ∙ ap (λ (b : Bool). x.fails || b) y.lost;
@@ -49,17 +49,18 @@ flushes_then a b c p q r n m x y = record {
   left = y.left ∙ x.left;
   over = y.over ∙ x.over;
   ended = y.ended ∙ x.ended;
+  shut = y.shut ∙ x.shut;
   few = let i = x.few in let j = y.few in omega arith;
 }
 
 pub flushes_more : (a b : Engine) (p q : Seen) (n m : ℕ) → n ≤ m → FlushesWire a b p q n → FlushesWire a b p q m
-flushes_more a b p q n m le x = record { events = x.events; happen = x.happen; own = x.own; sent = x.sent; took = x.took; outward = x.outward; fails = x.fails; failed = x.failed; lost = x.lost; incoming = x.incoming; left = x.left; over = x.over; ended = x.ended; few = let i = x.few in omega arith }
+flushes_more a b p q n m le x = record { events = x.events; happen = x.happen; own = x.own; sent = x.sent; took = x.took; to_wire = x.to_wire; fails = x.fails; failed = x.failed; lost = x.lost; incoming = x.incoming; left = x.left; over = x.over; ended = x.ended; shut = x.shut; few = let i = x.few in omega arith }
 
 pub flushes_same : (a : Engine) (d : Seen) (n : ℕ) → FlushesWire a a d d n
-flushes_same a d n = record { events = []; happen = refl; own = refl; sent = []; took = Appends-nil d.had; outward = append-nil a.outgoing; fails = false; failed = or_same d.failed; lost = refl; incoming = refl; left = refl; over = refl; ended = refl; few = omega arith }
+flushes_same a d n = record { events = []; happen = refl; own = refl; sent = []; took = Appends-nil d.had; to_wire = append-nil a.outgoing; fails = false; failed = or_same d.failed; lost = refl; incoming = refl; left = refl; over = refl; ended = refl; shut = refl; few = omega arith }
 
 pub reads_same : (a : Engine) (d : Seen) (n : ℕ) → ReadsWire a a d d n
-reads_same a d n = record { events = []; happen = refl; own = refl; came = []; gave = Consumes-nil d.left; fronts = tt; inward = append-nil a.incoming; said_end = false; over = or_same d.over; fails = false; failed = or_same d.failed; lost = refl; outgoing = refl; had = refl; ended = refl; few = omega arith }
+reads_same a d n = record { events = []; happen = refl; own = refl; came = []; gave = Consumes-nil d.left; fronts = tt; from_wire = append-nil a.incoming; said_end = false; over = or_same d.over; fails = false; failed = or_same d.failed; lost = refl; outgoing = refl; had = refl; ended = refl; shut = refl; few = omega arith }
 
 pub gives_from : (e : Event) (told : Reply) (s t u : Session) → s ≡ u → Gives in_turn s e told t → Gives in_turn u e told t
 gives_from e told s t u same g = subst (λ (v : Session). Gives in_turn v e told t) same g
@@ -67,24 +68,24 @@ gives_from e told s t u same g = subst (λ (v : Session). Gives in_turn v e told
 -- ---- parts of a turn
 
 pub handles_in_none : (a : Engine) → HandlesIn false a a
-handles_in_none a = record { events = []; happen = refl; own = refl; fronts = tt; inward = refl; outgoing = refl; heard = refl }
+handles_in_none a = record { events = []; happen = refl; own = refl; fronts = tt; from_wire = refl; outgoing = refl; heard = refl }
 
 pub handles_out_none : (a : Engine) → HandlesOut false a a
 handles_out_none a = record {
   events = [];
   happen = refl;
   own = refl;
-  outward = append-nil a.outgoing;
+  to_wire = append-nil a.outgoing;
   incoming = refl;
   heard = refl;
 }
 
 -- no bytes were called for
 pub reads_handled : (a b : Engine) (d : Seen) (n : ℕ) → HandlesIn false a b → ReadsWire a b d d n
-reads_handled a b d n x = record { events = x.events; happen = x.happen; own = x.own; came = []; gave = Consumes-nil d.left; fronts = subst (λ (v : List ℕ). FeedsFront v x.events) (sym (append-nil a.incoming)) x.fronts; inward = append-nil a.incoming ∙ x.inward; said_end = false; over = or_same d.over; fails = false; failed = or_same d.failed; lost = x.heard; outgoing = x.outgoing; had = refl; ended = refl; few = omega arith }
+reads_handled a b d n x = record { events = x.events; happen = x.happen; own = x.own; came = []; gave = Consumes-nil d.left; fronts = subst (λ (v : List ℕ). FeedsFront v x.events) (sym (append-nil a.incoming)) x.fronts; from_wire = append-nil a.incoming ∙ x.from_wire; said_end = false; over = or_same d.over; fails = false; failed = or_same d.failed; lost = x.heard; outgoing = x.outgoing; had = refl; ended = refl; shut = refl; few = omega arith }
 
 pub flushes_handled : (a b : Engine) (d : Seen) (n : ℕ) → HandlesOut false a b → FlushesWire a b d d n
-flushes_handled a b d n x = record { events = x.events; happen = x.happen; own = x.own; sent = []; took = Appends-nil d.had; outward = x.outward; fails = false; failed = or_same d.failed; lost = x.heard; incoming = x.incoming; left = refl; over = refl; ended = refl; few = omega arith }
+flushes_handled a b d n x = record { events = x.events; happen = x.happen; own = x.own; sent = []; took = Appends-nil d.had; to_wire = x.to_wire; fails = false; failed = or_same d.failed; lost = x.heard; incoming = x.incoming; left = refl; over = refl; ended = refl; shut = refl; few = omega arith }
 
 -- the wire was called for bytes, and what it said was heard
 pub pulled_heard : (r : Pulled) (a b c : Engine) (d e : Seen) → a.incoming ≡ [] → TakesIn r a b d e → HandlesIn (is_end r || is_pull_failure r) b c → ReadsWireSo (is_end r) (is_pull_failure r) a c d e 1
@@ -97,7 +98,7 @@ pulled_heard r a b c d e none t x =
       came = take (pulled_count r) t.buffer;
       gave = t.pulled.gave;
       fronts = subst (λ (v : List ℕ). FeedsFront v x.events) (sym now) x.fronts;
-      inward = now ∙ x.inward;
+      from_wire = now ∙ x.from_wire;
       said_end = is_end r;
       over = t.pulled.over;
       fails = is_pull_failure r;
@@ -106,6 +107,7 @@ pulled_heard r a b c d e none t x =
       outgoing = x.outgoing ∙ t.outgoing;
       had = t.pulled.had;
       ended = t.pulled.ended;
+      shut = t.pulled.shut;
       few = t.pulled.counted;
     } in (moved, refl, refl)
 
@@ -119,8 +121,8 @@ pushed_heard r a b c d e g x =
       own = x.own;
       sent = take n a.outgoing;
       took = g.pushed.took;
-      outward = ap (λ (v : List ℕ). v ++ emitted x.events) (sym (take-append-drop n a.outgoing)) ∙ append_assoc (take n a.outgoing) (drop n a.outgoing) (emitted x.events)
-          ∙ ap (λ (v : List ℕ). take n a.outgoing ++ (v ++ emitted x.events)) (sym g.outgoing) ∙ ap (λ (v : List ℕ). take n a.outgoing ++ v) x.outward;
+      to_wire = ap (λ (v : List ℕ). v ++ emitted x.events) (sym (take-append-drop n a.outgoing)) ∙ append_assoc (take n a.outgoing) (drop n a.outgoing) (emitted x.events)
+          ∙ ap (λ (v : List ℕ). take n a.outgoing ++ (v ++ emitted x.events)) (sym g.outgoing) ∙ ap (λ (v : List ℕ). take n a.outgoing ++ v) x.to_wire;
       fails = is_push_failure r;
       failed = g.pushed.failed;
       lost = x.heard;
@@ -128,6 +130,7 @@ pushed_heard r a b c d e g x =
       left = g.pushed.left;
       over = g.pushed.over;
       ended = g.pushed.ended;
+      shut = g.pushed.shut;
       few = g.pushed.counted;
     } in (moved, refl)
 
@@ -136,7 +139,7 @@ emits_one a b s room same none h incoming = let g = gives_from (event.Emit room)
   events = (event.Emit room, reply.Emitted b.outgoing) ∷ [];
   happen = (b.session, g, refl);
   own = refl;
-  outward = ap (λ (v : List ℕ). v ++ (b.outgoing ++ [])) none ∙ append-nil b.outgoing;
+  to_wire = ap (λ (v : List ℕ). v ++ (b.outgoing ++ [])) none ∙ append-nil b.outgoing;
   incoming = incoming;
   heard = refl;
 }
@@ -150,17 +153,17 @@ feeds_one a b told s bytes same waits h incoming outgoing =
       happen = (b.session, g, refl);
       own = refl;
       fronts = (([], sym (append-nil a.incoming)), tt);
-      inward = sym (take-append-drop told.taken a.incoming) ∙ ap (λ (v : List ℕ). v ++ drop told.taken a.incoming) (sym (append-nil (take told.taken a.incoming)))
+      from_wire = sym (take-append-drop told.taken a.incoming) ∙ ap (λ (v : List ℕ). v ++ drop told.taken a.incoming) (sym (append-nil (take told.taken a.incoming)))
           ∙ ap (λ (v : List ℕ). (take told.taken a.incoming ++ []) ++ v) (sym incoming);
       outgoing = outgoing;
       heard = refl;
     }
 
 pub loses_in : (a b : Engine) (s : Session) → s ≡ a.session → Gives in_turn s event.FeedEnd reply.Done b.session → b.incoming ≡ a.incoming → b.outgoing ≡ a.outgoing → HandlesIn true a b
-loses_in a b s same h incoming outgoing = let g = gives_from event.FeedEnd reply.Done s b.session a.session same h in record { events = (event.FeedEnd, reply.Done) ∷ []; happen = (b.session, g, refl); own = refl; fronts = (tt, tt); inward = sym incoming; outgoing = outgoing; heard = refl }
+loses_in a b s same h incoming outgoing = let g = gives_from event.FeedEnd reply.Done s b.session a.session same h in record { events = (event.FeedEnd, reply.Done) ∷ []; happen = (b.session, g, refl); own = refl; fronts = (tt, tt); from_wire = sym incoming; outgoing = outgoing; heard = refl }
 
 pub loses_out : (a b : Engine) (s : Session) → s ≡ a.session → Gives in_turn s event.FeedEnd reply.Done b.session → b.incoming ≡ a.incoming → b.outgoing ≡ a.outgoing → HandlesOut true a b
-loses_out a b s same h incoming outgoing = let g = gives_from event.FeedEnd reply.Done s b.session a.session same h in record { events = (event.FeedEnd, reply.Done) ∷ []; happen = (b.session, g, refl); own = refl; outward = append-nil a.outgoing ∙ sym outgoing; incoming = incoming; heard = refl }
+loses_out a b s same h incoming outgoing = let g = gives_from event.FeedEnd reply.Done s b.session a.session same h in record { events = (event.FeedEnd, reply.Done) ∷ []; happen = (b.session, g, refl); own = refl; to_wire = append-nil a.outgoing ∙ sym outgoing; incoming = incoming; heard = refl }
 
 pub empty_of : (xs ys : List ℕ) (b : Bool) → b ≡ (length xs == 0) → xs ≡ ys → b ≡ true → ys ≡ []
 empty_of [] ys b e s t = sym s

@@ -78,7 +78,7 @@ stops_first s t n m xs ys told e least g fewer less =
 -- ---- in turns
 
 pub no_longer : (lost : Bool) (a b : Engine) → HandlesIn lost a b → length b.incoming ≤ length a.incoming
-no_longer lost a b h = let e : length a.incoming ≡ length (fed h.events) + length b.incoming = ap length h.inward ∙ length-append (fed h.events) b.incoming in omega arith
+no_longer lost a b h = let e : length a.incoming ≡ length (fed h.events) + length b.incoming = ap length h.from_wire ∙ length-append (fed h.events) b.incoming in omega arith
 
 nothing_left : (xs : List ℕ) → length xs ≡ 0 → xs ≡ []
 nothing_left [] e = refl

@@ -3,3 +3,6 @@ pub mod Carrying
 pub mod Refusing
 pub mod Advancing
 pub mod Feeding
+pub mod Listing
+pub mod Trading
+pub mod Running

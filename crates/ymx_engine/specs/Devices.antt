@@ -7,14 +7,15 @@ use Rattle.ymx_engine.specs.declared.device.Pushed.{Pushed}
 use Rattle.ymx_engine.specs.declared.device.Pushed.TheVariants as pushed
 
 -- The bytes that a device has still to give, those that it has taken, whether it said that no more come, whether it was
--- ended, and whether it has failed, each where the device can tell; and how many calls were made, as far as it counts
--- them.
+-- ended, whether it has failed, and whether it was shut, each where the device can tell; and how many calls were made, as
+-- far as it counts them.
 pub record Seen : Type 0 where
   pub left : Option (List ℕ)
   pub had : Option (List ℕ)
   pub over : Option Bool
   pub ended : Option Bool
   pub failed : Option Bool
+  pub shut : Option Bool
   pub calls : ℕ
 
 abbrev pub pulled_count : Pulled → ℕ
@@ -46,6 +47,7 @@ pub record IsPulled (result : Pulled) (buffer : List ℕ) (old new : Seen) : Typ
   pub over : new.over ≡ option_map (λ b. b || is_end result) old.over
   pub ended : new.ended ≡ old.ended
   pub failed : new.failed ≡ option_map (λ b. b || is_pull_failure result) old.failed
+  pub shut : new.shut ≡ old.shut
   pub counted : new.calls ≤ old.calls + 1
 
 -- the first of these bytes were taken
@@ -56,6 +58,7 @@ pub record IsPushed (result : Pushed) (bytes : List ℕ) (old new : Seen) : Type
   pub over : new.over ≡ old.over
   pub ended : new.ended ≡ old.ended
   pub failed : new.failed ≡ option_map (λ b. b || is_push_failure result) old.failed
+  pub shut : new.shut ≡ old.shut
   pub counted : new.calls ≤ old.calls + 1
 
 -- no more bytes come
@@ -65,6 +68,7 @@ pub record IsEnded (old new : Seen) : Type 0 where
   pub over : new.over ≡ old.over
   pub ended : new.ended ≡ option_map (λ b. true) old.ended
   pub failed : new.failed ≡ old.failed
+  pub shut : new.shut ≡ old.shut
   pub counted : new.calls ≤ old.calls + 1
 
 -- it was shut, and moved nothing
@@ -74,4 +78,5 @@ pub record IsShut (old new : Seen) : Type 0 where
   pub over : new.over ≡ old.over
   pub ended : new.ended ≡ old.ended
   pub failed : new.failed ≡ old.failed
+  pub shut : new.shut ≡ option_map (λ b. true) old.shut
   pub counted : new.calls ≤ old.calls + 1

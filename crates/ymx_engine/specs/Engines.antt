@@ -1,7 +1,8 @@
 -- What a contract sees of the tunnel of one end, and what its calls leave alone (this project's own).
-use Rattle.std.specs.Prelude.{ℕ, ◌≡◌, ◌⊎◌, List, [], true}
+use Rattle.std.specs.Prelude.{ℕ, ◌≡◌, ◌⊎◌, List, [], true, false}
 use Rattle.ymx_model.specs.session.Sessions.{Session}
 use Rattle.ymx_model.specs.session.Feeds.{is_stuck}
+use Rattle.ymx_model.specs.session.Emissions.{is_ready}
 
 -- The session, the bytes that it emitted and the wire has not taken, and those that the wire gave and the session
 -- has not taken.
@@ -18,3 +19,7 @@ pub record KeepsWire (old new : Engine) : Type 0 where
 -- All that the wire gave was fed; or the session takes no byte now, as it is broken or its row of answers is full.
 abbrev pub IsFedOrStuck : Engine → Type 0
 IsFedOrStuck e = (e.incoming ≡ []) ⊎ (is_stuck e.session ≡ true)
+
+-- Nothing is due, and the wire has taken all that was emitted.
+abbrev pub IsFlushed : Engine → Type 0
+IsFlushed e = (e.outgoing ≡ []) × (is_ready e.session ≡ false)

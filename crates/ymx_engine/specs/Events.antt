@@ -5,6 +5,7 @@ use Rattle.ymx_model.specs.session.Events.{Event}
 use Rattle.ymx_model.specs.declared.types.Event.TheVariants as event
 use Rattle.ymx_machine.specs.shared.Events.{Reply}
 use Rattle.ymx_machine.specs.declared.types.Reply.TheVariants as reply
+use Rattle.ymx_machine.specs.declared.types.CallFault.TheVariants.{OutOfMemory}
 use Rattle.ymx_machine.specs.shared.Replies.{bytes_moved}
 use Rattle.ymx_model.specs.session.Sessions.{Session}
 use Rattle.ymx_model.specs.session.Emissions.{in_turn}
@@ -77,3 +78,33 @@ resets_at id _ = false
 abbrev pub has_reset : ℕ → List (Event × Reply) → Bool
 has_reset id [] = false
 has_reset id (e ∷ es) = resets_at id e.0 || has_reset id es
+
+-- the session refused
+abbrev pub is_refusal : Reply → Bool
+is_refusal (reply.Refused fault) = true
+is_refusal _ = false
+
+-- the stream was reset, or this was refused; or a read or a write of it was refused
+abbrev pub stops_at : ℕ → Event → Reply → Bool
+stops_at id (event.Call (call.Reset other)) told = other == id
+stops_at id (event.Call (call.Read other room)) told = (other == id) && is_refusal told
+stops_at id (event.Call (call.Write other bytes)) told = (other == id) && is_refusal told
+stops_at id _ told = false
+
+abbrev pub has_stop : ℕ → List (Event × Reply) → Bool
+has_stop id [] = false
+has_stop id (e ∷ es) = stops_at id e.0 e.1 || has_stop id es
+
+-- the session refused for want of memory
+abbrev pub is_memory_refusal : Reply → Bool
+is_memory_refusal (reply.Refused (OutOfMemory lacked)) = true
+is_memory_refusal _ = false
+
+-- a write of the stream was refused for want of memory
+abbrev pub lacks_memory_at : ℕ → Event → Reply → Bool
+lacks_memory_at id (event.Call (call.Write other bytes)) told = (other == id) && is_memory_refusal told
+lacks_memory_at id _ told = false
+
+abbrev pub lacks_memory : ℕ → List (Event × Reply) → Bool
+lacks_memory id [] = false
+lacks_memory id (e ∷ es) = lacks_memory_at id e.0 e.1 || lacks_memory id es

@@ -5,3 +5,6 @@ pub mod Engines
 pub mod Refusals
 pub mod Wires
 pub mod Passes
+pub mod Tunnels
+pub mod Lines
+pub mod Runs

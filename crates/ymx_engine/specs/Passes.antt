@@ -10,7 +10,7 @@ use Rattle.ymx_model.specs.session.Sessions.{Session}
 use Rattle.ymx_session.specs.declared.passing.Passing.{Passing}
 use Rattle.ymx_session.specs.Passing.{passing}
 use Rattle.ymx_engine.specs.Devices.{Seen}
-use Rattle.ymx_engine.specs.Events.{Happen, given, has_end, has_reset}
+use Rattle.ymx_engine.specs.Events.{Happen, given, has_end, has_reset, has_stop}
 use Rattle.ymx_engine.specs.Engines.{Engine}
 use Rattle.ymx_engine.specs.Wires.{fed, FeedsFront}
 
@@ -31,15 +31,15 @@ is_of_pass id _ = false
 
 -- Nothing happened but feeds of what waited, and reads and a reset of this stream. Each feed offers the front of what
 -- waits; the session took a beginning, and the rest waits. The device took just what the stream gave, in order, and gave
--- nothing. It was ended exactly if the stream's end was read, and the stream was reset exactly if the device failed.
--- Nothing went to the wire.
+-- nothing. It was ended exactly if the stream's end was read, and the stream was reset exactly if the device failed. The
+-- device was shut exactly if the stream was reset, or refused a read. Nothing went to the wire.
 pub record PassesOn (id : ℕ) (old new : Engine) (before after : Seen) (calls : ℕ) : Type 0 where
   pub events : List (Event × Reply)
   pub happen : Happen events old.session new.session
   pub own : list_all (λ e. is_of_pass id e.0) events ≡ true
   pub fronts : FeedsFront old.incoming events
-  pub inward : old.incoming ≡ fed events ++ new.incoming
-  pub outward : Appends before.had after.had (given id events)
+  pub from_wire : old.incoming ≡ fed events ++ new.incoming
+  pub from_peer : Appends before.had after.had (given id events)
   pub fails : Bool
   pub failed : after.failed ≡ option_map (λ b. b || fails) before.failed
   pub reset : has_reset id events ≡ fails
@@ -47,6 +47,7 @@ pub record PassesOn (id : ℕ) (old new : Engine) (before after : Seen) (calls :
   pub left : after.left ≡ before.left
   pub over : after.over ≡ before.over
   pub ended : after.ended ≡ option_map (λ b. b || has_end id events) before.ended
+  pub shut : after.shut ≡ option_map (λ b. b || has_stop id events) before.shut
   pub few : after.calls ≤ before.calls + calls
 
 -- ---- a part of it
@@ -60,11 +61,12 @@ pub record OffersOnce (id : ℕ) (bytes : List ℕ) (count : ℕ) (s t : Session
   pub fronts : FeedsFront bytes events
   pub within : count ≤ length bytes
   pub took : fed events ≡ take count bytes
-  pub outward : Appends before.had after.had (given id events)
+  pub from_peer : Appends before.had after.had (given id events)
   pub fails : Bool
   pub failed : after.failed ≡ option_map (λ b. b || fails) before.failed
   pub reset : has_reset id events ≡ fails
   pub left : after.left ≡ before.left
   pub over : after.over ≡ before.over
   pub ended : after.ended ≡ option_map (λ b. b || has_end id events) before.ended
+  pub shut : after.shut ≡ option_map (λ b. b || has_stop id events) before.shut
   pub few : after.calls ≤ before.calls + 2

@@ -1,5 +1,5 @@
 -- What happens where a connection gets no stream, or its stream is given up (this project's own).
-use Rattle.std.specs.Prelude.{ℕ, ◌≡◌, ◌⊎◌, None, Some}
+use Rattle.std.specs.Prelude.{ℕ, ◌≡◌, ◌⊎◌, None}
 use Rattle.ymx_model.specs.declared.types.Event.TheVariants as event
 use Rattle.ymx_machine.specs.shared.Evidence.{evidence}
 use Rattle.ymx_machine.specs.declared.types.Call.TheVariants as call
@@ -19,16 +19,10 @@ pub record GivesUp (id : ℕ) (s t : Session) : Type 0 where
   pub told_forget : Reply
   pub forgotten : Gives in_turn between (event.Call (call.Forget id)) told_forget t
 
--- the session opened a stream, which was given up
-abbrev pub OpensInVain : Session → Session → Type 0
-OpensInVain s t = (id : ℕ) × (made : Session) × Gives in_turn s (event.Call call.Open) (reply.Opened id) made × GivesUp id made t
-
--- No stream was opened: the session refused for this fault, and is as it was; or the fault is want of memory to keep
--- the connection, and the stream was given up.
+-- No stream was opened, and the session is as it was: it refused for this fault; or the fault is want of memory to keep
+-- the connection.
 abbrev pub OpensNone : CallFault → Session → Session → Type 0
-OpensNone fault s t =
-    (Gives in_turn s (event.Call call.Open) (reply.Refused fault) t × (t ≡ s))
-    ⊎ ((fault ≡ OutOfMemory evidence) × OpensInVain s t)
+OpensNone fault s t = (t ≡ s) × (Gives in_turn s (event.Call call.Open) (reply.Refused fault) t ⊎ (fault ≡ OutOfMemory evidence))
 
 -- the session had no stream to offer, or refused, and is as it was
 abbrev pub OffersNone : Session → Session → Type 0
@@ -36,12 +30,3 @@ OffersNone s t =
     (t ≡ s)
     × (Gives in_turn s (event.Call call.Accept) (reply.Accepted None) t
     ⊎ ((fault : CallFault) × Gives in_turn s (event.Call call.Accept) (reply.Refused fault) t))
-
--- the session offered a stream, which was given up
-abbrev pub AcceptsInVain : Session → Session → Type 0
-AcceptsInVain s t = (id : ℕ) × (taken : Session) × Gives in_turn s (event.Call call.Accept) (reply.Accepted (Some id)) taken × GivesUp id taken t
-
--- No stream was accepted: the session offered none; or there was no memory to keep the connection, and the stream was
--- given up.
-abbrev pub AcceptsNone : Session → Session → Type 0
-AcceptsNone s t = OffersNone s t ⊎ AcceptsInVain s t

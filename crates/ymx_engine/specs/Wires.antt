@@ -75,7 +75,7 @@ pub record ReadsWire (old new : Engine) (before after : Seen) (calls : ℕ) : Ty
   pub came : List ℕ
   pub gave : Consumes before.left after.left came
   pub fronts : FeedsFront (old.incoming ++ came) events
-  pub inward : old.incoming ++ came ≡ fed events ++ new.incoming
+  pub from_wire : old.incoming ++ came ≡ fed events ++ new.incoming
   pub said_end : Bool
   pub over : after.over ≡ option_map (λ b. b || said_end) before.over
   pub fails : Bool
@@ -84,6 +84,7 @@ pub record ReadsWire (old new : Engine) (before after : Seen) (calls : ℕ) : Ty
   pub outgoing : new.outgoing ≡ old.outgoing
   pub had : after.had ≡ before.had
   pub ended : after.ended ≡ before.ended
+  pub shut : after.shut ≡ before.shut
   pub few : after.calls ≤ before.calls + calls
 
 -- whether the wire said that no more bytes come, and whether it failed, is known
@@ -100,7 +101,7 @@ pub record FlushesWire (old new : Engine) (before after : Seen) (calls : ℕ) : 
   pub own : list_all (λ e. is_of_flush e.0) events ≡ true
   pub sent : List ℕ
   pub took : Appends before.had after.had sent
-  pub outward : old.outgoing ++ emitted events ≡ sent ++ new.outgoing
+  pub to_wire : old.outgoing ++ emitted events ≡ sent ++ new.outgoing
   pub fails : Bool
   pub failed : after.failed ≡ option_map (λ b. b || fails) before.failed
   pub lost : has_feed_end events ≡ fails
@@ -108,6 +109,7 @@ pub record FlushesWire (old new : Engine) (before after : Seen) (calls : ℕ) : 
   pub left : after.left ≡ before.left
   pub over : after.over ≡ before.over
   pub ended : after.ended ≡ before.ended
+  pub shut : after.shut ≡ before.shut
   pub few : after.calls ≤ before.calls + calls
 
 -- whether the wire failed is known
@@ -122,7 +124,7 @@ pub record HandlesIn (lost : Bool) (old new : Engine) : Type 0 where
   pub happen : Happen events old.session new.session
   pub own : list_all (λ e. is_of_read e.0) events ≡ true
   pub fronts : FeedsFront old.incoming events
-  pub inward : old.incoming ≡ fed events ++ new.incoming
+  pub from_wire : old.incoming ≡ fed events ++ new.incoming
   pub outgoing : new.outgoing ≡ old.outgoing
   pub heard : has_feed_end events ≡ lost
 
@@ -131,7 +133,7 @@ pub record HandlesOut (lost : Bool) (old new : Engine) : Type 0 where
   pub events : List (Event × Reply)
   pub happen : Happen events old.session new.session
   pub own : list_all (λ e. is_of_flush e.0) events ≡ true
-  pub outward : old.outgoing ++ emitted events ≡ new.outgoing
+  pub to_wire : old.outgoing ++ emitted events ≡ new.outgoing
   pub incoming : new.incoming ≡ old.incoming
   pub heard : has_feed_end events ≡ lost
 

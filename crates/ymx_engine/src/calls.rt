@@ -10,26 +10,27 @@ ghost use Rattle.ymx_model.specs.session.Histories.{Gives};
 ghost use Rattle.ymx_session.specs.declared.passing.Passing.{Passing};
 ghost use Rattle.ymx_session.specs.Passing.{passing, Passes};
 ghost use Rattle.ymx_session.specs.Streams.{waiting, room_of};
-ghost use Rattle.ymx_engine.specs.Events.{bytes_of, is_read_end};
+ghost use Rattle.ymx_engine.specs.Events.{bytes_of, is_read_end, is_refusal, is_memory_refusal};
 
 use ymx_model::{Got, Wrote};
 use ymx_session::Session;
 
-/// Writes bytes for which there is credit. Whether the stream took them: it takes none for want of memory.
+/// Writes bytes, one at least, for which there is credit. Whether the stream took them: it takes none for want of memory.
 pub(crate) fn write(session: &mut Session, id: u32, bytes: &[u8]) -> bool
-    requires { length bytes.now ≤ room_of id session.old }
-    ensures took { result ≡ true → (told : Reply) × Gives in_turn session.old (event.Call (call.Write id bytes.now)) told session.new × (take (bytes_moved told) bytes.now ≡ bytes.now) }
-    ensures refused { result ≡ false → (told : Reply) × Gives in_turn session.old (event.Call (call.Write id bytes.now)) told session.new × (bytes_moved told ≡ 0) × (0 < length bytes.now) }
+    requires some { 0 < length bytes.now }
+    requires fits { length bytes.now ≤ room_of id session.old }
+    ensures took { result ≡ true → (told : Reply) × Gives in_turn session.old (event.Call (call.Write id bytes.now)) told session.new × (take (bytes_moved told) bytes.now ≡ bytes.now) × (is_refusal told ≡ false) }
+    ensures refused { result ≡ false → (told : Reply) × Gives in_turn session.old (event.Call (call.Write id bytes.now)) told session.new × (bytes_moved told ≡ 0) × (is_memory_refusal told ≡ true) × (0 < length bytes.now) }
 {
     match session.write(id, bytes) {
         Ok(Wrote::Took(_)) => true,
-        _ => bytes.is_empty(),
+        _ => false,
     }
 }
 
 /// Whether the stream takes no bytes any more.
 pub(crate) fn is_stopped(session: &mut Session, id: u32) -> bool
-    ensures { (told : Reply) × Gives in_turn session.old (event.Call (call.Write id [])) told session.new }
+    ensures { (told : Reply) × Gives in_turn session.old (event.Call (call.Write id [])) told session.new × (is_refusal told ≡ result) }
 {
     session.write(id, &[]).is_err()
 }
@@ -37,7 +38,7 @@ pub(crate) fn is_stopped(session: &mut Session, id: u32) -> bool
 /// Takes out the first `count` of the bytes that wait.
 pub(crate) fn take_out(session: &mut Session, id: u32, count: usize)
     requires { 0 < length (waiting id session.old) }
-    ensures { (told : Reply) × Gives in_turn session.old (event.Call (call.Read id count)) told session.new × (bytes_of told ≡ take count (waiting id session.old)) × (is_read_end told ≡ false) }
+    ensures { (told : Reply) × Gives in_turn session.old (event.Call (call.Read id count)) told session.new × (bytes_of told ≡ take count (waiting id session.old)) × (is_read_end told ≡ false) × (is_refusal told ≡ false) }
 {
     let _ = session.consume(id, count);
 }
@@ -56,7 +57,7 @@ pub(crate) enum Silence {
 /// Asks for a byte where none waits.
 pub(crate) fn ask(session: &mut Session, id: u32) -> Silence
     requires { waiting id session.old ≡ [] }
-    ensures happened { (told : Reply) × Gives in_turn session.old (event.Call (call.Read id 1)) told session.new × (bytes_of told ≡ []) × (is_read_end told ≡ true → result ≡ Silence.End) × (result ≡ Silence.End → is_read_end told ≡ true) }
+    ensures happened { (told : Reply) × Gives in_turn session.old (event.Call (call.Read id 1)) told session.new × (bytes_of told ≡ []) × (is_read_end told ≡ true → result ≡ Silence.End) × (result ≡ Silence.End → is_read_end told ≡ true) × (is_refusal told ≡ true → result ≡ Silence.Stopped) × (result ≡ Silence.Stopped → is_refusal told ≡ true) }
 {
     match session.consume(id, 1) {
         Ok(Got::End) => Silence::End,

@@ -24,6 +24,8 @@ pub struct Connection {
     pub to_peer: Flow,
     /// From the stream to the device.
     pub from_peer: Flow,
+    /// There was no memory for bytes that its device gave.
+    pub lacked_memory: bool,
     /// It waits for its turn.
     pub(crate) is_queued: bool,
     /// It waits until nothing waits for the wire.
@@ -39,6 +41,7 @@ impl Connection {
             is_closing: false,
             to_peer: Flow::Open,
             from_peer: Flow::Open,
+            lacked_memory: false,
             is_queued: false,
             is_held: false,
         }

@@ -41,15 +41,21 @@ impl Connections {
         self.fresh.len().saturating_add(self.busy.len())
     }
 
-    /// Adds one, which has something to move if its device is ready. There is memory then for its turns.
-    pub(crate) fn add(&mut self, id: u32, ready: bool) -> Result<(), RefusedAllocation> {
+    /// Memory for one more, and for its turns.
+    pub(crate) fn reserve(&mut self) -> Result<(), RefusedAllocation> {
         let all = self.by_id.len().saturating_add(1);
         ymx_memory::reserve_queue(&mut self.fresh, all)?;
         ymx_memory::reserve_queue(&mut self.busy, all)?;
         ymx_memory::reserve_queue(&mut self.held, all)?;
-        ymx_memory::insert(&mut self.by_id, id, Connection::new(ready))?;
-        self.enqueue(id);
+        ymx_memory::insert(&mut self.by_id, 0, Connection::new(false))?;
+        let _ = self.by_id.swap_remove(&0);
         Ok(())
+    }
+
+    /// Adds one, for which there is memory, and which has something to move if its device is ready.
+    pub(crate) fn add(&mut self, id: u32, ready: bool) {
+        let _ = ymx_memory::insert(&mut self.by_id, id, Connection::new(ready));
+        self.enqueue(id);
     }
 
     /// It is there no more.

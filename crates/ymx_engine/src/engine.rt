@@ -1,6 +1,6 @@
 //! The type `Engine`, and its calls.
 
-ghost use Rattle.std.specs.Prelude.{◌≡◌, ◌<◌, ◌≤◌, ◌+◌, ◌⊎◌, ◌||◌, [], length, drop, true, false, IfOk, IfErr, IfSome, IfNone, IsSome, Some, None};
+ghost use Rattle.std.specs.Prelude.{◌≡◌, ◌<◌, ◌≤◌, ◌+◌, ◌⊎◌, ◌||◌, [], length, drop, true, false, IfOk, IfErr, OnErr, IfSome, IfNone, IsSome, Some, None};
 ghost use Rattle.ymx_model.specs.declared.types.Event.TheVariants as event;
 ghost use Rattle.ymx_machine.specs.declared.types.Call.TheVariants as call;
 ghost use Rattle.ymx_machine.specs.shared.Events.{Reply};
@@ -12,10 +12,10 @@ ghost use Rattle.ymx_session.specs.declared.passing.Passing.{Passing};
 ghost use Rattle.ymx_session.specs.Passing.{passing};
 ghost use Rattle.ymx_session.specs.Replies.{pinged_or, ponged_or};
 ghost use Rattle.ymx_engine.specs.Devices.{is_end, is_pull_failure, is_push_failure};
-ghost use Rattle.ymx_engine.specs.Engines.{KeepsWire, IsFedOrStuck};
+ghost use Rattle.ymx_engine.specs.Engines.{KeepsWire, IsFedOrStuck, IsFlushed};
 ghost use Rattle.ymx_engine.specs.Exchanges.{Exchanges};
 ghost use Rattle.ymx_engine.specs.Passes.{IsPayload, PassesOn};
-ghost use Rattle.ymx_engine.specs.Refusals.{GivesUp, OpensNone, OffersNone, AcceptsNone};
+ghost use Rattle.ymx_engine.specs.Refusals.{GivesUp, OpensNone, OffersNone};
 ghost use Rattle.ymx_engine.specs.Wires.{ReadsWire, ReadsWireSo, FlushesWire, FlushesWireSo, HandlesIn, HandlesOut, TakesIn, GivesOut};
 
 use crate::block::Block;
@@ -113,21 +113,39 @@ impl Engine {
     // ---- connections
 
     /// Opens a stream for a connection that came, whose device may be used. The refusals are those of
-    /// `Session::open`, and change nothing; `OutOfMemory` comes also where there is no memory to keep the connection:
-    /// then the stream is reset and forgotten.
+    /// `Session::open`, and change nothing; `OutOfMemory` comes also where there is no memory to keep the connection,
+    /// and then no stream is opened.
     pub fn open(&mut self) -> Result<u32, CallFault>
-        // A stream was opened, or the session refused it and nothing is left of it.
+        // A stream was opened, or the session refused it, or there was no memory for its connection.
         ensures opened { IfOk result (λ id. Gives in_turn self.old.session (event.Call call.Open) (reply.Opened id) self.new.session) }
         ensures refused { IfErr result (λ fault. OpensNone fault self.old.session self.new.session) }
         // The bytes that wait on the wire's two sides stay.
         ensures wire { KeepsWire self.old self.new }
     {
-        let id = self.open_stream()?;
-        if let Err(refused) = self.connections.add(id, true) {
-            self.drop_stream(id);
+        if let Err(refused) = self.reserve() {
             return Err(CallFault::OutOfMemory(refused));
         }
-        Ok(id)
+        match self.open_stream() {
+            Ok(id) => {
+                self.add(id, true);
+                Ok(id)
+            }
+            Err(fault) => Err(fault),
+        }
+    }
+
+    /// Takes memory for one more connection.
+    fn reserve(&mut self) -> Result<(), RefusedAllocation>
+        ensures { self.new ≡ self.old }
+    {
+        self.connections.reserve()
+    }
+
+    /// Adds a connection, for which there is memory. `ready` says whether its device may be used.
+    fn add(&mut self, id: u32, ready: bool)
+        ensures { self.new ≡ self.old }
+    {
+        self.connections.add(id, ready);
     }
 
     /// Opens a stream of the session.
@@ -140,25 +158,29 @@ impl Engine {
     }
 
     /// Takes the offered stream that came first, and returns its id. Its device may be used once `note_device` says so.
-    /// `None` where none waits, where the session refuses, and where there is no memory to keep the connection: then the
-    /// stream is reset and forgotten.
-    pub fn accept(&mut self) -> Option<u32>
-        // The stream that was offered first, or none, and then nothing is left of it.
-        ensures accepted { IfSome result (λ id. Gives in_turn self.old.session (event.Call call.Accept) (reply.Accepted (Some id)) self.new.session) }
-        ensures none { IfNone result (AcceptsNone self.old.session self.new.session) }
+    /// `None` where none waits, and where the session refuses. `RefusedAllocation` where there is no memory to keep the
+    /// connection; then nothing changes, and the stream waits on.
+    pub fn accept(&mut self) -> Result<Option<u32>, RefusedAllocation>
+        // The stream that was offered first, or none was offered.
+        ensures accepted { IfOk result (λ offered. IfSome offered (λ id. Gives in_turn self.old.session (event.Call call.Accept) (reply.Accepted (Some id)) self.new.session)) }
+        ensures none { IfOk result (λ offered. IfNone offered (OffersNone self.old.session self.new.session)) }
+        ensures refused { OnErr result (self.new ≡ self.old) }
         // The bytes that wait on the wire's two sides stay.
         ensures wire { KeepsWire self.old self.new }
     {
-        let id = self.accept_stream()?;
-        if self.connections.add(id, false).is_err() {
-            self.drop_stream(id);
-            return None;
+        self.reserve()?;
+        match self.take_offered() {
+            Some(id) => {
+                self.add(id, false);
+                Ok(Some(id))
+            }
+            None => Ok(None),
         }
-        Some(id)
     }
 
-    /// Takes the offered stream that came first. `None` where the session offers none, or refuses.
-    fn accept_stream(&mut self) -> Option<u32>
+    /// Takes the offered stream that came first, and keeps no connection for it, so that no memory is needed: what follows
+    /// is `refuse`. `None` where the session offers none, or refuses.
+    pub fn take_offered(&mut self) -> Option<u32>
         ensures accepted { IfSome result (λ id. Gives in_turn self.old.session (event.Call call.Accept) (reply.Accepted (Some id)) self.new.session) }
         ensures none { IfNone result (OffersNone self.old.session self.new.session) }
         ensures wire { KeepsWire self.old self.new }
@@ -517,8 +539,8 @@ impl Engine {
 
     /// The wire is no more: the session is lost.
     fn lose(&mut self)
-        ensures inward { HandlesIn true self.old self.new }
-        ensures outward { HandlesOut true self.old self.new }
+        ensures from_wire { HandlesIn true self.old self.new }
+        ensures to_wire { HandlesOut true self.old self.new }
     {
         self.is_wire_over = true;
         self.session.feed_end();
@@ -634,7 +656,9 @@ impl Engine {
     }
 
     /// Whether all has gone out: the session has nothing due, and the wire has taken each byte that was emitted.
-    pub fn is_flushed(&self) -> bool {
+    pub fn is_flushed(&self) -> bool
+        ensures { result ≡ true → IsFlushed self.now }
+    {
         self.outgoing.waiting().is_empty() && !self.session.due()
     }
 

@@ -205,9 +205,13 @@ fn pull_into<D: Device>(
             if count < buffer.len() && !connection.is_closing {
                 connection.can_pull = false;
             }
+            if count == 0 {
+                return true;
+            }
             if write(session, id, &buffer[..count]) {
                 return true;
             }
+            connection.lacked_memory = true;
             reset_and_shut(session, id, connection, device);
         }
         Pulled::NotNow => connection.can_pull = false,

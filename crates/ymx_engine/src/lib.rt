@@ -12,8 +12,12 @@ mod connections;
 mod device;
 mod engine;
 mod exchange;
+mod line;
 mod passing;
+mod tunnel;
 
 pub use connection::{Connection, Flow};
 pub use device::{Device, Pulled, Pushed};
 pub use engine::Engine;
+pub use line::{Line, NotJoined, Registry, Wire};
+pub use tunnel::{Served, Tunnel};

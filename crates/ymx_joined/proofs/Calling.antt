@@ -20,7 +20,7 @@ use Rattle.ymx_engine.specs.Wires.{fed_at, fed, OffersFront, FeedsFront, Handles
 use Rattle.ymx_engine.proofs.Advancing.{drop_front, drop_twice, rest_of}
 use Rattle.ymx_engine.proofs.Exchanging.{or_same}
 use Rattle.ymx_engine.specs.Exchanges.{Exchange}
-use Rattle.ymx_engine.specs.Refusals.{GivesUp, OpensNone, AcceptsNone}
+use Rattle.ymx_engine.specs.Refusals.{GivesUp, OpensNone, OffersNone}
 use Rattle.ymx_joined.specs.Pairs.{is_call, IsCalls, IsTurn, HasCalls, HasFeeds, HasTurns, each_alone}
 use Rattle.ymx_joined.proofs.Piping.{both}
 
@@ -54,32 +54,28 @@ given_up id e f w g =
     let es : List (Event × Reply) = (event.Call (call.Reset id), g.told_reset) ∷ (event.Call (call.Forget id), g.told_forget) ∷ [] in
     (es, calls_of es e f w (g.between, g.reset, (f.session, g.forgotten, refl)) refl)
 
--- one call, and then a stream is given up
-behind : (c : Call) (told : Reply) (id : ℕ) (made : Session) (e f : Engine) → KeepsWire e f → Gives in_turn e.session (event.Call c) told made → GivesUp id made f.session →
-    (es : List (Event × Reply)) × HasCalls es e f
-behind c told id made e f w o g =
-    let es : List (Event × Reply) = (event.Call c, told) ∷ (event.Call (call.Reset id), g.told_reset) ∷ (event.Call (call.Forget id), g.told_forget) ∷ [] in
-    (es, calls_of es e f w (made, o, (g.between, g.reset, (f.session, g.forgotten, refl))) refl)
+-- no call was made
+pub called_none : (e f : Engine) → KeepsWire e f → f.session ≡ e.session → (es : List (Event × Reply)) × HasCalls es e f
+called_none e f w same = ([], calls_of [] e f w same refl)
 
 pub opens_none : (fault : CallFault) (e f : Engine) → KeepsWire e f → OpensNone fault e.session f.session → (es : List (Event × Reply)) × HasCalls es e f
-opens_none fault e f w (inl x) = (_, called call.Open (reply.Refused fault) e f w x.0)
-opens_none fault e f w (inr (lack, (id, made, opened, gone))) = behind call.Open (reply.Opened id) id made e f w opened gone
+opens_none fault e f w (same, inl g) = (_, called call.Open (reply.Refused fault) e f w g)
+opens_none fault e f w (same, inr lack) = called_none e f w same
 
-pub accepts_none : (e f : Engine) → KeepsWire e f → AcceptsNone e.session f.session → (es : List (Event × Reply)) × HasCalls es e f
-accepts_none e f w (inl (same, inl g)) = (_, called call.Accept (reply.Accepted None) e f w g)
-accepts_none e f w (inl (same, inr (fault, g))) = (_, called call.Accept (reply.Refused fault) e f w g)
-accepts_none e f w (inr (id, made, accepted, gone)) = behind call.Accept (reply.Accepted (Some id)) id made e f w accepted gone
+pub offers_none : (e f : Engine) → KeepsWire e f → OffersNone e.session f.session → (es : List (Event × Reply)) × HasCalls es e f
+offers_none e f w (same, inl g) = (_, called call.Accept (reply.Accepted None) e f w g)
+offers_none e f w (same, inr (fault, g)) = (_, called call.Accept (reply.Refused fault) e f w g)
 
 -- ---- what is fed while the wire is not asked
 
 pub advanced : (e f : Engine) → (x : HandlesIn false e f) → HasFeeds x.events e f
 advanced e f x = λ to from.
-    let d : Seen = record { left = Some from; had = None; over = None; ended = None; failed = None; calls = 0 } in
+    let d : Seen = record { left = Some from; had = None; over = None; ended = None; failed = None; shut = None; calls = 0 } in
     record {
       before = d;
       after = d;
       calls = 0;
-      reads = record { events = x.events; happen = x.happen; own = x.own; came = []; gave = Consumes-nil d.left; fronts = subst (λ (v : List ℕ). FeedsFront v x.events) (sym (append-nil e.incoming)) x.fronts; inward = append-nil e.incoming ∙ x.inward; said_end = false; over = or_same d.over; fails = false; failed = or_same d.failed; lost = x.heard; outgoing = x.outgoing; had = refl; ended = refl; few = omega arith };
+      reads = record { events = x.events; happen = x.happen; own = x.own; came = []; gave = Consumes-nil d.left; fronts = subst (λ (v : List ℕ). FeedsFront v x.events) (sym (append-nil e.incoming)) x.fronts; from_wire = append-nil e.incoming ∙ x.from_wire; said_end = false; over = or_same d.over; fails = false; failed = or_same d.failed; lost = x.heard; outgoing = x.outgoing; had = refl; ended = refl; shut = refl; few = omega arith };
       events = refl;
       left = refl;
       left_new = refl;
@@ -117,7 +113,7 @@ alone_turn id (event.Feed bytes) told s t out waits g front h to from =
       happen = (t, g, refl);
       own = refl;
       fronts = (front, tt);
-      inward = fed_back bytes told waits front ∙ ap (λ (v : List ℕ). v ++ drop (length (fed_at (event.Feed bytes) told)) waits) (sym (append-nil (fed_at (event.Feed bytes) told)));
+      from_wire = fed_back bytes told waits front ∙ ap (λ (v : List ℕ). v ++ drop (length (fed_at (event.Feed bytes) told)) waits) (sym (append-nil (fed_at (event.Feed bytes) told)));
       outgoing = refl;
       heard = refl;
     } in inr (inl (advanced (waiting_engine s out waits) next x to from))
@@ -140,4 +136,4 @@ pub passed : (id : ℕ) (e f : Engine) (old new : Seen) (calls : ℕ) → (x : P
 passed id e f old new calls x =
     let turns = alone_turns id x.events e.session f.session e.outgoing e.incoming x.happen x.fronts x.own in
     let fed_out = subst (λ (v : List ℕ). HasTurns (each_alone x.events) e (waiting_engine f.session v (drop (length (fed x.events)) e.incoming))) (sym x.outgoing) turns in
-    subst (λ (v : List ℕ). HasTurns (each_alone x.events) e (waiting_engine f.session f.outgoing v)) (rest_of x.events e.incoming f.incoming x.inward) fed_out
+    subst (λ (v : List ℕ). HasTurns (each_alone x.events) e (waiting_engine f.session f.outgoing v)) (rest_of x.events e.incoming f.incoming x.from_wire) fed_out

@@ -52,9 +52,9 @@ moves_then id es fs a b c x y = record {
   came = x.came ++ y.came;
   loses = x.loses || y.loses;
   gave = Consumes-trans a.left b.left c.left x.came y.came x.gave y.gave;
-  inward = λ h. let two = or_none_both x.loses y.loses h in
-      ap (λ (v : List ℕ). v ++ y.came) (x.inward two.0) ∙ ap (λ (v : List ℕ). taken id es ++ v) (y.inward two.1) ∙ sym (taken_then id es fs);
-  outward = subst (Appends a.had c.had) (sym (given_then id es fs)) (Appends-trans a.had b.had c.had _ _ x.outward y.outward);
+  to_peer = λ h. let two = or_none_both x.loses y.loses h in
+      ap (λ (v : List ℕ). v ++ y.came) (x.to_peer two.0) ∙ ap (λ (v : List ℕ). taken id es ++ v) (y.to_peer two.1) ∙ sym (taken_then id es fs);
+  from_peer = subst (Appends a.had c.had) (sym (given_then id es fs)) (Appends-trans a.had b.had c.had _ _ x.from_peer y.from_peer);
   whole = λ h. elim (or_cases (has_finish id es) (has_finish id fs) (sym (finish_then id es fs) ∙ h)) [
     | inl first ↦ whole_before a.left b.left c.left _ _ x.gave y.gave (x.whole first)
     | inr second ↦ whole_after a.left b.left _ _ x.gave (y.whole second)
@@ -72,8 +72,8 @@ moves_none id d = record {
   came = [];
   loses = false;
   gave = Consumes-nil d.left;
-  inward = λ h. refl;
-  outward = Appends-nil d.had;
+  to_peer = λ h. refl;
+  from_peer = Appends-nil d.had;
   whole = λ h. cc;
   over = or_same d.over;
   ended = or_same d.ended;
@@ -84,7 +84,7 @@ moves_none id d = record {
 
 -- one exchange
 pub exchange_moves : (id : ℕ) (e f : Engine) (a b : Seen) (lost : List ℕ) → (x : Exchange id e.session f.session a b lost) → Moves id x.events a b
-exchange_moves id e f a b lost x = record { came = taken id x.events ++ lost; loses = has_bytes lost; gave = x.inward; inward = λ h. ap (λ (v : List ℕ). taken id x.events ++ v) (no_bytes_of lost h) ∙ append-nil (taken id x.events); outward = x.outward; whole = x.whole; over = x.over; ended = x.ended; fails = x.fails; failed = x.failed; reset = x.reset }
+exchange_moves id e f a b lost x = record { came = taken id x.events ++ lost; loses = has_bytes lost; gave = x.to_peer; to_peer = λ h. ap (λ (v : List ℕ). taken id x.events ++ v) (no_bytes_of lost h) ∙ append-nil (taken id x.events); from_peer = x.from_peer; whole = x.whole; over = x.over; ended = x.ended; fails = x.fails; failed = x.failed; reset = x.reset }
 
 -- payload that was passed on
 
@@ -111,8 +111,8 @@ passes_moves id e f a b x = let none = passes_take_none id x.events x.own in rec
   came = [];
   loses = false;
   gave = same_consumes a.left b.left x.left;
-  inward = λ h. sym none.0;
-  outward = x.outward;
+  to_peer = λ h. sym none.0;
+  from_peer = x.from_peer;
   whole = λ h. cc;
   over = x.over ∙ or_same a.over ∙ ap (λ (v : Bool). option_map (λ b. b || v) a.over) (sym none.1);
   ended = x.ended;
@@ -128,8 +128,8 @@ moves_wire id es d h = let q = quiet is_of_wire (λ k. refl) id es h in record {
   came = [];
   loses = false;
   gave = Consumes-nil d.left;
-  inward = λ l. sym q.0;
-  outward = subst (Appends d.had d.had) (sym q.1) (Appends-nil d.had);
+  to_peer = λ l. sym q.0;
+  from_peer = subst (Appends d.had d.had) (sym q.1) (Appends-nil d.had);
   whole = λ l. cc;
   over = or_same d.over ∙ ap (λ (v : Bool). option_map (λ b. b || v) d.over) (sym q.3);
   ended = or_same d.ended ∙ ap (λ (v : Bool). option_map (λ b. b || v) d.ended) (sym q.2);

@@ -177,10 +177,10 @@ record Moves (es : List (Event × Reply)) (old new : Engine) (to from to_new fro
   came : List ℕ
   gave : from ≡ came ++ from_new
   fronts : FeedsFront (old.incoming ++ came) es
-  inward : old.incoming ++ came ≡ fed es ++ new.incoming
+  from_wire : old.incoming ++ came ≡ fed es ++ new.incoming
   sent : List ℕ
   took : to_new ≡ to ++ sent
-  outward : old.outgoing ++ emitted es ≡ sent ++ new.outgoing
+  to_wire : old.outgoing ++ emitted es ≡ sent ++ new.outgoing
 
 calls_move : (es : List (Event × Reply)) (old new : Engine) (to from to_new from_new : List ℕ) → IsCalls es old new to from to_new from_new → Moves es old new to from to_new from_new
 calls_move es old new to from to_new from_new x =
@@ -191,10 +191,10 @@ calls_move es old new to from to_new from_new x =
       came = [];
       gave = sym x.same_from;
       fronts = quiet.0;
-      inward = append-nil old.incoming ∙ sym x.wire.incoming ∙ ap (λ (v : List ℕ). v ++ new.incoming) (sym quiet.1);
+      from_wire = append-nil old.incoming ∙ sym x.wire.incoming ∙ ap (λ (v : List ℕ). v ++ new.incoming) (sym quiet.1);
       sent = [];
       took = x.same_to ∙ sym (append-nil to);
-      outward = ap (λ (v : List ℕ). old.outgoing ++ v) mute ∙ append-nil old.outgoing ∙ sym x.wire.outgoing;
+      to_wire = ap (λ (v : List ℕ). old.outgoing ++ v) mute ∙ append-nil old.outgoing ∙ sym x.wire.outgoing;
     }
 
 consumed : (a b : Option (List ℕ)) (from from_new came : List ℕ) → a ≡ Some from → b ≡ Some from_new → Consumes a b came → from ≡ came ++ from_new
@@ -212,10 +212,10 @@ read_moves es old new to from to_new from_new x =
       came = r.came;
       gave = consumed x.before.left x.after.left from from_new r.came x.left x.left_new r.gave;
       fronts = r.fronts;
-      inward = r.inward;
+      from_wire = r.from_wire;
       sent = [];
       took = x.same_to ∙ sym (append-nil to);
-      outward = ap (λ (v : List ℕ). old.outgoing ++ v) mute ∙ append-nil old.outgoing ∙ sym r.outgoing;
+      to_wire = ap (λ (v : List ℕ). old.outgoing ++ v) mute ∙ append-nil old.outgoing ∙ sym r.outgoing;
     } in subst (λ (v : List (Event × Reply)). Moves v old new to from to_new from_new) (sym x.events) moves
 
 flush_moves : (es : List (Event × Reply)) (old new : Engine) (to from to_new from_new : List ℕ) → IsFlush es old new to from to_new from_new → Moves es old new to from to_new from_new
@@ -227,10 +227,10 @@ flush_moves es old new to from to_new from_new x =
       came = [];
       gave = sym x.same_from;
       fronts = quiet.0;
-      inward = append-nil old.incoming ∙ sym r.incoming ∙ ap (λ (v : List ℕ). v ++ new.incoming) (sym quiet.1);
+      from_wire = append-nil old.incoming ∙ sym r.incoming ∙ ap (λ (v : List ℕ). v ++ new.incoming) (sym quiet.1);
       sent = r.sent;
       took = appended x.before.had x.after.had to to_new r.sent x.had x.had_new r.took;
-      outward = r.outward;
+      to_wire = r.to_wire;
     } in subst (λ (v : List (Event × Reply)). Moves v old new to from to_new from_new) (sym x.events) moves
 
 turn_moves : (es : List (Event × Reply)) (old new : Engine) (to from to_new from_new : List ℕ) → IsTurn es old new to from to_new from_new → Moves es old new to from to_new from_new
@@ -244,7 +244,7 @@ to_holds : (es : List (Event × Reply)) (old new : Engine) (to from to_new from_
 to_holds es old new to from to_new from_new far p m h =
     let same : (far ++ (to ++ old.outgoing)) ++ emitted es ≡ far ++ (to_new ++ new.outgoing) =
     append_assoc far (to ++ old.outgoing) (emitted es)
-    ∙ ap (λ (v : List ℕ). far ++ v) (append_assoc to old.outgoing (emitted es) ∙ ap (λ (v : List ℕ). to ++ v) m.outward ∙ sym (append_assoc to m.sent new.outgoing)
+    ∙ ap (λ (v : List ℕ). far ++ v) (append_assoc to old.outgoing (emitted es) ∙ ap (λ (v : List ℕ). to ++ v) m.to_wire ∙ sym (append_assoc to m.sent new.outgoing)
     ∙ ap (λ (v : List ℕ). v ++ new.outgoing) (sym m.took)) in
     same_holds (sent_all es p) _ _ same (sends_all es old.session new.session p _ m.happen h)
 
@@ -255,7 +255,7 @@ from_holds es old new to from to_new from_new far p m h =
     let same : old.incoming ++ (from ++ far) ≡ (old.incoming ++ m.came) ++ (from_new ++ far) =
     ap (λ (v : List ℕ). old.incoming ++ (v ++ far)) m.gave ∙ ap (λ (v : List ℕ). old.incoming ++ v) (append_assoc m.came from_new far) ∙ sym (append_assoc old.incoming m.came (from_new ++ far)) in
     let got = gets_all es old.session new.session p (old.incoming ++ m.came) (from_new ++ far) m.happen m.fronts (same_holds p _ _ same h) in
-    let left : drop (length (fed es)) (old.incoming ++ m.came) ≡ new.incoming = ap (drop (length (fed es))) m.inward ∙ drop_front (fed es) new.incoming in
+    let left : drop (length (fed es)) (old.incoming ++ m.came) ≡ new.incoming = ap (drop (length (fed es))) m.from_wire ∙ drop_front (fed es) new.incoming in
     subst (λ (v : List ℕ). GotAll es p (v ++ (from_new ++ far))) left got
 
 -- ---- a joint order

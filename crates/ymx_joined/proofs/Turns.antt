@@ -1,6 +1,7 @@
 -- How two engines in memory go on.
 use Rattle.std.proofs.Common.{◌≡◌, inl, ℕ, List, [], ◌∷◌, ◌++◌, Option, None, Some, false, refl, sym, ap, ◌∙◌, subst}
-use Rattle.std.specs.Prelude.{Result, Ok, Err, IfOk, IfErr, IfSome, IfNone}
+use Rattle.std.specs.Prelude.{Result, Ok, Err, IfOk, IfErr, OnErr, IfSome, IfNone}
+use Rattle.ymx_memory.specs.declared.refused.RefusedAllocation.{RefusedAllocation}
 use Rattle.ymx_machine.specs.declared.types.Side.TheVariants.{A, B}
 use Rattle.ymx_machine.specs.declared.types.Side.{Side}
 use Rattle.ymx_machine.specs.declared.types.Call.TheVariants as call
@@ -14,13 +15,13 @@ use Rattle.ymx_model.specs.session.Histories.{Gives}
 use Rattle.ymx_engine.specs.Devices.{Seen}
 use Rattle.ymx_engine.specs.Engines.{Engine, KeepsWire}
 use Rattle.ymx_engine.specs.Exchanges.{Exchanges}
-use Rattle.ymx_engine.specs.Refusals.{OpensNone, AcceptsNone}
+use Rattle.ymx_engine.specs.Refusals.{OpensNone, OffersNone}
 use Rattle.ymx_engine.specs.Wires.{ReadsWire, FlushesWire}
 use Rattle.ymx_model.specs.declared.types.Role.TheVariants.{Client, Server}
 use Rattle.ymx_model.specs.session.Sessions.{Session, new_session}
 use Rattle.ymx_headline.specs.Laws.{AreGood}
 use Rattle.ymx_joined.specs.Pairs.{Pair, Turn, TakeTurns, HasCalls, engine_of, pair_of}
-use Rattle.ymx_joined.proofs.Calling.{served, called, opens_none, accepts_none}
+use Rattle.ymx_joined.proofs.Calling.{served, called, called_none, opens_none, offers_none}
 use Rattle.ymx_joined.proofs.Piping.{are_one_piped_run}
 use Rattle.ymx_joined.specs.Reached.{engine_at, HasTurn, IsReadOnce, IsFlushed, IsReached, AreOneRunSoFar}
 
@@ -34,10 +35,11 @@ pub opens : (r : Result ℕ CallFault) (e f : Engine) → KeepsWire e f → IfOk
 opens (Ok id) e f w g n = (_, called call.Open (reply.Opened id) e f w g)
 opens (Err fault) e f w g n = opens_none fault e f w n
 
-pub accepts : (r : Option ℕ) (e f : Engine) → KeepsWire e f → IfSome r (λ id. Gives in_turn e.session (event.Call call.Accept) (reply.Accepted (Some id)) f.session) →
-    IfNone r (AcceptsNone e.session f.session) → Calls e f
-accepts None e f w g n = accepts_none e f w n
-accepts (Some id) e f w g n = (_, called call.Accept (reply.Accepted (Some id)) e f w g)
+pub accepts : (r : Result (Option ℕ) RefusedAllocation) (e f : Engine) → KeepsWire e f → IfOk r (λ o. IfSome o (λ id. Gives in_turn e.session (event.Call call.Accept) (reply.Accepted (Some id)) f.session)) →
+    IfOk r (λ o. IfNone o (OffersNone e.session f.session)) → OnErr r (f ≡ e) → Calls e f
+accepts (Ok None) e f w g n same = offers_none e f w n
+accepts (Ok (Some id)) e f w g n same = (_, called call.Accept (reply.Accepted (Some id)) e f w g)
+accepts (Err lack) e f w g n same = called_none e f w (ap (λ (v : Engine). v.session) same)
 
 pub serves : (id : ℕ) (e f : Engine) (old new : Seen) → KeepsWire e f → Exchanges id e.session f.session old new → Calls e f
 serves id e f old new w x = (x.1.events, served id e f old new x.0 w x.1)
@@ -55,7 +57,7 @@ some_same a b e = cc
 
 -- what a wire in memory shows
 abbrev pub seen_of : (from to : List ℕ) → Seen
-seen_of from to = record { left = Some from; had = Some to; over = Some false; ended = None; failed = Some false; calls = 0 }
+seen_of from to = record { left = Some from; had = Some to; over = Some false; ended = None; failed = Some false; shut = None; calls = 0 }
 
 read_once : (e f : Engine) (to from to_new from_new : List ℕ) (n : ℕ) → ReadsWire e f (seen_of from to) (seen_of from_new to_new) n → IsReadOnce e f to from to_new from_new
 read_once e f to from to_new from_new n x = (x.events, record { before = seen_of from to; after = seen_of from_new to_new; calls = n; reads = x; events = refl; left = refl; left_new = refl; same_to = some_same to_new to x.had })
@@ -119,9 +121,17 @@ pub engines_at : (P : Engine → Engine → Type 0) (k side : Side) (old p q : P
 engines_at P k side old p q i v x = subst (λ (s : Side). P (engine_at s p) (engine_at s q)) (sym i) (subst (λ (z : Pair). P (engine_at k z) (engine_at k q)) v x)
 
 -- an accept that found none, and an open that was refused, did so at the engine of that side
-pub none_at : (r : Option ℕ) (k side : Side) (old p q : Pair) → side ≡ k → old ≡ p → IfNone r (AcceptsNone (engine_at k old).session (engine_at k q).session) →
-    IfNone r (AcceptsNone (engine_at side p).session (engine_at side q).session)
-none_at r = engines_at (λ e f. IfNone r (AcceptsNone e.session f.session))
+pub none_at : (r : Result (Option ℕ) RefusedAllocation) (k side : Side) (old p q : Pair) → side ≡ k → old ≡ p → IfOk r (λ o. IfNone o (OffersNone (engine_at k old).session (engine_at k q).session)) →
+    IfOk r (λ o. IfNone o (OffersNone (engine_at side p).session (engine_at side q).session))
+none_at r = engines_at (λ e f. IfOk r (λ o. IfNone o (OffersNone e.session f.session)))
+
+same_on : (r : Result (Option ℕ) RefusedAllocation) (e f : Engine) → OnErr r (f ≡ e) → OnErr r (f.session ≡ e.session)
+same_on (Ok o) e f h = tt
+same_on (Err lack) e f h = ap (λ (v : Engine). v.session) h
+
+pub unaccepted_at : (r : Result (Option ℕ) RefusedAllocation) (k side : Side) (old p q : Pair) → side ≡ k → old ≡ p → OnErr r (engine_at k q ≡ engine_at k old) →
+    OnErr r ((engine_at side q).session ≡ (engine_at side p).session)
+unaccepted_at r k side old p q s o h = engines_at (λ e f. OnErr r (f.session ≡ e.session)) k side old p q s o (same_on r (engine_at k old) (engine_at k q) h)
 
 pub refused_at : (r : Result ℕ CallFault) (k side : Side) (old p q : Pair) → side ≡ k → old ≡ p →
     IfErr r (λ fault. OpensNone fault (engine_at k old).session (engine_at k q).session) → IfErr r (λ fault. OpensNone fault (engine_at side p).session (engine_at side q).session)

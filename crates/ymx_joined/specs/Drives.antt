@@ -22,8 +22,8 @@ pub record Moves (id : ℕ) (events : List (Event × Reply)) (before after : See
   pub came : List ℕ
   pub loses : Bool
   pub gave : Consumes before.left after.left came
-  pub inward : loses ≡ false → came ≡ taken id events
-  pub outward : Appends before.had after.had (given id events)
+  pub to_peer : loses ≡ false → came ≡ taken id events
+  pub from_peer : Appends before.had after.had (given id events)
   pub whole : has_finish id events ≡ true → IfSome before.left (λ all. all ≡ came)
   pub over : after.over ≡ option_map (λ b. b || has_finish id events) before.over
   pub ended : after.ended ≡ option_map (λ b. b || has_end id events) before.ended

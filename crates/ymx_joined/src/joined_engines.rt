@@ -18,7 +18,7 @@ ghost use Rattle.ymx_engine.specs.Engines.{Engine, KeepsWire};
 ghost use Rattle.ymx_engine.specs.Events.{Happen};
 ghost use Rattle.ymx_engine.specs.Exchanges.{Exchange};
 ghost use Rattle.ymx_engine.specs.Passes.{PassesOn};
-ghost use Rattle.ymx_engine.specs.Refusals.{GivesUp, OpensNone, AcceptsNone};
+ghost use Rattle.ymx_engine.specs.Refusals.{GivesUp, OpensNone, OffersNone};
 ghost use Rattle.ymx_engine.specs.Wires.{HandlesIn};
 ghost use Rattle.ymx_joined.specs.Tunnels.{entries, AreJoined};
 ghost use Rattle.ymx_joined.specs.Pairs.{Turn, HasCalls, HasFeeds, HasTurns, each_alone, AreOnePipedRun};
@@ -55,7 +55,7 @@ pub fn calls_are_turns()
     ensures opens_none { (fault : CallFault) (e f : Engine) → KeepsWire e f → OpensNone fault e.session f.session → (es : List (Event × Reply)) × HasCalls es e f }
     ensures advanced { (e f : Engine) → (x : HandlesIn false e f) → HasFeeds x.events e f }
     ensures passed { (id : ℕ) (e f : Engine) (old new : Seen) (calls : ℕ) → (x : PassesOn id e f old new calls) → HasTurns (each_alone x.events) e f }
-    ensures accepts_none { (e f : Engine) → KeepsWire e f → AcceptsNone e.session f.session → (es : List (Event × Reply)) × HasCalls es e f }
+    ensures offers_none { (e f : Engine) → KeepsWire e f → OffersNone e.session f.session → (es : List (Event × Reply)) × HasCalls es e f }
 {}
 
 /// The events of two engines that have a joint order, worked.

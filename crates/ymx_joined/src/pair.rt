@@ -1,6 +1,6 @@
 //! The type `EnginePair`, and its calls.
 
-ghost use Rattle.std.specs.Prelude.{◌≡◌, ◌<◌, length, IfOk, IfErr, IfSome, IfNone, Some, None, false};
+ghost use Rattle.std.specs.Prelude.{◌≡◌, ◌<◌, length, IfOk, IfErr, OnErr, IfSome, IfNone, Some, None, false};
 ghost use Rattle.ymx_model.specs.declared.types.Event.TheVariants as event;
 ghost use Rattle.ymx_machine.specs.declared.types.Call.TheVariants as call;
 ghost use Rattle.ymx_machine.specs.declared.types.Reply.TheVariants as reply;
@@ -13,7 +13,7 @@ ghost use Rattle.ymx_engine.specs.Exchanges.{Exchanges};
 ghost use Rattle.ymx_engine.specs.Engines.{IsFedOrStuck};
 ghost use Rattle.ymx_engine.specs.Passes.{IsPayload};
 ghost use Rattle.ymx_engine.specs.Wires.{HandlesIn};
-ghost use Rattle.ymx_engine.specs.Refusals.{OpensNone, AcceptsNone};
+ghost use Rattle.ymx_engine.specs.Refusals.{OpensNone, OffersNone};
 ghost use Rattle.ymx_joined.specs.Pairs.{engine_of, pair_of};
 ghost use Rattle.ymx_joined.specs.Reached.{engine_at, HasTurn, AreOneRunSoFar};
 ghost use Rattle.ymx_joined.specs.Drives.{Drives, PassesAt};
@@ -23,6 +23,7 @@ use crate::wire::Wire;
 use std::alloc::Global;
 use std::marker::Model;
 use ymx_engine::{Device, Engine};
+use ymx_memory::RefusedAllocation;
 use ymx_model::{CallFault, Config, Role, Side};
 use ymx_session::{NewFault, Session};
 
@@ -84,10 +85,11 @@ impl EnginePair {
     }
 
     /// Takes the offered stream of a side that came first, as `Engine::accept`.
-    pub fn accept(&mut self, side: Side) -> Option<u32>
+    pub fn accept(&mut self, side: Side) -> Result<Option<u32>, RefusedAllocation>
         ensures turn { HasTurn side self.old self.new }
-        ensures accepted { IfSome result (λ id. Gives in_turn (engine_at side self.old).session (event.Call call.Accept) (reply.Accepted (Some id)) (engine_at side self.new).session) }
-        ensures none { IfNone result (AcceptsNone (engine_at side self.old).session (engine_at side self.new).session) }
+        ensures accepted { IfOk result (λ offered. IfSome offered (λ id. Gives in_turn (engine_at side self.old).session (event.Call call.Accept) (reply.Accepted (Some id)) (engine_at side self.new).session)) }
+        ensures none { IfOk result (λ offered. IfNone offered (OffersNone (engine_at side self.old).session (engine_at side self.new).session)) }
+        ensures refused { OnErr result ((engine_at side self.new).session ≡ (engine_at side self.old).session) }
     {
         self.pipes.accept(side)
     }

@@ -1,6 +1,6 @@
 //! Two engines and the pipes between them.
 
-ghost use Rattle.std.specs.Prelude.{◌≡◌, ◌<◌, length, IfOk, IfErr, IfSome, IfNone, Some, false};
+ghost use Rattle.std.specs.Prelude.{◌≡◌, ◌<◌, length, IfOk, IfErr, OnErr, IfSome, IfNone, Some, false};
 ghost use Rattle.ymx_model.specs.declared.types.Event.TheVariants as event;
 ghost use Rattle.ymx_machine.specs.declared.types.Call.TheVariants as call;
 ghost use Rattle.ymx_machine.specs.declared.types.Reply.TheVariants as reply;
@@ -9,13 +9,14 @@ ghost use Rattle.ymx_model.specs.session.Histories.{Gives};
 ghost use Rattle.ymx_engine.specs.Engines.{IsFedOrStuck};
 ghost use Rattle.ymx_engine.specs.Passes.{IsPayload};
 ghost use Rattle.ymx_engine.specs.Wires.{HandlesIn};
-ghost use Rattle.ymx_engine.specs.Refusals.{OpensNone, AcceptsNone};
+ghost use Rattle.ymx_engine.specs.Refusals.{OpensNone, OffersNone};
 ghost use Rattle.ymx_joined.specs.Reached.{engine_at, HasTurn, IsReadOnce, IsFlushed};
 ghost use Rattle.ymx_joined.specs.Drives.{Drives, HasWireTurn, PassesAt, Serves, Works};
 
 use crate::wire::Wire;
 use std::marker::Model;
 use ymx_engine::{Device, Engine};
+use ymx_memory::RefusedAllocation;
 use ymx_model::{CallFault, Side};
 
 /// No read of a wire has so many payloads: each has a byte at least, and a header of 12.
@@ -63,10 +64,11 @@ impl EnginePipes {
     }
 
     /// Accepts a stream at a side.
-    pub(crate) fn accept(&mut self, side: Side) -> Option<u32>
+    pub(crate) fn accept(&mut self, side: Side) -> Result<Option<u32>, RefusedAllocation>
         ensures turn { HasTurn side self.old self.new }
-        ensures accepted { IfSome result (λ id. Gives in_turn (engine_at side self.old).session (event.Call call.Accept) (reply.Accepted (Some id)) (engine_at side self.new).session) }
-        ensures none { IfNone result (AcceptsNone (engine_at side self.old).session (engine_at side self.new).session) }
+        ensures accepted { IfOk result (λ offered. IfSome offered (λ id. Gives in_turn (engine_at side self.old).session (event.Call call.Accept) (reply.Accepted (Some id)) (engine_at side self.new).session)) }
+        ensures none { IfOk result (λ offered. IfNone offered (OffersNone (engine_at side self.old).session (engine_at side self.new).session)) }
+        ensures refused { OnErr result ((engine_at side self.new).session ≡ (engine_at side self.old).session) }
     {
         match side {
             Side::A => self.a.accept(),

@@ -1,11 +1,11 @@
 use Rattle.std.proofs.Common.{refl}
-use Rattle.ymx_engine.proofs.Exchanging.{silent, ended}
+use Rattle.ymx_engine.proofs.Exchanging.{silent, ended, not_true, unshut, shut_by}
 use Rattle.ymx_engine.proofs.exchange.hear_silence.Goals as goal
 
 pub returns-in-Wait-clause-moved : goal.returns-in-Wait-clause-moved
 returns-in-Wait-clause-moved g c =
     let h = c.in-Wait.ensures.happened in
-    silent _ _ h.0 _ _ _ _ refl refl refl refl refl h.1 h.2 (λ e. let x = h.3 e in cc)
+    silent _ _ h.0 _ _ _ _ refl refl refl refl refl (unshut h.0 _ (not_true _ (λ e. let x = h.5 e in cc))) h.1 h.2 (λ e. let x = h.3 e in cc)
 
 pub returns-in-End-clause-moved : goal.returns-in-End-clause-moved
 returns-in-End-clause-moved g c =
@@ -15,4 +15,4 @@ returns-in-End-clause-moved g c =
 pub returns-in-Stopped-clause-moved : goal.returns-in-Stopped-clause-moved
 returns-in-Stopped-clause-moved g c =
     let h = c.in-Stopped.ensures.happened in
-    silent _ _ h.0 _ _ _ _ c.shut.ensures.left c.shut.ensures.had c.shut.ensures.over c.shut.ensures.ended c.shut.ensures.failed h.1 h.2 (λ e. let x = h.3 e in cc)
+    silent _ _ h.0 _ _ _ _ c.shut.ensures.left c.shut.ensures.had c.shut.ensures.over c.shut.ensures.ended c.shut.ensures.failed (shut_by h.0 _ _ (h.6 refl) c.shut.ensures.shut) h.1 h.2 (λ e. let x = h.3 e in cc)

@@ -3,8 +3,8 @@ use Rattle.ymx_engine.specs.Engines.{Engine}
 use Rattle.ymx_engine.proofs.Carrying.{loses_in, loses_out}
 use Rattle.ymx_engine.proofs.engine.Engine.lose.Goals as goal
 
-pub returns-clause-inward : goal.returns-clause-inward
-returns-clause-inward c = loses_in _ _ c.self.inside.session (ap (λ (e : Engine). e.session) c.self.view_is) c.feed_end.ensures.event (ap (λ (e : Engine). e.incoming) c.self.view_is) (ap (λ (e : Engine). e.outgoing) c.self.view_is)
+pub returns-clause-from_wire : goal.returns-clause-from_wire
+returns-clause-from_wire c = loses_in _ _ c.self.inside.session (ap (λ (e : Engine). e.session) c.self.view_is) c.feed_end.ensures.event (ap (λ (e : Engine). e.incoming) c.self.view_is) (ap (λ (e : Engine). e.outgoing) c.self.view_is)
 
-pub returns-clause-outward : goal.returns-clause-outward
-returns-clause-outward c = loses_out _ _ c.self.inside.session (ap (λ (e : Engine). e.session) c.self.view_is) c.feed_end.ensures.event (ap (λ (e : Engine). e.incoming) c.self.view_is) (ap (λ (e : Engine). e.outgoing) c.self.view_is)
+pub returns-clause-to_wire : goal.returns-clause-to_wire
+returns-clause-to_wire c = loses_out _ _ c.self.inside.session (ap (λ (e : Engine). e.session) c.self.view_is) c.feed_end.ensures.event (ap (λ (e : Engine). e.incoming) c.self.view_is) (ap (λ (e : Engine). e.outgoing) c.self.view_is)

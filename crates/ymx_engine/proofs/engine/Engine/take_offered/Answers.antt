@@ -3,8 +3,8 @@ use Rattle.std.specs.Prelude.{IfNone}
 use Rattle.ymx_engine.specs.Engines.{Engine}
 use Rattle.ymx_engine.specs.Refusals.{OffersNone}
 use Rattle.ymx_engine.proofs.Refusing.{offer_is, refuses_all}
-use Rattle.ymx_engine.proofs.engine.Engine.accept_stream.Goals as goal
-use Rattle.ymx_engine.proofs.engine.Engine.accept_stream.Goals.{in-Ok, in-Err}
+use Rattle.ymx_engine.proofs.engine.Engine.take_offered.Goals as goal
+use Rattle.ymx_engine.proofs.engine.Engine.take_offered.Goals.{in-Ok, in-Err}
 
 pub returns-clause-none : goal.returns-clause-none
 returns-clause-none c =

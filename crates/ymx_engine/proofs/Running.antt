@@ -1,0 +1,434 @@
+-- How a tunnel goes on.
+use Rattle.std.proofs.Common.{◌≡◌, ℕ, List, [], ◌∷◌, ◌++◌, Bool, true, false, ◌||◌, Option, None, Some, refl, sym, ap, ◌∙◌, subst, append-nil, append_assoc, cond, ◌==◌, arith}
+use Rattle.std.specs.Prelude.{option_map, nat_eq, IsSome, IfSome, IfNone, is_some}
+use Rattle.std.specs.Map.{lookup}
+use Rattle.indexmap.specs.IndexMap.{insert_entry}
+use Rattle.std.proofs.lemmas.Bool.Decides.{nat_tests}
+use Rattle.std.proofs.KnownBytes.{Appends-nil, Appends-trans, Consumes-nil, Consumes-trans}
+use Rattle.ymx_machine.specs.shared.Events.{Reply}
+use Rattle.ymx_model.specs.session.Events.{Event}
+use Rattle.ymx_engine.specs.Devices.{Seen, IsEnded}
+use Rattle.ymx_engine.specs.Engines.{Engine, KeepsWire}
+use Rattle.ymx_engine.specs.Events.{Happen}
+use Rattle.ymx_machine.specs.declared.types.Call.TheVariants as call
+use Rattle.ymx_machine.specs.declared.types.Reply.TheVariants as reply
+use Rattle.ymx_model.specs.declared.types.Event.TheVariants as event
+use Rattle.ymx_model.specs.session.Sessions.{Session}
+use Rattle.ymx_model.specs.session.Emissions.{in_turn}
+use Rattle.ymx_model.specs.session.Histories.{Gives}
+use Rattle.ymx_engine.specs.Passes.{PassesOn}
+use Rattle.ymx_engine.specs.Refusals.{OpensNone, OffersNone, GivesUp}
+use Rattle.ymx_machine.specs.declared.types.CallFault.{CallFault}
+use Rattle.ymx_engine.specs.Exchanges.{Exchanges}
+use Rattle.ymx_engine.specs.Wires.{fed, emitted, is_of_read, is_of_flush, has_feed_end, FeedsFront, ReadsWire, FlushesWire, HandlesIn}
+use Rattle.ymx_engine.proofs.Advancing.{quiet, rest_of, IsQuiet, fed_then, fronts_then, fronts_more}
+use Rattle.ymx_engine.proofs.Carrying.{feed_end_then, reads_handled, emitted_then, waits_on}
+use Rattle.ymx_engine.proofs.Exchanging.{happen_then, or_same, or_true, or_twice, same_id, same_appends, same_consumes}
+use Rattle.ymx_engine.specs.Tunnels.{Tunnel, look, lines_of, Joins, DropsOut}
+use Rattle.ymx_engine.specs.Lines.{IsIdle, Life, opens_at}
+use Rattle.ymx_engine.specs.Runs.{Runs}
+use Rattle.ymx_engine.proofs.Listing.{FeedsNone, flush_feeds, read_emits, LeavesWire, leaves_wire, others_quiet, PassEmits, pass_emits, other_id, others_quiet_passed}
+use Rattle.ymx_engine.proofs.Trading.{or_swap, life_quiet, life_then, life_trades, life_leaves, life_joins, life_idle, trades_once, trades_passed}
+
+-- nothing happened
+pub runs_same : (a : Tunnel) → Runs a a
+runs_same a = record {
+  events = [];
+  happen = refl;
+  came = [];
+  gave = Consumes-nil a.wire.left;
+  fronts = tt;
+  from_wire = append-nil a.engine.incoming;
+  sent = [];
+  took = Appends-nil a.wire.had;
+  to_wire = append-nil a.engine.outgoing;
+  said_end = false;
+  over = or_same a.wire.over;
+  fails = false;
+  failed = or_same a.wire.failed;
+  lost = refl;
+  ends = false;
+  ended = or_same a.wire.ended;
+  shut = refl;
+  lines = λ id. life_quiet id [] (look id a.lines) (refl, refl, refl, refl, refl, refl);
+}
+
+-- one run behind another
+pub runs_then : (a b c : Tunnel) → Runs a b → Runs b c → Runs a c
+runs_then a b c x y =
+    let es = x.events in
+    let fs = y.events in
+    let waits : (a.engine.incoming ++ x.came) ++ y.came ≡ fed es ++ (b.engine.incoming ++ y.came) =
+    ap (λ (v : List ℕ). v ++ y.came) x.from_wire ∙ append_assoc (fed es) b.engine.incoming y.came in
+    record {
+      events = es ++ fs;
+      happen = happen_then es fs _ _ _ x.happen y.happen;
+      came = x.came ++ y.came;
+      gave = Consumes-trans a.wire.left b.wire.left c.wire.left _ _ x.gave y.gave;
+      fronts = subst (λ (v : List ℕ). FeedsFront v (es ++ fs)) (append_assoc a.engine.incoming x.came y.came)
+          (fronts_then es fs ((a.engine.incoming ++ x.came) ++ y.came) (b.engine.incoming ++ y.came) (rest_of es _ _ waits) (fronts_more (a.engine.incoming ++ x.came) y.came es x.fronts) y.fronts);
+      from_wire = waits_on a.engine.incoming b.engine.incoming c.engine.incoming x.came (fed es) y.came (fed fs) x.from_wire y.from_wire ∙ ap (λ (v : List ℕ). v ++ c.engine.incoming) (sym (fed_then es fs));
+      sent = x.sent ++ y.sent;
+      took = Appends-trans a.wire.had b.wire.had c.wire.had _ _ x.took y.took;
+      to_wire = ap (λ (v : List ℕ). a.engine.outgoing ++ v) (emitted_then es fs) ∙ waits_on a.engine.outgoing b.engine.outgoing c.engine.outgoing (emitted es) x.sent (emitted fs) y.sent x.to_wire y.to_wire;
+      said_end = x.said_end || y.said_end;
+      over = y.over ∙ ap (option_map (λ v. v || y.said_end)) x.over ∙ or_twice x.said_end y.said_end a.wire.over;
+      fails = x.fails || y.fails;
+      failed = y.failed ∙ ap (option_map (λ v. v || y.fails)) x.failed ∙ or_twice x.fails y.fails a.wire.failed;
+      lost = feed_end_then es fs ∙ ap (λ (v : Bool). v || has_feed_end fs) x.lost ∙ ap (λ (v : Bool). (x.said_end || x.fails) || v) y.lost ∙ or_swap x.said_end x.fails y.said_end y.fails;
+      ends = x.ends || y.ends;
+      ended = y.ended ∙ ap (option_map (λ v. v || y.ends)) x.ended ∙ or_twice x.ends y.ends a.wire.ended;
+      shut = y.shut ∙ x.shut;
+      lines = λ id. life_then id es fs (look id a.lines) (look id b.lines) (look id c.lines) (x.lines id) (y.lines id);
+    }
+
+-- lines that stay as they are
+still_lines : (a b : Tunnel) (es : List (Event × Reply)) → b.lines ≡ a.lines → ((id : ℕ) → IsQuiet id es) → (id : ℕ) → Life id es (look id a.lines) (look id b.lines)
+still_lines a b es same q id = subst (λ (v : Option Seen). Life id es (look id a.lines) v) (ap (look id) (sym same)) (life_quiet id es (look id a.lines) (q id))
+
+-- the wire was read
+pub runs_read : (a b : Tunnel) (n : ℕ) → ReadsWire a.engine b.engine a.wire b.wire n → b.lines ≡ a.lines → Runs a b
+runs_read a b n x same = record {
+  events = x.events;
+  happen = x.happen;
+  came = x.came;
+  gave = x.gave;
+  fronts = x.fronts;
+  from_wire = x.from_wire;
+  sent = [];
+  took = same_appends a.wire.had b.wire.had x.had;
+  to_wire = ap (λ (v : List ℕ). a.engine.outgoing ++ v) (read_emits x.events x.own) ∙ append-nil a.engine.outgoing ∙ sym x.outgoing;
+  said_end = x.said_end;
+  over = x.over;
+  fails = x.fails;
+  failed = x.failed;
+  lost = x.lost;
+  ends = false;
+  ended = x.ended ∙ or_same a.wire.ended;
+  shut = x.shut;
+  lines = still_lines a b x.events same (λ id. quiet is_of_read (λ c. refl) id x.events x.own);
+}
+
+-- what waited was fed
+pub runs_handled : (a b : Tunnel) → HandlesIn false a.engine b.engine → b.wire ≡ a.wire → b.lines ≡ a.lines → Runs a b
+runs_handled a b x wire same = runs_read a b 0 (subst (λ (v : Seen). ReadsWire a.engine b.engine a.wire v 0) (sym wire) (reads_handled a.engine b.engine a.wire 0 x)) same
+
+-- the wire was written to
+pub runs_flushed : (a b : Tunnel) (n : ℕ) → FlushesWire a.engine b.engine a.wire b.wire n → b.lines ≡ a.lines → Runs a b
+runs_flushed a b n x same =
+    let none : FeedsNone x.events = flush_feeds x.events x.own in
+    record {
+      events = x.events;
+      happen = x.happen;
+      came = [];
+      gave = same_consumes a.wire.left b.wire.left x.left;
+      fronts = none.1 (a.engine.incoming ++ []);
+      from_wire = append-nil a.engine.incoming ∙ sym x.incoming ∙ ap (λ (v : List ℕ). v ++ b.engine.incoming) (sym none.0);
+      sent = x.sent;
+      took = x.took;
+      to_wire = x.to_wire;
+      said_end = false;
+      over = x.over ∙ or_same a.wire.over;
+      fails = x.fails;
+      failed = x.failed;
+      lost = x.lost;
+      ends = false;
+      ended = x.ended ∙ or_same a.wire.ended;
+      shut = x.shut;
+      lines = still_lines a b x.events same (λ id. quiet is_of_flush (λ c. refl) id x.events x.own);
+    }
+
+-- ---- one line's turn
+
+eq_ids : (id other : ℕ) → nat_eq id other ≡ true → other ≡ id
+eq_ids id other h = grind arith
+
+not_eq_ids : (id other : ℕ) → nat_eq id other ≡ false → (other == id) ≡ false
+not_eq_ids id other h = grind arith
+
+-- this line moves, and the others stay
+served_line : (id other : ℕ) (a b : List (ℕ × Seen)) (d e : Seen) (es : List (Event × Reply)) (test : Bool) → nat_eq id other ≡ test → look id a ≡ Some d → look other b ≡ cond test (Some e) (look other a) →
+    Life id es (Some d) (Some e) → ((other == id) ≡ false → IsQuiet other es) → Life other es (look other a) (look other b)
+served_line id other a b d e es true t at now moved own =
+    let same : other ≡ id = eq_ids id other t in
+    let there : look other a ≡ Some d = ap (λ (n : ℕ). look n a) same ∙ at in
+    let at_other : Life other es (Some d) (Some e) = subst (λ (n : ℕ). Life n es (Some d) (Some e)) (sym same) moved in
+    subst (λ (v : Option Seen). Life other es (look other a) v) (sym now) (subst (λ (v : Option Seen). Life other es v (Some e)) (sym there) at_other)
+served_line id other a b d e es false t at now moved own =
+    subst (λ (v : Option Seen). Life other es (look other a) v) (sym now) (life_quiet other es (look other a) (own (not_eq_ids id other t)))
+
+-- calls alone happened, and the wire was left alone
+pub runs_called : (a b : Tunnel) (es : List (Event × Reply)) → Happen es a.engine.session b.engine.session → LeavesWire es → KeepsWire a.engine b.engine → b.wire ≡ a.wire → ((id : ℕ) → Life id es (look id a.lines) (look id b.lines)) → Runs a b
+runs_called a b es h leaves keeps wire lines = record {
+  events = es;
+  happen = h;
+  came = [];
+  gave = same_consumes a.wire.left b.wire.left (ap (λ (s : Seen). s.left) wire);
+  fronts = leaves.0.1 (a.engine.incoming ++ []);
+  from_wire = append-nil a.engine.incoming ∙ sym keeps.incoming ∙ ap (λ (v : List ℕ). v ++ b.engine.incoming) (sym leaves.0.0);
+  sent = [];
+  took = same_appends a.wire.had b.wire.had (ap (λ (s : Seen). s.had) wire);
+  to_wire = ap (λ (v : List ℕ). a.engine.outgoing ++ v) leaves.1 ∙ append-nil a.engine.outgoing ∙ sym keeps.outgoing;
+  said_end = false;
+  over = ap (λ (s : Seen). s.over) wire ∙ or_same a.wire.over;
+  fails = false;
+  failed = ap (λ (s : Seen). s.failed) wire ∙ or_same a.wire.failed;
+  lost = leaves.2;
+  ends = false;
+  ended = ap (λ (s : Seen). s.ended) wire ∙ or_same a.wire.ended;
+  shut = ap (λ (s : Seen). s.shut) wire;
+  lines = lines;
+}
+
+-- a stream and its own device had a turn
+pub runs_served : (a b : Tunnel) (id : ℕ) (d e : Seen) → KeepsWire a.engine b.engine → Exchanges id a.engine.session b.engine.session d e → b.wire ≡ a.wire → look id a.lines ≡ Some d →
+    ((other : ℕ) → look other b.lines ≡ cond (nat_eq id other) (Some e) (look other a.lines)) → Runs a b
+runs_served a b id d e keeps (lost, x) wire at now =
+    runs_called a b x.events x.happen (leaves_wire id x.events x.own) keeps wire
+    (λ other. served_line id other a.lines b.lines d e x.events (nat_eq id other) refl at (now other) (life_trades id x.events d e (trades_once id _ _ d e lost x)) (others_quiet id other x.events x.own))
+
+-- payload was passed to a stream's own device
+pub runs_passed : (a b : Tunnel) (id : ℕ) (d e : Seen) (n : ℕ) → PassesOn id a.engine b.engine d e n → b.wire ≡ a.wire → look id a.lines ≡ Some d →
+    ((other : ℕ) → look other b.lines ≡ cond (nat_eq id other) (Some e) (look other a.lines)) → Runs a b
+runs_passed a b id d e n x wire at now =
+    let none : PassEmits x.events = pass_emits id x.events x.own in
+    record {
+      events = x.events;
+      happen = x.happen;
+      came = [];
+      gave = same_consumes a.wire.left b.wire.left (ap (λ (s : Seen). s.left) wire);
+      fronts = subst (λ (v : List ℕ). FeedsFront v x.events) (sym (append-nil a.engine.incoming)) x.fronts;
+      from_wire = append-nil a.engine.incoming ∙ x.from_wire;
+      sent = [];
+      took = same_appends a.wire.had b.wire.had (ap (λ (s : Seen). s.had) wire);
+      to_wire = ap (λ (v : List ℕ). a.engine.outgoing ++ v) none.0 ∙ append-nil a.engine.outgoing ∙ sym x.outgoing;
+      said_end = false;
+      over = ap (λ (s : Seen). s.over) wire ∙ or_same a.wire.over;
+      fails = false;
+      failed = ap (λ (s : Seen). s.failed) wire ∙ or_same a.wire.failed;
+      lost = none.1;
+      ends = false;
+      ended = ap (λ (s : Seen). s.ended) wire ∙ or_same a.wire.ended;
+      shut = ap (λ (s : Seen). s.shut) wire;
+      lines = λ other. served_line id other a.lines b.lines d e x.events (nat_eq id other) refl at (now other) (life_trades id x.events d e (trades_passed id n a.engine b.engine d e x)) (others_quiet_passed id other x.events x.own);
+    }
+
+-- one call that moves no byte happened, and the device of a stream joined or left
+changed_line : (id other : ℕ) (a b : List (ℕ × Seen)) (to : Option Seen) (es : List (Event × Reply)) (test : Bool) → nat_eq id other ≡ test → look other b ≡ cond test to (look other a) →
+    Life id es (look id a) to → IsQuiet other es → Life other es (look other a) (look other b)
+changed_line id other a b to es true t now life q =
+    subst (λ (v : Option Seen). Life other es (look other a) v) (sym now) (subst (λ (n : ℕ). Life n es (look n a) to) (sym (eq_ids id other t)) life)
+changed_line id other a b to es false t now life q = subst (λ (v : Option Seen). Life other es (look other a) v) (sym now) (life_quiet other es (look other a) q)
+
+-- a device left, and its stream was forgotten
+pub runs_forgot : (a b : Tunnel) (id : ℕ) (told : Reply) → Gives in_turn a.engine.session (event.Call (call.Forget id)) told b.engine.session → KeepsWire a.engine b.engine → b.wire ≡ a.wire →
+    ((other : ℕ) → look other b.lines ≡ cond (nat_eq id other) None (look other a.lines)) → Runs a b
+runs_forgot a b id told g keeps wire now =
+    let es : List (Event × Reply) = (event.Call (call.Forget id), told) ∷ [] in
+    runs_called a b es (b.engine.session, g, refl) ((refl, λ w. (tt, tt)), refl, refl) keeps wire
+    (λ other. changed_line id other a.lines b.lines None es (nat_eq id other) refl (now other) (life_leaves id told (look id a.lines)) (refl, refl, refl, refl, refl, refl))
+
+-- a stream was opened or accepted, and a device joined it
+pub runs_joined : (a b c : Tunnel) (id : ℕ) (d : Seen) (k : Event × Reply) → opens_at id k.0 k.1 ≡ true → ((other : ℕ) → IsQuiet other (k ∷ [])) → LeavesWire (k ∷ []) →
+    Gives in_turn a.engine.session k.0 k.1 b.engine.session → KeepsWire a.engine b.engine → b.wire ≡ a.wire → b.lines ≡ a.lines → look id a.lines ≡ None → Joins id d b c → Runs a c
+runs_joined a b c id d k opens quiet leaves g keeps wire same none j =
+    let es : List (Event × Reply) = k ∷ [] in
+    let life : Life id es (look id a.lines) (Some d) = subst (λ (v : Option Seen). Life id es v (Some d)) (sym none) (life_joins id k d opens (quiet id)) in
+    let g2 : Gives in_turn a.engine.session k.0 k.1 c.engine.session = subst (λ (v : Engine). Gives in_turn a.engine.session k.0 k.1 v.session) (sym j.engine) g in
+    let keeps2 : KeepsWire a.engine c.engine = subst (KeepsWire a.engine) (sym j.engine) keeps in
+    runs_called a c es (c.engine.session, g2, refl) leaves keeps2 (j.wire ∙ wire)
+    (λ other. changed_line id other a.lines c.lines (Some d) es (nat_eq id other) refl (j.lines other ∙ ap (λ (v : List (ℕ × Seen)). cond (nat_eq id other) (Some d) (look other v)) same) life (quiet other))
+
+pub runs_opened : (a b c : Tunnel) (id : ℕ) (d : Seen) → Gives in_turn a.engine.session (event.Call call.Open) (reply.Opened id) b.engine.session → KeepsWire a.engine b.engine → b.wire ≡ a.wire → b.lines ≡ a.lines →
+    look id a.lines ≡ None → Joins id d b c → Runs a c
+runs_opened a b c id d g keeps wire same none j =
+    runs_joined a b c id d (event.Call call.Open, reply.Opened id) (same_id id) (λ other. (refl, refl, refl, refl, refl, refl)) ((refl, λ w. (tt, tt)), refl, refl) g keeps wire same none j
+
+pub runs_accepted : (a b c : Tunnel) (id : ℕ) (d : Seen) → Gives in_turn a.engine.session (event.Call call.Accept) (reply.Accepted (Some id)) b.engine.session → KeepsWire a.engine b.engine → b.wire ≡ a.wire → b.lines ≡ a.lines →
+    look id a.lines ≡ None → Joins id d b c → Runs a c
+runs_accepted a b c id d g keeps wire same none j =
+    runs_joined a b c id d (event.Call call.Accept, reply.Accepted (Some id)) (same_id id) (λ other. (refl, refl, refl, refl, refl, refl)) ((refl, λ w. (tt, tt)), refl, refl) g keeps wire same none j
+
+-- calls that are quiet on every stream, but may reset and forget one that has no device
+pub runs_idle : (a b : Tunnel) (es : List (Event × Reply)) → Happen es a.engine.session b.engine.session → LeavesWire es → KeepsWire a.engine b.engine → b.wire ≡ a.wire → b.lines ≡ a.lines →
+    ((id : ℕ) → Life id es (look id a.lines) (look id a.lines)) → Runs a b
+runs_idle a b es h leaves keeps wire same life =
+    runs_called a b es h leaves keeps wire (λ id. subst (λ (v : List (ℕ × Seen)). Life id es (look id a.lines) (look id v)) (sym same) (life id))
+
+-- where a stream has no device no byte of it moves, and another one is left alone
+given_up_life : (id other : ℕ) (lines : List (ℕ × Seen)) (es : List (Event × Reply)) (test : Bool) → nat_eq id other ≡ test → look id lines ≡ None → IsIdle other es → ((other == id) ≡ false → IsQuiet other es) → Life other es (look other lines) (look other lines)
+given_up_life id other lines es true t none idle q =
+    let there : look other lines ≡ None = ap (λ (n : ℕ). look n lines) (eq_ids id other t) ∙ none in
+    subst (λ (v : Option Seen). Life other es v v) (sym there) (life_idle other es idle)
+given_up_life id other lines es false t none idle q = life_quiet other es (look other lines) (q (not_eq_ids id other t))
+
+-- one call was made that moves no byte of a stream, and no device joins or leaves
+pub runs_alone : (a b : Tunnel) (k : Event × Reply) → ((id : ℕ) → IsQuiet id (k ∷ [])) → LeavesWire (k ∷ []) → Gives in_turn a.engine.session k.0 k.1 b.engine.session → KeepsWire a.engine b.engine → b.wire ≡ a.wire → b.lines ≡ a.lines → Runs a b
+runs_alone a b k quiet leaves g keeps wire same = runs_idle a b (k ∷ []) (b.engine.session, g, refl) leaves keeps wire same (λ id. life_quiet id (k ∷ []) (look id a.lines) (quiet id))
+
+pub runs_opened_alone : (a b : Tunnel) (told : Reply) → Gives in_turn a.engine.session (event.Call call.Open) told b.engine.session → KeepsWire a.engine b.engine → b.wire ≡ a.wire → b.lines ≡ a.lines → Runs a b
+runs_opened_alone a b told g keeps wire same = runs_alone a b (event.Call call.Open, told) (λ id. (refl, refl, refl, refl, refl, refl)) ((refl, λ w. (tt, tt)), refl, refl) g keeps wire same
+
+pub runs_accepted_alone : (a b : Tunnel) (told : Reply) → Gives in_turn a.engine.session (event.Call call.Accept) told b.engine.session → KeepsWire a.engine b.engine → b.wire ≡ a.wire → b.lines ≡ a.lines → Runs a b
+runs_accepted_alone a b told g keeps wire same = runs_alone a b (event.Call call.Accept, told) (λ id. (refl, refl, refl, refl, refl, refl)) ((refl, λ w. (tt, tt)), refl, refl) g keeps wire same
+
+-- the session is as it was
+runs_still : (a b : Tunnel) → b.engine.session ≡ a.engine.session → KeepsWire a.engine b.engine → b.wire ≡ a.wire → b.lines ≡ a.lines → Runs a b
+runs_still a b still keeps wire same = runs_idle a b [] still ((refl, λ w. tt), refl, refl) keeps wire same (λ id. life_quiet id [] (look id a.lines) (refl, refl, refl, refl, refl, refl))
+
+-- no stream was opened, or none was offered
+pub runs_opens_none : (a b : Tunnel) (fault : CallFault) → OpensNone fault a.engine.session b.engine.session → KeepsWire a.engine b.engine → b.wire ≡ a.wire → b.lines ≡ a.lines → Runs a b
+runs_opens_none a b fault x keeps wire same = runs_still a b x.0 keeps wire same
+
+pub runs_offers_none : (a b : Tunnel) → OffersNone a.engine.session b.engine.session → KeepsWire a.engine b.engine → b.wire ≡ a.wire → b.lines ≡ a.lines → Runs a b
+runs_offers_none a b x keeps wire same = runs_still a b x.0 keeps wire same
+
+-- a stream that has no device was given up
+pub runs_dropped : (a b : Tunnel) (id : ℕ) → look id a.lines ≡ None → DropsOut id a b → Runs a b
+runs_dropped a b id none j =
+    let up = j.up in
+    let es : List (Event × Reply) = (event.Call (call.Reset id), up.told_reset) ∷ (event.Call (call.Forget id), up.told_forget) ∷ [] in
+    let off : (other : ℕ) → (other == id) ≡ false → (id == other) ≡ false = λ other ne. other_id id id other (same_id id) ne in
+    runs_idle a b es (up.between, up.reset, (b.engine.session, up.forgotten, refl)) ((refl, λ w. (tt, (tt, tt))), refl, refl) j.keeps j.wire j.lines
+    (λ other. given_up_life id other a.lines es (nat_eq id other) refl none (refl, refl)
+    (λ ne. (refl, refl, refl, refl, ap (λ (v : Bool). v || false) (off other ne), ap (λ (v : Bool). v || false) (off other ne))))
+
+-- a stream was opened or accepted, which no device could join, and given up
+pub runs_given_up : (a b c : Tunnel) (id : ℕ) (k : Event × Reply) → ((other : ℕ) → IsQuiet other (k ∷ [])) → LeavesWire (k ∷ []) → Gives in_turn a.engine.session k.0 k.1 b.engine.session → KeepsWire a.engine b.engine → b.wire ≡ a.wire → b.lines ≡ a.lines →
+    look id a.lines ≡ None → DropsOut id b c → Runs a c
+runs_given_up a b c id k quiet leaves g keeps wire same none j =
+    runs_then a b c (runs_alone a b k quiet leaves g keeps wire same) (runs_dropped b c id (ap (look id) same ∙ none) j)
+
+pub runs_not_opened : (a b c : Tunnel) (id : ℕ) → Gives in_turn a.engine.session (event.Call call.Open) (reply.Opened id) b.engine.session → KeepsWire a.engine b.engine → b.wire ≡ a.wire → b.lines ≡ a.lines → look id a.lines ≡ None → DropsOut id b c → Runs a c
+runs_not_opened a b c id g keeps wire same none j =
+    runs_given_up a b c id (event.Call call.Open, reply.Opened id) (λ other. (refl, refl, refl, refl, refl, refl)) ((refl, λ w. (tt, tt)), refl, refl) g keeps wire same none j
+
+pub runs_not_accepted : (a b c : Tunnel) (id : ℕ) → Gives in_turn a.engine.session (event.Call call.Accept) (reply.Accepted (Some id)) b.engine.session → KeepsWire a.engine b.engine → b.wire ≡ a.wire → b.lines ≡ a.lines → look id a.lines ≡ None → DropsOut id b c → Runs a c
+runs_not_accepted a b c id g keeps wire same none j =
+    runs_given_up a b c id (event.Call call.Accept, reply.Accepted (Some id)) (λ other. (refl, refl, refl, refl, refl, refl)) ((refl, λ w. (tt, tt)), refl, refl) g keeps wire same none j
+
+-- a line was told of an event, and moved no byte
+pub runs_noted : (a b : Tunnel) (id : ℕ) (d e : Seen) → b.engine ≡ a.engine → b.wire ≡ a.wire → e ≡ d → look id a.lines ≡ Some d →
+    ((other : ℕ) → look other b.lines ≡ cond (nat_eq id other) (Some e) (look other a.lines)) → Runs a b
+runs_noted a b id d e engine wire same at now =
+    let life : Life id [] (Some d) (Some e) = subst (λ (v : Seen). Life id [] (Some d) (Some v)) (sym same) (life_quiet id [] (Some d) (refl, refl, refl, refl, refl, refl)) in
+    runs_called a b [] (ap (λ (v : Engine). v.session) engine) ((refl, λ w. tt), refl, refl)
+    (record { outgoing = ap (λ (v : Engine). v.outgoing) engine; incoming = ap (λ (v : Engine). v.incoming) engine }) wire
+    (λ other. served_line id other a.lines b.lines d e [] (nat_eq id other) refl at (now other) life (λ ne. (refl, refl, refl, refl, refl, refl)))
+
+-- nothing more goes over the wire
+pub runs_ended : (a b : Tunnel) → b.engine ≡ a.engine → IsEnded a.wire b.wire → b.lines ≡ a.lines → Runs a b
+runs_ended a b engine x same = record {
+  events = [];
+  happen = ap (λ (v : Engine). v.session) engine;
+  came = [];
+  gave = same_consumes a.wire.left b.wire.left x.left;
+  fronts = tt;
+  from_wire = append-nil a.engine.incoming ∙ sym (ap (λ (v : Engine). v.incoming) engine);
+  sent = [];
+  took = same_appends a.wire.had b.wire.had x.had;
+  to_wire = append-nil a.engine.outgoing ∙ sym (ap (λ (v : Engine). v.outgoing) engine);
+  said_end = false;
+  over = x.over ∙ or_same a.wire.over;
+  fails = false;
+  failed = x.failed ∙ or_same a.wire.failed;
+  lost = refl;
+  ends = true;
+  ended = x.ended ∙ or_true a.wire.ended;
+  shut = x.shut;
+  lines = still_lines a b [] same (λ id. (refl, refl, refl, refl, refl, refl));
+}
+
+-- ---- lines and the map that keeps their devices
+
+seen_behind : {D : Type 0} (seen : D → Seen) (b : Bool) (d : D) (o : Option D) (p : Option Seen) → p ≡ option_map seen o → cond b (Some (seen d)) p ≡ option_map seen (cond b (Some d) o)
+seen_behind seen true d o p e = refl
+seen_behind seen false d o p e = e
+
+-- what is seen of a stream's device is seen of what the map has for it
+pub look_lines : {D : Type 0} (seen : D → Seen) (es : List (ℕ × D)) (id : ℕ) → look id (lines_of seen es) ≡ option_map seen (lookup (nat_eq id) es)
+look_lines seen [] id = refl
+look_lines seen (e ∷ es) id = seen_behind seen (nat_eq id e.0) e.1 (lookup (nat_eq id) es) (look id (lines_of seen es)) (look_lines seen es id)
+
+-- a device that was there was written to, and the others stay
+none_behind : {D : Type 0} (seen : D → Seen) (b : Bool) (o : Option D) (p : Option Seen) → p ≡ option_map seen o → cond b None p ≡ option_map seen (cond b None o)
+none_behind seen true o p e = refl
+none_behind seen false o p e = e
+
+pub look_removed : {D : Type 0} (seen : D → Seen) (ms ns : List (ℕ × D)) (other : ℕ) (b : Bool) → lookup (nat_eq other) ns ≡ cond b None (lookup (nat_eq other) ms) →
+    look other (lines_of seen ns) ≡ cond b None (look other (lines_of seen ms))
+look_removed seen ms ns other b e =
+    look_lines seen ns other ∙ ap (option_map seen) e ∙ sym (none_behind seen b (lookup (nat_eq other) ms) (look other (lines_of seen ms)) (look_lines seen ms other))
+
+pub look_updated : {D : Type 0} (seen : D → Seen) (ms ns : List (ℕ × D)) (w : D) (other : ℕ) (b : Bool) → lookup (nat_eq other) ns ≡ cond b (Some w) (lookup (nat_eq other) ms) →
+    look other (lines_of seen ns) ≡ cond b (Some (seen w)) (look other (lines_of seen ms))
+look_updated seen ms ns w other b e =
+    look_lines seen ns other ∙ ap (option_map seen) e ∙ sym (seen_behind seen b w (lookup (nat_eq other) ms) (look other (lines_of seen ms)) (look_lines seen ms other))
+
+-- what a call saw of the tunnel before
+pub from_view : (a b c : Tunnel) → a ≡ b → Runs a c → Runs b c
+from_view a b c e x = subst (λ (v : Tunnel). Runs v c) e x
+
+-- its parts are as they were
+pub runs_alike : (a b : Tunnel) → b.engine ≡ a.engine → b.wire ≡ a.wire → b.lines ≡ a.lines → Runs a b
+runs_alike a b p q r =
+    let same : b ≡ a = λ j. record { engine = p j; wire = q j; lines = r j } in
+    subst (λ (v : Tunnel). Runs a v) (sym same) (runs_same a)
+
+pub is_some_at : {A : Type 0} {o : Option A} {x : A} → o ≡ Some x → IsSome o
+is_some_at {A} {o} {x} e = subst (λ (v : Option A). IsSome v) (sym e) refl
+
+-- one run behind parts that are as they were
+pub runs_behind : (a b c : Tunnel) → Runs b c → b.engine ≡ a.engine → b.wire ≡ a.wire → b.lines ≡ a.lines → Runs a c
+runs_behind a b c x p q r = runs_then a b c (runs_alike a b p q r) x
+
+pub look_there : (id : ℕ) (b : List (ℕ × Seen)) (d : Seen) (o : Option Seen) → look id b ≡ cond (nat_eq id id) (Some d) o → IsSome (look id b)
+look_there id b d o e = is_some_at (e ∙ ap (λ (v : Bool). cond v (Some d) o) (same_id id))
+
+-- no device is there
+pub look_none : {D : Type 0} (seen : D → Seen) (es : List (ℕ × D)) (id : ℕ) → is_some (lookup (nat_eq id) es) ≡ false → look id (lines_of seen es) ≡ None
+look_none seen es id h = look_lines seen es id ∙ ap (option_map seen) (none_of (lookup (nat_eq id) es) h)
+  where
+    none_of : {A : Type 0} (o : Option A) → is_some o ≡ false → o ≡ None
+    none_of None h = refl
+    none_of (Some x) h = let no : ⊥ = cc in absurd no
+
+-- a device that was put in is there, and the others stay
+inserted : {D : Type 0} (es : List (ℕ × D)) (id : ℕ) (d : D) (other : ℕ) → lookup (nat_eq other) (insert_entry nat_eq es id d) ≡ cond (nat_eq id other) (Some d) (lookup (nat_eq other) es)
+inserted [] id d other = grind (arith, nat_tests)
+inserted (e ∷ es) id d other = let i = inserted es id d other in grind (arith, nat_tests)
+
+pub look_inserted : {D : Type 0} (seen : D → Seen) (ms ns : List (ℕ × D)) (id : ℕ) (d : D) (other : ℕ) → ns ≡ insert_entry nat_eq ms id d →
+    look other (lines_of seen ns) ≡ cond (nat_eq id other) (Some (seen d)) (look other (lines_of seen ms))
+look_inserted seen ms ns id d other e =
+    look_updated seen ms ns d other (nat_eq id other) (ap (lookup (nat_eq other)) e ∙ inserted ms id d other)
+
+-- what a call left alone behind a run
+pub to_view : (a b c : Tunnel) → c ≡ b → Runs a b → Runs a c
+to_view a b c e x = subst (λ (v : Tunnel). Runs a v) (sym e) x
+
+-- a device that was registered was put in
+pub joins_by : {D : Type 0} (seen : D → Seen) (a b : Tunnel) (id : ℕ) (came kept : D) (ms ns : List (ℕ × D)) → b.engine ≡ a.engine → b.wire ≡ a.wire → a.lines ≡ lines_of seen ms → b.lines ≡ lines_of seen ns →
+    ns ≡ insert_entry nat_eq ms id kept → seen kept ≡ seen came → Joins id (seen came) a b
+joins_by seen a b id came kept ms ns engine wire before behind put same = record {
+  engine = engine;
+  wire = wire;
+  lines = λ other. ap (look other) behind ∙ look_inserted seen ms ns id kept other put
+      ∙ ap (λ (v : Seen). cond (nat_eq id other) (Some v) (look other (lines_of seen ms))) same ∙ ap (λ (v : List (ℕ × Seen)). cond (nat_eq id other) (Some (seen came)) (look other v)) (sym before);
+}
+
+-- a stream was accepted for which there is no device, and given up
+pub runs_rejected : (a : Tunnel) (e : Engine) (c : Tunnel) (id : ℕ) → Gives in_turn a.engine.session (event.Call call.Accept) (reply.Accepted (Some id)) e.session → KeepsWire a.engine e → look id a.lines ≡ None →
+    GivesUp id e.session c.engine.session → KeepsWire e c.engine → c.wire ≡ a.wire → c.lines ≡ a.lines → Runs a c
+runs_rejected a e c id g keeps none up keeps2 wire same =
+    runs_not_accepted a (record { engine = e; wire = a.wire; lines = a.lines }) c id g keeps refl refl none (record { up = up; keeps = keeps2; wire = wire; lines = same })
+
+-- what an accept says of the stream that it gave, and where it gave none
+pub accepted_at : (o : Option ℕ) (id : ℕ) (s t : Session) → o ≡ Some id → IfSome o (λ i. Gives in_turn s (event.Call call.Accept) (reply.Accepted (Some i)) t) → Gives in_turn s (event.Call call.Accept) (reply.Accepted (Some id)) t
+accepted_at o id s t e h = subst (λ (v : Option ℕ). IfSome v (λ i. Gives in_turn s (event.Call call.Accept) (reply.Accepted (Some i)) t)) e h
+
+pub offered_none : (o : Option ℕ) (s t : Session) → o ≡ None → IfNone o (OffersNone s t) → OffersNone s t
+offered_none o s t e h = subst (λ (v : Option ℕ). IfNone v (OffersNone s t)) e h
+
+pub joins_from : (a b c : Tunnel) (id : ℕ) (d : Seen) → a ≡ b → Joins id d a c → Joins id d b c
+joins_from a b c id d e x = subst (λ (v : Tunnel). Joins id d v c) e x

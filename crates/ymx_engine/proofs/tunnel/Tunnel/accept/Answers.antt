@@ -1,0 +1,25 @@
+use Rattle.std.proofs.Common.{refl, sym, ◌∙◌}
+use Rattle.ymx_engine.proofs.Running.{runs_accepted, runs_accepted_alone, runs_offers_none, runs_not_accepted, runs_behind, from_view, look_none, accepted_at, offered_none}
+use Rattle.ymx_engine.proofs.tunnel.Tunnel.accept.Goals as goal
+
+pub returns-in-Ok-None-clause-runs : goal.returns-in-Ok-None-clause-runs
+returns-in-Ok-None-clause-runs g c = from_view _ _ _ c.self.view_is (runs_offers_none _ _ (offered_none _ _ _ c.in-Ok-None.field-0-is c.in-Ok-None.ensures.none) c.in-Ok-None.ensures.wire refl refl)
+
+pub returns-in-Err-clause-runs : goal.returns-in-Err-clause-runs
+returns-in-Err-clause-runs g c = from_view _ _ _ c.self.view_is (runs_behind _ _ _ c.reject.ensures.runs c.in-Err.ensures.refused refl refl)
+
+pub returns-then-contains_key-clause-runs : goal.returns-then-contains_key-clause-runs
+returns-then-contains_key-clause-runs g c = from_view _ _ _ c.self.view_is (runs_accepted_alone _ _ _ (accepted_at _ c.in-Ok-Some.id _ _ c.in-Ok-Some.field-0-is c.in-Ok-Some.ensures.accepted) c.in-Ok-Some.ensures.wire refl refl)
+
+pub join-requires : goal.join-requires
+join-requires g c = look_none g.D.Device.seen c.self.inside.lines.entries c.in-Ok-Some.id (sym c.contains_key.ensures ∙ c.if-contains_key.false)
+
+pub returns-in-Ok-clause-runs : goal.returns-in-Ok-clause-runs
+returns-in-Ok-clause-runs g c =
+    from_view _ _ _ c.self.view_is (runs_accepted _ _ _ _ _ (accepted_at _ c.in-Ok-Some.id _ _ c.in-Ok-Some.field-0-is c.in-Ok-Some.ensures.accepted) c.in-Ok-Some.ensures.wire refl refl
+    (look_none g.D.Device.seen c.self.inside.lines.entries c.in-Ok-Some.id (sym c.contains_key.ensures ∙ c.if-contains_key.false)) c.in-Ok.ensures.joined)
+
+pub returns-in-Err-join-clause-runs : goal.returns-in-Err-join-clause-runs
+returns-in-Err-join-clause-runs g c =
+    from_view _ _ _ c.self.view_is (runs_not_accepted _ _ _ _ (accepted_at _ c.in-Ok-Some.id _ _ c.in-Ok-Some.field-0-is c.in-Ok-Some.ensures.accepted) c.in-Ok-Some.ensures.wire refl refl
+    (look_none g.D.Device.seen c.self.inside.lines.entries c.in-Ok-Some.id (sym c.contains_key.ensures ∙ c.if-contains_key.false)) c.in-Err-join.ensures.refused)

@@ -1,0 +1,10 @@
+use Rattle.std.proofs.Common.{refl}
+use Rattle.ymx_engine.proofs.Running.{joins_by, joins_from}
+use Rattle.ymx_engine.proofs.tunnel.Tunnel.join.Goals as goal
+
+pub returns-in-Ok-clause-joined : goal.returns-in-Ok-clause-joined
+returns-in-Ok-clause-joined g c =
+    let seen = g.D.Device.seen in
+    let m = c.self.inside.lines in
+    joins_from _ _ _ _ _ c.self.view_is
+    (joins_by seen _ _ c.args.id c.args.device c.register.new.device m.entries c.insert.new.map.entries refl refl refl refl c.in-Ok.ensures.entries c.register.ensures)

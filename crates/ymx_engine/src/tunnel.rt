@@ -1,0 +1,381 @@
+//! The type `Tunnel`, and its calls.
+
+ghost use Rattle.std.specs.Prelude.{◌≡◌, ◌≤◌, true, false, IfOk, IfSome, IsSome, OnOk, OnErr, None, Ok, length};
+ghost use Rattle.ymx_engine.specs.Runs.{Runs, IsOver};
+ghost use Rattle.ymx_engine.specs.Tunnels.{look, Joins, DropsOut};
+
+use crate::connection::Connection;
+use crate::device::Device;
+use crate::engine::Engine;
+use crate::line::{Line, NotJoined, Registry, Wire};
+use indexmap::IndexMap;
+use std::alloc::Global;
+use std::marker::Model;
+use ymx_model::Status;
+
+/// No read of the wire has so many payloads: each has a byte at least, and a header of 12.
+const PAYLOADS: u32 = 131_072;
+
+/// A connection that had a turn.
+#[derive(Clone, Copy)]
+pub struct Served {
+    /// Its stream.
+    pub id: u32,
+    /// How many bytes its device gave in that turn.
+    pub gave: u64,
+}
+
+/// An engine, the wire that carries its session, and the device of each stream.
+///
+/// It owns them: so no caller can lend one stream's device to another, or the wire to a stream. Each call that moves
+/// bytes says what it did as one fact, `Runs`, which holds over any number of calls.
+#[derive(Drop)]
+pub struct Tunnel<D: Line + Drop, W: Wire + Drop> {
+    engine: Engine,
+    wire: W,
+    lines: IndexMap<u32, D>,
+}
+
+impl<D: Line + Drop, W: Wire + Drop> Model for Tunnel<D, W> {
+    ghost use Rattle.ymx_engine.specs.Tunnels.{Tunnel as TunnelValue, lines_of};
+
+    ghost Value = { TunnelValue };
+
+    ghost view = { λ t. record { engine = t.engine; wire = W.seen t.wire; lines = lines_of D.seen t.lines.entries } };
+}
+
+impl<D: Line + Drop, W: Wire + Drop> Tunnel<D, W> {
+    /// A tunnel that has moved nothing, and has no connection.
+    pub fn new(alloc: Global, engine: Engine, wire: W) -> Tunnel<D, W> {
+        Tunnel {
+            engine,
+            wire,
+            lines: IndexMap::new(alloc),
+        }
+    }
+
+    /// Lets go of the connections, and gives the wire back.
+    pub fn into_wire(self) -> W {
+        self.wire
+    }
+
+    // ---- what events say
+
+    /// What an event says of the wire: whether it may have bytes, and whether it may take some.
+    pub fn note_wire(&mut self, can_pull: bool, can_push: bool)
+        ensures { self.new ≡ self.old }
+    {
+        self.engine.note_wire(can_pull, can_push);
+    }
+
+    /// What an event says of a connection's device: whether it may have bytes, whether it may take some, and whether
+    /// its end is near.
+    pub fn note_line(&mut self, id: u32, can_pull: bool, can_push: bool, is_closing: bool)
+        ensures { Runs self.old self.new }
+    {
+        if let Some(device) = self.lines.get_mut(&id) {
+            device.note_event();
+            self.engine.note_device(id, can_pull, can_push, is_closing);
+        }
+    }
+
+    /// Once the session is lost, each connection is asked for bytes, so that it is shut, unless its end came before.
+    /// What waits for one that is still being made is written first.
+    pub fn tell_loss(&mut self)
+        ensures { self.new ≡ self.old }
+    {
+        ask_all(&mut self.engine, &self.lines);
+    }
+
+    // ---- connections
+
+    /// Opens a stream for a device that came, and returns its id. Where the device can't be registered or kept, the
+    /// stream is reset and forgotten.
+    pub fn open<G: Registry<D>>(&mut self, device: D, registry: &mut G) -> Result<u32, NotJoined>
+        ensures runs { Runs self.old self.new }
+        ensures joined { IfOk result (λ id. IsSome (look id self.new.lines)) }
+        ensures refused { OnErr result (self.new.lines ≡ self.old.lines) }
+    {
+        let id = match self.engine.open() {
+            Ok(id) => id,
+            Err(fault) => return Err(NotJoined::BySession(fault)),
+        };
+        // no id is given twice, so this never is
+        if self.lines.contains_key(&id) {
+            return Err(NotJoined::Unregistered);
+        }
+        match self.join(id, device, registry) {
+            Ok(()) => Ok(id),
+            Err(why) => Err(why),
+        }
+    }
+
+    /// Takes the offered stream that came first for this device, and returns its id. `None` where none waits, and where
+    /// the session refuses; then the device is let go. Where it can't be registered or kept, the stream is reset and
+    /// forgotten, so that it doesn't wait on.
+    pub fn accept<G: Registry<D>>(
+        &mut self,
+        device: D,
+        registry: &mut G,
+    ) -> Result<Option<u32>, NotJoined>
+        ensures runs { Runs self.old self.new }
+        ensures joined { IfOk result (λ offered. IfSome offered (λ id. IsSome (look id self.new.lines))) }
+        ensures refused { OnErr result (self.new.lines ≡ self.old.lines) }
+    {
+        let id = match self.engine.accept() {
+            Ok(Some(id)) => id,
+            Ok(None) => return Ok(None),
+            Err(refused) => {
+                let _ = self.reject();
+                return Err(NotJoined::OutOfMemory(refused));
+            }
+        };
+        // no id is given twice, so this never is
+        if self.lines.contains_key(&id) {
+            return Err(NotJoined::Unregistered);
+        }
+        match self.join(id, device, registry) {
+            Ok(()) => Ok(Some(id)),
+            Err(why) => Err(why),
+        }
+    }
+
+    /// Takes the offered stream that came first, for which there is no device: it is reset and forgotten. Whether there
+    /// was one. No memory is needed.
+    pub fn reject(&mut self) -> bool
+        ensures runs { Runs self.old self.new }
+        ensures lines { self.new.lines ≡ self.old.lines }
+    {
+        let Some(id) = self.engine.take_offered() else {
+            return false;
+        };
+        // no id is given twice, so this always is
+        if !self.lines.contains_key(&id) {
+            self.engine.refuse(id);
+        }
+        true
+    }
+
+    /// Joins a device to a stream that has none.
+    fn join<G: Registry<D>>(
+        &mut self,
+        id: u32,
+        device: D,
+        registry: &mut G,
+    ) -> Result<(), NotJoined>
+        requires { look id self.old.lines ≡ None }
+        ensures joined { OnOk result (Joins id (D.seen device) self.old self.new) }
+        ensures refused { OnErr result (DropsOut id self.old self.new) }
+    {
+        let mut device = device;
+        if !registry.register(id, &mut device) {
+            self.engine.refuse(id);
+            return Err(NotJoined::Unregistered);
+        }
+        match ymx_memory::insert(&mut self.lines, id, device) {
+            Ok(()) => Ok(()),
+            Err(refused) => {
+                self.engine.refuse(id);
+                Err(NotJoined::OutOfMemory(refused))
+            }
+        }
+    }
+
+    /// Lets go of a connection's device, and forgets its stream. What is known of it was asked before.
+    pub fn forget(&mut self, id: u32) -> Option<D>
+        ensures { Runs self.old self.new }
+    {
+        self.engine.forget(id);
+        self.lines.swap_remove(&id)
+    }
+
+    // ---- bytes
+
+    /// Reads from the wire once, and feeds what came. Payload of which `least` bytes wait goes straight to the devices
+    /// that take it. Near the wire's end, where `again` says so, it is read once more when it may.
+    pub fn read_wire(&mut self, least: usize, again: bool)
+        ensures { Runs self.old self.new }
+    {
+        self.pull_wire(again);
+        'payload: for _ in 0..PAYLOADS {
+            match self.advance(least) {
+                Some(id) => self.pass(id),
+                None => return,
+            }
+        }
+    }
+
+    /// Reads from the wire once, where all that it gave before was fed. Near the wire's end a short read doesn't say that
+    /// nothing is left, so another one is due until the end is read.
+    fn pull_wire(&mut self, again: bool)
+        ensures { Runs self.old self.new }
+    {
+        self.pull_once();
+        self.note_more(again);
+    }
+
+    /// Reads from the wire once, where all that it gave before was fed.
+    fn pull_once(&mut self)
+        ensures { Runs self.old self.new }
+    {
+        self.engine.pull_wire(&mut self.wire);
+    }
+
+    /// The wire may have more, where `again` says so, until its end was read.
+    fn note_more(&mut self, again: bool)
+        ensures { self.new ≡ self.old }
+    {
+        if again && !self.wire.is_over() {
+            self.engine.note_wire(true, false);
+        }
+    }
+
+    /// Feeds what waits up to a payload that goes straight to a device, and returns its stream. `None` where all that
+    /// can be fed now was fed.
+    fn advance(&mut self, least: usize) -> Option<u32>
+        ensures { Runs self.old self.new }
+    {
+        self.engine.advance(least)
+    }
+
+    /// Passes payload that waits to its stream's own device.
+    fn pass(&mut self, id: u32)
+        ensures { Runs self.old self.new }
+    {
+        if let Some(device) = self.lines.get_mut(&id) {
+            self.engine.pass(id, device);
+        }
+    }
+
+    /// Serves the connection whose turn it is, with its own device. `None` where none may have something to move.
+    pub fn serve_next(&mut self) -> Option<Served>
+        ensures { Runs self.old self.new }
+    {
+        let id = self.engine.next()?;
+        let before = self.pulled(id);
+        self.serve(id);
+        let gave = self.pulled(id).saturating_sub(before);
+        Some(Served { id, gave })
+    }
+
+    /// Serves a connection once, with its own device.
+    fn serve(&mut self, id: u32)
+        ensures { Runs self.old self.new }
+    {
+        if let Some(device) = self.lines.get_mut(&id) {
+            self.engine.serve(id, device);
+        }
+    }
+
+    /// How many bytes the device of a stream has given.
+    fn pulled(&self, id: u32) -> u64 {
+        match self.lines.get(&id) {
+            Some(device) => device.pulled(),
+            None => 0,
+        }
+    }
+
+    /// Writes what is due to the wire, in at most four calls. If the wire fails the session is lost.
+    pub fn flush(&mut self)
+        ensures { Runs self.old self.new }
+    {
+        self.engine.flush(&mut self.wire);
+    }
+
+    /// Nothing more goes over the wire.
+    pub fn end_wire(&mut self)
+        ensures { Runs self.old self.new }
+    {
+        self.wire.end();
+    }
+
+    // ---- how it stands
+
+    /// Whether the wire has failed, or has taken all that was due.
+    pub fn is_over(&self) -> bool
+        ensures { result ≡ true → IsOver self.now }
+    {
+        self.wire.has_failed() || self.engine.is_flushed()
+    }
+
+    /// Whether neither way of a connection is open.
+    pub fn is_line_over(&self, id: u32) -> bool {
+        match self.engine.connection(id) {
+            Some(connection) => connection.is_over(),
+            None => true,
+        }
+    }
+
+    /// What is known of a connection.
+    pub fn connection(&self, id: u32) -> Option<Connection> {
+        self.engine.connection(id)
+    }
+
+    /// The device of a stream.
+    pub fn device(&self, id: u32) -> Option<&D> {
+        self.lines.get(&id)
+    }
+
+    /// The stream of some connection. `None` where there is none.
+    pub fn first(&self) -> Option<u32> {
+        match self.lines.get_index(0) {
+            Some((id, _)) => Some(*id),
+            None => None,
+        }
+    }
+
+    /// How many connections there are.
+    pub fn len(&self) -> usize {
+        self.lines.len()
+    }
+
+    /// The wire.
+    pub fn wire(&self) -> &W {
+        &self.wire
+    }
+
+    /// Whether something can be done though no event comes.
+    pub fn has_work(&self) -> bool {
+        self.engine.has_work()
+    }
+
+    /// How many connections may have something to move.
+    pub fn queued_count(&self) -> usize {
+        self.engine.queued_count()
+    }
+
+    /// Whether nothing is due, and the wire has taken all that was emitted.
+    pub fn is_flushed(&self) -> bool {
+        self.engine.is_flushed()
+    }
+
+    /// Whether a stream of the peer's was ever rejected for want of memory.
+    pub fn has_lacked_memory(&self) -> bool {
+        self.engine.has_lacked_memory()
+    }
+
+    /// How many streams wait to be accepted.
+    pub fn offered_count(&self) -> usize
+        ensures { result ≡ length self.now.engine.session.offered }
+    {
+        self.engine.offered_count()
+    }
+
+    /// The state of the session.
+    pub fn status(&self) -> Status
+        ensures { result ≡ self.now.engine.session.status }
+    {
+        self.engine.status()
+    }
+}
+
+/// Each device that is there may have bytes.
+fn ask_all<D: Line + Drop>(engine: &mut Engine, lines: &IndexMap<u32, D>)
+    ensures { engine.new ≡ engine.old }
+{
+    'line: for (id, device) in lines.iter() {
+        if !device.is_connecting() {
+            engine.note_device(*id, true, false, false);
+        }
+    }
+}
