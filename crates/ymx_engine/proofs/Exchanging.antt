@@ -11,7 +11,6 @@ use Rattle.ymx_model.specs.declared.types.Event.TheVariants as event
 use Rattle.ymx_machine.specs.declared.types.Call.TheVariants as call
 use Rattle.ymx_machine.specs.shared.Events.{Reply}
 use Rattle.ymx_machine.specs.declared.types.Reply.TheVariants as reply
-use Rattle.ymx_machine.specs.shared.Replies.{bytes_moved}
 use Rattle.ymx_model.specs.session.Sessions.{Session}
 use Rattle.ymx_model.specs.session.Emissions.{in_turn}
 use Rattle.ymx_model.specs.session.Histories.{Gives}
@@ -20,7 +19,7 @@ use Rattle.ymx_engine.specs.declared.device.Pulled.TheVariants as pulled
 use Rattle.ymx_engine.specs.declared.device.Pushed.{Pushed}
 use Rattle.ymx_engine.specs.declared.device.Pushed.TheVariants as pushed
 use Rattle.ymx_engine.specs.Devices.{Seen, pulled_count, pushed_count, is_end, is_pull_failure, is_push_failure, IsPulled, IsPushed, IsEnded, IsShut}
-use Rattle.ymx_engine.specs.Events.{Happen, is_on, taken_at, taken, bytes_of, given_at, given, is_read_end, ends_at, has_end, finishes_at, has_finish, resets_at, has_reset, is_refusal, stops_at, has_stop, is_memory_refusal, lacks_memory_at, lacks_memory}
+use Rattle.ymx_engine.specs.Events.{Happen, is_on, took_count, taken_at, taken, bytes_of, given_at, given, is_read_end, ends_at, has_end, finishes_at, has_finish, resets_at, has_reset, is_refusal, stops_at, has_stop, is_memory_refusal, lacks_memory_at, lacks_memory}
 use Rattle.ymx_engine.specs.Exchanges.{has_bytes, Exchange, Exchanges, ExchangesOnce}
 
 -- ---- lists of events
@@ -316,11 +315,11 @@ finished id told s t buffer a b p g =
 
 -- bytes came, and the stream took them
 pub pulled_some : (id n : ℕ) (told : Reply) (s t : Session) (buffer bytes : List ℕ) (a b : Seen) → IsPulled (pulled.Gave n) buffer a b → bytes ≡ take n buffer →
-    Gives in_turn s (event.Call (call.Write id bytes)) told t → take (bytes_moved told) bytes ≡ bytes → is_refusal told ≡ false → Exchange id s t a b []
+    Gives in_turn s (event.Call (call.Write id bytes)) told t → take (took_count told) bytes ≡ bytes → is_refusal told ≡ false → Exchange id s t a b []
 pulled_some id n told s t buffer bytes a b p same g all granted =
     let i = same_id id in
     exchange_one id (event.Call (call.Write id bytes)) told s t a b false g i
-    (rw i (subst (Consumes a.left b.left) (sym same ∙ sym all ∙ sym (append-nil (take (bytes_moved told) bytes))) p.gave))
+    (rw i (subst (Consumes a.left b.left) (sym same ∙ sym all ∙ sym (append-nil (take (took_count told) bytes))) p.gave))
     (same_appends a.had b.had p.had)
     (λ h. cc)
     p.over
@@ -334,7 +333,7 @@ pub stopped : (id : ℕ) (told : Reply) (s t : Session) (a b : Seen) → b.left 
     Gives in_turn s (event.Call (call.Write id [])) told t → Exchange id s t a b []
 stopped id told s t a b left had over kept failed shut g =
     let i = same_id id in
-    let none : take {A = ℕ} (bytes_moved told) [] ≡ [] = grind (arith, common_steps) in
+    let none : take {A = ℕ} (took_count told) [] ≡ [] = grind (arith, common_steps) in
     exchange_one id (event.Call (call.Write id [])) told s t a b false g i
     (rw (i, none) (same_consumes a.left b.left left))
     (same_appends a.had b.had had)
@@ -351,7 +350,7 @@ some_bytes (x ∷ xs) h = refl
 
 -- bytes came for which there was no memory: the stream is reset, and its device shut
 pub bytes_lost : (id n : ℕ) (told last : Reply) (s t u : Session) (buffer bytes : List ℕ) (a b c : Seen) → IsPulled (pulled.Gave n) buffer a b →
-    Gives in_turn s (event.Call (call.Write id bytes)) told t → bytes_moved told ≡ 0 → is_memory_refusal told ≡ true → 0 < length bytes → bytes ≡ take n buffer →
+    Gives in_turn s (event.Call (call.Write id bytes)) told t → took_count told ≡ 0 → is_memory_refusal told ≡ true → 0 < length bytes → bytes ≡ take n buffer →
     Gives in_turn t (event.Call (call.Reset id)) last u → IsShut b c → Exchange id s u a c (take n buffer)
 bytes_lost id n told last s t u buffer bytes a b c p g none lacks some same r q =
     let i = same_id id in record {

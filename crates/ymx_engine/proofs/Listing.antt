@@ -5,10 +5,10 @@ use Rattle.ymx_machine.specs.shared.Events.{Reply}
 use Rattle.ymx_machine.specs.declared.types.Call.TheVariants as call
 use Rattle.ymx_model.specs.session.Events.{Event}
 use Rattle.ymx_model.specs.declared.types.Event.TheVariants as event
-use Rattle.ymx_engine.specs.Events.{is_on, taken_at, taken, given_at, given, ends_at, has_end, finishes_at, has_finish, resets_at, has_reset, stops_at, has_stop}
+use Rattle.ymx_engine.specs.Events.{is_on, taken_at, taken, given_at, given, ends_at, has_end, finishes_at, has_finish, resets_at, has_reset, stops_at, has_stop, opens_with, has_open_with}
 use Rattle.ymx_engine.specs.Wires.{emitted_at, emitted, fed_at, fed, is_of_read, is_of_flush, has_feed_end, OffersFront, FeedsFront}
 use Rattle.ymx_engine.specs.Passes.{is_of_pass}
-use Rattle.ymx_engine.proofs.Advancing.{both, IsQuiet}
+use Rattle.ymx_engine.proofs.Advancing.{both, or_neither, IsQuiet}
 
 -- ---- lists that leave the wire alone
 
@@ -39,18 +39,56 @@ pub read_emits : (es : List (Event × Reply)) → list_all (λ e. is_of_read e.0
 read_emits [] h = refl
 read_emits (e ∷ es) h = let two = both (is_of_read e.0) (list_all (λ e. is_of_read e.0) es) h in ap (λ (v : List ℕ). v ++ emitted es) (read_emits_at e.0 e.1 two.0) ∙ read_emits es two.1
 
+-- ---- lists that open no stream with its first bytes
+
+abbrev pub NoneOpensWith : (Event → Bool) → Type 0
+NoneOpensWith k = (e : Event) → k e ≡ true → opens_with e ≡ false
+
+pub plain_list : (k : Event → Bool) (none : NoneOpensWith k) (es : List (Event × Reply)) → list_all (λ e. k e.0) es ≡ true → has_open_with es ≡ false
+plain_list k none [] h = refl
+plain_list k none (e ∷ es) h = let two = both (k e.0) (list_all (λ e. k e.0) es) h in ap (λ (v : Bool). v || has_open_with es) (none e.0 two.0) ∙ plain_list k none es two.1
+
+pub read_plain : NoneOpensWith is_of_read
+read_plain (event.Call c) h = let no : ⊥ = cc in absurd no
+read_plain (event.Feed bytes) h = refl
+read_plain event.FeedEnd h = refl
+read_plain (event.Emit room) h = refl
+
+pub flush_plain : NoneOpensWith is_of_flush
+flush_plain (event.Call c) h = let no : ⊥ = cc in absurd no
+flush_plain (event.Feed bytes) h = refl
+flush_plain event.FeedEnd h = refl
+flush_plain (event.Emit room) h = refl
+
+on_plain : (id : ℕ) → NoneOpensWith (is_on id)
+on_plain id (event.Call (call.Write other bytes)) h = refl
+on_plain id (event.Call (call.Read other room)) h = refl
+on_plain id (event.Call (call.Finish other)) h = refl
+on_plain id (event.Call (call.Reset other)) h = refl
+on_plain id e h = let no : ⊥ = cc in absurd no
+
+pass_plain : (id : ℕ) → NoneOpensWith (is_of_pass id)
+pass_plain id (event.Call (call.Read other room)) h = refl
+pass_plain id (event.Call (call.Reset other)) h = refl
+pass_plain id (event.Feed bytes) h = refl
+pass_plain id e h = let no : ⊥ = cc in absurd no
+
+pub plain_then : (es fs : List (Event × Reply)) → has_open_with es ≡ false → has_open_with fs ≡ false → has_open_with (es ++ fs) ≡ false
+plain_then [] fs h k = k
+plain_then (e ∷ es) fs h k = let two = or_neither (opens_with e.0) (has_open_with es) h in ap (λ (v : Bool). v || has_open_with (es ++ fs)) two.0 ∙ plain_then es fs two.1 k
+
 -- calls on streams alone
 abbrev pub LeavesWire : List (Event × Reply) → Type 0
-LeavesWire es = FeedsNone es × (emitted es ≡ []) × (has_feed_end es ≡ false)
+LeavesWire es = FeedsNone es × (emitted es ≡ []) × (has_feed_end es ≡ false) × (has_open_with es ≡ false)
 
 leaves_at : (id : ℕ) (e : Event) (told : Reply) (es : List (Event × Reply)) → is_on id e ≡ true → LeavesWire es → LeavesWire ((e, told) ∷ es)
-leaves_at id (event.Call c) told es h x = (feeds_none_behind (event.Call c) told es refl (λ w. tt) x.0, x.1, x.2)
+leaves_at id (event.Call c) told es h x = (feeds_none_behind (event.Call c) told es refl (λ w. tt) x.0, x.1, x.2, ap (λ (v : Bool). v || has_open_with es) (on_plain id (event.Call c) h) ∙ x.3)
 leaves_at id (event.Feed bytes) told es h x = let no : ⊥ = cc in absurd no
 leaves_at id event.FeedEnd told es h x = let no : ⊥ = cc in absurd no
 leaves_at id (event.Emit room) told es h x = let no : ⊥ = cc in absurd no
 
 pub leaves_wire : (id : ℕ) (es : List (Event × Reply)) → list_all (λ e. is_on id e.0) es ≡ true → LeavesWire es
-leaves_wire id [] h = ((refl, λ waits. tt), refl, refl)
+leaves_wire id [] h = ((refl, λ waits. tt), refl, refl, refl)
 leaves_wire id (e ∷ es) h = let two = both (is_on id e.0) (list_all (λ e. is_on id e.0) es) h in leaves_at id e.0 e.1 es two.0 (leaves_wire id es two.1)
 
 -- ---- lists of one stream leave the others alone
@@ -94,16 +132,16 @@ others_quiet id other (e ∷ es) h k = let two = both (is_on id e.0) (list_all (
 -- ---- what is passed on
 
 abbrev pub PassEmits : List (Event × Reply) → Type 0
-PassEmits es = (emitted es ≡ []) × (has_feed_end es ≡ false)
+PassEmits es = (emitted es ≡ []) × (has_feed_end es ≡ false) × (has_open_with es ≡ false)
 
 pass_emits_at : (id : ℕ) (e : Event) (told : Reply) (es : List (Event × Reply)) → is_of_pass id e ≡ true → PassEmits es → PassEmits ((e, told) ∷ es)
-pass_emits_at id (event.Call c) told es h x = x
+pass_emits_at id (event.Call c) told es h x = (x.0, x.1, ap (λ (v : Bool). v || has_open_with es) (pass_plain id (event.Call c) h) ∙ x.2)
 pass_emits_at id (event.Feed bytes) told es h x = x
 pass_emits_at id event.FeedEnd told es h x = let no : ⊥ = cc in absurd no
 pass_emits_at id (event.Emit room) told es h x = let no : ⊥ = cc in absurd no
 
 pub pass_emits : (id : ℕ) (es : List (Event × Reply)) → list_all (λ e. is_of_pass id e.0) es ≡ true → PassEmits es
-pass_emits id [] h = (refl, refl)
+pass_emits id [] h = (refl, refl, refl)
 pass_emits id (e ∷ es) h = let two = both (is_of_pass id e.0) (list_all (λ e. is_of_pass id e.0) es) h in pass_emits_at id e.0 e.1 es two.0 (pass_emits id es two.1)
 
 -- nothing is written or finished

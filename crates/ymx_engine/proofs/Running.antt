@@ -5,11 +5,11 @@ use Rattle.std.specs.Map.{lookup}
 use Rattle.indexmap.specs.IndexMap.{insert_entry}
 use Rattle.std.proofs.lemmas.Bool.Decides.{nat_tests}
 use Rattle.std.proofs.KnownBytes.{Appends-nil, Appends-trans, Consumes-nil, Consumes-trans}
-use Rattle.ymx_machine.specs.shared.Events.{Reply}
+use Rattle.ymx_machine.specs.shared.Events.{Call, Reply}
 use Rattle.ymx_model.specs.session.Events.{Event}
-use Rattle.ymx_engine.specs.Devices.{Seen, IsEnded}
+use Rattle.ymx_engine.specs.Devices.{Seen, IsEnded, IsShut}
 use Rattle.ymx_engine.specs.Engines.{Engine, KeepsWire}
-use Rattle.ymx_engine.specs.Events.{Happen}
+use Rattle.ymx_engine.specs.Events.{Happen, opens_with}
 use Rattle.ymx_machine.specs.declared.types.Call.TheVariants as call
 use Rattle.ymx_machine.specs.declared.types.Reply.TheVariants as reply
 use Rattle.ymx_model.specs.declared.types.Event.TheVariants as event
@@ -27,7 +27,7 @@ use Rattle.ymx_engine.proofs.Exchanging.{happen_then, or_same, or_true, or_twice
 use Rattle.ymx_engine.specs.Tunnels.{Tunnel, look, lines_of, Joins, DropsOut}
 use Rattle.ymx_engine.specs.Lines.{IsIdle, Life, opens_at}
 use Rattle.ymx_engine.specs.Runs.{Runs}
-use Rattle.ymx_engine.proofs.Listing.{FeedsNone, flush_feeds, read_emits, LeavesWire, leaves_wire, others_quiet, PassEmits, pass_emits, other_id, others_quiet_passed}
+use Rattle.ymx_engine.proofs.Listing.{FeedsNone, flush_feeds, read_emits, LeavesWire, leaves_wire, others_quiet, PassEmits, pass_emits, other_id, others_quiet_passed, plain_list, plain_then, read_plain, flush_plain}
 use Rattle.ymx_engine.proofs.Trading.{or_swap, life_quiet, life_then, life_trades, life_leaves, life_joins, life_idle, trades_once, trades_passed}
 
 -- nothing happened
@@ -35,6 +35,7 @@ pub runs_same : (a : Tunnel) → Runs a a
 runs_same a = record {
   events = [];
   happen = refl;
+  plain = refl;
   came = [];
   gave = Consumes-nil a.wire.left;
   fronts = tt;
@@ -49,7 +50,8 @@ runs_same a = record {
   lost = refl;
   ends = false;
   ended = or_same a.wire.ended;
-  shut = refl;
+  shuts = false;
+  shut = or_same a.wire.shut;
   lines = λ id. life_quiet id [] (look id a.lines) (refl, refl, refl, refl, refl, refl);
 }
 
@@ -63,6 +65,7 @@ runs_then a b c x y =
     record {
       events = es ++ fs;
       happen = happen_then es fs _ _ _ x.happen y.happen;
+      plain = plain_then es fs x.plain y.plain;
       came = x.came ++ y.came;
       gave = Consumes-trans a.wire.left b.wire.left c.wire.left _ _ x.gave y.gave;
       fronts = subst (λ (v : List ℕ). FeedsFront v (es ++ fs)) (append_assoc a.engine.incoming x.came y.came)
@@ -78,7 +81,8 @@ runs_then a b c x y =
       lost = feed_end_then es fs ∙ ap (λ (v : Bool). v || has_feed_end fs) x.lost ∙ ap (λ (v : Bool). (x.said_end || x.fails) || v) y.lost ∙ or_swap x.said_end x.fails y.said_end y.fails;
       ends = x.ends || y.ends;
       ended = y.ended ∙ ap (option_map (λ v. v || y.ends)) x.ended ∙ or_twice x.ends y.ends a.wire.ended;
-      shut = y.shut ∙ x.shut;
+      shuts = x.shuts || y.shuts;
+      shut = y.shut ∙ ap (option_map (λ v. v || y.shuts)) x.shut ∙ or_twice x.shuts y.shuts a.wire.shut;
       lines = λ id. life_then id es fs (look id a.lines) (look id b.lines) (look id c.lines) (x.lines id) (y.lines id);
     }
 
@@ -91,6 +95,7 @@ pub runs_read : (a b : Tunnel) (n : ℕ) → ReadsWire a.engine b.engine a.wire 
 runs_read a b n x same = record {
   events = x.events;
   happen = x.happen;
+  plain = plain_list is_of_read read_plain x.events x.own;
   came = x.came;
   gave = x.gave;
   fronts = x.fronts;
@@ -105,7 +110,8 @@ runs_read a b n x same = record {
   lost = x.lost;
   ends = false;
   ended = x.ended ∙ or_same a.wire.ended;
-  shut = x.shut;
+  shuts = false;
+  shut = x.shut ∙ or_same a.wire.shut;
   lines = still_lines a b x.events same (λ id. quiet is_of_read (λ c. refl) id x.events x.own);
 }
 
@@ -120,6 +126,7 @@ runs_flushed a b n x same =
     record {
       events = x.events;
       happen = x.happen;
+      plain = plain_list is_of_flush flush_plain x.events x.own;
       came = [];
       gave = same_consumes a.wire.left b.wire.left x.left;
       fronts = none.1 (a.engine.incoming ++ []);
@@ -134,7 +141,8 @@ runs_flushed a b n x same =
       lost = x.lost;
       ends = false;
       ended = x.ended ∙ or_same a.wire.ended;
-      shut = x.shut;
+      shuts = false;
+      shut = x.shut ∙ or_same a.wire.shut;
       lines = still_lines a b x.events same (λ id. quiet is_of_flush (λ c. refl) id x.events x.own);
     }
 
@@ -162,6 +170,7 @@ pub runs_called : (a b : Tunnel) (es : List (Event × Reply)) → Happen es a.en
 runs_called a b es h leaves keeps wire lines = record {
   events = es;
   happen = h;
+  plain = leaves.3;
   came = [];
   gave = same_consumes a.wire.left b.wire.left (ap (λ (s : Seen). s.left) wire);
   fronts = leaves.0.1 (a.engine.incoming ++ []);
@@ -176,7 +185,8 @@ runs_called a b es h leaves keeps wire lines = record {
   lost = leaves.2;
   ends = false;
   ended = ap (λ (s : Seen). s.ended) wire ∙ or_same a.wire.ended;
-  shut = ap (λ (s : Seen). s.shut) wire;
+  shuts = false;
+  shut = ap (λ (s : Seen). s.shut) wire ∙ or_same a.wire.shut;
   lines = lines;
 }
 
@@ -195,6 +205,7 @@ runs_passed a b id d e n x wire at now =
     record {
       events = x.events;
       happen = x.happen;
+      plain = none.2;
       came = [];
       gave = same_consumes a.wire.left b.wire.left (ap (λ (s : Seen). s.left) wire);
       fronts = subst (λ (v : List ℕ). FeedsFront v x.events) (sym (append-nil a.engine.incoming)) x.fronts;
@@ -209,7 +220,8 @@ runs_passed a b id d e n x wire at now =
       lost = none.1;
       ends = false;
       ended = ap (λ (s : Seen). s.ended) wire ∙ or_same a.wire.ended;
-      shut = ap (λ (s : Seen). s.shut) wire;
+      shuts = false;
+      shut = ap (λ (s : Seen). s.shut) wire ∙ or_same a.wire.shut;
       lines = λ other. served_line id other a.lines b.lines d e x.events (nat_eq id other) refl at (now other) (life_trades id x.events d e (trades_passed id n a.engine b.engine d e x)) (others_quiet_passed id other x.events x.own);
     }
 
@@ -225,7 +237,7 @@ pub runs_forgot : (a b : Tunnel) (id : ℕ) (told : Reply) → Gives in_turn a.e
     ((other : ℕ) → look other b.lines ≡ cond (nat_eq id other) None (look other a.lines)) → Runs a b
 runs_forgot a b id told g keeps wire now =
     let es : List (Event × Reply) = (event.Call (call.Forget id), told) ∷ [] in
-    runs_called a b es (b.engine.session, g, refl) ((refl, λ w. (tt, tt)), refl, refl) keeps wire
+    runs_called a b es (b.engine.session, g, refl) ((refl, λ w. (tt, tt)), refl, refl, refl) keeps wire
     (λ other. changed_line id other a.lines b.lines None es (nat_eq id other) refl (now other) (life_leaves id told (look id a.lines)) (refl, refl, refl, refl, refl, refl))
 
 -- a stream was opened or accepted, and a device joined it
@@ -242,12 +254,12 @@ runs_joined a b c id d k opens quiet leaves g keeps wire same none j =
 pub runs_opened : (a b c : Tunnel) (id : ℕ) (d : Seen) → Gives in_turn a.engine.session (event.Call call.Open) (reply.Opened id) b.engine.session → KeepsWire a.engine b.engine → b.wire ≡ a.wire → b.lines ≡ a.lines →
     look id a.lines ≡ None → Joins id d b c → Runs a c
 runs_opened a b c id d g keeps wire same none j =
-    runs_joined a b c id d (event.Call call.Open, reply.Opened id) (same_id id) (λ other. (refl, refl, refl, refl, refl, refl)) ((refl, λ w. (tt, tt)), refl, refl) g keeps wire same none j
+    runs_joined a b c id d (event.Call call.Open, reply.Opened id) (same_id id) (λ other. (refl, refl, refl, refl, refl, refl)) ((refl, λ w. (tt, tt)), refl, refl, refl) g keeps wire same none j
 
 pub runs_accepted : (a b c : Tunnel) (id : ℕ) (d : Seen) → Gives in_turn a.engine.session (event.Call call.Accept) (reply.Accepted (Some id)) b.engine.session → KeepsWire a.engine b.engine → b.wire ≡ a.wire → b.lines ≡ a.lines →
     look id a.lines ≡ None → Joins id d b c → Runs a c
 runs_accepted a b c id d g keeps wire same none j =
-    runs_joined a b c id d (event.Call call.Accept, reply.Accepted (Some id)) (same_id id) (λ other. (refl, refl, refl, refl, refl, refl)) ((refl, λ w. (tt, tt)), refl, refl) g keeps wire same none j
+    runs_joined a b c id d (event.Call call.Accept, reply.Accepted (Some id)) (same_id id) (λ other. (refl, refl, refl, refl, refl, refl)) ((refl, λ w. (tt, tt)), refl, refl, refl) g keeps wire same none j
 
 -- calls that are quiet on every stream, but may reset and forget one that has no device
 pub runs_idle : (a b : Tunnel) (es : List (Event × Reply)) → Happen es a.engine.session b.engine.session → LeavesWire es → KeepsWire a.engine b.engine → b.wire ≡ a.wire → b.lines ≡ a.lines →
@@ -267,14 +279,14 @@ pub runs_alone : (a b : Tunnel) (k : Event × Reply) → ((id : ℕ) → IsQuiet
 runs_alone a b k quiet leaves g keeps wire same = runs_idle a b (k ∷ []) (b.engine.session, g, refl) leaves keeps wire same (λ id. life_quiet id (k ∷ []) (look id a.lines) (quiet id))
 
 pub runs_opened_alone : (a b : Tunnel) (told : Reply) → Gives in_turn a.engine.session (event.Call call.Open) told b.engine.session → KeepsWire a.engine b.engine → b.wire ≡ a.wire → b.lines ≡ a.lines → Runs a b
-runs_opened_alone a b told g keeps wire same = runs_alone a b (event.Call call.Open, told) (λ id. (refl, refl, refl, refl, refl, refl)) ((refl, λ w. (tt, tt)), refl, refl) g keeps wire same
+runs_opened_alone a b told g keeps wire same = runs_alone a b (event.Call call.Open, told) (λ id. (refl, refl, refl, refl, refl, refl)) ((refl, λ w. (tt, tt)), refl, refl, refl) g keeps wire same
 
 pub runs_accepted_alone : (a b : Tunnel) (told : Reply) → Gives in_turn a.engine.session (event.Call call.Accept) told b.engine.session → KeepsWire a.engine b.engine → b.wire ≡ a.wire → b.lines ≡ a.lines → Runs a b
-runs_accepted_alone a b told g keeps wire same = runs_alone a b (event.Call call.Accept, told) (λ id. (refl, refl, refl, refl, refl, refl)) ((refl, λ w. (tt, tt)), refl, refl) g keeps wire same
+runs_accepted_alone a b told g keeps wire same = runs_alone a b (event.Call call.Accept, told) (λ id. (refl, refl, refl, refl, refl, refl)) ((refl, λ w. (tt, tt)), refl, refl, refl) g keeps wire same
 
 -- the session is as it was
 runs_still : (a b : Tunnel) → b.engine.session ≡ a.engine.session → KeepsWire a.engine b.engine → b.wire ≡ a.wire → b.lines ≡ a.lines → Runs a b
-runs_still a b still keeps wire same = runs_idle a b [] still ((refl, λ w. tt), refl, refl) keeps wire same (λ id. life_quiet id [] (look id a.lines) (refl, refl, refl, refl, refl, refl))
+runs_still a b still keeps wire same = runs_idle a b [] still ((refl, λ w. tt), refl, refl, refl) keeps wire same (λ id. life_quiet id [] (look id a.lines) (refl, refl, refl, refl, refl, refl))
 
 -- no stream was opened, or none was offered
 pub runs_opens_none : (a b : Tunnel) (fault : CallFault) → OpensNone fault a.engine.session b.engine.session → KeepsWire a.engine b.engine → b.wire ≡ a.wire → b.lines ≡ a.lines → Runs a b
@@ -289,7 +301,7 @@ runs_dropped a b id none j =
     let up = j.up in
     let es : List (Event × Reply) = (event.Call (call.Reset id), up.told_reset) ∷ (event.Call (call.Forget id), up.told_forget) ∷ [] in
     let off : (other : ℕ) → (other == id) ≡ false → (id == other) ≡ false = λ other ne. other_id id id other (same_id id) ne in
-    runs_idle a b es (up.between, up.reset, (b.engine.session, up.forgotten, refl)) ((refl, λ w. (tt, (tt, tt))), refl, refl) j.keeps j.wire j.lines
+    runs_idle a b es (up.between, up.reset, (b.engine.session, up.forgotten, refl)) ((refl, λ w. (tt, (tt, tt))), refl, refl, refl) j.keeps j.wire j.lines
     (λ other. given_up_life id other a.lines es (nat_eq id other) refl none (refl, refl)
     (λ ne. (refl, refl, refl, refl, ap (λ (v : Bool). v || false) (off other ne), ap (λ (v : Bool). v || false) (off other ne))))
 
@@ -301,18 +313,18 @@ runs_given_up a b c id k quiet leaves g keeps wire same none j =
 
 pub runs_not_opened : (a b c : Tunnel) (id : ℕ) → Gives in_turn a.engine.session (event.Call call.Open) (reply.Opened id) b.engine.session → KeepsWire a.engine b.engine → b.wire ≡ a.wire → b.lines ≡ a.lines → look id a.lines ≡ None → DropsOut id b c → Runs a c
 runs_not_opened a b c id g keeps wire same none j =
-    runs_given_up a b c id (event.Call call.Open, reply.Opened id) (λ other. (refl, refl, refl, refl, refl, refl)) ((refl, λ w. (tt, tt)), refl, refl) g keeps wire same none j
+    runs_given_up a b c id (event.Call call.Open, reply.Opened id) (λ other. (refl, refl, refl, refl, refl, refl)) ((refl, λ w. (tt, tt)), refl, refl, refl) g keeps wire same none j
 
 pub runs_not_accepted : (a b c : Tunnel) (id : ℕ) → Gives in_turn a.engine.session (event.Call call.Accept) (reply.Accepted (Some id)) b.engine.session → KeepsWire a.engine b.engine → b.wire ≡ a.wire → b.lines ≡ a.lines → look id a.lines ≡ None → DropsOut id b c → Runs a c
 runs_not_accepted a b c id g keeps wire same none j =
-    runs_given_up a b c id (event.Call call.Accept, reply.Accepted (Some id)) (λ other. (refl, refl, refl, refl, refl, refl)) ((refl, λ w. (tt, tt)), refl, refl) g keeps wire same none j
+    runs_given_up a b c id (event.Call call.Accept, reply.Accepted (Some id)) (λ other. (refl, refl, refl, refl, refl, refl)) ((refl, λ w. (tt, tt)), refl, refl, refl) g keeps wire same none j
 
 -- a line was told of an event, and moved no byte
 pub runs_noted : (a b : Tunnel) (id : ℕ) (d e : Seen) → b.engine ≡ a.engine → b.wire ≡ a.wire → e ≡ d → look id a.lines ≡ Some d →
     ((other : ℕ) → look other b.lines ≡ cond (nat_eq id other) (Some e) (look other a.lines)) → Runs a b
 runs_noted a b id d e engine wire same at now =
     let life : Life id [] (Some d) (Some e) = subst (λ (v : Seen). Life id [] (Some d) (Some v)) (sym same) (life_quiet id [] (Some d) (refl, refl, refl, refl, refl, refl)) in
-    runs_called a b [] (ap (λ (v : Engine). v.session) engine) ((refl, λ w. tt), refl, refl)
+    runs_called a b [] (ap (λ (v : Engine). v.session) engine) ((refl, λ w. tt), refl, refl, refl)
     (record { outgoing = ap (λ (v : Engine). v.outgoing) engine; incoming = ap (λ (v : Engine). v.incoming) engine }) wire
     (λ other. served_line id other a.lines b.lines d e [] (nat_eq id other) refl at (now other) life (λ ne. (refl, refl, refl, refl, refl, refl)))
 
@@ -321,6 +333,7 @@ pub runs_ended : (a b : Tunnel) → b.engine ≡ a.engine → IsEnded a.wire b.w
 runs_ended a b engine x same = record {
   events = [];
   happen = ap (λ (v : Engine). v.session) engine;
+  plain = refl;
   came = [];
   gave = same_consumes a.wire.left b.wire.left x.left;
   fronts = tt;
@@ -335,9 +348,40 @@ runs_ended a b engine x same = record {
   lost = refl;
   ends = true;
   ended = x.ended ∙ or_true a.wire.ended;
-  shut = x.shut;
+  shuts = false;
+  shut = x.shut ∙ or_same a.wire.shut;
   lines = still_lines a b [] same (λ id. (refl, refl, refl, refl, refl, refl));
 }
+
+-- the wire was shut both ways
+pub runs_shut : (a b : Tunnel) → b.engine ≡ a.engine → IsShut a.wire b.wire → b.lines ≡ a.lines → Runs a b
+runs_shut a b engine x same = record {
+  events = [];
+  happen = ap (λ (v : Engine). v.session) engine;
+  plain = refl;
+  came = [];
+  gave = same_consumes a.wire.left b.wire.left x.left;
+  fronts = tt;
+  from_wire = append-nil a.engine.incoming ∙ sym (ap (λ (v : Engine). v.incoming) engine);
+  sent = [];
+  took = same_appends a.wire.had b.wire.had x.had;
+  to_wire = append-nil a.engine.outgoing ∙ sym (ap (λ (v : Engine). v.outgoing) engine);
+  said_end = false;
+  over = x.over ∙ or_same a.wire.over;
+  fails = false;
+  failed = x.failed ∙ or_same a.wire.failed;
+  lost = refl;
+  ends = false;
+  ended = x.ended ∙ or_same a.wire.ended;
+  shuts = true;
+  shut = x.shut ∙ or_true a.wire.shut;
+  lines = still_lines a b [] same (λ id. (refl, refl, refl, refl, refl, refl));
+}
+
+-- a ping was asked, or its answer collected
+pub runs_pinged : (a b : Tunnel) (c : Call) (told : Reply) → ((id : ℕ) → IsQuiet id ((event.Call c, told) ∷ [])) → opens_with (event.Call c) ≡ false → Gives in_turn a.engine.session (event.Call c) told b.engine.session → KeepsWire a.engine b.engine → b.wire ≡ a.wire → b.lines ≡ a.lines → Runs a b
+runs_pinged a b c told quiet plain g keeps wire same =
+    runs_alone a b (event.Call c, told) quiet ((refl, λ w. (tt, tt)), refl, refl, ap (λ (v : Bool). v || false) plain) g keeps wire same
 
 -- ---- lines and the map that keeps their devices
 

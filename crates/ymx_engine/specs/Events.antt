@@ -6,7 +6,7 @@ use Rattle.ymx_model.specs.declared.types.Event.TheVariants as event
 use Rattle.ymx_machine.specs.shared.Events.{Reply}
 use Rattle.ymx_machine.specs.declared.types.Reply.TheVariants as reply
 use Rattle.ymx_machine.specs.declared.types.CallFault.TheVariants.{OutOfMemory}
-use Rattle.ymx_machine.specs.shared.Replies.{bytes_moved}
+use Rattle.ymx_machine.specs.declared.types.Wrote.TheVariants.{Took}
 use Rattle.ymx_model.specs.session.Sessions.{Session}
 use Rattle.ymx_model.specs.session.Emissions.{in_turn}
 use Rattle.ymx_model.specs.session.Histories.{Gives}
@@ -26,9 +26,14 @@ is_on id (event.Call (call.Finish other)) = other == id
 is_on id (event.Call (call.Reset other)) = other == id
 is_on id _ = false
 
+-- how many bytes a write took
+abbrev pub took_count : Reply → ℕ
+took_count (reply.Wrote (Took n)) = n
+took_count _ = 0
+
 -- the bytes that the stream took at an event
 abbrev pub taken_at : ℕ → Event → Reply → List ℕ
-taken_at id (event.Call (call.Write other bytes)) told = if other == id then take (bytes_moved told) bytes else []
+taken_at id (event.Call (call.Write other bytes)) told = if other == id then take (took_count told) bytes else []
 taken_at id _ told = []
 
 abbrev pub taken : ℕ → List (Event × Reply) → List ℕ
@@ -108,3 +113,12 @@ lacks_memory_at id _ told = false
 abbrev pub lacks_memory : ℕ → List (Event × Reply) → Bool
 lacks_memory id [] = false
 lacks_memory id (e ∷ es) = lacks_memory_at id e.0 e.1 || lacks_memory id es
+
+-- a stream was opened with its first bytes, or this was refused
+abbrev pub opens_with : Event → Bool
+opens_with (event.Call (call.OpenWith bytes)) = true
+opens_with _ = false
+
+abbrev pub has_open_with : List (Event × Reply) → Bool
+has_open_with [] = false
+has_open_with (e ∷ es) = opens_with e.0 || has_open_with es

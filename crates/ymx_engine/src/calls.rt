@@ -4,13 +4,12 @@ ghost use Rattle.std.specs.Prelude.{◌≡◌, ◌<◌, ◌≤◌, [], length, t
 ghost use Rattle.ymx_model.specs.declared.types.Event.TheVariants as event;
 ghost use Rattle.ymx_machine.specs.declared.types.Call.TheVariants as call;
 ghost use Rattle.ymx_machine.specs.shared.Events.{Reply};
-ghost use Rattle.ymx_machine.specs.shared.Replies.{bytes_moved};
 ghost use Rattle.ymx_model.specs.session.Emissions.{in_turn};
 ghost use Rattle.ymx_model.specs.session.Histories.{Gives};
 ghost use Rattle.ymx_session.specs.declared.passing.Passing.{Passing};
 ghost use Rattle.ymx_session.specs.Passing.{passing, Passes};
 ghost use Rattle.ymx_session.specs.Streams.{waiting, room_of};
-ghost use Rattle.ymx_engine.specs.Events.{bytes_of, is_read_end, is_refusal, is_memory_refusal};
+ghost use Rattle.ymx_engine.specs.Events.{took_count, bytes_of, is_read_end, is_refusal, is_memory_refusal};
 
 use ymx_model::{Got, Wrote};
 use ymx_session::Session;
@@ -19,8 +18,8 @@ use ymx_session::Session;
 pub(crate) fn write(session: &mut Session, id: u32, bytes: &[u8]) -> bool
     requires some { 0 < length bytes.now }
     requires fits { length bytes.now ≤ room_of id session.old }
-    ensures took { result ≡ true → (told : Reply) × Gives in_turn session.old (event.Call (call.Write id bytes.now)) told session.new × (take (bytes_moved told) bytes.now ≡ bytes.now) × (is_refusal told ≡ false) }
-    ensures refused { result ≡ false → (told : Reply) × Gives in_turn session.old (event.Call (call.Write id bytes.now)) told session.new × (bytes_moved told ≡ 0) × (is_memory_refusal told ≡ true) × (0 < length bytes.now) }
+    ensures took { result ≡ true → (told : Reply) × Gives in_turn session.old (event.Call (call.Write id bytes.now)) told session.new × (take (took_count told) bytes.now ≡ bytes.now) × (is_refusal told ≡ false) }
+    ensures refused { result ≡ false → (told : Reply) × Gives in_turn session.old (event.Call (call.Write id bytes.now)) told session.new × (took_count told ≡ 0) × (is_memory_refusal told ≡ true) × (0 < length bytes.now) }
 {
     match session.write(id, bytes) {
         Ok(Wrote::Took(_)) => true,

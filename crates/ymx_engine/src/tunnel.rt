@@ -11,7 +11,7 @@ use crate::line::{Line, NotJoined, Registry, Wire};
 use indexmap::IndexMap;
 use std::alloc::Global;
 use std::marker::Model;
-use ymx_model::Status;
+use ymx_model::{CallFault, Status};
 
 /// No read of the wire has so many payloads: each has a byte at least, and a header of 12.
 const PAYLOADS: u32 = 131_072;
@@ -280,6 +280,31 @@ impl<D: Line + Drop, W: Wire + Drop> Tunnel<D, W> {
         ensures { Runs self.old self.new }
     {
         self.engine.flush(&mut self.wire);
+    }
+
+    /// Asks the peer for a sign of life, and returns the ping's number (ping). The refusals are those of `Session::ping`,
+    /// and change nothing.
+    pub fn ping(&mut self) -> Result<u32, CallFault>
+        ensures { Runs self.old self.new }
+    {
+        self.engine.ping()
+    }
+
+    /// Whether the answer to the pending ping of this number is back. If so it is collected (ping). The refusals are those
+    /// of `Session::ponged`, and change nothing.
+    pub fn ponged(&mut self, number: u32) -> Result<bool, CallFault>
+        ensures { Runs self.old self.new }
+    {
+        self.engine.ponged(number)
+    }
+
+    /// The peer counts as gone: the wire is shut both ways, and read and written once more, so that the session hears of
+    /// its end.
+    pub fn give_up_wire(&mut self)
+        ensures { Runs self.old self.new }
+    {
+        self.wire.shut();
+        self.engine.note_wire(true, true);
     }
 
     /// Nothing more goes over the wire.

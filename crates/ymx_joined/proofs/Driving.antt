@@ -184,11 +184,11 @@ advanced_at_server a e f ab ba x = (x.events, (inr (inl (advanced e f x ba ab)),
 
 pub flushed_at_client : (e f b : Engine) (ab ba ab_new ba_new : List ℕ) → IsFlushed e f ab ba ab_new ba_new →
     HasWireTurn A (record { a = e; b = b; ab = ab; ba = ba }) (record { a = f; b = b; ab = ab_new; ba = ba_new })
-flushed_at_client e f b ab ba ab_new ba_new x = (x.0, (inr (inr x.1), refl), flush_is_of_wire x.0 e f ab ba ab_new ba_new x.1)
+flushed_at_client e f b ab ba ab_new ba_new x = (x.0, (inr (inr (inl x.1)), refl), flush_is_of_wire x.0 e f ab ba ab_new ba_new x.1)
 
 pub flushed_at_server : (a e f : Engine) (ab ba ab_new ba_new : List ℕ) → IsFlushed e f ba ab ba_new ab_new →
     HasWireTurn B (record { a = a; b = e; ab = ab; ba = ba }) (record { a = a; b = f; ab = ab_new; ba = ba_new })
-flushed_at_server a e f ab ba ab_new ba_new x = (x.0, (inr (inr x.1), refl), flush_is_of_wire x.0 e f ba ab ba_new ab_new x.1)
+flushed_at_server a e f ab ba ab_new ba_new x = (x.0, (inr (inr (inl x.1)), refl), flush_is_of_wire x.0 e f ba ab ba_new ab_new x.1)
 
 -- ---- a serve
 

@@ -11,3 +11,5 @@ pub mod Piping
 pub mod Calling
 pub mod Turns
 pub mod Driving
+pub mod Tracing
+pub mod Tunneling

@@ -26,7 +26,7 @@ use Rattle.ymx_engine.specs.Events.{Happen}
 use Rattle.ymx_engine.specs.Wires.{emitted_at, emitted, fed_at, fed, is_of_read, is_of_flush, OffersFront, FeedsFront}
 use Rattle.ymx_engine.proofs.Exchanging.{happen_then}
 use Rattle.ymx_joined.specs.Tunnels.{entries_from, entries}
-use Rattle.ymx_joined.specs.Pairs.{Pair, is_call, IsCalls, IsRead, IsFlush, IsTurn, Turn, TakesTurn, TakeTurns, at_a, at_b, events_at_a, events_at_b, AreOnePipedRun}
+use Rattle.ymx_joined.specs.Pairs.{Pair, is_call, IsCalls, IsRead, IsFlush, IsTunnelTurn, IsTurn, Turn, TakesTurn, TakeTurns, at_a, at_b, events_at_a, events_at_b, AreOnePipedRun}
 use Rattle.ymx_joined.proofs.Histories.{replays}
 
 -- ---- a pipe of the world beside the bytes under way
@@ -233,10 +233,27 @@ flush_moves es old new to from to_new from_new x =
       to_wire = r.to_wire;
     } in subst (λ (v : List (Event × Reply)). Moves v old new to from to_new from_new) (sym x.events) moves
 
+tunnel_moves : (es : List (Event × Reply)) (old new : Engine) (to from to_new from_new : List ℕ) → IsTunnelTurn es old new to from to_new from_new → Moves es old new to from to_new from_new
+tunnel_moves es old new to from to_new from_new x =
+    let r = x.runs in
+    let moves : Moves r.events x.before.engine x.after.engine to from to_new from_new = record {
+      happen = r.happen;
+      came = r.came;
+      gave = consumed x.before.wire.left x.after.wire.left from from_new r.came x.left x.left_new r.gave;
+      fronts = r.fronts;
+      from_wire = r.from_wire;
+      sent = r.sent;
+      took = appended x.before.wire.had x.after.wire.had to to_new r.sent x.had x.had_new r.took;
+      to_wire = r.to_wire;
+    } in
+    subst (λ (v : List (Event × Reply)). Moves v old new to from to_new from_new) (sym x.events)
+    (subst (λ (e : Engine). Moves r.events e new to from to_new from_new) x.engine (subst (λ (e : Engine). Moves r.events x.before.engine e to from to_new from_new) x.engine_new moves))
+
 turn_moves : (es : List (Event × Reply)) (old new : Engine) (to from to_new from_new : List ℕ) → IsTurn es old new to from to_new from_new → Moves es old new to from to_new from_new
 turn_moves es old new to from to_new from_new (inl x) = calls_move es old new to from to_new from_new x
 turn_moves es old new to from to_new from_new (inr (inl x)) = read_moves es old new to from to_new from_new x
-turn_moves es old new to from to_new from_new (inr (inr x)) = flush_moves es old new to from to_new from_new x
+turn_moves es old new to from to_new from_new (inr (inr (inl x))) = flush_moves es old new to from to_new from_new x
+turn_moves es old new to from to_new from_new (inr (inr (inr x))) = tunnel_moves es old new to from to_new from_new x
 
 -- the pipe that a turn's side writes to, and `far` is what waits at the other side
 to_holds : (es : List (Event × Reply)) (old new : Engine) (to from to_new from_new far : List ℕ) (p : Pipe) → Moves es old new to from to_new from_new →

@@ -5,3 +5,4 @@ pub mod Example
 pub mod Pairs
 pub mod Reached
 pub mod Drives
+pub mod Carried

@@ -15,6 +15,8 @@ use Rattle.ymx_headline.specs.audit.Told.{IsOneRun}
 use Rattle.ymx_engine.specs.Devices.{Seen}
 use Rattle.ymx_engine.specs.Engines.{Engine, KeepsWire}
 use Rattle.ymx_engine.specs.Events.{Happen}
+use Rattle.ymx_engine.specs.Runs.{Runs}
+use Rattle.ymx_engine.specs.Tunnels.{Tunnel}
 use Rattle.ymx_engine.specs.Wires.{ReadsWire, FlushesWire}
 use Rattle.ymx_joined.specs.Tunnels.{entries}
 
@@ -75,10 +77,25 @@ pub record IsFlush (es : List (Event × Reply)) (old new : Engine) (to from to_n
   pub had_new : after.had ≡ Some to_new
   pub same_from : from_new ≡ from
 
+-- a tunnel made any number of calls, over a wire that gives the front of one pipe and puts what it takes behind the other's
+-- bytes; it may also fail, or say that no more bytes come
+pub record IsTunnelTurn (es : List (Event × Reply)) (old new : Engine) (to from to_new from_new : List ℕ) : Type 0 where
+  pub before : Tunnel
+  pub after : Tunnel
+  pub runs : Runs before after
+  pub events : es ≡ runs.events
+  pub engine : before.engine ≡ old
+  pub engine_new : after.engine ≡ new
+  pub left : before.wire.left ≡ Some from
+  pub left_new : after.wire.left ≡ Some from_new
+  pub had : before.wire.had ≡ Some to
+  pub had_new : after.wire.had ≡ Some to_new
+
 abbrev pub IsTurn : List (Event × Reply) → (old new : Engine) → (to from to_new from_new : List ℕ) → Type 0
 IsTurn es old new to from to_new from_new =
     IsCalls es old new to from to_new from_new
-    ⊎ (IsRead es old new to from to_new from_new ⊎ IsFlush es old new to from to_new from_new)
+    ⊎ (IsRead es old new to from to_new from_new
+    ⊎ (IsFlush es old new to from to_new from_new ⊎ IsTunnelTurn es old new to from to_new from_new))
 
 -- these feeds happened, and the wire was not asked for bytes, whatever the pipes carry
 abbrev pub HasFeeds : List (Event × Reply) → Engine → Engine → Type 0

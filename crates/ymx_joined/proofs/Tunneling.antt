@@ -1,0 +1,165 @@
+-- Two tunnels over two pipes: what each stream carries between its devices.
+use Rattle.std.proofs.Common.{◌≡◌, ℕ, List, [], ◌∷◌, ◌++◌, Bool, true, false, ◌||◌, Option, None, Some, refl, sym, ap, subst, ◌∙◌, inr, append-nil}
+use Rattle.std.specs.Prelude.{option_map, IfSome}
+use Rattle.ymx_machine.specs.declared.types.Side.{Side}
+use Rattle.ymx_machine.specs.declared.types.Side.TheVariants.{A, B}
+use Rattle.ymx_machine.specs.declared.types.Step.{Step}
+use Rattle.ymx_machine.specs.declared.types.Answer.{Answer}
+use Rattle.ymx_machine.specs.shared.Events.{Reply}
+use Rattle.ymx_machine.specs.Promise.{written, got, ended, finished}
+use Rattle.ymx_model.specs.session.Events.{Event}
+use Rattle.ymx_model.specs.declared.types.Role.TheVariants.{Client, Server}
+use Rattle.ymx_model.specs.session.Sessions.{Session, new_session}
+use Rattle.ymx_model.specs.session.Emissions.{in_turn}
+use Rattle.ymx_model.specs.world.Worlds.{new_pipe}
+use Rattle.ymx_headline.specs.Laws.{AreGood}
+use Rattle.ymx_headline.specs.machine.Faces.{DeliversWithin}
+use Rattle.ymx_headline.specs.audit.Told.{IsOneRun, told}
+use Rattle.ymx_headline.proofs.runs.Runs.{run-face}
+use Rattle.ymx_engine.specs.Devices.{Seen}
+use Rattle.ymx_engine.specs.Engines.{Engine}
+use Rattle.ymx_engine.specs.Events.{taken, given, has_end, has_finish, has_open_with, lacks_memory}
+use Rattle.ymx_engine.specs.Exchanges.{has_bytes}
+use Rattle.ymx_engine.specs.Lines.{all_of, kept_of, loses, Trades, Life}
+use Rattle.ymx_engine.specs.Tunnels.{look}
+use Rattle.ymx_engine.proofs.Advancing.{or_neither}
+use Rattle.ymx_engine.proofs.Listing.{plain_then}
+use Rattle.ymx_engine.proofs.Trading.{life_then, life_quiet}
+use Rattle.ymx_joined.specs.Tunnels.{entries}
+use Rattle.ymx_joined.specs.Pairs.{Pair, Turn, TakesTurn, TakeTurns, at_a, at_b, events_at_a, events_at_b}
+use Rattle.ymx_joined.specs.Carried.{TunnelPair, tunnels_of, Works, OneWorks, BothWork, Carries, CarriesBoth, TunnelsCarry, IsPassedOn}
+use Rattle.ymx_joined.proofs.Piping.{are_one_piped_run}
+use Rattle.ymx_joined.proofs.Tracing.{gathers_a, gathers_b, writes_of_a, writes_of_b, written_a, written_b, reads_of_a, reads_of_b, read_a, read_b, ends_of_a, ends_of_b, ended_a, ended_b, finishes_of_a, finishes_of_b, finished_a, finished_b, total}
+
+-- ---- the turns of two tunnels are turns of their engines
+
+one_turn : (side : Side) (es : List (Event × Reply)) (p q : TunnelPair) → OneWorks side es p q → TakesTurn side es p.pair q.pair
+one_turn A es p q t = (inr (inr (inr t.0.turn)), t.1)
+one_turn B es p q t = (inr (inr (inr t.0.turn)), t.1)
+
+turns_of : (ts : List Turn) (p q : TunnelPair) → BothWork ts p q → TakeTurns ts p.pair q.pair
+turns_of [] p q h = ap (λ (v : TunnelPair). v.pair) h
+turns_of (t ∷ ts) p q h = (h.0.pair, one_turn t.side t.events p h.0 h.1, turns_of ts h.0 q h.2)
+
+-- ---- no stream is opened with its first bytes
+
+works_plain : (es : List (Event × Reply)) (old new : Engine) (ls ms : List (ℕ × Seen)) (to from to_new from_new : List ℕ) → Works es old new ls ms to from to_new from_new → has_open_with es ≡ false
+works_plain es old new ls ms to from to_new from_new w = ap has_open_with w.turn.events ∙ w.turn.runs.plain
+
+plain_at_a : (side : Side) (es : List (Event × Reply)) (p q : TunnelPair) → OneWorks side es p q → has_open_with (at_a side es) ≡ false
+plain_at_a A es p q t = works_plain es _ _ _ _ _ _ _ _ t.0
+plain_at_a B es p q t = refl
+
+plain_at_b : (side : Side) (es : List (Event × Reply)) (p q : TunnelPair) → OneWorks side es p q → has_open_with (at_b side es) ≡ false
+plain_at_b A es p q t = refl
+plain_at_b B es p q t = works_plain es _ _ _ _ _ _ _ _ t.0
+
+plain_a : (ts : List Turn) (p q : TunnelPair) → BothWork ts p q → has_open_with (events_at_a ts) ≡ false
+plain_a [] p q h = refl
+plain_a (t ∷ ts) p q h = plain_then (at_a t.side t.events) (events_at_a ts) (plain_at_a t.side t.events p h.0 h.1) (plain_a ts h.0 q h.2)
+
+plain_b : (ts : List Turn) (p q : TunnelPair) → BothWork ts p q → has_open_with (events_at_b ts) ≡ false
+plain_b [] p q h = refl
+plain_b (t ∷ ts) p q h = plain_then (at_b t.side t.events) (events_at_b ts) (plain_at_b t.side t.events p h.0 h.1) (plain_b ts h.0 q h.2)
+
+-- ---- the devices of a stream
+
+works_life : (id : ℕ) (es : List (Event × Reply)) (old new : Engine) (ls ms : List (ℕ × Seen)) (to from to_new from_new : List ℕ) → Works es old new ls ms to from to_new from_new → Life id es (look id ls) (look id ms)
+works_life id es old new ls ms to from to_new from_new w =
+    subst (λ (v : List (Event × Reply)). Life id v (look id ls) (look id ms)) (sym w.turn.events)
+    (subst (λ (v : List (ℕ × Seen)). Life id w.turn.runs.events (look id v) (look id ms)) w.begins
+    (subst (λ (v : List (ℕ × Seen)). Life id w.turn.runs.events (look id w.turn.before.lines) (look id v)) w.ends (w.turn.runs.lines id)))
+
+stays : (id : ℕ) (ls ms : List (ℕ × Seen)) → ms ≡ ls → Life id [] (look id ls) (look id ms)
+stays id ls ms e = subst (λ (v : List (ℕ × Seen)). Life id [] (look id ls) (look id v)) (sym e) (life_quiet id [] (look id ls) (refl, refl, refl, refl, refl, refl))
+
+life_at_a : (id : ℕ) (side : Side) (es : List (Event × Reply)) (p q : TunnelPair) → OneWorks side es p q → Life id (at_a side es) (look id p.lines_a) (look id q.lines_a)
+life_at_a id A es p q t = works_life id es _ _ _ _ _ _ _ _ t.0
+life_at_a id B es p q t = stays id p.lines_a q.lines_a t.2
+
+life_at_b : (id : ℕ) (side : Side) (es : List (Event × Reply)) (p q : TunnelPair) → OneWorks side es p q → Life id (at_b side es) (look id p.lines_b) (look id q.lines_b)
+life_at_b id A es p q t = stays id p.lines_b q.lines_b t.2
+life_at_b id B es p q t = works_life id es _ _ _ _ _ _ _ _ t.0
+
+life_a : (id : ℕ) (ts : List Turn) (p q : TunnelPair) → BothWork ts p q → Life id (events_at_a ts) (look id p.lines_a) (look id q.lines_a)
+life_a id [] p q h = stays id p.lines_a q.lines_a (ap (λ (v : TunnelPair). v.lines_a) h)
+life_a id (t ∷ ts) p q h = life_then id (at_a t.side t.events) (events_at_a ts) _ _ _ (life_at_a id t.side t.events p h.0 h.1) (life_a id ts h.0 q h.2)
+
+life_b : (id : ℕ) (ts : List Turn) (p q : TunnelPair) → BothWork ts p q → Life id (events_at_b ts) (look id p.lines_b) (look id q.lines_b)
+life_b id [] p q h = stays id p.lines_b q.lines_b (ap (λ (v : TunnelPair). v.lines_b) h)
+life_b id (t ∷ ts) p q h = life_then id (at_b t.side t.events) (events_at_b ts) _ _ _ (life_at_b id t.side t.events p h.0 h.1) (life_b id ts h.0 q h.2)
+
+-- ---- what is carried
+
+-- what the promise says of a run, said of the events of both sides
+carried : (writer reader : Side) (window id : ℕ) (steps : List Step) (answers : List Answer) (from to : List (Event × Reply)) → DeliversWithin window writer reader id steps answers →
+    written writer id steps answers ≡ taken id from → got reader id steps answers ≡ given id to → ended reader id steps answers ≡ has_end id to →
+    (finished writer id steps answers ≡ true → has_finish id from ≡ true) → Carries id from to
+carried writer reader window id steps answers from to d w g e f = record {
+  begins = (d.face.begins.0, sym w ∙ d.face.begins.1 ∙ ap (λ (v : List ℕ). v ++ d.face.begins.0) g);
+  whole = λ h. sym w ∙ d.face.whole (e ∙ h) ∙ g;
+  finished = λ h. f (d.face.finish (e ∙ h));
+}
+
+pub tunnels_carry : (ts : List Turn) → TunnelsCarry ts
+tunnels_carry ts = λ wa fa wb fb q good r id.
+    let p = tunnels_of (new_session Client wa fa) (new_session Server wb fb) in
+    let es = events_at_a ts in
+    let fs = events_at_b ts in
+    let o = are_one_piped_run ts wa fa wb fb q.pair good (turns_of ts p q r) in
+    let one : IsOneRun in_turn (entries es) (entries fs) o.0 wa fa wb fb q.pair.a.session q.pair.b.session = o.1 in
+    let answers = told one.turns (entries es) (entries fs) in
+    let face = run-face in_turn o.0 answers wa fa wb fb one.world good one.runs id in
+    let plain_es = plain_a ts p q r in
+    let plain_fs = plain_b ts p q r in
+    record {
+      a = life_a id ts p q r;
+      b = life_b id ts p q r;
+      to_b = carried A B wb id o.0 answers es fs face.0
+          (gathers_a (writes_of_a id) one.turns new_pipe new_pipe false false 0 0 es fs o.0 one.joint refl refl plain_es ∙ written_a id es)
+          (gathers_b (reads_of_b id) one.turns new_pipe new_pipe false false 0 0 es fs o.0 one.joint refl refl plain_fs ∙ read_b id fs)
+          (gathers_b (ends_of_b id) one.turns new_pipe new_pipe false false 0 0 es fs o.0 one.joint refl refl plain_fs ∙ ended_b id fs)
+          (λ h. finished_a id es (sym (gathers_a (finishes_of_a id) one.turns new_pipe new_pipe false false 0 0 es fs o.0 one.joint refl refl plain_es) ∙ h));
+      to_a = carried B A wa id o.0 answers fs es face.1
+          (gathers_b (writes_of_b id) one.turns new_pipe new_pipe false false 0 0 es fs o.0 one.joint refl refl plain_fs ∙ written_b id fs)
+          (gathers_a (reads_of_a id) one.turns new_pipe new_pipe false false 0 0 es fs o.0 one.joint refl refl plain_es ∙ read_a id es)
+          (gathers_a (ends_of_a id) one.turns new_pipe new_pipe false false 0 0 es fs o.0 one.joint refl refl plain_es ∙ ended_a id es)
+          (λ h. finished_b id fs (sym (gathers_b (finishes_of_b id) one.turns new_pipe new_pipe false false 0 0 es fs o.0 one.joint refl refl plain_fs) ∙ h));
+    }
+
+-- ---- what two devices of a stream pass on
+
+none_in : (xs : List ℕ) → has_bytes xs ≡ false → xs ≡ []
+none_in [] h = refl
+none_in (x ∷ xs) h = let no : ⊥ = cc in absurd no
+
+nothing_lost : (ps : List (List ℕ × List ℕ)) → loses ps ≡ false → all_of ps ≡ kept_of ps
+nothing_lost [] h = refl
+nothing_lost (p ∷ ps) h =
+    let two = or_neither (has_bytes p.1) (loses ps) h in
+    ap (λ (v : List ℕ). (p.0 ++ v) ++ all_of ps) (none_in p.1 two.0) ∙ ap (λ (v : List ℕ). v ++ all_of ps) (append-nil p.0) ∙ ap (λ (v : List ℕ). p.0 ++ v) (nothing_lost ps two.1)
+
+-- bytes are lost only for want of memory
+no_cause : (b c : Bool) → c ≡ false → (b ≡ true → c ≡ true) → b ≡ false
+no_cause true c h f = sym (f refl) ∙ h
+no_cause false c h f = refl
+
+raised : (o p : Option Bool) (b : Bool) → p ≡ option_map (λ x. x || b) o → o ≡ Some false → p ≡ Some true → b ≡ true
+raised o p true e f g = refl
+raised o p false e f g = let q : p ≡ Some false = e ∙ ap (option_map (λ x. x || false)) f in let no : ⊥ = cc in absurd no
+
+pub devices_get : (id : ℕ) (from to : List (Event × Reply)) (d d2 e e2 : Seen) → Trades id from d d2 → Trades id to e e2 → Carries id from to → lacks_memory id from ≡ false → IsPassedOn d d2 e e2
+devices_get id from to d d2 e e2 x y c plenty =
+    let whole_pieces : loses x.pieces ≡ false = no_cause (loses x.pieces) (lacks_memory id from) plenty x.cause in
+    let same : all_of x.pieces ≡ taken id from = nothing_lost x.pieces whole_pieces ∙ sym x.kept in
+    let end_of : e.ended ≡ Some false → e2.ended ≡ Some true → has_end id to ≡ true = λ f g. raised e.ended e2.ended (has_end id to) y.ended f g in
+    record {
+      came = all_of x.pieces;
+      went = given id to;
+      rest = c.begins.0;
+      gave = x.to_peer;
+      took = y.from_peer;
+      begins = same ∙ c.begins.1;
+      whole = λ f g. same ∙ c.whole (end_of f g);
+      all = λ f g. x.whole (c.finished (end_of f g));
+    }

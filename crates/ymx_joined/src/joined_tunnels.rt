@@ -1,0 +1,27 @@
+//! The laws of two tunnels that are joined: the tunnel's promise. Each public function is a law: it does nothing, and its
+//! contract is the theorem.
+
+ghost use Rattle.std.specs.Prelude.{ℕ, ◌≡◌, List, false};
+ghost use Rattle.ymx_model.specs.session.Events.{Event};
+ghost use Rattle.ymx_machine.specs.shared.Events.{Reply};
+ghost use Rattle.ymx_engine.specs.Devices.{Seen};
+ghost use Rattle.ymx_engine.specs.Events.{lacks_memory};
+ghost use Rattle.ymx_engine.specs.Lines.{Trades};
+ghost use Rattle.ymx_joined.specs.Pairs.{Turn};
+ghost use Rattle.ymx_joined.specs.Carried.{Carries, IsPassedOn, TunnelsCarry};
+
+/// Two tunnels, a client's and a server's, over two pipes in memory. They make any calls, in any order; their devices and
+/// the pipes answer as they like, and may fail. Then what each stream gave at one end is a beginning of what it took at the
+/// other, and all of it once its end was read there. At each end the stream's own devices gave what it took, and took what
+/// it gave.
+pub fn tunnels_carry()
+    ensures { (turns : List Turn) → TunnelsCarry turns }
+{}
+
+/// What the device at one end of a stream takes is a beginning of what the device at the other end gave, unless a write of
+/// that was refused for want of memory. Where its end was passed on, it is all that the other had to give.
+pub fn devices_get_what_was_given()
+    ensures { (id : ℕ) (at_giver at_taker : List (Event × Reply)) (giver giver_new taker taker_new : Seen) →
+        Trades id at_giver giver giver_new → Trades id at_taker taker taker_new → Carries id at_giver at_taker → lacks_memory id at_giver ≡ false →
+        IsPassedOn giver giver_new taker taker_new }
+{}
