@@ -6,9 +6,14 @@ ends its side, and the target then answers some and ends its own. In each run on
 or one call about readiness: the first, the second and so on, up to the first number that a run doesn't come to.
 
 Whichever it is, both end within 60 seconds of what they wait for. A status is 0, and nothing is said, or it is 1 and
-one text is said: of the side that was refused `ymx: out of memory`, of `ymx local` also that it can't reach a
-`ymx remote` that has gone. What arrives is a beginning of what was sent, and all of it where both statuses are 0. So a
-`ymx remote` that rejects the stream, as it has no memory for it, says so too.
+one text is said: of the side that was refused an allocation `ymx: out of memory`, of the side that was refused a call
+that it can't listen, or can't reach its peer, and of `ymx local` also that it can't reach a `ymx remote` that has gone.
+What arrives is a beginning of what was sent, and all of it where both statuses are 0. So a `ymx remote` that rejects the
+stream, as it has no memory for it, says so too. Only where it is refused to watch its connection to the target does it
+reset the stream, as where the target refuses it, and says nothing.
+
+The same is tried of a side that is told `--keep`. A `ymx remote` then goes on, so it is ended from outside once
+`ymx local` has ended.
 
 `ymx selftest` is refused each in the same way, and the start of each thread. It ends within 60 seconds too: with status
 0 and its three lines, or with status 1 and one text: that there was no memory, that it can't listen, or which connection
@@ -19,6 +24,7 @@ import collections
 import functools
 import os
 import random
+import signal
 import socket
 import subprocess
 import sys
@@ -35,6 +41,8 @@ ANSWER = random.Random(4).randbytes(30_000)
 PATIENCE = 60.0
 OUT_OF_MEMORY = "ymx: out of memory\n"
 CANNOT_LISTEN = "ymx: cannot listen at 127.0.0.1:0\n"
+# What refuses a call about readiness.
+POLL = "FAIL_POLL_AT"
 # What `ymx selftest` prints.
 LINES = [f"connection {number}: {size} bytes echoed\n" for number, size in enumerate([0, 1, 300_000], 1)]
 
@@ -117,6 +125,13 @@ class Side:
         out, said = self.process.communicate(timeout=PATIENCE)
         return self.process.returncode, said if out == "" else f"on standard output {out!r}"
 
+    def end_kept(self):
+        """What it says, as a side that was ended from outside, or its status, if it has ended by itself."""
+        if self.process.poll() is None:
+            self.process.terminate()
+        status, said = self.end()
+        return (0 if said == "" else 1, said) if status == -signal.SIGTERM else (status, said)
+
     def kill(self):
         if self.process.poll() is None:
             self.process.kill()
@@ -150,7 +165,7 @@ class Tunnel:
                 side.kill()
         came = self.has_come()
         try:
-            return judge(name, near, far, questions, answer, sides), came
+            return judge(name, variable, near, far, questions, answer, sides), came
         except AssertionError as fault:
             raise SystemExit(f"FAIL  ymx {name}: {variable}={number}: {fault}: local {near}, remote {far}")
 
@@ -158,12 +173,15 @@ class Tunnel:
         """One connection: how both sides end, and what the client reads."""
         ports = free_ports(2)
         place, peer = (f"127.0.0.1:{port}" for port in ports)
+        side, *keep = name.split()
         words = [self.program, "remote", "--bind", peer, "--target", target.address, "--workers", "2"]
-        far = Side(words, ports[1], self.environment(name == "remote", variable, number))
+        is_refused = side == "remote"
+        far = Side(words + keep * is_refused, ports[1], self.environment(is_refused, variable, number))
         sides.append(far)
         far.is_there()
         words = [self.program, "local", "--listen", place, "--peer", peer, "--count", "1"]
-        near = Side(words, ports[0], self.environment(name == "local", variable, number))
+        is_refused = side == "local"
+        near = Side(words + keep * is_refused, ports[0], self.environment(is_refused, variable, number))
         sides.append(near)
         answer = ask(ports[0]) if near.is_there() else b""
         near_end = near.end()
@@ -171,7 +189,7 @@ class Tunnel:
             # It may have gone before it called.
             with socket.socket() as caller:
                 caller.connect_ex(("127.0.0.1", ports[1]))
-        return near_end, far.end(), answer
+        return near_end, far.end_kept() if name == "remote --keep" else far.end(), answer
 
     def run_selftest(self, variable, number):
         """Refuses `ymx selftest` what has this number: how the run ended, and whether it came to it."""
@@ -210,18 +228,24 @@ def ask(port):
         return read_all(client)
 
 
-def judge(name, near, far, questions, answer, sides):
+def judge(name, variable, near, far, questions, answer, sides):
     """How a run ended."""
     unreached = (1, f"ymx: cannot reach 127.0.0.1:{sides[0].port}\n")
     good = (0, "")
-    refused = (1, OUT_OF_MEMORY)
-    assert near in ([good, refused] if name == "local" else [good, unreached]), "local ends so"
-    assert far in ([good, refused] if name == "remote" else [good]), "remote ends so"
-    assert near != unreached or far == refused, "remote was there"
+    refused = {"local": [(1, OUT_OF_MEMORY)], "remote": [(1, OUT_OF_MEMORY)]}
+    if variable == POLL:
+        refused["remote"] = [(1, f"ymx: cannot listen at 127.0.0.1:{sides[0].port}\n")]
+        refused["local"] = [unreached, (1, f"ymx: cannot listen at 127.0.0.1:{sides[-1].port}\n")]
+    is_local = name.startswith("local")
+    assert near in ([good, *refused["local"]] if is_local else [good, unreached]), "local ends so"
+    assert far in ([good] if is_local else [good, *refused["remote"]]), "remote ends so"
+    assert near != unreached or variable == POLL or far in refused["remote"], "remote was there"
     assert len(questions) <= 1, "more than one connection"
     assert QUESTION.startswith(b"".join(questions)) and ANSWER.startswith(answer), "other bytes arrive"
     if (near, far) != (good, good):
-        return "out of memory"
+        return "out of memory" if variable != POLL else "refused by the system"
+    if variable == POLL and not is_local and (questions, answer) == ([b""], b""):
+        return "a reset stream"
     assert (questions, answer) == ([QUESTION], ANSWER), f"{list(map(len, questions))} and {len(answer)} bytes arrive"
     return "as ever"
 
@@ -259,11 +283,12 @@ def main():
     program, failing = sys.argv[1:]
     with tempfile.TemporaryDirectory() as folder:
         tunnel = Tunnel(program, failing, folder)
-        runs = {name: functools.partial(tunnel.run, name) for name in ("remote", "local")}
+        names = "remote", "local", "remote --keep", "local --keep"
+        runs = {name: functools.partial(tunnel.run, name) for name in names}
         runs["selftest"] = tunnel.run_selftest
         for name, run in runs.items():
             try_all(run, name, "FAIL_AT")
-            try_all(run, name, "FAIL_POLL_AT")
+            try_all(run, name, POLL)
         try_all(tunnel.run_selftest, "selftest", "FAIL_THREAD_AT")
 
 

@@ -65,10 +65,10 @@ def remote_kept(*words):
     return program, program.place(), target
 
 
-def local_kept(*words):
+def local_kept(*words, files=None):
     """`ymx local --keep`, where it listens, its first peer, and where its peers listen."""
     listener, address = listen()
-    program = Program("local", "-v", "--keep", "--listen", ANY, "--peer", address, *words)
+    program = Program("local", "-v", "--keep", "--listen", ANY, "--peer", address, *words, files=files)
     peer = accept(listener)
     place = program.place()
     says(program, COME)
@@ -198,6 +198,27 @@ def the_last_of_a_count():
     assert program.end() == (0, COME + connection(1, WHOLE) + GONE)
 
 
+def no_descriptor_left():
+    """At the limit no more connections are accepted until one has ended. Nothing ends by that."""
+    # Open are standard input, output and error, the session's connection, where it listens, the set of what it waits for,
+    # and two connections.
+    program, place, peer, _ = local_kept("--count", "4", files=8)
+    users = [call(place) for _ in range(4)]
+    for turn, stream in enumerate((1, 3), 1):
+        peer.accept(stream)
+        swap(peer, stream, users[turn - 1], BYTES)
+    for turn, stream in enumerate((5, 7), 1):
+        finish(peer, stream - 4, users[turn - 1])
+        says(program, connection(turn, WHOLE))
+        peer.accept(stream)
+        swap(peer, stream, users[turn + 1], BYTES)
+    for turn, stream in enumerate((5, 7), 3):
+        finish(peer, stream, users[turn - 1])
+        says(program, connection(turn, WHOLE))
+    leave(peer.connection)
+    assert program.end() == (0, GONE)
+
+
 def no_peer_at_first():
     """That is a fault."""
     listener, address = listen()
@@ -247,6 +268,7 @@ TESTS = (
     (f"{SESSIONS} peers of remote", many_peers, ()),
     ("a peer that comes again", a_peer_that_comes_again, ()),
     ("the last of a count", the_last_of_a_count, ()),
+    ("no descriptor left", no_descriptor_left, ()),
     ("no peer at first", no_peer_at_first, ()),
     ("a killed peer", a_killed_peer, ()),
     ("without --keep", without_keep, ()),

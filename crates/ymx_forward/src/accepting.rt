@@ -8,24 +8,41 @@ use std::{io, net};
 /// How often an accept whose connection went away meanwhile is made again in a row.
 const RETRIES: u32 = 1_024;
 
+/// The system's numbers for: no descriptor left in the system, none left in this process, no room for one more socket.
+const FULL: [i32; 3] = [23, 24, 105];
+
+/// Where connections come from.
+#[derive(Drop)]
+enum Source {
+    /// A listener of its own.
+    Listener(TcpListener),
+    /// No more are accepted.
+    Closed,
+    /// None can be accepted any more.
+    Failed,
+}
+
 /// Where connections come from, and how many may still come.
 #[derive(Drop)]
 pub(crate) struct Listening {
-    /// None once no more are accepted.
-    listener: Option<TcpListener>,
+    source: Source,
     /// Some may wait.
     can_accept: bool,
     /// How many are still to come, or as many as do.
     left: Option<u32>,
-    /// An accept failed.
-    has_failed: bool,
+    /// A want of descriptors or of memory doesn't end it.
+    is_patient: bool,
+    /// How many connections were open when there was no descriptor or no memory for one more.
+    full_at: Option<usize>,
 }
 
 impl Listening {
-    /// Accepts `count` connections, or as many as come, without waiting.
+    /// Accepts `count` connections, or as many as come, without waiting. Where no descriptor or no memory is left for one
+    /// more, a patient one goes on later.
     pub(crate) fn new(
         listener: net::TcpListener,
         count: Option<u32>,
+        is_patient: bool,
         registry: &Registry,
         token: Token,
     ) -> io::Result<Listening> {
@@ -33,33 +50,43 @@ impl Listening {
         let mut listener = TcpListener::from_std(listener);
         registry.register(&mut listener, token, Interest::READABLE)?;
         let mut listening = Listening {
-            listener: Some(listener),
+            source: Source::Listener(listener),
             can_accept: true,
             left: count,
-            has_failed: false,
+            is_patient,
+            full_at: None,
         };
         listening.stop_at_count();
         Ok(listening)
     }
 
-    /// An event says that connections wait.
+    /// An event says that connections wait, or it is time to look whether one can be accepted.
     pub(crate) fn note_event(&mut self) {
         self.can_accept = true;
     }
 
-    /// Whether a connection may wait to be accepted.
-    pub(crate) fn may_accept(&self) -> bool {
-        self.can_accept && self.listener.is_some()
+    /// Whether a connection may wait to be accepted, where so many are open.
+    pub(crate) fn may_accept(&self, open: usize) -> bool {
+        let has_room = self.full_at.is_some_and(|full| open < full);
+        (self.can_accept || has_room) && !self.is_over()
+    }
+
+    /// Whether one may wait for which there was no descriptor or no memory.
+    pub(crate) fn is_full(&self) -> bool {
+        self.full_at.is_some() && !self.is_over()
     }
 
     /// Whether no more are accepted.
     pub(crate) fn is_over(&self) -> bool {
-        self.listener.is_none()
+        match self.source {
+            Source::Listener(_) => false,
+            Source::Closed | Source::Failed => true,
+        }
     }
 
-    /// Whether an accept has failed.
+    /// Whether no more are accepted as none can be.
     pub(crate) fn has_failed(&self) -> bool {
-        self.has_failed
+        matches!(&self.source, Source::Failed)
     }
 
     /// Whether as many are accepted as come.
@@ -69,7 +96,14 @@ impl Listening {
 
     /// No more are accepted.
     pub(crate) fn stop(&mut self) {
-        self.listener = None;
+        self.source = Source::Closed;
+    }
+
+    /// One that came can't be served, as the system refuses to watch it. No more are accepted, unless it is a patient one.
+    pub(crate) fn fail_unwatched(&mut self) {
+        if !self.is_patient {
+            self.source = Source::Failed;
+        }
     }
 
     /// No more are accepted where none is left to come.
@@ -79,39 +113,73 @@ impl Listening {
         }
     }
 
-    /// The next connection that waits, which never waits itself. None if none waits, or none is accepted any more.
-    pub(crate) fn accept(&mut self) -> Option<TcpStream> {
-        let Some(listener) = &self.listener else {
+    /// The next connection that waits, which never waits itself, where so many are open. None if none waits, none can be
+    /// accepted now, or none is accepted any more.
+    pub(crate) fn accept(&mut self, open: usize) -> Option<TcpStream> {
+        let Source::Listener(listener) = &self.source else {
             return None;
         };
         match accept(listener) {
             Ok(socket) => {
+                self.can_accept = true;
+                self.full_at = None;
                 self.left = self.left.map(|left| left.saturating_sub(1));
                 self.stop_at_count();
                 Some(socket)
             }
-            Err(e) => {
+            Err(refusal) => {
                 self.can_accept = false;
-                if e.kind() != ErrorKind::WouldBlock {
-                    self.has_failed = true;
-                    self.stop();
-                }
+                self.hear(refusal, open);
                 None
             }
+        }
+    }
+
+    /// Hears why none was accepted.
+    fn hear(&mut self, refusal: Refusal, open: usize) {
+        match refusal {
+            Refusal::NoneWaits => self.full_at = None,
+            Refusal::Full if self.is_patient => self.full_at = Some(open),
+            Refusal::Full | Refusal::Other => self.source = Source::Failed,
+        }
+    }
+}
+
+/// Why no connection was accepted.
+#[derive(Clone, Copy)]
+enum Refusal {
+    /// None waits.
+    NoneWaits,
+    /// There is no descriptor or no memory for one more.
+    Full,
+    /// None can be accepted.
+    Other,
+}
+
+impl Refusal {
+    /// What this error of an accept says.
+    fn of(error: &io::Error) -> Refusal {
+        match error.kind() {
+            ErrorKind::WouldBlock => Refusal::NoneWaits,
+            ErrorKind::OutOfMemory => Refusal::Full,
+            _
+                if error
+                    .raw_os_error()
+                    .is_some_and(|number| FULL.contains(&number)) => Refusal::Full,
+            _ => Refusal::Other,
         }
     }
 }
 
 /// The next connection, made again where it went away meanwhile, or a signal interrupts it.
-fn accept(listener: &TcpListener) -> io::Result<TcpStream> {
+fn accept(listener: &TcpListener) -> Result<TcpStream, Refusal> {
     for _ in 0..RETRIES {
         match listener.accept() {
             Ok((socket, _)) => return Ok(socket),
             Err(e) if e.kind() == ErrorKind::Interrupted => {}
             Err(e) if e.kind() == ErrorKind::ConnectionAborted => {}
-            Err(e) => return Err(e),
+            Err(e) => return Err(Refusal::of(&e)),
         }
     }
-    let (socket, _) = listener.accept()?;
-    Ok(socket)
+    Err(Refusal::Other)
 }

@@ -1,23 +1,24 @@
 //! A tunnel over one connection, from its beginning to its end.
 
 use crate::sides::{Forwarded, TunnelSide};
-use crate::tunnel_end::TunnelEnd;
+use crate::tunnel_end::{TunnelEnd, new_events};
 use crate::watching::Watcher;
 use std::alloc::Global;
 use std::net::{Net, TcpStream};
 use std::sync::Wait;
+use std::time::Clock;
 
-/// Serves one side of the tunnel through one session, as [`TunnelEnd::forward`] does, after which none follows.
-pub(crate) fn forward<R: Net + Wait, V: Watcher>(
+/// Serves one side of the tunnel through one session, as [`TunnelEnd::forward`] does, after which none follows. None
+/// where there is no memory for that, or the system refuses to watch what is served.
+pub(crate) fn forward<R: Net + Clock + Wait, V: Watcher>(
     rt: &R,
     alloc: Global,
     connection: TcpStream,
     side: TunnelSide,
     window: u32,
     watcher: &mut V,
-) -> Forwarded {
-    match TunnelEnd::new(rt, side, false) {
-        Some(mut tunnel_end) => tunnel_end.forward(rt, alloc, connection, window, watcher),
-        None => Forwarded::without_memory(),
-    }
+) -> Option<Forwarded> {
+    let mut events = new_events(alloc).ok()?;
+    let mut tunnel_end = TunnelEnd::new(rt, side, false).ok()?;
+    Some(tunnel_end.forward(rt, alloc, connection, window, &mut events, watcher))
 }

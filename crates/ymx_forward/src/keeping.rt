@@ -6,15 +6,16 @@ ghost use Rattle.std.specs.Io.KnownBytes.{Keeps};
 use crate::meeting::Met;
 use crate::notices::ProgramWatcher;
 use crate::peer::Peer;
-use crate::programs::report_session;
+use crate::programs::{report, report_session};
 use crate::sockets::{accept, connect, listen};
 use crate::tell::cannot_listen;
-use crate::tunnel_end::TunnelEnd;
+use crate::tunnel_end::{Awaited, AwaitedPeer, TunnelEnd};
+use mio::Events;
 use std::alloc::Global;
-use std::io;
 use std::net::{Net, SocketAddr, TcpListener, TcpStream};
 use std::sync::Wait;
 use std::time::{Clock, Duration, Instant};
+use std::{io, thread};
 use ymx_arguments::{LocalOptions, PeerAddress, RemoteOptions};
 use ymx_model::Outlet;
 
@@ -24,6 +25,17 @@ const LASTING: u64 = 1;
 /// How many seconds go by at most between two calls.
 const LONGEST_PAUSE: u64 = 30;
 
+/// Why no session follows any more.
+#[derive(Clone, Copy, PartialEq, Eq)]
+enum KeptEnd {
+    /// As many connections have come as were to: all is done.
+    AllCame,
+    /// No connection can be accepted any more, or waited for.
+    NoConnections,
+    /// No peer can be accepted any more, or waited for.
+    NoPeers,
+}
+
 /// What follows a session.
 #[derive(Drop)]
 enum Next {
@@ -32,13 +44,13 @@ enum Next {
     /// None yet, as the peer can't be reached.
     Unreached,
     /// None any more.
-    Over,
+    Over(KeptEnd),
 }
 
 /// Forwards each connection that comes, through the session with this peer and those that follow it. Ends once no more
 /// connections come, or no peer can. Says each fault as it comes, and answers the exit status.
 pub(crate) fn keep_local<
-    R: Net<Stream = TcpStream, Listener = TcpListener> + Wait,
+    R: Net<Stream = TcpStream, Listener = TcpListener> + Clock + Wait,
     V: ProgramWatcher,
     E: Outlet,
 >(
@@ -47,6 +59,7 @@ pub(crate) fn keep_local<
     met: Met,
     tunnel_end: &mut TunnelEnd,
     options: LocalOptions,
+    events: &mut Events,
     watcher: &mut V,
     errors: &mut E,
 ) -> u8
@@ -61,27 +74,32 @@ pub(crate) fn keep_local<
     let mut next = session_over(Some(connection));
     for _ in rt.forever() {
         let served = match next {
-            Next::Peer(peer) => serve_local(rt, alloc, peer, tunnel_end, options, watcher, errors),
+            Next::Peer(peer) => {
+                serve_local(
+                    rt, alloc, peer, tunnel_end, options, events, watcher, errors,
+                )
+            }
             Next::Unreached => 0,
-            Next::Over => return end_status(alloc, tunnel_end, options, address, status, errors),
+            Next::Over(end) => return end_status(alloc, end, options, address, status, errors),
         };
         if status == 0 {
             status = served;
         }
         tunnel_end.refuse_waiting(watcher);
-        next = next_session(rt, alloc, tunnel_end, options.peer, address, watcher);
+        next = next_session(rt, tunnel_end, options.peer, address, events, watcher);
     }
     unreachable!()
 }
 
 /// Serves connections through a session with this peer, and says its fault. A peer that is awaited is said to have gone
-/// only once the next one can call. Answers 1 if the session broke or there was no memory, and else 0.
-fn serve_local<R: Net + Wait, V: ProgramWatcher, E: Outlet>(
+/// only once the next one can call. Answers 1 if something went wrong in the session, and else 0.
+fn serve_local<R: Net + Clock + Wait, V: ProgramWatcher, E: Outlet>(
     rt: &R,
     alloc: Global,
     peer: Peer,
     tunnel_end: &mut TunnelEnd,
     options: LocalOptions,
+    events: &mut Events,
     watcher: &mut V,
     errors: &mut E,
 ) -> u8
@@ -89,11 +107,11 @@ fn serve_local<R: Net + Wait, V: ProgramWatcher, E: Outlet>(
     ensures good { result ≡ 0 → Keeps (E.contents errors.old) (E.contents errors.new) }
 {
     watcher.came();
-    let forwarded = tunnel_end.forward_peer(rt, alloc, peer, options.window, watcher);
+    let forwarded = tunnel_end.forward_peer(rt, alloc, peer, options.window, events, watcher);
     if let PeerAddress::Connect(_) = options.peer {
         watcher.gone();
     }
-    report_session(alloc, forwarded, errors)
+    report(alloc, options, forwarded, errors)
 }
 
 /// A session over this connection. Where there is none the peer can't be reached.
@@ -107,46 +125,55 @@ fn session_over(connection: Option<TcpStream>) -> Next {
 /// Waits for what follows: a peer that is called is called at the next connection, and one that is awaited calls.
 fn next_session<R: Net<Stream = TcpStream, Listener = TcpListener> + Wait, V: ProgramWatcher>(
     rt: &R,
-    alloc: Global,
     tunnel_end: &mut TunnelEnd,
     peer: PeerAddress,
     address: SocketAddr,
+    events: &mut Events,
     watcher: &mut V,
 ) -> Next {
     match peer {
-        PeerAddress::Connect(_) if tunnel_end.await_connection(rt, alloc) => {
-            session_over(connect(rt, address))
-        }
-        PeerAddress::Connect(_) => Next::Over,
-        PeerAddress::Listen(_) => match next_peer(rt, alloc, tunnel_end, address, watcher) {
-            Some(peer) => Next::Peer(peer),
-            None => Next::Over,
+        PeerAddress::Connect(_) => match tunnel_end.await_connection(rt, events) {
+            Awaited::Came => session_over(connect(rt, address)),
+            Awaited::AllCame => Next::Over(KeptEnd::AllCame),
+            Awaited::Refused => Next::Over(KeptEnd::NoConnections),
+        },
+        PeerAddress::Listen(_) => match next_peer(rt, tunnel_end, address, events, watcher) {
+            AwaitedPeer::Came(peer) => Next::Peer(peer),
+            AwaitedPeer::AllCame => Next::Over(KeptEnd::AllCame),
+            AwaitedPeer::NoConnections => Next::Over(KeptEnd::NoConnections),
+            AwaitedPeer::Refused => Next::Over(KeptEnd::NoPeers),
         },
     }
 }
 
-/// Waits at this address for the next peer, which can call once it is said that the last one has gone. None if no peer
-/// can be accepted there, or no connections come any more.
+/// Waits at this address for the next peer, which can call once it is said that the last one has gone.
 fn next_peer<R: Net<Stream = TcpStream, Listener = TcpListener> + Wait, V: ProgramWatcher>(
     rt: &R,
-    alloc: Global,
     tunnel_end: &mut TunnelEnd,
     address: SocketAddr,
+    events: &mut Events,
     watcher: &mut V,
-) -> Option<Peer> {
-    let listener = if tunnel_end.is_over() {
-        None
-    } else {
-        listen(rt, address)
-    };
+) -> AwaitedPeer {
+    if tunnel_end.is_over() {
+        watcher.gone();
+        return if tunnel_end.accept_failed() {
+            AwaitedPeer::NoConnections
+        } else {
+            AwaitedPeer::AllCame
+        };
+    }
+    let listener = listen(rt, address);
     watcher.gone();
-    tunnel_end.await_peer(rt, alloc, listener?, watcher)
+    match listener {
+        Some(listener) => tunnel_end.await_peer(rt, listener, events, watcher),
+        None => AwaitedPeer::Refused,
+    }
 }
 
-/// The exit status where no session follows: `status`, unless connections can't be accepted any more, or peers.
+/// The exit status where no session follows: `status` if all is done, and else 1, for this reason, which is said.
 fn end_status<E: Outlet>(
     alloc: Global,
-    tunnel_end: &TunnelEnd,
+    end: KeptEnd,
     options: LocalOptions,
     peers: SocketAddr,
     status: u8,
@@ -155,13 +182,13 @@ fn end_status<E: Outlet>(
     requires { status ≤ 1 }
     ensures status { result ≤ 1 }
     ensures good { result ≡ 0 → (status ≡ 0) × Keeps (E.contents errors.old) (E.contents errors.new) }
+    // Status 0 comes only where as many connections have come as were to.
+    ensures done { result ≡ 0 → end ≡ KeptEnd.AllCame }
 {
-    if tunnel_end.accept_failed() {
-        return cannot_listen(alloc, options.listen, errors);
-    }
-    match options.peer {
-        PeerAddress::Listen(_) if !tunnel_end.is_over() => cannot_listen(alloc, peers, errors),
-        _ => status,
+    match end {
+        KeptEnd::AllCame => status,
+        KeptEnd::NoConnections => cannot_listen(alloc, options.listen, errors),
+        KeptEnd::NoPeers => cannot_listen(alloc, peers, errors),
     }
 }
 
@@ -169,7 +196,7 @@ fn end_status<E: Outlet>(
 /// the target. Says each fault as it comes. Ends only where nobody can be accepted any more, and answers the exit
 /// status.
 pub(crate) fn keep_remote<
-    R: Net<Stream = TcpStream, Listener = TcpListener> + Wait,
+    R: Net<Stream = TcpStream, Listener = TcpListener> + Clock + Wait,
     V: ProgramWatcher,
     E: Outlet,
 >(
@@ -178,6 +205,7 @@ pub(crate) fn keep_remote<
     met: Met,
     tunnel_end: &mut TunnelEnd,
     options: RemoteOptions,
+    events: &mut Events,
     watcher: &mut V,
     errors: &mut E,
 ) -> u8
@@ -193,8 +221,9 @@ pub(crate) fn keep_remote<
             return cannot_listen(alloc, address, errors);
         };
         watcher.came();
-        let forwarded = tunnel_end.forward(rt, alloc, connection, options.window, watcher);
-        report_session(alloc, forwarded, errors);
+        let window = options.window;
+        let forwarded = tunnel_end.forward(rt, alloc, connection, window, events, watcher);
+        report_session(alloc, options.peer, forwarded, errors);
         next = next_connection(rt, address, watcher);
     }
     unreachable!()
@@ -221,6 +250,7 @@ pub(crate) fn keep_calling<R: Net<Stream = TcpStream> + Clock + Wait, V: Program
     peer: SocketAddr,
     tunnel_end: &mut TunnelEnd,
     options: RemoteOptions,
+    events: &mut Events,
     watcher: &mut V,
     errors: &mut E,
 ) -> u8
@@ -228,10 +258,12 @@ pub(crate) fn keep_calling<R: Net<Stream = TcpStream> + Clock + Wait, V: Program
 {
     let mut seconds = 1u64;
     for _ in rt.forever() {
-        if has_served(rt, alloc, peer, tunnel_end, options, watcher, errors) {
+        if has_served(
+            rt, alloc, peer, tunnel_end, options, events, watcher, errors,
+        ) {
             seconds = 1;
         } else {
-            tunnel_end.pause(alloc, Duration::from_secs(seconds));
+            thread::sleep(rt, Duration::from_secs(seconds));
             seconds = seconds.saturating_mul(2).min(LONGEST_PAUSE);
         }
     }
@@ -245,6 +277,7 @@ fn has_served<R: Net<Stream = TcpStream> + Clock + Wait, V: ProgramWatcher, E: O
     peer: SocketAddr,
     tunnel_end: &mut TunnelEnd,
     options: RemoteOptions,
+    events: &mut Events,
     watcher: &mut V,
     errors: &mut E,
 ) -> bool {
@@ -254,8 +287,8 @@ fn has_served<R: Net<Stream = TcpStream> + Clock + Wait, V: ProgramWatcher, E: O
     };
     let began = Instant::now(rt);
     watcher.came();
-    let forwarded = tunnel_end.forward(rt, alloc, connection, options.window, watcher);
-    report_session(alloc, forwarded, errors);
+    let forwarded = tunnel_end.forward(rt, alloc, connection, options.window, events, watcher);
+    report_session(alloc, options.peer, forwarded, errors);
     watcher.gone();
     has_lasted(rt, began)
 }

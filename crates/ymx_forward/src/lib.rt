@@ -18,6 +18,7 @@ mod selftest;
 mod sides;
 mod socket;
 mod sockets;
+mod stillness;
 mod tell;
 mod tunnel;
 mod tunnel_end;

@@ -5,7 +5,7 @@ ghost use Rattle.std.specs.Io.KnownBytes.{Keeps};
 
 use crate::notices::ProgramWatcher;
 use crate::sockets::{accept, connect, listen};
-use crate::tell::{cannot_listen, cannot_reach};
+use crate::tell::cannot_meet;
 use std::alloc::Global;
 use std::net::{Net, SocketAddr, TcpListener, TcpStream};
 use ymx_arguments::PeerAddress;
@@ -58,12 +58,4 @@ fn receive<R: Net<Stream = TcpStream, Listener = TcpListener>, V: ProgramWatcher
         connection: accept(listener)?,
         address,
     })
-}
-
-/// Says that the peer can't be met so.
-fn cannot_meet<E: Outlet>(alloc: Global, peer: PeerAddress, errors: &mut E) {
-    match peer {
-        PeerAddress::Connect(address) => cannot_reach(alloc, address, errors),
-        PeerAddress::Listen(address) => cannot_listen(alloc, address, errors),
-    };
 }

@@ -120,6 +120,7 @@ fn refusal_line(number: u64, why: Declined) -> Line {
         Declined::OutOfMemory | Declined::BySession(CallFault::OutOfMemory(_)) => {
             writeln!(line, "ymx: connection {number}: no stream: Memory")
         }
+        Declined::Unwatched => { writeln!(line, "ymx: connection {number}: no stream: Unwatched") }
         Declined::BySession(fault) => {
             writeln!(line, "ymx: connection {number}: no stream: {fault}")
         }

@@ -1,6 +1,6 @@
 //! The two ends of a tunnel as programs.
 
-ghost use Rattle.std.specs.Prelude.{◌≡◌, ◌≤◌, false};
+ghost use Rattle.std.specs.Prelude.{◌≡◌, ◌≤◌, None, false};
 ghost use Rattle.std.specs.Io.KnownBytes.{Keeps};
 
 use crate::keeping::{keep_calling, keep_local, keep_remote};
@@ -8,8 +8,8 @@ use crate::meeting::meet;
 use crate::notices::{Notices, ProgramWatcher};
 use crate::sides::{Forwarded, TunnelSide};
 use crate::sockets::listen;
-use crate::tell::{cannot_listen, lacks_memory, session_broken};
-use crate::tunnel_end::TunnelEnd;
+use crate::tell::{cannot_listen, cannot_meet, lacked_memory, lacks_memory, session_broken};
+use crate::tunnel_end::{TunnelEnd, new_events};
 use crate::watching::Unwatched;
 use std::alloc::Global;
 use std::net::{Net, SocketAddr, TcpListener, TcpStream};
@@ -20,13 +20,11 @@ use ymx_model::Outlet;
 
 /// Meets the peer, and forwards each connection that comes as a stream. Says faults on `errors`, and the lines
 /// that `is_verbose` asks for on `lines`. Answers the exit status.
-pub fn run_local<R: Net<Stream = TcpStream, Listener = TcpListener> + Wait, E: Outlet, L: Outlet>(
-    rt: &R,
-    alloc: Global,
-    options: LocalOptions,
-    errors: &mut E,
-    lines: &mut L,
-) -> u8
+pub fn run_local<
+    R: Net<Stream = TcpStream, Listener = TcpListener> + Clock + Wait,
+    E: Outlet,
+    L: Outlet,
+>(rt: &R, alloc: Global, options: LocalOptions, errors: &mut E, lines: &mut L) -> u8
     ensures status { result ≤ 1 }
     ensures good { result ≡ 0 → Keeps (E.contents errors.old) (E.contents errors.new) }
     ensures silent { options.is_verbose ≡ false → Keeps (L.contents lines.old) (L.contents lines.new) }
@@ -40,7 +38,7 @@ pub fn run_local<R: Net<Stream = TcpStream, Listener = TcpListener> + Wait, E: O
 
 /// Meets the peer, and forwards each connection that comes as a stream. Answers the exit status.
 fn local_end<
-    R: Net<Stream = TcpStream, Listener = TcpListener> + Wait,
+    R: Net<Stream = TcpStream, Listener = TcpListener> + Clock + Wait,
     V: ProgramWatcher,
     E: Outlet,
 >(rt: &R, alloc: Global, options: LocalOptions, watcher: &mut V, errors: &mut E) -> u8
@@ -56,14 +54,28 @@ fn local_end<
     watcher.listening(&listener, options.listen);
     let count = options.count;
     let side = TunnelSide::Local { listener, count };
-    let Some(mut tunnel_end) = TunnelEnd::new(rt, side, options.is_kept) else {
-        return lacks_memory(errors);
+    let mut events = match new_events(alloc) {
+        Ok(events) => events,
+        Err(refused) => return lacks_memory(refused, errors),
+    };
+    let Ok(mut tunnel_end) = TunnelEnd::new(rt, side, options.is_kept) else {
+        return cannot_listen(alloc, options.listen, errors);
     };
     if options.is_kept {
-        return keep_local(rt, alloc, met, &mut tunnel_end, options, watcher, errors);
+        return keep_local(
+            rt,
+            alloc,
+            met,
+            &mut tunnel_end,
+            options,
+            &mut events,
+            watcher,
+            errors,
+        );
     }
-    let forwarded = tunnel_end.forward(rt, alloc, met.connection, options.window, watcher);
-    report(alloc, options.listen, forwarded, errors)
+    let window = options.window;
+    let forwarded = tunnel_end.forward(rt, alloc, met.connection, window, &mut events, watcher);
+    report(alloc, options, forwarded, errors)
 }
 
 /// Meets one peer, and connects each of its streams to the target. Says faults on `errors`, and the
@@ -99,14 +111,28 @@ fn remote_end<
     let Some(met) = meet(rt, alloc, options.peer, watcher, errors) else {
         return 1;
     };
-    let Some(mut tunnel_end) = TunnelEnd::new(rt, remote_side(options), options.is_kept) else {
-        return lacks_memory(errors);
+    let mut events = match new_events(alloc) {
+        Ok(events) => events,
+        Err(refused) => return lacks_memory(refused, errors),
+    };
+    let Ok(mut tunnel_end) = TunnelEnd::new(rt, remote_side(options), options.is_kept) else {
+        return cannot_meet(alloc, options.peer, errors);
     };
     if options.is_kept {
-        return keep_remote(rt, alloc, met, &mut tunnel_end, options, watcher, errors);
+        return keep_remote(
+            rt,
+            alloc,
+            met,
+            &mut tunnel_end,
+            options,
+            &mut events,
+            watcher,
+            errors,
+        );
     }
-    let forwarded = tunnel_end.forward(rt, alloc, met.connection, options.window, watcher);
-    report_session(alloc, forwarded, errors)
+    let window = options.window;
+    let forwarded = tunnel_end.forward(rt, alloc, met.connection, window, &mut events, watcher);
+    report_session(alloc, options.peer, forwarded, errors)
 }
 
 /// Calls the peer again and again, and connects each stream of a session to the target. Answers the exit status.
@@ -120,10 +146,23 @@ fn calling_end<R: Net<Stream = TcpStream> + Clock + Wait, V: ProgramWatcher, E: 
 ) -> u8
     ensures { result ≡ 1 }
 {
-    let Some(mut tunnel_end) = TunnelEnd::new(rt, remote_side(options), true) else {
-        return lacks_memory(errors);
+    let mut events = match new_events(alloc) {
+        Ok(events) => events,
+        Err(refused) => return lacks_memory(refused, errors),
     };
-    keep_calling(rt, alloc, peer, &mut tunnel_end, options, watcher, errors)
+    let Ok(mut tunnel_end) = TunnelEnd::new(rt, remote_side(options), true) else {
+        return cannot_meet(alloc, options.peer, errors);
+    };
+    keep_calling(
+        rt,
+        alloc,
+        peer,
+        &mut tunnel_end,
+        options,
+        &mut events,
+        watcher,
+        errors,
+    )
 }
 
 /// The side that `remote` serves.
@@ -134,29 +173,51 @@ fn remote_side(options: RemoteOptions) -> TunnelSide {
     }
 }
 
-/// Says what went wrong, if anything did, and answers the exit status: of a failed accept, a broken session and want
-/// of memory the first.
-fn report<E: Outlet>(alloc: Global, address: SocketAddr, forwarded: Forwarded, errors: &mut E) -> u8
+/// Says what went wrong, if anything did, and answers the exit status: of a failed accept, a broken session, a refusal
+/// of the system and want of memory the first.
+pub(crate) fn report<E: Outlet>(
+    alloc: Global,
+    options: LocalOptions,
+    forwarded: Forwarded,
+    errors: &mut E,
+) -> u8
     ensures status { result ≤ 1 }
     ensures good { result ≡ 0 → Keeps (E.contents errors.old) (E.contents errors.new) }
+    // Status 0 comes only where nothing went wrong.
+    ensures accepted { result ≡ 0 → forwarded.accept_failed ≡ false }
+    ensures whole { result ≡ 0 → forwarded.broken ≡ None }
+    ensures watched { result ≡ 0 → forwarded.is_unwatched ≡ false }
+    ensures memory { result ≡ 0 → forwarded.lacked_memory ≡ false }
 {
     if forwarded.accept_failed {
-        return cannot_listen(alloc, address, errors);
+        return cannot_listen(alloc, options.listen, errors);
     }
-    report_session(alloc, forwarded, errors)
+    report_session(alloc, options.peer, forwarded, errors)
 }
 
-/// Says what went wrong in a session, if anything did, and answers the exit status: of a broken session and want of
-/// memory the first.
-pub(crate) fn report_session<E: Outlet>(alloc: Global, forwarded: Forwarded, errors: &mut E) -> u8
+/// Says what went wrong in a session with this peer, if anything did, and answers the exit status: of a broken session, a
+/// refusal of the system and want of memory the first.
+pub(crate) fn report_session<E: Outlet>(
+    alloc: Global,
+    peer: PeerAddress,
+    forwarded: Forwarded,
+    errors: &mut E,
+) -> u8
     ensures status { result ≤ 1 }
     ensures good { result ≡ 0 → Keeps (E.contents errors.old) (E.contents errors.new) }
+    // Status 0 comes only where nothing went wrong in the session.
+    ensures whole { result ≡ 0 → forwarded.broken ≡ None }
+    ensures watched { result ≡ 0 → forwarded.is_unwatched ≡ false }
+    ensures memory { result ≡ 0 → forwarded.lacked_memory ≡ false }
 {
     if let Some(fault) = forwarded.broken {
         return session_broken(alloc, fault.number(), errors);
     }
+    if forwarded.is_unwatched {
+        return cannot_meet(alloc, peer, errors);
+    }
     if forwarded.lacked_memory {
-        return lacks_memory(errors);
+        return lacked_memory(errors);
     }
     0
 }

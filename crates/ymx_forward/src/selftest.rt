@@ -14,11 +14,12 @@ use crate::sockets::{connect, listen};
 use crate::tell::{cannot_listen, lacks_memory, say_fault};
 use crate::watching::Unwatched;
 use crossbeam_channel::{Receiver, Sender, bounded};
-use std::alloc::Global;
+use std::alloc::{AllocError, Global};
 use std::io::{Read, Write};
 use std::net::{Ipv4Addr, Net, Shutdown, SocketAddr, SocketAddrV4, TcpListener, TcpStream};
 use std::sync::Wait;
 use std::thread::Threads;
+use std::time::Clock;
 use std::{io, thread};
 use ymx_devices::push_all;
 use ymx_model::Outlet;
@@ -74,13 +75,13 @@ enum Stop {
     /// The writer failed.
     Writing,
     /// There was no memory.
-    Memory,
+    Memory(AllocError),
 }
 
 /// Sends three connections through both ends of a tunnel to an echo server, all on 127.0.0.1, and prints a line for
 /// each. Answers the exit status.
 pub fn run_selftest<
-    R: Net<Stream = TcpStream, Listener = TcpListener> + Threads + Wait + Sync,
+    R: Net<Stream = TcpStream, Listener = TcpListener> + Threads + Clock + Wait + Sync,
     W: Outlet,
     E: Outlet,
 >(rt: &R, alloc: Global, writer: &mut W, errors: &mut E) -> u8
@@ -94,21 +95,19 @@ pub fn run_selftest<
         Ok(()) => 0,
         Err(Stop::Connection(number)) => failed(alloc, number, errors),
         Err(Stop::Writing) => say_fault(errors, b"ymx: writing failed\n"),
-        Err(Stop::Memory) => lacks_memory(errors),
+        Err(Stop::Memory(refused)) => lacks_memory(refused, errors),
     }
 }
 
 /// Runs the three servers and the client in threads, and prints a line for each connection as it ends. Where a thread
 /// can't be made the first connection has failed.
-fn run_all<R: Net<Stream = TcpStream, Listener = TcpListener> + Threads + Wait + Sync, W: Outlet>(
-    rt: &R,
-    alloc: Global,
-    addresses: Addresses,
-    owned: Owned,
-    writer: &mut W,
-) -> Result<(), Stop> {
-    let Ok((sender, receiver)) = bounded::<Echoed, Global>(alloc, WAITING_RESULTS) else {
-        return Err(Stop::Memory);
+fn run_all<
+    R: Net<Stream = TcpStream, Listener = TcpListener> + Threads + Clock + Wait + Sync,
+    W: Outlet,
+>(rt: &R, alloc: Global, addresses: Addresses, owned: Owned, writer: &mut W) -> Result<(), Stop> {
+    let (sender, receiver) = match bounded::<Echoed, Global>(alloc, WAITING_RESULTS) {
+        Ok(ends) => ends,
+        Err(refused) => return Err(Stop::Memory(refused)),
     };
     let Owned {
         echo,
@@ -211,8 +210,9 @@ fn print_line<W: Outlet>(
     size: u32,
     writer: &mut W,
 ) -> Result<(), Stop> {
-    let Ok(line) = format!(in alloc; "connection {number}: {size} bytes echoed\n") else {
-        return Err(Stop::Memory);
+    let line = match format!(in alloc; "connection {number}: {size} bytes echoed\n") {
+        Ok(line) => line,
+        Err(refused) => return Err(Stop::Memory(refused)),
     };
     if push_all(writer, line.as_bytes()).is_err() {
         return Err(Stop::Writing);
@@ -226,7 +226,7 @@ fn failed<E: Outlet>(alloc: Global, number: u32, errors: &mut E) -> u8
 {
     match format!(in alloc; "ymx: selftest failed: connection {number}\n") {
         Ok(text) => say_fault(errors, text.as_bytes()),
-        Err(_) => lacks_memory(errors),
+        Err(refused) => lacks_memory(refused, errors),
     }
 }
 
@@ -251,7 +251,7 @@ fn serve_echoes(listener: TcpListener) {
 }
 
 /// The end of the tunnel at the echo server.
-fn run_remote_end<R: Net<Stream = TcpStream, Listener = TcpListener> + Wait>(
+fn run_remote_end<R: Net<Stream = TcpStream, Listener = TcpListener> + Clock + Wait>(
     rt: &R,
     alloc: Global,
     connection: TcpStream,
@@ -265,7 +265,7 @@ fn run_remote_end<R: Net<Stream = TcpStream, Listener = TcpListener> + Wait>(
 }
 
 /// The end of the tunnel at the client.
-fn run_local_end<R: Net<Stream = TcpStream, Listener = TcpListener> + Wait>(
+fn run_local_end<R: Net<Stream = TcpStream, Listener = TcpListener> + Clock + Wait>(
     rt: &R,
     alloc: Global,
     connection: TcpStream,

@@ -1,7 +1,10 @@
 //! The sides of a tunnel, and how one ended.
 
+ghost use Rattle.std.specs.Prelude.{◌≡◌, true};
+
 use std::net::{SocketAddr, TcpListener};
 use ymx_header::Fault;
+use ymx_memory::RefusedAllocation;
 
 /// Which side of a tunnel runs over a connection.
 #[derive(Drop)]
@@ -25,21 +28,39 @@ pub(crate) enum TunnelSide {
 /// How a tunnel ended.
 #[derive(Clone, Copy)]
 pub(crate) struct Forwarded {
-    /// No connection could be accepted any more.
+    /// No connection could be accepted any more, or the system refused to watch one that was. Where another session
+    /// follows it is only said whether the system did the latter.
     pub accept_failed: bool,
     /// The session broke.
     pub broken: Option<Fault>,
+    /// The system refused to watch the connection to the peer, or to wait for what happens there.
+    pub is_unwatched: bool,
     /// Somewhere no memory was found, as for a stream that the peer opened.
     pub lacked_memory: bool,
 }
 
 impl Forwarded {
     /// Nothing was done, for want of memory.
-    pub(crate) fn without_memory() -> Forwarded {
+    pub(crate) fn without_memory(_refused: RefusedAllocation) -> Forwarded
+        ensures { result.lacked_memory ≡ true }
+    {
         Forwarded {
             accept_failed: false,
             broken: None,
+            is_unwatched: false,
             lacked_memory: true,
+        }
+    }
+
+    /// Nothing was done, as the system refused to watch the connection to the peer.
+    pub(crate) fn unwatched() -> Forwarded
+        ensures { result.is_unwatched ≡ true }
+    {
+        Forwarded {
+            accept_failed: false,
+            broken: None,
+            is_unwatched: true,
+            lacked_memory: false,
         }
     }
 }

@@ -2,8 +2,9 @@
 
 ghost use Rattle.std.specs.Prelude.{◌≡◌};
 
-use std::alloc::Global;
+use std::alloc::{AllocError, Global};
 use std::net::SocketAddr;
+use ymx_arguments::PeerAddress;
 use ymx_devices::push_all;
 use ymx_model::Outlet;
 
@@ -15,11 +16,28 @@ pub(crate) fn say_fault<E: Outlet>(errors: &mut E, text: &[u8]) -> u8
     1
 }
 
-/// Says that there was no memory.
-pub(crate) fn lacks_memory<E: Outlet>(errors: &mut E) -> u8
+/// Says that there was no memory, as this says.
+pub(crate) fn lacks_memory<E: Outlet>(_refused: AllocError, errors: &mut E) -> u8
     ensures { result ≡ 1 }
 {
     say_fault(errors, b"ymx: out of memory\n")
+}
+
+/// Says that there was no memory somewhere in a session.
+pub(crate) fn lacked_memory<E: Outlet>(errors: &mut E) -> u8
+    ensures { result ≡ 1 }
+{
+    say_fault(errors, b"ymx: out of memory\n")
+}
+
+/// Says that the peer can't be met so.
+pub(crate) fn cannot_meet<E: Outlet>(alloc: Global, peer: PeerAddress, errors: &mut E) -> u8
+    ensures { result ≡ 1 }
+{
+    match peer {
+        PeerAddress::Connect(address) => cannot_reach(alloc, address, errors),
+        PeerAddress::Listen(address) => cannot_listen(alloc, address, errors),
+    }
 }
 
 /// Says that no connection can be had at this address.
@@ -28,7 +46,7 @@ pub(crate) fn cannot_reach<E: Outlet>(alloc: Global, address: SocketAddr, errors
 {
     match format!(in alloc; "ymx: cannot reach {address}\n") {
         Ok(text) => say_fault(errors, text.as_bytes()),
-        Err(_) => lacks_memory(errors),
+        Err(refused) => lacks_memory(refused, errors),
     }
 }
 
@@ -38,7 +56,7 @@ pub(crate) fn cannot_listen<E: Outlet>(alloc: Global, address: SocketAddr, error
 {
     match format!(in alloc; "ymx: cannot listen at {address}\n") {
         Ok(text) => say_fault(errors, text.as_bytes()),
-        Err(_) => lacks_memory(errors),
+        Err(refused) => lacks_memory(refused, errors),
     }
 }
 
@@ -48,6 +66,6 @@ pub(crate) fn session_broken<E: Outlet>(alloc: Global, number: u8, errors: &mut 
 {
     match format!(in alloc; "ymx: session broken: B{number}\n") {
         Ok(text) => say_fault(errors, text.as_bytes()),
-        Err(_) => lacks_memory(errors),
+        Err(refused) => lacks_memory(refused, errors),
     }
 }

@@ -3,7 +3,8 @@
 use crate::peer::Peer;
 use crate::sides::Forwarded;
 use crate::socket::Socket;
-use crate::tunnel_end::{LISTENER, Side, TunnelEnd};
+use crate::stillness::Stillness;
+use crate::tunnel_end::{LISTENER, RETRY, Side, TunnelEnd};
 use crate::watching::{Declined, EndedConnection, Ending, Watcher};
 use indexmap::IndexMap;
 use mio::event::Event;
@@ -13,10 +14,11 @@ use std::alloc::Global;
 use std::io;
 use std::net::{Net, SocketAddr};
 use std::sync::Wait;
-use std::time::Duration;
+use std::time::{Clock, Duration};
 use ymx_engine::{Device, Engine};
+use ymx_memory::insert;
 use ymx_model::{CallFault, Config, Role, Status};
-use ymx_session::Session;
+use ymx_session::{NewFault, Session};
 
 /// The wire's token.
 const WIRE: usize = 0;
@@ -43,14 +45,26 @@ const LEAST_STRAIGHT: usize = 65_536;
 /// How many bytes of connections are taken before they are written to the wire.
 const UNWRITTEN: u64 = 131_072;
 
-/// How many seconds in a row nothing may move where a session was lost and another follows.
-const PATIENCE: u32 = 10;
+/// How many seconds nothing may move where a session was lost and another follows.
+const PATIENCE: u64 = 10;
+
+/// How many seconds it waits for events there, so that it sees when nothing has moved for too long.
+const GLANCE: u64 = 1;
 
 /// A connection that is joined to a stream.
 #[derive(Drop)]
 struct OpenConnection {
     number: u64,
     socket: Socket,
+}
+
+/// Why a connection can't be joined to its stream.
+#[derive(Clone, Copy)]
+enum JoinFault {
+    /// The system refuses to watch it.
+    Unwatched,
+    /// There is no memory for it.
+    OutOfMemory,
 }
 
 /// The tunnel of one end: its engine, and the sockets that are the engine's wire and devices.
@@ -66,8 +80,12 @@ pub(crate) struct Tunnel<'a> {
     is_wire_closing: bool,
     /// The connections were told that the session was lost.
     is_loss_told: bool,
-    /// How many seconds went by since anything moved, after the session was lost.
-    silent_seconds: u32,
+    /// How long nothing has moved.
+    stillness: Stillness,
+    /// The system refused to wait for events.
+    is_unwatched: bool,
+    /// The system refused to watch a connection that came.
+    has_unwatched: bool,
     /// Somewhere no memory was found.
     lacked_memory: bool,
 }
@@ -75,15 +93,15 @@ pub(crate) struct Tunnel<'a> {
 impl<'a> Tunnel<'a> {
     // ---- how it begins
 
-    /// A tunnel over this wire that has moved nothing. None where there is no memory for it.
+    /// A tunnel over this wire that has moved nothing. The fault is that of a session that can't be made.
     pub(crate) fn new(
         alloc: Global,
         wire: &'a mut Socket,
         tunnel_end: &'a mut TunnelEnd,
         window: u32,
-    ) -> Option<Tunnel<'a>> {
+    ) -> Result<Tunnel<'a>, NewFault> {
         let engine = new_engine(alloc, role_of(&tunnel_end.side), window)?;
-        Some(Tunnel {
+        Ok(Tunnel {
             engine,
             tunnel_end,
             wire,
@@ -91,7 +109,9 @@ impl<'a> Tunnel<'a> {
             unwritten: 0,
             is_wire_closing: false,
             is_loss_told: false,
-            silent_seconds: 0,
+            stillness: Stillness::new(),
+            is_unwatched: false,
+            has_unwatched: false,
             lacked_memory: false,
         })
     }
@@ -99,7 +119,7 @@ impl<'a> Tunnel<'a> {
     // ---- how it goes on
 
     /// Runs until this side and all its connections have ended, and the wire has taken all that is due or has failed.
-    pub(crate) fn run<R: Net + Wait, V: Watcher>(
+    pub(crate) fn run<R: Net + Clock + Wait, V: Watcher>(
         &mut self,
         rt: &R,
         events: &mut Events,
@@ -110,11 +130,13 @@ impl<'a> Tunnel<'a> {
             if self.is_over() {
                 return;
             }
-            if self.await_events(events).is_err() {
-                self.end_all_without_memory(watcher);
+            if self.await_events(rt, events).is_err() {
+                self.end_all_unwatched(watcher);
                 return;
             }
-            if self.is_to_be_followed() && self.silent_seconds >= PATIENCE {
+            if self.is_to_be_followed()
+                && self.stillness.has_lasted(rt, Duration::from_secs(PATIENCE))
+            {
                 self.leave_all(watcher);
                 return;
             }
@@ -124,23 +146,35 @@ impl<'a> Tunnel<'a> {
     }
 
     /// Waits for events, unless something can be done without one, and notes what they say.
-    fn await_events(&mut self, events: &mut Events) -> io::Result<()> {
+    fn await_events<R: Clock>(&mut self, rt: &R, events: &mut Events) -> io::Result<()> {
         let is_waiting = !self.has_work();
-        let timeout = match (is_waiting, self.is_to_be_followed()) {
-            (false, _) => Some(Duration::ZERO),
-            (true, true) => Some(Duration::from_secs(1)),
-            (true, false) => None,
-        };
+        if is_waiting {
+            self.stillness.go_on(rt);
+        }
+        let timeout = self.timeout(is_waiting);
         self.tunnel_end.poll.poll(events, timeout)?;
-        self.silent_seconds = if is_waiting && events.is_empty() {
-            self.silent_seconds.saturating_add(1)
-        } else {
-            0
-        };
+        if !is_waiting || !events.is_empty() {
+            self.stillness.end();
+        } else if self.tunnel_end.is_full() {
+            self.tunnel_end.note_all();
+        }
         for event in events.iter() {
             self.note(event);
         }
         Ok(())
+    }
+
+    /// How long it waits for events. None if for as long as none comes.
+    fn timeout(&self, is_waiting: bool) -> Option<Duration> {
+        if !is_waiting {
+            return Some(Duration::ZERO);
+        }
+        if self.is_to_be_followed() {
+            return Some(Duration::from_secs(GLANCE));
+        }
+        self.tunnel_end
+            .is_full()
+            .then_some(Duration::from_secs(RETRY))
     }
 
     /// Does what can be done now.
@@ -159,7 +193,9 @@ impl<'a> Tunnel<'a> {
     /// Whether something can be done with no event.
     fn has_work(&self) -> bool {
         let accepts = match &self.tunnel_end.side {
-            Side::Local(listening) => listening.may_accept() && !self.is_to_be_followed(),
+            Side::Local(listening) => {
+                listening.may_accept(self.connections.len()) && !self.is_to_be_followed()
+            }
             Side::Remote { limit, .. } => {
                 self.connections.len() < *limit && self.engine.offered_count() > 0
             }
@@ -241,13 +277,14 @@ impl<'a> Tunnel<'a> {
             return;
         }
         for _ in 0..ACCEPTS {
+            let open = self.connections.len();
             let Side::Local(listening) = &mut self.tunnel_end.side else {
                 return;
             };
-            if !listening.may_accept() {
+            if !listening.may_accept(open) {
                 return;
             }
-            let Some(socket) = listening.accept() else {
+            let Some(socket) = listening.accept(open) else {
                 return;
             };
             self.begin_local(socket, watcher);
@@ -263,12 +300,18 @@ impl<'a> Tunnel<'a> {
         }
         let _ = socket.set_nodelay(true);
         match self.open() {
-            Ok(id) => {
-                if !self.join(id, number, Socket::connected(socket)) {
+            Ok(id) => match self.join(id, number, Socket::connected(socket)) {
+                Ok(()) => {}
+                Err(JoinFault::Unwatched) => {
+                    self.engine_refuse(id);
+                    self.stop_unwatched();
+                    watcher.refused(number, Declined::Unwatched);
+                }
+                Err(JoinFault::OutOfMemory) => {
                     self.refuse(id);
                     watcher.refused(number, Declined::OutOfMemory);
                 }
-            }
+            },
             Err(fault) => {
                 if matches!(fault, CallFault::OutOfMemory(_)) {
                     self.lacked_memory = true;
@@ -287,6 +330,14 @@ impl<'a> Tunnel<'a> {
         }
     }
 
+    /// The system refuses to watch a connection that came: it counts as one that could not be accepted.
+    fn stop_unwatched(&mut self) {
+        self.has_unwatched = true;
+        if let Side::Local(listening) = &mut self.tunnel_end.side {
+            listening.fail_unwatched();
+        }
+    }
+
     // ---- streams that come
 
     /// Begins a connection to the target for each stream that waits, as far as the limit lets it.
@@ -298,9 +349,11 @@ impl<'a> Tunnel<'a> {
             if self.connections.len() >= limit {
                 return;
             }
+            let before = self.engine.offered_count();
             match self.accept() {
                 Some(id) => self.begin_remote(rt, id, target, watcher),
-                None => self.lacked_memory = true,
+                // one that was taken, and for which there was no memory, isn't offered any more
+                None => self.lacked_memory |= self.engine.offered_count() < before,
             }
         }
     }
@@ -321,15 +374,22 @@ impl<'a> Tunnel<'a> {
             return;
         };
         let _ = socket.set_nodelay(true);
-        if !self.join(id, number, Socket::connecting(socket)) {
-            self.refuse(id);
-            let ended = EndedConnection::of_nothing(Ending::OutOfMemory);
-            watcher.ended(number, &ended);
-        }
+        let ending = match self.join(id, number, Socket::connecting(socket)) {
+            Ok(()) => return,
+            Err(JoinFault::Unwatched) => {
+                self.engine_refuse(id);
+                Ending::ConnectionFailed
+            }
+            Err(JoinFault::OutOfMemory) => {
+                self.refuse(id);
+                Ending::OutOfMemory
+            }
+        };
+        watcher.ended(number, &EndedConnection::of_nothing(ending));
     }
 
-    /// Joins a connection to its stream. False where there is no memory for it.
-    fn join(&mut self, id: u32, number: u64, socket: Socket) -> bool {
+    /// Joins a connection to its stream. Where it can't, the connection is closed.
+    fn join(&mut self, id: u32, number: u64, socket: Socket) -> Result<(), JoinFault> {
         let mut socket = socket;
         let token = Token((id as usize) + STREAMS);
         let both = Interest::READABLE | Interest::WRITABLE;
@@ -338,11 +398,13 @@ impl<'a> Tunnel<'a> {
             .poll
             .registry()
             .register(socket.source(), token, both);
-        registered.is_ok()
-            && self
-                .connections
-                .insert(id, OpenConnection { number, socket })
-                .is_ok()
+        if registered.is_err() {
+            return Err(JoinFault::Unwatched);
+        }
+        match insert(&mut self.connections, id, OpenConnection { number, socket }) {
+            Ok(()) => Ok(()),
+            Err(_) => Err(JoinFault::OutOfMemory),
+        }
     }
 
     /// Resets a stream for want of memory.
@@ -456,12 +518,13 @@ impl<'a> Tunnel<'a> {
         }
     }
 
-    /// Events can't be waited for any more, which counts as want of memory: says so of each connection, and closes all.
-    fn end_all_without_memory<V: Watcher>(&mut self, watcher: &mut V) {
-        self.lacked_memory = true;
+    /// Events can't be waited for any more, so the connection to the peer is given up: says so of each connection, and
+    /// closes all.
+    fn end_all_unwatched<V: Watcher>(&mut self, watcher: &mut V) {
+        self.is_unwatched = true;
         for place in 0..self.connections.len() {
             if let Some((_, connection)) = self.connections.get_index(place) {
-                let ended = EndedConnection::of_nothing(Ending::OutOfMemory);
+                let ended = EndedConnection::of_nothing(Ending::Lost);
                 watcher.ended(connection.number, &ended);
             }
         }
@@ -522,11 +585,13 @@ impl<'a> Tunnel<'a> {
     /// How it has ended.
     pub(crate) fn forwarded(&self) -> Forwarded {
         Forwarded {
-            accept_failed: self.tunnel_end.accept_failed(),
+            accept_failed: self.has_unwatched
+                || (!self.tunnel_end.is_kept && self.tunnel_end.accept_failed()),
             broken: match self.engine.status() {
                 Status::Broken(fault) => Some(fault),
                 _ => None,
             },
+            is_unwatched: self.is_unwatched,
             lacked_memory: self.lacked_memory || self.engine.has_lacked_memory(),
         }
     }
@@ -550,10 +615,10 @@ fn role_of(side: &Side) -> Role {
     }
 }
 
-/// An engine of a new session. None where there is no memory for it.
-fn new_engine(alloc: Global, role: Role, window: u32) -> Option<Engine> {
-    let session = Session::new(alloc, role, Config { window, first: 0 }).ok()?;
-    Engine::new(alloc, session).ok()
+/// An engine of a new session.
+fn new_engine(alloc: Global, role: Role, window: u32) -> Result<Engine, NewFault> {
+    let session = Session::new(alloc, role, Config { window, first: 0 })?;
+    Ok(Engine::new(alloc, session)?)
 }
 
 /// The connection to the peer, of whose events the poll tells.

@@ -9,15 +9,19 @@ use crate::tunnel::{Tunnel, wire_of};
 use crate::watching::{Declined, Watcher};
 use mio::net::TcpStream;
 use mio::{Events, Poll, Token};
-use std::alloc::Global;
+use std::alloc::{AllocError, Global};
 use std::net::{Net, SocketAddr};
 use std::sync::Wait;
-use std::time::Duration;
+use std::time::{Clock, Duration};
 use std::{io, net};
 use ymx_model::CallFault;
+use ymx_session::NewFault;
 
 /// How many events are taken at once.
 const EVENTS: usize = 256;
+
+/// How many seconds go by until it is tried again to accept a connection for which there was no descriptor or no memory.
+pub(crate) const RETRY: u64 = 1;
 
 /// The token of the listener for connections of users.
 pub(crate) const LISTENER: usize = 1;
@@ -32,6 +36,35 @@ pub(crate) enum Side {
     Local(Listening),
     /// They go to a target, so many at once.
     Remote { target: SocketAddr, limit: usize },
+}
+
+/// What came of waiting for a connection while there is no session.
+#[derive(Clone, Copy, PartialEq, Eq)]
+pub(crate) enum Awaited {
+    /// One waits for the next session.
+    Came,
+    /// None comes any more: as many have come as were to.
+    AllCame,
+    /// None can be accepted any more, or waited for.
+    Refused,
+}
+
+/// What came of waiting for the next peer.
+#[derive(Drop)]
+pub(crate) enum AwaitedPeer {
+    /// This one.
+    Came(Peer),
+    /// None is needed any more: as many connections have come as were to.
+    AllCame,
+    /// None, as no connection can be accepted any more.
+    NoConnections,
+    /// None can be accepted any more, or waited for.
+    Refused,
+}
+
+/// Room for the events that are taken at once.
+pub(crate) fn new_events(alloc: Global) -> Result<Events, AllocError> {
+    Events::with_capacity(alloc, EVENTS)
 }
 
 /// One side of a tunnel, which lasts through its sessions: connections are numbered on, and the listener of `Local`
@@ -49,12 +82,12 @@ pub(crate) struct TunnelEnd {
 }
 
 impl TunnelEnd {
-    /// A side that has served nothing. `is_kept` says that another session follows one that is lost. None where there
-    /// is no memory for it.
-    pub(crate) fn new<R: Net>(rt: &R, side: TunnelSide, is_kept: bool) -> Option<TunnelEnd> {
-        let poll = Poll::new(rt).ok()?;
-        let side = listen(side, &poll).ok()?;
-        Some(TunnelEnd {
+    /// A side that has served nothing. `is_kept` says that another session follows one that is lost. The error is the
+    /// system's, which refuses to watch where connections come from, or anything.
+    pub(crate) fn new<R: Net>(rt: &R, side: TunnelSide, is_kept: bool) -> io::Result<TunnelEnd> {
+        let poll = Poll::new(rt)?;
+        let side = listen(side, is_kept, &poll)?;
+        Ok(TunnelEnd {
             poll,
             side,
             is_kept,
@@ -72,46 +105,48 @@ impl TunnelEnd {
     /// connections that have taken nothing for ten seconds since the loss are closed.
     ///
     /// `window` is how many bytes of a stream may be unread here, 262,144 to 16,777,216.
-    pub(crate) fn forward<R: Net + Wait, V: Watcher>(
+    pub(crate) fn forward<R: Net + Clock + Wait, V: Watcher>(
         &mut self,
         rt: &R,
         alloc: Global,
         connection: net::TcpStream,
         window: u32,
+        events: &mut Events,
         watcher: &mut V,
     ) -> Forwarded {
         match Peer::new(connection) {
-            Some(peer) => self.forward_peer(rt, alloc, peer, window, watcher),
-            None => Forwarded::without_memory(),
+            Some(peer) => self.forward_peer(rt, alloc, peer, window, events, watcher),
+            None => Forwarded::unwatched(),
         }
     }
 
     /// Runs a session with this peer, as [`TunnelEnd::forward`] does over a connection.
-    pub(crate) fn forward_peer<R: Net + Wait, V: Watcher>(
+    pub(crate) fn forward_peer<R: Net + Clock + Wait, V: Watcher>(
         &mut self,
         rt: &R,
         alloc: Global,
         peer: Peer,
         window: u32,
+        events: &mut Events,
         watcher: &mut V,
     ) -> Forwarded {
-        let Ok(mut events) = Events::with_capacity(alloc, EVENTS) else {
-            return Forwarded::without_memory();
-        };
         self.note_all();
         let Ok(mut wire) = wire_of(peer, &self.poll) else {
-            return Forwarded::without_memory();
+            return Forwarded::unwatched();
         };
-        let Some(forwarded) = self.run(rt, alloc, &mut wire, window, &mut events, watcher) else {
-            return Forwarded::without_memory();
-        };
-        let is_broken = forwarded.broken.is_some();
-        close(rt, &mut self.poll, &mut events, &mut wire, is_broken);
-        forwarded
+        match self.run(rt, alloc, &mut wire, window, events, watcher) {
+            Ok(forwarded) => {
+                let is_broken = forwarded.broken.is_some();
+                close(rt, &mut self.poll, events, &mut wire, is_broken);
+                forwarded
+            }
+            Err(NewFault::OutOfMemory(refused)) => Forwarded::without_memory(refused),
+            Err(_) => Forwarded::unwatched(),
+        }
     }
 
-    /// Runs a session over this wire, until all that is due is sent. None where there is no memory for it.
-    fn run<R: Net + Wait, V: Watcher>(
+    /// Runs a session over this wire, until all that is due is sent. The fault is that of a session that can't be made.
+    fn run<R: Net + Clock + Wait, V: Watcher>(
         &mut self,
         rt: &R,
         alloc: Global,
@@ -119,83 +154,113 @@ impl TunnelEnd {
         window: u32,
         events: &mut Events,
         watcher: &mut V,
-    ) -> Option<Forwarded> {
+    ) -> Result<Forwarded, NewFault> {
         let mut tunnel = Tunnel::new(alloc, wire, self, window)?;
         tunnel.run(rt, events, watcher);
         let forwarded = tunnel.forwarded();
         // by a call, so that the drop of its parts is not proved here
         drop(tunnel);
-        Some(forwarded)
+        Ok(forwarded)
     }
 
     /// Connections may wait, of which an event was told before.
-    fn note_all(&mut self) {
+    pub(crate) fn note_all(&mut self) {
         if let Side::Local(listening) = &mut self.side {
             listening.note_event();
         }
     }
 
-    /// Waits, while there is no session, until a connection comes that the next session is to serve. False where it can
-    /// wait for none: all have come, an accept has failed, there is no memory for the events, or the system refuses to
-    /// wait.
-    pub(crate) fn await_connection<R: Wait>(&mut self, rt: &R, alloc: Global) -> bool {
-        let Ok(mut events) = Events::with_capacity(alloc, EVENTS) else {
-            return false;
-        };
+    /// Waits, while there is no session, until a connection comes that the next session is to serve, or none can come any
+    /// more. At the limit of descriptors it goes on once there is one.
+    pub(crate) fn await_connection<R: Wait>(&mut self, rt: &R, events: &mut Events) -> Awaited {
         for _ in rt.forever() {
             self.note_all();
             if self.take_waiting() {
-                return true;
+                return Awaited::Came;
             }
-            if self.is_over() || self.poll.poll(&mut events, None).is_err() {
-                return false;
+            if self.accept_failed() {
+                return Awaited::Refused;
+            }
+            if self.is_over() {
+                return Awaited::AllCame;
+            }
+            if self.wait(events, self.is_full()).is_err() {
+                return Awaited::Refused;
             }
         }
         unreachable!()
     }
 
     /// Waits, while there is no session, for the next peer at this listener, which is closed then. Connections that come
-    /// meanwhile are closed. None where it can wait for none: no peer can be accepted, no connections come any more, there
-    /// is no memory for the events, or the system refuses to wait.
+    /// meanwhile are closed. At the limit of descriptors it goes on once there is one.
     pub(crate) fn await_peer<R: Wait, V: Watcher>(
         &mut self,
         rt: &R,
-        alloc: Global,
         listener: net::TcpListener,
+        events: &mut Events,
         watcher: &mut V,
-    ) -> Option<Peer> {
-        let mut events = Events::with_capacity(alloc, EVENTS).ok()?;
-        let mut peers = self.listen_for_peers(listener).ok()?;
+    ) -> AwaitedPeer {
+        let Ok(mut peers) = self.listen_for_peers(listener) else {
+            return AwaitedPeer::Refused;
+        };
         for _ in rt.forever() {
             self.note_all();
             peers.note_event();
-            if let Some(socket) = peers.accept() {
-                return Some(Peer::of(socket));
+            if let Some(socket) = peers.accept(0) {
+                return AwaitedPeer::Came(Peer::of(socket));
             }
             if self.take_waiting() {
                 self.refuse_waiting(watcher);
-            } else if self.is_over() || peers.is_over() || self.wait(&mut events).is_err() {
-                return None;
+            } else if let Some(end) = self.end_of_wait(&peers) {
+                return end;
+            } else if self
+                .wait(events, self.is_full() || peers.is_full())
+                .is_err()
+            {
+                return AwaitedPeer::Refused;
             }
         }
         unreachable!()
     }
 
-    /// Accepts peers of this listener, without waiting.
-    fn listen_for_peers(&self, listener: net::TcpListener) -> io::Result<Listening> {
-        Listening::new(listener, None, self.poll.registry(), Token(PEERS))
+    /// Why no peer is awaited any more among these. None where one is.
+    fn end_of_wait(&self, peers: &Listening) -> Option<AwaitedPeer> {
+        if self.accept_failed() {
+            return Some(AwaitedPeer::NoConnections);
+        }
+        if self.is_over() {
+            return Some(AwaitedPeer::AllCame);
+        }
+        if peers.is_over() {
+            return Some(AwaitedPeer::Refused);
+        }
+        None
     }
 
-    /// Waits for events.
-    fn wait(&mut self, events: &mut Events) -> io::Result<()> {
-        self.poll.poll(events, None)
+    /// Accepts peers of this listener, without waiting.
+    fn listen_for_peers(&self, listener: net::TcpListener) -> io::Result<Listening> {
+        Listening::new(listener, None, true, self.poll.registry(), Token(PEERS))
+    }
+
+    /// Waits for events, and where a listener is full only for a while.
+    fn wait(&mut self, events: &mut Events, is_full: bool) -> io::Result<()> {
+        self.poll
+            .poll(events, is_full.then_some(Duration::from_secs(RETRY)))
+    }
+
+    /// Whether a connection may wait for which there was no descriptor or no memory.
+    pub(crate) fn is_full(&self) -> bool {
+        match &self.side {
+            Side::Local(listening) => listening.is_full(),
+            Side::Remote { .. } => false,
+        }
     }
 
     /// Accepts a connection that the next session is to serve. False if none waits.
     fn take_waiting(&mut self) -> bool {
         if self.waiting.is_none() {
             if let Side::Local(listening) = &mut self.side {
-                self.waiting = listening.accept();
+                self.waiting = listening.accept(0);
             }
         }
         self.waiting.is_some()
@@ -210,14 +275,7 @@ impl TunnelEnd {
         }
     }
 
-    /// Waits so long. A signal may end it, and where there is no memory for the events it doesn't wait.
-    pub(crate) fn pause(&mut self, alloc: Global, duration: Duration) {
-        if let Ok(mut events) = Events::with_capacity(alloc, EVENTS) {
-            let _ = self.poll.poll(&mut events, Some(duration));
-        }
-    }
-
-    /// Whether an accept has failed.
+    /// Whether no connection can be accepted any more.
     pub(crate) fn accept_failed(&self) -> bool {
         match &self.side {
             Side::Local(listening) => listening.has_failed(),
@@ -241,10 +299,11 @@ impl TunnelEnd {
 }
 
 /// Where the connections of this side come from, or where they go to.
-fn listen(side: TunnelSide, poll: &Poll) -> io::Result<Side> {
+fn listen(side: TunnelSide, is_kept: bool, poll: &Poll) -> io::Result<Side> {
     match side {
         TunnelSide::Local { listener, count } => {
-            let listening = Listening::new(listener, count, poll.registry(), Token(LISTENER))?;
+            let registry = poll.registry();
+            let listening = Listening::new(listener, count, is_kept, registry, Token(LISTENER))?;
             Ok(Side::Local(listening))
         }
         TunnelSide::Remote { target, workers } => Ok(Side::Remote {

@@ -44,8 +44,10 @@ pub(crate) struct EndedConnection {
 pub(crate) enum Declined {
     /// The session refused one.
     BySession(CallFault),
-    /// There was no memory to watch the connection, here or in the system.
+    /// There was no memory for the connection.
     OutOfMemory,
+    /// The system refused to watch the connection.
+    Unwatched,
 }
 
 /// Who is told of connections that have ended. Connections are numbered 1, 2, 3, .. as they begin, and each is told of
