@@ -137,6 +137,7 @@ holds 'both ends, frame by frame' python3 "$here/raw.py" "$ymx"
 holds 'connections beside others' python3 -B "$here/beside.py" "$ymx"
 holds 'one session after another' python3 -B "$here/kept.py" "$ymx"
 holds 'the side that calls is the one that serves' python3 -B "$here/calling.py" "$ymx"
+holds 'a peer that is silent' python3 -B "$here/silence.py" "$ymx"
 
 expect 0 "$here/help" nothing hello --help
 expect 0 "$here/local_help" nothing hello local --help
@@ -203,6 +204,13 @@ for count in 4294967296 x -1 +5 -0 +0 ' 5' '5 ' + ''; do
 done
 for workers in 0 1025 x +16 -16 ' 16' ''; do
     refuses 'error: ' remote --bind 127.0.0.1:0 --target 127.0.0.1:1 "--workers=$workers"
+done
+for seconds in 0 3601 x +5 -5 ' 5' ''; do
+    refuses 'error: ' local --listen 127.0.0.1:0 --peer 127.0.0.1:1 "--ping=$seconds"
+    refuses 'error: ' remote --bind 127.0.0.1:0 --target 127.0.0.1:1 "--ping=$seconds"
+done
+for peers in 0 257 x +5 -5 ' 5' ''; do
+    refuses 'error: ' remote --bind 127.0.0.1:0 --target 127.0.0.1:1 "--peers=$peers"
 done
 refuses "error: invalid value '+5' for '--count': a number is decimal digits alone" local --listen 127.0.0.1:0 --peer 127.0.0.1:1 --count +5
 refuses "error: invalid value '+300000' for '--limit': a number is decimal digits alone" frames --limit +300000

@@ -90,13 +90,16 @@ frames_numbers rows (inr (inr h)) = absurd (differ (codes "frames") (codes "remo
 
 -- those of `local`
 pub local_mistakes : (rows : List Row) → IsBadEnd (codes "local") rows →
-    IsBad 0 4294967295 (first_of (codes "count") rows) ⊎ (IsBad 262144 16777216 (first_of (codes "window") rows) ⊎ IsUndecided (first_of (codes "peer") rows) (first_of (codes "bind") rows))
+    IsBad 0 4294967295 (first_of (codes "count") rows) ⊎ (IsBad 262144 16777216 (first_of (codes "window") rows)
+    ⊎ (IsBad 1 3600 (first_of (codes "ping") rows) ⊎ IsUndecided (first_of (codes "peer") rows) (first_of (codes "bind") rows)))
 local_mistakes rows (inl h) = h.1
 local_mistakes rows (inr h) = absurd (differ (codes "local") (codes "remote") h.0 (λ e. omega arith))
 
 -- those of `remote`
 pub remote_mistakes : (rows : List Row) → IsBadEnd (codes "remote") rows →
-    IsBad 262144 16777216 (first_of (codes "window") rows) ⊎ (IsBad 1 1024 (first_of (codes "workers") rows) ⊎ IsUndecided (first_of (codes "peer") rows) (first_of (codes "bind") rows))
+    IsBad 262144 16777216 (first_of (codes "window") rows) ⊎ (IsBad 1 1024 (first_of (codes "workers") rows)
+    ⊎ (IsBad 1 3600 (first_of (codes "ping") rows) ⊎ (IsBad 1 256 (first_of (codes "peers") rows)
+    ⊎ IsUndecided (first_of (codes "peer") rows) (first_of (codes "bind") rows))))
 remote_mistakes rows (inl h) = absurd (differ (codes "remote") (codes "local") h.0 (λ e. omega arith))
 remote_mistakes rows (inr h) = h.1
 

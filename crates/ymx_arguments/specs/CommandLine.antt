@@ -120,6 +120,14 @@ window_rule = bytes_rule (codes "window")
 abbrev pub workers_rule : Rule
 workers_rule = record (number_rule (codes "workers") (pos 1) (pos 1024)) { defaults = codes "1024" ∷ [] }
 
+-- `--ping`, whose value is a number of seconds
+abbrev pub ping_rule : Rule
+ping_rule = number_rule (codes "ping") (pos 1) (pos 3600)
+
+-- `--peers`, whose value is a number in its range
+abbrev pub peers_rule : Rule
+peers_rule = number_rule (codes "peers") (pos 1) (pos 256)
+
 -- `--verbose`, or `-v`, a flag
 abbrev pub verbose_rule : Rule
 verbose_rule = record (new_rule (codes "verbose")) {
@@ -140,18 +148,26 @@ abbrev pub local_start : App
 local_start = with_rule (with_rule (with_rule (new_app (codes "local")) (needed_address_rule (codes "listen"))) (address_rule (codes "peer")))
     (renamed_address_rule (codes "bind") (codes "await"))
 
+-- `local` with what says how long it goes on
+abbrev pub local_lasting : App
+local_lasting = with_rule (with_rule (with_rule local_start keep_rule) ping_rule) count_rule
+
 -- `local`
 abbrev pub local_shape : Shape
-local_shape = (with_rule (with_rule (with_rule (with_rule local_start keep_rule) count_rule) window_rule) verbose_rule).top
+local_shape = (with_rule (with_rule local_lasting window_rule) verbose_rule).top
 
 -- `remote` with its addresses
 abbrev pub remote_start : App
 remote_start = with_rule (with_rule (with_rule (new_app (codes "remote")) (address_rule (codes "bind")))
     (renamed_address_rule (codes "peer") (codes "call"))) (needed_address_rule (codes "target"))
 
+-- `remote` with what says how long it goes on, and with how many
+abbrev pub remote_lasting : App
+remote_lasting = with_rule (with_rule (with_rule remote_start keep_rule) peers_rule) ping_rule
+
 -- `remote`
 abbrev pub remote_shape : Shape
-remote_shape = (with_rule (with_rule (with_rule (with_rule remote_start keep_rule) window_rule) workers_rule) verbose_rule).top
+remote_shape = (with_rule (with_rule (with_rule remote_lasting window_rule) workers_rule) verbose_rule).top
 
 -- a subcommand that takes nothing
 abbrev pub bare_shape : List ℕ → Shape
@@ -207,9 +223,10 @@ IsUndecided (Some text) (Some other) = ⊤
 abbrev pub IsBadEnd : Text → List Row → Type 0
 IsBadEnd name rows =
     ((name ≡ codes "local") × (IsBad 0 4294967295 (first_of (codes "count") rows) ⊎ (IsBad 262144 16777216 (first_of (codes "window") rows)
-    ⊎ IsUndecided (first_of (codes "peer") rows) (first_of (codes "bind") rows))))
+    ⊎ (IsBad 1 3600 (first_of (codes "ping") rows) ⊎ IsUndecided (first_of (codes "peer") rows) (first_of (codes "bind") rows)))))
     ⊎ ((name ≡ codes "remote") × (IsBad 262144 16777216 (first_of (codes "window") rows) ⊎ (IsBad 1 1024 (first_of (codes "workers") rows)
-    ⊎ IsUndecided (first_of (codes "peer") rows) (first_of (codes "bind") rows))))
+    ⊎ (IsBad 1 3600 (first_of (codes "ping") rows) ⊎ (IsBad 1 256 (first_of (codes "peers") rows)
+    ⊎ IsUndecided (first_of (codes "peer") rows) (first_of (codes "bind") rows))))))
 
 -- of a subcommand that was met: the same
 abbrev pub HasBadOption : Text × List Row → Type 0
@@ -329,14 +346,15 @@ IsBadPeer given (bad.Address text) =
 -- the options of `local` can't be taken: a number isn't in its range, or this mistake says what is wrong with an address
 abbrev pub IsBadLocal : (given : Text → Option Text) → BadOption → Type 0
 IsBadLocal given mistake =
-    IsBad 0 4294967295 (given (codes "count")) ⊎ (IsBad 262144 16777216 (given (codes "window"))
-    ⊎ (IsBadPeer given mistake ⊎ IsNoAddress (given (codes "listen")) mistake))
+    IsBad 0 4294967295 (given (codes "count")) ⊎ (IsBad 262144 16777216 (given (codes "window")) ⊎ (IsBad 1 3600 (given (codes "ping"))
+    ⊎ (IsBadPeer given mistake ⊎ IsNoAddress (given (codes "listen")) mistake)))
 
 -- the same of `remote`
 abbrev pub IsBadRemote : (given : Text → Option Text) → BadOption → Type 0
 IsBadRemote given mistake =
     IsBad 262144 16777216 (given (codes "window")) ⊎ (IsBad 1 1024 (given (codes "workers"))
-    ⊎ (IsBadPeer given mistake ⊎ IsNoAddress (given (codes "target")) mistake))
+    ⊎ (IsBad 1 3600 (given (codes "ping")) ⊎ (IsBad 1 256 (given (codes "peers"))
+    ⊎ (IsBadPeer given mistake ⊎ IsNoAddress (given (codes "target")) mistake))))
 
 -- `local` is told what its options say, of which each was given this text, or none: addresses and numbers as they are spelled, one
 -- way to meet its peer, and defaults where nothing was given.
@@ -344,6 +362,7 @@ abbrev pub IsLocalOf : (given : Text → Option Text) → (flag : Text → Optio
 IsLocalOf given flag (tunnel.Local local) =
     IsAddressOf (given (codes "listen")) local.listen × IsPeerOf given local.peer
     × ReadsAs 0 4294967295 (given (codes "count")) local.count × ReadsOr 262144 16777216 262144 (given (codes "window")) local.window
+    × ReadsAs 1 3600 (given (codes "ping")) local.ping
     × ReadsFlag (flag (codes "keep")) local.is_kept × ReadsFlag (flag (codes "verbose")) local.is_verbose
 IsLocalOf given flag (tunnel.Remote remote) = ⊥
 IsLocalOf given flag tunnel.Selftest = ⊥
@@ -354,6 +373,7 @@ IsRemoteOf given flag (tunnel.Remote remote) =
     IsPeerOf given remote.peer × IsAddressOf (given (codes "target")) remote.target
     × ReadsOr 262144 16777216 262144 (given (codes "window")) remote.window
     × ReadsOr 1 1024 1024 (given (codes "workers")) remote.workers
+    × ReadsAs 1 3600 (given (codes "ping")) remote.ping × ReadsAs 1 256 (given (codes "peers")) remote.peers
     × ReadsFlag (flag (codes "keep")) remote.is_kept × ReadsFlag (flag (codes "verbose")) remote.is_verbose
 IsRemoteOf given flag (tunnel.Local local) = ⊥
 IsRemoteOf given flag tunnel.Selftest = ⊥

@@ -3,7 +3,7 @@
 ghost use Rattle.std.specs.Prelude.{◌≡◌, false, IfOk};
 ghost use Rattle.clap.specs.Words.{app_of, rule_of, shape_of};
 ghost use Rattle.clap.specs.declared.builder.command.Command.TheViews.{out-Command as fields_of};
-ghost use Rattle.ymx_arguments.specs.CommandLine.{address_rule, count_rule, keep_rule, local_shape, local_start, needed_address_rule, remote_shape, remote_start, renamed_address_rule, verbose_rule, window_rule, workers_rule};
+ghost use Rattle.ymx_arguments.specs.CommandLine.{address_rule, count_rule, keep_rule, local_lasting, local_shape, local_start, needed_address_rule, peers_rule, ping_rule, remote_lasting, remote_shape, remote_start, renamed_address_rule, verbose_rule, window_rule, workers_rule};
 
 use crate::arguments::{bytes_argument, number_argument, titled};
 use clap::{Arg, ArgAction, Command};
@@ -13,11 +13,19 @@ use std::alloc::{AllocError, Global};
 pub(crate) fn local_command<'a>(alloc: Global) -> Result<Command<'a>, AllocError>
     ensures { IfOk result (λ command. (shape_of command ≡ local_shape) × ((fields_of command).has_globals ≡ false)) }
 {
-    local_addresses(alloc)?
-        .arg(keep_argument(alloc, "Meet the peer again, once it was lost"))?
-        .arg(count_argument(alloc))?
+    local_lasting(alloc)?
         .arg(window_argument(alloc))?
         .arg(verbose_argument(alloc))
+}
+
+/// The subcommand `local` with its addresses, and what says how long it goes on.
+fn local_lasting<'a>(alloc: Global) -> Result<Command<'a>, AllocError>
+    ensures { IfOk result (λ command. (app_of command ≡ local_lasting) × ((fields_of command).has_globals ≡ false)) }
+{
+    local_addresses(alloc)?
+        .arg(keep_argument(alloc, "Meet the peer again, once it was lost"))?
+        .arg(ping_argument(alloc))?
+        .arg(count_argument(alloc))
 }
 
 /// The subcommand `local` with its addresses.
@@ -52,11 +60,20 @@ fn local_addresses<'a>(alloc: Global) -> Result<Command<'a>, AllocError>
 pub(crate) fn remote_command<'a>(alloc: Global) -> Result<Command<'a>, AllocError>
     ensures { IfOk result (λ command. (shape_of command ≡ remote_shape) × ((fields_of command).has_globals ≡ false)) }
 {
-    remote_addresses(alloc)?
-        .arg(keep_argument(alloc, "Meet the next peer once one has gone"))?
+    remote_lasting(alloc)?
         .arg(window_argument(alloc))?
         .arg(workers_argument(alloc))?
         .arg(verbose_argument(alloc))
+}
+
+/// The subcommand `remote` with its addresses, and what says how long it goes on, and with how many peers.
+fn remote_lasting<'a>(alloc: Global) -> Result<Command<'a>, AllocError>
+    ensures { IfOk result (λ command. (app_of command ≡ remote_lasting) × ((fields_of command).has_globals ≡ false)) }
+{
+    remote_addresses(alloc)?
+        .arg(keep_argument(alloc, "Go on once a peer has gone"))?
+        .arg(peers_argument(alloc))?
+        .arg(ping_argument(alloc))
 }
 
 /// The subcommand `remote` with its addresses.
@@ -133,6 +150,34 @@ fn count_argument<'a>(alloc: Global) -> Arg<'a>
     )
 }
 
+/// The argument `--ping`.
+fn ping_argument<'a>(alloc: Global) -> Arg<'a>
+    ensures { (rule_of result ≡ ping_rule) × (result.global ≡ false) }
+{
+    number_argument(
+        alloc,
+        "ping",
+        "SECONDS",
+        1,
+        3600,
+        "Give up a peer that is silent for twice so long, from 1 to 3600",
+    )
+}
+
+/// The argument `--peers` of `remote`.
+fn peers_argument<'a>(alloc: Global) -> Arg<'a>
+    ensures { (rule_of result ≡ peers_rule) × (result.global ≡ false) }
+{
+    number_argument(
+        alloc,
+        "peers",
+        "N",
+        1,
+        256,
+        "How many peers are served at once, from 1 to 256; 16 with --keep, and else 1",
+    )
+}
+
 /// The argument `--window`.
 fn window_argument<'a>(alloc: Global) -> Arg<'a>
     ensures { (rule_of result ≡ window_rule) × (result.global ≡ false) }
@@ -183,7 +228,7 @@ Example:
 const REMOTE_HELP: &str =
     "It accepts one connection, and ends with it. An address is an IPv4 address and a port.
 With --peer, in place of --bind, it connects to its peer, as behind a firewall.
-With --keep it goes on with the next one, and never ends by itself.
+With --keep it goes on with others, and never ends by itself.
 
 Example:
   ymx remote --bind 192.0.2.7:4000 --target 127.0.0.1:80";

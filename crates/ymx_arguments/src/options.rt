@@ -47,6 +47,8 @@ pub struct LocalOptions {
     pub window: u32,
     /// Whether it meets its peer again once a session was lost: it connects at the next connection, or listens.
     pub is_kept: bool,
+    /// After how many seconds without a sign of the peer it asks for one, 1 to 3,600. None if it never does.
+    pub ping: Option<u32>,
     /// Whether it says that it is ready, and how each connection ended.
     pub is_verbose: bool,
 }
@@ -64,6 +66,10 @@ pub struct RemoteOptions {
     pub workers: u32,
     /// Whether it meets the next peer once one has gone.
     pub is_kept: bool,
+    /// How many peers it serves at once, 1 to 256. None if the command line doesn't say.
+    pub peers: Option<u32>,
+    /// After how many seconds without a sign of the peer it asks for one, 1 to 3,600. None if it never does.
+    pub ping: Option<u32>,
     /// Whether it says that it is ready, and how each connection ended.
     pub is_verbose: bool,
 }
@@ -90,12 +96,14 @@ fn local_options<'a>(found: &ArgMatches<'a>) -> Result<TunnelCommand, BadOption<
     ensures silent { IsNotSaid (one_text (found_of found.now) (codes "verbose")) → IfOk result IsNotVerbose }
     ensures count { IsBad 0 4294967295 (first_value (found_of found.now) (codes "count")) → IsErr result }
     ensures window { IsBad 262144 16777216 (first_value (found_of found.now) (codes "window")) → IsErr result }
+    ensures ping { IsBad 1 3600 (first_value (found_of found.now) (codes "ping")) → IsErr result }
     ensures peer { IsUndecided (first_value (found_of found.now) (codes "peer")) (first_value (found_of found.now) (codes "bind")) → IsErr result }
     ensures read { MatchResult result (IsLocalOf (first_value (found_of found.now)) (one_text (found_of found.now)))
         (IsBadLocal (first_value (found_of found.now))) }
 {
     let count = number_of(found, "count", 0, u32::MAX)?;
     let window = window_of(found)?;
+    let ping = number_of(found, "ping", 1, 3600)?;
     check_peer(found)?;
     let listen = address_of(found, "listen")?;
     let peer = peer_of(found)?;
@@ -105,6 +113,7 @@ fn local_options<'a>(found: &ArgMatches<'a>) -> Result<TunnelCommand, BadOption<
         count,
         window,
         is_kept: found.get_flag("keep"),
+        ping,
         is_verbose: found.get_flag("verbose"),
     }))
 }
@@ -115,12 +124,16 @@ fn remote_options<'a>(found: &ArgMatches<'a>) -> Result<TunnelCommand, BadOption
     ensures silent { IsNotSaid (one_text (found_of found.now) (codes "verbose")) → IfOk result IsNotVerbose }
     ensures window { IsBad 262144 16777216 (first_value (found_of found.now) (codes "window")) → IsErr result }
     ensures workers { IsBad 1 1024 (first_value (found_of found.now) (codes "workers")) → IsErr result }
+    ensures ping { IsBad 1 3600 (first_value (found_of found.now) (codes "ping")) → IsErr result }
+    ensures peers { IsBad 1 256 (first_value (found_of found.now) (codes "peers")) → IsErr result }
     ensures peer { IsUndecided (first_value (found_of found.now) (codes "peer")) (first_value (found_of found.now) (codes "bind")) → IsErr result }
     ensures read { MatchResult result (IsRemoteOf (first_value (found_of found.now)) (one_text (found_of found.now)))
         (IsBadRemote (first_value (found_of found.now))) }
 {
     let window = window_of(found)?;
     let workers = number_of(found, "workers", 1, 1024)?;
+    let ping = number_of(found, "ping", 1, 3600)?;
+    let peers = number_of(found, "peers", 1, 256)?;
     check_peer(found)?;
     let peer = peer_of(found)?;
     let target = address_of(found, "target")?;
@@ -130,6 +143,8 @@ fn remote_options<'a>(found: &ArgMatches<'a>) -> Result<TunnelCommand, BadOption
         window,
         workers: workers.unwrap_or(DEFAULT_WORKERS),
         is_kept: found.get_flag("keep"),
+        peers,
+        ping,
         is_verbose: found.get_flag("verbose"),
     }))
 }

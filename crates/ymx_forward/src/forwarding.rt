@@ -1,7 +1,7 @@
 //! A tunnel over one connection, from its beginning to its end.
 
 use crate::sides::{Forwarded, TunnelSide};
-use crate::tunnel_end::{TunnelEnd, new_events};
+use crate::tunnel_end::{Limits, TunnelEnd, new_events};
 use crate::watching::Watcher;
 use std::alloc::Global;
 use std::net::{Net, TcpStream};
@@ -19,6 +19,6 @@ pub(crate) fn forward<R: Net + Clock + Wait, V: Watcher>(
     watcher: &mut V,
 ) -> Option<Forwarded> {
     let mut events = new_events(alloc).ok()?;
-    let mut tunnel_end = TunnelEnd::new(rt, side, false).ok()?;
+    let mut tunnel_end = TunnelEnd::new(rt, side, false, Limits::new(None, false)).ok()?;
     Some(tunnel_end.forward(rt, alloc, connection, window, &mut events, watcher))
 }

@@ -16,6 +16,7 @@ mod peer;
 mod programs;
 mod selftest;
 mod sides;
+mod silence;
 mod socket;
 mod sockets;
 mod stillness;

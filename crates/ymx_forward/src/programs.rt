@@ -9,7 +9,7 @@ use crate::notices::{Notices, ProgramWatcher};
 use crate::sides::{Forwarded, TunnelSide};
 use crate::sockets::listen;
 use crate::tell::{cannot_listen, cannot_meet, lacked_memory, lacks_memory, session_broken};
-use crate::tunnel_end::{TunnelEnd, new_events};
+use crate::tunnel_end::{Limits, TunnelEnd, new_events};
 use crate::watching::Unwatched;
 use std::alloc::Global;
 use std::net::{Net, SocketAddr, TcpListener, TcpStream};
@@ -58,7 +58,8 @@ fn local_end<
         Ok(events) => events,
         Err(refused) => return lacks_memory(refused, errors),
     };
-    let Ok(mut tunnel_end) = TunnelEnd::new(rt, side, options.is_kept) else {
+    let limits = Limits::new(options.ping, options.is_kept);
+    let Ok(mut tunnel_end) = TunnelEnd::new(rt, side, options.is_kept, limits) else {
         return cannot_listen(alloc, options.listen, errors);
     };
     if options.is_kept {
@@ -115,7 +116,9 @@ fn remote_end<
         Ok(events) => events,
         Err(refused) => return lacks_memory(refused, errors),
     };
-    let Ok(mut tunnel_end) = TunnelEnd::new(rt, remote_side(options), options.is_kept) else {
+    let limits = Limits::new(options.ping, options.is_kept);
+    let Ok(mut tunnel_end) = TunnelEnd::new(rt, remote_side(options), options.is_kept, limits)
+    else {
         return cannot_meet(alloc, options.peer, errors);
     };
     if options.is_kept {
@@ -150,7 +153,8 @@ fn calling_end<R: Net<Stream = TcpStream> + Clock + Wait, V: ProgramWatcher, E: 
         Ok(events) => events,
         Err(refused) => return lacks_memory(refused, errors),
     };
-    let Ok(mut tunnel_end) = TunnelEnd::new(rt, remote_side(options), true) else {
+    let limits = Limits::new(options.ping, true);
+    let Ok(mut tunnel_end) = TunnelEnd::new(rt, remote_side(options), true, limits) else {
         return cannot_meet(alloc, options.peer, errors);
     };
     keep_calling(

@@ -2,6 +2,7 @@
 
 use crate::peer::Peer;
 use crate::sides::Forwarded;
+use crate::silence::{Due, Silence, shorter};
 use crate::socket::Socket;
 use crate::stillness::Stillness;
 use crate::tunnel_end::{LISTENER, RETRY, Side, TunnelEnd};
@@ -125,12 +126,14 @@ impl<'a> Tunnel<'a> {
         events: &mut Events,
         watcher: &mut V,
     ) {
+        let mut silence = Silence::new(rt, self.tunnel_end.limits.silence);
         self.begin_waiting(watcher);
         for _ in rt.forever() {
             if self.is_over() {
                 return;
             }
-            if self.await_events(rt, events).is_err() {
+            let limit = self.hear_silence(rt, &mut silence);
+            if self.await_events(rt, events, limit).is_err() {
                 self.end_all_unwatched(watcher);
                 return;
             }
@@ -145,13 +148,64 @@ impl<'a> Tunnel<'a> {
         unreachable!()
     }
 
-    /// Waits for events, unless something can be done without one, and notes what they say.
-    fn await_events<R: Clock>(&mut self, rt: &R, events: &mut Events) -> io::Result<()> {
+    /// Hears whether the peer is silent: then it is asked for a sign, and given up where none comes. How long it may be
+    /// silent yet, or None if for ever.
+    fn hear_silence<R: Clock>(
+        &mut self,
+        rt: &R,
+        silence: &mut Option<Silence>,
+    ) -> Option<Duration> {
+        let Some(silence) = silence else {
+            return None;
+        };
+        if self.is_lost() {
+            return None;
+        }
+        silence.hear(rt, self.wire.pulled());
+        match silence.due(rt) {
+            Due::In(left) => Some(left),
+            Due::Ping => {
+                silence.pending = self.ask(silence.pending);
+                silence.note_asked(rt);
+                Some(silence.patience)
+            }
+            Due::Loss => {
+                self.give_up_peer();
+                Some(Duration::ZERO)
+            }
+        }
+    }
+
+    /// Asks the peer for a sign, unless the answer to the last ping is still to come. The number of the ping that it is to
+    /// answer.
+    fn ask(&mut self, pending: Option<u32>) -> Option<u32> {
+        if let Some(number) = pending {
+            if matches!(self.engine.ponged(number), Ok(false)) {
+                return pending;
+            }
+        }
+        self.engine.ping().ok()
+    }
+
+    /// The peer counts as gone: nothing more comes of it, and nothing goes to it.
+    fn give_up_peer(&mut self) {
+        self.wire.begin_turn();
+        self.wire.shut();
+        self.engine.note_wire(true, true);
+    }
+
+    /// Waits for events for so long at most, unless something can be done without one, and notes what they say.
+    fn await_events<R: Clock>(
+        &mut self,
+        rt: &R,
+        events: &mut Events,
+        limit: Option<Duration>,
+    ) -> io::Result<()> {
         let is_waiting = !self.has_work();
         if is_waiting {
             self.stillness.go_on(rt);
         }
-        let timeout = self.timeout(is_waiting);
+        let timeout = shorter(self.timeout(is_waiting), limit);
         self.tunnel_end.poll.poll(events, timeout)?;
         if !is_waiting || !events.is_empty() {
             self.stillness.end();

@@ -23,6 +23,9 @@ const EVENTS: usize = 256;
 /// How many seconds go by until it is tried again to accept a connection for which there was no descriptor or no memory.
 pub(crate) const RETRY: u64 = 1;
 
+/// How many seconds a peer may be silent at the end before its connection is closed, where others may wait.
+const CLOSING: u64 = 10;
+
 /// The token of the listener for connections of users.
 pub(crate) const LISTENER: usize = 1;
 
@@ -62,6 +65,29 @@ pub(crate) enum AwaitedPeer {
     Refused,
 }
 
+/// How long the other side of a connection to a peer is waited for.
+#[derive(Clone, Copy)]
+pub(crate) struct Limits {
+    /// After how long a silence the peer is asked for a sign, and then after how long it counts as gone. None if never.
+    pub(crate) silence: Option<Duration>,
+    /// After how long a silence the connection is closed at the end, though the peer hasn't closed it. None if never.
+    pub(crate) close: Option<Duration>,
+}
+
+impl Limits {
+    /// Those of an end that is told to ask after so many seconds, if it is. Where others may wait for this peer's place,
+    /// it isn't waited for without end.
+    pub(crate) fn new(ping: Option<u32>, do_others_wait: bool) -> Limits {
+        let silence = ping.map(|seconds| Duration::from_secs(seconds as u64));
+        let close = if do_others_wait {
+            Some(Duration::from_secs(CLOSING))
+        } else {
+            silence
+        };
+        Limits { silence, close }
+    }
+}
+
 /// Room for the events that are taken at once.
 pub(crate) fn new_events(alloc: Global) -> Result<Events, AllocError> {
     Events::with_capacity(alloc, EVENTS)
@@ -75,6 +101,8 @@ pub(crate) struct TunnelEnd {
     pub(crate) side: Side,
     /// Another session follows one that is lost.
     pub(crate) is_kept: bool,
+    /// How long the peer is waited for.
+    pub(crate) limits: Limits,
     /// How many connections have begun.
     pub(crate) begun: u64,
     /// A connection that came while there was no session.
@@ -84,13 +112,19 @@ pub(crate) struct TunnelEnd {
 impl TunnelEnd {
     /// A side that has served nothing. `is_kept` says that another session follows one that is lost. The error is the
     /// system's, which refuses to watch where connections come from, or anything.
-    pub(crate) fn new<R: Net>(rt: &R, side: TunnelSide, is_kept: bool) -> io::Result<TunnelEnd> {
+    pub(crate) fn new<R: Net>(
+        rt: &R,
+        side: TunnelSide,
+        is_kept: bool,
+        limits: Limits,
+    ) -> io::Result<TunnelEnd> {
         let poll = Poll::new(rt)?;
         let side = listen(side, is_kept, &poll)?;
         Ok(TunnelEnd {
             poll,
             side,
             is_kept,
+            limits,
             begun: 0,
             waiting: None,
         })
@@ -137,7 +171,8 @@ impl TunnelEnd {
         match self.run(rt, alloc, &mut wire, window, events, watcher) {
             Ok(forwarded) => {
                 let is_broken = forwarded.broken.is_some();
-                close(rt, &mut self.poll, events, &mut wire, is_broken);
+                let limit = self.limits.close;
+                close(rt, &mut self.poll, events, &mut wire, is_broken, limit);
                 forwarded
             }
             Err(NewFault::OutOfMemory(refused)) => Forwarded::without_memory(refused),

@@ -7,11 +7,7 @@ use Rattle.ymx_arguments.proofs.ends.local_command.Goals as goal
 pub returns : goal.returns
 returns c =
     let either : Bool → Bool → Bool = λ x y. x || y in
-    let start = c.in_ok-local_addresses.ensures in
-    let kept = c.in_ok-arg.ensures.shape c.keep_argument.ensures.1 ∙ ap₂ with_rule start.0 c.keep_argument.ensures.0 in
-    let local_kept = c.in_ok-arg.ensures.globals ∙ ap₂ either start.1 c.keep_argument.ensures.1 in
-    let one = c.in_ok-arg-2.ensures.shape c.count_argument.ensures.1 ∙ ap₂ with_rule kept c.count_argument.ensures.0 in
-    let local_one = c.in_ok-arg-2.ensures.globals ∙ ap₂ either local_kept c.count_argument.ensures.1 in
-    let two = c.in_ok-arg-3.ensures.shape c.window_argument.ensures.1 ∙ ap₂ with_rule one c.window_argument.ensures.0 in
-    let local_two = c.in_ok-arg-3.ensures.globals ∙ ap₂ either local_one c.window_argument.ensures.1 in
-    IfOk-weaker c.arg-4.result _ _ (λ r added. (ap (λ (a : App). a.top) (added.shape c.verbose_argument.ensures.1 ∙ ap₂ with_rule two c.verbose_argument.ensures.0), added.globals ∙ ap₂ either local_two c.verbose_argument.ensures.1)) c.arg-4.ensures
+    let start = c.in_ok-local_lasting.ensures in
+    let one = c.in_ok-arg.ensures.shape c.window_argument.ensures.1 ∙ ap₂ with_rule start.0 c.window_argument.ensures.0 in
+    let local_one = c.in_ok-arg.ensures.globals ∙ ap₂ either start.1 c.window_argument.ensures.1 in
+    IfOk-weaker c.arg-2.result _ _ (λ r added. (ap (λ (a : App). a.top) (added.shape c.verbose_argument.ensures.1 ∙ ap₂ with_rule one c.verbose_argument.ensures.0), added.globals ∙ ap₂ either local_one c.verbose_argument.ensures.1)) c.arg-2.ensures

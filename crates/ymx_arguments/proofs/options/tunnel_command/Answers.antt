@@ -12,7 +12,8 @@ returns-in-local-clause-options c = λ bad.
     elim options [
       | inl h ↦ c.local_options.ensures.count (subst (IsBad 0 4294967295) (sym (first_value-rows found (codes "count"))) h)
       | inr (inl h) ↦ c.local_options.ensures.window (subst (IsBad 262144 16777216) (sym (first_value-rows found (codes "window"))) h)
-      | inr (inr h) ↦ c.local_options.ensures.peer (rw (first_value-rows found (codes "peer"), first_value-rows found (codes "bind")) h)
+      | inr (inr (inl h)) ↦ c.local_options.ensures.ping (subst (IsBad 1 3600) (sym (first_value-rows found (codes "ping"))) h)
+      | inr (inr (inr h)) ↦ c.local_options.ensures.peer (rw (first_value-rows found (codes "peer"), first_value-rows found (codes "bind")) h)
     ]
 
 pub returns-in-remote-clause-options : goal.returns-in-remote-clause-options
@@ -22,5 +23,7 @@ returns-in-remote-clause-options c = λ bad.
     elim options [
       | inl h ↦ c.remote_options.ensures.window (subst (IsBad 262144 16777216) (sym (first_value-rows found (codes "window"))) h)
       | inr (inl h) ↦ c.remote_options.ensures.workers (subst (IsBad 1 1024) (sym (first_value-rows found (codes "workers"))) h)
-      | inr (inr h) ↦ c.remote_options.ensures.peer (rw (first_value-rows found (codes "peer"), first_value-rows found (codes "bind")) h)
+      | inr (inr (inl h)) ↦ c.remote_options.ensures.ping (subst (IsBad 1 3600) (sym (first_value-rows found (codes "ping"))) h)
+      | inr (inr (inr (inl h))) ↦ c.remote_options.ensures.peers (subst (IsBad 1 256) (sym (first_value-rows found (codes "peers"))) h)
+      | inr (inr (inr (inr h))) ↦ c.remote_options.ensures.peer (rw (first_value-rows found (codes "peer"), first_value-rows found (codes "bind")) h)
     ]
