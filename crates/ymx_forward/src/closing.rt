@@ -5,7 +5,7 @@ use crate::stillness::Stillness;
 use mio::{Events, Poll};
 use std::sync::Wait;
 use std::time::{Clock, Duration};
-use ymx_engine::{Device, Pulled};
+use ymx_engine::{Device, Line, Pulled, Wire};
 
 /// How many bytes that still come are read at once.
 const DROPPED: usize = 8_192;
@@ -16,10 +16,11 @@ pub(crate) fn close<R: Clock + Wait>(
     rt: &R,
     poll: &mut Poll,
     events: &mut Events,
-    wire: &mut Socket,
+    wire: Socket,
     is_broken: bool,
     limit: Option<Duration>,
 ) {
+    let mut wire = wire;
     wire.end();
     if is_broken {
         return;
@@ -27,7 +28,7 @@ pub(crate) fn close<R: Clock + Wait>(
     let mut stillness = Stillness::new();
     for _ in rt.forever() {
         let before = wire.pulled();
-        drop_waiting(rt, wire);
+        drop_waiting(rt, &mut wire);
         if wire.pulled() != before {
             stillness.end();
         }

@@ -2,13 +2,15 @@
 
 ghost use Rattle.std.specs.Prelude.{◌≡◌, ◌≤◌, ◌+◌, ◌-◌, ◌^◌, ◌||◌, length, is_some, min, true};
 ghost use Rattle.ymx_engine.specs.Devices.{IsEnded, IsPulled, IsPushed, IsShut, pulled_count, pushed_count, is_end, is_pull_failure, is_push_failure};
+ghost use Rattle.ymx_engine.specs.Tunnels.{HasFailed};
 
 use mio::net::TcpStream;
+use mio::{Interest, Token};
 use std::io;
 use std::io::ErrorKind;
 use std::net::Shutdown;
 use ymx_devices::{read, write};
-use ymx_engine::{Device, Pulled, Pushed};
+use ymx_engine::{Device, Line, Pulled, Pushed, Wire};
 
 /// Whether a socket has its peer.
 #[derive(Clone, Copy, PartialEq, Eq)]
@@ -28,8 +30,6 @@ pub(crate) enum SocketFault {
     Pull,
     /// It took no bytes.
     Push,
-    /// There was no memory for the bytes that it gave.
-    Memory,
 }
 
 /// The bytes that went through a socket.
@@ -39,10 +39,6 @@ struct Traffic {
     pulled: u64,
     /// How many it took. It stays at the greatest `u64`.
     pushed: u64,
-    /// The last call gave some.
-    just_gave: bool,
-    /// There was no memory for some that it gave.
-    lacked_memory: bool,
 }
 
 impl Traffic {
@@ -50,16 +46,16 @@ impl Traffic {
         Traffic {
             pulled: 0,
             pushed: 0,
-            just_gave: false,
-            lacked_memory: false,
         }
     }
 }
 
 /// A socket, and what it has moved. No contract sees its bytes; but whether it said that no more come, whether its end
-/// was passed on, whether it has failed, and how many calls of it were made.
+/// was passed on, whether it has failed, whether it was shut, and how many calls of it were made.
 #[derive(Drop)]
 pub(crate) struct Socket {
+    /// The number of its connection.
+    number: u64,
     socket: TcpStream,
     state: ConnectState,
     /// What was first the matter with a call of it.
@@ -77,17 +73,18 @@ pub(crate) struct Socket {
 
 impl Socket {
     /// A connection that is there, and never waits.
-    pub(crate) fn connected(socket: TcpStream) -> Socket {
-        Socket::new(socket, ConnectState::Connected)
+    pub(crate) fn connected(socket: TcpStream, number: u64) -> Socket {
+        Socket::new(socket, number, ConnectState::Connected)
     }
 
     /// A connection that is being made, and never waits.
-    pub(crate) fn connecting(socket: TcpStream) -> Socket {
-        Socket::new(socket, ConnectState::Connecting)
+    pub(crate) fn connecting(socket: TcpStream, number: u64) -> Socket {
+        Socket::new(socket, number, ConnectState::Connecting)
     }
 
-    fn new(socket: TcpStream, state: ConnectState) -> Socket {
+    fn new(socket: TcpStream, number: u64, state: ConnectState) -> Socket {
         Socket {
+            number,
             socket,
             state,
             failure: None,
@@ -99,14 +96,17 @@ impl Socket {
         }
     }
 
-    /// The socket itself, to be registered.
-    pub(crate) fn source(&mut self) -> &mut TcpStream {
-        &mut self.socket
+    /// The number of its connection.
+    pub(crate) fn number(&self) -> u64 {
+        self.number
     }
 
-    /// How many bytes it has given. It stays at the greatest `u64`.
-    pub(crate) fn pulled(&self) -> u64 {
-        self.traffic.pulled
+    /// From now on the poll of this registry tells of it under this token. False where the system refuses.
+    pub(crate) fn register(&mut self, registry: &mio::Registry, token: Token) -> bool
+        ensures { ⟦<Socket as Device>⟧.seen self.new ≡ ⟦<Socket as Device>⟧.seen self.old }
+    {
+        let both = Interest::READABLE | Interest::WRITABLE;
+        registry.register(&mut self.socket, token, both).is_ok()
     }
 
     /// How many bytes it has taken. It stays at the greatest `u64`.
@@ -116,42 +116,12 @@ impl Socket {
 
     /// What was first the matter with it.
     pub(crate) fn fault(&self) -> Option<SocketFault> {
-        if self.traffic.lacked_memory {
-            return Some(SocketFault::Memory);
-        }
         self.failure
-    }
-
-    /// Whether its connection is still being made.
-    pub(crate) fn is_connecting(&self) -> bool {
-        self.state == ConnectState::Connecting
-    }
-
-    /// Whether it has said that no more bytes come from it, or has failed.
-    pub(crate) fn is_over(&self) -> bool {
-        self.has_ended || self.failure.is_some() || self.traffic.lacked_memory
     }
 
     /// Whether nothing more goes to it.
     pub(crate) fn was_ended(&self) -> bool {
         self.was_finished || self.was_shut
-    }
-
-    /// An event came for a connection that was being made: now it is there, or can't be made.
-    pub(crate) fn note_event(&mut self) {
-        if !self.is_connecting() {
-            return;
-        }
-        match self.socket.take_error() {
-            Ok(None) if self.socket.peer_addr().is_ok() => self.state = ConnectState::Connected,
-            Ok(None) => {}
-            _ => self.state = ConnectState::Unreachable,
-        }
-    }
-
-    /// What it gave before was taken.
-    pub(crate) fn begin_turn(&mut self) {
-        self.traffic.just_gave = false;
     }
 
     /// Whether it failed, though it reads an end. The system tells of a failure once: where it told a write, a read
@@ -171,7 +141,7 @@ impl Socket {
     /// A call of it failed.
     fn fail(&mut self, fault: SocketFault)
         ensures failed { is_some self.new.failure ≡ true }
-        ensures rest { (self.new.has_ended ≡ self.old.has_ended) × (self.new.was_finished ≡ self.old.was_finished) × (self.new.calls ≡ self.old.calls) }
+        ensures rest { (self.new.has_ended ≡ self.old.has_ended) × (self.new.was_finished ≡ self.old.was_finished) × (self.new.was_shut ≡ self.old.was_shut) × (self.new.calls ≡ self.old.calls) }
     {
         if self.failure.is_none() {
             self.failure = Some(fault);
@@ -183,13 +153,11 @@ impl Socket {
         ensures within { pulled_count result ≤ length buffer.new }
         ensures ended { self.new.has_ended ≡ (self.old.has_ended || is_end result) }
         ensures failed { is_some self.new.failure ≡ (is_some self.old.failure || is_pull_failure result) }
-        ensures rest { (self.new.was_finished ≡ self.old.was_finished) × (self.new.calls ≡ self.old.calls) }
+        ensures rest { (self.new.was_finished ≡ self.old.was_finished) × (self.new.was_shut ≡ self.old.was_shut) × (self.new.calls ≡ self.old.calls) }
     {
-        self.traffic.just_gave = false;
         match read(&mut &self.socket, buffer) {
             Ok(count) if count > 0 => {
                 self.traffic.pulled = self.traffic.pulled.saturating_add(count as u64);
-                self.traffic.just_gave = true;
                 Pulled::Gave(count)
             }
             other => self.give_nothing(other),
@@ -200,7 +168,7 @@ impl Socket {
     fn take(&mut self, bytes: &[u8]) -> Pushed
         ensures within { pushed_count result ≤ length bytes.now }
         ensures failed { is_some self.new.failure ≡ (is_some self.old.failure || is_push_failure result) }
-        ensures rest { (self.new.has_ended ≡ self.old.has_ended) × (self.new.was_finished ≡ self.old.was_finished) × (self.new.calls ≡ self.old.calls) }
+        ensures rest { (self.new.has_ended ≡ self.old.has_ended) × (self.new.was_finished ≡ self.old.was_finished) × (self.new.was_shut ≡ self.old.was_shut) × (self.new.calls ≡ self.old.calls) }
     {
         match write(&mut &self.socket, bytes) {
             Ok(count) if count > 0 || bytes.is_empty() => {
@@ -220,7 +188,7 @@ impl Socket {
         ensures none { pulled_count result ≡ 0 }
         ensures ended { self.new.has_ended ≡ (self.old.has_ended || is_end result) }
         ensures failed { is_some self.new.failure ≡ (is_some self.old.failure || is_pull_failure result) }
-        ensures rest { (self.new.was_finished ≡ self.old.was_finished) × (self.new.calls ≡ self.old.calls) }
+        ensures rest { (self.new.was_finished ≡ self.old.was_finished) × (self.new.was_shut ≡ self.old.was_shut) × (self.new.calls ≡ self.old.calls) }
     {
         match read {
             Ok(_) if !self.is_broken() => {
@@ -239,7 +207,7 @@ impl Socket {
 impl Device for Socket {
     ghost use Rattle.std.specs.Prelude.{None, Some, is_some};
 
-    ghost seen = { λ s. record { left = None; had = None; over = Some s.has_ended; ended = Some s.was_finished; failed = Some (is_some s.failure); calls = s.calls } };
+    ghost seen = { λ s. record { left = None; had = None; over = Some s.has_ended; ended = Some s.was_finished; failed = Some (is_some s.failure); shut = Some s.was_shut; calls = s.calls } };
 
     fn pull(&mut self, buffer: &mut [u8]) -> Pulled
         ensures moved { IsPulled result buffer.new (⟦<Socket as Device>⟧.seen self.old) (⟦<Socket as Device>⟧.seen self.new) }
@@ -283,18 +251,52 @@ impl Device for Socket {
         }
     }
 
-    /// Shuts it both ways. Right behind bytes that it gave this says that there was no memory for them.
+    /// Shuts it both ways.
     fn shut(&mut self)
         ensures shut { IsShut (⟦<Socket as Device>⟧.seen self.old) (⟦<Socket as Device>⟧.seen self.new) }
         ensures counted { self.new.calls ≡ min (self.old.calls + 1) (2 ^ 64 - 1) }
     {
         self.count_call();
-        if self.traffic.just_gave {
-            self.traffic.lacked_memory = true;
-        }
         self.was_shut = true;
         if self.state == ConnectState::Connected {
             let _ = self.socket.shutdown(Shutdown::Both);
         }
+    }
+}
+
+impl Line for Socket {
+    /// An event came for a connection that was being made: now it is there, or can't be made.
+    fn note_event(&mut self)
+        ensures { ⟦<Socket as Device>⟧.seen self.new ≡ ⟦<Socket as Device>⟧.seen self.old }
+    {
+        if self.state != ConnectState::Connecting {
+            return;
+        }
+        match self.socket.take_error() {
+            Ok(None) if self.socket.peer_addr().is_ok() => self.state = ConnectState::Connected,
+            Ok(None) => {}
+            _ => self.state = ConnectState::Unreachable,
+        }
+    }
+
+    /// It stays at the greatest `u64`.
+    fn pulled(&self) -> u64 {
+        self.traffic.pulled
+    }
+
+    fn is_connecting(&self) -> bool {
+        self.state == ConnectState::Connecting
+    }
+}
+
+impl Wire for Socket {
+    fn has_failed(&self) -> bool
+        ensures { result ≡ true → HasFailed (⟦<Socket as Device>⟧.seen self.now) }
+    {
+        self.failure.is_some()
+    }
+
+    fn is_over(&self) -> bool {
+        self.has_ended || self.failure.is_some()
     }
 }

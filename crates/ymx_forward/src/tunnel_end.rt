@@ -5,7 +5,7 @@ use crate::closing::close;
 use crate::peer::Peer;
 use crate::sides::{Forwarded, TunnelSide};
 use crate::socket::Socket;
-use crate::tunnel::{Tunnel, wire_of};
+use crate::tunnel::{TunnelLoop, wire_of};
 use crate::watching::{Declined, Watcher};
 use mio::net::TcpStream;
 use mio::{Events, Poll, Token};
@@ -165,14 +165,14 @@ impl TunnelEnd {
         watcher: &mut V,
     ) -> Forwarded {
         self.note_all();
-        let Ok(mut wire) = wire_of(peer, &self.poll) else {
+        let Some(wire) = wire_of(peer, &self.poll) else {
             return Forwarded::unwatched();
         };
-        match self.run(rt, alloc, &mut wire, window, events, watcher) {
-            Ok(forwarded) => {
+        match self.run(rt, alloc, wire, window, events, watcher) {
+            Ok((forwarded, wire)) => {
                 let is_broken = forwarded.broken.is_some();
                 let limit = self.limits.close;
-                close(rt, &mut self.poll, events, &mut wire, is_broken, limit);
+                close(rt, &mut self.poll, events, wire, is_broken, limit);
                 forwarded
             }
             Err(NewFault::OutOfMemory(refused)) => Forwarded::without_memory(refused),
@@ -180,22 +180,21 @@ impl TunnelEnd {
         }
     }
 
-    /// Runs a session over this wire, until all that is due is sent. The fault is that of a session that can't be made.
+    /// Runs a session over this wire, until all that is due is sent. The wire comes back. The fault is that of a session
+    /// that can't be made.
     fn run<R: Net + Clock + Wait, V: Watcher>(
         &mut self,
         rt: &R,
         alloc: Global,
-        wire: &mut Socket,
+        wire: Socket,
         window: u32,
         events: &mut Events,
         watcher: &mut V,
-    ) -> Result<Forwarded, NewFault> {
-        let mut tunnel = Tunnel::new(alloc, wire, self, window)?;
-        tunnel.run(rt, events, watcher);
+    ) -> Result<(Forwarded, Socket), NewFault> {
+        let mut tunnel = TunnelLoop::new(alloc, wire, self, window)?;
+        let _ = tunnel.run(rt, events, watcher);
         let forwarded = tunnel.forwarded();
-        // by a call, so that the drop of its parts is not proved here
-        drop(tunnel);
-        Ok(forwarded)
+        Ok((forwarded, tunnel.into_wire()))
     }
 
     /// Connections may wait, of which an event was told before.

@@ -1,7 +1,7 @@
 //! Who is told how connections ended, and what is told.
 
 use crate::socket::{Socket, SocketFault};
-use ymx_engine::{Connection, Flow};
+use ymx_engine::{Connection, Flow, Line};
 use ymx_model::CallFault;
 
 /// Why one direction of a connection ended.
@@ -82,7 +82,11 @@ impl EndedConnection {
 
     /// How the connection of this socket ended, whose ways stand so. `is_lost` says whether the session was lost.
     pub(crate) fn of(socket: &Socket, connection: Connection, is_lost: bool) -> EndedConnection {
-        let (to_peer, from_peer) = broken_endings(socket.fault(), is_lost);
+        let (to_peer, from_peer) = broken_endings(
+            socket.fault(),
+            connection.lacked_memory,
+            is_lost,
+        );
         EndedConnection {
             to_peer: Passed {
                 bytes: socket.pulled(),
@@ -109,14 +113,20 @@ fn ending_of(flow: Flow, broken: Ending) -> Ending {
     }
 }
 
-/// Why both flows of a connection broke off, the one to the peer and the one from it: at its own fault, or else its
-/// stream's.
-fn broken_endings(fault: Option<SocketFault>, is_lost: bool) -> (Ending, Ending) {
+/// Why both flows of a connection broke off, the one to the peer and the one from it: for want of memory, at its own
+/// fault, or else at its stream's.
+fn broken_endings(
+    fault: Option<SocketFault>,
+    lacked_memory: bool,
+    is_lost: bool,
+) -> (Ending, Ending) {
     let of_stream = if is_lost { Ending::Lost } else { Ending::Reset };
+    if lacked_memory {
+        return (Ending::OutOfMemory, of_stream);
+    }
     match fault {
         Some(SocketFault::Pull) => (Ending::ConnectionFailed, of_stream),
         Some(SocketFault::Push) => (Ending::ConnectionFailed, Ending::ConnectionFailed),
-        Some(SocketFault::Memory) => (Ending::OutOfMemory, of_stream),
         None => (of_stream, of_stream),
     }
 }

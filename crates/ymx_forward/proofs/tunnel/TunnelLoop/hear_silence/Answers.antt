@@ -1,0 +1,11 @@
+use Rattle.ymx_engine.proofs.Running.{runs_same}
+use Rattle.ymx_forward.proofs.tunnel.TunnelLoop.hear_silence.Goals as goal
+
+pub returns-in_default : goal.returns-in_default
+returns-in_default g c = runs_same _
+
+pub returns-then-is_lost : goal.returns-then-is_lost
+returns-then-is_lost g c = runs_same _
+
+pub returns-in-In : goal.returns-in-In
+returns-in-In g c = runs_same _

@@ -1,0 +1,8 @@
+use Rattle.ymx_engine.proofs.Running.{runs_same, runs_then}
+use Rattle.ymx_forward.proofs.tunnel.TunnelLoop.note_all.Goals as goal
+
+pub event-init : goal.event-init
+event-init c = runs_same _
+
+pub event-preserved : goal.event-preserved
+event-preserved c = runs_then _ _ _ c.event.invariant c.note.ensures

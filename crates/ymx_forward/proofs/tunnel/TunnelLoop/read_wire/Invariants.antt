@@ -1,0 +1,5 @@
+use Rattle.ymx_engine.specs.Runs.{Runs}
+use Rattle.ymx_forward.proofs.tunnel.TunnelLoop.read_wire.Given as goal
+
+abbrev pub invariant-read : goal.invariant-read
+invariant-read l = Runs l.initial.self.tunnel l.self.tunnel

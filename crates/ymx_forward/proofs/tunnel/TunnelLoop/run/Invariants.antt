@@ -1,0 +1,8 @@
+use Rattle.ymx_engine.specs.Runs.{Runs}
+use Rattle.ymx_forward.proofs.tunnel.TunnelLoop.run.Given as goal
+
+abbrev pub invariant-loop : goal.invariant-loop
+invariant-loop g l = record {
+  next : (goal.iterator-loop g).can_next l.iterator' × (goal.iterator-loop g).is_finite l.iterator';
+  runs : Runs l.fn.self.tunnel l.self.tunnel;
+}

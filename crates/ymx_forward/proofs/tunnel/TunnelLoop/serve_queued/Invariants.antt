@@ -1,0 +1,5 @@
+use Rattle.ymx_engine.specs.Runs.{Runs}
+use Rattle.ymx_forward.proofs.tunnel.TunnelLoop.serve_queued.Given as goal
+
+abbrev pub invariant-queued : goal.invariant-queued
+invariant-queued g l = Runs l.initial.self.tunnel l.self.tunnel
