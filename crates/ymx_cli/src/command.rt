@@ -51,8 +51,8 @@ pub fn ymx_main<
     F: FileOpener,
     R: Inlet,
     W: Outlet,
-    E: Outlet,
-    L: Outlet,
+    E: Outlet + Send,
+    L: Outlet + Send,
 >(
     rt: &T,
     alloc: Global,

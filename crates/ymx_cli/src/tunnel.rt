@@ -17,8 +17,8 @@ use ymx_model::Outlet;
 pub(crate) fn run_tunnel<
     R: Net<Stream = TcpStream, Listener = TcpListener> + Threads + Clock + Wait + Sync,
     W: Outlet,
-    E: Outlet,
-    L: Outlet,
+    E: Outlet + Send,
+    L: Outlet + Send,
 >(
     rt: &R,
     alloc: Global,

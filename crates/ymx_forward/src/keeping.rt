@@ -7,7 +7,7 @@ use crate::meeting::Met;
 use crate::notices::ProgramWatcher;
 use crate::peer::Peer;
 use crate::programs::{report, report_session};
-use crate::sockets::{accept, connect, listen};
+use crate::sockets::{connect, listen};
 use crate::tell::cannot_listen;
 use crate::tunnel_end::{Awaited, AwaitedPeer, TunnelEnd};
 use mio::Events;
@@ -190,55 +190,6 @@ fn end_status<E: Outlet>(
         KeptEnd::NoConnections => cannot_listen(alloc, options.listen, errors),
         KeptEnd::NoPeers => cannot_listen(alloc, peers, errors),
     }
-}
-
-/// Serves one peer after another, of which each is the only one while it is there, and connects each of its streams to
-/// the target. Says each fault as it comes. Ends only where nobody can be accepted any more, and answers the exit
-/// status.
-pub(crate) fn keep_remote<
-    R: Net<Stream = TcpStream, Listener = TcpListener> + Clock + Wait,
-    V: ProgramWatcher,
-    E: Outlet,
->(
-    rt: &R,
-    alloc: Global,
-    met: Met,
-    tunnel_end: &mut TunnelEnd,
-    options: RemoteOptions,
-    events: &mut Events,
-    watcher: &mut V,
-    errors: &mut E,
-) -> u8
-    ensures { result ≡ 1 }
-{
-    let Met {
-        connection,
-        address,
-    } = met;
-    let mut next = Some(connection);
-    for _ in rt.forever() {
-        let Some(connection) = next else {
-            return cannot_listen(alloc, address, errors);
-        };
-        watcher.came();
-        let window = options.window;
-        let forwarded = tunnel_end.forward(rt, alloc, connection, window, events, watcher);
-        report_session(alloc, options.peer, forwarded, errors);
-        next = next_connection(rt, address, watcher);
-    }
-    unreachable!()
-}
-
-/// Waits at this address for the connection of the next peer, which can call once it is said that the last one has gone.
-/// None if it can't be accepted there.
-fn next_connection<R: Net<Stream = TcpStream, Listener = TcpListener>, V: ProgramWatcher>(
-    rt: &R,
-    address: SocketAddr,
-    watcher: &mut V,
-) -> Option<TcpStream> {
-    let listener = listen(rt, address);
-    watcher.gone();
-    accept(listener?)
 }
 
 /// Calls this peer again and again, and connects each stream of a session to the target. Behind a call that failed, or a

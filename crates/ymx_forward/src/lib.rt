@@ -8,6 +8,7 @@
 
 mod accepting;
 mod closing;
+mod door;
 mod forwarding;
 mod keeping;
 mod meeting;
@@ -15,6 +16,8 @@ mod notices;
 mod peer;
 mod programs;
 mod selftest;
+mod serving;
+mod shared;
 mod sides;
 mod silence;
 mod socket;

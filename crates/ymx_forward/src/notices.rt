@@ -43,12 +43,14 @@ impl ProgramWatcher for Unwatched {
 #[derive(Drop)]
 pub(crate) struct Notices<'a, L: Outlet> {
     device: &'a mut L,
+    /// How many connections have begun. It stays at the greatest `u64`.
+    begun: u64,
 }
 
 impl<'a, L: Outlet> Notices<'a, L> {
     /// Says its lines on this device.
     pub(crate) fn new(device: &'a mut L) -> Notices<'a, L> {
-        Notices { device }
+        Notices { device, begun: 0 }
     }
 
     /// Says a line.
@@ -65,6 +67,11 @@ impl<'a, L: Outlet> Notices<'a, L> {
 }
 
 impl<L: Outlet> Watcher for Notices<'_, L> {
+    fn begins(&mut self) -> u64 {
+        self.begun = self.begun.saturating_add(1);
+        self.begun
+    }
+
     fn ended(&mut self, number: u64, ended: &EndedConnection) {
         self.say(&end_line(number, ended));
     }

@@ -3,9 +3,10 @@
 ghost use Rattle.std.specs.Prelude.{◌≡◌, ◌≤◌, None, false};
 ghost use Rattle.std.specs.Io.KnownBytes.{Keeps};
 
-use crate::keeping::{keep_calling, keep_local, keep_remote};
+use crate::keeping::{keep_calling, keep_local};
 use crate::meeting::meet;
 use crate::notices::{Notices, ProgramWatcher};
+use crate::serving::{serve_all, serve_until_none};
 use crate::sides::{Forwarded, TunnelSide};
 use crate::sockets::listen;
 use crate::tell::{cannot_listen, cannot_meet, lacked_memory, lacks_memory, session_broken};
@@ -14,9 +15,13 @@ use crate::watching::Unwatched;
 use std::alloc::Global;
 use std::net::{Net, SocketAddr, TcpListener, TcpStream};
 use std::sync::Wait;
+use std::thread::Threads;
 use std::time::Clock;
 use ymx_arguments::{LocalOptions, PeerAddress, RemoteOptions};
 use ymx_model::Outlet;
+
+/// How many peers a `remote` with `--keep` serves at once where the command line says nothing.
+const PEERS: u32 = 16;
 
 /// Meets the peer, and forwards each connection that comes as a stream. Says faults on `errors`, and the lines
 /// that `is_verbose` asks for on `lines`. Answers the exit status.
@@ -79,26 +84,81 @@ fn local_end<
     report(alloc, options, forwarded, errors)
 }
 
-/// Meets one peer, and connects each of its streams to the target. Says faults on `errors`, and the
-/// lines that `is_verbose` asks for on `lines`. Answers the exit status.
+/// Meets one peer, or as many as are asked for, and connects each of their streams to the target. Says faults on
+/// `errors`, and the lines that `is_verbose` asks for on `lines`. Answers the exit status.
 pub fn run_remote<
-    R: Net<Stream = TcpStream, Listener = TcpListener> + Clock + Wait,
-    E: Outlet,
-    L: Outlet,
+    R: Net<Stream = TcpStream, Listener = TcpListener> + Clock + Threads + Wait + Sync,
+    E: Outlet + Send,
+    L: Outlet + Send,
 >(rt: &R, alloc: Global, options: RemoteOptions, errors: &mut E, lines: &mut L) -> u8
     ensures status { result ≤ 1 }
     ensures good { result ≡ 0 → Keeps (E.contents errors.old) (E.contents errors.new) }
     ensures silent { options.is_verbose ≡ false → Keeps (L.contents lines.old) (L.contents lines.new) }
 {
     if options.is_verbose {
-        remote_end(rt, alloc, options, &mut Notices::new(lines), errors)
+        remote_end(rt, alloc, options, Notices::new(lines), errors)
     } else {
-        remote_end(rt, alloc, options, &mut Unwatched, errors)
+        remote_end(rt, alloc, options, Unwatched, errors)
+    }
+}
+
+/// Meets its peers, and connects each of their streams to the target. Answers the exit status.
+fn remote_end<
+    R: Net<Stream = TcpStream, Listener = TcpListener> + Clock + Threads + Wait + Sync,
+    V: ProgramWatcher + Send + Drop,
+    E: Outlet + Send,
+>(rt: &R, alloc: Global, options: RemoteOptions, watcher: V, errors: &mut E) -> u8
+    ensures status { result ≤ 1 }
+    ensures good { result ≡ 0 → Keeps (E.contents errors.old) (E.contents errors.new) }
+{
+    let mut watcher = watcher;
+    match options.peer {
+        PeerAddress::Connect(peer) if options.is_kept => {
+            calling_end(rt, alloc, peer, options, &mut watcher, errors)
+        }
+        PeerAddress::Listen(address) if options.is_kept || options.peers.is_some() => {
+            serving_end(rt, alloc, address, options, watcher, errors)
+        }
+        _ => single_end(rt, alloc, options, &mut watcher, errors),
+    }
+}
+
+/// Serves the peers that call at this address, so many at once. Answers the exit status.
+fn serving_end<
+    R: Net<Stream = TcpStream, Listener = TcpListener> + Clock + Threads + Wait + Sync,
+    V: ProgramWatcher + Send + Drop,
+    E: Outlet + Send,
+>(
+    rt: &R,
+    alloc: Global,
+    address: SocketAddr,
+    options: RemoteOptions,
+    watcher: V,
+    errors: &mut E,
+) -> u8
+    ensures status { result ≤ 1 }
+    ensures good { result ≡ 0 → Keeps (E.contents errors.old) (E.contents errors.new) }
+{
+    let mut watcher = watcher;
+    let Some(listener) = listen(rt, address) else {
+        return cannot_listen(alloc, address, errors);
+    };
+    watcher.listening(&listener, address);
+    let address = listener.local_addr().unwrap_or(address);
+    let count = options.peers.unwrap_or(PEERS);
+    if options.is_kept {
+        serve_all(
+            rt, alloc, listener, address, options, count, watcher, errors,
+        )
+    } else {
+        serve_until_none(
+            rt, alloc, listener, address, options, count, watcher, errors,
+        )
     }
 }
 
 /// Meets one peer, so that others are refused, and connects each of its streams to the target. Answers the exit status.
-fn remote_end<
+fn single_end<
     R: Net<Stream = TcpStream, Listener = TcpListener> + Clock + Wait,
     V: ProgramWatcher,
     E: Outlet,
@@ -106,9 +166,6 @@ fn remote_end<
     ensures status { result ≤ 1 }
     ensures good { result ≡ 0 → Keeps (E.contents errors.old) (E.contents errors.new) }
 {
-    if let (PeerAddress::Connect(peer), true) = (options.peer, options.is_kept) {
-        return calling_end(rt, alloc, peer, options, watcher, errors);
-    }
     let Some(met) = meet(rt, alloc, options.peer, watcher, errors) else {
         return 1;
     };
@@ -116,23 +173,10 @@ fn remote_end<
         Ok(events) => events,
         Err(refused) => return lacks_memory(refused, errors),
     };
-    let limits = Limits::new(options.ping, options.is_kept);
-    let Ok(mut tunnel_end) = TunnelEnd::new(rt, remote_side(options), options.is_kept, limits)
-    else {
+    let limits = Limits::new(options.ping, false);
+    let Ok(mut tunnel_end) = TunnelEnd::new(rt, remote_side(options), false, limits) else {
         return cannot_meet(alloc, options.peer, errors);
     };
-    if options.is_kept {
-        return keep_remote(
-            rt,
-            alloc,
-            met,
-            &mut tunnel_end,
-            options,
-            &mut events,
-            watcher,
-            errors,
-        );
-    }
     let window = options.window;
     let forwarded = tunnel_end.forward(rt, alloc, met.connection, window, &mut events, watcher);
     report_session(alloc, options.peer, forwarded, errors)
@@ -170,7 +214,7 @@ fn calling_end<R: Net<Stream = TcpStream> + Clock + Wait, V: ProgramWatcher, E: 
 }
 
 /// The side that `remote` serves.
-fn remote_side(options: RemoteOptions) -> TunnelSide {
+pub(crate) fn remote_side(options: RemoteOptions) -> TunnelSide {
     TunnelSide::Remote {
         target: options.target,
         workers: options.workers,

@@ -1,10 +1,10 @@
 //! The sides of a tunnel, and how one ended.
 
-ghost use Rattle.std.specs.Prelude.{◌≡◌, true};
+ghost use Rattle.std.specs.Prelude.{◌≡◌, ◌||◌, None, true};
 
+use std::alloc::AllocError;
 use std::net::{SocketAddr, TcpListener};
 use ymx_header::Fault;
-use ymx_memory::RefusedAllocation;
 
 /// Which side of a tunnel runs over a connection.
 #[derive(Drop)]
@@ -40,8 +40,33 @@ pub(crate) struct Forwarded {
 }
 
 impl Forwarded {
+    /// Nothing went wrong.
+    pub(crate) fn well() -> Forwarded {
+        Forwarded {
+            accept_failed: false,
+            broken: None,
+            is_unwatched: false,
+            lacked_memory: false,
+        }
+    }
+
+    /// What went wrong here, or there.
+    pub(crate) fn and(self, other: Forwarded) -> Forwarded
+        ensures accepted { result.accept_failed ≡ (self.accept_failed || other.accept_failed) }
+        ensures watched { result.is_unwatched ≡ (self.is_unwatched || other.is_unwatched) }
+        ensures memory { result.lacked_memory ≡ (self.lacked_memory || other.lacked_memory) }
+        ensures whole { result.broken ≡ None → (self.broken ≡ None) × (other.broken ≡ None) }
+    {
+        Forwarded {
+            accept_failed: self.accept_failed || other.accept_failed,
+            broken: self.broken.or(other.broken),
+            is_unwatched: self.is_unwatched || other.is_unwatched,
+            lacked_memory: self.lacked_memory || other.lacked_memory,
+        }
+    }
+
     /// Nothing was done, for want of memory.
-    pub(crate) fn without_memory(_refused: RefusedAllocation) -> Forwarded
+    pub(crate) fn without_memory(_refused: AllocError) -> Forwarded
         ensures { result.lacked_memory ≡ true }
     {
         Forwarded {

@@ -421,7 +421,7 @@ impl<'a> TunnelLoop<'a> {
     fn begin_local<V: Watcher>(&mut self, socket: TcpStream, watcher: &mut V)
         ensures { Runs self.old.tunnel self.new.tunnel }
     {
-        let number = self.tunnel_end.next_number();
+        let number = watcher.begins();
         if self.is_lost() {
             self.stop_endless();
         }
@@ -505,7 +505,7 @@ impl<'a> TunnelLoop<'a> {
     fn begin_remote<R: Net, V: Watcher>(&mut self, rt: &R, target: SocketAddr, watcher: &mut V)
         ensures { Runs self.old.tunnel self.new.tunnel }
     {
-        let number = self.tunnel_end.next_number();
+        let number = watcher.begins();
         match TcpStream::connect(rt, target) {
             Ok(socket) => {
                 let _ = socket.set_nodelay(true);

@@ -93,8 +93,7 @@ pub(crate) fn new_events(alloc: Global) -> Result<Events, AllocError> {
     Events::with_capacity(alloc, EVENTS)
 }
 
-/// One side of a tunnel, which lasts through its sessions: connections are numbered on, and the listener of `Local`
-/// stays open.
+/// One side of a tunnel, which lasts through its sessions: the listener of `Local` stays open.
 #[derive(Drop)]
 pub(crate) struct TunnelEnd {
     pub(crate) poll: Poll,
@@ -103,8 +102,6 @@ pub(crate) struct TunnelEnd {
     pub(crate) is_kept: bool,
     /// How long the peer is waited for.
     pub(crate) limits: Limits,
-    /// How many connections have begun.
-    pub(crate) begun: u64,
     /// A connection that came while there was no session.
     pub(crate) waiting: Option<TcpStream>,
 }
@@ -125,7 +122,6 @@ impl TunnelEnd {
             side,
             is_kept,
             limits,
-            begun: 0,
             waiting: None,
         })
     }
@@ -175,7 +171,9 @@ impl TunnelEnd {
                 close(rt, &mut self.poll, events, wire, is_broken, limit);
                 forwarded
             }
-            Err(NewFault::OutOfMemory(refused)) => Forwarded::without_memory(refused),
+            Err(NewFault::OutOfMemory(refused)) => {
+                Forwarded::without_memory(AllocError::from(refused))
+            }
             Err(_) => Forwarded::unwatched(),
         }
     }
@@ -304,7 +302,7 @@ impl TunnelEnd {
     pub(crate) fn refuse_waiting<V: Watcher>(&mut self, watcher: &mut V) {
         if self.waiting.is_some() {
             self.waiting = None;
-            let number = self.next_number();
+            let number = watcher.begins();
             watcher.refused(number, Declined::BySession(CallFault::Lost));
         }
     }
@@ -323,12 +321,6 @@ impl TunnelEnd {
             Side::Local(listening) => listening.is_over(),
             Side::Remote { .. } => true,
         }
-    }
-
-    /// The number of a connection that begins.
-    pub(crate) fn next_number(&mut self) -> u64 {
-        self.begun = self.begun.saturating_add(1);
-        self.begun
     }
 }
 

@@ -50,9 +50,12 @@ pub(crate) enum Declined {
     Unwatched,
 }
 
-/// Who is told of connections that have ended. Connections are numbered 1, 2, 3, .. as they begin, and each is told of
-/// once, by one of the two calls.
+/// Who is told of connections that have ended, and numbers them. Of each that begins it is told once more, by one of the
+/// other two calls.
 pub(crate) trait Watcher {
+    /// A connection begins. Its number: 1, 2, 3, .., or 0 where nobody reads it.
+    fn begins(&mut self) -> u64;
+
     /// A connection that had a stream has ended.
     fn ended(&mut self, number: u64, ended: &EndedConnection);
 
@@ -65,6 +68,10 @@ pub(crate) trait Watcher {
 pub(crate) struct Unwatched;
 
 impl Watcher for Unwatched {
+    fn begins(&mut self) -> u64 {
+        0
+    }
+
     fn ended(&mut self, _number: u64, _ended: &EndedConnection) {}
 
     fn refused(&mut self, _number: u64, _why: Declined) {}

@@ -1,0 +1,235 @@
+//! Many peers at once, each served in a thread of its own.
+
+ghost use Rattle.std.specs.Prelude.{◌≡◌, ◌≤◌};
+ghost use Rattle.std.specs.Io.KnownBytes.{Keeps};
+ghost use Rattle.std.specs.Thread.{IsSend};
+
+use crate::door::{Door, DoorFault, Inside, Knock};
+use crate::notices::ProgramWatcher;
+use crate::peer::Peer;
+use crate::programs::{remote_side, report_session};
+use crate::shared::Shared;
+use crate::sides::Forwarded;
+use crate::tell::{cannot_listen, lacks_memory};
+use crate::tunnel_end::{Limits, TunnelEnd, new_events};
+use std::alloc::Global;
+use std::net::{Net, SocketAddr, TcpListener, TcpStream};
+use std::sync::{Mutex, Wait};
+use std::thread;
+use std::thread::Threads;
+use std::time::{Clock, Duration};
+use ymx_arguments::{PeerAddress, RemoteOptions};
+use ymx_model::Outlet;
+
+/// How many seconds go by after a thread could not be made for a peer.
+const PAUSE: u64 = 1;
+
+/// Why no peer is served any more.
+#[derive(Clone, Copy)]
+enum ServingEnd {
+    /// One was there, and none is any more.
+    Empty,
+    /// None can be accepted any more.
+    Failed,
+}
+
+/// Who is told how the sessions of peers ended.
+trait Reporter {
+    /// A session with a peer that is met so has ended.
+    fn report(&mut self, alloc: Global, peer: PeerAddress, forwarded: Forwarded);
+}
+
+/// Says each fault as it comes.
+#[derive(Drop)]
+struct Saying<'a, E: Outlet> {
+    errors: &'a mut E,
+}
+
+impl<E: Outlet> Reporter for Saying<'_, E> {
+    fn report(&mut self, alloc: Global, peer: PeerAddress, forwarded: Forwarded) {
+        report_session(alloc, peer, forwarded, &mut *self.errors);
+    }
+}
+
+/// Keeps what went wrong in any session, to be said at the end.
+#[derive(Drop)]
+struct Gathering {
+    all: Forwarded,
+}
+
+impl Reporter for Gathering {
+    fn report(&mut self, _alloc: Global, _peer: PeerAddress, forwarded: Forwarded) {
+        self.all = self.all.and(forwarded);
+    }
+}
+
+/// Serves each peer that calls here in a thread of its own, so many at once, and connects each of its streams to the
+/// target. Says each fault as it comes. Ends only where nobody can be accepted any more.
+pub(crate) fn serve_all<
+    R: Net<Stream = TcpStream, Listener = TcpListener> + Clock + Threads + Wait + Sync,
+    V: ProgramWatcher + Send + Drop,
+    E: Outlet + Send,
+>(
+    rt: &R,
+    alloc: Global,
+    listener: TcpListener,
+    address: SocketAddr,
+    options: RemoteOptions,
+    count: u32,
+    watcher: V,
+    errors: &mut E,
+) -> u8
+    ensures { result ≡ 1 }
+{
+    let (door, inside) = match Door::new(rt, alloc, listener, count, true) {
+        Ok(made) => made,
+        Err(fault) => return no_door(alloc, address, fault, errors),
+    };
+    let watcher = Mutex::new(watcher);
+    let reporter = Mutex::new(Saying {
+        errors: &mut *errors,
+    });
+    serve_peers(rt, alloc, door, &inside, options, &watcher, &reporter);
+    let Saying { errors } = reporter.into_inner();
+    cannot_listen(alloc, address, errors)
+}
+
+/// Serves peers as [`serve_all`] does, until one was there and none is any more. Says then what went wrong in any session,
+/// if anything did, and answers the exit status.
+pub(crate) fn serve_until_none<
+    R: Net<Stream = TcpStream, Listener = TcpListener> + Clock + Threads + Wait + Sync,
+    V: ProgramWatcher + Send + Drop,
+    E: Outlet,
+>(
+    rt: &R,
+    alloc: Global,
+    listener: TcpListener,
+    address: SocketAddr,
+    options: RemoteOptions,
+    count: u32,
+    watcher: V,
+    errors: &mut E,
+) -> u8
+    ensures status { result ≤ 1 }
+    ensures good { result ≡ 0 → Keeps (E.contents errors.old) (E.contents errors.new) }
+{
+    let (door, inside) = match Door::new(rt, alloc, listener, count, false) {
+        Ok(made) => made,
+        Err(fault) => return no_door(alloc, address, fault, errors),
+    };
+    let watcher = Mutex::new(watcher);
+    let reporter = Mutex::new(Gathering {
+        all: Forwarded::well(),
+    });
+    let end = serve_peers(rt, alloc, door, &inside, options, &watcher, &reporter);
+    let Gathering { all } = reporter.into_inner();
+    match end {
+        ServingEnd::Empty => report_session(alloc, options.peer, all, errors),
+        ServingEnd::Failed => cannot_listen(alloc, address, errors),
+    }
+}
+
+/// Says why no peer can be let in.
+fn no_door<E: Outlet>(alloc: Global, address: SocketAddr, fault: DoorFault, errors: &mut E) -> u8
+    ensures { result ≡ 1 }
+{
+    match fault {
+        DoorFault::Unwatched(_) => cannot_listen(alloc, address, errors),
+        DoorFault::OutOfMemory(refused) => lacks_memory(refused, errors),
+    }
+}
+
+/// Serves each peer that comes in by the door in a thread of its own.
+fn serve_peers<
+    R: Net<Stream = TcpStream, Listener = TcpListener> + Clock + Threads + Wait + Sync,
+    V: ProgramWatcher + Send + Drop,
+    S: Reporter + Send + Drop,
+>(
+    rt: &R,
+    alloc: Global,
+    door: Door,
+    inside: &Inside,
+    options: RemoteOptions,
+    watcher: &Mutex<V>,
+    reporter: &Mutex<S>,
+) -> ServingEnd {
+    thread::scope(
+        thread::scope_env(),
+        rt,
+        move |scope|
+            requires { IsSend V.row × IsSend S.row }
+        {
+            let mut door = door;
+            for _ in rt.forever() {
+                let peer = match door.next_peer(rt, inside) {
+                    Knock::Came(peer) => peer,
+                    Knock::Empty => return ServingEnd::Empty,
+                    Knock::Failed => return ServingEnd::Failed,
+                };
+                inside.enter();
+                if scope
+                    .spawn(move || {
+                        serve_peer(rt, alloc, peer, options, watcher, reporter);
+                        inside.leave();
+                    })
+                    .is_err()
+                {
+                    inside.leave();
+                    lack_thread(rt, alloc, options, reporter);
+                }
+            }
+            unreachable!()
+        },
+    )
+}
+
+/// No thread could be made for a peer: it is reported, and others are let in after a while.
+fn lack_thread<R: Clock + Wait, S: Reporter>(
+    rt: &R,
+    alloc: Global,
+    options: RemoteOptions,
+    reporter: &Mutex<S>,
+) {
+    let mut reporter = reporter.lock(rt);
+    reporter.report(alloc, options.peer, Forwarded::unwatched());
+    drop(reporter);
+    thread::sleep(rt, Duration::from_secs(PAUSE));
+}
+
+/// Serves a peer, and reports how its session ended.
+fn serve_peer<
+    R: Net<Stream = TcpStream, Listener = TcpListener> + Clock + Wait,
+    V: ProgramWatcher,
+    S: Reporter,
+>(
+    rt: &R,
+    alloc: Global,
+    peer: Peer,
+    options: RemoteOptions,
+    watcher: &Mutex<V>,
+    reporter: &Mutex<S>,
+) {
+    let mut shared = Shared { rt, watcher };
+    shared.came();
+    let forwarded = forward_peer(rt, alloc, peer, options, &mut shared);
+    let mut reporter = reporter.lock(rt);
+    reporter.report(alloc, options.peer, forwarded);
+    drop(reporter);
+    shared.gone();
+}
+
+/// Runs the session of a peer.
+fn forward_peer<
+    R: Net<Stream = TcpStream, Listener = TcpListener> + Clock + Wait,
+    V: ProgramWatcher,
+>(rt: &R, alloc: Global, peer: Peer, options: RemoteOptions, watcher: &mut V) -> Forwarded {
+    let mut events = match new_events(alloc) {
+        Ok(events) => events,
+        Err(refused) => return Forwarded::without_memory(refused),
+    };
+    let limits = Limits::new(options.ping, true);
+    let Ok(mut tunnel_end) = TunnelEnd::new(rt, remote_side(options), true, limits) else {
+        return Forwarded::unwatched();
+    };
+    tunnel_end.forward_peer(rt, alloc, peer, options.window, &mut events, watcher)
+}
