@@ -3,7 +3,7 @@
 # with Go's yamux in place of ymx, and with plain copying in place of yamux. Medians of five runs, in turn. The
 # client compares what comes back. Then it times 64 bytes there and back, 500 times one after another: alone, beside
 # 1,000 idle connections, and beside 63 busy ones. Needs Go, as tests/interop/run.sh does. With a number it makes so
-# many runs.
+# many runs. Where YMX_BEFORE names a program of ymx, as one from before a change, that is measured in turn too.
 set -eu
 top=$(cd "$(dirname "$0")/.." && pwd)
 "$top/ymx" --version > /dev/null
@@ -22,11 +22,15 @@ peer, ymx, runs = sys.argv[1], sys.argv[2], int(sys.argv[3])
 ANY = "127.0.0.1:0"
 # Both ends with windows of 1 MiB.
 WIDE = "ymx --window 1048576"
+# Another program of ymx, to be compared.
+BEFORE = os.environ.get("YMX_BEFORE")
+KINDS = ["ymx", "ymx before"] if BEFORE else ["ymx"]
+KINDS += ["Go", "plain copying"]
 CASES = [
     ("1 connection of 1 GiB", 1, 1, 1 << 30),
     ("64 connections of 16 MiB at once", 64, 64, 16 << 20),
     ("2,000 connections of 1 KiB, 64 at once", 2000, 64, 1024),
-    ("200 empty connections, one after another", 200, 1, 0),
+    ("2,000 empty connections, one after another", 2000, 1, 0),
 ]
 
 
@@ -82,8 +86,9 @@ def tunnel(kind, echo):
         far = Process([peer, "remote", "-at", ANY, "-to", echo.address])
         return Process([peer, "local", "-at", ANY, "-to", far.address]), far
     options = ["--window", "1048576"] if kind == WIDE else []
-    far = Process([ymx, "remote", "--bind", free_address(), "--target", echo.address, *options], 3)
-    return Process([ymx, "local", "--listen", free_address(), "--peer", far.address, *options], 3), far
+    program = BEFORE if kind == "ymx before" else ymx
+    far = Process([program, "remote", "--bind", free_address(), "--target", echo.address, *options], 3)
+    return Process([program, "local", "--listen", free_address(), "--peer", far.address, *options], 3), far
 
 
 def measure(kind, count, at_once, size):
@@ -101,7 +106,7 @@ def measure(kind, count, at_once, size):
 
 for name, count, at_once, size in CASES:
     print(name)
-    figures = {"ymx": [], "Go": [], "plain copying": []}
+    figures = {kind: [] for kind in KINDS}
     if count == 1:
         figures[WIDE] = []
     for _ in range(runs):
@@ -170,7 +175,7 @@ def measure_exchanges(kind, idle, busy):
 
 for name, idle, busy in BESIDE:
     print(name)
-    figures = {"ymx": [], "Go": [], "plain copying": []}
+    figures = {kind: [] for kind in KINDS}
     for _ in range(runs):
         for kind in figures:
             figures[kind].append(measure_exchanges(kind, idle, busy))
