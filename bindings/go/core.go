@@ -163,7 +163,9 @@ func (core core) take(id uint32, some []byte, most int) []byte {
 }
 
 // hasEnded says whether the peer's end has arrived, also with bytes unread.
-func (core core) hasEnded(id uint32) bool { return C.ymx_has_ended(core.c.session, C.uint32_t(id)) == 1 }
+func (core core) hasEnded(id uint32) bool {
+	return C.ymx_has_ended(core.c.session, C.uint32_t(id)) == 1
+}
 
 // isAcknowledged says whether the peer has acknowledged a stream that was opened here.
 func (core core) isAcknowledged(id uint32) bool {
