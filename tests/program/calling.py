@@ -68,17 +68,17 @@ def remote_calls():
 
 
 def local_awaits():
-    """The same at the other side, which listens for users once its peer is there."""
+    """The same at the other side. It listens for users before its peer is there, so that they wait for it."""
     users = free_place()
     program = Program("local", "-v", "--bind", ANY, "--listen", users, "--count", "2")
     place = program.place()
-    assert is_refused(users), "users can connect, and there is no peer"
-    peer = Peer(call(place))
     says(program, f"ymx: listening at {users}\n")
-    assert is_refused(place), "a second peer is connected"
+    first = call(users)
+    peer = Peer(call(place))
     for stream in 1, 3:
-        user = call(users)
+        user = first if stream == 1 else call(users)
         peer.accept(stream)
+        assert is_refused(place), "a second peer is connected"
         swap(peer, stream, user, BYTES)
         half_close(peer, stream, user)
     leave(peer.connection)
@@ -125,6 +125,8 @@ def no_meeting():
     assert Program("remote", "--peer", place, "--target", place).end() == (1, f"ymx: cannot reach {place}\n")
     said = f"ymx: cannot listen at {NOWHERE}\n"
     assert Program("local", "--bind", NOWHERE, "--listen", ANY).end() == (1, said)
+    # it takes no peer where it can't listen for users
+    assert Program("local", "--bind", ANY, "--listen", NOWHERE).end() == (1, said)
 
 
 # ---- one session after another

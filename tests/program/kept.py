@@ -69,13 +69,14 @@ def remote_kept(*words):
 
 
 def local_kept(*words, files=None):
-    """`ymx local --keep`, where it listens, its first peer, and where its peers listen."""
+    """`ymx local --keep`, where it listens, its first user, its first peer, and where its peers listen."""
     listener, address = listen()
     program = Program("local", "-v", "--keep", "--listen", ANY, "--peer", address, *words, files=files)
-    peer = accept(listener)
     place = program.place()
+    user = call(place)
+    peer = accept(listener)
     says(program, COME)
-    return program, place, Peer(peer), listener
+    return program, place, user, Peer(peer), listener
 
 
 # ---- remote
@@ -270,8 +271,7 @@ def many_peers():
 
 def a_peer_that_comes_again():
     """It is called again at the next connection. Connections are closed while it isn't there."""
-    program, place, peer, listener = local_kept("--count", "4")
-    user = call(place)
+    program, place, user, peer, listener = local_kept("--count", "4")
     peer.accept(1)
     swap(peer, 1, user, BYTES)
     peer.connection.close()
@@ -299,24 +299,26 @@ def a_peer_that_comes_again():
 
 def the_last_of_a_count():
     """The connection that has the peer called is the last one, and is served."""
-    program, place, peer, listener = local_kept("--count", "1")
+    program, place, user, peer, listener = local_kept("--count", "2")
+    peer.accept(1)
     peer.connection.close()
-    says(program, GONE)
+    assert has_ended(user)
+    says(program, connection(1, "0 bytes to the peer (lost), 0 bytes from the peer (lost)"), GONE)
     user = call(place)
     peer = Peer(accept(listener))
     peer.accept(1)
     swap(peer, 1, user, BYTES)
     finish(peer, 1, user)
     leave(peer.connection)
-    assert program.end() == (0, COME + connection(1, WHOLE) + GONE)
+    assert program.end() == (0, COME + connection(2, WHOLE) + GONE)
 
 
 def no_descriptor_left():
     """At the limit no more connections are accepted until one has ended. Nothing ends by that."""
     # Open are standard input, output and error, the session's connection, where it listens, the set of what it waits for,
     # and two connections.
-    program, place, peer, _ = local_kept("--count", "4", files=8)
-    users = [call(place) for _ in range(4)]
+    program, place, user, peer, _ = local_kept("--count", "4", files=8)
+    users = [user] + [call(place) for _ in range(3)]
     for turn, stream in enumerate((1, 3), 1):
         peer.accept(stream)
         swap(peer, stream, users[turn - 1], BYTES)
@@ -333,11 +335,33 @@ def no_descriptor_left():
 
 
 def no_peer_at_first():
-    """That is a fault."""
+    """Connections are closed, and served once it is there."""
+    address = free_place()
+    program = Program("local", "-v", "--keep", "--listen", ANY, "--peer", address)
+    place = program.place()
+    assert has_ended(call(place))
+    says(program, connection(1, "no stream: Lost"))
+    with listen_again(address) as listener:
+        user = call(place)
+        peer = Peer(accept(listener))
+        says(program, COME)
+        peer.accept(1)
+        swap(peer, 1, user, BYTES)
+
+
+def a_port_that_is_taken():
+    """Its peer isn't called."""
     listener, address = listen()
-    listener.close()
-    program = Program("local", "--keep", "--listen", ANY, "--peer", address)
-    assert program.end() == (1, f"ymx: cannot reach {address}\n")
+    with socket.create_server(("127.0.0.1", 0)) as taken:
+        place = "{}:{}".format(*taken.getsockname())
+        program = Program("local", "--keep", "--listen", place, "--peer", address)
+        assert program.end() == (1, f"ymx: cannot listen at {place}\n")
+    listener.setblocking(False)
+    try:
+        listener.accept()
+        raise AssertionError("it called its peer")
+    except BlockingIOError:
+        pass
 
 
 def a_killed_peer():
@@ -348,10 +372,10 @@ def a_killed_peer():
     assert far.place() == meeting
     near = Program("local", "-v", "--keep", "--listen", ANY, "--peer", meeting)
     place = near.place()
-    says(near, COME)
     for turn in 1, 2:
         user = call(place)
         other = accept(target)
+        says(near, COME)
         for sender, receiver in (user, other), (other, user):
             sender.sendall(b"question")
             assert take(receiver, 8) == b"question"
@@ -362,7 +386,6 @@ def a_killed_peer():
             says(near, connection(1, "8 bytes to the peer (lost), 8 bytes from the peer (lost)"), GONE)
             far = Program("remote", "-v", "--bind", meeting, "--target", address)
             assert far.place() == meeting
-    says(near, COME)
 
 
 def without_keep():
@@ -387,6 +410,7 @@ TESTS = (
     ("the last of a count", the_last_of_a_count, ()),
     ("no descriptor left", no_descriptor_left, ()),
     ("no peer at first", no_peer_at_first, ()),
+    ("a port that is taken", a_port_that_is_taken, ()),
     ("a killed peer", a_killed_peer, ()),
     ("without --keep", without_keep, ()),
 )

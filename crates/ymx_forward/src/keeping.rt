@@ -3,7 +3,6 @@
 ghost use Rattle.std.specs.Prelude.{◌≡◌, ◌≤◌};
 ghost use Rattle.std.specs.Io.KnownBytes.{Keeps};
 
-use crate::meeting::Met;
 use crate::notices::ProgramWatcher;
 use crate::peer::Peer;
 use crate::programs::{report, report_session};
@@ -47,8 +46,17 @@ enum Next {
     Over(KeptEnd),
 }
 
-/// Forwards each connection that comes, through the session with this peer and those that follow it. Ends once no more
-/// connections come, or no peer can. Says each fault as it comes, and answers the exit status.
+/// Where the peers of an end are met.
+#[derive(Drop)]
+pub(crate) struct Meeting {
+    /// They are called at this address, or call there.
+    pub(crate) address: SocketAddr,
+    /// Where the first one calls.
+    pub(crate) listener: Option<TcpListener>,
+}
+
+/// Forwards each connection that comes, through one session after another. Ends once no more connections come, or no peer
+/// can. Says each fault as it comes, and answers the exit status.
 pub(crate) fn keep_local<
     R: Net<Stream = TcpStream, Listener = TcpListener> + Clock + Wait,
     V: ProgramWatcher,
@@ -56,7 +64,7 @@ pub(crate) fn keep_local<
 >(
     rt: &R,
     alloc: Global,
-    met: Met,
+    meeting: Meeting,
     tunnel_end: &mut TunnelEnd,
     options: LocalOptions,
     events: &mut Events,
@@ -66,12 +74,12 @@ pub(crate) fn keep_local<
     ensures status { result ≤ 1 }
     ensures good { result ≡ 0 → Keeps (E.contents errors.old) (E.contents errors.new) }
 {
-    let Met {
-        connection,
-        address,
-    } = met;
+    let Meeting { address, listener } = meeting;
     let mut status = 0;
-    let mut next = session_over(Some(connection));
+    let mut next = match listener {
+        Some(listener) => next_of(tunnel_end.await_peer(rt, listener, events, watcher)),
+        None => next_session(rt, tunnel_end, options.peer, address, events, watcher),
+    };
     for _ in rt.forever() {
         let served = match next {
             Next::Peer(peer) => {
@@ -137,12 +145,17 @@ fn next_session<R: Net<Stream = TcpStream, Listener = TcpListener> + Wait, V: Pr
             Awaited::AllCame => Next::Over(KeptEnd::AllCame),
             Awaited::Refused => Next::Over(KeptEnd::NoConnections),
         },
-        PeerAddress::Listen(_) => match next_peer(rt, tunnel_end, address, events, watcher) {
-            AwaitedPeer::Came(peer) => Next::Peer(peer),
-            AwaitedPeer::AllCame => Next::Over(KeptEnd::AllCame),
-            AwaitedPeer::NoConnections => Next::Over(KeptEnd::NoConnections),
-            AwaitedPeer::Refused => Next::Over(KeptEnd::NoPeers),
-        },
+        PeerAddress::Listen(_) => next_of(next_peer(rt, tunnel_end, address, events, watcher)),
+    }
+}
+
+/// What follows where a peer was awaited so.
+fn next_of(awaited: AwaitedPeer) -> Next {
+    match awaited {
+        AwaitedPeer::Came(peer) => Next::Peer(peer),
+        AwaitedPeer::AllCame => Next::Over(KeptEnd::AllCame),
+        AwaitedPeer::NoConnections => Next::Over(KeptEnd::NoConnections),
+        AwaitedPeer::Refused => Next::Over(KeptEnd::NoPeers),
     }
 }
 

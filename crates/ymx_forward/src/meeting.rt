@@ -1,4 +1,4 @@
-//! How the two ends of a tunnel meet.
+//! How the two ends of a tunnel meet, where one session is all.
 
 ghost use Rattle.std.specs.Prelude.{IfSome};
 ghost use Rattle.std.specs.Io.KnownBytes.{Keeps};
@@ -11,24 +11,16 @@ use std::net::{Net, SocketAddr, TcpListener, TcpStream};
 use ymx_arguments::PeerAddress;
 use ymx_model::Outlet;
 
-/// A peer that was met.
-#[derive(Drop)]
-pub(crate) struct Met {
-    pub(crate) connection: TcpStream,
-    /// Where the next one is met: at the port that the system chose, where it chose one.
-    pub(crate) address: SocketAddr,
-}
-
 /// Meets the peer, after which nobody listens for others. If it can't, that is said.
 pub(crate) fn meet<
     R: Net<Stream = TcpStream, Listener = TcpListener>,
     V: ProgramWatcher,
     E: Outlet,
->(rt: &R, alloc: Global, peer: PeerAddress, watcher: &mut V, errors: &mut E) -> Option<Met>
+>(rt: &R, alloc: Global, peer: PeerAddress, watcher: &mut V, errors: &mut E) -> Option<TcpStream>
     ensures { IfSome result (λ _. Keeps (E.contents errors.old) (E.contents errors.new)) }
 {
     let met = match peer {
-        PeerAddress::Connect(address) => call(rt, address),
+        PeerAddress::Connect(address) => connect(rt, address),
         PeerAddress::Listen(address) => receive(rt, address, watcher),
     };
     if met.is_none() {
@@ -37,25 +29,13 @@ pub(crate) fn meet<
     met
 }
 
-/// Calls the peer at this address. None if it can't be reached.
-fn call<R: Net<Stream = TcpStream>>(rt: &R, address: SocketAddr) -> Option<Met> {
-    Some(Met {
-        connection: connect(rt, address)?,
-        address,
-    })
-}
-
 /// Waits at this address for the peer. None if it can't listen there.
 fn receive<R: Net<Stream = TcpStream, Listener = TcpListener>, V: ProgramWatcher>(
     rt: &R,
     address: SocketAddr,
     watcher: &mut V,
-) -> Option<Met> {
+) -> Option<TcpStream> {
     let listener = listen(rt, address)?;
     watcher.listening(&listener, address);
-    let address = listener.local_addr().unwrap_or(address);
-    Some(Met {
-        connection: accept(listener)?,
-        address,
-    })
+    accept(listener)
 }

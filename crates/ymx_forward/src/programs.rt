@@ -3,12 +3,12 @@
 ghost use Rattle.std.specs.Prelude.{◌≡◌, ◌≤◌, None, false};
 ghost use Rattle.std.specs.Io.KnownBytes.{Keeps};
 
-use crate::keeping::{keep_calling, keep_local};
+use crate::keeping::{Meeting, keep_calling, keep_local};
 use crate::meeting::meet;
 use crate::notices::{Notices, ProgramWatcher};
 use crate::serving::{serve_all, serve_until_none};
 use crate::sides::{Forwarded, TunnelSide};
-use crate::sockets::listen;
+use crate::sockets::{accept, listen};
 use crate::tell::{cannot_listen, cannot_meet, lacked_memory, lacks_memory, session_broken};
 use crate::tunnel_end::{Limits, TunnelEnd, new_events};
 use crate::watching::Unwatched;
@@ -50,38 +50,150 @@ fn local_end<
     ensures status { result ≤ 1 }
     ensures good { result ≡ 0 → Keeps (E.contents errors.old) (E.contents errors.new) }
 {
-    let Some(met) = meet(rt, alloc, options.peer, watcher, errors) else {
+    match options.peer {
+        PeerAddress::Connect(_) if !options.is_kept => {
+            reaching_end(rt, alloc, options, watcher, errors)
+        }
+        PeerAddress::Connect(address) => {
+            let meeting = Meeting {
+                address,
+                listener: None,
+            };
+            meeting_end(rt, alloc, meeting, options, watcher, errors)
+        }
+        PeerAddress::Listen(address) => {
+            awaiting_end(rt, alloc, address, options, watcher, errors)
+        }
+    }
+}
+
+/// Calls the peer, then listens for connections, and forwards them through one session. Answers the exit status.
+fn reaching_end<
+    R: Net<Stream = TcpStream, Listener = TcpListener> + Clock + Wait,
+    V: ProgramWatcher,
+    E: Outlet,
+>(rt: &R, alloc: Global, options: LocalOptions, watcher: &mut V, errors: &mut E) -> u8
+    ensures status { result ≤ 1 }
+    ensures good { result ≡ 0 → Keeps (E.contents errors.old) (E.contents errors.new) }
+{
+    let Some(connection) = meet(rt, alloc, options.peer, watcher, errors) else {
         return 1;
     };
     let Some(listener) = listen(rt, options.listen) else {
         return cannot_listen(alloc, options.listen, errors);
     };
     watcher.listening(&listener, options.listen);
-    let count = options.count;
-    let side = TunnelSide::Local { listener, count };
+    forward_all(rt, alloc, connection, listener, options, watcher, errors)
+}
+
+/// Listens for the peer, then for connections, so that a mistake in either ends nobody else, and forwards them through one
+/// session after another, or one alone. Answers the exit status.
+fn awaiting_end<
+    R: Net<Stream = TcpStream, Listener = TcpListener> + Clock + Wait,
+    V: ProgramWatcher,
+    E: Outlet,
+>(
+    rt: &R,
+    alloc: Global,
+    address: SocketAddr,
+    options: LocalOptions,
+    watcher: &mut V,
+    errors: &mut E,
+) -> u8
+    ensures status { result ≤ 1 }
+    ensures good { result ≡ 0 → Keeps (E.contents errors.old) (E.contents errors.new) }
+{
+    let Some(peers) = listen(rt, address) else {
+        return cannot_listen(alloc, address, errors);
+    };
+    watcher.listening(&peers, address);
+    let address = peers.local_addr().unwrap_or(address);
+    if options.is_kept {
+        let meeting = Meeting {
+            address,
+            listener: Some(peers),
+        };
+        return meeting_end(rt, alloc, meeting, options, watcher, errors);
+    }
+    let Some(listener) = listen(rt, options.listen) else {
+        return cannot_listen(alloc, options.listen, errors);
+    };
+    watcher.listening(&listener, options.listen);
+    match accept(peers) {
+        Some(peer) => forward_all(rt, alloc, peer, listener, options, watcher, errors),
+        None => cannot_listen(alloc, address, errors),
+    }
+}
+
+/// Forwards each connection that comes to this listener through one session over this connection. Answers the exit status.
+fn forward_all<R: Net + Clock + Wait, V: ProgramWatcher, E: Outlet>(
+    rt: &R,
+    alloc: Global,
+    connection: TcpStream,
+    listener: TcpListener,
+    options: LocalOptions,
+    watcher: &mut V,
+    errors: &mut E,
+) -> u8
+    ensures status { result ≤ 1 }
+    ensures good { result ≡ 0 → Keeps (E.contents errors.old) (E.contents errors.new) }
+{
     let mut events = match new_events(alloc) {
         Ok(events) => events,
         Err(refused) => return lacks_memory(refused, errors),
     };
-    let limits = Limits::new(options.ping, options.is_kept);
-    let Ok(mut tunnel_end) = TunnelEnd::new(rt, side, options.is_kept, limits) else {
+    let count = options.count;
+    let side = TunnelSide::Local { listener, count };
+    let limits = Limits::new(options.ping, false);
+    let Ok(mut tunnel_end) = TunnelEnd::new(rt, side, false, limits) else {
         return cannot_listen(alloc, options.listen, errors);
     };
-    if options.is_kept {
-        return keep_local(
-            rt,
-            alloc,
-            met,
-            &mut tunnel_end,
-            options,
-            &mut events,
-            watcher,
-            errors,
-        );
-    }
     let window = options.window;
-    let forwarded = tunnel_end.forward(rt, alloc, met.connection, window, &mut events, watcher);
+    let forwarded = tunnel_end.forward(rt, alloc, connection, window, &mut events, watcher);
     report(alloc, options, forwarded, errors)
+}
+
+/// Listens for connections, and forwards them through one session after another. Answers the exit status.
+fn meeting_end<
+    R: Net<Stream = TcpStream, Listener = TcpListener> + Clock + Wait,
+    V: ProgramWatcher,
+    E: Outlet,
+>(
+    rt: &R,
+    alloc: Global,
+    meeting: Meeting,
+    options: LocalOptions,
+    watcher: &mut V,
+    errors: &mut E,
+) -> u8
+    ensures status { result ≤ 1 }
+    ensures good { result ≡ 0 → Keeps (E.contents errors.old) (E.contents errors.new) }
+{
+    let Some(listener) = listen(rt, options.listen) else {
+        return cannot_listen(alloc, options.listen, errors);
+    };
+    watcher.listening(&listener, options.listen);
+    let mut events = match new_events(alloc) {
+        Ok(events) => events,
+        Err(refused) => return lacks_memory(refused, errors),
+    };
+    let count = options.count;
+    let side = TunnelSide::Local { listener, count };
+    let limits = Limits::new(options.ping, true);
+    let Ok(mut tunnel_end) = TunnelEnd::new(rt, side, true, limits) else {
+        return cannot_listen(alloc, options.listen, errors);
+    };
+    let end = &mut tunnel_end;
+    keep_local(
+        rt,
+        alloc,
+        meeting,
+        end,
+        options,
+        &mut events,
+        watcher,
+        errors,
+    )
 }
 
 /// Meets one peer, or as many as are asked for, and connects each of their streams to the target. Says faults on
@@ -166,7 +278,7 @@ fn single_end<
     ensures status { result ≤ 1 }
     ensures good { result ≡ 0 → Keeps (E.contents errors.old) (E.contents errors.new) }
 {
-    let Some(met) = meet(rt, alloc, options.peer, watcher, errors) else {
+    let Some(connection) = meet(rt, alloc, options.peer, watcher, errors) else {
         return 1;
     };
     let mut events = match new_events(alloc) {
@@ -178,7 +290,7 @@ fn single_end<
         return cannot_meet(alloc, options.peer, errors);
     };
     let window = options.window;
-    let forwarded = tunnel_end.forward(rt, alloc, met.connection, window, &mut events, watcher);
+    let forwarded = tunnel_end.forward(rt, alloc, connection, window, &mut events, watcher);
     report_session(alloc, options.peer, forwarded, errors)
 }
 
