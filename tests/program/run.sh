@@ -181,6 +181,7 @@ refuses 'error: ' remote --call 127.0.0.1:1
 neither='error: the following required arguments were not provided:'
 refuses "$neither" local --listen 127.0.0.1:0
 says_next '  <--peer <ADDRESS>|--bind <ADDRESS>>'
+holds "the usage of local, where its options have a mistake" grep -q '^Usage: ymx local \[OPTIONS\] --listen <ADDRESS>' err
 refuses "$neither" remote --target 127.0.0.1:1
 says_next '  <--peer <ADDRESS>|--bind <ADDRESS>>'
 both="error: the argument '--peer <ADDRESS>' cannot be used with '--bind <ADDRESS>'"

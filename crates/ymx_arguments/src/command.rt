@@ -58,7 +58,7 @@ fn with_ends<'a>(alloc: Global, command: Command<'a>) -> Result<Command<'a>, All
 }
 
 /// The subcommand `frames`.
-fn frames_command<'a>(alloc: Global) -> Result<Command<'a>, AllocError>
+pub(crate) fn frames_command<'a>(alloc: Global) -> Result<Command<'a>, AllocError>
     ensures { IfOk result (λ command. (shape_of command ≡ frames_shape) × ((fields_of command).has_globals ≡ false)) }
 {
     titled(

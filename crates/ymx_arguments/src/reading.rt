@@ -5,10 +5,11 @@ ghost use Rattle.clap.specs.Words.{first_value, found_of, kind_of, one_of, subco
 ghost use Rattle.ymx_arguments.specs.CommandLine.{AsksFrames, AsksNoHelp, AsksNoLines, AsksScript, GivesBadOption, HasBadOption, IsClap, IsEndTask, IsFaultFor, IsFrames, IsNotSaid, IsScript, IsSilentTask, LacksMemory, NamesAnother, SaysMistake, file_of, named_words};
 
 use crate::arguments::{BadOption, number_of};
-use crate::command::command;
+use crate::command::{command, frames_command};
+use crate::ends::{local_command, remote_command};
 use crate::options::{TunnelCommand, tunnel_command};
 use clap::error::ErrorKind;
-use clap::{ArgMatches, Error};
+use clap::{ArgMatches, Command, Error};
 use std::alloc::{AllocError, Global};
 use std::convert::AsStr;
 
@@ -82,38 +83,62 @@ pub fn parse<'a, S: AsStr>(alloc: Global, words: &'a [S]) -> Result<Task<'a>, Co
     let matches = command(alloc)?.try_get_matches_from(words)?;
     match task_of(&matches) {
         Ok(task) => Ok(task),
-        Err(bad) => Err(fault_for(alloc, bad)?),
+        Err(bad) => Err(fault_for(alloc, name_of(&matches), bad)?),
     }
 }
 
-/// Says that options can't be taken: an address in the program's own words, and all else in the form of clap's mistakes.
-fn fault_for<'a>(alloc: Global, bad: BadOption<'a>) -> Result<CommandFault<'a>, AllocError>
+/// The name of the subcommand that was met.
+fn name_of<'a>(matches: &ArgMatches<'a>) -> &'a str {
+    match matches.subcommand() {
+        Some((name, _)) => name,
+        None => "",
+    }
+}
+
+/// Says that options of this subcommand can't be taken: an address in the program's own words, and all else in the form of
+/// clap's mistakes.
+fn fault_for<'a>(
+    alloc: Global,
+    name: &str,
+    bad: BadOption<'a>,
+) -> Result<CommandFault<'a>, AllocError>
     ensures kind { IfOk result (IsFaultFor bad.entry) }
     ensures mistake { IfOk result SaysMistake }
 {
     match bad {
-        BadOption::Number { name, text } => {
+        BadOption::Number { name: option, text } => {
             let message = format!(in alloc;
-                "invalid value '{text}' for '--{name}': a number is decimal digits alone"
+                "invalid value '{text}' for '--{option}': a number is decimal digits alone"
             )?;
-            clap_fault(alloc, ErrorKind::ValueValidation, message.as_str())
+            clap_fault(alloc, name, ErrorKind::ValueValidation, message.as_str())
         }
-        BadOption::NoPeer => clap_fault(alloc, ErrorKind::MissingRequiredArgument, NO_PEER),
-        BadOption::TwoPeers => clap_fault(alloc, ErrorKind::ArgumentConflict, TWO_PEERS),
+        BadOption::NoPeer => clap_fault(alloc, name, ErrorKind::MissingRequiredArgument, NO_PEER),
+        BadOption::TwoPeers => clap_fault(alloc, name, ErrorKind::ArgumentConflict, TWO_PEERS),
         BadOption::Address { text } => Ok(CommandFault::BadAddress(text)),
     }
 }
 
-/// A mistake of this kind, which says this, and how the program is called.
+/// A mistake of this kind, which says this, and how this subcommand is called.
 fn clap_fault<'a>(
     alloc: Global,
+    name: &str,
     kind: ErrorKind,
     message: &str,
 ) -> Result<CommandFault<'a>, AllocError>
     ensures { IfOk result (IsClap kind) }
 {
-    let error = command(alloc)?.error(kind, message)?;
+    let error = named_command(alloc, name)?.error(kind, message)?;
     Ok(CommandFault::Clap(error))
+}
+
+/// The subcommand of this name, as the program's user calls it.
+fn named_command<'a>(alloc: Global, name: &str) -> Result<Command<'a>, AllocError> {
+    match name {
+        "frames" => frames_command(alloc)?.bin_name("ymx frames"),
+        "local" => local_command(alloc)?.bin_name("ymx local"),
+        "remote" => remote_command(alloc)?.bin_name("ymx remote"),
+        _ => command(alloc),
+    }
 }
 
 /// What the matches of a command line ask for.
