@@ -291,7 +291,7 @@ YMX_API int64_t ymx_forget(ymx_session *session, uint32_t id);
  * still name it.
  *
  * So nothing is lost, as it is by a ymx_forget before the peer's end. But a peer that never ends the stream keeps it
- * among the YMX_MOST_STREAMS: whoever won't wait for that calls ymx_forget.
+ * among the YMX_MOST_STREAMS: whoever won't wait for that calls ymx_forget in its place.
  *
  * Refused with YMX_E_CLOSED, YMX_E_NO_STREAM. */
 YMX_API int64_t ymx_release(ymx_session *session, uint32_t id);

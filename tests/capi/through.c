@@ -95,10 +95,29 @@ static void lends(void) {
     ymx_free(to);
 }
 
+/* The end of a released stream comes with bytes that are dropped, of which no note tells: its place is free again. */
+static void ends_behind_a_note(void) {
+    unsigned char out[24];
+    ymx_session *s;
+    ymx_touched *touched;
+    CHECK(ymx_new(YMX_CLIENT, YMX_LEAST_WINDOW, 0, &s) == 0 && ymx_touched_new(&touched) == 0);
+    for (uint32_t id = 1; id < 2 * YMX_MOST_STREAMS + 2; id += 2) {
+        unsigned char came[] = {0, 0, 0, 6, 0, 0, (unsigned char)(id >> 8), (unsigned char)id, 0, 0, 0, 2, 'h', 'i'};
+        CHECK(ymx_open(s) == id && ymx_release(s, id) == 0);
+        while (ymx_due(s) == 1) CHECK(ymx_emit(s, out, 24) > 0);
+        CHECK(ymx_feed_to_payload(s, came, 13, touched) == 13);
+        ymx_touched_clear(touched);
+        CHECK(ymx_feed_to_payload(s, came + 13, 1, touched) == 1);
+    }
+    ymx_touched_free(touched);
+    ymx_free(s);
+}
+
 int main(void) {
     writes_through();
     passes();
     gives_credit();
     lends();
+    ends_behind_a_note();
     return 0;
 }

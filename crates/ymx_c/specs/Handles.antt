@@ -134,8 +134,8 @@ DropsPayload released bytes count s t =
     MatchOption (if_released released (passing s)) ((count ≡ 0) × (t ≡ s))
     (λ p. (count ≡ min (length bytes) p.missing) × (((count ≡ 0) × (t ≡ s)) ⊎ Passes p.id (take count bytes) s t))
 
--- a feed up to the first payload that may be passed on, behind which what comes of a released stream is dropped, and those
--- are looked at that were touched
+-- a feed up to the first payload that may be passed on, behind which what comes of a released stream is dropped, and all
+-- released streams are looked at: the last byte dropped may be a stream's end, of which no note tells
 pub record ToPayloadThenSettles (old : Handle) (noted : Noted) (input : List ℕ) (n : ℤ) (new : Handle) (noted_new : Noted) : Type 0 where
   pub taken : ℕ
   pub dropped : ℕ
@@ -144,7 +144,7 @@ pub record ToPayloadThenSettles (old : Handle) (noted : Noted) (input : List ℕ
   pub mid : Session
   pub feeds : FeedsToPayload old.session noted input taken fed noted_new
   pub drops : DropsPayload old.releases (drop taken input) dropped fed mid
-  pub settles : Settles (looked_at old.releases noted_new mid) old.releases mid new
+  pub settles : Settles old.releases old.releases mid new
 
 abbrev pub unless_released : List ℕ → Option Passing → Option Passing
 unless_released released None = None

@@ -443,7 +443,8 @@ pub(crate) fn feed_to_payload(handle: &mut Handle, input: &[u8], touched: &mut T
 {
     let fed = handle.session.feed_to_payload(input, touched);
     let dropped = handle.drop_payload(&input[fed.taken..]);
-    handle.settle(touched);
+    // what was dropped may have been the last of its stream, of which nothing was noted
+    handle.settle_all();
     number(fed.taken + dropped)
 }
 
