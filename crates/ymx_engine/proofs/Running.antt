@@ -1,5 +1,5 @@
 -- How a tunnel goes on.
-use Rattle.std.proofs.Common.{◌≡◌, ℕ, List, [], ◌∷◌, ◌++◌, Bool, true, false, ◌||◌, Option, None, Some, refl, sym, ap, ◌∙◌, subst, append-nil, append_assoc, cond, ◌==◌, arith}
+use Rattle.std.proofs.Common.{◌≡◌, ℕ, List, [], length, ◌∷◌, ◌++◌, Bool, true, false, ◌||◌, Option, None, Some, refl, sym, ap, ◌∙◌, subst, append-nil, append_assoc, cond, ◌==◌, arith}
 use Rattle.std.specs.Prelude.{option_map, nat_eq, IsSome, IfSome, IfNone, is_some}
 use Rattle.std.specs.Map.{lookup}
 use Rattle.indexmap.specs.IndexMap.{insert_entry}
@@ -476,3 +476,15 @@ offered_none o s t e h = subst (λ (v : Option ℕ). IfNone v (OffersNone s t)) 
 
 pub joins_from : (a b c : Tunnel) (id : ℕ) (d : Seen) → a ≡ b → Joins id d a c → Joins id d b c
 joins_from a b c id d e x = subst (λ (v : Tunnel). Joins id d v c) e x
+
+-- what a call saw of the session before
+pub offers_from : (a b : Tunnel) (s : Session) → a ≡ b → OffersNone a.engine.session s → OffersNone b.engine.session s
+offers_from a b s e x = subst (λ (v : Tunnel). OffersNone v.engine.session s) e x
+
+pub given_from : (k : Event) (told : Reply) (a b : Tunnel) (s : Session) → a ≡ b → Gives in_turn a.engine.session k told s → Gives in_turn b.engine.session k told s
+given_from k told a b s e x = subst (λ (v : Tunnel). Gives in_turn v.engine.session k told s) e x
+
+-- a map with no entry has no line
+pub no_lines : {D : Type 0} (seen : D → Seen) (es : List (ℕ × D)) → length es ≡ 0 → lines_of seen es ≡ []
+no_lines seen [] h = refl
+no_lines seen (e ∷ es) h = let no : ⊥ = cc in absurd no

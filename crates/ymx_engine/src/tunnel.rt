@@ -1,6 +1,12 @@
 //! The type `Tunnel`, and its calls.
 
-ghost use Rattle.std.specs.Prelude.{◌≡◌, ◌≤◌, true, false, IfOk, IfSome, IsSome, OnOk, OnErr, None, Ok, length};
+ghost use Rattle.std.specs.Prelude.{[], IfNone, option_map, ◌≡◌, ◌≤◌, true, false, IfOk, IfSome, IsSome, OnOk, OnErr, None, Ok, length};
+ghost use Rattle.ymx_machine.specs.declared.types.Call.TheVariants as call;
+ghost use Rattle.ymx_model.specs.declared.types.Event.TheVariants as event;
+ghost use Rattle.ymx_model.specs.session.Emissions.{in_turn};
+ghost use Rattle.ymx_model.specs.session.Histories.{Gives};
+ghost use Rattle.ymx_session.specs.Replies.{pinged_or, ponged_or};
+ghost use Rattle.ymx_engine.specs.Refusals.{OffersNone};
 ghost use Rattle.ymx_engine.specs.Runs.{Runs, IsOver};
 ghost use Rattle.ymx_engine.specs.Tunnels.{look, Joins, DropsOut};
 
@@ -120,6 +126,7 @@ impl<D: Line + Drop, W: Wire + Drop> Tunnel<D, W> {
     ) -> Result<Option<u32>, NotJoined>
         ensures runs { Runs self.old self.new }
         ensures joined { IfOk result (λ offered. IfSome offered (λ id. IsSome (look id self.new.lines))) }
+        ensures none { IfOk result (λ offered. IfNone offered (OffersNone self.old.engine.session self.new.engine.session)) }
         ensures refused { OnErr result (self.new.lines ≡ self.old.lines) }
     {
         let id = match self.engine.accept() {
@@ -285,7 +292,8 @@ impl<D: Line + Drop, W: Wire + Drop> Tunnel<D, W> {
     /// Asks the peer for a sign of life, and returns the ping's number (ping). The refusals are those of `Session::ping`,
     /// and change nothing.
     pub fn ping(&mut self) -> Result<u32, CallFault>
-        ensures { Runs self.old self.new }
+        ensures runs { Runs self.old self.new }
+        ensures event { Gives in_turn self.old.engine.session (event.Call call.Ping) (pinged_or result) self.new.engine.session }
     {
         self.engine.ping()
     }
@@ -293,15 +301,17 @@ impl<D: Line + Drop, W: Wire + Drop> Tunnel<D, W> {
     /// Whether the answer to the pending ping of this number is back. If so it is collected (ping). The refusals are those
     /// of `Session::ponged`, and change nothing.
     pub fn ponged(&mut self, number: u32) -> Result<bool, CallFault>
-        ensures { Runs self.old self.new }
+        ensures runs { Runs self.old self.new }
+        ensures event { Gives in_turn self.old.engine.session (event.Call (call.Ponged number)) (ponged_or result) self.new.engine.session }
     {
         self.engine.ponged(number)
     }
 
-    /// The peer counts as gone: the wire is shut both ways, and read and written once more, so that the session hears of
-    /// its end.
+    /// The peer counts as gone: the wire is shut both ways, and may be read and written once more, so that the session
+    /// hears of its end.
     pub fn give_up_wire(&mut self)
-        ensures { Runs self.old self.new }
+        ensures runs { Runs self.old self.new }
+        ensures shut { self.new.wire.shut ≡ option_map (λ b. true) self.old.wire.shut }
     {
         self.wire.shut();
         self.engine.note_wire(true, true);
@@ -309,7 +319,8 @@ impl<D: Line + Drop, W: Wire + Drop> Tunnel<D, W> {
 
     /// Nothing more goes over the wire.
     pub fn end_wire(&mut self)
-        ensures { Runs self.old self.new }
+        ensures runs { Runs self.old self.new }
+        ensures ended { self.new.wire.ended ≡ option_map (λ b. true) self.old.wire.ended }
     {
         self.wire.end();
     }
@@ -352,6 +363,13 @@ impl<D: Line + Drop, W: Wire + Drop> Tunnel<D, W> {
     /// How many connections there are.
     pub fn len(&self) -> usize {
         self.lines.len()
+    }
+
+    /// Whether there is no connection.
+    pub fn is_empty(&self) -> bool
+        ensures { result ≡ true → self.now.lines ≡ [] }
+    {
+        self.lines.len() == 0
     }
 
     /// The wire.

@@ -1,5 +1,7 @@
 //! How long a peer has been silent.
 
+ghost use Rattle.std.specs.Prelude.{◌≡◌, true};
+
 use std::time::{Clock, Duration, Instant};
 
 /// What is due where a peer is silent.
@@ -69,8 +71,10 @@ impl Silence {
     }
 }
 
-/// What is due after so long a silence.
-fn due_after(patience: Duration, passed: Duration, was_asked: bool) -> Due {
+/// What is due after so long a silence. A loss only behind a sign that was asked for.
+fn due_after(patience: Duration, passed: Duration, was_asked: bool) -> Due
+    ensures asked { result ≡ Due.Loss → was_asked ≡ true }
+{
     match patience.checked_sub(passed) {
         Some(left) if left > Duration::ZERO => Due::In(left),
         _ if was_asked => Due::Loss,

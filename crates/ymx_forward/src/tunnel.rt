@@ -3,7 +3,7 @@
 //! All that moves is moved by calls of [`ymx_engine::Tunnel`], which owns the wire and the connections. Each function
 //! here that makes such calls says that they are all it did: `Runs`.
 
-ghost use Rattle.std.specs.Prelude.{◌≡◌, true};
+ghost use Rattle.std.specs.Prelude.{◌≡◌, [], true};
 ghost use Rattle.ymx_engine.specs.Runs.{Runs, IsOver};
 
 use crate::peer::Peer;
@@ -137,6 +137,7 @@ impl<'a> TunnelLoop<'a> {
     ) -> LoopEnd
         ensures runs { Runs self.old.tunnel self.new.tunnel }
         ensures over { result ≡ LoopEnd.Over → IsOver self.new.tunnel }
+        ensures empty { result ≡ LoopEnd.Over → self.new.tunnel.lines ≡ [] }
     {
         let mut silence = Silence::new(rt, self.tunnel_end.limits.silence);
         self.begin_waiting(watcher);
@@ -308,13 +309,14 @@ impl<'a> TunnelLoop<'a> {
 
     /// Whether this side and all its connections have ended, and nothing more goes over the wire.
     fn is_over(&self) -> bool
-        ensures { result ≡ true → IsOver self.now.tunnel }
+        ensures over { result ≡ true → IsOver self.now.tunnel }
+        ensures empty { result ≡ true → self.now.tunnel.lines ≡ [] }
     {
         let is_side_over = match &self.tunnel_end.side {
             Side::Local(listening) => listening.is_over() || self.is_to_be_followed(),
             Side::Remote { .. } => self.is_lost() && self.tunnel.offered_count() == 0,
         };
-        is_side_over && self.tunnel.len() == 0 && self.tunnel.is_over()
+        is_side_over && self.tunnel.is_empty() && self.tunnel.is_over()
     }
 
     /// Whether the session is over.

@@ -1,5 +1,5 @@
 use Rattle.std.proofs.Common.{refl, sym, ◌∙◌}
-use Rattle.ymx_engine.proofs.Running.{runs_accepted, runs_accepted_alone, runs_offers_none, runs_not_accepted, runs_behind, from_view, look_none, accepted_at, offered_none}
+use Rattle.ymx_engine.proofs.Running.{runs_accepted, runs_accepted_alone, runs_offers_none, runs_not_accepted, runs_behind, from_view, look_none, accepted_at, offered_none, offers_from}
 use Rattle.ymx_engine.proofs.tunnel.Tunnel.accept.Goals as goal
 
 pub returns-in-Ok-None-clause-runs : goal.returns-in-Ok-None-clause-runs
@@ -23,3 +23,6 @@ pub returns-in-Err-join-clause-runs : goal.returns-in-Err-join-clause-runs
 returns-in-Err-join-clause-runs g c =
     from_view _ _ _ c.self.view_is (runs_not_accepted _ _ _ _ (accepted_at _ c.in-Ok-Some.id _ _ c.in-Ok-Some.field-0-is c.in-Ok-Some.ensures.accepted) c.in-Ok-Some.ensures.wire refl refl
     (look_none g.D.Device.seen c.self.inside.lines.entries c.in-Ok-Some.id (sym c.contains_key.ensures ∙ c.if-contains_key.false)) c.in-Err-join.ensures.refused)
+
+pub returns-in-Ok-None-clause-none : goal.returns-in-Ok-None-clause-none
+returns-in-Ok-None-clause-none g c = offers_from _ _ _ c.self.view_is (offered_none _ _ _ c.in-Ok-None.field-0-is c.in-Ok-None.ensures.none)
