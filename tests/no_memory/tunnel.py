@@ -13,7 +13,9 @@ stream, as it has no memory for it, says so too. Only where it is refused to wat
 reset the stream, as where the target refuses it, and says nothing.
 
 The same is tried of a side that is told `--keep`. A `ymx remote` then goes on, so it is ended from outside once
-`ymx local` has ended.
+`ymx local` has ended. It serves each peer in a thread, and its start is refused too. Where a thread can't be made, the
+standard library doesn't say whether there was no memory for it. `ymx remote --keep` says then that it can't listen, and
+its peer is not served. Of all allocations just one, that of the thread, may end so.
 
 `ymx selftest` is refused each in the same way, and the start of each thread. It ends within 60 seconds too: with status
 0 and its three lines, or with status 1 and one text: that there was no memory, that it can't listen, or which connection
@@ -43,6 +45,10 @@ OUT_OF_MEMORY = "ymx: out of memory\n"
 CANNOT_LISTEN = "ymx: cannot listen at 127.0.0.1:0\n"
 # What refuses a call about readiness.
 POLL = "FAIL_POLL_AT"
+# What refuses the start of a thread.
+THREAD = "FAIL_THREAD_AT"
+# How a run ends in which no thread could be made for a peer.
+NO_THREAD = "no thread"
 # What `ymx selftest` prints.
 LINES = [f"connection {number}: {size} bytes echoed\n" for number, size in enumerate([0, 1, 300_000], 1)]
 
@@ -125,10 +131,23 @@ class Side:
         out, said = self.process.communicate(timeout=PATIENCE)
         return self.process.returncode, said if out == "" else f"on standard output {out!r}"
 
+    def is_at_rest(self):
+        """Whether one thread of it is left, which waits."""
+        with open(f"/proc/{self.process.pid}/status") as status:
+            lines = dict(line.split(":", 1) for line in status)
+        return lines["Threads"].strip() == "1" and lines["State"].split()[0] == "S"
+
     def end_kept(self):
-        """What it says, as a side that was ended from outside, or its status, if it has ended by itself."""
-        if self.process.poll() is None:
-            self.process.terminate()
+        """What it says, as a side that was ended from outside, or its status, if it has ended by itself. Its peer has gone
+        by then. What went wrong is said only afterwards, so it is ended once it is at rest."""
+        late = time.monotonic() + PATIENCE
+        while self.process.poll() is None:
+            if self.is_at_rest():
+                self.process.terminate()
+                break
+            if time.monotonic() > late:
+                raise TimeoutError("it is never at rest")
+            time.sleep(0.002)
         status, said = self.end()
         return (0 if said == "" else 1, said) if status == -signal.SIGTERM else (status, said)
 
@@ -233,8 +252,12 @@ def judge(name, variable, near, far, questions, answer, sides):
     unreached = (1, f"ymx: cannot reach 127.0.0.1:{sides[0].port}\n")
     good = (0, "")
     refused = {"local": [(1, OUT_OF_MEMORY)], "remote": [(1, OUT_OF_MEMORY)]}
+    cannot_listen = (1, f"ymx: cannot listen at 127.0.0.1:{sides[0].port}\n")
+    if name == "remote --keep" and variable != POLL and far == cannot_listen:
+        assert (near, questions, answer) == (good, [], b""), "the peer was served without a thread"
+        return NO_THREAD
     if variable == POLL:
-        refused["remote"] = [(1, f"ymx: cannot listen at 127.0.0.1:{sides[0].port}\n")]
+        refused["remote"] = [cannot_listen]
         refused["local"] = [unreached, (1, f"ymx: cannot listen at 127.0.0.1:{sides[-1].port}\n")]
     is_local = name.startswith("local")
     assert near in ([good, *refused["local"]] if is_local else [good, unreached]), "local ends so"
@@ -274,6 +297,8 @@ def try_all(run, name, variable):
         ending, came = run(variable, number)
         counts[ending] += 1
     told = ", ".join(f"{count} {ending}" for ending, count in sorted(counts.items()))
+    if counts[NO_THREAD] > 1:
+        raise SystemExit(f"FAIL  ymx {name}: {variable}: {told}: one thread serves one peer")
     if counts["as ever"] == sum(counts.values()):
         raise SystemExit(f"FAIL  ymx {name}: {variable}: no run was refused anything")
     print(f"ok    ymx {name}: {variable} up to {number - 1}: {told}", flush=True)
@@ -289,7 +314,8 @@ def main():
         for name, run in runs.items():
             try_all(run, name, "FAIL_AT")
             try_all(run, name, POLL)
-        try_all(tunnel.run_selftest, "selftest", "FAIL_THREAD_AT")
+        for name in "remote --keep", "selftest":
+            try_all(runs[name], name, THREAD)
 
 
 main()
