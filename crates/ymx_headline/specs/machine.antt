@@ -2,6 +2,7 @@
 pub mod LaneLaws
 pub mod Runs
 pub mod Faces
+pub mod Arrivals
 pub mod Numbers
 pub mod Others
 pub mod Examples

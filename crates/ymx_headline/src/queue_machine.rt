@@ -1,5 +1,5 @@
 //! Laws of the queue machine by itself, over all runs. Its calls do nothing: each contract is a theorem.
-ghost use Rattle.std.specs.Prelude.{◌%◌, ◌≡◌, ◌≢◌, ◌⊎◌, ◌≤◌, ℕ, List, None, Some, true};
+ghost use Rattle.std.specs.Prelude.{◌%◌, ◌≡◌, ◌≢◌, ◌⊎◌, ◌≤◌, ℕ, List, Bool, None, Some, true};
 ghost use Rattle.ymx_machine.specs.shared.Evidence.{evidence};
 ghost use Rattle.ymx_machine.specs.declared.types.Answer.{Answer};
 ghost use Rattle.ymx_machine.specs.shared.Events.{Call};
@@ -17,7 +17,8 @@ ghost use Rattle.ymx_machine.specs.shared.Lists.{look};
 ghost use Rattle.ymx_headline.specs.machine.Examples.{HasCome, crossing_answers, crossing_steps, forgotten_answers, forgotten_steps, first_machine, vanishing_answers, vanishing_steps};
 ghost use Rattle.ymx_headline.specs.machine.Numbers.{HasBothParities, HasOrder};
 ghost use Rattle.ymx_headline.specs.machine.Others.{needs_memory, touched, touched_by};
-ghost use Rattle.ymx_headline.specs.machine.Runs.{ObeysAt};
+ghost use Rattle.ymx_headline.specs.machine.Runs.{ObeysAt, StillRun};
+ghost use Rattle.ymx_headline.specs.machine.Arrivals.{AllArrive, AllAreOffered};
 ghost use Rattle.ymx_headline.specs.machine.Faces.{DeliversWithin};
 
 /// The law of a lane (flow control): in every run from a new machine, the bytes on their way, the
@@ -37,6 +38,20 @@ pub fn face()
         first_credit ≤ window_a → first_credit ≤ window_b → first_a % 2 ≡ 1 → first_b % 2 ≡ 0 →
         MachineRun steps answers (new_machine window_a first_a window_b first_b) m →
         DeliversWithin window_b A B id steps answers × DeliversWithin window_a B A id steps answers }
+{}
+
+/// Bytes arrive: at rest, a read gives the first of all that was written and not yet got; where nothing is left, the
+/// end if the writer finished, and else that there is nothing yet. It is refused only where one of the sides hasn't the
+/// stream. The machine is at rest where it is still and open, and after the reads and accepts that follow (clause
+/// `reads`). A stream of which its opener's read isn't refused there has come to the other side: it is offered until it
+/// is accepted (clause `offers`).
+pub fn arrival()
+    ensures reads { (window_a first_a window_b first_b : ℕ) (steps : List Step) (answers : List Answer) (quiet : List Bool) (m : Machine) →
+        first_credit ≤ window_a → first_credit ≤ window_b → first_a % 2 ≡ 1 → first_b % 2 ≡ 0 →
+        StillRun steps answers quiet (new_machine window_a first_a window_b first_b) m → AllArrive steps answers quiet }
+    ensures offers { (window_a first_a window_b first_b : ℕ) (steps : List Step) (answers : List Answer) (quiet : List Bool) (m : Machine) →
+        first_credit ≤ window_a → first_credit ≤ window_b → first_a % 2 ≡ 1 → first_b % 2 ≡ 0 →
+        StillRun steps answers quiet (new_machine window_a first_a window_b first_b) m → AllAreOffered steps answers quiet }
 {}
 
 /// Stream identifiers: in every run each number stands once, below its opener's next number and odd or

@@ -10,11 +10,14 @@ use Rattle.ymx_model.specs.session.Emissions.{Choice, in_turn}
 use Rattle.ymx_model.specs.world.Worlds.{World, Steps, is_quiet}
 use Rattle.ymx_machine.specs.machine.Machines.{Machine}
 use Rattle.ymx_session.specs.NewSessions.{first_id, new_fault}
+use Rattle.ymx_headline.specs.machine.Arrivals.{AllArrive, AllAreOffered}
 use Rattle.ymx_headline.specs.machine.Faces.{FitWindows}
 use Rattle.ymx_headline.specs.machine.Runs.{StillRun}
 use Rattle.ymx_headline.specs.QuietRuns.{QuietRuns}
 use Rattle.ymx_headline.proofs.relation.Begins.{begins}
-use Rattle.ymx_headline.proofs.runs.Runs.{run-faces}
+use Rattle.ymx_headline.proofs.machine.faces.RunFaces.{odd-even}
+use Rattle.ymx_headline.proofs.machine.arrivals.RunArrivals.{arrives, are-offered}
+use Rattle.ymx_headline.proofs.runs.Runs.{run-faces, client-odd, server-even}
 use Rattle.ymx_headline.proofs.runs.QuietRuns.{still-run, told-run}
 use Rattle.ymx_world.specs.declared.played.Played.{Played}
 use Rattle.ymx_world.specs.Played.{machine_of, world_of, IsOneMore, IsSamePlay}
@@ -52,6 +55,8 @@ played_on steps w i st p q within is so one =
 -- what holds of such a run
 pub record IsTopRun (a b : Config) (steps : List Step) (answers : List Answer) (quiet : List Bool) : Type 0 where
   pub face : AllDeliverInOrder steps answers
+  pub arrives : AllArrive steps answers quiet
+  pub offers : AllAreOffered steps answers quiet
   pub windows : FitWindows a.window b.window steps answers
   pub queues : (m : Machine) × StillRun steps answers quiet (machine_of a b) m
 
@@ -61,11 +66,15 @@ top_run a b fine_a fine_b small_a small_b steps answers quiet w run =
     let g = good_world a b fine_a fine_b small_a small_b in
     let fa = first_id Client a.first in
     let fb = first_id Server b.first in
+    let still = still-run in_turn steps answers quiet (world_of a b) w (machine_of a b) run (begins a.window fa b.window fb g.low_a g.high_a g.low_b g.high_b g.client g.server g.small_a g.some_b g.small_b) in
+    let parity = odd-even fa fb (client-odd fa g.client) (server-even fb g.server) in
     let within = run-faces in_turn steps answers a.window fa b.window fb w g (told-run in_turn steps answers quiet (world_of a b) w run) in
     record {
       face = within.faces;
+      arrives = arrives a.window fa b.window fb steps answers quiet still.0 g.low_a g.low_b parity still.1;
+      offers = are-offered a.window fa b.window fb steps answers quiet still.0 g.low_a g.low_b parity still.1;
       windows = within.windows;
-      queues = still-run in_turn steps answers quiet (world_of a b) w (machine_of a b) run (begins a.window fa b.window fb g.low_a g.high_a g.low_b g.high_b g.client g.server g.small_a g.some_b g.small_b);
+      queues = still;
     }
 
 -- where it stopped, of the steps before

@@ -162,10 +162,10 @@ none-breaks may (st ∷ sts) [] w v m n r = absurd r
 
 -- ---- runs from a new world
 
-client-odd : (n : ℕ) → is_own Client n ≡ true → n % 2 ≡ 1
+pub client-odd : (n : ℕ) → is_own Client n ≡ true → n % 2 ≡ 1
 client-odd n e = grind (arith, nat_tests)
 
-server-even : (n : ℕ) → is_own Server n ≡ true → n % 2 ≡ 0
+pub server-even : (n : ℕ) → is_own Server n ≡ true → n % 2 ≡ 0
 server-even n e = grind (arith, nat_tests)
 
 pub run-alike : (may : Choice → Session → Bool) (sts : List Step) (given : List Answer) (wa fa wb fb : ℕ) (w : World) → AreGood wa fa wb fb → Runs may sts given (new_world wa fa wb fb) w →

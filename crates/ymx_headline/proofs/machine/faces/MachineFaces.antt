@@ -24,6 +24,7 @@ use Rattle.ymx_headline.proofs.machine.order.Openers.{Numbered, free, numbered-e
 pub record IsBlank (h : Past) : Type 0 where
   pub written : h.written ≡ []
   pub got : h.got ≡ []
+  pub finished : h.finished ≡ false
   pub ended : h.ended ≡ false
 
 abbrev pub FaceAt : (mine yours : ℕ) → (past_out past_inbound : Past) → Option Stream → Type 0
@@ -65,7 +66,7 @@ opens mine yours i j po po' pi pi' bytes xs a b fits e v u h = elim (same_or_not
       at-is mine yours po' pi' (Some (stream_write bytes (opened_stream mine yours))) _
       (ap (λ (x : ℕ). look x (xs ++ (j, stream_write bytes (opened_stream mine yours)) ∷ [])) d ∙ look-add j _ xs e)
       (at-past mine yours (wrote bytes po) po' pi pi' (Some (stream_write bytes (opened_stream mine yours))) q.0 q.1
-      (faces-new mine yours bytes po pi a b fits k.0.written k.0.got k.0.ended k.1.written k.1.got k.1.ended)))
+      (faces-new mine yours bytes po pi a b fits k.0.written k.0.got k.0.finished k.0.ended k.1.written k.1.got k.1.finished k.1.ended)))
   | inr d ↦ at-is mine yours po' pi' _ _ (look-add_other i j _ xs d) (let k = u d in at-past mine yours po po' pi pi' _ k.0 k.1 h)
 ]
 

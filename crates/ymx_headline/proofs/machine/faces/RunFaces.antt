@@ -12,7 +12,7 @@ use Rattle.ymx_machine.specs.declared.types.Answer.{Answer}
 use Rattle.ymx_machine.specs.declared.types.Wrote.TheVariants.{Took}
 use Rattle.ymx_machine.specs.stream.Lanes.{Mark, Lane, is_unsaid, is_here}
 use Rattle.ymx_machine.specs.shared.Limits.{first_credit}
-use Rattle.ymx_machine.specs.shared.Phases.{Phase, is_up}
+use Rattle.ymx_machine.specs.shared.Phases.{Phase}
 use Rattle.ymx_machine.specs.stream.Streams.{Stream}
 use Rattle.ymx_machine.specs.shared.Lists.{look}
 use Rattle.ymx_machine.specs.shared.Steps.{is_of_a, answer_of}
@@ -37,11 +37,11 @@ grown w r i st given h = record {
   ended = h.ended || ended_by r i st given;
 }
 
-or-false : (b : Bool) → (b || false) ≡ b
+pub or-false : (b : Bool) → (b || false) ≡ b
 or-false true = refl
 or-false false = refl
 
-same : (h : Past) → record { written = h.written ++ []; got = h.got ++ []; finished = h.finished || false; ended = h.ended || false } ≡ h
+pub same : (h : Past) → record { written = h.written ++ []; got = h.got ++ []; finished = h.finished || false; ended = h.ended || false } ≡ h
 same h = rw (append-nil, append-nil, or-false, or-false) refl
 
 abbrev pub other : Side → Side
@@ -78,11 +78,11 @@ none-wrote h = rw append-nil refl
 none-gave : (h : Past) → gave [] h ≡ h
 none-gave h = rw append-nil refl
 
-same-side : (a : Side) → is_same_side a a ≡ true
+pub same-side : (a : Side) → is_same_side a a ≡ true
 same-side A = refl
 same-side B = refl
 
-other-side : (a : Side) → is_same_side (other a) a ≡ false
+pub other-side : (a : Side) → is_same_side (other a) a ≡ false
 other-side A = refl
 other-side B = refl
 
@@ -148,7 +148,7 @@ faced-step_of mine yours i a po pi (step.End direction) given m n w v e h k = fa
   | inr s ↦ faced-is mine yours i po pi _ _ (ap core (if-so_false _ _ _ s h).1) k
 ])
 
-speaks-a : (st : Step) → is_of_a st ≡ true → Speaks A st
+pub speaks-a : (st : Step) → is_of_a st ≡ true → Speaks A st
 speaks-a (step.At A c) e = refl
 speaks-a (step.At B c) e = absurd (cc)
 speaks-a (step.Emit sd room) e = tt
@@ -156,7 +156,7 @@ speaks-a (step.Deliver d n) e = tt
 speaks-a (step.Stop d) e = tt
 speaks-a (step.End d) e = tt
 
-speaks-b : (st : Step) → is_of_a st ≡ false → Speaks B st
+pub speaks-b : (st : Step) → is_of_a st ≡ false → Speaks B st
 speaks-b (step.At A c) e = absurd (cc)
 speaks-b (step.At B c) e = refl
 speaks-b (step.Emit sd room) e = tt
@@ -182,11 +182,11 @@ run_past w r i sts given h = record {
   ended = h.ended || ended r i sts given;
 }
 
-or-assoc : (a b c : Bool) → (a || (b || c)) ≡ ((a || b) || c)
+pub or-assoc : (a b c : Bool) → (a || (b || c)) ≡ ((a || b) || c)
 or-assoc true b c = refl
 or-assoc false b c = refl
 
-run-step : (w r : Side) (i : ℕ) (st : Step) (sts : List Step) (given : Answer) (more : List Answer) (h : Past) →
+pub run-step : (w r : Side) (i : ℕ) (st : Step) (sts : List Step) (given : Answer) (more : List Answer) (h : Past) →
     run_past w r i (st ∷ sts) (given ∷ more) h ≡ run_past w r i sts more (grown w r i st given h)
 run-step w r i st sts given more h = rw (append_assoc, append_assoc, or-assoc, or-assoc) refl
 
@@ -247,14 +247,14 @@ says-b wa wb po pi None f = says-blank wa pi f.1
 says-b wa wb po pi (Some s) f = says wa s.you s.me s.inbound pi f.inbound
 
 -- nothing written, got, finished or ended
-abbrev blank : Past
+abbrev pub blank : Past
 blank = record { written = []; got = []; finished = false; ended = false }
 
-faced-new : (wa fa wb fb i : ℕ) → fa % 2 ≢ fb % 2 → Faced wa wb i blank blank (core (new_machine wa fa wb fb))
+pub faced-new : (wa fa wb fb i : ℕ) → fa % 2 ≢ fb % 2 → Faced wa wb i blank blank (core (new_machine wa fa wb fb))
 faced-new wa fa wb fb i p = record {
   sound = sound-new wa fa wb fb;
   numbered = record { parity = p; once = tt; at = λ k. tt };
-  face = (record { written = refl; got = refl; ended = refl }, record { written = refl; got = refl; ended = refl });
+  face = (record { written = refl; got = refl; finished = refl; ended = refl }, record { written = refl; got = refl; finished = refl; ended = refl });
 }
 
 -- every stream of every run, in both directions

@@ -4,7 +4,7 @@ use Rattle.std.proofs.lemmas.Bool.Decides.{nat_tests}
 use Rattle.ymx_machine.specs.shared.Events.{Reply}
 use Rattle.ymx_machine.specs.declared.types.Reply.TheVariants as reply
 use Rattle.ymx_machine.specs.declared.types.Wrote.TheVariants.{Took}
-use Rattle.ymx_machine.specs.stream.Lanes.{Mark, new_lane, is_unsaid, is_here, lane_struck}
+use Rattle.ymx_machine.specs.stream.Lanes.{Mark, Lane, new_lane, is_unsaid, is_here, lane_arrive, lane_vanish, lane_struck}
 use Rattle.ymx_machine.specs.shared.Limits.{first_credit}
 use Rattle.ymx_machine.specs.stream.Lanes.Mark.{Said}
 use Rattle.ymx_machine.specs.shared.Phases.{Phase, struck, is_up, takes, is_unborn}
@@ -23,38 +23,83 @@ use Rattle.ymx_headline.proofs.machine.lanes.StreamFacts.{if-so_true, if-so_fals
 use Rattle.ymx_headline.proofs.machine.lanes.StreamLaws.{struck-down}
 
 pub faces-flip : (mine yours : ℕ) (s : Stream) (po pi : Past) → HasFaces mine yours s po pi → HasFaces yours mine (flip s) pi po
-faces-flip mine yours s po pi c = record { outbound = c.inbound; inbound = c.outbound; rst_outbound = c.rst_inbound; rst_inbound = c.rst_outbound }
+faces-flip mine yours s po pi c = record {
+  outbound = c.inbound;
+  inbound = c.outbound;
+  rst_outbound = c.rst_inbound;
+  rst_inbound = c.rst_outbound;
+  came_outbound = c.came_inbound;
+  came_inbound = c.came_outbound;
+  whole_outbound = c.whole_inbound;
+  whole_inbound = c.whole_outbound;
+}
 
 pub faces-unflip : (mine yours : ℕ) (s : Stream) (po pi : Past) → HasFaces mine yours (flip s) po pi → HasFaces yours mine s pi po
-faces-unflip mine yours s po pi c = record { outbound = c.inbound; inbound = c.outbound; rst_outbound = c.rst_inbound; rst_inbound = c.rst_outbound }
+faces-unflip mine yours s po pi c = record {
+  outbound = c.inbound;
+  inbound = c.outbound;
+  rst_outbound = c.rst_inbound;
+  rst_inbound = c.rst_outbound;
+  came_outbound = c.came_inbound;
+  came_inbound = c.came_outbound;
+  whole_outbound = c.whole_inbound;
+  whole_inbound = c.whole_outbound;
+}
 
 faces-is : (mine yours : ℕ) (s t : Stream) (po pi : Past) → t ≡ s → HasFaces mine yours s po pi → HasFaces mine yours t po pi
 faces-is mine yours s t po pi e c = subst (λ (x : Stream). HasFaces mine yours x po pi) (sym e) c
 
+-- what comes to a lane goes where its reader is
+comes-to : (mine yours : ℕ) (l k : Lane) (s : Stream) (po pi : Past) → k ≡ l → HasFaces mine yours (record s { inbound = l }) po pi → HasFaces mine yours (record s { inbound = k }) po pi
+comes-to mine yours l k s po pi e c = subst (λ (x : Lane). HasFaces mine yours (record s { inbound = x }) po pi) (sym e) c
+
 arrives : (mine yours n : ℕ) (s : Stream) (po pi : Past) → is_unborn s.me ≡ false → (takes s.me ≡ true) ⊎ (takes s.me ≡ false) →
     HasFaces mine yours s po pi → HasFaces mine yours (after_move (Arrive n) s) po pi
-arrives mine yours n s po pi b (inl t) c = record {
-  outbound = c.outbound;
-  inbound = rw t (c.inbound.0, c.inbound.1, face-arrive mine s.you s.me n s.inbound pi c.inbound.0 c.inbound.1 (takes-up s.me t) c.inbound.2);
-  rst_outbound = c.rst_outbound;
-  rst_inbound = c.rst_inbound;
-}
-arrives mine yours n s po pi b (inr t) c = record {
-  outbound = c.outbound;
-  inbound = rw t (c.inbound.0, c.inbound.1, face-vanish mine s.you s.me n s.inbound pi c.inbound.0 c.inbound.1 (born-up s.me b t) c.inbound.2);
-  rst_outbound = c.rst_outbound;
-  rst_inbound = c.rst_inbound;
-}
+arrives mine yours n s po pi b (inl t) c =
+    let e : (if takes s.me then lane_arrive n s.inbound else lane_vanish n s.inbound) ≡ lane_arrive n s.inbound = rw t refl in
+    comes-to mine yours _ _ s po pi e (record {
+      outbound = c.outbound;
+      inbound = (c.inbound.0, c.inbound.1, face-arrive mine s.you s.me n s.inbound pi c.inbound.0 c.inbound.1 (takes-up s.me t) c.inbound.2);
+      rst_outbound = c.rst_outbound;
+      rst_inbound = c.rst_inbound;
+      came_outbound = c.came_outbound;
+      came_inbound = c.came_inbound;
+      whole_outbound = c.whole_outbound;
+      whole_inbound = c.whole_inbound;
+    })
+arrives mine yours n s po pi b (inr t) c =
+    let e : (if takes s.me then lane_arrive n s.inbound else lane_vanish n s.inbound) ≡ lane_vanish n s.inbound = rw t refl in
+    comes-to mine yours _ _ s po pi e (record {
+      outbound = c.outbound;
+      inbound = (c.inbound.0, c.inbound.1, face-vanish mine s.you s.me n s.inbound pi c.inbound.0 c.inbound.1 (born-up s.me b t) c.inbound.2);
+      rst_outbound = c.rst_outbound;
+      rst_inbound = c.rst_inbound;
+      came_outbound = c.came_outbound;
+      came_inbound = c.came_inbound;
+      whole_outbound = c.whole_outbound;
+      whole_inbound = c.whole_inbound;
+    })
 
 -- an end that goes another way comes up only if it was up
+not-up : (b c : Bool) → (b ≡ true → c ≡ true) → c ≡ false → b ≡ false
+not-up b c f e = grind arith
+
 faces-me : (mine yours : ℕ) (p : Phase) (m : Mark) (s : Stream) (po pi : Past) → (is_up p ≡ true → is_up s.me ≡ true) → (is_unsaid m ≡ false → is_up p ≡ false) →
+    (is_unsaid m ≡ true → is_unsaid s.rst_outbound ≡ true) → (is_here m ≡ true → is_here s.rst_outbound ≡ true) →
     HasFaces mine yours s po pi → HasFaces mine yours (record s { me = p; rst_outbound = m }) po pi
-faces-me mine yours p m s po pi f g c = record {
+faces-me mine yours p m s po pi f g un co c = record {
   outbound = (c.outbound.0, c.outbound.1, face-phases yours s.me p s.you s.you s.outbound po c.outbound.0 c.outbound.1 f (λ u. u) c.outbound.2);
   inbound = (c.inbound.0, c.inbound.1, face-phases mine s.you s.you s.me p s.inbound pi c.inbound.0 c.inbound.1 (λ u. u) f c.inbound.2);
   rst_outbound = g;
   rst_inbound = c.rst_inbound;
+  came_outbound = λ e. c.came_outbound (co e);
+  came_inbound = λ e. not-up (is_up p) (is_up s.me) f (c.came_inbound e);
+  whole_outbound = λ u e. c.whole_outbound u (un e);
+  whole_inbound = λ u e. c.whole_inbound (f u) e;
 }
+
+up-down : (p : Phase) → is_up p ≡ true → is_up p ≡ false → ⊥
+up-down p u d = let k : true ≡ false = sym u ∙ d in absurd (cc)
 
 -- an end that is up has said no reset
 up-unsaid : (b c : Bool) (p q : Phase) → (b ≡ false → is_up p ≡ false) → is_up p ≡ true → b ≡ false → is_up q ≡ false
@@ -67,17 +112,34 @@ faces-move mine yours EndArrives s po pi a c = record {
   inbound = (c.inbound.0, c.inbound.1, face-end mine s.you s.me s.inbound pi c.inbound.0 c.inbound.1 a.0 a.2 c.inbound.2);
   rst_outbound = c.rst_outbound;
   rst_inbound = c.rst_inbound;
+  came_outbound = c.came_outbound;
+  came_inbound = c.came_inbound;
+  whole_outbound = c.whole_outbound;
+  whole_inbound = λ u e. ((c.whole_inbound u e).0, λ f. refl);
 }
 faces-move mine yours (Return n) s po pi a c = record {
   outbound = (c.outbound.0, c.outbound.1, face-return yours s.me s.you n s.outbound po c.outbound.0 c.outbound.1 a.1 c.outbound.2);
   inbound = c.inbound;
   rst_outbound = c.rst_outbound;
   rst_inbound = c.rst_inbound;
+  came_outbound = c.came_outbound;
+  came_inbound = c.came_inbound;
+  whole_outbound = c.whole_outbound;
+  whole_inbound = c.whole_inbound;
 }
 faces-move mine yours SynOffered s po pi a c =
-    faces-me mine yours Offered s.rst_outbound s po pi (λ u. ap is_up a) (λ e. up-unsaid (is_unsaid s.rst_outbound) true s.me Offered c.rst_outbound (ap is_up a) e) c
-faces-move mine yours SynRefused s po pi a c = faces-me mine yours Refused Said s po pi (λ u. absurd (cc)) (λ e. refl) c
-faces-move mine yours AckArrives s po pi a c = record { outbound = c.outbound; inbound = c.inbound; rst_outbound = c.rst_outbound; rst_inbound = c.rst_inbound }
+    faces-me mine yours Offered s.rst_outbound s po pi (λ u. ap is_up a) (λ e. up-unsaid (is_unsaid s.rst_outbound) true s.me Offered c.rst_outbound (ap is_up a) e) (λ u. u) (λ u. u) c
+faces-move mine yours SynRefused s po pi a c = faces-me mine yours Refused Said s po pi (λ u. absurd (cc)) (λ e. refl) (λ u. absurd (cc)) (λ u. absurd (cc)) c
+faces-move mine yours AckArrives s po pi a c = record {
+  outbound = c.outbound;
+  inbound = c.inbound;
+  rst_outbound = c.rst_outbound;
+  rst_inbound = c.rst_inbound;
+  came_outbound = c.came_outbound;
+  came_inbound = c.came_inbound;
+  whole_outbound = c.whole_outbound;
+  whole_inbound = c.whole_inbound;
+}
 faces-move mine yours ResetArrives s po pi a c =
     let d : is_up s.you ≡ false = c.rst_inbound (ap is_unsaid a.0) in
     let e = struck-down s.me a.1 in record {
@@ -90,8 +152,12 @@ faces-move mine yours ResetArrives s po pi a c =
       );
       rst_outbound = λ u. e;
       rst_inbound = λ u. d;
+      came_outbound = λ u. d;
+      came_inbound = λ u. e;
+      whole_outbound = λ u w. absurd (up-down s.you u d);
+      whole_inbound = λ u w. absurd (up-down (struck s.me) u e);
     }
-faces-move mine yours Released s po pi a c = faces-me mine yours Gone s.rst_outbound s po pi (λ u. absurd (cc)) (λ e. refl) c
+faces-move mine yours Released s po pi a c = faces-me mine yours Gone s.rst_outbound s po pi (λ u. absurd (cc)) (λ e. refl) (λ u. u) (λ u. u) c
 
 -- ---- a call
 
@@ -180,6 +246,10 @@ writes mine yours lost bytes s t r po pi e f (inr z) c =
       inbound = c.inbound;
       rst_outbound = c.rst_outbound;
       rst_inbound = c.rst_inbound;
+      came_outbound = c.came_outbound;
+      came_inbound = c.came_inbound;
+      whole_outbound = λ u w. (refl, (c.whole_outbound u w).1);
+      whole_inbound = c.whole_inbound;
     })
 
 reads : (mine yours : ℕ) (lost : Bool) (max : ℕ) (s : Stream) (r : Reply) (po pi : Past) → r ≡ read_reply lost max s.me s.inbound.here (is_here s.inbound.fin) →
@@ -194,6 +264,10 @@ reads mine yours lost max s r po pi e z c =
         inbound = (drop (bytes_moved r) s.inbound.here ++ (s.inbound.way ++ c.inbound.1), c.inbound.1, face-read mine s.you s.me (bytes_moved r) s.inbound pi c.inbound.0 c.inbound.1 (live-up s.me l) c.inbound.2);
         rst_outbound = c.rst_outbound;
         rst_inbound = c.rst_inbound;
+        came_outbound = c.came_outbound;
+        came_inbound = c.came_inbound;
+        whole_outbound = c.whole_outbound;
+        whole_inbound = c.whole_inbound;
       }))
     ]
 
@@ -212,6 +286,10 @@ reads-end mine yours lost max s r po pi e n c =
       inbound = (c.inbound.0, c.inbound.1, face-over mine s.you s.me s.inbound pi c.inbound.0 c.inbound.1 (live-up s.me k.0) (none-there s.inbound.here k.1) k.2 c.inbound.2);
       rst_outbound = c.rst_outbound;
       rst_inbound = c.rst_inbound;
+      came_outbound = c.came_outbound;
+      came_inbound = c.came_inbound;
+      whole_outbound = c.whole_outbound;
+      whole_inbound = c.whole_inbound;
     })
 
 finishes : (mine yours : ℕ) (s : Stream) (po pi : Past) → s.me ≡ Live → is_unsaid s.outbound.fin ≡ true → HasFaces mine yours s po pi →
@@ -221,6 +299,10 @@ finishes mine yours s po pi l o c = record {
   inbound = c.inbound;
   rst_outbound = c.rst_outbound;
   rst_inbound = c.rst_inbound;
+  came_outbound = c.came_outbound;
+  came_inbound = c.came_inbound;
+  whole_outbound = λ u w. ((c.whole_outbound u w).0, λ f. refl);
+  whole_inbound = c.whole_inbound;
 }
 
 resets : (mine yours : ℕ) (p : Phase) (s t : Stream) (po pi : Past) → is_up p ≡ false → s.me ≡ Live → ResetsTo p s t → HasFaces mine yours s po pi → HasFaces mine yours t po pi
@@ -233,6 +315,10 @@ resets mine yours p s t po pi d l h c = faces-is mine yours (stream_reset p h.0 
   inbound = (c.inbound.0, c.inbound.1, face-empty mine s.you s.me p s.inbound pi c.inbound.0 c.inbound.1 d c.inbound.2);
   rst_outbound = λ e. d;
   rst_inbound = c.rst_inbound;
+  came_outbound = λ e. absurd (cc);
+  came_inbound = λ e. d;
+  whole_outbound = λ u w. absurd (cc);
+  whole_inbound = λ u w. absurd (up-down p u d);
 })
 
 forgets-quietly : (mine yours : ℕ) (s : Stream) (po pi : Past) → HasFaces mine yours s po pi → HasFaces mine yours (stream_forget s) po pi
@@ -241,21 +327,32 @@ forgets-quietly mine yours s po pi c = record {
   inbound = (c.inbound.0, c.inbound.1, face-empty mine s.you s.me Lingering s.inbound pi c.inbound.0 c.inbound.1 refl c.inbound.2);
   rst_outbound = λ e. refl;
   rst_inbound = c.rst_inbound;
+  came_outbound = c.came_outbound;
+  came_inbound = λ e. refl;
+  whole_outbound = c.whole_outbound;
+  whole_inbound = λ u w. absurd (cc);
 }
 
 pub faces-accept : (mine yours : ℕ) (lost : Bool) (s : Stream) (po pi : Past) → s.me ≡ Offered → HasFaces mine yours s po pi → HasFaces mine yours (stream_accept lost s) po pi
 faces-accept mine yours lost s po pi o c =
-    let k = faces-me mine yours Live s.rst_outbound s po pi (λ u. ap is_up o) (λ e. up-unsaid (is_unsaid s.rst_outbound) true s.me Live c.rst_outbound (ap is_up o) e) c in
-    record { outbound = k.outbound; inbound = k.inbound; rst_outbound = k.rst_outbound; rst_inbound = k.rst_inbound }
+    let k = faces-me mine yours Live s.rst_outbound s po pi (λ u. ap is_up o) (λ e. up-unsaid (is_unsaid s.rst_outbound) true s.me Live c.rst_outbound (ap is_up o) e) (λ u. u) (λ u. u) c in
+    record { outbound = k.outbound; inbound = k.inbound; rst_outbound = k.rst_outbound; rst_inbound = k.rst_inbound; came_outbound = k.came_outbound; came_inbound = k.came_inbound; whole_outbound = k.whole_outbound; whole_inbound = k.whole_inbound }
+
+not-both : (b : Bool) → b ≡ true → b ≡ false → ⊥
+not-both b e f = let k : true ≡ false = sym e ∙ f in absurd (cc)
 
 pub faces-new : (mine yours : ℕ) (bytes : List ℕ) (po pi : Past) → first_credit ≤ mine → first_credit ≤ yours → length bytes ≤ first_credit →
-    po.written ≡ [] → po.got ≡ [] → po.ended ≡ false → pi.written ≡ [] → pi.got ≡ [] → pi.ended ≡ false →
+    po.written ≡ [] → po.got ≡ [] → po.finished ≡ false → po.ended ≡ false → pi.written ≡ [] → pi.got ≡ [] → pi.finished ≡ false → pi.ended ≡ false →
     HasFaces mine yours (stream_write bytes (opened_stream mine yours)) (wrote bytes po) pi
-faces-new mine yours bytes po pi a b fits u v w x y z = record {
+faces-new mine yours bytes po pi a b fits u v fo w x y fi z = record {
   outbound = (bytes, [], face-write yours Live Unborn bytes (new_lane yours) po [] [] refl refl fits (face-new yours Live Unborn po b u v w));
   inbound = ([], [], face-new mine Unborn Live pi a x y z);
   rst_outbound = λ e. absurd (cc);
   rst_inbound = λ e. absurd (cc);
+  came_outbound = λ e. absurd (cc);
+  came_inbound = λ e. absurd (cc);
+  whole_outbound = λ u w. (refl, λ f. absurd (not-both po.finished f fo));
+  whole_inbound = λ u w. (refl, λ f. absurd (not-both pi.finished f fi));
 }
 
 forget-live : (lost : Bool) (s : Stream) → is_done (forget_reply s.me) ≡ true → forgets_quietly lost s ≡ false → s.me ≡ Live

@@ -36,3 +36,23 @@ pub returns-clause-queues : goal.returns-clause-queues
 returns-clause-queues c =
     (finished_run c.args.config_a c.args.config_b c.in-Ok.ensures.may_a c.in-Ok.ensures.may_b (search rules) (search rules)
     c.args.steps.now c.loop-step.step-index c.loop-step.played c.loop-step-test.false c.loop-step.invariant).queues
+
+pub returns-in-Err-play_step-clause-arrives_so_far : goal.returns-in-Err-play_step-clause-arrives_so_far
+returns-in-Err-play_step-clause-arrives_so_far c =
+    (stopped_run c.args.config_a c.args.config_b c.in-Ok.ensures.may_a c.in-Ok.ensures.may_b (search rules) (search rules)
+    c.args.steps.now c.loop-step.step-index c.loop-step.played c.play_step.new.self c.loop-step.invariant (search rules)).arrives
+
+pub returns-clause-arrives : goal.returns-clause-arrives
+returns-clause-arrives c =
+    (finished_run c.args.config_a c.args.config_b c.in-Ok.ensures.may_a c.in-Ok.ensures.may_b (search rules) (search rules)
+    c.args.steps.now c.loop-step.step-index c.loop-step.played c.loop-step-test.false c.loop-step.invariant).arrives
+
+pub returns-in-Err-play_step-clause-offers_so_far : goal.returns-in-Err-play_step-clause-offers_so_far
+returns-in-Err-play_step-clause-offers_so_far c =
+    (stopped_run c.args.config_a c.args.config_b c.in-Ok.ensures.may_a c.in-Ok.ensures.may_b (search rules) (search rules)
+    c.args.steps.now c.loop-step.step-index c.loop-step.played c.play_step.new.self c.loop-step.invariant (search rules)).offers
+
+pub returns-clause-offers : goal.returns-clause-offers
+returns-clause-offers c =
+    (finished_run c.args.config_a c.args.config_b c.in-Ok.ensures.may_a c.in-Ok.ensures.may_b (search rules) (search rules)
+    c.args.steps.now c.loop-step.step-index c.loop-step.played c.loop-step-test.false c.loop-step.invariant).offers

@@ -1,0 +1,6 @@
+-- At rest, all that was written is there to be read.
+pub mod Rests
+pub mod Tales
+pub mod Told
+pub mod Reads
+pub mod RunArrivals

@@ -1,0 +1,74 @@
+-- What has come to a reader once all is at rest (this project's own).
+use Rattle.std.specs.Prelude.{ℕ, ◌≡◌, ◌⊎◌, ◌+◌, ◌==◌, ◌&&◌, ◌||◌, if◌then◌else◌, not, List, [], ◌∷◌, length, take, drop, slice_get, Bool, true, false, Some, None}
+use Rattle.ymx_machine.specs.declared.types.Side.{Side}
+use Rattle.ymx_machine.specs.declared.types.Step.{Step}
+use Rattle.ymx_machine.specs.declared.types.Step.TheVariants as step
+use Rattle.ymx_machine.specs.declared.types.Call.TheVariants as call
+use Rattle.ymx_machine.specs.declared.types.CallFault.{CallFault}
+use Rattle.ymx_machine.specs.declared.types.Answer.{Answer}
+use Rattle.ymx_machine.specs.declared.types.Answer.TheVariants as answer
+use Rattle.ymx_machine.specs.Promise.{is_same_side, written, got, finished}
+
+-- whether a step gave a side this stream: it opened it, or accepted it
+abbrev pub began_by : Side → ℕ → Step → Answer → Bool
+began_by side id (step.At at c) (answer.Opened to) = is_same_side side at && to == id
+began_by side id (step.At at c) (answer.OpenedWith to n) = is_same_side side at && to == id
+began_by side id (step.At at c) (answer.Accepted (Some to)) = is_same_side side at && to == id
+began_by side id _ _ = false
+
+-- whether in a step a side reset it, or gave it up
+abbrev pub left_by : Side → ℕ → Step → Answer → Bool
+left_by side id (step.At at (call.Reset to)) answer.Done = is_same_side side at && to == id
+left_by side id (step.At at (call.Forget to)) answer.Done = is_same_side side at && to == id
+left_by side id _ _ = false
+
+-- whether some step of a run did
+abbrev pub any_step : (Step → Answer → Bool) → List Step → List Answer → Bool
+any_step did [] given = false
+any_step did (st ∷ sts) [] = false
+any_step did (st ∷ sts) (given ∷ more) = did st given || any_step did sts more
+
+-- whether a side has the stream: it opened or accepted it, and neither reset it nor gave it up
+abbrev pub has_stream : Side → ℕ → List Step → List Answer → Bool
+has_stream side id steps answers = any_step (began_by side id) steps answers && not (any_step (left_by side id) steps answers)
+
+-- a read or an accept takes what has come, and sends nothing on its way
+abbrev pub only_takes : Step → Bool
+only_takes (step.At side (call.Read id room)) = true
+only_takes (step.At side call.Accept) = true
+only_takes _ = false
+
+-- Whether all is at rest after these steps: the world was quiet after one of them, and those behind it were reads and
+-- accepts. `now`: it was at rest before them.
+abbrev pub is_at_rest : (now : Bool) → List Step → (quiet : List Bool) → Bool
+is_at_rest now [] quiet = now
+is_at_rest now (st ∷ sts) [] = now
+is_at_rest now (st ∷ sts) (q ∷ more) = is_at_rest (q || (now && only_takes st)) sts more
+
+-- what a read of so much room gives of the bytes that are left: the first of them; where there are none, the end if the
+-- writer finished, and else that there is nothing yet
+abbrev pub read_of : (room : ℕ) → (left : List ℕ) → (is_over : Bool) → Answer
+read_of room left is_over =
+    if room == 0 || not (length left == 0) then answer.Read (take room left) else if is_over then answer.ReadEnd else answer.ReadWait
+
+-- A read gives all that was written and not yet got. It is refused only where one of the sides hasn't the stream.
+abbrev pub GivesAll : (writer reader : Side) → (id room : ℕ) → List Step → List Answer → Answer → Type 0
+GivesAll writer reader id room steps answers given =
+    (given ≡ read_of room (drop (length (got reader id steps answers)) (written writer id steps answers)) (finished writer id steps answers))
+    ⊎ ((fault : CallFault) × (given ≡ answer.Refused fault) × ((has_stream writer id steps answers && has_stream reader id steps answers) ≡ false))
+
+-- so does each read that is made where all is at rest, of every stream, in both directions
+abbrev pub AllArrive : List Step → List Answer → (quiet : List Bool) → Type 0
+AllArrive steps answers quiet = (made id room : ℕ) (writer reader : Side) (given : Answer) →
+    is_same_side writer reader ≡ false → is_at_rest true (take made steps) (take made quiet) ≡ true →
+    slice_get steps made ≡ Some (step.At reader (call.Read id room)) → slice_get answers made ≡ Some given →
+    GivesAll writer reader id room (take made steps) (take made answers) given
+
+-- At rest, one side's read of a stream is not refused, and the other side's accept right behind it finds no stream that
+-- waits: then the other side has had this one.
+abbrev pub AllAreOffered : List Step → List Answer → (quiet : List Bool) → Type 0
+AllAreOffered steps answers quiet = (made id room : ℕ) (reader other : Side) (given : Answer) →
+    is_same_side other reader ≡ false → is_at_rest true (take made steps) (take made quiet) ≡ true →
+    slice_get steps made ≡ Some (step.At reader (call.Read id room)) → slice_get answers made ≡ Some given →
+    slice_get steps (made + 1) ≡ Some (step.At other call.Accept) → slice_get answers (made + 1) ≡ Some (answer.Accepted None) →
+    ((fault : CallFault) × (given ≡ answer.Refused fault)) ⊎ (any_step (began_by other id) (take made steps) (take made answers) ≡ true)
