@@ -18,7 +18,7 @@ ghost use Rattle.ymx_world.specs.Acts.{session_of, pipe_of};
 ghost use Rattle.ymx_world.specs.Progress.{GoesForward};
 ghost use Rattle.ymx_world.specs.Settled.{IsCarriedOn, IsDueCarriage};
 ghost use Rattle.ymx_world.specs.Played.{machine_of, world_of, WhereStopped, IsPlayFault};
-ghost use Rattle.ymx_headline.specs.machine.Arrivals.{AllArrive, AllAreOffered};
+ghost use Rattle.ymx_headline.specs.machine.Arrivals.{AllArrive, AllAreOffered, AllTakeEnough};
 ghost use Rattle.ymx_headline.specs.machine.Faces.{FitWindows};
 ghost use Rattle.ymx_headline.specs.machine.Runs.{StillRun};
 ghost use Rattle.ymx_headline.specs.QuietRuns.{QuietRuns};
@@ -127,15 +127,17 @@ impl World {
     /// world was quiet. The configs are the client's and the server's.
     ///
     /// At every moment, what one side read of a stream is a beginning of what the other wrote to it. Once a read was
-    /// answered with the end it is all of it, and the other finished before (clause `face`). Once the world is quiet,
-    /// all of it is there: a read gives the first of what was written and not yet read; where nothing is left, the end
-    /// if the other finished, and else that there is nothing yet. It is refused only where one of the sides hasn't the
-    /// stream, as it didn't open or accept it, or reset it or gave it up. So it stays through the reads and accepts that
-    /// follow (clause `arrives`). A stream of which its opener's read isn't refused then has come to the other side, whose
-    /// accept gives it unless it did before (clause `offers`). What was written and
+    /// answered with the end it is all of it, and the other finished before (clause `face`). What was written and
     /// not read is never more than the reader's window (clause `windows`). The answers are those of a run of
     /// the queue machine, which has two queues a stream and no frames, and is still wherever `quiet` says so
     /// (clause `queues`). So it is however the steps cut the bytes and wherever they stop them, with no premise.
+    ///
+    /// Once the world is quiet, all that was written is there. A read gives the first of what was written and not yet
+    /// read; where nothing is left, the end if the other finished, and else that there is nothing yet. It is refused only
+    /// where one of the sides hasn't the stream: it didn't open or accept it, or it reset it or gave it up. So it stays
+    /// through the reads and accepts that follow (clause `arrives`). Where its opener's read of a stream isn't refused
+    /// then, the other side's accepts give the stream, or did before (clause `offers`). A write that comes first takes all
+    /// its bytes, or so many that more than half of the reader's window is unread (clause `writes`).
     ///
     /// `Refused` comes as of `World::new`. `Stopped` comes where there was no memory of the world's own for a
     /// step: that one did nothing, and the same holds of the steps before it.
@@ -148,6 +150,7 @@ impl World {
         ensures face { IfOk result (λ played. AllDeliverInOrder steps.now played.answers.items) }
         ensures arrives { IfOk result (λ played. AllArrive steps.now played.answers.items played.quiet.items) }
         ensures offers { IfOk result (λ played. AllAreOffered steps.now played.answers.items played.quiet.items) }
+        ensures writes { IfOk result (λ played. AllTakeEnough config_a.window config_b.window steps.now played.answers.items played.quiet.items) }
         ensures windows { IfOk result (λ played. FitWindows config_a.window config_b.window steps.now played.answers.items) }
         ensures queues { IfOk result (λ played. (m : Machine) × StillRun steps.now played.answers.items played.quiet.items (machine_of config_a config_b) m) }
         // It was done by two sessions and the pipes between them. No other clause names these.
@@ -160,6 +163,8 @@ impl World {
             AllArrive (take (length played.answers.items) steps.now) played.answers.items played.quiet.items)) }
         ensures offers_so_far { IfErr result (WhereStopped (λ played.
             AllAreOffered (take (length played.answers.items) steps.now) played.answers.items played.quiet.items)) }
+        ensures writes_so_far { IfErr result (WhereStopped (λ played.
+            AllTakeEnough config_a.window config_b.window (take (length played.answers.items) steps.now) played.answers.items played.quiet.items)) }
         ensures windows_so_far { IfErr result (WhereStopped (λ played.
             FitWindows config_a.window config_b.window (take (length played.answers.items) steps.now) played.answers.items)) }
         ensures queues_so_far { IfErr result (WhereStopped (λ played.

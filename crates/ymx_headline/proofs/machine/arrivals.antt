@@ -3,4 +3,5 @@ pub mod Rests
 pub mod Tales
 pub mod Told
 pub mod Reads
+pub mod Writes
 pub mod RunArrivals

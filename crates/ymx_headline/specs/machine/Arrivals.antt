@@ -1,10 +1,14 @@
 -- What has come to a reader once all is at rest (this project's own).
-use Rattle.std.specs.Prelude.{ℕ, ◌≡◌, ◌⊎◌, ◌+◌, ◌==◌, ◌&&◌, ◌||◌, if◌then◌else◌, not, List, [], ◌∷◌, length, take, drop, slice_get, Bool, true, false, Some, None}
+use Rattle.std.specs.Prelude.{ℕ, ◌≡◌, ◌⊎◌, ◌<◌, ◌*◌, ◌+◌, ◌==◌, ◌&&◌, ◌||◌, if◌then◌else◌, not, List, [], ◌∷◌, length, take, drop, slice_get, Bool, true, false, Some, None}
 use Rattle.ymx_machine.specs.declared.types.Side.{Side}
+use Rattle.ymx_machine.specs.declared.types.Side.TheVariants.{A}
 use Rattle.ymx_machine.specs.declared.types.Step.{Step}
 use Rattle.ymx_machine.specs.declared.types.Step.TheVariants as step
 use Rattle.ymx_machine.specs.declared.types.Call.TheVariants as call
 use Rattle.ymx_machine.specs.declared.types.CallFault.{CallFault}
+use Rattle.ymx_machine.specs.declared.types.CallFault.TheVariants.{OutOfMemory}
+use Rattle.ymx_machine.specs.declared.types.Wrote.TheVariants.{Took, Wait}
+use Rattle.ymx_machine.specs.shared.Evidence.{evidence}
 use Rattle.ymx_machine.specs.declared.types.Answer.{Answer}
 use Rattle.ymx_machine.specs.declared.types.Answer.TheVariants as answer
 use Rattle.ymx_machine.specs.Promise.{is_same_side, written, got, finished}
@@ -51,10 +55,14 @@ abbrev pub read_of : (room : ℕ) → (left : List ℕ) → (is_over : Bool) →
 read_of room left is_over =
     if room == 0 || not (length left == 0) then answer.Read (take room left) else if is_over then answer.ReadEnd else answer.ReadWait
 
--- A read gives all that was written and not yet got. It is refused only where one of the sides hasn't the stream.
+-- what was written and not got
+abbrev pub left_over : (writer reader : Side) → (id : ℕ) → List Step → List Answer → List ℕ
+left_over writer reader id steps answers = drop (length (got reader id steps answers)) (written writer id steps answers)
+
+-- A read gives all that is left. It is refused only where one of the sides hasn't the stream.
 abbrev pub GivesAll : (writer reader : Side) → (id room : ℕ) → List Step → List Answer → Answer → Type 0
 GivesAll writer reader id room steps answers given =
-    (given ≡ read_of room (drop (length (got reader id steps answers)) (written writer id steps answers)) (finished writer id steps answers))
+    (given ≡ read_of room (left_over writer reader id steps answers) (finished writer id steps answers))
     ⊎ ((fault : CallFault) × (given ≡ answer.Refused fault) × ((has_stream writer id steps answers && has_stream reader id steps answers) ≡ false))
 
 -- so does each read that is made where all is at rest, of every stream, in both directions
@@ -72,3 +80,20 @@ AllAreOffered steps answers quiet = (made id room : ℕ) (reader other : Side) (
     slice_get steps made ≡ Some (step.At reader (call.Read id room)) → slice_get answers made ≡ Some given →
     slice_get steps (made + 1) ≡ Some (step.At other call.Accept) → slice_get answers (made + 1) ≡ Some (answer.Accepted None) →
     ((fault : CallFault) × (given ≡ answer.Refused fault)) ⊎ (any_step (began_by other id) (take made steps) (take made answers) ≡ true)
+
+-- A write takes all the bytes, or so many that more than half of the reader's window is unread then, or there is no
+-- memory. `unread`: how many bytes were left before it.
+abbrev pub TakesEnough : (window unread : ℕ) → (bytes : List ℕ) → Answer → Type 0
+TakesEnough window unread bytes (answer.Wrote (Took n)) = (n ≡ length bytes) ⊎ (window < 2 * (unread + n))
+TakesEnough window unread bytes (answer.Wrote Wait) = window < 2 * unread
+TakesEnough window unread bytes given = given ≡ answer.Refused (OutOfMemory evidence)
+
+-- so does each write, right behind a step after which the world is quiet, to a stream that both sides have and that the
+-- writer has not finished: the windows of A and B
+abbrev pub AllTakeEnough : (window_a window_b : ℕ) → List Step → List Answer → (quiet : List Bool) → Type 0
+AllTakeEnough window_a window_b steps answers quiet = (made id : ℕ) (bytes : List ℕ) (writer reader : Side) (given : Answer) →
+    is_same_side writer reader ≡ false → slice_get quiet made ≡ Some true →
+    slice_get steps (made + 1) ≡ Some (step.At writer (call.Write id bytes)) → slice_get answers (made + 1) ≡ Some given →
+    (let so_far = take (made + 1) steps in let told = take (made + 1) answers in
+    has_stream writer id so_far told ≡ true → has_stream reader id so_far told ≡ true → finished writer id so_far told ≡ false →
+    TakesEnough (if is_same_side reader A then window_a else window_b) (length (left_over writer reader id so_far told)) bytes given)

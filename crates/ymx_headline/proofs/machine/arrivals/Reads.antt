@@ -37,7 +37,7 @@ use Rattle.ymx_headline.proofs.machine.arrivals.Rests.{IsResting, RestsAt, IsRes
 use Rattle.ymx_headline.proofs.machine.arrivals.Tales.{Tale, has, is_old}
 use Rattle.ymx_headline.proofs.machine.arrivals.Told.{FitsAt, FitsStream}
 
-not-both : (b : Bool) → b ≡ true → b ≡ false → ⊥
+pub not-both : (b : Bool) → b ≡ true → b ≡ false → ⊥
 not-both b e f = let k : true ≡ false = sym e ∙ f in absurd (cc)
 
 -- ---- a live end at rest
@@ -64,16 +64,22 @@ no-reset s mine yours po pi l q f = elim (when (is_here s.rst_inbound)) [
   | inr h ↦ unsaid-mark s.rst_inbound q.rst_inbound h
 ]
 
--- it has all that was written and not got, and the end if it was finished
-pub live-reads : (mine yours room : ℕ) (s : Stream) (po pi : Past) → s.me ≡ Live → IsResting s → HasFaces mine yours s po pi →
-    answer_of (read_reply false room s.me s.inbound.here (is_here s.inbound.fin)) ≡ read_of room (drop (length pi.got) pi.written) pi.finished
-live-reads mine yours room s po pi l q f =
+-- it has all that was written and not got
+pub live-left : (mine yours : ℕ) (s : Stream) (po pi : Past) → s.me ≡ Live → IsResting s → HasFaces mine yours s po pi → drop (length pi.got) pi.written ≡ s.inbound.here
+live-left mine yours s po pi l q f =
     let up = live-up s.me l in
     let whole = f.whole_inbound up (no-reset s mine yours po pi l q f) in
     let face = f.inbound.2 in
     let rest : f.inbound.0 ≡ s.inbound.here = face.holds up ∙ (ap (λ (w : List ℕ). s.inbound.here ++ (w ++ f.inbound.1)) q.way_inbound ∙ (ap (λ (b : List ℕ). s.inbound.here ++ ([] ++ b)) whole.0 ∙ append-nil s.inbound.here)) in
-    let there : drop (length pi.got) pi.written ≡ s.inbound.here =
-    ap (λ (w : List ℕ). drop (length pi.got) w) face.begins ∙ (behind pi.got f.inbound.0 ∙ rest) in
+    ap (λ (w : List ℕ). drop (length pi.got) w) face.begins ∙ (behind pi.got f.inbound.0 ∙ rest)
+
+-- and the end if it was finished
+pub live-reads : (mine yours room : ℕ) (s : Stream) (po pi : Past) → s.me ≡ Live → IsResting s → HasFaces mine yours s po pi →
+    answer_of (read_reply false room s.me s.inbound.here (is_here s.inbound.fin)) ≡ read_of room (drop (length pi.got) pi.written) pi.finished
+live-reads mine yours room s po pi l q f =
+    let whole = f.whole_inbound (live-up s.me l) (no-reset s mine yours po pi l q f) in
+    let face = f.inbound.2 in
+    let there = live-left mine yours s po pi l q f in
     let over : is_here s.inbound.fin ≡ pi.finished = over-mark s.inbound.fin pi.finished q.fin_inbound face.said whole.1 in
     rw (l, there, over) (read-live room s.inbound.here pi.finished)
 

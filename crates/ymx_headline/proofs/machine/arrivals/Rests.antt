@@ -48,7 +48,7 @@ pub record IsRestingMachine (m : Machine) : Type 0 where
 
 -- ---- a still machine is at rest
 
-still-rests : (mine yours : ℕ) (s : Stream) → IsStill mine yours s → IsResting s
+pub still-rests : (mine yours : ℕ) (s : Stream) → IsStill mine yours s → IsResting s
 still-rests mine yours s h = record {
   me_born = h.me_born;
   you_born = h.you_born;
@@ -72,7 +72,7 @@ still-machine m h o = record { each = λ i. still-look m.me.window m.you.window 
 
 -- ---- from the other side
 
-rests-flip : (o : Option Stream) → RestsAt o → RestsAt (flipped o)
+pub rests-flip : (o : Option Stream) → RestsAt o → RestsAt (flipped o)
 rests-flip None h = tt
 rests-flip (Some s) h = record {
   me_born = h.you_born;

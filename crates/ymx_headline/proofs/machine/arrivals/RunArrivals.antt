@@ -15,10 +15,10 @@ use Rattle.ymx_machine.specs.shared.Steps.{is_of_a, answer_of}
 use Rattle.ymx_machine.specs.stream.Streams.{Stream}
 use Rattle.ymx_machine.specs.machine.Machines.{Machine, mirror_machine, new_machine}
 use Rattle.ymx_machine.specs.machine.FreeMoves.{FreeMove, MayMove, moved_by}
-use Rattle.ymx_machine.specs.machine.Runs.{MachineStep, MachineStepOfA, IsStillMachine}
+use Rattle.ymx_machine.specs.machine.Runs.{MachineStep, MachineStepOfA, MachineRun, IsStillMachine}
 use Rattle.ymx_machine.specs.Promise.{is_same_side}
 use Rattle.ymx_machine.proofs.Tests.{when, both_of, one_some}
-use Rattle.ymx_headline.specs.machine.Arrivals.{began_by, left_by, any_step, only_takes, is_at_rest, AllArrive, AllAreOffered}
+use Rattle.ymx_headline.specs.machine.Arrivals.{began_by, left_by, any_step, only_takes, is_at_rest, AllArrive, AllAreOffered, AllTakeEnough}
 use Rattle.ymx_headline.specs.machine.Runs.{StillRun, IsOpenMachine}
 use Rattle.ymx_headline.proofs.machine.lanes.StreamFacts.{if-so_true, if-so_false}
 use Rattle.ymx_headline.proofs.machine.order.Cores.{core, Sound, kept-moves, kept-releases}
@@ -30,6 +30,8 @@ use Rattle.ymx_headline.proofs.machine.arrivals.Rests.{IsRestingMachine, still-m
 use Rattle.ymx_headline.proofs.machine.arrivals.Tales.{Tale}
 use Rattle.ymx_headline.proofs.machine.arrivals.Told.{FitsAt, longer, told-move, told-mirror, told-unmirror, told-call}
 use Rattle.ymx_headline.proofs.machine.arrivals.Reads.{gives, comes, none-waits}
+use Rattle.ymx_headline.proofs.machine.arrivals.Writes.{still-mirror, open-mirror, takes}
+use Rattle.ymx_headline.proofs.machine.lanes.MachineLaws.{law, obeys-mirror}
 
 -- ---- a step
 
@@ -119,24 +121,37 @@ run_tale side i sts given x = record { began = x.began || any_step (began_by sid
 tale-step : (side : Side) (i : ℕ) (st : Step) (sts : List Step) (given : Answer) (more : List Answer) (x : Tale) → run_tale side i (st ∷ sts) (given ∷ more) x ≡ run_tale side i sts more (longer side i st given x)
 tale-step side i st sts given more x = rw (or-assoc, or-assoc) refl
 
--- Where a run has come after so many steps, and the step behind them.
-pub record ComesTo (mine yours i : ℕ) (at_rest : Bool) (sts : List Step) (given : List Answer) (po pi : Past) (x y : Tale) (st : Step) (answered : Answer) : Type 0 where
+none-there : {X : Type 0} (x : X) (o : Option X) → o ≡ None → o ≡ Some x → ⊥
+none-there x o e f = absurd (cc)
+
+-- whether the last of so many steps left all quiet; `before`: it was so before them
+abbrev pub was_quiet : (before : Bool) → (made : ℕ) → List Bool → Bool
+was_quiet before zero told = before
+was_quiet before (suc made) [] = false
+was_quiet before (suc made) (q ∷ told) = was_quiet q made told
+
+told-quiet : (before : Bool) (made : ℕ) (told : List Bool) → slice_get told made ≡ Some true → was_quiet before (suc made) told ≡ true
+told-quiet before made [] e = absurd (none-there true (slice_get [] made) refl e)
+told-quiet before zero (q ∷ told) e = one_some q true e
+told-quiet before (suc made) (q ∷ told) e = told-quiet q made told e
+
+-- Where a run from m has come after so many steps, and the step behind them.
+pub record ComesTo (mine yours i : ℕ) (at_rest quiet : Bool) (sts : List Step) (given : List Answer) (po pi : Past) (x y : Tale) (m : Machine) (st : Step) (answered : Answer) : Type 0 where
   pub here : Machine
   pub next : Machine
   pub stands : Stands mine yours i (run_past A B i sts given po) (run_past B A i sts given pi) (run_tale A i sts given x) (run_tale B i sts given y) here
   pub rests : at_rest ≡ true → IsRestingMachine here
+  pub still : quiet ≡ true → IsStillMachine here × IsOpenMachine here
+  pub run : MachineRun sts given m here
   pub steps : MachineStep st answered here next
 
 -- and the one behind that, if there is one
 pub record GoesOn (sts : List Step) (given : List Answer) (made : ℕ) (n : Machine) : Type 0 where
   pub on : (st : Step) (answered : Answer) → slice_get sts (suc made) ≡ Some st → slice_get given (suc made) ≡ Some answered → (k : Machine) × MachineStep st answered n k
 
-abbrev pub ComesBy : (mine yours i made : ℕ) (now : Bool) (sts : List Step) (given : List Answer) (told : List Bool) (po pi : Past) (x y : Tale) (st : Step) (answered : Answer) → Type 0
-ComesBy mine yours i made now sts given told po pi x y st answered =
-    (c : ComesTo mine yours i (is_at_rest now (take made sts) (take made told)) (take made sts) (take made given) po pi x y st answered) × GoesOn sts given made c.next
-
-none-there : {X : Type 0} (x : X) (o : Option X) → o ≡ None → o ≡ Some x → ⊥
-none-there x o e f = absurd (cc)
+abbrev pub ComesBy : (mine yours i made : ℕ) (now before : Bool) (sts : List Step) (given : List Answer) (told : List Bool) (po pi : Past) (x y : Tale) (m : Machine) (st : Step) (answered : Answer) → Type 0
+ComesBy mine yours i made now before sts given told po pi x y m st answered =
+    (c : ComesTo mine yours i (is_at_rest now (take made sts) (take made told)) (was_quiet before made told) (take made sts) (take made given) po pi x y m st answered) × GoesOn sts given made c.next
 
 first-on : (sts : List Step) (given : List Answer) (told : List Bool) (m n : Machine) (st : Step) (answered : Answer) → StillRun sts given told m n →
     slice_get sts zero ≡ Some st → slice_get given zero ≡ Some answered → (k : Machine) × MachineStep st answered m k
@@ -154,34 +169,38 @@ rests-on : (mine yours : ℕ) (now q : Bool) (st : Step) (given : Answer) (m n :
 rests-on mine yours now true st given m n s r so h e = let k = s refl in still-machine n k.0 k.1
 rests-on mine yours now false st given m n s r so h e = let k = both_of now (only_takes st) e in rests-step mine yours st given m n k.1 so h (r k.0)
 
-pub comes-by : (mine yours i made : ℕ) (now : Bool) (sts : List Step) (given : List Answer) (told : List Bool) (po pi : Past) (x y : Tale) (st : Step) (answered : Answer) (m n : Machine) → first_credit ≤ mine → first_credit ≤ yours →
-    StillRun sts given told m n → Stands mine yours i po pi x y m → (now ≡ true → IsRestingMachine m) → slice_get sts made ≡ Some st → slice_get given made ≡ Some answered →
-    ComesBy mine yours i made now sts given told po pi x y st answered
-comes-by mine yours i zero now (s ∷ sts) (g ∷ given) (q ∷ told) po pi x y st answered m n w v h k r e f = (
+pub comes-by : (mine yours i made : ℕ) (now before : Bool) (sts : List Step) (given : List Answer) (told : List Bool) (po pi : Past) (x y : Tale) (st : Step) (answered : Answer) (m n : Machine) → first_credit ≤ mine → first_credit ≤ yours →
+    StillRun sts given told m n → Stands mine yours i po pi x y m → (now ≡ true → IsRestingMachine m) → (before ≡ true → IsStillMachine m × IsOpenMachine m) → slice_get sts made ≡ Some st → slice_get given made ≡ Some answered →
+    ComesBy mine yours i made now before sts given told po pi x y m st answered
+comes-by mine yours i zero now before (s ∷ sts) (g ∷ given) (q ∷ told) po pi x y st answered m n w v h k r u e f = (
   record {
     here = m;
     next = h.0;
     stands = stands-is mine yours i po _ pi _ x _ y _ m (same po) (same pi) (quiet-told x) (quiet-told y) k;
     rests = r;
+    still = u;
+    run = refl;
     steps = subst (λ (t : Step). MachineStep t answered m h.0) (one_some s st e) (subst (λ (t : Answer). MachineStep s t m h.0) (one_some g answered f) h.1);
   },
   record { on = λ st2 g2 e2 f2. first-on sts given told h.0 n st2 g2 h.3 e2 f2 },
 )
-comes-by mine yours i (suc made) now (s ∷ sts) (g ∷ given) (q ∷ told) po pi x y st answered m n w v h k r e f =
-    let c = comes-by mine yours i made (q || (now && only_takes s)) sts given told (grown A B i s g po) (grown B A i s g pi) (longer A i s g x) (longer B i s g y) st answered h.0 n w v h.3
-    (stands-step mine yours i po pi x y s g m h.0 w v h.1 k) (rests-on mine yours now q s g m h.0 h.2 r k.faced.sound h.1) e f in (
+comes-by mine yours i (suc made) now before (s ∷ sts) (g ∷ given) (q ∷ told) po pi x y st answered m n w v h k r u e f =
+    let c = comes-by mine yours i made (q || (now && only_takes s)) q sts given told (grown A B i s g po) (grown B A i s g pi) (longer A i s g x) (longer B i s g y) st answered h.0 n w v h.3
+    (stands-step mine yours i po pi x y s g m h.0 w v h.1 k) (rests-on mine yours now q s g m h.0 h.2 r k.faced.sound h.1) h.2 e f in (
       record {
         here = c.0.here;
         next = c.0.next;
         stands = stands-is mine yours i _ _ _ _ _ _ _ _ c.0.here (run-step A B i s (take made sts) g (take made given) po) (run-step B A i s (take made sts) g (take made given) pi)
             (tale-step A i s (take made sts) g (take made given) x) (tale-step B i s (take made sts) g (take made given) y) c.0.stands;
         rests = c.0.rests;
+        still = c.0.still;
+        run = (h.0, h.1, c.0.run);
         steps = c.0.steps;
       },
       record { on = c.1.on },
     )
-comes-by mine yours i made now [] [] [] po pi x y st answered m n w v h k r e f = absurd (none-there st (slice_get [] made) refl e)
-comes-by mine yours i made now _ _ _ po pi x y st answered m n w v h k r e f = absurd h
+comes-by mine yours i made now before [] [] [] po pi x y st answered m n w v h k r u e f = absurd (none-there st (slice_get [] made) refl e)
+comes-by mine yours i made now before _ _ _ po pi x y st answered m n w v h k r u e f = absurd h
 
 -- ---- from a new machine
 
@@ -196,9 +215,9 @@ rests-new : (wa fa wb fb : ℕ) → IsRestingMachine (new_machine wa fa wb fb)
 rests-new wa fa wb fb = record { each = λ i. tt; open_ = record { me_open = refl; you_open = refl; me_hears = refl; you_hears = refl } }
 
 from-new : (wa fa wb fb i made : ℕ) (sts : List Step) (given : List Answer) (told : List Bool) (n : Machine) (st : Step) (answered : Answer) → first_credit ≤ wa → first_credit ≤ wb → fa % 2 ≢ fb % 2 →
-    StillRun sts given told (new_machine wa fa wb fb) n → slice_get sts made ≡ Some st → slice_get given made ≡ Some answered → ComesBy wa wb i made true sts given told blank blank untaught untaught st answered
+    StillRun sts given told (new_machine wa fa wb fb) n → slice_get sts made ≡ Some st → slice_get given made ≡ Some answered → ComesBy wa wb i made true false sts given told blank blank untaught untaught (new_machine wa fa wb fb) st answered
 from-new wa fa wb fb i made sts given told n st answered w v p h e f =
-    comes-by wa wb i made true sts given told blank blank untaught untaught st answered (new_machine wa fa wb fb) n w v h (stands-new wa fa wb fb i p) (λ _. rests-new wa fa wb fb) e f
+    comes-by wa wb i made true false sts given told blank blank untaught untaught st answered (new_machine wa fa wb fb) n w v h (stands-new wa fa wb fb i p) (λ _. rests-new wa fa wb fb) (λ k. absurd cc) e f
 
 one-side : (s : Side) → is_same_side s s ≡ false → ⊥
 one-side A e = absurd (cc)
@@ -235,3 +254,19 @@ are-offered wa fa wb fb sts given told n w v p h made i room B A g d q e f ae af
     let k = stands-mirror wa wb i _ _ _ _ c.0.here c.0.stands in
     comes wb wa room i B _ _ _ _ (mirror_machine c.0.here) (mirror_machine c.0.next) g k.faced k.fits (rests-mirror c.0.here (c.0.rests q)) c.0.steps
     (none-waits A c.0.next then.0 r.open_.me_open r.open_.me_hears then.1)
+
+-- a write where all is quiet goes on while half of the window is free
+pub take-enough : (wa fa wb fb : ℕ) (sts : List Step) (given : List Answer) (told : List Bool) (n : Machine) → first_credit ≤ wa → first_credit ≤ wb → fa % 2 ≢ fb % 2 →
+    StillRun sts given told (new_machine wa fa wb fb) n → AllTakeEnough wa wb sts given told
+take-enough wa fa wb fb sts given told n w v p h made i bytes A A g d q e f = absurd (one-side A d)
+take-enough wa fa wb fb sts given told n w v p h made i bytes B B g d q e f = absurd (one-side B d)
+take-enough wa fa wb fb sts given told n w v p h made i bytes A B g d q e f = rw add-one (λ x y u.
+    let c = from-new wa fa wb fb i (suc made) sts given told n (step.At A (call.Write i bytes)) g w v p h (rw add-one at e) (rw add-one at f) in
+    let s = c.0.still (told-quiet false made told q) in
+    takes wa wb i A bytes _ _ _ _ c.0.here c.0.next g c.0.stands.faced c.0.stands.fits s.0 s.1 (law wa fa wb fb _ _ c.0.here i w v c.0.run) x y u c.0.steps)
+take-enough wa fa wb fb sts given told n w v p h made i bytes B A g d q e f = rw add-one (λ x y u.
+    let c = from-new wa fa wb fb i (suc made) sts given told n (step.At B (call.Write i bytes)) g w v p h (rw add-one at e) (rw add-one at f) in
+    let s = c.0.still (told-quiet false made told q) in
+    let k = stands-mirror wa wb i _ _ _ _ c.0.here c.0.stands in
+    takes wb wa i B bytes _ _ _ _ (mirror_machine c.0.here) (mirror_machine c.0.next) g k.faced k.fits (still-mirror c.0.here s.0) (open-mirror c.0.here s.1)
+    (obeys-mirror wa wb i c.0.here (law wa fa wb fb _ _ c.0.here i w v c.0.run)) x y u c.0.steps)

@@ -158,3 +158,7 @@ lawful-new mine first yours your_first = record {
 pub law : (mine first yours your_first : ℕ) (sts : List Step) (given : List Answer) (n : Machine) (i : ℕ) → first_credit ≤ mine → first_credit ≤ yours →
     MachineRun sts given (new_machine mine first yours your_first) n → ObeysAt mine yours (look i n.streams)
 law mine first yours your_first sts given n i a b h = let k = lawful-run mine yours sts given _ n a b h (lawful-new mine first yours your_first) in k.at i
+
+-- the same as the other side sees it
+pub obeys-mirror : (mine yours i : ℕ) (m : Machine) → ObeysAt mine yours (look i m.streams) → ObeysAt yours mine (look i (mirror_machine m).streams)
+obeys-mirror mine yours i m h = at-is yours mine _ _ (look-mirror i m.streams) (at-flip mine yours (look i m.streams) h)

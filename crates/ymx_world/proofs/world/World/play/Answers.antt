@@ -56,3 +56,13 @@ pub returns-clause-offers : goal.returns-clause-offers
 returns-clause-offers c =
     (finished_run c.args.config_a c.args.config_b c.in-Ok.ensures.may_a c.in-Ok.ensures.may_b (search rules) (search rules)
     c.args.steps.now c.loop-step.step-index c.loop-step.played c.loop-step-test.false c.loop-step.invariant).offers
+
+pub returns-in-Err-play_step-clause-writes_so_far : goal.returns-in-Err-play_step-clause-writes_so_far
+returns-in-Err-play_step-clause-writes_so_far c =
+    (stopped_run c.args.config_a c.args.config_b c.in-Ok.ensures.may_a c.in-Ok.ensures.may_b (search rules) (search rules)
+    c.args.steps.now c.loop-step.step-index c.loop-step.played c.play_step.new.self c.loop-step.invariant (search rules)).writes
+
+pub returns-clause-writes : goal.returns-clause-writes
+returns-clause-writes c =
+    (finished_run c.args.config_a c.args.config_b c.in-Ok.ensures.may_a c.in-Ok.ensures.may_b (search rules) (search rules)
+    c.args.steps.now c.loop-step.step-index c.loop-step.played c.loop-step-test.false c.loop-step.invariant).writes
