@@ -18,7 +18,7 @@ ghost use Rattle.ymx_headline.specs.machine.Examples.{HasCome, crossing_answers,
 ghost use Rattle.ymx_headline.specs.machine.Numbers.{HasBothParities, HasOrder};
 ghost use Rattle.ymx_headline.specs.machine.Others.{needs_memory, touched, touched_by};
 ghost use Rattle.ymx_headline.specs.machine.Runs.{ObeysAt, StillRun};
-ghost use Rattle.ymx_headline.specs.machine.Arrivals.{AllArrive, AllAreOffered, AllTakeEnough};
+ghost use Rattle.ymx_headline.specs.machine.Arrivals.{AllArrive, AllAreGiven, AllAreOffered, AllTakeEnough};
 ghost use Rattle.ymx_headline.specs.machine.Faces.{DeliversWithin};
 
 /// The law of a lane (flow control): in every run from a new machine, the bytes on their way, the
@@ -40,16 +40,21 @@ pub fn face()
         DeliversWithin window_b A B id steps answers × DeliversWithin window_a B A id steps answers }
 {}
 
-/// Bytes arrive: at rest, a read gives the first of all that was written and not yet got; where nothing is left, the
-/// end if the writer finished, and else that there is nothing yet. It is refused only where one of the sides hasn't the
-/// stream. The machine is at rest where it is still and open, and after the reads and accepts that follow (clause
-/// `reads`). A stream of which its opener's read isn't refused there has come to the other side: it is offered until it
-/// is accepted (clause `offers`). Right behind a step after which the machine is still, a write takes all its bytes, or
-/// so many that more than half of the reader's window is unread (clause `writes`).
+/// Bytes arrive. The machine is at rest where it is still and open, and after the reads and accepts that follow. There a
+/// read gives the first of all that was written and not yet got; where nothing is left, the end if the writer finished,
+/// and else that there is nothing yet. It is refused only where one of the sides hasn't the stream (clause `reads`).
+///
+/// Where an accept finds no stream there, its side was given each stream that the other has, if it had no cause to refuse
+/// one (clause `accepts`), and else each one of which the other side's read isn't refused (clause `offers`). Where the
+/// machine is still, a write takes all its bytes, or so many that more than half of the reader's window is unread (clause
+/// `writes`).
 pub fn arrival()
     ensures reads { (window_a first_a window_b first_b : ℕ) (steps : List Step) (answers : List Answer) (quiet : List Bool) (m : Machine) →
         first_credit ≤ window_a → first_credit ≤ window_b → first_a % 2 ≡ 1 → first_b % 2 ≡ 0 →
         StillRun steps answers quiet (new_machine window_a first_a window_b first_b) m → AllArrive steps answers quiet }
+    ensures accepts { (window_a first_a window_b first_b : ℕ) (steps : List Step) (answers : List Answer) (quiet : List Bool) (m : Machine) →
+        first_credit ≤ window_a → first_credit ≤ window_b → first_a % 2 ≡ 1 → first_b % 2 ≡ 0 →
+        StillRun steps answers quiet (new_machine window_a first_a window_b first_b) m → AllAreGiven steps answers quiet }
     ensures offers { (window_a first_a window_b first_b : ℕ) (steps : List Step) (answers : List Answer) (quiet : List Bool) (m : Machine) →
         first_credit ≤ window_a → first_credit ≤ window_b → first_a % 2 ≡ 1 → first_b % 2 ≡ 0 →
         StillRun steps answers quiet (new_machine window_a first_a window_b first_b) m → AllAreOffered steps answers quiet }

@@ -10,13 +10,13 @@ use Rattle.ymx_model.specs.session.Emissions.{Choice, in_turn}
 use Rattle.ymx_model.specs.world.Worlds.{World, Steps, is_quiet}
 use Rattle.ymx_machine.specs.machine.Machines.{Machine}
 use Rattle.ymx_session.specs.NewSessions.{first_id, new_fault}
-use Rattle.ymx_headline.specs.machine.Arrivals.{AllArrive, AllAreOffered, AllTakeEnough}
+use Rattle.ymx_headline.specs.machine.Arrivals.{AllArrive, AllAreGiven, AllAreOffered, AllTakeEnough}
 use Rattle.ymx_headline.specs.machine.Faces.{FitWindows}
 use Rattle.ymx_headline.specs.machine.Runs.{StillRun}
 use Rattle.ymx_headline.specs.QuietRuns.{QuietRuns}
 use Rattle.ymx_headline.proofs.relation.Begins.{begins}
 use Rattle.ymx_headline.proofs.machine.faces.RunFaces.{odd-even}
-use Rattle.ymx_headline.proofs.machine.arrivals.RunArrivals.{arrives, are-offered, take-enough}
+use Rattle.ymx_headline.proofs.machine.arrivals.RunArrivals.{arrives, are-given, are-offered, take-enough}
 use Rattle.ymx_headline.proofs.runs.Runs.{run-faces, client-odd, server-even}
 use Rattle.ymx_headline.proofs.runs.QuietRuns.{still-run, told-run}
 use Rattle.ymx_world.specs.declared.played.Played.{Played}
@@ -56,6 +56,7 @@ played_on steps w i st p q within is so one =
 pub record IsTopRun (a b : Config) (steps : List Step) (answers : List Answer) (quiet : List Bool) : Type 0 where
   pub face : AllDeliverInOrder steps answers
   pub arrives : AllArrive steps answers quiet
+  pub accepts : AllAreGiven steps answers quiet
   pub offers : AllAreOffered steps answers quiet
   pub writes : AllTakeEnough a.window b.window steps answers quiet
   pub windows : FitWindows a.window b.window steps answers
@@ -73,6 +74,7 @@ top_run a b fine_a fine_b small_a small_b steps answers quiet w run =
     record {
       face = within.faces;
       arrives = arrives a.window fa b.window fb steps answers quiet still.0 g.low_a g.low_b parity still.1;
+      accepts = are-given a.window fa b.window fb steps answers quiet still.0 g.low_a g.low_b parity still.1;
       offers = are-offered a.window fa b.window fb steps answers quiet still.0 g.low_a g.low_b parity still.1;
       writes = take-enough a.window fa b.window fb steps answers quiet still.0 g.low_a g.low_b parity still.1;
       windows = within.windows;

@@ -18,7 +18,7 @@ ghost use Rattle.ymx_world.specs.Acts.{session_of, pipe_of};
 ghost use Rattle.ymx_world.specs.Progress.{GoesForward};
 ghost use Rattle.ymx_world.specs.Settled.{IsCarriedOn, IsDueCarriage};
 ghost use Rattle.ymx_world.specs.Played.{machine_of, world_of, WhereStopped, IsPlayFault};
-ghost use Rattle.ymx_headline.specs.machine.Arrivals.{AllArrive, AllAreOffered, AllTakeEnough};
+ghost use Rattle.ymx_headline.specs.machine.Arrivals.{AllArrive, AllAreGiven, AllAreOffered, AllTakeEnough};
 ghost use Rattle.ymx_headline.specs.machine.Faces.{FitWindows};
 ghost use Rattle.ymx_headline.specs.machine.Runs.{StillRun};
 ghost use Rattle.ymx_headline.specs.QuietRuns.{QuietRuns};
@@ -132,12 +132,14 @@ impl World {
     /// the queue machine, which has two queues a stream and no frames, and is still wherever `quiet` says so
     /// (clause `queues`). So it is however the steps cut the bytes and wherever they stop them, with no premise.
     ///
-    /// Once the world is quiet, all that was written is there. A read gives the first of what was written and not yet
-    /// read; where nothing is left, the end if the other finished, and else that there is nothing yet. It is refused only
-    /// where one of the sides hasn't the stream: it didn't open or accept it, or it reset it or gave it up. So it stays
-    /// through the reads and accepts that follow (clause `arrives`). Where its opener's read of a stream isn't refused
-    /// then, the other side's accepts give the stream, or did before (clause `offers`). A write that comes first takes all
-    /// its bytes, or so many that more than half of the reader's window is unread (clause `writes`).
+    /// Once the world is quiet, all that was written is there, also after the reads and accepts that follow. A read gives
+    /// the first of what was written and not yet read; where nothing is left, the end if the other finished, and else
+    /// that there is nothing yet. It is refused only where one of the sides hasn't the stream: it didn't open or accept
+    /// it, or it reset it or gave it up (clause `arrives`). Where an accept finds no stream, its side was given each one
+    /// that the other has, if it had no cause to refuse one: it said no go away, no memory was wanting, and at most 256
+    /// were opened (clause `accepts`). Whatever it had, it was given each one of which the other's read isn't refused
+    /// (clause `offers`). A write right behind the quiet step takes all its bytes, or so many that more than half of the
+    /// reader's window is unread (clause `writes`).
     ///
     /// `Refused` comes as of `World::new`. `Stopped` comes where there was no memory of the world's own for a
     /// step: that one did nothing, and the same holds of the steps before it.
@@ -149,6 +151,7 @@ impl World {
     ) -> Result<Played, PlayFault>
         ensures face { IfOk result (λ played. AllDeliverInOrder steps.now played.answers.items) }
         ensures arrives { IfOk result (λ played. AllArrive steps.now played.answers.items played.quiet.items) }
+        ensures accepts { IfOk result (λ played. AllAreGiven steps.now played.answers.items played.quiet.items) }
         ensures offers { IfOk result (λ played. AllAreOffered steps.now played.answers.items played.quiet.items) }
         ensures writes { IfOk result (λ played. AllTakeEnough config_a.window config_b.window steps.now played.answers.items played.quiet.items) }
         ensures windows { IfOk result (λ played. FitWindows config_a.window config_b.window steps.now played.answers.items) }
@@ -161,6 +164,8 @@ impl World {
         ensures face_so_far { IfErr result (WhereStopped (λ played. AllDeliverInOrder (take (length played.answers.items) steps.now) played.answers.items)) }
         ensures arrives_so_far { IfErr result (WhereStopped (λ played.
             AllArrive (take (length played.answers.items) steps.now) played.answers.items played.quiet.items)) }
+        ensures accepts_so_far { IfErr result (WhereStopped (λ played.
+            AllAreGiven (take (length played.answers.items) steps.now) played.answers.items played.quiet.items)) }
         ensures offers_so_far { IfErr result (WhereStopped (λ played.
             AllAreOffered (take (length played.answers.items) steps.now) played.answers.items played.quiet.items)) }
         ensures writes_so_far { IfErr result (WhereStopped (λ played.

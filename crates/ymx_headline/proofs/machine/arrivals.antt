@@ -2,6 +2,7 @@
 pub mod Rests
 pub mod Tales
 pub mod Told
+pub mod Places
 pub mod Reads
 pub mod Writes
 pub mod RunArrivals

@@ -1,5 +1,5 @@
--- What has come to a reader once all is at rest (this project's own).
-use Rattle.std.specs.Prelude.{ℕ, ◌≡◌, ◌⊎◌, ◌<◌, ◌*◌, ◌+◌, ◌==◌, ◌&&◌, ◌||◌, if◌then◌else◌, not, List, [], ◌∷◌, length, take, drop, slice_get, Bool, true, false, Some, None}
+-- What has come once all is at rest (this project's own).
+use Rattle.std.specs.Prelude.{ℕ, ◌≡◌, ◌⊎◌, ◌<◌, ◌*◌, ◌+◌, ◌==◌, ◌&&◌, ◌||◌, if◌then◌else◌, not, List, [], ◌∷◌, length, take, drop, slice_get, nat_lt, nat_le, Bool, true, false, Some, None}
 use Rattle.ymx_machine.specs.declared.types.Side.{Side}
 use Rattle.ymx_machine.specs.declared.types.Side.TheVariants.{A}
 use Rattle.ymx_machine.specs.declared.types.Step.{Step}
@@ -9,9 +9,12 @@ use Rattle.ymx_machine.specs.declared.types.CallFault.{CallFault}
 use Rattle.ymx_machine.specs.declared.types.CallFault.TheVariants.{OutOfMemory}
 use Rattle.ymx_machine.specs.declared.types.Wrote.TheVariants.{Took, Wait}
 use Rattle.ymx_machine.specs.shared.Evidence.{evidence}
+use Rattle.ymx_machine.specs.shared.Limits.{most_offered}
 use Rattle.ymx_machine.specs.declared.types.Answer.{Answer}
 use Rattle.ymx_machine.specs.declared.types.Answer.TheVariants as answer
 use Rattle.ymx_machine.specs.Promise.{is_same_side, written, got, finished}
+
+-- ---- reads
 
 -- whether a step gave a side this stream: it opened it, or accepted it
 abbrev pub began_by : Side → ℕ → Step → Answer → Bool
@@ -65,21 +68,57 @@ GivesAll writer reader id room steps answers given =
     (given ≡ read_of room (left_over writer reader id steps answers) (finished writer id steps answers))
     ⊎ ((fault : CallFault) × (given ≡ answer.Refused fault) × ((has_stream writer id steps answers && has_stream reader id steps answers) ≡ false))
 
--- so does each read that is made where all is at rest, of every stream, in both directions
+-- so does each read that is made where all is at rest, of every stream, in both directions; a new world is at rest
 abbrev pub AllArrive : List Step → List Answer → (quiet : List Bool) → Type 0
 AllArrive steps answers quiet = (made id room : ℕ) (writer reader : Side) (given : Answer) →
     is_same_side writer reader ≡ false → is_at_rest true (take made steps) (take made quiet) ≡ true →
     slice_get steps made ≡ Some (step.At reader (call.Read id room)) → slice_get answers made ≡ Some given →
     GivesAll writer reader id room (take made steps) (take made answers) given
 
--- At rest, one side's read of a stream is not refused, and the other side's accept right behind it finds no stream that
--- waits: then the other side has had this one.
+-- ---- accepts
+
+-- whether in a step a side said that it takes no more streams
+abbrev pub away_by : Side → Step → Answer → Bool
+away_by side (step.At at call.GoAway) answer.Done = is_same_side side at
+away_by side _ _ = false
+
+-- whether a step was a delivery that refused a stream for want of memory
+abbrev pub lacked_by : Step → Answer → Bool
+lacked_by st (answer.Fed fed) = nat_lt 0 fed.no_memory
+lacked_by st _ = false
+
+-- how many streams were opened, at both sides together
+abbrev pub opened : List Answer → ℕ
+opened [] = 0
+opened (answer.Opened id ∷ more) = opened more + 1
+opened (answer.OpenedWith id n ∷ more) = opened more + 1
+opened (given ∷ more) = opened more
+
+-- Whether a side had no cause to refuse a stream: it said no go away, no memory was wanting, and no more streams were opened
+-- than may wait to be accepted.
+abbrev pub takes_streams : Side → List Step → List Answer → Bool
+takes_streams side steps answers =
+    not (any_step (away_by side) steps answers) && not (any_step lacked_by steps answers) && nat_le (opened answers) most_offered
+
+-- Where all is at rest, an accept of a side that had no cause to refuse a stream finds none that waits: then this side was
+-- given each stream that the other side has.
+abbrev pub AllAreGiven : List Step → List Answer → (quiet : List Bool) → Type 0
+AllAreGiven steps answers quiet = (made id : ℕ) (side other : Side) →
+    is_same_side side other ≡ false → is_at_rest true (take made steps) (take made quiet) ≡ true →
+    slice_get steps made ≡ Some (step.At side call.Accept) → slice_get answers made ≡ Some (answer.Accepted None) →
+    takes_streams side (take made steps) (take made answers) ≡ true → has_stream other id (take made steps) (take made answers) ≡ true →
+    any_step (began_by side id) (take made steps) (take made answers) ≡ true
+
+-- Where all is at rest, one side's read of a stream isn't refused, and the other side's accept right behind it finds none
+-- that waits: then the other side was given this one.
 abbrev pub AllAreOffered : List Step → List Answer → (quiet : List Bool) → Type 0
 AllAreOffered steps answers quiet = (made id room : ℕ) (reader other : Side) (given : Answer) →
     is_same_side other reader ≡ false → is_at_rest true (take made steps) (take made quiet) ≡ true →
     slice_get steps made ≡ Some (step.At reader (call.Read id room)) → slice_get answers made ≡ Some given →
     slice_get steps (made + 1) ≡ Some (step.At other call.Accept) → slice_get answers (made + 1) ≡ Some (answer.Accepted None) →
     ((fault : CallFault) × (given ≡ answer.Refused fault)) ⊎ (any_step (began_by other id) (take made steps) (take made answers) ≡ true)
+
+-- ---- writes
 
 -- A write takes all the bytes, or so many that more than half of the reader's window is unread then, or there is no
 -- memory. `unread`: how many bytes were left before it.

@@ -36,6 +36,7 @@ use Rattle.ymx_headline.proofs.machine.faces.MachineFaces.{FaceAt, Faced}
 use Rattle.ymx_headline.proofs.machine.arrivals.Rests.{IsResting, RestsAt, IsRestingMachine, open-rule}
 use Rattle.ymx_headline.proofs.machine.arrivals.Tales.{Tale, has, is_old}
 use Rattle.ymx_headline.proofs.machine.arrivals.Told.{FitsAt, FitsStream}
+use Rattle.ymx_headline.proofs.machine.arrivals.Places.{PlacesOfYou, passes, refused_you}
 
 pub not-both : (b : Bool) → b ≡ true → b ≡ false → ⊥
 not-both b e f = let k : true ≡ false = sym e ∙ f in absurd (cc)
@@ -180,3 +181,14 @@ comes mine yours room i side po pi x y m n given f t q h e =
     subst (λ (g : Answer). ((fault : CallFault) × (g ≡ answer.Refused fault)) ⊎ (y.began ≡ true)) (sym h.3)
     (came-at mine yours room i po pi x y (look i m.streams) m h.0 h.1 refl (sym (list-stays side (call.Read i room) given m n h) ∙ e) f.sound f.face t (q.each i)
     (open-rule (call.Read i room) m h.0 h.1 q.open_.me_open h.4))
+
+-- ---- an accept of a side that refused none
+
+-- a stream that the one side has was given to the other, whose list is empty and which refused none
+given-at : (mine yours i : ℕ) (x y : Tale) (o : Option Stream) (m : Machine) → look i m.streams ≡ o → m.you.offered ≡ [] → Sound mine yours (core m) → passes refused_you o ≡ false →
+    FitsAt x y o → RestsAt o → has x ≡ true → y.began ≡ true
+given-at mine yours i x y None m e u so n t q h = absurd (not-both (has x) h t.0)
+given-at mine yours i x y (Some s) m e u so n t q h = t.given_you h (born-is s.you q.you_born n (unoffered mine yours i s (Some s) m so u e refl))
+
+pub all-given : (mine yours op i : ℕ) (x y : Tale) (m : Machine) → m.you.offered ≡ [] → Sound mine yours (core m) → PlacesOfYou op m → FitsAt x y (look i m.streams) → IsRestingMachine m → has x ≡ true → y.began ≡ true
+all-given mine yours op i x y m u so n t q h = given-at mine yours i x y (look i m.streams) m refl u so (n.none i) t (q.each i) h

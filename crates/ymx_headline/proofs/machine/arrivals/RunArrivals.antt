@@ -1,5 +1,5 @@
 -- What reads and accepts answer at rest, over all runs.
-use Rattle.std.proofs.Common.{◌≡◌, ◌≢◌, inl, inr, ℕ, zero, suc, ◌%◌, ◌≤◌, List, [], ◌∷◌, take, Bool, true, false, ◌&&◌, ◌||◌, Option, None, Some, refl, sym, subst, add-one}
+use Rattle.std.proofs.Common.{◌≡◌, ◌≢◌, inl, inr, ℕ, zero, suc, ◌%◌, ◌≤◌, List, [], ◌∷◌, take, Bool, true, false, ◌&&◌, ◌||◌, Option, None, Some, refl, sym, subst, add-one, ◌+◌, not, arith}
 use Rattle.std.specs.Prelude.{slice_get}
 use Rattle.ymx_machine.specs.declared.types.Side.{Side}
 use Rattle.ymx_machine.specs.declared.types.Side.TheVariants.{A, B}
@@ -17,8 +17,8 @@ use Rattle.ymx_machine.specs.machine.Machines.{Machine, mirror_machine, new_mach
 use Rattle.ymx_machine.specs.machine.FreeMoves.{FreeMove, MayMove, moved_by}
 use Rattle.ymx_machine.specs.machine.Runs.{MachineStep, MachineStepOfA, MachineRun, IsStillMachine}
 use Rattle.ymx_machine.specs.Promise.{is_same_side}
-use Rattle.ymx_machine.proofs.Tests.{when, both_of, one_some}
-use Rattle.ymx_headline.specs.machine.Arrivals.{began_by, left_by, any_step, only_takes, is_at_rest, AllArrive, AllAreOffered, AllTakeEnough}
+use Rattle.ymx_machine.proofs.Tests.{when, both_of, one_some, none_of, is_le}
+use Rattle.ymx_headline.specs.machine.Arrivals.{began_by, left_by, any_step, only_takes, is_at_rest, AllArrive, AllAreOffered, AllTakeEnough, AllAreGiven, away_by, lacked_by, opened}
 use Rattle.ymx_headline.specs.machine.Runs.{StillRun, IsOpenMachine}
 use Rattle.ymx_headline.proofs.machine.lanes.StreamFacts.{if-so_true, if-so_false}
 use Rattle.ymx_headline.proofs.machine.order.Cores.{core, Sound, kept-moves, kept-releases}
@@ -29,9 +29,10 @@ use Rattle.ymx_headline.proofs.machine.faces.RunFaces.{other, other-side, or-fal
 use Rattle.ymx_headline.proofs.machine.arrivals.Rests.{IsRestingMachine, still-machine, rests-step, rests-mirror}
 use Rattle.ymx_headline.proofs.machine.arrivals.Tales.{Tale}
 use Rattle.ymx_headline.proofs.machine.arrivals.Told.{FitsAt, longer, told-move, told-mirror, told-unmirror, told-call}
-use Rattle.ymx_headline.proofs.machine.arrivals.Reads.{gives, comes, none-waits}
+use Rattle.ymx_headline.proofs.machine.arrivals.Reads.{gives, comes, none-waits, all-given}
 use Rattle.ymx_headline.proofs.machine.arrivals.Writes.{still-mirror, open-mirror, takes}
-use Rattle.ymx_headline.proofs.machine.lanes.MachineLaws.{law, obeys-mirror}
+use Rattle.ymx_headline.proofs.machine.lanes.MachineLaws.{law, obeys-mirror, Lawful, lawful-step, lawful-new}
+use Rattle.ymx_headline.proofs.machine.arrivals.Places.{PlacesOfMe, PlacesOfYou, one, me-same, you-same, places-of_a, places-of_b, to-you}
 
 -- ---- a step
 
@@ -270,3 +271,69 @@ take-enough wa fa wb fb sts given told n w v p h made i bytes B A g d q e f = rw
     let k = stands-mirror wa wb i _ _ _ _ c.0.here c.0.stands in
     takes wb wa i B bytes _ _ _ _ (mirror_machine c.0.here) (mirror_machine c.0.next) g k.faced k.fits (still-mirror c.0.here s.0) (open-mirror c.0.here s.1)
     (obeys-mirror wa wb i c.0.here (law wa fa wb fb _ _ c.0.here i w v c.0.run)) x y u c.0.steps)
+
+-- ---- where no stream was refused
+
+no-cause : (a b c : Bool) → (not a && not b && c) ≡ true → (a ≡ false) × (b ≡ false) × (c ≡ true)
+no-cause a b c e = grind arith
+
+opened-more : (given : Answer) (more : List Answer) → opened (given ∷ more) ≡ one given + opened more
+opened-more (answer.Opened id) more = omega arith
+opened-more (answer.OpenedWith id n) more = omega arith
+opened-more _ more = omega arith
+
+-- the one side, and the other, over a run
+places-run_a : (mine yours op : ℕ) (sts : List Step) (given : List Answer) (m n : Machine) → first_credit ≤ mine → first_credit ≤ yours → op + opened given ≤ 256 → any_step (away_by A) sts given ≡ false →
+    any_step lacked_by sts given ≡ false → Lawful mine yours (core m) → MachineRun sts given m n → PlacesOfMe op m → PlacesOfMe (op + opened given) n
+places-run_a mine yours op [] [] m n u v few w l so h k = me-same op 0 m n h k
+places-run_a mine yours op (st ∷ sts) (g ∷ given) m n u v few w l so h k =
+    let more = opened-more g given in
+    let a = none_of _ _ w in
+    let b = none_of _ _ l in
+    let on = places-of_a mine yours op st g m h.0 (omega (arith, few)) so.sound a.0 b.0 h.1 k in
+    let all = places-run_a mine yours (op + one g) sts given h.0 n u v (omega (arith, few, more)) a.1 b.1 (lawful-step mine yours st g m h.0 u v h.1 so) h.2 on in
+    let e : op + opened (g ∷ given) ≡ (op + one g) + opened given = omega (arith, more) in
+    subst (λ (x : ℕ). PlacesOfMe x n) (sym e) all
+places-run_a mine yours op [] (g ∷ given) m n u v few w l so h k = absurd h
+places-run_a mine yours op (st ∷ sts) [] m n u v few w l so h k = absurd h
+
+places-run_b : (mine yours op : ℕ) (sts : List Step) (given : List Answer) (m n : Machine) → first_credit ≤ mine → first_credit ≤ yours → op + opened given ≤ 256 → any_step (away_by B) sts given ≡ false →
+    any_step lacked_by sts given ≡ false → Lawful mine yours (core m) → MachineRun sts given m n → PlacesOfYou op m → PlacesOfYou (op + opened given) n
+places-run_b mine yours op [] [] m n u v few w l so h k = you-same op 0 m n h k
+places-run_b mine yours op (st ∷ sts) (g ∷ given) m n u v few w l so h k =
+    let more = opened-more g given in
+    let a = none_of _ _ w in
+    let b = none_of _ _ l in
+    let on = places-of_b mine yours op st g m h.0 (omega (arith, few)) so.sound a.0 b.0 h.1 k in
+    let all = places-run_b mine yours (op + one g) sts given h.0 n u v (omega (arith, few, more)) a.1 b.1 (lawful-step mine yours st g m h.0 u v h.1 so) h.2 on in
+    let e : op + opened (g ∷ given) ≡ (op + one g) + opened given = omega (arith, more) in
+    subst (λ (x : ℕ). PlacesOfYou x n) (sym e) all
+places-run_b mine yours op [] (g ∷ given) m n u v few w l so h k = absurd h
+places-run_b mine yours op (st ∷ sts) [] m n u v few w l so h k = absurd h
+
+places-new_me : (wa fa wb fb : ℕ) → PlacesOfMe 0 (new_machine wa fa wb fb)
+places-new_me wa fa wb fb = record { room = omega arith; few = omega arith; stays = refl; none = λ i. refl }
+
+places-new_you : (wa fa wb fb : ℕ) → PlacesOfYou 0 (new_machine wa fa wb fb)
+places-new_you wa fa wb fb = record { room = omega arith; few = omega arith; stays = refl; none = λ i. refl }
+
+-- each stream of the other side was given
+pub are-given : (wa fa wb fb : ℕ) (sts : List Step) (given : List Answer) (told : List Bool) (n : Machine) → first_credit ≤ wa → first_credit ≤ wb → fa % 2 ≢ fb % 2 →
+    StillRun sts given told (new_machine wa fa wb fb) n → AllAreGiven sts given told
+are-given wa fa wb fb sts given told n w v p h made i A A d q e f z has_it = absurd (one-side A d)
+are-given wa fa wb fb sts given told n w v p h made i B B d q e f z has_it = absurd (one-side B d)
+are-given wa fa wb fb sts given told n w v p h made i B A d q e f z has_it =
+    let c = from-new wa fa wb fb i made sts given told n (step.At B call.Accept) (answer.Accepted None) w v p h e f in
+    let r = c.0.rests q in
+    let no = no-cause _ _ _ z in
+    let few = is_le (opened (take made given)) 256 no.2 in
+    let places = places-run_b wa wb 0 (take made sts) (take made given) (new_machine wa fa wb fb) c.0.here w v (omega (arith, few)) no.0 no.1 (lawful-new wa fa wb fb) c.0.run (places-new_you wa fa wb fb) in
+    all-given wa wb _ i _ _ c.0.here (none-waits B (mirror_machine c.0.here) (mirror_machine c.0.next) r.open_.you_open r.open_.you_hears c.0.steps) c.0.stands.faced.sound places c.0.stands.fits r has_it
+are-given wa fa wb fb sts given told n w v p h made i A B d q e f z has_it =
+    let c = from-new wa fa wb fb i made sts given told n (step.At A call.Accept) (answer.Accepted None) w v p h e f in
+    let r = c.0.rests q in
+    let no = no-cause _ _ _ z in
+    let few = is_le (opened (take made given)) 256 no.2 in
+    let places = places-run_a wa wb 0 (take made sts) (take made given) (new_machine wa fa wb fb) c.0.here w v (omega (arith, few)) no.0 no.1 (lawful-new wa fa wb fb) c.0.run (places-new_me wa fa wb fb) in
+    let k = stands-mirror wa wb i _ _ _ _ c.0.here c.0.stands in
+    all-given wb wa _ i _ _ (mirror_machine c.0.here) (none-waits A c.0.here c.0.next r.open_.me_open r.open_.me_hears c.0.steps) k.faced.sound (to-you _ c.0.here places) k.fits (rests-mirror c.0.here r) has_it

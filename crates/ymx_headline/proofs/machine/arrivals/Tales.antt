@@ -1,5 +1,5 @@
 -- What callers were told of a stream's ends, and how the ends stand to it.
-use Rattle.std.proofs.Common.{◌≡◌, Bool, true, false, not, ◌&&◌, ◌∙◌, arith}
+use Rattle.std.proofs.Common.{◌≡◌, sym, Bool, true, false, not, ◌&&◌, ◌∙◌, arith}
 use Rattle.ymx_machine.specs.shared.Phases.{Phase, struck, is_up, is_refused}
 use Rattle.ymx_machine.specs.shared.Phases.Phase.{Unborn, Offered, Live, WasReset, Refused, Lingering, Gone}
 use Rattle.ymx_machine.specs.stream.Lanes.{Mark, is_unsaid}
@@ -22,7 +22,8 @@ is_old Gone = true
 is_old _ = false
 
 -- The ends of a stream that both sides have are live. Beside an end that is up, one that its side has is live, one that
--- is old was given to its side, and one that was refused has said so.
+-- is old was given to its side, and one that was refused has said so. An end that its side has is old and said no reset,
+-- and beside it one that is old was given to its side.
 pub record Fits (tale_me tale_you : Tale) (me you : Phase) (rst_me rst_you : Mark) : Type 0 where
   pub both : has tale_me ≡ true → has tale_you ≡ true → (me ≡ Live) × (you ≡ Live)
   pub live_me : has tale_me ≡ true → is_up you ≡ true → me ≡ Live
@@ -31,6 +32,14 @@ pub record Fits (tale_me tale_you : Tale) (me you : Phase) (rst_me rst_you : Mar
   pub old_you : is_up me ≡ true → is_old you ≡ true → tale_you.began ≡ true
   pub refused_me : is_up you ≡ true → is_refused me ≡ true → is_unsaid rst_me ≡ false
   pub refused_you : is_up me ≡ true → is_refused you ≡ true → is_unsaid rst_you ≡ false
+  pub had_me : has tale_me ≡ true → is_old me ≡ true
+  pub had_you : has tale_you ≡ true → is_old you ≡ true
+  pub unsaid_me : has tale_me ≡ true → is_unsaid rst_me ≡ true
+  pub unsaid_you : has tale_you ≡ true → is_unsaid rst_you ≡ true
+  pub given_me : has tale_you ≡ true → is_old me ≡ true → tale_me.began ≡ true
+  pub given_you : has tale_me ≡ true → is_old you ≡ true → tale_you.began ≡ true
+  pub clean_me : is_up me ≡ true → is_unsaid rst_me ≡ true
+  pub clean_you : is_up you ≡ true → is_unsaid rst_you ≡ true
 
 pub fits-flip : (x y : Tale) (p q : Phase) (a b : Mark) → Fits x y p q a b → Fits y x q p b a
 fits-flip x y p q a b h = record {
@@ -41,6 +50,14 @@ fits-flip x y p q a b h = record {
   old_you = h.old_me;
   refused_me = h.refused_you;
   refused_you = h.refused_me;
+  had_me = h.had_you;
+  had_you = h.had_me;
+  unsaid_me = h.unsaid_you;
+  unsaid_you = h.unsaid_me;
+  given_me = h.given_you;
+  given_you = h.given_me;
+  clean_me = h.clean_you;
+  clean_you = h.clean_me;
 }
 
 -- a side that has no more than before, and was given the same
@@ -53,6 +70,14 @@ fits-less x z y p q a b f e h = record {
   old_you = h.old_you;
   refused_me = h.refused_me;
   refused_you = h.refused_you;
+  had_me = λ u. h.had_me (f u);
+  had_you = h.had_you;
+  unsaid_me = λ u. h.unsaid_me (f u);
+  unsaid_you = h.unsaid_you;
+  given_me = λ u v. e ∙ h.given_me u v;
+  given_you = λ u v. h.given_you (f u) v;
+  clean_me = h.clean_me;
+  clean_you = h.clean_you;
 }
 
 pub fits-offered : (x y : Tale) (p q : Phase) (a b : Mark) → p ≡ Unborn → Fits x y p q a b → Fits x y Offered q a b
@@ -64,9 +89,32 @@ fits-refused x y p q a b e h = grind arith
 pub fits-released : (x y : Tale) (p q : Phase) (a b : Mark) → p ≡ Lingering → Fits x y p q a b → Fits x y Gone q a b
 fits-released x y p q a b e h = grind arith
 
--- a reset arrives: neither end is up
-pub fits-struck : (x y : Tale) (p q : Phase) (a b c d : Mark) → is_up (struck p) ≡ false → is_up q ≡ false → Fits x y p q a b → Fits x y (struck p) q c d
-fits-struck x y p q a b c d e f h = grind arith
+clash : (b : Bool) → b ≡ true → b ≡ false → ⊥
+clash b e f = let k : true ≡ false = sym e ∙ f in absurd (cc)
+
+struck-old : (p : Phase) → is_old p ≡ true → is_old (struck p) ≡ true
+struck-old p e = grind arith
+
+-- a reset arrives: neither end is up, and the other side hasn't the stream
+pub fits-struck : (x y : Tale) (p q : Phase) (a b c d : Mark) → is_up (struck p) ≡ false → is_up q ≡ false → is_unsaid b ≡ false → (is_unsaid a ≡ true → is_unsaid c ≡ true) →
+    Fits x y p q a b → Fits x y (struck p) q c d
+fits-struck x y p q a b c d e f g k h = record {
+  both = λ u v. absurd (clash (is_unsaid b) (h.unsaid_you v) g);
+  live_me = λ u v. absurd (clash (is_up q) v f);
+  live_you = λ u v. absurd (clash (is_up (struck p)) v e);
+  old_me = λ u v. absurd (clash (is_up q) u f);
+  old_you = λ u v. absurd (clash (is_up (struck p)) u e);
+  refused_me = λ u v. absurd (clash (is_up q) u f);
+  refused_you = λ u v. absurd (clash (is_up (struck p)) u e);
+  had_me = λ u. struck-old p (h.had_me u);
+  had_you = h.had_you;
+  unsaid_me = λ u. k (h.unsaid_me u);
+  unsaid_you = λ v. absurd (clash (is_unsaid b) (h.unsaid_you v) g);
+  given_me = λ v o. absurd (clash (is_unsaid b) (h.unsaid_you v) g);
+  given_you = h.given_you;
+  clean_me = λ u. absurd (clash (is_up (struck p)) u e);
+  clean_you = λ u. absurd (clash (is_up q) u f);
+}
 
 -- the side leaves the stream
 pub fits-left : (x z y : Tale) (p o q : Phase) (a c b : Mark) → is_old p ≡ true → is_old o ≡ true → is_up o ≡ false → has z ≡ false → z.began ≡ x.began → Fits x y p q a b → Fits z y o q c b

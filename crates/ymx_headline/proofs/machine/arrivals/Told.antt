@@ -19,8 +19,8 @@ use Rattle.ymx_machine.specs.shared.Phases.Phase.{Unborn, Live, WasReset, Linger
 use Rattle.ymx_machine.specs.shared.Lists.{look, change}
 use Rattle.ymx_machine.specs.shared.Steps.{answer_of}
 use Rattle.ymx_machine.specs.shared.Replies.{is_done, write_reply, read_reply, finish_reply, reset_reply, forget_reply}
-use Rattle.ymx_machine.specs.stream.Lanes.{is_unsaid, is_here}
-use Rattle.ymx_machine.specs.stream.Lanes.Mark.{Said}
+use Rattle.ymx_machine.specs.stream.Lanes.{Mark, is_unsaid, is_here, taken_back}
+use Rattle.ymx_machine.specs.stream.Lanes.Mark.{Said, Here}
 use Rattle.ymx_machine.specs.stream.Streams.{Stream, opened_stream, stream_write, stream_accept, stream_forget, stream_finish, Move, Allowed, after_move}
 use Rattle.ymx_machine.specs.stream.Streams.Move.{Arrive, EndArrives, Return, SynOffered, SynRefused, AckArrives, ResetArrives, Released}
 use Rattle.ymx_machine.specs.stream.StreamRules.{StreamCall, StreamRule, ResetsTo, forgets_quietly}
@@ -58,6 +58,9 @@ stream-is x y s t e h = subst (FitsStream x y) (sym e) h
 
 -- ---- what may arrive
 
+back-unsaid : (m : Mark) → is_unsaid m ≡ true → is_unsaid (taken_back m) ≡ true
+back-unsaid m e = grind arith
+
 fits-move : (x y : Tale) (v : Move) (s : Stream) → (is_unsaid s.rst_inbound ≡ false → is_up s.you ≡ false) → Allowed v s → FitsStream x y s → FitsStream x y (after_move v s)
 fits-move x y (Arrive n) s d a h = h
 fits-move x y EndArrives s d a h = h
@@ -65,7 +68,7 @@ fits-move x y (Return n) s d a h = h
 fits-move x y SynOffered s d a h = fits-offered x y s.me s.you s.rst_outbound s.rst_inbound a h
 fits-move x y SynRefused s d a h = fits-refused x y s.me s.you s.rst_outbound s.rst_inbound a h
 fits-move x y AckArrives s d a h = h
-fits-move x y ResetArrives s d a h = fits-struck x y s.me s.you s.rst_outbound s.rst_inbound _ _ (struck-down s.me a.1) (d (ap is_unsaid a.0)) h
+fits-move x y ResetArrives s d a h = fits-struck x y s.me s.you s.rst_outbound s.rst_inbound (taken_back s.rst_outbound) Here (struck-down s.me a.1) (d (ap is_unsaid a.0)) (ap is_unsaid a.0) (back-unsaid s.rst_outbound) h
 fits-move x y Released s d a h = fits-released x y s.me s.you s.rst_outbound s.rst_inbound a h
 
 -- one stream changes

@@ -1,19 +1,13 @@
 -- What a write answers where all is still.
-use Rattle.std.proofs.Common.{◌≡◌, ◌⊎◌, inl, inr, ℕ, ◌<◌, ◌≤◌, ◌*◌, ◌+◌, List, [], ◌∷◌, length, min, drop, map, Bool, true, false, not, ◌&&◌, ◌==◌, if◌then◌else◌, Option, None, Some, refl, sym, ◌∙◌, ap, subst, arith}
+use Rattle.std.proofs.Common.{◌≡◌, ◌⊎◌, inl, inr, ℕ, ◌<◌, ◌*◌, ◌+◌, List, [], ◌∷◌, length, min, drop, map, Bool, true, false, not, ◌==◌, Option, None, Some, refl, sym, ◌∙◌, ap, subst, arith}
 use Rattle.std.proofs.lemmas.Bool.Decides.{nat_tests}
 use Rattle.std.specs.List.{All}
 use Rattle.std.proofs.lemmas.List.Elements.{All-nil, All-cons, All-head, All-tail}
-use Rattle.ymx_machine.specs.shared.Evidence.{evidence}
 use Rattle.ymx_machine.specs.declared.types.Side.{Side}
 use Rattle.ymx_machine.specs.shared.Events.{Reply}
-use Rattle.ymx_machine.specs.declared.types.Reply.TheVariants as reply
 use Rattle.ymx_machine.specs.declared.types.Call.TheVariants as call
-use Rattle.ymx_machine.specs.declared.types.CallFault.TheVariants.{OutOfMemory}
-use Rattle.ymx_machine.specs.declared.types.Wrote.TheVariants.{Took, Wait}
 use Rattle.ymx_machine.specs.declared.types.Step.TheVariants as step
 use Rattle.ymx_machine.specs.declared.types.Answer.{Answer}
-use Rattle.ymx_machine.specs.declared.types.Answer.TheVariants as answer
-use Rattle.ymx_machine.specs.shared.Phases.{is_up}
 use Rattle.ymx_machine.specs.shared.Phases.Phase.{Live}
 use Rattle.ymx_machine.specs.shared.Lists.{look}
 use Rattle.ymx_machine.specs.shared.Steps.{answer_of}
@@ -29,15 +23,13 @@ use Rattle.ymx_machine.proofs.Tests.{when}
 use Rattle.ymx_headline.specs.machine.Arrivals.{TakesEnough}
 use Rattle.ymx_headline.specs.machine.Runs.{ObeysAt, IsOpenMachine}
 use Rattle.ymx_headline.specs.machine.LaneLaws.{IsBounded, ObeysWindows}
-use Rattle.ymx_headline.proofs.machine.lanes.LaneLaws.{lists}
-use Rattle.ymx_headline.proofs.machine.lanes.StreamFacts.{live-up}
 use Rattle.ymx_headline.proofs.machine.order.Cores.{core}
 use Rattle.ymx_headline.proofs.machine.faces.Pasts.{Past, HasFaces}
 use Rattle.ymx_headline.proofs.machine.faces.StreamFaces.{faces-flip}
 use Rattle.ymx_headline.proofs.machine.faces.MachineFaces.{FaceAt, Faced}
-use Rattle.ymx_headline.proofs.machine.arrivals.Rests.{IsResting, still-machine, still-rests, rests-flip, open-rule}
+use Rattle.ymx_headline.proofs.machine.arrivals.Rests.{still-rests, rests-flip, open-rule}
 use Rattle.ymx_headline.proofs.machine.arrivals.Tales.{Tale, has}
-use Rattle.ymx_headline.proofs.machine.arrivals.Told.{FitsAt, FitsStream}
+use Rattle.ymx_headline.proofs.machine.arrivals.Told.{FitsAt}
 use Rattle.ymx_headline.proofs.machine.arrivals.Reads.{not-both, live-left}
 
 -- a write where nothing is on its way, and less than half the window is owed

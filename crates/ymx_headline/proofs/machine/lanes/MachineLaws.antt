@@ -148,7 +148,7 @@ lawful-run mine yours (st ∷ sts) (given ∷ more) m n a b h k = lawful-run min
 lawful-run mine yours [] (given ∷ more) m n a b h k = absurd h
 lawful-run mine yours (st ∷ sts) [] m n a b h k = absurd h
 
-lawful-new : (mine first yours your_first : ℕ) → Lawful mine yours (core (new_machine mine first yours your_first))
+pub lawful-new : (mine first yours your_first : ℕ) → Lawful mine yours (core (new_machine mine first yours your_first))
 lawful-new mine first yours your_first = record {
   sound = sound-new mine first yours your_first;
   at = λ i. tt;

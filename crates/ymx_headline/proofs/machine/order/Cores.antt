@@ -199,7 +199,7 @@ finish-you : (b : Bool) (s : Stream) → (if b then record s { outbound = record
 finish-you true s = refl
 finish-you false s = refl
 
-finish-me : (b : Bool) (s : Stream) → (if b then record s { outbound = record s.outbound { fin = Mark.Said } } else s).me ≡ s.me
+pub finish-me : (b : Bool) (s : Stream) → (if b then record s { outbound = record s.outbound { fin = Mark.Said } } else s).me ≡ s.me
 finish-me true s = refl
 finish-me false s = refl
 

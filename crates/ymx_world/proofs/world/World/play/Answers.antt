@@ -47,6 +47,16 @@ returns-clause-arrives c =
     (finished_run c.args.config_a c.args.config_b c.in-Ok.ensures.may_a c.in-Ok.ensures.may_b (search rules) (search rules)
     c.args.steps.now c.loop-step.step-index c.loop-step.played c.loop-step-test.false c.loop-step.invariant).arrives
 
+pub returns-in-Err-play_step-clause-accepts_so_far : goal.returns-in-Err-play_step-clause-accepts_so_far
+returns-in-Err-play_step-clause-accepts_so_far c =
+    (stopped_run c.args.config_a c.args.config_b c.in-Ok.ensures.may_a c.in-Ok.ensures.may_b (search rules) (search rules)
+    c.args.steps.now c.loop-step.step-index c.loop-step.played c.play_step.new.self c.loop-step.invariant (search rules)).accepts
+
+pub returns-clause-accepts : goal.returns-clause-accepts
+returns-clause-accepts c =
+    (finished_run c.args.config_a c.args.config_b c.in-Ok.ensures.may_a c.in-Ok.ensures.may_b (search rules) (search rules)
+    c.args.steps.now c.loop-step.step-index c.loop-step.played c.loop-step-test.false c.loop-step.invariant).accepts
+
 pub returns-in-Err-play_step-clause-offers_so_far : goal.returns-in-Err-play_step-clause-offers_so_far
 returns-in-Err-play_step-clause-offers_so_far c =
     (stopped_run c.args.config_a c.args.config_b c.in-Ok.ensures.may_a c.in-Ok.ensures.may_b (search rules) (search rules)
