@@ -449,69 +449,47 @@ moves-me op (v ∷ vs) m counted n few c h k =
 
 -- ---- from the other side
 
-pub to-you : (op : ℕ) (m : Machine) → PlacesOfMe op m → PlacesOfYou op (mirror_machine m)
-to-you op m h =
-    let long = length-map m.streams flip_entry in
-    let k = many-flip unborn_you m.streams in
+passes-flip : (test : Stream → Bool) (o : Option Stream) → passes test (flipped o) ≡ passes (λ s. test (flip s)) o
+passes-flip test None = refl
+passes-flip test (Some s) = refl
+
+flips : (op : ℕ) (unborn refused : Stream → Bool) (xs : List (ℕ × Stream)) (ids : List ℕ) (away : Mark) → HasPlaces op (λ s. unborn (flip s)) (λ s. refused (flip s)) xs ids away →
+    HasPlaces op unborn refused (map flip_entry xs) ids away
+flips op unborn refused xs ids away h =
+    let long = length-map xs flip_entry in
+    let k = many-flip unborn xs in
     let room = h.room in
     let few = h.few in record {
       room = omega (arith, long, k, room);
       few = omega (arith, long, few);
       stays = h.stays;
-      none = λ i. ap (passes refused_you) (look-mirror i m.streams) ∙ (passes-flip (look i m.streams) ∙ h.none i);
+      none = λ i. ap (passes refused) (look-mirror i xs) ∙ (passes-flip refused (look i xs) ∙ h.none i);
     }
-  where
-    passes-flip : (o : Option Stream) → passes refused_you (flipped o) ≡ passes refused_me o
-    passes-flip None = refl
-    passes-flip (Some s) = refl
+
+unflips : (op : ℕ) (unborn refused : Stream → Bool) (xs : List (ℕ × Stream)) (ids : List ℕ) (away : Mark) → HasPlaces op unborn refused (map flip_entry xs) ids away →
+    HasPlaces op (λ s. unborn (flip s)) (λ s. refused (flip s)) xs ids away
+unflips op unborn refused xs ids away h =
+    let long = length-map xs flip_entry in
+    let k = many-flip unborn xs in
+    let room = h.room in
+    let few = h.few in record {
+      room = omega (arith, long, k, room);
+      few = omega (arith, long, few);
+      stays = h.stays;
+      none = λ i. sym (ap (passes refused) (look-mirror i xs) ∙ passes-flip refused (look i xs)) ∙ h.none i;
+    }
+
+pub to-you : (op : ℕ) (m : Machine) → PlacesOfMe op m → PlacesOfYou op (mirror_machine m)
+to-you op m h = flips op unborn_you refused_you m.streams m.me.offered m.me.away h
 
 from-you : (op : ℕ) (m : Machine) → PlacesOfYou op (mirror_machine m) → PlacesOfMe op m
-from-you op m h =
-    let long = length-map m.streams flip_entry in
-    let k = many-flip unborn_you m.streams in
-    let room = h.room in
-    let few = h.few in record {
-      room = omega (arith, long, k, room);
-      few = omega (arith, long, few);
-      stays = h.stays;
-      none = λ i. sym (ap (passes refused_you) (look-mirror i m.streams) ∙ passes-flip (look i m.streams)) ∙ h.none i;
-    }
-  where
-    passes-flip : (o : Option Stream) → passes refused_you (flipped o) ≡ passes refused_me o
-    passes-flip None = refl
-    passes-flip (Some s) = refl
+from-you op m h = unflips op unborn_you refused_you m.streams m.me.offered m.me.away h
 
 to-me : (op : ℕ) (m : Machine) → PlacesOfYou op m → PlacesOfMe op (mirror_machine m)
-to-me op m h =
-    let long = length-map m.streams flip_entry in
-    let k = many-flip unborn_me m.streams in
-    let room = h.room in
-    let few = h.few in record {
-      room = omega (arith, long, k, room);
-      few = omega (arith, long, few);
-      stays = h.stays;
-      none = λ i. ap (passes refused_me) (look-mirror i m.streams) ∙ (passes-flip (look i m.streams) ∙ h.none i);
-    }
-  where
-    passes-flip : (o : Option Stream) → passes refused_me (flipped o) ≡ passes refused_you o
-    passes-flip None = refl
-    passes-flip (Some s) = refl
+to-me op m h = flips op unborn_me refused_me m.streams m.you.offered m.you.away h
 
 from-me : (op : ℕ) (m : Machine) → PlacesOfMe op (mirror_machine m) → PlacesOfYou op m
-from-me op m h =
-    let long = length-map m.streams flip_entry in
-    let k = many-flip unborn_me m.streams in
-    let room = h.room in
-    let few = h.few in record {
-      room = omega (arith, long, k, room);
-      few = omega (arith, long, few);
-      stays = h.stays;
-      none = λ i. sym (ap (passes refused_me) (look-mirror i m.streams) ∙ passes-flip (look i m.streams)) ∙ h.none i;
-    }
-  where
-    passes-flip : (o : Option Stream) → passes refused_me (flipped o) ≡ passes refused_you o
-    passes-flip None = refl
-    passes-flip (Some s) = refl
+from-me op m h = unflips op unborn_me refused_me m.streams m.you.offered m.you.away h
 
 -- ---- a step
 

@@ -37,9 +37,7 @@ use Rattle.ymx_headline.proofs.machine.arrivals.Rests.{IsResting, RestsAt, IsRes
 use Rattle.ymx_headline.proofs.machine.arrivals.Tales.{Tale, has, is_old}
 use Rattle.ymx_headline.proofs.machine.arrivals.Told.{FitsAt, FitsStream}
 use Rattle.ymx_headline.proofs.machine.arrivals.Places.{PlacesOfYou, passes, refused_you}
-
-pub not-both : (b : Bool) → b ≡ true → b ≡ false → ⊥
-not-both b e f = let k : true ≡ false = sym e ∙ f in absurd (cc)
+use Rattle.ymx_headline.proofs.machine.faces.StreamFaces.{not-both}
 
 -- ---- a live end at rest
 

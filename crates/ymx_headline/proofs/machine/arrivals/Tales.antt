@@ -1,9 +1,10 @@
 -- What callers were told of a stream's ends, and how the ends stand to it.
-use Rattle.std.proofs.Common.{◌≡◌, sym, Bool, true, false, not, ◌&&◌, ◌∙◌, arith}
+use Rattle.std.proofs.Common.{◌≡◌, Bool, true, false, not, ◌&&◌, ◌∙◌, arith}
 use Rattle.ymx_machine.specs.shared.Phases.{Phase, struck, is_up, is_refused}
 use Rattle.ymx_machine.specs.shared.Phases.Phase.{Unborn, Offered, Live, WasReset, Refused, Lingering, Gone}
 use Rattle.ymx_machine.specs.stream.Lanes.{Mark, is_unsaid}
 use Rattle.ymx_machine.specs.stream.Lanes.Mark.{Unsaid, Said}
+use Rattle.ymx_headline.proofs.machine.faces.StreamFaces.{not-both}
 
 -- whether a side was given the stream, and whether it left it
 pub record Tale : Type 0 where
@@ -89,9 +90,6 @@ fits-refused x y p q a b e h = grind arith
 pub fits-released : (x y : Tale) (p q : Phase) (a b : Mark) → p ≡ Lingering → Fits x y p q a b → Fits x y Gone q a b
 fits-released x y p q a b e h = grind arith
 
-clash : (b : Bool) → b ≡ true → b ≡ false → ⊥
-clash b e f = let k : true ≡ false = sym e ∙ f in absurd (cc)
-
 struck-old : (p : Phase) → is_old p ≡ true → is_old (struck p) ≡ true
 struck-old p e = grind arith
 
@@ -99,21 +97,21 @@ struck-old p e = grind arith
 pub fits-struck : (x y : Tale) (p q : Phase) (a b c d : Mark) → is_up (struck p) ≡ false → is_up q ≡ false → is_unsaid b ≡ false → (is_unsaid a ≡ true → is_unsaid c ≡ true) →
     Fits x y p q a b → Fits x y (struck p) q c d
 fits-struck x y p q a b c d e f g k h = record {
-  both = λ u v. absurd (clash (is_unsaid b) (h.unsaid_you v) g);
-  live_me = λ u v. absurd (clash (is_up q) v f);
-  live_you = λ u v. absurd (clash (is_up (struck p)) v e);
-  old_me = λ u v. absurd (clash (is_up q) u f);
-  old_you = λ u v. absurd (clash (is_up (struck p)) u e);
-  refused_me = λ u v. absurd (clash (is_up q) u f);
-  refused_you = λ u v. absurd (clash (is_up (struck p)) u e);
+  both = λ u v. absurd (not-both (is_unsaid b) (h.unsaid_you v) g);
+  live_me = λ u v. absurd (not-both (is_up q) v f);
+  live_you = λ u v. absurd (not-both (is_up (struck p)) v e);
+  old_me = λ u v. absurd (not-both (is_up q) u f);
+  old_you = λ u v. absurd (not-both (is_up (struck p)) u e);
+  refused_me = λ u v. absurd (not-both (is_up q) u f);
+  refused_you = λ u v. absurd (not-both (is_up (struck p)) u e);
   had_me = λ u. struck-old p (h.had_me u);
   had_you = h.had_you;
   unsaid_me = λ u. k (h.unsaid_me u);
-  unsaid_you = λ v. absurd (clash (is_unsaid b) (h.unsaid_you v) g);
-  given_me = λ v o. absurd (clash (is_unsaid b) (h.unsaid_you v) g);
+  unsaid_you = λ v. absurd (not-both (is_unsaid b) (h.unsaid_you v) g);
+  given_me = λ v o. absurd (not-both (is_unsaid b) (h.unsaid_you v) g);
   given_you = h.given_you;
-  clean_me = λ u. absurd (clash (is_up (struck p)) u e);
-  clean_you = λ u. absurd (clash (is_up q) u f);
+  clean_me = λ u. absurd (not-both (is_up (struck p)) u e);
+  clean_you = λ u. absurd (not-both (is_up q) u f);
 }
 
 -- the side leaves the stream

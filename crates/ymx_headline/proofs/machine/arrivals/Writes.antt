@@ -25,12 +25,12 @@ use Rattle.ymx_headline.specs.machine.Runs.{ObeysAt, IsOpenMachine}
 use Rattle.ymx_headline.specs.machine.LaneLaws.{IsBounded, ObeysWindows}
 use Rattle.ymx_headline.proofs.machine.order.Cores.{core}
 use Rattle.ymx_headline.proofs.machine.faces.Pasts.{Past, HasFaces}
-use Rattle.ymx_headline.proofs.machine.faces.StreamFaces.{faces-flip}
+use Rattle.ymx_headline.proofs.machine.faces.StreamFaces.{faces-flip, not-both}
 use Rattle.ymx_headline.proofs.machine.faces.MachineFaces.{FaceAt, Faced}
 use Rattle.ymx_headline.proofs.machine.arrivals.Rests.{still-rests, rests-flip, open-rule}
 use Rattle.ymx_headline.proofs.machine.arrivals.Tales.{Tale, has}
 use Rattle.ymx_headline.proofs.machine.arrivals.Told.{FitsAt}
-use Rattle.ymx_headline.proofs.machine.arrivals.Reads.{not-both, live-left}
+use Rattle.ymx_headline.proofs.machine.arrivals.Reads.{live-left}
 
 -- a write where nothing is on its way, and less than half the window is owed
 write-enough : (window owed credit unread : ℕ) (bytes : List ℕ) → (unread + credit) + owed ≡ window → 2 * owed < window →

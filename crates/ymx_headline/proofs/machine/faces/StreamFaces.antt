@@ -98,8 +98,9 @@ faces-me mine yours p m s po pi f g un co c = record {
   whole_inbound = λ u e. c.whole_inbound (f u) e;
 }
 
-up-down : (p : Phase) → is_up p ≡ true → is_up p ≡ false → ⊥
-up-down p u d = let k : true ≡ false = sym u ∙ d in absurd (cc)
+-- a test doesn't come out both ways
+pub not-both : (b : Bool) → b ≡ true → b ≡ false → ⊥
+not-both b e f = let k : true ≡ false = sym e ∙ f in absurd (cc)
 
 -- an end that is up has said no reset
 up-unsaid : (b c : Bool) (p q : Phase) → (b ≡ false → is_up p ≡ false) → is_up p ≡ true → b ≡ false → is_up q ≡ false
@@ -154,8 +155,8 @@ faces-move mine yours ResetArrives s po pi a c =
       rst_inbound = λ u. d;
       came_outbound = λ u. d;
       came_inbound = λ u. e;
-      whole_outbound = λ u w. absurd (up-down s.you u d);
-      whole_inbound = λ u w. absurd (up-down (struck s.me) u e);
+      whole_outbound = λ u w. absurd (not-both (is_up s.you) u d);
+      whole_inbound = λ u w. absurd (not-both (is_up (struck s.me)) u e);
     }
 faces-move mine yours Released s po pi a c = faces-me mine yours Gone s.rst_outbound s po pi (λ u. absurd (cc)) (λ e. refl) (λ u. u) (λ u. u) c
 
@@ -318,7 +319,7 @@ resets mine yours p s t po pi d l h c = faces-is mine yours (stream_reset p h.0 
   came_outbound = λ e. absurd (cc);
   came_inbound = λ e. d;
   whole_outbound = λ u w. absurd (cc);
-  whole_inbound = λ u w. absurd (up-down p u d);
+  whole_inbound = λ u w. absurd (not-both (is_up p) u d);
 })
 
 forgets-quietly : (mine yours : ℕ) (s : Stream) (po pi : Past) → HasFaces mine yours s po pi → HasFaces mine yours (stream_forget s) po pi
@@ -337,9 +338,6 @@ pub faces-accept : (mine yours : ℕ) (lost : Bool) (s : Stream) (po pi : Past) 
 faces-accept mine yours lost s po pi o c =
     let k = faces-me mine yours Live s.rst_outbound s po pi (λ u. ap is_up o) (λ e. up-unsaid (is_unsaid s.rst_outbound) true s.me Live c.rst_outbound (ap is_up o) e) (λ u. u) (λ u. u) c in
     record { outbound = k.outbound; inbound = k.inbound; rst_outbound = k.rst_outbound; rst_inbound = k.rst_inbound; came_outbound = k.came_outbound; came_inbound = k.came_inbound; whole_outbound = k.whole_outbound; whole_inbound = k.whole_inbound }
-
-not-both : (b : Bool) → b ≡ true → b ≡ false → ⊥
-not-both b e f = let k : true ≡ false = sym e ∙ f in absurd (cc)
 
 pub faces-new : (mine yours : ℕ) (bytes : List ℕ) (po pi : Past) → first_credit ≤ mine → first_credit ≤ yours → length bytes ≤ first_credit →
     po.written ≡ [] → po.got ≡ [] → po.finished ≡ false → po.ended ≡ false → pi.written ≡ [] → pi.got ≡ [] → pi.finished ≡ false → pi.ended ≡ false →
