@@ -1,5 +1,5 @@
 -- Bytes that are written and go out at once are a write and then an emission.
-use Rattle.std.proofs.Common.{◌≡◌, ℕ, zero, suc, ◌+◌, ◌<◌, ◌≤◌, ◌==◌, nat_lt, nat_le, min, List, [], ◌∷◌, ◌++◌, length, take, drop, Bool, true, false, not, ◌&&◌, ◌||◌, if◌then◌else◌, Option, None, Some, refl, sym, ap, ◌∙◌, subst, arith, length-append}
+use Rattle.std.proofs.Common.{◌≡◌, ℕ, zero, suc, ◌+◌, ◌-◌, ◌<◌, ◌≤◌, ◌==◌, nat_lt, nat_le, min, List, [], ◌∷◌, ◌++◌, length, take, drop, Bool, true, false, not, ◌&&◌, ◌||◌, if◌then◌else◌, Option, None, Some, refl, sym, ap, ◌∙◌, subst, arith, length-append}
 use Rattle.std.specs.Prelude.{is_some}
 use Rattle.std.specs.Option.{ForSome}
 use Rattle.std.proofs.lemmas.Grind.{common_steps}
@@ -388,6 +388,18 @@ module _ (id : ℕ) (bytes : List ℕ) (size : ℕ) (s : Session) (k : Through i
       (idle-after s.table.window id bytes k.stream k.idle_now k.some k.one_frame) in
       rw (alarm, running, away, answers, pings, streams) refl
 
+  room-left : room_of id after + length bytes ≡ room_of id s
+  room-left =
+      let run = k.running in
+      let there = k.there in
+      let live = k.live in
+      let unfinished = k.unfinished in
+      let credit = k.credit in
+      let l = look-change_there id (sent bytes) s.table.entries k.stream k.there in
+      let a : room_of id after ≡ k.stream.writer.credit - length bytes = rw (run, l, live, unfinished) refl in
+      let b : room_of id s ≡ k.stream.writer.credit = rw (run, there, live, unfinished) refl in
+      omega arith
+
   emits : (room rest : List ℕ) → room ≡ frame 0 0 id (length bytes) bytes ++ rest → Emits in_turn mid size (take (12 + length bytes) room) after
   emits room rest w = record {
     fits = (let fits = k.fits in grind (arith, common_steps));
@@ -417,3 +429,9 @@ pub quiet-then : (id : ℕ) (bytes : List ℕ) (size : ℕ) (v s : Session) (tab
 quiet-then id bytes size v s table out e h t o =
     let k = through id bytes size v (ap (goes_through id (length bytes) size) e ∙ h) in
     subst (λ (x : Session). is_ready x ≡ false) (after-is id bytes size v k table out t o) (still-quiet id bytes size v k)
+
+pub room-then : (id : ℕ) (bytes : List ℕ) (size : ℕ) (v s : Session) (table : Table) (out : Outgoing) → v ≡ s → goes_through id (length bytes) size s ≡ true →
+    table ≡ pass_turn id (with_record id (sent bytes) v.table) → out ≡ nothing_outgoing → room_of id (record v { table = table; outgoing = out }) + length bytes ≡ room_of id s
+room-then id bytes size v s table out e h t o =
+    let k = through id bytes size v (ap (goes_through id (length bytes) size) e ∙ h) in
+    subst (λ (x : Session). room_of id x + length bytes ≡ room_of id s) (after-is id bytes size v k table out t o) (room-left id bytes size v k ∙ ap (room_of id) e)

@@ -3,6 +3,7 @@
 ghost use Rattle.std.specs.Prelude.{◌≡◌, ◌+◌, ◌++◌, length, take, drop, true, false, is_some, IfSome, IfNone};
 ghost use Rattle.ymx_model.specs.session.FramesDue.{frame};
 ghost use Rattle.ymx_model.specs.session.Emissions.{is_ready};
+ghost use Rattle.ymx_session.specs.Streams.{room_of};
 ghost use Rattle.ymx_session.specs.Through.{goes_through, WritesThrough};
 
 use crate::frame_buffer::DATA_LIMIT;
@@ -22,6 +23,7 @@ impl State {
         ensures event { IfSome result (λ count. WritesThrough id bytes.now (length buffer.old) (take count buffer.new) self.old self.new) }
         ensures written { IfSome result (λ count. buffer.new ≡ frame 0 0 id (length bytes.now) bytes.now ++ drop count buffer.old) }
         ensures quiet { IfSome result (λ count. is_ready self.new ≡ false) }
+        ensures room { IfSome result (λ count. room_of id self.new + length bytes.now ≡ room_of id self.old) }
         ensures unchanged { IfNone result (self.new ≡ self.old) }
         ensures unfilled { IfNone result (buffer.new ≡ buffer.old) }
     {
@@ -50,6 +52,7 @@ impl State {
         ensures event { WritesThrough id bytes.now (length buffer.old) (take result buffer.new) self.old self.new }
         ensures written { buffer.new ≡ frame 0 0 id (length bytes.now) bytes.now ++ drop result buffer.old }
         ensures quiet { is_ready self.new ≡ false }
+        ensures room { room_of id self.new + length bytes.now ≡ room_of id self.old }
     {
         self.outgoing.clear();
         self.table.write_through(id, bytes, buffer)

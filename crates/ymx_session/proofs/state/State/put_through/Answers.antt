@@ -1,4 +1,4 @@
-use Rattle.ymx_session.proofs.Straight.{may-send, writes, quiet-then}
+use Rattle.ymx_session.proofs.Straight.{may-send, writes, quiet-then, room-then}
 use Rattle.ymx_session.proofs.state.State.put_through.Goals as goal
 
 pub write_through-requires-clause-may : goal.write_through-requires-clause-may
@@ -9,3 +9,6 @@ returns-clause-event c = writes _ _ _ _ _ _ _ _ _ _ c.self.view_is c.requires c.
 
 pub returns-clause-quiet : goal.returns-clause-quiet
 returns-clause-quiet c = quiet-then _ _ _ _ _ _ _ c.self.view_is c.requires c.write_through.ensures.goes c.clear.ensures
+
+pub returns-clause-room : goal.returns-clause-room
+returns-clause-room c = room-then _ _ _ _ _ _ _ c.self.view_is c.requires c.write_through.ensures.goes c.clear.ensures
