@@ -19,8 +19,8 @@ use Rattle.ymx_engine.specs.declared.device.Pulled.TheVariants as pulled
 use Rattle.ymx_engine.specs.declared.device.Pushed.{Pushed}
 use Rattle.ymx_engine.specs.declared.device.Pushed.TheVariants as pushed
 use Rattle.ymx_engine.specs.Devices.{Seen, pulled_count, pushed_count, is_end, is_pull_failure, is_push_failure, IsPulled, IsPushed, IsEnded, IsShut}
-use Rattle.ymx_engine.specs.Events.{Happen, is_on, took_count, taken_at, taken, bytes_of, given_at, given, is_read_end, ends_at, has_end, finishes_at, has_finish, resets_at, has_reset, is_refusal, stops_at, has_stop, is_memory_refusal, lacks_memory_at, lacks_memory}
-use Rattle.ymx_engine.specs.Exchanges.{has_bytes, Exchange, Exchanges, ExchangesOnce}
+use Rattle.ymx_engine.specs.Events.{Happen, is_on, took_count, taken_at, taken, bytes_of, given_at, given, is_read_end, ends_at, has_end, finishes_at, has_finish, resets_at, has_reset, is_refusal, stops_at, has_stop, lacks_memory_at, lacks_memory}
+use Rattle.ymx_engine.specs.Exchanges.{has_bytes, Exchange}
 
 -- ---- lists of events
 
@@ -133,20 +133,17 @@ at_end (Some x) (Some y) t p e = p ∙ ap (λ (v : List ℕ). t ++ v) e ∙ appe
 -- ---- exchanges
 
 -- one exchange behind another
-pub exchange_then : (id : ℕ) (s t u : Session) (a b c : Seen) (lost : List ℕ) → Exchange id s t a b [] → Exchange id t u b c lost → Exchange id s u a c lost
-exchange_then id s t u a b c lost x y =
+pub exchange_then : (id : ℕ) (s t u : Session) (a b c : Seen) → Exchange id s t a b → Exchange id t u b c → Exchange id s u a c
+exchange_then id s t u a b c x y =
     let es = x.events in
     let fs = y.events in
-    let all : (taken id es ++ []) ++ (taken id fs ++ lost) ≡ taken id (es ++ fs) ++ lost =
-    ap (λ (v : List ℕ). v ++ (taken id fs ++ lost)) (append-nil (taken id es)) ∙ sym (append_assoc (taken id es) (taken id fs) lost)
-    ∙ ap (λ (v : List ℕ). v ++ lost) (sym (taken_then id es fs)) in
     record {
       events = es ++ fs;
       happen = happen_then es fs s t u x.happen y.happen;
       own = rw (list_all-append (λ (e : Event × Reply). is_on id e.0) es fs, x.own, y.own) refl;
-      to_peer = subst (Consumes a.left c.left) all (Consumes-trans a.left b.left c.left _ _ x.to_peer y.to_peer);
+      to_peer = subst (Consumes a.left c.left) (sym (taken_then id es fs)) (Consumes-trans a.left b.left c.left _ _ x.to_peer y.to_peer);
       from_peer = subst (Appends a.had c.had) (sym (given_then id es fs)) (Appends-trans a.had b.had c.had _ _ x.from_peer y.from_peer);
-      whole = λ h. subst (λ (v : List ℕ). IfSome a.left (λ w. w ≡ v)) all
+      whole = λ h. subst (λ (v : List ℕ). IfSome a.left (λ w. w ≡ v)) (sym (taken_then id es fs))
           (elim (or_cases (has_finish id es) (has_finish id fs) (sym (finish_then id es fs) ∙ h)) [
             | inl first ↦ whole_before a.left b.left c.left _ _ x.to_peer y.to_peer (x.whole first)
             | inr second ↦ whole_after a.left b.left _ _ x.to_peer (y.whole second)
@@ -157,15 +154,13 @@ exchange_then id s t u a b c lost x y =
           ∙ ap (λ (v : Bool). option_map (λ b. b || v) a.ended) (sym (end_then id es fs));
       fails = x.fails || y.fails;
       failed = y.failed ∙ ap (option_map (λ b. b || y.fails)) x.failed ∙ or_twice x.fails y.fails a.failed;
-      reset = reset_then id es fs ∙ ap (λ (v : Bool). v || has_reset id fs) (x.reset ∙ or_none x.fails) ∙ ap (λ (v : Bool). x.fails || v) y.reset
-          ∙ sym (or_assoc x.fails y.fails (has_bytes lost));
-      cause = λ h. lacks_then id es fs ∙ or_second (lacks_memory id es) (lacks_memory id fs) (y.cause h);
+      reset = reset_then id es fs ∙ ap (λ (v : Bool). v || has_reset id fs) x.reset ∙ ap (λ (v : Bool). x.fails || v) y.reset;
       shut = y.shut ∙ ap (option_map (λ b. b || has_stop id fs)) x.shut ∙ or_twice (has_stop id es) (has_stop id fs) a.shut
           ∙ ap (λ (v : Bool). option_map (λ b. b || v) a.shut) (sym (stop_then id es fs));
     }
 
 -- nothing happened, and the device moved nothing
-pub exchange_none : (id : ℕ) (s : Session) (a b : Seen) → Consumes a.left b.left [] → Appends a.had b.had [] → b.over ≡ a.over → b.ended ≡ a.ended → b.failed ≡ a.failed → b.shut ≡ a.shut → Exchange id s s a b []
+pub exchange_none : (id : ℕ) (s : Session) (a b : Seen) → Consumes a.left b.left [] → Appends a.had b.had [] → b.over ≡ a.over → b.ended ≡ a.ended → b.failed ≡ a.failed → b.shut ≡ a.shut → Exchange id s s a b
 exchange_none id s a b left had over ended failed shut = record {
   events = [];
   happen = refl;
@@ -178,37 +173,35 @@ exchange_none id s a b left had over ended failed shut = record {
   fails = false;
   failed = failed ∙ or_same a.failed;
   reset = refl;
-  cause = λ h. cc;
   shut = shut ∙ or_same a.shut;
 }
 
--- one event, at which the device may fail, and no bytes are lost
+-- one event, at which the device may fail
 pub exchange_one : (id : ℕ) (e : Event) (told : Reply) (s t : Session) (a b : Seen) (fails : Bool) → Gives in_turn s e told t → is_on id e ≡ true →
-    Consumes a.left b.left (taken_at id e told ++ []) → Appends a.had b.had (given_at id e told) →
-    (finishes_at id e ≡ true → IfSome a.left (λ all. all ≡ taken_at id e told ++ [])) →
+    Consumes a.left b.left (taken_at id e told) → Appends a.had b.had (given_at id e told) →
+    (finishes_at id e ≡ true → IfSome a.left (λ all. all ≡ taken_at id e told)) →
     b.over ≡ option_map (λ x. x || finishes_at id e) a.over → b.ended ≡ option_map (λ x. x || ends_at id e told) a.ended →
-    b.failed ≡ option_map (λ x. x || fails) a.failed → resets_at id e ≡ fails → b.shut ≡ option_map (λ x. x || stops_at id e told) a.shut → Exchange id s t a b []
+    b.failed ≡ option_map (λ x. x || fails) a.failed → resets_at id e ≡ fails → b.shut ≡ option_map (λ x. x || stops_at id e told) a.shut → Exchange id s t a b
 exchange_one id e told s t a b fails g on to_peer from_peer whole over ended failed reset shut =
     let same : taken_at id e told ≡ taken_at id e told ++ [] = sym (append-nil (taken_at id e told)) in
     record {
       events = (e, told) ∷ [];
       happen = (t, g, refl);
       own = rw on refl;
-      to_peer = subst (λ (v : List ℕ). Consumes a.left b.left (v ++ [])) same to_peer;
+      to_peer = subst (Consumes a.left b.left) same to_peer;
       from_peer = subst (Appends a.had b.had) (sym (append-nil (given_at id e told))) from_peer;
-      whole = λ h. subst (λ (v : List ℕ). IfSome a.left (λ all. all ≡ v ++ [])) same (whole (sym (or_none (finishes_at id e)) ∙ h));
+      whole = λ h. subst (λ (v : List ℕ). IfSome a.left (λ all. all ≡ v)) same (whole (sym (or_none (finishes_at id e)) ∙ h));
       over = over ∙ ap (λ (v : Bool). option_map (λ x. x || v) a.over) (sym (or_none (finishes_at id e)));
       ended = ended ∙ ap (λ (v : Bool). option_map (λ x. x || v) a.ended) (sym (or_none (ends_at id e told)));
       fails = fails;
       failed = failed;
-      reset = ap (λ (v : Bool). v || false) reset;
-      cause = λ h. cc;
+      reset = or_none (resets_at id e) ∙ reset;
       shut = shut ∙ ap (λ (v : Bool). option_map (λ x. x || v) a.shut) (sym (or_none (stops_at id e told)));
     }
 
 -- ---- calls of a device beside what its stream says
 
-pub exchange_same : (id : ℕ) (s : Session) (a : Seen) → Exchange id s s a a []
+pub exchange_same : (id : ℕ) (s : Session) (a : Seen) → Exchange id s s a a
 exchange_same id s a = exchange_none id s a a (Consumes-nil a.left) (Appends-nil a.had) refl refl refl refl
 
 pub still : (v : Bool) (o p : Option Bool) → p ≡ option_map (λ x. x || v) o → v ≡ false → p ≡ o
@@ -222,13 +215,13 @@ none_pushed r bytes a b p n = subst (λ (k : ℕ). Appends a.had b.had (take k b
 
 -- nothing came
 pub pulled_none : (id : ℕ) (s : Session) (r : Pulled) (buffer : List ℕ) (a b : Seen) → IsPulled r buffer a b → pulled_count r ≡ 0 → is_end r ≡ false → is_pull_failure r ≡ false →
-    Exchange id s s a b []
+    Exchange id s s a b
 pulled_none id s r buffer a b p n more well =
     exchange_none id s a b (none_pulled r buffer a b p n) (same_appends a.had b.had p.had) (still (is_end r) a.over b.over p.over more) p.ended
     (still (is_pull_failure r) a.failed b.failed p.failed well) p.shut
 
 -- nothing was taken
-pub pushed_none : (id : ℕ) (s : Session) (r : Pushed) (bytes : List ℕ) (a b : Seen) → IsPushed r bytes a b → pushed_count r ≡ 0 → is_push_failure r ≡ false → Exchange id s s a b []
+pub pushed_none : (id : ℕ) (s : Session) (r : Pushed) (bytes : List ℕ) (a b : Seen) → IsPushed r bytes a b → pushed_count r ≡ 0 → is_push_failure r ≡ false → Exchange id s s a b
 pushed_none id s r bytes a b p n well =
     exchange_none id s a b (same_consumes a.left b.left p.left) (none_pushed r bytes a b p n) p.over p.ended (still (is_push_failure r) a.failed b.failed p.failed well) p.shut
 
@@ -237,7 +230,7 @@ take_both n m xs h = grind (arith, common_steps)
 
 -- bytes that waited were pushed, and are taken out
 pub pushed_some : (id n : ℕ) (told : Reply) (s t : Session) (bytes ring : List ℕ) (a b : Seen) → IsPushed (pushed.Took n) bytes a b → bytes ≡ take (length bytes) ring →
-    Gives in_turn s (event.Call (call.Read id n)) told t → bytes_of told ≡ take n ring → is_read_end told ≡ false → is_refusal told ≡ false → Exchange id s t a b []
+    Gives in_turn s (event.Call (call.Read id n)) told t → bytes_of told ≡ take n ring → is_read_end told ≡ false → is_refusal told ≡ false → Exchange id s t a b
 pushed_some id n told s t bytes ring a b p first g gave going granted =
     let same : take n bytes ≡ bytes_of told = ap (take n) first ∙ take_both n (length bytes) ring p.within ∙ sym gave in
     let i = same_id id in
@@ -253,7 +246,7 @@ pushed_some id n told s t bytes ring a b p first g gave going granted =
 
 -- a stream of which no byte waits said nothing of its end
 pub silent : (id n : ℕ) (told : Reply) (s t : Session) (a b : Seen) → b.left ≡ a.left → b.had ≡ a.had → b.over ≡ a.over → b.ended ≡ a.ended → b.failed ≡ a.failed → b.shut ≡ option_map (λ x. x || is_refusal told) a.shut →
-    Gives in_turn s (event.Call (call.Read id n)) told t → bytes_of told ≡ [] → (is_read_end told ≡ true → ⊥) → Exchange id s t a b []
+    Gives in_turn s (event.Call (call.Read id n)) told t → bytes_of told ≡ [] → (is_read_end told ≡ true → ⊥) → Exchange id s t a b
 silent id n told s t a b left had over ended failed shut g gave going =
     let i = same_id id in
     let no : is_read_end told ≡ false = not_true (is_read_end told) going in
@@ -273,7 +266,7 @@ end_granted told h = cc
 
 -- the stream's end was read, and its device ended
 pub ended : (id n : ℕ) (told : Reply) (s t : Session) (a b : Seen) → IsEnded a b →
-    Gives in_turn s (event.Call (call.Read id n)) told t → bytes_of told ≡ [] → is_read_end told ≡ true → Exchange id s t a b []
+    Gives in_turn s (event.Call (call.Read id n)) told t → bytes_of told ≡ [] → is_read_end told ≡ true → Exchange id s t a b
 ended id n told s t a b p g gave over =
     let i = same_id id in
     exchange_one id (event.Call (call.Read id n)) told s t a b false g i
@@ -288,7 +281,7 @@ ended id n told s t a b p g gave over =
 
 -- the device failed at a call that moved nothing: the stream was reset, and the device shut
 reset_shut : (id : ℕ) (told : Reply) (s t : Session) (a b c : Seen) → Consumes a.left b.left [] → Appends a.had b.had [] → b.over ≡ a.over → b.ended ≡ a.ended →
-    b.failed ≡ option_map (λ x. x || true) a.failed → b.shut ≡ a.shut → Gives in_turn s (event.Call (call.Reset id)) told t → IsShut b c → Exchange id s t a c []
+    b.failed ≡ option_map (λ x. x || true) a.failed → b.shut ≡ a.shut → Gives in_turn s (event.Call (call.Reset id)) told t → IsShut b c → Exchange id s t a c
 reset_shut id told s t a b c left had over ended failed shut g q =
     exchange_one id (event.Call (call.Reset id)) told s t a c true g (same_id id)
     (subst (λ (o : Option (List ℕ)). Consumes a.left o []) (sym q.left) left)
@@ -301,7 +294,7 @@ reset_shut id told s t a b c left had over ended failed shut g q =
     (rw (same_id id) (q.shut ∙ ap (option_map (λ x. true)) shut ∙ or_true a.shut))
 
 -- the device had no more, and the stream was finished
-pub finished : (id : ℕ) (told : Reply) (s t : Session) (buffer : List ℕ) (a b : Seen) → IsPulled pulled.Ended buffer a b → Gives in_turn s (event.Call (call.Finish id)) told t → Exchange id s t a b []
+pub finished : (id : ℕ) (told : Reply) (s t : Session) (buffer : List ℕ) (a b : Seen) → IsPulled pulled.Ended buffer a b → Gives in_turn s (event.Call (call.Finish id)) told t → Exchange id s t a b
 finished id told s t buffer a b p g =
     exchange_one id (event.Call (call.Finish id)) told s t a b false g (same_id id)
     p.gave
@@ -313,24 +306,9 @@ finished id told s t buffer a b p g =
     refl
     (p.shut ∙ or_same a.shut)
 
--- bytes came, and the stream took them
-pub pulled_some : (id n : ℕ) (told : Reply) (s t : Session) (buffer bytes : List ℕ) (a b : Seen) → IsPulled (pulled.Gave n) buffer a b → bytes ≡ take n buffer →
-    Gives in_turn s (event.Call (call.Write id bytes)) told t → take (took_count told) bytes ≡ bytes → is_refusal told ≡ false → Exchange id s t a b []
-pulled_some id n told s t buffer bytes a b p same g all granted =
-    let i = same_id id in
-    exchange_one id (event.Call (call.Write id bytes)) told s t a b false g i
-    (rw i (subst (Consumes a.left b.left) (sym same ∙ sym all ∙ sym (append-nil (take (took_count told) bytes))) p.gave))
-    (same_appends a.had b.had p.had)
-    (λ h. cc)
-    p.over
-    (p.ended ∙ or_same a.ended)
-    p.failed
-    refl
-    (rw (i, granted) (p.shut ∙ or_same a.shut))
-
 -- a write that took nothing, beside a device that moved nothing
 pub stopped : (id : ℕ) (told : Reply) (s t : Session) (a b : Seen) → b.left ≡ a.left → b.had ≡ a.had → b.over ≡ a.over → b.ended ≡ a.ended → b.failed ≡ a.failed → b.shut ≡ option_map (λ x. x || is_refusal told) a.shut →
-    Gives in_turn s (event.Call (call.Write id [])) told t → Exchange id s t a b []
+    Gives in_turn s (event.Call (call.Write id [])) told t → Exchange id s t a b
 stopped id told s t a b left had over kept failed shut g =
     let i = same_id id in
     let none : take {A = ℕ} (took_count told) [] ≡ [] = grind (arith, common_steps) in
@@ -344,55 +322,17 @@ stopped id told s t a b left had over kept failed shut g =
     refl
     (rw i shut)
 
-some_bytes : (xs : List ℕ) → 0 < length xs → has_bytes xs ≡ true
+pub some_bytes : (xs : List ℕ) → 0 < length xs → has_bytes xs ≡ true
 some_bytes [] h = grind (arith, common_steps)
 some_bytes (x ∷ xs) h = refl
 
--- bytes came for which there was no memory: the stream is reset, and its device shut
-pub bytes_lost : (id n : ℕ) (told last : Reply) (s t u : Session) (buffer bytes : List ℕ) (a b c : Seen) → IsPulled (pulled.Gave n) buffer a b →
-    Gives in_turn s (event.Call (call.Write id bytes)) told t → took_count told ≡ 0 → is_memory_refusal told ≡ true → 0 < length bytes → bytes ≡ take n buffer →
-    Gives in_turn t (event.Call (call.Reset id)) last u → IsShut b c → Exchange id s u a c (take n buffer)
-bytes_lost id n told last s t u buffer bytes a b c p g none lacks some same r q =
-    let i = same_id id in record {
-      events = (event.Call (call.Write id bytes), told) ∷ (event.Call (call.Reset id), last) ∷ [];
-      happen = (t, g, (u, r, refl));
-      own = rw i refl;
-      to_peer = rw (i, none) (subst (λ (o : Option (List ℕ)). Consumes a.left o (take n buffer)) (sym q.left) p.gave);
-      from_peer = subst (λ (o : Option (List ℕ)). Appends a.had o []) (sym q.had) (same_appends a.had b.had p.had);
-      whole = λ h. cc;
-      over = q.over ∙ p.over;
-      ended = q.ended ∙ p.ended ∙ or_same a.ended;
-      fails = false;
-      failed = q.failed ∙ p.failed;
-      reset = rw i (sym (ap has_bytes (sym same) ∙ some_bytes bytes some));
-      cause = λ h. rw (i, lacks) refl;
-      shut = rw i (q.shut ∙ ap (option_map (λ x. true)) p.shut ∙ or_true a.shut ∙ ap (λ (v : Bool). option_map (λ x. x || v) a.shut) (sym (or_second (is_refusal told) true refl)));
-    }
-
 -- the device failed at a call that moved nothing: the stream is reset, and the device shut
 pub pull_failed : (id : ℕ) (told : Reply) (s t : Session) (buffer : List ℕ) (a b c : Seen) → IsPulled pulled.Failed buffer a b →
-    Gives in_turn s (event.Call (call.Reset id)) told t → IsShut b c → Exchange id s t a c []
+    Gives in_turn s (event.Call (call.Reset id)) told t → IsShut b c → Exchange id s t a c
 pull_failed id told s t buffer a b c p g q =
     reset_shut id told s t a b c (none_pulled pulled.Failed buffer a b p refl) (same_appends a.had b.had p.had) (still false a.over b.over p.over refl) p.ended p.failed p.shut g q
 
 pub push_failed : (id : ℕ) (told : Reply) (s t : Session) (bytes : List ℕ) (a b c : Seen) → IsPushed pushed.Failed bytes a b →
-    Gives in_turn s (event.Call (call.Reset id)) told t → IsShut b c → Exchange id s t a c []
+    Gives in_turn s (event.Call (call.Reset id)) told t → IsShut b c → Exchange id s t a c
 push_failed id told s t bytes a b c p g q =
     reset_shut id told s t a b c (same_consumes a.left b.left p.left) (none_pushed pushed.Failed bytes a b p refl) p.over p.ended p.failed p.shut g q
-
--- ---- exchanges that may lose bytes
-
-pub once : (id : ℕ) (s t : Session) (a b : Seen) (more : Bool) → Exchange id s t a b [] → ExchangesOnce id s t a b more
-once id s t a b more x = ([], x, λ h. refl)
-
-pub loses : (id : ℕ) (s t : Session) (a b : Seen) (lost : List ℕ) → Exchange id s t a b lost → ExchangesOnce id s t a b false
-loses id s t a b lost x = (lost, x, λ h. cc)
-
-pub any : (id : ℕ) (s t : Session) (a b : Seen) (more : Bool) → ExchangesOnce id s t a b more → Exchanges id s t a b
-any id s t a b more x = (x.0, x.1)
-
-pub none_lost : (id : ℕ) (s t : Session) (a b : Seen) (more : Bool) → ExchangesOnce id s t a b more → more ≡ true → Exchange id s t a b []
-none_lost id s t a b more x m = subst (λ (lost : List ℕ). Exchange id s t a b lost) (x.2 m) x.1
-
-pub then_any : (id : ℕ) (s t u : Session) (a b c : Seen) → Exchange id s t a b [] → Exchanges id t u b c → Exchanges id s u a c
-then_any id s t u a b c x y = (y.0, exchange_then id s t u a b c y.0 x y.1)

@@ -5,4 +5,6 @@ pub mod Advancing
 pub mod Feeding
 pub mod Listing
 pub mod Trading
+pub mod Serving
+pub mod Blocks
 pub mod Running

@@ -8,6 +8,7 @@ use Rattle.ymx_model.specs.declared.types.Event.TheVariants as event
 use Rattle.ymx_engine.specs.Events.{is_on, taken_at, taken, given_at, given, ends_at, has_end, finishes_at, has_finish, resets_at, has_reset, stops_at, has_stop, opens_with, has_open_with}
 use Rattle.ymx_engine.specs.Wires.{emitted_at, emitted, fed_at, fed, is_of_read, is_of_flush, has_feed_end, OffersFront, FeedsFront}
 use Rattle.ymx_engine.specs.Passes.{is_of_pass}
+use Rattle.ymx_engine.specs.Serves.{is_of_turn}
 use Rattle.ymx_engine.proofs.Advancing.{both, or_neither, IsQuiet}
 
 -- ---- lists that leave the wire alone
@@ -167,3 +168,29 @@ passed_at id other e told h k = (refl, refl, refl, refl, refl, refl)
 pub others_quiet_passed : (id other : ℕ) (es : List (Event × Reply)) → list_all (λ e. is_of_pass id e.0) es ≡ true → (other == id) ≡ false → IsQuiet other es
 others_quiet_passed id other [] h k = (refl, refl, refl, refl, refl, refl)
 others_quiet_passed id other (e ∷ es) h k = let two = both (is_of_pass id e.0) (list_all (λ e. is_of_pass id e.0) es) h in quiet_behind other e.0 e.1 es (passed_at id other e.0 e.1 two.0 k) (others_quiet_passed id other es two.1 k)
+
+-- ---- what a turn of a connection does
+
+-- nothing was fed, nobody heard of an end, and no stream was opened with its first bytes
+abbrev pub IsCalm : List (Event × Reply) → Type 0
+IsCalm es = FeedsNone es × (has_feed_end es ≡ false) × (has_open_with es ≡ false)
+
+turn_calm_at : (id : ℕ) (e : Event) (told : Reply) (es : List (Event × Reply)) → is_of_turn id e ≡ true → IsCalm es → IsCalm ((e, told) ∷ es)
+turn_calm_at id (event.Call c) told es h x = (feeds_none_behind (event.Call c) told es refl (λ w. tt) x.0, x.1, ap (λ (v : Bool). v || has_open_with es) (on_plain id (event.Call c) h) ∙ x.2)
+turn_calm_at id (event.Feed bytes) told es h x = let no : ⊥ = cc in absurd no
+turn_calm_at id event.FeedEnd told es h x = let no : ⊥ = cc in absurd no
+turn_calm_at id (event.Emit room) told es h x = (feeds_none_behind (event.Emit room) told es refl (λ w. tt) x.0, x.1, x.2)
+
+pub turn_calm : (id : ℕ) (es : List (Event × Reply)) → list_all (λ e. is_of_turn id e.0) es ≡ true → IsCalm es
+turn_calm id [] h = ((refl, λ waits. tt), refl, refl)
+turn_calm id (e ∷ es) h = let two = both (is_of_turn id e.0) (list_all (λ e. is_of_turn id e.0) es) h in turn_calm_at id e.0 e.1 es two.0 (turn_calm id es two.1)
+
+turned_at : (id other : ℕ) (e : Event) (told : Reply) → is_of_turn id e ≡ true → (other == id) ≡ false → QuietAt other e told
+turned_at id other (event.Call c) told h k = quiet_at id other (event.Call c) told h k
+turned_at id other (event.Feed bytes) told h k = (refl, refl, refl, refl, refl, refl)
+turned_at id other event.FeedEnd told h k = (refl, refl, refl, refl, refl, refl)
+turned_at id other (event.Emit room) told h k = (refl, refl, refl, refl, refl, refl)
+
+pub others_quiet_turned : (id other : ℕ) (es : List (Event × Reply)) → list_all (λ e. is_of_turn id e.0) es ≡ true → (other == id) ≡ false → IsQuiet other es
+others_quiet_turned id other [] h k = (refl, refl, refl, refl, refl, refl)
+others_quiet_turned id other (e ∷ es) h k = let two = both (is_of_turn id e.0) (list_all (λ e. is_of_turn id e.0) es) h in quiet_behind other e.0 e.1 es (turned_at id other e.0 e.1 two.0 k) (others_quiet_turned id other es two.1 k)

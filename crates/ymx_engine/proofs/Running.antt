@@ -9,7 +9,7 @@ use Rattle.ymx_machine.specs.shared.Events.{Call, Reply}
 use Rattle.ymx_model.specs.session.Events.{Event}
 use Rattle.ymx_engine.specs.Devices.{Seen, IsEnded, IsShut}
 use Rattle.ymx_engine.specs.Engines.{Engine, KeepsWire}
-use Rattle.ymx_engine.specs.Events.{Happen, opens_with}
+use Rattle.ymx_engine.specs.Events.{Happen, opens_with, has_open_with}
 use Rattle.ymx_machine.specs.declared.types.Call.TheVariants as call
 use Rattle.ymx_machine.specs.declared.types.Reply.TheVariants as reply
 use Rattle.ymx_model.specs.declared.types.Event.TheVariants as event
@@ -19,7 +19,7 @@ use Rattle.ymx_model.specs.session.Histories.{Gives}
 use Rattle.ymx_engine.specs.Passes.{PassesOn}
 use Rattle.ymx_engine.specs.Refusals.{OpensNone, OffersNone, GivesUp}
 use Rattle.ymx_machine.specs.declared.types.CallFault.{CallFault}
-use Rattle.ymx_engine.specs.Exchanges.{Exchanges}
+use Rattle.ymx_engine.specs.Serves.{Exchanges}
 use Rattle.ymx_engine.specs.Wires.{fed, emitted, is_of_read, is_of_flush, has_feed_end, FeedsFront, ReadsWire, FlushesWire, HandlesIn}
 use Rattle.ymx_engine.proofs.Advancing.{quiet, rest_of, IsQuiet, fed_then, fronts_then, fronts_more}
 use Rattle.ymx_engine.proofs.Carrying.{feed_end_then, reads_handled, emitted_then, waits_on}
@@ -27,8 +27,8 @@ use Rattle.ymx_engine.proofs.Exchanging.{happen_then, or_same, or_true, or_twice
 use Rattle.ymx_engine.specs.Tunnels.{Tunnel, look, lines_of, Joins, DropsOut}
 use Rattle.ymx_engine.specs.Lines.{IsIdle, Life, opens_at}
 use Rattle.ymx_engine.specs.Runs.{Runs}
-use Rattle.ymx_engine.proofs.Listing.{FeedsNone, flush_feeds, read_emits, LeavesWire, leaves_wire, others_quiet, PassEmits, pass_emits, other_id, others_quiet_passed, plain_list, plain_then, read_plain, flush_plain}
-use Rattle.ymx_engine.proofs.Trading.{or_swap, life_quiet, life_then, life_trades, life_leaves, life_joins, life_idle, trades_once, trades_passed}
+use Rattle.ymx_engine.proofs.Listing.{FeedsNone, flush_feeds, read_emits, LeavesWire, leaves_wire, others_quiet, PassEmits, pass_emits, other_id, others_quiet_passed, IsCalm, turn_calm, others_quiet_turned, plain_list, plain_then, read_plain, flush_plain}
+use Rattle.ymx_engine.proofs.Trading.{or_swap, life_quiet, life_then, life_trades, life_leaves, life_joins, life_idle, trades_passed}
 
 -- nothing happened
 pub runs_same : (a : Tunnel) → Runs a a
@@ -165,24 +165,25 @@ served_line id other a b d e es true t at now moved own =
 served_line id other a b d e es false t at now moved own =
     subst (λ (v : Option Seen). Life other es (look other a) v) (sym now) (life_quiet other es (look other a) (own (not_eq_ids id other t)))
 
--- calls alone happened, and the wire was left alone
-pub runs_called : (a b : Tunnel) (es : List (Event × Reply)) → Happen es a.engine.session b.engine.session → LeavesWire es → KeepsWire a.engine b.engine → b.wire ≡ a.wire → ((id : ℕ) → Life id es (look id a.lines) (look id b.lines)) → Runs a b
-runs_called a b es h leaves keeps wire lines = record {
+-- nothing was fed, what was emitted waits, and the wire was left alone
+runs_moved : (a b : Tunnel) (es : List (Event × Reply)) → Happen es a.engine.session b.engine.session → FeedsNone es → has_feed_end es ≡ false → has_open_with es ≡ false →
+    a.engine.outgoing ++ emitted es ≡ b.engine.outgoing → b.engine.incoming ≡ a.engine.incoming → b.wire ≡ a.wire → ((id : ℕ) → Life id es (look id a.lines) (look id b.lines)) → Runs a b
+runs_moved a b es h feeds heard plain to_wire incoming wire lines = record {
   events = es;
   happen = h;
-  plain = leaves.3;
+  plain = plain;
   came = [];
   gave = same_consumes a.wire.left b.wire.left (ap (λ (s : Seen). s.left) wire);
-  fronts = leaves.0.1 (a.engine.incoming ++ []);
-  from_wire = append-nil a.engine.incoming ∙ sym keeps.incoming ∙ ap (λ (v : List ℕ). v ++ b.engine.incoming) (sym leaves.0.0);
+  fronts = feeds.1 (a.engine.incoming ++ []);
+  from_wire = append-nil a.engine.incoming ∙ sym incoming ∙ ap (λ (v : List ℕ). v ++ b.engine.incoming) (sym feeds.0);
   sent = [];
   took = same_appends a.wire.had b.wire.had (ap (λ (s : Seen). s.had) wire);
-  to_wire = ap (λ (v : List ℕ). a.engine.outgoing ++ v) leaves.1 ∙ append-nil a.engine.outgoing ∙ sym keeps.outgoing;
+  to_wire = to_wire;
   said_end = false;
   over = ap (λ (s : Seen). s.over) wire ∙ or_same a.wire.over;
   fails = false;
   failed = ap (λ (s : Seen). s.failed) wire ∙ or_same a.wire.failed;
-  lost = leaves.2;
+  lost = heard;
   ends = false;
   ended = ap (λ (s : Seen). s.ended) wire ∙ or_same a.wire.ended;
   shuts = false;
@@ -190,12 +191,24 @@ runs_called a b es h leaves keeps wire lines = record {
   lines = lines;
 }
 
+-- calls alone happened, and the wire was left alone
+pub runs_called : (a b : Tunnel) (es : List (Event × Reply)) → Happen es a.engine.session b.engine.session → LeavesWire es → KeepsWire a.engine b.engine → b.wire ≡ a.wire → ((id : ℕ) → Life id es (look id a.lines) (look id b.lines)) → Runs a b
+runs_called a b es h leaves keeps wire lines =
+    runs_moved a b es h leaves.0 leaves.2 leaves.3 (ap (λ (v : List ℕ). a.engine.outgoing ++ v) leaves.1 ∙ append-nil a.engine.outgoing ∙ sym keeps.outgoing) keeps.incoming wire lines
+
 -- a stream and its own device had a turn
-pub runs_served : (a b : Tunnel) (id : ℕ) (d e : Seen) → KeepsWire a.engine b.engine → Exchanges id a.engine.session b.engine.session d e → b.wire ≡ a.wire → look id a.lines ≡ Some d →
+pub runs_served : (a b : Tunnel) (id : ℕ) (d e : Seen) → Exchanges id a.engine.session b.engine.session a.engine.outgoing b.engine.outgoing d e → b.engine.incoming ≡ a.engine.incoming → b.wire ≡ a.wire → look id a.lines ≡ Some d →
     ((other : ℕ) → look other b.lines ≡ cond (nat_eq id other) (Some e) (look other a.lines)) → Runs a b
-runs_served a b id d e keeps (lost, x) wire at now =
-    runs_called a b x.events x.happen (leaves_wire id x.events x.own) keeps wire
-    (λ other. served_line id other a.lines b.lines d e x.events (nat_eq id other) refl at (now other) (life_trades id x.events d e (trades_once id _ _ d e lost x)) (others_quiet id other x.events x.own))
+runs_served a b id d e x incoming wire at now =
+    let calm : IsCalm x.events = turn_calm id x.events x.own in
+    runs_moved a b x.events x.happen calm.0 calm.1 calm.2 x.to_wire incoming wire
+    (λ other. served_line id other a.lines b.lines d e x.events (nat_eq id other) refl at (now other) (life_trades id x.events d e x.trades) (others_quiet_turned id other x.events x.own))
+
+-- and just these events happened in it
+pub served_run : (a b : Tunnel) (id : ℕ) (d e : Seen) → (x : Exchanges id a.engine.session b.engine.session a.engine.outgoing b.engine.outgoing d e) → b.engine.incoming ≡ a.engine.incoming → b.wire ≡ a.wire → look id a.lines ≡ Some d →
+    ((other : ℕ) → look other b.lines ≡ cond (nat_eq id other) (Some e) (look other a.lines)) → (r : Runs a b) × (x.events ≡ r.events)
+unfolding runs_served runs_moved
+served_run a b id d e x incoming wire at now = (runs_served a b id d e x incoming wire at now, refl)
 
 -- payload was passed to a stream's own device
 pub runs_passed : (a b : Tunnel) (id : ℕ) (d e : Seen) (n : ℕ) → PassesOn id a.engine b.engine d e n → b.wire ≡ a.wire → look id a.lines ≡ Some d →

@@ -85,12 +85,12 @@ trades_then id es fs a b c x y = record {
   shut = raised (has_stop id es) (has_stop id fs) _ _ _ _ (stop_then id es fs) x.shut y.shut;
 }
 
--- one turn
-pub trades_once : (id : ℕ) (s t : Session) (a b : Seen) (lost : List ℕ) → (x : Exchange id s t a b lost) → Trades id x.events a b
-trades_once id s t a b lost x =
-    let all : taken id x.events ++ lost ≡ (taken id x.events ++ lost) ++ [] = sym (append-nil (taken id x.events ++ lost)) in
+-- calls on the stream alone
+pub trades_once : (id : ℕ) (s t : Session) (a b : Seen) → (x : Exchange id s t a b) → Trades id x.events a b
+trades_once id s t a b x =
+    let all : taken id x.events ≡ (taken id x.events ++ []) ++ [] = sym (append-nil (taken id x.events)) ∙ sym (append-nil (taken id x.events ++ [])) in
     record {
-      pieces = (taken id x.events, lost) ∷ [];
+      pieces = (taken id x.events, []) ∷ [];
       kept = sym (append-nil (taken id x.events));
       to_peer = subst (Consumes a.left b.left) all x.to_peer;
       from_peer = x.from_peer;
@@ -99,8 +99,8 @@ trades_once id s t a b lost x =
       ended = x.ended;
       fails = x.fails;
       failed = x.failed;
-      reset = x.reset ∙ ap (λ (v : Bool). x.fails || v) (sym (or_none (has_bytes lost)));
-      cause = λ h. x.cause (sym (or_none (has_bytes lost)) ∙ h);
+      reset = x.reset ∙ sym (or_none x.fails);
+      cause = λ h. let no : ⊥ = cc in absurd no;
       shut = x.shut;
     }
 

@@ -7,4 +7,5 @@ pub mod Wires
 pub mod Passes
 pub mod Tunnels
 pub mod Lines
+pub mod Serves
 pub mod Runs

@@ -1,12 +1,14 @@
 //! Memory for bytes on their way to the peer or from it.
 
-ghost use Rattle.std.specs.Prelude.{ℕ, List, ◌≡◌, ◌≤◌, ◌<◌, ◌⊎◌, [], length, take, drop, true, false, IfOk, IsSome};
+ghost use Rattle.std.specs.Prelude.{ℕ, List, ◌≡◌, ◌≤◌, ◌<◌, ◌+◌, ◌++◌, ◌⊎◌, [], length, take, drop, true, false, IfOk, IsSome};
 ghost use Rattle.ymx_model.specs.declared.types.Event.TheVariants as event;
 ghost use Rattle.ymx_machine.specs.declared.types.Reply.TheVariants as reply;
 ghost use Rattle.ymx_model.specs.session.Emissions.{in_turn};
 ghost use Rattle.ymx_model.specs.session.Feeds.{is_stuck};
 ghost use Rattle.ymx_model.specs.session.Histories.{Gives};
 ghost use Rattle.ymx_session.specs.Passing.{passing, FeedsSome};
+ghost use Rattle.ymx_session.specs.Streams.{room_of};
+ghost use Rattle.ymx_session.specs.Through.{WritesThrough};
 ghost use Rattle.ymx_engine.specs.Devices.{IsPulled, pulled_count};
 
 use crate::device::{Device, Pulled};
@@ -69,6 +71,45 @@ impl Block {
     {
         self.at = 0;
         self.end = session.emit(self.memory.as_mut_slice());
+    }
+
+    /// Where no byte waits, all of the memory is room again.
+    pub(crate) fn restart(&mut self)
+        ensures { self.new ≡ self.old }
+    {
+        if self.at == self.end {
+            self.at = 0;
+            self.end = 0;
+        }
+    }
+
+    /// How many bytes have room behind those that wait.
+    pub(crate) fn room(&self) -> usize {
+        self.memory.len() - self.end
+    }
+
+    /// An emission of the session waits behind what waits.
+    pub(crate) fn emit_behind(&mut self, session: &mut Session)
+        ensures { (room : ℕ) × (out : List ℕ) × Gives in_turn session.old (event.Emit room) (reply.Emitted out) session.new × (self.new ≡ self.old ++ out) }
+    {
+        let count = session.emit(&mut self.memory[self.end..]);
+        self.end += count;
+    }
+
+    /// These bytes are written to a stream, and the frame that carries them waits behind what waits, if nothing else is to
+    /// go first. Whether it does.
+    pub(crate) fn write_through(&mut self, session: &mut Session, id: u32, bytes: &[u8]) -> bool
+        ensures went { result ≡ true → (size : ℕ) × (out : List ℕ) × WritesThrough id bytes.now size out session.old session.new × (self.new ≡ self.old ++ out) }
+        ensures room { result ≡ true → room_of id session.new + length bytes.now ≡ room_of id session.old }
+        ensures stays { result ≡ false → (session.new ≡ session.old) × (self.new ≡ self.old) }
+    {
+        match session.write_through(id, bytes, &mut self.memory[self.end..]) {
+            Some(count) => {
+                self.end += count;
+                true
+            }
+            None => false,
+        }
     }
 
     /// What a device gives waits.

@@ -11,8 +11,12 @@ use ymx_session::Touched;
 /// How many bytes are read from the peer, or from a device, at once.
 pub(crate) const BLOCK: usize = 131_072;
 
-/// How many bytes are written to the peer at once: eight whole frames of 16,384 bytes, so that none is cut.
-const FRAMES: usize = 131_168;
+/// Eight whole frames of 16,384 bytes. Once so many bytes wait for the peer, no connection is read.
+pub(crate) const FRAMES: usize = 131_168;
+
+/// How many bytes are written to the peer at once: behind eight frames there is room for the eight that a read of a
+/// connection fills, so that none is cut.
+const OUTGOING: usize = 2 * FRAMES;
 
 /// What a new engine has beside its session: no connections, and the memory for bytes under way.
 ///
@@ -32,7 +36,7 @@ impl Buffers {
         ensures { IfOk result (λ memory. (memory.outgoing ≡ []) × (memory.incoming ≡ [])) }
     {
         Ok(Buffers {
-            outgoing: Block::new(alloc, FRAMES)?,
+            outgoing: Block::new(alloc, OUTGOING)?,
             incoming: Block::new(alloc, BLOCK)?,
             buffer: ymx_memory::zeros(alloc, BLOCK)?,
             touched: Touched::new(alloc)?,

@@ -13,13 +13,13 @@ ghost use Rattle.ymx_session.specs.Passing.{passing};
 ghost use Rattle.ymx_session.specs.Replies.{pinged_or, ponged_or};
 ghost use Rattle.ymx_engine.specs.Devices.{is_end, is_pull_failure, is_push_failure};
 ghost use Rattle.ymx_engine.specs.Engines.{KeepsWire, IsFedOrStuck, IsFlushed};
-ghost use Rattle.ymx_engine.specs.Exchanges.{Exchanges};
+ghost use Rattle.ymx_engine.specs.Serves.{Exchanges};
 ghost use Rattle.ymx_engine.specs.Passes.{IsPayload, PassesOn};
 ghost use Rattle.ymx_engine.specs.Refusals.{GivesUp, OpensNone, OffersNone};
 ghost use Rattle.ymx_engine.specs.Wires.{ReadsWire, ReadsWireSo, FlushesWire, FlushesWireSo, HandlesIn, HandlesOut, TakesIn, GivesOut};
 
 use crate::block::Block;
-use crate::buffers::{BLOCK, Buffers};
+use crate::buffers::{BLOCK, Buffers, FRAMES};
 use crate::connection::Connection;
 use crate::connections::Connections;
 use crate::device::{Device, Pulled, Pushed};
@@ -254,20 +254,22 @@ impl Engine {
         self.connections.queued_count()
     }
 
-    /// One turn of a connection, with its device: at most four writes to it, and then, unless bytes wait for the wire,
-    /// at most two reads from it. It makes at most 13 calls of the device.
+    /// One turn of a connection, with its device: at most four writes to it, and then at most two reads from it, unless
+    /// bytes wait that the wire doesn't take, or many wait. It makes at most 13 calls of the device.
     ///
     /// What the stream took is what the device gave, and what the device took is what the stream gave (clause `moved`).
+    /// What is due and what the device gave waits for the wire as far as there is room, so that bytes of the device are
+    /// copied once; the rest waits in the stream's ring.
     pub fn serve<D: Device>(&mut self, id: u32, device: &mut D)
         // What the stream took is what the device gave, and what the device took is what the stream gave.
-        ensures moved { Exchanges id self.old.session self.new.session (D.seen device.old) (D.seen device.new) }
-        // A turn is short, and is no turn of the wire.
+        ensures moved { Exchanges id self.old.session self.new.session self.old.outgoing self.new.outgoing (D.seen device.old) (D.seen device.new) }
+        // A turn is short, and takes nothing of what the wire gave.
         ensures calls { (D.seen device.new).calls ≤ (D.seen device.old).calls + 13 }
-        ensures wire { KeepsWire self.old self.new }
+        ensures incoming { self.new.incoming ≡ self.old.incoming }
     {
         if let Some(found) = self.connections.get(id) {
             let mut connection = found;
-            let may_pull = self.is_wire_over || self.outgoing.waiting().is_empty();
+            let may_pull = self.may_take_more();
             let buffer = self.buffer.as_mut_slice();
             let more = serve(
                 &mut self.session,
@@ -275,6 +277,7 @@ impl Engine {
                 &mut connection,
                 device,
                 buffer,
+                &mut self.outgoing,
                 may_pull,
             );
             self.connections.set(id, connection);
@@ -284,6 +287,12 @@ impl Engine {
                 self.connections.hold(id);
             }
         }
+    }
+
+    /// Whether connections may be read: not while bytes wait that the wire doesn't take, nor while many wait.
+    fn may_take_more(&self) -> bool {
+        let waiting = self.outgoing.waiting().len();
+        self.is_wire_over || waiting == 0 || (self.can_push_wire && waiting < FRAMES)
     }
 
     // ---- the wire

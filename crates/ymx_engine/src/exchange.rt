@@ -8,24 +8,30 @@ ghost use Rattle.ymx_model.specs.session.Emissions.{in_turn};
 ghost use Rattle.ymx_model.specs.session.Histories.{Gives};
 ghost use Rattle.ymx_session.specs.Streams.{waiting, room_of};
 ghost use Rattle.ymx_engine.specs.Devices.{IsShut};
-ghost use Rattle.ymx_engine.specs.Exchanges.{Exchange, Exchanges, ExchangesOnce};
+ghost use Rattle.ymx_engine.specs.Exchanges.{Exchange};
+ghost use Rattle.ymx_engine.specs.Serves.{Exchanges, PutsDue};
 
-use crate::calls::{Silence, ask, finish, is_stopped, reset, take_out, write};
+use crate::block::Block;
+use crate::buffers::FRAMES;
+use crate::calls::{Silence, ask, finish, is_stopped, reset, take_out};
 use crate::connection::{Connection, Flow};
 use crate::device::{Device, Pulled, Pushed};
+use crate::sending::send;
 use ymx_session::Session;
 
 /// One turn of a connection: at most four writes to its device, then, where `may_pull` says so, at most two reads from
-/// it. Whether more may be moved at once. It makes at most 13 calls of the device.
+/// it. What is due and what these give waits behind what waits for the wire. Whether more may be moved at once. It makes at
+/// most 13 calls of the device.
 pub(crate) fn serve<D: Device>(
     session: &mut Session,
     id: u32,
     connection: &mut Connection,
     device: &mut D,
     buffer: &mut [u8],
+    outgoing: &mut Block,
     may_pull: bool,
 ) -> bool
-    ensures moved { Exchanges id session.old session.new (D.seen device.old) (D.seen device.new) }
+    ensures moved { Exchanges id session.old session.new outgoing.old outgoing.new (D.seen device.old) (D.seen device.new) }
     ensures calls { (D.seen device.new).calls ≤ (D.seen device.old).calls + 13 }
 {
     let more = deliver(session, id, connection, device);
@@ -33,7 +39,7 @@ pub(crate) fn serve<D: Device>(
     if !may_pull {
         return more;
     }
-    collect(session, id, connection, device, buffer) || more
+    collect(session, id, connection, device, buffer, outgoing) || more
 }
 
 /// At most four writes to the device, out of the stream's ring. Whether more may be written at once.
@@ -43,7 +49,7 @@ fn deliver<D: Device>(
     connection: &mut Connection,
     device: &mut D,
 ) -> bool
-    ensures moved { Exchange id session.old session.new (D.seen device.old) (D.seen device.new) [] }
+    ensures moved { Exchange id session.old session.new (D.seen device.old) (D.seen device.new) }
     ensures calls { (D.seen device.new).calls ≤ (D.seen device.old).calls + 8 }
 {
     'push: for turn in 0..4u64 {
@@ -64,7 +70,7 @@ fn push_once<D: Device>(
     connection: &mut Connection,
     device: &mut D,
 ) -> bool
-    ensures moved { Exchange id session.old session.new (D.seen device.old) (D.seen device.new) [] }
+    ensures moved { Exchange id session.old session.new (D.seen device.old) (D.seen device.new) }
     ensures calls { (D.seen device.new).calls ≤ (D.seen device.old).calls + 2 }
 {
     let bytes = session.unread(id);
@@ -98,7 +104,7 @@ fn hear_silence<D: Device>(
     device: &mut D,
 )
     requires { waiting id session.old ≡ [] }
-    ensures moved { Exchange id session.old session.new (D.seen device.old) (D.seen device.new) [] }
+    ensures moved { Exchange id session.old session.new (D.seen device.old) (D.seen device.new) }
     ensures calls { (D.seen device.new).calls ≤ (D.seen device.old).calls + 1 }
 {
     match ask(session, id) {
@@ -116,7 +122,7 @@ fn hear_silence<D: Device>(
 
 /// Nothing more goes to the device: it is shut once its stream takes nothing any more.
 fn hear_stop<D: Device>(session: &mut Session, id: u32, connection: &mut Connection, device: &mut D)
-    ensures moved { Exchange id session.old session.new (D.seen device.old) (D.seen device.new) [] }
+    ensures moved { Exchange id session.old session.new (D.seen device.old) (D.seen device.new) }
     ensures calls { (D.seen device.new).calls ≤ (D.seen device.old).calls + 1 }
 {
     if !connection.is_half_over() {
@@ -150,42 +156,63 @@ fn collect<D: Device>(
     connection: &mut Connection,
     device: &mut D,
     buffer: &mut [u8],
+    outgoing: &mut Block,
 ) -> bool
-    ensures moved { Exchanges id session.old session.new (D.seen device.old) (D.seen device.new) }
+    ensures moved { Exchanges id session.old session.new outgoing.old outgoing.new (D.seen device.old) (D.seen device.new) }
     ensures calls { (D.seen device.new).calls ≤ (D.seen device.old).calls + 4 }
 {
     if !connection.may_pull() {
         return false;
     }
-    if !pull_once(session, id, connection, device, buffer) {
+    if !pull_once(session, id, connection, device, buffer, outgoing) {
         return false;
     }
     if !connection.may_pull() {
         return false;
     }
-    pull_once(session, id, connection, device, buffer)
+    pull_once(session, id, connection, device, buffer, outgoing)
 }
 
-/// Reads from the device once, as many bytes as the stream takes. Whether more may be read: not once bytes were lost.
+/// Reads from the device once, as many bytes as the stream takes. What is due goes first, so that these bytes may go
+/// straight behind it. Whether more may be read: not once bytes were lost.
 fn pull_once<D: Device>(
     session: &mut Session,
     id: u32,
     connection: &mut Connection,
     device: &mut D,
     buffer: &mut [u8],
+    outgoing: &mut Block,
 ) -> bool
-    ensures moved { ExchangesOnce id session.old session.new (D.seen device.old) (D.seen device.new) result }
+    ensures moved { Exchanges id session.old session.new outgoing.old outgoing.new (D.seen device.old) (D.seen device.new) }
     ensures calls { (D.seen device.new).calls ≤ (D.seen device.old).calls + 2 }
 {
+    put_due(session, outgoing);
     let room = session.room(id).min(buffer.len());
     if room > 0 {
-        return pull_into(session, id, connection, device, &mut buffer[..room]);
+        return pull_into(
+            session,
+            id,
+            connection,
+            device,
+            &mut buffer[..room],
+            outgoing,
+        );
     }
     if is_stopped(session, id) {
         connection.break_off();
         device.shut();
     }
     false
+}
+
+/// What is due waits behind what waits for the wire, where there is room for whole frames.
+fn put_due(session: &mut Session, outgoing: &mut Block)
+    ensures { PutsDue session.old session.new outgoing.old outgoing.new }
+{
+    outgoing.restart();
+    if outgoing.room() >= FRAMES && session.due() {
+        outgoing.emit_behind(session);
+    }
 }
 
 /// Reads from the device once into this buffer, all of which the stream would take.
@@ -195,9 +222,10 @@ fn pull_into<D: Device>(
     connection: &mut Connection,
     device: &mut D,
     buffer: &mut [u8],
+    outgoing: &mut Block,
 ) -> bool
     requires fits { length buffer.old ≤ room_of id session.old }
-    ensures moved { ExchangesOnce id session.old session.new (D.seen device.old) (D.seen device.new) result }
+    ensures moved { Exchanges id session.old session.new outgoing.old outgoing.new (D.seen device.old) (D.seen device.new) }
     ensures calls { (D.seen device.new).calls ≤ (D.seen device.old).calls + 2 }
 {
     match device.pull(buffer) {
@@ -208,7 +236,7 @@ fn pull_into<D: Device>(
             if count == 0 {
                 return true;
             }
-            if write(session, id, &buffer[..count]) {
+            if send(session, id, &buffer[..count], outgoing) {
                 return true;
             }
             connection.lacked_memory = true;

@@ -14,6 +14,7 @@ mod engine;
 mod exchange;
 mod line;
 mod passing;
+mod sending;
 mod tunnel;
 
 pub use connection::{Connection, Flow};

@@ -1,6 +1,8 @@
 -- The calls of an engine that leave its wire alone, as turns.
-use Rattle.std.proofs.Common.{◌≡◌, ℕ, inl, inr, List, [], ◌∷◌, ◌++◌, length, take, drop, Bool, true, false, ◌&&◌, None, Some, refl, sym, ap, ◌∙◌, subst, arith, append-nil, append_assoc, take-append-drop}
+use Rattle.std.proofs.Common.{◌≡◌, ℕ, inl, inr, List, [], ◌∷◌, ◌++◌, length, take, drop, Bool, true, false, cond, None, Some, refl, sym, ap, ◌∙◌, subst, arith, append-nil, append_assoc, take-append-drop}
+use Rattle.std.specs.Prelude.{nat_eq}
 use Rattle.std.proofs.KnownBytes.{Consumes-nil}
+use Rattle.std.proofs.lemmas.Bool.Decides.{nat_tests}
 use Rattle.std.specs.List.{list_all}
 use Rattle.ymx_machine.specs.shared.Events.{Call}
 use Rattle.ymx_machine.specs.declared.types.Call.TheVariants as call
@@ -14,37 +16,44 @@ use Rattle.ymx_model.specs.session.Emissions.{in_turn}
 use Rattle.ymx_model.specs.session.Histories.{Gives}
 use Rattle.ymx_engine.specs.Devices.{Seen}
 use Rattle.ymx_engine.specs.Engines.{Engine, KeepsWire}
-use Rattle.ymx_engine.specs.Events.{Happen, is_on}
+use Rattle.ymx_engine.specs.Events.{Happen}
 use Rattle.ymx_engine.specs.Passes.{is_of_pass, PassesOn}
 use Rattle.ymx_engine.specs.Wires.{fed_at, fed, OffersFront, FeedsFront, HandlesIn}
 use Rattle.ymx_engine.proofs.Advancing.{drop_front, drop_twice, rest_of}
 use Rattle.ymx_engine.proofs.Exchanging.{or_same}
-use Rattle.ymx_engine.specs.Exchanges.{Exchange}
+use Rattle.ymx_engine.specs.Serves.{Exchanges}
+use Rattle.ymx_engine.specs.Tunnels.{Tunnel, look}
+use Rattle.ymx_engine.proofs.Running.{served_run}
 use Rattle.ymx_engine.specs.Refusals.{GivesUp, OpensNone, OffersNone}
-use Rattle.ymx_joined.specs.Pairs.{is_call, IsCalls, IsTurn, HasCalls, HasFeeds, HasTurns, each_alone}
+use Rattle.ymx_joined.specs.Pairs.{is_call, IsCalls, IsTurn, IsTunnelTurn, HasCalls, HasFeeds, HasTurns, each_alone}
 use Rattle.ymx_joined.proofs.Piping.{both}
 
 calls_of : (es : List (Event × Reply)) (e f : Engine) → KeepsWire e f → Happen es e.session f.session → list_all (λ x. is_call x.0) es ≡ true → HasCalls es e f
 calls_of es e f w h o = λ to from. record { happen = h; own = o; wire = w; same_to = refl; same_from = refl }
 
-of_stream : (id : ℕ) (e : Event) → is_on id e ≡ true → is_call e ≡ true
-of_stream id (event.Call c) h = refl
-of_stream id (event.Feed bytes) h = h
-of_stream id event.FeedEnd h = h
-of_stream id (event.Emit n) h = h
+-- a turn of a connection, at which what is emitted waits
 
-and_both : (a b : Bool) → a ≡ true → b ≡ true → (a && b) ≡ true
-and_both true b h k = k
-and_both false b h k = h
+same_test : (id other : ℕ) → nat_eq id other ≡ nat_eq other id
+same_test id other = grind (arith, nat_tests)
 
-all_of_stream : (id : ℕ) (es : List (Event × Reply)) → list_all (λ e. is_on id e.0) es ≡ true → list_all (λ e. is_call e.0) es ≡ true
-all_of_stream id [] h = refl
-all_of_stream id (e ∷ es) h =
-    let two = both (is_on id e.0) (list_all (λ e. is_on id e.0) es) h in
-    and_both (is_call e.0) (list_all (λ e. is_call e.0) es) (of_stream id e.0 two.0) (all_of_stream id es two.1)
+own_test : (id : ℕ) → nat_eq id id ≡ true
+own_test id = grind (arith, nat_tests)
 
-pub served : (id : ℕ) (e f : Engine) (old new : Seen) (lost : List ℕ) → KeepsWire e f → (x : Exchange id e.session f.session old new lost) → HasCalls x.events e f
-served id e f old new lost w x = calls_of x.events e f w x.happen (all_of_stream id x.events x.own)
+one_line : (b : Bool) (d e : Seen) → cond b (Some e) None ≡ cond b (Some e) (cond b (Some d) None)
+one_line true d e = refl
+one_line false d e = refl
+
+pub served : (id : ℕ) (e f : Engine) (old new : Seen) → (x : Exchanges id e.session f.session e.outgoing f.outgoing old new) → f.incoming ≡ e.incoming → (to from : List ℕ) → IsTurn x.events e f to from to from
+served id e f old new x incoming to from =
+    let wire : Seen = record { left = Some from; had = Some to; over = None; ended = None; failed = None; shut = None; calls = 0 } in
+    let a : Tunnel = record { engine = e; wire = wire; lines = (id, old) ∷ [] } in
+    let b : Tunnel = record { engine = f; wire = wire; lines = (id, new) ∷ [] } in
+    let at : look id a.lines ≡ Some old = rw (own_test id) refl in
+    let now : (other : ℕ) → look other b.lines ≡ cond (nat_eq id other) (Some new) (look other a.lines) =
+    λ other. subst (λ (t : Bool). cond (nat_eq other id) (Some new) None ≡ cond t (Some new) (cond (nat_eq other id) (Some old) None)) (sym (same_test id other)) (one_line (nat_eq other id) old new) in
+    let r = served_run a b id old new x incoming refl at now in
+    let turn : IsTunnelTurn x.events e f to from to from = record { before = a; after = b; runs = r.0; events = r.1; engine = refl; engine_new = refl; left = refl; left_new = refl; had = refl; had_new = refl } in
+    inr (inr (inr turn))
 
 pub called : (c : Call) (told : Reply) (e f : Engine) → KeepsWire e f → Gives in_turn e.session (event.Call c) told f.session → HasCalls ((event.Call c, told) ∷ []) e f
 called c told e f w g = calls_of _ e f w (f.session, g, refl) refl

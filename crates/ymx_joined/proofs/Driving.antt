@@ -11,10 +11,12 @@ use Rattle.ymx_machine.specs.shared.Events.{Reply}
 use Rattle.ymx_model.specs.session.Events.{Event}
 use Rattle.ymx_model.specs.declared.types.Event.TheVariants as event
 use Rattle.ymx_engine.specs.Devices.{Seen}
-use Rattle.ymx_engine.specs.Engines.{Engine, KeepsWire}
+use Rattle.ymx_engine.specs.Engines.{Engine}
 use Rattle.ymx_engine.specs.Events.{taken_at, taken, has_end, finishes_at, has_finish, has_reset}
 use Rattle.ymx_engine.specs.Passes.{is_of_pass, PassesOn}
-use Rattle.ymx_engine.specs.Exchanges.{has_bytes, Exchange, Exchanges}
+use Rattle.ymx_engine.specs.Exchanges.{has_bytes}
+use Rattle.ymx_engine.specs.Lines.{all_of, kept_of, loses, Trades}
+use Rattle.ymx_engine.specs.Serves.{Exchanges}
 use Rattle.ymx_engine.specs.Wires.{is_of_read, is_of_flush, HandlesIn}
 use Rattle.ymx_engine.proofs.Exchanging.{taken_then, given_then, end_then, finish_then, reset_then, or_none, or_same, or_twice, or_cases, same_consumes, whole_before, whole_after}
 use Rattle.ymx_engine.proofs.Advancing.{quiet}
@@ -41,6 +43,12 @@ or_crossed false false false d = refl
 no_bytes_of : (xs : List ℕ) → has_bytes xs ≡ false → xs ≡ []
 no_bytes_of [] h = refl
 no_bytes_of (x ∷ xs) h = cc
+
+pub nothing_lost : (ps : List (List ℕ × List ℕ)) → loses ps ≡ false → all_of ps ≡ kept_of ps
+nothing_lost [] h = refl
+nothing_lost (p ∷ ps) h =
+    let two = or_none_both (has_bytes p.1) (loses ps) h in
+    ap (λ (v : List ℕ). (p.0 ++ v) ++ all_of ps) (no_bytes_of p.1 two.0) ∙ ap (λ (v : List ℕ). v ++ all_of ps) (append-nil p.0) ∙ ap (λ (v : List ℕ). p.0 ++ v) (nothing_lost ps two.1)
 
 -- what a device has told, over two runs of events
 told_then : (a b c : Option Bool) (first second both : Bool) → b ≡ option_map (λ t. t || first) a → c ≡ option_map (λ t. t || second) b → both ≡ (first || second) → c ≡ option_map (λ t. t || both) a
@@ -82,9 +90,9 @@ moves_none id d = record {
   reset = refl;
 }
 
--- one exchange
-pub exchange_moves : (id : ℕ) (e f : Engine) (a b : Seen) (lost : List ℕ) → (x : Exchange id e.session f.session a b lost) → Moves id x.events a b
-exchange_moves id e f a b lost x = record { came = taken id x.events ++ lost; loses = has_bytes lost; gave = x.to_peer; to_peer = λ h. ap (λ (v : List ℕ). taken id x.events ++ v) (no_bytes_of lost h) ∙ append-nil (taken id x.events); from_peer = x.from_peer; whole = x.whole; over = x.over; ended = x.ended; fails = x.fails; failed = x.failed; reset = x.reset }
+-- a turn of a connection
+pub exchange_moves : (id : ℕ) (es : List (Event × Reply)) (a b : Seen) → Trades id es a b → Moves id es a b
+exchange_moves id es a b x = record { came = all_of x.pieces; loses = loses x.pieces; gave = x.to_peer; to_peer = λ h. nothing_lost x.pieces h ∙ sym x.kept; from_peer = x.from_peer; whole = x.whole; over = x.over; ended = x.ended; fails = x.fails; failed = x.failed; reset = x.reset }
 
 -- payload that was passed on
 
@@ -192,13 +200,13 @@ flushed_at_server a e f ab ba ab_new ba_new x = (x.0, (inr (inr (inl x.1)), refl
 
 -- ---- a serve
 
-pub serves_at_client : (id : ℕ) (e f b : Engine) (ab ba : List ℕ) (old new : Seen) → KeepsWire e f → Exchanges id e.session f.session old new →
+pub serves_at_client : (id : ℕ) (e f b : Engine) (ab ba : List ℕ) (old new : Seen) → Exchanges id e.session f.session e.outgoing f.outgoing old new → f.incoming ≡ e.incoming →
     Serves A id (record { a = e; b = b; ab = ab; ba = ba }) (record { a = f; b = b; ab = ab; ba = ba }) old new
-serves_at_client id e f b ab ba old new w x = record { lost = x.0; exchange = x.1; turn = (inl (served id e f old new x.0 w x.1 ab ba), refl) }
+serves_at_client id e f b ab ba old new x incoming = record { exchange = x; turn = (served id e f old new x incoming ab ba, refl) }
 
-pub serves_at_server : (id : ℕ) (a e f : Engine) (ab ba : List ℕ) (old new : Seen) → KeepsWire e f → Exchanges id e.session f.session old new →
+pub serves_at_server : (id : ℕ) (a e f : Engine) (ab ba : List ℕ) (old new : Seen) → Exchanges id e.session f.session e.outgoing f.outgoing old new → f.incoming ≡ e.incoming →
     Serves B id (record { a = a; b = e; ab = ab; ba = ba }) (record { a = a; b = f; ab = ab; ba = ba }) old new
-serves_at_server id a e f ab ba old new w x = record { lost = x.0; exchange = x.1; turn = (inl (served id e f old new x.0 w x.1 ba ab), refl) }
+serves_at_server id a e f ab ba old new x incoming = record { exchange = x; turn = (served id e f old new x incoming ba ab, refl) }
 
 -- ---- payload passed on, in turns
 
@@ -289,7 +297,7 @@ pub works_wire : (side : Side) (id : ℕ) (p q : Pair) (d : Seen) → HasWireTur
 works_wire side id p q d x = works_one side id x.0 p q d d x.1 (moves_wire id x.0 d x.2)
 
 works_served : (side : Side) (id : ℕ) (p q : Pair) (d e : Seen) → Serves side id p q d e → Works side id p q d e
-works_served side id p q d e x = works_one side id x.exchange.events p q d e x.turn (exchange_moves id (engine_at side p) (engine_at side q) d e x.lost x.exchange)
+works_served side id p q d e x = works_one side id x.exchange.events p q d e x.turn (exchange_moves id x.exchange.events d e x.exchange.trades)
 
 pub works_passed : (side : Side) (id : ℕ) (p q : Pair) (d e : Seen) → PassesAt side id p q d e → Works side id p q d e
 works_passed side id p q d e x = record {

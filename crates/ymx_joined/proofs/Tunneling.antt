@@ -19,7 +19,7 @@ use Rattle.ymx_headline.proofs.runs.Runs.{run-face}
 use Rattle.ymx_engine.specs.Devices.{Seen}
 use Rattle.ymx_engine.specs.Engines.{Engine}
 use Rattle.ymx_engine.specs.Events.{taken, given, has_end, has_finish, has_open_with, lacks_memory}
-use Rattle.ymx_engine.specs.Exchanges.{has_bytes}
+use Rattle.ymx_joined.proofs.Driving.{nothing_lost}
 use Rattle.ymx_engine.specs.Lines.{all_of, kept_of, loses, Trades, Life}
 use Rattle.ymx_engine.specs.Tunnels.{look}
 use Rattle.ymx_engine.proofs.Advancing.{or_neither}
@@ -128,16 +128,6 @@ tunnels_carry ts = λ wa fa wb fb q good r id.
     }
 
 -- ---- what two devices of a stream pass on
-
-none_in : (xs : List ℕ) → has_bytes xs ≡ false → xs ≡ []
-none_in [] h = refl
-none_in (x ∷ xs) h = let no : ⊥ = cc in absurd no
-
-nothing_lost : (ps : List (List ℕ × List ℕ)) → loses ps ≡ false → all_of ps ≡ kept_of ps
-nothing_lost [] h = refl
-nothing_lost (p ∷ ps) h =
-    let two = or_neither (has_bytes p.1) (loses ps) h in
-    ap (λ (v : List ℕ). (p.0 ++ v) ++ all_of ps) (none_in p.1 two.0) ∙ ap (λ (v : List ℕ). v ++ all_of ps) (append-nil p.0) ∙ ap (λ (v : List ℕ). p.0 ++ v) (nothing_lost ps two.1)
 
 -- bytes are lost only for want of memory
 no_cause : (b c : Bool) → c ≡ false → (b ≡ true → c ≡ true) → b ≡ false

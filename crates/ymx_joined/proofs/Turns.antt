@@ -14,14 +14,13 @@ use Rattle.ymx_model.specs.session.Emissions.{in_turn}
 use Rattle.ymx_model.specs.session.Histories.{Gives}
 use Rattle.ymx_engine.specs.Devices.{Seen}
 use Rattle.ymx_engine.specs.Engines.{Engine, KeepsWire}
-use Rattle.ymx_engine.specs.Exchanges.{Exchanges}
 use Rattle.ymx_engine.specs.Refusals.{OpensNone, OffersNone}
 use Rattle.ymx_engine.specs.Wires.{ReadsWire, FlushesWire}
 use Rattle.ymx_model.specs.declared.types.Role.TheVariants.{Client, Server}
 use Rattle.ymx_model.specs.session.Sessions.{Session, new_session}
 use Rattle.ymx_headline.specs.Laws.{AreGood}
 use Rattle.ymx_joined.specs.Pairs.{Pair, Turn, TakeTurns, HasCalls, engine_of, pair_of}
-use Rattle.ymx_joined.proofs.Calling.{served, called, called_none, opens_none, offers_none}
+use Rattle.ymx_joined.proofs.Calling.{called, called_none, opens_none, offers_none}
 use Rattle.ymx_joined.proofs.Piping.{are_one_piped_run}
 use Rattle.ymx_joined.specs.Reached.{engine_at, HasTurn, IsReadOnce, IsFlushed, IsReached, AreOneRunSoFar}
 
@@ -40,9 +39,6 @@ pub accepts : (r : Result (Option ℕ) RefusedAllocation) (e f : Engine) → Kee
 accepts (Ok None) e f w g n same = offers_none e f w n
 accepts (Ok (Some id)) e f w g n same = (_, called call.Accept (reply.Accepted (Some id)) e f w g)
 accepts (Err lack) e f w g n same = called_none e f w (ap (λ (v : Engine). v.session) same)
-
-pub serves : (id : ℕ) (e f : Engine) (old new : Seen) → KeepsWire e f → Exchanges id e.session f.session old new → Calls e f
-serves id e f old new w x = (x.1.events, served id e f old new x.0 w x.1)
 
 pub at_client : (e f b : Engine) (ab ba : List ℕ) → Calls e f → HasTurn A (record { a = e; b = b; ab = ab; ba = ba }) (record { a = f; b = b; ab = ab; ba = ba })
 at_client e f b ab ba x = (x.0, (inl (x.1 ab ba), refl))

@@ -9,7 +9,7 @@ use Rattle.ymx_model.specs.session.Events.{Event}
 use Rattle.ymx_model.specs.declared.types.Event.TheVariants as event
 use Rattle.ymx_engine.specs.Devices.{Seen}
 use Rattle.ymx_engine.specs.Events.{taken, given, has_end, has_finish, has_reset}
-use Rattle.ymx_engine.specs.Exchanges.{Exchange}
+use Rattle.ymx_engine.specs.Serves.{Exchanges}
 use Rattle.ymx_engine.specs.Passes.{PassesOn}
 use Rattle.ymx_joined.specs.Pairs.{Pair, Turn, TakesTurn, TakeTurns, events_at_a, events_at_b}
 use Rattle.ymx_joined.specs.Reached.{engine_at}
@@ -69,10 +69,9 @@ is_of_wire (event.Emit room) = true
 abbrev pub HasWireTurn : Side → Pair → Pair → Type 0
 HasWireTurn side p q = (events : List (Event × Reply)) × TakesTurn side events p q × (list_all (λ e. is_of_wire e.0) events ≡ true)
 
--- this side had a turn, at which nothing happened but what its stream and the device moved
+-- this side had a turn, at which nothing happened but what its stream and the device moved, and emissions, which wait
 pub record Serves (side : Side) (id : ℕ) (p q : Pair) (before after : Seen) : Type 0 where
-  pub lost : List ℕ
-  pub exchange : Exchange id (engine_at side p).session (engine_at side q).session before after lost
+  pub exchange : Exchanges id (engine_at side p).session (engine_at side q).session (engine_at side p).outgoing (engine_at side q).outgoing before after
   pub turn : TakesTurn side exchange.events p q
 
 -- some turns of this side, in which its device and the stream moved so much

@@ -1,6 +1,6 @@
 //! The laws of two engines that are joined: what happened at both is one run of the queue machine. Each public function
 //! is a law: it does nothing, and its contract is the theorem.
-ghost use Rattle.std.specs.Prelude.{ℕ, List, [], ◌∷◌, false};
+ghost use Rattle.std.specs.Prelude.{ℕ, ◌≡◌, List, [], ◌∷◌, false};
 ghost use Rattle.ymx_model.specs.session.Events.{Event};
 ghost use Rattle.ymx_machine.specs.shared.Events.{Reply};
 ghost use Rattle.ymx_machine.specs.declared.types.Step.{Step};
@@ -16,12 +16,12 @@ ghost use Rattle.ymx_model.specs.session.Histories.{Gives};
 ghost use Rattle.ymx_engine.specs.Devices.{Seen};
 ghost use Rattle.ymx_engine.specs.Engines.{Engine, KeepsWire};
 ghost use Rattle.ymx_engine.specs.Events.{Happen};
-ghost use Rattle.ymx_engine.specs.Exchanges.{Exchange};
+ghost use Rattle.ymx_engine.specs.Serves.{Exchanges};
 ghost use Rattle.ymx_engine.specs.Passes.{PassesOn};
 ghost use Rattle.ymx_engine.specs.Refusals.{GivesUp, OpensNone, OffersNone};
 ghost use Rattle.ymx_engine.specs.Wires.{HandlesIn};
 ghost use Rattle.ymx_joined.specs.Tunnels.{entries, AreJoined};
-ghost use Rattle.ymx_joined.specs.Pairs.{Turn, HasCalls, HasFeeds, HasTurns, each_alone, AreOnePipedRun};
+ghost use Rattle.ymx_joined.specs.Pairs.{Turn, IsTurn, HasCalls, HasFeeds, HasTurns, each_alone, AreOnePipedRun};
 ghost use Rattle.ymx_joined.specs.Example.{events_of_a, events_of_b};
 
 /// What happened at an engine is a history of its session, as the audit reads one.
@@ -45,11 +45,11 @@ pub fn piped_engines_are_one_run()
     ensures { (turns : List Turn) → AreOnePipedRun turns }
 {}
 
-/// Each call of an engine that leaves its wire alone is a turn, by what its contract says: a serve, one call on a stream,
+/// Each call of an engine that does not call its wire is a turn, by what its contract says: a serve, one call on a stream,
 /// and those where a stream is given up, or none is opened or accepted. So is a feed of what waits up to a payload; and
 /// where a payload was passed on each event is a turn for itself.
 pub fn calls_are_turns()
-    ensures served { (id : ℕ) (e f : Engine) (old new : Seen) (lost : List ℕ) → KeepsWire e f → (x : Exchange id e.session f.session old new lost) → HasCalls x.events e f }
+    ensures served { (id : ℕ) (e f : Engine) (old new : Seen) → (x : Exchanges id e.session f.session e.outgoing f.outgoing old new) → f.incoming ≡ e.incoming → (to from : List ℕ) → IsTurn x.events e f to from to from }
     ensures called { (c : Call) (told : Reply) (e f : Engine) → KeepsWire e f → Gives in_turn e.session (event.Call c) told f.session → HasCalls ((event.Call c, told) ∷ []) e f }
     ensures given_up { (id : ℕ) (e f : Engine) → KeepsWire e f → GivesUp id e.session f.session → (es : List (Event × Reply)) × HasCalls es e f }
     ensures opens_none { (fault : CallFault) (e f : Engine) → KeepsWire e f → OpensNone fault e.session f.session → (es : List (Event × Reply)) × HasCalls es e f }

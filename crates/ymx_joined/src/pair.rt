@@ -9,7 +9,7 @@ ghost use Rattle.ymx_model.specs.session.Sessions.{new_session};
 ghost use Rattle.ymx_model.specs.session.Emissions.{in_turn};
 ghost use Rattle.ymx_model.specs.session.Histories.{Gives};
 ghost use Rattle.ymx_session.specs.NewSessions.{first_id, new_fault};
-ghost use Rattle.ymx_engine.specs.Exchanges.{Exchanges};
+ghost use Rattle.ymx_engine.specs.Serves.{Exchanges};
 ghost use Rattle.ymx_engine.specs.Engines.{IsFedOrStuck};
 ghost use Rattle.ymx_engine.specs.Passes.{IsPayload};
 ghost use Rattle.ymx_engine.specs.Wires.{HandlesIn};
@@ -111,7 +111,7 @@ impl EnginePair {
     /// One turn of a side's connection, with its device, as `Engine::serve`.
     pub fn serve<D: Device>(&mut self, side: Side, id: u32, device: &mut D)
         ensures turn { HasTurn side self.old self.new }
-        ensures moved { Exchanges id (engine_at side self.old).session (engine_at side self.new).session (D.seen device.old) (D.seen device.new) }
+        ensures moved { Exchanges id (engine_at side self.old).session (engine_at side self.new).session (engine_at side self.old).outgoing (engine_at side self.new).outgoing (D.seen device.old) (D.seen device.new) }
     {
         self.pipes.serve(side, id, device);
     }

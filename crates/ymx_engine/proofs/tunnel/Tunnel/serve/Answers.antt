@@ -12,7 +12,7 @@ returns-in-Some g c =
     let n = c.get_mut.follows.lender w in
     let through = c.get_mut.follows.holds w in
     let found = sym c.in-Some.ensures.value in
-    from_view _ _ _ c.self.view_is (runs_served _ _ c.args.id _ _ c.serve.ensures.wire c.serve.ensures.moved refl
+    from_view _ _ _ c.self.view_is (runs_served _ _ c.args.id _ _ c.serve.ensures.moved c.serve.ensures.incoming refl
     (look_lines seen m.entries c.args.id ∙ ap (option_map seen) found)
     (λ other. look_updated seen m.entries n.entries w other _ ((through.3 (is_some_at found)).0 other)))
 
