@@ -8,3 +8,4 @@ pub mod Trading
 pub mod Serving
 pub mod Blocks
 pub mod Running
+pub mod Staying

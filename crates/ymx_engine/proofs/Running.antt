@@ -148,7 +148,7 @@ runs_flushed a b n x same =
 
 -- ---- one line's turn
 
-eq_ids : (id other : ℕ) → nat_eq id other ≡ true → other ≡ id
+pub eq_ids : (id other : ℕ) → nat_eq id other ≡ true → other ≡ id
 eq_ids id other h = grind arith
 
 not_eq_ids : (id other : ℕ) → nat_eq id other ≡ false → (other == id) ≡ false

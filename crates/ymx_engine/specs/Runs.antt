@@ -1,8 +1,9 @@
 -- What a tunnel moves over any number of turns (this project's own).
-use Rattle.std.specs.Prelude.{ℕ, ◌≡◌, ◌⊎◌, ◌||◌, ◌++◌, List, Bool, false, option_map}
+use Rattle.std.specs.Prelude.{ℕ, ◌≡◌, ◌⊎◌, ◌||◌, ◌++◌, List, Bool, false, Option, option_map, is_some, nat_eq, cond}
 use Rattle.std.specs.Io.KnownBytes.{Appends, Consumes}
 use Rattle.ymx_model.specs.session.Events.{Event}
 use Rattle.ymx_machine.specs.shared.Events.{Reply}
+use Rattle.ymx_engine.specs.Devices.{Seen}
 use Rattle.ymx_engine.specs.Engines.{IsFlushed}
 use Rattle.ymx_engine.specs.Events.{Happen, has_open_with}
 use Rattle.ymx_engine.specs.Wires.{fed, emitted, has_feed_end, FeedsFront}
@@ -36,3 +37,14 @@ pub record Runs (old new : Tunnel) : Type 0 where
 -- the wire has failed, or has taken all that was due
 abbrev pub IsOver : Tunnel → Type 0
 IsOver t = HasFailed t.wire ⊎ IsFlushed t.engine
+
+-- no device joined a stream or left it, and the wire was neither ended nor shut
+pub record Stays (old new : Tunnel) : Type 0 where
+  pub joined : (id : ℕ) → is_some (look id new.lines) ≡ is_some (look id old.lines)
+  pub ended : new.wire.ended ≡ old.wire.ended
+  pub shut : new.wire.shut ≡ old.wire.shut
+
+-- The device of this stream came or left, as `there` says, and those of all others stayed as they were, and so did the wire.
+pub record Changes (id : ℕ) (there : Option Seen) (old new : Tunnel) : Type 0 where
+  pub lines : (other : ℕ) → look other new.lines ≡ cond (nat_eq id other) there (look other old.lines)
+  pub wire : new.wire ≡ old.wire

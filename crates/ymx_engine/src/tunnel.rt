@@ -7,7 +7,7 @@ ghost use Rattle.ymx_model.specs.session.Emissions.{in_turn};
 ghost use Rattle.ymx_model.specs.session.Histories.{Gives};
 ghost use Rattle.ymx_session.specs.Replies.{pinged_or, ponged_or};
 ghost use Rattle.ymx_engine.specs.Refusals.{OffersNone};
-ghost use Rattle.ymx_engine.specs.Runs.{Runs, IsOver};
+ghost use Rattle.ymx_engine.specs.Runs.{Runs, Stays, Changes, IsOver};
 ghost use Rattle.ymx_engine.specs.Tunnels.{look, Joins, DropsOut};
 
 use crate::connection::Connection;
@@ -77,7 +77,8 @@ impl<D: Line + Drop, W: Wire + Drop> Tunnel<D, W> {
     /// What an event says of a connection's device: whether it may have bytes, whether it may take some, and whether
     /// its end is near.
     pub fn note_line(&mut self, id: u32, can_pull: bool, can_push: bool, is_closing: bool)
-        ensures { Runs self.old self.new }
+        ensures runs { Runs self.old self.new }
+        ensures stays { Stays self.old self.new }
     {
         if let Some(device) = self.lines.get_mut(&id) {
             device.note_event();
@@ -99,8 +100,9 @@ impl<D: Line + Drop, W: Wire + Drop> Tunnel<D, W> {
     /// stream is reset and forgotten.
     pub fn open<G: Registry<D>>(&mut self, device: D, registry: &mut G) -> Result<u32, NotJoined>
         ensures runs { Runs self.old self.new }
-        ensures joined { IfOk result (λ id. IsSome (look id self.new.lines)) }
+        ensures joined { IfOk result (λ id. Changes id (Some (D.seen device)) self.old self.new) }
         ensures refused { OnErr result (self.new.lines ≡ self.old.lines) }
+        ensures wire { self.new.wire ≡ self.old.wire }
     {
         let id = match self.engine.open() {
             Ok(id) => id,
@@ -125,9 +127,10 @@ impl<D: Line + Drop, W: Wire + Drop> Tunnel<D, W> {
         registry: &mut G,
     ) -> Result<Option<u32>, NotJoined>
         ensures runs { Runs self.old self.new }
-        ensures joined { IfOk result (λ offered. IfSome offered (λ id. IsSome (look id self.new.lines))) }
+        ensures joined { IfOk result (λ offered. IfSome offered (λ id. Changes id (Some (D.seen device)) self.old self.new)) }
         ensures none { IfOk result (λ offered. IfNone offered (OffersNone self.old.engine.session self.new.engine.session)) }
         ensures refused { OnErr result (self.new.lines ≡ self.old.lines) }
+        ensures wire { self.new.wire ≡ self.old.wire }
     {
         let id = match self.engine.accept() {
             Ok(Some(id)) => id,
@@ -152,6 +155,7 @@ impl<D: Line + Drop, W: Wire + Drop> Tunnel<D, W> {
     pub fn reject(&mut self) -> bool
         ensures runs { Runs self.old self.new }
         ensures lines { self.new.lines ≡ self.old.lines }
+        ensures wire { self.new.wire ≡ self.old.wire }
     {
         let Some(id) = self.engine.take_offered() else {
             return false;
@@ -190,7 +194,8 @@ impl<D: Line + Drop, W: Wire + Drop> Tunnel<D, W> {
 
     /// Lets go of a connection's device, and forgets its stream. What is known of it was asked before.
     pub fn forget(&mut self, id: u32) -> Option<D>
-        ensures { Runs self.old self.new }
+        ensures runs { Runs self.old self.new }
+        ensures gone { Changes id None self.old self.new }
     {
         self.engine.forget(id);
         self.lines.swap_remove(&id)
@@ -201,7 +206,8 @@ impl<D: Line + Drop, W: Wire + Drop> Tunnel<D, W> {
     /// Reads from the wire once, and feeds what came. Payload of which `least` bytes wait goes straight to the devices
     /// that take it. Near the wire's end, where `again` says so, it is read once more when it may.
     pub fn read_wire(&mut self, least: usize, again: bool)
-        ensures { Runs self.old self.new }
+        ensures runs { Runs self.old self.new }
+        ensures stays { Stays self.old self.new }
     {
         self.pull_wire(again);
         'payload: for _ in 0..PAYLOADS {
@@ -215,7 +221,8 @@ impl<D: Line + Drop, W: Wire + Drop> Tunnel<D, W> {
     /// Reads from the wire once, where all that it gave before was fed. Near the wire's end a short read doesn't say that
     /// nothing is left, so another one is due until the end is read.
     fn pull_wire(&mut self, again: bool)
-        ensures { Runs self.old self.new }
+        ensures runs { Runs self.old self.new }
+        ensures stays { Stays self.old self.new }
     {
         self.pull_once();
         self.note_more(again);
@@ -223,7 +230,8 @@ impl<D: Line + Drop, W: Wire + Drop> Tunnel<D, W> {
 
     /// Reads from the wire once, where all that it gave before was fed.
     fn pull_once(&mut self)
-        ensures { Runs self.old self.new }
+        ensures runs { Runs self.old self.new }
+        ensures stays { Stays self.old self.new }
     {
         self.engine.pull_wire(&mut self.wire);
     }
@@ -240,14 +248,16 @@ impl<D: Line + Drop, W: Wire + Drop> Tunnel<D, W> {
     /// Feeds what waits up to a payload that goes straight to a device, and returns its stream. `None` where all that
     /// can be fed now was fed.
     fn advance(&mut self, least: usize) -> Option<u32>
-        ensures { Runs self.old self.new }
+        ensures runs { Runs self.old self.new }
+        ensures stays { Stays self.old self.new }
     {
         self.engine.advance(least)
     }
 
     /// Passes payload that waits to its stream's own device.
     fn pass(&mut self, id: u32)
-        ensures { Runs self.old self.new }
+        ensures runs { Runs self.old self.new }
+        ensures stays { Stays self.old self.new }
     {
         if let Some(device) = self.lines.get_mut(&id) {
             self.engine.pass(id, device);
@@ -256,7 +266,8 @@ impl<D: Line + Drop, W: Wire + Drop> Tunnel<D, W> {
 
     /// Serves the connection whose turn it is, with its own device. `None` where none may have something to move.
     pub fn serve_next(&mut self) -> Option<Served>
-        ensures { Runs self.old self.new }
+        ensures runs { Runs self.old self.new }
+        ensures stays { Stays self.old self.new }
     {
         let id = self.engine.next()?;
         let before = self.pulled(id);
@@ -267,7 +278,8 @@ impl<D: Line + Drop, W: Wire + Drop> Tunnel<D, W> {
 
     /// Serves a connection once, with its own device.
     fn serve(&mut self, id: u32)
-        ensures { Runs self.old self.new }
+        ensures runs { Runs self.old self.new }
+        ensures stays { Stays self.old self.new }
     {
         if let Some(device) = self.lines.get_mut(&id) {
             self.engine.serve(id, device);
@@ -284,7 +296,8 @@ impl<D: Line + Drop, W: Wire + Drop> Tunnel<D, W> {
 
     /// Writes what is due to the wire, in at most four calls. If the wire fails the session is lost.
     pub fn flush(&mut self)
-        ensures { Runs self.old self.new }
+        ensures runs { Runs self.old self.new }
+        ensures stays { Stays self.old self.new }
     {
         self.engine.flush(&mut self.wire);
     }
@@ -293,6 +306,7 @@ impl<D: Line + Drop, W: Wire + Drop> Tunnel<D, W> {
     /// and change nothing.
     pub fn ping(&mut self) -> Result<u32, CallFault>
         ensures runs { Runs self.old self.new }
+        ensures stays { Stays self.old self.new }
         ensures event { Gives in_turn self.old.engine.session (event.Call call.Ping) (pinged_or result) self.new.engine.session }
     {
         self.engine.ping()
@@ -302,6 +316,7 @@ impl<D: Line + Drop, W: Wire + Drop> Tunnel<D, W> {
     /// of `Session::ponged`, and change nothing.
     pub fn ponged(&mut self, number: u32) -> Result<bool, CallFault>
         ensures runs { Runs self.old self.new }
+        ensures stays { Stays self.old self.new }
         ensures event { Gives in_turn self.old.engine.session (event.Call (call.Ponged number)) (ponged_or result) self.new.engine.session }
     {
         self.engine.ponged(number)
@@ -311,6 +326,7 @@ impl<D: Line + Drop, W: Wire + Drop> Tunnel<D, W> {
     /// hears of its end.
     pub fn give_up_wire(&mut self)
         ensures runs { Runs self.old self.new }
+        ensures lines { self.new.lines ≡ self.old.lines }
         ensures shut { self.new.wire.shut ≡ option_map (λ b. true) self.old.wire.shut }
     {
         self.wire.shut();
@@ -320,6 +336,7 @@ impl<D: Line + Drop, W: Wire + Drop> Tunnel<D, W> {
     /// Nothing more goes over the wire.
     pub fn end_wire(&mut self)
         ensures runs { Runs self.old self.new }
+        ensures lines { self.new.lines ≡ self.old.lines }
         ensures ended { self.new.wire.ended ≡ option_map (λ b. true) self.old.wire.ended }
     {
         self.wire.end();

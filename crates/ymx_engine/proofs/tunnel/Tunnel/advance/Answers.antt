@@ -1,6 +1,10 @@
 use Rattle.std.proofs.Common.{refl}
 use Rattle.ymx_engine.proofs.Running.{runs_handled, from_view}
+use Rattle.ymx_engine.proofs.Staying.{stays_alike, stays_from}
 use Rattle.ymx_engine.proofs.tunnel.Tunnel.advance.Goals as goal
 
-pub returns : goal.returns
-returns g c = from_view _ _ _ c.self.view_is (runs_handled _ _ c.advance.ensures.fed refl refl)
+pub returns-clause-runs : goal.returns-clause-runs
+returns-clause-runs g c = from_view _ _ _ c.self.view_is (runs_handled _ _ c.advance.ensures.fed refl refl)
+
+pub returns-clause-stays : goal.returns-clause-stays
+returns-clause-stays g c = stays_from _ _ _ c.self.view_is (stays_alike _ _ refl refl)

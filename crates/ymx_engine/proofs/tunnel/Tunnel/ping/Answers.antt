@@ -3,6 +3,7 @@ use Rattle.ymx_machine.specs.declared.types.Call.TheVariants as call
 use Rattle.ymx_model.specs.declared.types.Event.TheVariants as event
 use Rattle.ymx_session.specs.Replies.{pinged_or}
 use Rattle.ymx_engine.proofs.Running.{runs_pinged, from_view, given_from}
+use Rattle.ymx_engine.proofs.Staying.{stays_alike, stays_from}
 use Rattle.ymx_engine.proofs.tunnel.Tunnel.ping.Goals as goal
 
 pub returns-clause-runs : goal.returns-clause-runs
@@ -10,3 +11,6 @@ returns-clause-runs g c = from_view _ _ _ c.self.view_is (runs_pinged _ _ call.P
 
 pub returns-clause-event : goal.returns-clause-event
 returns-clause-event g c = given_from (event.Call call.Ping) (pinged_or c.ping.result) _ _ _ c.self.view_is c.ping.ensures.event
+
+pub returns-clause-stays : goal.returns-clause-stays
+returns-clause-stays g c = stays_from _ _ _ c.self.view_is (stays_alike _ _ refl refl)

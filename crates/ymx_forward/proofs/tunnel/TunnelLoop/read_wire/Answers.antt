@@ -5,4 +5,4 @@ pub read-init : goal.read-init
 read-init c = runs_same _
 
 pub read-preserved : goal.read-preserved
-read-preserved c = runs_then _ _ _ c.read.invariant c.read_wire.ensures
+read-preserved c = runs_then _ _ _ c.read.invariant c.read_wire.ensures.runs
