@@ -16,10 +16,11 @@ use Rattle.ymx_model.specs.session.Histories.{Gives}
 use Rattle.ymx_session.specs.Through.{WritesThrough}
 use Rattle.ymx_engine.specs.declared.device.Pulled.TheVariants as pulled
 use Rattle.ymx_engine.specs.Devices.{Seen, IsPulled, IsShut}
-use Rattle.ymx_engine.specs.Events.{is_on, took_count, taken, given, has_end, has_finish, has_reset, is_refusal, has_stop, is_memory_refusal, lacks_memory}
+use Rattle.ymx_engine.specs.Events.{Happen, is_on, took_count, taken, given, has_end, has_finish, has_reset, is_refusal, has_stop, is_memory_refusal, lacks_memory}
 use Rattle.ymx_engine.specs.Exchanges.{Exchange}
 use Rattle.ymx_engine.specs.Serves.{is_of_turn, is_emission, Exchanges, Sends, PutsDue}
-use Rattle.ymx_engine.specs.Wires.{emitted}
+use Rattle.ymx_engine.specs.Engines.{Engine}
+use Rattle.ymx_engine.specs.Wires.{emitted, is_of_flush, ends_feed, has_feed_end, HandlesOut}
 use Rattle.ymx_engine.proofs.Advancing.{both, quiet}
 use Rattle.ymx_engine.proofs.Carrying.{emitted_then}
 use Rattle.ymx_engine.proofs.Exchanging.{happen_then, taken_then, given_then, end_then, finish_then, reset_then, stop_then, lacks_then, or_second, or_same, or_true, same_id, same_appends, some_bytes}
@@ -43,6 +44,37 @@ puts_one s t room out sent new mid g same e = record {
   own = refl;
   to_wire = ap (λ (v : List ℕ). out ++ v) (append-nil sent) ∙ ap (λ (v : List ℕ). v ++ sent) (sym same) ∙ sym e;
 }
+
+emission_of_flush : (e : Event) → is_emission e ≡ true → is_of_flush e ≡ true
+emission_of_flush (event.Call c) h = let no : ⊥ = cc in absurd no
+emission_of_flush (event.Feed bytes) h = let no : ⊥ = cc in absurd no
+emission_of_flush event.FeedEnd h = let no : ⊥ = cc in absurd no
+emission_of_flush (event.Emit room) h = refl
+
+emission_hears : (e : Event) → is_emission e ≡ true → ends_feed e ≡ false
+emission_hears (event.Call c) h = refl
+emission_hears (event.Feed bytes) h = refl
+emission_hears event.FeedEnd h = let no : ⊥ = cc in absurd no
+emission_hears (event.Emit room) h = refl
+
+all_of_flush : (es : List (Event × Reply)) → list_all (λ e. is_emission e.0) es ≡ true → (list_all (λ e. is_of_flush e.0) es ≡ true) × (has_feed_end es ≡ false)
+all_of_flush [] h = (refl, refl)
+all_of_flush (e ∷ es) h =
+    let two = both (is_emission e.0) (list_all (λ e. is_emission e.0) es) h in
+    let more = all_of_flush es two.1 in
+    (rw (emission_of_flush e.0 two.0) more.0, rw (emission_hears e.0 two.0) more.1)
+
+pub handles_due : (a b : Engine) (s : Session) (out : List ℕ) → s ≡ a.session → out ≡ a.outgoing → b.incoming ≡ a.incoming → PutsDue s b.session out b.outgoing → HandlesOut false a b
+handles_due a b s out same waits incoming x =
+    let all = all_of_flush x.events x.own in
+    record {
+      events = x.events;
+      happen = subst (λ (v : Session). Happen x.events v b.session) same x.happen;
+      own = all.0;
+      to_wire = ap (λ (v : List ℕ). v ++ emitted x.events) (sym waits) ∙ x.to_wire;
+      incoming = incoming;
+      heard = all.1;
+    }
 
 -- ---- bytes that are sent
 

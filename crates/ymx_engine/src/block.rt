@@ -64,15 +64,6 @@ impl Block {
         self.at += count;
     }
 
-    /// An emission of the session waits.
-    pub(crate) fn emit_from(&mut self, session: &mut Session)
-        requires { self.old ≡ [] }
-        ensures { (room : ℕ) × Gives in_turn session.old (event.Emit room) (reply.Emitted self.new) session.new }
-    {
-        self.at = 0;
-        self.end = session.emit(self.memory.as_mut_slice());
-    }
-
     /// Where no byte waits, all of the memory is room again.
     pub(crate) fn restart(&mut self)
         ensures { self.new ≡ self.old }

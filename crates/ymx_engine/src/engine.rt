@@ -25,6 +25,7 @@ use crate::connections::Connections;
 use crate::device::{Device, Pulled, Pushed};
 use crate::exchange::serve;
 use crate::passing::offer;
+use crate::sending::put_due;
 use std::alloc::Global;
 use std::marker::Model;
 use ymx_memory::RefusedAllocation;
@@ -582,21 +583,11 @@ impl Engine {
         self.can_push_wire
     }
 
-    /// Where nothing waits, what is due waits.
+    /// What is due waits behind what waits, where there is room.
     fn fill_outgoing(&mut self)
         ensures { HandlesOut false self.old self.new }
     {
-        if self.is_sent() {
-            self.emit();
-        }
-    }
-
-    /// What is due waits.
-    fn emit(&mut self)
-        requires { self.old.outgoing ≡ [] }
-        ensures { HandlesOut false self.old self.new }
-    {
-        self.outgoing.emit_from(&mut self.session);
+        put_due(&mut self.session, &mut self.outgoing);
     }
 
     /// Writes what waits to the wire once. What the wire said.

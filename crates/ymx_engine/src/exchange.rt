@@ -9,14 +9,13 @@ ghost use Rattle.ymx_model.specs.session.Histories.{Gives};
 ghost use Rattle.ymx_session.specs.Streams.{waiting, room_of};
 ghost use Rattle.ymx_engine.specs.Devices.{IsShut};
 ghost use Rattle.ymx_engine.specs.Exchanges.{Exchange};
-ghost use Rattle.ymx_engine.specs.Serves.{Exchanges, PutsDue};
+ghost use Rattle.ymx_engine.specs.Serves.{Exchanges};
 
 use crate::block::Block;
-use crate::buffers::FRAMES;
 use crate::calls::{Silence, ask, finish, is_stopped, reset, take_out};
 use crate::connection::{Connection, Flow};
 use crate::device::{Device, Pulled, Pushed};
-use crate::sending::send;
+use crate::sending::{put_due, send};
 use ymx_session::Session;
 
 /// One turn of a connection: at most four writes to its device, then, where `may_pull` says so, at most two reads from
@@ -203,16 +202,6 @@ fn pull_once<D: Device>(
         device.shut();
     }
     false
-}
-
-/// What is due waits behind what waits for the wire, where there is room for whole frames.
-fn put_due(session: &mut Session, outgoing: &mut Block)
-    ensures { PutsDue session.old session.new outgoing.old outgoing.new }
-{
-    outgoing.restart();
-    if outgoing.room() >= FRAMES && session.due() {
-        outgoing.emit_behind(session);
-    }
 }
 
 /// Reads from the device once into this buffer, all of which the stream would take.

@@ -9,14 +9,25 @@ ghost use Rattle.ymx_model.specs.session.Histories.{Gives};
 ghost use Rattle.ymx_model.specs.session.Sessions.{Session as SessionValue};
 ghost use Rattle.ymx_session.specs.Streams.{room_of};
 ghost use Rattle.ymx_engine.specs.Events.{took_count, is_memory_refusal};
-ghost use Rattle.ymx_engine.specs.Serves.{Sends};
+ghost use Rattle.ymx_engine.specs.Serves.{Sends, PutsDue};
 
 use crate::block::Block;
+use crate::buffers::FRAMES;
 use crate::calls::write;
 use ymx_session::Session;
 
 /// How many bytes one frame carries.
 const FRAME: usize = 16_384;
+
+/// What is due waits behind what waits for the wire, where there is room for eight whole frames.
+pub(crate) fn put_due(session: &mut Session, outgoing: &mut Block)
+    ensures { PutsDue session.old session.new outgoing.old outgoing.new }
+{
+    outgoing.restart();
+    if outgoing.room() >= FRAMES && session.due() {
+        outgoing.emit_behind(session);
+    }
+}
 
 /// Writes bytes, one at least, for which there is credit. As far as nothing else is to go first they go straight into
 /// frames that wait for the wire; the rest goes into the stream's ring. Whether the stream took them all: the ring may
