@@ -1,5 +1,5 @@
 -- What waits in a block.
-use Rattle.std.proofs.Common.{◌≡◌, ℕ, ◌+◌, ◌-◌, ◌≤◌, nat_lt, nat_le, List, ◌++◌, length, take, drop, Bool, true, not, ◌&&◌, sym, ap, ◌∙◌, subst, arith}
+use Rattle.std.proofs.Common.{◌≡◌, ℕ, ◌+◌, ◌-◌, ◌≤◌, nat_lt, nat_le, List, ◌++◌, length, take, drop, true, not, ◌&&◌, sym, ap, ◌∙◌, subst, arith}
 use Rattle.std.proofs.Math.Seq.{take-add, take-append-add}
 use Rattle.std.proofs.lemmas.List.{length-take-le, length-append, length-drop, take-append-le, drop-append-le, with_items_is}
 use Rattle.std.specs.Prelude.{vec_len}

@@ -134,16 +134,6 @@ pushed_heard r a b c d e g x =
       few = g.pushed.counted;
     } in (moved, refl)
 
-pub emits_one : (a b : Engine) (s : Session) (room : ℕ) → s ≡ a.session → a.outgoing ≡ [] → Gives in_turn s (event.Emit room) (reply.Emitted b.outgoing) b.session → b.incoming ≡ a.incoming → HandlesOut false a b
-emits_one a b s room same none h incoming = let g = gives_from (event.Emit room) (reply.Emitted b.outgoing) s b.session a.session same h in record {
-  events = (event.Emit room, reply.Emitted b.outgoing) ∷ [];
-  happen = (b.session, g, refl);
-  own = refl;
-  to_wire = ap (λ (v : List ℕ). v ++ (b.outgoing ++ [])) none ∙ append-nil b.outgoing;
-  incoming = incoming;
-  heard = refl;
-}
-
 pub feeds_one : (a b : Engine) (told : Fed) (s : Session) (bytes : List ℕ) → s ≡ a.session → bytes ≡ a.incoming → Gives in_turn s (event.Feed bytes) (reply.Fed told) b.session →
     b.incoming ≡ drop told.taken a.incoming → b.outgoing ≡ a.outgoing → HandlesIn false a b
 feeds_one a b told s bytes same waits h incoming outgoing =

@@ -27,7 +27,7 @@ use Rattle.ymx_engine.proofs.Exchanging.{happen_then, or_same, or_true, or_twice
 use Rattle.ymx_engine.specs.Tunnels.{Tunnel, look, lines_of, Joins, DropsOut}
 use Rattle.ymx_engine.specs.Lines.{IsIdle, Life, opens_at}
 use Rattle.ymx_engine.specs.Runs.{Runs}
-use Rattle.ymx_engine.proofs.Listing.{FeedsNone, flush_feeds, read_emits, LeavesWire, leaves_wire, others_quiet, PassEmits, pass_emits, other_id, others_quiet_passed, IsCalm, turn_calm, others_quiet_turned, plain_list, plain_then, read_plain, flush_plain}
+use Rattle.ymx_engine.proofs.Listing.{FeedsNone, flush_feeds, read_emits, LeavesWire, PassEmits, pass_emits, other_id, others_quiet_passed, IsCalm, turn_calm, others_quiet_turned, plain_list, plain_then, read_plain, flush_plain}
 use Rattle.ymx_engine.proofs.Trading.{or_swap, life_quiet, life_then, life_trades, life_leaves, life_joins, life_idle, trades_passed}
 
 -- nothing happened
@@ -315,7 +315,7 @@ runs_dropped a b id none j =
     let es : List (Event × Reply) = (event.Call (call.Reset id), up.told_reset) ∷ (event.Call (call.Forget id), up.told_forget) ∷ [] in
     let off : (other : ℕ) → (other == id) ≡ false → (id == other) ≡ false = λ other ne. other_id id id other (same_id id) ne in
     runs_idle a b es (up.between, up.reset, (b.engine.session, up.forgotten, refl)) ((refl, λ w. (tt, (tt, tt))), refl, refl, refl) j.keeps j.wire j.lines
-    (λ other. given_up_life id other a.lines es (nat_eq id other) refl none (refl, refl)
+    (λ other. given_up_life id other a.lines es (nat_eq id other) refl none (refl, refl, refl, refl)
     (λ ne. (refl, refl, refl, refl, ap (λ (v : Bool). v || false) (off other ne), ap (λ (v : Bool). v || false) (off other ne))))
 
 -- a stream was opened or accepted, which no device could join, and given up
@@ -438,9 +438,6 @@ is_some_at {A} {o} {x} e = subst (λ (v : Option A). IsSome v) (sym e) refl
 -- one run behind parts that are as they were
 pub runs_behind : (a b c : Tunnel) → Runs b c → b.engine ≡ a.engine → b.wire ≡ a.wire → b.lines ≡ a.lines → Runs a c
 runs_behind a b c x p q r = runs_then a b c (runs_alike a b p q r) x
-
-pub look_there : (id : ℕ) (b : List (ℕ × Seen)) (d : Seen) (o : Option Seen) → look id b ≡ cond (nat_eq id id) (Some d) o → IsSome (look id b)
-look_there id b d o e = is_some_at (e ∙ ap (λ (v : Bool). cond v (Some d) o) (same_id id))
 
 -- no device is there
 pub look_none : {D : Type 0} (seen : D → Seen) (es : List (ℕ × D)) (id : ℕ) → is_some (lookup (nat_eq id) es) ≡ false → look id (lines_of seen es) ≡ None

@@ -1,5 +1,5 @@
 -- How bytes of a device go into frames, and how the parts of a turn go on.
-use Rattle.std.proofs.Common.{◌≡◌, ℕ, ◌+◌, ◌<◌, ◌==◌, List, [], ◌∷◌, ◌++◌, length, take, drop, Bool, true, false, ◌||◌, Option, refl, sym, ap, ◌∙◌, subst, arith, append-nil, append_assoc, take_all, take-append-drop}
+use Rattle.std.proofs.Common.{◌≡◌, ℕ, ◌<◌, List, [], ◌∷◌, ◌++◌, length, take, drop, Bool, true, false, ◌||◌, Option, refl, sym, ap, ◌∙◌, subst, arith, append-nil, append_assoc, take_all, take-append-drop}
 use Rattle.std.specs.Prelude.{option_map}
 use Rattle.std.specs.List.{list_all}
 use Rattle.std.specs.Io.KnownBytes.{Appends, Consumes}

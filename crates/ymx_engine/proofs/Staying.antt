@@ -1,8 +1,7 @@
 -- Which devices a tunnel keeps.
-use Rattle.std.proofs.Common.{◌≡◌, ℕ, List, Bool, true, false, Option, None, Some, refl, sym, ap, ◌∙◌, subst, cond}
+use Rattle.std.proofs.Common.{◌≡◌, ℕ, List, Bool, true, false, Option, Some, refl, sym, ap, ◌∙◌, subst, cond}
 use Rattle.std.specs.Prelude.{nat_eq, is_some}
 use Rattle.ymx_engine.specs.Devices.{Seen}
-use Rattle.ymx_engine.specs.Engines.{Engine}
 use Rattle.ymx_engine.specs.Tunnels.{Tunnel, look, Joins}
 use Rattle.ymx_engine.specs.Runs.{Stays, Changes}
 use Rattle.ymx_engine.proofs.Running.{eq_ids}

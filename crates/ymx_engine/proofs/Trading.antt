@@ -129,6 +129,8 @@ idle_then : (id : ℕ) (es fs : List (Event × Reply)) → IsIdle id es → IsId
 idle_then id es fs x y = (
   taken_then id es fs ∙ ap (λ (v : List ℕ). v ++ taken id fs) x.0 ∙ y.0,
   given_then id es fs ∙ ap (λ (v : List ℕ). v ++ given id fs) x.1 ∙ y.1,
+  finish_then id es fs ∙ ap (λ (v : Bool). v || has_finish id fs) x.2 ∙ y.2,
+  end_then id es fs ∙ ap (λ (v : Bool). v || has_end id fs) x.3 ∙ y.3,
 )
 
 -- changes with more before the first, and what happens behind the last
@@ -184,7 +186,7 @@ life_then id es fs o p q x y = record {
 }
 
 lives_quiet : (id : ℕ) (es : List (Event × Reply)) (o : Option Seen) → IsQuiet id es → Lives id [] es o o
-lives_quiet id es None q = (refl, (q.0, q.1))
+lives_quiet id es None q = (refl, (q.0, q.1, q.3, q.2))
 lives_quiet id es (Some a) q = (a, refl, trades_quiet id es a q)
 
 -- the device stays, if there is one, and nothing happens to the stream
@@ -201,11 +203,11 @@ nothing_quiet id = (refl, refl, refl, refl, refl, refl)
 -- the stream was forgotten, and its device leaves, where there is one
 pub life_leaves : (id : ℕ) (told : Reply) (o : Option Seen) → Life id ((event.Call (call.Forget id), told) ∷ []) o None
 life_leaves id told None = life_quiet id _ None (refl, refl, refl, refl, refl, refl)
-life_leaves id told (Some a) = record { changes = record { since = (event.Call (call.Forget id), told) ∷ []; seen = a } ∷ []; rest = []; all = refl; lives = (([], told, refl), trades_quiet id _ a (refl, refl, refl, refl, refl, refl), (refl, (refl, refl))) }
+life_leaves id told (Some a) = record { changes = record { since = (event.Call (call.Forget id), told) ∷ []; seen = a } ∷ []; rest = []; all = refl; lives = (([], told, refl), trades_quiet id _ a (refl, refl, refl, refl, refl, refl), (refl, (refl, refl, refl, refl))) }
 
 -- the stream was opened, and a device joins it
 pub life_joins : (id : ℕ) (e : Event × Reply) (a : Seen) → opens_at id e.0 e.1 ≡ true → IsQuiet id (e ∷ []) → Life id (e ∷ []) None (Some a)
-life_joins id e a opens q = record { changes = record { since = e ∷ []; seen = a } ∷ []; rest = []; all = refl; lives = (([], e, refl, opens), (q.0, q.1), (a, refl, trades_quiet id [] a (nothing_quiet id))) }
+life_joins id e a opens q = record { changes = record { since = e ∷ []; seen = a } ∷ []; rest = []; all = refl; lives = (([], e, refl, opens), (q.0, q.1, q.3, q.2), (a, refl, trades_quiet id [] a (nothing_quiet id))) }
 
 -- with no device no byte moves
 pub life_idle : (id : ℕ) (es : List (Event × Reply)) → IsIdle id es → Life id es None None

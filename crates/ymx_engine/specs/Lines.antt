@@ -41,9 +41,9 @@ pub record Trades (id : ℕ) (events : List (Event × Reply)) (a b : Seen) : Typ
   pub cause : loses pieces ≡ true → lacks_memory id events ≡ true
   pub shut : b.shut ≡ option_map (λ x. x || has_stop id events) a.shut
 
--- no byte of the stream moves
+-- no byte of the stream moves, it isn't finished, and its end isn't read
 abbrev pub IsIdle : ℕ → List (Event × Reply) → Type 0
-IsIdle id events = (taken id events ≡ []) × (given id events ≡ [])
+IsIdle id events = (taken id events ≡ []) × (given id events ≡ []) × (has_finish id events ≡ false) × (has_end id events ≡ false)
 
 -- the stream was opened, or accepted
 abbrev pub opens_at : ℕ → Event → Reply → Bool

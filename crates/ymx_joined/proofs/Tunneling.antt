@@ -1,5 +1,5 @@
 -- Two tunnels over two pipes: what each stream carries between its devices.
-use Rattle.std.proofs.Common.{◌≡◌, ℕ, List, [], ◌∷◌, ◌++◌, Bool, true, false, ◌||◌, Option, None, Some, refl, sym, ap, subst, ◌∙◌, inr, append-nil}
+use Rattle.std.proofs.Common.{◌≡◌, ℕ, List, [], ◌∷◌, ◌++◌, Bool, true, false, ◌||◌, Option, None, Some, refl, sym, ap, subst, ◌∙◌, inr, append-nil, append_assoc}
 use Rattle.std.specs.Prelude.{option_map, IfSome}
 use Rattle.ymx_machine.specs.declared.types.Side.{Side}
 use Rattle.ymx_machine.specs.declared.types.Side.TheVariants.{A, B}
@@ -20,14 +20,16 @@ use Rattle.ymx_engine.specs.Devices.{Seen}
 use Rattle.ymx_engine.specs.Engines.{Engine}
 use Rattle.ymx_engine.specs.Events.{taken, given, has_end, has_finish, has_open_with, lacks_memory}
 use Rattle.ymx_joined.proofs.Driving.{nothing_lost}
-use Rattle.ymx_engine.specs.Lines.{all_of, kept_of, loses, Trades, Life}
+use Rattle.ymx_engine.specs.Lines.{all_of, loses, Trades, IsIdle, Change, Lives, sinces, Life}
+use Rattle.ymx_engine.proofs.Advancing.{or_neither}
+use Rattle.ymx_engine.proofs.Exchanging.{taken_then, given_then, end_then, finish_then, lacks_then, or_none}
 use Rattle.ymx_engine.specs.Tunnels.{look}
 use Rattle.ymx_engine.proofs.Advancing.{or_neither}
 use Rattle.ymx_engine.proofs.Listing.{plain_then}
 use Rattle.ymx_engine.proofs.Trading.{life_then, life_quiet}
 use Rattle.ymx_joined.specs.Tunnels.{entries}
 use Rattle.ymx_joined.specs.Pairs.{Pair, Turn, TakesTurn, TakeTurns, at_a, at_b, events_at_a, events_at_b}
-use Rattle.ymx_joined.specs.Carried.{TunnelPair, tunnels_of, Works, OneWorks, BothWork, Carries, CarriesBoth, TunnelsCarry, IsPassedOn}
+use Rattle.ymx_joined.specs.Carried.{TunnelPair, tunnels_of, Works, OneWorks, BothWork, Carries, CarriesBoth, TunnelsCarry, IsPassedOn, HadOne}
 use Rattle.ymx_joined.proofs.Piping.{are_one_piped_run}
 use Rattle.ymx_joined.proofs.Tracing.{gathers_a, gathers_b, writes_of_a, writes_of_b, written_a, written_b, reads_of_a, reads_of_b, read_a, read_b, ends_of_a, ends_of_b, ended_a, ended_b, finishes_of_a, finishes_of_b, finished_a, finished_b, total}
 
@@ -153,3 +155,70 @@ devices_get id from to d d2 e e2 x y c plenty =
       whole = λ f g. same ∙ c.whole (end_of f g);
       all = λ f g. x.whole (c.finished (end_of f g));
     }
+
+-- ---- one device
+
+-- what moved in all events moved while the device was there
+
+taken_during : (id : ℕ) (before during after : List (Event × Reply)) → IsIdle id before → IsIdle id after → taken id (before ++ (during ++ after)) ≡ taken id during
+taken_during id before during after x y =
+    taken_then id before (during ++ after) ∙ ap (λ (v : List ℕ). v ++ taken id (during ++ after)) x.0 ∙ taken_then id during after ∙ ap (λ (v : List ℕ). taken id during ++ v) y.0 ∙ append-nil (taken id during)
+
+given_during : (id : ℕ) (before during after : List (Event × Reply)) → IsIdle id before → IsIdle id after → given id (before ++ (during ++ after)) ≡ given id during
+given_during id before during after x y =
+    given_then id before (during ++ after) ∙ ap (λ (v : List ℕ). v ++ given id (during ++ after)) x.1 ∙ given_then id during after ∙ ap (λ (v : List ℕ). given id during ++ v) y.1 ∙ append-nil (given id during)
+
+finish_during : (id : ℕ) (before during after : List (Event × Reply)) → IsIdle id before → IsIdle id after → has_finish id (before ++ (during ++ after)) ≡ has_finish id during
+finish_during id before during after x y =
+    finish_then id before (during ++ after) ∙ ap (λ (v : Bool). v || has_finish id (during ++ after)) x.2 ∙ finish_then id during after ∙ ap (λ (v : Bool). has_finish id during || v) y.2 ∙ or_none (has_finish id during)
+
+end_during : (id : ℕ) (before during after : List (Event × Reply)) → IsIdle id before → IsIdle id after → has_end id (before ++ (during ++ after)) ≡ has_end id during
+end_during id before during after x y =
+    end_then id before (during ++ after) ∙ ap (λ (v : Bool). v || has_end id (during ++ after)) x.3 ∙ end_then id during after ∙ ap (λ (v : Bool). has_end id during || v) y.3 ∙ or_none (has_end id during)
+
+plenty_during : (id : ℕ) (before during after : List (Event × Reply)) → lacks_memory id (before ++ (during ++ after)) ≡ false → lacks_memory id during ≡ false
+plenty_during id before during after h =
+    let tail = or_neither (lacks_memory id before) (lacks_memory id (during ++ after)) (sym (lacks_then id before (during ++ after)) ∙ h) in
+    let parts = or_neither (lacks_memory id during) (lacks_memory id after) (sym (lacks_then id during after) ∙ tail.1) in
+    parts.0
+
+pub one_gets : (id : ℕ) (from to : List (Event × Reply)) (d d2 e e2 : Seen) → HadOne id from d d2 → HadOne id to e e2 → Carries id from to → lacks_memory id from ≡ false → IsPassedOn d d2 e e2
+one_gets id from to d d2 e e2 x y c plenty =
+    let came = ap (taken id) x.all ∙ taken_during id x.before x.during x.after x.still x.left in
+    let went = ap (given id) y.all ∙ given_during id y.before y.during y.after y.still y.left in
+    let done = ap (has_finish id) x.all ∙ finish_during id x.before x.during x.after x.still x.left in
+    let over = ap (has_end id) y.all ∙ end_during id y.before y.during y.after y.still y.left in
+    let carries : Carries id x.during y.during = record {
+      begins = (c.begins.0, sym came ∙ c.begins.1 ∙ ap (λ (v : List ℕ). v ++ c.begins.0) went);
+      whole = λ h. sym came ∙ c.whole (over ∙ h) ∙ went;
+      finished = λ h. sym done ∙ c.finished (over ∙ h);
+    } in
+    devices_get id x.during y.during d d2 e e2 x.trades y.trades carries (plenty_during id x.before x.during x.after (sym (ap (lacks_memory id) x.all) ∙ plenty))
+
+nothing_idle : (id : ℕ) → IsIdle id []
+nothing_idle id = (refl, refl, refl, refl)
+
+same_some : (now b : Seen) → Some now ≡ Some b → b ≡ now
+same_some now b e = cc
+
+pub one_stays : (id : ℕ) (joined : Change) (rest : List (Event × Reply)) (now : Seen) → Lives id (joined ∷ []) rest None (Some now) → HadOne id (sinces (joined ∷ []) ++ rest) joined.seen now
+one_stays id joined rest now x = record {
+  before = joined.since;
+  during = rest;
+  after = [];
+  all = ap (λ (v : List (Event × Reply)). v ++ rest) (append-nil joined.since) ∙ ap (λ (v : List (Event × Reply)). joined.since ++ v) (sym (append-nil rest));
+  still = x.1;
+  trades = subst (Trades id rest joined.seen) (same_some now x.2.0 x.2.1) x.2.2;
+  left = nothing_idle id;
+}
+
+pub one_left : (id : ℕ) (joined left : Change) (rest : List (Event × Reply)) → Lives id (joined ∷ left ∷ []) rest None None → HadOne id (sinces (joined ∷ left ∷ []) ++ rest) joined.seen left.seen
+one_left id joined left rest x = record {
+  before = joined.since;
+  during = left.since;
+  after = rest;
+  all = append_assoc joined.since (left.since ++ []) rest ∙ ap (λ (v : List (Event × Reply)). joined.since ++ (v ++ rest)) (append-nil left.since);
+  still = x.1;
+  trades = x.2.1;
+  left = x.2.2.1;
+}

@@ -11,7 +11,7 @@ use Rattle.ymx_headline.specs.Laws.{AreGood}
 use Rattle.ymx_engine.specs.Devices.{Seen}
 use Rattle.ymx_engine.specs.Engines.{Engine}
 use Rattle.ymx_engine.specs.Events.{taken, given, has_end, has_finish}
-use Rattle.ymx_engine.specs.Lines.{Life}
+use Rattle.ymx_engine.specs.Lines.{Trades, IsIdle, Life}
 use Rattle.ymx_engine.specs.Tunnels.{look}
 use Rattle.ymx_joined.specs.Pairs.{Pair, Turn, IsTunnelTurn, pair_of, events_at_a, events_at_b}
 
@@ -76,3 +76,14 @@ pub record IsPassedOn (giver giver_new taker taker_new : Seen) : Type 0 where
   pub begins : came ≡ went ++ rest
   pub whole : taker.ended ≡ Some false → taker_new.ended ≡ Some true → came ≡ went
   pub all : taker.ended ≡ Some false → taker_new.ended ≡ Some true → IfSome giver.left (λ bytes. bytes ≡ came)
+
+-- One device and no other was joined to this stream, if these are all events of its session: what was seen of it as it
+-- joined, and as it left, or now. Before and after it no byte moved.
+pub record HadOne (id : ℕ) (events : List (Event × Reply)) (joined last : Seen) : Type 0 where
+  pub before : List (Event × Reply)
+  pub during : List (Event × Reply)
+  pub after : List (Event × Reply)
+  pub all : events ≡ before ++ (during ++ after)
+  pub still : IsIdle id before
+  pub trades : Trades id during joined last
+  pub left : IsIdle id after

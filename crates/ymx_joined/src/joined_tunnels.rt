@@ -1,14 +1,14 @@
 //! The laws of two tunnels that are joined: the tunnel's promise. Each public function is a law: it does nothing, and its
 //! contract is the theorem.
 
-ghost use Rattle.std.specs.Prelude.{ℕ, ◌≡◌, List, false};
+ghost use Rattle.std.specs.Prelude.{ℕ, ◌≡◌, ◌++◌, ◌∷◌, List, [], None, Some, false};
 ghost use Rattle.ymx_model.specs.session.Events.{Event};
 ghost use Rattle.ymx_machine.specs.shared.Events.{Reply};
 ghost use Rattle.ymx_engine.specs.Devices.{Seen};
 ghost use Rattle.ymx_engine.specs.Events.{lacks_memory};
-ghost use Rattle.ymx_engine.specs.Lines.{Trades};
+ghost use Rattle.ymx_engine.specs.Lines.{Trades, Change, Lives, sinces};
 ghost use Rattle.ymx_joined.specs.Pairs.{Turn};
-ghost use Rattle.ymx_joined.specs.Carried.{Carries, IsPassedOn, TunnelsCarry};
+ghost use Rattle.ymx_joined.specs.Carried.{Carries, HadOne, IsPassedOn, TunnelsCarry};
 
 /// Two tunnels, a client's and a server's, over two pipes in memory. They make any calls, in any order; their devices and
 /// the pipes answer as they like, and may fail. Then what each stream gave at one end is a beginning of what it took at the
@@ -24,4 +24,14 @@ pub fn devices_get_what_was_given()
     ensures { (id : ℕ) (at_giver at_taker : List (Event × Reply)) (giver giver_new taker taker_new : Seen) →
         Trades id at_giver giver giver_new → Trades id at_taker taker taker_new → Carries id at_giver at_taker → lacks_memory id at_giver ≡ false →
         IsPassedOn giver giver_new taker taker_new }
+{}
+
+/// The same of all events of two tunnels, where one device and no other was joined to the stream at each end: so it is with
+/// every stream whose `Life` has one device, which is still there or has left.
+pub fn one_device_gets_what_the_other_gave()
+    ensures passed_on { (id : ℕ) (at_giver at_taker : List (Event × Reply)) (giver giver_last taker taker_last : Seen) →
+        HadOne id at_giver giver giver_last → HadOne id at_taker taker taker_last → Carries id at_giver at_taker → lacks_memory id at_giver ≡ false →
+        IsPassedOn giver giver_last taker taker_last }
+    ensures stays { (id : ℕ) (joined : Change) (rest : List (Event × Reply)) (now : Seen) → Lives id (joined ∷ []) rest None (Some now) → HadOne id (sinces (joined ∷ []) ++ rest) joined.seen now }
+    ensures left { (id : ℕ) (joined left : Change) (rest : List (Event × Reply)) → Lives id (joined ∷ left ∷ []) rest None None → HadOne id (sinces (joined ∷ left ∷ []) ++ rest) joined.seen left.seen }
 {}

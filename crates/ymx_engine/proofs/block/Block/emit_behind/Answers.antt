@@ -1,4 +1,4 @@
-use Rattle.std.proofs.Common.{List, ℕ, ◌≤◌, ◌++◌, length, take, ap, ◌∙◌, arith}
+use Rattle.std.proofs.Common.{List, ℕ, ◌++◌, take, ap, ◌∙◌, arith}
 use Rattle.ymx_engine.proofs.Blocks.{block_behind, room_length}
 use Rattle.ymx_engine.proofs.block.Block.emit_behind.Goals as goal
 
