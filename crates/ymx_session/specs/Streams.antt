@@ -2,9 +2,10 @@
 use Rattle.std.specs.Prelude.{ℕ, List, [], ◌||◌, is_some, if◌then◌else◌, Bool, false, Option, None, Some}
 use Rattle.ymx_model.specs.session.Records.{End}
 use Rattle.ymx_machine.specs.shared.Lists.{look}
-use Rattle.ymx_model.specs.session.Sessions.{Session, is_lost}
+use Rattle.ymx_model.specs.session.Sessions.{Session, is_lost, is_closed}
 use Rattle.ymx_model.specs.session.Calls.{unsent_count}
 use Rattle.ymx_table.specs.Listing.{held_ids}
+use Rattle.ymx_table.specs.Unsent.{unsent_sum}
 use Rattle.ymx_session.specs.Replies.{stream_fault}
 
 -- the bytes of a stream that came and were not read
@@ -38,6 +39,11 @@ has_ended id s = if is_some (stream_fault id s) then false else ended_of (look i
 -- there is no such stream
 abbrev pub unsent_of : ℕ → Session → ℕ
 unsent_of id s = if is_some (stream_fault id s) then 0 else unsent_count (look id s.table.entries)
+
+-- how many bytes of all streams, also of those that were forgotten, are written and stand in no frame begun yet; 0 of a
+-- closed session, which drops them
+abbrev pub unsent_total : Session → ℕ
+unsent_total s = if is_closed s.status then 0 else unsent_sum s.table
 
 -- the peer has acknowledged a stream
 abbrev pub acknowledged_of : Option End → Bool

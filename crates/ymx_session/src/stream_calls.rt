@@ -7,7 +7,7 @@ ghost use Rattle.ymx_machine.specs.declared.types.Reply.TheVariants.{ReadEnd, Re
 ghost use Rattle.ymx_machine.specs.shared.Lists.{look};
 ghost use Rattle.ymx_model.specs.session.Calls.{write_to, read_from, finish, reset, forget, takes_memory};
 ghost use Rattle.ymx_session.specs.Releases.{has_stream, goes_on};
-ghost use Rattle.ymx_session.specs.Streams.{waiting, room_of, has_ended, unsent_of, is_acknowledged};
+ghost use Rattle.ymx_session.specs.Streams.{waiting, room_of, has_ended, unsent_of, unsent_total, is_acknowledged};
 ghost use Rattle.ymx_session.specs.Replies.{wrote_or, read_or, count_of, done_or, is_out_of_memory, stream_fault};
 
 use crate::state::State;
@@ -182,6 +182,16 @@ impl State {
             Ok(stream) => stream.unsent_len(),
             Err(_) => 0,
         }
+    }
+
+    /// How many bytes of all streams were written and stand in no frame begun yet.
+    pub(crate) fn unsent_total(&self) -> u128
+        ensures { result ≡ unsent_total self.now }
+    {
+        if self.status == Status::Closed {
+            return 0;
+        }
+        self.table.unsent_sum()
     }
 
     /// How many bytes wait to be read.

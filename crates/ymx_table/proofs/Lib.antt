@@ -2,6 +2,7 @@ pub mod Places
 pub mod Others
 pub mod Counts
 pub mod Rounds
+pub mod Totals
 pub mod Writes
 pub mod Bits
 pub mod FlagWords

@@ -1,3 +1,4 @@
+pub mod Unsent
 pub mod Kept
 pub mod Standing
 pub mod Others

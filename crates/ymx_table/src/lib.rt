@@ -1,6 +1,6 @@
 //! The records of a session's streams by id, in the order in which they were made. A write changes one
-//! record and nothing else. Which streams have a frame due is kept, and so is the place in the order from
-//! which the next turn to send starts. An insertion takes memory, and a write only where more than 262,144
+//! record and nothing else. Which streams have a frame due is kept, and so are how many bytes of all streams are unsent
+//! and the place in the order from which the next turn to send starts. An insertion takes memory, and a write only where more than 262,144
 //! bytes of its stream would be unsent.
 #![tactic(auto)]
 
@@ -23,6 +23,7 @@ mod making;
 mod stream;
 mod turn;
 mod unacknowledged;
+mod unsent;
 
 use due_places::DuePlaces;
 use indexmap::IndexMap;
@@ -30,6 +31,7 @@ pub use law::others_keep;
 use std::alloc::Global;
 use std::marker::Model;
 pub use turn::NextFrame;
+use unsent::retotal;
 use ymx_half::StreamRec;
 use ymx_memory::RefusedAllocation;
 use ymx_ring::Warm;
@@ -48,6 +50,8 @@ pub struct Table {
     records: IndexMap<u32, StreamRec>,
     turn: usize,
     due: DuePlaces,
+    /// How many bytes of all streams were written and stand in no frame begun yet.
+    unsent: u128,
     /// Where a record was found last. A following call on the same stream finds it there, and hashes no id.
     last: usize,
     /// The blocks of memory with which the streams' rings take turns, and those of streams that are gone.
@@ -62,7 +66,7 @@ impl Model for Table {
 
     ghost view = { λ t. record { window = t.window; entries = t.records.entries; turn = t.turn } };
 
-    ghost invariant = { λ t. IsKept (record { window = t.window; entries = t.records.entries; turn = t.turn }) t.due };
+    ghost invariant = { λ t. IsKept (record { window = t.window; entries = t.records.entries; turn = t.turn }) t.due t.unsent };
 }
 
 impl Table {
@@ -78,6 +82,7 @@ impl Table {
             records: IndexMap::new(alloc),
             turn: 0,
             due: DuePlaces::new(),
+            unsent: 0,
             last: 0,
             warm: Warm::new(alloc),
         }
@@ -156,8 +161,10 @@ impl Table {
         ensures refused_unchanged { OnErr result (self.new ≡ self.old) }
     {
         let is_due = stream.is_due(self.window);
+        let unsent = stream.unsent_len();
         ymx_memory::insert(&mut self.records, id, stream)?;
         self.due.push(is_due);
+        self.unsent = retotal(self.unsent, 0, unsent);
         Ok(())
     }
 
@@ -168,8 +175,10 @@ impl Table {
         ensures { self.new ≡ remove_record id self.old }
     {
         let place = self.place_of(id);
+        let unsent = self.records[place].unsent_len();
         end_of(self.records.shift_remove_index(place), &mut self.warm);
         self.due.remove(place);
+        self.unsent = retotal(self.unsent, unsent, 0);
         if place < self.turn {
             self.turn -= 1;
         }

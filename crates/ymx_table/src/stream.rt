@@ -16,6 +16,7 @@ ghost use Rattle.ymx_half.specs.Passing.{MayPass, passed};
 ghost use Rattle.ymx_half.specs.Through.{MaySend, sent};
 
 use crate::Table;
+use crate::unsent::retotal;
 use ymx_half::{Stage, StreamRec};
 use ymx_memory::RefusedAllocation;
 
@@ -38,7 +39,9 @@ impl Table {
         let place = self.place_of(id);
         self.last = place;
         let stream = &mut self.records[place];
+        let before = stream.unsent_len();
         let wrote = stream.write(&mut self.warm, bytes);
+        self.unsent = retotal(self.unsent, before, stream.unsent_len());
         let is_due = stream.is_due(self.window);
         self.due.set(place, is_due);
         wrote
@@ -58,7 +61,9 @@ impl Table {
     {
         let place = self.place_of(id);
         let stream = &mut self.records[place];
+        let before = stream.unsent_len();
         let count = stream.write_through(id, bytes, buffer);
+        self.unsent = retotal(self.unsent, before, stream.unsent_len());
         let is_due = stream.is_due(self.window);
         self.due.set(place, is_due);
         self.turn = place + 1;
@@ -130,7 +135,9 @@ impl Table {
         let place = self.place_of(id);
         self.last = place;
         let stream = &mut self.records[place];
+        let before = stream.unsent_len();
         stream.reset(&mut self.warm, stage);
+        self.unsent = retotal(self.unsent, before, stream.unsent_len());
         let is_due = stream.is_due(self.window);
         self.due.set(place, is_due);
     }
@@ -145,7 +152,9 @@ impl Table {
         let place = self.place_of(id);
         self.last = place;
         let stream = &mut self.records[place];
+        let before = stream.unsent_len();
         stream.forget(&mut self.warm, lost);
+        self.unsent = retotal(self.unsent, before, stream.unsent_len());
         let is_due = stream.is_due(self.window);
         self.due.set(place, is_due);
     }
@@ -199,7 +208,9 @@ impl Table {
         let place = self.place_of(id);
         self.last = place;
         let stream = &mut self.records[place];
+        let before = stream.unsent_len();
         stream.receive_rst(&mut self.warm);
+        self.unsent = retotal(self.unsent, before, stream.unsent_len());
         let is_due = stream.is_due(self.window);
         self.due.set(place, is_due);
     }
@@ -212,7 +223,9 @@ impl Table {
         let place = self.find(id)?;
         self.last = place;
         let stream = &mut self.records[place];
+        let before = stream.unsent_len();
         let answer = change(stream);
+        self.unsent = retotal(self.unsent, before, stream.unsent_len());
         let is_due = stream.is_due(self.window);
         self.due.set(place, is_due);
         Some(answer)

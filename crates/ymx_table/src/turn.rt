@@ -9,6 +9,7 @@ ghost use Rattle.ymx_model.specs.session.Emissions.{is_first};
 ghost use Rattle.ymx_table.specs.Turns.{IsTurn, IsNextFrame};
 
 use crate::Table;
+use crate::unsent::retotal;
 use ymx_half::FrameKind;
 
 /// A frame of a stream that can go now.
@@ -59,6 +60,7 @@ impl Table {
     {
         let place = self.place_near(next.id, next.place);
         let stream = &mut self.records[place];
+        let before = stream.unsent_len();
         let count = stream.begin_frame(
             &mut self.warm,
             next.kind,
@@ -67,6 +69,7 @@ impl Table {
             next.id,
             buffer,
         );
+        self.unsent = retotal(self.unsent, before, stream.unsent_len());
         let is_due = stream.is_due(self.window);
         self.due.set(place, is_due);
         self.turn = place + 1;
