@@ -31,6 +31,7 @@ FNS = {
  'is_at_end': ('id', '', 'TellsEnd i x u × (m ≡ x)'),
  'has_ended': ('id', '', '(u ≡ told i x (flag (has_ended i x.session))) × (m ≡ x)'),
  'unsent': ('id', '', '(u ≡ told i x (at_most (unsent_of i x.session))) × (m ≡ x)'),
+ 'unsent_total': ('', '', '(u ≡ at_most_total (unsent_total x.session)) × (m ≡ x)'),
  'is_acknowledged': ('id', '', '(u ≡ told i x (flag (is_acknowledged i x.session))) × (m ≡ x)'),
  'is_reset': ('id', '', 'TellsReset i x u × (m ≡ x)'),
  'streams': ('', 'ids', 'ListsStreams x u s.now w × (m ≡ x)'),
@@ -124,11 +125,11 @@ use mir.Val.{vint, vptr}
 use denote.Triple.Spec.{triple_of}
 use ROW.{the_row}
 use Rattle.ymx_model.specs.session.Emissions.{is_ready}
-use Rattle.ymx_session.specs.Streams.{room_of, has_ended, unsent_of, is_acknowledged}
+use Rattle.ymx_session.specs.Streams.{room_of, has_ended, unsent_of, unsent_total, is_acknowledged}
 use Rattle.ymx_session.specs.Touched.{Noted}
 use Rattle.ymx_c.specs.declared.handle.Handle.{Handle}
 use Rattle.ymx_c.specs.Answers.{flag, status_number}
-use Rattle.ymx_c.specs.Handles.{AnswersIn, AnswersOf, AnswersThenSettles, ReleasesOne, told, at_most, TellsEnd, TellsReset}
+use Rattle.ymx_c.specs.Handles.{AnswersIn, AnswersOf, AnswersThenSettles, ReleasesOne, told, at_most, at_most_total, TellsEnd, TellsReset}
 use Rattle.ymx_c.specs.Readiness.{CountsOffered, IsCleared}
 use Rattle.ymx_c.proofs.Exports.{SHAPE}
 use Rattle.ymx_c.specs.contracts.ymx_core_NAME as f
@@ -357,12 +358,15 @@ ymx_core_NAME_spec 𝓤 𝓛 𝓜 𝓡 wired =
     use0 𝓛 (raw (fact 𝓤 (MADE m.answer m.at ⊎ REFUSED m.answer m.at))) (fact_i 𝓤 (MADE m.answer m.at ⊎ REFUSED m.answer m.at) (emp 𝓤) (said INTS m told)) $ move ! (2 ∷ 0 ∷ 1 ∷ []) $ done !)))))))))
 """
 # the text without the `use` lines, and the names in them, that it doesn't need
+def is_used(name, text):
+    # a word may be a part of another
+    return re.search(rf'(?<!\w){re.escape(name)}(?!\w)', text) if name[0].isalpha() else name in text
 def only_used(text):
     uses, rest = text.split('\n\n', 1)
     def line(it):
         if '.{' not in it: return it
         path, names = it[:-1].split('.{')
-        kept = [w for w in names.split(', ') if w.replace('◌', '') in rest]
+        kept = [w for w in names.split(', ') if is_used(w.replace('◌', ''), rest)]
         return f'{path}.{{{", ".join(kept)}}}' if kept else None
     return '\n'.join(filter(None, map(line, uses.split('\n')))) + '\n\n' + rest
 def maker(name):

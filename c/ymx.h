@@ -238,6 +238,11 @@ YMX_API int64_t ymx_has_ended(const ymx_session *session, uint32_t id);
  * that was written was emitted. 0 where the stream is none of the caller's, or was reset. */
 YMX_API int64_t ymx_unsent(const ymx_session *session, uint32_t id);
 
+/* The same of all streams together, of those that were released or forgotten too: a sum that is kept, however many
+ * streams there are. Once it is 0, and ymx_due is, all that was ever written was emitted or dropped. 0 once the session
+ * is closed, which drops what is unsent. */
+YMX_API int64_t ymx_unsent_total(const ymx_session *session);
+
 /* 1 where the peer has acknowledged a stream that was opened here (flags); else 0, also where the stream is none of the
  * caller's, or was reset. */
 YMX_API int64_t ymx_is_acknowledged(const ymx_session *session, uint32_t id);

@@ -71,6 +71,40 @@ static void asks(void) {
     ymx_free(s);
 }
 
+/* What is unsent of all streams together, also of those that are none of the caller's any more. */
+static void sums(void) {
+    ymx_session *s;
+    unsigned char out[256];
+    CHECK(ymx_new(YMX_CLIENT, YMX_LEAST_WINDOW, 0, &s) == 0 && ymx_unsent_total(s) == 0);
+    CHECK(ymx_open(s) == 1 && ymx_open(s) == 3 && ymx_open(s) == 5 && ymx_unsent_total(s) == 0);
+    CHECK(ymx_write(s, 1, "hello", 5) == 5 && ymx_write(s, 3, "abc", 3) == 3 && ymx_write(s, 5, "xy", 2) == 2);
+    CHECK(ymx_unsent_total(s) == 10);
+    goes(s, WINDOW, SYN, 1, 0);
+    goes(s, WINDOW, SYN, 3, 0);
+    goes(s, WINDOW, SYN, 5, 0);
+    CHECK(ymx_unsent_total(s) == 10);
+    /* once one byte of a frame is out, its bytes stand in a frame begun */
+    goes_on(s, "\0", 1);
+    CHECK(ymx_unsent_total(s) == 5);
+    goes_on(s, "\0\0\0\0\0\0\1\0\0\0\5hello", 16);
+    CHECK(ymx_unsent_total(s) == 5);
+    /* a reset drops its stream's bytes */
+    CHECK(ymx_reset(s, 3) == 0 && ymx_unsent_total(s) == 2);
+    /* those of a stream that both sides have finished still go out once it is forgotten */
+    comes(s, WINDOW, FIN, 5, 0);
+    CHECK(ymx_finish(s, 5) == 0 && ymx_forget(s, 5) == 0 && ymx_unsent(s, 5) == 0 && ymx_unsent_total(s) == 2);
+    /* and those of one that was released */
+    CHECK(ymx_open(s) == 7 && ymx_write(s, 7, "1234567", 7) == 7 && ymx_unsent_total(s) == 9);
+    CHECK(ymx_release(s, 7) == 0 && ymx_unsent(s, 7) == 0 && ymx_unsent_total(s) == 9);
+    CHECK(ymx_emit(s, out, sizeof out) > 0 && ymx_due(s) == 0 && ymx_unsent_total(s) == 0);
+    /* a reset of the peer's drops them too, and so does a close */
+    CHECK(ymx_write(s, 1, "ab", 2) == 2 && ymx_open(s) == 9 && ymx_write(s, 9, "c", 1) == 1 && ymx_unsent_total(s) == 3);
+    comes(s, WINDOW, RST, 1, 0);
+    CHECK(ymx_unsent_total(s) == 1 && ymx_feed_end(s) == 0 && ymx_unsent_total(s) == 1);
+    CHECK(ymx_close(s) == 0 && ymx_unsent_total(s) == 0);
+    ymx_free(s);
+}
+
 /* Which streams there are. */
 static void lists(void) {
     ymx_session *s;
@@ -178,6 +212,7 @@ static void releases_more(void) {
 
 int main(void) {
     asks();
+    sums();
     lists();
     releases();
     releases_more();

@@ -18,7 +18,7 @@ use Rattle.ymx_session.specs.Touched.{Noted, NotesChanges, NotesOnly, StaysNoted
 use Rattle.ymx_table.specs.Listing.{held_ids}
 use Rattle.ymx_c.specs.declared.handle.Handle.{Handle}
 use Rattle.ymx_c.specs.Answers.{Answers, Fills, refusal, flag, role_of}
-use Rattle.ymx_c.specs.Readiness.{Touches, Shows, Consumes, number_limit}
+use Rattle.ymx_c.specs.Readiness.{Touches, Shows, Consumes, number_limit, total_limit}
 
 -- a session that has done nothing, of which no stream is released
 abbrev pub new_handle : (role window first : ℕ) → Handle
@@ -65,6 +65,10 @@ told id h n = if is_released id h then pos 0 else n
 -- a number of bytes, or the largest that is answered
 abbrev pub at_most : ℕ → ℤ
 at_most count = pos (min count number_limit)
+
+-- a sum of bytes, or the largest that is answered
+abbrev pub at_most_total : ℕ → ℤ
+at_most_total count = pos (min count total_limit)
 
 abbrev pub ShowsOf : (id : ℕ) → Handle → ℤ → Type 0
 ShowsOf id h n = MatchBool (is_released id h) (n ≡ pos 0) (Shows id h.session n)

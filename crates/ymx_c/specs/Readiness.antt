@@ -17,6 +17,10 @@ use Rattle.ymx_c.specs.Answers.{Answers, code}
 abbrev pub number_limit : ℕ
 number_limit = 4294967295
 
+-- The largest sum of bytes that is answered: the greatest answer of a call.
+abbrev pub total_limit : ℕ
+total_limit = 9223372036854775807
+
 -- The bytes were fed, and the streams that they touched stand in the note, behind those that stood there before. None
 -- is added that no frame among the bytes taken was of.
 pub record Touches (old : Session) (noted : Noted) (input : List ℕ) (n : ℤ) (new : Session) (noted_new : Noted) : Type 0 where

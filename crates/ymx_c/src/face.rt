@@ -7,9 +7,9 @@ ghost use Rattle.ymx_machine.specs.declared.types.Call.TheVariants as call;
 ghost use Rattle.ymx_model.specs.session.Emissions.{is_ready};
 ghost use Rattle.ymx_session.specs.NewSessions.{new_fault, IsNewFault};
 ghost use Rattle.ymx_session.specs.Touched.{nothing_noted};
-ghost use Rattle.ymx_session.specs.Streams.{room_of, has_ended, unsent_of, is_acknowledged};
+ghost use Rattle.ymx_session.specs.Streams.{room_of, has_ended, unsent_of, unsent_total, is_acknowledged};
 ghost use Rattle.ymx_c.specs.Answers.{refusal, status_number, flag, role_of};
-ghost use Rattle.ymx_c.specs.Handles.{new_handle, AnswersIn, AnswersOf, FillsIn, FillsOf, ConsumesOf, told, at_most, ShowsOf, TellsEnd, TellsReset, ListsStreams, ReleasesOne, AnswersThenSettles, TouchesThenSettles, ToPayloadThenSettles, passing_of, TellsPassing, PassesSome, WritesOn};
+ghost use Rattle.ymx_c.specs.Handles.{new_handle, AnswersIn, AnswersOf, FillsIn, FillsOf, ConsumesOf, told, at_most, at_most_total, ShowsOf, TellsEnd, TellsReset, ListsStreams, ReleasesOne, AnswersThenSettles, TouchesThenSettles, ToPayloadThenSettles, passing_of, TellsPassing, PassesSome, WritesOn};
 ghost use Rattle.ymx_c.specs.NewAnswers.{new_refusal, config_of, IsMade, IsRefused, IsNoteMade, IsNoNote};
 ghost use Rattle.ymx_c.specs.Readiness.{CountsOffered, ListsIds, IsCleared, IsPlaced, number_limit};
 
@@ -339,6 +339,13 @@ pub(crate) fn unsent(handle: &mut Handle, id: u32) -> i64
     limited(handle.session.unsent(id))
 }
 
+/// How many bytes of all streams stand in no frame begun yet, of those that were released or forgotten too.
+pub(crate) fn unsent_total(handle: &mut Handle) -> i64
+    ensures { (result ≡ at_most_total (unsent_total handle.old.session)) × (handle.new ≡ handle.old) }
+{
+    limited_total(handle.session.unsent_total())
+}
+
 /// 1 where the peer has acknowledged it, else 0.
 pub(crate) fn is_acknowledged(handle: &mut Handle, id: u32) -> i64
     ensures { (result ≡ told id handle.old (flag (is_acknowledged id handle.old.session))) × (handle.new ≡ handle.old) }
@@ -541,6 +548,13 @@ fn limited(count: usize) -> i64
     ensures { result ≡ pos (min count number_limit) }
 {
     count.min(u32::MAX as usize) as i64
+}
+
+/// A sum as a number, and the greatest answer for any that is larger.
+fn limited_total(total: u128) -> i64
+    ensures { result ≡ at_most_total total }
+{
+    total.min(i64::MAX as u128) as i64
 }
 
 /// A count as a number.

@@ -17,7 +17,7 @@ ghost use Rattle.std.specs.Ptr.{lies_at, room_at};
 ghost use Rattle.ymx_model.specs.declared.types.Event.TheVariants as event;
 ghost use Rattle.ymx_machine.specs.declared.types.Call.TheVariants as call;
 ghost use Rattle.ymx_model.specs.session.Emissions.{is_ready};
-ghost use Rattle.ymx_session.specs.Streams.{room_of, has_ended, unsent_of, is_acknowledged};
+ghost use Rattle.ymx_session.specs.Streams.{room_of, has_ended, unsent_of, unsent_total, is_acknowledged};
 ghost use Rattle.ymx_session.specs.Touched.{Noted, nothing_noted};
 ghost use Rattle.ymx_session.specs.contracts.touched.Touched.{the_row as touched_row};
 ghost use Rattle.ymx_c.specs.Answers.{status_number, flag};
@@ -25,7 +25,7 @@ ghost use Rattle.ymx_c.specs.contracts.handle.Handle.{the_row};
 ghost use Rattle.ymx_c.specs.declared.handle.Handle.{Handle as HandleValue};
 ghost use Rattle.ymx_c.specs.Handed.{handed};
 ghost use Rattle.ymx_c.specs.NewAnswers.{IsMade, IsRefused, IsNoteMade, IsNoNote};
-ghost use Rattle.ymx_c.specs.Handles.{new_handle, AnswersIn, AnswersOf, FillsIn, FillsOf, ConsumesOf, told, at_most, ShowsOf, TellsEnd, TellsReset, ListsStreams, ReleasesOne, AnswersThenSettles, TouchesThenSettles, ToPayloadThenSettles, TellsPassing, PassesSome, WritesOn};
+ghost use Rattle.ymx_c.specs.Handles.{new_handle, AnswersIn, AnswersOf, FillsIn, FillsOf, ConsumesOf, told, at_most, at_most_total, ShowsOf, TellsEnd, TellsReset, ListsStreams, ReleasesOne, AnswersThenSettles, TouchesThenSettles, ToPayloadThenSettles, TellsPassing, PassesSome, WritesOn};
 ghost use Rattle.ymx_c.specs.Readiness.{CountsOffered, ListsIds, IsCleared, IsPlaced};
 
 use crate::handle::Handle;
@@ -216,6 +216,16 @@ pub unsafe extern "C" fn ymx_core_unsent(at: *mut u8, id: u32) -> i64
     ensures* { ∃ₛ (λ (now : HandleValue). sem 𝓛 (lies_at the_row full_share at now) ∗ ⌜ (result ≡ told id old (at_most (unsent_of id old.session))) × (now ≡ old) ⌝) }
 {
     face::unsent(unsafe { &mut *(at as *mut Handle) }, id)
+}
+
+/// How many bytes of all streams were written and stand in no frame begun yet, of those that are given up too.
+#[unsafe(no_mangle)]
+pub unsafe extern "C" fn ymx_core_unsent_total(at: *mut u8) -> i64
+    ghost old: { HandleValue }
+    requires* { sem 𝓛 (lies_at the_row full_share at old) }
+    ensures* { ∃ₛ (λ (now : HandleValue). sem 𝓛 (lies_at the_row full_share at now) ∗ ⌜ (result ≡ at_most_total (unsent_total old.session)) × (now ≡ old) ⌝) }
+{
+    face::unsent_total(unsafe { &mut *(at as *mut Handle) })
 }
 
 /// Whether the peer has acknowledged a stream (flags): 1, or 0.

@@ -93,6 +93,10 @@ class Session:
         """How many bytes were written and stand in no frame yet."""
         return good(_library.unsent(self._at, stream))
 
+    def unsent_total(self) -> int:
+        """How many bytes of all streams were written and stand in no frame yet, also of those that were given up."""
+        return good(_library.unsent_total(self._at))
+
     def is_acknowledged(self, stream: int) -> bool:
         """Whether the peer has acknowledged a stream that was opened here."""
         return bool(_library.is_acknowledged(self._at, stream) == 1)

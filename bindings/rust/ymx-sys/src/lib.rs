@@ -65,6 +65,7 @@ extern "C" {
     pub fn ymx_is_at_end(session: *const ymx_session, id: u32) -> i64;
     pub fn ymx_has_ended(session: *const ymx_session, id: u32) -> i64;
     pub fn ymx_unsent(session: *const ymx_session, id: u32) -> i64;
+    pub fn ymx_unsent_total(session: *const ymx_session) -> i64;
     pub fn ymx_is_acknowledged(session: *const ymx_session, id: u32) -> i64;
     pub fn ymx_is_reset(session: *const ymx_session, id: u32) -> i64;
     pub fn ymx_streams(session: *const ymx_session, ids: *mut u32, len: usize) -> i64;

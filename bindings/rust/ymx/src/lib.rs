@@ -187,6 +187,12 @@ impl Session {
         good(unsafe { ymx_unsent(self.0.as_ptr(), id) }).unwrap_or(0)
     }
 
+    /// How many bytes of all streams were written and stand in no frame yet, also of those that were given up.
+    pub fn unsent_total(&self) -> u64 {
+        let answer = unsafe { ymx_unsent_total(self.0.as_ptr()) };
+        u64::try_from(answer).unwrap_or(0)
+    }
+
     /// Whether the peer has acknowledged a stream that was opened here.
     pub fn is_acknowledged(&self, id: u32) -> bool {
         unsafe { ymx_is_acknowledged(self.0.as_ptr(), id) == 1 }
