@@ -5,3 +5,4 @@ pub mod Ended
 pub mod Accepts
 pub mod Shown
 pub mod Carried
+pub mod Released

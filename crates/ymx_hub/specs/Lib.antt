@@ -3,3 +3,4 @@ pub mod Halves
 pub mod Pumped
 pub mod Shown
 pub mod Carried
+pub mod Releasing

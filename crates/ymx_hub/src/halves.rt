@@ -4,6 +4,7 @@ ghost use Rattle.std.specs.Prelude.{◌≡◌, ◌<◌, ◌≤◌, length, drop,
 ghost use Rattle.ymx_machine.specs.declared.types.Reply.TheVariants as reply;
 ghost use Rattle.ymx_booked.specs.Answers.{IsNotMemory};
 ghost use Rattle.ymx_booked.specs.Books.{Books, Spends, Closes, to_finish, to_reset};
+ghost use Rattle.ymx_hub.specs.Releasing.{Tends};
 ghost use Rattle.ymx_hub.specs.Turns.{ReadTurns, EndsIn, WriteTurns};
 
 use crate::hub::Hub;
@@ -53,8 +54,8 @@ pub struct WriteHalf<R: Recorder> {
     id: u32,
 }
 
-/// The reading half of a stream. It must be spent, by `close`: it cannot be dropped. Whoever spends the second half
-/// of a stream gives the stream up too.
+/// The reading half of a stream. It must be spent, by `close` or `release`: it cannot be dropped. Whoever spends the
+/// second half of a stream gives the stream up too.
 pub struct ReadHalf<R: Recorder> {
     hub: Arc<Hub<R>, Global>,
     seat: Seat<R>,
@@ -174,6 +175,24 @@ impl<R: Recorder> ReadHalf<R> {
     {
         let ReadHalf { hub, mut seat, id } = self;
         let result = hub.close_half(rt, &mut seat, id);
+        (seat, result)
+    }
+
+    /// Hands the half to the hub: what has come of the stream is read and dropped, so that the peer gets its credit back.
+    /// Once nothing more can come, as the peer's end is there, it was reset or the session is lost, the half is spent as
+    /// by `close`; until then whoever calls `Hub::settle` does the same. So a stream that was finished isn't given up
+    /// before the peer's end, and nothing that was written is lost.
+    ///
+    /// Refused with `Closed`, only where the stream is given up now, with `Memory` where there is none for an entry, and
+    /// with `TooMany` while 1,024 others are released, which no one session has.
+    pub fn release<W: Wait>(self, rt: &W) -> (Seat<R>, Result<(), HubFault>)
+        // Its entries stand in the list of its seat: the stream is given up only where nothing more could come.
+        ensures booked { Books R.KEEPS self.seat result.0 (Tends self.id self.seat.number) }
+        // Where no entries are kept, it is not refused for want of memory.
+        ensures off { R.KEEPS ≡ false → IsNotMemory result.1 }
+    {
+        let ReadHalf { hub, mut seat, id } = self;
+        let result = hub.release(rt, &mut seat, id);
         (seat, result)
     }
 }

@@ -12,9 +12,12 @@ ghost use Rattle.ymx_booked.specs.Answers.{IsNotMemory, IsSeatFault};
 ghost use Rattle.ymx_booked.specs.Books.{Books, Asks, Opens, OpensWith, Spends, Closes, to_finish, to_reset, to_go_away, to_close};
 
 use crate::awaiting::take_lock;
+use crate::releasing::MOST_RELEASED;
 use crate::shared::Shared;
 use crate::wakeups::Wakeups;
+use indexmap::IndexSet;
 use std::alloc::Global;
+use std::sync::atomic::AtomicU64;
 use std::sync::{Arc, Mutex, MutexGuard, Wait};
 use ymx_booked::{Booked, EndFault, HubFault};
 use ymx_memory::RefusedAllocation;
@@ -26,6 +29,8 @@ use ymx_session::{Session, Touched};
 pub struct Hub<R: Recorder> {
     pub(crate) shared: Mutex<Shared<R>>,
     pub(crate) wakeups: Wakeups,
+    /// Not 0 where a released stream may have changed.
+    pub(crate) unsettled: AtomicU64,
 }
 
 impl<R: Recorder> Hub<R> {
@@ -61,8 +66,8 @@ impl<R: Recorder> Hub<R> {
 
     /// A hub over what is booked, at which nobody waits.
     fn over(alloc: Global, booked: Booked<R>) -> Result<Arc<Hub<R>>, RefusedAllocation> {
-        let touched = match Touched::new(alloc) {
-            Ok(touched) => touched,
+        let (touched, released) = match lists(alloc) {
+            Ok(made) => made,
             Err(refused) => {
                 // by a call, so that the drop of its parts is not proved here
                 drop(booked);
@@ -70,8 +75,9 @@ impl<R: Recorder> Hub<R> {
             }
         };
         let hub = Hub {
-            shared: Mutex::new(Shared::new(booked, touched)),
+            shared: Mutex::new(Shared::new(booked, touched, released)),
             wakeups: Wakeups::new(),
+            unsettled: AtomicU64::new(0),
         };
         ymx_memory::shared(alloc, hub)
     }
@@ -184,6 +190,7 @@ impl<R: Recorder> Hub<R> {
         let mut shared = take_lock(rt, &self.shared);
         let was_due = shared.booked.due();
         let was_reset = shared.booked.reset(seat, id);
+        self.note_reset(&*shared, id);
         self.unlock(shared, was_due);
         self.wakeups.reader(id).notify_all();
         self.wakeups.writer(id).notify_all();
@@ -244,4 +251,11 @@ impl<R: Recorder> Hub<R> {
     {
         take_lock(rt, &self.shared).booked.end(seats)
     }
+}
+
+/// Room for the streams that a feed touches, and for those that are released.
+fn lists(alloc: Global) -> Result<(Touched, IndexSet<u32>), RefusedAllocation> {
+    let touched = Touched::new(alloc)?;
+    let released = ymx_memory::set_with_capacity(alloc, MOST_RELEASED)?;
+    Ok((touched, released))
 }

@@ -14,6 +14,7 @@ mod halves;
 mod hub;
 mod moving;
 mod opener;
+mod releasing;
 mod shared;
 mod slot_set;
 mod status;

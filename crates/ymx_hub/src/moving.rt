@@ -63,6 +63,7 @@ impl<R: Recorder> Hub<R> {
         offered_before: usize,
     ) {
         let mut shared = shared;
+        self.note_released(&*shared);
         if shared.booked.status() != Status::Running {
             self.wake_all(shared);
             return;
@@ -83,6 +84,7 @@ impl<R: Recorder> Hub<R> {
     {
         let mut shared = take_lock(rt, &self.shared);
         let ended = shared.booked.feed_end(seat);
+        self.note_released(&*shared);
         self.wake_all(shared);
         ended
     }

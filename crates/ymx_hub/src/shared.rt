@@ -8,6 +8,7 @@ ghost use Rattle.ymx_booked.specs.Answers.{IsNotMemory, GivesSome, took_count};
 ghost use Rattle.ymx_booked.specs.Books.{Books, Asks, Does, to_write, to_read};
 
 use crate::wakeups::Waiters;
+use indexmap::IndexSet;
 use ymx_booked::{Booked, HubFault};
 use ymx_memory::RefusedAllocation;
 use ymx_model::{Fed, Got, Wrote};
@@ -21,6 +22,8 @@ pub(crate) struct Shared<R: Recorder> {
     pub(crate) waiters: Waiters,
     /// What the last feed touched.
     pub(crate) touched: Touched,
+    /// The streams that were released, whose reading halves are unspent.
+    pub(crate) released: IndexSet<u32>,
     /// A feed stopped at 1,024 unsent answers, and nothing was emitted since.
     pub(crate) is_full: bool,
     /// A write pump has given up, so that nothing goes out any more.
@@ -30,12 +33,13 @@ pub(crate) struct Shared<R: Recorder> {
 }
 
 impl<R: Recorder> Shared<R> {
-    /// Nobody waits, and nothing was touched.
-    pub(crate) fn new(booked: Booked<R>, touched: Touched) -> Shared<R> {
+    /// Nobody waits, nothing was touched, and these are released.
+    pub(crate) fn new(booked: Booked<R>, touched: Touched, released: IndexSet<u32>) -> Shared<R> {
         Shared {
             booked,
             waiters: Waiters::none(),
             touched,
+            released,
             is_full: false,
             is_mute: false,
             has_lacked_memory: false,

@@ -1,0 +1,34 @@
+-- One read behind another, until nothing waits or nothing more comes.
+use Rattle.std.proofs.Common.{◌≡◌, length, subst, Ok, Err}
+use Rattle.ymx_machine.specs.shared.Evidence.{evidence}
+use Rattle.ymx_model.specs.declared.types.Got.{Got}
+use Rattle.ymx_session.specs.Replies.{read_or}
+use Rattle.ymx_booked.specs.declared.faults.HubFault.TheVariants.{Memory}
+use Rattle.ymx_booked.specs.Books.{Books, Asks, to_read}
+use Rattle.ymx_hub.proofs.Released.{reads_on, reads_end, reads_refused, reads_lack}
+use Rattle.ymx_hub.proofs.shared.Shared.read_up.Goals as goal
+
+pub loop-preserved : goal.loop-preserved
+loop-preserved g c = record {
+  reads = reads_on g.R.Recorder.KEEPS c.args.seat.now c.loop.seat c.read.new.seat c.args.id (length c.loop.buffer) c.read.new.buffer c.loop.invariant.reads (Ok c.in-Ok-Bytes.field-0) c.in-Ok-Bytes.ensures.booked;
+}
+
+pub returns-in-Ok-End-clause-booked : goal.returns-in-Ok-End-clause-booked
+returns-in-Ok-End-clause-booked g c =
+    reads_end g.R.Recorder.KEEPS c.args.seat.now c.loop.seat c.read.new.seat c.args.id (length c.loop.buffer) c.read.new.buffer c.loop.invariant.reads
+    (subst (λ (got : Got). Books g.R.Recorder.KEEPS c.loop.seat c.read.new.seat (Asks (to_read c.args.id (length c.loop.buffer)) (λ given. read_or given c.read.new.buffer) c.loop.seat.number (Ok got))) c.in-Ok-End.field-0-is c.in-Ok-End.ensures.booked)
+
+pub returns-in-Err-Memory-clause-booked : goal.returns-in-Err-Memory-clause-booked
+returns-in-Err-Memory-clause-booked g c =
+    reads_lack g.R.Recorder.KEEPS c.args.seat.now c.read.new.seat c.args.id _
+    (reads_on g.R.Recorder.KEEPS c.args.seat.now c.loop.seat c.read.new.seat c.args.id (length c.loop.buffer) c.read.new.buffer c.loop.invariant.reads (Err c.in-Err-Memory.field-0) c.in-Err-Memory.ensures.booked)
+
+pub returns-in-Err-Call-clause-booked : goal.returns-in-Err-Call-clause-booked
+returns-in-Err-Call-clause-booked g c =
+    reads_refused g.R.Recorder.KEEPS c.args.seat.now c.loop.seat c.read.new.seat c.args.id (length c.loop.buffer) c.read.new.buffer c.loop.invariant.reads c.in-Err-Call.field-0
+    (λ (e : c.in-Err-Call.field-0 ≡ Memory evidence). cc (c.in-Err-Call.field-0-is)) c.in-Err-Call.ensures.booked
+
+pub returns-in-Err-Seats-clause-booked : goal.returns-in-Err-Seats-clause-booked
+returns-in-Err-Seats-clause-booked g c =
+    reads_refused g.R.Recorder.KEEPS c.args.seat.now c.loop.seat c.read.new.seat c.args.id (length c.loop.buffer) c.read.new.buffer c.loop.invariant.reads c.in-Err-Seats.field-0
+    (λ (e : c.in-Err-Seats.field-0 ≡ Memory evidence). cc (c.in-Err-Seats.field-0-is)) c.in-Err-Seats.ensures.booked

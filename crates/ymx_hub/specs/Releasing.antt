@@ -1,0 +1,43 @@
+-- What a hub does with a stream whose reader is done with it (this project's own).
+use Rattle.std.specs.Prelude.{◌≡◌, ℕ, ◌⊎◌, List, [], ◌∷◌, ◌++◌, Bool, true, false, Result, Ok, Err}
+use Rattle.ymx_memory.specs.declared.refused.RefusedAllocation.{RefusedAllocation}
+use Rattle.ymx_machine.specs.declared.types.CallFault.{CallFault}
+use Rattle.ymx_machine.specs.shared.Events.{Reply}
+use Rattle.ymx_machine.specs.declared.types.Reply.TheVariants as reply
+use Rattle.ymx_model.specs.declared.types.Entry.{Entry}
+use Rattle.ymx_booked.specs.Books.{Forgets, to_read}
+use Rattle.ymx_hub.specs.Turns.{EndsIn}
+
+-- each entry names this seat, and is a read of this stream
+abbrev pub AreReads : (id seat : ℕ) → List Entry → Type 0
+AreReads id seat [] = Unit {0}
+AreReads id seat (e ∷ es) = ((e.seat ≡ seat) × ((size : ℕ) × (e.event ≡ to_read id size))) × AreReads id seat es
+
+-- a read found that nothing more comes: the end, or a refusal
+abbrev pub FindsEnd : Reply → Type 0
+FindsEnd told = (told ≡ reply.ReadEnd) ⊎ ((why : CallFault) × (told ≡ reply.Refused why))
+
+-- reads, of which the last found that nothing more comes, if this is answered
+abbrev pub ReadsUp : (id seat : ℕ) → Result Bool RefusedAllocation → List Entry → Type 0
+ReadsUp id seat (Ok true) added = AreReads id seat added × EndsIn FindsEnd added
+ReadsUp id seat (Ok false) added = AreReads id seat added
+ReadsUp id seat (Err refused) added = AreReads id seat added
+
+-- Reads of the stream. It is given up only behind one that found that nothing more comes.
+abbrev pub Tends : (id seat : ℕ) → List Entry → Type 0
+Tends id seat added =
+    (reads : List Entry) × (last : List Entry) × (added ≡ reads ++ last) × AreReads id seat reads
+    × ((last ≡ []) ⊎ (EndsIn FindsEnd reads × Forgets id seat last))
+
+-- the entries of some streams, one stream behind another
+abbrev pub joined : List (ℕ × List Entry) → List Entry
+joined [] = []
+joined (p ∷ ps) = p.1 ++ joined ps
+
+abbrev pub AllTend : (seat : ℕ) → List (ℕ × List Entry) → Type 0
+AllTend seat [] = Unit {0}
+AllTend seat (p ∷ ps) = Tends p.0 seat p.1 × AllTend seat ps
+
+-- that of some streams
+abbrev pub Settles : (seat : ℕ) → List Entry → Type 0
+Settles seat added = (parts : List (ℕ × List Entry)) × (added ≡ joined parts) × AllTend seat parts
