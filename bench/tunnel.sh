@@ -22,6 +22,8 @@ peer, ymx, runs = sys.argv[1], sys.argv[2], int(sys.argv[3])
 ANY = "127.0.0.1:0"
 # Both ends with windows of 1 MiB.
 WIDE = "ymx --window 1048576"
+# Four connections between the ends, each with a thread of its own at either.
+LINKS = "ymx --links 4"
 # Another program of ymx, to be compared.
 BEFORE = os.environ.get("YMX_BEFORE")
 KINDS = ["ymx", "ymx before"] if BEFORE else ["ymx"]
@@ -86,9 +88,10 @@ def tunnel(kind, echo):
         far = Process([peer, "remote", "-at", ANY, "-to", echo.address])
         return Process([peer, "local", "-at", ANY, "-to", far.address]), far
     options = ["--window", "1048576"] if kind == WIDE else []
+    links, peers = (["--links", "4"], ["--peers", "4"]) if kind == LINKS else ([], [])
     program = BEFORE if kind == "ymx before" else ymx
-    far = Process([program, "remote", "--bind", free_address(), "--target", echo.address, *options], 3)
-    return Process([program, "local", "--listen", free_address(), "--peer", far.address, *options], 3), far
+    far = Process([program, "remote", "--bind", free_address(), "--target", echo.address, *options, *peers], 3)
+    return Process([program, "local", "--listen", free_address(), "--peer", far.address, *options, *links], 3), far
 
 
 def measure(kind, count, at_once, size):
@@ -109,6 +112,8 @@ for name, count, at_once, size in CASES:
     figures = {kind: [] for kind in KINDS}
     if count == 1:
         figures[WIDE] = []
+    elif at_once > 1:
+        figures[LINKS] = []
     for _ in range(runs):
         for kind in figures:
             figures[kind].append(measure(kind, count, at_once, size))

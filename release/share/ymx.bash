@@ -7,7 +7,7 @@ _ymx() {
     '') options='frames script local remote selftest help --help -h --version -V' ;;
     frames) options='--limit --help -h' ;;
     script | selftest) options='--help -h' ;;
-    local) options='--listen --peer --bind --keep --ping --count --window --verbose -v --help -h' ;;
+    local) options='--listen --peer --bind --keep --links --ping --count --window --verbose -v --help -h' ;;
     remote) options='--bind --peer --target --keep --peers --ping --window --workers --verbose -v --help -h' ;;
     help) options='frames script local remote selftest help' ;;
     *) return ;;
@@ -15,7 +15,7 @@ _ymx() {
     # the value of an option is a number or an address
     case $command$previous in
     *=) return ;;
-    frames--limit | local--listen | local--peer | local--bind | local--ping | local--count | local--window) return ;;
+    frames--limit | local--listen | local--peer | local--bind | local--links | local--ping | local--count | local--window) return ;;
     remote--bind | remote--peer | remote--target | remote--peers | remote--ping | remote--window | remote--workers) return ;;
     esac
     case $command,$word in

@@ -20,6 +20,7 @@ complete -c ymx -n '__fish_seen_subcommand_from local' -l listen -x -d 'Where co
 complete -c ymx -n '__fish_seen_subcommand_from local' -l peer -x -d 'Where the ymx remote listens'
 complete -c ymx -n '__fish_seen_subcommand_from local' -l bind -x -d 'Where it listens for the ymx remote'
 complete -c ymx -n '__fish_seen_subcommand_from local' -l keep -d 'Meet the peer again, once it was lost'
+complete -c ymx -n '__fish_seen_subcommand_from local' -l links -x -d 'How many connections to the peer it keeps'
 complete -c ymx -n '__fish_seen_subcommand_from local' -l ping -x -d 'Give up a peer that is silent for twice so many seconds'
 complete -c ymx -n '__fish_seen_subcommand_from local' -l count -x -d 'End after so many connections'
 complete -c ymx -n '__fish_seen_subcommand_from local' -l window -x -d 'How much of a stream may be unread here, in bytes'

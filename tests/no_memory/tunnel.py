@@ -12,6 +12,10 @@ What arrives is a beginning of what was sent, and all of it where both statuses 
 stream, as it has no memory for it, says so too. Only where it is refused to watch its connection to the target does it
 reset the stream, as where the target refuses it, and says nothing.
 
+The same is tried of `ymx local --links 2`, which starts three threads, to a `ymx remote --peers 2`: where no thread can be
+made for a link it says that it can't reach its peer, and nobody is served. Of all allocations just those of the links'
+threads may end so.
+
 The same is tried of a side that is told `--keep`. A `ymx remote` then goes on, so it is ended from outside once
 `ymx local` has ended. It serves each peer in a thread, and its start is refused too. Where a thread can't be made, the
 standard library doesn't say whether there was no memory for it. `ymx remote --keep` says then that it can't listen, and
@@ -194,6 +198,7 @@ class Tunnel:
         place, peer = (f"127.0.0.1:{port}" for port in ports)
         side, *keep = name.split()
         words = [self.program, "remote", "--bind", peer, "--target", target.address, "--workers", "2"]
+        words += ["--peers", "2"] * ("--links" in keep)
         is_refused = side == "remote"
         far = Side(words + keep * is_refused, ports[1], self.environment(is_refused, variable, number))
         sides.append(far)
@@ -256,6 +261,9 @@ def judge(name, variable, near, far, questions, answer, sides):
     if name == "remote --keep" and variable != POLL and far == cannot_listen:
         assert (near, questions, answer) == (good, [], b""), "the peer was served without a thread"
         return NO_THREAD
+    if name == "local --links 2" and variable != POLL and near == unreached and far == good:
+        assert (questions, answer) == ([], b""), "a user was served without a thread"
+        return NO_THREAD
     if variable == POLL:
         refused["remote"] = [cannot_listen]
         refused["local"] = [unreached, (1, f"ymx: cannot listen at 127.0.0.1:{sides[-1].port}\n")]
@@ -297,7 +305,7 @@ def try_all(run, name, variable):
         ending, came = run(variable, number)
         counts[ending] += 1
     told = ", ".join(f"{count} {ending}" for ending, count in sorted(counts.items()))
-    if counts[NO_THREAD] > 1:
+    if counts[NO_THREAD] > (2 if "--links" in name else 1):
         raise SystemExit(f"FAIL  ymx {name}: {variable}: {told}: one thread serves one peer")
     if counts["as ever"] == sum(counts.values()):
         raise SystemExit(f"FAIL  ymx {name}: {variable}: no run was refused anything")
@@ -308,13 +316,13 @@ def main():
     program, failing = sys.argv[1:]
     with tempfile.TemporaryDirectory() as folder:
         tunnel = Tunnel(program, failing, folder)
-        names = "remote", "local", "remote --keep", "local --keep"
+        names = "remote", "local", "remote --keep", "local --keep", "local --links 2"
         runs = {name: functools.partial(tunnel.run, name) for name in names}
         runs["selftest"] = tunnel.run_selftest
         for name, run in runs.items():
             try_all(run, name, "FAIL_AT")
             try_all(run, name, POLL)
-        for name in "remote --keep", "selftest":
+        for name in "remote --keep", "local --links 2", "selftest":
             try_all(runs[name], name, THREAD)
 
 

@@ -7,7 +7,7 @@ use Rattle.clap.specs.declared.parser.matches.ArgMatches.{ArgMatches}
 use Rattle.clap.specs.declared.parser.matches.ArgMatches.TheViews.{out-ArgMatches}
 use Rattle.clap.specs.Words.{Row, Text, one_of, subcommand_name_of, subcommand_rows_of}
 use Rattle.clap.specs.Walk.{first_of}
-use Rattle.ymx_arguments.specs.CommandLine.{HasBadOption, IsBad, IsBadEnd, IsNotSaid, IsNumberIn, IsUndecided, ReadsAs, named_words}
+use Rattle.ymx_arguments.specs.CommandLine.{AreBothGiven, HasBadOption, IsBad, IsBadEnd, IsNotSaid, IsNumberIn, IsUndecided, ReadsAs, named_words}
 
 -- the rows of a subcommand that was met have its limit
 pub named_text : (rows : List Row) (met : Option (Text × List Row)) (name : Text) (text word : Option Text) → Some rows ≡ option_map (λ p. p.1) met →
@@ -91,7 +91,8 @@ frames_numbers rows (inr (inr h)) = absurd (differ (codes "frames") (codes "remo
 -- those of `local`
 pub local_mistakes : (rows : List Row) → IsBadEnd (codes "local") rows →
     IsBad 0 4294967295 (first_of (codes "count") rows) ⊎ (IsBad 262144 16777216 (first_of (codes "window") rows)
-    ⊎ (IsBad 1 3600 (first_of (codes "ping") rows) ⊎ IsUndecided (first_of (codes "peer") rows) (first_of (codes "bind") rows)))
+    ⊎ (IsBad 1 3600 (first_of (codes "ping") rows) ⊎ (IsBad 1 64 (first_of (codes "links") rows)
+    ⊎ (IsUndecided (first_of (codes "peer") rows) (first_of (codes "bind") rows) ⊎ AreBothGiven (first_of (codes "links") rows) (first_of (codes "bind") rows)))))
 local_mistakes rows (inl h) = h.1
 local_mistakes rows (inr h) = absurd (differ (codes "local") (codes "remote") h.0 (λ e. omega arith))
 

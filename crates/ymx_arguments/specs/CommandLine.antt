@@ -128,6 +128,10 @@ ping_rule = number_rule (codes "ping") (pos 1) (pos 3600)
 abbrev pub peers_rule : Rule
 peers_rule = number_rule (codes "peers") (pos 1) (pos 256)
 
+-- `--links`, whose value is a number in its range
+abbrev pub links_rule : Rule
+links_rule = number_rule (codes "links") (pos 1) (pos 64)
+
 -- `--verbose`, or `-v`, a flag
 abbrev pub verbose_rule : Rule
 verbose_rule = record (new_rule (codes "verbose")) {
@@ -150,7 +154,7 @@ local_start = with_rule (with_rule (with_rule (new_app (codes "local")) (needed_
 
 -- `local` with what says how long it goes on
 abbrev pub local_lasting : App
-local_lasting = with_rule (with_rule (with_rule local_start keep_rule) ping_rule) count_rule
+local_lasting = with_rule (with_rule (with_rule (with_rule local_start keep_rule) links_rule) ping_rule) count_rule
 
 -- `local`
 abbrev pub local_shape : Shape
@@ -219,11 +223,19 @@ IsUndecided None (Some text) = ⊥
 IsUndecided (Some text) None = ⊥
 IsUndecided (Some text) (Some other) = ⊤
 
--- of an end of a tunnel: a text was given to one of its options that is no number of its range, or no way to meet its peer, or two
+-- Each of two options was given one of these texts.
+abbrev pub AreBothGiven : Option Text → Option Text → Type 0
+AreBothGiven None given = ⊥
+AreBothGiven (Some text) None = ⊥
+AreBothGiven (Some text) (Some other) = ⊤
+
+-- of an end of a tunnel: a text was given to one of its options that is no number of its range, or no way to meet its peer, or two,
+-- or links to a peer that is awaited
 abbrev pub IsBadEnd : Text → List Row → Type 0
 IsBadEnd name rows =
     ((name ≡ codes "local") × (IsBad 0 4294967295 (first_of (codes "count") rows) ⊎ (IsBad 262144 16777216 (first_of (codes "window") rows)
-    ⊎ (IsBad 1 3600 (first_of (codes "ping") rows) ⊎ IsUndecided (first_of (codes "peer") rows) (first_of (codes "bind") rows)))))
+    ⊎ (IsBad 1 3600 (first_of (codes "ping") rows) ⊎ (IsBad 1 64 (first_of (codes "links") rows)
+    ⊎ (IsUndecided (first_of (codes "peer") rows) (first_of (codes "bind") rows) ⊎ AreBothGiven (first_of (codes "links") rows) (first_of (codes "bind") rows)))))))
     ⊎ ((name ≡ codes "remote") × (IsBad 262144 16777216 (first_of (codes "window") rows) ⊎ (IsBad 1 1024 (first_of (codes "workers") rows)
     ⊎ (IsBad 1 3600 (first_of (codes "ping") rows) ⊎ (IsBad 1 256 (first_of (codes "peers") rows)
     ⊎ IsUndecided (first_of (codes "peer") rows) (first_of (codes "bind") rows))))))
@@ -233,7 +245,7 @@ abbrev pub HasBadOption : Text × List Row → Type 0
 HasBadOption (name, rows) = ((name ≡ codes "frames") × IsBad 262144 16777216 (first_of (codes "limit") rows)) ⊎ IsBadEnd name rows
 
 -- The words name a subcommand, and give one of its options a text that is no number of its range, or an end of a tunnel no way to
--- meet its peer, or two.
+-- meet its peer, or two, or links to a peer that is awaited.
 abbrev pub GivesBadOption : List Text → Type 0
 GivesBadOption words = IsSomeAnd (subcommand_of ymx_app words) HasBadOption
 
@@ -306,6 +318,7 @@ abbrev pub IsFaultFor : BadOption → CommandFault → Type 0
 IsFaultFor (bad.Number name text) fault = IsClap ValueValidation fault
 IsFaultFor bad.NoPeer fault = IsClap MissingRequiredArgument fault
 IsFaultFor bad.TwoPeers fault = IsClap ArgumentConflict fault
+IsFaultFor bad.AwaitedLinks fault = IsClap ArgumentConflict fault
 IsFaultFor (bad.Address text) (BadAddress said) = said.now ≡ text.now
 IsFaultFor (bad.Address text) (Clap error) = ⊥
 
@@ -327,6 +340,7 @@ IsNoAddress given (bad.Address text) = (text.now ≡ unwrap_or given []) × ((ad
 IsNoAddress given (bad.Number name text) = ⊥
 IsNoAddress given bad.NoPeer = ⊥
 IsNoAddress given bad.TwoPeers = ⊥
+IsNoAddress given bad.AwaitedLinks = ⊥
 
 -- The peer is met there, where each option was given this text, or none: it is connected to at the address of `--peer`, or awaited
 -- at that of `--bind`. Just one of them was given.
@@ -339,15 +353,24 @@ abbrev pub IsBadPeer : (given : Text → Option Text) → BadOption → Type 0
 IsBadPeer given (bad.Number name text) = ⊥
 IsBadPeer given bad.NoPeer = (given (codes "peer") ≡ None) × (given (codes "bind") ≡ None)
 IsBadPeer given bad.TwoPeers = (given (codes "peer") ≢ None) × (given (codes "bind") ≢ None)
+IsBadPeer given bad.AwaitedLinks = ⊥
 IsBadPeer given (bad.Address text) =
     (IsNoAddress (given (codes "peer")) (bad.Address text) × (given (codes "bind") ≡ None))
     ⊎ ((given (codes "peer") ≡ None) × IsNoAddress (given (codes "bind")) (bad.Address text))
 
--- the options of `local` can't be taken: a number isn't in its range, or this mistake says what is wrong with an address
+-- the mistake says that links were asked for, to a peer that is awaited
+abbrev pub IsBadLinks : (given : Text → Option Text) → BadOption → Type 0
+IsBadLinks given bad.AwaitedLinks = AreBothGiven (given (codes "links")) (given (codes "bind"))
+IsBadLinks given (bad.Number name text) = ⊥
+IsBadLinks given bad.NoPeer = ⊥
+IsBadLinks given bad.TwoPeers = ⊥
+IsBadLinks given (bad.Address text) = ⊥
+
+-- the options of `local` can't be taken: a number isn't in its range, or this mistake says what is wrong with an address, or with links
 abbrev pub IsBadLocal : (given : Text → Option Text) → BadOption → Type 0
 IsBadLocal given mistake =
     IsBad 0 4294967295 (given (codes "count")) ⊎ (IsBad 262144 16777216 (given (codes "window")) ⊎ (IsBad 1 3600 (given (codes "ping"))
-    ⊎ (IsBadPeer given mistake ⊎ IsNoAddress (given (codes "listen")) mistake)))
+    ⊎ (IsBad 1 64 (given (codes "links")) ⊎ (IsBadPeer given mistake ⊎ (IsBadLinks given mistake ⊎ IsNoAddress (given (codes "listen")) mistake)))))
 
 -- the same of `remote`
 abbrev pub IsBadRemote : (given : Text → Option Text) → BadOption → Type 0
@@ -357,12 +380,13 @@ IsBadRemote given mistake =
     ⊎ (IsBadPeer given mistake ⊎ IsNoAddress (given (codes "target")) mistake))))
 
 -- `local` is told what its options say, of which each was given this text, or none: addresses and numbers as they are spelled, one
--- way to meet its peer, and defaults where nothing was given.
+-- way to meet its peer, links only to one that it calls, and defaults where nothing was given.
 abbrev pub IsLocalOf : (given : Text → Option Text) → (flag : Text → Option Text) → TunnelCommand → Type 0
 IsLocalOf given flag (tunnel.Local local) =
     IsAddressOf (given (codes "listen")) local.listen × IsPeerOf given local.peer
     × ReadsAs 0 4294967295 (given (codes "count")) local.count × ReadsOr 262144 16777216 262144 (given (codes "window")) local.window
     × ReadsAs 1 3600 (given (codes "ping")) local.ping
+    × ReadsOr 1 64 1 (given (codes "links")) local.links × (AreBothGiven (given (codes "links")) (given (codes "bind")) → ⊥)
     × ReadsFlag (flag (codes "keep")) local.is_kept × ReadsFlag (flag (codes "verbose")) local.is_verbose
 IsLocalOf given flag (tunnel.Remote remote) = ⊥
 IsLocalOf given flag tunnel.Selftest = ⊥

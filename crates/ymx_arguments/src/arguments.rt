@@ -54,6 +54,8 @@ pub(crate) enum BadOption<'a> {
     NoPeer,
     /// Both `--peer` and `--bind` were given, of which one must be.
     TwoPeers,
+    /// Both `--links` and `--bind` were given, though only a peer that is called has links.
+    AwaitedLinks,
     /// This text is no IPv4 address with a port.
     Address { text: &'a str },
 }

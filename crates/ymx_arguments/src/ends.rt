@@ -3,7 +3,7 @@
 ghost use Rattle.std.specs.Prelude.{◌≡◌, false, IfOk};
 ghost use Rattle.clap.specs.Words.{app_of, rule_of, shape_of};
 ghost use Rattle.clap.specs.declared.builder.command.Command.TheViews.{out-Command as fields_of};
-ghost use Rattle.ymx_arguments.specs.CommandLine.{address_rule, count_rule, keep_rule, local_lasting, local_shape, local_start, needed_address_rule, peers_rule, ping_rule, remote_lasting, remote_shape, remote_start, renamed_address_rule, verbose_rule, window_rule, workers_rule};
+ghost use Rattle.ymx_arguments.specs.CommandLine.{address_rule, count_rule, keep_rule, links_rule, local_lasting, local_shape, local_start, needed_address_rule, peers_rule, ping_rule, remote_lasting, remote_shape, remote_start, renamed_address_rule, verbose_rule, window_rule, workers_rule};
 
 use crate::arguments::{bytes_argument, number_argument, titled};
 use clap::{Arg, ArgAction, Command};
@@ -24,6 +24,7 @@ fn local_lasting<'a>(alloc: Global) -> Result<Command<'a>, AllocError>
 {
     local_addresses(alloc)?
         .arg(keep_argument(alloc, "Meet the peer again, once it was lost"))?
+        .arg(links_argument(alloc))?
         .arg(ping_argument(alloc))?
         .arg(count_argument(alloc))
 }
@@ -150,6 +151,20 @@ fn count_argument<'a>(alloc: Global) -> Arg<'a>
     )
 }
 
+/// The argument `--links` of `local`.
+fn links_argument<'a>(alloc: Global) -> Arg<'a>
+    ensures { (rule_of result ≡ links_rule) × (result.global ≡ false) }
+{
+    number_argument(
+        alloc,
+        "links",
+        "N",
+        1,
+        64,
+        "How many connections to the peer it keeps, from 1 to 64, a thread each",
+    )
+}
+
 /// The argument `--ping`.
 fn ping_argument<'a>(alloc: Global) -> Arg<'a>
     ensures { (rule_of result ≡ ping_rule) × (result.global ≡ false) }
@@ -220,6 +235,7 @@ const LOCAL_HELP: &str =
     "It connects to the peer, and then listens. An address is an IPv4 address and a port.
 With --bind, in place of --peer, it listens for its peer first, and takes one.
 With --keep it goes on once the connection to its peer has ended.
+With --links it spreads its users over so many connections; its peer needs --keep or --peers.
 
 Example:
   ymx local --listen 127.0.0.1:8080 --peer 192.0.2.7:4000";

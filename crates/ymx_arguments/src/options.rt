@@ -2,7 +2,7 @@
 
 ghost use Rattle.std.specs.Prelude.{◌≡◌, ◌⊎◌, codes, IfErr, IfOk, IsErr, MatchResult};
 ghost use Rattle.clap.specs.Words.{first_value, found_of, one_text, rows_of};
-ghost use Rattle.ymx_arguments.specs.CommandLine.{IsAddressOf, IsBad, IsBadEnd, IsBadLocal, IsBadPeer, IsBadRemote, IsEnd, IsLocalOf, IsNoAddress, IsNotSaid, IsNotVerbose, IsPeerOf, IsRemoteOf, IsUndecided, ReadsOr};
+ghost use Rattle.ymx_arguments.specs.CommandLine.{AreBothGiven, IsAddressOf, IsBad, IsBadEnd, IsBadLinks, IsBadLocal, IsBadPeer, IsBadRemote, IsEnd, IsLocalOf, IsNoAddress, IsNotSaid, IsNotVerbose, IsPeerOf, IsRemoteOf, IsUndecided, ReadsOr};
 
 use crate::arguments::{BadOption, number_of};
 use clap::ArgMatches;
@@ -13,6 +13,9 @@ const DEFAULT_WINDOW: u32 = 262_144;
 
 /// How many streams `remote` serves at once where the command line says nothing.
 const DEFAULT_WORKERS: u32 = 1_024;
+
+/// How many connections to its peer `local` keeps where the command line says nothing.
+const DEFAULT_LINKS: u32 = 1;
 
 /// Where an end of the tunnel meets its peer.
 #[derive(Clone, Copy)]
@@ -47,6 +50,8 @@ pub struct LocalOptions {
     pub window: u32,
     /// Whether it meets its peer again once a session was lost: it connects at the next connection, or listens.
     pub is_kept: bool,
+    /// How many connections to its peer it keeps, 1 to 64: one where it listens for its peer.
+    pub links: u32,
     /// After how many seconds without a sign of the peer it asks for one, 1 to 3,600. None if it never does.
     pub ping: Option<u32>,
     /// Whether it says that it is ready, and how each connection ended.
@@ -97,14 +102,18 @@ fn local_options<'a>(found: &ArgMatches<'a>) -> Result<TunnelCommand, BadOption<
     ensures count { IsBad 0 4294967295 (first_value (found_of found.now) (codes "count")) → IsErr result }
     ensures window { IsBad 262144 16777216 (first_value (found_of found.now) (codes "window")) → IsErr result }
     ensures ping { IsBad 1 3600 (first_value (found_of found.now) (codes "ping")) → IsErr result }
+    ensures links { IsBad 1 64 (first_value (found_of found.now) (codes "links")) → IsErr result }
     ensures peer { IsUndecided (first_value (found_of found.now) (codes "peer")) (first_value (found_of found.now) (codes "bind")) → IsErr result }
+    ensures awaited { AreBothGiven (first_value (found_of found.now) (codes "links")) (first_value (found_of found.now) (codes "bind")) → IsErr result }
     ensures read { MatchResult result (IsLocalOf (first_value (found_of found.now)) (one_text (found_of found.now)))
         (IsBadLocal (first_value (found_of found.now))) }
 {
     let count = number_of(found, "count", 0, u32::MAX)?;
     let window = window_of(found)?;
     let ping = number_of(found, "ping", 1, 3600)?;
+    let links = links_of(found)?;
     check_peer(found)?;
+    check_links(found)?;
     let listen = address_of(found, "listen")?;
     let peer = peer_of(found)?;
     Ok(TunnelCommand::Local(LocalOptions {
@@ -113,6 +122,7 @@ fn local_options<'a>(found: &ArgMatches<'a>) -> Result<TunnelCommand, BadOption<
         count,
         window,
         is_kept: found.get_flag("keep"),
+        links,
         ping,
         is_verbose: found.get_flag("verbose"),
     }))
@@ -161,6 +171,18 @@ fn check_peer<'a>(found: &ArgMatches<'a>) -> Result<(), BadOption<'a>>
     }
 }
 
+/// Whether `--links` and `--bind` weren't both given.
+fn check_links<'a>(found: &ArgMatches<'a>) -> Result<(), BadOption<'a>>
+    ensures both { AreBothGiven (first_value (found_of found.now) (codes "links")) (first_value (found_of found.now) (codes "bind")) → IsErr result }
+    ensures mistake { MatchResult result (λ _. AreBothGiven (first_value (found_of found.now) (codes "links")) (first_value (found_of found.now) (codes "bind")) → ⊥)
+        (IsBadLinks (first_value (found_of found.now))) }
+{
+    match (found.get_str("links"), found.get_str("bind")) {
+        (Some(_), Some(_)) => Err(BadOption::AwaitedLinks),
+        (None, _) | (_, None) => Ok(()),
+    }
+}
+
 /// Where the peer is met: it is connected to at the address of `--peer`, or awaited at that of `--bind`, just one of
 /// which must be given.
 fn peer_of<'a>(found: &ArgMatches<'a>) -> Result<PeerAddress, BadOption<'a>>
@@ -194,4 +216,13 @@ fn window_of<'a>(found: &ArgMatches<'a>) -> Result<u32, BadOption<'a>>
 {
     let window = number_of(found, "window", 262_144, 16_777_216)?;
     Ok(window.unwrap_or(DEFAULT_WINDOW))
+}
+
+/// The value of `--links`, or the default one.
+fn links_of<'a>(found: &ArgMatches<'a>) -> Result<u32, BadOption<'a>>
+    ensures read { MatchResult result (ReadsOr 1 64 1 (first_value (found_of found.now) (codes "links"))) (λ _. IsBad 1 64 (first_value (found_of found.now) (codes "links"))) }
+    ensures bad { IsBad 1 64 (first_value (found_of found.now) (codes "links")) → IsErr result }
+{
+    let links = number_of(found, "links", 1, 64)?;
+    Ok(links.unwrap_or(DEFAULT_LINKS))
 }

@@ -23,6 +23,9 @@ const NO_PEER: &str =
 /// What is said where two ways to meet the peer were given.
 const TWO_PEERS: &str = "the argument '--peer <ADDRESS>' cannot be used with '--bind <ADDRESS>'";
 
+/// What is said where links to a peer were asked for that is awaited.
+const AWAITED_LINKS: &str = "the argument '--links <N>' cannot be used with '--bind <ADDRESS>'";
+
 /// What a command line asks for.
 #[derive(Clone, Copy)]
 pub enum Task<'a> {
@@ -114,6 +117,9 @@ fn fault_for<'a>(
         }
         BadOption::NoPeer => clap_fault(alloc, name, ErrorKind::MissingRequiredArgument, NO_PEER),
         BadOption::TwoPeers => clap_fault(alloc, name, ErrorKind::ArgumentConflict, TWO_PEERS),
+        BadOption::AwaitedLinks => {
+            clap_fault(alloc, name, ErrorKind::ArgumentConflict, AWAITED_LINKS)
+        }
         BadOption::Address { text } => Ok(CommandFault::BadAddress(text)),
     }
 }

@@ -1,8 +1,12 @@
 //! The connections that come to one side of a tunnel.
 
+use crate::inbox::{Inbox, Taken};
 use mio::net::{TcpListener, TcpStream};
 use mio::{Interest, Registry, Token};
+use std::alloc::Global;
 use std::io::ErrorKind;
+use std::sync::{Arc, Wait};
+use std::time::Clock;
 use std::{io, net};
 
 /// How often an accept whose connection went away meanwhile is made again in a row.
@@ -16,6 +20,8 @@ const FULL: [i32; 3] = [23, 24, 105];
 enum Source {
     /// A listener of its own.
     Listener(TcpListener),
+    /// Another thread, which accepts them.
+    Inbox(Arc<Inbox, Global>),
     /// No more are accepted.
     Closed,
     /// None can be accepted any more.
@@ -60,6 +66,17 @@ impl Listening {
         Ok(listening)
     }
 
+    /// Takes the connections that another thread leaves in this inbox.
+    pub(crate) fn of_inbox(inbox: Arc<Inbox, Global>) -> Listening {
+        Listening {
+            source: Source::Inbox(inbox),
+            can_accept: true,
+            left: None,
+            is_patient: true,
+            full_at: None,
+        }
+    }
+
     /// An event says that connections wait, or it is time to look whether one can be accepted.
     pub(crate) fn note_event(&mut self) {
         self.can_accept = true;
@@ -79,7 +96,7 @@ impl Listening {
     /// Whether no more are accepted.
     pub(crate) fn is_over(&self) -> bool {
         match self.source {
-            Source::Listener(_) => false,
+            Source::Listener(_) | Source::Inbox(_) => false,
             Source::Closed | Source::Failed => true,
         }
     }
@@ -89,9 +106,24 @@ impl Listening {
         matches!(&self.source, Source::Failed)
     }
 
-    /// Whether as many are accepted as come.
+    /// Whether as many are accepted as come to a listener.
     pub(crate) fn is_endless(&self) -> bool {
-        self.left.is_none()
+        match self.source {
+            Source::Inbox(_) => false,
+            Source::Listener(_) | Source::Closed | Source::Failed => self.left.is_none(),
+        }
+    }
+
+    /// The session was lost. Another thread is to bring connections to others: none comes any more or, where another
+    /// session follows, only where nobody else takes them.
+    pub(crate) fn note_loss<R: Clock + Wait>(&self, rt: &R, is_kept: bool) {
+        if let Source::Inbox(inbox) = &self.source {
+            if is_kept {
+                inbox.rest(rt);
+            } else {
+                inbox.close(rt);
+            }
+        }
     }
 
     /// No more are accepted.
@@ -115,11 +147,45 @@ impl Listening {
 
     /// The next connection that waits, which never waits itself, where so many are open. None if none waits, none can be
     /// accepted now, or none is accepted any more.
-    pub(crate) fn accept(&mut self, open: usize) -> Option<TcpStream> {
-        let Source::Listener(listener) = &self.source else {
-            return None;
-        };
-        match accept(listener) {
+    pub(crate) fn accept<R: Wait>(&mut self, rt: &R, open: usize) -> Option<TcpStream> {
+        match &self.source {
+            Source::Listener(listener) => {
+                let accepted = accept(listener);
+                self.note_accepted(accepted, open)
+            }
+            Source::Inbox(inbox) => {
+                let taken = inbox.take(rt);
+                self.note_taken(taken)
+            }
+            Source::Closed | Source::Failed => None,
+        }
+    }
+
+    /// What was taken from the inbox.
+    fn note_taken(&mut self, taken: Taken) -> Option<TcpStream> {
+        match taken {
+            Taken::Connection(socket) => {
+                self.can_accept = true;
+                Some(socket)
+            }
+            Taken::NotNow => {
+                self.can_accept = false;
+                None
+            }
+            Taken::Closed => {
+                self.stop();
+                None
+            }
+        }
+    }
+
+    /// What came of an accept where so many connections are open.
+    fn note_accepted(
+        &mut self,
+        accepted: Result<TcpStream, Refusal>,
+        open: usize,
+    ) -> Option<TcpStream> {
+        match accepted {
             Ok(socket) => {
                 self.can_accept = true;
                 self.full_at = None;

@@ -2,9 +2,10 @@
 
 use crate::accepting::Listening;
 use crate::peer::Peer;
+use crate::starting::StartFault;
 use crate::tunnel_end::{RETRY, new_events};
 use mio::{Events, Poll, Token, Waker};
-use std::alloc::{AllocError, Global};
+use std::alloc::Global;
 use std::io;
 use std::net::{Net, TcpListener};
 use std::sync::Wait;
@@ -16,27 +17,6 @@ const KNOCKS: usize = 0;
 
 /// The token of those who leave.
 const LEAVINGS: usize = 1;
-
-/// Why there is no door.
-#[derive(Drop)]
-pub(crate) enum DoorFault {
-    /// The system refuses to watch the listener.
-    Unwatched(io::Error),
-    /// There is no memory.
-    OutOfMemory(AllocError),
-}
-
-impl From<io::Error> for DoorFault {
-    fn from(error: io::Error) -> DoorFault {
-        DoorFault::Unwatched(error)
-    }
-}
-
-impl From<AllocError> for DoorFault {
-    fn from(refused: AllocError) -> DoorFault {
-        DoorFault::OutOfMemory(refused)
-    }
-}
 
 /// What came of waiting at the door.
 #[derive(Drop)]
@@ -97,7 +77,7 @@ impl Door {
         listener: TcpListener,
         places: u32,
         is_kept: bool,
-    ) -> Result<(Door, Inside), DoorFault> {
+    ) -> Result<(Door, Inside), StartFault> {
         let events = new_events(alloc)?;
         let poll = Poll::new(rt)?;
         let registry = poll.registry();
@@ -127,7 +107,7 @@ impl Door {
                 return Knock::Empty;
             }
             if count < self.places {
-                if let Some(socket) = self.listening.accept(0) {
+                if let Some(socket) = self.listening.accept(rt, 0) {
                     self.has_served = true;
                     return Knock::Came(Peer::of(socket));
                 }

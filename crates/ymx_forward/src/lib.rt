@@ -1,6 +1,6 @@
 //! What `ymx local`, `ymx remote` and `ymx selftest` do once their command lines are read: they make the connections,
-//! run one end of a tunnel over them, and say what went wrong. An end is one thread: an engine that is driven by what
-//! epoll says of its wire, its listener and its connections.
+//! run one end of a tunnel over them, and say what went wrong. An end is one thread, or one for each peer or link: an
+//! engine that is driven by what epoll says of its wire, its listener and its connections.
 //!
 //! Whatever the system answers, nothing aborts; at a good end no fault is said. Which bytes a socket carries, no contract
 //! sees.
@@ -10,7 +10,9 @@ mod accepting;
 mod closing;
 mod door;
 mod forwarding;
+mod inbox;
 mod keeping;
+mod links;
 mod meeting;
 mod notices;
 mod peer;
@@ -22,6 +24,7 @@ mod sides;
 mod silence;
 mod socket;
 mod sockets;
+mod starting;
 mod stillness;
 mod tell;
 mod tunnel;

@@ -4,6 +4,7 @@ ghost use Rattle.std.specs.Prelude.{◌≡◌, ◌≤◌, None, false};
 ghost use Rattle.std.specs.Io.KnownBytes.{Keeps};
 
 use crate::keeping::{Meeting, keep_calling, keep_local};
+use crate::links::run_links;
 use crate::meeting::meet;
 use crate::notices::{Notices, ProgramWatcher};
 use crate::serving::{serve_all, serve_until_none};
@@ -26,43 +27,47 @@ const PEERS: u32 = 16;
 /// Meets the peer, and forwards each connection that comes as a stream. Says faults on `errors`, and the lines
 /// that `is_verbose` asks for on `lines`. Answers the exit status.
 pub fn run_local<
-    R: Net<Stream = TcpStream, Listener = TcpListener> + Clock + Wait,
-    E: Outlet,
-    L: Outlet,
+    R: Net<Stream = TcpStream, Listener = TcpListener> + Clock + Threads + Wait + Sync,
+    E: Outlet + Send,
+    L: Outlet + Send,
 >(rt: &R, alloc: Global, options: LocalOptions, errors: &mut E, lines: &mut L) -> u8
     ensures status { result ≤ 1 }
     ensures good { result ≡ 0 → Keeps (E.contents errors.old) (E.contents errors.new) }
     ensures silent { options.is_verbose ≡ false → Keeps (L.contents lines.old) (L.contents lines.new) }
 {
     if options.is_verbose {
-        local_end(rt, alloc, options, &mut Notices::new(lines), errors)
+        local_end(rt, alloc, options, Notices::new(lines), errors)
     } else {
-        local_end(rt, alloc, options, &mut Unwatched, errors)
+        local_end(rt, alloc, options, Unwatched, errors)
     }
 }
 
 /// Meets the peer, and forwards each connection that comes as a stream. Answers the exit status.
 fn local_end<
-    R: Net<Stream = TcpStream, Listener = TcpListener> + Clock + Wait,
-    V: ProgramWatcher,
-    E: Outlet,
->(rt: &R, alloc: Global, options: LocalOptions, watcher: &mut V, errors: &mut E) -> u8
+    R: Net<Stream = TcpStream, Listener = TcpListener> + Clock + Threads + Wait + Sync,
+    V: ProgramWatcher + Send + Drop,
+    E: Outlet + Send,
+>(rt: &R, alloc: Global, options: LocalOptions, watcher: V, errors: &mut E) -> u8
     ensures status { result ≤ 1 }
     ensures good { result ≡ 0 → Keeps (E.contents errors.old) (E.contents errors.new) }
 {
+    let mut watcher = watcher;
     match options.peer {
+        PeerAddress::Connect(address) if options.links > 1 => {
+            run_links(rt, alloc, address, options, watcher, errors)
+        }
         PeerAddress::Connect(_) if !options.is_kept => {
-            reaching_end(rt, alloc, options, watcher, errors)
+            reaching_end(rt, alloc, options, &mut watcher, errors)
         }
         PeerAddress::Connect(address) => {
             let meeting = Meeting {
                 address,
                 listener: None,
             };
-            meeting_end(rt, alloc, meeting, options, watcher, errors)
+            meeting_end(rt, alloc, meeting, options, &mut watcher, errors)
         }
         PeerAddress::Listen(address) => {
-            awaiting_end(rt, alloc, address, options, watcher, errors)
+            awaiting_end(rt, alloc, address, options, &mut watcher, errors)
         }
     }
 }

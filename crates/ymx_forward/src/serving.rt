@@ -4,12 +4,13 @@ ghost use Rattle.std.specs.Prelude.{◌≡◌, ◌≤◌};
 ghost use Rattle.std.specs.Io.KnownBytes.{Keeps};
 ghost use Rattle.std.specs.Thread.{IsSend};
 
-use crate::door::{Door, DoorFault, Inside, Knock};
+use crate::door::{Door, Inside, Knock};
 use crate::notices::ProgramWatcher;
 use crate::peer::Peer;
 use crate::programs::{remote_side, report_session};
 use crate::shared::Shared;
 use crate::sides::Forwarded;
+use crate::starting::StartFault;
 use crate::tell::{cannot_listen, lacks_memory};
 use crate::tunnel_end::{Limits, TunnelEnd, new_events};
 use std::alloc::Global;
@@ -130,12 +131,12 @@ pub(crate) fn serve_until_none<
 }
 
 /// Says why no peer can be let in.
-fn no_door<E: Outlet>(alloc: Global, address: SocketAddr, fault: DoorFault, errors: &mut E) -> u8
+fn no_door<E: Outlet>(alloc: Global, address: SocketAddr, fault: StartFault, errors: &mut E) -> u8
     ensures { result ≡ 1 }
 {
     match fault {
-        DoorFault::Unwatched(_) => cannot_listen(alloc, address, errors),
-        DoorFault::OutOfMemory(refused) => lacks_memory(refused, errors),
+        StartFault::Unwatched(_) => cannot_listen(alloc, address, errors),
+        StartFault::OutOfMemory(refused) => lacks_memory(refused, errors),
     }
 }
 

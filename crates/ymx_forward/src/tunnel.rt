@@ -282,13 +282,13 @@ impl<'a> TunnelLoop<'a> {
     }
 
     /// Does what can be done now.
-    fn take_turn<R: Net, V: Watcher>(&mut self, rt: &R, watcher: &mut V)
+    fn take_turn<R: Net + Clock + Wait, V: Watcher>(&mut self, rt: &R, watcher: &mut V)
         ensures { Runs self.old.tunnel self.new.tunnel }
     {
-        self.accept_connections(watcher);
+        self.accept_connections(rt, watcher);
         self.read_wire();
         self.accept_streams(rt, watcher);
-        self.tell_loss();
+        self.tell_loss(rt);
         self.serve_queued(watcher);
         self.flush();
         self.end_lost_wire();
@@ -390,14 +390,14 @@ impl<'a> TunnelLoop<'a> {
     }
 
     /// Opens a stream for each connection that waits. Those that come for the next session are left to it.
-    fn accept_connections<V: Watcher>(&mut self, watcher: &mut V)
+    fn accept_connections<R: Wait, V: Watcher>(&mut self, rt: &R, watcher: &mut V)
         ensures { Runs self.old.tunnel self.new.tunnel }
     {
         if self.is_to_be_followed() {
             return;
         }
         'accept: for _ in 0..ACCEPTS {
-            let Some(socket) = self.next_connection() else {
+            let Some(socket) = self.next_connection(rt) else {
                 return;
             };
             self.begin_local(socket, watcher);
@@ -405,7 +405,7 @@ impl<'a> TunnelLoop<'a> {
     }
 
     /// A connection that came, if one may be accepted.
-    fn next_connection(&mut self) -> Option<TcpStream>
+    fn next_connection<R: Wait>(&mut self, rt: &R) -> Option<TcpStream>
         ensures { self.new.tunnel ≡ self.old.tunnel }
     {
         let open = self.tunnel.len();
@@ -415,7 +415,7 @@ impl<'a> TunnelLoop<'a> {
         if !listening.may_accept(open) {
             return None;
         }
-        listening.accept(open)
+        listening.accept(rt, open)
     }
 
     /// Opens a stream for a connection. Once the session is lost the connection is closed, and it is the last one
@@ -609,14 +609,18 @@ impl<'a> TunnelLoop<'a> {
     }
 
     /// Once the session is lost, each connection is asked for bytes, so that it is shut, unless its end came before.
-    /// What waits for one that is still being made is written first.
-    fn tell_loss(&mut self)
+    /// What waits for one that is still being made is written first. Who brings connections is told too.
+    fn tell_loss<R: Clock + Wait>(&mut self, rt: &R)
         ensures { self.new.tunnel ≡ self.old.tunnel }
     {
         if self.is_loss_told || !self.is_lost() {
             return;
         }
         self.is_loss_told = true;
+        let is_kept = self.tunnel_end.is_kept;
+        if let Side::Local(listening) = &self.tunnel_end.side {
+            listening.note_loss(rt, is_kept);
+        }
         self.tunnel.tell_loss();
     }
 

@@ -2,16 +2,18 @@
 
 use crate::accepting::Listening;
 use crate::closing::close;
+use crate::inbox::Inbox;
 use crate::peer::Peer;
 use crate::sides::{Forwarded, TunnelSide};
 use crate::socket::Socket;
+use crate::starting::StartFault;
 use crate::tunnel::{TunnelLoop, wire_of};
 use crate::watching::{Declined, Watcher};
 use mio::net::TcpStream;
-use mio::{Events, Poll, Token};
+use mio::{Events, Poll, Token, Waker};
 use std::alloc::{AllocError, Global};
 use std::net::{Net, SocketAddr};
-use std::sync::Wait;
+use std::sync::{Arc, Wait};
 use std::time::{Clock, Duration};
 use std::{io, net};
 use ymx_model::CallFault;
@@ -126,6 +128,29 @@ impl TunnelEnd {
         })
     }
 
+    /// A side whose connections another thread leaves in the inbox, as [`TunnelEnd::new`] makes one. That thread is woken by
+    /// `acceptor`.
+    pub(crate) fn linked<R: Net>(
+        rt: &R,
+        alloc: Global,
+        acceptor: Arc<Waker, Global>,
+        is_kept: bool,
+        limits: Limits,
+    ) -> Result<(TunnelEnd, Arc<Inbox, Global>), StartFault> {
+        let poll = Poll::new(rt)?;
+        let waker = Waker::new(poll.registry(), Token(LISTENER))?;
+        let inbox = Arc::new(alloc, Inbox::new(alloc, waker, acceptor))?;
+        let listening = Listening::of_inbox(Arc::try_clone(&inbox)?);
+        let tunnel_end = TunnelEnd {
+            poll,
+            side: Side::Local(listening),
+            is_kept,
+            limits,
+            waiting: None,
+        };
+        Ok((tunnel_end, inbox))
+    }
+
     /// Runs a session over this connection, and serves this side of the tunnel, in this thread alone. Once that side
     /// has ended it sends all that is due, closes its writing side, and waits for the peer to close the connection.
     ///
@@ -207,7 +232,7 @@ impl TunnelEnd {
     pub(crate) fn await_connection<R: Wait>(&mut self, rt: &R, events: &mut Events) -> Awaited {
         for _ in rt.forever() {
             self.note_all();
-            if self.take_waiting() {
+            if self.take_waiting(rt) {
                 return Awaited::Came;
             }
             if self.accept_failed() {
@@ -238,10 +263,10 @@ impl TunnelEnd {
         for _ in rt.forever() {
             self.note_all();
             peers.note_event();
-            if let Some(socket) = peers.accept(0) {
+            if let Some(socket) = peers.accept(rt, 0) {
                 return AwaitedPeer::Came(Peer::of(socket));
             }
-            if self.take_waiting() {
+            if self.take_waiting(rt) {
                 self.refuse_waiting(watcher);
             } else if let Some(end) = self.end_of_wait(&peers) {
                 return end;
@@ -289,10 +314,10 @@ impl TunnelEnd {
     }
 
     /// Accepts a connection that the next session is to serve. False if none waits.
-    fn take_waiting(&mut self) -> bool {
+    fn take_waiting<R: Wait>(&mut self, rt: &R) -> bool {
         if self.waiting.is_none() {
             if let Side::Local(listening) = &mut self.side {
-                self.waiting = listening.accept(0);
+                self.waiting = listening.accept(rt, 0);
             }
         }
         self.waiting.is_some()

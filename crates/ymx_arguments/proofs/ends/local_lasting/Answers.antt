@@ -10,6 +10,8 @@ returns c =
     let start = c.in_ok-local_addresses.ensures in
     let one = c.in_ok-arg.ensures.shape c.keep_argument.ensures.1 ∙ ap₂ with_rule start.0 c.keep_argument.ensures.0 in
     let local_one = c.in_ok-arg.ensures.globals ∙ ap₂ either start.1 c.keep_argument.ensures.1 in
-    let two = c.in_ok-arg-2.ensures.shape c.ping_argument.ensures.1 ∙ ap₂ with_rule one c.ping_argument.ensures.0 in
-    let local_two = c.in_ok-arg-2.ensures.globals ∙ ap₂ either local_one c.ping_argument.ensures.1 in
-    IfOk-weaker c.arg-3.result _ _ (λ r added. (added.shape c.count_argument.ensures.1 ∙ ap₂ with_rule two c.count_argument.ensures.0, added.globals ∙ ap₂ either local_two c.count_argument.ensures.1)) c.arg-3.ensures
+    let two = c.in_ok-arg-2.ensures.shape c.links_argument.ensures.1 ∙ ap₂ with_rule one c.links_argument.ensures.0 in
+    let local_two = c.in_ok-arg-2.ensures.globals ∙ ap₂ either local_one c.links_argument.ensures.1 in
+    let three = c.in_ok-arg-3.ensures.shape c.ping_argument.ensures.1 ∙ ap₂ with_rule two c.ping_argument.ensures.0 in
+    let local_three = c.in_ok-arg-3.ensures.globals ∙ ap₂ either local_two c.ping_argument.ensures.1 in
+    IfOk-weaker c.arg-4.result _ _ (λ r added. (added.shape c.count_argument.ensures.1 ∙ ap₂ with_rule three c.count_argument.ensures.0, added.globals ∙ ap₂ either local_three c.count_argument.ensures.1)) c.arg-4.ensures

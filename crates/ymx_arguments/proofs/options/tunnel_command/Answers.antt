@@ -13,7 +13,9 @@ returns-in-local-clause-options c = λ bad.
       | inl h ↦ c.local_options.ensures.count (subst (IsBad 0 4294967295) (sym (first_value-rows found (codes "count"))) h)
       | inr (inl h) ↦ c.local_options.ensures.window (subst (IsBad 262144 16777216) (sym (first_value-rows found (codes "window"))) h)
       | inr (inr (inl h)) ↦ c.local_options.ensures.ping (subst (IsBad 1 3600) (sym (first_value-rows found (codes "ping"))) h)
-      | inr (inr (inr h)) ↦ c.local_options.ensures.peer (rw (first_value-rows found (codes "peer"), first_value-rows found (codes "bind")) h)
+      | inr (inr (inr (inl h))) ↦ c.local_options.ensures.links (subst (IsBad 1 64) (sym (first_value-rows found (codes "links"))) h)
+      | inr (inr (inr (inr (inl h)))) ↦ c.local_options.ensures.peer (rw (first_value-rows found (codes "peer"), first_value-rows found (codes "bind")) h)
+      | inr (inr (inr (inr (inr h)))) ↦ c.local_options.ensures.awaited (rw (first_value-rows found (codes "links"), first_value-rows found (codes "bind")) h)
     ]
 
 pub returns-in-remote-clause-options : goal.returns-in-remote-clause-options

@@ -1,0 +1,490 @@
+//! A `local` that keeps several connections to its peer: each is a link, with a session and a thread of its own. One
+//! thread accepts the users, and gives each to the link that has the fewest.
+
+ghost use Rattle.std.specs.Prelude.{◌≡◌, ◌≤◌};
+ghost use Rattle.std.specs.Io.KnownBytes.{Keeps};
+ghost use Rattle.std.specs.Thread.{IsSend};
+
+use crate::accepting::Listening;
+use crate::inbox::{Inbox, NotLeft, Taken, are_closed, close_all, leave_lightest};
+use crate::notices::ProgramWatcher;
+use crate::peer::Peer;
+use crate::programs::report;
+use crate::shared::Shared;
+use crate::sides::Forwarded;
+use crate::sockets::{connect, listen};
+use crate::starting::StartFault;
+use crate::tell::{cannot_listen, cannot_reach, lacks_memory};
+use crate::tunnel_end::{Awaited, Limits, RETRY, TunnelEnd, new_events};
+use crate::watching::{Declined, EndedConnection, Watcher};
+use crossbeam_channel::{Receiver, Sender, bounded};
+use mio::net::TcpStream as Socket;
+use mio::{Events, Poll, Token, Waker};
+use std::alloc::Global;
+use std::net::{Net, SocketAddr, TcpListener, TcpStream};
+use std::sync::{Arc, Mutex, Wait};
+use std::thread::{Threads, join_mut};
+use std::time::{Clock, Duration};
+use std::{io, thread};
+use ymx_arguments::LocalOptions;
+use ymx_model::{CallFault, Outlet};
+
+/// The token of the listener.
+const USERS: usize = 0;
+
+/// The token of the links, which tell that they are lost.
+const LOSSES: usize = 1;
+
+/// How many reports may wait to be heard. More than there are links, so that no link waits where each reports once.
+const REPORTS: usize = 1_024;
+
+/// A connection to the peer, and what its thread needs.
+#[derive(Drop)]
+struct Link {
+    /// None where the peer is called only for a connection of a user.
+    peer: Option<Peer>,
+    tunnel_end: TunnelEnd,
+    events: Events,
+    inbox: Arc<Inbox, Global>,
+}
+
+/// Where users come in, and where they are left.
+#[derive(Drop)]
+struct Reception {
+    poll: Poll,
+    events: Events,
+    listening: Listening,
+    inboxes: Vec<Arc<Inbox, Global>>,
+}
+
+/// Who is told of the connections of a link, and counts them.
+#[derive(Drop)]
+struct LinkWatcher<'a, R: Wait, V: ProgramWatcher> {
+    shared: Shared<'a, R, V>,
+    inbox: Arc<Inbox, Global>,
+}
+
+impl<R: Wait, V: ProgramWatcher> Watcher for LinkWatcher<'_, R, V> {
+    fn begins(&mut self) -> u64 {
+        self.shared.begins()
+    }
+
+    fn ended(&mut self, number: u64, ended: &EndedConnection) {
+        self.inbox.note_ended();
+        self.shared.ended(number, ended);
+    }
+
+    fn refused(&mut self, number: u64, why: Declined) {
+        self.inbox.note_ended();
+        self.shared.refused(number, why);
+    }
+}
+
+/// Forwards each connection that comes through the link to this peer that has the fewest. Says what went wrong, and answers
+/// the exit status. The links are made at once, or with `--keep` as connections come.
+pub(crate) fn run_links<
+    R: Net<Stream = TcpStream, Listener = TcpListener> + Clock + Threads + Wait + Sync,
+    V: ProgramWatcher + Send + Drop,
+    E: Outlet + Send,
+>(
+    rt: &R,
+    alloc: Global,
+    address: SocketAddr,
+    options: LocalOptions,
+    watcher: V,
+    errors: &mut E,
+) -> u8
+    ensures status { result ≤ 1 }
+    ensures good { result ≡ 0 → Keeps (E.contents errors.old) (E.contents errors.new) }
+{
+    let mut watcher = watcher;
+    let peers = match call_all(rt, alloc, address, options) {
+        Ok(peers) => peers,
+        Err(StartFault::Unwatched(_)) => return cannot_reach(alloc, address, errors),
+        Err(StartFault::OutOfMemory(refused)) => return lacks_memory(refused, errors),
+    };
+    let Some(listener) = listen(rt, options.listen) else {
+        return cannot_listen(alloc, options.listen, errors);
+    };
+    watcher.listening(&listener, options.listen);
+    match prepare(rt, alloc, listener, peers, options) {
+        Ok((reception, links)) => {
+            serve_links(
+                rt, alloc, address, reception, links, options, watcher, errors,
+            )
+        }
+        Err(StartFault::Unwatched(_)) => cannot_listen(alloc, options.listen, errors),
+        Err(StartFault::OutOfMemory(refused)) => lacks_memory(refused, errors),
+    }
+}
+
+/// Calls the peer once for each link, or with `--keep` not yet. The fault is that of the first call that failed.
+fn call_all<R: Net<Stream = TcpStream>>(
+    rt: &R,
+    alloc: Global,
+    address: SocketAddr,
+    options: LocalOptions,
+) -> Result<Vec<Option<Peer>>, StartFault> {
+    let mut peers = Vec::new(alloc);
+    for _ in 0..options.links {
+        let peer = if options.is_kept {
+            None
+        } else {
+            Some(call(rt, address)?)
+        };
+        peers.push(peer)?;
+    }
+    Ok(peers)
+}
+
+/// Calls the peer.
+fn call<R: Net<Stream = TcpStream>>(rt: &R, address: SocketAddr) -> io::Result<Peer> {
+    let connection = TcpStream::connect(rt, address)?;
+    connection.set_nonblocking(true)?;
+    Ok(Peer::of(Socket::from_std(connection)))
+}
+
+/// Makes a loop for each of these links, and the reception of users who come to this listener.
+fn prepare<R: Net>(
+    rt: &R,
+    alloc: Global,
+    listener: TcpListener,
+    peers: Vec<Option<Peer>>,
+    options: LocalOptions,
+) -> Result<(Reception, Vec<Link>), StartFault> {
+    let poll = Poll::new(rt)?;
+    let registry = poll.registry();
+    let acceptor = Arc::new(alloc, Waker::new(registry, Token(LOSSES))?)?;
+    let count = options.count;
+    let listening = Listening::new(listener, count, options.is_kept, registry, Token(USERS))?;
+    let mut links = Vec::new(alloc);
+    let mut inboxes = Vec::new(alloc);
+    for peer in peers {
+        let link = new_link(rt, alloc, peer, Arc::try_clone(&acceptor)?, options)?;
+        inboxes.push(Arc::try_clone(&link.inbox)?)?;
+        links.push(link)?;
+    }
+    let reception = Reception {
+        events: new_events(alloc)?,
+        poll,
+        listening,
+        inboxes,
+    };
+    Ok((reception, links))
+}
+
+/// A link to this peer, or to one that is called later.
+fn new_link<R: Net>(
+    rt: &R,
+    alloc: Global,
+    peer: Option<Peer>,
+    acceptor: Arc<Waker, Global>,
+    options: LocalOptions,
+) -> Result<Link, StartFault> {
+    let limits = Limits::new(options.ping, options.is_kept);
+    let events = new_events(alloc)?;
+    let (tunnel_end, inbox) = TunnelEnd::linked(rt, alloc, acceptor, options.is_kept, limits)?;
+    Ok(Link {
+        peer,
+        tunnel_end,
+        events,
+        inbox,
+    })
+}
+
+/// Serves users through these links, each in a thread of its own, and says what went wrong in one more. Answers the exit
+/// status.
+fn serve_links<
+    R: Net<Stream = TcpStream, Listener = TcpListener> + Clock + Threads + Wait + Sync,
+    V: ProgramWatcher + Send + Drop,
+    E: Outlet + Send,
+>(
+    rt: &R,
+    alloc: Global,
+    address: SocketAddr,
+    reception: Reception,
+    links: Vec<Link>,
+    options: LocalOptions,
+    watcher: V,
+    errors: &mut E,
+) -> u8
+    ensures status { result ≤ 1 }
+    ensures good { result ≡ 0 → Keeps (E.contents errors.old) (E.contents errors.new) }
+{
+    let (sender, receiver) = match bounded::<Forwarded, Global>(alloc, REPORTS) {
+        Ok(ends) => ends,
+        Err(refused) => return lacks_memory(refused, errors),
+    };
+    let mut work = Some((reception, links, watcher, sender));
+    let (status, ()) = join_mut(
+        rt,
+        &mut || hear_all(rt, alloc, &receiver, options, errors),
+        &mut || {
+            if let Some((reception, links, watcher, sender)) = work.take() {
+                let watcher = Mutex::new(watcher);
+                run_all(
+                    rt, alloc, address, reception, links, options, &watcher, &sender,
+                );
+            }
+        },
+    );
+    status
+}
+
+/// Hears what went wrong until all is done. With `--keep` each fault is said as it comes, and else one at the end. Answers
+/// the exit status.
+fn hear_all<R: Wait, E: Outlet>(
+    rt: &R,
+    alloc: Global,
+    receiver: &Receiver<Forwarded, Global>,
+    options: LocalOptions,
+    errors: &mut E,
+) -> u8
+    ensures status { result ≤ 1 }
+    ensures good { result ≡ 0 → Keeps (E.contents errors.old) (E.contents errors.new) }
+{
+    if options.is_kept {
+        return say_all(rt, alloc, receiver, options, errors);
+    }
+    let forwarded = gather_all(rt, receiver);
+    report(alloc, options, forwarded, errors)
+}
+
+/// Says each fault as it comes, and answers the exit status.
+fn say_all<R: Wait, E: Outlet>(
+    rt: &R,
+    alloc: Global,
+    receiver: &Receiver<Forwarded, Global>,
+    options: LocalOptions,
+    errors: &mut E,
+) -> u8
+    ensures status { result ≤ 1 }
+    ensures good { result ≡ 0 → Keeps (E.contents errors.old) (E.contents errors.new) }
+{
+    let mut status = 0;
+    for _ in rt.forever() {
+        let Ok(forwarded) = receiver.recv(rt) else {
+            return status;
+        };
+        let said = report(alloc, options, forwarded, errors);
+        if status == 0 {
+            status = said;
+        }
+    }
+    unreachable!()
+}
+
+/// All that went wrong.
+fn gather_all<R: Wait>(rt: &R, receiver: &Receiver<Forwarded, Global>) -> Forwarded {
+    let mut all = Forwarded::well();
+    for _ in rt.forever() {
+        match receiver.recv(rt) {
+            Ok(forwarded) => all = all.and(forwarded),
+            Err(_) => return all,
+        }
+    }
+    unreachable!()
+}
+
+/// Runs each link in a thread of its own, and accepts users in this one. Where a thread can't be made nobody is served.
+fn run_all<
+    R: Net<Stream = TcpStream, Listener = TcpListener> + Clock + Threads + Wait + Sync,
+    V: ProgramWatcher + Send + Drop,
+>(
+    rt: &R,
+    alloc: Global,
+    address: SocketAddr,
+    reception: Reception,
+    links: Vec<Link>,
+    options: LocalOptions,
+    watcher: &Mutex<V>,
+    reports: &Sender<Forwarded, Global>,
+) {
+    thread::scope(
+        thread::scope_env(),
+        rt,
+        move |scope|
+            requires { IsSend V.row }
+        {
+            let mut reception = reception;
+            for link in links {
+                if scope
+                    .spawn(move || {
+                        run_link(rt, alloc, address, link, options, watcher, reports)
+                    })
+                    .is_err()
+                {
+                    let _ = reports.send(rt, Forwarded::unwatched());
+                    close_all(rt, reception.inboxes.as_slice());
+                    return;
+                }
+            }
+            let mut shared = Shared { rt, watcher };
+            let end = receive_users(rt, &mut reception, &mut shared);
+            close_all(rt, reception.inboxes.as_slice());
+            let _ = reports.send(rt, end);
+        },
+    )
+}
+
+/// Accepts users, and leaves each at the link that has the fewest, until none comes any more, or no link is left. What went
+/// wrong: also that not as many came as were to.
+fn receive_users<R: Clock + Wait, V: ProgramWatcher>(
+    rt: &R,
+    reception: &mut Reception,
+    watcher: &mut V,
+) -> Forwarded {
+    let mut all = Forwarded::well();
+    for _ in rt.forever() {
+        if are_closed(rt, reception.inboxes.as_slice()) {
+            all.is_unwatched = !reception.listening.is_endless();
+            return all;
+        }
+        if let Some(socket) = reception.listening.accept(rt, 0) {
+            all = all.and(place(rt, socket, reception.inboxes.as_slice(), watcher));
+        } else if reception.listening.is_over() {
+            all.accept_failed = reception.listening.has_failed();
+            return all;
+        } else if reception.wait().is_err() {
+            all.accept_failed = true;
+            return all;
+        }
+    }
+    unreachable!()
+}
+
+/// Leaves a user's connection at the link that has the fewest. Where there is none it is closed.
+fn place<R: Clock + Wait, V: ProgramWatcher>(
+    rt: &R,
+    socket: Socket,
+    inboxes: &[Arc<Inbox, Global>],
+    watcher: &mut V,
+) -> Forwarded {
+    match leave_lightest(rt, socket, inboxes) {
+        Ok(()) => Forwarded::well(),
+        Err(NotLeft::Closed(_)) => {
+            let number = watcher.begins();
+            watcher.refused(number, Declined::BySession(CallFault::Lost));
+            Forwarded::well()
+        }
+        Err(NotLeft::OutOfMemory(refused)) => {
+            let number = watcher.begins();
+            watcher.refused(number, Declined::OutOfMemory);
+            Forwarded::without_memory(refused)
+        }
+    }
+}
+
+impl Reception {
+    /// Waits for a user, or for a link that is lost, and only for a while where a user could not be let in.
+    fn wait(&mut self) -> io::Result<()> {
+        let is_full = self.listening.is_full();
+        let timeout = is_full.then_some(Duration::from_secs(RETRY));
+        self.poll.poll(&mut self.events, timeout)
+    }
+}
+
+/// Runs a link until no more connections come to it, and closes those that still wait there.
+fn run_link<R: Net<Stream = TcpStream> + Clock + Wait, V: ProgramWatcher>(
+    rt: &R,
+    alloc: Global,
+    address: SocketAddr,
+    link: Link,
+    options: LocalOptions,
+    watcher: &Mutex<V>,
+    reports: &Sender<Forwarded, Global>,
+) {
+    let Link {
+        peer,
+        tunnel_end,
+        events,
+        inbox,
+    } = link;
+    let mut tunnel_end = tunnel_end;
+    let mut events = events;
+    let shared = Shared { rt, watcher };
+    let mut watcher = LinkWatcher { shared, inbox };
+    match peer {
+        Some(peer) => {
+            let window = options.window;
+            let forwarded = tunnel_end.forward_peer(
+                rt,
+                alloc,
+                peer,
+                window,
+                &mut events,
+                &mut watcher,
+            );
+            let _ = reports.send(rt, forwarded);
+        }
+        None => {
+            keep_link(
+                rt,
+                alloc,
+                address,
+                &mut tunnel_end,
+                options,
+                &mut events,
+                &mut watcher,
+                reports,
+            );
+        }
+    }
+    tunnel_end.refuse_waiting(&mut watcher);
+    watcher.refuse_all(rt);
+}
+
+impl<R: Wait, V: ProgramWatcher> LinkWatcher<'_, R, V> {
+    /// Closes the connections that wait, and takes no more.
+    fn refuse_all(&mut self, rt: &R) {
+        self.inbox.close(rt);
+        for _ in rt.forever() {
+            match self.inbox.take(rt) {
+                Taken::Connection(_) => {
+                    let number = self.begins();
+                    self.refused(number, Declined::BySession(CallFault::Lost));
+                }
+                Taken::NotNow | Taken::Closed => return,
+            }
+        }
+        unreachable!()
+    }
+}
+
+/// Runs one session of a link after another: the peer is called at the first connection, and at the next one after it was
+/// lost. Ends once no more connections come.
+fn keep_link<R: Net<Stream = TcpStream> + Clock + Wait, V: ProgramWatcher>(
+    rt: &R,
+    alloc: Global,
+    address: SocketAddr,
+    tunnel_end: &mut TunnelEnd,
+    options: LocalOptions,
+    events: &mut Events,
+    watcher: &mut LinkWatcher<'_, R, V>,
+    reports: &Sender<Forwarded, Global>,
+) {
+    for _ in rt.forever() {
+        match tunnel_end.await_connection(rt, events) {
+            Awaited::Came => {}
+            Awaited::AllCame => return,
+            Awaited::Refused => {
+                let _ = reports.send(rt, Forwarded::unwatched());
+                return;
+            }
+        }
+        match connect(rt, address).and_then(Peer::new) {
+            Some(peer) => {
+                watcher.inbox.resume(rt);
+                watcher.shared.came();
+                let window = options.window;
+                let forwarded = tunnel_end.forward_peer(rt, alloc, peer, window, events, watcher);
+                watcher.shared.gone();
+                let _ = reports.send(rt, forwarded);
+                watcher.inbox.resume(rt);
+            }
+            None => watcher.inbox.rest(rt),
+        }
+        tunnel_end.refuse_waiting(watcher);
+    }
+    unreachable!()
+}

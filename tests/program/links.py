@@ -1,0 +1,301 @@
+"""Plays the peers of `ymx local --links`, and looks where its users go: to the link that has the fewest, and never to one
+that is lost; also that a link which breaks takes no other with it, and what is left behind many connections.
+
+It says which tests failed, and nothing where none did. No test follows one that hangs.
+
+usage: links.py YMX
+"""
+
+import hashlib
+import os
+import random
+import select
+import socket
+import sys
+import threading
+import time
+
+import raw
+from beside import Peer, swap
+from kept import COME, GONE, LOST, WHOLE, connection, finish, is_refused, says
+from raw import ACK, ANY, BAD, FIN, SYN, WINDOW, Program
+from raw import accept, break_off, call, free_place, frame, has_ended, leave, listen, take
+
+BYTES = random.Random(11).randbytes(300_000)
+# What goes through both ends: so many connections, so many at once, over so many links.
+CONNECTIONS, AT_ONCE, LINKS = 1_000, 20, 4
+FIRST = frame(WINDOW, SYN, 1, 0)
+
+
+def local_links(count, *words, listen_at=ANY):
+    """`ymx local --links`, where it listens, its links in the order in which it made them, and where its peer listens."""
+    listener, address = listen()
+    program = Program("local", "-v", "--links", str(count), "--listen", listen_at, "--peer", address, *words)
+    links = [Peer(accept(listener)) for _ in range(count)]
+    return program, program.place(), links, listener
+
+
+def local_kept(count, *words):
+    """The same with `--keep`: where its peer listens, which it has not called yet."""
+    listener, address = listen()
+    words = ("--links", str(count), "--keep", "--listen", ANY, "--peer", address, *words)
+    program = Program("local", "-v", *words)
+    return program, program.place(), listener
+
+
+def which(links, stream):
+    """The link on which this stream comes next, which takes it."""
+    ready, _, _ = select.select([link.connection for link in links], [], [])
+    link = next(link for link in links if link.connection is ready[0])
+    link.accept(stream)
+    return link
+
+
+def is_threads(program, count):
+    """How many threads it has, once it has so many."""
+    while len(os.listdir(f"/proc/{program.process.pid}/task")) != count:
+        time.sleep(0.01)
+    return True
+
+
+def files(program):
+    return len(os.listdir(f"/proc/{program.process.pid}/fd"))
+
+
+def fewest_first():
+    """Four users go to two links in turn; once both of one have ended, the next two go there."""
+    program, place, links, _ = local_links(2, "--count", "6")
+    users, homes = [], []
+    for stream in 1, 1, 3, 3:
+        users.append(call(place))
+        homes.append(which(links, stream))
+    assert homes[0] is not homes[1] and homes[2] is not homes[3], "two in a row go to one link"
+    left = homes[0]
+    for number, home in enumerate(homes):
+        if home is left:
+            finish(left, 1 if number < 2 else 3, users[number])
+    says(program, *(connection(number + 1, "0 bytes to the peer (ended), 0 bytes from the peer (ended)")
+                    for number, home in enumerate(homes) if home is left))
+    users += [call(place)]
+    left.accept(5)
+    users += [call(place)]
+    left.accept(7)
+    assert is_refused(place), "a seventh is connected"
+    for link in links:
+        leave(link.connection)
+    status, said = program.end()
+    assert status == 0 and len(said.splitlines()) == 4, (status, said)
+
+
+def a_lost_link():
+    """It takes its own connection with it. The others go on, and get all that come."""
+    program, place, links, _ = local_links(3)
+    users, homes = [], []
+    for _ in range(3):
+        users.append(call(place))
+        homes.append(which(links, 1))
+    assert len(set(map(id, homes))) == 3, "not each link has one"
+    for home, user in zip(homes, users):
+        swap(home, 1, user, BYTES)
+    break_off(homes[1].connection)
+    assert has_ended(users[1])
+    says(program, connection(2, LOST))
+    served = []
+    for stream in 3, 3, 5, 5:
+        user = call(place)
+        home = which([homes[0], homes[2]], stream)
+        swap(home, stream, user, BYTES)
+        served.append((home, stream, user))
+    for home, user in (homes[0], users[0]), (homes[2], users[2]):
+        swap(home, 1, user, BYTES)
+        served.append((home, 1, user))
+    for home, stream, user in served:
+        finish(home, stream, user)
+    for home in homes[0], homes[2]:
+        leave(home.connection)
+    status, said = program.end()
+    assert status == 0, (status, said)
+    double = WHOLE.replace("300000", "600000")
+    assert sorted(said.splitlines()) == sorted(
+        [f"ymx: connection {number}: {double}" for number in (1, 3)] + [f"ymx: connection {number}: {WHOLE}" for number in range(4, 8)]), said
+
+
+def a_broken_link():
+    """A fault of one is said once all have ended; till then the others serve."""
+    program, place, links, _ = local_links(2)
+    links[0].connection.sendall(BAD)
+    take(links[0].connection, 12)
+    assert has_ended(links[0].connection)
+    links[0].connection.close()
+    user = call(place)
+    links[1].accept(1)
+    swap(links[1], 1, user, BYTES)
+    finish(links[1], 1, user)
+    leave(links[1].connection)
+    assert program.end() == (1, connection(1, WHOLE) + "ymx: session broken: B1\n")
+
+
+def lost_before_the_count():
+    """Where no link is left it ends, and says so if connections were still to come."""
+    program, place, links, listener = local_links(2, "--count", "2")
+    user = call(place)
+    home = which(links, 1)
+    finish(home, 1, user)
+    for link in links:
+        leave(link.connection)
+    address = "{}:{}".format(*listener.getsockname())
+    ended = connection(1, "0 bytes to the peer (ended), 0 bytes from the peer (ended)")
+    assert program.end() == (1, f"{ended}ymx: cannot reach {address}\n")
+
+
+def no_links_at_first():
+    """All are made, or none: a peer that can't be reached is told before anybody listens."""
+    place, peer = free_place(), free_place()
+    words = ("--links", "2", "--listen", place, "--peer", peer)
+    assert Program("local", *words).end() == (1, f"ymx: cannot reach {peer}\n")
+    assert Program("local", "--keep", "--links", "2", "--listen", raw.NOWHERE, "--peer", peer).end() == (
+        1, f"ymx: cannot listen at {raw.NOWHERE}\n")
+
+
+def links_are_called_again():
+    """With `--keep` each is called at its first connection, and again at the next one behind a loss. Faults are told as
+    they come."""
+    program, place, listener = local_kept(2, "--count", "4")
+    first = call(place)
+    one = Peer(accept(listener))
+    says(program, COME)
+    one.accept(1)
+    second = call(place)
+    other = Peer(accept(listener))
+    says(program, COME)
+    other.accept(1)
+    swap(one, 1, first, BYTES)
+    other.connection.sendall(BAD)
+    take(other.connection, 12)
+    other.connection.close()
+    assert has_ended(second)
+    says(program, connection(2, "0 bytes to the peer (lost), 0 bytes from the peer (lost)"), GONE, "ymx: session broken: B1\n")
+    third = call(place)
+    again = Peer(accept(listener))
+    says(program, COME)
+    again.accept(1)
+    swap(again, 1, third, BYTES)
+    finish(again, 1, third)
+    says(program, connection(3, WHOLE))
+    fourth = call(place)
+    again.accept(3)
+    finish(again, 3, fourth)
+    finish(one, 1, first)
+    for peer in one, again:
+        leave(peer.connection)
+    status, said = program.end()
+    assert status == 1 and said.count(GONE) == 2 and len(said.splitlines()) == 4, (status, said)
+
+
+def a_peer_that_is_away():
+    """With `--keep` a connection whose link can't be made is closed; the link then rests, and the next one goes elsewhere."""
+    program, place, listener = local_kept(2)
+    first = call(place)
+    one = Peer(accept(listener))
+    says(program, COME)
+    one.accept(1)
+    listener.close()
+    assert has_ended(call(place))
+    says(program, connection(2, "no stream: Lost"))
+    for stream in 3, 5:
+        user = call(place)
+        one.accept(stream)
+        swap(one, stream, user, BYTES)
+        finish(one, stream, user)
+    says(program, connection(3, WHOLE), connection(4, WHOLE))
+    swap(one, 1, first, BYTES)
+
+
+def echo(listener):
+    """Sends back what each connection sends."""
+    while True:
+        try:
+            other, _ = listener.accept()
+        except OSError:
+            return
+        threading.Thread(target=echo_one, args=(other,), daemon=True).start()
+
+
+def echo_one(other):
+    with other:
+        while piece := other.recv(65_536):
+            other.sendall(piece)
+
+
+def ask(place, seed, bad):
+    """Bytes of a connection come back, and the end behind them."""
+    sent = BYTES[seed * 97 :][: seed * 613 % 40_000]
+    with call(place) as user:
+        threading.Thread(target=lambda: (user.sendall(sent), user.shutdown(socket.SHUT_WR)), daemon=True).start()
+        came = hashlib.sha256()
+        while piece := user.recv(65_536):
+            came.update(piece)
+    if came.digest() != hashlib.sha256(sent).digest():
+        bad.append(seed)
+
+
+def many_through(*words):
+    """Connections through both ends keep their content. Behind them are as many threads and descriptors as before."""
+    target, address = listen()
+    threading.Thread(target=echo, args=(target,), daemon=True).start()
+    far = Program("remote", "-v", "--keep", "--peers", str(LINKS), "--bind", ANY, "--target", address)
+    peer = far.place()
+    near = Program("local", "-v", "--links", str(LINKS), "--listen", ANY, "--peer", peer, *words)
+    place = near.place()
+    # Each link has had a connection, so that with --keep all are there.
+    bad = []
+    ready = [call(place) for _ in range(LINKS)]
+    for user in ready:
+        user.sendall(b"!")
+        assert take(user, 1) == b"!"
+    for user in ready:
+        leave(user)
+    for program in near, far:
+        threading.Thread(target=program.process.stderr.read, daemon=True).start()
+    # The thread that says faults, and one for each link, beside the first.
+    assert is_threads(near, LINKS + 2) and is_threads(far, LINKS + 1)
+    used = files(near), files(far)
+    for start in range(0, CONNECTIONS, AT_ONCE):
+        users = [threading.Thread(target=ask, args=(place, seed, bad)) for seed in range(start, start + AT_ONCE)]
+        for user in users:
+            user.start()
+        for user in users:
+            user.join()
+    assert not bad, f"{len(bad)} came back otherwise"
+    while (files(near), files(far)) != used:
+        time.sleep(0.01)
+    assert is_threads(near, LINKS + 2) and is_threads(far, LINKS + 1)
+
+
+def bad_words():
+    """A number out of its range, or links to a peer that is awaited."""
+    for words, said in (
+        (("--links", "0", "--peer", ANY), "error: invalid value '0' for '--links <N>'"),
+        (("--links", "65", "--peer", ANY), "error: invalid value '65' for '--links <N>'"),
+        (("--links", "+2", "--peer", ANY), "error: invalid value '+2' for '--links': a number is decimal digits alone"),
+        (("--links", "2", "--bind", ANY), "error: the argument '--links <N>' cannot be used with '--bind <ADDRESS>'"),
+    ):
+        status, text = Program("local", "--listen", ANY, *words).end()
+        assert status == 2 and text.startswith(said), (words, status, text)
+
+
+TESTS = (
+    ("the fewest first", fewest_first, ()),
+    ("a link that is lost", a_lost_link, ()),
+    ("a link that breaks", a_broken_link, ()),
+    ("links that are lost before the count", lost_before_the_count, ()),
+    ("no links at first", no_links_at_first, ()),
+    ("links that are called again", links_are_called_again, ()),
+    ("a peer that is away", a_peer_that_is_away, ()),
+    ("many connections", many_through, ()),
+    ("many connections with --keep", many_through, ("--keep",)),
+    ("bad words", bad_words, ()),
+)
+
+if __name__ == "__main__":
+    sys.exit(raw.main(TESTS))
