@@ -80,7 +80,7 @@ impl Buffer {
 /// Runs the read pump with a seat of its own, until it ends. `NoSeat` where the hub gives it none, as it has given
 /// 4,294,967,295 or has handed its transcript out.
 #[tactic(auto, using(crate::proofs::PumpEnds::may_read))]
-pub(crate) fn pump_in<R: Recorder, W: Wait, I: Inlet + Drop>(
+pub(crate) fn pump_from_wire<R: Recorder, W: Wait, I: Inlet + Drop>(
     rt: &W,
     hub: &Hub<R>,
     reader: I,
@@ -112,7 +112,7 @@ pub(crate) fn pump_in<R: Recorder, W: Wait, I: Inlet + Drop>(
 /// Runs the write pump with a seat of its own, until it ends. `NoSeat`, and nothing goes out, where the hub gives it none,
 /// as it has given 4,294,967,295 or has handed its transcript out.
 #[tactic(auto, using(crate::proofs::PumpEnds::may_write))]
-pub(crate) fn pump_out<R: Recorder, W: Wait, O: Outlet + Drop>(
+pub(crate) fn pump_to_wire<R: Recorder, W: Wait, O: Outlet + Drop>(
     rt: &W,
     hub: &Hub<R>,
     writer: O,

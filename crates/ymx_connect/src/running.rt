@@ -5,7 +5,7 @@ ghost use Rattle.std.specs.Fn.{FnOnceReturns};
 ghost use Rattle.ymx_connect.specs.Connecting.{IsSpared};
 
 use crate::ended::{Connected, Ended};
-use crate::pumping::{Buffer, PumpedIn, PumpedOut, pump_in, pump_out};
+use crate::pumping::{Buffer, PumpedIn, PumpedOut, pump_from_wire, pump_to_wire};
 use crate::starting::{RefusedThread, start};
 use std::alloc::Global;
 use std::sync::Wait;
@@ -70,13 +70,13 @@ pub(crate) fn run_beside<
                 scope,
                 move || -> PumpedOut
                     requires { R.KEEPS ≡ false }
-                { pump_out(rt, hub, writer, out_of) },
+                { pump_to_wire(rt, hub, writer, out_of) },
             )?;
             let reading = start(
                 scope,
                 move || -> PumpedIn
                     requires { R.KEEPS ≡ false }
-                { pump_in(rt, hub, reader, into) },
+                { pump_from_wire(rt, hub, reader, into) },
             );
             if reading.is_err() {
                 let _ = hub.close(rt, seat);
