@@ -15,13 +15,13 @@ import time
 
 import raw
 from raw import ACK, ANY, DATA, FIN, FIRST_WINDOW, HEADER, PING, SYN, WINDOW
-from raw import accept, call, frame, has_ended, leave, listen, local, remote, take
+from raw import GONE, accept, call, frame, has_ended, leave, listen, local, remote, take
 
 RST = 8
 IDLE = 300
 MEGABYTE = random.Random(5).randbytes(1_000_000)
 AT_ONCE = 65_536
-FAILED = "0 bytes to the peer (connection failed), 0 bytes from the peer (connection failed)"
+FAILED = "0 bytes to the peer (connection failed: refused), 0 bytes from the peer (connection failed: refused)"
 
 
 class Stream:
@@ -127,7 +127,7 @@ class Side:
         leave(self.peer.connection)
         status, said = self.program.end()
         assert status == 0, (status, said)
-        return [line.split(": ", 2)[2] for line in said.splitlines()]
+        return [line.split(": ", 2)[2] for line in said.replace(GONE, "").splitlines()]
 
 
 def swap(peer, number, other, data):
@@ -241,7 +241,7 @@ def a_target_that_refuses():
     leave(peer.connection)
     status, said = program.end()
     whole = f"{len(MEGABYTE)} bytes to the peer (ended), {len(MEGABYTE)} bytes from the peer (ended)"
-    assert status == 0 and sorted(said.splitlines()) == [
+    assert status == 0 and said.count(GONE) == 1 and sorted(said.replace(GONE, "").splitlines()) == [
         f"ymx: connection {number}: {words}" for number, words in enumerate((whole, FAILED, FAILED, whole), 1)
     ], (status, said)
 

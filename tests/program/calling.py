@@ -14,7 +14,7 @@ import raw
 from beside import Peer, swap
 from kept import BYTES, COME, GONE, LOST, SESSIONS, SETTLED, WHOLE
 from kept import connection, finish, is_refused, listen_again, says, used
-from raw import ACK, ANY, FIN, NOWHERE, PING, SYN, Program
+from raw import ACK, ANY, FIN, NOWHERE, PING, REFUSED, SYN, Program
 from raw import accept, break_off, call, frame, free_place, free_places, has_ended, leave, listen, take
 
 # How much less than the pauses may have gone by, as the clocks of two processes count it.
@@ -64,7 +64,7 @@ def remote_calls():
         half_close(peer, stream, other)
     leave(peer.connection)
     sent = f"{len(BYTES) + 8} bytes to the peer (ended), {len(BYTES) + 6} bytes from the peer (ended)"
-    assert program.end() == (0, connection(1, sent) + connection(2, sent))
+    assert program.end() == (0, connection(1, sent) + connection(2, sent) + GONE)
 
 
 def local_awaits():
@@ -93,7 +93,7 @@ def roles():
     peer.sendall(frame(PING, SYN, 0, 7))
     assert take(peer, 12) == frame(PING, ACK, 0, 7)
     leave(peer)
-    assert program.end() == (0, "")
+    assert program.end() == (0, GONE)
     program, _, peer = awaiting("--count", "1")
     user = call(program.place())
     peer.accept(1)
@@ -116,7 +116,7 @@ def both_programs():
         assert has_ended(receiver)
     said = connection(1, "8 bytes to the peer (ended), 8 bytes from the peer (ended)")
     assert near.end() == (0, said)
-    assert far.end() == (0, said)
+    assert far.end() == (0, said + GONE)
 
 
 def no_meeting():
@@ -138,12 +138,12 @@ def a_peer_that_is_called_again():
     place = free_place()
     program = Program("remote", "-v", "--keep", "--peer", place, "--target", address)
     unreached = f"ymx: cannot reach {place}\n"
-    says(program, unreached)
+    says(program, REFUSED, unreached)
     listener = listen_again(place)
     for turn in 1, 2, 3:
         peer = accept(listener)
         # Calls may have failed until the listener was there.
-        while (line := program.line()) == unreached:
+        while (line := program.line()) in (REFUSED, unreached):
             pass
         assert line == COME, line
         peer = Peer(peer)
@@ -154,7 +154,7 @@ def a_peer_that_is_called_again():
             listener.close()
             break_off(peer.connection)
             assert has_ended(other)
-            says(program, connection(turn, LOST), GONE, unreached)
+            says(program, connection(turn, LOST), GONE, REFUSED, unreached)
             listener = listen_again(place)
         else:
             finish(peer, 1, other)
@@ -170,7 +170,7 @@ def pauses():
     began = time.monotonic()
     program = Program("remote", "-v", "--keep", "--peer", place, "--target", place)
     for seconds in 0, 1, 3, 7:
-        says(program, f"ymx: cannot reach {place}\n")
+        says(program, REFUSED, f"ymx: cannot reach {place}\n")
         passed = time.monotonic() - began
         assert passed >= seconds - EARLY, f"{passed} seconds, and not {seconds}"
 
@@ -237,7 +237,7 @@ def a_place_that_is_taken():
     says(program, COME)
     with listen_again(place):
         leave(peer.connection)
-        assert program.end() == (1, f"{GONE}ymx: cannot listen at {place}\n")
+        assert program.end() == (1, f"{GONE}ymx: --bind: address in use\nymx: cannot listen at {place}\n")
 
 
 def many_peers():

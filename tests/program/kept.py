@@ -14,7 +14,7 @@ import sys
 
 import raw
 from beside import Peer, swap
-from raw import ACK, ANY, BAD, FIN, PING, SYN, WINDOW, Program
+from raw import ACK, ANY, BAD, FIN, FULL, GONE, PING, REFUSED, SYN, WINDOW, Program
 from raw import accept, break_off, call, frame, free_place, has_ended, leave, listen, local, take
 
 SESSIONS = 200
@@ -24,7 +24,6 @@ AT_ONCE = 16
 SETTLED = 20
 BYTES = random.Random(7).randbytes(300_000)
 COME = "ymx: the peer has come\n"
-GONE = "ymx: the peer has gone\n"
 WHOLE = f"{len(BYTES)} bytes to the peer (ended), {len(BYTES)} bytes from the peer (ended)"
 LOST = f"{len(BYTES)} bytes to the peer (lost), {len(BYTES)} bytes from the peer (lost)"
 
@@ -280,7 +279,7 @@ def a_peer_that_comes_again():
     address = "{}:{}".format(*listener.getsockname())
     listener.close()
     assert has_ended(call(place))
-    says(program, connection(2, "no stream: Lost"))
+    says(program, REFUSED, connection(2, "no stream: Lost"))
     with listen_again(address) as listener:
         users = [call(place)]
         peer = Peer(accept(listener))
@@ -314,17 +313,18 @@ def the_last_of_a_count():
 
 
 def no_descriptor_left():
-    """At the limit no more connections are accepted until one has ended. Nothing ends by that."""
+    """At the limit, which is told, no more connections are accepted until one has ended. Nothing ends by that."""
     # Open are standard input, output and error, the session's connection, where it listens, the set of what it waits for,
     # and two connections.
     program, place, user, peer, _ = local_kept("--count", "4", files=8)
     users = [user] + [call(place) for _ in range(3)]
+    says(program, FULL)
     for turn, stream in enumerate((1, 3), 1):
         peer.accept(stream)
         swap(peer, stream, users[turn - 1], BYTES)
     for turn, stream in enumerate((5, 7), 1):
         finish(peer, stream - 4, users[turn - 1])
-        says(program, connection(turn, WHOLE))
+        says(program, connection(turn, WHOLE), *[FULL] * (turn == 1))
         peer.accept(stream)
         swap(peer, stream, users[turn + 1], BYTES)
     for turn, stream in enumerate((5, 7), 3):
@@ -340,7 +340,7 @@ def no_peer_at_first():
     program = Program("local", "-v", "--keep", "--listen", ANY, "--peer", address)
     place = program.place()
     assert has_ended(call(place))
-    says(program, connection(1, "no stream: Lost"))
+    says(program, REFUSED, connection(1, "no stream: Lost"))
     with listen_again(address) as listener:
         user = call(place)
         peer = Peer(accept(listener))
@@ -389,7 +389,7 @@ def a_killed_peer():
 
 
 def without_keep():
-    """No line about peers is said."""
+    """No line says that a peer has come, as it was there before it listened."""
     program, peer = local("--count", "0")
     place = program.line()
     assert place.startswith("ymx: listening at "), place

@@ -17,8 +17,8 @@ import time
 
 import raw
 from beside import Peer, swap
-from kept import COME, GONE, LOST, WHOLE, connection, finish, is_refused, says
-from raw import ACK, ANY, BAD, FIN, SYN, WINDOW, Program
+from kept import COME, LOST, WHOLE, connection, finish, is_refused, says
+from raw import ANY, BAD, GONE, NOT_HERE, REFUSED, SYN, WINDOW, Program
 from raw import accept, break_off, call, free_place, frame, has_ended, leave, listen, take
 
 BYTES = random.Random(11).randbytes(300_000)
@@ -84,7 +84,7 @@ def fewest_first():
     for link in links:
         leave(link.connection)
     status, said = program.end()
-    assert status == 0 and len(said.splitlines()) == 4, (status, said)
+    assert status == 0 and said.count("ymx: connection ") == 4, (status, said)
 
 
 def a_lost_link():
@@ -99,7 +99,7 @@ def a_lost_link():
         swap(home, 1, user, BYTES)
     break_off(homes[1].connection)
     assert has_ended(users[1])
-    says(program, connection(2, LOST))
+    says(program, GONE, connection(2, LOST))
     served = []
     for stream in 3, 3, 5, 5:
         user = call(place)
@@ -116,7 +116,7 @@ def a_lost_link():
     status, said = program.end()
     assert status == 0, (status, said)
     double = WHOLE.replace("300000", "600000")
-    assert sorted(said.splitlines()) == sorted(
+    assert sorted(said.replace(GONE, "").splitlines()) == sorted(
         [f"ymx: connection {number}: {double}" for number in (1, 3)] + [f"ymx: connection {number}: {WHOLE}" for number in range(4, 8)]), said
 
 
@@ -132,7 +132,7 @@ def a_broken_link():
     swap(links[1], 1, user, BYTES)
     finish(links[1], 1, user)
     leave(links[1].connection)
-    assert program.end() == (1, connection(1, WHOLE) + "ymx: session broken: B1\n")
+    assert program.end() == (1, GONE + connection(1, WHOLE) + GONE + "ymx: session broken: B1\n")
 
 
 def lost_before_the_count():
@@ -145,7 +145,7 @@ def lost_before_the_count():
         leave(link.connection)
     address = "{}:{}".format(*listener.getsockname())
     ended = connection(1, "0 bytes to the peer (ended), 0 bytes from the peer (ended)")
-    assert program.end() == (1, f"{ended}ymx: cannot reach {address}\n")
+    assert program.end() == (1, f"{ended}{GONE}{GONE}ymx: cannot reach {address}\n")
 
 
 def no_links_at_first():
@@ -201,7 +201,7 @@ def a_peer_that_is_away():
     one.accept(1)
     listener.close()
     assert has_ended(call(place))
-    says(program, connection(2, "no stream: Lost"))
+    says(program, REFUSED, connection(2, "no stream: Lost"))
     for stream in 3, 5:
         user = call(place)
         one.accept(stream)

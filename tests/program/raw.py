@@ -8,6 +8,7 @@ usage: raw.py YMX
 """
 
 import os
+import re
 import signal
 import socket
 import struct
@@ -27,6 +28,10 @@ BAD = b"\x01" + bytes(11)
 ANY = "127.0.0.1:0"
 # 192.0.2.7 is no address of this machine.
 NOWHERE = "192.0.2.7:1"
+GONE = "ymx: the peer has gone\n"
+REFUSED = "ymx: --peer: refused\n"
+NOT_HERE = "no address of this machine"
+FULL = "ymx: --listen: no descriptor left\n"
 # How many bytes each side may send on a stream before any is granted.
 FIRST_WINDOW = 262_144
 
@@ -100,6 +105,13 @@ def break_off(connection):
 # ---- the program
 
 
+def without_origins(said):
+    """What it says, where each line of a connection has said who it is from: somebody of this machine."""
+    plain, count = re.subn(r"^(ymx: connection \d+) from 127\.0\.0\.1:\d+: ", r"\1: ", said, flags=re.MULTILINE)
+    assert count == len(re.findall("^ymx: connection ", said, re.MULTILINE)), f"somebody of no address: {said!r}"
+    return plain
+
+
 class Program:
     """`ymx` with these words, and at most so many open files."""
 
@@ -114,7 +126,7 @@ class Program:
 
     def line(self):
         """The next line that it says."""
-        return self.process.stderr.readline().decode()
+        return without_origins(self.process.stderr.readline().decode())
 
     def place(self):
         """Where it says that it listens."""
@@ -126,7 +138,7 @@ class Program:
         """Its status, and what else it says; it prints nothing."""
         out, said = self.process.communicate()
         assert out == b"", f"on standard output {out!r}"
-        return self.process.returncode, said.decode()
+        return self.process.returncode, without_origins(said.decode())
 
 
 def local(*words, listen_at=ANY, files=None):
@@ -185,7 +197,7 @@ def window_of_local():
     assert opened == frame(WINDOW, SYN, 1, 1048576 - FIRST_WINDOW), opened.hex()
     peer.close()
     assert has_ended(user)
-    assert program.end() == (0, "ymx: connection 1: 0 bytes to the peer (lost), 0 bytes from the peer (lost)\n")
+    assert program.end() == (0, GONE + "ymx: connection 1: 0 bytes to the peer (lost), 0 bytes from the peer (lost)\n")
 
 
 def window_of_remote():
@@ -214,7 +226,7 @@ def a_second_peer():
     except ConnectionRefusedError:
         pass
     leave(peer)
-    assert program.end() == (0, "")
+    assert program.end() == (0, GONE)
     target.close()
 
 
@@ -250,7 +262,7 @@ def workers(words, count):
     accept(target).close()
     leave(peer)
     status, said = program.end()
-    assert status == 0 and len(said.splitlines()) == count + 1, said
+    assert status == 0 and said.count("ymx: connection ") == count + 1, said
 
 
 def a_broken_session_of_local():
@@ -262,7 +274,7 @@ def a_broken_session_of_local():
     assert answer == frame(AWAY, 0, 0, 1), answer.hex()
     peer.close()
     assert has_ended(call(place))
-    assert program.end() == (1, "ymx: connection 1: no stream: Lost\nymx: session broken: B1\n")
+    assert program.end() == (1, GONE + "ymx: connection 1: no stream: Lost\nymx: session broken: B1\n")
 
 
 def the_peer_says_that_it_broke():
@@ -270,14 +282,14 @@ def the_peer_says_that_it_broke():
     peer.sendall(frame(AWAY, 0, 0, 1))
     assert has_ended(peer)
     peer.close()
-    assert program.end() == (1, "ymx: session broken: B8\n")
+    assert program.end() == (1, GONE + "ymx: session broken: B8\n")
 
 
 def the_connection_of_remote_breaks():
     """That is no fault of the session."""
     program, peer = remote("127.0.0.1:1")
     break_off(peer)
-    assert program.end() == (0, "")
+    assert program.end() == (0, GONE)
 
 
 def the_connection_of_local_breaks():
@@ -294,6 +306,7 @@ def the_connection_of_local_breaks():
     assert status == 0 and sorted(said.splitlines()) == [
         "ymx: connection 1: 0 bytes to the peer (lost), 0 bytes from the peer (lost)",
         "ymx: connection 2: no stream: Lost",
+        GONE.rstrip(),
     ], said
 
 
@@ -301,7 +314,7 @@ def local_cannot_listen():
     """It has called its peer by then, and leaves it."""
     program, peer = local(listen_at=NOWHERE)
     assert has_ended(peer)
-    assert program.end() == (1, f"ymx: cannot listen at {NOWHERE}\n")
+    assert program.end() == (1, f"ymx: --listen: {NOT_HERE}\nymx: cannot listen at {NOWHERE}\n")
 
 
 def an_accept_fails():
@@ -311,7 +324,7 @@ def an_accept_fails():
     program.place()
     assert has_ended(peer)
     peer.close()
-    assert program.end() == (1, f"ymx: cannot listen at {ANY}\n")
+    assert program.end() == (1, f"{FULL}ymx: cannot listen at {ANY}\n")
     program = Program("remote", "--bind", ANY, "--target", ANY, files=4)
     assert program.end() == (1, f"ymx: cannot listen at {ANY}\n")
 
@@ -322,7 +335,7 @@ def no_set_to_wait_for():
     program.place()
     assert has_ended(peer)
     peer.close()
-    assert program.end() == (1, f"ymx: cannot listen at {ANY}\n")
+    assert program.end() == (1, f"{FULL}ymx: cannot listen at {ANY}\n")
 
 
 def a_failed_accept_and_a_broken_session():
@@ -334,7 +347,8 @@ def a_failed_accept_and_a_broken_session():
     assert has_ended(user)
     peer.close()
     status, said = program.end()
-    assert (status, said.splitlines()[1:]) == (1, [f"ymx: cannot listen at {ANY}"]), said
+    assert status == 1 and said.endswith(f"ymx: cannot listen at {ANY}\n") and said.count(FULL) == 1, said
+    assert "broken" not in said, said
 
 
 def too_many_opens():
@@ -349,6 +363,26 @@ def too_many_opens():
     for user in users:
         assert has_ended(user)
     assert program.end()[0] == 0
+
+
+def who_it_is_from():
+    """The line of a connection names the user at `local`, and the peer at `remote`."""
+    program, peer = local("--count", "1")
+    user = call(program.place())
+    target, address = listen()
+    far, caller = remote(address)
+    for connection, stream in (peer, 12), (caller, 0):
+        assert len(take(connection, stream)) == stream
+    caller.sendall(frame(WINDOW, SYN, 1, 0))
+    other = accept(target)
+    peer.sendall(frame(WINDOW, ACK | FIN, 1, 0))
+    caller.sendall(frame(WINDOW, FIN, 1, 0))
+    user.shutdown(socket.SHUT_WR)
+    other.close()
+    for end, who in (program, user), (far, caller):
+        place = "{}:{}".format(*who.getsockname())
+        line = end.process.stderr.readline().decode()
+        assert line == f"ymx: connection 1 from {place}: 0 bytes to the peer (ended), 0 bytes from the peer (ended)\n", line
 
 
 def bad_words():
@@ -390,6 +424,7 @@ TESTS = (
     ("no set to wait for", no_set_to_wait_for, ()),
     ("a failed accept and a broken session", a_failed_accept_and_a_broken_session, ()),
     ("257 opens", too_many_opens, ()),
+    ("who a connection is from", who_it_is_from, ()),
     ("bad words", bad_words, ()),
 )
 

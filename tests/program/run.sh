@@ -85,6 +85,12 @@ through() {
     both_end && [ "$(cat answer)" = hello ]
 }
 
+# told FILE: what it says, but for who its connections are from
+told() {
+    sed 's/^\(ymx: connection [0-9]*\) from 127\.0\.0\.1:[0-9]*: /\1: /' "$1" > told
+    echo told
+}
+
 # both_end: both ends end well, and have printed nothing
 both_end() {
     wait "$local" && wait "$remote" && cmp -s nothing local_out && cmp -s nothing remote_out
@@ -100,8 +106,9 @@ local=$!
 port=$(port_of local_err)
 end='ymx: connection 1: 5 bytes to the peer (ended), 5 bytes from the peer (ended)'
 holds 'a connection with -v' through "$port"
-holds 'what local -v says' cmp -s local_err "$(says "ymx: listening at 127.0.0.1:$port" "$end")"
-holds 'what remote -v says' cmp -s remote_err "$(says "ymx: listening at 127.0.0.1:$peer" "$end")"
+gone='ymx: the peer has gone'
+holds 'what local -v says' cmp -s "$(told local_err)" "$(says "ymx: listening at 127.0.0.1:$port" "$end")"
+holds 'what remote -v says' cmp -s "$(told remote_err)" "$(says "ymx: listening at 127.0.0.1:$peer" "$end" "$gone")"
 
 # without -v nothing is said
 python3 "$here/ends.py" echo > echo_port &
@@ -129,9 +136,9 @@ timeout 60 "$ymx" local -v --listen 127.0.0.1:0 --peer "127.0.0.1:$peer" --count
 local=$!
 python3 "$here/ends.py" ask "$(port_of local_err)" > answer 2> answer_err || true
 holds 'both end well without a target' both_end
-end='ymx: connection 1: 0 bytes to the peer (connection failed), 0 bytes from the peer (connection failed)'
-holds 'what remote -v says without a target' cmp -s remote_err "$(says "ymx: listening at 127.0.0.1:$peer" "$end")"
-holds 'what local -v says without a target' grep -q '^ymx: connection 1: .* bytes to the peer (.*), 0 bytes from the peer (.*)$' local_err
+end='ymx: connection 1: 0 bytes to the peer (connection failed: refused), 0 bytes from the peer (connection failed: refused)'
+holds 'what remote -v says without a target' cmp -s "$(told remote_err)" "$(says "ymx: listening at 127.0.0.1:$peer" "$end" "$gone")"
+holds 'what local -v says without a target' grep -q '^ymx: connection 1 from 127.0.0.1:[0-9]*: .* bytes to the peer (.*), 0 bytes from the peer (.*)$' local_err
 
 holds 'both ends, frame by frame' python3 "$here/raw.py" "$ymx"
 holds 'connections beside others' python3 -B "$here/beside.py" "$ymx"

@@ -57,7 +57,7 @@ def a_silent_peer(name):
     assert 2 * PATIENCE - EARLY <= given_up < LATE, f"given up after {given_up} seconds"
     sides.peer.close()
     if name == "remote":
-        assert sides.program.end() == (0, "")
+        assert sides.program.end() == (0, GONE)
     else:
         # for this connection there is no session any more, or one that ends
         assert has_ended(call(sides.place))

@@ -1,6 +1,7 @@
 //! The connections that come to one side of a tunnel.
 
 use crate::inbox::{Inbox, Taken};
+use crate::reason::Reason;
 use mio::net::{TcpListener, TcpStream};
 use mio::{Interest, Registry, Token};
 use std::alloc::Global;
@@ -11,9 +12,6 @@ use std::{io, net};
 
 /// How often an accept whose connection went away meanwhile is made again in a row.
 const RETRIES: u32 = 1_024;
-
-/// The system's numbers for: no descriptor left in the system, none left in this process, no room for one more socket.
-const FULL: [i32; 3] = [23, 24, 105];
 
 /// Where connections come from.
 #[derive(Drop)]
@@ -40,6 +38,8 @@ pub(crate) struct Listening {
     is_patient: bool,
     /// How many connections were open when there was no descriptor or no memory for one more.
     full_at: Option<usize>,
+    /// Why the system last refused to accept one, until that is told.
+    refusal: Option<Reason>,
 }
 
 impl Listening {
@@ -61,6 +61,7 @@ impl Listening {
             left: count,
             is_patient,
             full_at: None,
+            refusal: None,
         };
         listening.stop_at_count();
         Ok(listening)
@@ -74,6 +75,7 @@ impl Listening {
             left: None,
             is_patient: true,
             full_at: None,
+            refusal: None,
         }
     }
 
@@ -201,13 +203,26 @@ impl Listening {
         }
     }
 
-    /// Hears why none was accepted.
+    /// Hears why none was accepted. That there is no descriptor or no memory is told once, and not at each try.
     fn hear(&mut self, refusal: Refusal, open: usize) {
         match refusal {
             Refusal::NoneWaits => self.full_at = None,
-            Refusal::Full if self.is_patient => self.full_at = Some(open),
-            Refusal::Full | Refusal::Other => self.source = Source::Failed,
+            Refusal::BySystem(reason) if self.is_patient && is_full(reason) => {
+                if self.full_at.is_none() {
+                    self.refusal = Some(reason);
+                }
+                self.full_at = Some(open);
+            }
+            Refusal::BySystem(reason) => {
+                self.refusal = Some(reason);
+                self.source = Source::Failed;
+            }
         }
+    }
+
+    /// Why the system last refused to accept a connection, unless that was told.
+    pub(crate) fn take_refusal(&mut self) -> Option<Reason> {
+        self.refusal.take()
     }
 }
 
@@ -216,24 +231,15 @@ impl Listening {
 enum Refusal {
     /// None waits.
     NoneWaits,
-    /// There is no descriptor or no memory for one more.
-    Full,
-    /// None can be accepted.
-    Other,
+    /// The system refused.
+    BySystem(Reason),
 }
 
-impl Refusal {
-    /// What this error of an accept says.
-    fn of(error: &io::Error) -> Refusal {
-        match error.kind() {
-            ErrorKind::WouldBlock => Refusal::NoneWaits,
-            ErrorKind::OutOfMemory => Refusal::Full,
-            _
-                if error
-                    .raw_os_error()
-                    .is_some_and(|number| FULL.contains(&number)) => Refusal::Full,
-            _ => Refusal::Other,
-        }
+/// Whether there is no descriptor or no memory for one more connection.
+fn is_full(reason: Reason) -> bool {
+    match reason {
+        Reason::NoDescriptor | Reason::NoMemory => true,
+        _ => false,
     }
 }
 
@@ -244,8 +250,9 @@ fn accept(listener: &TcpListener) -> Result<TcpStream, Refusal> {
             Ok((socket, _)) => return Ok(socket),
             Err(e) if e.kind() == ErrorKind::Interrupted => {}
             Err(e) if e.kind() == ErrorKind::ConnectionAborted => {}
-            Err(e) => return Err(Refusal::of(&e)),
+            Err(e) if e.kind() == ErrorKind::WouldBlock => return Err(Refusal::NoneWaits),
+            Err(e) => return Err(Refusal::BySystem(Reason::of(&e))),
         }
     }
-    Err(Refusal::Other)
+    Err(Refusal::BySystem(Reason::Reset))
 }

@@ -2,6 +2,7 @@
 
 use crate::accepting::Listening;
 use crate::peer::Peer;
+use crate::reason::Reason;
 use crate::starting::StartFault;
 use crate::tunnel_end::{RETRY, new_events};
 use mio::{Events, Poll, Token, Waker};
@@ -117,6 +118,11 @@ impl Door {
             }
         }
         unreachable!()
+    }
+
+    /// Why the system last refused to let a peer in, unless that was told.
+    pub(crate) fn take_refusal(&mut self) -> Option<Reason> {
+        self.listening.take_refusal()
     }
 
     /// Waits for who knocks or leaves, and only for a while where one could not be let in.

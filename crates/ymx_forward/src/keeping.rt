@@ -6,7 +6,8 @@ ghost use Rattle.std.specs.Io.KnownBytes.{Keeps};
 use crate::notices::ProgramWatcher;
 use crate::peer::Peer;
 use crate::programs::{report, report_session};
-use crate::sockets::{connect, listen};
+use crate::reason::Reason;
+use crate::sockets::{call, listen};
 use crate::tell::cannot_listen;
 use crate::tunnel_end::{Awaited, AwaitedPeer, TunnelEnd};
 use mio::Events;
@@ -88,7 +89,10 @@ pub(crate) fn keep_local<
                 )
             }
             Next::Unreached => 0,
-            Next::Over(end) => return end_status(alloc, end, options, address, status, errors),
+            Next::Over(end) => {
+                tunnel_end.tell_refusal(watcher);
+                return end_status(alloc, end, options, address, status, errors);
+            }
         };
         if status == 0 {
             status = served;
@@ -141,7 +145,7 @@ fn next_session<R: Net<Stream = TcpStream, Listener = TcpListener> + Wait, V: Pr
 ) -> Next {
     match peer {
         PeerAddress::Connect(_) => match tunnel_end.await_connection(rt, events) {
-            Awaited::Came => session_over(connect(rt, address)),
+            Awaited::Came => session_over(call(rt, address, watcher)),
             Awaited::AllCame => Next::Over(KeptEnd::AllCame),
             Awaited::Refused => Next::Over(KeptEnd::NoConnections),
         },
@@ -178,8 +182,11 @@ fn next_peer<R: Net<Stream = TcpStream, Listener = TcpListener> + Wait, V: Progr
     let listener = listen(rt, address);
     watcher.gone();
     match listener {
-        Some(listener) => tunnel_end.await_peer(rt, listener, events, watcher),
-        None => AwaitedPeer::Refused,
+        Ok(listener) => tunnel_end.await_peer(rt, listener, events, watcher),
+        Err(error) => {
+            watcher.failed("--bind", Reason::of(&error));
+            AwaitedPeer::Refused
+        }
     }
 }
 
@@ -245,7 +252,7 @@ fn has_served<R: Net<Stream = TcpStream> + Clock + Wait, V: ProgramWatcher, E: O
     watcher: &mut V,
     errors: &mut E,
 ) -> bool {
-    let Some(connection) = connect(rt, peer) else {
+    let Some(connection) = call(rt, peer, watcher) else {
         watcher.unreached(peer);
         return false;
     };

@@ -17,6 +17,7 @@ mod meeting;
 mod notices;
 mod peer;
 mod programs;
+mod reason;
 mod selftest;
 mod serving;
 mod shared;

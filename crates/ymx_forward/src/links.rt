@@ -10,13 +10,14 @@ use crate::inbox::{Inbox, NotLeft, Taken, are_closed, close_all, leave_lightest}
 use crate::notices::ProgramWatcher;
 use crate::peer::Peer;
 use crate::programs::report;
-use crate::shared::Shared;
+use crate::reason::Reason;
+use crate::shared::{Shared, tell_failure};
 use crate::sides::Forwarded;
-use crate::sockets::{connect, listen};
+use crate::sockets::{call, listen_for};
 use crate::starting::StartFault;
 use crate::tell::{cannot_listen, cannot_reach, lacks_memory};
 use crate::tunnel_end::{Awaited, Limits, RETRY, TunnelEnd, new_events};
-use crate::watching::{Declined, EndedConnection, Watcher};
+use crate::watching::{Declined, EndedConnection, Origin, Watcher};
 use crossbeam_channel::{Receiver, Sender, bounded};
 use mio::net::TcpStream as Socket;
 use mio::{Events, Poll, Token, Waker};
@@ -65,18 +66,26 @@ struct LinkWatcher<'a, R: Wait, V: ProgramWatcher> {
 }
 
 impl<R: Wait, V: ProgramWatcher> Watcher for LinkWatcher<'_, R, V> {
-    fn begins(&mut self) -> u64 {
-        self.shared.begins()
+    fn begins(&mut self, from: Option<SocketAddr>) -> Origin {
+        self.shared.begins(from)
     }
 
-    fn ended(&mut self, number: u64, ended: &EndedConnection) {
+    fn ended(&mut self, origin: Origin, ended: &EndedConnection) {
         self.inbox.note_ended();
-        self.shared.ended(number, ended);
+        self.shared.ended(origin, ended);
     }
 
-    fn refused(&mut self, number: u64, why: Declined) {
+    fn refused(&mut self, origin: Origin, why: Declined) {
         self.inbox.note_ended();
-        self.shared.refused(number, why);
+        self.shared.refused(origin, why);
+    }
+
+    fn lost(&mut self) {
+        self.shared.lost();
+    }
+
+    fn failed(&mut self, option: &'static str, reason: Reason) {
+        self.shared.failed(option, reason);
     }
 }
 
@@ -100,20 +109,25 @@ pub(crate) fn run_links<
     let mut watcher = watcher;
     let peers = match call_all(rt, alloc, address, options) {
         Ok(peers) => peers,
-        Err(StartFault::Unwatched(_)) => return cannot_reach(alloc, address, errors),
+        Err(StartFault::Unwatched(error)) => {
+            watcher.failed("--peer", Reason::of(&error));
+            return cannot_reach(alloc, address, errors);
+        }
         Err(StartFault::OutOfMemory(refused)) => return lacks_memory(refused, errors),
     };
-    let Some(listener) = listen(rt, options.listen) else {
+    let Some(listener) = listen_for(rt, "--listen", options.listen, &mut watcher) else {
         return cannot_listen(alloc, options.listen, errors);
     };
-    watcher.listening(&listener, options.listen);
     match prepare(rt, alloc, listener, peers, options) {
         Ok((reception, links)) => {
             serve_links(
                 rt, alloc, address, reception, links, options, watcher, errors,
             )
         }
-        Err(StartFault::Unwatched(_)) => cannot_listen(alloc, options.listen, errors),
+        Err(StartFault::Unwatched(error)) => {
+            watcher.failed("--listen", Reason::of(&error));
+            cannot_listen(alloc, options.listen, errors)
+        }
         Err(StartFault::OutOfMemory(refused)) => lacks_memory(refused, errors),
     }
 }
@@ -130,7 +144,7 @@ fn call_all<R: Net<Stream = TcpStream>>(
         let peer = if options.is_kept {
             None
         } else {
-            Some(call(rt, address)?)
+            Some(new_peer(rt, address)?)
         };
         peers.push(peer)?;
     }
@@ -138,7 +152,7 @@ fn call_all<R: Net<Stream = TcpStream>>(
 }
 
 /// Calls the peer.
-fn call<R: Net<Stream = TcpStream>>(rt: &R, address: SocketAddr) -> io::Result<Peer> {
+fn new_peer<R: Net<Stream = TcpStream>>(rt: &R, address: SocketAddr) -> io::Result<Peer> {
     let connection = TcpStream::connect(rt, address)?;
     connection.set_nonblocking(true)?;
     Ok(Peer::of(Socket::from_std(connection)))
@@ -314,6 +328,7 @@ fn run_all<
                     })
                     .is_err()
                 {
+                    tell_failure(rt, "--links", Reason::NoThread, watcher);
                     let _ = reports.send(rt, Forwarded::unwatched());
                     close_all(rt, reception.inboxes.as_slice());
                     return;
@@ -342,10 +357,16 @@ fn receive_users<R: Clock + Wait, V: ProgramWatcher>(
         }
         if let Some(socket) = reception.listening.accept(rt, 0) {
             all = all.and(place(rt, socket, reception.inboxes.as_slice(), watcher));
-        } else if reception.listening.is_over() {
+            continue;
+        }
+        if let Some(reason) = reception.listening.take_refusal() {
+            watcher.failed("--listen", reason);
+        }
+        if reception.listening.is_over() {
             all.accept_failed = reception.listening.has_failed();
             return all;
-        } else if reception.wait().is_err() {
+        }
+        if reception.wait().is_err() {
             all.accept_failed = true;
             return all;
         }
@@ -360,16 +381,17 @@ fn place<R: Clock + Wait, V: ProgramWatcher>(
     inboxes: &[Arc<Inbox, Global>],
     watcher: &mut V,
 ) -> Forwarded {
+    let from = socket.peer_addr().ok();
     match leave_lightest(rt, socket, inboxes) {
         Ok(()) => Forwarded::well(),
         Err(NotLeft::Closed(_)) => {
-            let number = watcher.begins();
-            watcher.refused(number, Declined::BySession(CallFault::Lost));
+            let origin = watcher.begins(from);
+            watcher.refused(origin, Declined::BySession(CallFault::Lost));
             Forwarded::well()
         }
         Err(NotLeft::OutOfMemory(refused)) => {
-            let number = watcher.begins();
-            watcher.refused(number, Declined::OutOfMemory);
+            let origin = watcher.begins(from);
+            watcher.refused(origin, Declined::OutOfMemory);
             Forwarded::without_memory(refused)
         }
     }
@@ -440,9 +462,9 @@ impl<R: Wait, V: ProgramWatcher> LinkWatcher<'_, R, V> {
         self.inbox.close(rt);
         for _ in rt.forever() {
             match self.inbox.take(rt) {
-                Taken::Connection(_) => {
-                    let number = self.begins();
-                    self.refused(number, Declined::BySession(CallFault::Lost));
+                Taken::Connection(socket) => {
+                    let origin = self.begins(socket.peer_addr().ok());
+                    self.refused(origin, Declined::BySession(CallFault::Lost));
                 }
                 Taken::NotNow | Taken::Closed => return,
             }
@@ -472,7 +494,7 @@ fn keep_link<R: Net<Stream = TcpStream> + Clock + Wait, V: ProgramWatcher>(
                 return;
             }
         }
-        match connect(rt, address).and_then(Peer::new) {
+        match call(rt, address, watcher).and_then(Peer::new) {
             Some(peer) => {
                 watcher.inbox.resume(rt);
                 watcher.shared.came();

@@ -4,7 +4,7 @@ ghost use Rattle.std.specs.Prelude.{IfSome};
 ghost use Rattle.std.specs.Io.KnownBytes.{Keeps};
 
 use crate::notices::ProgramWatcher;
-use crate::sockets::{accept, connect, listen};
+use crate::sockets::{accept, call, listen_for};
 use crate::tell::cannot_meet;
 use std::alloc::Global;
 use std::net::{Net, SocketAddr, TcpListener, TcpStream};
@@ -20,7 +20,7 @@ pub(crate) fn meet<
     ensures { IfSome result (λ _. Keeps (E.contents errors.old) (E.contents errors.new)) }
 {
     let met = match peer {
-        PeerAddress::Connect(address) => connect(rt, address),
+        PeerAddress::Connect(address) => call(rt, address, watcher),
         PeerAddress::Listen(address) => receive(rt, address, watcher),
     };
     if met.is_none() {
@@ -35,7 +35,6 @@ fn receive<R: Net<Stream = TcpStream, Listener = TcpListener>, V: ProgramWatcher
     address: SocketAddr,
     watcher: &mut V,
 ) -> Option<TcpStream> {
-    let listener = listen(rt, address)?;
-    watcher.listening(&listener, address);
-    accept(listener)
+    let listener = listen_for(rt, "--bind", address, watcher)?;
+    accept(listener, watcher)
 }

@@ -1,14 +1,18 @@
 //! What `-v` asks for: lines about a tunnel while it runs.
 
-use crate::watching::{Declined, EndedConnection, Ending, Unwatched, Watcher};
+use crate::reason::Reason;
+use crate::watching::{Declined, EndedConnection, Ending, Origin, Passed, Unwatched, Watcher};
 use arrayvec::ArrayString;
 use std::fmt::Write;
 use std::net::{SocketAddr, TcpListener};
 use ymx_devices::push_all;
 use ymx_model::{CallFault, Outlet};
 
-/// Room for the longest line, in bytes: that of a connection with the greatest numbers has 159.
-const LINE: usize = 192;
+/// Room for the longest line, in bytes: that of a connection with the greatest numbers and the longest reason has 242.
+const LINE: usize = 256;
+
+/// What is said where the peer has gone.
+const GONE: &str = "ymx: the peer has gone";
 
 /// A line, which takes no memory.
 type Line = ArrayString<LINE>;
@@ -67,17 +71,32 @@ impl<'a, L: Outlet> Notices<'a, L> {
 }
 
 impl<L: Outlet> Watcher for Notices<'_, L> {
-    fn begins(&mut self) -> u64 {
+    fn begins(&mut self, from: Option<SocketAddr>) -> Origin {
         self.begun = self.begun.saturating_add(1);
-        self.begun
+        Origin {
+            number: self.begun,
+            from,
+        }
     }
 
-    fn ended(&mut self, number: u64, ended: &EndedConnection) {
-        self.say(&end_line(number, ended));
+    fn ended(&mut self, origin: Origin, ended: &EndedConnection) {
+        self.say(&end_line(origin, ended));
     }
 
-    fn refused(&mut self, number: u64, why: Declined) {
-        self.say(&refusal_line(number, why));
+    fn refused(&mut self, origin: Origin, why: Declined) {
+        self.say(&refusal_line(origin, why));
+    }
+
+    fn lost(&mut self) {
+        self.say_text(GONE);
+    }
+
+    fn failed(&mut self, option: &'static str, reason: Reason) {
+        let mut line = Line::new();
+        let _ = write!(line, "ymx: {option}: ");
+        write_reason(&mut line, reason);
+        let _ = writeln!(line, "");
+        self.say(&line);
     }
 }
 
@@ -95,7 +114,7 @@ impl<L: Outlet> ProgramWatcher for Notices<'_, L> {
     }
 
     fn gone(&mut self) {
-        self.say_text("ymx: the peer has gone");
+        self.say_text(GONE);
     }
 
     fn unreached(&mut self, peer: SocketAddr) {
@@ -106,31 +125,56 @@ impl<L: Outlet> ProgramWatcher for Notices<'_, L> {
 }
 
 /// The line of a connection that has ended.
-fn end_line(number: u64, ended: &EndedConnection) -> Line {
-    let EndedConnection { to_peer, from_peer } = *ended;
-    let sent = to_peer.bytes;
-    let sent_why = word_of(to_peer.ending);
-    let got = from_peer.bytes;
-    let got_why = word_of(from_peer.ending);
-    let mut line = Line::new();
-    let _ = writeln!(
-        line,
-        "ymx: connection {number}: {sent} bytes to the peer ({sent_why}), {got} bytes from the peer ({got_why})"
-    );
+fn end_line(origin: Origin, ended: &EndedConnection) -> Line {
+    let mut line = begin_line(origin);
+    write_passed(&mut line, ended.to_peer, "to", ended.reason);
+    let _ = write!(line, ", ");
+    write_passed(&mut line, ended.from_peer, "from", ended.reason);
+    let _ = writeln!(line, "");
     line
 }
 
-/// The line of a connection that was closed, as there was no stream for it.
-fn refusal_line(number: u64, why: Declined) -> Line {
+/// The beginning of the line of a connection: which one it is.
+fn begin_line(origin: Origin) -> Line {
+    let Origin { number, from } = origin;
     let mut line = Line::new();
+    let _ = match from {
+        Some(address) => write!(line, "ymx: connection {number} from {address}: "),
+        None => write!(line, "ymx: connection {number}: "),
+    };
+    line
+}
+
+/// Adds what went one way, to the peer or from it, and why that way ended.
+fn write_passed(line: &mut Line, passed: Passed, way: &'static str, reason: Option<Reason>) {
+    let Passed { bytes, ending } = passed;
+    let word = word_of(ending);
+    let _ = write!(line, "{bytes} bytes {way} the peer ({word}");
+    if let (Ending::ConnectionFailed, Some(reason)) = (ending, reason) {
+        let _ = write!(line, ": ");
+        write_reason(line, reason);
+    }
+    let _ = write!(line, ")");
+}
+
+/// Adds the words for this reason.
+fn write_reason(line: &mut Line, reason: Reason) {
+    let words = reason.words();
+    let _ = write!(line, "{words}");
+    if let Reason::Other(number) = reason {
+        let _ = write!(line, " {number}");
+    }
+}
+
+/// The line of a connection that was closed, as there was no stream for it.
+fn refusal_line(origin: Origin, why: Declined) -> Line {
+    let mut line = begin_line(origin);
     let _ = match why {
         Declined::OutOfMemory | Declined::BySession(CallFault::OutOfMemory(_)) => {
-            writeln!(line, "ymx: connection {number}: no stream: Memory")
+            writeln!(line, "no stream: Memory")
         }
-        Declined::Unwatched => { writeln!(line, "ymx: connection {number}: no stream: Unwatched") }
-        Declined::BySession(fault) => {
-            writeln!(line, "ymx: connection {number}: no stream: {fault}")
-        }
+        Declined::Unwatched => writeln!(line, "no stream: Unwatched"),
+        Declined::BySession(fault) => writeln!(line, "no stream: {fault}"),
     };
     line
 }

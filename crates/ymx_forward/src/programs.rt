@@ -7,9 +7,10 @@ use crate::keeping::{Meeting, keep_calling, keep_local};
 use crate::links::run_links;
 use crate::meeting::meet;
 use crate::notices::{Notices, ProgramWatcher};
+use crate::reason::Reason;
 use crate::serving::{serve_all, serve_until_none};
 use crate::sides::{Forwarded, TunnelSide};
-use crate::sockets::{accept, listen};
+use crate::sockets::{accept, listen_for};
 use crate::tell::{cannot_listen, cannot_meet, lacked_memory, lacks_memory, session_broken};
 use crate::tunnel_end::{Limits, TunnelEnd, new_events};
 use crate::watching::Unwatched;
@@ -84,10 +85,9 @@ fn reaching_end<
     let Some(connection) = meet(rt, alloc, options.peer, watcher, errors) else {
         return 1;
     };
-    let Some(listener) = listen(rt, options.listen) else {
+    let Some(listener) = listen_for(rt, "--listen", options.listen, watcher) else {
         return cannot_listen(alloc, options.listen, errors);
     };
-    watcher.listening(&listener, options.listen);
     forward_all(rt, alloc, connection, listener, options, watcher, errors)
 }
 
@@ -108,10 +108,9 @@ fn awaiting_end<
     ensures status { result ≤ 1 }
     ensures good { result ≡ 0 → Keeps (E.contents errors.old) (E.contents errors.new) }
 {
-    let Some(peers) = listen(rt, address) else {
+    let Some(peers) = listen_for(rt, "--bind", address, watcher) else {
         return cannot_listen(alloc, address, errors);
     };
-    watcher.listening(&peers, address);
     let address = peers.local_addr().unwrap_or(address);
     if options.is_kept {
         let meeting = Meeting {
@@ -120,11 +119,10 @@ fn awaiting_end<
         };
         return meeting_end(rt, alloc, meeting, options, watcher, errors);
     }
-    let Some(listener) = listen(rt, options.listen) else {
+    let Some(listener) = listen_for(rt, "--listen", options.listen, watcher) else {
         return cannot_listen(alloc, options.listen, errors);
     };
-    watcher.listening(&listener, options.listen);
-    match accept(peers) {
+    match accept(peers, watcher) {
         Some(peer) => forward_all(rt, alloc, peer, listener, options, watcher, errors),
         None => cannot_listen(alloc, address, errors),
     }
@@ -150,7 +148,7 @@ fn forward_all<R: Net + Clock + Wait, V: ProgramWatcher, E: Outlet>(
     let count = options.count;
     let side = TunnelSide::Local { listener, count };
     let limits = Limits::new(options.ping, false);
-    let Ok(mut tunnel_end) = TunnelEnd::new(rt, side, false, limits) else {
+    let Some(mut tunnel_end) = new_end(rt, side, false, limits, "--listen", watcher) else {
         return cannot_listen(alloc, options.listen, errors);
     };
     let window = options.window;
@@ -174,10 +172,9 @@ fn meeting_end<
     ensures status { result ≤ 1 }
     ensures good { result ≡ 0 → Keeps (E.contents errors.old) (E.contents errors.new) }
 {
-    let Some(listener) = listen(rt, options.listen) else {
+    let Some(listener) = listen_for(rt, "--listen", options.listen, watcher) else {
         return cannot_listen(alloc, options.listen, errors);
     };
-    watcher.listening(&listener, options.listen);
     let mut events = match new_events(alloc) {
         Ok(events) => events,
         Err(refused) => return lacks_memory(refused, errors),
@@ -185,7 +182,7 @@ fn meeting_end<
     let count = options.count;
     let side = TunnelSide::Local { listener, count };
     let limits = Limits::new(options.ping, true);
-    let Ok(mut tunnel_end) = TunnelEnd::new(rt, side, true, limits) else {
+    let Some(mut tunnel_end) = new_end(rt, side, true, limits, "--listen", watcher) else {
         return cannot_listen(alloc, options.listen, errors);
     };
     let end = &mut tunnel_end;
@@ -257,10 +254,9 @@ fn serving_end<
     ensures good { result ≡ 0 → Keeps (E.contents errors.old) (E.contents errors.new) }
 {
     let mut watcher = watcher;
-    let Some(listener) = listen(rt, address) else {
+    let Some(listener) = listen_for(rt, "--bind", address, &mut watcher) else {
         return cannot_listen(alloc, address, errors);
     };
-    watcher.listening(&listener, address);
     let address = listener.local_addr().unwrap_or(address);
     let count = options.peers.unwrap_or(PEERS);
     if options.is_kept {
@@ -291,7 +287,9 @@ fn single_end<
         Err(refused) => return lacks_memory(refused, errors),
     };
     let limits = Limits::new(options.ping, false);
-    let Ok(mut tunnel_end) = TunnelEnd::new(rt, remote_side(options), false, limits) else {
+    let side = remote_side(options);
+    let Some(mut tunnel_end) = new_end(rt, side, false, limits, option_of(options.peer), watcher)
+    else {
         return cannot_meet(alloc, options.peer, errors);
     };
     let window = options.window;
@@ -315,7 +313,9 @@ fn calling_end<R: Net<Stream = TcpStream> + Clock + Wait, V: ProgramWatcher, E: 
         Err(refused) => return lacks_memory(refused, errors),
     };
     let limits = Limits::new(options.ping, true);
-    let Ok(mut tunnel_end) = TunnelEnd::new(rt, remote_side(options), true, limits) else {
+    let side = remote_side(options);
+    let Some(mut tunnel_end) = new_end(rt, side, true, limits, option_of(options.peer), watcher)
+    else {
         return cannot_meet(alloc, options.peer, errors);
     };
     keep_calling(
@@ -328,6 +328,33 @@ fn calling_end<R: Net<Stream = TcpStream> + Clock + Wait, V: ProgramWatcher, E: 
         watcher,
         errors,
     )
+}
+
+/// A side that has served nothing, as [`TunnelEnd::new`] makes one. None if the system refuses, which is told of this
+/// option.
+fn new_end<R: Net, V: ProgramWatcher>(
+    rt: &R,
+    side: TunnelSide,
+    is_kept: bool,
+    limits: Limits,
+    option: &'static str,
+    watcher: &mut V,
+) -> Option<TunnelEnd> {
+    match TunnelEnd::new(rt, side, is_kept, limits) {
+        Ok(tunnel_end) => Some(tunnel_end),
+        Err(error) => {
+            watcher.failed(option, Reason::of(&error));
+            None
+        }
+    }
+}
+
+/// The option that says so where the peer is met.
+fn option_of(peer: PeerAddress) -> &'static str {
+    match peer {
+        PeerAddress::Connect(_) => "--peer",
+        PeerAddress::Listen(_) => "--bind",
+    }
 }
 
 /// The side that `remote` serves.

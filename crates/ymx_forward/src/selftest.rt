@@ -148,8 +148,8 @@ fn any_port() -> SocketAddr {
 fn prepare<R: Net<Stream = TcpStream, Listener = TcpListener>>(
     rt: &R,
 ) -> Option<(Addresses, Owned)> {
-    let echo = listen(rt, any_port())?;
-    let local = listen(rt, any_port())?;
+    let echo = listen(rt, any_port()).ok()?;
+    let local = listen(rt, any_port()).ok()?;
     let (near, far) = connect_session(rt)?;
     let (Ok(echo_address), Ok(local_address)) = (echo.local_addr(), local.local_addr()) else {
         return None;
@@ -171,11 +171,11 @@ fn prepare<R: Net<Stream = TcpStream, Listener = TcpListener>>(
 fn connect_session<R: Net<Stream = TcpStream, Listener = TcpListener>>(
     rt: &R,
 ) -> Option<(TcpStream, TcpStream)> {
-    let listener = listen(rt, any_port())?;
+    let listener = listen(rt, any_port()).ok()?;
     let Ok(address) = listener.local_addr() else {
         return None;
     };
-    let near = connect(rt, address)?;
+    let near = connect(rt, address).ok()?;
     let Ok((far, _)) = listener.accept() else {
         return None;
     };
@@ -297,8 +297,8 @@ fn run_client<R: Net<Stream = TcpStream> + Wait>(
 /// Whether so many bytes come back from a connection to this address.
 fn is_whole<R: Net<Stream = TcpStream>>(rt: &R, address: SocketAddr, size: u32) -> bool {
     match connect(rt, address) {
-        Some(socket) => is_echoed(&socket, size).unwrap_or(false),
-        None => false,
+        Ok(socket) => is_echoed(&socket, size).unwrap_or(false),
+        Err(_) => false,
     }
 }
 

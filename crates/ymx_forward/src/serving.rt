@@ -8,7 +8,8 @@ use crate::door::{Door, Inside, Knock};
 use crate::notices::ProgramWatcher;
 use crate::peer::Peer;
 use crate::programs::{remote_side, report_session};
-use crate::shared::Shared;
+use crate::reason::Reason;
+use crate::shared::{Shared, tell_failure};
 use crate::sides::Forwarded;
 use crate::starting::StartFault;
 use crate::tell::{cannot_listen, lacks_memory};
@@ -82,9 +83,10 @@ pub(crate) fn serve_all<
 ) -> u8
     ensures { result ≡ 1 }
 {
+    let mut watcher = watcher;
     let (door, inside) = match Door::new(rt, alloc, listener, count, true) {
         Ok(made) => made,
-        Err(fault) => return no_door(alloc, address, fault, errors),
+        Err(fault) => return no_door(alloc, address, fault, &mut watcher, errors),
     };
     let watcher = Mutex::new(watcher);
     let reporter = Mutex::new(Saying {
@@ -114,9 +116,10 @@ pub(crate) fn serve_until_none<
     ensures status { result ≤ 1 }
     ensures good { result ≡ 0 → Keeps (E.contents errors.old) (E.contents errors.new) }
 {
+    let mut watcher = watcher;
     let (door, inside) = match Door::new(rt, alloc, listener, count, false) {
         Ok(made) => made,
-        Err(fault) => return no_door(alloc, address, fault, errors),
+        Err(fault) => return no_door(alloc, address, fault, &mut watcher, errors),
     };
     let watcher = Mutex::new(watcher);
     let reporter = Mutex::new(Gathering {
@@ -131,11 +134,20 @@ pub(crate) fn serve_until_none<
 }
 
 /// Says why no peer can be let in.
-fn no_door<E: Outlet>(alloc: Global, address: SocketAddr, fault: StartFault, errors: &mut E) -> u8
+fn no_door<V: ProgramWatcher, E: Outlet>(
+    alloc: Global,
+    address: SocketAddr,
+    fault: StartFault,
+    watcher: &mut V,
+    errors: &mut E,
+) -> u8
     ensures { result ≡ 1 }
 {
     match fault {
-        StartFault::Unwatched(_) => cannot_listen(alloc, address, errors),
+        StartFault::Unwatched(error) => {
+            watcher.failed("--bind", Reason::of(&error));
+            cannot_listen(alloc, address, errors)
+        }
         StartFault::OutOfMemory(refused) => lacks_memory(refused, errors),
     }
 }
@@ -165,7 +177,12 @@ fn serve_peers<
                 let peer = match door.next_peer(rt, inside) {
                     Knock::Came(peer) => peer,
                     Knock::Empty => return ServingEnd::Empty,
-                    Knock::Failed => return ServingEnd::Failed,
+                    Knock::Failed => {
+                        if let Some(reason) = door.take_refusal() {
+                            tell_failure(rt, "--bind", reason, watcher);
+                        }
+                        return ServingEnd::Failed;
+                    }
                 };
                 inside.enter();
                 if scope
@@ -176,7 +193,7 @@ fn serve_peers<
                     .is_err()
                 {
                     inside.leave();
-                    lack_thread(rt, alloc, options, reporter);
+                    lack_thread(rt, alloc, options, watcher, reporter);
                 }
             }
             unreachable!()
@@ -185,12 +202,14 @@ fn serve_peers<
 }
 
 /// No thread could be made for a peer: it is reported, and others are let in after a while.
-fn lack_thread<R: Clock + Wait, S: Reporter>(
+fn lack_thread<R: Clock + Wait, V: ProgramWatcher, S: Reporter>(
     rt: &R,
     alloc: Global,
     options: RemoteOptions,
+    watcher: &Mutex<V>,
     reporter: &Mutex<S>,
 ) {
+    tell_failure(rt, "--peers", Reason::NoThread, watcher);
     let mut reporter = reporter.lock(rt);
     reporter.report(alloc, options.peer, Forwarded::unwatched());
     drop(reporter);

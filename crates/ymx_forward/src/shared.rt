@@ -1,7 +1,8 @@
 //! Who is told of what several threads do.
 
 use crate::notices::ProgramWatcher;
-use crate::watching::{Declined, EndedConnection, Watcher};
+use crate::reason::Reason;
+use crate::watching::{Declined, EndedConnection, Origin, Watcher};
 use std::net::{SocketAddr, TcpListener};
 use std::sync::{Mutex, Wait};
 
@@ -13,19 +14,29 @@ pub(crate) struct Shared<'a, R: Wait, V: ProgramWatcher> {
 }
 
 impl<R: Wait, V: ProgramWatcher> Watcher for Shared<'_, R, V> {
-    fn begins(&mut self) -> u64 {
+    fn begins(&mut self, from: Option<SocketAddr>) -> Origin {
         let mut watcher = self.watcher.lock(self.rt);
-        watcher.begins()
+        watcher.begins(from)
     }
 
-    fn ended(&mut self, number: u64, ended: &EndedConnection) {
+    fn ended(&mut self, origin: Origin, ended: &EndedConnection) {
         let mut watcher = self.watcher.lock(self.rt);
-        watcher.ended(number, ended);
+        watcher.ended(origin, ended);
     }
 
-    fn refused(&mut self, number: u64, why: Declined) {
+    fn refused(&mut self, origin: Origin, why: Declined) {
         let mut watcher = self.watcher.lock(self.rt);
-        watcher.refused(number, why);
+        watcher.refused(origin, why);
+    }
+
+    fn lost(&mut self) {
+        let mut watcher = self.watcher.lock(self.rt);
+        watcher.lost();
+    }
+
+    fn failed(&mut self, option: &'static str, reason: Reason) {
+        let mut watcher = self.watcher.lock(self.rt);
+        watcher.failed(option, reason);
     }
 }
 
@@ -49,4 +60,15 @@ impl<R: Wait, V: ProgramWatcher> ProgramWatcher for Shared<'_, R, V> {
         let mut watcher = self.watcher.lock(self.rt);
         watcher.unreached(peer);
     }
+}
+
+/// Tells that the system refused, for this reason, what this option asks for.
+pub(crate) fn tell_failure<R: Wait, V: ProgramWatcher>(
+    rt: &R,
+    option: &'static str,
+    reason: Reason,
+    watcher: &Mutex<V>,
+) {
+    let mut watcher = watcher.lock(rt);
+    watcher.failed(option, reason);
 }

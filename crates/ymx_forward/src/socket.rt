@@ -4,11 +4,13 @@ ghost use Rattle.std.specs.Prelude.{◌≡◌, ◌≤◌, ◌+◌, ◌-◌, ◌^
 ghost use Rattle.ymx_engine.specs.Devices.{IsEnded, IsPulled, IsPushed, IsShut, pulled_count, pushed_count, is_end, is_pull_failure, is_push_failure};
 ghost use Rattle.ymx_engine.specs.Tunnels.{HasFailed};
 
+use crate::reason::Reason;
+use crate::watching::Origin;
 use mio::net::TcpStream;
 use mio::{Interest, Token};
 use std::io;
 use std::io::ErrorKind;
-use std::net::Shutdown;
+use std::net::{Shutdown, SocketAddr};
 use ymx_devices::{read, write};
 use ymx_engine::{Device, Line, Pulled, Pushed, Wire};
 
@@ -54,12 +56,14 @@ impl Traffic {
 /// was passed on, whether it has failed, whether it was shut, and how many calls of it were made.
 #[derive(Drop)]
 pub(crate) struct Socket {
-    /// The number of its connection.
-    number: u64,
+    /// Which connection it is.
+    origin: Origin,
     socket: TcpStream,
     state: ConnectState,
     /// What was first the matter with a call of it.
     failure: Option<SocketFault>,
+    /// Why, where the system says so.
+    reason: Option<Reason>,
     traffic: Traffic,
     /// It has said that no more bytes come from it.
     has_ended: bool,
@@ -73,21 +77,22 @@ pub(crate) struct Socket {
 
 impl Socket {
     /// A connection that is there, and never waits.
-    pub(crate) fn connected(socket: TcpStream, number: u64) -> Socket {
-        Socket::new(socket, number, ConnectState::Connected)
+    pub(crate) fn connected(socket: TcpStream, origin: Origin) -> Socket {
+        Socket::new(socket, origin, ConnectState::Connected)
     }
 
     /// A connection that is being made, and never waits.
-    pub(crate) fn connecting(socket: TcpStream, number: u64) -> Socket {
-        Socket::new(socket, number, ConnectState::Connecting)
+    pub(crate) fn connecting(socket: TcpStream, origin: Origin) -> Socket {
+        Socket::new(socket, origin, ConnectState::Connecting)
     }
 
-    fn new(socket: TcpStream, number: u64, state: ConnectState) -> Socket {
+    fn new(socket: TcpStream, origin: Origin, state: ConnectState) -> Socket {
         Socket {
-            number,
+            origin,
             socket,
             state,
             failure: None,
+            reason: None,
             traffic: Traffic::none(),
             has_ended: false,
             was_finished: false,
@@ -96,9 +101,14 @@ impl Socket {
         }
     }
 
-    /// The number of its connection.
-    pub(crate) fn number(&self) -> u64 {
-        self.number
+    /// Which connection it is.
+    pub(crate) fn origin(&self) -> Origin {
+        self.origin
+    }
+
+    /// Who is at the other end. None if the system doesn't say.
+    pub(crate) fn address(&self) -> Option<SocketAddr> {
+        self.socket.peer_addr().ok()
     }
 
     /// From now on the poll of this registry tells of it under this token. False where the system refuses.
@@ -117,6 +127,11 @@ impl Socket {
     /// What was first the matter with it.
     pub(crate) fn fault(&self) -> Option<SocketFault> {
         self.failure
+    }
+
+    /// Why it failed. None if it didn't, or the system doesn't say.
+    pub(crate) fn reason(&self) -> Option<Reason> {
+        self.reason
     }
 
     /// Whether nothing more goes to it.
@@ -138,13 +153,16 @@ impl Socket {
         self.calls = self.calls.saturating_add(1);
     }
 
-    /// A call of it failed.
-    fn fail(&mut self, fault: SocketFault)
+    /// A call of it failed, with this error if the system gave one.
+    fn fail(&mut self, fault: SocketFault, error: Option<&io::Error>)
         ensures failed { is_some self.new.failure ≡ true }
         ensures rest { (self.new.has_ended ≡ self.old.has_ended) × (self.new.was_finished ≡ self.old.was_finished) × (self.new.was_shut ≡ self.old.was_shut) × (self.new.calls ≡ self.old.calls) }
     {
         if self.failure.is_none() {
             self.failure = Some(fault);
+            if let Some(error) = error {
+                self.reason = Some(Reason::of(error));
+            }
         }
     }
 
@@ -176,8 +194,12 @@ impl Socket {
                 Pushed::Took(count)
             }
             Err(e) if e.kind() == ErrorKind::WouldBlock => Pushed::NotNow,
-            _ => {
-                self.fail(SocketFault::Push);
+            Err(e) => {
+                self.fail(SocketFault::Push, Some(&e));
+                Pushed::Failed
+            }
+            Ok(_) => {
+                self.fail(SocketFault::Push, None);
                 Pushed::Failed
             }
         }
@@ -196,8 +218,12 @@ impl Socket {
                 Pulled::Ended
             }
             Err(e) if e.kind() == ErrorKind::WouldBlock => Pulled::NotNow,
-            _ => {
-                self.fail(SocketFault::Pull);
+            Err(e) => {
+                self.fail(SocketFault::Pull, Some(&e));
+                Pulled::Failed
+            }
+            Ok(_) => {
+                self.fail(SocketFault::Pull, None);
                 Pulled::Failed
             }
         }
@@ -217,7 +243,7 @@ impl Device for Socket {
         match self.state {
             ConnectState::Connecting => Pulled::NotNow,
             ConnectState::Unreachable => {
-                self.fail(SocketFault::Push);
+                self.fail(SocketFault::Push, None);
                 Pulled::Failed
             }
             ConnectState::Connected => self.give(buffer),
@@ -232,7 +258,7 @@ impl Device for Socket {
         match self.state {
             ConnectState::Connecting => Pushed::NotNow,
             ConnectState::Unreachable => {
-                self.fail(SocketFault::Push);
+                self.fail(SocketFault::Push, None);
                 Pushed::Failed
             }
             ConnectState::Connected => self.take(bytes),
@@ -275,7 +301,10 @@ impl Line for Socket {
         match self.socket.take_error() {
             Ok(None) if self.socket.peer_addr().is_ok() => self.state = ConnectState::Connected,
             Ok(None) => {}
-            _ => self.state = ConnectState::Unreachable,
+            Ok(Some(error)) | Err(error) => {
+                self.reason = Some(Reason::of(&error));
+                self.state = ConnectState::Unreachable;
+            }
         }
     }
 

@@ -1,38 +1,77 @@
 //! Connections and listeners of the system.
 
+use crate::notices::ProgramWatcher;
+use crate::reason::Reason;
+use crate::watching::Watcher;
+use std::io;
 use std::io::ErrorKind;
 use std::net::{Net, SocketAddr, TcpListener, TcpStream};
 
 /// How often an accept whose connection went away meanwhile is made again in a row.
 const RETRIES: u32 = 1_024;
 
-/// Connects to this address. What is written goes out at once. `None` if it can't.
+/// Connects to this address. What is written goes out at once.
 pub(crate) fn connect<R: Net<Stream = TcpStream>>(
     rt: &R,
     address: SocketAddr,
-) -> Option<TcpStream> {
-    let Ok(socket) = TcpStream::connect(rt, address) else {
-        return None;
-    };
+) -> io::Result<TcpStream> {
+    let socket = TcpStream::connect(rt, address)?;
     let _ = socket.set_nodelay(true);
-    Some(socket)
+    Ok(socket)
 }
 
-/// Listens at this address. `None` if it can't.
+/// Listens at this address.
 pub(crate) fn listen<R: Net<Stream = TcpStream, Listener = TcpListener>>(
     rt: &R,
     address: SocketAddr,
-) -> Option<TcpListener> {
-    TcpListener::bind(rt, address).ok()
+) -> io::Result<TcpListener> {
+    TcpListener::bind(rt, address)
 }
 
-/// Accepts one connection, after which nobody listens. `None` if it can't.
-pub(crate) fn accept(listener: TcpListener) -> Option<TcpStream> {
+/// Listens at the address of this option, which is told. None if it can't, which is told too.
+pub(crate) fn listen_for<R: Net<Stream = TcpStream, Listener = TcpListener>, V: ProgramWatcher>(
+    rt: &R,
+    option: &'static str,
+    address: SocketAddr,
+    watcher: &mut V,
+) -> Option<TcpListener> {
+    match listen(rt, address) {
+        Ok(listener) => {
+            watcher.listening(&listener, address);
+            Some(listener)
+        }
+        Err(error) => {
+            watcher.failed(option, Reason::of(&error));
+            None
+        }
+    }
+}
+
+/// Connects to the peer. None if it can't, which is told.
+pub(crate) fn call<R: Net<Stream = TcpStream>, V: Watcher>(
+    rt: &R,
+    address: SocketAddr,
+    watcher: &mut V,
+) -> Option<TcpStream> {
+    match connect(rt, address) {
+        Ok(socket) => Some(socket),
+        Err(error) => {
+            watcher.failed("--peer", Reason::of(&error));
+            None
+        }
+    }
+}
+
+/// Accepts one connection, after which nobody listens. None if it can't, which is told.
+pub(crate) fn accept<V: Watcher>(listener: TcpListener, watcher: &mut V) -> Option<TcpStream> {
     for _ in 0..RETRIES {
         match listener.accept() {
             Ok((socket, _)) => return Some(socket),
             Err(e) if e.kind() == ErrorKind::ConnectionAborted => {}
-            Err(_) => return None,
+            Err(error) => {
+                watcher.failed("--bind", Reason::of(&error));
+                return None;
+            }
         }
     }
     None

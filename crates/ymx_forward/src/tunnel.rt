@@ -7,12 +7,13 @@ ghost use Rattle.std.specs.Prelude.{◌≡◌, [], true};
 ghost use Rattle.ymx_engine.specs.Runs.{Runs, IsOver};
 
 use crate::peer::Peer;
+use crate::reason::Reason;
 use crate::sides::Forwarded;
 use crate::silence::{Due, Silence, shorter};
 use crate::socket::Socket;
 use crate::stillness::Stillness;
 use crate::tunnel_end::{LISTENER, RETRY, Side, TunnelEnd};
-use crate::watching::{Declined, EndedConnection, Ending, Watcher};
+use crate::watching::{Declined, EndedConnection, Ending, Origin, Watcher};
 use mio::event::Event;
 use mio::net::TcpStream;
 use mio::{Events, Poll, Token};
@@ -288,7 +289,7 @@ impl<'a> TunnelLoop<'a> {
         self.accept_connections(rt, watcher);
         self.read_wire();
         self.accept_streams(rt, watcher);
-        self.tell_loss(rt);
+        self.tell_loss(rt, watcher);
         self.serve_queued(watcher);
         self.flush();
         self.end_lost_wire();
@@ -398,6 +399,7 @@ impl<'a> TunnelLoop<'a> {
         }
         'accept: for _ in 0..ACCEPTS {
             let Some(socket) = self.next_connection(rt) else {
+                self.tunnel_end.tell_refusal(watcher);
                 return;
             };
             self.begin_local(socket, watcher);
@@ -423,13 +425,13 @@ impl<'a> TunnelLoop<'a> {
     fn begin_local<V: Watcher>(&mut self, socket: TcpStream, watcher: &mut V)
         ensures { Runs self.old.tunnel self.new.tunnel }
     {
-        let number = watcher.begins();
+        let origin = watcher.begins(socket.peer_addr().ok());
         if self.is_lost() {
             self.stop_endless();
         }
         let _ = socket.set_nodelay(true);
-        if let Err(why) = self.open(Socket::connected(socket, number)) {
-            self.decline(number, why, watcher);
+        if let Err(why) = self.open(Socket::connected(socket, origin)) {
+            self.decline(origin, why, watcher);
         }
     }
 
@@ -444,7 +446,7 @@ impl<'a> TunnelLoop<'a> {
     }
 
     /// Says why a connection that came got no stream.
-    fn decline<V: Watcher>(&mut self, number: u64, why: NotJoined, watcher: &mut V)
+    fn decline<V: Watcher>(&mut self, origin: Origin, why: NotJoined, watcher: &mut V)
         ensures { self.new.tunnel ≡ self.old.tunnel }
     {
         match why {
@@ -452,15 +454,15 @@ impl<'a> TunnelLoop<'a> {
                 if matches!(fault, CallFault::OutOfMemory(_)) {
                     self.lacked_memory = true;
                 }
-                watcher.refused(number, Declined::BySession(fault));
+                watcher.refused(origin, Declined::BySession(fault));
             }
             NotJoined::Unregistered => {
                 self.stop_unwatched();
-                watcher.refused(number, Declined::Unwatched);
+                watcher.refused(origin, Declined::Unwatched);
             }
             NotJoined::OutOfMemory(_) => {
                 self.lacked_memory = true;
-                watcher.refused(number, Declined::OutOfMemory);
+                watcher.refused(origin, Declined::OutOfMemory);
             }
         }
     }
@@ -507,18 +509,19 @@ impl<'a> TunnelLoop<'a> {
     fn begin_remote<R: Net, V: Watcher>(&mut self, rt: &R, target: SocketAddr, watcher: &mut V)
         ensures { Runs self.old.tunnel self.new.tunnel }
     {
-        let number = watcher.begins();
+        let origin = watcher.begins(self.tunnel.wire().address());
         match TcpStream::connect(rt, target) {
             Ok(socket) => {
                 let _ = socket.set_nodelay(true);
-                if let Err(why) = self.accept(Socket::connecting(socket, number)) {
-                    self.end_unjoined(number, why, watcher);
+                if let Err(why) = self.accept(Socket::connecting(socket, origin)) {
+                    self.end_unjoined(origin, why, watcher);
                 }
             }
-            Err(_) => {
+            Err(error) => {
                 if self.tunnel.reject() {
-                    let ended = EndedConnection::of_nothing(Ending::ConnectionFailed);
-                    watcher.ended(number, &ended);
+                    let reason = Some(Reason::of(&error));
+                    let ended = EndedConnection::of_nothing(Ending::ConnectionFailed, reason);
+                    watcher.ended(origin, &ended);
                 }
             }
         }
@@ -535,7 +538,7 @@ impl<'a> TunnelLoop<'a> {
     }
 
     /// Says why a connection to the target was not joined to its stream.
-    fn end_unjoined<V: Watcher>(&mut self, number: u64, why: NotJoined, watcher: &mut V)
+    fn end_unjoined<V: Watcher>(&mut self, origin: Origin, why: NotJoined, watcher: &mut V)
         ensures { self.new.tunnel ≡ self.old.tunnel }
     {
         let ending = match why {
@@ -545,7 +548,7 @@ impl<'a> TunnelLoop<'a> {
             }
             NotJoined::BySession(_) | NotJoined::Unregistered => Ending::ConnectionFailed,
         };
-        watcher.ended(number, &EndedConnection::of_nothing(ending));
+        watcher.ended(origin, &EndedConnection::of_nothing(ending, None));
     }
 
     // ---- bytes
@@ -601,16 +604,17 @@ impl<'a> TunnelLoop<'a> {
         if let Some(socket) = self.tunnel.forget(id) {
             let ended = match state {
                 Some(state) => EndedConnection::of(&socket, state, is_lost),
-                None => EndedConnection::of_nothing(Ending::Refused),
+                None => EndedConnection::of_nothing(Ending::Refused, None),
             };
             self.lacked_memory |= ended.lacked_memory();
-            watcher.ended(socket.number(), &ended);
+            watcher.ended(socket.origin(), &ended);
         }
     }
 
     /// Once the session is lost, each connection is asked for bytes, so that it is shut, unless its end came before.
-    /// What waits for one that is still being made is written first. Who brings connections is told too.
-    fn tell_loss<R: Clock + Wait>(&mut self, rt: &R)
+    /// What waits for one that is still being made is written first. Who brings connections is told too, and where no
+    /// session follows, who watches.
+    fn tell_loss<R: Clock + Wait, V: Watcher>(&mut self, rt: &R, watcher: &mut V)
         ensures { self.new.tunnel ≡ self.old.tunnel }
     {
         if self.is_loss_told || !self.is_lost() {
@@ -620,6 +624,9 @@ impl<'a> TunnelLoop<'a> {
         let is_kept = self.tunnel_end.is_kept;
         if let Side::Local(listening) = &self.tunnel_end.side {
             listening.note_loss(rt, is_kept);
+        }
+        if !is_kept {
+            watcher.lost();
         }
         self.tunnel.tell_loss();
     }
@@ -687,6 +694,6 @@ fn new_engine(alloc: Global, role: Role, window: u32) -> Result<Engine, NewFault
 
 /// The connection to the peer, of whose events the poll tells. None where the system refuses.
 pub(crate) fn wire_of(peer: Peer, poll: &Poll) -> Option<Socket> {
-    let mut wire = Socket::connected(peer.into_socket(), 0);
+    let mut wire = Socket::connected(peer.into_socket(), Origin::untold());
     wire.register(poll.registry(), Token(WIRE)).then_some(wire)
 }

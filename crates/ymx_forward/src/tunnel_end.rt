@@ -325,10 +325,18 @@ impl TunnelEnd {
 
     /// Closes the connection that waits for a session, if one does, as there is none to be had.
     pub(crate) fn refuse_waiting<V: Watcher>(&mut self, watcher: &mut V) {
-        if self.waiting.is_some() {
-            self.waiting = None;
-            let number = watcher.begins();
-            watcher.refused(number, Declined::BySession(CallFault::Lost));
+        if let Some(socket) = self.waiting.take() {
+            let origin = watcher.begins(socket.peer_addr().ok());
+            watcher.refused(origin, Declined::BySession(CallFault::Lost));
+        }
+    }
+
+    /// Tells why the system has refused to accept a connection, if it has and that wasn't told.
+    pub(crate) fn tell_refusal<V: Watcher>(&mut self, watcher: &mut V) {
+        if let Side::Local(listening) = &mut self.side {
+            if let Some(reason) = listening.take_refusal() {
+                watcher.failed("--listen", reason);
+            }
         }
     }
 

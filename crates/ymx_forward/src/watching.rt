@@ -1,6 +1,8 @@
 //! Who is told how connections ended, and what is told.
 
+use crate::reason::Reason;
 use crate::socket::{Socket, SocketFault};
+use std::net::SocketAddr;
 use ymx_engine::{Connection, Flow, Line};
 use ymx_model::CallFault;
 
@@ -30,6 +32,25 @@ pub(crate) struct Passed {
     pub ending: Ending,
 }
 
+/// Which connection it is.
+#[derive(Clone, Copy)]
+pub(crate) struct Origin {
+    /// Its number: 1, 2, 3, .., or 0 where nobody reads it.
+    pub number: u64,
+    /// Who it is from: a user, or the peer that has opened its stream. None where that isn't known.
+    pub from: Option<SocketAddr>,
+}
+
+impl Origin {
+    /// That of a connection of which nobody is told.
+    pub(crate) fn untold() -> Origin {
+        Origin {
+            number: 0,
+            from: None,
+        }
+    }
+}
+
 /// How a connection ended.
 #[derive(Clone, Copy)]
 pub(crate) struct EndedConnection {
@@ -37,6 +58,8 @@ pub(crate) struct EndedConnection {
     pub to_peer: Passed,
     /// From the stream to the connection.
     pub from_peer: Passed,
+    /// Why the connection failed, if it did and the system says so.
+    pub reason: Option<Reason>,
 }
 
 /// Why a connection got no stream.
@@ -53,14 +76,20 @@ pub(crate) enum Declined {
 /// Who is told of connections that have ended, and numbers them. Of each that begins it is told once more, by one of the
 /// other two calls.
 pub(crate) trait Watcher {
-    /// A connection begins. Its number: 1, 2, 3, .., or 0 where nobody reads it.
-    fn begins(&mut self) -> u64;
+    /// A connection begins, of somebody at this address.
+    fn begins(&mut self, from: Option<SocketAddr>) -> Origin;
 
     /// A connection that had a stream has ended.
-    fn ended(&mut self, number: u64, ended: &EndedConnection);
+    fn ended(&mut self, origin: Origin, ended: &EndedConnection);
 
     /// A connection was closed, as no stream was to be had for it.
-    fn refused(&mut self, number: u64, why: Declined);
+    fn refused(&mut self, origin: Origin, why: Declined);
+
+    /// The session was lost, and none follows.
+    fn lost(&mut self);
+
+    /// The system refused, for this reason, what this option asks for.
+    fn failed(&mut self, option: &'static str, reason: Reason);
 }
 
 /// Watches nothing.
@@ -68,22 +97,27 @@ pub(crate) trait Watcher {
 pub(crate) struct Unwatched;
 
 impl Watcher for Unwatched {
-    fn begins(&mut self) -> u64 {
-        0
+    fn begins(&mut self, _from: Option<SocketAddr>) -> Origin {
+        Origin::untold()
     }
 
-    fn ended(&mut self, _number: u64, _ended: &EndedConnection) {}
+    fn ended(&mut self, _origin: Origin, _ended: &EndedConnection) {}
 
-    fn refused(&mut self, _number: u64, _why: Declined) {}
+    fn refused(&mut self, _origin: Origin, _why: Declined) {}
+
+    fn lost(&mut self) {}
+
+    fn failed(&mut self, _option: &'static str, _reason: Reason) {}
 }
 
 impl EndedConnection {
     /// Nothing was passed on, for this reason.
-    pub(crate) fn of_nothing(ending: Ending) -> EndedConnection {
+    pub(crate) fn of_nothing(ending: Ending, reason: Option<Reason>) -> EndedConnection {
         let passed = Passed { bytes: 0, ending };
         EndedConnection {
             to_peer: passed,
             from_peer: passed,
+            reason,
         }
     }
 
@@ -103,6 +137,7 @@ impl EndedConnection {
                 bytes: socket.pushed(),
                 ending: ending_of(connection.from_peer, from_peer),
             },
+            reason: socket.reason(),
         }
     }
 
