@@ -12,6 +12,11 @@ may_read keeps fails failed remaining Gate k r = r
 may_read keeps fails failed remaining NoThread k r = absurd r
 may_read keeps fails failed remaining _ k r = refl
 
+pub may_read_once : (keeps : Bool) (fails failed : ℕ) (remaining : Option (List ℕ)) (refused : Bool) (why : PumpWhy) → keeps ≡ false → refused ≡ false →
+    ReadEnd keeps fails failed remaining refused why → may_end why ≡ true
+may_read_once keeps fails failed remaining true why k e r = absurd cc
+may_read_once keeps fails failed remaining false why k e r = may_read keeps fails failed remaining why k r
+
 pub may_write : (keeps : Bool) (fails failed : ℕ) (is_ended : Bool) (why : PumpWhy) → keeps ≡ false →
     WriteEnd keeps fails failed is_ended false why → may_end_writing why ≡ true
 may_write keeps fails failed is_ended (Broken fault) k w = absurd w

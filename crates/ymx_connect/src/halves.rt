@@ -1,7 +1,8 @@
 //! The two halves of a stream, and how they are spent.
 //!
 //! Once both halves are spent the stream is given up. If it was finished and the peer's end has come, what is unsent
-//! still goes out; else it is reset, and what is unsent is dropped.
+//! still goes out; else it is reset, and what is unsent is dropped. A reader that is released is spent only once the
+//! peer's end has come, so nothing of a finished stream is lost.
 
 ghost use Rattle.std.specs.Prelude.{◌≡◌, ◌<◌, ◌≤◌, List, ℕ, length, drop, false, IfOk, IfErr, MatchResult};
 ghost use Rattle.ymx_machine.specs.declared.types.Reply.TheVariants as reply;
@@ -24,8 +25,8 @@ pub struct Writer<R: Recorder = Off> {
     half: WriteHalf<R>,
 }
 
-/// The reading half of a stream. It must be spent, by `close`: it cannot be dropped. A contract sees the id of its
-/// stream and its seat.
+/// The reading half of a stream. It must be spent, by `close` or `release`: it cannot be dropped. A contract sees the id
+/// of its stream and its seat.
 pub struct Reader<R: Recorder = Off> {
     half: ReadHalf<R>,
 }
@@ -171,6 +172,20 @@ impl<R: Recorder> Reader<R> {
         discard(seat);
         closed
     }
+
+    /// Lets the half go, without a wait: what comes of the stream is dropped, so that the peer gets its credit back, and
+    /// the half is spent by itself once the peer's end is there, the stream was reset or the session is lost. Until then
+    /// a stream that was finished keeps what is unsent, and is one of the 1,024.
+    ///
+    /// Refused with `Closed`, only where the stream is given up now.
+    pub fn release<W: Wait>(self, rt: &W) -> Result<(), StreamFault>
+        ensures { R.KEEPS ≡ false → IsNotMemory result }
+    {
+        let Reader { half } = self;
+        let (seat, released) = half.release(rt);
+        discard(seat);
+        released
+    }
 }
 
 /// Reads up to the end, and writes all that was read, in order: how many bytes, at most the greatest `u64`. A fault of
@@ -201,14 +216,14 @@ pub fn copy<W: Wait, R: Recorder, S: Recorder>(
     unreachable!()
 }
 
-/// Half-closes the stream, spends its reading half, and so gives the stream up. Where the peer's end has not come it is
-/// reset. Answers the first refusal.
+/// Half-closes the stream, and releases its reading half: what was written still arrives, what comes is dropped, and the
+/// stream is given up by itself once the peer's end is there. It doesn't wait for that. Answers the first refusal.
 pub fn close_stream<W: Wait>(rt: &W, writer: Writer, reader: Reader) -> Result<(), StreamFault>
     ensures { IsNotMemory result }
 {
     let finished = writer.finish(rt);
-    let closed = reader.close(rt);
-    finished.and(closed)
+    let released = reader.release(rt);
+    finished.and(released)
 }
 
 /// Lets a seat go, with its entries. With the recorder `Off` it holds none.
