@@ -422,6 +422,12 @@ pub look_updated : {D : Type 0} (seen : D → Seen) (ms ns : List (ℕ × D)) (w
 look_updated seen ms ns w other b e =
     look_lines seen ns other ∙ ap (option_map seen) e ∙ sym (seen_behind seen b w (lookup (nat_eq other) ms) (look other (lines_of seen ms)) (look_lines seen ms other))
 
+-- a device that is there was called, as the map of devices says it
+pub called_line : {D : Type 0} (seen : D → Seen) (ms ns : List (ℕ × D)) (id : ℕ) (x w : D) → lookup (nat_eq id) ms ≡ Some x →
+    ((other : ℕ) → lookup (nat_eq other) ns ≡ cond (nat_eq id other) (Some w) (lookup (nat_eq other) ms)) →
+    (look id (lines_of seen ms) ≡ Some (seen x)) × ((other : ℕ) → look other (lines_of seen ns) ≡ cond (nat_eq id other) (Some (seen w)) (look other (lines_of seen ms)))
+called_line seen ms ns id x w found put = (look_lines seen ms id ∙ ap (option_map seen) found, λ other. look_updated seen ms ns w other (nat_eq id other) (put other))
+
 -- what a call saw of the tunnel before
 pub from_view : (a b c : Tunnel) → a ≡ b → Runs a c → Runs b c
 from_view a b c e x = subst (λ (v : Tunnel). Runs v c) e x
