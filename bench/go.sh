@@ -10,6 +10,8 @@ trap 'rm -rf "$work"' EXIT
 trap 'exit 130' INT TERM
 PREFIX=$work/built "$top/c/build.sh" "$work/built" > "$work/log" 2>&1 || { cat "$work/log" >&2; exit 1; }
 export PKG_CONFIG_PATH="$work/built/lib/pkgconfig" LD_LIBRARY_PATH="$work/built/lib"
+# Go's cache would keep where the library stood in an earlier run
+export GOCACHE="$work/cache"
 mkdir "$work/bench"
 cp "$top/bench/go_bench.go" "$work/bench/main.go"
 cd "$work/bench"

@@ -64,6 +64,23 @@ static int64_t core_write(core *c, uint32_t id, const uint8_t *bytes, size_t len
     return ymx_write(c->session, id, bytes, len);
 }
 
+// The most bytes that ymx_write_through takes.
+enum { most_through = 16384 };
+
+// Writes bytes straight into frames, as many as may go at once, and says how many. The frames fill the front of out.
+static int64_t core_write_through(core *c, uint32_t id, const uint8_t *bytes, size_t len, uint8_t *out, size_t room, size_t *filled) {
+    size_t done = 0;
+    *filled = 0;
+    while (done < len) {
+        size_t count = len - done < most_through ? len - done : most_through;
+        int64_t made = ymx_write_through(c->session, id, bytes + done, count, out + *filled, room - *filled);
+        if (made <= 0) break;
+        *filled += (size_t)made;
+        done += count;
+    }
+    return (int64_t)done;
+}
+
 static int64_t core_emit(core *c, uint8_t *buffer, size_t len) {
     return ymx_emit(c->session, buffer, len);
 }
@@ -133,6 +150,14 @@ func (core core) accept() int64 { return int64(C.ymx_accept(core.c.session)) }
 
 func (core core) write(id uint32, bytes []byte) int64 {
 	return int64(C.core_write(core.c, C.uint32_t(id), first(bytes), C.size_t(len(bytes))))
+}
+
+// writeThrough writes bytes and emits them at once into the front of a block, if nothing is due: how many it took, and how
+// many bytes of the block it filled.
+func (core core) writeThrough(id uint32, bytes, block []byte) (taken, filled int) {
+	var made C.size_t
+	count := C.core_write_through(core.c, C.uint32_t(id), first(bytes), C.size_t(len(bytes)), first(block), C.size_t(len(block)), &made)
+	return int(count), int(made)
 }
 
 // read renews isDue where it gives bytes.

@@ -278,6 +278,19 @@ func (s *Session) fill() bool {
 	return count > 0
 }
 
+// through has bytes of a stream go straight into frames, if all that was due before is out, and says how many.
+func (s *Session) through(id uint32, bytes []byte) int {
+	if s.busy || s.full || s.due || len(s.rest) > 0 {
+		return 0
+	}
+	taken, filled := s.core.writeThrough(id, bytes, s.block)
+	if filled > 0 {
+		s.rest = s.block[:filled]
+		s.drains++ // nothing is due behind it
+	}
+	return taken
+}
+
 // writeRest writes what was emitted, without the lock, and notes what the connection took.
 func (s *Session) writeRest(write func([]byte) (int, error)) error {
 	rest := s.rest

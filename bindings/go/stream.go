@@ -169,6 +169,11 @@ func (st *Stream) hand(bytes []byte) error {
 			return err
 		}
 		if !st.stalled {
+			if count := s.through(st.id, bytes); count > 0 {
+				st.taken += uint64(count)
+				bytes = bytes[count:]
+				continue
+			}
 			answer := s.core.write(st.id, bytes)
 			if answer > 0 {
 				st.taken += uint64(answer)
