@@ -48,6 +48,7 @@ type Session struct {
 	drains   uint64    // emissions after which nothing was due
 	outside  uint64    // how many of them the connection has taken
 	flushing []*Stream // of which calls wait for their bytes to be out
+	turns    []*Stream // of which a Write waits for the connection, the first to come first
 	away     bool      // our Go Away is out
 	watching bool      // a look at those who wait for the connection to take their bytes is planned
 
@@ -246,11 +247,13 @@ func (s *Session) send() {
 	defer s.lock.Unlock()
 	for !s.over {
 		if s.busy || !s.fill() {
+			s.nextTurn()
 			s.sender.Wait()
 			continue
 		}
 		err := s.writeRest(s.connection.Write)
 		s.full = false
+		s.nextTurn()
 		if err != nil && !s.over {
 			s.logger.Printf("[ERR] yamux: Failed to write: %v", err)
 			go s.end(err)
@@ -280,7 +283,7 @@ func (s *Session) fill() bool {
 
 // through has bytes of a stream go straight into frames, if all that was due before is out, and says how many.
 func (s *Session) through(id uint32, bytes []byte) int {
-	if s.busy || s.full || s.due || len(s.rest) > 0 {
+	if s.isOccupied() || s.due {
 		return 0
 	}
 	taken, filled := s.core.writeThrough(id, bytes, s.block)
@@ -313,7 +316,11 @@ func (s *Session) writeRest(write func([]byte) (int, error)) error {
 // writeHere writes what is due in the calling goroutine, as far as the connection takes it at once, and says whether it
 // did. Then the lock was released meanwhile, so the caller looks anew before it waits. The writing goroutine goes on.
 func (s *Session) writeHere() bool {
-	if s.busy || s.full || s.over || !s.fill() {
+	if s.busy || s.full || s.over {
+		return false
+	}
+	if !s.fill() {
+		s.nextTurn()
 		return false
 	}
 	if s.atOnce == nil {
@@ -325,7 +332,32 @@ func (s *Session) writeHere() bool {
 	if s.due || s.full {
 		s.sender.Signal()
 	}
+	s.nextTurn()
 	return true
+}
+
+// isOccupied says whether somebody writes to the connection, or has still to.
+func (s *Session) isOccupied() bool { return s.busy || s.full || len(s.rest) > 0 }
+
+// nextTurn lets the first of those who wait for the connection have it, if it is free and nothing else is to go out.
+func (s *Session) nextTurn() {
+	if len(s.turns) == 0 || s.isOccupied() || s.due {
+		return
+	}
+	first := s.turns[0]
+	s.leaveTurns(first)
+	first.hasTurn = true
+	first.writable.Broadcast()
+}
+
+// leaveTurns takes a stream off the list of those that wait for the connection.
+func (s *Session) leaveTurns(stream *Stream) {
+	for place, other := range s.turns {
+		if other == stream {
+			s.turns = append(s.turns[:place], s.turns[place+1:]...)
+			return
+		}
+	}
 }
 
 // drained notes that all that was emitted is out, if it is, and wakes those who wait for no more than that.
@@ -366,6 +398,9 @@ func (s *Session) look() {
 	s.watching = false
 	s.written.Broadcast()
 	s.wakeFlushing()
+	for _, stream := range s.turns {
+		stream.writable.Broadcast()
+	}
 }
 
 // ---- streams

@@ -36,6 +36,7 @@ type Stream struct {
 	credits uint64 // how many credits are out
 
 	isFlushing bool // it is in the session's list of those
+	hasTurn    bool // its Write may have the connection
 }
 
 func newStream(session *Session, id uint32) *Stream {
@@ -132,6 +133,9 @@ func (st *Stream) Write(bytes []byte) (int, error) {
 	s := st.session
 	s.lock.Lock()
 	defer s.lock.Unlock()
+	if st.writing.isPast() && len(bytes) > 0 {
+		return 0, ErrTimeout
+	}
 	before, all := st.taken, len(bytes)
 	err := st.hand(bytes)
 	fault := st.flush(st.writable, func() bool { return st.gone >= st.taken || st.writing.isPast() })
@@ -161,6 +165,10 @@ func (st *Stream) unsent() error {
 	return ErrTimeout
 }
 
+// leastTurn is how many bytes wait for the connection, so that they go straight into frames. Fewer are copied into the
+// stream's ring where somebody else writes: a frame's payload.
+const leastTurn = 16384
+
 // hand gives all of it to the library, as the peer grants credit.
 func (st *Stream) hand(bytes []byte) error {
 	s := st.session
@@ -169,6 +177,17 @@ func (st *Stream) hand(bytes []byte) error {
 			return err
 		}
 		if !st.stalled {
+			if len(bytes) >= leastTurn && (s.isOccupied() || s.due) {
+				if s.writeHere() {
+					continue
+				}
+				if s.isOccupied() {
+					if err := st.awaitTurn(); err != nil {
+						return err
+					}
+					continue
+				}
+			}
 			if count := s.through(st.id, bytes); count > 0 {
 				st.taken += uint64(count)
 				bytes = bytes[count:]
@@ -183,6 +202,7 @@ func (st *Stream) hand(bytes []byte) error {
 				continue
 			}
 			if answer != answerWait {
+				s.nextTurn()
 				return st.refused(answer)
 			}
 			st.stalled = true
@@ -190,10 +210,44 @@ func (st *Stream) hand(bytes []byte) error {
 		if s.writeHere() {
 			continue // credit may have come meanwhile
 		}
+		s.nextTurn()
 		if st.writing.isPast() {
 			return ErrTimeout
 		}
 		st.writable.Wait()
+	}
+	return nil
+}
+
+// awaitTurn waits until the connection is free, behind those who came first.
+func (st *Stream) awaitTurn() error {
+	s := st.session
+	since := time.Now()
+	st.hasTurn = false
+	s.turns = append(s.turns, st)
+	for !st.hasTurn {
+		if err := st.turnFault(since); err != nil {
+			s.leaveTurns(st)
+			return err
+		}
+		st.writable.Wait()
+	}
+	return nil
+}
+
+// turnFault is why a Write that has waited since then for the connection waits no longer.
+func (st *Stream) turnFault(since time.Time) error {
+	if err := st.writeFault(); err != nil {
+		return err
+	}
+	if st.session.over {
+		return ErrSessionShutdown
+	}
+	if st.writing.isPast() {
+		return ErrTimeout
+	}
+	if st.session.overdue(since) {
+		return ErrConnectionWriteTimeout
 	}
 	return nil
 }

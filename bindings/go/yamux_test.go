@@ -392,6 +392,23 @@ func TestDeadlinesEndCallsThatWait(t *testing.T) {
 	}
 }
 
+func TestWriteBehindItsDeadlineSendsNothing(t *testing.T) {
+	client, server := overTCP(t, quiet())
+	near, far := pair(t, client, server)
+	good(t, near.SetWriteDeadline(time.Now().Add(-time.Second)))
+	if count, err := near.Write([]byte("late")); count != 0 || err != ErrTimeout {
+		t.Fatal(count, err)
+	}
+	good(t, near.SetWriteDeadline(time.Time{}))
+	_, err := near.Write([]byte("in time"))
+	good(t, err)
+	good(t, near.CloseWrite())
+	came, err := io.ReadAll(far)
+	if good(t, err); string(came) != "in time" {
+		t.Fatal(string(came))
+	}
+}
+
 func TestAcceptStopsWithItsContext(t *testing.T) {
 	client, server := overTCP(t, quiet())
 	waits, stop := context.WithTimeout(context.Background(), 20*time.Millisecond)
