@@ -33,8 +33,8 @@ pub(crate) fn run_tunnel<
     ensures unsaid { IsNotVerbose command → IsUntouched (change_of L.contents L.failures lines.old lines.new) }
 {
     match command {
-        TunnelCommand::Local(options) => run_local(rt, alloc, options, errors, lines),
-        TunnelCommand::Remote(options) => run_remote(rt, alloc, options, errors, lines),
-        TunnelCommand::Selftest => run_selftest(rt, alloc, writer, errors),
+        TunnelCommand::Local(options) => run_local(rt, alloc, options, errors, lines).status(),
+        TunnelCommand::Remote(options) => run_remote(rt, alloc, options, errors, lines).status(),
+        TunnelCommand::Selftest => run_selftest(rt, alloc, writer, errors).status(),
     }
 }

@@ -26,6 +26,13 @@ enum Source {
     Failed,
 }
 
+/// No more connections are accepted, as all have come that were to, or nobody is to accept more. Only a [`Listening`] that
+/// has stopped so makes one.
+#[derive(Clone, Copy)]
+pub struct AllCame {
+    seal: (),
+}
+
 /// Where connections come from, and how many may still come.
 #[derive(Drop)]
 pub(crate) struct Listening {
@@ -100,6 +107,14 @@ impl Listening {
         match self.source {
             Source::Listener(_) | Source::Inbox(_) => false,
             Source::Closed | Source::Failed => true,
+        }
+    }
+
+    /// That no more are accepted, though some could be.
+    pub(crate) fn all_came(&self) -> Option<AllCame> {
+        match &self.source {
+            Source::Closed => Some(AllCame { seal: () }),
+            Source::Listener(_) | Source::Inbox(_) | Source::Failed => None,
         }
     }
 

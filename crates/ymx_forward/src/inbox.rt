@@ -3,7 +3,7 @@
 use crate::stillness::Stillness;
 use mio::Waker;
 use mio::net::TcpStream;
-use std::alloc::{AllocError, Global};
+use std::alloc::{AllocFailed, Global};
 use std::collections::VecDeque;
 use std::sync::atomic::{AtomicU64, Ordering};
 use std::sync::{Arc, Mutex, Wait};
@@ -52,8 +52,8 @@ pub(crate) enum Taken {
 pub(crate) enum NotLeft {
     /// The inbox is closed. The connection comes back.
     Closed(TcpStream),
-    /// There was no memory for it, and it is closed.
-    OutOfMemory(AllocError),
+    /// There was no memory for it. The connection comes back.
+    OutOfMemory(AllocFailed<TcpStream>),
 }
 
 impl Inbox {
@@ -79,7 +79,7 @@ impl Inbox {
             return Err(NotLeft::Closed(socket));
         }
         if let Err(refused) = content.waiting.push_back(socket) {
-            return Err(NotLeft::OutOfMemory(AllocError::from(refused)));
+            return Err(NotLeft::OutOfMemory(refused));
         }
         self.load.fetch_add(1, Ordering::SeqCst);
         drop(content);

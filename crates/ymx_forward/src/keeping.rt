@@ -1,15 +1,18 @@
 //! The two ends of a tunnel through one session after another.
 
-ghost use Rattle.std.specs.Prelude.{◌≡◌, ◌≤◌};
+ghost use Rattle.std.specs.Prelude.{◌≡◌, false};
 ghost use Rattle.std.specs.Io.KnownBytes.{Keeps};
+ghost use Rattle.ymx_forward.specs.Exits.{status_of};
 
+use crate::accepting::AllCame;
+use crate::exit::{Done, Exit};
 use crate::notices::ProgramWatcher;
 use crate::peer::Peer;
 use crate::programs::{report, report_session};
 use crate::reason::Reason;
 use crate::sockets::{call, listen};
 use crate::tell::cannot_listen;
-use crate::tunnel_end::{Awaited, AwaitedPeer, TunnelEnd};
+use crate::tunnel_end::{Awaited, AwaitedPeer, NoneCome, TunnelEnd};
 use mio::Events;
 use std::alloc::Global;
 use std::net::{Net, SocketAddr, TcpListener, TcpStream};
@@ -26,12 +29,10 @@ const LASTING: u64 = 1;
 const LONGEST_PAUSE: u64 = 30;
 
 /// Why no session follows any more.
-#[derive(Clone, Copy, PartialEq, Eq)]
+#[derive(Clone, Copy)]
 enum KeptEnd {
-    /// As many connections have come as were to: all is done.
-    AllCame,
-    /// No connection can be accepted any more, or waited for.
-    NoConnections,
+    /// No connections come any more.
+    NoConnections(NoneCome),
     /// No peer can be accepted any more, or waited for.
     NoPeers,
 }
@@ -57,7 +58,7 @@ pub(crate) struct Meeting {
 }
 
 /// Forwards each connection that comes, through one session after another. Ends once no more connections come, or no peer
-/// can. Says each fault as it comes, and answers the exit status.
+/// can. Says each fault as it comes, and answers how it ended.
 pub(crate) fn keep_local<
     R: Net<Stream = TcpStream, Listener = TcpListener> + Clock + Wait,
     V: ProgramWatcher,
@@ -71,12 +72,11 @@ pub(crate) fn keep_local<
     events: &mut Events,
     watcher: &mut V,
     errors: &mut E,
-) -> u8
-    ensures status { result ≤ 1 }
-    ensures good { result ≡ 0 → Keeps (E.contents errors.old) (E.contents errors.new) }
+) -> Exit
+    ensures good { status_of result ≡ 0 → Keeps (E.contents errors.old) (E.contents errors.new) }
 {
     let Meeting { address, listener } = meeting;
-    let mut status = 0;
+    let mut has_faulted = false;
     let mut next = match listener {
         Some(listener) => next_of(tunnel_end.await_peer(rt, listener, events, watcher)),
         None => next_session(rt, tunnel_end, options.peer, address, events, watcher),
@@ -88,14 +88,14 @@ pub(crate) fn keep_local<
                     rt, alloc, peer, tunnel_end, options, events, watcher, errors,
                 )
             }
-            Next::Unreached => 0,
+            Next::Unreached => false,
             Next::Over(end) => {
                 tunnel_end.tell_refusal(watcher);
-                return end_status(alloc, end, options, address, status, errors);
+                return exit_of(alloc, end, options, address, has_faulted, errors);
             }
         };
-        if status == 0 {
-            status = served;
+        if !has_faulted {
+            has_faulted = served;
         }
         tunnel_end.refuse_waiting(watcher);
         next = next_session(rt, tunnel_end, options.peer, address, events, watcher);
@@ -104,7 +104,7 @@ pub(crate) fn keep_local<
 }
 
 /// Serves connections through a session with this peer, and says its fault. A peer that is awaited is said to have gone
-/// only once the next one can call. Answers 1 if something went wrong in the session, and else 0.
+/// only once the next one can call. Whether something went wrong in the session.
 fn serve_local<R: Net + Clock + Wait, V: ProgramWatcher, E: Outlet>(
     rt: &R,
     alloc: Global,
@@ -114,16 +114,15 @@ fn serve_local<R: Net + Clock + Wait, V: ProgramWatcher, E: Outlet>(
     events: &mut Events,
     watcher: &mut V,
     errors: &mut E,
-) -> u8
-    ensures status { result ≤ 1 }
-    ensures good { result ≡ 0 → Keeps (E.contents errors.old) (E.contents errors.new) }
+) -> bool
+    ensures good { result ≡ false → Keeps (E.contents errors.old) (E.contents errors.new) }
 {
     watcher.came();
     let forwarded = tunnel_end.forward_peer(rt, alloc, peer, options.window, events, watcher);
     if let PeerAddress::Connect(_) = options.peer {
         watcher.gone();
     }
-    report(alloc, options, forwarded, errors)
+    report(alloc, options, forwarded, errors).has_faulted()
 }
 
 /// A session over this connection. Where there is none the peer can't be reached.
@@ -146,8 +145,7 @@ fn next_session<R: Net<Stream = TcpStream, Listener = TcpListener> + Wait, V: Pr
     match peer {
         PeerAddress::Connect(_) => match tunnel_end.await_connection(rt, events) {
             Awaited::Came => session_over(call(rt, address, watcher)),
-            Awaited::AllCame => Next::Over(KeptEnd::AllCame),
-            Awaited::Refused => Next::Over(KeptEnd::NoConnections),
+            Awaited::NoneCome(why) => Next::Over(KeptEnd::NoConnections(why)),
         },
         PeerAddress::Listen(_) => next_of(next_peer(rt, tunnel_end, address, events, watcher)),
     }
@@ -157,8 +155,7 @@ fn next_session<R: Net<Stream = TcpStream, Listener = TcpListener> + Wait, V: Pr
 fn next_of(awaited: AwaitedPeer) -> Next {
     match awaited {
         AwaitedPeer::Came(peer) => Next::Peer(peer),
-        AwaitedPeer::AllCame => Next::Over(KeptEnd::AllCame),
-        AwaitedPeer::NoConnections => Next::Over(KeptEnd::NoConnections),
+        AwaitedPeer::NoneCome(why) => Next::Over(KeptEnd::NoConnections(why)),
         AwaitedPeer::Refused => Next::Over(KeptEnd::NoPeers),
     }
 }
@@ -171,13 +168,9 @@ fn next_peer<R: Net<Stream = TcpStream, Listener = TcpListener> + Wait, V: Progr
     events: &mut Events,
     watcher: &mut V,
 ) -> AwaitedPeer {
-    if tunnel_end.is_over() {
+    if let Some(why) = tunnel_end.none_come() {
         watcher.gone();
-        return if tunnel_end.accept_failed() {
-            AwaitedPeer::NoConnections
-        } else {
-            AwaitedPeer::AllCame
-        };
+        return AwaitedPeer::NoneCome(why);
     }
     let listener = listen(rt, address);
     watcher.gone();
@@ -190,24 +183,24 @@ fn next_peer<R: Net<Stream = TcpStream, Listener = TcpListener> + Wait, V: Progr
     }
 }
 
-/// The exit status where no session follows: `status` if all is done, and else 1, for this reason, which is said.
-fn end_status<E: Outlet>(
+/// How it ended where no session follows: all is done where as many connections have come as were to and no session was
+/// at fault. Else it isn't, and for this reason, which is said.
+fn exit_of<E: Outlet>(
     alloc: Global,
     end: KeptEnd,
     options: LocalOptions,
     peers: SocketAddr,
-    status: u8,
+    has_faulted: bool,
     errors: &mut E,
-) -> u8
-    requires { status ≤ 1 }
-    ensures status { result ≤ 1 }
-    ensures good { result ≡ 0 → (status ≡ 0) × Keeps (E.contents errors.old) (E.contents errors.new) }
-    // Status 0 comes only where as many connections have come as were to.
-    ensures done { result ≡ 0 → end ≡ KeptEnd.AllCame }
+) -> Exit
+    ensures good { status_of result ≡ 0 → (has_faulted ≡ false) × Keeps (E.contents errors.old) (E.contents errors.new) }
+    // It is done only where as many connections have come as were to.
+    ensures shown { (done : Done) → result ≡ Exit.Done done → (all_came : AllCame) × (done ≡ Done.AllCame all_came) }
 {
     match end {
-        KeptEnd::AllCame => status,
-        KeptEnd::NoConnections => cannot_listen(alloc, options.listen, errors),
+        KeptEnd::NoConnections(NoneCome::AllCame(_)) if has_faulted => Exit::Faulted,
+        KeptEnd::NoConnections(NoneCome::AllCame(all_came)) => Exit::Done(Done::AllCame(all_came)),
+        KeptEnd::NoConnections(NoneCome::Refused) => cannot_listen(alloc, options.listen, errors),
         KeptEnd::NoPeers => cannot_listen(alloc, peers, errors),
     }
 }
@@ -224,8 +217,8 @@ pub(crate) fn keep_calling<R: Net<Stream = TcpStream> + Clock + Wait, V: Program
     events: &mut Events,
     watcher: &mut V,
     errors: &mut E,
-) -> u8
-    ensures { result ≡ 1 }
+) -> Exit
+    ensures { result ≡ Exit.Faulted }
 {
     let mut seconds = 1u64;
     for _ in rt.forever() {

@@ -9,6 +9,7 @@
 mod accepting;
 mod closing;
 mod door;
+mod exit;
 mod forwarding;
 mod inbox;
 mod keeping;
@@ -32,5 +33,6 @@ mod tunnel;
 mod tunnel_end;
 mod watching;
 
+pub use exit::{Done, Exit};
 pub use programs::{run_local, run_remote};
 pub use selftest::run_selftest;

@@ -1,11 +1,13 @@
 //! A `local` that keeps several connections to its peer: each is a link, with a session and a thread of its own. One
 //! thread accepts the users, and gives each to the link that has the fewest.
 
-ghost use Rattle.std.specs.Prelude.{◌≡◌, ◌≤◌};
+ghost use Rattle.std.specs.Prelude.{◌≡◌, false};
 ghost use Rattle.std.specs.Io.KnownBytes.{Keeps};
 ghost use Rattle.std.specs.Thread.{IsSend};
+ghost use Rattle.ymx_forward.specs.Exits.{status_of};
 
 use crate::accepting::Listening;
+use crate::exit::{Done, Exit};
 use crate::inbox::{Inbox, NotLeft, Taken, are_closed, close_all, leave_lightest};
 use crate::notices::ProgramWatcher;
 use crate::peer::Peer;
@@ -16,12 +18,12 @@ use crate::sides::Forwarded;
 use crate::sockets::{call, listen_for};
 use crate::starting::StartFault;
 use crate::tell::{cannot_listen, cannot_reach, lacks_memory};
-use crate::tunnel_end::{Awaited, Limits, RETRY, TunnelEnd, new_events};
+use crate::tunnel_end::{Awaited, Limits, NoneCome, RETRY, TunnelEnd, new_events};
 use crate::watching::{Declined, EndedConnection, Origin, Watcher};
 use crossbeam_channel::{Receiver, Sender, bounded};
 use mio::net::TcpStream as Socket;
 use mio::{Events, Poll, Token, Waker};
-use std::alloc::Global;
+use std::alloc::{AllocError, Global};
 use std::net::{Net, SocketAddr, TcpListener, TcpStream};
 use std::sync::{Arc, Mutex, Wait};
 use std::thread::{Threads, join_mut};
@@ -66,7 +68,7 @@ struct LinkWatcher<'a, R: Wait, V: ProgramWatcher> {
 }
 
 impl<R: Wait, V: ProgramWatcher> Watcher for LinkWatcher<'_, R, V> {
-    fn begins(&mut self, from: Option<SocketAddr>) -> Origin {
+    fn begins(&mut self, from: &Socket) -> Origin {
         self.shared.begins(from)
     }
 
@@ -90,7 +92,7 @@ impl<R: Wait, V: ProgramWatcher> Watcher for LinkWatcher<'_, R, V> {
 }
 
 /// Forwards each connection that comes through the link to this peer that has the fewest. Says what went wrong, and answers
-/// the exit status. The links are made at once, or with `--keep` as connections come.
+/// how it ended. The links are made at once, or with `--keep` as connections come.
 pub(crate) fn run_links<
     R: Net<Stream = TcpStream, Listener = TcpListener> + Clock + Threads + Wait + Sync,
     V: ProgramWatcher + Send + Drop,
@@ -102,9 +104,8 @@ pub(crate) fn run_links<
     options: LocalOptions,
     watcher: V,
     errors: &mut E,
-) -> u8
-    ensures status { result ≤ 1 }
-    ensures good { result ≡ 0 → Keeps (E.contents errors.old) (E.contents errors.new) }
+) -> Exit
+    ensures good { status_of result ≡ 0 → Keeps (E.contents errors.old) (E.contents errors.new) }
 {
     let mut watcher = watcher;
     let peers = match call_all(rt, alloc, address, options) {
@@ -206,8 +207,8 @@ fn new_link<R: Net>(
     })
 }
 
-/// Serves users through these links, each in a thread of its own, and says what went wrong in one more. Answers the exit
-/// status.
+/// Serves users through these links, each in a thread of its own, and says what went wrong in one more. Answers how
+/// it ended.
 fn serve_links<
     R: Net<Stream = TcpStream, Listener = TcpListener> + Clock + Threads + Wait + Sync,
     V: ProgramWatcher + Send + Drop,
@@ -221,9 +222,8 @@ fn serve_links<
     options: LocalOptions,
     watcher: V,
     errors: &mut E,
-) -> u8
-    ensures status { result ≤ 1 }
-    ensures good { result ≡ 0 → Keeps (E.contents errors.old) (E.contents errors.new) }
+) -> Exit
+    ensures good { status_of result ≡ 0 → Keeps (E.contents errors.old) (E.contents errors.new) }
 {
     let (sender, receiver) = match bounded::<Forwarded, Global>(alloc, REPORTS) {
         Ok(ends) => ends,
@@ -253,9 +253,8 @@ fn hear_all<R: Wait, E: Outlet>(
     receiver: &Receiver<Forwarded, Global>,
     options: LocalOptions,
     errors: &mut E,
-) -> u8
-    ensures status { result ≤ 1 }
-    ensures good { result ≡ 0 → Keeps (E.contents errors.old) (E.contents errors.new) }
+) -> Exit
+    ensures good { status_of result ≡ 0 → Keeps (E.contents errors.old) (E.contents errors.new) }
 {
     if options.is_kept {
         return say_all(rt, alloc, receiver, options, errors);
@@ -264,25 +263,29 @@ fn hear_all<R: Wait, E: Outlet>(
     report(alloc, options, forwarded, errors)
 }
 
-/// Says each fault as it comes, and answers the exit status.
+/// Says each fault as it comes, and answers how it ended.
 fn say_all<R: Wait, E: Outlet>(
     rt: &R,
     alloc: Global,
     receiver: &Receiver<Forwarded, Global>,
     options: LocalOptions,
     errors: &mut E,
-) -> u8
-    ensures status { result ≤ 1 }
-    ensures good { result ≡ 0 → Keeps (E.contents errors.old) (E.contents errors.new) }
+) -> Exit
+    ensures good { status_of result ≡ 0 → Keeps (E.contents errors.old) (E.contents errors.new) }
 {
-    let mut status = 0;
+    let mut has_faulted = false;
+    let mut done = None;
     for _ in rt.forever() {
         let Ok(forwarded) = receiver.recv(rt) else {
-            return status;
+            return match done {
+                Some(shown) if !has_faulted => Exit::Done(shown),
+                _ => Exit::Faulted,
+            };
         };
+        done = done.or(forwarded.done);
         let said = report(alloc, options, forwarded, errors);
-        if status == 0 {
-            status = said;
+        if !has_faulted {
+            has_faulted = said.has_faulted();
         }
     }
     unreachable!()
@@ -363,6 +366,7 @@ fn receive_users<R: Clock + Wait, V: ProgramWatcher>(
             watcher.failed("--listen", reason);
         }
         if reception.listening.is_over() {
+            all.done = reception.listening.all_came().map(Done::AllCame);
             all.accept_failed = reception.listening.has_failed();
             return all;
         }
@@ -381,18 +385,17 @@ fn place<R: Clock + Wait, V: ProgramWatcher>(
     inboxes: &[Arc<Inbox, Global>],
     watcher: &mut V,
 ) -> Forwarded {
-    let from = socket.peer_addr().ok();
     match leave_lightest(rt, socket, inboxes) {
         Ok(()) => Forwarded::well(),
-        Err(NotLeft::Closed(_)) => {
-            let origin = watcher.begins(from);
+        Err(NotLeft::Closed(socket)) => {
+            let origin = watcher.begins(&socket);
             watcher.refused(origin, Declined::BySession(CallFault::Lost));
             Forwarded::well()
         }
         Err(NotLeft::OutOfMemory(refused)) => {
-            let origin = watcher.begins(from);
+            let origin = watcher.begins(&refused.value);
             watcher.refused(origin, Declined::OutOfMemory);
-            Forwarded::without_memory(refused)
+            Forwarded::without_memory(AllocError::from(refused))
         }
     }
 }
@@ -463,7 +466,7 @@ impl<R: Wait, V: ProgramWatcher> LinkWatcher<'_, R, V> {
         for _ in rt.forever() {
             match self.inbox.take(rt) {
                 Taken::Connection(socket) => {
-                    let origin = self.begins(socket.peer_addr().ok());
+                    let origin = self.begins(&socket);
                     self.refused(origin, Declined::BySession(CallFault::Lost));
                 }
                 Taken::NotNow | Taken::Closed => return,
@@ -488,8 +491,8 @@ fn keep_link<R: Net<Stream = TcpStream> + Clock + Wait, V: ProgramWatcher>(
     for _ in rt.forever() {
         match tunnel_end.await_connection(rt, events) {
             Awaited::Came => {}
-            Awaited::AllCame => return,
-            Awaited::Refused => {
+            Awaited::NoneCome(NoneCome::AllCame(_)) => return,
+            Awaited::NoneCome(NoneCome::Refused) => {
                 let _ = reports.send(rt, Forwarded::unwatched());
                 return;
             }

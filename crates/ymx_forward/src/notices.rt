@@ -3,6 +3,7 @@
 use crate::reason::Reason;
 use crate::watching::{Declined, EndedConnection, Ending, Origin, Passed, Unwatched, Watcher};
 use arrayvec::ArrayString;
+use mio::net::TcpStream;
 use std::fmt::Write;
 use std::net::{SocketAddr, TcpListener};
 use ymx_devices::push_all;
@@ -71,11 +72,11 @@ impl<'a, L: Outlet> Notices<'a, L> {
 }
 
 impl<L: Outlet> Watcher for Notices<'_, L> {
-    fn begins(&mut self, from: Option<SocketAddr>) -> Origin {
+    fn begins(&mut self, from: &TcpStream) -> Origin {
         self.begun = self.begun.saturating_add(1);
         Origin {
             number: self.begun,
-            from,
+            from: from.peer_addr().ok(),
         }
     }
 

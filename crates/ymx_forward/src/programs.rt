@@ -1,8 +1,10 @@
 //! The two ends of a tunnel as programs.
 
-ghost use Rattle.std.specs.Prelude.{◌≡◌, ◌≤◌, None, false};
+ghost use Rattle.std.specs.Prelude.{◌≡◌, None, Some, false};
 ghost use Rattle.std.specs.Io.KnownBytes.{Keeps};
+ghost use Rattle.ymx_forward.specs.Exits.{status_of};
 
+use crate::exit::{Done, Exit};
 use crate::keeping::{Meeting, keep_calling, keep_local};
 use crate::links::run_links;
 use crate::meeting::meet;
@@ -26,14 +28,13 @@ use ymx_model::Outlet;
 const PEERS: u32 = 16;
 
 /// Meets the peer, and forwards each connection that comes as a stream. Says faults on `errors`, and the lines
-/// that `is_verbose` asks for on `lines`. Answers the exit status.
+/// that `is_verbose` asks for on `lines`. Answers how it ended.
 pub fn run_local<
     R: Net<Stream = TcpStream, Listener = TcpListener> + Clock + Threads + Wait + Sync,
     E: Outlet + Send,
     L: Outlet + Send,
->(rt: &R, alloc: Global, options: LocalOptions, errors: &mut E, lines: &mut L) -> u8
-    ensures status { result ≤ 1 }
-    ensures good { result ≡ 0 → Keeps (E.contents errors.old) (E.contents errors.new) }
+>(rt: &R, alloc: Global, options: LocalOptions, errors: &mut E, lines: &mut L) -> Exit
+    ensures good { status_of result ≡ 0 → Keeps (E.contents errors.old) (E.contents errors.new) }
     ensures silent { options.is_verbose ≡ false → Keeps (L.contents lines.old) (L.contents lines.new) }
 {
     if options.is_verbose {
@@ -43,14 +44,13 @@ pub fn run_local<
     }
 }
 
-/// Meets the peer, and forwards each connection that comes as a stream. Answers the exit status.
+/// Meets the peer, and forwards each connection that comes as a stream. Answers how it ended.
 fn local_end<
     R: Net<Stream = TcpStream, Listener = TcpListener> + Clock + Threads + Wait + Sync,
     V: ProgramWatcher + Send + Drop,
     E: Outlet + Send,
->(rt: &R, alloc: Global, options: LocalOptions, watcher: V, errors: &mut E) -> u8
-    ensures status { result ≤ 1 }
-    ensures good { result ≡ 0 → Keeps (E.contents errors.old) (E.contents errors.new) }
+>(rt: &R, alloc: Global, options: LocalOptions, watcher: V, errors: &mut E) -> Exit
+    ensures good { status_of result ≡ 0 → Keeps (E.contents errors.old) (E.contents errors.new) }
 {
     let mut watcher = watcher;
     match options.peer {
@@ -73,17 +73,16 @@ fn local_end<
     }
 }
 
-/// Calls the peer, then listens for connections, and forwards them through one session. Answers the exit status.
+/// Calls the peer, then listens for connections, and forwards them through one session. Answers how it ended.
 fn reaching_end<
     R: Net<Stream = TcpStream, Listener = TcpListener> + Clock + Wait,
     V: ProgramWatcher,
     E: Outlet,
->(rt: &R, alloc: Global, options: LocalOptions, watcher: &mut V, errors: &mut E) -> u8
-    ensures status { result ≤ 1 }
-    ensures good { result ≡ 0 → Keeps (E.contents errors.old) (E.contents errors.new) }
+>(rt: &R, alloc: Global, options: LocalOptions, watcher: &mut V, errors: &mut E) -> Exit
+    ensures good { status_of result ≡ 0 → Keeps (E.contents errors.old) (E.contents errors.new) }
 {
     let Some(connection) = meet(rt, alloc, options.peer, watcher, errors) else {
-        return 1;
+        return Exit::Faulted;
     };
     let Some(listener) = listen_for(rt, "--listen", options.listen, watcher) else {
         return cannot_listen(alloc, options.listen, errors);
@@ -92,7 +91,7 @@ fn reaching_end<
 }
 
 /// Listens for the peer, then for connections, so that a mistake in either ends nobody else, and forwards them through one
-/// session after another, or one alone. Answers the exit status.
+/// session after another, or one alone. Answers how it ended.
 fn awaiting_end<
     R: Net<Stream = TcpStream, Listener = TcpListener> + Clock + Wait,
     V: ProgramWatcher,
@@ -104,9 +103,8 @@ fn awaiting_end<
     options: LocalOptions,
     watcher: &mut V,
     errors: &mut E,
-) -> u8
-    ensures status { result ≤ 1 }
-    ensures good { result ≡ 0 → Keeps (E.contents errors.old) (E.contents errors.new) }
+) -> Exit
+    ensures good { status_of result ≡ 0 → Keeps (E.contents errors.old) (E.contents errors.new) }
 {
     let Some(peers) = listen_for(rt, "--bind", address, watcher) else {
         return cannot_listen(alloc, address, errors);
@@ -128,7 +126,7 @@ fn awaiting_end<
     }
 }
 
-/// Forwards each connection that comes to this listener through one session over this connection. Answers the exit status.
+/// Forwards each connection that comes to this listener through one session over this connection. Answers how it ended.
 fn forward_all<R: Net + Clock + Wait, V: ProgramWatcher, E: Outlet>(
     rt: &R,
     alloc: Global,
@@ -137,9 +135,8 @@ fn forward_all<R: Net + Clock + Wait, V: ProgramWatcher, E: Outlet>(
     options: LocalOptions,
     watcher: &mut V,
     errors: &mut E,
-) -> u8
-    ensures status { result ≤ 1 }
-    ensures good { result ≡ 0 → Keeps (E.contents errors.old) (E.contents errors.new) }
+) -> Exit
+    ensures good { status_of result ≡ 0 → Keeps (E.contents errors.old) (E.contents errors.new) }
 {
     let mut events = match new_events(alloc) {
         Ok(events) => events,
@@ -156,7 +153,7 @@ fn forward_all<R: Net + Clock + Wait, V: ProgramWatcher, E: Outlet>(
     report(alloc, options, forwarded, errors)
 }
 
-/// Listens for connections, and forwards them through one session after another. Answers the exit status.
+/// Listens for connections, and forwards them through one session after another. Answers how it ended.
 fn meeting_end<
     R: Net<Stream = TcpStream, Listener = TcpListener> + Clock + Wait,
     V: ProgramWatcher,
@@ -168,9 +165,8 @@ fn meeting_end<
     options: LocalOptions,
     watcher: &mut V,
     errors: &mut E,
-) -> u8
-    ensures status { result ≤ 1 }
-    ensures good { result ≡ 0 → Keeps (E.contents errors.old) (E.contents errors.new) }
+) -> Exit
+    ensures good { status_of result ≡ 0 → Keeps (E.contents errors.old) (E.contents errors.new) }
 {
     let Some(listener) = listen_for(rt, "--listen", options.listen, watcher) else {
         return cannot_listen(alloc, options.listen, errors);
@@ -199,14 +195,13 @@ fn meeting_end<
 }
 
 /// Meets one peer, or as many as are asked for, and connects each of their streams to the target. Says faults on
-/// `errors`, and the lines that `is_verbose` asks for on `lines`. Answers the exit status.
+/// `errors`, and the lines that `is_verbose` asks for on `lines`. Answers how it ended.
 pub fn run_remote<
     R: Net<Stream = TcpStream, Listener = TcpListener> + Clock + Threads + Wait + Sync,
     E: Outlet + Send,
     L: Outlet + Send,
->(rt: &R, alloc: Global, options: RemoteOptions, errors: &mut E, lines: &mut L) -> u8
-    ensures status { result ≤ 1 }
-    ensures good { result ≡ 0 → Keeps (E.contents errors.old) (E.contents errors.new) }
+>(rt: &R, alloc: Global, options: RemoteOptions, errors: &mut E, lines: &mut L) -> Exit
+    ensures good { status_of result ≡ 0 → Keeps (E.contents errors.old) (E.contents errors.new) }
     ensures silent { options.is_verbose ≡ false → Keeps (L.contents lines.old) (L.contents lines.new) }
 {
     if options.is_verbose {
@@ -216,14 +211,13 @@ pub fn run_remote<
     }
 }
 
-/// Meets its peers, and connects each of their streams to the target. Answers the exit status.
+/// Meets its peers, and connects each of their streams to the target. Answers how it ended.
 fn remote_end<
     R: Net<Stream = TcpStream, Listener = TcpListener> + Clock + Threads + Wait + Sync,
     V: ProgramWatcher + Send + Drop,
     E: Outlet + Send,
->(rt: &R, alloc: Global, options: RemoteOptions, watcher: V, errors: &mut E) -> u8
-    ensures status { result ≤ 1 }
-    ensures good { result ≡ 0 → Keeps (E.contents errors.old) (E.contents errors.new) }
+>(rt: &R, alloc: Global, options: RemoteOptions, watcher: V, errors: &mut E) -> Exit
+    ensures good { status_of result ≡ 0 → Keeps (E.contents errors.old) (E.contents errors.new) }
 {
     let mut watcher = watcher;
     match options.peer {
@@ -237,7 +231,7 @@ fn remote_end<
     }
 }
 
-/// Serves the peers that call at this address, so many at once. Answers the exit status.
+/// Serves the peers that call at this address, so many at once. Answers how it ended.
 fn serving_end<
     R: Net<Stream = TcpStream, Listener = TcpListener> + Clock + Threads + Wait + Sync,
     V: ProgramWatcher + Send + Drop,
@@ -249,9 +243,8 @@ fn serving_end<
     options: RemoteOptions,
     watcher: V,
     errors: &mut E,
-) -> u8
-    ensures status { result ≤ 1 }
-    ensures good { result ≡ 0 → Keeps (E.contents errors.old) (E.contents errors.new) }
+) -> Exit
+    ensures good { status_of result ≡ 0 → Keeps (E.contents errors.old) (E.contents errors.new) }
 {
     let mut watcher = watcher;
     let Some(listener) = listen_for(rt, "--bind", address, &mut watcher) else {
@@ -270,17 +263,16 @@ fn serving_end<
     }
 }
 
-/// Meets one peer, so that others are refused, and connects each of its streams to the target. Answers the exit status.
+/// Meets one peer, so that others are refused, and connects each of its streams to the target. Answers how it ended.
 fn single_end<
     R: Net<Stream = TcpStream, Listener = TcpListener> + Clock + Wait,
     V: ProgramWatcher,
     E: Outlet,
->(rt: &R, alloc: Global, options: RemoteOptions, watcher: &mut V, errors: &mut E) -> u8
-    ensures status { result ≤ 1 }
-    ensures good { result ≡ 0 → Keeps (E.contents errors.old) (E.contents errors.new) }
+>(rt: &R, alloc: Global, options: RemoteOptions, watcher: &mut V, errors: &mut E) -> Exit
+    ensures good { status_of result ≡ 0 → Keeps (E.contents errors.old) (E.contents errors.new) }
 {
     let Some(connection) = meet(rt, alloc, options.peer, watcher, errors) else {
-        return 1;
+        return Exit::Faulted;
     };
     let mut events = match new_events(alloc) {
         Ok(events) => events,
@@ -297,7 +289,7 @@ fn single_end<
     report_session(alloc, options.peer, forwarded, errors)
 }
 
-/// Calls the peer again and again, and connects each stream of a session to the target. Answers the exit status.
+/// Calls the peer again and again, and connects each stream of a session to the target. Answers how it ended.
 fn calling_end<R: Net<Stream = TcpStream> + Clock + Wait, V: ProgramWatcher, E: Outlet>(
     rt: &R,
     alloc: Global,
@@ -305,8 +297,8 @@ fn calling_end<R: Net<Stream = TcpStream> + Clock + Wait, V: ProgramWatcher, E: 
     options: RemoteOptions,
     watcher: &mut V,
     errors: &mut E,
-) -> u8
-    ensures { result ≡ 1 }
+) -> Exit
+    ensures { result ≡ Exit.Faulted }
 {
     let mut events = match new_events(alloc) {
         Ok(events) => events,
@@ -365,21 +357,21 @@ pub(crate) fn remote_side(options: RemoteOptions) -> TunnelSide {
     }
 }
 
-/// Says what went wrong, if anything did, and answers the exit status: of a failed accept, a broken session, a refusal
+/// Says what went wrong, if anything did, and answers how it ended: of a failed accept, a broken session, a refusal
 /// of the system and want of memory the first.
 pub(crate) fn report<E: Outlet>(
     alloc: Global,
     options: LocalOptions,
     forwarded: Forwarded,
     errors: &mut E,
-) -> u8
-    ensures status { result ≤ 1 }
-    ensures good { result ≡ 0 → Keeps (E.contents errors.old) (E.contents errors.new) }
-    // Status 0 comes only where nothing went wrong.
-    ensures accepted { result ≡ 0 → forwarded.accept_failed ≡ false }
-    ensures whole { result ≡ 0 → forwarded.broken ≡ None }
-    ensures watched { result ≡ 0 → forwarded.is_unwatched ≡ false }
-    ensures memory { result ≡ 0 → forwarded.lacked_memory ≡ false }
+) -> Exit
+    ensures good { status_of result ≡ 0 → Keeps (E.contents errors.old) (E.contents errors.new) }
+    // It is done only where nothing went wrong, and this shows it.
+    ensures accepted { status_of result ≡ 0 → forwarded.accept_failed ≡ false }
+    ensures whole { status_of result ≡ 0 → forwarded.broken ≡ None }
+    ensures watched { status_of result ≡ 0 → forwarded.is_unwatched ≡ false }
+    ensures memory { status_of result ≡ 0 → forwarded.lacked_memory ≡ false }
+    ensures shown { (done : Done) → result ≡ Exit.Done done → forwarded.done ≡ Some done }
 {
     if forwarded.accept_failed {
         return cannot_listen(alloc, options.listen, errors);
@@ -387,20 +379,20 @@ pub(crate) fn report<E: Outlet>(
     report_session(alloc, options.peer, forwarded, errors)
 }
 
-/// Says what went wrong in a session with this peer, if anything did, and answers the exit status: of a broken session, a
+/// Says what went wrong in a session with this peer, if anything did, and answers how it ended: of a broken session, a
 /// refusal of the system and want of memory the first.
 pub(crate) fn report_session<E: Outlet>(
     alloc: Global,
     peer: PeerAddress,
     forwarded: Forwarded,
     errors: &mut E,
-) -> u8
-    ensures status { result ≤ 1 }
-    ensures good { result ≡ 0 → Keeps (E.contents errors.old) (E.contents errors.new) }
-    // Status 0 comes only where nothing went wrong in the session.
-    ensures whole { result ≡ 0 → forwarded.broken ≡ None }
-    ensures watched { result ≡ 0 → forwarded.is_unwatched ≡ false }
-    ensures memory { result ≡ 0 → forwarded.lacked_memory ≡ false }
+) -> Exit
+    ensures good { status_of result ≡ 0 → Keeps (E.contents errors.old) (E.contents errors.new) }
+    // It is done only where nothing went wrong in the session, and this shows it.
+    ensures whole { status_of result ≡ 0 → forwarded.broken ≡ None }
+    ensures watched { status_of result ≡ 0 → forwarded.is_unwatched ≡ false }
+    ensures memory { status_of result ≡ 0 → forwarded.lacked_memory ≡ false }
+    ensures shown { (done : Done) → result ≡ Exit.Done done → forwarded.done ≡ Some done }
 {
     if let Some(fault) = forwarded.broken {
         return session_broken(alloc, fault.number(), errors);
@@ -411,5 +403,8 @@ pub(crate) fn report_session<E: Outlet>(
     if forwarded.lacked_memory {
         return lacked_memory(errors);
     }
-    0
+    match forwarded.done {
+        Some(done) => Exit::Done(done),
+        None => cannot_meet(alloc, peer, errors),
+    }
 }

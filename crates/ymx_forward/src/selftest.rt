@@ -5,9 +5,11 @@
 //! Then whoever waits there is told at once. Who could still wait for a connection that nobody makes is released at the
 //! end.
 
-ghost use Rattle.std.specs.Prelude.{◌≡◌, ◌≤◌};
+ghost use Rattle.std.specs.Prelude.{◌≡◌};
 ghost use Rattle.std.specs.Io.KnownBytes.{Keeps};
+ghost use Rattle.ymx_forward.specs.Exits.{status_of};
 
+use crate::exit::{Done, Exit};
 use crate::forwarding::forward;
 use crate::sides::TunnelSide;
 use crate::sockets::{connect, listen};
@@ -49,6 +51,12 @@ struct Echoed {
     is_whole: bool,
 }
 
+/// Each connection of the test came back whole, and its line was printed. Only [`print_all`] makes one.
+#[derive(Clone, Copy)]
+pub struct AllEchoed {
+    seal: (),
+}
+
 /// Where two of the servers listen.
 #[derive(Clone, Copy)]
 struct Addresses {
@@ -79,20 +87,19 @@ enum Stop {
 }
 
 /// Sends three connections through both ends of a tunnel to an echo server, all on 127.0.0.1, and prints a line for
-/// each. Answers the exit status.
+/// each. Answers how it ended.
 pub fn run_selftest<
     R: Net<Stream = TcpStream, Listener = TcpListener> + Threads + Clock + Wait + Sync,
     W: Outlet,
     E: Outlet,
->(rt: &R, alloc: Global, writer: &mut W, errors: &mut E) -> u8
-    ensures status { result ≤ 1 }
-    ensures good { result ≡ 0 → Keeps (E.contents errors.old) (E.contents errors.new) }
+>(rt: &R, alloc: Global, writer: &mut W, errors: &mut E) -> Exit
+    ensures good { status_of result ≡ 0 → Keeps (E.contents errors.old) (E.contents errors.new) }
 {
     let Some((addresses, owned)) = prepare(rt) else {
         return cannot_listen(alloc, any_port(), errors);
     };
     match run_all(rt, alloc, addresses, owned, writer) {
-        Ok(()) => 0,
+        Ok(all_echoed) => Exit::Done(Done::AllEchoed(all_echoed)),
         Err(Stop::Connection(number)) => failed(alloc, number, errors),
         Err(Stop::Writing) => say_fault(errors, b"ymx: writing failed\n"),
         Err(Stop::Memory(refused)) => lacks_memory(refused, errors),
@@ -104,7 +111,13 @@ pub fn run_selftest<
 fn run_all<
     R: Net<Stream = TcpStream, Listener = TcpListener> + Threads + Clock + Wait + Sync,
     W: Outlet,
->(rt: &R, alloc: Global, addresses: Addresses, owned: Owned, writer: &mut W) -> Result<(), Stop> {
+>(
+    rt: &R,
+    alloc: Global,
+    addresses: Addresses,
+    owned: Owned,
+    writer: &mut W,
+) -> Result<AllEchoed, Stop> {
     let (sender, receiver) = match bounded::<Echoed, Global>(alloc, WAITING_RESULTS) {
         Ok(ends) => ends,
         Err(refused) => return Err(Stop::Memory(refused)),
@@ -189,7 +202,7 @@ fn print_all<R: Wait, W: Outlet>(
     alloc: Global,
     receiver: &Receiver<Echoed, Global>,
     writer: &mut W,
-) -> Result<(), Stop> {
+) -> Result<AllEchoed, Stop> {
     let mut number = 0u32;
     for size in SIZES {
         number = number.saturating_add(1);
@@ -200,7 +213,7 @@ fn print_all<R: Wait, W: Outlet>(
             _ => return Err(Stop::Connection(number)),
         }
     }
-    Ok(())
+    Ok(AllEchoed { seal: () })
 }
 
 /// Prints the line of a connection.
@@ -221,8 +234,8 @@ fn print_line<W: Outlet>(
 }
 
 /// Says that a connection failed.
-fn failed<E: Outlet>(alloc: Global, number: u32, errors: &mut E) -> u8
-    ensures { result ≡ 1 }
+fn failed<E: Outlet>(alloc: Global, number: u32, errors: &mut E) -> Exit
+    ensures { result ≡ Exit.Faulted }
 {
     match format!(in alloc; "ymx: selftest failed: connection {number}\n") {
         Ok(text) => say_fault(errors, text.as_bytes()),

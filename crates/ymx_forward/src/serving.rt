@@ -1,10 +1,12 @@
 //! Many peers at once, each served in a thread of its own.
 
-ghost use Rattle.std.specs.Prelude.{◌≡◌, ◌≤◌};
+ghost use Rattle.std.specs.Prelude.{◌≡◌};
 ghost use Rattle.std.specs.Io.KnownBytes.{Keeps};
 ghost use Rattle.std.specs.Thread.{IsSend};
+ghost use Rattle.ymx_forward.specs.Exits.{status_of};
 
 use crate::door::{Door, Inside, Knock};
+use crate::exit::Exit;
 use crate::notices::ProgramWatcher;
 use crate::peer::Peer;
 use crate::programs::{remote_side, report_session};
@@ -80,8 +82,8 @@ pub(crate) fn serve_all<
     count: u32,
     watcher: V,
     errors: &mut E,
-) -> u8
-    ensures { result ≡ 1 }
+) -> Exit
+    ensures { result ≡ Exit.Faulted }
 {
     let mut watcher = watcher;
     let (door, inside) = match Door::new(rt, alloc, listener, count, true) {
@@ -98,7 +100,7 @@ pub(crate) fn serve_all<
 }
 
 /// Serves peers as [`serve_all`] does, until one was there and none is any more. Says then what went wrong in any session,
-/// if anything did, and answers the exit status.
+/// if anything did, and answers how it ended.
 pub(crate) fn serve_until_none<
     R: Net<Stream = TcpStream, Listener = TcpListener> + Clock + Threads + Wait + Sync,
     V: ProgramWatcher + Send + Drop,
@@ -112,9 +114,8 @@ pub(crate) fn serve_until_none<
     count: u32,
     watcher: V,
     errors: &mut E,
-) -> u8
-    ensures status { result ≤ 1 }
-    ensures good { result ≡ 0 → Keeps (E.contents errors.old) (E.contents errors.new) }
+) -> Exit
+    ensures good { status_of result ≡ 0 → Keeps (E.contents errors.old) (E.contents errors.new) }
 {
     let mut watcher = watcher;
     let (door, inside) = match Door::new(rt, alloc, listener, count, false) {
@@ -140,8 +141,8 @@ fn no_door<V: ProgramWatcher, E: Outlet>(
     fault: StartFault,
     watcher: &mut V,
     errors: &mut E,
-) -> u8
-    ensures { result ≡ 1 }
+) -> Exit
+    ensures { result ≡ Exit.Faulted }
 {
     match fault {
         StartFault::Unwatched(error) => {

@@ -3,6 +3,7 @@
 use crate::notices::ProgramWatcher;
 use crate::reason::Reason;
 use crate::watching::{Declined, EndedConnection, Origin, Watcher};
+use mio::net::TcpStream;
 use std::net::{SocketAddr, TcpListener};
 use std::sync::{Mutex, Wait};
 
@@ -14,7 +15,7 @@ pub(crate) struct Shared<'a, R: Wait, V: ProgramWatcher> {
 }
 
 impl<R: Wait, V: ProgramWatcher> Watcher for Shared<'_, R, V> {
-    fn begins(&mut self, from: Option<SocketAddr>) -> Origin {
+    fn begins(&mut self, from: &TcpStream) -> Origin {
         let mut watcher = self.watcher.lock(self.rt);
         watcher.begins(from)
     }

@@ -2,6 +2,7 @@
 
 ghost use Rattle.std.specs.Prelude.{◌≡◌, ◌||◌, None, true};
 
+use crate::exit::Done;
 use std::alloc::AllocError;
 use std::net::{SocketAddr, TcpListener};
 use ymx_header::Fault;
@@ -28,6 +29,8 @@ pub(crate) enum TunnelSide {
 /// How a tunnel ended.
 #[derive(Clone, Copy)]
 pub(crate) struct Forwarded {
+    /// What shows that a session ran to its end, or that all connections have come. None where nothing does.
+    pub done: Option<Done>,
     /// No connection could be accepted any more, or the system refused to watch one that was. Where another session
     /// follows it is only said whether the system did the latter.
     pub accept_failed: bool,
@@ -43,6 +46,7 @@ impl Forwarded {
     /// Nothing went wrong.
     pub(crate) fn well() -> Forwarded {
         Forwarded {
+            done: None,
             accept_failed: false,
             broken: None,
             is_unwatched: false,
@@ -58,6 +62,7 @@ impl Forwarded {
         ensures whole { result.broken ≡ None → (self.broken ≡ None) × (other.broken ≡ None) }
     {
         Forwarded {
+            done: self.done.or(other.done),
             accept_failed: self.accept_failed || other.accept_failed,
             broken: self.broken.or(other.broken),
             is_unwatched: self.is_unwatched || other.is_unwatched,
@@ -70,6 +75,7 @@ impl Forwarded {
         ensures { result.lacked_memory ≡ true }
     {
         Forwarded {
+            done: None,
             accept_failed: false,
             broken: None,
             is_unwatched: false,
@@ -82,6 +88,7 @@ impl Forwarded {
         ensures { result.is_unwatched ≡ true }
     {
         Forwarded {
+            done: None,
             accept_failed: false,
             broken: None,
             is_unwatched: true,

@@ -10,7 +10,7 @@ use mio::net::TcpStream;
 use mio::{Interest, Token};
 use std::io;
 use std::io::ErrorKind;
-use std::net::{Shutdown, SocketAddr};
+use std::net::Shutdown;
 use ymx_devices::{read, write};
 use ymx_engine::{Device, Line, Pulled, Pushed, Wire};
 
@@ -81,9 +81,11 @@ impl Socket {
         Socket::new(socket, origin, ConnectState::Connected)
     }
 
-    /// A connection that is being made, and never waits.
-    pub(crate) fn connecting(socket: TcpStream, origin: Origin) -> Socket {
-        Socket::new(socket, origin, ConnectState::Connecting)
+    /// A connection that was begun, and never waits. It may be there at once, as on the same machine.
+    pub(crate) fn begun(socket: TcpStream, origin: Origin) -> Socket {
+        let mut begun = Socket::new(socket, origin, ConnectState::Connecting);
+        begun.look();
+        begun
     }
 
     fn new(socket: TcpStream, origin: Origin, state: ConnectState) -> Socket {
@@ -106,9 +108,9 @@ impl Socket {
         self.origin
     }
 
-    /// Who is at the other end. None if the system doesn't say.
-    pub(crate) fn address(&self) -> Option<SocketAddr> {
-        self.socket.peer_addr().ok()
+    /// Its connection.
+    pub(crate) fn connection(&self) -> &TcpStream {
+        &self.socket
     }
 
     /// From now on the poll of this registry tells of it under this token. False where the system refuses.
@@ -140,10 +142,26 @@ impl Socket {
     }
 
     /// Whether it failed, though it reads an end. The system tells of a failure once: where it told a write, a read
-    /// finds an end. But a connection that failed has no peer any more, and one that didn't has none only if it was
-    /// ended here too.
+    /// finds an end.
     fn is_broken(&self) -> bool {
-        !self.was_ended() && self.socket.peer_addr().is_err()
+        !self.was_ended() && self.failure.is_some()
+    }
+
+    /// Looks whether a connection that was begun is there, or can't be made.
+    fn look(&mut self)
+        ensures { ⟦<Socket as Device>⟧.seen self.new ≡ ⟦<Socket as Device>⟧.seen self.old }
+    {
+        if self.socket.peer_addr().is_ok() {
+            self.state = ConnectState::Connected;
+            return;
+        }
+        match self.socket.take_error() {
+            Ok(None) => {}
+            Ok(Some(error)) | Err(error) => {
+                self.reason = Some(Reason::of(&error));
+                self.state = ConnectState::Unreachable;
+            }
+        }
     }
 
     /// A call of it is made.
@@ -295,16 +313,8 @@ impl Line for Socket {
     fn note_event(&mut self)
         ensures { ⟦<Socket as Device>⟧.seen self.new ≡ ⟦<Socket as Device>⟧.seen self.old }
     {
-        if self.state != ConnectState::Connecting {
-            return;
-        }
-        match self.socket.take_error() {
-            Ok(None) if self.socket.peer_addr().is_ok() => self.state = ConnectState::Connected,
-            Ok(None) => {}
-            Ok(Some(error)) | Err(error) => {
-                self.reason = Some(Reason::of(&error));
-                self.state = ConnectState::Unreachable;
-            }
+        if self.state == ConnectState::Connecting {
+            self.look();
         }
     }
 

@@ -2,37 +2,38 @@
 
 ghost use Rattle.std.specs.Prelude.{◌≡◌};
 
+use crate::exit::Exit;
 use std::alloc::{AllocError, Global};
 use std::net::SocketAddr;
 use ymx_arguments::PeerAddress;
 use ymx_devices::push_all;
 use ymx_model::Outlet;
 
-/// Says a text, and answers the status of a fault. Where the error device fails too there is nobody left to tell.
-pub(crate) fn say_fault<E: Outlet>(errors: &mut E, text: &[u8]) -> u8
-    ensures { result ≡ 1 }
+/// Says a text, which tells of a fault. Where the error device fails too there is nobody left to tell.
+pub(crate) fn say_fault<E: Outlet>(errors: &mut E, text: &[u8]) -> Exit
+    ensures { result ≡ Exit.Faulted }
 {
     let _ = push_all(errors, text);
-    1
+    Exit::Faulted
 }
 
 /// Says that there was no memory, as this says.
-pub(crate) fn lacks_memory<E: Outlet>(_refused: AllocError, errors: &mut E) -> u8
-    ensures { result ≡ 1 }
+pub(crate) fn lacks_memory<E: Outlet>(_refused: AllocError, errors: &mut E) -> Exit
+    ensures { result ≡ Exit.Faulted }
 {
     say_fault(errors, b"ymx: out of memory\n")
 }
 
 /// Says that there was no memory somewhere in a session.
-pub(crate) fn lacked_memory<E: Outlet>(errors: &mut E) -> u8
-    ensures { result ≡ 1 }
+pub(crate) fn lacked_memory<E: Outlet>(errors: &mut E) -> Exit
+    ensures { result ≡ Exit.Faulted }
 {
     say_fault(errors, b"ymx: out of memory\n")
 }
 
 /// Says that the peer can't be met so.
-pub(crate) fn cannot_meet<E: Outlet>(alloc: Global, peer: PeerAddress, errors: &mut E) -> u8
-    ensures { result ≡ 1 }
+pub(crate) fn cannot_meet<E: Outlet>(alloc: Global, peer: PeerAddress, errors: &mut E) -> Exit
+    ensures { result ≡ Exit.Faulted }
 {
     match peer {
         PeerAddress::Connect(address) => cannot_reach(alloc, address, errors),
@@ -41,8 +42,8 @@ pub(crate) fn cannot_meet<E: Outlet>(alloc: Global, peer: PeerAddress, errors: &
 }
 
 /// Says that no connection can be had at this address.
-pub(crate) fn cannot_reach<E: Outlet>(alloc: Global, address: SocketAddr, errors: &mut E) -> u8
-    ensures { result ≡ 1 }
+pub(crate) fn cannot_reach<E: Outlet>(alloc: Global, address: SocketAddr, errors: &mut E) -> Exit
+    ensures { result ≡ Exit.Faulted }
 {
     match format!(in alloc; "ymx: cannot reach {address}\n") {
         Ok(text) => say_fault(errors, text.as_bytes()),
@@ -51,8 +52,8 @@ pub(crate) fn cannot_reach<E: Outlet>(alloc: Global, address: SocketAddr, errors
 }
 
 /// Says that nothing can be accepted at this address.
-pub(crate) fn cannot_listen<E: Outlet>(alloc: Global, address: SocketAddr, errors: &mut E) -> u8
-    ensures { result ≡ 1 }
+pub(crate) fn cannot_listen<E: Outlet>(alloc: Global, address: SocketAddr, errors: &mut E) -> Exit
+    ensures { result ≡ Exit.Faulted }
 {
     match format!(in alloc; "ymx: cannot listen at {address}\n") {
         Ok(text) => say_fault(errors, text.as_bytes()),
@@ -61,8 +62,8 @@ pub(crate) fn cannot_listen<E: Outlet>(alloc: Global, address: SocketAddr, error
 }
 
 /// Says that the session broke.
-pub(crate) fn session_broken<E: Outlet>(alloc: Global, number: u8, errors: &mut E) -> u8
-    ensures { result ≡ 1 }
+pub(crate) fn session_broken<E: Outlet>(alloc: Global, number: u8, errors: &mut E) -> Exit
+    ensures { result ≡ Exit.Faulted }
 {
     match format!(in alloc; "ymx: session broken: B{number}\n") {
         Ok(text) => say_fault(errors, text.as_bytes()),

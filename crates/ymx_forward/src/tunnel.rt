@@ -3,9 +3,10 @@
 //! All that moves is moved by calls of [`ymx_engine::Tunnel`], which owns the wire and the connections. Each function
 //! here that makes such calls says that they are all it did: `Runs`.
 
-ghost use Rattle.std.specs.Prelude.{◌≡◌, [], true};
+ghost use Rattle.std.specs.Prelude.{◌≡◌, [], true, false, IfSome};
 ghost use Rattle.ymx_engine.specs.Runs.{Runs, IsOver};
 
+use crate::exit::Done;
 use crate::peer::Peer;
 use crate::reason::Reason;
 use crate::sides::Forwarded;
@@ -66,15 +67,13 @@ impl Registry<Socket> for Tokens<'_> {
     }
 }
 
-/// How a loop ended.
-#[derive(Clone, Copy, PartialEq, Eq)]
-pub(crate) enum LoopEnd {
-    /// This side and all its connections have ended, and the wire has taken all that is due or has failed.
-    Over,
-    /// The session was lost, another one follows, and nothing has moved for too long.
-    Left,
-    /// The system refused to wait for events.
-    Unwatched,
+/// A loop has come to its end: this side and all its connections had ended, and the wire had taken all that was due or had
+/// failed. Or the session was lost, another one follows, and nothing had moved for too long: then it was left.
+///
+/// Only [`TunnelLoop::run`] makes one. So who has one has run a loop to its end.
+#[derive(Clone, Copy)]
+pub struct Finished {
+    was_left: bool,
 }
 
 /// One session of a tunnel's end.
@@ -129,32 +128,38 @@ impl<'a> TunnelLoop<'a> {
 
     // ---- how it goes on
 
-    /// Runs until this side and all its connections have ended, and the wire has taken all that is due or has failed.
+    /// Runs until this side and all its connections have ended, and the wire has taken all that is due or has failed. Where
+    /// another session follows, as `is_kept` says, it is also left once the session is lost and nothing has moved for too
+    /// long. None where the system refused to wait for events.
     pub(crate) fn run<R: Net + Clock + Wait, V: Watcher>(
         &mut self,
         rt: &R,
         events: &mut Events,
         watcher: &mut V,
-    ) -> LoopEnd
+        is_kept: bool,
+    ) -> Option<Finished>
         ensures runs { Runs self.old.tunnel self.new.tunnel }
-        ensures over { result ≡ LoopEnd.Over → IsOver self.new.tunnel }
-        ensures empty { result ≡ LoopEnd.Over → self.new.tunnel.lines ≡ [] }
+        // A loop that wasn't left is over: nothing is due, or the wire has failed, and no connection is left.
+        ensures over { IfSome result (λ finished. finished.was_left ≡ false → IsOver self.new.tunnel) }
+        ensures empty { IfSome result (λ finished. finished.was_left ≡ false → self.new.tunnel.lines ≡ []) }
+        // One is left only where another session follows.
+        ensures left { IfSome result (λ finished. finished.was_left ≡ true → is_kept ≡ true) }
     {
         let mut silence = Silence::new(rt, self.tunnel_end.limits.silence);
         self.begin_waiting(watcher);
         for _ in rt.forever() {
             if self.is_over() {
-                return LoopEnd::Over;
+                return Some(Finished { was_left: false });
             }
             let limit = self.hear_silence(rt, &mut silence);
             if self.await_events(rt, events, limit).is_err() {
                 self.is_unwatched = true;
                 self.leave_all(watcher);
-                return LoopEnd::Unwatched;
+                return None;
             }
-            if self.is_to_be_left(rt) {
+            if is_kept && self.is_to_be_left(rt) {
                 self.leave_all(watcher);
-                return LoopEnd::Left;
+                return Some(Finished { was_left: true });
             }
             self.take_turn(rt, watcher);
         }
@@ -425,7 +430,7 @@ impl<'a> TunnelLoop<'a> {
     fn begin_local<V: Watcher>(&mut self, socket: TcpStream, watcher: &mut V)
         ensures { Runs self.old.tunnel self.new.tunnel }
     {
-        let origin = watcher.begins(socket.peer_addr().ok());
+        let origin = watcher.begins(&socket);
         if self.is_lost() {
             self.stop_endless();
         }
@@ -509,12 +514,14 @@ impl<'a> TunnelLoop<'a> {
     fn begin_remote<R: Net, V: Watcher>(&mut self, rt: &R, target: SocketAddr, watcher: &mut V)
         ensures { Runs self.old.tunnel self.new.tunnel }
     {
-        let origin = watcher.begins(self.tunnel.wire().address());
+        let origin = watcher.begins(self.tunnel.wire().connection());
         match TcpStream::connect(rt, target) {
             Ok(socket) => {
                 let _ = socket.set_nodelay(true);
-                if let Err(why) = self.accept(Socket::connecting(socket, origin)) {
-                    self.end_unjoined(origin, why, watcher);
+                match self.accept(Socket::begun(socket, origin)) {
+                    Ok(Some(id)) => self.note_begun(id),
+                    Ok(None) => {}
+                    Err(why) => self.end_unjoined(origin, why, watcher),
                 }
             }
             Err(error) => {
@@ -524,6 +531,23 @@ impl<'a> TunnelLoop<'a> {
                     watcher.ended(origin, &ended);
                 }
             }
+        }
+    }
+
+    /// A connection to the target that is there already, or can't be made, has its turn with no event.
+    fn note_begun(&mut self, id: u32)
+        ensures { Runs self.old.tunnel self.new.tunnel }
+    {
+        if self.is_there(id) {
+            self.tunnel.note_line(id, false, true, false);
+        }
+    }
+
+    /// Whether the connection of this stream is there, or can't be made.
+    fn is_there(&self, id: u32) -> bool {
+        match self.tunnel.device(id) {
+            Some(socket) => !socket.is_connecting(),
+            None => false,
         }
     }
 
@@ -663,9 +687,10 @@ impl<'a> TunnelLoop<'a> {
 
     // ---- how it ends
 
-    /// How it has ended.
-    pub(crate) fn forwarded(&self) -> Forwarded {
+    /// How it has ended, and what its loop answered.
+    pub(crate) fn forwarded(&self, finished: Option<Finished>) -> Forwarded {
         Forwarded {
+            done: finished.map(Done::Ran),
             accept_failed: self.has_unwatched
                 || (!self.tunnel_end.is_kept && self.tunnel_end.accept_failed()),
             broken: match self.tunnel.status() {

@@ -1,6 +1,6 @@
 //! One end of a tunnel, through all its sessions.
 
-use crate::accepting::Listening;
+use crate::accepting::{AllCame, Listening};
 use crate::closing::close;
 use crate::inbox::Inbox;
 use crate::peer::Peer;
@@ -43,15 +43,22 @@ pub(crate) enum Side {
     Remote { target: SocketAddr, limit: usize },
 }
 
+/// Why no connections come any more.
+#[derive(Clone, Copy)]
+pub(crate) enum NoneCome {
+    /// As many have come as were to.
+    AllCame(AllCame),
+    /// None can be accepted any more, or waited for.
+    Refused,
+}
+
 /// What came of waiting for a connection while there is no session.
-#[derive(Clone, Copy, PartialEq, Eq)]
+#[derive(Clone, Copy)]
 pub(crate) enum Awaited {
     /// One waits for the next session.
     Came,
-    /// None comes any more: as many have come as were to.
-    AllCame,
-    /// None can be accepted any more, or waited for.
-    Refused,
+    /// None comes any more.
+    NoneCome(NoneCome),
 }
 
 /// What came of waiting for the next peer.
@@ -59,10 +66,8 @@ pub(crate) enum Awaited {
 pub(crate) enum AwaitedPeer {
     /// This one.
     Came(Peer),
-    /// None is needed any more: as many connections have come as were to.
-    AllCame,
-    /// None, as no connection can be accepted any more.
-    NoConnections,
+    /// None is needed any more, as no connections come.
+    NoneCome(NoneCome),
     /// None can be accepted any more, or waited for.
     Refused,
 }
@@ -214,9 +219,10 @@ impl TunnelEnd {
         events: &mut Events,
         watcher: &mut V,
     ) -> Result<(Forwarded, Socket), NewFault> {
+        let is_kept = self.is_kept;
         let mut tunnel = TunnelLoop::new(alloc, wire, self, window)?;
-        let _ = tunnel.run(rt, events, watcher);
-        let forwarded = tunnel.forwarded();
+        let finished = tunnel.run(rt, events, watcher, is_kept);
+        let forwarded = tunnel.forwarded(finished);
         Ok((forwarded, tunnel.into_wire()))
     }
 
@@ -235,14 +241,11 @@ impl TunnelEnd {
             if self.take_waiting(rt) {
                 return Awaited::Came;
             }
-            if self.accept_failed() {
-                return Awaited::Refused;
-            }
-            if self.is_over() {
-                return Awaited::AllCame;
+            if let Some(why) = self.none_come() {
+                return Awaited::NoneCome(why);
             }
             if self.wait(events, self.is_full()).is_err() {
-                return Awaited::Refused;
+                return Awaited::NoneCome(NoneCome::Refused);
             }
         }
         unreachable!()
@@ -282,11 +285,8 @@ impl TunnelEnd {
 
     /// Why no peer is awaited any more among these. None where one is.
     fn end_of_wait(&self, peers: &Listening) -> Option<AwaitedPeer> {
-        if self.accept_failed() {
-            return Some(AwaitedPeer::NoConnections);
-        }
-        if self.is_over() {
-            return Some(AwaitedPeer::AllCame);
+        if let Some(why) = self.none_come() {
+            return Some(AwaitedPeer::NoneCome(why));
         }
         if peers.is_over() {
             return Some(AwaitedPeer::Refused);
@@ -326,7 +326,7 @@ impl TunnelEnd {
     /// Closes the connection that waits for a session, if one does, as there is none to be had.
     pub(crate) fn refuse_waiting<V: Watcher>(&mut self, watcher: &mut V) {
         if let Some(socket) = self.waiting.take() {
-            let origin = watcher.begins(socket.peer_addr().ok());
+            let origin = watcher.begins(&socket);
             watcher.refused(origin, Declined::BySession(CallFault::Lost));
         }
     }
@@ -348,11 +348,15 @@ impl TunnelEnd {
         }
     }
 
-    /// Whether no more connections come from a listener, as all have come or an accept has failed.
-    pub(crate) fn is_over(&self) -> bool {
+    /// Why no more connections come. None where some may.
+    pub(crate) fn none_come(&self) -> Option<NoneCome> {
         match &self.side {
-            Side::Local(listening) => listening.is_over(),
-            Side::Remote { .. } => true,
+            Side::Local(listening) if !listening.is_over() => None,
+            Side::Local(listening) => match listening.all_came() {
+                Some(all_came) => Some(NoneCome::AllCame(all_came)),
+                None => Some(NoneCome::Refused),
+            },
+            Side::Remote { .. } => Some(NoneCome::Refused),
         }
     }
 }

@@ -2,6 +2,7 @@
 
 use crate::reason::Reason;
 use crate::socket::{Socket, SocketFault};
+use mio::net::TcpStream;
 use std::net::SocketAddr;
 use ymx_engine::{Connection, Flow, Line};
 use ymx_model::CallFault;
@@ -76,8 +77,8 @@ pub(crate) enum Declined {
 /// Who is told of connections that have ended, and numbers them. Of each that begins it is told once more, by one of the
 /// other two calls.
 pub(crate) trait Watcher {
-    /// A connection begins, of somebody at this address.
-    fn begins(&mut self, from: Option<SocketAddr>) -> Origin;
+    /// A connection begins, of somebody at the other end of this socket.
+    fn begins(&mut self, from: &TcpStream) -> Origin;
 
     /// A connection that had a stream has ended.
     fn ended(&mut self, origin: Origin, ended: &EndedConnection);
@@ -97,7 +98,7 @@ pub(crate) trait Watcher {
 pub(crate) struct Unwatched;
 
 impl Watcher for Unwatched {
-    fn begins(&mut self, _from: Option<SocketAddr>) -> Origin {
+    fn begins(&mut self, _from: &TcpStream) -> Origin {
         Origin::untold()
     }
 
