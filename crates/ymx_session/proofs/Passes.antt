@@ -48,10 +48,10 @@ none-left : (xs : List ℕ) → (length xs == 0) ≡ true → xs ≡ []
 none-left xs e = grind (arith, common_steps, nat_tests)
 
 -- what it says of a stream
-record IsReadUp (e : End) : Type 0 where
-  live : e.phase ≡ Live
-  goes_on : e.reader.ended ≡ false
-  read_up : e.reader.unread ≡ []
+pub record IsReadUp (e : End) : Type 0 where
+  pub live : e.phase ≡ Live
+  pub goes_on : e.reader.ended ≡ false
+  pub read_up : e.reader.unread ≡ []
 
 read-up : (e : End) → is_read_up (Some e) ≡ true → IsReadUp e
 read-up e h = of (is_live e.phase) e.reader.ended refl refl h

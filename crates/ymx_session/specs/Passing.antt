@@ -1,9 +1,13 @@
 -- Payload that is passed on as it comes, without a stay in its stream's ring (this project's own).
-use Rattle.std.specs.Prelude.{◌≡◌, [], ◌∷◌, ◌≤◌, ◌==◌, ℕ, List, length, take, Bool, false, not, ◌&&◌, if◌then◌else◌, Option, None, Some}
+use Rattle.std.specs.Prelude.{◌≡◌, [], ◌∷◌, ◌+◌, ◌<◌, ◌≤◌, ◌==◌, nat_lt, nat_le, ℕ, List, length, take, Bool, false, not, ◌&&◌, if◌then◌else◌, Option, None, Some}
+use Rattle.std.specs.Option.{ForSome}
+use Rattle.ymx_header.specs.declared.header.Header.{Header}
+use Rattle.ymx_header.specs.Headers.{header_of}
 use Rattle.ymx_machine.specs.declared.types.Call.TheVariants as call
 use Rattle.ymx_machine.specs.declared.types.Fed.{Fed}
 use Rattle.ymx_machine.specs.declared.types.Reply.TheVariants as reply
 use Rattle.ymx_machine.specs.declared.types.Why.TheVariants.{All}
+use Rattle.ymx_machine.specs.shared.Limits.{most_answers, greatest_number}
 use Rattle.ymx_machine.specs.shared.Lists.{look}
 use Rattle.ymx_machine.specs.shared.Phases.{is_live}
 use Rattle.ymx_model.specs.declared.types.Event.TheVariants as event
@@ -58,3 +62,59 @@ pub record FeedsSome (s : Session) (input : List ℕ) (fed : Fed) (t : Session) 
   pub count : ℕ
   pub within : count ≤ length input
   pub feeds : Gives in_turn s (event.Feed (take count input)) (reply.Fed fed) t
+
+-- ---- what may be passed on behind it
+
+-- the end of its stream stands behind the payload that comes
+abbrev pub is_ending : Incoming → Bool
+is_ending (Head bytes) = false
+is_ending (Payload id missing fin stray) = fin
+
+-- how many bytes the peer may still send on a stream
+abbrev pub granted_of : Option End → ℕ
+granted_of None = 0
+granted_of (Some e) = e.reader.granted
+
+-- the header of Data of this stream, without flags, behind which so many bytes of payload stand (framing)
+abbrev pub plain_header : (id count : ℕ) → Header
+plain_header id count = record { version = 0; kind = 0; flags = 0; id = id; length = count }
+
+abbrev pub is_plain : (id : ℕ) → Header → Bool
+is_plain id h = h.version == 0 && h.kind == 0 && h.flags == 0 && h.id == id
+
+-- The payload of this header's frame may be passed on behind the payload that comes and `ahead` bytes of further frames: it
+-- is Data of the same stream without flags, and has at least one byte; its stream doesn't end before; the window allows it;
+-- and the row of answers isn't full.
+abbrev pub may_follow : (ahead : ℕ) → Header → Passing → Session → Bool
+may_follow ahead h p s =
+    is_plain p.id h && nat_lt 0 h.length && not (is_ending s.incoming)
+    && nat_le (p.missing + ahead + h.length) (granted_of (look p.id s.table.entries)) && nat_lt (length s.answers) most_answers
+
+abbrev pub following : (ahead : ℕ) → Header → Session → Option Passing → Option ℕ
+following ahead h s None = None
+following ahead h s (Some p) = if may_follow ahead h p s then Some h.length else None
+
+-- how many bytes of payload the frame of this header has, where they may be passed on behind that which comes
+abbrev pub passing_behind : (ahead : ℕ) → (header : List ℕ) → Session → Option ℕ
+passing_behind ahead header s = following ahead (header_of header) s (passing s)
+
+-- these bytes are the header of Data of this stream, without flags, behind which so many bytes of payload stand
+pub record IsPlainHeader (id count : ℕ) (bytes : List ℕ) : Type 0 where
+  pub whole : length bytes ≡ 12
+  pub spells : header_of bytes ≡ plain_header id count
+  pub some : 0 < count
+
+-- So many bytes more of this stream may come, of the payload that comes and of further frames without flags: its end doesn't
+-- stand before them, the window allows them, and the session takes their headers.
+pub record MayCome (id left : ℕ) (s : Session) : Type 0 where
+  pub goes_on : is_ending s.incoming ≡ false
+  pub granted : left ≤ granted_of (look id s.table.entries)
+  pub window : left ≤ s.table.window
+  pub credit : ForSome (look id s.table.entries) (λ e. e.writer.credit ≤ greatest_number)
+  pub answers : length s.answers < most_answers
+
+-- Payload of this stream comes that may be passed on, `missing` bytes of it are missing, and behind them `behind` bytes of
+-- further frames may come.
+pub record PassesBehind (id missing behind : ℕ) (s : Session) : Type 0 where
+  pub passes : passing s ≡ Some (record { id = id; missing = missing })
+  pub further : 0 < behind → MayCome id (missing + behind) s

@@ -1,12 +1,18 @@
-//! The law of turns, over definitions alone.
+//! Laws over definitions alone: of turns, and of payload that follows what is passed on. (The functions themselves do
+//! nothing.)
 
-ghost use Rattle.std.specs.Prelude.{◌≡◌, ◌+◌, ◌<◌, ℕ, List, true, false, Some};
+ghost use Rattle.std.specs.Prelude.{◌≡◌, ◌+◌, ◌-◌, ◌<◌, ◌≤◌, ℕ, List, length, true, false, Some};
+ghost use Rattle.ymx_machine.specs.declared.types.Fed.{Fed};
+ghost use Rattle.ymx_machine.specs.declared.types.Reply.TheVariants as reply;
+ghost use Rattle.ymx_model.specs.declared.types.Event.TheVariants as event;
+ghost use Rattle.ymx_model.specs.session.Histories.{Gives};
 ghost use Rattle.ymx_model.specs.session.Tables.{due_count};
 ghost use Rattle.ymx_model.specs.session.Sessions.{Session};
 ghost use Rattle.ymx_model.specs.session.Emissions.{Choice, begin, moves_on, in_turn};
 ghost use Rattle.ymx_machine.specs.shared.Limits.{data_limit};
 ghost use Rattle.ymx_model.specs.session.Emissions.Choice.{AStream};
 ghost use Rattle.ymx_law_session.specs.Limits.{IsWithin};
+ghost use Rattle.ymx_session.specs.Passing.{all_fed, Passes, IsPlainHeader, PassesBehind};
 ghost use Rattle.ymx_session.specs.Turns.{turn, own_frames, HasDue, is_of_stream, FlowsPast, IsNearerBy};
 
 /// A stream with something due waits for at most as many frames as its turn says, while no call and no feed
@@ -21,4 +27,12 @@ pub fn turns_are_bounded()
     ensures own_next { (id : ℕ) (c : Choice) (s t : Session) → IsWithin s → HasDue id s → turn id s ≡ 0 → in_turn c s ≡ true → begin c s ≡ Some t → c ≡ AStream id data_limit }
     ensures few { (id : ℕ) (s : Session) → HasDue id s → turn id s < own_frames s + due_count s.table }
     ensures among { (id : ℕ) (bytes : List ℕ) (frames : ℕ) (s t : Session) → IsWithin s → HasDue id s → FlowsPast id bytes frames s t → IsNearerBy frames id s t }
+{}
+
+/// What was looked at may be passed on. Once a part of a payload was passed on, the rest of it may be, and as much behind it
+/// as before. Once a payload was passed on whole, a feed of the plain header behind it takes all of it; then the payload of
+/// that header may be passed on, and behind it what is left.
+pub fn payload_follows()
+    ensures part { (id missing behind : ℕ) (bytes : List ℕ) (s t : Session) → PassesBehind id missing behind s → 0 < length bytes → length bytes < missing → Passes id bytes s t → PassesBehind id (missing - length bytes) behind t }
+    ensures follows { (id missing behind count : ℕ) (bytes header : List ℕ) (fed : Fed) (s t u : Session) → PassesBehind id missing behind s → 0 < missing → length bytes ≡ missing → Passes id bytes s t → IsPlainHeader id count header → count ≤ behind → Gives in_turn t (event.Feed header) (reply.Fed fed) u → (fed ≡ all_fed header) × PassesBehind id count (behind - count) u }
 {}
