@@ -197,7 +197,7 @@ fn read_settling<R: Recorder, W: Wait, I: Inlet, G: Gate>(
         let turn = read_turn(rt, hub, seat, reader, gate, buffer);
         let _ = hub.settle(rt, settler);
         match turn {
-            Ok(taken) => count = count.saturating_add(taken as u64),
+            Ok(fed) => count = count.saturating_add(fed as u64),
             Err(stop) => {
                 return Stop {
                     moved: count.saturating_add(stop.moved),

@@ -10,7 +10,7 @@ pub loop-preserved : goal.loop-preserved
 loop-preserved g c = record {
   next = (tt, tt);
   room = search rules;
-  fed = fed_more g.R.Recorder.KEEPS (g.I.Inlet.failures c.args.reader.now) (g.I.Inlet.failures c.loop.reader) (g.I.Inlet.failures c.read_turn-turn.new.reader) (g.I.Inlet.remaining c.args.reader.now) (g.I.Inlet.remaining c.loop.reader) (g.I.Inlet.remaining c.read_turn-turn.new.reader) c.args.seat.now c.loop.seat c.read_turn-turn.new.seat c.loop.count c.in-Ok.taken c.saturating_add-count.result c.loop.invariant.fed c.in-Ok.ensures.turned c.saturating_add-count.ensures;
+  fed = fed_more g.R.Recorder.KEEPS (g.I.Inlet.failures c.args.reader.now) (g.I.Inlet.failures c.loop.reader) (g.I.Inlet.failures c.read_turn-turn.new.reader) (g.I.Inlet.remaining c.args.reader.now) (g.I.Inlet.remaining c.loop.reader) (g.I.Inlet.remaining c.read_turn-turn.new.reader) c.args.seat.now c.loop.seat c.read_turn-turn.new.seat c.loop.count c.in-Ok.fed c.saturating_add-count.result c.loop.invariant.fed c.in-Ok.ensures.turned c.saturating_add-count.ensures;
   settled = settles_more g.R.Recorder.KEEPS _ _ _ c.loop.invariant.settled c.settle.ensures.booked;
 }
 
