@@ -10,7 +10,6 @@ use Rattle.ymx_pumps.specs.declared.pump_end.PumpWhy.TheVariants as why
 use Rattle.ymx_connect.specs.declared.connect_fault.ConnectFault.{ConnectFault}
 use Rattle.ymx_connect.specs.declared.connect_fault.ConnectFault.TheVariants.{Session, Memory, NoThread, NoSeat}
 use Rattle.ymx_connect.specs.declared.ended.Ended.{Ended}
-use Rattle.ymx_connect.specs.declared.handle.Handle.{Handle}
 
 -- Why no session runs: what the making of a session answers; or there was no memory, or no thread, for a session that
 -- could be made.
@@ -37,5 +36,5 @@ pub record IsSpared (ended : Ended) : Type 0 where
   pub written : may_end_writing ended.written ≡ true
 
 -- the answer is one of the caller's function, called with some running session
-abbrev pub Answered : {F T : Type 0} → Once F (Bor Handle × Unit {0}) T → F → T → Type 0
-Answered called work answer = (session : Handle) × FnOnceReturnsAt called work session answer
+abbrev pub Answered : {Session F T : Type 0} → Once F (Bor Session × Unit {0}) T → F → T → Type 0
+Answered {Session} called work answer = (session : Session) × FnOnceReturnsAt called work session answer

@@ -1,3 +1,4 @@
 pub mod Connecting
+pub mod Pumping
 pub mod Settings
 pub mod Streams

@@ -4,11 +4,12 @@ ghost use Rattle.std.specs.Prelude.{◌≡◌, None, IfOk, IfErr};
 ghost use Rattle.ymx_session.specs.NewSessions.{new_fault};
 ghost use Rattle.ymx_seats.specs.Transcripts.{IsNew};
 ghost use Rattle.ymx_connect.specs.Connecting.{IsConnectFault, IsSpared, Answered};
+ghost use Rattle.ymx_connect.specs.Pumping.{HasRead, HasWrittenUnseen};
 
 use crate::connect_fault::ConnectFault;
 use crate::ended::Connected;
-use crate::halves::discard;
 use crate::handle::Handle;
+use crate::off::discard;
 use crate::running::{Buffers, run_beside};
 use crate::starting::RefusedThread;
 use crate::tcp::{ConnectionReader, ConnectionWriter};
@@ -53,7 +54,10 @@ pub fn connect_tcp<W: Threads + Wait + Sync, T: Drop, F: FnOnce(&Handle) -> T>(
     let _ = socket.set_nodelay(true);
     let reader = ConnectionReader::new(socket);
     let writer = ConnectionWriter::new(socket);
-    connect(rt, alloc, reader, writer, role, config, work)
+    match connect(rt, alloc, reader, writer, role, config, work) {
+        Ok(connected) => Ok(connected.without_devices()),
+        Err(fault) => Err(fault),
+    }
 }
 
 /// Runs a session over a reader and a writer, at whose other end is one peer.
@@ -66,6 +70,7 @@ pub fn connect_tcp<W: Threads + Wait + Sync, T: Drop, F: FnOnce(&Handle) -> T>(
 /// `Session` comes where no session can be made: `BadWindow` or `BadFirst` for this configuration, or `OutOfMemory`.
 /// `Memory` comes where there is none for the hub or the buffers, and `NoThread` where a thread can't be made. In each
 /// case `work` was not called, and no byte was written; the writer may have been ended.
+#[tactic(auto, using(crate::proofs::PumpEnds::spared_by))]
 pub fn connect<
     W: Threads + Wait + Sync,
     I: Inlet + Send + Drop,
@@ -80,11 +85,13 @@ pub fn connect<
     role: Role,
     config: Config,
     work: F,
-) -> Result<Connected<T>, ConnectFault>
+) -> Result<Connected<T, I, O>, ConnectFault>
     requires { F.IsAlwaysCallable work }
     ensures may { IfOk result (λ connected. new_fault role config ≡ None) }
     ensures answered { IfOk result (λ connected. Answered F.FnOnce work connected.answer) }
     ensures spared { IfOk result (λ connected. IsSpared connected.ended) }
+    ensures read { IfOk result (λ connected. HasRead (I.failures reader) (I.failures connected.reader) (I.remaining reader) (I.remaining connected.reader) connected.ended.read_bytes connected.ended.read) }
+    ensures wrote { IfOk result (λ connected. HasWrittenUnseen (O.failures writer) (O.failures connected.writer) (O.contents writer) (O.contents connected.writer) (O.is_ended connected.writer) connected.ended.written_bytes connected.ended.written) }
     ensures refused { IfErr result (λ fault. IsConnectFault role config fault) }
 {
     let prepared = match prepare(alloc, role, config) {
@@ -117,7 +124,7 @@ fn surround(alloc: Global, session: Session) -> Result<Prepared, RefusedAllocati
     requires { IsNew session }
 {
     let hub = Hub::new(alloc, session, Off)?;
-    let handle = Handle::new(alloc, &hub)?;
+    let handle = Handle::over(alloc, ymx_memory::share(&hub)?);
     let buffers = Buffers::new(alloc)?;
     Ok(Prepared {
         hub,
@@ -134,17 +141,24 @@ fn run<
     O: Outlet + Send + Drop,
     T: Drop,
     F: FnOnce(&Handle) -> T,
->(rt: &W, prepared: Prepared, reader: I, writer: O, work: F) -> Result<Connected<T>, RefusedThread>
+>(
+    rt: &W,
+    prepared: Prepared,
+    reader: I,
+    writer: O,
+    work: F,
+) -> Result<Connected<T, I, O>, RefusedThread>
     requires { F.IsAlwaysCallable work }
     ensures answered { IfOk result (λ connected. Answered F.FnOnce work connected.answer) }
-    ensures spared { IfOk result (λ connected. IsSpared connected.ended) }
+    ensures read { IfOk result (λ connected. HasRead (I.failures reader) (I.failures connected.reader) (I.remaining reader) (I.remaining connected.reader) connected.ended.read_bytes connected.ended.read) }
+    ensures wrote { IfOk result (λ connected. HasWrittenUnseen (O.failures writer) (O.failures connected.writer) (O.contents writer) (O.contents connected.writer) (O.is_ended connected.writer) connected.ended.written_bytes connected.ended.written) }
 {
     let Prepared {
         hub,
         handle,
         buffers,
     } = prepared;
-    let mut seat = handle.seat();
+    let mut seat = handle.spare_seat();
     let connected = run_beside(
         rt,
         &*hub,

@@ -1,5 +1,7 @@
 //! How a session ended that ran over a connection.
 
+ghost use Rattle.std.specs.Prelude.{◌≡◌};
+
 use ymx_pumps::PumpWhy;
 
 /// How both pumps ended.
@@ -15,11 +17,36 @@ pub struct Ended {
     pub written_bytes: u64,
 }
 
-/// What the caller's function answered, and how the session ended behind it.
+/// What the caller's function answered, how the session ended behind it, and the devices, which come back. They are `()`
+/// where the caller gave a socket, which it still has.
 #[derive(Clone, Copy, Debug, PartialEq, Eq, Drop)]
-pub struct Connected<T> {
+pub struct Connected<T, I = (), O = ()> {
     /// What the caller's function answered.
     pub answer: T,
     /// How both pumps ended.
     pub ended: Ended,
+    /// The reader, behind what was read.
+    pub reader: I,
+    /// The writer, behind what was written.
+    pub writer: O,
+}
+
+impl<T: Drop, I: Drop, O: Drop> Connected<T, I, O> {
+    /// The same, of which the devices are let go.
+    pub(crate) fn without_devices(self) -> Connected<T>
+        ensures { (result.answer ≡ self.answer) × (result.ended ≡ self.ended) }
+    {
+        let Connected {
+            answer,
+            ended,
+            reader: _,
+            writer: _,
+        } = self;
+        Connected {
+            answer,
+            ended,
+            reader: (),
+            writer: (),
+        }
+    }
 }

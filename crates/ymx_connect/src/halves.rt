@@ -7,7 +7,8 @@
 ghost use Rattle.std.specs.Prelude.{◌≡◌, ◌<◌, ◌≤◌, List, ℕ, length, drop, false, IfOk, IfErr, MatchResult};
 ghost use Rattle.ymx_machine.specs.declared.types.Reply.TheVariants as reply;
 ghost use Rattle.ymx_booked.specs.Answers.{IsNotMemory};
-ghost use Rattle.ymx_booked.specs.Books.{Books};
+ghost use Rattle.ymx_booked.specs.Books.{Books, Spends, Closes, to_finish, to_reset};
+ghost use Rattle.ymx_hub.specs.Releasing.{Tends};
 ghost use Rattle.ymx_hub.specs.Turns.{ReadTurns, WriteTurns};
 ghost use Rattle.ymx_connect.specs.Streams.{ReadsUpTo, ReadsUntil, Copies};
 
@@ -75,30 +76,26 @@ impl<R: Recorder> Writer<R> {
         self.half.write_all(rt, bytes)
     }
 
-    /// Half-closes the stream (half-close): the peer reads what was written, and then the end. The half is spent
-    /// whatever is answered.
+    /// `finish`, at the seat of this half, which comes back: half-closes the stream (half-close). The half is spent whatever
+    /// is answered.
     ///
-    /// Refused with `Closed`, `Reset` and `Lost`.
-    pub fn finish<W: Wait>(self, rt: &W) -> Result<(), StreamFault>
-        ensures { R.KEEPS ≡ false → IsNotMemory result }
+    /// Refused with `Closed`, `Reset` and `Lost`. `Memory`, and nothing is done, where there is none for the entries.
+    pub fn finish_at_seat<W: Wait>(self, rt: &W) -> (Seat<R>, Result<(), StreamFault>)
+        ensures booked { Books R.KEEPS self.seat result.0 (Spends (to_finish self.id) self.id self.seat.number result.1) }
+        ensures off { R.KEEPS ≡ false → IsNotMemory result.1 }
     {
-        let Writer { half } = self;
-        let (seat, finished) = half.finish(rt);
-        discard(seat);
-        finished
+        self.into_half().finish(rt)
     }
 
-    /// Resets the stream (flags): what is not sent is dropped, and neither side reads or writes any more. The half is
-    /// spent whatever is answered.
+    /// `reset`, at the seat of this half, which comes back: resets the stream (flags). The half is spent whatever is answered.
     ///
-    /// Refused with `Closed`, with `Reset` where the peer was first, and with `Lost`.
-    pub fn reset<W: Wait>(self, rt: &W) -> Result<(), StreamFault>
-        ensures { R.KEEPS ≡ false → IsNotMemory result }
+    /// Refused with `Closed`, with `Reset` where the peer was first, and with `Lost`. `Memory`, and nothing is done, where
+    /// there is none for the entries.
+    pub fn reset_at_seat<W: Wait>(self, rt: &W) -> (Seat<R>, Result<(), StreamFault>)
+        ensures booked { Books R.KEEPS self.seat result.0 (Spends (to_reset self.id) self.id self.seat.number result.1) }
+        ensures off { R.KEEPS ≡ false → IsNotMemory result.1 }
     {
-        let Writer { half } = self;
-        let (seat, was_reset) = half.reset(rt);
-        discard(seat);
-        was_reset
+        self.into_half().reset(rt)
     }
 }
 
@@ -160,31 +157,24 @@ impl<R: Recorder> Reader<R> {
         unreachable!()
     }
 
-    /// Spends the half, whatever is answered. If the writing half was spent, the stream is given up, and unread bytes
-    /// are dropped.
+    /// `close`, at the seat of this half, which comes back: spends the half, whatever is answered.
     ///
-    /// Refused with `Closed`, only where the stream is given up.
-    pub fn close<W: Wait>(self, rt: &W) -> Result<(), StreamFault>
-        ensures { R.KEEPS ≡ false → IsNotMemory result }
+    /// Refused with `Closed`, and `Memory` where there is none for the entry, only where the stream is given up.
+    pub fn close_at_seat<W: Wait>(self, rt: &W) -> (Seat<R>, Result<(), StreamFault>)
+        ensures booked { Books R.KEEPS self.seat result.0 (Closes self.id self.seat.number result.1) }
+        ensures off { R.KEEPS ≡ false → IsNotMemory result.1 }
     {
-        let Reader { half } = self;
-        let (seat, closed) = half.close(rt);
-        discard(seat);
-        closed
+        self.into_half().close(rt)
     }
 
-    /// Lets the half go, without a wait: what comes of the stream is dropped, so that the peer gets its credit back, and
-    /// the half is spent by itself once the peer's end is there, the stream was reset or the session is lost. Until then
-    /// a stream that was finished keeps what is unsent, and is one of the 1,024.
+    /// `release`, at the seat of this half, which comes back: lets the half go, without a wait.
     ///
-    /// Refused with `Closed`, only where the stream is given up now.
-    pub fn release<W: Wait>(self, rt: &W) -> Result<(), StreamFault>
-        ensures { R.KEEPS ≡ false → IsNotMemory result }
+    /// Refused with `Closed`, and `Memory` where there is none for the entries, only where the stream is given up now.
+    pub fn release_at_seat<W: Wait>(self, rt: &W) -> (Seat<R>, Result<(), StreamFault>)
+        ensures booked { Books R.KEEPS self.seat result.0 (Tends self.id self.seat.number) }
+        ensures off { R.KEEPS ≡ false → IsNotMemory result.1 }
     {
-        let Reader { half } = self;
-        let (seat, released) = half.release(rt);
-        discard(seat);
-        released
+        self.into_half().release(rt)
     }
 }
 
@@ -214,19 +204,4 @@ pub fn copy<W: Wait, R: Recorder, S: Recorder>(
         }
     }
     unreachable!()
-}
-
-/// Half-closes the stream, and releases its reading half: what was written still arrives, what comes is dropped, and the
-/// stream is given up by itself once the peer's end is there. It doesn't wait for that. Answers the first refusal.
-pub fn close_stream<W: Wait>(rt: &W, writer: Writer, reader: Reader) -> Result<(), StreamFault>
-    ensures { IsNotMemory result }
-{
-    let finished = writer.finish(rt);
-    let released = reader.release(rt);
-    finished.and(released)
-}
-
-/// Lets a seat go, with its entries. With the recorder `Off` it holds none.
-pub(crate) fn discard<R: Recorder>(seat: Seat<R>) {
-    let _ = seat.into_entries();
 }

@@ -1,139 +1,144 @@
-//! A running session, as the caller's function sees it.
+//! A running session, as its callers see it.
 
-ghost use Rattle.ymx_booked.specs.Answers.{IsNotMemory};
+ghost use Rattle.std.specs.Prelude.{◌≡◌, List, [], true, false, IfSome, IfOk, IfErr, MatchResult};
+ghost use Rattle.ymx_model.specs.session.Sessions.{Session, is_running};
+ghost use Rattle.ymx_model.specs.session.Emissions.{is_ready};
+ghost use Rattle.ymx_session.specs.Replies.{done_or};
+ghost use Rattle.ymx_seats.specs.Views.{IsNewcomer};
+ghost use Rattle.ymx_booked.specs.Answers.{IsNotMemory, IsSeatFault};
+ghost use Rattle.ymx_booked.specs.Books.{Books, Asks, to_go_away, to_close};
+ghost use Rattle.ymx_booked.specs.Shown.{IsHistoryOf};
+ghost use Rattle.ymx_hub.specs.Shown.{IsShown};
+ghost use Rattle.ymx_hub.specs.Halves.{OpensHalves, OpensHalvesWith, AcceptsHalves};
+ghost use Rattle.ymx_hub.specs.Turns.{PingTurns};
 
-use crate::halves::{Reader, Writer, discard};
+use crate::halves::{Reader, Writer};
 use std::alloc::Global;
 use std::sync::{Arc, Wait};
-use ymx_hub::{Acceptor, Hub, HubFault as StreamFault, Off, Opener, Seat, Undrained};
-use ymx_memory::RefusedAllocation;
+use ymx_hub::{
+    Hub, HubFault as StreamFault, Off, Recorder, Seat, Undrained, accept_at_seat, open_at_seat,
+    open_with_at_seat,
+};
 
-/// A running session, as the caller's function sees it. Threads may share it, and each may make any call.
+/// A running session, as its callers see it. Threads may share it, and each may make any call.
+///
+/// A call whose name ends in `_at_seat` is booked at the seat that it is lent: a contract says what it adds there. The calls
+/// of a session with the recorder `Off` need no seat.
 #[derive(Drop)]
-pub struct Handle {
-    hub: Arc<Hub<Off>, Global>,
-    alloc: Global,
+pub struct Handle<R: Recorder = Off> {
+    hub: Arc<Hub<R>, Global>,
+    pub(crate) alloc: Global,
 }
 
-impl Handle {
+impl<R: Recorder> Handle<R> {
     /// The session of this hub.
-    pub(crate) fn new(
-        alloc: Global,
-        hub: &Arc<Hub<Off>, Global>,
-    ) -> Result<Handle, RefusedAllocation> {
-        Ok(Handle {
-            hub: ymx_memory::share(hub)?,
-            alloc,
-        })
+    pub fn over(alloc: Global, hub: Arc<Hub<R>, Global>) -> Handle<R> {
+        Handle { hub, alloc }
     }
 
-    /// A seat. With the recorder `Off` nothing is booked at a seat, so it needs no hub.
-    pub(crate) fn seat(&self) -> Seat<Off> {
-        Seat::new(self.alloc, 0, 0)
+    /// A new seat, which has no entry; where there is a journal, none of the history that it has seen is its own. `Seats`
+    /// after 4,294,967,295 of them, and `Closed` once the transcript was handed out.
+    pub fn seat<W: Wait>(&self, rt: &W) -> Result<Seat<R>, StreamFault>
+        ensures empty { IfOk result (λ seat. seat.entries ≡ []) }
+        ensures newcomer { IfOk result (λ seat. IsNewcomer seat.number seat.seen) }
+        ensures refused { IfErr result IsSeatFault }
+    {
+        self.hub.seat(rt)
     }
 
-    /// Opens a stream (stream identifiers). It doesn't wait for the peer, and bytes may be written at once.
-    ///
-    /// Refused, in this order, with `Closed`, `Lost`, `PeerAway` after the peer's Go Away, `Exhausted` where the ids
-    /// are used up, `OpensPending` while 256 own streams are neither acknowledged, reset nor given up, and `TooMany`
-    /// while 1,024 streams are there. `Memory` where there is none for the stream: no stream is opened then.
-    pub fn open<W: Wait>(&self, rt: &W) -> Result<(Writer, Reader), StreamFault> {
-        let mut opener = self.opener()?;
-        let opened = opener.open(rt);
-        discard(opener.into_seat());
-        let (writer, reader) = opened?;
-        Ok((Writer::new(writer), Reader::new(reader)))
-    }
-
-    /// Opens a stream with these first bytes, and says how many of them were taken: the first 262,144 at most. It is
-    /// refused as `open` is.
-    pub fn open_with<W: Wait>(
+    /// `open`, at this seat. `Seats` where no two seats are left, and `Memory` also where there is none for the entry: no
+    /// stream is opened then.
+    pub fn open_at_seat<W: Wait>(
         &self,
         rt: &W,
-        bytes: &[u8],
-    ) -> Result<(Writer, Reader, usize), StreamFault> {
-        let mut opener = self.opener()?;
-        let opened = opener.open_with(rt, bytes);
-        discard(opener.into_seat());
-        let (writer, reader, taken) = opened?;
-        Ok((Writer::new(writer), Reader::new(reader), taken))
+        seat: &mut Seat<R>,
+    ) -> Result<(Writer<R>, Reader<R>), StreamFault>
+        ensures booked { Books R.KEEPS seat.old seat.new (OpensHalves seat.old.number result) }
+        ensures paired { IfOk result (λ made. made.1.id ≡ made.0.id) }
+    {
+        match open_at_seat(rt, &self.hub, seat) {
+            Ok((writer, reader)) => Ok((Writer::new(writer), Reader::new(reader))),
+            Err(fault) => Err(fault),
+        }
     }
 
-    /// Waits for a stream that the peer opens, and acknowledges it. `None` once the session is closed, or lost with
-    /// none left.
-    ///
-    /// `Memory` where there is none for its halves: no stream is taken then, and the same call may be made again.
-    pub fn accept<W: Wait>(&self, rt: &W) -> Result<Option<(Writer, Reader)>, StreamFault> {
-        let hub = ymx_memory::share(&self.hub)?;
-        let mut acceptor = Acceptor::new(hub, self.seat());
-        let accepted = acceptor.accept(rt);
-        discard(acceptor.into_seat());
-        match accepted {
+    /// `open_with`, at this seat. It is refused as `open_at_seat` is.
+    pub fn open_with_at_seat<W: Wait>(
+        &self,
+        rt: &W,
+        seat: &mut Seat<R>,
+        bytes: &[u8],
+    ) -> Result<(Writer<R>, Reader<R>, usize), StreamFault>
+        ensures booked { Books R.KEEPS seat.old seat.new (OpensHalvesWith bytes.now seat.old.number result) }
+        ensures paired { IfOk result (λ made. made.1.id ≡ made.0.id) }
+    {
+        match open_with_at_seat(rt, &self.hub, seat, bytes) {
+            Ok((writer, reader, taken)) => Ok((Writer::new(writer), Reader::new(reader), taken)),
+            Err(fault) => Err(fault),
+        }
+    }
+
+    /// `accept`, at this seat. `Seats` where no two seats are left, and `Memory` also where there is none for the entry: no
+    /// stream is taken then, and the same call may be made again.
+    pub fn accept_at_seat<W: Wait>(
+        &self,
+        rt: &W,
+        seat: &mut Seat<R>,
+    ) -> Result<Option<(Writer<R>, Reader<R>)>, StreamFault>
+        ensures booked { Books R.KEEPS seat.old seat.new (AcceptsHalves seat.old.number result) }
+        ensures paired { IfOk result (λ offer. IfSome offer (λ made. made.1.id ≡ made.0.id)) }
+    {
+        match accept_at_seat(rt, &self.hub, seat) {
             Ok(Some((writer, reader))) => Ok(Some((Writer::new(writer), Reader::new(reader)))),
             Ok(None) => Ok(None),
             Err(fault) => Err(fault),
         }
     }
 
-    /// Asks the peer for a sign of life, waits for it, and returns the ping's number (ping).
-    ///
-    /// Refused with `Closed`, `Lost`, and `PingsPending` while 16 pings wait; while it waits with `Closed` or `Lost`.
-    pub fn ping<W: Wait>(&self, rt: &W) -> Result<u32, StreamFault>
-        ensures { IsNotMemory result }
+    /// `ping`, at this seat. `Memory` where there is none for an entry; the ping may then have been asked already.
+    pub fn ping_at_seat<W: Wait>(&self, rt: &W, seat: &mut Seat<R>) -> Result<u32, StreamFault>
+        ensures booked { Books R.KEEPS seat.old seat.new (PingTurns seat.old.number result) }
+        ensures off { R.KEEPS ≡ false → IsNotMemory result }
     {
-        let mut seat = self.seat();
-        let ponged = self.hub.ping(rt, &mut seat);
-        discard(seat);
-        ponged
+        self.hub.ping(rt, seat)
     }
 
-    /// Takes no more streams of the peer's (go away). Refused, in this order, with `Closed` and `Lost`.
-    pub fn go_away<W: Wait>(&self, rt: &W) -> Result<(), StreamFault>
-        ensures { IsNotMemory result }
+    /// `go_away`, at this seat. `Memory`, and nothing is done, where there is none for the entry.
+    pub fn go_away_at_seat<W: Wait>(&self, rt: &W, seat: &mut Seat<R>) -> Result<(), StreamFault>
+        ensures booked { Books R.KEEPS seat.old seat.new (Asks to_go_away done_or seat.old.number result) }
+        ensures off { R.KEEPS ≡ false → IsNotMemory result }
     {
-        let mut seat = self.seat();
-        let said = self.hub.go_away(rt, &mut seat);
-        discard(seat);
-        said
+        self.hub.go_away(rt, seat)
     }
 
-    /// Waits until nothing is due: all that was due was emitted.
-    ///
-    /// `Undrained`: something is due, and the write pump has ended with `Device`, so that nothing goes out any more.
-    pub fn drain<W: Wait>(&self, rt: &W) -> Result<(), Undrained> {
-        let mut seat = self.seat();
-        let drained = self.hub.drain(rt, &mut seat);
-        discard(seat);
-        drained
-    }
-
-    /// Closes the session at once, and wakes all who wait: they answer `Closed`. What is not sent is dropped. It is
-    /// refused in no case; a second close changes nothing.
-    pub fn close<W: Wait>(&self, rt: &W) -> Result<(), StreamFault>
-        ensures { IsNotMemory result }
+    /// `drain`, at this seat. It is no event of the session. Where there is a journal, it shows the whole history to the
+    /// seat, and the answer is of the session that this history leads to.
+    pub fn drain_at_seat<W: Wait>(&self, rt: &W, seat: &mut Seat<R>) -> Result<(), Undrained>
+        ensures shown { IsShown seat.old seat.new }
+        ensures due { (s : Session) × IsHistoryOf R.WITNESSED R.role R.config seat.new.seen s × MatchResult result (λ _. is_ready s ≡ false) (λ _. is_ready s ≡ true) }
     {
-        let mut seat = self.seat();
-        let closed = self.hub.close(rt, &mut seat);
-        discard(seat);
-        closed
+        self.hub.drain(rt, seat)
     }
 
-    /// Whether the session goes on: it is neither lost, broken nor closed.
-    pub fn is_running<W: Wait>(&self, rt: &W) -> bool {
-        let mut seat = self.seat();
-        let is_running = self.hub.is_running(rt, &mut seat);
-        discard(seat);
-        is_running
+    /// `close`, at this seat. `Memory`, and it is not closed, where there is none for the entry.
+    pub fn close_at_seat<W: Wait>(&self, rt: &W, seat: &mut Seat<R>) -> Result<(), StreamFault>
+        ensures booked { Books R.KEEPS seat.old seat.new (Asks to_close done_or seat.old.number result) }
+        ensures off { R.KEEPS ≡ false → IsNotMemory result }
+    {
+        self.hub.close(rt, seat)
+    }
+
+    /// `is_running`, at this seat. It is no event of the session. Where there is a journal, it shows the whole history to
+    /// the seat, and the answer is of the session that this history leads to.
+    pub fn is_running_at_seat<W: Wait>(&self, rt: &W, seat: &mut Seat<R>) -> bool
+        ensures shown { IsShown seat.old seat.new }
+        ensures status { (s : Session) × IsHistoryOf R.WITNESSED R.role R.config seat.new.seen s × (result ≡ is_running s.status) }
+    {
+        self.hub.is_running(rt, seat)
     }
 
     /// Whether a stream of the peer's was rejected here for want of memory.
     pub fn has_lacked_memory<W: Wait>(&self, rt: &W) -> bool {
         self.hub.has_lacked_memory(rt)
-    }
-
-    /// Who opens a stream.
-    fn opener(&self) -> Result<Opener<Off>, StreamFault> {
-        let hub = ymx_memory::share(&self.hub)?;
-        Ok(Opener::new(hub, self.seat()))
     }
 }

@@ -1,15 +1,18 @@
 //! The two pumps, each in a thread of its own.
 
-ghost use Rattle.std.specs.Prelude.{◌≡◌, ◌<◌, vec_len, true, false};
-ghost use Rattle.ymx_connect.specs.Connecting.{may_end, may_end_writing};
+ghost use Rattle.std.specs.Prelude.{◌≡◌, ◌<◌, vec_len, false};
+ghost use Rattle.ymx_connect.specs.Pumping.{HasRead, HasWritten};
 
-use crate::halves::discard;
+use crate::off::discard;
 use std::alloc::Global;
+use std::marker::PhantomData;
+use std::snapshot::Snapshot;
 use std::sync::Wait;
+use std::thread::Promise;
 use ymx_hub::{Hub, HubFault as StreamFault, Recorder, Seat};
 use ymx_memory::RefusedAllocation;
 use ymx_model::{Inlet, Outlet};
-use ymx_pumps::{Gate, PumpEnd, PumpWhy, read_pump, write_pump};
+use ymx_pumps::{Gate, PumpEnd, PumpWhy, read_and_settle, write_pump};
 
 /// Bytes that the read pump reads at once.
 const READ_BUFFER: usize = 65_536;
@@ -24,52 +27,74 @@ pub(crate) struct Buffer {
     ghost not_empty: { 0 < vec_len bytes },
 }
 
-/// How the read pump ended, as its thread says.
+/// How the read pump ended, as its thread says, and its reader.
 #[derive(Drop)]
-pub(crate) struct PumpedIn {
+pub(crate) struct PumpedIn<I: Drop> {
+    /// Its reader, behind what it read.
+    pub(crate) reader: I,
     /// Why it ended.
     pub(crate) why: PumpWhy,
     /// How many bytes it fed.
     pub(crate) moved: u64,
-    ghost spared: { may_end why ≡ true },
 }
 
-/// How the write pump ended, as its thread says.
+/// How the write pump ended, as its thread says, and its writer.
 #[derive(Drop)]
-pub(crate) struct PumpedOut {
+pub(crate) struct PumpedOut<O: Drop> {
+    /// Its writer, behind what it wrote.
+    pub(crate) writer: O,
     /// Why it ended.
     pub(crate) why: PumpWhy,
     /// How many bytes it wrote.
     pub(crate) moved: u64,
-    ghost spared: { may_end_writing why ≡ true },
 }
 
-/// Lets the read pump read once.
+/// What the thread of a read pump promises of this reader: it is read on from where it was.
 #[derive(Drop)]
-struct OneRead {
-    may_read: bool,
-    has_refused: bool,
+pub(crate) struct ReadsOn<I> {
+    before: Snapshot<I>,
 }
 
-impl Gate for OneRead {
-    ghost has_refused = { λ gate. gate.has_refused };
+/// What the thread of a write pump promises of this writer, at a hub of this recorder: it is written on from where it was.
+#[derive(Drop)]
+pub(crate) struct WritesOn<R: Recorder, O> {
+    before: Snapshot<O>,
+    kind: PhantomData<R>,
+}
 
-    fn before_read(&mut self) -> bool {
-        if self.may_read {
-            self.may_read = false;
-            return true;
+impl<I> ReadsOn<I> {
+    /// Of this reader.
+    pub(crate) fn of(reader: &I) -> ReadsOn<I>
+        ensures { result.before.value ≡ reader.now }
+    {
+        ReadsOn {
+            before: Snapshot::of(reader),
         }
-        self.has_refused = true;
-        false
     }
+}
 
-    fn after_read(&mut self, _count: usize) {}
-
-    fn after_write(&mut self, _count: usize) {}
-
-    fn before_wait(&mut self) -> bool {
-        true
+impl<R: Recorder, O> WritesOn<R, O> {
+    /// Of this writer.
+    pub(crate) fn of(writer: &O) -> WritesOn<R, O>
+        ensures { result.before.value ≡ writer.now }
+    {
+        WritesOn {
+            before: Snapshot::of(writer),
+            kind: PhantomData,
+        }
     }
+}
+
+impl<I: Inlet + Drop> Promise<PumpedIn<I>> for ReadsOn<I> {
+    ghost use Rattle.ymx_connect.specs.Pumping.{HasRead};
+
+    ghost kept_by = { λ promise pumped. HasRead (I.failures promise.before.value) (I.failures pumped.reader) (I.remaining promise.before.value) (I.remaining pumped.reader) pumped.moved pumped.why };
+}
+
+impl<R: Recorder, O: Outlet + Drop> Promise<PumpedOut<O>> for WritesOn<R, O> {
+    ghost use Rattle.ymx_connect.specs.Pumping.{HasWritten};
+
+    ghost kept_by = { λ promise pumped. HasWritten R.WITNESSED R.role R.config (O.failures promise.before.value) (O.failures pumped.writer) (O.contents promise.before.value) (O.contents pumped.writer) (O.is_ended pumped.writer) pumped.moved pumped.why };
 }
 
 /// Lets a pump run.
@@ -108,69 +133,37 @@ impl Buffer {
 
 /// Runs the read pump with a seat of its own, until it ends. Behind each read it looks at the streams that were released,
 /// with another seat. `NoSeat` where the hub gives it none, as it has given 4,294,967,295 or has handed its transcript out.
+#[tactic(auto, using(crate::proofs::PumpEnds::has_read, crate::proofs::PumpEnds::read_nothing))]
 pub(crate) fn pump_from_wire<R: Recorder, W: Wait, I: Inlet + Drop>(
     rt: &W,
     hub: &Hub<R>,
     reader: I,
     buffer: Buffer,
-) -> PumpedIn
+) -> PumpedIn<I>
     requires { R.KEEPS ≡ false }
+    ensures { HasRead (I.failures reader) (I.failures result.reader) (I.remaining reader) (I.remaining result.reader) result.moved result.why }
 {
-    let Ok((first, mut settler)) = two_seats(rt, hub) else {
+    let Ok(seats) = two_seats(rt, hub) else {
         return PumpedIn {
+            reader,
             why: PumpWhy::NoSeat,
             moved: 0,
         };
     };
-    let mut seat = first;
-    let mut buffer = buffer;
+    let Buffer { mut bytes } = buffer;
     let mut reader = reader;
-    let mut moved = 0u64;
-    for _ in rt.forever() {
-        let (back, count, ended) = read_once(rt, hub, seat, &mut reader, &mut buffer);
-        seat = back;
-        moved = moved.saturating_add(count);
-        let _ = hub.settle(rt, &mut settler);
-        if let Some(end) = ended {
-            discard(seat);
-            discard(settler);
-            return PumpedIn {
-                why: end.why,
-                moved,
-            };
-        }
-    }
-    unreachable!()
-}
-
-/// Runs the read pump for one read: how many bytes it fed, and how it ended, if it did.
-#[tactic(auto, using(crate::proofs::PumpEnds::may_read_once))]
-fn read_once<R: Recorder, W: Wait, I: Inlet + Drop>(
-    rt: &W,
-    hub: &Hub<R>,
-    seat: Seat<R>,
-    reader: &mut I,
-    buffer: &mut Buffer,
-) -> (Seat<R>, u64, Option<PumpedIn>)
-    requires { R.KEEPS ≡ false }
-{
-    let mut gate = OneRead {
-        may_read: true,
-        has_refused: false,
-    };
-    let end = read_pump(
+    let (end, settler) = read_and_settle(
         rt,
         hub,
-        seat,
-        reader,
-        &mut gate,
-        buffer.bytes.as_mut_slice(),
+        seats,
+        &mut reader,
+        &mut AlwaysOpen,
+        bytes.as_mut_slice(),
     );
     let PumpEnd { seat, moved, why } = end;
-    if gate.has_refused {
-        return (seat, moved, None);
-    }
-    (seat, moved, Some(PumpedIn { why, moved }))
+    discard(seat);
+    discard(settler);
+    PumpedIn { reader, why, moved }
 }
 
 /// Two seats of a hub.
@@ -190,18 +183,20 @@ fn two_seats<R: Recorder, W: Wait>(
 
 /// Runs the write pump with a seat of its own, until it ends. `NoSeat`, and nothing goes out, where the hub gives it none,
 /// as it has given 4,294,967,295 or has handed its transcript out.
-#[tactic(auto, using(crate::proofs::PumpEnds::may_write))]
+#[tactic(auto, using(crate::proofs::PumpEnds::has_written, crate::proofs::PumpEnds::written_nothing))]
 pub(crate) fn pump_to_wire<R: Recorder, W: Wait, O: Outlet + Drop>(
     rt: &W,
     hub: &Hub<R>,
     writer: O,
     buffer: Buffer,
-) -> PumpedOut
+) -> PumpedOut<O>
     requires { R.KEEPS ≡ false }
+    ensures { HasWritten R.WITNESSED R.role R.config (O.failures writer) (O.failures result.writer) (O.contents writer) (O.contents result.writer) (O.is_ended result.writer) result.moved result.why }
 {
     let Ok(seat) = hub.seat(rt) else {
         hub.mute(rt);
         return PumpedOut {
+            writer,
             why: PumpWhy::NoSeat,
             moved: 0,
         };
@@ -217,6 +212,6 @@ pub(crate) fn pump_to_wire<R: Recorder, W: Wait, O: Outlet + Drop>(
         bytes.as_mut_slice(),
     );
     let PumpEnd { seat, moved, why } = end;
-    let _ = seat.into_entries();
-    PumpedOut { why, moved }
+    discard(seat);
+    PumpedOut { writer, why, moved }
 }

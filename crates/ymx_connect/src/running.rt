@@ -2,11 +2,13 @@
 
 ghost use Rattle.std.specs.Prelude.{◌≡◌, false, IfOk};
 ghost use Rattle.std.specs.Fn.{FnOnceReturns};
-ghost use Rattle.ymx_connect.specs.Connecting.{IsSpared};
+ghost use Rattle.ymx_connect.specs.Pumping.{HasRead, HasWritten};
 
 use crate::ended::{Connected, Ended};
-use crate::pumping::{Buffer, PumpedIn, PumpedOut, pump_from_wire, pump_to_wire};
-use crate::starting::{RefusedThread, start};
+use crate::pumping::{
+    Buffer, PumpedIn, PumpedOut, ReadsOn, WritesOn, pump_from_wire, pump_to_wire,
+};
+use crate::starting::{RefusedThread, start_with};
 use std::alloc::Global;
 use std::sync::Wait;
 use std::thread;
@@ -51,31 +53,39 @@ pub(crate) fn run_beside<
     writer: O,
     buffers: Buffers,
     work: F,
-) -> Result<Connected<T>, RefusedThread>
+) -> Result<Connected<T, I, O>, RefusedThread>
     requires off { R.KEEPS ≡ false }
     requires callable { F.IsAlwaysCallable work }
     ensures answered { IfOk result (λ connected. FnOnceReturns F.FnOnce work tt connected.answer) }
-    ensures spared { IfOk result (λ connected. IsSpared connected.ended) }
+    ensures read { IfOk result (λ connected. HasRead (I.failures reader) (I.failures connected.reader) (I.remaining reader) (I.remaining connected.reader) connected.ended.read_bytes connected.ended.read) }
+    ensures wrote { IfOk result (λ connected. HasWritten R.WITNESSED R.role R.config (O.failures writer) (O.failures connected.writer) (O.contents writer) (O.contents connected.writer) (O.is_ended connected.writer) connected.ended.written_bytes connected.ended.written) }
 {
     let Buffers { into, out_of } = buffers;
     thread::scope(
         thread::scope_env(),
         rt,
-        |scope| -> Result<Connected<T>, RefusedThread>
+        |scope| -> Result<Connected<T, I, O>, RefusedThread>
             requires { (R.KEEPS ≡ false) × F.IsAlwaysCallable work }
             ensures answered { IfOk result (λ connected. FnOnceReturns F.FnOnce work tt connected.answer) }
-            ensures spared { IfOk result (λ connected. IsSpared connected.ended) }
+            ensures read { IfOk result (λ connected. HasRead (I.failures reader) (I.failures connected.reader) (I.remaining reader) (I.remaining connected.reader) connected.ended.read_bytes connected.ended.read) }
+            ensures wrote { IfOk result (λ connected. HasWritten R.WITNESSED R.role R.config (O.failures writer) (O.failures connected.writer) (O.contents writer) (O.contents connected.writer) (O.is_ended connected.writer) connected.ended.written_bytes connected.ended.written) }
         {
-            let writing = start(
+            let reads_on = ReadsOn::of(&reader);
+            let writes_on = WritesOn::<R, O>::of(&writer);
+            let writing = start_with(
                 scope,
-                move || -> PumpedOut
+                writes_on,
+                move || -> PumpedOut<O>
                     requires { R.KEEPS ≡ false }
+                    ensures { HasWritten R.WITNESSED R.role R.config (O.failures writer) (O.failures result.writer) (O.contents writer) (O.contents result.writer) (O.is_ended result.writer) result.moved result.why }
                 { pump_to_wire(rt, hub, writer, out_of) },
             )?;
-            let reading = start(
+            let reading = start_with(
                 scope,
-                move || -> PumpedIn
+                reads_on,
+                move || -> PumpedIn<I>
                     requires { R.KEEPS ≡ false }
+                    ensures { HasRead (I.failures reader) (I.failures result.reader) (I.remaining reader) (I.remaining result.reader) result.moved result.why }
                 { pump_from_wire(rt, hub, reader, into) },
             );
             if reading.is_err() {
@@ -87,24 +97,35 @@ pub(crate) fn run_beside<
             let _ = hub.close(rt, seat);
             let written = writing.join(rt);
             let read = reading.join(rt);
-            Ok(Connected {
-                answer,
-                ended: both_ended(read, written),
-            })
+            Ok(connected_by(answer, read, written))
         },
     )
 }
 
-/// How both pumps ended.
-fn both_ended(read: PumpedIn, written: PumpedOut) -> Ended
-    ensures spared { IsSpared result }
-    ensures read { (result.read ≡ read.why) × (result.read_bytes ≡ read.moved) }
-    ensures written { (result.written ≡ written.why) × (result.written_bytes ≡ written.moved) }
+/// What the function answered, how both pumps ended, and their devices.
+fn connected_by<T: Drop, I: Drop, O: Drop>(
+    answer: T,
+    read: PumpedIn<I>,
+    written: PumpedOut<O>,
+) -> Connected<T, I, O>
+    ensures answer { result.answer ≡ answer }
+    ensures devices { (result.reader ≡ read.reader) × (result.writer ≡ written.writer) }
+    ensures read { (result.ended.read ≡ read.why) × (result.ended.read_bytes ≡ read.moved) }
+    ensures written { (result.ended.written ≡ written.why) × (result.ended.written_bytes ≡ written.moved) }
 {
-    Ended {
-        read: read.why,
-        written: written.why,
-        read_bytes: read.moved,
-        written_bytes: written.moved,
+    let PumpedIn { reader, why, moved } = read;
+    let read = why;
+    let read_bytes = moved;
+    let PumpedOut { writer, why, moved } = written;
+    Connected {
+        answer,
+        ended: Ended {
+            read,
+            written: why,
+            read_bytes,
+            written_bytes: moved,
+        },
+        reader,
+        writer,
     }
 }

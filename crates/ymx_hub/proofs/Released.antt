@@ -124,3 +124,13 @@ settles_on keeps old mid new id g h =
       ap (λ xs. xs ++ ds) s.1 ∙ ap (λ ys. joined s.0 ++ ys) (sym (append-nil ds)) ∙ sym (joined_append s.0 ((id, ds) ∷ [])),
       all_append old.number s.0 ((id, ds) ∷ []) s.2 (t, tt),
     )) g h
+
+-- looks at all released streams once more
+pub settles_more : (keeps : Bool) (old mid new : SeatView) → Books keeps old mid (Settles old.number) → Books keeps mid new (Settles mid.number) → Books keeps old new (Settles old.number)
+settles_more keeps old mid new g h =
+    books_at keeps old mid new (Settles old.number) Settles (Settles old.number)
+    (λ es ds s t. (
+      s.0 ++ t.0,
+      ap (λ xs. xs ++ ds) s.1 ∙ ap (λ ys. joined s.0 ++ ys) t.1 ∙ sym (joined_append s.0 t.0),
+      all_append old.number s.0 t.0 s.2 t.2,
+    )) g h

@@ -1,6 +1,6 @@
 //! Who accepts streams.
 
-ghost use Rattle.std.specs.Prelude.{◌≡◌};
+ghost use Rattle.std.specs.Prelude.{◌≡◌, IfSome, IfOk};
 ghost use Rattle.ymx_booked.specs.Books.{Books};
 ghost use Rattle.ymx_hub.specs.Halves.{AcceptsHalves};
 
@@ -42,22 +42,37 @@ impl<R: Recorder> Acceptor<R> {
         seat
     }
 
-    /// Waits for a stream that the peer opens. `None` once the session is closed, or lost with none left.
-    ///
-    /// `Seats` where no two seats are left, and `Memory` where there is none for its halves or the entry: no stream is
-    /// taken then, and the same call may be made again.
+    /// Waits for a stream that the peer opens, at the seat of this acceptor. It does, and is refused, as `accept_at_seat`.
     pub fn accept<W: Wait>(
         &mut self,
         rt: &W,
     ) -> Result<Option<(WriteHalf<R>, ReadHalf<R>)>, HubFault>
         ensures booked { Books R.KEEPS self.old self.new (AcceptsHalves self.old.number result) }
+        ensures paired { IfOk result (λ offer. IfSome offer (λ made. made.1.id ≡ made.0.id)) }
     {
-        let hubs = hub_twice(&self.hub)?;
-        let offer = match self.hub.accept(rt, &mut self.seat) {
-            Ok(Some(offer)) => offer,
-            Ok(None) => return Ok(None),
-            Err(fault) => return Err(fault),
-        };
-        Ok(Some(both_halves(hubs, offer)))
+        accept_at_seat(rt, &self.hub, &mut self.seat)
     }
+}
+
+/// Waits at this seat for a stream that the peer opens. `None` once the session is closed, or lost with none left.
+///
+/// `Seats` where no two seats are left, and `Memory` where there is none for its halves or the entry: no stream is
+/// taken then, and the same call may be made again.
+pub fn accept_at_seat<R: Recorder, W: Wait>(
+    rt: &W,
+    hub: &Arc<Hub<R>, Global>,
+    seat: &mut Seat<R>,
+) -> Result<Option<(WriteHalf<R>, ReadHalf<R>)>, HubFault>
+    // The entries of its waits and of its answer stand in the list of the seat.
+    ensures booked { Books R.KEEPS seat.old seat.new (AcceptsHalves seat.old.number result) }
+    // Whatever the recorder keeps, both halves are of one stream.
+    ensures paired { IfOk result (λ offer. IfSome offer (λ made. made.1.id ≡ made.0.id)) }
+{
+    let hubs = hub_twice(hub)?;
+    let offer = match hub.accept(rt, seat) {
+        Ok(Some(offer)) => offer,
+        Ok(None) => return Ok(None),
+        Err(fault) => return Err(fault),
+    };
+    Ok(Some(both_halves(hubs, offer)))
 }

@@ -4,7 +4,7 @@ ghost use Rattle.std.specs.Prelude.{◌≡◌, ◌≤◌, length, drop, false, I
 ghost use Rattle.ymx_model.specs.declared.types.Event.TheVariants as event;
 ghost use Rattle.ymx_machine.specs.declared.types.Reply.TheVariants as reply;
 ghost use Rattle.ymx_booked.specs.Books.{Books, Does};
-ghost use Rattle.ymx_hub.specs.Pumped.{EmitsOnce, emitted_count};
+ghost use Rattle.ymx_hub.specs.Pumped.{EmitsOnce, SeesTurn, emitted_count};
 
 use crate::awaiting::{await_wakeup, take_lock};
 use crate::hub::Hub;
@@ -99,16 +99,20 @@ impl<R: Recorder> Hub<R> {
         }
     }
 
-    /// Emits into the buffer if something is due. The rest of the buffer stays as it was. `RefusedAllocation`, and
-    /// nothing is done, where there is no memory for the entry.
+    /// Emits into the buffer if something is due. The rest of the buffer stays as it was. Where nothing is due, and there
+    /// is a journal, it shows the whole history to the seat, and the answer is of the session that this history leads to.
+    /// `RefusedAllocation`, and nothing is done, where there is no memory for the entry.
+    #[tactic(auto, using(crate::proofs::Shown::grown))]
     pub fn emit_turn<W: Wait>(
         &self,
         rt: &W,
         seat: &mut Seat<R>,
         buffer: &mut [u8],
     ) -> Result<Turn, RefusedAllocation>
-        // Its one entry stands in the list of its seat, with the bytes at the front of the buffer; none where nothing is due.
-        ensures booked { Books R.KEEPS seat.old seat.new (EmitsOnce (length buffer.old) buffer.new seat.old.number result) }
+        // Its one entry stands in the list of its seat, with the bytes at the front of the buffer. Where nothing is due, the list stays.
+        ensures booked { EmitsOnce R.KEEPS (length buffer.old) buffer.new seat.old seat.new result }
+        // The answer that nothing is due is of the session that the history in its sight leads to.
+        ensures due { IfOk result (λ turn. SeesTurn R.WITNESSED R.role R.config seat.new.seen turn) }
         // Behind those bytes the buffer is as it was.
         ensures within { IfOk result (λ turn. emitted_count turn ≤ length buffer.old) }
         ensures length { length buffer.new ≡ length buffer.old }
@@ -118,10 +122,11 @@ impl<R: Recorder> Hub<R> {
     {
         let mut shared = take_lock(rt, &self.shared);
         if !shared.booked.due() {
-            return Ok(match shared.booked.status() {
-                Status::Running => Turn::Idle,
-                _ => Turn::Over,
-            });
+            shared.booked.show(seat);
+            if shared.booked.status() == Status::Running {
+                return Ok(Turn::Idle);
+            }
+            return Ok(Turn::Over);
         }
         let count = shared.booked.emit(seat, buffer)?;
         shared.is_full = false;

@@ -14,7 +14,9 @@ use Rattle.ymx_memory.specs.declared.refused.RefusedAllocation.{RefusedAllocatio
 use Rattle.ymx_booked.specs.Books.{Books, One}
 use Rattle.ymx_hub.specs.declared.moving.Turn.TheVariants.{Emitted, Idle, Over}
 use Rattle.ymx_hub.specs.Pumped.{EmitsOnce}
+use Rattle.ymx_hub.specs.Shown.{BooksShown}
 use Rattle.ymx_hub.proofs.Booked.{books_same, books_at, books_weaker}
+use Rattle.ymx_hub.proofs.Shown.{shown_booked, shown_alone, shown_before, shown_at, shown_weaker}
 use Rattle.ymx_pumps.specs.declared.pump_end.PumpWhy.{PumpWhy}
 use Rattle.ymx_pumps.specs.declared.pump_end.PumpWhy.TheVariants.{Device, Memory, Gate, NoThread}
 use Rattle.ymx_pumps.specs.declared.pump_end.Stop.{Stop}
@@ -85,53 +87,52 @@ says_device seat why ds (inr s) = rw s.0 s.1
 
 -- all that was emitted was written
 pub turn_wrote : (keeps : Bool) (size n fails failed : ℕ) (buffer : List ℕ) (before after : Option (List ℕ)) (old new : SeatView) → n ≤ length buffer → failed ≡ fails →
-    Appends before after (take n buffer) → Books keeps old new (EmitsOnce size buffer old.number (Ok (Emitted n))) → TurnWrote keeps size fails failed before after old new (Ok n)
+    Appends before after (take n buffer) → EmitsOnce keeps size buffer old new (Ok (Emitted n)) → TurnWrote keeps size fails failed before after old new (Ok n)
 turn_wrote keeps size n fails failed buffer before after old new l f a g =
-    (f, take n buffer, grind (arith, common_steps), a, books_weaker keeps old new _ (AreEmits size old.number (take n buffer)) (λ es o. one_emit size old.number (take n buffer) es o) g)
+    (f, take n buffer, grind (arith, common_steps), a, shown_booked keeps old new _ (books_weaker keeps old new _ (AreEmits size old.number (take n buffer)) (λ es o. one_emit size old.number (take n buffer) es o) g))
 
 -- nothing was due
 pub turn_idle : (keeps : Bool) (size fails failed : ℕ) (buffer : List ℕ) (before after : Option (List ℕ)) (old new : SeatView) → failed ≡ fails →
-    before ≡ after → Books keeps old new (EmitsOnce size buffer old.number (Ok Idle)) → TurnWrote keeps size fails failed before after old new (Ok 0)
+    before ≡ after → EmitsOnce keeps size buffer old new (Ok Idle) → TurnWrote keeps size fails failed before after old new (Ok 0)
 turn_idle keeps size fails failed buffer before after old new f k g =
-    (f, [], refl, subst (λ (v : Option (List ℕ)). Appends before v []) k (Appends-nil before), books_weaker keeps old new _ (AreEmits size old.number []) (λ es o. subst (λ (v : List Entry). AreEmits size old.number [] v) (sym o) refl) g)
+    (f, [], refl, subst (λ (v : Option (List ℕ)). Appends before v []) k (Appends-nil before), shown_alone keeps old new (AreEmits size old.number []) refl g)
 
 -- the pump's end, with nothing emitted
 pub turn_ends : (keeps : Bool) (size fails failed : ℕ) (why : PumpWhy) (before after : Option (List ℕ)) (old new : SeatView) → Keeps before after →
-    Books keeps old new (EndsWrite old.number why) → TurnWrote keeps size fails failed before after old new (Err (record { moved = 0; why = why }))
+    BooksShown keeps old new (EndsWrite old.number why) → TurnWrote keeps size fails failed before after old new (Err (record { moved = 0; why = why }))
 turn_ends keeps size fails failed why before after old new k g =
-    ([], refl, Appends-kept before before after [] (Appends-nil before) k, books_weaker keeps old new _ (WriteAdds size old.number (has_failed fails failed) [] why) (λ es o. adds_end size old.number (has_failed fails failed) why es o) g)
+    ([], refl, Appends-kept before before after [] (Appends-nil before) k, shown_weaker keeps old new _ (WriteAdds size old.number (has_failed fails failed) [] why) (λ es o. adds_end size old.number (has_failed fails failed) why es o) g)
 
 -- the gate ended the pump as nothing was due
-pub turn_gated : (keeps : Bool) (size fails : ℕ) (buffer : List ℕ) (before : Option (List ℕ)) (old new : SeatView) → Books keeps old new (EmitsOnce size buffer old.number (Ok Idle)) →
+pub turn_gated : (keeps : Bool) (size fails : ℕ) (buffer : List ℕ) (before : Option (List ℕ)) (old new : SeatView) → EmitsOnce keeps size buffer old new (Ok Idle) →
     TurnWrote keeps size fails fails before before old new (Err (record { moved = 0; why = Gate }))
 turn_gated keeps size fails buffer before old new g =
-    turn_ends keeps size fails fails Gate before before old new (Keeps-refl before) (books_weaker keeps old new (EmitsOnce size buffer old.number (Ok Idle)) (EndsWrite old.number Gate) (λ es o. o) g)
+    turn_ends keeps size fails fails Gate before before old new (Keeps-refl before) (shown_alone keeps old new (EndsWrite old.number Gate) refl g)
 
 -- there was no memory for the emission
-pub turn_lacked : (keeps : Bool) (size fails : ℕ) (refused : RefusedAllocation) (buffer : List ℕ) (before : Option (List ℕ)) (old new : SeatView) → Books keeps old new (EmitsOnce size buffer old.number (Err refused)) →
+pub turn_lacked : (keeps : Bool) (size fails : ℕ) (refused : RefusedAllocation) (buffer : List ℕ) (before : Option (List ℕ)) (old new : SeatView) → EmitsOnce keeps size buffer old new (Err refused) →
     TurnWrote keeps size fails fails before before old new (Err (record { moved = 0; why = Memory refused }))
 turn_lacked keeps size fails refused buffer before old new g =
-    turn_ends keeps size fails fails (Memory refused) before before old new (Keeps-refl before) (books_weaker keeps old new (EmitsOnce size buffer old.number (Err refused)) (EndsWrite old.number (Memory refused)) (λ es o. o) g)
+    turn_ends keeps size fails fails (Memory refused) before before old new (Keeps-refl before) (shown_booked keeps old new (EndsWrite old.number (Memory refused)) g)
 
 -- nothing more will be due, and then the writer was ended
 pub turn_over : (keeps : Bool) (size fails failed : ℕ) (why : PumpWhy) (buffer : List ℕ) (before after : Option (List ℕ)) (old mid new : SeatView) → Keeps before after →
-    Books keeps old mid (EmitsOnce size buffer old.number (Ok Over)) → Books keeps mid new (EndsWrite mid.number why) → TurnWrote keeps size fails failed before after old new (Err (record { moved = 0; why = why }))
-turn_over keeps size fails failed why buffer before after old mid new k g h =
+    EmitsOnce keeps size buffer old mid (Ok Over) → Books keeps mid new (EndsWrite mid.number why) → TurnWrote keeps size fails failed before after old new (Err (record { moved = 0; why = why }))
+turn_over keeps size fails failed why buffer before after old mid new k s h =
     turn_ends keeps size fails failed why before after old new k
-    (books_at keeps old mid new (EmitsOnce size buffer old.number (Ok Over)) (λ n. EndsWrite n why) (EndsWrite old.number why)
-    (λ es ds a b. subst (λ (v : List Entry). EndsWrite old.number why (v ++ ds)) (sym a) b) g h)
+    (subst (λ (n : ℕ). BooksShown keeps old new (EndsWrite n why)) (ap (λ (v : SeatView). v.number) s.rest) (shown_before keeps old mid new (EndsWrite mid.number why) s h))
 
 -- the writer failed
 pub turn_failed : (keeps : Bool) (size n moved fails failed : ℕ) (why : PumpWhy) (buffer : List ℕ) (before after : Option (List ℕ)) (old mid new : SeatView) → n ≤ length buffer → moved ≤ n →
-    has_failed fails failed ≡ true → Appends before after (take moved (take n buffer)) → Books keeps old mid (EmitsOnce size buffer old.number (Ok (Emitted n))) → Books keeps mid new (SaysEnd mid.number Device why) →
+    has_failed fails failed ≡ true → Appends before after (take moved (take n buffer)) → EmitsOnce keeps size buffer old mid (Ok (Emitted n)) → Books keeps mid new (SaysEnd mid.number Device why) →
     TurnWrote keeps size fails failed before after old new (Err (record { moved = moved; why = why }))
 turn_failed keeps size n moved fails failed why buffer before after old mid new l k f a g h = (
   take moved (take n buffer),
   grind (arith, common_steps),
   a,
-  subst (λ (b : Bool). Books keeps old new (WriteAdds size old.number b (take moved (take n buffer)) why)) (sym f)
-      (books_at keeps old mid new _ (λ m. SaysEnd m Device why) (WriteAdds size old.number true (take moved (take n buffer)) why)
-      (λ es ds o s. adds_failed size old.number moved (take n buffer) why es ds (one_emit size old.number (take n buffer) es o) (says_device old.number why ds s)) g h),
+  subst (λ (b : Bool). BooksShown keeps old new (WriteAdds size old.number b (take moved (take n buffer)) why)) (sym f)
+      (shown_booked keeps old new _ (books_at keeps old mid new _ (λ m. SaysEnd m Device why) (WriteAdds size old.number true (take moved (take n buffer)) why)
+      (λ es ds o s. adds_failed size old.number moved (take n buffer) why es ds (one_emit size old.number (take n buffer) es o) (says_device old.number why ds s)) g h)),
 )
 
 -- ---- all turns
@@ -142,7 +143,7 @@ pub record Written (keeps : Bool) (size fails failed : ℕ) (before after : Opti
   pub failures : failed ≡ fails
   pub took : Appends before after written
   pub amount : moved ≡ byte_count written
-  pub booked : Books keeps old new (AreEmits size old.number written)
+  pub booked : BooksShown keeps old new (AreEmits size old.number written)
 
 pub written_none : (keeps : Bool) (size fails : ℕ) (before : Option (List ℕ)) (old : SeatView) → Written keeps size fails fails before before old old 0
 written_none keeps size fails before old = record {
@@ -150,7 +151,7 @@ written_none keeps size fails before old = record {
   failures = refl;
   took = Appends-nil before;
   amount = counted_none;
-  booked = books_same keeps old (AreEmits size old.number []) refl;
+  booked = shown_booked keeps old old _ (books_same keeps old (AreEmits size old.number []) refl);
 }
 
 -- one turn more
@@ -164,7 +165,7 @@ written_more keeps size larger fails failed failing before mid after old between
       failures = u.0 ∙ w.failures;
       took = Appends-trans before mid after w.written u.1 w.took u.3;
       amount = counted_on w.written u.1 moved n now w.amount u.2 k;
-      booked = books_at keeps old between new (AreEmits size old.number w.written) (λ m. AreEmits size m u.1) (AreEmits size old.number (w.written ++ u.1)) (λ es ds a b. emits_on size old.number w.written u.1 es ds a b) w.booked u.4;
+      booked = shown_at keeps old between new (AreEmits size old.number w.written) (λ m. AreEmits size m u.1) (AreEmits size old.number (w.written ++ u.1)) (λ es ds a b. emits_on size old.number w.written u.1 es ds a b) w.booked u.4;
     }
 
 -- the last turn
@@ -179,7 +180,7 @@ written_last keeps size larger fails failed failing before mid after old between
       written = w.written ++ u.0;
       took = Appends-trans before mid after w.written u.0 w.took u.2;
       amount = counted_on w.written u.0 moved stop.moved now w.amount u.1 k;
-      booked = books_at keeps old between new (AreEmits size old.number w.written) (λ m. WriteAdds size m (has_failed fails failing) u.0 stop.why) (WriteAdds size old.number (has_failed fails failing) (w.written ++ u.0) stop.why)
+      booked = shown_at keeps old between new (AreEmits size old.number w.written) (λ m. WriteAdds size m (has_failed fails failing) u.0 stop.why) (WriteAdds size old.number (has_failed fails failing) (w.written ++ u.0) stop.why)
           (λ es ds a b. adds_behind size old.number (has_failed fails failing) w.written u.0 stop.why es ds a b) w.booked u.3;
     }
 
@@ -189,5 +190,5 @@ wrote_none keeps size failed before old = record {
   written = [];
   took = Appends-nil before;
   amount = counted_none;
-  booked = books_same keeps old (WriteAdds size old.number failed [] NoThread) (adds_end size old.number failed NoThread [] refl);
+  booked = shown_booked keeps old old _ (books_same keeps old (WriteAdds size old.number failed [] NoThread) (adds_end size old.number failed NoThread [] refl));
 }

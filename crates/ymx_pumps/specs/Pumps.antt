@@ -11,6 +11,7 @@ use Rattle.ymx_machine.specs.declared.types.Reply.TheVariants as reply
 use Rattle.ymx_model.specs.declared.types.Entry.{Entry}
 use Rattle.ymx_seats.specs.Views.{SeatView}
 use Rattle.ymx_booked.specs.Books.{Books, One}
+use Rattle.ymx_hub.specs.Shown.{BooksShown}
 use Rattle.ymx_pumps.specs.declared.pump_end.PumpWhy.{PumpWhy}
 use Rattle.ymx_pumps.specs.declared.pump_end.PumpWhy.TheVariants.{End, Device, Broken}
 
@@ -52,12 +53,13 @@ pub record WriteAdds (size seat : ℕ) (failed : Bool) (written : List ℕ) (why
   pub wrote : IsWritten failed written given
   pub ended : EndsWrite seat why closing
 
--- What a write pump did. The writer took the bytes written, which are those that the emissions gave.
+-- What a write pump did. The writer took the bytes written, which are those that the emissions gave. The history may have been
+-- shown to its seat behind them.
 pub record PumpWrote (keeps : Bool) (size : ℕ) (failed : Bool) (before after : Option (List ℕ)) (old new : SeatView) (moved : ℕ) (why : PumpWhy) : Type 0 where
   pub written : List ℕ
   pub took : Appends before after written
   pub amount : moved ≡ byte_count written
-  pub booked : Books keeps old new (WriteAdds size old.number failed written why)
+  pub booked : BooksShown keeps old new (WriteAdds size old.number failed written why)
 
 -- ---- the read pump
 

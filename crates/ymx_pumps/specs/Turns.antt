@@ -9,6 +9,7 @@ use Rattle.ymx_machine.specs.declared.types.Reply.TheVariants as reply
 use Rattle.ymx_model.specs.declared.types.Entry.{Entry}
 use Rattle.ymx_seats.specs.Views.{SeatView}
 use Rattle.ymx_booked.specs.Books.{Books, One}
+use Rattle.ymx_hub.specs.Shown.{BooksShown}
 use Rattle.ymx_pumps.specs.declared.pump_end.PumpWhy.{PumpWhy}
 use Rattle.ymx_pumps.specs.declared.pump_end.PumpWhy.TheVariants.{End, Device, Memory, NoThread, NoSeat}
 use Rattle.ymx_pumps.specs.declared.pump_end.Stop.{Stop}
@@ -32,9 +33,9 @@ SaysEnd seat why result added =
 -- a turn that went well, or the last one
 abbrev pub TurnWrote : (keeps : Bool) → (size fails failed : ℕ) → (before after : Option (List ℕ)) → (old new : SeatView) → Result ℕ Stop → Type 0
 TurnWrote keeps size fails failed before after old new (Ok n) =
-    (failed ≡ fails) × (written : List ℕ) × (length written ≡ n) × Appends before after written × Books keeps old new (AreEmits size old.number written)
+    (failed ≡ fails) × (written : List ℕ) × (length written ≡ n) × Appends before after written × BooksShown keeps old new (AreEmits size old.number written)
 TurnWrote keeps size fails failed before after old new (Err stop) =
-    (written : List ℕ) × (length written ≡ stop.moved) × Appends before after written × Books keeps old new (WriteAdds size old.number (has_failed fails failed) written stop.why)
+    (written : List ℕ) × (length written ≡ stop.moved) × Appends before after written × BooksShown keeps old new (WriteAdds size old.number (has_failed fails failed) written stop.why)
 
 -- ---- the read pump
 

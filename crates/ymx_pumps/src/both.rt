@@ -2,6 +2,7 @@
 
 ghost use Rattle.std.specs.Prelude.{◌≡◌, ◌<◌, length};
 ghost use Rattle.ymx_model.specs.devices.Devices.{has_failed};
+ghost use Rattle.ymx_hub.specs.Pumped.{EmitsNoMore};
 ghost use Rattle.ymx_pumps.specs.Ends.{ReadEnd, WriteEndOrNone};
 ghost use Rattle.ymx_pumps.specs.Pumps.{PumpRead, PumpWrote};
 
@@ -29,6 +30,7 @@ fn write_if_begun<R: Recorder, W: Wait, O: Outlet, G: Gate>(
 ) -> Stop
     ensures wrote { PumpWrote R.KEEPS (length buffer.old) (has_failed (O.failures writer.old) (O.failures writer.new)) (O.contents writer.old) (O.contents writer.new) seat.old seat.new result.moved result.why }
     ensures ended { WriteEndOrNone R.KEEPS (O.failures writer.old) (O.failures writer.new) (O.is_ended writer.new) (G.has_refused gate.new) result.why }
+    ensures out { result.why ≡ PumpWhy.End → EmitsNoMore R.WITNESSED R.role R.config seat.new.seen }
     ensures unmoved { result.why ≡ PumpWhy.NoThread → result.moved ≡ 0 }
     ensures unbooked { result.why ≡ PumpWhy.NoThread → seat.new ≡ seat.old }
     ensures unwritten { result.why ≡ PumpWhy.NoThread → writer.new ≡ writer.old }
@@ -84,6 +86,7 @@ fn run_lent<
     ensures wrote { PumpWrote R.KEEPS (length write_buffer.old) (has_failed (O.failures writer.old) (O.failures writer.new)) (O.contents writer.old) (O.contents writer.new) write_seat.old write_seat.new result.0.moved result.0.why }
     ensures gave { PumpRead R.KEEPS (I.remaining reader.old) (I.remaining reader.new) read_seat.old read_seat.new result.1.moved result.1.why }
     ensures written { WriteEndOrNone R.KEEPS (O.failures writer.old) (O.failures writer.new) (O.is_ended writer.new) (H.has_refused write_gate.new) result.0.why }
+    ensures out { result.0.why ≡ PumpWhy.End → EmitsNoMore R.WITNESSED R.role R.config write_seat.new.seen }
     ensures unmoved { result.0.why ≡ PumpWhy.NoThread → result.0.moved ≡ 0 }
     ensures unbooked { result.0.why ≡ PumpWhy.NoThread → write_seat.new ≡ write_seat.old }
     ensures unwritten { result.0.why ≡ PumpWhy.NoThread → writer.new ≡ writer.old }
@@ -126,6 +129,8 @@ pub fn run_pumps<
     ensures wrote { PumpWrote R.KEEPS (length write_buffer.old) (has_failed (O.failures writer.old) (O.failures writer.new)) (O.contents writer.old) (O.contents writer.new) seats.1 result.1.seat result.1.moved result.1.why }
     ensures read { ReadEnd R.KEEPS (I.failures reader.old) (I.failures reader.new) (I.remaining reader.new) (G.has_refused read_gate.new) result.0.why }
     ensures written { WriteEndOrNone R.KEEPS (O.failures writer.old) (O.failures writer.new) (O.is_ended writer.new) (H.has_refused write_gate.new) result.1.why }
+    // The write pump says End only where nothing is due and nothing will be, of the session that the history in the sight of its seat leads to.
+    ensures out { result.1.why ≡ PumpWhy.End → EmitsNoMore R.WITNESSED R.role R.config result.1.seat.seen }
     // The write pump for which no thread could be made has done no event and written no byte: its seat and its writer are as they were.
     ensures unmoved { result.1.why ≡ PumpWhy.NoThread → result.1.moved ≡ 0 }
     ensures unbooked { result.1.why ≡ PumpWhy.NoThread → result.1.seat ≡ seats.1 }

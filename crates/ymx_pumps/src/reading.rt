@@ -2,6 +2,7 @@
 
 ghost use Rattle.std.specs.Prelude.{◌≡◌, ◌<◌, ◌⊎◌, length, true, IfErr};
 ghost use Rattle.ymx_booked.specs.Books.{Books};
+ghost use Rattle.ymx_hub.specs.Releasing.{Settles};
 ghost use Rattle.ymx_machine.specs.shared.Evidence.{evidence};
 ghost use Rattle.ymx_pumps.specs.Ends.{ReadEnd, FeedEnd};
 ghost use Rattle.ymx_pumps.specs.Pumps.{PumpRead};
@@ -174,4 +175,57 @@ pub fn read_pump<R: Recorder, W: Wait, I: Inlet, G: Gate>(
     let mut seat = seat;
     let Stop { moved, why } = read_on(rt, hub, &mut seat, reader, gate, buffer);
     PumpEnd { seat, moved, why }
+}
+
+/// The read pump that settles, while its seats are lent.
+fn read_settling<R: Recorder, W: Wait, I: Inlet, G: Gate>(
+    rt: &W,
+    hub: &Hub<R>,
+    seat: &mut Seat<R>,
+    settler: &mut Seat<R>,
+    reader: &mut I,
+    gate: &mut G,
+    buffer: &mut [u8],
+) -> Stop
+    requires { 0 < length buffer.old }
+    ensures gave { PumpRead R.KEEPS (I.remaining reader.old) (I.remaining reader.new) seat.old seat.new result.moved result.why }
+    ensures ended { ReadEnd R.KEEPS (I.failures reader.old) (I.failures reader.new) (I.remaining reader.new) (G.has_refused gate.new) result.why }
+    ensures settled { Books R.KEEPS settler.old settler.new (Settles settler.old.number) }
+{
+    let mut count = 0u64;
+    for _ in rt.forever() {
+        let turn = read_turn(rt, hub, seat, reader, gate, buffer);
+        let _ = hub.settle(rt, settler);
+        match turn {
+            Ok(fed) => count = count.saturating_add(fed as u64),
+            Err(stop) => {
+                return Stop {
+                    moved: count.saturating_add(stop.moved),
+                    why: stop.why,
+                };
+            }
+        }
+    }
+    unreachable!()
+}
+
+/// Reads and feeds as `read_pump` does, at the first seat, and behind each read looks at the streams that were released,
+/// at the second. It ends as `read_pump` does, and gives both seats back.
+pub fn read_and_settle<R: Recorder, W: Wait, I: Inlet, G: Gate>(
+    rt: &W,
+    hub: &Hub<R>,
+    seats: (Seat<R>, Seat<R>),
+    reader: &mut I,
+    gate: &mut G,
+    buffer: &mut [u8],
+) -> (PumpEnd<R>, Seat<R>)
+    requires { 0 < length buffer.old }
+    ensures gave { PumpRead R.KEEPS (I.remaining reader.old) (I.remaining reader.new) seats.0 result.0.seat result.0.moved result.0.why }
+    ensures ended { ReadEnd R.KEEPS (I.failures reader.old) (I.failures reader.new) (I.remaining reader.new) (G.has_refused gate.new) result.0.why }
+    // What it did of released streams stands in the list of the second seat: a stream is given up only where nothing more could come.
+    ensures settled { Books R.KEEPS seats.1 result.1 (Settles seats.1.number) }
+{
+    let (mut seat, mut settler) = seats;
+    let Stop { moved, why } = read_settling(rt, hub, &mut seat, &mut settler, reader, gate, buffer);
+    (PumpEnd { seat, moved, why }, settler)
 }

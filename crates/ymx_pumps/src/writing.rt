@@ -4,6 +4,7 @@ ghost use Rattle.std.specs.Prelude.{◌≡◌, ◌<◌, ◌⊎◌, length, Bool,
 ghost use Rattle.std.specs.Io.KnownBytes.{Keeps};
 ghost use Rattle.ymx_model.specs.devices.Devices.{has_failed};
 ghost use Rattle.ymx_booked.specs.Books.{Books};
+ghost use Rattle.ymx_hub.specs.Pumped.{EmitsNoMore};
 ghost use Rattle.ymx_machine.specs.shared.Evidence.{evidence};
 ghost use Rattle.ymx_pumps.specs.Ends.{WriteEnd};
 ghost use Rattle.ymx_pumps.specs.Pumps.{PumpWrote, EndsWrite};
@@ -39,6 +40,7 @@ fn end_writer<R: Recorder, W: Wait, O: Outlet>(
 ) -> PumpWhy
     ensures kept { Keeps (O.contents writer.old) (O.contents writer.new) }
     ensures ended { Books R.KEEPS seat.old seat.new (EndsWrite seat.old.number result) }
+    ensures unseen { result ≡ PumpWhy.End → seat.new ≡ seat.old }
     ensures reason { (has_refused : Bool) → WriteEnd R.KEEPS (O.failures writer.old) (O.failures writer.new) (O.is_ended writer.new) has_refused result }
 {
     match writer.end() {
@@ -59,6 +61,7 @@ fn write_turn<R: Recorder, W: Wait, O: Outlet, G: Gate>(
     ensures length { length buffer.new ≡ length buffer.old }
     ensures turned { TurnWrote R.KEEPS (length buffer.old) (O.failures writer.old) (O.failures writer.new) (O.contents writer.old) (O.contents writer.new) seat.old seat.new result }
     ensures ended { IfErr result (λ stop. WriteEnd R.KEEPS (O.failures writer.old) (O.failures writer.new) (O.is_ended writer.new) (G.has_refused gate.new) stop.why) }
+    ensures out { IfErr result (λ stop. stop.why ≡ PumpWhy.End → EmitsNoMore R.WITNESSED R.role R.config seat.new.seen) }
 {
     match hub.emit_turn(rt, seat, buffer) {
         Ok(Turn::Emitted(count)) => {
@@ -98,6 +101,7 @@ pub(crate) fn write_on<R: Recorder, W: Wait, O: Outlet, G: Gate>(
 ) -> Stop
     ensures wrote { PumpWrote R.KEEPS (length buffer.old) (has_failed (O.failures writer.old) (O.failures writer.new)) (O.contents writer.old) (O.contents writer.new) seat.old seat.new result.moved result.why }
     ensures ended { WriteEnd R.KEEPS (O.failures writer.old) (O.failures writer.new) (O.is_ended writer.new) (G.has_refused gate.new) result.why }
+    ensures out { result.why ≡ PumpWhy.End → EmitsNoMore R.WITNESSED R.role R.config seat.new.seen }
 {
     let mut count = 0u64;
     for _ in rt.forever() {
@@ -130,6 +134,8 @@ pub fn write_pump<R: Recorder, W: Wait, O: Outlet, G: Gate>(
     requires { 0 < length buffer.old }
     ensures wrote { PumpWrote R.KEEPS (length buffer.old) (has_failed (O.failures writer.old) (O.failures writer.new)) (O.contents writer.old) (O.contents writer.new) seat result.seat result.moved result.why }
     ensures ended { WriteEnd R.KEEPS (O.failures writer.old) (O.failures writer.new) (O.is_ended writer.new) (G.has_refused gate.new) result.why }
+    // It says End only where nothing is due and nothing will be, of the session that the history in the sight of its seat leads to.
+    ensures out { result.why ≡ PumpWhy.End → EmitsNoMore R.WITNESSED R.role R.config result.seat.seen }
 {
     let mut seat = seat;
     let Stop { moved, why } = write_on(rt, hub, &mut seat, writer, gate, buffer);

@@ -1,5 +1,5 @@
 use Rattle.std.proofs.Common.{length, rules, refl}
-use Rattle.ymx_pumps.proofs.Emits.{turn_failed, turn_idle, turn_gated, turn_lacked, turn_over}
+use Rattle.ymx_pumps.proofs.Emits.{turn_wrote, turn_failed, turn_idle, turn_gated, turn_lacked, turn_over}
 use Rattle.ymx_pumps.proofs.writing.write_turn.Goals as goal
 
 pub returns-in-Err-push_all-clause-turned : goal.returns-in-Err-push_all-clause-turned
@@ -28,3 +28,8 @@ returns-else-not-before_wait-clause-turned g c =
 
 pub returns-in-Ok-Over-clause-ended : goal.returns-in-Ok-Over-clause-ended
 returns-in-Ok-Over-clause-ended g c = rw c.at_once-in-Ok-Over.ensures (c.end_writer.ensures.reason (g.G.Gate.has_refused c.args.gate.now))
+
+pub returns-in_default-clause-turned : goal.returns-in_default-clause-turned
+returns-in_default-clause-turned g c =
+    turn_wrote g.R.Recorder.KEEPS (length c.args.buffer.now) c.in-Ok-Emitted.count (g.O.Outlet.failures c.args.writer.now) (g.O.Outlet.failures c.push_all.new.outlet) c.emit_turn.new.buffer (g.O.Outlet.contents c.args.writer.now) (g.O.Outlet.contents c.push_all.new.outlet) c.args.seat.now c.emit_turn.new.seat
+    (search rules) (search rules) (search rules) (rw c.in-Ok-Emitted.field-0-is at c.in-Ok-Emitted.ensures.booked)

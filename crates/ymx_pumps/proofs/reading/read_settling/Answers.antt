@@ -1,0 +1,22 @@
+use Rattle.std.proofs.Common.{rules, refl}
+use Rattle.ymx_hub.proofs.Released.{settles_none, settles_more}
+use Rattle.ymx_pumps.proofs.Feeds.{fed_nothing, fed_more, fed_last}
+use Rattle.ymx_pumps.proofs.reading.read_settling.Goals as goal
+
+pub loop-init : goal.loop-init
+loop-init g c = record { next = (tt, tt); room = refl; fed = fed_nothing g.R.Recorder.KEEPS _ _ _; settled = settles_none g.R.Recorder.KEEPS _ }
+
+pub loop-preserved : goal.loop-preserved
+loop-preserved g c = record {
+  next = (tt, tt);
+  room = search rules;
+  fed = fed_more g.R.Recorder.KEEPS (g.I.Inlet.failures c.args.reader.now) (g.I.Inlet.failures c.loop.reader) (g.I.Inlet.failures c.read_turn-turn.new.reader) (g.I.Inlet.remaining c.args.reader.now) (g.I.Inlet.remaining c.loop.reader) (g.I.Inlet.remaining c.read_turn-turn.new.reader) c.args.seat.now c.loop.seat c.read_turn-turn.new.seat c.loop.count c.in-Ok.fed c.saturating_add-count.result c.loop.invariant.fed c.in-Ok.ensures.turned c.saturating_add-count.ensures;
+  settled = settles_more g.R.Recorder.KEEPS _ _ _ c.loop.invariant.settled c.settle.ensures.booked;
+}
+
+pub returns-in-Err-clause-gave : goal.returns-in-Err-clause-gave
+returns-in-Err-clause-gave g c =
+    fed_last g.R.Recorder.KEEPS (g.I.Inlet.failures c.args.reader.now) (g.I.Inlet.failures c.loop.reader) (g.I.Inlet.failures c.read_turn-turn.new.reader) (g.I.Inlet.remaining c.args.reader.now) (g.I.Inlet.remaining c.loop.reader) (g.I.Inlet.remaining c.read_turn-turn.new.reader) c.args.seat.now c.loop.seat c.read_turn-turn.new.seat c.loop.count c.saturating_add.result c.in-Err.stop c.loop.invariant.fed c.in-Err.ensures.turned c.saturating_add.ensures
+
+pub returns-in-Err-clause-settled : goal.returns-in-Err-clause-settled
+returns-in-Err-clause-settled g c = settles_more g.R.Recorder.KEEPS _ _ _ c.loop.invariant.settled c.settle.ensures.booked

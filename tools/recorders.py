@@ -1,0 +1,103 @@
+#!/usr/bin/env python3
+"""recorders.py: whether a body could differ by what a recorder keeps or witnesses.
+
+What ships runs with `Off`, and what a contract says of a history is proved with the others. So the bodies must be the same
+for all. An `ensures` may speak of `KEEPS` and `WITNESSED`, since it is proved of every body. Anything else that names them,
+as an invariant, a ghost field, a ghost member or a `requires`, could let a body do another thing for one recorder, and so
+could an `impl` block for one. Those that there are stand below, each with its reason. It prints any other, and ends with
+'N places, M unknown'.
+"""
+import re
+import sys
+from pathlib import Path
+
+ROOT = Path(__file__).resolve().parent.parent
+NAMED = re.compile(r"\b(KEEPS|WITNESSED)\b")
+FOR_ONE = re.compile(r"^\s*impl\b.*(?:<(?:ymx_\w+::)*(?:Off|Full|Witnessed<\w+>)>| for (?:Off|Full|Witnessed<\w+>) \{)")
+# (file, part of the line): why it may stand there
+KNOWN = {
+    "the definition of a recorder": [
+        ("ymx_seats/src/recorder.rt", "ghost KEEPS"),
+        ("ymx_seats/src/recorder.rt", "ghost WITNESSED"),
+        ("ymx_seats/src/recorder.rt", "impl Naming for Off {"),
+        ("ymx_seats/src/recorder.rt", "impl Recorder for Off {"),
+        ("ymx_seats/src/recorder.rt", "impl Naming for Full {"),
+        ("ymx_seats/src/recorder.rt", "impl Recorder for Full {"),
+        ("ymx_seats/src/recorder.rt", "Naming for Witnessed<J> {"),
+        ("ymx_seats/src/recorder.rt", "Recorder for Witnessed<J> {"),
+    ],
+    "there is a history where it is kept or witnessed, and none elsewhere": [
+        ("ymx_seats/src/log.rt", "ghost invariant = { λ s. RisesFrom 0 s.entries.items × (behind_all 0 s.entries.items ≤ vec_len s.entries) × HasIf R.WITNESSED s.journal };"),
+        ("ymx_seats/src/seat.rt", "ghost invariant = { λ s. IsOf s.number s.witness × IsWitnessed R.WITNESSED R.role R.config (seen_by s.witness) };"),
+        ("ymx_booked/src/booked.rt", "ghost invariant = { λ s. Kept R.KEEPS s.ended s.role s.config s.log.entries s.session × (s.unspent ≤ spare s.half_spent) × (s.unspent ≤ s.given) × IsGood s.role s.config × IsJournaled R.WITNESSED R.role R.config s.role s.config s.log.journal s.session s.given };"),
+        ("ymx_seats/src/log.rt", "requires history { IsWitnessed R.WITNESSED"),
+        ("ymx_seats/src/seat.rt", "requires witnessed { IsWitnessed R.WITNESSED"),
+        ("ymx_booked/src/book.rt", "requires history { IsHistoryOf R.WITNESSED"),
+        ("ymx_booked/src/booked.rt", "requires journal { IsUnused R.WITNESSED"),
+        ("ymx_booked/src/opening.rt", "requires history { IsWitnessed R.WITNESSED"),
+    ],
+    "the memory for an entry is found before its event, where entries are kept": [
+        ("ymx_seats/src/log.rt", "requires ready { IsReady R.KEEPS"),
+        ("ymx_seats/src/log.rt", "requires room { R.KEEPS ≡ true →"),
+        ("ymx_booked/src/book.rt", "requires ready { IsReady R.KEEPS"),
+        ("ymx_booked/src/book.rt", "requires room { R.KEEPS ≡ true →"),
+    ],
+    "a history is begun with a journal or without one": [
+        ("ymx_seats/src/log.rt", "requires { R.WITNESSED ≡ false }"),
+        ("ymx_seats/src/log.rt", "requires witnessed { R.WITNESSED ≡ true }"),
+        ("ymx_seats/src/seat.rt", "requires { R.WITNESSED ≡ false }"),
+        ("ymx_booked/src/booked.rt", "requires unwitnessed { R.WITNESSED ≡ false }"),
+        ("ymx_booked/src/booked.rt", "requires witnessed { R.WITNESSED ≡ true }"),
+        ("ymx_hub/src/hub.rt", "requires unwitnessed { R.WITNESSED ≡ false }"),
+        ("ymx_hub/src/hub.rt", "requires witnessed { R.WITNESSED ≡ true }"),
+    ],
+    "the pumps of the front door, whose seats are let go: what was kept would be lost": [
+        ("ymx_connect/src/pumping.rt", "requires { R.KEEPS ≡ false }"),
+        ("ymx_connect/src/running.rt", "requires off { R.KEEPS ≡ false }"),
+        ("ymx_connect/src/running.rt", "requires { (R.KEEPS ≡ false) × F.IsAlwaysCallable work }"),
+        ("ymx_connect/src/running.rt", "requires { R.KEEPS ≡ false }"),
+    ],
+    "what a thread has promised is proved of its body": [
+        ("ymx_connect/src/pumping.rt", "ghost kept_by = { λ promise pumped. HasWritten R.WITNESSED"),
+    ],
+    "calls with no seat: lines to be read, in one file": [
+        ("ymx_connect/src/off.rt", "impl Handle<Off> {"),
+        ("ymx_connect/src/off.rt", "impl Writer<Off> {"),
+        ("ymx_connect/src/off.rt", "impl Reader<Off> {"),
+    ],
+    "the kit proves a thread's closure of one recorder at a time: the same lines stand for both": [
+        ("ymx_tunnel/src/halves.rt", f"impl {it}<{recorder}> {{")
+        for it in ("Sink for WriteHalf", "Source for ReadHalf")
+        for recorder in ("Full", "Off")
+    ],
+}
+
+
+def places():
+    """Each line of a source that could part the recorders: its file, its number, and itself."""
+    for path in sorted((ROOT / "crates").glob("*/src/**/*.rt")):
+        for number, line in enumerate(path.read_text(encoding="utf-8").splitlines(), 1):
+            code = line.split("//")[0].strip()
+            if (NAMED.search(code) and not code.startswith("ensures")) or FOR_ONE.match(code):
+                yield str(path.relative_to(ROOT / "crates")), number, code
+
+
+def main():
+    known = {it: False for these in KNOWN.values() for it in these}
+    found = unknown = 0
+    for file, number, code in places():
+        found += 1
+        fit = [it for it in known if it[0] == file and it[1] in code]
+        known.update({it: True for it in fit})
+        if not fit:
+            unknown += 1
+            print(f"crates/{file}:{number}: a body could differ by the recorder: {code}")
+    for file, text in (it for it, is_used in known.items() if not is_used):
+        unknown += 1
+        print(f"tools/recorders.py: crates/{file} has no such place any more: {text}")
+    print(f"{found} places, {unknown} unknown")
+    return 1 if unknown else 0
+
+
+if __name__ == "__main__":
+    sys.exit(main())
