@@ -41,7 +41,7 @@ expect 1 "$(says 'rest 11')" nothing rest frames
 expect 1 "$(says 'fault B5 at 0')" nothing long frames
 expect 1 "$(says 'rest 12')" nothing long frames --limit=300000
 expect 1 "$(says 'rest 12')" nothing long frames --limit 300000
-expect 1 nothing "$(says "ymx: the file can't be opened")" hello frames absent
+expect 1 nothing "$(says "ymx: absent: the file can't be opened")" hello frames absent
 expect 1 nothing "$(says 'ymx: reading failed')" hello frames .
 
 # the tunnel: three connections through it, and addresses that are none, the first of which is told
@@ -261,7 +261,7 @@ expect 0 "$answers" nothing "$script" script
 expect 0 "$answers" nothing "$script" script -
 expect 0 nothing nothing nothing script
 expect 1 "$(says 'error line 1')" nothing nothing script hello
-expect 1 nothing "$(says "ymx: the file can't be opened")" nothing script absent
+expect 1 nothing "$(says "ymx: absent: the file can't be opened")" nothing script absent
 expect 1 nothing "$(says 'ymx: reading failed')" nothing script .
 
 # on_full SUBCOMMAND INPUT: a full device takes nothing

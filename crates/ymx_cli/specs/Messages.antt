@@ -1,5 +1,5 @@
 -- What the program says on its error device (this project's own).
-use Rattle.std.specs.Prelude.{◌≡◌, ◌≤◌, ◌↔◌, ℕ, List, [], Bool, Option, IfSome, IsTrue, ◌⊎◌, codes}
+use Rattle.std.specs.Prelude.{◌≡◌, ◌≤◌, ◌++◌, ◌↔◌, ℕ, List, [], Bool, Option, IfSome, IsTrue, ◌⊎◌, codes}
 use Rattle.std.specs.Io.{StartsWith}
 use Rattle.std.specs.Io.KnownBytes.{Appends, Consumes, IsAtEnd, Keeps}
 use Rattle.ymx_model.specs.devices.Devices.{has_failed}
@@ -50,9 +50,9 @@ SaysText c text = TakesText c text ⊎ (IsTrue (fails c) × TakesPart c text)
 abbrev pub out_of_memory : List ℕ
 out_of_memory = codes "ymx: out of memory\n"
 
--- the file can't be opened
-abbrev pub opening_failed : List ℕ
-opening_failed = codes "ymx: the file can't be opened\n"
+-- the file of this name can't be opened
+abbrev pub opening_failed : List ℕ → List ℕ
+opening_failed name = codes "ymx: " ++ (name ++ codes ": the file can't be opened\n")
 
 -- the writer failed
 abbrev pub writing_failed : List ℕ
@@ -99,19 +99,19 @@ PlaysScript status input output errors =
     × PrintsByEnd text (IsAtEnd input.after) end lines × (end ≡ script.Reading → IsTrue (fails input)) × (end ≡ script.Writing → IsTrue (fails output))
     × (status ≤ 1) × ((status ≡ 0) ↔ (end ≡ script.Good)) × SaysText errors (script_reason end)
 
--- A file that holds these bytes is read, and this comes of its change, or it refuses to be opened.
-abbrev pub ReadsFile : (status : ℕ) → (refuses : Type 0) → Option (List ℕ) → (output errors : Change) → (Change → Type 0) → Type 0
-ReadsFile status refuses held output errors comes =
-    (refuses × Refuses status output errors opening_failed)
+-- The file of this name, which holds these bytes, is read, and this comes of its change, or it refuses to be opened.
+abbrev pub ReadsFile : (status : ℕ) → (refuses : Type 0) → (name : List ℕ) → Option (List ℕ) → (output errors : Change) → (Change → Type 0) → Type 0
+ReadsFile status refuses name held output errors comes =
+    (refuses × Refuses status output errors (opening_failed name))
     ⊎ ((input : Change) × Keeps held input.before × (input.failures_before ≡ 0) × comes input)
 
--- The frames of a file that holds these bytes are printed with this limit, or it refuses to be opened.
-abbrev pub PrintsFile : (limit status : ℕ) → (refuses : Type 0) → Option (List ℕ) → (output errors : Change) → Type 0
-PrintsFile limit status refuses held output errors = ReadsFile status refuses held output errors (λ input. PrintsFrames limit status input output errors)
+-- The frames of the file of this name, which holds these bytes, are printed with this limit, or it refuses to be opened.
+abbrev pub PrintsFile : (limit status : ℕ) → (refuses : Type 0) → (name : List ℕ) → Option (List ℕ) → (output errors : Change) → Type 0
+PrintsFile limit status refuses name held output errors = ReadsFile status refuses name held output errors (λ input. PrintsFrames limit status input output errors)
 
--- The script that a file holds is played, or it refuses to be opened.
-abbrev pub PlaysFile : (status : ℕ) → (refuses : Type 0) → Option (List ℕ) → (output errors : Change) → Type 0
-PlaysFile status refuses held output errors = ReadsFile status refuses held output errors (λ input. PlaysScript status input output errors)
+-- The script that the file of this name holds is played, or it refuses to be opened.
+abbrev pub PlaysFile : (status : ℕ) → (refuses : Type 0) → (name : List ℕ) → Option (List ℕ) → (output errors : Change) → Type 0
+PlaysFile status refuses name held output errors = ReadsFile status refuses name held output errors (λ input. PlaysScript status input output errors)
 
 -- This happened to a text; where it is stated what a message displays as, to that text.
 abbrev pub Shows : Option (List ℕ) → (List ℕ → Type 0) → Type 0

@@ -1,12 +1,12 @@
 //! Does what the words of a command line ask for.
 
-ghost use Rattle.std.specs.Prelude.{ℕ, List, Option, None, Some, ◌≡◌, ◌≢◌, ◌≤◌, ◌↔◌, ◌⊎◌, true, false, map, IfErr, IfOk, IsTrue};
+ghost use Rattle.std.specs.Prelude.{ℕ, List, Option, None, Some, ◌++◌, ◌≡◌, ◌≢◌, ◌≤◌, ◌↔◌, ◌⊎◌, true, false, map, IfErr, IfOk, IsTrue};
 ghost use Rattle.std.specs.IoError.{error_kind};
 ghost use Rattle.std.specs.declared.io.ErrorKind.TheVariants.{InvalidData};
 ghost use Rattle.std.specs.Io.KnownBytes.{Keeps};
 ghost use Rattle.clap.specs.Words.{kind_of};
 ghost use Rattle.ymx_arguments.specs.CommandLine.{AsksFrames, AsksNoHelp, AsksNoLines, AsksScript, GivesBadOption, IsMistake, LacksMemory, NamesAnother, SaysMistake};
-ghost use Rattle.ymx_cli.specs.Messages.{IsUntouched, PlaysFile, PlaysScript, PrintsFile, PrintsFrames, Refuses, SaysText, Shows, TakesText, TakesPart, change_of, fails, not_text, out_of_memory, reason, script_reason, writing_failed};
+ghost use Rattle.ymx_cli.specs.Messages.{IsUntouched, PlaysFile, PlaysScript, PrintsFile, PrintsFrames, Refuses, SaysText, Shows, TakesText, TakesPart, change_of, fails, not_text, opening_failed, out_of_memory, reason, script_reason, writing_failed};
 
 use crate::tunnel::run_tunnel;
 use clap::Error;
@@ -77,7 +77,7 @@ pub fn ymx_main<
         let output = change_of W.contents W.failures writer.old writer.new in
         let says = change_of E.contents E.failures errors.old errors.new in
         IsUntouched (change_of R.remaining R.failures reader.old reader.new)
-        × (PrintsFile limit result (F.refuses files.now name) (F.held files.now name) output says ⊎ Refuses result output says out_of_memory) }
+        × (PrintsFile limit result (F.refuses files.now name) name (F.held files.now name) output says ⊎ Refuses result output says out_of_memory) }
     // Words that ask for the script of the reader get it played, or there is no memory to read the words.
     ensures script { AsksScript (map S.text words.now) None →
         let input = change_of R.remaining R.failures reader.old reader.new in
@@ -89,7 +89,7 @@ pub fn ymx_main<
         let output = change_of W.contents W.failures writer.old writer.new in
         let says = change_of E.contents E.failures errors.old errors.new in
         IsUntouched (change_of R.remaining R.failures reader.old reader.new)
-        × (PlaysFile result (F.refuses files.now name) (F.held files.now name) output says ⊎ Refuses result output says out_of_memory) }
+        × (PlaysFile result (F.refuses files.now name) name (F.held files.now name) output says ⊎ Refuses result output says out_of_memory) }
     // Whatever the words, frames are printed so with a limit in its range, or a script is played, or nothing is read.
     ensures printed { let input = change_of R.remaining R.failures reader.old reader.new in
         let output = change_of W.contents W.failures writer.old writer.new in
@@ -165,14 +165,14 @@ fn print_file<F: FileOpener, W: Outlet, E: Outlet>(
     writer: &mut W,
     errors: &mut E,
 ) -> u8
-    ensures printed { PrintsFile limit result (F.refuses files.now name.now) (F.held files.now name.now)
+    ensures printed { PrintsFile limit result (F.refuses files.now name.now) name.now (F.held files.now name.now)
         (change_of W.contents W.failures writer.old writer.new) (change_of E.contents E.failures errors.old errors.new) }
     ensures quiet { result ≡ 0 → IsUntouched (change_of E.contents E.failures errors.old errors.new) }
     ensures status { result ≤ 1 }
 {
     match files.open(name) {
         Ok(mut file) => print(rt, alloc, &mut file, limit, writer, errors),
-        Err(_) => say_fault(errors, b"ymx: the file can't be opened\n"),
+        Err(_) => cannot_open(errors, name),
     }
 }
 
@@ -201,14 +201,14 @@ fn play_file<F: FileOpener, W: Outlet, E: Outlet>(
     writer: &mut W,
     errors: &mut E,
 ) -> u8
-    ensures played { PlaysFile result (F.refuses files.now name.now) (F.held files.now name.now)
+    ensures played { PlaysFile result (F.refuses files.now name.now) name.now (F.held files.now name.now)
         (change_of W.contents W.failures writer.old writer.new) (change_of E.contents E.failures errors.old errors.new) }
     ensures quiet { result ≡ 0 → IsUntouched (change_of E.contents E.failures errors.old errors.new) }
     ensures status { result ≤ 1 }
 {
     match files.open(name) {
         Ok(mut file) => play(rt, alloc, &mut file, writer, errors),
-        Err(_) => say_fault(errors, b"ymx: the file can't be opened\n"),
+        Err(_) => cannot_open(errors, name),
     }
 }
 
@@ -241,6 +241,38 @@ fn finish_script<E: Outlet>(end: ScriptEnd, errors: &mut E) -> u8
         ScriptEnd::Reading => say_fault(errors, b"ymx: reading failed\n"),
         ScriptEnd::Writing => say_fault(errors, b"ymx: writing failed\n"),
         ScriptEnd::Memory(_) => say_fault(errors, b"ymx: out of memory\n"),
+    }
+}
+
+/// Says that the file of this name can't be opened, and answers the status of a fault.
+fn cannot_open<E: Outlet>(errors: &mut E, name: &str) -> u8
+    ensures status { result ≡ 1 }
+    ensures said { SaysText (change_of E.contents E.failures errors.old errors.new) (opening_failed name.now) }
+{
+    say_three(
+        errors,
+        b"ymx: ",
+        name.as_bytes(),
+        b": the file can't be opened\n",
+    );
+    1
+}
+
+/// Says a text that is given in three parts.
+fn say_three<E: Outlet>(errors: &mut E, first: &[u8], second: &[u8], third: &[u8])
+    ensures { SaysText (change_of E.contents E.failures errors.old errors.new) (first.now ++ (second.now ++ third.now)) }
+{
+    if let Ok(()) = push_all(errors, first) {
+        say_two(errors, second, third);
+    }
+}
+
+/// Says a text that is given in two parts.
+fn say_two<E: Outlet>(errors: &mut E, first: &[u8], second: &[u8])
+    ensures { SaysText (change_of E.contents E.failures errors.old errors.new) (first.now ++ second.now) }
+{
+    if let Ok(()) = push_all(errors, first) {
+        say(errors, second);
     }
 }
 

@@ -1,5 +1,7 @@
 //! The connections that come to one side of a tunnel.
 
+ghost use Rattle.std.specs.Prelude.{◌≡◌, ◌-◌, Some, IfSome, IfNone, IsNone, option_map};
+
 use crate::inbox::{Inbox, Taken};
 use crate::reason::Reason;
 use mio::net::{TcpListener, TcpStream};
@@ -144,7 +146,9 @@ impl Listening {
     }
 
     /// No more are accepted.
-    pub(crate) fn stop(&mut self) {
+    pub(crate) fn stop(&mut self)
+        ensures { self.new.left ≡ self.old.left }
+    {
         self.source = Source::Closed;
     }
 
@@ -155,8 +159,20 @@ impl Listening {
         }
     }
 
+    /// One more has come.
+    fn count_one(&mut self)
+        ensures { self.new.left ≡ option_map (λ n. n - 1) self.old.left }
+    {
+        if let Some(left) = self.left {
+            self.left = Some(left.saturating_sub(1));
+        }
+        self.stop_at_count();
+    }
+
     /// No more are accepted where none is left to come.
-    fn stop_at_count(&mut self) {
+    fn stop_at_count(&mut self)
+        ensures { self.new.left ≡ self.old.left }
+    {
         if self.left == Some(0) {
             self.stop();
         }
@@ -164,7 +180,15 @@ impl Listening {
 
     /// The next connection that waits, which never waits itself, where so many are open. None if none waits, none can be
     /// accepted now, or none is accepted any more.
-    pub(crate) fn accept<R: Wait>(&mut self, rt: &R, open: usize) -> Option<TcpStream> {
+    pub(crate) fn accept<R: Wait>(&mut self, rt: &R, open: usize) -> Option<TcpStream>
+        // Each one that comes is counted, and no more come than were to.
+        ensures counted { IfSome result (λ _. self.new.left ≡ option_map (λ n. n - 1) self.old.left) }
+        ensures kept { IfNone result (self.new.left ≡ self.old.left) }
+        ensures few { self.old.left ≡ Some 0 → IsNone result }
+    {
+        if self.left == Some(0) {
+            return None;
+        }
         match &self.source {
             Source::Listener(listener) => {
                 let accepted = accept(listener);
@@ -179,10 +203,14 @@ impl Listening {
     }
 
     /// What was taken from the inbox.
-    fn note_taken(&mut self, taken: Taken) -> Option<TcpStream> {
+    fn note_taken(&mut self, taken: Taken) -> Option<TcpStream>
+        ensures counted { IfSome result (λ _. self.new.left ≡ option_map (λ n. n - 1) self.old.left) }
+        ensures kept { IfNone result (self.new.left ≡ self.old.left) }
+    {
         match taken {
             Taken::Connection(socket) => {
                 self.can_accept = true;
+                self.count_one();
                 Some(socket)
             }
             Taken::NotNow => {
@@ -201,13 +229,15 @@ impl Listening {
         &mut self,
         accepted: Result<TcpStream, Refusal>,
         open: usize,
-    ) -> Option<TcpStream> {
+    ) -> Option<TcpStream>
+        ensures counted { IfSome result (λ _. self.new.left ≡ option_map (λ n. n - 1) self.old.left) }
+        ensures kept { IfNone result (self.new.left ≡ self.old.left) }
+    {
         match accepted {
             Ok(socket) => {
                 self.can_accept = true;
                 self.full_at = None;
-                self.left = self.left.map(|left| left.saturating_sub(1));
-                self.stop_at_count();
+                self.count_one();
                 Some(socket)
             }
             Err(refusal) => {
@@ -219,7 +249,9 @@ impl Listening {
     }
 
     /// Hears why none was accepted. That there is no descriptor or no memory is told once, and not at each try.
-    fn hear(&mut self, refusal: Refusal, open: usize) {
+    fn hear(&mut self, refusal: Refusal, open: usize)
+        ensures { self.new.left ≡ self.old.left }
+    {
         match refusal {
             Refusal::NoneWaits => self.full_at = None,
             Refusal::BySystem(reason) if self.is_patient && is_full(reason) => {
