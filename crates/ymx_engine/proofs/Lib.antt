@@ -9,3 +9,4 @@ pub mod Serving
 pub mod Blocks
 pub mod Running
 pub mod Staying
+mod Moving

@@ -2,6 +2,7 @@ pub mod Events
 pub mod Devices
 pub mod Exchanges
 pub mod Engines
+pub mod Marks
 pub mod Refusals
 pub mod Wires
 pub mod Passes

@@ -3,7 +3,7 @@
 ghost use Rattle.std.specs.Prelude.{ℕ, List, ◌≡◌, ◌≤◌, ◌<◌, ◌+◌, ◌++◌, ◌⊎◌, [], length, take, drop, true, false, IfOk, IsSome};
 ghost use Rattle.ymx_model.specs.declared.types.Event.TheVariants as event;
 ghost use Rattle.ymx_machine.specs.declared.types.Reply.TheVariants as reply;
-ghost use Rattle.ymx_model.specs.session.Emissions.{in_turn};
+ghost use Rattle.ymx_model.specs.session.Emissions.{in_turn, is_ready};
 ghost use Rattle.ymx_model.specs.session.Feeds.{is_stuck};
 ghost use Rattle.ymx_model.specs.session.Histories.{Gives};
 ghost use Rattle.ymx_session.specs.Passing.{passing, FeedsSome};
@@ -18,7 +18,7 @@ use ymx_memory::RefusedAllocation;
 use ymx_model::Fed;
 use ymx_session::{Session, Touched};
 
-/// Memory of which some bytes in a row wait. A contract sees those bytes.
+/// Memory of which some bytes in a row wait. A contract sees those bytes. Where none waits, all of the memory is room.
 #[derive(Drop)]
 pub(crate) struct Block {
     memory: Vec<u8>,
@@ -27,18 +27,19 @@ pub(crate) struct Block {
 }
 
 impl Model for Block {
-    ghost use Rattle.std.specs.Prelude.{List, ℕ, ◌≤◌, take, drop, vec_len};
+    ghost use Rattle.std.specs.Prelude.{List, ℕ, ◌≡◌, ◌<◌, ◌≤◌, take, drop, vec_len};
 
     ghost Value = { List ℕ };
 
     ghost view = { λ b. drop b.at (take b.end b.memory.items) };
 
-    ghost invariant = { λ b. (b.at ≤ b.end) × (b.end ≤ vec_len b.memory) };
+    ghost invariant = { λ b. (b.at ≤ b.end) × (b.end ≤ vec_len b.memory) × (0 < vec_len b.memory) × (b.at ≡ b.end → b.end ≡ 0) };
 }
 
 impl Block {
     /// So much memory, in bytes, of which none waits.
     pub(crate) fn new(alloc: Global, size: usize) -> Result<Block, RefusedAllocation>
+        requires { 0 < size }
         ensures { IfOk result (λ block. block ≡ []) }
     {
         let memory = ymx_memory::zeros(alloc, size)?;
@@ -62,12 +63,6 @@ impl Block {
         ensures { self.new ≡ drop count self.old }
     {
         self.at += count;
-    }
-
-    /// Where no byte waits, all of the memory is room again.
-    pub(crate) fn restart(&mut self)
-        ensures { self.new ≡ self.old }
-    {
         if self.at == self.end {
             self.at = 0;
             self.end = 0;
@@ -81,7 +76,8 @@ impl Block {
 
     /// An emission of the session waits behind what waits.
     pub(crate) fn emit_behind(&mut self, session: &mut Session)
-        ensures { (room : ℕ) × (out : List ℕ) × Gives in_turn session.old (event.Emit room) (reply.Emitted out) session.new × (self.new ≡ self.old ++ out) }
+        ensures emitted { (room : ℕ) × (out : List ℕ) × Gives in_turn session.old (event.Emit room) (reply.Emitted out) session.new × (self.new ≡ self.old ++ out) }
+        ensures some { is_ready session.old ≡ true → 0 < length self.new }
     {
         let count = session.emit(&mut self.memory[self.end..]);
         self.end += count;

@@ -1,7 +1,7 @@
 //! Devices that never wait.
 
 ghost use Rattle.std.specs.Prelude.{◌≡◌};
-ghost use Rattle.ymx_engine.specs.Devices.{Seen, IsPulled, IsPushed, IsEnded, IsShut, pushed_count};
+ghost use Rattle.ymx_engine.specs.Devices.{Seen, IsPulled, IsPushed, IsEnded, IsShut, pulled_count, pushed_count};
 
 /// What a call for bytes answered.
 #[derive(Clone, Copy, Debug, PartialEq, Eq)]
@@ -14,6 +14,18 @@ pub enum Pulled {
     Ended,
     /// The device failed.
     Failed,
+}
+
+impl Pulled {
+    /// How many bytes came.
+    pub fn count(self) -> usize
+        ensures { result ≡ pulled_count self }
+    {
+        match self {
+            Pulled::Gave(count) => count,
+            Pulled::NotNow | Pulled::Ended | Pulled::Failed => 0,
+        }
+    }
 }
 
 /// What a call with bytes answered.
@@ -42,7 +54,8 @@ impl Pushed {
 /// A connection whose calls never wait, as a socket that is not blocking.
 ///
 /// A contract sees the bytes that it has still to give, those that it has taken, whether it said that no more come,
-/// whether it was ended, and whether it has failed, each where the device can tell (a socket cannot tell its bytes).
+/// whether it was ended, and whether it has failed, each where the device can tell (a socket cannot tell its bytes); and how
+/// many calls of each kind were made, as far as the device counts them. A device that counts none stands at `uncounted`.
 pub trait Device {
     /// What a contract sees.
     ghost seen: { Self → Seen };

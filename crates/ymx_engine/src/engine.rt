@@ -1,6 +1,6 @@
 //! The type `Engine`, and its calls.
 
-ghost use Rattle.std.specs.Prelude.{◌≡◌, ◌<◌, ◌≤◌, ◌+◌, ◌⊎◌, ◌||◌, [], length, drop, true, false, IfOk, IfErr, OnErr, IfSome, IfNone, IsSome, Some, None};
+ghost use Rattle.std.specs.Prelude.{◌≡◌, ◌==◌, ◌<◌, ◌≤◌, ◌+◌, ◌⊎◌, ◌||◌, not, [], length, drop, true, false, IfOk, IfErr, OnErr, IfSome, IfNone, IsSome, Some, None};
 ghost use Rattle.ymx_model.specs.declared.types.Event.TheVariants as event;
 ghost use Rattle.ymx_machine.specs.declared.types.Call.TheVariants as call;
 ghost use Rattle.ymx_machine.specs.shared.Events.{Reply};
@@ -11,8 +11,10 @@ ghost use Rattle.ymx_model.specs.session.Histories.{Gives};
 ghost use Rattle.ymx_session.specs.declared.passing.Passing.{Passing};
 ghost use Rattle.ymx_session.specs.Passing.{passing};
 ghost use Rattle.ymx_session.specs.Replies.{pinged_or, ponged_or};
-ghost use Rattle.ymx_engine.specs.Devices.{is_end, is_pull_failure, is_push_failure};
+ghost use Rattle.ymx_engine.specs.Devices.{pulled_count, pushed_count, is_end, is_pull_failure, is_push_failure, CountsSome};
 ghost use Rattle.ymx_engine.specs.Engines.{KeepsWire, IsFedOrStuck, IsFlushed};
+ghost use Rattle.ymx_engine.specs.Exchanges.{has_bytes};
+ghost use Rattle.ymx_engine.specs.Marks.{has_to_send, may_have_bytes};
 ghost use Rattle.ymx_engine.specs.Serves.{Exchanges};
 ghost use Rattle.ymx_engine.specs.Passes.{IsPayload, PassesOn};
 ghost use Rattle.ymx_engine.specs.Refusals.{GivesUp, OpensNone, OffersNone};
@@ -59,17 +61,17 @@ pub struct Engine {
 
 impl Model for Engine {
     ghost use Rattle.ymx_engine.specs.Devices.{is_end, is_pull_failure, is_push_failure};
-    ghost use Rattle.ymx_engine.specs.Engines.{Engine as EngineValue};
+    ghost use Rattle.ymx_engine.specs.Marks.{EngineView};
 
-    ghost Value = { EngineValue };
+    ghost Value = { EngineView };
 
-    ghost view = { λ e. record { session = e.session; outgoing = e.outgoing; incoming = e.incoming } };
+    ghost view = { λ e. record { engine = record { session = e.session; outgoing = e.outgoing; incoming = e.incoming }; marks = record { can_pull_wire = e.can_pull_wire; can_push_wire = e.can_push_wire; is_wire_over = e.is_wire_over } } };
 }
 
 impl Engine {
     /// Makes an engine of a session, with the memory for its buffers.
     pub fn new(alloc: Global, session: Session) -> Result<Engine, RefusedAllocation>
-        ensures { IfOk result (λ engine. engine ≡ record { session = session; outgoing = []; incoming = [] }) }
+        ensures { IfOk result (λ view. view.engine ≡ record { session = session; outgoing = []; incoming = [] }) }
     {
         let memory = Buffers::new(alloc)?;
         Ok(Engine {
@@ -90,7 +92,8 @@ impl Engine {
 
     /// What an event says of the wire: whether it may have bytes, and whether it may take some.
     pub fn note_wire(&mut self, can_pull: bool, can_push: bool)
-        ensures { self.new ≡ self.old }
+        ensures engine { self.new.engine ≡ self.old.engine }
+        ensures noted { self.new.marks ≡ record self.old.marks { can_pull_wire = self.old.marks.can_pull_wire || can_pull; can_push_wire = self.old.marks.can_push_wire || can_push } }
     {
         self.can_pull_wire |= can_pull;
         self.can_push_wire |= can_push;
@@ -99,7 +102,7 @@ impl Engine {
     /// What an event says of a connection's device: whether it may have bytes, whether it may take some, and whether
     /// its end is near.
     pub fn note_device(&mut self, id: u32, can_pull: bool, can_push: bool, is_closing: bool)
-        ensures { self.new ≡ self.old }
+        ensures engine { self.new.engine ≡ self.old.engine }
     {
         if let Some(found) = self.connections.get(id) {
             let mut connection = found;
@@ -118,10 +121,10 @@ impl Engine {
     /// and then no stream is opened.
     pub fn open(&mut self) -> Result<u32, CallFault>
         // A stream was opened, or the session refused it, or there was no memory for its connection.
-        ensures opened { IfOk result (λ id. Gives in_turn self.old.session (event.Call call.Open) (reply.Opened id) self.new.session) }
-        ensures refused { IfErr result (λ fault. OpensNone fault self.old.session self.new.session) }
+        ensures opened { IfOk result (λ id. Gives in_turn self.old.engine.session (event.Call call.Open) (reply.Opened id) self.new.engine.session) }
+        ensures refused { IfErr result (λ fault. OpensNone fault self.old.engine.session self.new.engine.session) }
         // The bytes that wait on the wire's two sides stay.
-        ensures wire { KeepsWire self.old self.new }
+        ensures wire { KeepsWire self.old.engine self.new.engine }
     {
         if let Err(refused) = self.reserve() {
             return Err(CallFault::OutOfMemory(refused));
@@ -137,23 +140,23 @@ impl Engine {
 
     /// Takes memory for one more connection.
     fn reserve(&mut self) -> Result<(), RefusedAllocation>
-        ensures { self.new ≡ self.old }
+        ensures engine { self.new.engine ≡ self.old.engine }
     {
         self.connections.reserve()
     }
 
     /// Adds a connection, for which there is memory. `ready` says whether its device may be used.
     fn add(&mut self, id: u32, ready: bool)
-        ensures { self.new ≡ self.old }
+        ensures engine { self.new.engine ≡ self.old.engine }
     {
         self.connections.add(id, ready);
     }
 
     /// Opens a stream of the session.
     fn open_stream(&mut self) -> Result<u32, CallFault>
-        ensures opened { IfOk result (λ id. Gives in_turn self.old.session (event.Call call.Open) (reply.Opened id) self.new.session) }
-        ensures refused { IfErr result (λ fault. Gives in_turn self.old.session (event.Call call.Open) (reply.Refused fault) self.new.session × (self.new.session ≡ self.old.session)) }
-        ensures wire { KeepsWire self.old self.new }
+        ensures opened { IfOk result (λ id. Gives in_turn self.old.engine.session (event.Call call.Open) (reply.Opened id) self.new.engine.session) }
+        ensures refused { IfErr result (λ fault. Gives in_turn self.old.engine.session (event.Call call.Open) (reply.Refused fault) self.new.engine.session × (self.new.engine.session ≡ self.old.engine.session)) }
+        ensures wire { KeepsWire self.old.engine self.new.engine }
     {
         self.session.open()
     }
@@ -163,11 +166,11 @@ impl Engine {
     /// connection; then nothing changes, and the stream waits on.
     pub fn accept(&mut self) -> Result<Option<u32>, RefusedAllocation>
         // The stream that was offered first, or none was offered.
-        ensures accepted { IfOk result (λ offered. IfSome offered (λ id. Gives in_turn self.old.session (event.Call call.Accept) (reply.Accepted (Some id)) self.new.session)) }
-        ensures none { IfOk result (λ offered. IfNone offered (OffersNone self.old.session self.new.session)) }
-        ensures refused { OnErr result (self.new ≡ self.old) }
+        ensures accepted { IfOk result (λ offered. IfSome offered (λ id. Gives in_turn self.old.engine.session (event.Call call.Accept) (reply.Accepted (Some id)) self.new.engine.session)) }
+        ensures none { IfOk result (λ offered. IfNone offered (OffersNone self.old.engine.session self.new.engine.session)) }
+        ensures refused { OnErr result (self.new.engine ≡ self.old.engine) }
         // The bytes that wait on the wire's two sides stay.
-        ensures wire { KeepsWire self.old self.new }
+        ensures wire { KeepsWire self.old.engine self.new.engine }
     {
         self.reserve()?;
         match self.take_offered() {
@@ -182,9 +185,9 @@ impl Engine {
     /// Takes the offered stream that came first, and keeps no connection for it, so that no memory is needed: what follows
     /// is `refuse`. `None` where the session offers none, or refuses.
     pub fn take_offered(&mut self) -> Option<u32>
-        ensures accepted { IfSome result (λ id. Gives in_turn self.old.session (event.Call call.Accept) (reply.Accepted (Some id)) self.new.session) }
-        ensures none { IfNone result (OffersNone self.old.session self.new.session) }
-        ensures wire { KeepsWire self.old self.new }
+        ensures accepted { IfSome result (λ id. Gives in_turn self.old.engine.session (event.Call call.Accept) (reply.Accepted (Some id)) self.new.engine.session) }
+        ensures none { IfNone result (OffersNone self.old.engine.session self.new.engine.session) }
+        ensures wire { KeepsWire self.old.engine self.new.engine }
     {
         match self.session.accept() {
             Ok(offered) => offered,
@@ -194,8 +197,8 @@ impl Engine {
 
     /// Resets a stream and forgets it.
     fn drop_stream(&mut self, id: u32)
-        ensures given_up { GivesUp id self.old.session self.new.session }
-        ensures wire { KeepsWire self.old self.new }
+        ensures given_up { GivesUp id self.old.engine.session self.new.engine.session }
+        ensures wire { KeepsWire self.old.engine self.new.engine }
     {
         let _ = self.session.reset(id);
         let _ = self.session.forget(id);
@@ -204,8 +207,8 @@ impl Engine {
     /// Gives a connection up whose device can't be made, and which was never served: its stream is reset and forgotten, so
     /// an RST is due to the peer (flags). Nothing happens to a stream that isn't there.
     pub fn refuse(&mut self, id: u32)
-        ensures given_up { GivesUp id self.old.session self.new.session }
-        ensures wire { KeepsWire self.old self.new }
+        ensures given_up { GivesUp id self.old.engine.session self.new.engine.session }
+        ensures wire { KeepsWire self.old.engine self.new.engine }
     {
         self.connections.remove(id);
         self.drop_stream(id);
@@ -213,8 +216,8 @@ impl Engine {
 
     /// Gives a connection up of which neither way is open: its stream is no stream of the caller's any more.
     pub fn forget(&mut self, id: u32)
-        ensures forgotten { (told : Reply) × Gives in_turn self.old.session (event.Call (call.Forget id)) told self.new.session }
-        ensures wire { KeepsWire self.old self.new }
+        ensures forgotten { (told : Reply) × Gives in_turn self.old.engine.session (event.Call (call.Forget id)) told self.new.engine.session }
+        ensures wire { KeepsWire self.old.engine self.new.engine }
     {
         self.connections.remove(id);
         let _ = self.session.forget(id);
@@ -223,8 +226,8 @@ impl Engine {
     /// Asks the peer for a sign of life, and returns the ping's number (ping). The refusals are those of `Session::ping`,
     /// and change nothing.
     pub fn ping(&mut self) -> Result<u32, CallFault>
-        ensures event { Gives in_turn self.old.session (event.Call call.Ping) (pinged_or result) self.new.session }
-        ensures wire { KeepsWire self.old self.new }
+        ensures event { Gives in_turn self.old.engine.session (event.Call call.Ping) (pinged_or result) self.new.engine.session }
+        ensures wire { KeepsWire self.old.engine self.new.engine }
     {
         self.session.ping()
     }
@@ -232,8 +235,8 @@ impl Engine {
     /// Whether the answer to the pending ping of this number is back. If so it is collected (ping). The refusals are those
     /// of `Session::ponged`, and change nothing.
     pub fn ponged(&mut self, number: u32) -> Result<bool, CallFault>
-        ensures event { Gives in_turn self.old.session (event.Call (call.Ponged number)) (ponged_or result) self.new.session }
-        ensures wire { KeepsWire self.old self.new }
+        ensures event { Gives in_turn self.old.engine.session (event.Call (call.Ponged number)) (ponged_or result) self.new.engine.session }
+        ensures wire { KeepsWire self.old.engine self.new.engine }
     {
         self.session.ponged(number)
     }
@@ -245,7 +248,7 @@ impl Engine {
 
     /// The connection whose turn it is, among those that may have something to move.
     pub fn next(&mut self) -> Option<u32>
-        ensures { self.new ≡ self.old }
+        ensures engine { self.new.engine ≡ self.old.engine }
     {
         self.connections.next()
     }
@@ -263,10 +266,10 @@ impl Engine {
     /// copied once; the rest waits in the stream's ring.
     pub fn serve<D: Device>(&mut self, id: u32, device: &mut D)
         // What the stream took is what the device gave, and what the device took is what the stream gave.
-        ensures moved { Exchanges id self.old.session self.new.session self.old.outgoing self.new.outgoing (D.seen device.old) (D.seen device.new) }
+        ensures moved { Exchanges id self.old.engine.session self.new.engine.session self.old.engine.outgoing self.new.engine.outgoing (D.seen device.old) (D.seen device.new) }
         // A turn is short, and takes nothing of what the wire gave.
         ensures calls { (D.seen device.new).calls ≤ (D.seen device.old).calls + 13 }
-        ensures incoming { self.new.incoming ≡ self.old.incoming }
+        ensures incoming { self.new.engine.incoming ≡ self.old.engine.incoming }
     {
         if let Some(found) = self.connections.get(id) {
             let mut connection = found;
@@ -305,9 +308,9 @@ impl Engine {
     /// waits still is bytes that the session takes only later, or never (clause `rest`).
     pub fn read_wire<D: Device>(&mut self, wire: &mut D)
         // What the wire gave was fed in its order, or waits.
-        ensures moved { ReadsWire self.old self.new (D.seen wire.old) (D.seen wire.new) 1 }
+        ensures moved { ReadsWire self.old.engine self.new.engine (D.seen wire.old) (D.seen wire.new) 1 }
         // Nothing waits that the session would take now.
-        ensures rest { IsFedOrStuck self.new }
+        ensures rest { IsFedOrStuck self.new.engine }
     {
         self.pull_wire(wire);
         if !self.is_fed() {
@@ -318,7 +321,15 @@ impl Engine {
     /// Reads from the wire once, where all that it gave before was fed. What it gives waits to be fed. It makes at most
     /// one call of the wire. Once the wire has ended or failed the session is lost.
     pub fn pull_wire<D: Device>(&mut self, wire: &mut D)
-        ensures { ReadsWire self.old self.new (D.seen wire.old) (D.seen wire.new) 1 }
+        ensures moved { ReadsWire self.old.engine self.new.engine (D.seen wire.old) (D.seen wire.new) 1 }
+        // Where nothing waits to be fed and the wire may have bytes, it is asked for some; it gives some, or may have none
+        // now.
+        ensures asks { self.old.engine.incoming ≡ [] → may_have_bytes self.old.marks ≡ true → CountsSome (D.seen wire.old).counts.pulls (D.seen wire.new).counts.pulls }
+        ensures some { self.old.engine.incoming ≡ [] → (0 < length self.new.engine.incoming) ⊎ (may_have_bytes self.new.marks ≡ false) }
+        // Else nothing happens.
+        ensures still { (has_bytes self.old.engine.incoming || not (may_have_bytes self.old.marks)) ≡ true → self.new ≡ self.old }
+        // That the wire may take bytes stays.
+        ensures push { self.new.marks.can_push_wire ≡ self.old.marks.can_push_wire }
     {
         if self.is_fed() && self.may_pull_wire() {
             self.pull_once(wire);
@@ -327,22 +338,27 @@ impl Engine {
 
     /// Whether all that the wire gave was fed.
     fn is_fed(&self) -> bool
-        ensures { result ≡ true → self.now.incoming ≡ [] }
+        ensures fed { result ≡ true → self.now.engine.incoming ≡ [] }
+        ensures not_fed { result ≡ false → 0 < length self.now.engine.incoming }
     {
         self.incoming.waiting().is_empty()
     }
 
     /// Whether the wire has taken all that was emitted.
     fn is_sent(&self) -> bool
-        ensures { result ≡ true → self.now.outgoing ≡ [] }
+        ensures sent { result ≡ true → self.now.engine.outgoing ≡ [] }
+        ensures not_sent { result ≡ false → 0 < length self.now.engine.outgoing }
     {
         self.outgoing.waiting().is_empty()
     }
 
     /// Reads from the wire once. What the wire said.
     fn pull_once<D: Device>(&mut self, wire: &mut D) -> Pulled
-        requires { self.old.incoming ≡ [] }
-        ensures { ReadsWireSo (is_end result) (is_pull_failure result) self.old self.new (D.seen wire.old) (D.seen wire.new) 1 }
+        requires { self.old.engine.incoming ≡ [] }
+        ensures asked { CountsSome (D.seen wire.old).counts.pulls (D.seen wire.new).counts.pulls }
+        ensures some { (0 < length self.new.engine.incoming) ⊎ (may_have_bytes self.new.marks ≡ false) }
+        ensures push { self.new.marks.can_push_wire ≡ self.old.marks.can_push_wire }
+        ensures moved { ReadsWireSo (is_end result) (is_pull_failure result) self.old.engine self.new.engine (D.seen wire.old) (D.seen wire.new) 1 }
     {
         let pulled = self.take_from_wire(wire);
         self.hear_pulled(pulled);
@@ -351,15 +367,19 @@ impl Engine {
 
     /// What the wire gives waits to be fed.
     fn take_from_wire<D: Device>(&mut self, wire: &mut D) -> Pulled
-        requires { self.old.incoming ≡ [] }
-        ensures { TakesIn result self.old self.new (D.seen wire.old) (D.seen wire.new) }
+        requires { self.old.engine.incoming ≡ [] }
+        ensures marks { self.new.marks ≡ self.old.marks }
+        ensures moved { TakesIn result self.old.engine self.new.engine (D.seen wire.old) (D.seen wire.new) }
     {
         self.incoming.pull_from(wire)
     }
 
     /// What the wire said is heard. Where no more will come the session is lost.
     fn hear_pulled(&mut self, pulled: Pulled)
-        ensures { HandlesIn (is_end pulled || is_pull_failure pulled) self.old self.new }
+        ensures wire { KeepsWire self.old.engine self.new.engine }
+        ensures some { (0 < pulled_count pulled) ⊎ (may_have_bytes self.new.marks ≡ false) }
+        ensures push { self.new.marks.can_push_wire ≡ self.old.marks.can_push_wire }
+        ensures heard { HandlesIn (is_end pulled || is_pull_failure pulled) self.old.engine self.new.engine }
     {
         match pulled {
             Pulled::Gave(count) => self.note_pulled(count == BLOCK),
@@ -371,15 +391,16 @@ impl Engine {
 
     /// Whether the wire may have more.
     fn note_pulled(&mut self, more: bool)
-        ensures { self.new ≡ self.old }
+        ensures engine { self.new.engine ≡ self.old.engine }
+        ensures noted { self.new.marks ≡ record self.old.marks { can_pull_wire = more } }
     {
         self.can_pull_wire = more;
     }
 
     /// Feeds all that waits, and queues the streams that it touches.
     fn feed(&mut self)
-        ensures fed { HandlesIn false self.old self.new }
-        ensures rest { IsFedOrStuck self.new }
+        ensures fed { HandlesIn false self.old.engine self.new.engine }
+        ensures rest { IsFedOrStuck self.new.engine }
     {
         let all = self.incoming.waiting().len();
         self.feed_front(all);
@@ -387,9 +408,9 @@ impl Engine {
 
     /// Feeds the first of the bytes that wait, so many at most, and queues the streams that they touch.
     fn feed_front(&mut self, count: usize)
-        ensures fed { HandlesIn false self.old self.new }
-        ensures some { is_stuck self.old.session ≡ false → 0 < count → 0 < length self.old.incoming → length self.new.incoming < length self.old.incoming }
-        ensures rest { length self.old.incoming ≤ count → IsFedOrStuck self.new }
+        ensures fed { HandlesIn false self.old.engine self.new.engine }
+        ensures some { is_stuck self.old.engine.session ≡ false → 0 < count → 0 < length self.old.engine.incoming → length self.new.engine.incoming < length self.old.engine.incoming }
+        ensures rest { length self.old.engine.incoming ≤ count → IsFedOrStuck self.new.engine }
     {
         let fed = self
             .incoming
@@ -399,7 +420,8 @@ impl Engine {
 
     /// A feed was made, for a part of which there may have been no memory: the streams that it touched are queued.
     fn hear_fed(&mut self, lacks_memory: bool)
-        ensures { self.new ≡ self.old }
+        ensures engine { self.new.engine ≡ self.old.engine }
+        ensures marks { self.new.marks ≡ self.old.marks }
     {
         self.has_lacked_memory |= lacks_memory;
         self.connections.enqueue_touched(&mut self.touched);
@@ -416,10 +438,10 @@ impl Engine {
     /// device is not worth making, as they gather in the ring.
     pub fn advance(&mut self, least: usize) -> Option<u32>
         // What was fed is the front of what waited.
-        ensures fed { HandlesIn false self.old self.new }
+        ensures fed { HandlesIn false self.old.engine self.new.engine }
         // It stops where a payload may be passed on, or where the session takes no more now.
-        ensures payload { IfSome result (λ id. IsPayload id 1 self.new) }
-        ensures rest { IfNone result (IsFedOrStuck self.new) }
+        ensures payload { IfSome result (λ id. IsPayload id 1 self.new.engine) }
+        ensures rest { IfNone result (IsFedOrStuck self.new.engine) }
     {
         // each turn that goes on feeds a byte at least
         let turns = self.incoming.waiting().len().max(1);
@@ -440,8 +462,8 @@ impl Engine {
 
     /// Feeds what waits up to a payload that may be passed on.
     fn feed_to_payload(&mut self)
-        ensures fed { HandlesIn false self.old self.new }
-        ensures rest { (self.new.incoming ≡ []) ⊎ ((is_stuck self.new.session ≡ true) ⊎ IsSome (passing self.new.session)) }
+        ensures fed { HandlesIn false self.old.engine self.new.engine }
+        ensures rest { (self.new.engine.incoming ≡ []) ⊎ ((is_stuck self.new.engine.session ≡ true) ⊎ IsSome (passing self.new.engine.session)) }
     {
         let fed = self
             .incoming
@@ -451,8 +473,8 @@ impl Engine {
 
     /// The stream whose payload waits, where it may be passed on.
     fn next_payload(&self) -> Option<u32>
-        ensures waits { IfSome result (λ id. 0 < length self.now.incoming × ((payload : Passing) × (passing self.now.session ≡ Some payload) × (payload.id ≡ id))) }
-        ensures none { IfNone result ((self.now.incoming ≡ []) ⊎ (passing self.now.session ≡ None)) }
+        ensures waits { IfSome result (λ id. 0 < length self.now.engine.incoming × ((payload : Passing) × (passing self.now.engine.session ≡ Some payload) × (payload.id ≡ id))) }
+        ensures none { IfNone result ((self.now.engine.incoming ≡ []) ⊎ (passing self.now.engine.session ≡ None)) }
     {
         if self.incoming.waiting().is_empty() {
             return None;
@@ -465,8 +487,8 @@ impl Engine {
 
     /// How many bytes of a payload of this stream wait that may be passed on.
     fn payload_count(&self, id: u32) -> usize
-        ensures payload { 0 < result → IsPayload id result self.now }
-        ensures some { IsPayload id 1 self.now → 0 < result }
+        ensures payload { 0 < result → IsPayload id result self.now.engine }
+        ensures some { IsPayload id 1 self.now.engine → 0 < result }
     {
         match self.session.passing() {
             Some(payload) if payload.id == id => {
@@ -478,7 +500,7 @@ impl Engine {
 
     /// Whether so many bytes of this stream's payload wait, one at least, and its device may take some.
     fn may_pass(&self, id: u32, least: usize) -> bool
-        ensures { result ≡ true → IsPayload id 1 self.now }
+        ensures { result ≡ true → IsPayload id 1 self.now.engine }
     {
         match self.connections.get(id) {
             Some(connection) => connection.may_push() && self.payload_count(id) >= least.max(1),
@@ -495,9 +517,9 @@ impl Engine {
     /// passed on, a byte of it at least waits no more (clause `some`).
     pub fn pass<D: Device>(&mut self, id: u32, device: &mut D)
         // What the device took came and was read on this stream, and the rest of what was fed is in its ring.
-        ensures passed { PassesOn id self.old self.new (D.seen device.old) (D.seen device.new) 2 }
+        ensures passed { PassesOn id self.old.engine self.new.engine (D.seen device.old) (D.seen device.new) 2 }
         // Where such payload waits, less of it waits behind the call.
-        ensures some { IsPayload id 1 self.old → length self.new.incoming < length self.old.incoming }
+        ensures some { IsPayload id 1 self.old.engine → length self.new.engine.incoming < length self.old.engine.incoming }
     {
         let count = self.payload_count(id);
         if count == 0 {
@@ -511,10 +533,10 @@ impl Engine {
 
     /// Offers the first bytes that wait, payload of this stream, to its connection's device. How many it took.
     fn offer<D: Device>(&mut self, id: u32, count: usize, device: &mut D) -> usize
-        requires { IsPayload id count self.old }
-        ensures passed { PassesOn id self.old self.new (D.seen device.old) (D.seen device.new) 2 }
-        ensures taken { self.new.incoming ≡ drop result self.old.incoming }
-        ensures goes_on { result ≡ 0 → is_stuck self.new.session ≡ false }
+        requires { IsPayload id count self.old.engine }
+        ensures passed { PassesOn id self.old.engine self.new.engine (D.seen device.old) (D.seen device.new) 2 }
+        ensures taken { self.new.engine.incoming ≡ drop result self.old.engine.incoming }
+        ensures goes_on { result ≡ 0 → is_stuck self.new.engine.session ≡ false }
     {
         match self.connections.get(id) {
             Some(connection) if connection.may_push() => {
@@ -533,10 +555,10 @@ impl Engine {
         connection: Connection,
         device: &mut D,
     ) -> usize
-        requires { IsPayload id count self.old }
-        ensures passed { PassesOn id self.old self.new (D.seen device.old) (D.seen device.new) 2 }
-        ensures taken { self.new.incoming ≡ drop result self.old.incoming }
-        ensures goes_on { result ≡ 0 → is_stuck self.new.session ≡ false }
+        requires { IsPayload id count self.old.engine }
+        ensures passed { PassesOn id self.old.engine self.new.engine (D.seen device.old) (D.seen device.new) 2 }
+        ensures taken { self.new.engine.incoming ≡ drop result self.old.engine.incoming }
+        ensures goes_on { result ≡ 0 → is_stuck self.new.engine.session ≡ false }
     {
         let mut connection = connection;
         let bytes = &self.incoming.waiting()[..count];
@@ -549,8 +571,10 @@ impl Engine {
 
     /// The wire is no more: the session is lost.
     fn lose(&mut self)
-        ensures from_wire { HandlesIn true self.old self.new }
-        ensures to_wire { HandlesOut true self.old self.new }
+        ensures from_wire { HandlesIn true self.old.engine self.new.engine }
+        ensures to_wire { HandlesOut true self.old.engine self.new.engine }
+        ensures wire { KeepsWire self.old.engine self.new.engine }
+        ensures over { self.new.marks ≡ record self.old.marks { is_wire_over = true } }
     {
         self.is_wire_over = true;
         self.session.feed_end();
@@ -559,7 +583,17 @@ impl Engine {
 
     /// Writes what is due to the wire, in at most four calls. Once the wire has failed the session is lost.
     pub fn flush<D: Device>(&mut self, wire: &mut D)
-        ensures { FlushesWire self.old self.new (D.seen wire.old) (D.seen wire.new) 4 }
+        ensures moved { FlushesWire self.old.engine self.new.engine (D.seen wire.old) (D.seen wire.new) 4 }
+        // Where the wire may take bytes, and some wait or are due, it is offered some. It takes all that wait, or may take
+        // none now.
+        ensures offers { self.old.marks.can_push_wire ≡ true → has_to_send self.old.engine ≡ true → CountsSome (D.seen wire.old).counts.pushes (D.seen wire.new).counts.pushes }
+        ensures all { self.old.marks.can_push_wire ≡ true → (self.new.engine.outgoing ≡ []) ⊎ (self.new.marks.can_push_wire ≡ false) }
+        // That it may take bytes ends only where it left some of those that it was offered.
+        ensures off { self.old.marks.can_push_wire ≡ true → self.new.marks.can_push_wire ≡ false → CountsSome (D.seen wire.old).counts.pushes (D.seen wire.new).counts.pushes × (0 < length self.new.engine.outgoing) }
+        // Where it may take none, nothing happens.
+        ensures still { self.old.marks.can_push_wire ≡ false → self.new ≡ self.old }
+        // That the wire may have bytes stays.
+        ensures pull { self.new.marks.can_pull_wire ≡ self.old.marks.can_pull_wire }
     {
         'write: for turn in 0..4u64 {
             if !self.write_once(wire) {
@@ -570,7 +604,14 @@ impl Engine {
 
     /// Writes to the wire once, where it may take bytes. Whether more may be written.
     fn write_once<D: Device>(&mut self, wire: &mut D) -> bool
-        ensures { FlushesWire self.old self.new (D.seen wire.old) (D.seen wire.new) 1 }
+        ensures moved { FlushesWire self.old.engine self.new.engine (D.seen wire.old) (D.seen wire.new) 1 }
+        ensures goes_on { result ≡ true → (self.old.marks.can_push_wire ≡ true) × (self.new.marks.can_push_wire ≡ true) × (self.new.engine.outgoing ≡ []) × CountsSome (D.seen wire.old).counts.pushes (D.seen wire.new).counts.pushes }
+        ensures stops { result ≡ false → (self.new.engine.outgoing ≡ []) ⊎ (self.new.marks.can_push_wire ≡ false) }
+        ensures offers { self.old.marks.can_push_wire ≡ true → has_to_send self.old.engine ≡ true → CountsSome (D.seen wire.old).counts.pushes (D.seen wire.new).counts.pushes }
+        ensures off { self.old.marks.can_push_wire ≡ true → self.new.marks.can_push_wire ≡ false → CountsSome (D.seen wire.old).counts.pushes (D.seen wire.new).counts.pushes × (0 < length self.new.engine.outgoing) }
+        ensures still { self.old.marks.can_push_wire ≡ false → self.new ≡ self.old }
+        ensures pull { self.new.marks.can_pull_wire ≡ self.old.marks.can_pull_wire }
+        ensures counts { (D.seen wire.old).counts.pushes ≤ (D.seen wire.new).counts.pushes }
     {
         if !self.can_push_wire {
             return false;
@@ -585,14 +626,21 @@ impl Engine {
 
     /// What is due waits behind what waits, where there is room.
     fn fill_outgoing(&mut self)
-        ensures { HandlesOut false self.old self.new }
+        ensures put { HandlesOut false self.old.engine self.new.engine }
+        ensures some { has_to_send self.old.engine ≡ true → 0 < length self.new.engine.outgoing }
+        ensures marks { self.new.marks ≡ self.old.marks }
     {
         put_due(&mut self.session, &mut self.outgoing);
     }
 
     /// Writes what waits to the wire once. What the wire said.
     fn push_wire<D: Device>(&mut self, wire: &mut D) -> Pushed
-        ensures { FlushesWireSo (is_push_failure result) self.old self.new (D.seen wire.old) (D.seen wire.new) 1 }
+        requires { 0 < length self.old.engine.outgoing }
+        ensures offered { CountsSome (D.seen wire.old).counts.pushes (D.seen wire.new).counts.pushes × ((D.seen wire.old).counts.pushes ≤ (D.seen wire.new).counts.pushes) }
+        ensures all { self.new.marks.can_push_wire ≡ true → self.new.engine.outgoing ≡ [] }
+        ensures rest { self.new.marks.can_push_wire ≡ false → 0 < length self.new.engine.outgoing }
+        ensures pull { self.new.marks.can_pull_wire ≡ self.old.marks.can_pull_wire }
+        ensures moved { FlushesWireSo (is_push_failure result) self.old.engine self.new.engine (D.seen wire.old) (D.seen wire.new) 1 }
     {
         let all = self.outgoing.waiting().len();
         let pushed = self.give_to_wire(wire);
@@ -602,7 +650,8 @@ impl Engine {
 
     /// The wire takes the first of the bytes that wait.
     fn give_to_wire<D: Device>(&mut self, wire: &mut D) -> Pushed
-        ensures { GivesOut result self.old self.new (D.seen wire.old) (D.seen wire.new) }
+        ensures marks { self.new.marks ≡ self.old.marks }
+        ensures moved { GivesOut result self.old.engine self.new.engine (D.seen wire.old) (D.seen wire.new) }
     {
         let pushed = wire.push(self.outgoing.waiting());
         self.outgoing.drop_front(pushed.count());
@@ -611,7 +660,10 @@ impl Engine {
 
     /// What the wire said of so many bytes is heard. Where it failed the session is lost.
     fn hear_pushed(&mut self, pushed: Pushed, all: usize)
-        ensures { HandlesOut (is_push_failure pushed) self.old self.new }
+        ensures wire { KeepsWire self.old.engine self.new.engine }
+        ensures push { self.new.marks.can_push_wire ≡ (pushed_count pushed == all) }
+        ensures pull { self.new.marks.can_pull_wire ≡ self.old.marks.can_pull_wire }
+        ensures heard { HandlesOut (is_push_failure pushed) self.old.engine self.new.engine }
     {
         self.note_pushed(pushed.count() == all);
         match pushed {
@@ -623,7 +675,8 @@ impl Engine {
 
     /// Whether the wire took all that waited, and may take more: then the connections that were held back go on.
     fn note_pushed(&mut self, all: bool)
-        ensures { self.new ≡ self.old }
+        ensures engine { self.new.engine ≡ self.old.engine }
+        ensures noted { self.new.marks ≡ record self.old.marks { can_push_wire = all } }
     {
         self.can_push_wire = all;
         if all {
@@ -651,13 +704,15 @@ impl Engine {
     }
 
     /// Whether the wire may have bytes.
-    fn may_pull_wire(&self) -> bool {
+    fn may_pull_wire(&self) -> bool
+        ensures { result ≡ may_have_bytes self.now.marks }
+    {
         self.can_pull_wire && !self.is_wire_over
     }
 
     /// Whether all has gone out: the session has nothing due, and the wire has taken each byte that was emitted.
     pub fn is_flushed(&self) -> bool
-        ensures { result ≡ true → IsFlushed self.now }
+        ensures { result ≡ true → IsFlushed self.now.engine }
     {
         self.outgoing.waiting().is_empty() && !self.session.due()
     }
@@ -669,14 +724,14 @@ impl Engine {
 
     /// How many streams wait to be accepted.
     pub fn offered_count(&self) -> usize
-        ensures { result ≡ length self.now.session.offered }
+        ensures { result ≡ length self.now.engine.session.offered }
     {
         self.session.offered_count()
     }
 
     /// The state of the session.
     pub fn status(&self) -> Status
-        ensures { result ≡ self.now.session.status }
+        ensures { result ≡ self.now.engine.session.status }
     {
         self.session.status()
     }

@@ -4,7 +4,7 @@ ghost use Rattle.std.specs.Prelude.{◌≡◌, ◌≤◌, ◌<◌, ◌+◌, ℕ,
 ghost use Rattle.ymx_model.specs.declared.types.Event.TheVariants as event;
 ghost use Rattle.ymx_machine.specs.declared.types.Call.TheVariants as call;
 ghost use Rattle.ymx_machine.specs.shared.Events.{Reply};
-ghost use Rattle.ymx_model.specs.session.Emissions.{in_turn};
+ghost use Rattle.ymx_model.specs.session.Emissions.{in_turn, is_ready};
 ghost use Rattle.ymx_model.specs.session.Histories.{Gives};
 ghost use Rattle.ymx_model.specs.session.Sessions.{Session as SessionValue};
 ghost use Rattle.ymx_session.specs.Streams.{room_of};
@@ -19,12 +19,16 @@ use ymx_session::Session;
 /// How many bytes one frame carries.
 const FRAME: usize = 16_384;
 
-/// What is due waits behind what waits for the wire, where there is room for eight whole frames.
+/// What is due waits behind what waits for the wire, where nothing waits or there is room for eight whole frames.
 pub(crate) fn put_due(session: &mut Session, outgoing: &mut Block)
-    ensures { PutsDue session.old session.new outgoing.old outgoing.new }
+    ensures put { PutsDue session.old session.new outgoing.old outgoing.new }
+    ensures due { is_ready session.old ≡ true → 0 < length outgoing.new }
+    ensures more { 0 < length outgoing.old → 0 < length outgoing.new }
 {
-    outgoing.restart();
-    if outgoing.room() >= FRAMES && session.due() {
+    if !session.due() {
+        return;
+    }
+    if outgoing.waiting().is_empty() || outgoing.room() >= FRAMES {
         outgoing.emit_behind(session);
     }
 }

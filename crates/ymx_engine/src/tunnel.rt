@@ -47,7 +47,7 @@ impl<D: Line + Drop, W: Wire + Drop> Model for Tunnel<D, W> {
 
     ghost Value = { TunnelValue };
 
-    ghost view = { λ t. record { engine = t.engine; wire = W.seen t.wire; lines = lines_of D.seen t.lines.entries } };
+    ghost view = { λ t. record { engine = t.engine.engine; wire = W.seen t.wire; lines = lines_of D.seen t.lines.entries } };
 }
 
 impl<D: Line + Drop, W: Wire + Drop> Tunnel<D, W> {
@@ -431,7 +431,7 @@ impl<D: Line + Drop, W: Wire + Drop> Tunnel<D, W> {
 
 /// Each device that is there may have bytes.
 fn ask_all<D: Line + Drop>(engine: &mut Engine, lines: &IndexMap<u32, D>)
-    ensures { engine.new ≡ engine.old }
+    ensures { engine.new.engine ≡ engine.old.engine }
 {
     'line: for (id, device) in lines.iter() {
         if !device.is_connecting() {

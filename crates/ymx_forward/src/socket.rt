@@ -1,7 +1,8 @@
 //! A socket that never waits, as a device of an engine.
 
-ghost use Rattle.std.specs.Prelude.{◌≡◌, ◌≤◌, ◌+◌, ◌-◌, ◌^◌, ◌||◌, length, is_some, min, true};
-ghost use Rattle.ymx_engine.specs.Devices.{IsEnded, IsPulled, IsPushed, IsShut, pulled_count, pushed_count, is_end, is_pull_failure, is_push_failure};
+ghost use Rattle.std.specs.Prelude.{◌≡◌, ◌≤◌, ◌+◌, ◌-◌, ◌^◌, ◌<◌, ◌||◌, length, is_some, min, true};
+ghost use Rattle.ymx_engine.specs.Devices.{IsEnded, IsPulled, IsPushed, IsShut, pulled_count, pushed_count, is_end, is_pull_failure, is_push_failure, CountsOne, CountsPull, CountsPush, CountsClose};
+ghost use Rattle.ymx_forward.specs.Sockets.{counts_of};
 ghost use Rattle.ymx_engine.specs.Tunnels.{HasFailed};
 
 use crate::reason::Reason;
@@ -52,6 +53,68 @@ impl Traffic {
     }
 }
 
+/// How many calls of each kind were made of a socket as a device. Each count stays at the greatest `u64`.
+#[derive(Clone, Copy)]
+struct Counts {
+    /// For bytes.
+    pulls: u64,
+    /// That gave some.
+    gives: u64,
+    /// With bytes, one at least.
+    pushes: u64,
+    /// That took some.
+    takes: u64,
+    /// That ended it or shut it.
+    closes: u64,
+}
+
+impl Counts {
+    /// None was made.
+    fn none() -> Counts {
+        Counts {
+            pulls: 0,
+            gives: 0,
+            pushes: 0,
+            takes: 0,
+            closes: 0,
+        }
+    }
+
+    /// One for bytes was made, which gave so many.
+    fn pull(&mut self, given: usize)
+        ensures { CountsPull given (counts_of self.old) (counts_of self.new) }
+    {
+        self.pulls = one_more(self.pulls, 1);
+        self.gives = one_more(self.gives, given);
+    }
+
+    /// One with so many bytes was made, which took so many.
+    fn push(&mut self, offered: usize, taken: usize)
+        ensures { CountsPush offered taken (counts_of self.old) (counts_of self.new) }
+    {
+        self.pushes = one_more(self.pushes, offered);
+        self.takes = one_more(self.takes, taken);
+    }
+
+    /// One that ends it or shuts it was made.
+    fn close(&mut self)
+        ensures { CountsClose (counts_of self.old) (counts_of self.new) }
+    {
+        self.closes = one_more(self.closes, 1);
+    }
+}
+
+/// One more where there are some bytes, up to the greatest `u64`.
+fn one_more(count: u64, bytes: usize) -> u64
+    ensures some { 0 < bytes → CountsOne count result }
+    ensures none { bytes ≡ 0 → result ≡ count }
+{
+    if bytes == 0 || count == u64::MAX {
+        return count;
+    }
+    count + 1
+}
+
 /// A socket, and what it has moved. No contract sees its bytes; but whether it said that no more come, whether its end
 /// was passed on, whether it has failed, whether it was shut, and how many calls of it were made.
 #[derive(Drop)]
@@ -73,6 +136,7 @@ pub(crate) struct Socket {
     was_shut: bool,
     /// How many calls of it as a device were made. It stays at the greatest `u64`.
     calls: u64,
+    counts: Counts,
 }
 
 impl Socket {
@@ -100,6 +164,7 @@ impl Socket {
             was_finished: false,
             was_shut: false,
             calls: 0,
+            counts: Counts::none(),
         }
     }
 
@@ -174,7 +239,7 @@ impl Socket {
     /// A call of it failed, with this error if the system gave one.
     fn fail(&mut self, fault: SocketFault, error: Option<&io::Error>)
         ensures failed { is_some self.new.failure ≡ true }
-        ensures rest { (self.new.has_ended ≡ self.old.has_ended) × (self.new.was_finished ≡ self.old.was_finished) × (self.new.was_shut ≡ self.old.was_shut) × (self.new.calls ≡ self.old.calls) }
+        ensures rest { (self.new.has_ended ≡ self.old.has_ended) × (self.new.was_finished ≡ self.old.was_finished) × (self.new.was_shut ≡ self.old.was_shut) × (self.new.calls ≡ self.old.calls) × (self.new.counts ≡ self.old.counts) }
     {
         if self.failure.is_none() {
             self.failure = Some(fault);
@@ -184,12 +249,45 @@ impl Socket {
         }
     }
 
+    /// Reads once into this buffer, if it is there.
+    fn give_if_connected(&mut self, buffer: &mut [u8]) -> Pulled
+        ensures within { pulled_count result ≤ length buffer.new }
+        ensures ended { self.new.has_ended ≡ (self.old.has_ended || is_end result) }
+        ensures failed { is_some self.new.failure ≡ (is_some self.old.failure || is_pull_failure result) }
+        ensures rest { (self.new.was_finished ≡ self.old.was_finished) × (self.new.was_shut ≡ self.old.was_shut) × (self.new.calls ≡ self.old.calls) × (self.new.counts ≡ self.old.counts) }
+    {
+        match self.state {
+            ConnectState::Connecting => Pulled::NotNow,
+            ConnectState::Unreachable => {
+                self.fail(SocketFault::Push, None);
+                Pulled::Failed
+            }
+            ConnectState::Connected => self.give(buffer),
+        }
+    }
+
+    /// Writes these bytes once, if it is there.
+    fn take_if_connected(&mut self, bytes: &[u8]) -> Pushed
+        ensures within { pushed_count result ≤ length bytes.now }
+        ensures failed { is_some self.new.failure ≡ (is_some self.old.failure || is_push_failure result) }
+        ensures rest { (self.new.has_ended ≡ self.old.has_ended) × (self.new.was_finished ≡ self.old.was_finished) × (self.new.was_shut ≡ self.old.was_shut) × (self.new.calls ≡ self.old.calls) × (self.new.counts ≡ self.old.counts) }
+    {
+        match self.state {
+            ConnectState::Connecting => Pushed::NotNow,
+            ConnectState::Unreachable => {
+                self.fail(SocketFault::Push, None);
+                Pushed::Failed
+            }
+            ConnectState::Connected => self.take(bytes),
+        }
+    }
+
     /// Reads once into this buffer.
     fn give(&mut self, buffer: &mut [u8]) -> Pulled
         ensures within { pulled_count result ≤ length buffer.new }
         ensures ended { self.new.has_ended ≡ (self.old.has_ended || is_end result) }
         ensures failed { is_some self.new.failure ≡ (is_some self.old.failure || is_pull_failure result) }
-        ensures rest { (self.new.was_finished ≡ self.old.was_finished) × (self.new.was_shut ≡ self.old.was_shut) × (self.new.calls ≡ self.old.calls) }
+        ensures rest { (self.new.was_finished ≡ self.old.was_finished) × (self.new.was_shut ≡ self.old.was_shut) × (self.new.calls ≡ self.old.calls) × (self.new.counts ≡ self.old.counts) }
     {
         match read(&mut &self.socket, buffer) {
             Ok(count) if count > 0 => {
@@ -204,7 +302,7 @@ impl Socket {
     fn take(&mut self, bytes: &[u8]) -> Pushed
         ensures within { pushed_count result ≤ length bytes.now }
         ensures failed { is_some self.new.failure ≡ (is_some self.old.failure || is_push_failure result) }
-        ensures rest { (self.new.has_ended ≡ self.old.has_ended) × (self.new.was_finished ≡ self.old.was_finished) × (self.new.was_shut ≡ self.old.was_shut) × (self.new.calls ≡ self.old.calls) }
+        ensures rest { (self.new.has_ended ≡ self.old.has_ended) × (self.new.was_finished ≡ self.old.was_finished) × (self.new.was_shut ≡ self.old.was_shut) × (self.new.calls ≡ self.old.calls) × (self.new.counts ≡ self.old.counts) }
     {
         match write(&mut &self.socket, bytes) {
             Ok(count) if count > 0 || bytes.is_empty() => {
@@ -228,7 +326,7 @@ impl Socket {
         ensures none { pulled_count result ≡ 0 }
         ensures ended { self.new.has_ended ≡ (self.old.has_ended || is_end result) }
         ensures failed { is_some self.new.failure ≡ (is_some self.old.failure || is_pull_failure result) }
-        ensures rest { (self.new.was_finished ≡ self.old.was_finished) × (self.new.was_shut ≡ self.old.was_shut) × (self.new.calls ≡ self.old.calls) }
+        ensures rest { (self.new.was_finished ≡ self.old.was_finished) × (self.new.was_shut ≡ self.old.was_shut) × (self.new.calls ≡ self.old.calls) × (self.new.counts ≡ self.old.counts) }
     {
         match read {
             Ok(_) if !self.is_broken() => {
@@ -250,22 +348,18 @@ impl Socket {
 
 impl Device for Socket {
     ghost use Rattle.std.specs.Prelude.{None, Some, is_some};
+    ghost use Rattle.ymx_forward.specs.Sockets.{counts_of};
 
-    ghost seen = { λ s. record { left = None; had = None; over = Some s.has_ended; ended = Some s.was_finished; failed = Some (is_some s.failure); shut = Some s.was_shut; calls = s.calls } };
+    ghost seen = { λ s. record { left = None; had = None; over = Some s.has_ended; ended = Some s.was_finished; failed = Some (is_some s.failure); shut = Some s.was_shut; calls = s.calls; counts = counts_of s.counts } };
 
     fn pull(&mut self, buffer: &mut [u8]) -> Pulled
         ensures moved { IsPulled result buffer.new (⟦<Socket as Device>⟧.seen self.old) (⟦<Socket as Device>⟧.seen self.new) }
         ensures counted { self.new.calls ≡ min (self.old.calls + 1) (2 ^ 64 - 1) }
     {
         self.count_call();
-        match self.state {
-            ConnectState::Connecting => Pulled::NotNow,
-            ConnectState::Unreachable => {
-                self.fail(SocketFault::Push, None);
-                Pulled::Failed
-            }
-            ConnectState::Connected => self.give(buffer),
-        }
+        let pulled = self.give_if_connected(buffer);
+        self.counts.pull(pulled.count());
+        pulled
     }
 
     fn push(&mut self, bytes: &[u8]) -> Pushed
@@ -273,14 +367,9 @@ impl Device for Socket {
         ensures counted { self.new.calls ≡ min (self.old.calls + 1) (2 ^ 64 - 1) }
     {
         self.count_call();
-        match self.state {
-            ConnectState::Connecting => Pushed::NotNow,
-            ConnectState::Unreachable => {
-                self.fail(SocketFault::Push, None);
-                Pushed::Failed
-            }
-            ConnectState::Connected => self.take(bytes),
-        }
+        let pushed = self.take_if_connected(bytes);
+        self.counts.push(bytes.len(), pushed.count());
+        pushed
     }
 
     /// Shuts the writing side: the other end reads what was written, and then the end.
@@ -289,6 +378,7 @@ impl Device for Socket {
         ensures counted { self.new.calls ≡ min (self.old.calls + 1) (2 ^ 64 - 1) }
     {
         self.count_call();
+        self.counts.close();
         self.was_finished = true;
         if self.state == ConnectState::Connected {
             let _ = self.socket.shutdown(Shutdown::Write);
@@ -301,6 +391,7 @@ impl Device for Socket {
         ensures counted { self.new.calls ≡ min (self.old.calls + 1) (2 ^ 64 - 1) }
     {
         self.count_call();
+        self.counts.close();
         self.was_shut = true;
         if self.state == ConnectState::Connected {
             let _ = self.socket.shutdown(Shutdown::Both);

@@ -14,7 +14,7 @@ use Rattle.ymx_model.specs.declared.types.Event.TheVariants as event
 use Rattle.ymx_model.specs.session.Sessions.{Session}
 use Rattle.ymx_model.specs.session.Emissions.{in_turn}
 use Rattle.ymx_model.specs.session.Histories.{Gives}
-use Rattle.ymx_engine.specs.Devices.{Seen}
+use Rattle.ymx_engine.specs.Devices.{Seen, uncounted}
 use Rattle.ymx_engine.specs.Engines.{Engine, KeepsWire}
 use Rattle.ymx_engine.specs.Events.{Happen}
 use Rattle.ymx_engine.specs.Passes.{is_of_pass, PassesOn}
@@ -45,7 +45,7 @@ one_line false d e = refl
 
 pub served : (id : ℕ) (e f : Engine) (old new : Seen) → (x : Exchanges id e.session f.session e.outgoing f.outgoing old new) → f.incoming ≡ e.incoming → (to from : List ℕ) → IsTurn x.events e f to from to from
 served id e f old new x incoming to from =
-    let wire : Seen = record { left = Some from; had = Some to; over = None; ended = None; failed = None; shut = None; calls = 0 } in
+    let wire : Seen = record { left = Some from; had = Some to; over = None; ended = None; failed = None; shut = None; calls = 0; counts = uncounted } in
     let a : Tunnel = record { engine = e; wire = wire; lines = (id, old) ∷ [] } in
     let b : Tunnel = record { engine = f; wire = wire; lines = (id, new) ∷ [] } in
     let at : look id a.lines ≡ Some old = rw (own_test id) refl in
@@ -79,7 +79,7 @@ offers_none e f w (same, inr (fault, g)) = (_, called call.Accept (reply.Refused
 
 pub advanced : (e f : Engine) → (x : HandlesIn false e f) → HasFeeds x.events e f
 advanced e f x = λ to from.
-    let d : Seen = record { left = Some from; had = None; over = None; ended = None; failed = None; shut = None; calls = 0 } in
+    let d : Seen = record { left = Some from; had = None; over = None; ended = None; failed = None; shut = None; calls = 0; counts = uncounted } in
     record {
       before = d;
       after = d;

@@ -12,7 +12,7 @@ use Rattle.ymx_model.specs.session.Events.{Event}
 use Rattle.ymx_model.specs.declared.types.Event.TheVariants as event
 use Rattle.ymx_model.specs.session.Emissions.{in_turn}
 use Rattle.ymx_model.specs.session.Histories.{Gives}
-use Rattle.ymx_engine.specs.Devices.{Seen}
+use Rattle.ymx_engine.specs.Devices.{Seen, uncounted}
 use Rattle.ymx_engine.specs.Engines.{Engine, KeepsWire}
 use Rattle.ymx_engine.specs.Refusals.{OpensNone, OffersNone}
 use Rattle.ymx_engine.specs.Wires.{ReadsWire, FlushesWire}
@@ -53,7 +53,7 @@ some_same a b e = cc
 
 -- what a wire in memory shows
 abbrev pub seen_of : (from to : List ℕ) → Seen
-seen_of from to = record { left = Some from; had = Some to; over = Some false; ended = None; failed = Some false; shut = None; calls = 0 }
+seen_of from to = record { left = Some from; had = Some to; over = Some false; ended = None; failed = Some false; shut = None; calls = 0; counts = uncounted }
 
 read_once : (e f : Engine) (to from to_new from_new : List ℕ) (n : ℕ) → ReadsWire e f (seen_of from to) (seen_of from_new to_new) n → IsReadOnce e f to from to_new from_new
 read_once e f to from to_new from_new n x = (x.events, record { before = seen_of from to; after = seen_of from_new to_new; calls = n; reads = x; events = refl; left = refl; left_new = refl; same_to = some_same to_new to x.had })

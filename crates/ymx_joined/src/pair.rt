@@ -189,8 +189,8 @@ impl EnginePair {
 
 /// An engine of a new session.
 fn engine(alloc: Global, role: Role, config: Config) -> Result<Engine, NewFault>
-    ensures made { IfOk result (λ engine. engine ≡ engine_of (new_session role config.window (first_id role config.first))) }
-    ensures may { IfOk result (λ engine. new_fault role config ≡ None) }
+    ensures made { IfOk result (λ view. view.engine ≡ engine_of (new_session role config.window (first_id role config.first))) }
+    ensures may { IfOk result (λ view. new_fault role config ≡ None) }
 {
     let session = Session::new(alloc, role, config)?;
     Ok(Engine::new(alloc, session)?)

@@ -40,13 +40,13 @@ impl Model for EnginePipes {
 
     ghost Value = { Pair };
 
-    ghost view = { λ j. record { a = j.a; b = j.b; ab = j.wire.to.items; ba = j.wire.from.items } };
+    ghost view = { λ j. record { a = j.a.engine; b = j.b.engine; ab = j.wire.to.items; ba = j.wire.from.items } };
 }
 
 impl EnginePipes {
     /// Two engines, and the wire of the first.
     pub(crate) fn new(a: Engine, b: Engine, wire: Wire) -> EnginePipes
-        ensures { result ≡ record { a = a; b = b; ab = wire.to.items; ba = wire.from.items } }
+        ensures { result ≡ record { a = a.engine; b = b.engine; ab = wire.to.items; ba = wire.from.items } }
     {
         EnginePipes { a, b, wire }
     }
@@ -216,7 +216,7 @@ impl EnginePipes {
 
 /// An engine reads from its wire once, and what came waits to be fed.
 fn pull(engine: &mut Engine, wire: &mut Wire)
-    ensures { IsReadOnce engine.old engine.new wire.old.to.items wire.old.from.items wire.new.to.items wire.new.from.items }
+    ensures { IsReadOnce engine.old.engine engine.new.engine wire.old.to.items wire.old.from.items wire.new.to.items wire.new.from.items }
 {
     engine.note_wire(true, false);
     engine.pull_wire(wire);
@@ -224,7 +224,7 @@ fn pull(engine: &mut Engine, wire: &mut Wire)
 
 /// An engine reads once from its wire, which is the other side's, and what came waits to be fed.
 fn pull_round(engine: &mut Engine, wire: &mut Wire)
-    ensures { IsReadOnce engine.old engine.new wire.old.from.items wire.old.to.items wire.new.from.items wire.new.to.items }
+    ensures { IsReadOnce engine.old.engine engine.new.engine wire.old.from.items wire.old.to.items wire.new.from.items wire.new.to.items }
 {
     wire.turn_round();
     pull(engine, wire);
@@ -233,7 +233,7 @@ fn pull_round(engine: &mut Engine, wire: &mut Wire)
 
 /// An engine reads from its wire once.
 fn read(engine: &mut Engine, wire: &mut Wire)
-    ensures { IsReadOnce engine.old engine.new wire.old.to.items wire.old.from.items wire.new.to.items wire.new.from.items }
+    ensures { IsReadOnce engine.old.engine engine.new.engine wire.old.to.items wire.old.from.items wire.new.to.items wire.new.from.items }
 {
     engine.note_wire(true, false);
     engine.read_wire(wire);
@@ -241,7 +241,7 @@ fn read(engine: &mut Engine, wire: &mut Wire)
 
 /// An engine reads once from its wire, which is the other side's.
 fn read_round(engine: &mut Engine, wire: &mut Wire)
-    ensures { IsReadOnce engine.old engine.new wire.old.from.items wire.old.to.items wire.new.from.items wire.new.to.items }
+    ensures { IsReadOnce engine.old.engine engine.new.engine wire.old.from.items wire.old.to.items wire.new.from.items wire.new.to.items }
 {
     wire.turn_round();
     read(engine, wire);
@@ -250,7 +250,7 @@ fn read_round(engine: &mut Engine, wire: &mut Wire)
 
 /// An engine writes to its wire what is due.
 fn flush(engine: &mut Engine, wire: &mut Wire)
-    ensures { IsFlushed engine.old engine.new wire.old.to.items wire.old.from.items wire.new.to.items wire.new.from.items }
+    ensures { IsFlushed engine.old.engine engine.new.engine wire.old.to.items wire.old.from.items wire.new.to.items wire.new.from.items }
 {
     engine.note_wire(false, true);
     engine.flush(wire);
@@ -258,7 +258,7 @@ fn flush(engine: &mut Engine, wire: &mut Wire)
 
 /// An engine writes what is due to its wire, which is the other side's.
 fn flush_round(engine: &mut Engine, wire: &mut Wire)
-    ensures { IsFlushed engine.old engine.new wire.old.from.items wire.old.to.items wire.new.from.items wire.new.to.items }
+    ensures { IsFlushed engine.old.engine engine.new.engine wire.old.from.items wire.old.to.items wire.new.from.items wire.new.to.items }
 {
     wire.turn_round();
     flush(engine, wire);

@@ -40,8 +40,9 @@ impl Wire {
 
 impl Device for Wire {
     ghost use Rattle.std.specs.Prelude.{None, Some, false};
+    ghost use Rattle.ymx_engine.specs.Devices.{uncounted};
 
-    ghost seen = { λ w. record { left = Some w.from.items; had = Some w.to.items; over = Some false; ended = None; failed = Some false; shut = None; calls = 0 } };
+    ghost seen = { λ w. record { left = Some w.from.items; had = Some w.to.items; over = Some false; ended = None; failed = Some false; shut = None; calls = 0; counts = uncounted } };
 
     fn pull(&mut self, buffer: &mut [u8]) -> Pulled {
         match self.from.take(buffer) {

@@ -13,7 +13,7 @@ pub payload-preserved : goal.payload-preserved
 payload-preserved c =
     let waits = c.in-Some.ensures.waits in
     let least = c.max.ensures in
-    let fewer : length c.feed_front.new.self.incoming < length c.feed_to_payload.new.self.incoming = c.feed_front.ensures.some (takes_payload c.feed_to_payload.new.self.session waits.1.0 waits.1.1) (omega arith) waits.0 in
-    let same : length c.feed_to_payload.new.self.incoming ≤ length c.payload.self.incoming = no_longer false _ _ c.feed_to_payload.ensures.fed in
-    let before : length c.payload.self.incoming + c.payload.turn ≤ length c.args.self.now.incoming = c.payload.invariant.1 in
+    let fewer : length c.feed_front.new.self.engine.incoming < length c.feed_to_payload.new.self.engine.incoming = c.feed_front.ensures.some (takes_payload c.feed_to_payload.new.self.engine.session waits.1.0 waits.1.1) (omega arith) waits.0 in
+    let same : length c.feed_to_payload.new.self.engine.incoming ≤ length c.payload.self.engine.incoming = no_longer false _ _ c.feed_to_payload.ensures.fed in
+    let before : length c.payload.self.engine.incoming + c.payload.turn ≤ length c.args.self.now.engine.incoming = c.payload.invariant.1 in
     (handles_then _ _ _ c.payload.invariant.0 (handles_then _ _ _ c.feed_to_payload.ensures.fed c.feed_front.ensures.fed), omega arith)

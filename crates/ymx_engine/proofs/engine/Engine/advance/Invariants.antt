@@ -3,4 +3,4 @@ use Rattle.ymx_engine.specs.Wires.{HandlesIn}
 use Rattle.ymx_engine.proofs.engine.Engine.advance.Given as goal
 
 abbrev pub invariant-payload : goal.invariant-payload
-invariant-payload l = HandlesIn false l.initial.self l.self × (length l.self.incoming + l.turn ≤ length l.initial.self.incoming)
+invariant-payload l = HandlesIn false l.initial.self.engine l.self.engine × (length l.self.engine.incoming + l.turn ≤ length l.initial.self.engine.incoming)

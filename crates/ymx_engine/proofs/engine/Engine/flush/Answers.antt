@@ -1,15 +1,28 @@
-use Rattle.std.proofs.Common.{◌+◌, arith}
+use Rattle.std.proofs.Common.{◌+◌, ◌∙◌, arith}
 use Rattle.ymx_engine.proofs.Carrying.{flushes_then, flushes_more, flushes_same}
+use Rattle.ymx_engine.proofs.Moving.{writes_none, writes_more, writes_offer, writes_still, then_some}
 use Rattle.ymx_engine.proofs.engine.Engine.flush.Goals as goal
 
 pub write-init : goal.write-init
-write-init g c = flushes_same _ _ 0
+write-init g c = (flushes_same _ _ 0, writes_none _ _)
 
 pub write-preserved : goal.write-preserved
-write-preserved g c = flushes_then _ _ _ _ _ _ _ 1 c.write.invariant c.write_once.ensures
+write-preserved g c = let w = c.write_once.ensures in (
+  flushes_then _ _ _ _ _ _ _ 1 c.write.invariant.0 w.moved,
+  writes_more _ _ _ _ _ _ c.write.turn c.write.invariant.1 (w.goes_on c.if-not-write_once.false) w.pull w.counts,
+)
 
-pub returns-then-not-write_once : goal.returns-then-not-write_once
-returns-then-not-write_once g c = flushes_more _ _ _ _ (c.write.turn + 1) 4 (omega arith) (flushes_then _ _ _ _ _ _ _ 1 c.write.invariant c.write_once.ensures)
+pub returns-then-not-write_once-clause-moved : goal.returns-then-not-write_once-clause-moved
+returns-then-not-write_once-clause-moved g c = flushes_more _ _ _ _ (c.write.turn + 1) 4 (omega arith) (flushes_then _ _ _ _ _ _ _ 1 c.write.invariant.0 c.write_once.ensures.moved)
 
-pub returns : goal.returns
-returns g c = flushes_more _ _ _ _ c.write.turn 4 (omega arith) c.write.invariant
+pub returns-then-not-write_once-clause-offers : goal.returns-then-not-write_once-clause-offers
+returns-then-not-write_once-clause-offers g c = writes_offer _ _ _ _ _ c.write.turn c.write.invariant.1 c.write_once.ensures.offers c.write_once.ensures.counts
+
+pub returns-then-not-write_once-clause-still : goal.returns-then-not-write_once-clause-still
+returns-then-not-write_once-clause-still g c = writes_still _ _ _ _ _ c.write.turn c.write.invariant.1 c.write_once.ensures.still
+
+pub returns-then-not-write_once-clause-off : goal.returns-then-not-write_once-clause-off
+returns-then-not-write_once-clause-off g c = λ on off. let x = c.write_once.ensures.off (c.write.invariant.1.push ∙ on) off in (then_some _ _ _ c.write.invariant.1.up x.0, x.1)
+
+pub returns-clause-moved : goal.returns-clause-moved
+returns-clause-moved g c = flushes_more _ _ _ _ c.write.turn 4 (omega arith) c.write.invariant.0

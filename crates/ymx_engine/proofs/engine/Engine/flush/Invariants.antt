@@ -1,5 +1,8 @@
 use Rattle.ymx_engine.specs.Wires.{FlushesWire}
+use Rattle.ymx_engine.proofs.Moving.{WritesOn}
 use Rattle.ymx_engine.proofs.engine.Engine.flush.Given as goal
 
 abbrev pub invariant-write : goal.invariant-write
-invariant-write g l = FlushesWire l.initial.self l.self (g.D.Device.seen l.initial.wire) (g.D.Device.seen l.wire) l.turn
+invariant-write g l =
+    FlushesWire l.initial.self.engine l.self.engine (g.D.Device.seen l.initial.wire) (g.D.Device.seen l.wire) l.turn
+    × WritesOn l.initial.self l.self (g.D.Device.seen l.initial.wire).counts.pushes (g.D.Device.seen l.wire).counts.pushes l.turn

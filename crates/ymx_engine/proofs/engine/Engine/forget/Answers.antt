@@ -3,8 +3,8 @@ use Rattle.ymx_model.specs.declared.types.Event.TheVariants as event
 use Rattle.ymx_machine.specs.declared.types.Call.TheVariants as call
 use Rattle.ymx_session.specs.Replies.{done_or}
 use Rattle.ymx_engine.proofs.Carrying.{gives_from}
-use Rattle.ymx_engine.specs.Engines.{Engine}
+use Rattle.ymx_engine.specs.Marks.{EngineView}
 use Rattle.ymx_engine.proofs.engine.Engine.forget.Goals as goal
 
 pub returns-clause-forgotten : goal.returns-clause-forgotten
-returns-clause-forgotten c = (done_or c.forget.result, gives_from (event.Call (call.Forget c.args.id)) (done_or c.forget.result) _ _ _ (ap (λ (e : Engine). e.session) c.self.view_is) c.forget.ensures.event)
+returns-clause-forgotten c = (done_or c.forget.result, gives_from (event.Call (call.Forget c.args.id)) (done_or c.forget.result) _ _ _ (ap (λ (v : EngineView). v.engine.session) c.self.view_is) c.forget.ensures.event)

@@ -1,6 +1,7 @@
 use Rattle.std.proofs.Common.{◌≡◌, ap, ◌∙◌, drop, subst, List, ℕ}
 use Rattle.ymx_engine.specs.declared.device.Pushed.{Pushed}
 use Rattle.ymx_engine.specs.Engines.{Engine}
+use Rattle.ymx_engine.specs.Marks.{EngineView}
 use Rattle.ymx_engine.specs.Devices.{Seen, IsPushed, pushed_count}
 use Rattle.ymx_engine.specs.Wires.{GivesOut}
 use Rattle.ymx_engine.proofs.engine.Engine.give_to_wire.Goals as goal
@@ -14,7 +15,7 @@ gives_out r bytes a b d e p same outgoing incoming session = record {
   session = session;
 }
 
-pub returns : goal.returns
-returns g c = gives_out _ _ _ _ _ _ c.push-pushed.ensures (c.waiting.ensures ∙ ap (λ (e : Engine). e.outgoing) c.self.view_is)
-    (c.drop_front.ensures ∙ ap (λ n. drop n c.self.inside.outgoing) c.count.ensures ∙ ap (drop _) (ap (λ (e : Engine). e.outgoing) c.self.view_is))
-    (ap (λ (e : Engine). e.incoming) c.self.view_is) (ap (λ (e : Engine). e.session) c.self.view_is)
+pub returns-clause-moved : goal.returns-clause-moved
+returns-clause-moved g c = gives_out _ _ _ _ _ _ c.push-pushed.ensures (c.waiting.ensures ∙ ap (λ (v : EngineView). v.engine.outgoing) c.self.view_is)
+    (c.drop_front.ensures ∙ ap (λ n. drop n c.self.inside.outgoing) c.count.ensures ∙ ap (drop _) (ap (λ (v : EngineView). v.engine.outgoing) c.self.view_is))
+    (ap (λ (v : EngineView). v.engine.incoming) c.self.view_is) (ap (λ (v : EngineView). v.engine.session) c.self.view_is)

@@ -1,10 +1,10 @@
 use Rattle.std.proofs.Common.{ap}
-use Rattle.ymx_engine.specs.Engines.{Engine}
+use Rattle.ymx_engine.specs.Marks.{EngineView}
 use Rattle.ymx_engine.proofs.Carrying.{loses_in, loses_out}
 use Rattle.ymx_engine.proofs.engine.Engine.lose.Goals as goal
 
 pub returns-clause-from_wire : goal.returns-clause-from_wire
-returns-clause-from_wire c = loses_in _ _ c.self.inside.session (ap (λ (e : Engine). e.session) c.self.view_is) c.feed_end.ensures.event (ap (λ (e : Engine). e.incoming) c.self.view_is) (ap (λ (e : Engine). e.outgoing) c.self.view_is)
+returns-clause-from_wire c = loses_in _ _ c.self.inside.session (ap (λ (v : EngineView). v.engine.session) c.self.view_is) c.feed_end.ensures.event (ap (λ (v : EngineView). v.engine.incoming) c.self.view_is) (ap (λ (v : EngineView). v.engine.outgoing) c.self.view_is)
 
 pub returns-clause-to_wire : goal.returns-clause-to_wire
-returns-clause-to_wire c = loses_out _ _ c.self.inside.session (ap (λ (e : Engine). e.session) c.self.view_is) c.feed_end.ensures.event (ap (λ (e : Engine). e.incoming) c.self.view_is) (ap (λ (e : Engine). e.outgoing) c.self.view_is)
+returns-clause-to_wire c = loses_out _ _ c.self.inside.session (ap (λ (v : EngineView). v.engine.session) c.self.view_is) c.feed_end.ensures.event (ap (λ (v : EngineView). v.engine.incoming) c.self.view_is) (ap (λ (v : EngineView). v.engine.outgoing) c.self.view_is)

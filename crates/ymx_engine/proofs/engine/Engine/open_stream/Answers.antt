@@ -1,10 +1,10 @@
 use Rattle.std.proofs.Common.{ap}
-use Rattle.ymx_engine.specs.Engines.{Engine}
+use Rattle.ymx_engine.specs.Marks.{EngineView}
 use Rattle.ymx_engine.proofs.Refusing.{opened_is, refused_is}
 use Rattle.ymx_engine.proofs.engine.Engine.open_stream.Goals as goal
 
 pub returns-clause-opened : goal.returns-clause-opened
-returns-clause-opened c = opened_is c.open.result _ _ _ (ap (λ (e : Engine). e.session) c.self.view_is) c.open.ensures.event
+returns-clause-opened c = opened_is c.open.result _ _ _ (ap (λ (v : EngineView). v.engine.session) c.self.view_is) c.open.ensures.event
 
 pub returns-clause-refused : goal.returns-clause-refused
-returns-clause-refused c = refused_is c.open.result _ _ _ (ap (λ (e : Engine). e.session) c.self.view_is) c.open.ensures.event c.open.ensures.refused
+returns-clause-refused c = refused_is c.open.result _ _ _ (ap (λ (v : EngineView). v.engine.session) c.self.view_is) c.open.ensures.event c.open.ensures.refused

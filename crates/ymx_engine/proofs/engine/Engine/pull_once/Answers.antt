@@ -1,5 +1,5 @@
 use Rattle.ymx_engine.proofs.Carrying.{pulled_heard}
 use Rattle.ymx_engine.proofs.engine.Engine.pull_once.Goals as goal
 
-pub returns : goal.returns
-returns g c = pulled_heard _ _ _ _ _ _ c.requires c.take_from_wire-pulled.ensures c.hear_pulled.ensures
+pub returns-clause-moved : goal.returns-clause-moved
+returns-clause-moved g c = pulled_heard _ _ _ _ _ _ c.requires c.take_from_wire-pulled.ensures.moved c.hear_pulled.ensures.heard

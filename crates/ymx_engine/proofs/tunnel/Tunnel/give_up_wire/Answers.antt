@@ -5,7 +5,7 @@ use Rattle.ymx_engine.proofs.Running.{runs_shut, from_view}
 use Rattle.ymx_engine.proofs.tunnel.Tunnel.give_up_wire.Goals as goal
 
 pub returns-clause-runs : goal.returns-clause-runs
-returns-clause-runs g c = from_view _ _ _ c.self.view_is (runs_shut _ _ c.note_wire.ensures c.shut.ensures refl)
+returns-clause-runs g c = from_view _ _ _ c.self.view_is (runs_shut _ _ c.note_wire.ensures.engine c.shut.ensures refl)
 
 pub returns-clause-shut : goal.returns-clause-shut
 returns-clause-shut g c = c.shut.ensures.shut ∙ ap (λ (t : Tunnel). option_map (λ b. true) t.wire.shut) c.self.view_is

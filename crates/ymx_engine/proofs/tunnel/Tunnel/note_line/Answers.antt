@@ -8,7 +8,7 @@ pub returns-in-Some-clause-runs : goal.returns-in-Some-clause-runs
 returns-in-Some-clause-runs g c =
     let found = sym c.in-Some.ensures.value in
     let l = called_line g.D.Device.seen _ _ c.args.id _ c.note_event.new.self found (λ other. ((c.get_mut.follows.holds c.note_event.new.self).3 (is_some_at found)).0 other) in
-    from_view _ _ _ c.self.view_is (runs_noted _ _ c.args.id _ _ c.note_device.ensures refl c.note_event.ensures l.0 l.1)
+    from_view _ _ _ c.self.view_is (runs_noted _ _ c.args.id _ _ c.note_device.ensures.engine refl c.note_event.ensures l.0 l.1)
 
 pub returns-in_default-clause-runs : goal.returns-in_default-clause-runs
 returns-in_default-clause-runs g c = from_view _ _ _ c.self.view_is (runs_alike _ _ refl refl (λ j. lines_of g.D.Device.seen (c.get_mut.follows.holds-at-none j).entries))

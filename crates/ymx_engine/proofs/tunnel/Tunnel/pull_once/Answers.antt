@@ -4,7 +4,7 @@ use Rattle.ymx_engine.proofs.Staying.{stays_kept, stays_from}
 use Rattle.ymx_engine.proofs.tunnel.Tunnel.pull_once.Goals as goal
 
 pub returns-clause-runs : goal.returns-clause-runs
-returns-clause-runs g c = from_view _ _ _ c.self.view_is (runs_read _ _ 1 c.pull_wire.ensures refl)
+returns-clause-runs g c = from_view _ _ _ c.self.view_is (runs_read _ _ 1 c.pull_wire.ensures.moved refl)
 
 pub returns-clause-stays : goal.returns-clause-stays
-returns-clause-stays g c = stays_from _ _ _ c.self.view_is (stays_kept _ _ refl c.pull_wire.ensures.ended c.pull_wire.ensures.shut)
+returns-clause-stays g c = stays_from _ _ _ c.self.view_is (stays_kept _ _ refl c.pull_wire.ensures.moved.ended c.pull_wire.ensures.moved.shut)

@@ -4,10 +4,10 @@ use Rattle.ymx_engine.proofs.Staying.{stays_alike, stays_then, stays_from}
 use Rattle.ymx_engine.proofs.tunnel.Tunnel.serve_next.Goals as goal
 
 pub returns-in_err-id-clause-runs : goal.returns-in_err-id-clause-runs
-returns-in_err-id-clause-runs g c = from_view _ _ _ c.self.view_is (runs_alike _ _ c.next.ensures refl refl)
+returns-in_err-id-clause-runs g c = from_view _ _ _ c.self.view_is (runs_alike _ _ c.next.ensures.engine refl refl)
 
 pub returns-clause-runs : goal.returns-clause-runs
-returns-clause-runs g c = from_view _ _ _ c.self.view_is (runs_behind _ _ _ c.serve.ensures.runs c.next.ensures refl refl)
+returns-clause-runs g c = from_view _ _ _ c.self.view_is (runs_behind _ _ _ c.serve.ensures.runs c.next.ensures.engine refl refl)
 
 pub returns-in_err-id-clause-stays : goal.returns-in_err-id-clause-stays
 returns-in_err-id-clause-stays g c = stays_from _ _ _ c.self.view_is (stays_alike _ _ refl refl)
