@@ -25,7 +25,7 @@ crate_of() {
 }
 
 # prove NAME LIBRARY..: examples/NAME.rattle as a crate over these libraries; `crate` is its name then. What `main` picks
-# in its proof stands in main.invariants beside it, with CRATE for that name.
+# in its proof stands in main.invariants beside it, and how `ask` is proved in NAME.answers, with CRATE for that name.
 prove() {
     source=$1
     crate=$(crate_of "$source")
@@ -36,6 +36,10 @@ prove() {
     if [ -f "$picked" ]; then
         mkdir -p "$scratch/crates/$crate/proofs/main"
         sed "s/CRATE/$crate/" "$picked" > "$scratch/crates/$crate/proofs/main/Invariants.antt"
+    fi
+    if [ -f "$root/examples/$source.answers" ]; then
+        mkdir -p "$scratch/crates/$crate/proofs/ask"
+        sed "s/CRATE/$crate/" "$root/examples/$source.answers" > "$scratch/crates/$crate/proofs/ask/Answers.antt"
     fi
     check=$scratch/check_of_$crate
     if [ "$is_from_gate" = yes ]; then
