@@ -41,7 +41,7 @@ impl<R: Recorder> Booked<R> {
         ensures rest { MatchResult result (λ told. drop (counted told) buffer.new ≡ drop (counted told) buffer.old) (λ refused. buffer.new ≡ buffer.old) }
         ensures off { R.KEEPS ≡ false → IsOk result }
     {
-        let room = self.log.prepare(self.alloc, seat, event, buffer.len(), 1)?;
+        let room = self.log.prepare(self.alloc, seat, event, &*buffer, 1)?;
         let told = carry_out(&mut self.log, &mut self.session, seat, room, event, buffer);
         Ok(told)
     }

@@ -36,7 +36,7 @@ impl<R: Recorder> Booked<R> {
         ensures off { R.KEEPS ≡ false → IsOk result }
     {
         let event = Event::Feed(Lent::new(bytes));
-        let room = self.log.prepare(self.alloc, seat, &event, 0, 1)?;
+        let room = self.log.prepare(self.alloc, seat, &event, &[], 1)?;
         let fed = self.session.feed_touching(bytes, touched);
         self.log.add(seat, room, &event, told(&fed));
         Ok(fed)

@@ -86,7 +86,7 @@ impl<R: Recorder> Booked<R> {
         ensures none { IfOk result (λ given. given ≡ None → event.now ≡ to_accept) }
     {
         make_room(self.given, self.unspent, &mut self.half_spent)?;
-        let room = self.log.prepare(self.alloc, seat, event, 0, 1)?;
+        let room = self.log.prepare(self.alloc, seat, event, &[], 1)?;
         let told = carry_out(&mut self.log, &mut self.session, seat, room, event, &mut []);
         match given_by(event, &told) {
             Ok(Some((id, taken))) => {
@@ -124,7 +124,7 @@ fn given_by(event: &Event<Lent<'_>>, told: &Reply<usize>) -> Result<Option<(u32,
 /// Makes room for one stream more of which a half is spent, where so many have both halves unspent. `Seats` where no two
 /// seats more can be given, of which so many were, and `Memory` where there is none.
 fn make_room(given: u32, unspent: usize, half_spent: &mut IndexSet<u32>) -> Result<(), HubFault>
-    requires { unspent + 1 < 2 ^ 64 }
+    requires { unspent ≤ given }
     ensures keys { IsUnchanged half_spent.old half_spent.new }
     ensures keeps { spare half_spent.old ≤ spare half_spent.new }
     ensures room { OnOk result ((given + 2 < 2 ^ 32) × (unspent + 1 ≤ spare half_spent.new)) }

@@ -101,8 +101,8 @@ impl<R: Recorder> Booked<R> {
         let entries = if second { 2 } else { 1 };
         let event = half_call.event(id);
         let forget = Event::Call(Call::Forget(id));
-        let room = self.log.prepare(self.alloc, seat, &event, 0, entries)?;
-        let next = self.log.prepare(self.alloc, seat, &forget, 0, entries)?;
+        let room = self.log.prepare(self.alloc, seat, &event, &[], entries)?;
+        let next = self.log.prepare(self.alloc, seat, &forget, &[], entries)?;
         let told = carry_out(
             &mut self.log,
             &mut self.session,

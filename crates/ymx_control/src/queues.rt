@@ -2,6 +2,7 @@
 
 ghost use Rattle.std.specs.Prelude.{◌≡◌, ◌<◌, ◌≤◌, ◌==◌, [], ◌∷◌, ◌++◌, length, drop, slice_get, position, IfOk, IfSome};
 ghost use Rattle.ymx_machine.specs.shared.Lists.{drop_id};
+ghost use Rattle.ymx_memory.specs.Bounds.{most_items};
 
 use std::alloc::Global;
 use std::collections::VecDeque;
@@ -17,7 +18,7 @@ pub type Backlog = BoundedQueue<u32, 256>;
 /// project's own). A contract sees the list of them.
 pub type Answers = BoundedQueue<Response, 1_024>;
 
-/// At most `N` items, the oldest first. The memory for all of them is taken at the start. A contract
+/// At most `N` items, the oldest first, and `N` at most 1,024. The memory for all of them is taken at the start. A contract
 /// sees the list of the items.
 #[derive(Drop)]
 pub struct BoundedQueue<T, const N: usize> {
@@ -44,6 +45,7 @@ impl<T: Copy, const N: usize> BoundedQueue<T, N> {
 
     /// An empty queue. Takes the memory for all that will ever be in it, or answers `RefusedAllocation`.
     pub fn new(alloc: Global) -> Result<BoundedQueue<T, N>, RefusedAllocation>
+        requires at_most { N ≤ most_items }
         ensures { IfOk result (λ queue. queue ≡ []) }
     {
         let items = ymx_memory::queue_with_capacity(alloc, N)?;

@@ -1,6 +1,7 @@
 //! Memory for bytes on their way to the peer or from it.
 
 ghost use Rattle.std.specs.Prelude.{ℕ, List, ◌≡◌, ◌≤◌, ◌<◌, ◌+◌, ◌++◌, ◌⊎◌, [], length, take, drop, true, false, IfOk, IsSome};
+ghost use Rattle.ymx_memory.specs.Bounds.{most_zeros};
 ghost use Rattle.ymx_model.specs.declared.types.Event.TheVariants as event;
 ghost use Rattle.ymx_machine.specs.declared.types.Reply.TheVariants as reply;
 ghost use Rattle.ymx_model.specs.session.Emissions.{in_turn, is_ready};
@@ -37,9 +38,10 @@ impl Model for Block {
 }
 
 impl Block {
-    /// So much memory, in bytes, of which none waits.
+    /// So much memory, in bytes, of which none waits: at most 1,000,000.
     pub(crate) fn new(alloc: Global, size: usize) -> Result<Block, RefusedAllocation>
-        requires { 0 < size }
+        requires some { 0 < size }
+        requires at_most { size ≤ most_zeros }
         ensures { IfOk result (λ block. block ≡ []) }
     {
         let memory = ymx_memory::zeros(alloc, size)?;

@@ -44,9 +44,9 @@ impl Connections {
     /// Memory for one more, and for its turns.
     pub(crate) fn reserve(&mut self) -> Result<(), RefusedAllocation> {
         let all = self.by_id.len().saturating_add(1);
-        ymx_memory::reserve_queue(&mut self.fresh, all)?;
-        ymx_memory::reserve_queue(&mut self.busy, all)?;
-        ymx_memory::reserve_queue(&mut self.held, all)?;
+        ymx_memory::reserve_queue(&mut self.fresh, all, &self.by_id)?;
+        ymx_memory::reserve_queue(&mut self.busy, all, &self.by_id)?;
+        ymx_memory::reserve_queue(&mut self.held, all, &self.by_id)?;
         ymx_memory::insert(&mut self.by_id, 0, Connection::new(false))?;
         let _ = self.by_id.swap_remove(&0);
         Ok(())

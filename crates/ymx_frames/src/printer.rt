@@ -2,6 +2,7 @@
 
 ghost use Rattle.std.specs.Prelude.{ℕ, List, ◌≡◌, ◌+◌, ◌<◌, ◌≤◌, ◌++◌, [], length, take, Some, IfOk, OnOk, OnErr, IsSomeAnd, IfSome, IfNone, MatchOption, min, ◌^◌, ◌-◌};
 ghost use Rattle.std.specs.Result.{result_unwrap_or};
+ghost use Rattle.ymx_memory.specs.Bounds.{most_text};
 ghost use Rattle.ymx_machine.specs.shared.Evidence.{evidence};
 ghost use Rattle.ymx_header.specs.declared.fault.Fault.{Fault as FaultValue};
 ghost use Rattle.ymx_cutter.specs.Cutters.Seen.{Broken};
@@ -15,7 +16,7 @@ use crate::print::FramesEnd;
 use std::alloc::Global;
 use ymx_cutter::{Cutter, Item};
 use ymx_header::{Fault, HEADER_LENGTH, Header, decode};
-use ymx_memory::{RefusedAllocation, vec_with_capacity};
+use ymx_memory::{RefusedAllocation, text_with_capacity};
 
 /// Prints the frames of a text that comes in pieces. Of the frame begun it keeps the header and at
 /// most sixteen bytes of payload.
@@ -30,8 +31,9 @@ pub struct Printer {
 }
 
 impl Printer {
-    /// Nothing is read yet. There is room for so many bytes of lines before more memory is needed.
+    /// Nothing is read yet. There is room for so many bytes of lines, at most 262,144, before more memory is needed.
     pub fn new(alloc: Global, limit: u32, room: usize) -> Result<Printer, RefusedAllocation>
+        requires at_most { room ≤ most_text }
         ensures { IfOk result (λ printer. (printer.lines.items ≡ []) × IsPrinting limit [] [] printer) }
     {
         Ok(Printer {
@@ -39,7 +41,7 @@ impl Printer {
             header: decode(&[0; HEADER_LENGTH]),
             preview: Preview::new(),
             offset: 0,
-            lines: vec_with_capacity(alloc, room)?,
+            lines: text_with_capacity(alloc, room)?,
         })
     }
 

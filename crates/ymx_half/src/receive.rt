@@ -1,7 +1,7 @@
 //! A receiving half that is open.
 
 ghost use Rattle.std.specs.Prelude.{◌≡◌, ◌+◌, ◌<◌, ◌≤◌, ◌++◌, length, take, drop, min, IfOk};
-ghost use Rattle.ymx_machine.specs.shared.Limits.{first_credit};
+ghost use Rattle.ymx_machine.specs.shared.Limits.{first_credit, widest_window};
 ghost use Rattle.ymx_model.specs.session.Records.{new_reader, reader_arrive, reader_read, reader_announce, reader_end};
 ghost use Rattle.ymx_half.specs.Passing.{reader_pass};
 
@@ -38,13 +38,14 @@ impl Model for RecvHalf {
 }
 
 impl RecvHalf {
-    /// Makes the half of a new stream, with memory for the whole window, in bytes. The peer may send
-    /// 262,144 bytes at first, and what the window has beyond these is owed to it. Without the memory
-    /// it answers `RefusedAllocation`.
+    /// Makes the half of a new stream, with memory for the whole window, in bytes: 262,144 to 16,777,216. The
+    /// peer may send 262,144 bytes at first, and what the window has beyond these is owed to it. Without the
+    /// memory it answers `RefusedAllocation`.
     ///
     /// Example: of a window of 1,048,576 bytes 786,432 are owed from the start.
     pub fn new(alloc: Global, warm: &mut Warm, window: u32) -> Result<RecvHalf, RefusedAllocation>
-        requires { first_credit ≤ window }
+        requires narrowest { first_credit ≤ window }
+        requires widest { window ≤ widest_window }
         ensures { IfOk result (λ half. half ≡ new_reader window) }
     {
         let unread = Ring::new_warm(alloc, warm, window as usize)?;

@@ -1,7 +1,7 @@
 //! The record of a stream.
 
 ghost use Rattle.std.specs.Prelude.{◌≡◌, ◌+◌, ◌<◌, ◌≤◌, ◌++◌, ℕ, true, false, length, take, drop, min, is_some, Some, IsOk, IfOk, OnErr};
-ghost use Rattle.ymx_machine.specs.shared.Limits.{first_credit, greatest_number};
+ghost use Rattle.ymx_machine.specs.shared.Limits.{first_credit, greatest_number, widest_window};
 ghost use Rattle.ymx_header.specs.Headers.{spelling};
 ghost use Rattle.ymx_machine.specs.shared.Phases.{takes, is_offered, is_lingering};
 ghost use Rattle.ymx_machine.specs.shared.Phases.Phase.{Live as LivePhase, Offered as OfferedPhase};
@@ -153,7 +153,8 @@ impl StreamRec {
         window: u32,
         with_data: bool,
     ) -> Result<StreamRec, RefusedAllocation>
-        requires { first_credit ≤ window }
+        requires narrowest { first_credit ≤ window }
+        requires widest { window ≤ widest_window }
         ensures { IfOk result (λ stream. stream ≡ new_end window LivePhase true with_data) }
     {
         let writer = Sending::Open(SendHalf::new(alloc, warm)?);
@@ -182,7 +183,8 @@ impl StreamRec {
         warm: &mut Warm,
         window: u32,
     ) -> Result<StreamRec, RefusedAllocation>
-        requires { first_credit ≤ window }
+        requires narrowest { first_credit ≤ window }
+        requires widest { window ≤ widest_window }
         ensures { IfOk result (λ stream. stream ≡ new_end window OfferedPhase false false) }
     {
         let writer = Sending::Open(SendHalf::new(alloc, warm)?);

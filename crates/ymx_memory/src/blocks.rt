@@ -1,17 +1,39 @@
 //! Blocks of memory, in vectors and queues.
 
-ghost use Rattle.std.specs.Prelude.{◌≡◌, ◌+◌, ◌≤◌, ◌-◌, ◌++◌, ◌∷◌, [], take, vec_len, vec_capacity, replicate, is_ok, if◌then◌else◌, IfOk, OnOk, OnErr, IsOk};
+ghost use Rattle.std.specs.Prelude.{◌≡◌, ◌+◌, ◌*◌, ◌≤◌, ◌-◌, length, ◌++◌, ◌∷◌, [], take, vec_len, vec_capacity, replicate, is_ok, if◌then◌else◌, IfOk, OnOk, OnErr, IsOk};
 ghost use Rattle.std.specs.VecDeque.{deque_capacity, deque_len};
 ghost use Rattle.circular_buffer.specs.Buffer.{buffer};
+ghost use Rattle.ymx_memory.specs.Bounds.{widest_ring, most_written, most_items, most_text, most_zeros, most_entries};
 
 use crate::refused::RefusedAllocation;
 use circular_buffer::HeapCircularBuffer;
+use indexmap::IndexMap;
 use std::alloc::Global;
 use std::collections::VecDeque;
 use std::sync::Arc;
 
-/// An empty ring that holds `capacity` bytes.
+/// An empty ring that holds `capacity` bytes, at most 16,777,216: the widest window.
 pub fn ring(alloc: Global, capacity: usize) -> Result<HeapCircularBuffer<u8>, RefusedAllocation>
+    requires at_most { capacity ≤ widest_ring }
+    ensures { IfOk result (λ ring. ring ≡ buffer [] capacity) }
+{
+    empty_ring(alloc, capacity)
+}
+
+/// An empty ring that is to take this one's place, with `capacity` bytes: at most twice as many as it has, and
+/// 4,294,967,295 more, which is the greatest credit.
+pub fn wider_ring(
+    ring: &HeapCircularBuffer<u8>,
+    capacity: usize,
+) -> Result<HeapCircularBuffer<u8>, RefusedAllocation>
+    requires at_most { capacity ≤ 2 * ring.now.capacity + most_written }
+    ensures { IfOk result (λ ring. ring ≡ buffer [] capacity) }
+{
+    empty_ring(*ring.allocator(), capacity)
+}
+
+/// An empty ring of any size.
+fn empty_ring(alloc: Global, capacity: usize) -> Result<HeapCircularBuffer<u8>, RefusedAllocation>
     ensures { IfOk result (λ ring. ring ≡ buffer [] capacity) }
 {
     match HeapCircularBuffer::with_capacity(alloc, capacity) {
@@ -20,8 +42,9 @@ pub fn ring(alloc: Global, capacity: usize) -> Result<HeapCircularBuffer<u8>, Re
     }
 }
 
-/// An empty vector with room for `capacity` items.
+/// An empty vector with room for `capacity` items, at most 1,024.
 pub fn vec_with_capacity<T>(alloc: Global, capacity: usize) -> Result<Vec<T>, RefusedAllocation>
+    requires at_most { capacity ≤ most_items }
     ensures empty { IfOk result (λ vec. vec.items ≡ []) }
     ensures room { IfOk result (λ vec. vec_capacity vec ≡ capacity) }
 {
@@ -31,11 +54,24 @@ pub fn vec_with_capacity<T>(alloc: Global, capacity: usize) -> Result<Vec<T>, Re
     }
 }
 
-/// An empty queue with room for `capacity` items.
+/// No text, with room for `capacity` bytes, at most 262,144.
+pub fn text_with_capacity(alloc: Global, capacity: usize) -> Result<Vec<u8>, RefusedAllocation>
+    requires at_most { capacity ≤ most_text }
+    ensures empty { IfOk result (λ text. text.items ≡ []) }
+    ensures room { IfOk result (λ text. vec_capacity text ≡ capacity) }
+{
+    match Vec::with_capacity(alloc, capacity) {
+        Ok(text) => Ok(text),
+        Err(_) => Err(RefusedAllocation::new()),
+    }
+}
+
+/// An empty queue with room for `capacity` items, at most 1,024.
 pub fn queue_with_capacity<T>(
     alloc: Global,
     capacity: usize,
 ) -> Result<VecDeque<T>, RefusedAllocation>
+    requires at_most { capacity ≤ most_items }
     ensures empty { IfOk result (λ queue. queue.items ≡ []) }
     ensures room { IfOk result (λ queue. deque_capacity queue ≡ capacity) }
 {
@@ -45,8 +81,26 @@ pub fn queue_with_capacity<T>(
     }
 }
 
-/// So many bytes, each 0.
+/// So many bytes, each 0: at most 1,000,000.
 pub fn zeros(alloc: Global, count: usize) -> Result<Vec<u8>, RefusedAllocation>
+    requires at_most { count ≤ most_zeros }
+    ensures items { IfOk result (λ vec. vec.items ≡ replicate count 0) }
+    ensures len { IfOk result (λ vec. vec_len vec ≡ count) }
+{
+    zeros_as_asked(alloc, count)
+}
+
+/// So many bytes, each 0, for what is made of `bytes`: at most twice as many as these.
+pub fn zeros_for(alloc: Global, bytes: &[u8], count: usize) -> Result<Vec<u8>, RefusedAllocation>
+    requires at_most { count ≤ 2 * length bytes.now }
+    ensures items { IfOk result (λ vec. vec.items ≡ replicate count 0) }
+    ensures len { IfOk result (λ vec. vec_len vec ≡ count) }
+{
+    zeros_as_asked(alloc, count)
+}
+
+/// So many bytes, each 0. Only for a count that a user's own argument names: no bound is known.
+pub fn zeros_as_asked(alloc: Global, count: usize) -> Result<Vec<u8>, RefusedAllocation>
     ensures items { IfOk result (λ vec. vec.items ≡ replicate count 0) }
     ensures len { IfOk result (λ vec. vec_len vec ≡ count) }
 {
@@ -66,8 +120,34 @@ pub fn copied(alloc: Global, bytes: &[u8]) -> Result<Vec<u8>, RefusedAllocation>
     }
 }
 
-/// Room for so many more items. A refusal leaves the room as it was, and it comes only where there was too little.
+/// Room for one or two items more, as a call needs for its entries. A refusal leaves the room as it was, and it comes
+/// only where there was too little.
 pub fn reserve<T>(vec: &mut Vec<T>, additional: usize) -> Result<(), RefusedAllocation>
+    requires at_most { additional ≤ most_entries }
+    ensures items { vec.new.items ≡ vec.old.items }
+    ensures len { vec_len vec.new ≡ vec_len vec.old }
+    ensures room { OnOk result (vec_len vec.new + additional ≤ vec_capacity vec.new) }
+    ensures capacity { vec_capacity vec.old ≤ vec_capacity vec.new }
+    ensures succeeds { vec_len vec.old + additional ≤ vec_capacity vec.old → IsOk result }
+    ensures refused_unchanged { OnErr result (vec_capacity vec.new ≡ vec_capacity vec.old) }
+{
+    make_room(vec, additional)
+}
+
+/// Room for as many more bytes as these. A refusal leaves the room as it was, and it comes only where there was too little.
+pub fn reserve_for(vec: &mut Vec<u8>, bytes: &[u8]) -> Result<(), RefusedAllocation>
+    ensures items { vec.new.items ≡ vec.old.items }
+    ensures len { vec_len vec.new ≡ vec_len vec.old }
+    ensures room { OnOk result (vec_len vec.new + length bytes.now ≤ vec_capacity vec.new) }
+    ensures capacity { vec_capacity vec.old ≤ vec_capacity vec.new }
+    ensures succeeds { vec_len vec.old + length bytes.now ≤ vec_capacity vec.old → IsOk result }
+    ensures refused_unchanged { OnErr result (vec_capacity vec.new ≡ vec_capacity vec.old) }
+{
+    make_room(vec, bytes.len())
+}
+
+/// Room for so many more items, however many.
+fn make_room<T>(vec: &mut Vec<T>, additional: usize) -> Result<(), RefusedAllocation>
     ensures items { vec.new.items ≡ vec.old.items }
     ensures len { vec_len vec.new ≡ vec_len vec.old }
     ensures room { OnOk result (vec_len vec.new + additional ≤ vec_capacity vec.new) }
@@ -81,10 +161,16 @@ pub fn reserve<T>(vec: &mut Vec<T>, additional: usize) -> Result<(), RefusedAllo
     }
 }
 
-/// Makes room in a queue for `additional` items beyond those that stand in it. The items stay.
+/// Makes room in a queue for `additional` items beyond those that stand in it: at most one for each entry of this map,
+/// and one. The items stay.
 ///
 /// `RefusedAllocation` where the queue must grow and the allocator has no memory.
-pub fn reserve_queue<T>(queue: &mut VecDeque<T>, additional: usize) -> Result<(), RefusedAllocation>
+pub fn reserve_queue<T, V>(
+    queue: &mut VecDeque<T>,
+    additional: usize,
+    map: &IndexMap<u32, V>,
+) -> Result<(), RefusedAllocation>
+    requires at_most { additional ≤ length map.now.entries + 1 }
     ensures items { queue.new.items ≡ queue.old.items }
     ensures room { OnOk result (deque_len queue.new + additional ≤ deque_capacity queue.new) }
 {
@@ -94,8 +180,9 @@ pub fn reserve_queue<T>(queue: &mut VecDeque<T>, additional: usize) -> Result<()
     }
 }
 
-/// The bytes are cut to `count`, or filled up with zeros. A refusal leaves them.
-pub fn resize(vec: &mut Vec<u8>, count: usize) -> Result<(), RefusedAllocation>
+/// The bytes are cut to `count`, or filled up with zeros. A refusal leaves them. Only for a count that a user's own
+/// argument names: no bound is known.
+pub fn resize_as_asked(vec: &mut Vec<u8>, count: usize) -> Result<(), RefusedAllocation>
     ensures items { vec.new.items ≡ (if is_ok result then take count vec.old.items ++ replicate (count - vec_len vec.old) 0 else vec.old.items) }
     ensures len { vec_len vec.new ≡ (if is_ok result then count else vec_len vec.old) }
 {

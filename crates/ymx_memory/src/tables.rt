@@ -4,6 +4,7 @@ ghost use Rattle.std.specs.Prelude.{◌≡◌, ◌≤◌, [], length, nat_eq, If
 ghost use Rattle.atomic_table.specs.Table.{opening};
 ghost use Rattle.indexmap.specs.IndexMap.{insert_entry, IsUnchanged};
 ghost use Rattle.indexmap.specs.IndexSet.{spare as set_spare, IsEmpty as IsEmptySet, IsUnchanged as IsUnchangedSet, KeepsRoom, index_set_len};
+ghost use Rattle.ymx_memory.specs.Bounds.{most_items, most_numbers};
 
 use crate::refused::RefusedAllocation;
 use atomic_table::{Seat, Table, TableRule};
@@ -28,8 +29,9 @@ pub fn insert<V: Drop>(
     }
 }
 
-/// An empty set with room for `capacity` numbers.
+/// An empty set with room for `capacity` numbers, at most 1,024.
 pub fn set_with_capacity(alloc: Global, capacity: usize) -> Result<IndexSet<u32>, RefusedAllocation>
+    requires at_most { capacity ≤ most_items }
     ensures empty { IfOk result IsEmptySet }
     ensures len { IfOk result (λ set. index_set_len set ≡ 0) }
     ensures room { IfOk result (λ set. capacity ≤ set_spare set) }
@@ -40,8 +42,9 @@ pub fn set_with_capacity(alloc: Global, capacity: usize) -> Result<IndexSet<u32>
     }
 }
 
-/// Room in a set for so many more numbers. A refusal leaves its numbers.
+/// Room in a set for so many more numbers, at most as many as there are of 32 bits. A refusal leaves its numbers.
 pub fn reserve_set(set: &mut IndexSet<u32>, additional: usize) -> Result<(), RefusedAllocation>
+    requires at_most { additional ≤ most_numbers }
     ensures keys { IsUnchangedSet set.old set.new }
     ensures ok { OnOk result (additional ≤ set_spare set.new) }
     ensures room { KeepsRoom set.old set.new }

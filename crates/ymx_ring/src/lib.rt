@@ -3,7 +3,8 @@
 //! Memory is taken when a ring is made and when it grows, and never while bytes move.
 #![tactic(auto)]
 
-ghost use Rattle.std.specs.Prelude.{◌≡◌, ◌+◌, ◌^◌, ◌<◌, ◌≤◌, ◌↔◌, [], ◌++◌, length, take, drop, min, IsTrue, IfOk, OnOk, OnErr};
+ghost use Rattle.std.specs.Prelude.{◌≡◌, ◌+◌, ◌*◌, ◌^◌, ◌<◌, ◌≤◌, ◌↔◌, [], ◌++◌, length, take, drop, min, IsTrue, IfOk, OnOk, OnErr};
+ghost use Rattle.ymx_memory.specs.Bounds.{widest_ring, most_written};
 
 mod warm;
 
@@ -36,11 +37,12 @@ impl Model for Ring {
 impl Ring {
     /// Makes an empty ring that can hold `capacity` bytes.
     ///
-    /// Takes memory for all of them at once. Without that memory, and always where `capacity` is
-    /// 2^63 or more, it answers `RefusedAllocation`.
+    /// Takes memory for all of them at once: at most 16,777,216 bytes, the widest window. Without that memory
+    /// it answers `RefusedAllocation`.
     ///
     /// Example: `Ring::new(alloc, 262_144)` is a ring for one yamux window, and its `room` is 262,144.
     pub fn new(alloc: Global, capacity: usize) -> Result<Ring, RefusedAllocation>
+        requires at_most { capacity ≤ widest_ring }
         ensures empty { IfOk result (λ ring. ring.items ≡ []) }
         ensures of_capacity { IfOk result (λ ring. ring.capacity ≡ capacity) }
     {
@@ -133,6 +135,7 @@ impl Ring {
         warm: &mut Warm,
         capacity: usize,
     ) -> Result<Ring, RefusedAllocation>
+        requires at_most { capacity ≤ widest_ring }
         ensures empty { IfOk result (λ ring. ring.items ≡ []) }
         ensures of_capacity { IfOk result (λ ring. ring.capacity ≡ capacity) }
     {
@@ -237,21 +240,21 @@ impl Ring {
     }
 
     /// Gives the ring another capacity, in bytes, which has to hold the bytes that are there. They stay,
-    /// in order.
+    /// in order. It is at most twice what it was, and 4,294,967,295 more, which is the greatest credit.
     ///
-    /// Takes memory for the whole new capacity, and then gives the old memory back. Without that memory,
-    /// and always where `capacity` is 2^63 or more, it answers `RefusedAllocation`, and the ring is unchanged.
+    /// Takes memory for the whole new capacity, and then gives the old memory back. Without that memory
+    /// it answers `RefusedAllocation`, and the ring is unchanged.
     ///
     /// Example: `grow(8)` on a full ring of 4 bytes leaves its bytes and a `room` of 4.
     pub fn grow(&mut self, capacity: usize) -> Result<(), RefusedAllocation>
-        requires { length self.old.items ≤ capacity }
+        requires holds_all { length self.old.items ≤ capacity }
+        requires at_most { capacity ≤ 2 * self.old.capacity + most_written }
         ensures kept { OnOk result (self.new.items ≡ self.old.items) }
         ensures of_capacity { OnOk result (self.new.capacity ≡ capacity) }
         ensures refused_unchanged { OnErr result (self.new ≡ self.old) }
     {
         // The buffer's own `resize` pops and pushes each byte, so the two runs of bytes are copied as blocks.
-        let alloc = *self.bytes.allocator();
-        let mut wider = ymx_memory::ring(alloc, capacity)?;
+        let mut wider = ymx_memory::wider_ring(&self.bytes, capacity)?;
         let (front, wrapped) = self.bytes.as_slices();
         wider.fill_from_slice(front);
         wider.fill_from_slice(wrapped);

@@ -1,7 +1,8 @@
 //! Blocks of memory that rings take turns with.
 
-ghost use Rattle.std.specs.Prelude.{◌≡◌, [], Some, IfSome};
+ghost use Rattle.std.specs.Prelude.{◌≡◌, ◌≤◌, [], Some, IfSome};
 ghost use Rattle.circular_buffer.specs.Buffer.{buffer};
+ghost use Rattle.ymx_memory.specs.Bounds.{widest_ring};
 
 use circular_buffer::HeapCircularBuffer;
 use std::alloc::Global;
@@ -38,7 +39,9 @@ impl Warm {
     }
 
     /// Has one more block of this capacity to lend, unless 16 are there. Without memory for it nothing changes.
-    pub fn stock(&mut self, alloc: Global, capacity: usize) {
+    pub fn stock(&mut self, alloc: Global, capacity: usize)
+        requires at_most { capacity ≤ widest_ring }
+    {
         if self.lent.len() < MOST_LENT {
             if let Ok(block) = ymx_memory::ring(alloc, capacity) {
                 let _stocked = ymx_memory::push(&mut self.lent, block);

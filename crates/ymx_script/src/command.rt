@@ -1,6 +1,7 @@
 //! What a line of a script says.
 
-ghost use Rattle.std.specs.Prelude.{◌≡◌, IfOk};
+ghost use Rattle.std.specs.Prelude.{◌≡◌, ◌≤◌, IfOk};
+ghost use Rattle.ymx_memory.specs.Bounds.{most_zeros};
 ghost use Rattle.ymx_script.specs.Language.{bare_call, call_of, counted_call, numbered_call, of_one, of_two, of_three, of_four, other_of_three, command};
 
 use crate::words::{Words, count_of, direction_of, is, number_of, payload_of, side_of};
@@ -207,7 +208,7 @@ fn of_four(
     }
 }
 
-/// A call that moves so many bytes of a stream.
+/// A call that moves so many bytes of a stream, at most 1,000,000.
 fn counted_call(
     alloc: Global,
     side: Side,
@@ -215,6 +216,7 @@ fn counted_call(
     id: u32,
     count: usize,
 ) -> Result<Option<Command>, RefusedAllocation>
+    requires few { count ≤ most_zeros }
     ensures { IfOk result (λ found. found ≡ counted_call side verb.now id count) }
 {
     if is(verb, b"fill") {

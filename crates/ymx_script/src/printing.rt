@@ -6,7 +6,7 @@ ghost use Rattle.ymx_script.specs.Printing.{accepted_text, answer_text, digits_t
 
 use itoa::{Buffer, Integer};
 use std::alloc::Global;
-use ymx_memory::{RefusedAllocation, extend, zeros};
+use ymx_memory::{RefusedAllocation, extend, zeros_for};
 use ymx_model::{Answer, CallFault, Fed, Why, Wrote};
 
 /// How many bytes of a pipe are shown.
@@ -112,7 +112,7 @@ fn append_digits(alloc: Global, text: &mut Vec<u8>, bytes: &[u8]) -> Result<(), 
     if bytes.is_empty() {
         return Ok(());
     }
-    let mut digits = zeros(alloc, 2 * bytes.len())?;
+    let mut digits = zeros_for(alloc, bytes, 2 * bytes.len())?;
     let _ = hex::encode_to_slice(bytes, digits.as_mut_slice());
     extend(text, b" ")?;
     extend(text, digits.as_slice())

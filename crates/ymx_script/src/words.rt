@@ -1,12 +1,13 @@
 //! The words of a line.
 
-ghost use Rattle.std.specs.Prelude.{◌≡◌, ◌≤◌, ◌==◌, ◌∷◌, [], length, drop, IfOk, MatchOption};
+ghost use Rattle.std.specs.Prelude.{◌≡◌, ◌≤◌, ◌==◌, ◌∷◌, [], length, drop, IfOk, IfSome, MatchOption};
 ghost use Rattle.std.specs.List.{position};
+ghost use Rattle.ymx_memory.specs.Bounds.{most_zeros};
 ghost use Rattle.ymx_script.specs.Words.{count, digits, direction, is, number, payload_word, side, words};
 
 use std::alloc::Global;
 use std::marker::Model;
-use ymx_memory::{RefusedAllocation, zeros};
+use ymx_memory::{RefusedAllocation, zeros_for};
 use ymx_model::{Bytes, Direction, Side};
 
 /// The words of a line that are left. One space stands between two of them.
@@ -130,7 +131,8 @@ fn value_of(word: &[u8]) -> Option<u32>
 
 /// A number of bytes, at most 1,000,000.
 pub(crate) fn count_of(word: &[u8]) -> Option<usize>
-    ensures { result ≡ count word.now }
+    ensures count { result ≡ count word.now }
+    ensures few { IfSome result (λ n. n ≤ most_zeros) }
 {
     let count = number_of(word)?;
     if count > 1_000_000 {
@@ -149,7 +151,7 @@ pub(crate) fn payload_of(alloc: Global, word: &[u8]) -> Result<Option<Bytes>, Re
     if word.is_empty() {
         return Ok(None);
     }
-    let mut bytes = zeros(alloc, word.len() / 2)?;
+    let mut bytes = zeros_for(alloc, word, word.len() / 2)?;
     match hex::decode_to_slice(word, bytes.as_mut_slice()) {
         Ok(()) => Ok(Some(Bytes::from_vec(bytes))),
         Err(_) => Ok(None),

@@ -94,27 +94,27 @@ fn filled(mut room: Vec<u8>, bytes: &[u8]) -> Bytes
     }
 }
 
-/// No bytes, with room for so many.
-fn with_room(alloc: Global, count: usize) -> Result<Vec<u8>, RefusedAllocation>
-    ensures { IfOk result (λ v. (v.items ≡ []) × (count ≤ vec_capacity v)) }
+/// No bytes, with room for as many as the buffer has.
+fn with_room(alloc: Global, buffer: &[u8]) -> Result<Vec<u8>, RefusedAllocation>
+    ensures { IfOk result (λ v. (v.items ≡ []) × (length buffer.now ≤ vec_capacity v)) }
 {
     let mut room = Vec::new(alloc);
-    ymx_memory::reserve(&mut room, count)?;
+    ymx_memory::reserve_for(&mut room, buffer)?;
     Ok(room)
 }
 
-/// Memory for an entry of this event whose reply has at most so many bytes.
+/// Memory for an entry of this event whose reply has at most the bytes of the buffer.
 pub(crate) fn copies_of(
     alloc: Global,
     event: &Event<Lent<'_>>,
-    count: usize,
+    buffer: &[u8],
 ) -> Result<Copies, RefusedAllocation>
-    ensures { IfOk result (λ c. Hold c event.now count) }
+    ensures { IfOk result (λ c. Hold c event.now (length buffer.now)) }
 {
     Ok(Copies {
         mine: owned(alloc, event)?,
         theirs: owned(alloc, event)?,
-        my_bytes: with_room(alloc, count)?,
-        their_bytes: with_room(alloc, count)?,
+        my_bytes: with_room(alloc, buffer)?,
+        their_bytes: with_room(alloc, buffer)?,
     })
 }

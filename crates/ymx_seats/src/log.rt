@@ -2,6 +2,7 @@
 
 ghost use Rattle.std.specs.Prelude.{◌≡◌, ◌-◌, ◌+◌, ◌<◌, ◌≤◌, ◌++◌, ◌∷◌, [], true, false, Some, None, vec_capacity, vec_len, length, IsOk, IfOk, OnOk};
 ghost use mathlib.Core.List.{IsPrefix};
+ghost use Rattle.ymx_memory.specs.Bounds.{most_entries};
 ghost use Rattle.ymx_seats.specs.Journals.{part};
 ghost use Rattle.ymx_seats.specs.Views.{entry};
 
@@ -97,24 +98,25 @@ impl<R: Recorder> Log<R> {
         self.entries.len() as u64
     }
 
-    /// Finds the memory for the entry of an event whose reply has at most `bytes` bytes, before the event, and
-    /// room for `entries` entries in all. A recorder that keeps nothing needs none. `RefusedAllocation` where there is none; no
-    /// entry is added.
+    /// Finds the memory for the entry of an event whose reply has at most the bytes of `buffer`, before the event, and
+    /// room for `entries` entries in all, one or two. A recorder that keeps nothing needs none. `RefusedAllocation` where
+    /// there is none; no entry is added.
     pub fn prepare(
         &mut self,
         alloc: Global,
         seat: &mut Seat<R>,
         event: &Event<Lent<'_>>,
-        bytes: usize,
+        buffer: &[u8],
         entries: usize,
     ) -> Result<EntryRoom, RefusedAllocation>
+        requires at_most { entries ≤ most_entries }
         ensures entries { self.new.entries ≡ self.old.entries }
         ensures journal { self.new.journal ≡ self.old.journal }
         ensures number { seat.new.number ≡ seat.old.number }
         ensures start { seat.new.start ≡ seat.old.start }
         ensures seat_entries { seat.new.entries ≡ seat.old.entries }
         ensures seen { seat.new.seen ≡ seat.old.seen }
-        ensures ready { IfOk result (λ s. IsReady R.KEEPS s event.now bytes) }
+        ensures ready { IfOk result (λ s. IsReady R.KEEPS s event.now (length buffer.now)) }
         ensures room { R.KEEPS ≡ true → OnOk result ((entries ≤ self.new.room) × (entries ≤ seat.new.room)) }
         ensures grows { (self.old.room ≤ self.new.room) × (seat.old.room ≤ seat.new.room) }
         ensures off { R.KEEPS ≡ false → IsOk result }
@@ -125,7 +127,7 @@ impl<R: Recorder> Log<R> {
         ymx_memory::reserve(&mut self.entries, entries)?;
         seat.make_room(entries)?;
         Ok(EntryRoom {
-            copies: Some(copies_of(alloc, event, bytes)?),
+            copies: Some(copies_of(alloc, event, buffer)?),
         })
     }
 

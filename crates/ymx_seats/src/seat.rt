@@ -1,6 +1,7 @@
 //! The seat of a caller: its own list of what it did.
 
 ghost use Rattle.std.specs.Prelude.{◌≡◌, ◌-◌, ◌+◌, ◌<◌, ◌≤◌, ◌++◌, ◌∷◌, [], false, None, vec_capacity, vec_len, OnOk};
+ghost use Rattle.ymx_memory.specs.Bounds.{most_entries};
 
 use crate::journal::Witness;
 use crate::recorder::Recorder;
@@ -90,8 +91,10 @@ impl<R: Recorder> Seat<R> {
         self.start
     }
 
-    /// Finds memory for so many more entries. `RefusedAllocation` where there is none; the entries stay as they are.
+    /// Finds memory for so many more entries, one or two. `RefusedAllocation` where there is none; the entries stay as
+    /// they are.
     pub fn make_room(&mut self, count: usize) -> Result<(), RefusedAllocation>
+        requires at_most { count ≤ most_entries }
         ensures number { self.new.number ≡ self.old.number }
         ensures start { self.new.start ≡ self.old.start }
         ensures entries { self.new.entries ≡ self.old.entries }

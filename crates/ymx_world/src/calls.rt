@@ -19,7 +19,7 @@ pub(crate) fn make_call(
     ensures called { IfOk result (λ given. IsCalled call.now given session.old session.new) }
     ensures same { OnErr result (session.new ≡ session.old) }
 {
-    let mut buffer = ymx_memory::zeros(alloc, size_of(call))?;
+    let mut buffer = ymx_memory::zeros_as_asked(alloc, size_of(call))?;
     let told = session.apply(&Event::Call(lent(call)), buffer.as_mut_slice());
     Ok(answer(told, buffer))
 }

@@ -200,7 +200,7 @@ fn lengthen(buffer: &mut Vec<u8>, length: usize) -> Result<(), RefusedAllocation
     ensures { OnOk result (length ≤ vec_len buffer.new) }
 {
     if buffer.len() < length {
-        ymx_memory::resize(buffer, length)?;
+        ymx_memory::resize_as_asked(buffer, length)?;
     }
     Ok(())
 }
@@ -215,7 +215,7 @@ fn append_emission(
     ensures kept { OnErr result (sender.new ≡ sender.old) }
     ensures same { OnErr result (bytes.new.items ≡ bytes.old.items) }
 {
-    ymx_memory::reserve(bytes, buffer.len())?;
+    ymx_memory::reserve_for(bytes, buffer)?;
     let count = sender.emit(buffer);
     bytes.extend_from_slice(&buffer[..count]).unwrap();
     Ok(count)

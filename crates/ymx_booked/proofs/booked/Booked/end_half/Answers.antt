@@ -1,7 +1,12 @@
-use Rattle.std.proofs.Common.{◌≡◌, ◌∙◌, length, refl, ap, arith, rules}
-use Rattle.ymx_session.specs.Applied.{in_buffer}
+use Rattle.std.proofs.Common.{ℕ, ◌≡◌, ◌⊎◌, ◌∙◌, length, refl, ap, subst, arith, rules}
+use Rattle.ymx_machine.specs.declared.types.Reply.{Reply as ReplyOf}
+use Rattle.ymx_machine.specs.declared.types.Reply.TheVariants as reply
+use Rattle.ymx_model.specs.session.Events.{Event}
+use Rattle.ymx_session.specs.Applied.{in_buffer, IsReplyTo, IsRefusal}
 use Rattle.ymx_session.specs.Replies.{done_or}
 use Rattle.ymx_seats.specs.Views.{whole_of}
+use Rattle.ymx_booked.specs.declared.stream_calls.HalfCall.{HalfCall}
+use Rattle.ymx_booked.specs.declared.stream_calls.HalfCall.TheVariants as half
 use Rattle.ymx_booked.specs.Books.{to_end, to_forget}
 use Rattle.ymx_booked.specs.Booked.{BookedView, spent}
 use Rattle.ymx_booked.proofs.History.{kept_twice}
@@ -12,6 +17,15 @@ use Rattle.ymx_booked.proofs.Journals.{journaled_twice}
 use Rattle.ymx_booked.proofs.Spares.{half_spares}
 use Rattle.ymx_booked.proofs.Steps.{gives_at, spends_first, spends_second, steps_of}
 use Rattle.ymx_booked.proofs.booked.Booked.end_half.Goals as goal
+
+-- a half ends with no other answer
+answer_of_end : (call : HalfCall) (id : ℕ) (told : ReplyOf ℕ) → IsReplyTo (to_end call id) told → (told ≡ reply.Done) ⊎ IsRefusal told
+answer_of_end half.Finish id told answer = answer
+answer_of_end half.Reset id told answer = answer
+
+pub done-ended-requires : goal.done-ended-requires
+done-ended-requires g c =
+    answer_of_end c.args.half_call c.args.id c.carry_out-told.result (subst (λ (e : Event). IsReplyTo e c.carry_out-told.result) c.event-event.ensures c.carry_out-told.ensures.answer)
 
 pub invariant_of-self-2 : goal.invariant_of-self-2
 invariant_of-self-2 g c = (
