@@ -3,6 +3,7 @@ pub mod Carrying
 pub mod Refusing
 pub mod Advancing
 pub mod Feeding
+pub mod Rows
 pub mod Listing
 pub mod Trading
 pub mod Serving

@@ -26,6 +26,7 @@ use crate::connection::Connection;
 use crate::connections::Connections;
 use crate::device::{Device, Pulled, Pushed};
 use crate::exchange::serve;
+use crate::gathering::gather;
 use crate::passing::offer;
 use crate::sending::put_due;
 use std::alloc::Global;
@@ -433,9 +434,11 @@ impl Engine {
     // ---- payload that is passed on
 
     /// Feeds what waits up to a payload that `pass` may give to its connection's device, and returns the id of that
-    /// connection. `None` where all that can be fed now was fed (clause `rest`). A payload whose device may not take bytes
-    /// now goes into its stream's ring, and so does one of which fewer than `least` bytes wait: for so few a call of the
-    /// device is not worth making, as they gather in the ring.
+    /// connection. `None` where all that can be fed now was fed (clause `rest`).
+    ///
+    /// Payload goes into its stream's ring where its device may not take bytes now, or where a call of it is not worth
+    /// making. It is worth one where `least` bytes of the frame wait, or where at least 4,096 bytes do that all go in one
+    /// call: those of at most four frames of the stream that wait in a row, with no more of them behind.
     pub fn advance(&mut self, least: usize) -> Option<u32>
         // What was fed is the front of what waited.
         ensures fed { HandlesIn false self.old.engine self.new.engine }
@@ -498,20 +501,34 @@ impl Engine {
         }
     }
 
-    /// Whether so many bytes of this stream's payload wait, one at least, and its device may take some.
+    /// Whether payload of this stream waits that is worth a call of its device, which may take some: so many bytes of one
+    /// frame, or all that waits in a row.
     fn may_pass(&self, id: u32, least: usize) -> bool
         ensures { result ≡ true → IsPayload id 1 self.now.engine }
     {
         match self.connections.get(id) {
-            Some(connection) => connection.may_push() && self.payload_count(id) >= least.max(1),
+            Some(connection) => connection.may_push() && self.is_worth_a_call(id, least),
             None => false,
         }
     }
 
-    /// Offers the payload of this stream that waits to its connection's device. What the device takes came and was read
-    /// on the stream at once, with no stay in its ring; the rest goes into the ring. It makes at most two calls of the
-    /// device. Where the device fails, its stream is reset and the device shut. Nothing is offered where no payload of
-    /// this stream waits that may be passed on, or where its device may not take bytes.
+    /// Whether so many bytes of this stream's payload wait, one at least, or all that waits in a row fills a call of its
+    /// device.
+    fn is_worth_a_call(&self, id: u32, least: usize) -> bool
+        ensures { result ≡ true → IsPayload id 1 self.now.engine }
+    {
+        let count = self.payload_count(id);
+        if count == 0 {
+            return false;
+        }
+        count >= least || gather(&self.session, self.incoming.waiting()).fills_a_call(&self.session)
+    }
+
+    /// Offers payload of this stream that waits to its connection's device, in one call: that of at most four frames in a
+    /// row. What the device takes came and was read on the stream at once, with no stay in its ring. What it doesn't take
+    /// of the first frame goes into the ring, and what it doesn't take of the others at the next `advance`. It makes at
+    /// most two calls of the device. Where the device fails, its stream is reset and the device shut. Nothing is offered
+    /// where no payload of this stream waits that may be passed on, or where its device may not take bytes.
     ///
     /// What the device took is what the stream gave (record `PassesOn`). Where payload of this stream waits that may be
     /// passed on, a byte of it at least waits no more (clause `some`).
@@ -525,44 +542,38 @@ impl Engine {
         if count == 0 {
             return;
         }
-        let taken = self.offer(id, count, device);
+        let taken = self.offer(id, device);
         if taken < count {
             self.feed_front(count - taken);
         }
     }
 
-    /// Offers the first bytes that wait, payload of this stream, to its connection's device. How many it took.
-    fn offer<D: Device>(&mut self, id: u32, count: usize, device: &mut D) -> usize
-        requires { IsPayload id count self.old.engine }
+    /// Offers payload of this stream that waits in a row to its connection's device. How many of the bytes that wait came
+    /// then.
+    fn offer<D: Device>(&mut self, id: u32, device: &mut D) -> usize
+        requires { IsPayload id 1 self.old.engine }
         ensures passed { PassesOn id self.old.engine self.new.engine (D.seen device.old) (D.seen device.new) 2 }
         ensures taken { self.new.engine.incoming ≡ drop result self.old.engine.incoming }
         ensures goes_on { result ≡ 0 → is_stuck self.new.engine.session ≡ false }
     {
         match self.connections.get(id) {
-            Some(connection) if connection.may_push() => {
-                self.offer_to(id, count, connection, device)
-            }
+            Some(connection) if connection.may_push() => self.offer_to(id, connection, device),
             _ => 0,
         }
     }
 
-    /// Offers them to the device of this connection, which may take bytes. How many it took. The connection has a turn
-    /// then, as the end of the stream may have come with them, and a device that failed is let go of at its turn.
-    fn offer_to<D: Device>(
-        &mut self,
-        id: u32,
-        count: usize,
-        connection: Connection,
-        device: &mut D,
-    ) -> usize
-        requires { IsPayload id count self.old.engine }
+    /// Offers it to the device of this connection, which may take bytes. How many of the bytes that wait came then. The
+    /// connection has a turn then, as the end of the stream may have come with them, and a device that failed is let go of
+    /// at its turn.
+    fn offer_to<D: Device>(&mut self, id: u32, connection: Connection, device: &mut D) -> usize
+        requires { IsPayload id 1 self.old.engine }
         ensures passed { PassesOn id self.old.engine self.new.engine (D.seen device.old) (D.seen device.new) 2 }
         ensures taken { self.new.engine.incoming ≡ drop result self.old.engine.incoming }
         ensures goes_on { result ≡ 0 → is_stuck self.new.engine.session ≡ false }
     {
         let mut connection = connection;
-        let bytes = &self.incoming.waiting()[..count];
-        let taken = offer(&mut self.session, id, &mut connection, device, bytes);
+        let waits = self.incoming.waiting();
+        let taken = offer(&mut self.session, id, &mut connection, device, waits);
         self.incoming.drop_front(taken);
         self.connections.set(id, connection);
         self.connections.enqueue(id);
