@@ -12,4 +12,4 @@ pub use blocks::{
     shared, vec_with_capacity, zeros,
 };
 pub use refused::{RefusalCount, RefusedAllocation};
-pub use tables::{insert, reserve_set, set_with_capacity, table_of_words};
+pub use tables::{insert, reserve_map, reserve_set, set_with_capacity, table_of_words};
