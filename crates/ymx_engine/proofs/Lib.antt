@@ -11,3 +11,6 @@ pub mod Blocks
 pub mod Running
 pub mod Staying
 mod Moving
+mod Queueing
+mod Following
+mod Asking
