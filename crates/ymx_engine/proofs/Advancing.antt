@@ -1,11 +1,12 @@
 -- How what waits is fed piece by piece, and what of it is passed on.
-use Rattle.std.proofs.Common.{◌≡◌, ℕ, ◌+◌, ◌≤◌, List, [], ◌∷◌, ◌++◌, length, take, drop, min, Bool, true, false, ◌||◌, ◌&&◌, Option, refl, sym, ap, ◌∙◌, subst, arith, append-nil, append_assoc, take-append-drop, length-append, drop-drop}
+use Rattle.std.proofs.Common.{◌≡◌, ℕ, ◌+◌, ◌-◌, ◌≤◌, List, [], ◌∷◌, ◌++◌, length, take, drop, min, Bool, true, false, ◌||◌, ◌&&◌, Option, refl, sym, ap, ◌∙◌, subst, arith, append-nil, append_assoc, take-append-drop, length-append, drop-drop}
 use Rattle.std.specs.Prelude.{option_map}
 use Rattle.std.specs.List.{list_all}
 use Rattle.std.specs.Io.KnownBytes.{Appends}
 use Rattle.std.proofs.KnownBytes.{Appends-nil}
 use Rattle.std.proofs.lemmas.Grind.{common_steps}
-use Rattle.std.proofs.lemmas.List.{drop-append-le, length-take-le}
+use Rattle.std.proofs.Math.Seq.{take-append_seam}
+use Rattle.std.proofs.lemmas.List.{drop-append-le, length-take-le, length-drop}
 use Rattle.std.proofs.lemmas.List.Folds.{list_all-append}
 use Rattle.ymx_machine.specs.shared.Events.{Call}
 use Rattle.ymx_machine.specs.declared.types.Call.TheVariants as call
@@ -17,14 +18,14 @@ use Rattle.ymx_model.specs.declared.types.Event.TheVariants as event
 use Rattle.ymx_model.specs.session.Sessions.{Session}
 use Rattle.ymx_model.specs.session.Emissions.{in_turn}
 use Rattle.ymx_model.specs.session.Histories.{Gives}
-use Rattle.ymx_session.specs.Passing.{all_fed, Passes, FeedsSome}
+use Rattle.ymx_session.specs.Passing.{FeedsSome}
 use Rattle.ymx_engine.specs.declared.device.Pushed.{Pushed}
 use Rattle.ymx_engine.specs.declared.device.Pushed.TheVariants as pushed
 use Rattle.ymx_engine.specs.Devices.{Seen, pushed_count, is_push_failure, IsPushed, IsShut}
 use Rattle.ymx_engine.specs.Events.{Happen, given, has_end, has_finish, has_reset, has_stop, taken}
 use Rattle.ymx_engine.specs.Engines.{Engine}
 use Rattle.ymx_engine.specs.Wires.{fed_at, fed, is_of_read, ends_feed, has_feed_end, OffersFront, FeedsFront, ReadsWire, HandlesIn}
-use Rattle.ymx_engine.specs.Passes.{is_of_pass, PassesOn, OffersOnce}
+use Rattle.ymx_engine.specs.Passes.{is_of_pass, PassesOn, OffersOnce, Settles}
 use Rattle.ymx_engine.proofs.Carrying.{feed_end_then, gives_from}
 use Rattle.ymx_engine.proofs.Exchanging.{happen_then, given_then, end_then, reset_then, stop_then, or_same, or_none, or_true, same_id, none_pushed, take_both, still}
 
@@ -52,7 +53,7 @@ fronts_then (e ∷ es) fs waits next same h k = (h.0, fronts_then es fs (drop (l
 pub rest_of : (es : List (Event × Reply)) (waits next : List ℕ) → waits ≡ fed es ++ next → drop (length (fed es)) waits ≡ next
 rest_of es waits next e = ap (drop (length (fed es))) e ∙ drop_front (fed es) next
 
-fed_on : (es fs : List (Event × Reply)) (a b c : List ℕ) → a ≡ fed es ++ b → b ≡ fed fs ++ c → a ≡ fed (es ++ fs) ++ c
+pub fed_on : (es fs : List (Event × Reply)) (a b c : List ℕ) → a ≡ fed es ++ b → b ≡ fed fs ++ c → a ≡ fed (es ++ fs) ++ c
 fed_on es fs a b c e f =
     e ∙ ap (λ (v : List ℕ). fed es ++ v) f ∙ sym (append_assoc (fed es) (fed fs) c) ∙ ap (λ (v : List ℕ). v ++ c) (sym (fed_then es fs))
 
@@ -221,37 +222,40 @@ offered_none id s r bytes a b p n well = record {
   few = let i = p.counted in omega arith;
 }
 
-take_all : (xs : List ℕ) → take (length xs) xs ≡ xs
+pub take_all : (xs : List ℕ) → take (length xs) xs ≡ xs
 take_all xs = grind (arith, common_steps)
 
+front_is : (front waits : List ℕ) (count : ℕ) → count ≤ length waits → waits ≡ front ++ drop count waits → front ≡ take count waits
+front_is front waits count within e =
+    let l : length waits ≡ length front + length (drop count waits) = ap length e ∙ length-append front (drop count waits) in
+    let m : length (drop count waits) ≡ length waits - count = length-drop count waits in
+    let n : length front ≡ count = omega arith in sym (take-append_seam front (drop count waits)) ∙ ap (take (length front)) (sym e) ∙ ap (λ (k : ℕ). take k waits) n
+
 -- the device took the first bytes, which came and were read
-pub offered_some : (id n : ℕ) (s t : Session) (bytes front : List ℕ) (a b : Seen) → IsPushed (pushed.Took n) bytes a b → front ≡ take n bytes → Passes id front s t → OffersOnce id bytes n s t a b
-offered_some id n s t bytes front a b p same x =
-    let i = same_id id in
-    let e : Event = event.Feed front in
-    let d : Event = event.Call (call.Read id (length front)) in
-    record {
-      events = (e, reply.Fed (all_fed front)) ∷ (d, reply.Read front) ∷ [];
-      happen = (x.mid, x.fed, (t, x.read, refl));
-      own = rw i refl;
-      fronts = ((drop n bytes, sym (take-append-drop n bytes) ∙ ap (λ (v : List ℕ). v ++ drop n bytes) (sym same)), (tt, tt));
-      within = p.within;
-      took = append-nil (take (length front) front) ∙ take_all front ∙ same;
-      from_peer = rw i (subst (Appends a.had b.had) (sym same ∙ sym (append-nil front)) p.took);
-      fails = false;
-      failed = p.failed;
-      reset = refl;
-      left = p.left;
-      over = p.over;
-      ended = rw i (p.ended ∙ or_same a.ended);
-      shut = rw i (p.shut ∙ or_same a.shut);
-      few = let j = p.counted in omega arith;
-    }
+pub offered_some : (id n count : ℕ) (s t : Session) (payload waits : List ℕ) (a b : Seen) → IsPushed (pushed.Took n) payload a b → count ≤ length waits → Settles id (take n payload) waits (drop count waits) s t →
+    OffersOnce id waits count s t a b
+offered_some id n count s t payload waits a b p within x = record {
+  events = x.events;
+  happen = x.happen;
+  own = x.own;
+  fronts = x.fronts;
+  within = within;
+  took = front_is (fed x.events) waits count within x.took;
+  from_peer = subst (Appends a.had b.had) (sym x.gave) p.took;
+  fails = false;
+  failed = p.failed;
+  reset = x.resets;
+  left = p.left;
+  over = p.over;
+  ended = rw x.ends (p.ended ∙ or_same a.ended);
+  shut = rw x.stops (p.shut ∙ or_same a.shut);
+  few = let j = p.counted in omega arith;
+}
 
 -- the device failed: the stream was reset, and the device shut
-pub offered_failed : (id : ℕ) (told : Reply) (s t : Session) (bytes : List ℕ) (a b c : Seen) → IsPushed pushed.Failed bytes a b → Gives in_turn s (event.Call (call.Reset id)) told t → IsShut b c →
-    OffersOnce id bytes 0 s t a c
-offered_failed id told s t bytes a b c p g q =
+pub offered_failed : (id : ℕ) (told : Reply) (s t : Session) (payload waits : List ℕ) (a b c : Seen) → IsPushed pushed.Failed payload a b → Gives in_turn s (event.Call (call.Reset id)) told t → IsShut b c →
+    OffersOnce id waits 0 s t a c
+offered_failed id told s t payload waits a b c p g q =
     let i = same_id id in
     let e : Event = event.Call (call.Reset id) in
     record {
@@ -261,7 +265,7 @@ offered_failed id told s t bytes a b c p g q =
       fronts = (tt, tt);
       within = omega arith;
       took = refl;
-      from_peer = subst (λ (o : Option (List ℕ)). Appends a.had o []) (sym q.had) (none_pushed pushed.Failed bytes a b p refl);
+      from_peer = subst (λ (o : Option (List ℕ)). Appends a.had o []) (sym q.had) (none_pushed pushed.Failed payload a b p refl);
       fails = true;
       failed = q.failed ∙ p.failed;
       reset = rw i refl;
@@ -296,18 +300,15 @@ fronts_more waits more (e ∷ es) h = (
 )
 
 -- the front of what waits was offered
-pub offers_front : (id n count : ℕ) (bytes : List ℕ) (a b : Engine) (s : Session) (d e : Seen) → s ≡ a.session → bytes ≡ take n a.incoming → OffersOnce id bytes count s b.session d e →
+pub offers_front : (id count : ℕ) (waits : List ℕ) (a b : Engine) (s : Session) (d e : Seen) → s ≡ a.session → waits ≡ a.incoming → OffersOnce id waits count s b.session d e →
     b.incoming ≡ drop count a.incoming → b.outgoing ≡ a.outgoing → PassesOn id a b d e 2
-offers_front id n count bytes a b s d e same first x incoming outgoing =
-    let y : OffersOnce id (take n a.incoming) count s b.session d e = subst (λ (v : List ℕ). OffersOnce id v count s b.session d e) first x in
-    let few : count ≤ length (take n a.incoming) = y.within in
-    let le : count ≤ n = let i : length (take n a.incoming) ≤ n = grind (arith, common_steps) in omega arith in
-    record {
+offers_front id count waits a b s d e same all x incoming outgoing =
+    let y : OffersOnce id a.incoming count s b.session d e = subst (λ (v : List ℕ). OffersOnce id v count s b.session d e) all x in record {
       events = y.events;
       happen = subst (λ (v : Session). Happen y.events v b.session) same y.happen;
       own = y.own;
-      fronts = subst (λ (v : List ℕ). FeedsFront v y.events) (take-append-drop n a.incoming) (fronts_more (take n a.incoming) (drop n a.incoming) y.events y.fronts);
-      from_wire = sym (take-append-drop count a.incoming) ∙ ap (λ (v : List ℕ). v ++ drop count a.incoming) (sym (take_both count n a.incoming le) ∙ sym y.took) ∙ ap (λ (v : List ℕ). fed y.events ++ v) (sym incoming);
+      fronts = y.fronts;
+      from_wire = sym (take-append-drop count a.incoming) ∙ ap (λ (v : List ℕ). v ++ drop count a.incoming) (sym y.took) ∙ ap (λ (v : List ℕ). fed y.events ++ v) (sym incoming);
       from_peer = y.from_peer;
       fails = y.fails;
       failed = y.failed;

@@ -3,6 +3,7 @@ pub mod Carrying
 pub mod Refusing
 pub mod Advancing
 pub mod Feeding
+pub mod Rows
 pub mod Listing
 pub mod Trading
 pub mod Serving
@@ -10,3 +11,6 @@ pub mod Blocks
 pub mod Running
 pub mod Staying
 mod Moving
+mod Queueing
+mod Following
+mod Asking

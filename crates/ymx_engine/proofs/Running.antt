@@ -454,7 +454,7 @@ look_none seen es id h = look_lines seen es id ∙ ap (option_map seen) (none_of
     none_of (Some x) h = let no : ⊥ = cc in absurd no
 
 -- a device that was put in is there, and the others stay
-inserted : {D : Type 0} (es : List (ℕ × D)) (id : ℕ) (d : D) (other : ℕ) → lookup (nat_eq other) (insert_entry nat_eq es id d) ≡ cond (nat_eq id other) (Some d) (lookup (nat_eq other) es)
+pub inserted : {D : Type 0} (es : List (ℕ × D)) (id : ℕ) (d : D) (other : ℕ) → lookup (nat_eq other) (insert_entry nat_eq es id d) ≡ cond (nat_eq id other) (Some d) (lookup (nat_eq other) es)
 inserted [] id d other = grind (arith, nat_tests)
 inserted (e ∷ es) id d other = let i = inserted es id d other in grind (arith, nat_tests)
 

@@ -3,6 +3,9 @@ pub mod Devices
 pub mod Exchanges
 pub mod Engines
 pub mod Marks
+pub mod Turns
+pub mod Known
+pub mod Follows
 pub mod Refusals
 pub mod Wires
 pub mod Passes

@@ -1,6 +1,7 @@
 //! All that a new engine has beside its session.
 
-ghost use Rattle.std.specs.Prelude.{◌≡◌, [], IfOk};
+ghost use Rattle.std.specs.Prelude.{◌≡◌, ◌<◌, [], length, IfOk};
+ghost use Rattle.ymx_engine.specs.Turns.{IsIdle};
 
 use crate::block::Block;
 use crate::connections::Connections;
@@ -33,7 +34,9 @@ pub(crate) struct Buffers {
 impl Buffers {
     /// Takes the memory, in which no bytes wait.
     pub(crate) fn new(alloc: Global) -> Result<Buffers, RefusedAllocation>
-        ensures { IfOk result (λ memory. (memory.outgoing ≡ []) × (memory.incoming ≡ [])) }
+        ensures empty { IfOk result (λ memory. (memory.outgoing ≡ []) × (memory.incoming ≡ [])) }
+        ensures space { IfOk result (λ memory. 0 < length memory.buffer.items) }
+        ensures none { IfOk result (λ memory. (memory.connections.known ≡ []) × IsIdle memory.connections) }
     {
         Ok(Buffers {
             outgoing: Block::new(alloc, OUTGOING)?,

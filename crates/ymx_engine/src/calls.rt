@@ -29,7 +29,8 @@ pub(crate) fn write(session: &mut Session, id: u32, bytes: &[u8]) -> bool
 
 /// Whether the stream takes no bytes any more.
 pub(crate) fn is_stopped(session: &mut Session, id: u32) -> bool
-    ensures { (told : Reply) × Gives in_turn session.old (event.Call (call.Write id [])) told session.new × (is_refusal told ≡ result) }
+    ensures same { session.new ≡ session.old }
+    ensures happened { (told : Reply) × Gives in_turn session.old (event.Call (call.Write id [])) told session.new × (is_refusal told ≡ result) }
 {
     session.write(id, &[]).is_err()
 }

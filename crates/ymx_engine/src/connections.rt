@@ -1,11 +1,40 @@
 //! The connections of an engine by stream id, and whose turn comes.
 
+ghost use Rattle.std.specs.Prelude.{ℕ, ◌≡◌, ◌⊎◌, ◌+◌, ◌∷◌, [], length, nat_eq, min, true, false, None, Some, OnOk, IfSome, IfNone, IsSome};
+ghost use Rattle.ymx_engine.specs.Turns.{known_as, is_idle, Knows, KeepsTurns, SameConnections, SameTurns, SameQueues, Waits, IsIdle, AddsTurn, TakesTurn, WaitOn};
+ghost use Rattle.ymx_engine.specs.Known.{new_connection};
+ghost use Rattle.std.specs.Map.{lookup};
+
 use crate::connection::Connection;
 use indexmap::IndexMap;
 use std::alloc::Global;
 use std::collections::VecDeque;
+use std::marker::Model;
 use ymx_memory::RefusedAllocation;
 use ymx_session::Touched;
+
+/// What is known of a connection, and in which queues it stands.
+#[derive(Clone, Copy)]
+pub(crate) struct Entry {
+    connection: Connection,
+    /// It waits for its turn.
+    is_queued: bool,
+    /// It waits until nothing waits for the wire.
+    is_held: bool,
+}
+
+impl Entry {
+    /// It stands in no queue.
+    fn new(connection: Connection) -> Entry
+        ensures { result ≡ record { connection = connection; is_queued = false; is_held = false } }
+    {
+        Entry {
+            connection,
+            is_queued: false,
+            is_held: false,
+        }
+    }
+}
 
 /// Connections by stream id, those that may have something to move, each once, and those that are held back while
 /// bytes wait for the wire.
@@ -14,7 +43,7 @@ use ymx_session::Touched;
 /// that moves few bytes now and then does not wait behind all that move as many as they can.
 #[derive(Drop)]
 pub(crate) struct Connections {
-    by_id: IndexMap<u32, Connection>,
+    by_id: IndexMap<u32, Entry>,
     /// Those that came to have something to move.
     fresh: VecDeque<u32>,
     /// Those that have more to move.
@@ -24,9 +53,24 @@ pub(crate) struct Connections {
     is_for_busy: bool,
 }
 
+impl Model for Connections {
+    ghost use Rattle.std.specs.Prelude.{◌&&◌, nat_lt};
+    ghost use Rattle.std.specs.VecDeque.{deque_len, deque_capacity};
+    ghost use Rattle.indexmap.specs.IndexMap.{spare};
+    ghost use Rattle.ymx_engine.specs.Turns.{Turns, AreListed};
+
+    ghost Value = { Turns };
+
+    ghost view = { λ c. record { known = c.by_id.entries; fresh = c.fresh.items; busy = c.busy.items; held = c.held.items; has_room = nat_lt (deque_len c.fresh) (deque_capacity c.fresh) && nat_lt (deque_len c.busy) (deque_capacity c.busy); has_place = nat_lt 0 (spare c.by_id) } };
+
+    ghost invariant = { λ c. AreListed c.by_id.entries c.fresh.items c.busy.items };
+}
+
 impl Connections {
     /// There are none.
-    pub(crate) fn new(alloc: Global) -> Connections {
+    pub(crate) fn new(alloc: Global) -> Connections
+        ensures { (result.known ≡ []) × (result.fresh ≡ []) × (result.busy ≡ []) × (result.held ≡ []) }
+    {
         Connections {
             by_id: IndexMap::new(alloc),
             fresh: VecDeque::new(alloc),
@@ -36,50 +80,81 @@ impl Connections {
         }
     }
 
-    /// How many may have something to move.
-    pub(crate) fn queued_count(&self) -> usize {
+    /// How many wait for a turn.
+    pub(crate) fn queued_count(&self) -> usize
+        ensures { result ≡ min (length self.now.fresh + length self.now.busy) usize.MAX }
+    {
         self.fresh.len().saturating_add(self.busy.len())
     }
 
+    /// Whether none waits for a turn.
+    pub(crate) fn is_idle(&self) -> bool
+        ensures { result ≡ is_idle self.now }
+    {
+        self.fresh.is_empty() && self.busy.is_empty()
+    }
+
     /// Memory for one more, and for its turns.
-    pub(crate) fn reserve(&mut self) -> Result<(), RefusedAllocation> {
+    pub(crate) fn reserve(&mut self) -> Result<(), RefusedAllocation>
+        ensures known { SameConnections self.old self.new }
+        ensures queues { SameQueues self.old self.new }
+        ensures room { OnOk result ((self.new.has_room ≡ true) × (self.new.has_place ≡ true)) }
+    {
         let all = self.by_id.len().saturating_add(1);
         ymx_memory::reserve_queue(&mut self.fresh, all, &self.by_id)?;
         ymx_memory::reserve_queue(&mut self.busy, all, &self.by_id)?;
         ymx_memory::reserve_queue(&mut self.held, all, &self.by_id)?;
-        ymx_memory::insert(&mut self.by_id, 0, Connection::new(false))?;
-        let _ = self.by_id.swap_remove(&0);
-        Ok(())
+        ymx_memory::reserve_map(&mut self.by_id)
     }
 
     /// Adds one, for which there is memory, and which has something to move if its device is ready.
-    pub(crate) fn add(&mut self, id: u32, ready: bool) {
-        let _ = ymx_memory::insert(&mut self.by_id, id, Connection::new(ready));
+    pub(crate) fn add(&mut self, id: u32, ready: bool)
+        requires room { self.old.has_room ≡ true }
+        requires place { self.old.has_place ≡ true }
+        ensures known { Knows id (Some (new_connection ready)) self.old self.new }
+        ensures waits { Waits id self.new }
+        ensures turn { AddsTurn id self.old self.new }
+    {
+        let _ = ymx_memory::insert(&mut self.by_id, id, Entry::new(Connection::new(ready)));
         self.enqueue(id);
     }
 
     /// It is there no more.
-    pub(crate) fn remove(&mut self, id: u32) {
+    pub(crate) fn remove(&mut self, id: u32)
+        ensures known { Knows id None self.old self.new }
+        ensures queues { SameQueues self.old self.new }
+    {
         let _ = self.by_id.swap_remove(&id);
     }
 
     /// What is known of one.
-    pub(crate) fn get(&self, id: u32) -> Option<Connection> {
+    pub(crate) fn get(&self, id: u32) -> Option<Connection>
+        ensures { result ≡ known_as id self.now.known }
+    {
         match self.by_id.get(&id) {
-            Some(found) => Some(*found),
+            Some(found) => Some(found.connection),
             None => None,
         }
     }
 
-    /// What is known of one changes.
-    pub(crate) fn set(&mut self, id: u32, connection: Connection) {
+    /// What is known of one changes, if it is there.
+    pub(crate) fn set(&mut self, id: u32, connection: Connection)
+        ensures known { IsSome (known_as id self.old.known) → Knows id (Some connection) self.old self.new }
+        ensures none { known_as id self.old.known ≡ None → SameConnections self.old self.new }
+        ensures queues { SameQueues self.old self.new }
+        ensures room { self.new.has_room ≡ self.old.has_room }
+    {
         if let Some(found) = self.by_id.get_mut(&id) {
-            *found = connection;
+            found.connection = connection;
         }
     }
 
     /// It may have something to move.
-    pub(crate) fn enqueue(&mut self, id: u32) {
+    pub(crate) fn enqueue(&mut self, id: u32)
+        ensures known { SameConnections self.old self.new }
+        ensures turn { AddsTurn id self.old self.new }
+        ensures waits { IsSome (known_as id self.old.known) → self.old.has_room ≡ true → Waits id self.new }
+    {
         if let Some(found) = self.by_id.get_mut(&id) {
             if !found.is_queued {
                 found.is_queued = self.fresh.push_back(id).is_ok();
@@ -88,7 +163,11 @@ impl Connections {
     }
 
     /// It had a turn, and has more to move.
-    pub(crate) fn enqueue_again(&mut self, id: u32) {
+    pub(crate) fn enqueue_again(&mut self, id: u32)
+        ensures known { SameConnections self.old self.new }
+        ensures turn { AddsTurn id self.old self.new }
+        ensures waits { IsSome (known_as id self.old.known) → self.old.has_room ≡ true → Waits id self.new }
+    {
         if let Some(found) = self.by_id.get_mut(&id) {
             if !found.is_queued {
                 found.is_queued = self.busy.push_back(id).is_ok();
@@ -97,7 +176,10 @@ impl Connections {
     }
 
     /// It may have something to move once nothing waits for the wire.
-    pub(crate) fn hold(&mut self, id: u32) {
+    pub(crate) fn hold(&mut self, id: u32)
+        ensures known { SameConnections self.old self.new }
+        ensures turns { SameTurns self.old self.new }
+    {
         if let Some(found) = self.by_id.get_mut(&id) {
             if !found.is_held {
                 found.is_held = self.held.push_back(id).is_ok();
@@ -105,58 +187,125 @@ impl Connections {
         }
     }
 
-    /// Whose turn it is.
-    pub(crate) fn next(&mut self) -> Option<u32> {
-        let id = self.pop()?;
-        if let Some(found) = self.by_id.get_mut(&id) {
-            found.is_queued = false;
+    /// One had a turn, which left this known of it. It waits for a further turn where it has `more` to move, or until
+    /// nothing waits for the wire where it `holds`.
+    pub(crate) fn end_turn(&mut self, id: u32, connection: Connection, more: bool, holds: bool)
+        ensures known { IsSome (known_as id self.old.known) → Knows id (Some connection) self.old self.new }
+        ensures turns { WaitOn self.old self.new }
+        ensures again { more ≡ true → IsSome (known_as id self.old.known) → self.old.has_room ≡ true → Waits id self.new }
+    {
+        self.set(id, connection);
+        if more {
+            self.enqueue_again(id);
+        } else if holds {
+            self.hold(id);
         }
+    }
+
+    /// Whose turn it is.
+    pub(crate) fn next(&mut self) -> Option<u32>
+        ensures known { SameConnections self.old self.new }
+        ensures some { IfSome result (λ id. TakesTurn id self.old self.new) }
+        ensures none { IfNone result (IsIdle self.old × IsIdle self.new) }
+    {
+        let id = pop(&mut self.fresh, &mut self.busy, &mut self.is_for_busy)?;
+        note_turn(&mut self.by_id, id);
         Some(id)
     }
 
-    /// Takes the first out of the queue whose turn it is, and if that is empty, out of the other.
-    fn pop(&mut self) -> Option<u32> {
-        let is_for_busy = self.is_for_busy && !self.busy.is_empty();
-        self.is_for_busy = !is_for_busy;
-        if is_for_busy || self.fresh.is_empty() {
-            self.busy.pop_front()
-        } else {
-            self.fresh.pop_front()
-        }
-    }
-
     /// Nothing waits for the wire: those that were held back have their turns.
-    pub(crate) fn release(&mut self) {
-        for _ in 0..self.held.len() {
-            let Some(id) = self.held.pop_front() else {
+    pub(crate) fn release(&mut self)
+        ensures { KeepsTurns self.old self.new }
+    {
+        'held: for _ in 0..self.held.len() {
+            let Some(id) = self.let_go() else {
                 return;
             };
-            if let Some(found) = self.by_id.get_mut(&id) {
-                found.is_held = false;
-            }
             self.enqueue_again(id);
         }
     }
 
+    /// The first of those that are held back is so no more.
+    fn let_go(&mut self) -> Option<u32>
+        ensures known { SameConnections self.old self.new }
+        ensures turns { SameTurns self.old self.new }
+    {
+        let id = self.held.pop_front()?;
+        if let Some(found) = self.by_id.get_mut(&id) {
+            found.is_held = false;
+        }
+        Some(id)
+    }
+
     /// All have something to move.
-    pub(crate) fn enqueue_all(&mut self) {
-        for place in 0..self.by_id.len() {
-            let Some((id, _)) = self.by_id.get_index(place) else {
+    pub(crate) fn enqueue_all(&mut self)
+        ensures { KeepsTurns self.old self.new }
+    {
+        'place: for place in 0..self.by_id.len() {
+            let Some(id) = self.id_at(place) else {
                 return;
             };
-            let id = *id;
             self.enqueue(id);
         }
     }
 
-    /// Those that bytes of the peer touched have something to move.
-    pub(crate) fn enqueue_touched(&mut self, touched: &mut Touched) {
-        for id in touched.ids() {
-            self.enqueue(*id);
+    /// The stream of the connection at this place.
+    fn id_at(&self, place: usize) -> Option<u32> {
+        match self.by_id.get_index(place) {
+            Some((id, _)) => Some(*id),
+            None => None,
         }
+    }
+
+    /// Those that bytes of the peer touched have something to move.
+    pub(crate) fn enqueue_touched(&mut self, touched: &mut Touched)
+        ensures { KeepsTurns self.old self.new }
+    {
+        self.enqueue_those(touched);
+        touched.clear();
+    }
+
+    /// Those that were touched have something to move.
+    fn enqueue_those(&mut self, touched: &Touched)
+        ensures { KeepsTurns self.old self.new }
+    {
+        self.enqueue_some(touched.ids());
         if touched.is_all() {
             self.enqueue_all();
         }
-        touched.clear();
+    }
+
+    /// These have something to move.
+    fn enqueue_some(&mut self, ids: &[u32])
+        ensures { KeepsTurns self.old self.new }
+    {
+        'id: for id in ids {
+            self.enqueue(*id);
+        }
+    }
+}
+
+/// This one waits for no turn.
+fn note_turn(by_id: &mut IndexMap<u32, Entry>, id: u32)
+    ensures known { (other : ℕ) → known_as other by_id.new.entries ≡ known_as other by_id.old.entries }
+    ensures others { (other : ℕ) → nat_eq id other ≡ false → lookup (nat_eq other) by_id.new.entries ≡ lookup (nat_eq other) by_id.old.entries }
+    ensures unmarked { IfSome (lookup (nat_eq id) by_id.new.entries) (λ e. e.is_queued ≡ false) }
+{
+    if let Some(found) = by_id.get_mut(&id) {
+        found.is_queued = false;
+    }
+}
+
+/// Takes the first out of the queue whose turn it is, and if that is empty, out of the other.
+fn pop(fresh: &mut VecDeque<u32>, busy: &mut VecDeque<u32>, is_for_busy: &mut bool) -> Option<u32>
+    ensures some { IfSome result (λ id. (fresh.old.items ≡ id ∷ fresh.new.items) × (busy.new.items ≡ busy.old.items) ⊎ (busy.old.items ≡ id ∷ busy.new.items) × (fresh.new.items ≡ fresh.old.items)) }
+    ensures none { IfNone result ((fresh.old.items ≡ []) × (busy.old.items ≡ []) × (fresh.new.items ≡ []) × (busy.new.items ≡ [])) }
+{
+    let takes_busy = *is_for_busy && !busy.is_empty();
+    *is_for_busy = !takes_busy;
+    if takes_busy || fresh.is_empty() {
+        busy.pop_front()
+    } else {
+        fresh.pop_front()
     }
 }

@@ -1,7 +1,10 @@
 //! Devices that never wait.
 
 ghost use Rattle.std.specs.Prelude.{◌≡◌};
+ghost use Rattle.std.specs.Io.Slices.{io_slices_bytes};
 ghost use Rattle.ymx_engine.specs.Devices.{Seen, IsPulled, IsPushed, IsEnded, IsShut, pulled_count, pushed_count};
+
+use std::io::IoSlice;
 
 /// What a call for bytes answered.
 #[derive(Clone, Copy, Debug, PartialEq, Eq)]
@@ -67,6 +70,10 @@ pub trait Device {
     /// Takes the first of these bytes, and says how many.
     fn push(&mut self, bytes: &[u8]) -> Pushed
         ensures { IsPushed result bytes.now (seen self.old) (seen self.new) };
+
+    /// Takes the first of these bytes, which lie in several pieces, in one call, and says how many.
+    fn push_pieces(&mut self, pieces: &[IoSlice<'_>]) -> Pushed
+        ensures { IsPushed result (io_slices_bytes pieces.now) (seen self.old) (seen self.new) };
 
     /// No more bytes will be pushed. Bytes may still come.
     fn end(&mut self)

@@ -1,12 +1,13 @@
 //! The type `Engine`, and its calls.
 
-ghost use Rattle.std.specs.Prelude.{◌≡◌, ◌==◌, ◌<◌, ◌≤◌, ◌+◌, ◌⊎◌, ◌||◌, not, [], length, drop, true, false, IfOk, IfErr, OnErr, IfSome, IfNone, IsSome, Some, None};
+ghost use Rattle.std.specs.Prelude.{◌≡◌, ◌==◌, ◌<◌, ◌≤◌, ◌+◌, ◌⊎◌, ◌||◌, not, min, [], length, drop, true, false, IfOk, OnOk, IfErr, OnErr, IfSome, IfNone, IsSome, Some, None};
 ghost use Rattle.ymx_model.specs.declared.types.Event.TheVariants as event;
 ghost use Rattle.ymx_machine.specs.declared.types.Call.TheVariants as call;
 ghost use Rattle.ymx_machine.specs.shared.Events.{Reply};
 ghost use Rattle.ymx_machine.specs.declared.types.Reply.TheVariants as reply;
 ghost use Rattle.ymx_model.specs.session.Emissions.{in_turn};
 ghost use Rattle.ymx_model.specs.session.Feeds.{is_stuck};
+ghost use Rattle.ymx_model.specs.session.Sessions.{is_running};
 ghost use Rattle.ymx_model.specs.session.Histories.{Gives};
 ghost use Rattle.ymx_session.specs.declared.passing.Passing.{Passing};
 ghost use Rattle.ymx_session.specs.Passing.{passing};
@@ -14,7 +15,11 @@ ghost use Rattle.ymx_session.specs.Replies.{pinged_or, ponged_or};
 ghost use Rattle.ymx_engine.specs.Devices.{pulled_count, pushed_count, is_end, is_pull_failure, is_push_failure, CountsSome};
 ghost use Rattle.ymx_engine.specs.Engines.{KeepsWire, IsFedOrStuck, IsFlushed};
 ghost use Rattle.ymx_engine.specs.Exchanges.{has_bytes};
-ghost use Rattle.ymx_engine.specs.Marks.{has_to_send, may_have_bytes};
+ghost use Rattle.ymx_engine.specs.Follows.{FollowsDevice, IsOffered, IsAsked, StillKnown};
+ghost use Rattle.ymx_engine.specs.Known.{may_push, may_pull, new_connection, noted};
+ghost use Rattle.ymx_session.specs.Streams.{waiting, room_of};
+ghost use Rattle.ymx_engine.specs.Marks.{has_to_send, takes_more, may_have_bytes, may_read_wire, has_work};
+ghost use Rattle.ymx_engine.specs.Turns.{known_as, Knows, Adds, SameConnections, SameQueues, KeepsTurns, KeepsOthers, Waits, IsIdle, AddsTurn, TakesTurn};
 ghost use Rattle.ymx_engine.specs.Serves.{Exchanges};
 ghost use Rattle.ymx_engine.specs.Passes.{IsPayload, PassesOn};
 ghost use Rattle.ymx_engine.specs.Refusals.{GivesUp, OpensNone, OffersNone};
@@ -26,6 +31,7 @@ use crate::connection::Connection;
 use crate::connections::Connections;
 use crate::device::{Device, Pulled, Pushed};
 use crate::exchange::serve;
+use crate::gathering::gather;
 use crate::passing::offer;
 use crate::sending::put_due;
 use std::alloc::Global;
@@ -62,16 +68,21 @@ pub struct Engine {
 impl Model for Engine {
     ghost use Rattle.ymx_engine.specs.Devices.{is_end, is_pull_failure, is_push_failure};
     ghost use Rattle.ymx_engine.specs.Marks.{EngineView};
+    ghost use Rattle.std.specs.Prelude.{◌<◌, length};
 
     ghost Value = { EngineView };
 
-    ghost view = { λ e. record { engine = record { session = e.session; outgoing = e.outgoing; incoming = e.incoming }; marks = record { can_pull_wire = e.can_pull_wire; can_push_wire = e.can_push_wire; is_wire_over = e.is_wire_over } } };
+    ghost view = { λ e. record { engine = record { session = e.session; outgoing = e.outgoing; incoming = e.incoming }; marks = record { can_pull_wire = e.can_pull_wire; can_push_wire = e.can_push_wire; is_wire_over = e.is_wire_over }; turns = e.connections } };
+
+    ghost invariant = { λ e. 0 < length e.buffer.items };
 }
 
 impl Engine {
     /// Makes an engine of a session, with the memory for its buffers.
     pub fn new(alloc: Global, session: Session) -> Result<Engine, RefusedAllocation>
-        ensures { IfOk result (λ view. view.engine ≡ record { session = session; outgoing = []; incoming = [] }) }
+        ensures engine { IfOk result (λ view. view.engine ≡ record { session = session; outgoing = []; incoming = [] }) }
+        ensures marks { IfOk result (λ view. view.marks ≡ record { can_pull_wire = true; can_push_wire = true; is_wire_over = false }) }
+        ensures none { IfOk result (λ view. (view.turns.known ≡ []) × IsIdle view.turns) }
     {
         let memory = Buffers::new(alloc)?;
         Ok(Engine {
@@ -94,6 +105,7 @@ impl Engine {
     pub fn note_wire(&mut self, can_pull: bool, can_push: bool)
         ensures engine { self.new.engine ≡ self.old.engine }
         ensures noted { self.new.marks ≡ record self.old.marks { can_pull_wire = self.old.marks.can_pull_wire || can_pull; can_push_wire = self.old.marks.can_push_wire || can_push } }
+        ensures turns { self.new.turns ≡ self.old.turns }
     {
         self.can_pull_wire |= can_pull;
         self.can_push_wire |= can_push;
@@ -103,6 +115,13 @@ impl Engine {
     /// its end is near.
     pub fn note_device(&mut self, id: u32, can_pull: bool, can_push: bool, is_closing: bool)
         ensures engine { self.new.engine ≡ self.old.engine }
+        ensures marks { self.new.marks ≡ self.old.marks }
+        // All that was said is known, and the connection waits for a turn.
+        ensures noted { IfSome (known_as id self.old.turns.known) (λ known. Knows id (Some (noted can_pull can_push is_closing known)) self.old.turns self.new.turns) }
+        ensures waits { IsSome (known_as id self.old.turns.known) → self.old.turns.has_room ≡ true → Waits id self.new.turns }
+        // Nothing else changes.
+        ensures none { known_as id self.old.turns.known ≡ None → self.new ≡ self.old }
+        ensures turn { AddsTurn id self.old.turns self.new.turns }
     {
         if let Some(found) = self.connections.get(id) {
             let mut connection = found;
@@ -125,6 +144,10 @@ impl Engine {
         ensures refused { IfErr result (λ fault. OpensNone fault self.old.engine.session self.new.engine.session) }
         // The bytes that wait on the wire's two sides stay.
         ensures wire { KeepsWire self.old.engine self.new.engine }
+        ensures marks { self.new.marks ≡ self.old.marks }
+        // The connection is new, is known and waits for a turn; of each other the same is known.
+        ensures added { IfOk result (λ id. Adds id (new_connection true) self.old.turns self.new.turns) }
+        ensures none { OnErr result (SameConnections self.old.turns self.new.turns × SameQueues self.old.turns self.new.turns) }
     {
         if let Err(refused) = self.reserve() {
             return Err(CallFault::OutOfMemory(refused));
@@ -141,19 +164,29 @@ impl Engine {
     /// Takes memory for one more connection.
     fn reserve(&mut self) -> Result<(), RefusedAllocation>
         ensures engine { self.new.engine ≡ self.old.engine }
+        ensures marks { self.new.marks ≡ self.old.marks }
+        ensures known { SameConnections self.old.turns self.new.turns }
+        ensures queues { SameQueues self.old.turns self.new.turns }
+        ensures room { OnOk result ((self.new.turns.has_room ≡ true) × (self.new.turns.has_place ≡ true)) }
     {
         self.connections.reserve()
     }
 
     /// Adds a connection, for which there is memory. `ready` says whether its device may be used.
     fn add(&mut self, id: u32, ready: bool)
+        requires room { self.old.turns.has_room ≡ true }
+        requires place { self.old.turns.has_place ≡ true }
         ensures engine { self.new.engine ≡ self.old.engine }
+        ensures marks { self.new.marks ≡ self.old.marks }
+        ensures added { Adds id (new_connection ready) self.old.turns self.new.turns }
     {
         self.connections.add(id, ready);
     }
 
     /// Opens a stream of the session.
     fn open_stream(&mut self) -> Result<u32, CallFault>
+        ensures marks { self.new.marks ≡ self.old.marks }
+        ensures turns { self.new.turns ≡ self.old.turns }
         ensures opened { IfOk result (λ id. Gives in_turn self.old.engine.session (event.Call call.Open) (reply.Opened id) self.new.engine.session) }
         ensures refused { IfErr result (λ fault. Gives in_turn self.old.engine.session (event.Call call.Open) (reply.Refused fault) self.new.engine.session × (self.new.engine.session ≡ self.old.engine.session)) }
         ensures wire { KeepsWire self.old.engine self.new.engine }
@@ -171,6 +204,11 @@ impl Engine {
         ensures refused { OnErr result (self.new.engine ≡ self.old.engine) }
         // The bytes that wait on the wire's two sides stay.
         ensures wire { KeepsWire self.old.engine self.new.engine }
+        ensures marks { self.new.marks ≡ self.old.marks }
+        // The connection is new, is known and waits for a turn; of each other the same is known.
+        ensures added { IfOk result (λ offered. IfSome offered (λ id. Adds id (new_connection false) self.old.turns self.new.turns)) }
+        ensures same { IfOk result (λ offered. IfNone offered (SameConnections self.old.turns self.new.turns × SameQueues self.old.turns self.new.turns)) }
+        ensures unknown { OnErr result (SameConnections self.old.turns self.new.turns × SameQueues self.old.turns self.new.turns) }
     {
         self.reserve()?;
         match self.take_offered() {
@@ -185,6 +223,8 @@ impl Engine {
     /// Takes the offered stream that came first, and keeps no connection for it, so that no memory is needed: what follows
     /// is `refuse`. `None` where the session offers none, or refuses.
     pub fn take_offered(&mut self) -> Option<u32>
+        ensures marks { self.new.marks ≡ self.old.marks }
+        ensures turns { self.new.turns ≡ self.old.turns }
         ensures accepted { IfSome result (λ id. Gives in_turn self.old.engine.session (event.Call call.Accept) (reply.Accepted (Some id)) self.new.engine.session) }
         ensures none { IfNone result (OffersNone self.old.engine.session self.new.engine.session) }
         ensures wire { KeepsWire self.old.engine self.new.engine }
@@ -197,6 +237,8 @@ impl Engine {
 
     /// Resets a stream and forgets it.
     fn drop_stream(&mut self, id: u32)
+        ensures marks { self.new.marks ≡ self.old.marks }
+        ensures turns { self.new.turns ≡ self.old.turns }
         ensures given_up { GivesUp id self.old.engine.session self.new.engine.session }
         ensures wire { KeepsWire self.old.engine self.new.engine }
     {
@@ -209,6 +251,10 @@ impl Engine {
     pub fn refuse(&mut self, id: u32)
         ensures given_up { GivesUp id self.old.engine.session self.new.engine.session }
         ensures wire { KeepsWire self.old.engine self.new.engine }
+        // Nothing is known of it any more, and of each other the same.
+        ensures gone { Knows id None self.old.turns self.new.turns }
+        ensures queues { SameQueues self.old.turns self.new.turns }
+        ensures marks { self.new.marks ≡ self.old.marks }
     {
         self.connections.remove(id);
         self.drop_stream(id);
@@ -218,6 +264,10 @@ impl Engine {
     pub fn forget(&mut self, id: u32)
         ensures forgotten { (told : Reply) × Gives in_turn self.old.engine.session (event.Call (call.Forget id)) told self.new.engine.session }
         ensures wire { KeepsWire self.old.engine self.new.engine }
+        // Nothing is known of it any more, and of each other the same.
+        ensures gone { Knows id None self.old.turns self.new.turns }
+        ensures queues { SameQueues self.old.turns self.new.turns }
+        ensures marks { self.new.marks ≡ self.old.marks }
     {
         self.connections.remove(id);
         let _ = self.session.forget(id);
@@ -228,6 +278,8 @@ impl Engine {
     pub fn ping(&mut self) -> Result<u32, CallFault>
         ensures event { Gives in_turn self.old.engine.session (event.Call call.Ping) (pinged_or result) self.new.engine.session }
         ensures wire { KeepsWire self.old.engine self.new.engine }
+        ensures marks { self.new.marks ≡ self.old.marks }
+        ensures turns { self.new.turns ≡ self.old.turns }
     {
         self.session.ping()
     }
@@ -237,24 +289,35 @@ impl Engine {
     pub fn ponged(&mut self, number: u32) -> Result<bool, CallFault>
         ensures event { Gives in_turn self.old.engine.session (event.Call (call.Ponged number)) (ponged_or result) self.new.engine.session }
         ensures wire { KeepsWire self.old.engine self.new.engine }
+        ensures marks { self.new.marks ≡ self.old.marks }
+        ensures turns { self.new.turns ≡ self.old.turns }
     {
         self.session.ponged(number)
     }
 
     /// What is known of a connection.
-    pub fn connection(&self, id: u32) -> Option<Connection> {
+    pub fn connection(&self, id: u32) -> Option<Connection>
+        ensures { result ≡ known_as id self.now.turns.known }
+    {
         self.connections.get(id)
     }
 
-    /// The connection whose turn it is, among those that may have something to move.
+    /// The connection whose turn it is, among those that may have something to move. `None` where none waits for a turn.
     pub fn next(&mut self) -> Option<u32>
+        // The first of one of the two queues, which stands there no more.
+        ensures some { IfSome result (λ id. TakesTurn id self.old.turns self.new.turns) }
+        ensures none { IfNone result (IsIdle self.old.turns × IsIdle self.new.turns) }
+        ensures known { SameConnections self.old.turns self.new.turns }
         ensures engine { self.new.engine ≡ self.old.engine }
+        ensures marks { self.new.marks ≡ self.old.marks }
     {
         self.connections.next()
     }
 
     /// How many connections may have something to move.
-    pub fn queued_count(&self) -> usize {
+    pub fn queued_count(&self) -> usize
+        ensures { result ≡ min (length self.now.turns.fresh + length self.now.turns.busy) usize.MAX }
+    {
         self.connections.queued_count()
     }
 
@@ -270,6 +333,15 @@ impl Engine {
         // A turn is short, and takes nothing of what the wire gave.
         ensures calls { (D.seen device.new).calls ≤ (D.seen device.old).calls + 13 }
         ensures incoming { self.new.engine.incoming ≡ self.old.engine.incoming }
+        // Its connection is known as its device said.
+        ensures follows { StillKnown id self.old.turns self.new.turns (λ was now. FollowsDevice was now (D.seen device.old).counts (D.seen device.new).counts) }
+        // Where bytes wait in the stream and its device may take some, it is offered some.
+        ensures delivers { 0 < length (waiting id self.old.engine.session) → StillKnown id self.old.turns self.new.turns (λ was now. may_push was ≡ true → IsOffered now (D.seen device.old).counts (D.seen device.new).counts) }
+        // Where connections may be read and its device may have bytes, it is asked for some, unless the stream takes none.
+        ensures collects { takes_more self.old ≡ true → StillKnown id self.old.turns self.new.turns (λ was now. may_pull was ≡ true → IsAsked now (D.seen device.old).counts (D.seen device.new).counts (room_of id self.new.engine.session)) }
+        // Of each other connection the same is known, and each that waits for a turn waits on.
+        ensures others { KeepsOthers id self.old.turns self.new.turns }
+        ensures marks { self.new.marks ≡ self.old.marks }
     {
         if let Some(found) = self.connections.get(id) {
             let mut connection = found;
@@ -284,17 +356,15 @@ impl Engine {
                 &mut self.outgoing,
                 may_pull,
             );
-            self.connections.set(id, connection);
-            if more {
-                self.connections.enqueue_again(id);
-            } else if !may_pull && connection.may_pull() {
-                self.connections.hold(id);
-            }
+            let holds = connection.is_put_off(may_pull);
+            self.connections.end_turn(id, connection, more, holds);
         }
     }
 
     /// Whether connections may be read: not while bytes wait that the wire doesn't take, nor while many wait.
-    fn may_take_more(&self) -> bool {
+    fn may_take_more(&self) -> bool
+        ensures { result ≡ takes_more self.now }
+    {
         let waiting = self.outgoing.waiting().len();
         self.is_wire_over || waiting == 0 || (self.can_push_wire && waiting < FRAMES)
     }
@@ -311,6 +381,10 @@ impl Engine {
         ensures moved { ReadsWire self.old.engine self.new.engine (D.seen wire.old) (D.seen wire.new) 1 }
         // Nothing waits that the session would take now.
         ensures rest { IsFedOrStuck self.new.engine }
+        // Where nothing waits to be fed and the wire may have bytes, it is asked for some.
+        ensures asks { self.old.engine.incoming ≡ [] → may_have_bytes self.old.marks ≡ true → CountsSome (D.seen wire.old).counts.pulls (D.seen wire.new).counts.pulls }
+        ensures push { self.new.marks.can_push_wire ≡ self.old.marks.can_push_wire }
+        ensures turns { KeepsTurns self.old.turns self.new.turns }
     {
         self.pull_wire(wire);
         if !self.is_fed() {
@@ -328,8 +402,9 @@ impl Engine {
         ensures some { self.old.engine.incoming ≡ [] → (0 < length self.new.engine.incoming) ⊎ (may_have_bytes self.new.marks ≡ false) }
         // Else nothing happens.
         ensures still { (has_bytes self.old.engine.incoming || not (may_have_bytes self.old.marks)) ≡ true → self.new ≡ self.old }
-        // That the wire may take bytes stays.
+        // That the wire may take bytes stays, and so does what is known of connections.
         ensures push { self.new.marks.can_push_wire ≡ self.old.marks.can_push_wire }
+        ensures turns { KeepsTurns self.old.turns self.new.turns }
     {
         if self.is_fed() && self.may_pull_wire() {
             self.pull_once(wire);
@@ -358,6 +433,7 @@ impl Engine {
         ensures asked { CountsSome (D.seen wire.old).counts.pulls (D.seen wire.new).counts.pulls }
         ensures some { (0 < length self.new.engine.incoming) ⊎ (may_have_bytes self.new.marks ≡ false) }
         ensures push { self.new.marks.can_push_wire ≡ self.old.marks.can_push_wire }
+        ensures turns { KeepsTurns self.old.turns self.new.turns }
         ensures moved { ReadsWireSo (is_end result) (is_pull_failure result) self.old.engine self.new.engine (D.seen wire.old) (D.seen wire.new) 1 }
     {
         let pulled = self.take_from_wire(wire);
@@ -369,6 +445,7 @@ impl Engine {
     fn take_from_wire<D: Device>(&mut self, wire: &mut D) -> Pulled
         requires { self.old.engine.incoming ≡ [] }
         ensures marks { self.new.marks ≡ self.old.marks }
+        ensures turns { self.new.turns ≡ self.old.turns }
         ensures moved { TakesIn result self.old.engine self.new.engine (D.seen wire.old) (D.seen wire.new) }
     {
         self.incoming.pull_from(wire)
@@ -379,6 +456,7 @@ impl Engine {
         ensures wire { KeepsWire self.old.engine self.new.engine }
         ensures some { (0 < pulled_count pulled) ⊎ (may_have_bytes self.new.marks ≡ false) }
         ensures push { self.new.marks.can_push_wire ≡ self.old.marks.can_push_wire }
+        ensures turns { KeepsTurns self.old.turns self.new.turns }
         ensures heard { HandlesIn (is_end pulled || is_pull_failure pulled) self.old.engine self.new.engine }
     {
         match pulled {
@@ -393,12 +471,15 @@ impl Engine {
     fn note_pulled(&mut self, more: bool)
         ensures engine { self.new.engine ≡ self.old.engine }
         ensures noted { self.new.marks ≡ record self.old.marks { can_pull_wire = more } }
+        ensures turns { self.new.turns ≡ self.old.turns }
     {
         self.can_pull_wire = more;
     }
 
     /// Feeds all that waits, and queues the streams that it touches.
     fn feed(&mut self)
+        ensures marks { self.new.marks ≡ self.old.marks }
+        ensures turns { KeepsTurns self.old.turns self.new.turns }
         ensures fed { HandlesIn false self.old.engine self.new.engine }
         ensures rest { IsFedOrStuck self.new.engine }
     {
@@ -408,6 +489,8 @@ impl Engine {
 
     /// Feeds the first of the bytes that wait, so many at most, and queues the streams that they touch.
     fn feed_front(&mut self, count: usize)
+        ensures marks { self.new.marks ≡ self.old.marks }
+        ensures turns { KeepsTurns self.old.turns self.new.turns }
         ensures fed { HandlesIn false self.old.engine self.new.engine }
         ensures some { is_stuck self.old.engine.session ≡ false → 0 < count → 0 < length self.old.engine.incoming → length self.new.engine.incoming < length self.old.engine.incoming }
         ensures rest { length self.old.engine.incoming ≤ count → IsFedOrStuck self.new.engine }
@@ -422,6 +505,7 @@ impl Engine {
     fn hear_fed(&mut self, lacks_memory: bool)
         ensures engine { self.new.engine ≡ self.old.engine }
         ensures marks { self.new.marks ≡ self.old.marks }
+        ensures turns { KeepsTurns self.old.turns self.new.turns }
     {
         self.has_lacked_memory |= lacks_memory;
         self.connections.enqueue_touched(&mut self.touched);
@@ -433,15 +517,20 @@ impl Engine {
     // ---- payload that is passed on
 
     /// Feeds what waits up to a payload that `pass` may give to its connection's device, and returns the id of that
-    /// connection. `None` where all that can be fed now was fed (clause `rest`). A payload whose device may not take bytes
-    /// now goes into its stream's ring, and so does one of which fewer than `least` bytes wait: for so few a call of the
-    /// device is not worth making, as they gather in the ring.
+    /// connection. `None` where all that can be fed now was fed (clause `rest`).
+    ///
+    /// Payload goes into its stream's ring where its device may not take bytes now, or where a call of it is not worth
+    /// making. It is worth one where `least` bytes of the frame wait, or where at least 4,096 bytes do that all go in one
+    /// call: those of at most four frames of the stream that wait in a row, with no more of them behind.
     pub fn advance(&mut self, least: usize) -> Option<u32>
         // What was fed is the front of what waited.
         ensures fed { HandlesIn false self.old.engine self.new.engine }
         // It stops where a payload may be passed on, or where the session takes no more now.
         ensures payload { IfSome result (λ id. IsPayload id 1 self.new.engine) }
         ensures rest { IfNone result (IsFedOrStuck self.new.engine) }
+        // What is known of the wire and of connections stays.
+        ensures marks { self.new.marks ≡ self.old.marks }
+        ensures turns { KeepsTurns self.old.turns self.new.turns }
     {
         // each turn that goes on feeds a byte at least
         let turns = self.incoming.waiting().len().max(1);
@@ -462,6 +551,8 @@ impl Engine {
 
     /// Feeds what waits up to a payload that may be passed on.
     fn feed_to_payload(&mut self)
+        ensures marks { self.new.marks ≡ self.old.marks }
+        ensures turns { KeepsTurns self.old.turns self.new.turns }
         ensures fed { HandlesIn false self.old.engine self.new.engine }
         ensures rest { (self.new.engine.incoming ≡ []) ⊎ ((is_stuck self.new.engine.session ≡ true) ⊎ IsSome (passing self.new.engine.session)) }
     {
@@ -498,20 +589,34 @@ impl Engine {
         }
     }
 
-    /// Whether so many bytes of this stream's payload wait, one at least, and its device may take some.
+    /// Whether payload of this stream waits that is worth a call of its device, which may take some: so many bytes of one
+    /// frame, or all that waits in a row.
     fn may_pass(&self, id: u32, least: usize) -> bool
         ensures { result ≡ true → IsPayload id 1 self.now.engine }
     {
         match self.connections.get(id) {
-            Some(connection) => connection.may_push() && self.payload_count(id) >= least.max(1),
+            Some(connection) => connection.may_push() && self.is_worth_a_call(id, least),
             None => false,
         }
     }
 
-    /// Offers the payload of this stream that waits to its connection's device. What the device takes came and was read
-    /// on the stream at once, with no stay in its ring; the rest goes into the ring. It makes at most two calls of the
-    /// device. Where the device fails, its stream is reset and the device shut. Nothing is offered where no payload of
-    /// this stream waits that may be passed on, or where its device may not take bytes.
+    /// Whether so many bytes of this stream's payload wait, one at least, or all that waits in a row fills a call of its
+    /// device.
+    fn is_worth_a_call(&self, id: u32, least: usize) -> bool
+        ensures { result ≡ true → IsPayload id 1 self.now.engine }
+    {
+        let count = self.payload_count(id);
+        if count == 0 {
+            return false;
+        }
+        count >= least || gather(&self.session, self.incoming.waiting()).fills_a_call(&self.session)
+    }
+
+    /// Offers payload of this stream that waits to its connection's device, in one call: that of at most four frames in a
+    /// row. What the device takes came and was read on the stream at once, with no stay in its ring. What it doesn't take
+    /// of the first frame goes into the ring, and what it doesn't take of the others at the next `advance`. It makes at
+    /// most two calls of the device. Where the device fails, its stream is reset and the device shut. Nothing is offered
+    /// where no payload of this stream waits that may be passed on, or where its device may not take bytes.
     ///
     /// What the device took is what the stream gave (record `PassesOn`). Where payload of this stream waits that may be
     /// passed on, a byte of it at least waits no more (clause `some`).
@@ -520,49 +625,50 @@ impl Engine {
         ensures passed { PassesOn id self.old.engine self.new.engine (D.seen device.old) (D.seen device.new) 2 }
         // Where such payload waits, less of it waits behind the call.
         ensures some { IsPayload id 1 self.old.engine → length self.new.engine.incoming < length self.old.engine.incoming }
+        // Of each other connection the same is known, and each that waits for a turn waits on.
+        ensures others { KeepsOthers id self.old.turns self.new.turns }
+        ensures marks { self.new.marks ≡ self.old.marks }
     {
         let count = self.payload_count(id);
         if count == 0 {
             return;
         }
-        let taken = self.offer(id, count, device);
+        let taken = self.offer(id, device);
         if taken < count {
             self.feed_front(count - taken);
         }
     }
 
-    /// Offers the first bytes that wait, payload of this stream, to its connection's device. How many it took.
-    fn offer<D: Device>(&mut self, id: u32, count: usize, device: &mut D) -> usize
-        requires { IsPayload id count self.old.engine }
+    /// Offers payload of this stream that waits in a row to its connection's device. How many of the bytes that wait came
+    /// then.
+    fn offer<D: Device>(&mut self, id: u32, device: &mut D) -> usize
+        requires { IsPayload id 1 self.old.engine }
         ensures passed { PassesOn id self.old.engine self.new.engine (D.seen device.old) (D.seen device.new) 2 }
         ensures taken { self.new.engine.incoming ≡ drop result self.old.engine.incoming }
         ensures goes_on { result ≡ 0 → is_stuck self.new.engine.session ≡ false }
+        ensures others { KeepsOthers id self.old.turns self.new.turns }
+        ensures marks { self.new.marks ≡ self.old.marks }
     {
         match self.connections.get(id) {
-            Some(connection) if connection.may_push() => {
-                self.offer_to(id, count, connection, device)
-            }
+            Some(connection) if connection.may_push() => self.offer_to(id, connection, device),
             _ => 0,
         }
     }
 
-    /// Offers them to the device of this connection, which may take bytes. How many it took. The connection has a turn
-    /// then, as the end of the stream may have come with them, and a device that failed is let go of at its turn.
-    fn offer_to<D: Device>(
-        &mut self,
-        id: u32,
-        count: usize,
-        connection: Connection,
-        device: &mut D,
-    ) -> usize
-        requires { IsPayload id count self.old.engine }
+    /// Offers it to the device of this connection, which may take bytes. How many of the bytes that wait came then. The
+    /// connection has a turn then, as the end of the stream may have come with them, and a device that failed is let go of
+    /// at its turn.
+    fn offer_to<D: Device>(&mut self, id: u32, connection: Connection, device: &mut D) -> usize
+        requires { IsPayload id 1 self.old.engine }
         ensures passed { PassesOn id self.old.engine self.new.engine (D.seen device.old) (D.seen device.new) 2 }
         ensures taken { self.new.engine.incoming ≡ drop result self.old.engine.incoming }
         ensures goes_on { result ≡ 0 → is_stuck self.new.engine.session ≡ false }
+        ensures others { KeepsOthers id self.old.turns self.new.turns }
+        ensures marks { self.new.marks ≡ self.old.marks }
     {
         let mut connection = connection;
-        let bytes = &self.incoming.waiting()[..count];
-        let taken = offer(&mut self.session, id, &mut connection, device, bytes);
+        let waits = self.incoming.waiting();
+        let taken = offer(&mut self.session, id, &mut connection, device, waits);
         self.incoming.drop_front(taken);
         self.connections.set(id, connection);
         self.connections.enqueue(id);
@@ -575,6 +681,7 @@ impl Engine {
         ensures to_wire { HandlesOut true self.old.engine self.new.engine }
         ensures wire { KeepsWire self.old.engine self.new.engine }
         ensures over { self.new.marks ≡ record self.old.marks { is_wire_over = true } }
+        ensures turns { KeepsTurns self.old.turns self.new.turns }
     {
         self.is_wire_over = true;
         self.session.feed_end();
@@ -592,8 +699,9 @@ impl Engine {
         ensures off { self.old.marks.can_push_wire ≡ true → self.new.marks.can_push_wire ≡ false → CountsSome (D.seen wire.old).counts.pushes (D.seen wire.new).counts.pushes × (0 < length self.new.engine.outgoing) }
         // Where it may take none, nothing happens.
         ensures still { self.old.marks.can_push_wire ≡ false → self.new ≡ self.old }
-        // That the wire may have bytes stays.
+        // That the wire may have bytes stays, and so does what is known of connections.
         ensures pull { self.new.marks.can_pull_wire ≡ self.old.marks.can_pull_wire }
+        ensures turns { KeepsTurns self.old.turns self.new.turns }
     {
         'write: for turn in 0..4u64 {
             if !self.write_once(wire) {
@@ -612,6 +720,7 @@ impl Engine {
         ensures still { self.old.marks.can_push_wire ≡ false → self.new ≡ self.old }
         ensures pull { self.new.marks.can_pull_wire ≡ self.old.marks.can_pull_wire }
         ensures counts { (D.seen wire.old).counts.pushes ≤ (D.seen wire.new).counts.pushes }
+        ensures turns { KeepsTurns self.old.turns self.new.turns }
     {
         if !self.can_push_wire {
             return false;
@@ -629,6 +738,7 @@ impl Engine {
         ensures put { HandlesOut false self.old.engine self.new.engine }
         ensures some { has_to_send self.old.engine ≡ true → 0 < length self.new.engine.outgoing }
         ensures marks { self.new.marks ≡ self.old.marks }
+        ensures turns { self.new.turns ≡ self.old.turns }
     {
         put_due(&mut self.session, &mut self.outgoing);
     }
@@ -640,6 +750,7 @@ impl Engine {
         ensures all { self.new.marks.can_push_wire ≡ true → self.new.engine.outgoing ≡ [] }
         ensures rest { self.new.marks.can_push_wire ≡ false → 0 < length self.new.engine.outgoing }
         ensures pull { self.new.marks.can_pull_wire ≡ self.old.marks.can_pull_wire }
+        ensures turns { KeepsTurns self.old.turns self.new.turns }
         ensures moved { FlushesWireSo (is_push_failure result) self.old.engine self.new.engine (D.seen wire.old) (D.seen wire.new) 1 }
     {
         let all = self.outgoing.waiting().len();
@@ -651,6 +762,7 @@ impl Engine {
     /// The wire takes the first of the bytes that wait.
     fn give_to_wire<D: Device>(&mut self, wire: &mut D) -> Pushed
         ensures marks { self.new.marks ≡ self.old.marks }
+        ensures turns { self.new.turns ≡ self.old.turns }
         ensures moved { GivesOut result self.old.engine self.new.engine (D.seen wire.old) (D.seen wire.new) }
     {
         let pushed = wire.push(self.outgoing.waiting());
@@ -663,6 +775,7 @@ impl Engine {
         ensures wire { KeepsWire self.old.engine self.new.engine }
         ensures push { self.new.marks.can_push_wire ≡ (pushed_count pushed == all) }
         ensures pull { self.new.marks.can_pull_wire ≡ self.old.marks.can_pull_wire }
+        ensures turns { KeepsTurns self.old.turns self.new.turns }
         ensures heard { HandlesOut (is_push_failure pushed) self.old.engine self.new.engine }
     {
         self.note_pushed(pushed.count() == all);
@@ -677,6 +790,7 @@ impl Engine {
     fn note_pushed(&mut self, all: bool)
         ensures engine { self.new.engine ≡ self.old.engine }
         ensures noted { self.new.marks ≡ record self.old.marks { can_push_wire = all } }
+        ensures turns { KeepsTurns self.old.turns self.new.turns }
     {
         self.can_push_wire = all;
         if all {
@@ -688,18 +802,32 @@ impl Engine {
 
     /// Whether a round may move something though no event comes: a connection is queued, the wire may have bytes or bytes
     /// of it wait to be fed, or something is due that the wire may take. If not, the caller may wait for the next event.
-    pub fn has_work(&self) -> bool {
-        self.connections.queued_count() > 0
+    pub fn has_work(&self) -> bool
+        ensures { result ≡ has_work self.now }
+    {
+        !self.connections.is_idle()
             || self.may_read_wire()
             || (self.can_push_wire && (self.session.due() || !self.outgoing.waiting().is_empty()))
     }
 
     /// Whether the wire may have bytes, or bytes of it may be fed now.
-    fn may_read_wire(&self) -> bool {
+    fn may_read_wire(&self) -> bool
+        ensures { result ≡ may_read_wire self.now }
+    {
         if self.incoming.waiting().is_empty() {
             self.may_pull_wire()
         } else {
-            self.outgoing.waiting().is_empty() && self.session.status() == Status::Running
+            self.outgoing.waiting().is_empty() && self.is_running()
+        }
+    }
+
+    /// Whether the session runs.
+    fn is_running(&self) -> bool
+        ensures { result ≡ is_running self.now.engine.session.status }
+    {
+        match self.session.status() {
+            Status::Running => true,
+            _ => false,
         }
     }
 

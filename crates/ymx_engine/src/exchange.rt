@@ -1,14 +1,16 @@
 //! What moves between a stream and its device in one turn.
 
-ghost use Rattle.std.specs.Prelude.{◌≡◌, ◌≤◌, ◌+◌, [], length};
+ghost use Rattle.std.specs.Prelude.{◌≡◌, ◌⊎◌, ◌<◌, ◌≤◌, ◌+◌, [], length, true, false};
 ghost use Rattle.ymx_model.specs.declared.types.Event.TheVariants as event;
 ghost use Rattle.ymx_machine.specs.declared.types.Call.TheVariants as call;
 ghost use Rattle.ymx_machine.specs.shared.Events.{Reply};
 ghost use Rattle.ymx_model.specs.session.Emissions.{in_turn};
 ghost use Rattle.ymx_model.specs.session.Histories.{Gives};
 ghost use Rattle.ymx_session.specs.Streams.{waiting, room_of};
-ghost use Rattle.ymx_engine.specs.Devices.{IsShut};
+ghost use Rattle.ymx_engine.specs.Devices.{IsShut, CountsSome};
 ghost use Rattle.ymx_engine.specs.Exchanges.{Exchange};
+ghost use Rattle.ymx_engine.specs.Follows.{IsOffered, IsAsked, FollowsDevice};
+ghost use Rattle.ymx_engine.specs.Known.{may_push, may_pull, broken_off};
 ghost use Rattle.ymx_engine.specs.Serves.{Exchanges};
 
 use crate::block::Block;
@@ -18,7 +20,7 @@ use crate::device::{Device, Pulled, Pushed};
 use crate::sending::{put_due, send};
 use ymx_session::Session;
 
-/// One turn of a connection: at most four writes to its device, then, where `may_pull` says so, at most two reads from
+/// One turn of a connection: at most four writes to its device, then, where it `reads`, at most two reads from
 /// it. What is due and what these give waits behind what waits for the wire. Whether more may be moved at once. It makes at
 /// most 13 calls of the device.
 pub(crate) fn serve<D: Device>(
@@ -28,14 +30,17 @@ pub(crate) fn serve<D: Device>(
     device: &mut D,
     buffer: &mut [u8],
     outgoing: &mut Block,
-    may_pull: bool,
+    reads: bool,
 ) -> bool
     ensures moved { Exchanges id session.old session.new outgoing.old outgoing.new (D.seen device.old) (D.seen device.new) }
     ensures calls { (D.seen device.new).calls ≤ (D.seen device.old).calls + 13 }
+    ensures follows { FollowsDevice connection.old connection.new (D.seen device.old).counts (D.seen device.new).counts }
+    ensures delivers { may_push connection.old ≡ true → 0 < length (waiting id session.old) → IsOffered connection.new (D.seen device.old).counts (D.seen device.new).counts }
+    ensures collects { reads ≡ true → 0 < length buffer.old → may_pull connection.old ≡ true → IsAsked connection.new (D.seen device.old).counts (D.seen device.new).counts (room_of id session.new) }
 {
     let more = deliver(session, id, connection, device);
     hear_stop(session, id, connection, device);
-    if !may_pull {
+    if !reads {
         return more;
     }
     collect(session, id, connection, device, buffer, outgoing) || more
@@ -50,6 +55,8 @@ fn deliver<D: Device>(
 ) -> bool
     ensures moved { Exchange id session.old session.new (D.seen device.old) (D.seen device.new) }
     ensures calls { (D.seen device.new).calls ≤ (D.seen device.old).calls + 8 }
+    ensures follows { FollowsDevice connection.old connection.new (D.seen device.old).counts (D.seen device.new).counts }
+    ensures delivers { may_push connection.old ≡ true → 0 < length (waiting id session.old) → IsOffered connection.new (D.seen device.old).counts (D.seen device.new).counts }
 {
     'push: for turn in 0..4u64 {
         if !connection.may_push() {
@@ -69,8 +76,12 @@ fn push_once<D: Device>(
     connection: &mut Connection,
     device: &mut D,
 ) -> bool
+    requires { may_push connection.old ≡ true }
     ensures moved { Exchange id session.old session.new (D.seen device.old) (D.seen device.new) }
     ensures calls { (D.seen device.new).calls ≤ (D.seen device.old).calls + 2 }
+    ensures follows { FollowsDevice connection.old connection.new (D.seen device.old).counts (D.seen device.new).counts }
+    ensures delivers { 0 < length (waiting id session.old) → IsOffered connection.new (D.seen device.old).counts (D.seen device.new).counts }
+    ensures goes_on { result ≡ true → may_push connection.new ≡ true }
 {
     let bytes = session.unread(id);
     if bytes.is_empty() {
@@ -105,6 +116,7 @@ fn hear_silence<D: Device>(
     requires { waiting id session.old ≡ [] }
     ensures moved { Exchange id session.old session.new (D.seen device.old) (D.seen device.new) }
     ensures calls { (D.seen device.new).calls ≤ (D.seen device.old).calls + 1 }
+    ensures follows { FollowsDevice connection.old connection.new (D.seen device.old).counts (D.seen device.new).counts }
 {
     match ask(session, id) {
         Silence::Wait => {}
@@ -123,6 +135,7 @@ fn hear_silence<D: Device>(
 fn hear_stop<D: Device>(session: &mut Session, id: u32, connection: &mut Connection, device: &mut D)
     ensures moved { Exchange id session.old session.new (D.seen device.old) (D.seen device.new) }
     ensures calls { (D.seen device.new).calls ≤ (D.seen device.old).calls + 1 }
+    ensures follows { FollowsDevice connection.old connection.new (D.seen device.old).counts (D.seen device.new).counts }
 {
     if !connection.is_half_over() {
         return;
@@ -142,6 +155,7 @@ pub(crate) fn reset_and_shut<D: Device>(
 )
     ensures reset { (told : Reply) × Gives in_turn session.old (event.Call (call.Reset id)) told session.new }
     ensures shut { IsShut (D.seen device.old) (D.seen device.new) }
+    ensures broken { connection.new ≡ broken_off connection.old }
 {
     reset(session, id);
     connection.break_off();
@@ -159,6 +173,8 @@ fn collect<D: Device>(
 ) -> bool
     ensures moved { Exchanges id session.old session.new outgoing.old outgoing.new (D.seen device.old) (D.seen device.new) }
     ensures calls { (D.seen device.new).calls ≤ (D.seen device.old).calls + 4 }
+    ensures follows { FollowsDevice connection.old connection.new (D.seen device.old).counts (D.seen device.new).counts }
+    ensures collects { 0 < length buffer.old → may_pull connection.old ≡ true → CountsSome (D.seen device.old).counts.pulls (D.seen device.new).counts.pulls ⊎ (room_of id session.new ≡ 0) }
 {
     if !connection.may_pull() {
         return false;
@@ -184,6 +200,9 @@ fn pull_once<D: Device>(
 ) -> bool
     ensures moved { Exchanges id session.old session.new outgoing.old outgoing.new (D.seen device.old) (D.seen device.new) }
     ensures calls { (D.seen device.new).calls ≤ (D.seen device.old).calls + 2 }
+    ensures follows { FollowsDevice connection.old connection.new (D.seen device.old).counts (D.seen device.new).counts }
+    ensures asks { 0 < length buffer.old → CountsSome (D.seen device.old).counts.pulls (D.seen device.new).counts.pulls ⊎ (room_of id session.new ≡ 0) }
+    ensures goes_on { result ≡ true → CountsSome (D.seen device.old).counts.pulls (D.seen device.new).counts.pulls }
 {
     put_due(session, outgoing);
     let room = session.room(id).min(buffer.len());
@@ -216,12 +235,12 @@ fn pull_into<D: Device>(
     requires fits { length buffer.old ≤ room_of id session.old }
     ensures moved { Exchanges id session.old session.new outgoing.old outgoing.new (D.seen device.old) (D.seen device.new) }
     ensures calls { (D.seen device.new).calls ≤ (D.seen device.old).calls + 2 }
+    ensures follows { FollowsDevice connection.old connection.new (D.seen device.old).counts (D.seen device.new).counts }
+    ensures asks { CountsSome (D.seen device.old).counts.pulls (D.seen device.new).counts.pulls }
 {
     match device.pull(buffer) {
         Pulled::Gave(count) => {
-            if count < buffer.len() && !connection.is_closing {
-                connection.can_pull = false;
-            }
+            connection.hear_given(count < buffer.len());
             if count == 0 {
                 return true;
             }

@@ -12,6 +12,7 @@ mod connections;
 mod device;
 mod engine;
 mod exchange;
+mod gathering;
 mod line;
 mod passing;
 mod sending;

@@ -1,6 +1,8 @@
 //! A socket that never waits, as a device of an engine.
 
-ghost use Rattle.std.specs.Prelude.{◌≡◌, ◌≤◌, ◌+◌, ◌-◌, ◌^◌, ◌<◌, ◌||◌, length, is_some, min, true};
+ghost use Rattle.std.specs.Prelude.{ℕ, List, [], ◌≡◌, ◌≤◌, ◌+◌, ◌-◌, ◌^◌, ◌<◌, ◌||◌, length, is_some, min, true};
+ghost use Rattle.std.specs.Io.{WritesAtMost};
+ghost use Rattle.std.specs.Io.Slices.{io_slices_bytes};
 ghost use Rattle.ymx_engine.specs.Devices.{IsEnded, IsPulled, IsPushed, IsShut, pulled_count, pushed_count, is_end, is_pull_failure, is_push_failure, CountsOne, CountsPull, CountsPush, CountsClose};
 ghost use Rattle.ymx_forward.specs.Sockets.{counts_of};
 ghost use Rattle.ymx_engine.specs.Tunnels.{HasFailed};
@@ -10,10 +12,13 @@ use crate::watching::Origin;
 use mio::net::TcpStream;
 use mio::{Interest, Token};
 use std::io;
-use std::io::ErrorKind;
+use std::io::{ErrorKind, IoSlice};
 use std::net::Shutdown;
 use ymx_devices::{read, write};
 use ymx_engine::{Device, Line, Pulled, Pushed, Wire};
+
+/// How often a write of several pieces that a signal interrupted is made again before it counts as failed.
+const RETRIES: u32 = 1_000_000;
 
 /// Whether a socket has its peer.
 #[derive(Clone, Copy, PartialEq, Eq)]
@@ -304,8 +309,38 @@ impl Socket {
         ensures failed { is_some self.new.failure ≡ (is_some self.old.failure || is_push_failure result) }
         ensures rest { (self.new.has_ended ≡ self.old.has_ended) × (self.new.was_finished ≡ self.old.was_finished) × (self.new.was_shut ≡ self.old.was_shut) × (self.new.calls ≡ self.old.calls) × (self.new.counts ≡ self.old.counts) }
     {
-        match write(&mut &self.socket, bytes) {
-            Ok(count) if count > 0 || bytes.is_empty() => {
+        let written = write(&mut &self.socket, bytes);
+        self.hear_written(written, bytes.is_empty())
+    }
+
+    /// Writes the bytes of these pieces once, in one call of the system, if it is there. `is_empty` says whether there are
+    /// none.
+    fn take_pieces_if_connected(&mut self, pieces: &[IoSlice<'_>], is_empty: bool) -> Pushed
+        ensures within { pushed_count result ≤ length (io_slices_bytes pieces.now) }
+        ensures failed { is_some self.new.failure ≡ (is_some self.old.failure || is_push_failure result) }
+        ensures rest { (self.new.has_ended ≡ self.old.has_ended) × (self.new.was_finished ≡ self.old.was_finished) × (self.new.was_shut ≡ self.old.was_shut) × (self.new.calls ≡ self.old.calls) × (self.new.counts ≡ self.old.counts) }
+    {
+        match self.state {
+            ConnectState::Connecting => Pushed::NotNow,
+            ConnectState::Unreachable => {
+                self.fail(SocketFault::Push, None);
+                Pushed::Failed
+            }
+            ConnectState::Connected => {
+                let written = write_pieces(&self.socket, pieces);
+                self.hear_written(written, is_empty)
+            }
+        }
+    }
+
+    /// What came of a write. `is_empty` says whether there was nothing to write.
+    fn hear_written(&mut self, written: io::Result<usize>, is_empty: bool) -> Pushed
+        ensures within { (bytes : List ℕ) → WritesAtMost written bytes → pushed_count result ≤ length bytes }
+        ensures failed { is_some self.new.failure ≡ (is_some self.old.failure || is_push_failure result) }
+        ensures rest { (self.new.has_ended ≡ self.old.has_ended) × (self.new.was_finished ≡ self.old.was_finished) × (self.new.was_shut ≡ self.old.was_shut) × (self.new.calls ≡ self.old.calls) × (self.new.counts ≡ self.old.counts) }
+    {
+        match written {
+            Ok(count) if count > 0 || is_empty => {
                 self.traffic.pushed = self.traffic.pushed.saturating_add(count as u64);
                 Pushed::Took(count)
             }
@@ -346,6 +381,33 @@ impl Socket {
     }
 }
 
+/// One write of several pieces, made again where a signal interrupts it, up to a million times.
+fn write_pieces(socket: &TcpStream, pieces: &[IoSlice<'_>]) -> io::Result<usize>
+    ensures { WritesAtMost result (io_slices_bytes pieces.now) }
+{
+    'again: for _ in 0..RETRIES {
+        match socket.write_vectored(pieces) {
+            Err(e) if e.kind() == ErrorKind::Interrupted => {}
+            done => return done,
+        }
+    }
+    socket.write_vectored(pieces)
+}
+
+/// How many bytes the first of these pieces has that has any, and 0 where none has.
+fn first_count(pieces: &[IoSlice<'_>]) -> usize
+    ensures some { 0 < result → 0 < length (io_slices_bytes pieces.now) }
+    ensures none { result ≡ 0 → io_slices_bytes pieces.now ≡ [] }
+{
+    'piece: for at in 0..pieces.len() {
+        let count = pieces[at].as_slice().len();
+        if count > 0 {
+            return count;
+        }
+    }
+    0
+}
+
 impl Device for Socket {
     ghost use Rattle.std.specs.Prelude.{None, Some, is_some};
     ghost use Rattle.ymx_forward.specs.Sockets.{counts_of};
@@ -369,6 +431,17 @@ impl Device for Socket {
         self.count_call();
         let pushed = self.take_if_connected(bytes);
         self.counts.push(bytes.len(), pushed.count());
+        pushed
+    }
+
+    fn push_pieces(&mut self, pieces: &[IoSlice<'_>]) -> Pushed
+        ensures moved { IsPushed result (io_slices_bytes pieces.now) (⟦<Socket as Device>⟧.seen self.old) (⟦<Socket as Device>⟧.seen self.new) }
+        ensures counted { self.new.calls ≡ min (self.old.calls + 1) (2 ^ 64 - 1) }
+    {
+        self.count_call();
+        let offered = first_count(pieces);
+        let pushed = self.take_pieces_if_connected(pieces, offered == 0);
+        self.counts.push(offered, pushed.count());
         pushed
     }
 

@@ -3,6 +3,7 @@
 ghost use Rattle.std.specs.Prelude.{◌≡◌, ◌≤◌, ◌++◌, [], length, take, IfOk};
 
 use std::alloc::Global;
+use std::io::IoSlice;
 use std::mem;
 use ymx_engine::{Device, Pulled, Pushed};
 use ymx_memory::RefusedAllocation;
@@ -56,6 +57,11 @@ impl Device for Wire {
             0 => Pushed::NotNow,
             count => Pushed::Took(count),
         }
+    }
+
+    /// It takes none: a wire is offered its bytes in one piece.
+    fn push_pieces(&mut self, _pieces: &[IoSlice<'_>]) -> Pushed {
+        Pushed::NotNow
     }
 
     fn end(&mut self) {}

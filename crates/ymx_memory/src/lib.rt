@@ -16,4 +16,4 @@ pub use blocks::{
     zeros_as_asked, zeros_for,
 };
 pub use refused::{RefusalCount, RefusedAllocation};
-pub use tables::{insert, reserve_set, set_with_capacity, table_of_words};
+pub use tables::{insert, reserve_map, reserve_set, set_with_capacity, table_of_words};

@@ -1,8 +1,8 @@
 //! Tables with an order, and those of words that threads share.
 
-ghost use Rattle.std.specs.Prelude.{◌≡◌, ◌≤◌, [], length, nat_eq, IfOk, OnOk, OnErr};
+ghost use Rattle.std.specs.Prelude.{◌≡◌, ◌<◌, ◌≤◌, [], length, nat_eq, IfOk, IsOk, OnOk, OnErr};
 ghost use Rattle.atomic_table.specs.Table.{opening};
-ghost use Rattle.indexmap.specs.IndexMap.{insert_entry, IsUnchanged};
+ghost use Rattle.indexmap.specs.IndexMap.{insert_entry, spare, IsUnchanged};
 ghost use Rattle.indexmap.specs.IndexSet.{spare as set_spare, IsEmpty as IsEmptySet, IsUnchanged as IsUnchangedSet, KeepsRoom, index_set_len};
 ghost use Rattle.ymx_memory.specs.Bounds.{most_items, most_numbers};
 
@@ -22,9 +22,21 @@ pub fn insert<V: Drop>(
 ) -> Result<(), RefusedAllocation>
     ensures entries { OnOk result (map.new.entries ≡ insert_entry nat_eq map.old.entries key value) }
     ensures refused_unchanged { OnErr result (IsUnchanged map.old map.new) }
+    ensures succeeds { 0 < spare map.old → IsOk result }
 {
     match map.insert(key, value) {
         Ok(_) => Ok(()),
+        Err(_) => Err(RefusedAllocation::new()),
+    }
+}
+
+/// Room in a map for one more key. A refusal leaves its entries.
+pub fn reserve_map<V: Drop>(map: &mut IndexMap<u32, V>) -> Result<(), RefusedAllocation>
+    ensures entries { IsUnchanged map.old map.new }
+    ensures room { OnOk result (1 ≤ spare map.new) }
+{
+    match map.reserve(1) {
+        Ok(()) => Ok(()),
         Err(_) => Err(RefusedAllocation::new()),
     }
 }

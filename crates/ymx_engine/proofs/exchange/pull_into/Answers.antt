@@ -2,6 +2,8 @@ use Rattle.std.proofs.Common.{refl, arith}
 use Rattle.std.proofs.lemmas.Grind.{common_steps}
 use Rattle.ymx_engine.proofs.Exchanging.{pulled_none, pull_failed, finished}
 use Rattle.ymx_engine.proofs.Serving.{exchanges_once, gave_sent, gave_lost}
+use Rattle.ymx_engine.proofs.Following.{grow_pull, grow_close, follows_then, follows_called, follows_gave, follows_lacked, follows_pulled, follows_finished, follows_broken}
+use Rattle.ymx_engine.proofs.Moving.{counts_some, some_then}
 use Rattle.ymx_engine.proofs.exchange.pull_into.Goals as goal
 
 pub returns-then-count-eq0-clause-moved : goal.returns-then-count-eq0-clause-moved
@@ -28,3 +30,39 @@ pub returns-in-Failed-clause-moved : goal.returns-in-Failed-clause-moved
 returns-in-Failed-clause-moved g c =
     let h = c.reset_and_shut-in-Failed.ensures.reset in
     exchanges_once _ _ _ _ _ _ (pull_failed _ h.0 _ _ _ _ _ _ c.in-Failed.ensures h.1 c.reset_and_shut-in-Failed.ensures.shut)
+
+pub returns-then-count-eq0-clause-follows : goal.returns-then-count-eq0-clause-follows
+returns-then-count-eq0-clause-follows g c = follows_gave _ _ _ _ _ _ c.hear_given.ensures c.in-Gave.ensures.counts
+
+pub returns-then-send-clause-follows : goal.returns-then-send-clause-follows
+returns-then-send-clause-follows g c = follows_gave _ _ _ _ _ _ c.hear_given.ensures c.in-Gave.ensures.counts
+
+pub returns-else-send-clause-follows : goal.returns-else-send-clause-follows
+returns-else-send-clause-follows g c = follows_then _ _ _ _ _ _ (follows_gave _ _ _ _ _ _ c.hear_given.ensures c.in-Gave.ensures.counts) (follows_lacked _ _ _ _ c.reset_and_shut.ensures.broken c.reset_and_shut.ensures.shut.counts)
+
+pub returns-in-NotNow-clause-follows : goal.returns-in-NotNow-clause-follows
+returns-in-NotNow-clause-follows g c = follows_pulled _ _ _ _ _ (λ on. absurd (let no : ⊥ = cc in no)) c.in-NotNow.ensures.counts
+
+pub returns-in-Ended-clause-follows : goal.returns-in-Ended-clause-follows
+returns-in-Ended-clause-follows g c = follows_finished _ _ _ _ c.in-Ended.ensures.counts
+
+pub returns-in-Failed-clause-follows : goal.returns-in-Failed-clause-follows
+returns-in-Failed-clause-follows g c = follows_then _ _ _ _ _ _ (follows_called _ _ _ (grow_pull _ _ _ c.in-Failed.ensures.counts)) (follows_broken _ _ _ _ c.reset_and_shut-in-Failed.ensures.broken c.reset_and_shut-in-Failed.ensures.shut.counts)
+
+pub returns-then-count-eq0-clause-asks : goal.returns-then-count-eq0-clause-asks
+returns-then-count-eq0-clause-asks g c = counts_some _ _ c.in-Gave.ensures.counts.pulls
+
+pub returns-then-send-clause-asks : goal.returns-then-send-clause-asks
+returns-then-send-clause-asks g c = counts_some _ _ c.in-Gave.ensures.counts.pulls
+
+pub returns-else-send-clause-asks : goal.returns-else-send-clause-asks
+returns-else-send-clause-asks g c = some_then _ _ _ (counts_some _ _ c.in-Gave.ensures.counts.pulls) (grow_close _ _ c.reset_and_shut.ensures.shut.counts).pulls
+
+pub returns-in-NotNow-clause-asks : goal.returns-in-NotNow-clause-asks
+returns-in-NotNow-clause-asks g c = counts_some _ _ c.in-NotNow.ensures.counts.pulls
+
+pub returns-in-Ended-clause-asks : goal.returns-in-Ended-clause-asks
+returns-in-Ended-clause-asks g c = counts_some _ _ c.in-Ended.ensures.counts.pulls
+
+pub returns-in-Failed-clause-asks : goal.returns-in-Failed-clause-asks
+returns-in-Failed-clause-asks g c = some_then _ _ _ (counts_some _ _ c.in-Failed.ensures.counts.pulls) (grow_close _ _ c.reset_and_shut-in-Failed.ensures.shut.counts).pulls

@@ -1,5 +1,9 @@
 use Rattle.std.proofs.Common.{refl}
 use Rattle.ymx_engine.proofs.Exchanging.{pushed_none, pushed_some, push_failed}
+use Rattle.std.proofs.Common.{arith}
+use Rattle.std.proofs.lemmas.Grind.{common_steps}
+use Rattle.ymx_machine.proofs.Tests.{both_of}
+use Rattle.ymx_engine.proofs.Following.{grow_push, follows_then, follows_called, follows_pushed, follows_broken, offered_took, offered_not_now, offered_failed}
 use Rattle.ymx_engine.proofs.exchange.push_once.Goals as goal
 
 pub returns-in-Took-clause-moved : goal.returns-in-Took-clause-moved
@@ -14,3 +18,21 @@ pub returns-in-Failed-clause-moved : goal.returns-in-Failed-clause-moved
 returns-in-Failed-clause-moved g c =
     let h = c.reset_and_shut.ensures.reset in
     push_failed _ h.0 _ _ _ _ _ _ c.in-Failed.ensures h.1 c.reset_and_shut.ensures.shut
+
+pub returns-in-Took-clause-follows : goal.returns-in-Took-clause-follows
+returns-in-Took-clause-follows g c = follows_pushed _ _ _ _ _ _ (both_of _ _ c.requires).0 (grind (arith, common_steps)) c.in-Took.ensures.counts
+
+pub returns-in-Took-clause-delivers : goal.returns-in-Took-clause-delivers
+returns-in-Took-clause-delivers g c = λ some. offered_took c.args.connection.now _ _ _ _ (grind (arith, common_steps)) c.in-Took.ensures.counts
+
+pub returns-in-NotNow-clause-follows : goal.returns-in-NotNow-clause-follows
+returns-in-NotNow-clause-follows g c = follows_pushed _ _ _ _ _ _ (both_of _ _ c.requires).0 (grind (arith, common_steps)) c.in-NotNow.ensures.counts
+
+pub returns-in-NotNow-clause-delivers : goal.returns-in-NotNow-clause-delivers
+returns-in-NotNow-clause-delivers g c = λ some. offered_not_now c.args.connection.now _ _ _ _ (grind (arith, common_steps)) c.in-NotNow.ensures.counts
+
+pub returns-in-Failed-clause-follows : goal.returns-in-Failed-clause-follows
+returns-in-Failed-clause-follows g c = follows_then _ _ _ _ _ _ (follows_called _ _ _ (grow_push _ _ _ _ c.in-Failed.ensures.counts)) (follows_broken _ _ _ _ c.reset_and_shut.ensures.broken c.reset_and_shut.ensures.shut.counts)
+
+pub returns-in-Failed-clause-delivers : goal.returns-in-Failed-clause-delivers
+returns-in-Failed-clause-delivers g c = λ some. offered_failed _ _ _ _ _ _ _ c.reset_and_shut.ensures.broken (grind (arith, common_steps)) c.in-Failed.ensures.counts c.reset_and_shut.ensures.shut.counts

@@ -1,15 +1,17 @@
 use Rattle.std.proofs.Common.{◌+◌, ◌∙◌, arith}
 use Rattle.ymx_engine.proofs.Carrying.{flushes_then, flushes_more, flushes_same}
 use Rattle.ymx_engine.proofs.Moving.{writes_none, writes_more, writes_offer, writes_still, then_some}
+use Rattle.ymx_engine.proofs.Queueing.{keeps_same, keeps_then}
 use Rattle.ymx_engine.proofs.engine.Engine.flush.Goals as goal
 
 pub write-init : goal.write-init
-write-init g c = (flushes_same _ _ 0, writes_none _ _)
+write-init g c = (flushes_same _ _ 0, writes_none _ _, keeps_same _)
 
 pub write-preserved : goal.write-preserved
 write-preserved g c = let w = c.write_once.ensures in (
   flushes_then _ _ _ _ _ _ _ 1 c.write.invariant.0 w.moved,
   writes_more _ _ _ _ _ _ c.write.turn c.write.invariant.1 (w.goes_on c.if-not-write_once.false) w.pull w.counts,
+  keeps_then _ _ _ c.write.invariant.2 w.turns,
 )
 
 pub returns-then-not-write_once-clause-moved : goal.returns-then-not-write_once-clause-moved
@@ -26,3 +28,6 @@ returns-then-not-write_once-clause-off g c = λ on off. let x = c.write_once.ens
 
 pub returns-clause-moved : goal.returns-clause-moved
 returns-clause-moved g c = flushes_more _ _ _ _ c.write.turn 4 (omega arith) c.write.invariant.0
+
+pub returns-then-not-write_once-clause-turns : goal.returns-then-not-write_once-clause-turns
+returns-then-not-write_once-clause-turns g c = keeps_then _ _ _ c.write.invariant.2 c.write_once.ensures.turns

@@ -1,3 +1,4 @@
+use Rattle.ymx_engine.specs.Turns.{KeepsTurns}
 use Rattle.ymx_engine.specs.Wires.{FlushesWire}
 use Rattle.ymx_engine.proofs.Moving.{WritesOn}
 use Rattle.ymx_engine.proofs.engine.Engine.flush.Given as goal
@@ -6,3 +7,4 @@ abbrev pub invariant-write : goal.invariant-write
 invariant-write g l =
     FlushesWire l.initial.self.engine l.self.engine (g.D.Device.seen l.initial.wire) (g.D.Device.seen l.wire) l.turn
     × WritesOn l.initial.self l.self (g.D.Device.seen l.initial.wire).counts.pushes (g.D.Device.seen l.wire).counts.pushes l.turn
+    × KeepsTurns l.initial.self.turns l.self.turns

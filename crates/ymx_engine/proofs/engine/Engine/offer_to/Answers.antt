@@ -1,10 +1,20 @@
-use Rattle.std.proofs.Common.{ap, ◌∙◌, drop, take}
+use Rattle.std.proofs.Common.{ap, ◌∙◌, drop}
 use Rattle.ymx_engine.specs.Marks.{EngineView}
 use Rattle.ymx_engine.proofs.Advancing.{offers_front}
+use Rattle.ymx_engine.proofs.Queueing.{others_from, others_set, waits_then}
 use Rattle.ymx_engine.proofs.engine.Engine.offer_to.Goals as goal
 
 pub returns-clause-passed : goal.returns-clause-passed
 returns-clause-passed g c =
     let waits = ap (λ (v : EngineView). v.engine.incoming) c.self.view_is in
-    offers_front _ c.args.count _ _ c.args.self.now.engine _ _ _ _ (ap (λ (v : EngineView). v.engine.session) c.self.view_is) (ap (take c.args.count) (c.waiting.ensures ∙ waits)) c.offer-taken.ensures.offered
+    offers_front _ _ _ c.args.self.now.engine _ _ _ _ (ap (λ (v : EngineView). v.engine.session) c.self.view_is) (c.waiting-waits.ensures ∙ waits) c.offer-taken.ensures.offered
     (c.drop_front.ensures ∙ ap (drop _) waits) (ap (λ (v : EngineView). v.engine.outgoing) c.self.view_is)
+
+pub returns-clause-others : goal.returns-clause-others
+returns-clause-others g c =
+    let q = c.set.ensures.queues in
+    let t = c.enqueue.ensures.turn in
+    others_from _ _ _ _ (ap (λ (v : EngineView). v.turns) c.self.view_is) (record {
+      known = λ other ne. c.enqueue.ensures.known other ∙ others_set c.args.id _ _ _ c.set.ensures.known c.set.ensures.none other ne;
+      turns = λ other h. waits_then c.args.id other _ _ _ _ _ _ q.0 q.1 t.0 t.1 h;
+    })

@@ -1,0 +1,204 @@
+-- How the connections of an engine change, and who is queued then.
+use Rattle.std.proofs.Common.{◌≡◌, ◌⊎◌, inl, inr, ℕ, zero, suc, List, [], ◌∷◌, ◌++◌, Bool, true, false, Option, None, Some, refl, sym, ap, ◌∙◌, subst, cond, arith}
+use Rattle.std.specs.Prelude.{nat_eq, nat_lt, ◌<◌, ◌&&◌, if◌then◌else◌, Contains, Result, Ok, Err, is_ok, IsOk, OnOk, IfSome, IsSome, option_map}
+use Rattle.std.specs.Map.{lookup}
+use Rattle.std.proofs.lemmas.List.Elements.{Contains-append_left, Contains-append_cases, Contains-push}
+use Rattle.ymx_machine.proofs.Tests.{is_lt, both_of}
+use Rattle.ymx_engine.specs.declared.connections.Entry.{Entry}
+use Rattle.ymx_engine.specs.declared.connection.Connection.{Connection}
+use Rattle.ymx_engine.specs.Turns.{Turns, known_as, AreListed, SameConnections, StaysOrAdds, AddsTurn, KeepsTurns, KeepsOthers}
+use Rattle.indexmap.specs.IndexMap.{insert_entry}
+use Rattle.std.proofs.lemmas.Bool.Decides.{nat_tests}
+use Rattle.ymx_engine.proofs.Running.{eq_ids, inserted}
+
+abbrev Stands : List ℕ → List ℕ → ℕ → Type 0
+Stands fresh busy id = Contains fresh id ⊎ Contains busy id
+
+-- one entry was written
+abbrev pub Written : ℕ → Entry → List (ℕ × Entry) → List (ℕ × Entry) → Type 0
+Written id w old new = (other : ℕ) → lookup (nat_eq other) new ≡ cond (nat_eq id other) (Some w) (lookup (nat_eq other) old)
+
+-- ---- who is queued
+
+some_is : {A : Type 0} {x y : A} → Some x ≡ Some y → x ≡ y
+some_is e = cc
+
+listed_at : (b : Bool) (id other : ℕ) (w e : Entry) (o p : Option Entry) (f g f2 g2 : List ℕ) → nat_eq id other ≡ b → p ≡ cond b (Some w) o → p ≡ Some e → e.is_queued ≡ true →
+    (o ≡ Some e → Stands f g other) → (w.is_queued ≡ true → Stands f2 g2 id) → (nat_eq id other ≡ false → Stands f g other → Stands f2 g2 other) → Stands f2 g2 other
+listed_at true id other w e o p f g f2 g2 t h there marked before own rest =
+    let same : w ≡ e = some_is (sym h ∙ there) in
+    subst (λ (n : ℕ). Stands f2 g2 n) (sym (eq_ids id other t)) (own (ap (λ (v : Entry). v.is_queued) same ∙ marked))
+listed_at false id other w e o p f g f2 g2 t h there marked before own rest = rest t (before (sym h ∙ there))
+
+-- one entry was written, and the queues changed for it alone
+pub listed_written : (id : ℕ) (w : Entry) (old new : List (ℕ × Entry)) (f g f2 g2 : List ℕ) → AreListed old f g → Written id w old new → (w.is_queued ≡ true → Stands f2 g2 id) →
+    ((other : ℕ) → nat_eq id other ≡ false → Stands f g other → Stands f2 g2 other) → AreListed new f2 g2
+listed_written id w old new f g f2 g2 all put own rest = λ other e there marked.
+    listed_at (nat_eq id other) id other w e (lookup (nat_eq other) old) (lookup (nat_eq other) new) f g f2 g2 refl (put other) there marked (λ h. all other e h marked) own (rest other)
+
+gone_at : (b : Bool) (o p : Option Entry) (e : Entry) → p ≡ cond b None o → p ≡ Some e → o ≡ Some e
+gone_at true o p e h there = let no : ⊥ = cc in absurd no
+gone_at false o p e h there = sym h ∙ there
+
+-- one is gone
+pub listed_gone : (id : ℕ) (old new : List (ℕ × Entry)) (f g : List ℕ) → AreListed old f g → ((other : ℕ) → lookup (nat_eq other) new ≡ cond (nat_eq id other) None (lookup (nat_eq other) old)) → AreListed new f g
+listed_gone id old new f g all put = λ other e there marked. all other e (gone_at (nat_eq id other) (lookup (nat_eq other) old) (lookup (nat_eq other) new) e (put other) there) marked
+
+-- ---- one more in a queue
+
+pushed_is : (b : Bool) (f new : List ℕ) (id : ℕ) → new ≡ (if b then f ++ id ∷ [] else f) → b ≡ true → Contains new id
+pushed_is true f new id e h = subst (λ (v : List ℕ). Contains v id) (sym e) (Contains-push f id)
+pushed_is false f new id e h = let no : ⊥ = cc in absurd no
+
+pushed_keeps : (b : Bool) (f new : List ℕ) (id other : ℕ) → new ≡ (if b then f ++ id ∷ [] else f) → Contains f other → Contains new other
+pushed_keeps true f new id other e h = subst (λ (v : List ℕ). Contains v other) (sym e) (Contains-append_left f (id ∷ []) other h)
+pushed_keeps false f new id other e h = subst (λ (v : List ℕ). Contains v other) (sym e) h
+
+pub listed_fresh : (id : ℕ) (b : Bool) (w : Entry) (old new : List (ℕ × Entry)) (f g f2 : List ℕ) → AreListed old f g → Written id w old new → f2 ≡ (if b then f ++ id ∷ [] else f) → w.is_queued ≡ b → AreListed new f2 g
+listed_fresh id b w old new f g f2 all put e marked = listed_written id w old new f g f2 g all put (λ h. inl (pushed_is b f f2 id e (sym marked ∙ h))) (λ other ne h. on other h)
+  where
+    on : (other : ℕ) → Stands f g other → Stands f2 g other
+    on other (inl h) = inl (pushed_keeps b f f2 id other e h)
+    on other (inr h) = inr h
+
+pub listed_busy : (id : ℕ) (b : Bool) (w : Entry) (old new : List (ℕ × Entry)) (f g g2 : List ℕ) → AreListed old f g → Written id w old new → g2 ≡ (if b then g ++ id ∷ [] else g) → w.is_queued ≡ b → AreListed new f g2
+listed_busy id b w old new f g g2 all put e marked = listed_written id w old new f g f g2 all put (λ h. inr (pushed_is b g g2 id e (sym marked ∙ h))) (λ other ne h. on other h)
+  where
+    on : (other : ℕ) → Stands f g other → Stands f g2 other
+    on other (inl h) = inl h
+    on other (inr h) = inr (pushed_keeps b g g2 id other e h)
+
+-- where there is room it stands there
+pub pushed_there : {E : Type 0} (r : Result (Unit {0}) E) (f new : List ℕ) (id len cap : ℕ) (more : Bool) → new ≡ (if is_ok r then f ++ id ∷ [] else f) → (len < cap → IsOk r) → (nat_lt len cap && more) ≡ true → Contains new id
+pushed_there (Ok u) f new id len cap more e room h = pushed_is true f new id e refl
+pushed_there (Err x) f new id len cap more e room h = let no : ⊥ = let k = room (is_lt len cap (both_of (nat_lt len cap) more h).0) in cc in absurd no
+
+pub pushed_there_behind : {E : Type 0} (r : Result (Unit {0}) E) (f new : List ℕ) (id len cap : ℕ) (more : Bool) → new ≡ (if is_ok r then f ++ id ∷ [] else f) → (len < cap → IsOk r) → (more && nat_lt len cap) ≡ true → Contains new id
+pushed_there_behind (Ok u) f new id len cap more e room h = pushed_is true f new id e refl
+pushed_there_behind (Err x) f new id len cap more e room h = let no : ⊥ = let k = room (is_lt len cap (both_of more (nat_lt len cap) h).1) in cc in absurd no
+
+-- ---- what is known
+
+known_put : (b : Bool) (w : Entry) (o p : Option Entry) → p ≡ cond b (Some w) o → option_map (λ e. e.connection) p ≡ cond b (Some w.connection) (option_map (λ e. e.connection) o)
+known_put true w o p h = ap (option_map (λ e. e.connection)) h
+known_put false w o p h = ap (option_map (λ e. e.connection)) h
+
+-- there was room, so that one was put in
+pub put_in : {E : Type 0} (r : Result (Unit {0}) E) (place : ℕ) (id : ℕ) (w : Entry) (old new : List (ℕ × Entry)) → nat_lt 0 place ≡ true → (0 < place → IsOk r) → OnOk r (new ≡ insert_entry nat_eq old id w) → Written id w old new
+put_in (Ok u) place id w old new room succeeds put = λ other. ap (lookup (nat_eq other)) put ∙ inserted old id w other
+put_in (Err x) place id w old new room succeeds put = let no : ⊥ = let k = succeeds (is_lt 0 place room) in cc in absurd no
+
+pub knows_put : (id : ℕ) (w : Entry) (k : Connection) (old new : List (ℕ × Entry)) → w.connection ≡ k → Written id w old new → (other : ℕ) → known_as other new ≡ cond (nat_eq id other) (Some k) (known_as other old)
+knows_put id w k old new same put other = subst (λ (v : Connection). known_as other new ≡ cond (nat_eq id other) (Some v) (known_as other old)) same (known_put (nat_eq id other) w (lookup (nat_eq other) old) (lookup (nat_eq other) new) (put other))
+
+pub listed_put : (id : ℕ) (w : Entry) (old new : List (ℕ × Entry)) (f g : List ℕ) → AreListed old f g → Written id w old new → w.is_queued ≡ false → AreListed new f g
+listed_put id w old new f g all put off = listed_written id w old new f g f g all put (λ on. let no : ⊥ = cc in absurd no) (λ other ne h. h)
+
+some_at : (b : Bool) (k : Connection) (o p : Option Connection) → b ≡ true → p ≡ cond b (Some k) o → IsSome p
+some_at true k o p t h = subst (λ (v : Option Connection). IsSome v) (sym h) refl
+some_at false k o p t h = let no : ⊥ = cc in absurd no
+
+pub there_now : (id : ℕ) (k : Connection) (old new : List (ℕ × Entry)) → ((other : ℕ) → known_as other new ≡ cond (nat_eq id other) (Some k) (known_as other old)) → IsSome (known_as id new)
+there_now id k old new knows = some_at (nat_eq id id) k (known_as id old) (known_as id new) (grind (arith, nat_tests)) (knows id)
+
+-- ---- the first of a queue has its turn
+
+popped : (f rest : List ℕ) (id other : ℕ) → f ≡ id ∷ rest → nat_eq id other ≡ false → Contains f other → Contains rest other
+popped f rest id other e ne h = first (Contains-append_cases (id ∷ []) rest other (subst (λ (v : List ℕ). Contains v other) e h))
+  where
+    first : Contains (id ∷ []) other ⊎ Contains rest other → Contains rest other
+    first (inl (zero, within, same)) = let is : id ≡ other = same in let no : ⊥ = grind (arith, nat_tests) in absurd no
+    first (inl (suc k, within, same)) = let no : ⊥ = omega arith in absurd no
+    first (inr x) = x
+
+-- ---- what is kept
+
+stays_or_adds : (id other : ℕ) (old new : List ℕ) → StaysOrAdds id old new → Contains old other → Contains new other
+stays_or_adds id other old new (inl e) h = subst (λ (v : List ℕ). Contains v other) (sym e) h
+stays_or_adds id other old new (inr e) h = subst (λ (v : List ℕ). Contains v other) (sym e) (Contains-append_left old (id ∷ []) other h)
+
+stand_on : (id other : ℕ) (f g f2 g2 : List ℕ) → StaysOrAdds id f f2 → StaysOrAdds id g g2 → Stands f g other → Stands f2 g2 other
+stand_on id other f g f2 g2 x y (inl h) = inl (stays_or_adds id other f f2 x h)
+stand_on id other f g f2 g2 x y (inr h) = inr (stays_or_adds id other g g2 y h)
+
+-- the queues stayed, and then this id stood behind the others
+pub waits_then : (id other : ℕ) (f g f1 g1 f2 g2 : List ℕ) → f1 ≡ f → g1 ≡ g → StaysOrAdds id f1 f2 → StaysOrAdds id g1 g2 → Stands f g other → Stands f2 g2 other
+waits_then id other f g f1 g1 f2 g2 p q x y h = stand_on id other f1 g1 f2 g2 x y (subst (λ (v : List ℕ). Stands v g1 other) (sym p) (subst (λ (v : List ℕ). Stands f v other) (sym q) h))
+
+pub keeps_same : (a : Turns) → KeepsTurns a a
+keeps_same a = record { known = λ id. refl; turns = λ id h. h }
+
+pub keeps_then : (a b c : Turns) → KeepsTurns a b → KeepsTurns b c → KeepsTurns a c
+keeps_then a b c x y = record { known = λ id. y.known id ∙ x.known id; turns = λ id h. y.turns id (x.turns id h) }
+
+pub keeps_added : (id : ℕ) (a b : Turns) → SameConnections a b → AddsTurn id a b → KeepsTurns a b
+keeps_added id a b same (fresh, busy, held) = record { known = same; turns = λ other h. stand_on id other a.fresh a.busy b.fresh b.busy fresh busy h }
+
+-- one that was held back was let go of, and may wait for a turn now
+pub keeps_let_go : (id : ℕ) (a b d : Turns) (known : List (ℕ × Entry)) (fresh busy : List ℕ) → KeepsTurns a b → ((other : ℕ) → known_as other known ≡ known_as other b.known) → fresh ≡ b.fresh → busy ≡ b.busy →
+    ((other : ℕ) → known_as other d.known ≡ known_as other known) → StaysOrAdds id fresh d.fresh → StaysOrAdds id busy d.busy → KeepsTurns a d
+keeps_let_go id a b d known fresh busy keeps same f g same_then x y = record {
+  known = λ other. same_then other ∙ same other ∙ keeps.known other;
+  turns = λ other h. waits_then id other b.fresh b.busy fresh busy d.fresh d.busy f g x y (keeps.turns other h);
+}
+
+-- one that was held back was let go of
+pub keeps_alike : (a b d : Turns) → KeepsTurns a b → SameConnections b d → d.fresh ≡ b.fresh → d.busy ≡ b.busy → KeepsTurns a d
+keeps_alike a b d keeps same f g = record {
+  known = λ other. same other ∙ keeps.known other;
+  turns = λ other h. waits_then 0 other b.fresh b.busy d.fresh d.busy d.fresh d.busy f g (inl refl) (inl refl) (keeps.turns other h);
+}
+
+pub keeps_from : (i a b : Turns) → i ≡ a → KeepsTurns i b → KeepsTurns a b
+keeps_from i a b same k = subst (λ (v : Turns). KeepsTurns v b) same k
+
+pub others_from : (id : ℕ) (i a b : Turns) → i ≡ a → KeepsOthers id i b → KeepsOthers id a b
+others_from id i a b same k = subst (λ (v : Turns). KeepsOthers id v b) same k
+
+pub others_then : (id : ℕ) (a b c : Turns) → KeepsOthers id a b → KeepsTurns b c → KeepsOthers id a c
+others_then id a b c x y = record { known = λ other ne. y.known other ∙ x.known other ne; turns = λ other h. y.turns other (x.turns other h) }
+
+pub others_same : (id : ℕ) (a : Turns) → KeepsOthers id a a
+others_same id a = record { known = λ other ne. refl; turns = λ other h. h }
+
+-- ---- the first of a queue has had its turn
+
+popped_either : (f g f2 g2 : List ℕ) (id other : ℕ) → nat_eq id other ≡ false → ((f ≡ id ∷ f2) × (g2 ≡ g)) ⊎ ((g ≡ id ∷ g2) × (f2 ≡ f)) → Stands f g other → Stands f2 g2 other
+popped_either f g f2 g2 id other ne (inl (first, same)) (inl h) = inl (popped f f2 id other first ne h)
+popped_either f g f2 g2 id other ne (inl (first, same)) (inr h) = inr (subst (λ (v : List ℕ). Contains v other) (sym same) h)
+popped_either f g f2 g2 id other ne (inr (first, same)) (inl h) = inl (subst (λ (v : List ℕ). Contains v other) (sym same) h)
+popped_either f g f2 g2 id other ne (inr (first, same)) (inr h) = inr (popped g g2 id other first ne h)
+
+unmarked_at : (o : Option Entry) (e : Entry) → IfSome o (λ x. x.is_queued ≡ false) → o ≡ Some e → e.is_queued ≡ false
+unmarked_at None e h there = let no : ⊥ = cc in absurd no
+unmarked_at (Some x) e h there = subst (λ (v : Entry). v.is_queued ≡ false) (some_is there) h
+
+turned_at : (b : Bool) (id other : ℕ) (e : Entry) (old new : List (ℕ × Entry)) (f g f2 g2 : List ℕ) → nat_eq id other ≡ b → AreListed old f g → (nat_eq id other ≡ false → lookup (nat_eq other) new ≡ lookup (nat_eq other) old) →
+    IfSome (lookup (nat_eq id) new) (λ x. x.is_queued ≡ false) → ((f ≡ id ∷ f2) × (g2 ≡ g)) ⊎ ((g ≡ id ∷ g2) × (f2 ≡ f)) → lookup (nat_eq other) new ≡ Some e → e.is_queued ≡ true → Stands f2 g2 other
+turned_at true id other e old new f g f2 g2 t all others unmarked took there marked =
+    let off : e.is_queued ≡ false = unmarked_at (lookup (nat_eq id) new) e unmarked (subst (λ (n : ℕ). lookup (nat_eq n) new ≡ Some e) (eq_ids id other t) there) in
+    let no : ⊥ = cc in absurd no
+turned_at false id other e old new f g f2 g2 t all others unmarked took there marked = popped_either f g f2 g2 id other t took (all other e (sym (others t) ∙ there) marked)
+
+pub listed_turned : (id : ℕ) (old new : List (ℕ × Entry)) (f g f2 g2 : List ℕ) → AreListed old f g → ((other : ℕ) → nat_eq id other ≡ false → lookup (nat_eq other) new ≡ lookup (nat_eq other) old) →
+    IfSome (lookup (nat_eq id) new) (λ x. x.is_queued ≡ false) → ((f ≡ id ∷ f2) × (g2 ≡ g)) ⊎ ((g ≡ id ∷ g2) × (f2 ≡ f)) → AreListed new f2 g2
+listed_turned id old new f g f2 g2 all others unmarked took = λ other e there marked. turned_at (nat_eq id other) id other e old new f g f2 g2 refl all (others other) unmarked took there marked
+
+-- ---- one that had a turn
+
+not_this : (b : Bool) (what o p : Option Connection) → b ≡ false → p ≡ cond b what o → p ≡ o
+not_this true what o p ne h = let no : ⊥ = cc in absurd no
+not_this false what o p ne h = h
+
+-- of the others the same is known
+pub others_known : (id : ℕ) (found k : Connection) (old new : List (ℕ × Entry)) → Some found ≡ known_as id old → (IsSome (known_as id old) → (other : ℕ) → known_as other new ≡ cond (nat_eq id other) (Some k) (known_as other old)) →
+    (other : ℕ) → nat_eq id other ≡ false → known_as other new ≡ known_as other old
+others_known id found k old new there put = λ other ne. not_this (nat_eq id other) (Some k) (known_as other old) (known_as other new) ne (put (subst (λ (o : Option Connection). IsSome o) there refl) other)
+
+pub others_set : (id : ℕ) (k : Connection) (old new : List (ℕ × Entry)) → (IsSome (known_as id old) → (other : ℕ) → known_as other new ≡ cond (nat_eq id other) (Some k) (known_as other old)) → (known_as id old ≡ None → (other : ℕ) → known_as other new ≡ known_as other old) →
+    (other : ℕ) → nat_eq id other ≡ false → known_as other new ≡ known_as other old
+others_set id k old new put none = by-known (known_as id old) refl
+  where
+    by-known : (o : Option Connection) → known_as id old ≡ o → (other : ℕ) → nat_eq id other ≡ false → known_as other new ≡ known_as other old
+    by-known None e = λ other ne. none e other
+    by-known (Some x) e = others_known id x k old new (sym e) put

@@ -1,0 +1,18 @@
+use Rattle.std.proofs.Common.{◌∙◌, inl}
+use Rattle.ymx_engine.proofs.Queueing.{waits_then, there_now}
+use Rattle.ymx_engine.proofs.connections.Connections.end_turn.Goals as goal
+
+pub returns-then-more-clause-known : goal.returns-then-more-clause-known
+returns-then-more-clause-known c = λ some other. c.enqueue_again.ensures.known other ∙ c.set.ensures.known some other
+
+pub returns-then-more-clause-turns : goal.returns-then-more-clause-turns
+returns-then-more-clause-turns c = λ other h. waits_then _ other _ _ _ _ _ _ c.set.ensures.queues.0 c.set.ensures.queues.1 c.enqueue_again.ensures.turn.0 c.enqueue_again.ensures.turn.1 h
+
+pub returns-then-holds-clause-known : goal.returns-then-holds-clause-known
+returns-then-holds-clause-known c = λ some other. c.hold.ensures.known other ∙ c.set.ensures.known some other
+
+pub returns-then-holds-clause-turns : goal.returns-then-holds-clause-turns
+returns-then-holds-clause-turns c = λ other h. waits_then c.args.id other _ _ _ _ _ _ c.set.ensures.queues.0 c.set.ensures.queues.1 (inl c.hold.ensures.turns.0) (inl c.hold.ensures.turns.1) h
+
+pub returns-then-more-clause-again : goal.returns-then-more-clause-again
+returns-then-more-clause-again c = λ on some room. c.enqueue_again.ensures.waits (there_now c.args.id c.args.connection _ _ (c.set.ensures.known some)) (c.set.ensures.room ∙ room)

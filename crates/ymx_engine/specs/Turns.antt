@@ -1,0 +1,80 @@
+-- Which connections an engine knows, and whose turns come (this project's own).
+use Rattle.std.specs.Prelude.{ℕ, ◌≡◌, ◌⊎◌, ◌∷◌, ◌++◌, ◌==◌, ◌&&◌, length, List, [], Bool, true, false, Option, Some, option_map, nat_eq, cond, Contains}
+use Rattle.std.specs.Map.{lookup}
+use Rattle.ymx_engine.specs.declared.connection.Connection.{Connection}
+use Rattle.ymx_engine.specs.declared.connections.Entry.{Entry}
+
+-- The connections by stream id; those that wait for a turn, which had none since they came to have something to move, or
+-- have more to move; those that are held back; and whether one more may be queued, and one more kept, without memory.
+pub record Turns : Type 0 where
+  pub known : List (ℕ × Entry)
+  pub fresh : List ℕ
+  pub busy : List ℕ
+  pub held : List ℕ
+  pub has_room : Bool
+  pub has_place : Bool
+
+-- what is known of the connection of this stream
+abbrev pub known_as : ℕ → List (ℕ × Entry) → Option Connection
+known_as id known = option_map (λ e. e.connection) (lookup (nat_eq id) known)
+
+-- the connection of this stream waits for a turn
+abbrev pub Waits : ℕ → Turns → Type 0
+Waits id t = Contains t.fresh id ⊎ Contains t.busy id
+
+abbrev pub is_idle : Turns → Bool
+is_idle t = (length t.fresh == 0) && (length t.busy == 0)
+
+-- none waits for a turn
+abbrev pub IsIdle : Turns → Type 0
+IsIdle t = (t.fresh ≡ []) × (t.busy ≡ [])
+
+-- of the connection of this stream this is known now, and of each other what was known
+abbrev pub Knows : ℕ → Option Connection → Turns → Turns → Type 0
+Knows id what old new = (other : ℕ) → known_as other new.known ≡ cond (nat_eq id other) what (known_as other old.known)
+
+-- of each connection the same is known
+abbrev pub SameConnections : Turns → Turns → Type 0
+SameConnections old new = (id : ℕ) → known_as id new.known ≡ known_as id old.known
+
+-- each that waited for a turn waits on
+abbrev pub WaitOn : Turns → Turns → Type 0
+WaitOn old new = (id : ℕ) → Waits id old → Waits id new
+
+-- the queues of those that wait for a turn stay
+abbrev pub SameTurns : Turns → Turns → Type 0
+SameTurns old new = (new.fresh ≡ old.fresh) × (new.busy ≡ old.busy)
+
+-- so do those that are held back
+abbrev pub SameQueues : Turns → Turns → Type 0
+SameQueues old new = (new.fresh ≡ old.fresh) × (new.busy ≡ old.busy) × (new.held ≡ old.held)
+
+-- a queue stays, or this id stands behind the others
+abbrev pub StaysOrAdds : ℕ → List ℕ → List ℕ → Type 0
+StaysOrAdds id old new = (new ≡ old) ⊎ (new ≡ old ++ id ∷ [])
+
+-- each that waited waits on, and none other waits but this
+abbrev pub AddsTurn : ℕ → Turns → Turns → Type 0
+AddsTurn id old new = StaysOrAdds id old.fresh new.fresh × StaysOrAdds id old.busy new.busy × (new.held ≡ old.held)
+
+-- of each connection the same is known, and each that waited for a turn waits on
+pub record KeepsTurns (old new : Turns) : Type 0 where
+  pub known : SameConnections old new
+  pub turns : WaitOn old new
+
+-- the same of each but this
+pub record KeepsOthers (id : ℕ) (old new : Turns) : Type 0 where
+  pub known : (other : ℕ) → nat_eq id other ≡ false → known_as other new.known ≡ known_as other old.known
+  pub turns : WaitOn old new
+
+-- of this connection this is known, and it waits for a turn behind the others; of each other what was known
+abbrev pub Adds : ℕ → Connection → Turns → Turns → Type 0
+Adds id connection old new = Knows id (Some connection) old new × Waits id new × AddsTurn id old new
+
+-- the first of a queue had its turn
+abbrev pub TakesTurn : ℕ → Turns → Turns → Type 0
+TakesTurn id old new = (old.fresh ≡ id ∷ new.fresh) × (new.busy ≡ old.busy) ⊎ (old.busy ≡ id ∷ new.busy) × (new.fresh ≡ old.fresh)
+
+-- each connection that is marked as queued stands in a queue
+abbrev pub AreListed : List (ℕ × Entry) → List ℕ → List ℕ → Type 0
+AreListed known fresh busy = (id : ℕ) (e : Entry) → lookup (nat_eq id) known ≡ Some e → e.is_queued ≡ true → Contains fresh id ⊎ Contains busy id
