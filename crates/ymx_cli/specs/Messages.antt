@@ -1,5 +1,5 @@
 -- What the program says on its error device (this project's own).
-use Rattle.std.specs.Prelude.{◌≡◌, ◌≤◌, ◌++◌, ◌↔◌, ℕ, List, [], Bool, Option, IfSome, IsTrue, ◌⊎◌, codes}
+use Rattle.std.specs.Prelude.{◌≡◌, ◌≤◌, ◌++◌, ◌↔◌, ℕ, List, [], Bool, true, false, Option, IfSome, IsTrue, ◌⊎◌, codes}
 use Rattle.std.specs.Io.{StartsWith}
 use Rattle.std.specs.Io.KnownBytes.{Appends, Consumes, IsAtEnd, Keeps}
 use Rattle.ymx_model.specs.devices.Devices.{has_failed}
@@ -9,6 +9,8 @@ use Rattle.ymx_frames.specs.declared.print.FramesEnd.TheVariants.{Good, Fault as
 use Rattle.ymx_script.specs.Outputs.{PrintsByEnd}
 use Rattle.ymx_script.specs.declared.lines.ScriptEnd.{ScriptEnd}
 use Rattle.ymx_script.specs.declared.lines.ScriptEnd.TheVariants as script
+use Rattle.ymx_cli.specs.declared.outcome.Outcome.{Outcome}
+use Rattle.ymx_cli.specs.Outcomes.{status_of, has_refusal}
 
 -- What a call did to a device: the bytes that it had to give, or had taken, and how often it had failed, before and after.
 pub record Change : Type 0 where
@@ -79,39 +81,56 @@ script_reason script.Reading = codes "ymx: reading failed\n"
 script_reason script.Writing = writing_failed
 script_reason (script.Memory _) = out_of_memory
 
+-- frames, or a script, lacked memory
+abbrev pub frames_lack : FramesEnd → Bool
+frames_lack (Memory _) = true
+frames_lack _ = false
+
+abbrev pub script_lacks : ScriptEnd → Bool
+script_lacks (script.Memory _) = true
+script_lacks _ = false
+
 -- Frames are printed with this limit, in bytes of payload: the status is 0 at their good end and else 1, and what failed is said.
--- A device is blamed only if it failed. Given are the changes of the input, the output and the error device.
-abbrev pub PrintsFrames : (limit status : ℕ) → (input output errors : Change) → Type 0
-PrintsFrames limit status input output errors =
+-- A device is blamed only if it failed, and memory only with what shows that it was refused. Given are the changes of the input,
+-- the output and the error device.
+abbrev pub PrintsFrames : (limit : ℕ) → Outcome → (input output errors : Change) → Type 0
+PrintsFrames limit outcome input output errors =
     (end : FramesEnd) × (text : List ℕ) × (lines : List ℕ) × Consumes input.before input.after text × TakesText output lines
     × Prints limit text (IsAtEnd input.after) end lines × (end ≡ Reading → IsTrue (fails input)) × (end ≡ Writing → IsTrue (fails output))
-    × (status ≤ 1) × ((status ≡ 0) ↔ (end ≡ Good)) × SaysText errors (reason end)
+    × (frames_lack end ≡ true → has_refusal outcome ≡ true)
+    × (status_of outcome ≤ 1) × ((status_of outcome ≡ 0) ↔ (end ≡ Good)) × SaysText errors (reason end)
 
 -- Nothing is printed, the status is 1, and this text says why.
-abbrev pub Refuses : (status : ℕ) → (output errors : Change) → List ℕ → Type 0
-Refuses status output errors text = (status ≡ 1) × IsUntouched output × SaysText errors text
+abbrev pub Refuses : Outcome → (output errors : Change) → List ℕ → Type 0
+Refuses outcome output errors text = (status_of outcome ≡ 1) × IsUntouched output × SaysText errors text
+
+-- Nothing is printed, as memory was refused, which the outcome shows.
+abbrev pub SaysNoMemory : Outcome → (output errors : Change) → Type 0
+SaysNoMemory outcome output errors = (has_refusal outcome ≡ true) × Refuses outcome output errors out_of_memory
 
 -- A script is played, and its answers are printed: the status is 0 at its good end and else 1, and what failed is said. A device is
--- blamed only if it failed. Given are the changes of the input, the output and the error device.
-abbrev pub PlaysScript : (status : ℕ) → (input output errors : Change) → Type 0
-PlaysScript status input output errors =
+-- blamed only if it failed, and memory only with what shows that it was refused. Given are the changes of the input, the output and
+-- the error device.
+abbrev pub PlaysScript : Outcome → (input output errors : Change) → Type 0
+PlaysScript outcome input output errors =
     (end : ScriptEnd) × (text : List ℕ) × (lines : List ℕ) × Consumes input.before input.after text × TakesText output lines
     × PrintsByEnd text (IsAtEnd input.after) end lines × (end ≡ script.Reading → IsTrue (fails input)) × (end ≡ script.Writing → IsTrue (fails output))
-    × (status ≤ 1) × ((status ≡ 0) ↔ (end ≡ script.Good)) × SaysText errors (script_reason end)
+    × (script_lacks end ≡ true → has_refusal outcome ≡ true)
+    × (status_of outcome ≤ 1) × ((status_of outcome ≡ 0) ↔ (end ≡ script.Good)) × SaysText errors (script_reason end)
 
 -- The file of this name, which holds these bytes, is read, and this comes of its change, or it refuses to be opened.
-abbrev pub ReadsFile : (status : ℕ) → (refuses : Type 0) → (name : List ℕ) → Option (List ℕ) → (output errors : Change) → (Change → Type 0) → Type 0
-ReadsFile status refuses name held output errors comes =
-    (refuses × Refuses status output errors (opening_failed name))
+abbrev pub ReadsFile : Outcome → (refuses : Type 0) → (name : List ℕ) → Option (List ℕ) → (output errors : Change) → (Change → Type 0) → Type 0
+ReadsFile outcome refuses name held output errors comes =
+    (refuses × Refuses outcome output errors (opening_failed name))
     ⊎ ((input : Change) × Keeps held input.before × (input.failures_before ≡ 0) × comes input)
 
 -- The frames of the file of this name, which holds these bytes, are printed with this limit, or it refuses to be opened.
-abbrev pub PrintsFile : (limit status : ℕ) → (refuses : Type 0) → (name : List ℕ) → Option (List ℕ) → (output errors : Change) → Type 0
-PrintsFile limit status refuses name held output errors = ReadsFile status refuses name held output errors (λ input. PrintsFrames limit status input output errors)
+abbrev pub PrintsFile : (limit : ℕ) → Outcome → (refuses : Type 0) → (name : List ℕ) → Option (List ℕ) → (output errors : Change) → Type 0
+PrintsFile limit outcome refuses name held output errors = ReadsFile outcome refuses name held output errors (λ input. PrintsFrames limit outcome input output errors)
 
 -- The script that the file of this name holds is played, or it refuses to be opened.
-abbrev pub PlaysFile : (status : ℕ) → (refuses : Type 0) → (name : List ℕ) → Option (List ℕ) → (output errors : Change) → Type 0
-PlaysFile status refuses name held output errors = ReadsFile status refuses name held output errors (λ input. PlaysScript status input output errors)
+abbrev pub PlaysFile : Outcome → (refuses : Type 0) → (name : List ℕ) → Option (List ℕ) → (output errors : Change) → Type 0
+PlaysFile outcome refuses name held output errors = ReadsFile outcome refuses name held output errors (λ input. PlaysScript outcome input output errors)
 
 -- This happened to a text; where it is stated what a message displays as, to that text.
 abbrev pub Shows : Option (List ℕ) → (List ℕ → Type 0) → Type 0

@@ -5,12 +5,14 @@ ghost use Rattle.std.specs.IoError.{error_kind};
 ghost use Rattle.std.specs.declared.io.ErrorKind.TheVariants.{InvalidData};
 ghost use Rattle.std.specs.Io.KnownBytes.{Keeps};
 ghost use Rattle.clap.specs.Words.{kind_of};
+ghost use Rattle.clap.specs.declared.error.kind.ErrorKind.TheVariants.{OutOfMemory};
 ghost use Rattle.ymx_arguments.specs.CommandLine.{AsksFrames, AsksNoHelp, AsksNoLines, AsksScript, GivesBadOption, IsMistake, LacksMemory, NamesAnother, SaysMistake};
-ghost use Rattle.ymx_cli.specs.Messages.{IsUntouched, PlaysFile, PlaysScript, PrintsFile, PrintsFrames, Refuses, SaysText, Shows, TakesText, TakesPart, change_of, fails, not_text, opening_failed, out_of_memory, reason, script_reason, writing_failed};
+ghost use Rattle.ymx_cli.specs.Messages.{IsUntouched, PlaysFile, PlaysScript, PrintsFile, PrintsFrames, SaysNoMemory, SaysText, Shows, TakesText, TakesPart, change_of, fails, frames_lack, not_text, opening_failed, out_of_memory, reason, script_lacks, script_reason, writing_failed};
+ghost use Rattle.ymx_cli.specs.Outcomes.{has_refusal, status_of};
 
+use crate::outcome::{NoWords, Outcome, Refusal, text_of};
 use crate::tunnel::run_tunnel;
 use clap::Error;
-use clap::error::ErrorKind;
 use std::alloc::Global;
 use std::convert::AsStr;
 use std::fmt::Display;
@@ -43,8 +45,8 @@ pub trait FileOpener {
 }
 
 /// Does what the words of a command line ask for, the first of which is the program's name. Faults are said on
-/// `errors`, and what `-v` asks for on `lines`. Answers the exit status: 0 if all went well, 1 at a fault, 2 for a bad
-/// command line.
+/// `errors`, and what `-v` asks for on `lines`. Answers what came of it: its exit status is 0 if all went well, 1 at a
+/// fault, 2 for a bad command line. That there was no memory for frames or a script is said only with what shows it.
 pub fn ymx_main<
     T: Net<Stream = TcpStream, Listener = TcpListener> + Threads + Clock + Wait + Sync,
     S: AsStr,
@@ -62,34 +64,34 @@ pub fn ymx_main<
     writer: &mut W,
     errors: &mut E,
     lines: &mut L,
-) -> u8
-    ensures status { result ≤ 2 }
+) -> Outcome
+    ensures status { status_of result ≤ 2 }
     // A good end says nothing on the error device.
-    ensures good { result ≡ 0 → IsUntouched (change_of E.contents E.failures errors.old errors.new) }
+    ensures good { status_of result ≡ 0 → IsUntouched (change_of E.contents E.failures errors.old errors.new) }
     // Words that ask for the frames of the reader get them with their limit, or there is no memory to read the words.
     ensures frames { (limit : ℕ) → AsksFrames (map S.text words.now) limit None →
         let input = change_of R.remaining R.failures reader.old reader.new in
         let output = change_of W.contents W.failures writer.old writer.new in
         let says = change_of E.contents E.failures errors.old errors.new in
-        PrintsFrames limit result input output says ⊎ (IsUntouched input × Refuses result output says out_of_memory) }
+        PrintsFrames limit result input output says ⊎ (IsUntouched input × SaysNoMemory result output says) }
     // So do words that ask for the frames of a file. The reader stays as it was.
     ensures file { (limit : ℕ) (name : List ℕ) → AsksFrames (map S.text words.now) limit (Some name) →
         let output = change_of W.contents W.failures writer.old writer.new in
         let says = change_of E.contents E.failures errors.old errors.new in
         IsUntouched (change_of R.remaining R.failures reader.old reader.new)
-        × (PrintsFile limit result (F.refuses files.now name) name (F.held files.now name) output says ⊎ Refuses result output says out_of_memory) }
+        × (PrintsFile limit result (F.refuses files.now name) name (F.held files.now name) output says ⊎ SaysNoMemory result output says) }
     // Words that ask for the script of the reader get it played, or there is no memory to read the words.
     ensures script { AsksScript (map S.text words.now) None →
         let input = change_of R.remaining R.failures reader.old reader.new in
         let output = change_of W.contents W.failures writer.old writer.new in
         let says = change_of E.contents E.failures errors.old errors.new in
-        PlaysScript result input output says ⊎ (IsUntouched input × Refuses result output says out_of_memory) }
+        PlaysScript result input output says ⊎ (IsUntouched input × SaysNoMemory result output says) }
     // So do words that ask for the script of a file. The reader stays as it was.
     ensures script_file { (name : List ℕ) → AsksScript (map S.text words.now) (Some name) →
         let output = change_of W.contents W.failures writer.old writer.new in
         let says = change_of E.contents E.failures errors.old errors.new in
         IsUntouched (change_of R.remaining R.failures reader.old reader.new)
-        × (PlaysFile result (F.refuses files.now name) name (F.held files.now name) output says ⊎ Refuses result output says out_of_memory) }
+        × (PlaysFile result (F.refuses files.now name) name (F.held files.now name) output says ⊎ SaysNoMemory result output says) }
     // Whatever the words, frames are printed so with a limit in its range, or a script is played, or nothing is read.
     ensures printed { let input = change_of R.remaining R.failures reader.old reader.new in
         let output = change_of W.contents W.failures writer.old writer.new in
@@ -103,11 +105,11 @@ pub fn ymx_main<
     // A number that isn't decimal digits alone, or is out of its range, is a mistake. So is an end of a tunnel that is to
     // meet its peer in no way, or in two.
     ensures options { GivesBadOption (map S.text words.now) → AsksNoHelp (map S.text words.now) →
-        (result ≡ 2) ⊎ Refuses result (change_of W.contents W.failures writer.old writer.new) (change_of E.contents E.failures errors.old errors.new) out_of_memory }
+        (status_of result ≡ 2) ⊎ SaysNoMemory result (change_of W.contents W.failures writer.old writer.new) (change_of E.contents E.failures errors.old errors.new) }
     // Without `-v` no lines are said.
     ensures unsaid { AsksNoLines (map S.text words.now) → IsUntouched (change_of L.contents L.failures lines.old lines.new) }
     // At status 2 nothing is read, and nothing is written to the writer.
-    ensures bad { result ≡ 2 → IsUntouched (change_of R.remaining R.failures reader.old reader.new) × IsUntouched (change_of W.contents W.failures writer.old writer.new) }
+    ensures bad { status_of result ≡ 2 → IsUntouched (change_of R.remaining R.failures reader.old reader.new) × IsUntouched (change_of W.contents W.failures writer.old writer.new) }
 {
     match parse(alloc, words) {
         Ok(Task::Frames { limit, file: None }) => print(rt, alloc, reader, limit, writer, errors),
@@ -135,7 +137,8 @@ pub fn no_words<E: Outlet>(error: &io::Error, errors: &mut E) -> u8
         say(errors, b"error: a word of the command line is not UTF-8\n");
         return 2;
     }
-    say_fault(errors, b"ymx: out of memory\n")
+    say(errors, b"ymx: out of memory\n");
+    1
 }
 
 /// Prints the frames of a reader, and answers the status.
@@ -146,10 +149,10 @@ fn print<R: Inlet, W: Outlet, E: Outlet>(
     limit: u32,
     writer: &mut W,
     errors: &mut E,
-) -> u8
+) -> Outcome
     ensures printed { PrintsFrames limit result (change_of R.remaining R.failures reader.old reader.new)
         (change_of W.contents W.failures writer.old writer.new) (change_of E.contents E.failures errors.old errors.new) }
-    ensures quiet { result ≡ 0 → IsUntouched (change_of E.contents E.failures errors.old errors.new) }
+    ensures quiet { status_of result ≡ 0 → IsUntouched (change_of E.contents E.failures errors.old errors.new) }
 {
     let end = frames(rt, alloc, reader, writer, limit);
     finish(end, errors)
@@ -164,11 +167,11 @@ fn print_file<F: FileOpener, W: Outlet, E: Outlet>(
     limit: u32,
     writer: &mut W,
     errors: &mut E,
-) -> u8
+) -> Outcome
     ensures printed { PrintsFile limit result (F.refuses files.now name.now) name.now (F.held files.now name.now)
         (change_of W.contents W.failures writer.old writer.new) (change_of E.contents E.failures errors.old errors.new) }
-    ensures quiet { result ≡ 0 → IsUntouched (change_of E.contents E.failures errors.old errors.new) }
-    ensures status { result ≤ 1 }
+    ensures quiet { status_of result ≡ 0 → IsUntouched (change_of E.contents E.failures errors.old errors.new) }
+    ensures status { status_of result ≤ 1 }
 {
     match files.open(name) {
         Ok(mut file) => print(rt, alloc, &mut file, limit, writer, errors),
@@ -183,10 +186,10 @@ fn play<R: Inlet, W: Outlet, E: Outlet>(
     reader: &mut R,
     writer: &mut W,
     errors: &mut E,
-) -> u8
+) -> Outcome
     ensures played { PlaysScript result (change_of R.remaining R.failures reader.old reader.new)
         (change_of W.contents W.failures writer.old writer.new) (change_of E.contents E.failures errors.old errors.new) }
-    ensures quiet { result ≡ 0 → IsUntouched (change_of E.contents E.failures errors.old errors.new) }
+    ensures quiet { status_of result ≡ 0 → IsUntouched (change_of E.contents E.failures errors.old errors.new) }
 {
     let end = script(rt, alloc, reader, writer);
     finish_script(end, errors)
@@ -200,11 +203,11 @@ fn play_file<F: FileOpener, W: Outlet, E: Outlet>(
     name: &str,
     writer: &mut W,
     errors: &mut E,
-) -> u8
+) -> Outcome
     ensures played { PlaysFile result (F.refuses files.now name.now) name.now (F.held files.now name.now)
         (change_of W.contents W.failures writer.old writer.new) (change_of E.contents E.failures errors.old errors.new) }
-    ensures quiet { result ≡ 0 → IsUntouched (change_of E.contents E.failures errors.old errors.new) }
-    ensures status { result ≤ 1 }
+    ensures quiet { status_of result ≡ 0 → IsUntouched (change_of E.contents E.failures errors.old errors.new) }
+    ensures status { status_of result ≤ 1 }
 {
     match files.open(name) {
         Ok(mut file) => play(rt, alloc, &mut file, writer, errors),
@@ -213,40 +216,42 @@ fn play_file<F: FileOpener, W: Outlet, E: Outlet>(
 }
 
 /// Says why the printing of frames ended, if a device or memory failed, and answers the status.
-fn finish<E: Outlet>(end: FramesEnd, errors: &mut E) -> u8
-    ensures status { result ≤ 1 }
-    ensures good { (result ≡ 0) ↔ (end ≡ FramesEnd.Good) }
-    ensures quiet { result ≡ 0 → IsUntouched (change_of E.contents E.failures errors.old errors.new) }
+fn finish<E: Outlet>(end: FramesEnd, errors: &mut E) -> Outcome
+    ensures status { status_of result ≤ 1 }
+    ensures good { (status_of result ≡ 0) ↔ (end ≡ FramesEnd.Good) }
+    ensures quiet { status_of result ≡ 0 → IsUntouched (change_of E.contents E.failures errors.old errors.new) }
+    ensures memory { frames_lack end ≡ true → has_refusal result ≡ true }
     ensures said { SaysText (change_of E.contents E.failures errors.old errors.new) (reason end) }
 {
     match end {
-        FramesEnd::Good => 0,
-        FramesEnd::Fault | FramesEnd::Rest => 1,
+        FramesEnd::Good => Outcome::Good,
+        FramesEnd::Fault | FramesEnd::Rest => Outcome::Faulted,
         FramesEnd::Reading => say_fault(errors, b"ymx: reading failed\n"),
         FramesEnd::Writing => say_fault(errors, b"ymx: writing failed\n"),
-        FramesEnd::Memory(_) => say_fault(errors, b"ymx: out of memory\n"),
+        FramesEnd::Memory(refused) => say_no_memory(errors, Refusal::Allocation(refused)),
     }
 }
 
 /// Says why the playing of a script ended, if a device or memory failed, and answers the status.
-fn finish_script<E: Outlet>(end: ScriptEnd, errors: &mut E) -> u8
-    ensures status { result ≤ 1 }
-    ensures good { (result ≡ 0) ↔ (end ≡ ScriptEnd.Good) }
-    ensures quiet { result ≡ 0 → IsUntouched (change_of E.contents E.failures errors.old errors.new) }
+fn finish_script<E: Outlet>(end: ScriptEnd, errors: &mut E) -> Outcome
+    ensures status { status_of result ≤ 1 }
+    ensures good { (status_of result ≡ 0) ↔ (end ≡ ScriptEnd.Good) }
+    ensures quiet { status_of result ≡ 0 → IsUntouched (change_of E.contents E.failures errors.old errors.new) }
+    ensures memory { script_lacks end ≡ true → has_refusal result ≡ true }
     ensures said { SaysText (change_of E.contents E.failures errors.old errors.new) (script_reason end) }
 {
     match end {
-        ScriptEnd::Good => 0,
-        ScriptEnd::Line(_) => 1,
+        ScriptEnd::Good => Outcome::Good,
+        ScriptEnd::Line(_) => Outcome::Faulted,
         ScriptEnd::Reading => say_fault(errors, b"ymx: reading failed\n"),
         ScriptEnd::Writing => say_fault(errors, b"ymx: writing failed\n"),
-        ScriptEnd::Memory(_) => say_fault(errors, b"ymx: out of memory\n"),
+        ScriptEnd::Memory(refused) => say_no_memory(errors, Refusal::Allocation(refused)),
     }
 }
 
 /// Says that the file of this name can't be opened, and answers the status of a fault.
-fn cannot_open<E: Outlet>(errors: &mut E, name: &str) -> u8
-    ensures status { result ≡ 1 }
+fn cannot_open<E: Outlet>(errors: &mut E, name: &str) -> Outcome
+    ensures status { status_of result ≡ 1 }
     ensures said { SaysText (change_of E.contents E.failures errors.old errors.new) (opening_failed name.now) }
 {
     say_three(
@@ -255,7 +260,7 @@ fn cannot_open<E: Outlet>(errors: &mut E, name: &str) -> u8
         name.as_bytes(),
         b": the file can't be opened\n",
     );
-    1
+    Outcome::Faulted
 }
 
 /// Says a text that is given in three parts.
@@ -276,13 +281,22 @@ fn say_two<E: Outlet>(errors: &mut E, first: &[u8], second: &[u8])
     }
 }
 
-/// Says why nothing more is done, and answers the status of a fault.
-fn say_fault<E: Outlet>(errors: &mut E, text: &[u8]) -> u8
-    ensures status { result ≡ 1 }
+/// Says that there was no memory, as this shows.
+fn say_no_memory<E: Outlet>(errors: &mut E, refusal: Refusal) -> Outcome
+    ensures outcome { (status_of result ≡ 1) × (has_refusal result ≡ true) }
+    ensures said { SaysText (change_of E.contents E.failures errors.old errors.new) out_of_memory }
+{
+    say(errors, b"ymx: out of memory\n");
+    Outcome::NoMemory(refusal)
+}
+
+/// Says why nothing more is done, and answers a fault.
+fn say_fault<E: Outlet>(errors: &mut E, text: &[u8]) -> Outcome
+    ensures status { status_of result ≡ 1 }
     ensures said { SaysText (change_of E.contents E.failures errors.old errors.new) text.now }
 {
     say(errors, text);
-    1
+    Outcome::Faulted
 }
 
 /// Says a text. Where the error device fails too there is nobody left to tell.
@@ -299,16 +313,16 @@ fn explain<W: Outlet, E: Outlet>(
     fault: &CommandFault<'_>,
     writer: &mut W,
     errors: &mut E,
-) -> u8
-    ensures status { result ≤ 2 }
-    ensures help { result ≡ 0 → (SaysMistake fault.now → ⊥) × IsUntouched (change_of E.contents E.failures errors.old errors.new) }
-    ensures mistake { result ≡ 2 → SaysMistake fault.now × IsUntouched (change_of W.contents W.failures writer.old writer.new) }
+) -> Outcome
+    ensures status { status_of result ≤ 2 }
+    ensures help { status_of result ≡ 0 → (SaysMistake fault.now → ⊥) × IsUntouched (change_of E.contents E.failures errors.old errors.new) }
+    ensures mistake { status_of result ≡ 2 → SaysMistake fault.now × IsUntouched (change_of W.contents W.failures writer.old writer.new) }
     ensures silent { SaysMistake fault.now → IsUntouched (change_of W.contents W.failures writer.old writer.new) }
     ensures memory { LacksMemory fault.now →
-        Refuses result (change_of W.contents W.failures writer.old writer.new) (change_of E.contents E.failures errors.old errors.new) out_of_memory }
+        SaysNoMemory result (change_of W.contents W.failures writer.old writer.new) (change_of E.contents E.failures errors.old errors.new) }
     ensures failed { let output = change_of W.contents W.failures writer.old writer.new in
         let says = change_of E.contents E.failures errors.old errors.new in
-        result ≡ 1 → Refuses result output says out_of_memory ⊎ ((SaysMistake fault.now → ⊥) × IsTrue (fails output) × SaysText says writing_failed) }
+        status_of result ≡ 1 → SaysNoMemory result output says ⊎ ((SaysMistake fault.now → ⊥) × IsTrue (fails output) × SaysText says writing_failed) }
 {
     match fault {
         CommandFault::Clap(error) => show_clap(alloc, error, writer, errors),
@@ -317,13 +331,13 @@ fn explain<W: Outlet, E: Outlet>(
 }
 
 /// Says that this text is no address, and answers the status of a bad command line.
-fn say_bad_address<E: Outlet>(text: &str, errors: &mut E) -> u8
-    ensures { result ≡ 2 }
+fn say_bad_address<E: Outlet>(text: &str, errors: &mut E) -> Outcome
+    ensures { status_of result ≡ 2 }
 {
     let _ = push_all(errors, b"ymx: bad address ");
     let _ = push_all(errors, text.as_bytes());
     let _ = push_all(errors, b"\n");
-    2
+    Outcome::BadWords
 }
 
 /// Shows what clap says of a command line: the help or version that was asked for, or what is wrong
@@ -333,21 +347,21 @@ fn show_clap<W: Outlet, E: Outlet>(
     error: &Error,
     writer: &mut W,
     errors: &mut E,
-) -> u8
-    ensures status { result ≤ 2 }
-    ensures help { result ≡ 0 → (IsMistake (kind_of error.now) → ⊥) × IsUntouched (change_of E.contents E.failures errors.old errors.new)
+) -> Outcome
+    ensures status { status_of result ≤ 2 }
+    ensures help { status_of result ≡ 0 → (IsMistake (kind_of error.now) → ⊥) × IsUntouched (change_of E.contents E.failures errors.old errors.new)
         × ((text : List ℕ) × TakesText (change_of W.contents W.failures writer.old writer.new) text) }
-    ensures mistake { result ≡ 2 → IsMistake (kind_of error.now) × IsUntouched (change_of W.contents W.failures writer.old writer.new)
+    ensures mistake { status_of result ≡ 2 → IsMistake (kind_of error.now) × IsUntouched (change_of W.contents W.failures writer.old writer.new)
         × ((text : List ℕ) × SaysText (change_of E.contents E.failures errors.old errors.new) text) }
     ensures silent { IsMistake (kind_of error.now) → IsUntouched (change_of W.contents W.failures writer.old writer.new) }
-    ensures memory { kind_of error.now ≡ ErrorKind.OutOfMemory →
-        Refuses result (change_of W.contents W.failures writer.old writer.new) (change_of E.contents E.failures errors.old errors.new) out_of_memory }
+    ensures memory { kind_of error.now ≡ OutOfMemory →
+        SaysNoMemory result (change_of W.contents W.failures writer.old writer.new) (change_of E.contents E.failures errors.old errors.new) }
     ensures failed { let output = change_of W.contents W.failures writer.old writer.new in
         let says = change_of E.contents E.failures errors.old errors.new in
-        result ≡ 1 → Refuses result output says out_of_memory ⊎ ((IsMistake (kind_of error.now) → ⊥) × IsTrue (fails output) × SaysText says writing_failed) }
+        status_of result ≡ 1 → SaysNoMemory result output says ⊎ ((IsMistake (kind_of error.now) → ⊥) × IsTrue (fails output) × SaysText says writing_failed) }
 {
-    if error.kind() == ErrorKind::OutOfMemory {
-        return say_fault(errors, b"ymx: out of memory\n");
+    if let Some(refused) = NoWords::of(error) {
+        return say_no_memory(errors, Refusal::Words(refused));
     }
     show(alloc, error, error.use_stderr(), writer, errors)
 }
@@ -360,27 +374,28 @@ fn show<M: Display, W: Outlet, E: Outlet>(
     is_mistake: bool,
     writer: &mut W,
     errors: &mut E,
-) -> u8
-    ensures status { result ≤ 2 }
-    ensures help { result ≡ 0 → (is_mistake ≡ false) × IsUntouched (change_of E.contents E.failures errors.old errors.new)
+) -> Outcome
+    ensures status { status_of result ≤ 2 }
+    ensures help { status_of result ≡ 0 → (is_mistake ≡ false) × IsUntouched (change_of E.contents E.failures errors.old errors.new)
         × Shows (M.output message.now) (TakesText (change_of W.contents W.failures writer.old writer.new)) }
-    ensures mistake { result ≡ 2 → (is_mistake ≡ true) × IsUntouched (change_of W.contents W.failures writer.old writer.new)
+    ensures mistake { status_of result ≡ 2 → (is_mistake ≡ true) × IsUntouched (change_of W.contents W.failures writer.old writer.new)
         × Shows (M.output message.now) (SaysText (change_of E.contents E.failures errors.old errors.new)) }
     ensures silent { is_mistake ≡ true → IsUntouched (change_of W.contents W.failures writer.old writer.new) }
     ensures failed { let output = change_of W.contents W.failures writer.old writer.new in
         let says = change_of E.contents E.failures errors.old errors.new in
-        result ≡ 1 → Refuses result output says out_of_memory
+        status_of result ≡ 1 → SaysNoMemory result output says
         ⊎ ((is_mistake ≡ false) × IsTrue (fails output) × Shows (M.output message.now) (TakesPart output) × SaysText says writing_failed) }
 {
-    let Ok(text) = message.to_string(alloc) else {
-        return say_fault(errors, b"ymx: out of memory\n");
+    let text = match text_of(alloc, message) {
+        Ok(text) => text,
+        Err(refused) => return say_no_memory(errors, Refusal::Text(refused)),
     };
     if is_mistake {
         say(errors, text.as_bytes());
-        return 2;
+        return Outcome::BadWords;
     }
     match push_all(writer, text.as_bytes()) {
-        Ok(()) => 0,
+        Ok(()) => Outcome::Good,
         Err(_) => say_fault(errors, b"ymx: writing failed\n"),
     }
 }

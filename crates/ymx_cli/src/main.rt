@@ -5,6 +5,7 @@
 
 mod command;
 mod disk;
+mod outcome;
 mod tunnel;
 
 use command::{no_words, ymx_main};
@@ -43,7 +44,8 @@ fn main(rt: HostRuntime) -> ExitCode {
             &mut writer,
             &mut errors,
             &mut lines,
-        ),
+        )
+        .status(),
         Err(error) => no_words(&error, &mut errors),
     };
     ExitCode::from(status)
