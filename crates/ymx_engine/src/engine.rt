@@ -7,18 +7,17 @@ ghost use Rattle.ymx_machine.specs.shared.Events.{Reply};
 ghost use Rattle.ymx_machine.specs.declared.types.Reply.TheVariants as reply;
 ghost use Rattle.ymx_model.specs.session.Emissions.{in_turn};
 ghost use Rattle.ymx_model.specs.session.Feeds.{is_stuck};
-ghost use Rattle.ymx_model.specs.session.Sessions.{is_running};
 ghost use Rattle.ymx_model.specs.session.Histories.{Gives};
 ghost use Rattle.ymx_session.specs.declared.passing.Passing.{Passing};
 ghost use Rattle.ymx_session.specs.Passing.{passing};
 ghost use Rattle.ymx_session.specs.Replies.{pinged_or, ponged_or};
 ghost use Rattle.ymx_engine.specs.Devices.{pulled_count, pushed_count, is_end, is_pull_failure, is_push_failure, CountsSome};
-ghost use Rattle.ymx_engine.specs.Engines.{KeepsWire, IsFedOrStuck, IsFlushed};
+ghost use Rattle.ymx_engine.specs.Engines.{KeepsWire, IsFedOrStuck};
 ghost use Rattle.ymx_engine.specs.Exchanges.{has_bytes};
 ghost use Rattle.ymx_engine.specs.Follows.{FollowsDevice, IsOffered, IsAsked, StillKnown};
 ghost use Rattle.ymx_engine.specs.Known.{may_push, may_pull, new_connection, noted};
 ghost use Rattle.ymx_session.specs.Streams.{waiting, room_of};
-ghost use Rattle.ymx_engine.specs.Marks.{has_to_send, takes_more, may_have_bytes, may_read_wire, has_work};
+ghost use Rattle.ymx_engine.specs.Marks.{has_to_send, takes_more, may_have_bytes};
 ghost use Rattle.ymx_engine.specs.Turns.{known_as, Knows, Adds, SameConnections, SameQueues, KeepsTurns, KeepsOthers, Waits, IsIdle, AddsTurn, TakesTurn};
 ghost use Rattle.ymx_engine.specs.Serves.{Exchanges};
 ghost use Rattle.ymx_engine.specs.Passes.{IsPayload, PassesOn};
@@ -53,16 +52,16 @@ use ymx_session::{Session, Touched};
 /// and the session has not taken.
 #[derive(Drop)]
 pub struct Engine {
-    session: Session,
+    pub(crate) session: Session,
     touched: Touched,
-    connections: Connections,
-    outgoing: Block,
-    incoming: Block,
+    pub(crate) connections: Connections,
+    pub(crate) outgoing: Block,
+    pub(crate) incoming: Block,
     buffer: Vec<u8>,
-    can_pull_wire: bool,
-    can_push_wire: bool,
-    is_wire_over: bool,
-    has_lacked_memory: bool,
+    pub(crate) can_pull_wire: bool,
+    pub(crate) can_push_wire: bool,
+    pub(crate) is_wire_over: bool,
+    pub(crate) has_lacked_memory: bool,
 }
 
 impl Model for Engine {
@@ -796,71 +795,5 @@ impl Engine {
         if all {
             self.connections.release();
         }
-    }
-
-    // ---- how it stands
-
-    /// Whether a round may move something though no event comes: a connection is queued, the wire may have bytes or bytes
-    /// of it wait to be fed, or something is due that the wire may take. If not, the caller may wait for the next event.
-    pub fn has_work(&self) -> bool
-        ensures { result ≡ has_work self.now }
-    {
-        !self.connections.is_idle()
-            || self.may_read_wire()
-            || (self.can_push_wire && (self.session.due() || !self.outgoing.waiting().is_empty()))
-    }
-
-    /// Whether the wire may have bytes, or bytes of it may be fed now.
-    fn may_read_wire(&self) -> bool
-        ensures { result ≡ may_read_wire self.now }
-    {
-        if self.incoming.waiting().is_empty() {
-            self.may_pull_wire()
-        } else {
-            self.outgoing.waiting().is_empty() && self.is_running()
-        }
-    }
-
-    /// Whether the session runs.
-    fn is_running(&self) -> bool
-        ensures { result ≡ is_running self.now.engine.session.status }
-    {
-        match self.session.status() {
-            Status::Running => true,
-            _ => false,
-        }
-    }
-
-    /// Whether the wire may have bytes.
-    fn may_pull_wire(&self) -> bool
-        ensures { result ≡ may_have_bytes self.now.marks }
-    {
-        self.can_pull_wire && !self.is_wire_over
-    }
-
-    /// Whether all has gone out: the session has nothing due, and the wire has taken each byte that was emitted.
-    pub fn is_flushed(&self) -> bool
-        ensures { result ≡ true → IsFlushed self.now.engine }
-    {
-        self.outgoing.waiting().is_empty() && !self.session.due()
-    }
-
-    /// Whether a stream of the peer's was ever rejected for want of memory.
-    pub fn has_lacked_memory(&self) -> bool {
-        self.has_lacked_memory
-    }
-
-    /// How many streams wait to be accepted.
-    pub fn offered_count(&self) -> usize
-        ensures { result ≡ length self.now.engine.session.offered }
-    {
-        self.session.offered_count()
-    }
-
-    /// The state of the session.
-    pub fn status(&self) -> Status
-        ensures { result ≡ self.now.engine.session.status }
-    {
-        self.session.status()
     }
 }

@@ -16,6 +16,7 @@ mod gathering;
 mod line;
 mod passing;
 mod sending;
+mod standing;
 mod tunnel;
 
 pub use connection::{Connection, Flow};
