@@ -4,8 +4,8 @@ use crate::accepting::Listening;
 use crate::peer::Peer;
 use crate::reason::Reason;
 use crate::starting::StartFault;
+use crate::system::{Events, Poll, Waker};
 use crate::tunnel_end::{RETRY, new_events};
-use mio::{Events, Poll, Token, Waker};
 use std::alloc::Global;
 use std::io;
 use std::net::{Net, TcpListener};
@@ -46,7 +46,7 @@ impl Inside {
     /// One leaves.
     pub(crate) fn leave(&self) {
         self.count.fetch_sub(1, Ordering::SeqCst);
-        let _ = self.waker.wake();
+        self.waker.wake();
     }
 
     /// How many there are.
@@ -81,9 +81,8 @@ impl Door {
     ) -> Result<(Door, Inside), StartFault> {
         let events = new_events(alloc)?;
         let poll = Poll::new(rt)?;
-        let registry = poll.registry();
-        let waker = Waker::new(registry, Token(LEAVINGS))?;
-        let listening = Listening::new(listener, None, true, registry, Token(KNOCKS))?;
+        let waker = Waker::new(&poll, LEAVINGS)?;
+        let listening = Listening::new(listener, None, true, &poll, KNOCKS)?;
         let inside = Inside {
             count: AtomicU64::new(0),
             waker,
@@ -129,6 +128,6 @@ impl Door {
     fn wait(&mut self) -> io::Result<()> {
         let is_full = self.listening.is_full();
         let timeout = is_full.then_some(Duration::from_secs(RETRY));
-        self.poll.poll(&mut self.events, timeout)
+        self.poll.wait(&mut self.events, timeout)
     }
 }

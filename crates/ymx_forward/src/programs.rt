@@ -13,6 +13,7 @@ use crate::reason::Reason;
 use crate::serving::{serve_all, serve_until_none};
 use crate::sides::{Forwarded, TunnelSide};
 use crate::sockets::{accept, listen_for};
+use crate::system::address_of;
 use crate::tell::{cannot_listen, cannot_meet, lacked_memory, lacks_memory, session_broken};
 use crate::tunnel_end::{Limits, TunnelEnd, new_events};
 use crate::watching::Unwatched;
@@ -109,7 +110,7 @@ fn awaiting_end<
     let Some(peers) = listen_for(rt, "--bind", address, watcher) else {
         return cannot_listen(alloc, address, errors);
     };
-    let address = peers.local_addr().unwrap_or(address);
+    let address = address_of(&peers).unwrap_or(address);
     if options.is_kept {
         let meeting = Meeting {
             address,
@@ -250,7 +251,7 @@ fn serving_end<
     let Some(listener) = listen_for(rt, "--bind", address, &mut watcher) else {
         return cannot_listen(alloc, address, errors);
     };
-    let address = listener.local_addr().unwrap_or(address);
+    let address = address_of(&listener).unwrap_or(address);
     let count = options.peers.unwrap_or(PEERS);
     if options.is_kept {
         serve_all(
