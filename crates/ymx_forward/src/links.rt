@@ -241,7 +241,7 @@ fn serve_links<
 }
 
 /// Hears what went wrong until all is done. With `--keep` each fault is said as it comes, and else one at the end. Answers
-/// the exit status.
+/// how it ended.
 fn hear_all<R: Wait, E: Outlet>(
     rt: &R,
     alloc: Global,
@@ -251,48 +251,21 @@ fn hear_all<R: Wait, E: Outlet>(
 ) -> Exit
     ensures good { status_of result ≡ 0 → Keeps (E.contents errors.old) (E.contents errors.new) }
 {
-    if options.is_kept {
-        return say_all(rt, alloc, receiver, options, errors);
-    }
-    let forwarded = gather_all(rt, receiver);
-    report(alloc, options, forwarded, errors)
-}
-
-/// Says each fault as it comes, and answers how it ended.
-fn say_all<R: Wait, E: Outlet>(
-    rt: &R,
-    alloc: Global,
-    receiver: &Receiver<Forwarded, Global>,
-    options: LocalOptions,
-    errors: &mut E,
-) -> Exit
-    ensures good { status_of result ≡ 0 → Keeps (E.contents errors.old) (E.contents errors.new) }
-{
     let mut has_faulted = false;
-    let mut done = None;
-    for _ in rt.forever() {
-        let Ok(forwarded) = receiver.recv(rt) else {
-            return match done {
-                Some(shown) if !has_faulted => Exit::Done(shown),
-                _ => Exit::Faulted,
-            };
-        };
-        done = done.or(forwarded.done);
-        let said = report(alloc, options, forwarded, errors);
-        if !has_faulted {
-            has_faulted = said.has_faulted();
-        }
-    }
-    unreachable!()
-}
-
-/// All that went wrong.
-fn gather_all<R: Wait>(rt: &R, receiver: &Receiver<Forwarded, Global>) -> Forwarded {
     let mut all = Forwarded::well();
     for _ in rt.forever() {
-        match receiver.recv(rt) {
-            Ok(forwarded) => all = all.and(forwarded),
-            Err(_) => return all,
+        let Ok(forwarded) = receiver.recv(rt) else {
+            if has_faulted {
+                return Exit::Faulted;
+            }
+            return report(alloc, options, all, errors);
+        };
+        all = all.and(forwarded);
+        if options.is_kept {
+            let said = report(alloc, options, forwarded, errors);
+            if !has_faulted {
+                has_faulted = said.has_faulted();
+            }
         }
     }
     unreachable!()
