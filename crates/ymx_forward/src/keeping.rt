@@ -183,8 +183,8 @@ fn next_peer<R: Net<Stream = TcpStream, Listener = TcpListener> + Wait, V: Progr
     }
 }
 
-/// How it ended where no session follows: all is done where as many connections have come as were to and no session was
-/// at fault. Else it isn't, and for this reason, which is said.
+/// How it ended where no session follows: well where no more connections are accepted, though some could be, and no
+/// session was at fault. Else not, and for this reason, which is said.
 fn exit_of<E: Outlet>(
     alloc: Global,
     end: KeptEnd,
@@ -194,7 +194,7 @@ fn exit_of<E: Outlet>(
     errors: &mut E,
 ) -> Exit
     ensures good { status_of result ≡ 0 → (has_faulted ≡ false) × Keeps (E.contents errors.old) (E.contents errors.new) }
-    // It is done only where as many connections have come as were to.
+    // It ends well only where no more connections are accepted, though some could be.
     ensures shown { (done : Done) → result ≡ Exit.Done done → (all_came : AllCame) × (done ≡ Done.AllCame all_came) }
 {
     match end {
