@@ -5,6 +5,8 @@
 
 ghost use Rattle.std.specs.Prelude.{◌≡◌, [], true, false, IfSome};
 ghost use Rattle.ymx_engine.specs.Runs.{Runs, IsOver};
+ghost use Rattle.ymx_forward.specs.Loops.{WasLost};
+ghost use Rattle.ymx_model.specs.session.Sessions.{is_running};
 
 use crate::exit::Done;
 use crate::peer::Peer;
@@ -140,8 +142,9 @@ impl<'a> TunnelLoop<'a> {
         // A loop that wasn't left is over: nothing is due, or the wire has failed, and no connection is left.
         ensures over { IfSome result (λ finished. finished.was_left ≡ false → IsOver self.new.tunnel) }
         ensures empty { IfSome result (λ finished. finished.was_left ≡ false → self.new.tunnel.lines ≡ []) }
-        // One is left only where another session follows.
+        // One is left only where another session follows, and only once its own was over.
         ensures left { IfSome result (λ finished. finished.was_left ≡ true → is_kept ≡ true) }
+        ensures lost { IfSome result (λ finished. finished.was_left ≡ true → WasLost self.old.tunnel self.new.tunnel) }
     {
         let mut silence = Silence::new(rt, self.tunnel_end.limits.silence);
         self.begin_waiting(watcher);
@@ -165,7 +168,9 @@ impl<'a> TunnelLoop<'a> {
     }
 
     /// Whether the session was lost, another one follows, and nothing has moved for too long.
-    fn is_to_be_left<R: Clock>(&self, rt: &R) -> bool {
+    fn is_to_be_left<R: Clock>(&self, rt: &R) -> bool
+        ensures { result ≡ true → is_running self.now.tunnel.engine.session.status ≡ false }
+    {
         self.is_to_be_followed() && self.stillness.has_lasted(rt, Duration::from_secs(PATIENCE))
     }
 
@@ -324,12 +329,21 @@ impl<'a> TunnelLoop<'a> {
     }
 
     /// Whether the session is over.
-    fn is_lost(&self) -> bool {
-        self.tunnel.status() != Status::Running
+    fn is_lost(&self) -> bool
+        ensures { result ≡ true → is_running self.now.tunnel.engine.session.status ≡ false }
+    {
+        match self.tunnel.status() {
+            Status::Running => false,
+            Status::Lost => true,
+            Status::Broken(_) => true,
+            Status::Closed => true,
+        }
     }
 
     /// Whether the session is over, and another one follows.
-    fn is_to_be_followed(&self) -> bool {
+    fn is_to_be_followed(&self) -> bool
+        ensures { result ≡ true → is_running self.now.tunnel.engine.session.status ≡ false }
+    {
         self.tunnel_end.is_kept && self.is_lost()
     }
 
