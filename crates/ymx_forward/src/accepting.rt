@@ -291,7 +291,7 @@ fn is_full(reason: Reason) -> bool {
 /// The next connection, made again where it went away meanwhile, or a signal interrupts it.
 fn accept(listener: &Listener) -> Result<TcpConnection, Refusal> {
     for _ in 0..RETRIES {
-        match listener.accept() {
+        match listener.next() {
             Ok(socket) => return Ok(socket),
             Err(e) if e.kind() == ErrorKind::Interrupted => {}
             Err(e) if e.kind() == ErrorKind::ConnectionAborted => {}

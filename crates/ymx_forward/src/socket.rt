@@ -1,6 +1,6 @@
 //! A socket that never waits, as a device of an engine.
 
-ghost use Rattle.std.specs.Prelude.{ℕ, List, [], ◌≡◌, ◌≤◌, ◌+◌, ◌-◌, ◌^◌, ◌<◌, ◌||◌, length, is_some, min, true};
+ghost use Rattle.std.specs.Prelude.{ℕ, List, [], ◌≡◌, ◌≤◌, ◌+◌, ◌-◌, ◌^◌, ◌<◌, ◌||◌, length, is_some, min, true, false};
 ghost use Rattle.std.specs.Io.{WritesAtMost};
 ghost use Rattle.std.specs.Io.Slices.{io_slices_bytes};
 ghost use Rattle.ymx_engine.specs.Devices.{IsEnded, IsPulled, IsPushed, IsShut, pulled_count, pushed_count, is_end, is_pull_failure, is_push_failure, CountsOne, CountsPull, CountsPush, CountsClose};
@@ -220,7 +220,7 @@ impl Socket {
             self.state = ConnectState::Connected;
             return;
         }
-        match self.socket.take_error() {
+        match self.socket.take_fault() {
             Ok(None) => {}
             Ok(Some(error)) | Err(error) => {
                 self.reason = Some(Reason::of(&error));

@@ -91,7 +91,7 @@ impl TcpConnection {
     }
 
     /// Why it could not be made, if it couldn't and that wasn't told.
-    pub(crate) fn take_error(&self) -> io::Result<Option<io::Error>> {
+    pub(crate) fn take_fault(&self) -> io::Result<Option<io::Error>> {
         self.inner.take_error()
     }
 
@@ -151,7 +151,7 @@ impl Listener {
     }
 
     /// The next connection. Where none waits the error says so.
-    pub(crate) fn accept(&self) -> io::Result<TcpConnection>
+    pub(crate) fn next(&self) -> io::Result<TcpConnection>
         ensures { IfOk result (λ connection. connection.is_registered ≡ false) }
     {
         let (connection, _) = self.inner.accept()?;
@@ -237,7 +237,7 @@ pub(crate) struct Event {
 impl Event {
     /// What this event of the system says.
     pub(crate) fn of(event: &mio::event::Event) -> Event
-        ensures token { event_token event.now ≡ record { 0 = result.token } }
+        ensures token { result.token ≡ (event_token event.now).0 }
         ensures readable { result.is_readable ≡ is_readable event.now }
         ensures writable { result.is_writable ≡ is_writable event.now }
         ensures read_closed { result.is_read_closed ≡ is_read_closed event.now }
