@@ -18,8 +18,8 @@ threads may end so.
 
 The same is tried of a side that is told `--keep`. A `ymx remote` then goes on, so it is ended from outside once
 `ymx local` has ended. It serves each peer in a thread, and its start is refused too. Where a thread can't be made, the
-standard library doesn't say whether there was no memory for it. `ymx remote --keep` says then that it can't listen, and
-its peer is not served. Of all allocations just one, that of the thread, may end so.
+standard library doesn't say whether there was no memory for it. `ymx remote --keep` closes its peer then, says nothing,
+and awaits another. Of all allocations just one, that of the thread, may end so.
 
 `ymx selftest` is refused each in the same way, and the start of each thread. It ends within 60 seconds too: with status
 0 and its three lines, or with status 1 and one text: that there was no memory, that it can't listen, or which connection
@@ -258,8 +258,7 @@ def judge(name, variable, near, far, questions, answer, sides):
     good = (0, "")
     refused = {"local": [(1, OUT_OF_MEMORY)], "remote": [(1, OUT_OF_MEMORY)]}
     cannot_listen = (1, f"ymx: cannot listen at 127.0.0.1:{sides[0].port}\n")
-    if name == "remote --keep" and variable != POLL and far == cannot_listen:
-        assert (near, questions, answer) == (good, [], b""), "the peer was served without a thread"
+    if name == "remote --keep" and variable != POLL and (near, far, questions, answer) == (good, good, [], b""):
         return NO_THREAD
     if name == "local --links 2" and variable != POLL and near == unreached and far == good:
         assert (questions, answer) == ([], b""), "a user was served without a thread"

@@ -1,10 +1,10 @@
 """Plays the peers of `ymx remote --keep` and `ymx remote --peers`, one after another and many at once, and those of `ymx
 local --keep`, one after another, and looks whether each session serves as the first did: also behind a peer that was
-killed, while none is there, and where many have come and gone.
+killed, while none is there, where many have come and gone, and where the system refuses a thread or a descriptor.
 
 It says which tests failed, and nothing where none did. No test follows one that hangs.
 
-usage: kept.py YMX
+usage: kept.py YMX REFUSING, where REFUSING is the library of tests/no_memory/failing_malloc.c
 """
 
 import os
@@ -24,6 +24,8 @@ AT_ONCE = 16
 SETTLED = 20
 BYTES = random.Random(7).randbytes(300_000)
 COME = "ymx: the peer has come\n"
+NO_THREAD = "ymx: --peers: no thread\n"
+NO_DESCRIPTOR = "ymx: --bind: no descriptor left\n"
 WHOLE = f"{len(BYTES)} bytes to the peer (ended), {len(BYTES)} bytes from the peer (ended)"
 LOST = f"{len(BYTES)} bytes to the peer (lost), {len(BYTES)} bytes from the peer (lost)"
 
@@ -196,6 +198,62 @@ def a_fault_among_peers():
     assert is_served(peers[0])
     leave(peers[0])
     assert program.end() == (1, f"{COME}{COME}{GONE}{GONE}ymx: session broken: B1\n")
+
+
+def remote_without_thread(number, *words):
+    """`ymx remote`, for which the thread of this number can't be made, and where it listens."""
+    refused = {"LD_PRELOAD": sys.argv[2], "FAIL_THREAD_AT": str(number)}
+    program = Program("remote", "-v", "--bind", ANY, "--target", ANY, *words, variables=refused)
+    return program, program.place()
+
+
+def no_thread_for_a_peer():
+    """With `--keep` it is closed, which is told and is no fault, and the next one is served."""
+    program, place = remote_without_thread(1, "--keep")
+    assert has_ended(call(place))
+    peer = call(place)
+    assert is_served(peer)
+    says(program, NO_THREAD, COME)
+    leave(peer)
+    says(program, GONE)
+    assert program.process.poll() is None, "it has ended"
+
+
+def no_thread_beside_a_peer():
+    """So it is without `--keep`: the first peer and the third are served, and it ends well."""
+    program, place = remote_without_thread(2, "--peers", "2")
+    peers = [call(place)]
+    assert is_served(peers[0])
+    assert has_ended(call(place))
+    peers.append(call(place))
+    assert is_served(peers[1])
+    says(program, COME, NO_THREAD, COME)
+    for peer in peers:
+        leave(peer)
+        says(program, GONE)
+    assert program.end() == (0, "")
+
+
+def no_thread_at_all():
+    """Without `--keep` it ends where it could serve nobody."""
+    program, place = remote_without_thread(1, "--peers", "2")
+    assert has_ended(call(place))
+    assert program.end() == (1, f"{NO_THREAD}ymx: cannot listen at {place}\n")
+
+
+def no_descriptor_for_a_peer():
+    """It waits, which is told, and is served once another has gone."""
+    # Open are standard input, output and error, where it listens, the set of what it waits for and what ends its wait;
+    # and for a peer its connection, and a set.
+    program = Program("remote", "-v", "--keep", "--bind", ANY, "--target", ANY, files=8)
+    place = program.place()
+    peer = call(place)
+    assert is_served(peer)
+    following = call(place)
+    says(program, COME, NO_DESCRIPTOR)
+    leave(peer)
+    assert is_served(following)
+    says(program, GONE, COME)
 
 
 def a_peer_that_never_closes():
@@ -404,6 +462,10 @@ TESTS = (
     ("a place for each", a_place_for_each, ()),
     ("--peers without --keep", peers_without_keep, ()),
     ("a fault among peers", a_fault_among_peers, ()),
+    ("no thread for a peer", no_thread_for_a_peer, ()),
+    ("no thread beside a peer", no_thread_beside_a_peer, ()),
+    ("no thread at all", no_thread_at_all, ()),
+    ("no descriptor for a peer", no_descriptor_for_a_peer, ()),
     ("a peer that never closes", a_peer_that_never_closes, ()),
     (f"{SESSIONS} peers of remote", many_peers, ()),
     ("a peer that comes again", a_peer_that_comes_again, ()),

@@ -113,15 +113,16 @@ def without_origins(said):
 
 
 class Program:
-    """`ymx` with these words, and at most so many open files."""
+    """`ymx` with these words, at most so many open files, and these variables beside its own."""
 
     running = []
 
-    def __init__(self, *words, files=None):
+    def __init__(self, *words, files=None, variables=None):
         limit = [] if files is None else ["sh", "-c", f'ulimit -n {files} && exec "$@"', "sh"]
         # Without a buffer, as `readline` and `communicate` read the same pipe.
         self.process = subprocess.Popen([*limit, sys.argv[1], *words], stdin=subprocess.DEVNULL,
-                                        stdout=subprocess.PIPE, stderr=subprocess.PIPE, bufsize=0)
+                                        stdout=subprocess.PIPE, stderr=subprocess.PIPE, bufsize=0,
+                                        env={**os.environ, **(variables or {})})
         self.running.append(self.process)
 
     def line(self):

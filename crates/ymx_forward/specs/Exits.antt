@@ -3,7 +3,7 @@ use Rattle.std.specs.Prelude.{ℕ}
 use Rattle.ymx_forward.specs.declared.exit.Exit.{Exit}
 use Rattle.ymx_forward.specs.declared.exit.Exit.TheVariants as exit
 
--- 0 where what was asked for is done, else 1
+-- 0 where no fault was said, else 1
 abbrev pub status_of : Exit → ℕ
 status_of (exit.Done done) = 0
 status_of exit.Faulted = 1

@@ -1,2 +1,3 @@
 pub mod Exits
+pub mod Loops
 pub mod Sockets

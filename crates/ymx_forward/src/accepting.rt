@@ -4,13 +4,13 @@ ghost use Rattle.std.specs.Prelude.{◌≡◌, ◌-◌, Some, IfSome, IfNone, Is
 
 use crate::inbox::{Inbox, Taken};
 use crate::reason::Reason;
-use mio::net::{TcpListener, TcpStream};
-use mio::{Interest, Registry, Token};
+use crate::system::{Listener, Poll, TcpConnection};
 use std::alloc::Global;
+use std::io;
 use std::io::ErrorKind;
+use std::net::TcpListener;
 use std::sync::{Arc, Wait};
 use std::time::Clock;
-use std::{io, net};
 
 /// How often an accept whose connection went away meanwhile is made again in a row.
 const RETRIES: u32 = 1_024;
@@ -19,7 +19,7 @@ const RETRIES: u32 = 1_024;
 #[derive(Drop)]
 enum Source {
     /// A listener of its own.
-    Listener(TcpListener),
+    Listener(Listener),
     /// Another thread, which accepts them.
     Inbox(Arc<Inbox, Global>),
     /// No more are accepted.
@@ -55,15 +55,13 @@ impl Listening {
     /// Accepts `count` connections, or as many as come, without waiting. Where no descriptor or no memory is left for one
     /// more, a patient one goes on later.
     pub(crate) fn new(
-        listener: net::TcpListener,
+        listener: TcpListener,
         count: Option<u32>,
         is_patient: bool,
-        registry: &Registry,
-        token: Token,
+        poll: &Poll,
+        token: usize,
     ) -> io::Result<Listening> {
-        listener.set_nonblocking(true)?;
-        let mut listener = TcpListener::from_std(listener);
-        registry.register(&mut listener, token, Interest::READABLE)?;
+        let listener = Listener::new(listener, poll, token)?;
         let mut listening = Listening {
             source: Source::Listener(listener),
             can_accept: true,
@@ -180,7 +178,7 @@ impl Listening {
 
     /// The next connection that waits, which never waits itself, where so many are open. None if none waits, none can be
     /// accepted now, or none is accepted any more.
-    pub(crate) fn accept<R: Wait>(&mut self, rt: &R, open: usize) -> Option<TcpStream>
+    pub(crate) fn accept<R: Wait>(&mut self, rt: &R, open: usize) -> Option<TcpConnection>
         // Each one that comes is counted, and no more come than were to.
         ensures counted { IfSome result (λ _. self.new.left ≡ option_map (λ n. n - 1) self.old.left) }
         ensures kept { IfNone result (self.new.left ≡ self.old.left) }
@@ -203,7 +201,7 @@ impl Listening {
     }
 
     /// What was taken from the inbox.
-    fn note_taken(&mut self, taken: Taken) -> Option<TcpStream>
+    fn note_taken(&mut self, taken: Taken) -> Option<TcpConnection>
         ensures counted { IfSome result (λ _. self.new.left ≡ option_map (λ n. n - 1) self.old.left) }
         ensures kept { IfNone result (self.new.left ≡ self.old.left) }
     {
@@ -227,9 +225,9 @@ impl Listening {
     /// What came of an accept where so many connections are open.
     fn note_accepted(
         &mut self,
-        accepted: Result<TcpStream, Refusal>,
+        accepted: Result<TcpConnection, Refusal>,
         open: usize,
-    ) -> Option<TcpStream>
+    ) -> Option<TcpConnection>
         ensures counted { IfSome result (λ _. self.new.left ≡ option_map (λ n. n - 1) self.old.left) }
         ensures kept { IfNone result (self.new.left ≡ self.old.left) }
     {
@@ -291,10 +289,10 @@ fn is_full(reason: Reason) -> bool {
 }
 
 /// The next connection, made again where it went away meanwhile, or a signal interrupts it.
-fn accept(listener: &TcpListener) -> Result<TcpStream, Refusal> {
+fn accept(listener: &Listener) -> Result<TcpConnection, Refusal> {
     for _ in 0..RETRIES {
-        match listener.accept() {
-            Ok((socket, _)) => return Ok(socket),
+        match listener.next() {
+            Ok(socket) => return Ok(socket),
             Err(e) if e.kind() == ErrorKind::Interrupted => {}
             Err(e) if e.kind() == ErrorKind::ConnectionAborted => {}
             Err(e) if e.kind() == ErrorKind::WouldBlock => return Err(Refusal::NoneWaits),

@@ -2,7 +2,7 @@
 
 use crate::socket::Socket;
 use crate::stillness::Stillness;
-use mio::{Events, Poll};
+use crate::system::{Events, Poll};
 use std::sync::Wait;
 use std::time::{Clock, Duration};
 use ymx_engine::{Device, Line, Pulled, Wire};
@@ -36,7 +36,7 @@ pub(crate) fn close<R: Clock + Wait>(
         if wire.is_over() || is_too_still(rt, stillness, limit) {
             return;
         }
-        if poll.poll(events, limit).is_err() {
+        if poll.wait(events, limit).is_err() {
             return;
         }
     }

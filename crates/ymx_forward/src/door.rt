@@ -1,16 +1,17 @@
 //! Where peers come in, so many at once.
 
 use crate::accepting::Listening;
+use crate::notices::ProgramWatcher;
 use crate::peer::Peer;
-use crate::reason::Reason;
+use crate::shared::tell_failure;
 use crate::starting::StartFault;
+use crate::system::{Events, Poll, Waker};
 use crate::tunnel_end::{RETRY, new_events};
-use mio::{Events, Poll, Token, Waker};
 use std::alloc::Global;
 use std::io;
 use std::net::{Net, TcpListener};
-use std::sync::Wait;
 use std::sync::atomic::{AtomicU64, Ordering};
+use std::sync::{Mutex, Wait};
 use std::time::Duration;
 
 /// The token of the listener.
@@ -46,7 +47,7 @@ impl Inside {
     /// One leaves.
     pub(crate) fn leave(&self) {
         self.count.fetch_sub(1, Ordering::SeqCst);
-        let _ = self.waker.wake();
+        self.waker.wake();
     }
 
     /// How many there are.
@@ -65,7 +66,7 @@ pub(crate) struct Door {
     places: u64,
     /// More are awaited also while none is inside.
     is_kept: bool,
-    /// One was let in.
+    /// One was served.
     has_served: bool,
 }
 
@@ -81,9 +82,8 @@ impl Door {
     ) -> Result<(Door, Inside), StartFault> {
         let events = new_events(alloc)?;
         let poll = Poll::new(rt)?;
-        let registry = poll.registry();
-        let waker = Waker::new(registry, Token(LEAVINGS))?;
-        let listening = Listening::new(listener, None, true, registry, Token(KNOCKS))?;
+        let waker = Waker::new(&poll, LEAVINGS)?;
+        let listening = Listening::new(listener, None, true, &poll, KNOCKS)?;
         let inside = Inside {
             count: AtomicU64::new(0),
             waker,
@@ -99,9 +99,24 @@ impl Door {
         Ok((door, inside))
     }
 
-    /// Waits until there is a place, and a peer comes for it, or none is to come any more. A want of descriptors or of
-    /// memory ends soon.
-    pub(crate) fn next_peer<R: Wait>(&mut self, rt: &R, inside: &Inside) -> Knock {
+    /// A thread was made for a peer that was let in.
+    pub(crate) fn note_served(&mut self) {
+        self.has_served = true;
+    }
+
+    /// Whether one for which no thread could be made doesn't end it: more are awaited, or one was served.
+    pub(crate) fn goes_on(&self) -> bool {
+        self.is_kept || self.has_served
+    }
+
+    /// Waits until there is a place, and a peer comes for it, or none is to come any more. Why the system refuses to let
+    /// one in is told. A want of descriptors or of memory ends soon.
+    pub(crate) fn next_peer<R: Wait, V: ProgramWatcher>(
+        &mut self,
+        rt: &R,
+        inside: &Inside,
+        watcher: &Mutex<V>,
+    ) -> Knock {
         for _ in rt.forever() {
             let count = inside.count();
             if count == 0 && self.has_served && !self.is_kept {
@@ -109,8 +124,10 @@ impl Door {
             }
             if count < self.places {
                 if let Some(socket) = self.listening.accept(rt, 0) {
-                    self.has_served = true;
                     return Knock::Came(Peer::of(socket));
+                }
+                if let Some(reason) = self.listening.take_refusal() {
+                    tell_failure(rt, "--bind", reason, watcher);
                 }
             }
             if self.listening.is_over() || self.wait().is_err() {
@@ -120,15 +137,10 @@ impl Door {
         unreachable!()
     }
 
-    /// Why the system last refused to let a peer in, unless that was told.
-    pub(crate) fn take_refusal(&mut self) -> Option<Reason> {
-        self.listening.take_refusal()
-    }
-
     /// Waits for who knocks or leaves, and only for a while where one could not be let in.
     fn wait(&mut self) -> io::Result<()> {
         let is_full = self.listening.is_full();
         let timeout = is_full.then_some(Duration::from_secs(RETRY));
-        self.poll.poll(&mut self.events, timeout)
+        self.poll.wait(&mut self.events, timeout)
     }
 }

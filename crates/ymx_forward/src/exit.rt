@@ -1,4 +1,4 @@
-//! How a program of the tunnel ended, and what shows that it did what was asked.
+//! How a program of the tunnel ended, and what is known of a good end.
 
 ghost use Rattle.std.specs.Prelude.{◌≡◌, false};
 ghost use Rattle.ymx_forward.specs.Exits.{status_of};
@@ -10,21 +10,22 @@ use crate::tunnel::Finished;
 /// How a program of the tunnel ended.
 #[derive(Clone, Copy)]
 pub enum Exit {
-    /// What was asked for is done, as this shows, and no fault was said.
+    /// No fault was said, and this came to its end.
     Done(Done),
-    /// It isn't done, or not all of it. The fault was said on the error device, as far as that took bytes.
+    /// Something went wrong. The fault was said on the error device, as far as that took bytes.
     Faulted,
 }
 
-/// What shows that what was asked for is done. Only the code that does it can make one: so no other body can say that it
-/// is done.
+/// What has come to its end. Only the code that brings it there can make one. It says no more: connections may have
+/// failed, or been cut off, and others may be served yet.
 #[derive(Clone, Copy)]
 pub enum Done {
-    /// A session has run to its end.
+    /// The loop of a session. It has ended with all its connections, or was left behind a loss.
     Ran(Finished),
-    /// As many connections have come as were to.
+    /// A listener, or an inbox: no more connections are accepted, as all have come that were to, or nobody is to accept
+    /// more.
     AllCame(AllCame),
-    /// Each connection of the test came back, and its line was printed.
+    /// The test: each of its connections came back whole, and its line was printed.
     AllEchoed(AllEchoed),
 }
 
@@ -39,7 +40,7 @@ impl Exit {
         }
     }
 
-    /// The exit status: 0 if what was asked for is done, else 1.
+    /// The exit status: 0 where no fault was said, else 1.
     pub fn status(self) -> u8
         ensures { result ≡ status_of self }
     {

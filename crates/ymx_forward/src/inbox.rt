@@ -1,8 +1,7 @@
 //! Where one thread leaves connections for the loop of another.
 
 use crate::stillness::Stillness;
-use mio::Waker;
-use mio::net::TcpStream;
+use crate::system::{TcpConnection, Waker};
 use std::alloc::{AllocFailed, Global};
 use std::collections::VecDeque;
 use std::sync::atomic::{AtomicU64, Ordering};
@@ -17,7 +16,7 @@ const REST: u64 = 10;
 #[derive(Drop)]
 struct Content {
     /// The connections that wait, the first that came at the front.
-    waiting: VecDeque<TcpStream>,
+    waiting: VecDeque<TcpConnection>,
     /// No more connections come.
     is_closed: bool,
     /// Since when its link rests.
@@ -40,7 +39,7 @@ pub(crate) struct Inbox {
 #[derive(Drop)]
 pub(crate) enum Taken {
     /// A connection.
-    Connection(TcpStream),
+    Connection(TcpConnection),
     /// None waits.
     NotNow,
     /// None waits, and none comes any more.
@@ -51,9 +50,9 @@ pub(crate) enum Taken {
 #[derive(Drop)]
 pub(crate) enum NotLeft {
     /// The inbox is closed. The connection comes back.
-    Closed(TcpStream),
+    Closed(TcpConnection),
     /// There was no memory for it. The connection comes back.
-    OutOfMemory(AllocFailed<TcpStream>),
+    OutOfMemory(AllocFailed<TcpConnection>),
 }
 
 impl Inbox {
@@ -73,7 +72,7 @@ impl Inbox {
     }
 
     /// Leaves a connection, and wakes the loop.
-    pub(crate) fn leave<R: Wait>(&self, rt: &R, socket: TcpStream) -> Result<(), NotLeft> {
+    pub(crate) fn leave<R: Wait>(&self, rt: &R, socket: TcpConnection) -> Result<(), NotLeft> {
         let mut content = self.content.lock(rt);
         if content.is_closed {
             return Err(NotLeft::Closed(socket));
@@ -83,7 +82,7 @@ impl Inbox {
         }
         self.load.fetch_add(1, Ordering::SeqCst);
         drop(content);
-        let _ = self.waker.wake();
+        self.waker.wake();
         Ok(())
     }
 
@@ -107,8 +106,8 @@ impl Inbox {
         let mut content = self.content.lock(rt);
         content.is_closed = true;
         drop(content);
-        let _ = self.waker.wake();
-        let _ = self.acceptor.wake();
+        self.waker.wake();
+        self.acceptor.wake();
     }
 
     /// The link has no peer now: others are to be preferred for a while.
@@ -160,7 +159,7 @@ fn lightest<'a, R: Clock + Wait>(
 /// Leaves a connection at the link that has the fewest. The connection comes back where all are closed.
 pub(crate) fn leave_lightest<R: Clock + Wait>(
     rt: &R,
-    socket: TcpStream,
+    socket: TcpConnection,
     inboxes: &[Arc<Inbox, Global>],
 ) -> Result<(), NotLeft> {
     let mut socket = socket;

@@ -10,10 +10,10 @@ use crate::notices::ProgramWatcher;
 use crate::peer::Peer;
 use crate::programs::{report, report_session};
 use crate::reason::Reason;
-use crate::sockets::{call, listen};
+use crate::sockets::call;
+use crate::system::{Events, listen};
 use crate::tell::cannot_listen;
 use crate::tunnel_end::{Awaited, AwaitedPeer, NoneCome, TunnelEnd};
-use mio::Events;
 use std::alloc::Global;
 use std::net::{Net, SocketAddr, TcpListener, TcpStream};
 use std::sync::Wait;
@@ -183,8 +183,8 @@ fn next_peer<R: Net<Stream = TcpStream, Listener = TcpListener> + Wait, V: Progr
     }
 }
 
-/// How it ended where no session follows: all is done where as many connections have come as were to and no session was
-/// at fault. Else it isn't, and for this reason, which is said.
+/// How it ended where no session follows: well where no more connections are accepted, though some could be, and no
+/// session was at fault. Else not, and for this reason, which is said.
 fn exit_of<E: Outlet>(
     alloc: Global,
     end: KeptEnd,
@@ -194,7 +194,7 @@ fn exit_of<E: Outlet>(
     errors: &mut E,
 ) -> Exit
     ensures good { status_of result ≡ 0 → (has_faulted ≡ false) × Keeps (E.contents errors.old) (E.contents errors.new) }
-    // It is done only where as many connections have come as were to.
+    // It ends well only where no more connections are accepted, though some could be.
     ensures shown { (done : Done) → result ≡ Exit.Done done → (all_came : AllCame) × (done ≡ Done.AllCame all_came) }
 {
     match end {

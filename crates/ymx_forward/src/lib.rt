@@ -28,6 +28,7 @@ mod socket;
 mod sockets;
 mod starting;
 mod stillness;
+mod system;
 mod tell;
 mod tunnel;
 mod tunnel_end;

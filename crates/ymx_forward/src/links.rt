@@ -17,12 +17,11 @@ use crate::shared::{Shared, tell_failure};
 use crate::sides::Forwarded;
 use crate::sockets::{call, listen_for};
 use crate::starting::StartFault;
+use crate::system::{Events, Poll, TcpConnection, Waker, connect};
 use crate::tell::{cannot_listen, cannot_reach, lacks_memory};
 use crate::tunnel_end::{Awaited, Limits, NoneCome, RETRY, TunnelEnd, new_events};
 use crate::watching::{Declined, EndedConnection, Origin, Watcher};
 use crossbeam_channel::{Receiver, Sender, bounded};
-use mio::net::TcpStream as Socket;
-use mio::{Events, Poll, Token, Waker};
 use std::alloc::{AllocError, Global};
 use std::net::{Net, SocketAddr, TcpListener, TcpStream};
 use std::sync::{Arc, Mutex, Wait};
@@ -68,7 +67,7 @@ struct LinkWatcher<'a, R: Wait, V: ProgramWatcher> {
 }
 
 impl<R: Wait, V: ProgramWatcher> Watcher for LinkWatcher<'_, R, V> {
-    fn begins(&mut self, from: &Socket) -> Origin {
+    fn begins(&mut self, from: &TcpConnection) -> Origin {
         self.shared.begins(from)
     }
 
@@ -154,9 +153,7 @@ fn call_all<R: Net<Stream = TcpStream>>(
 
 /// Calls the peer.
 fn new_peer<R: Net<Stream = TcpStream>>(rt: &R, address: SocketAddr) -> io::Result<Peer> {
-    let connection = TcpStream::connect(rt, address)?;
-    connection.set_nonblocking(true)?;
-    Ok(Peer::of(Socket::from_std(connection)))
+    Ok(Peer::of(TcpConnection::of(connect(rt, address)?)?))
 }
 
 /// Makes a loop for each of these links, and the reception of users who come to this listener.
@@ -168,10 +165,8 @@ fn prepare<R: Net>(
     options: LocalOptions,
 ) -> Result<(Reception, Vec<Link>), StartFault> {
     let poll = Poll::new(rt)?;
-    let registry = poll.registry();
-    let acceptor = Arc::new(alloc, Waker::new(registry, Token(LOSSES))?)?;
-    let count = options.count;
-    let listening = Listening::new(listener, count, options.is_kept, registry, Token(USERS))?;
+    let acceptor = Arc::new(alloc, Waker::new(&poll, LOSSES)?)?;
+    let listening = Listening::new(listener, options.count, options.is_kept, &poll, USERS)?;
     let mut links = Vec::new(alloc);
     let mut inboxes = Vec::new(alloc);
     for peer in peers {
@@ -246,7 +241,7 @@ fn serve_links<
 }
 
 /// Hears what went wrong until all is done. With `--keep` each fault is said as it comes, and else one at the end. Answers
-/// the exit status.
+/// how it ended.
 fn hear_all<R: Wait, E: Outlet>(
     rt: &R,
     alloc: Global,
@@ -256,48 +251,21 @@ fn hear_all<R: Wait, E: Outlet>(
 ) -> Exit
     ensures good { status_of result ≡ 0 → Keeps (E.contents errors.old) (E.contents errors.new) }
 {
-    if options.is_kept {
-        return say_all(rt, alloc, receiver, options, errors);
-    }
-    let forwarded = gather_all(rt, receiver);
-    report(alloc, options, forwarded, errors)
-}
-
-/// Says each fault as it comes, and answers how it ended.
-fn say_all<R: Wait, E: Outlet>(
-    rt: &R,
-    alloc: Global,
-    receiver: &Receiver<Forwarded, Global>,
-    options: LocalOptions,
-    errors: &mut E,
-) -> Exit
-    ensures good { status_of result ≡ 0 → Keeps (E.contents errors.old) (E.contents errors.new) }
-{
     let mut has_faulted = false;
-    let mut done = None;
-    for _ in rt.forever() {
-        let Ok(forwarded) = receiver.recv(rt) else {
-            return match done {
-                Some(shown) if !has_faulted => Exit::Done(shown),
-                _ => Exit::Faulted,
-            };
-        };
-        done = done.or(forwarded.done);
-        let said = report(alloc, options, forwarded, errors);
-        if !has_faulted {
-            has_faulted = said.has_faulted();
-        }
-    }
-    unreachable!()
-}
-
-/// All that went wrong.
-fn gather_all<R: Wait>(rt: &R, receiver: &Receiver<Forwarded, Global>) -> Forwarded {
     let mut all = Forwarded::well();
     for _ in rt.forever() {
-        match receiver.recv(rt) {
-            Ok(forwarded) => all = all.and(forwarded),
-            Err(_) => return all,
+        let Ok(forwarded) = receiver.recv(rt) else {
+            if has_faulted {
+                return Exit::Faulted;
+            }
+            return report(alloc, options, all, errors);
+        };
+        all = all.and(forwarded);
+        if options.is_kept {
+            let said = report(alloc, options, forwarded, errors);
+            if !has_faulted {
+                has_faulted = said.has_faulted();
+            }
         }
     }
     unreachable!()
@@ -381,7 +349,7 @@ fn receive_users<R: Clock + Wait, V: ProgramWatcher>(
 /// Leaves a user's connection at the link that has the fewest. Where there is none it is closed.
 fn place<R: Clock + Wait, V: ProgramWatcher>(
     rt: &R,
-    socket: Socket,
+    socket: TcpConnection,
     inboxes: &[Arc<Inbox, Global>],
     watcher: &mut V,
 ) -> Forwarded {
@@ -405,7 +373,7 @@ impl Reception {
     fn wait(&mut self) -> io::Result<()> {
         let is_full = self.listening.is_full();
         let timeout = is_full.then_some(Duration::from_secs(RETRY));
-        self.poll.poll(&mut self.events, timeout)
+        self.poll.wait(&mut self.events, timeout)
     }
 }
 

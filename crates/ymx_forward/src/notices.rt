@@ -1,9 +1,9 @@
 //! What `-v` asks for: lines about a tunnel while it runs.
 
 use crate::reason::Reason;
+use crate::system::{TcpConnection, address_of};
 use crate::watching::{Declined, EndedConnection, Ending, Origin, Passed, Unwatched, Watcher};
 use arrayvec::ArrayString;
-use mio::net::TcpStream;
 use std::fmt::Write;
 use std::net::{SocketAddr, TcpListener};
 use ymx_devices::push_all;
@@ -72,11 +72,11 @@ impl<'a, L: Outlet> Notices<'a, L> {
 }
 
 impl<L: Outlet> Watcher for Notices<'_, L> {
-    fn begins(&mut self, from: &TcpStream) -> Origin {
+    fn begins(&mut self, from: &TcpConnection) -> Origin {
         self.begun = self.begun.saturating_add(1);
         Origin {
             number: self.begun,
-            from: from.peer_addr().ok(),
+            from: from.peer(),
         }
     }
 
@@ -104,7 +104,7 @@ impl<L: Outlet> Watcher for Notices<'_, L> {
 impl<L: Outlet> ProgramWatcher for Notices<'_, L> {
     /// At port 0 the system chose a port, which is said.
     fn listening(&mut self, listener: &TcpListener, wanted: SocketAddr) {
-        let address = listener.local_addr().unwrap_or(wanted);
+        let address = address_of(listener).unwrap_or(wanted);
         let mut line = Line::new();
         let _ = writeln!(line, "ymx: listening at {address}");
         self.say(&line);

@@ -1,29 +1,28 @@
 //! The connection to a peer.
 
-use mio::net::TcpStream;
-use std::net;
+use crate::system::TcpConnection;
+use std::net::TcpStream;
 
 /// A connection to a peer, which never waits, and whose bytes go out at once.
 #[derive(Drop)]
 pub(crate) struct Peer {
-    socket: TcpStream,
+    socket: TcpConnection,
 }
 
 impl Peer {
     /// A peer over this connection. None where the system can't make it one that never waits.
-    pub(crate) fn new(connection: net::TcpStream) -> Option<Peer> {
-        connection.set_nonblocking(true).ok()?;
-        Some(Peer::of(TcpStream::from_std(connection)))
+    pub(crate) fn new(connection: TcpStream) -> Option<Peer> {
+        Some(Peer::of(TcpConnection::of(connection).ok()?))
     }
 
     /// A peer over this connection, which never waits.
-    pub(crate) fn of(socket: TcpStream) -> Peer {
-        let _ = socket.set_nodelay(true);
+    pub(crate) fn of(socket: TcpConnection) -> Peer {
+        socket.send_at_once();
         Peer { socket }
     }
 
     /// Its connection.
-    pub(crate) fn into_socket(self) -> TcpStream {
+    pub(crate) fn into_socket(self) -> TcpConnection {
         let Peer { socket } = self;
         socket
     }

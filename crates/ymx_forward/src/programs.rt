@@ -10,9 +10,10 @@ use crate::links::run_links;
 use crate::meeting::meet;
 use crate::notices::{Notices, ProgramWatcher};
 use crate::reason::Reason;
-use crate::serving::{serve_all, serve_until_none};
+use crate::serving::serve;
 use crate::sides::{Forwarded, TunnelSide};
 use crate::sockets::{accept, listen_for};
+use crate::system::address_of;
 use crate::tell::{cannot_listen, cannot_meet, lacked_memory, lacks_memory, session_broken};
 use crate::tunnel_end::{Limits, TunnelEnd, new_events};
 use crate::watching::Unwatched;
@@ -109,7 +110,7 @@ fn awaiting_end<
     let Some(peers) = listen_for(rt, "--bind", address, watcher) else {
         return cannot_listen(alloc, address, errors);
     };
-    let address = peers.local_addr().unwrap_or(address);
+    let address = address_of(&peers).unwrap_or(address);
     if options.is_kept {
         let meeting = Meeting {
             address,
@@ -250,17 +251,11 @@ fn serving_end<
     let Some(listener) = listen_for(rt, "--bind", address, &mut watcher) else {
         return cannot_listen(alloc, address, errors);
     };
-    let address = listener.local_addr().unwrap_or(address);
+    let address = address_of(&listener).unwrap_or(address);
     let count = options.peers.unwrap_or(PEERS);
-    if options.is_kept {
-        serve_all(
-            rt, alloc, listener, address, options, count, watcher, errors,
-        )
-    } else {
-        serve_until_none(
-            rt, alloc, listener, address, options, count, watcher, errors,
-        )
-    }
+    serve(
+        rt, alloc, listener, address, options, count, watcher, errors,
+    )
 }
 
 /// Meets one peer, so that others are refused, and connects each of its streams to the target. Answers how it ended.
@@ -324,7 +319,7 @@ fn calling_end<R: Net<Stream = TcpStream> + Clock + Wait, V: ProgramWatcher, E: 
 
 /// A side that has served nothing, as [`TunnelEnd::new`] makes one. None if the system refuses, which is told of this
 /// option.
-fn new_end<R: Net, V: ProgramWatcher>(
+pub(crate) fn new_end<R: Net, V: ProgramWatcher>(
     rt: &R,
     side: TunnelSide,
     is_kept: bool,
@@ -366,7 +361,7 @@ pub(crate) fn report<E: Outlet>(
     errors: &mut E,
 ) -> Exit
     ensures good { status_of result ≡ 0 → Keeps (E.contents errors.old) (E.contents errors.new) }
-    // It is done only where nothing went wrong, and this shows it.
+    // It ends well only where nothing went wrong, and something came to its end.
     ensures accepted { status_of result ≡ 0 → forwarded.accept_failed ≡ false }
     ensures whole { status_of result ≡ 0 → forwarded.broken ≡ None }
     ensures watched { status_of result ≡ 0 → forwarded.is_unwatched ≡ false }
@@ -388,7 +383,7 @@ pub(crate) fn report_session<E: Outlet>(
     errors: &mut E,
 ) -> Exit
     ensures good { status_of result ≡ 0 → Keeps (E.contents errors.old) (E.contents errors.new) }
-    // It is done only where nothing went wrong in the session, and this shows it.
+    // It ends well only where nothing went wrong in the session, and something came to its end.
     ensures whole { status_of result ≡ 0 → forwarded.broken ≡ None }
     ensures watched { status_of result ≡ 0 → forwarded.is_unwatched ≡ false }
     ensures memory { status_of result ≡ 0 → forwarded.lacked_memory ≡ false }

@@ -12,13 +12,13 @@ ghost use Rattle.ymx_forward.specs.Exits.{status_of};
 use crate::exit::{Done, Exit};
 use crate::forwarding::forward;
 use crate::sides::TunnelSide;
-use crate::sockets::{connect, listen};
+use crate::sockets::connect;
+use crate::system::{accept, address_of, echo, finish, listen, receive, send};
 use crate::tell::{cannot_listen, lacks_memory, say_fault};
 use crate::watching::Unwatched;
 use crossbeam_channel::{Receiver, Sender, bounded};
 use std::alloc::{AllocError, Global};
-use std::io::{Read, Write};
-use std::net::{Ipv4Addr, Net, Shutdown, SocketAddr, SocketAddrV4, TcpListener, TcpStream};
+use std::net::{Ipv4Addr, Net, SocketAddr, SocketAddrV4, TcpListener, TcpStream};
 use std::sync::Wait;
 use std::thread::Threads;
 use std::time::Clock;
@@ -164,7 +164,7 @@ fn prepare<R: Net<Stream = TcpStream, Listener = TcpListener>>(
     let echo = listen(rt, any_port()).ok()?;
     let local = listen(rt, any_port()).ok()?;
     let (near, far) = connect_session(rt)?;
-    let (Ok(echo_address), Ok(local_address)) = (echo.local_addr(), local.local_addr()) else {
+    let (Ok(echo_address), Ok(local_address)) = (address_of(&echo), address_of(&local)) else {
         return None;
     };
     let addresses = Addresses {
@@ -185,13 +185,9 @@ fn connect_session<R: Net<Stream = TcpStream, Listener = TcpListener>>(
     rt: &R,
 ) -> Option<(TcpStream, TcpStream)> {
     let listener = listen(rt, any_port()).ok()?;
-    let Ok(address) = listener.local_addr() else {
-        return None;
-    };
+    let address = address_of(&listener).ok()?;
     let near = connect(rt, address).ok()?;
-    let Ok((far, _)) = listener.accept() else {
-        return None;
-    };
+    let far = accept(&listener).ok()?;
     Some((near, far))
 }
 
@@ -255,11 +251,10 @@ fn release<R: Net<Stream = TcpStream, Listener = TcpListener>>(rt: &R, addresses
 /// Sends back what each of three connections sends.
 fn serve_echoes(listener: TcpListener) {
     for _ in 0..CONNECTIONS {
-        let Ok((socket, _)) = listener.accept() else {
+        let Ok(socket) = accept(&listener) else {
             return;
         };
-        let _ = io::copy(&mut &socket, &mut &socket);
-        let _ = socket.shutdown(Shutdown::Write);
+        echo(&socket);
     }
 }
 
@@ -318,7 +313,7 @@ fn is_whole<R: Net<Stream = TcpStream>>(rt: &R, address: SocketAddr, size: u32) 
 /// Sends so many bytes, closes the writing side, and reads: whether just these bytes came back.
 fn is_echoed(socket: &TcpStream, size: u32) -> io::Result<bool> {
     write_pattern(socket, size)?;
-    socket.shutdown(Shutdown::Write)?;
+    finish(socket)?;
     reads_pattern(socket, size)
 }
 
@@ -328,13 +323,13 @@ fn pattern(place: u32) -> u8 {
 }
 
 /// Writes the first so many bytes of the pattern.
-fn write_pattern(mut socket: &TcpStream, size: u32) -> io::Result<()> {
+fn write_pattern(socket: &TcpStream, size: u32) -> io::Result<()> {
     for start in 0..size {
         if start % CHUNK_SIZE == 0 {
             let mut chunk = [0u8; CHUNK];
             fill(&mut chunk, start);
             let length = (size - start).min(CHUNK_SIZE);
-            socket.write_all(&chunk[..length as usize])?;
+            send(socket, &chunk[..length as usize])?;
         }
     }
     Ok(())
@@ -350,11 +345,11 @@ fn fill(chunk: &mut [u8], start: u32) {
 }
 
 /// Reads up to the end: whether it is the first so many bytes of the pattern.
-fn reads_pattern(mut socket: &TcpStream, size: u32) -> io::Result<bool> {
+fn reads_pattern(socket: &TcpStream, size: u32) -> io::Result<bool> {
     let mut chunk = [0u8; CHUNK];
     let mut place = 0u32;
     for _ in 0..=size {
-        let count = socket.read(&mut chunk)?;
+        let count = receive(socket, &mut chunk)?;
         if count == 0 {
             return Ok(place == size);
         }

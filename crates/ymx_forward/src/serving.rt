@@ -9,13 +9,13 @@ use crate::door::{Door, Inside, Knock};
 use crate::exit::Exit;
 use crate::notices::ProgramWatcher;
 use crate::peer::Peer;
-use crate::programs::{remote_side, report_session};
+use crate::programs::{new_end, remote_side, report_session};
 use crate::reason::Reason;
 use crate::shared::{Shared, tell_failure};
 use crate::sides::Forwarded;
 use crate::starting::StartFault;
 use crate::tell::{cannot_listen, lacks_memory};
-use crate::tunnel_end::{Limits, TunnelEnd, new_events};
+use crate::tunnel_end::{Limits, new_events};
 use std::alloc::Global;
 use std::net::{Net, SocketAddr, TcpListener, TcpStream};
 use std::sync::{Mutex, Wait};
@@ -68,8 +68,10 @@ impl Reporter for Gathering {
 }
 
 /// Serves each peer that calls here in a thread of its own, so many at once, and connects each of its streams to the
-/// target. Says each fault as it comes. Ends only where nobody can be accepted any more.
-pub(crate) fn serve_all<
+/// target. With `--keep` it says each fault as it comes, and ends only where nobody can be accepted any more. Without, it
+/// ends once one was there and none is any more, and says then what went wrong in any session, if anything did. Answers
+/// how it ended.
+pub(crate) fn serve<
     R: Net<Stream = TcpStream, Listener = TcpListener> + Clock + Threads + Wait + Sync,
     V: ProgramWatcher + Send + Drop,
     E: Outlet + Send,
@@ -83,46 +85,22 @@ pub(crate) fn serve_all<
     watcher: V,
     errors: &mut E,
 ) -> Exit
-    ensures { result ≡ Exit.Faulted }
-{
-    let mut watcher = watcher;
-    let (door, inside) = match Door::new(rt, alloc, listener, count, true) {
-        Ok(made) => made,
-        Err(fault) => return no_door(alloc, address, fault, &mut watcher, errors),
-    };
-    let watcher = Mutex::new(watcher);
-    let reporter = Mutex::new(Saying {
-        errors: &mut *errors,
-    });
-    serve_peers(rt, alloc, door, &inside, options, &watcher, &reporter);
-    let Saying { errors } = reporter.into_inner();
-    cannot_listen(alloc, address, errors)
-}
-
-/// Serves peers as [`serve_all`] does, until one was there and none is any more. Says then what went wrong in any session,
-/// if anything did, and answers how it ended.
-pub(crate) fn serve_until_none<
-    R: Net<Stream = TcpStream, Listener = TcpListener> + Clock + Threads + Wait + Sync,
-    V: ProgramWatcher + Send + Drop,
-    E: Outlet,
->(
-    rt: &R,
-    alloc: Global,
-    listener: TcpListener,
-    address: SocketAddr,
-    options: RemoteOptions,
-    count: u32,
-    watcher: V,
-    errors: &mut E,
-) -> Exit
     ensures good { status_of result ≡ 0 → Keeps (E.contents errors.old) (E.contents errors.new) }
 {
     let mut watcher = watcher;
-    let (door, inside) = match Door::new(rt, alloc, listener, count, false) {
+    let (door, inside) = match Door::new(rt, alloc, listener, count, options.is_kept) {
         Ok(made) => made,
         Err(fault) => return no_door(alloc, address, fault, &mut watcher, errors),
     };
     let watcher = Mutex::new(watcher);
+    if options.is_kept {
+        let reporter = Mutex::new(Saying {
+            errors: &mut *errors,
+        });
+        serve_peers(rt, alloc, door, &inside, options, &watcher, &reporter);
+        let Saying { errors } = reporter.into_inner();
+        return cannot_listen(alloc, address, errors);
+    }
     let reporter = Mutex::new(Gathering {
         all: Forwarded::well(),
     });
@@ -153,7 +131,8 @@ fn no_door<V: ProgramWatcher, E: Outlet>(
     }
 }
 
-/// Serves each peer that comes in by the door in a thread of its own.
+/// Serves each peer that comes in by the door in a thread of its own. One for which no thread can be made is closed, and
+/// others are let in after a while; but where none has been served, and none else is awaited, no more are.
 fn serve_peers<
     R: Net<Stream = TcpStream, Listener = TcpListener> + Clock + Threads + Wait + Sync,
     V: ProgramWatcher + Send + Drop,
@@ -175,46 +154,30 @@ fn serve_peers<
         {
             let mut door = door;
             for _ in rt.forever() {
-                let peer = match door.next_peer(rt, inside) {
+                let peer = match door.next_peer(rt, inside, watcher) {
                     Knock::Came(peer) => peer,
                     Knock::Empty => return ServingEnd::Empty,
-                    Knock::Failed => {
-                        if let Some(reason) = door.take_refusal() {
-                            tell_failure(rt, "--bind", reason, watcher);
-                        }
-                        return ServingEnd::Failed;
-                    }
+                    Knock::Failed => return ServingEnd::Failed,
                 };
                 inside.enter();
-                if scope
-                    .spawn(move || {
-                        serve_peer(rt, alloc, peer, options, watcher, reporter);
-                        inside.leave();
-                    })
-                    .is_err()
-                {
+                let served = scope.spawn(move || {
+                    serve_peer(rt, alloc, peer, options, watcher, reporter);
                     inside.leave();
-                    lack_thread(rt, alloc, options, watcher, reporter);
+                });
+                if served.is_ok() {
+                    door.note_served();
+                    continue;
                 }
+                inside.leave();
+                tell_failure(rt, "--peers", Reason::NoThread, watcher);
+                if !door.goes_on() {
+                    return ServingEnd::Failed;
+                }
+                thread::sleep(rt, Duration::from_secs(PAUSE));
             }
             unreachable!()
         },
     )
-}
-
-/// No thread could be made for a peer: it is reported, and others are let in after a while.
-fn lack_thread<R: Clock + Wait, V: ProgramWatcher, S: Reporter>(
-    rt: &R,
-    alloc: Global,
-    options: RemoteOptions,
-    watcher: &Mutex<V>,
-    reporter: &Mutex<S>,
-) {
-    tell_failure(rt, "--peers", Reason::NoThread, watcher);
-    let mut reporter = reporter.lock(rt);
-    reporter.report(alloc, options.peer, Forwarded::unwatched());
-    drop(reporter);
-    thread::sleep(rt, Duration::from_secs(PAUSE));
 }
 
 /// Serves a peer, and reports how its session ended.
@@ -249,7 +212,8 @@ fn forward_peer<
         Err(refused) => return Forwarded::without_memory(refused),
     };
     let limits = Limits::new(options.ping, true);
-    let Ok(mut tunnel_end) = TunnelEnd::new(rt, remote_side(options), true, limits) else {
+    let side = remote_side(options);
+    let Some(mut tunnel_end) = new_end(rt, side, true, limits, "--bind", watcher) else {
         return Forwarded::unwatched();
     };
     tunnel_end.forward_peer(rt, alloc, peer, options.window, &mut events, watcher)

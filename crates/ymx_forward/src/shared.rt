@@ -2,8 +2,8 @@
 
 use crate::notices::ProgramWatcher;
 use crate::reason::Reason;
+use crate::system::TcpConnection;
 use crate::watching::{Declined, EndedConnection, Origin, Watcher};
-use mio::net::TcpStream;
 use std::net::{SocketAddr, TcpListener};
 use std::sync::{Mutex, Wait};
 
@@ -15,7 +15,7 @@ pub(crate) struct Shared<'a, R: Wait, V: ProgramWatcher> {
 }
 
 impl<R: Wait, V: ProgramWatcher> Watcher for Shared<'_, R, V> {
-    fn begins(&mut self, from: &TcpStream) -> Origin {
+    fn begins(&mut self, from: &TcpConnection) -> Origin {
         let mut watcher = self.watcher.lock(self.rt);
         watcher.begins(from)
     }

@@ -29,7 +29,7 @@ pub(crate) enum TunnelSide {
 /// How a tunnel ended.
 #[derive(Clone, Copy)]
 pub(crate) struct Forwarded {
-    /// What shows that a session ran to its end, or that all connections have come. None where nothing does.
+    /// What came to its end: the loop of a session, or where connections come from. None where nothing did.
     pub done: Option<Done>,
     /// No connection could be accepted any more, or the system refused to watch one that was. Where another session
     /// follows it is only said whether the system did the latter.

@@ -1,6 +1,6 @@
 //! A socket that never waits, as a device of an engine.
 
-ghost use Rattle.std.specs.Prelude.{ℕ, List, [], ◌≡◌, ◌≤◌, ◌+◌, ◌-◌, ◌^◌, ◌<◌, ◌||◌, length, is_some, min, true};
+ghost use Rattle.std.specs.Prelude.{ℕ, List, [], ◌≡◌, ◌≤◌, ◌+◌, ◌-◌, ◌^◌, ◌<◌, ◌||◌, length, is_some, min, true, false};
 ghost use Rattle.std.specs.Io.{WritesAtMost};
 ghost use Rattle.std.specs.Io.Slices.{io_slices_bytes};
 ghost use Rattle.ymx_engine.specs.Devices.{IsEnded, IsPulled, IsPushed, IsShut, pulled_count, pushed_count, is_end, is_pull_failure, is_push_failure, CountsOne, CountsPull, CountsPush, CountsClose};
@@ -8,17 +8,11 @@ ghost use Rattle.ymx_forward.specs.Sockets.{counts_of};
 ghost use Rattle.ymx_engine.specs.Tunnels.{HasFailed};
 
 use crate::reason::Reason;
+use crate::system::{Poll, TcpConnection};
 use crate::watching::Origin;
-use mio::net::TcpStream;
-use mio::{Interest, Token};
 use std::io;
 use std::io::{ErrorKind, IoSlice};
-use std::net::Shutdown;
-use ymx_devices::{read, write};
 use ymx_engine::{Device, Line, Pulled, Pushed, Wire};
-
-/// How often a write of several pieces that a signal interrupted is made again before it counts as failed.
-const RETRIES: u32 = 1_000_000;
 
 /// Whether a socket has its peer.
 #[derive(Clone, Copy, PartialEq, Eq)]
@@ -126,7 +120,7 @@ fn one_more(count: u64, bytes: usize) -> u64
 pub(crate) struct Socket {
     /// Which connection it is.
     origin: Origin,
-    socket: TcpStream,
+    socket: TcpConnection,
     state: ConnectState,
     /// What was first the matter with a call of it.
     failure: Option<SocketFault>,
@@ -146,18 +140,18 @@ pub(crate) struct Socket {
 
 impl Socket {
     /// A connection that is there, and never waits.
-    pub(crate) fn connected(socket: TcpStream, origin: Origin) -> Socket {
+    pub(crate) fn connected(socket: TcpConnection, origin: Origin) -> Socket {
         Socket::new(socket, origin, ConnectState::Connected)
     }
 
     /// A connection that was begun, and never waits. It may be there at once, as on the same machine.
-    pub(crate) fn begun(socket: TcpStream, origin: Origin) -> Socket {
+    pub(crate) fn begun(socket: TcpConnection, origin: Origin) -> Socket {
         let mut begun = Socket::new(socket, origin, ConnectState::Connecting);
         begun.look();
         begun
     }
 
-    fn new(socket: TcpStream, origin: Origin, state: ConnectState) -> Socket {
+    fn new(socket: TcpConnection, origin: Origin, state: ConnectState) -> Socket {
         Socket {
             origin,
             socket,
@@ -179,16 +173,17 @@ impl Socket {
     }
 
     /// Its connection.
-    pub(crate) fn connection(&self) -> &TcpStream {
+    pub(crate) fn connection(&self) -> &TcpConnection {
         &self.socket
     }
 
-    /// From now on the poll of this registry tells of it under this token. False where the system refuses.
-    pub(crate) fn register(&mut self, registry: &mio::Registry, token: Token) -> bool
-        ensures { ⟦<Socket as Device>⟧.seen self.new ≡ ⟦<Socket as Device>⟧.seen self.old }
+    /// From now on this poll tells of it under this token. False where the system refuses, or was asked before.
+    pub(crate) fn register(&mut self, poll: &Poll, token: usize) -> bool
+        ensures kept { ⟦<Socket as Device>⟧.seen self.new ≡ ⟦<Socket as Device>⟧.seen self.old }
+        ensures once { result ≡ true → self.old.socket.is_registered ≡ false }
+        ensures asked { self.new.socket.is_registered ≡ true }
     {
-        let both = Interest::READABLE | Interest::WRITABLE;
-        registry.register(&mut self.socket, token, both).is_ok()
+        !self.socket.is_registered() && self.socket.register(poll, token)
     }
 
     /// How many bytes it has taken. It stays at the greatest `u64`.
@@ -221,11 +216,11 @@ impl Socket {
     fn look(&mut self)
         ensures { ⟦<Socket as Device>⟧.seen self.new ≡ ⟦<Socket as Device>⟧.seen self.old }
     {
-        if self.socket.peer_addr().is_ok() {
+        if self.socket.peer().is_some() {
             self.state = ConnectState::Connected;
             return;
         }
-        match self.socket.take_error() {
+        match self.socket.take_fault() {
             Ok(None) => {}
             Ok(Some(error)) | Err(error) => {
                 self.reason = Some(Reason::of(&error));
@@ -294,7 +289,7 @@ impl Socket {
         ensures failed { is_some self.new.failure ≡ (is_some self.old.failure || is_pull_failure result) }
         ensures rest { (self.new.was_finished ≡ self.old.was_finished) × (self.new.was_shut ≡ self.old.was_shut) × (self.new.calls ≡ self.old.calls) × (self.new.counts ≡ self.old.counts) }
     {
-        match read(&mut &self.socket, buffer) {
+        match self.socket.read(buffer) {
             Ok(count) if count > 0 => {
                 self.traffic.pulled = self.traffic.pulled.saturating_add(count as u64);
                 Pulled::Gave(count)
@@ -309,7 +304,7 @@ impl Socket {
         ensures failed { is_some self.new.failure ≡ (is_some self.old.failure || is_push_failure result) }
         ensures rest { (self.new.has_ended ≡ self.old.has_ended) × (self.new.was_finished ≡ self.old.was_finished) × (self.new.was_shut ≡ self.old.was_shut) × (self.new.calls ≡ self.old.calls) × (self.new.counts ≡ self.old.counts) }
     {
-        let written = write(&mut &self.socket, bytes);
+        let written = self.socket.write(bytes);
         self.hear_written(written, bytes.is_empty())
     }
 
@@ -327,7 +322,7 @@ impl Socket {
                 Pushed::Failed
             }
             ConnectState::Connected => {
-                let written = write_pieces(&self.socket, pieces);
+                let written = self.socket.write_pieces(pieces);
                 self.hear_written(written, is_empty)
             }
         }
@@ -379,19 +374,6 @@ impl Socket {
             }
         }
     }
-}
-
-/// One write of several pieces, made again where a signal interrupts it, up to a million times.
-fn write_pieces(socket: &TcpStream, pieces: &[IoSlice<'_>]) -> io::Result<usize>
-    ensures { WritesAtMost result (io_slices_bytes pieces.now) }
-{
-    'again: for _ in 0..RETRIES {
-        match socket.write_vectored(pieces) {
-            Err(e) if e.kind() == ErrorKind::Interrupted => {}
-            done => return done,
-        }
-    }
-    socket.write_vectored(pieces)
 }
 
 /// How many bytes the first of these pieces has that has any, and 0 where none has.
@@ -454,7 +436,7 @@ impl Device for Socket {
         self.counts.close();
         self.was_finished = true;
         if self.state == ConnectState::Connected {
-            let _ = self.socket.shutdown(Shutdown::Write);
+            self.socket.finish();
         }
     }
 
@@ -467,7 +449,7 @@ impl Device for Socket {
         self.counts.close();
         self.was_shut = true;
         if self.state == ConnectState::Connected {
-            let _ = self.socket.shutdown(Shutdown::Both);
+            self.socket.shut();
         }
     }
 }

@@ -2,6 +2,8 @@
 
 use crate::notices::ProgramWatcher;
 use crate::reason::Reason;
+use crate::system;
+use crate::system::{listen, send_at_once};
 use crate::watching::Watcher;
 use std::io;
 use std::io::ErrorKind;
@@ -15,17 +17,9 @@ pub(crate) fn connect<R: Net<Stream = TcpStream>>(
     rt: &R,
     address: SocketAddr,
 ) -> io::Result<TcpStream> {
-    let socket = TcpStream::connect(rt, address)?;
-    let _ = socket.set_nodelay(true);
+    let socket = system::connect(rt, address)?;
+    send_at_once(&socket);
     Ok(socket)
-}
-
-/// Listens at this address.
-pub(crate) fn listen<R: Net<Stream = TcpStream, Listener = TcpListener>>(
-    rt: &R,
-    address: SocketAddr,
-) -> io::Result<TcpListener> {
-    TcpListener::bind(rt, address)
 }
 
 /// Listens at the address of this option, which is told. None if it can't, which is told too.
@@ -65,8 +59,8 @@ pub(crate) fn call<R: Net<Stream = TcpStream>, V: Watcher>(
 /// Accepts one connection, after which nobody listens. None if it can't, which is told.
 pub(crate) fn accept<V: Watcher>(listener: TcpListener, watcher: &mut V) -> Option<TcpStream> {
     for _ in 0..RETRIES {
-        match listener.accept() {
-            Ok((socket, _)) => return Some(socket),
+        match system::accept(&listener) {
+            Ok(socket) => return Some(socket),
             Err(e) if e.kind() == ErrorKind::ConnectionAborted => {}
             Err(error) => {
                 watcher.failed("--bind", Reason::of(&error));

@@ -5,6 +5,8 @@
 
 ghost use Rattle.std.specs.Prelude.{◌≡◌, [], true, false, IfSome};
 ghost use Rattle.ymx_engine.specs.Runs.{Runs, IsOver};
+ghost use Rattle.ymx_forward.specs.Loops.{WasLost};
+ghost use Rattle.ymx_model.specs.session.Sessions.{is_running};
 
 use crate::exit::Done;
 use crate::peer::Peer;
@@ -13,11 +15,9 @@ use crate::sides::Forwarded;
 use crate::silence::{Due, Silence, shorter};
 use crate::socket::Socket;
 use crate::stillness::Stillness;
+use crate::system::{Event, Events, Poll, TcpConnection};
 use crate::tunnel_end::{LISTENER, RETRY, Side, TunnelEnd};
 use crate::watching::{Declined, EndedConnection, Ending, Origin, Watcher};
-use mio::event::Event;
-use mio::net::TcpStream;
-use mio::{Events, Poll, Token};
 use std::alloc::Global;
 use std::io;
 use std::net::{Net, SocketAddr};
@@ -63,7 +63,7 @@ struct Tokens<'a> {
 
 impl Registry<Socket> for Tokens<'_> {
     fn register(&mut self, id: u32, device: &mut Socket) -> bool {
-        device.register(self.poll.registry(), Token((id as usize) + STREAMS))
+        device.register(self.poll, (id as usize) + STREAMS)
     }
 }
 
@@ -142,8 +142,9 @@ impl<'a> TunnelLoop<'a> {
         // A loop that wasn't left is over: nothing is due, or the wire has failed, and no connection is left.
         ensures over { IfSome result (λ finished. finished.was_left ≡ false → IsOver self.new.tunnel) }
         ensures empty { IfSome result (λ finished. finished.was_left ≡ false → self.new.tunnel.lines ≡ []) }
-        // One is left only where another session follows.
+        // One is left only where another session follows, and only once its own was over.
         ensures left { IfSome result (λ finished. finished.was_left ≡ true → is_kept ≡ true) }
+        ensures lost { IfSome result (λ finished. finished.was_left ≡ true → WasLost self.old.tunnel self.new.tunnel) }
     {
         let mut silence = Silence::new(rt, self.tunnel_end.limits.silence);
         self.begin_waiting(watcher);
@@ -167,7 +168,9 @@ impl<'a> TunnelLoop<'a> {
     }
 
     /// Whether the session was lost, another one follows, and nothing has moved for too long.
-    fn is_to_be_left<R: Clock>(&self, rt: &R) -> bool {
+    fn is_to_be_left<R: Clock>(&self, rt: &R) -> bool
+        ensures { result ≡ true → is_running self.now.tunnel.engine.session.status ≡ false }
+    {
         self.is_to_be_followed() && self.stillness.has_lasted(rt, Duration::from_secs(PATIENCE))
     }
 
@@ -248,7 +251,7 @@ impl<'a> TunnelLoop<'a> {
         let is_waiting = !self.has_work();
         self.note_waiting(rt, is_waiting);
         let timeout = shorter(self.timeout(is_waiting), limit);
-        self.tunnel_end.poll.poll(events, timeout)?;
+        self.tunnel_end.poll.wait(events, timeout)?;
         self.note_waited(is_waiting && events.is_empty());
         self.note_all(events);
         Ok(())
@@ -326,12 +329,21 @@ impl<'a> TunnelLoop<'a> {
     }
 
     /// Whether the session is over.
-    fn is_lost(&self) -> bool {
-        self.tunnel.status() != Status::Running
+    fn is_lost(&self) -> bool
+        ensures { result ≡ true → is_running self.now.tunnel.engine.session.status ≡ false }
+    {
+        match self.tunnel.status() {
+            Status::Running => false,
+            Status::Lost => true,
+            Status::Broken(_) => true,
+            Status::Closed => true,
+        }
     }
 
     /// Whether the session is over, and another one follows.
-    fn is_to_be_followed(&self) -> bool {
+    fn is_to_be_followed(&self) -> bool
+        ensures { result ≡ true → is_running self.now.tunnel.engine.session.status ≡ false }
+    {
         self.tunnel_end.is_kept && self.is_lost()
     }
 
@@ -342,45 +354,44 @@ impl<'a> TunnelLoop<'a> {
         ensures { Runs self.old.tunnel self.new.tunnel }
     {
         'event: for event in events.iter() {
-            self.note(event);
+            self.note(Event::of(event));
         }
     }
 
     /// Notes what an event says.
-    fn note(&mut self, event: &Event)
+    fn note(&mut self, event: Event)
         ensures { Runs self.old.tunnel self.new.tunnel }
     {
-        let Token(token) = event.token();
-        if token == WIRE {
+        if event.token == WIRE {
             self.note_wire(event);
-        } else if token == LISTENER {
+        } else if event.token == LISTENER {
             if let Side::Local(listening) = &mut self.tunnel_end.side {
                 listening.note_event();
             }
-        } else if let Ok(id) = u32::try_from(token - STREAMS) {
+        } else if let Ok(id) = u32::try_from(event.token - STREAMS) {
             self.note_stream(id, event);
         }
     }
 
     /// Notes what an event says of the wire.
-    fn note_wire(&mut self, event: &Event)
+    fn note_wire(&mut self, event: Event)
         ensures { Runs self.old.tunnel self.new.tunnel }
     {
         if !self.tunnel.wire().has_failed() {
-            let ends = event.is_read_closed() || event.is_error();
+            let ends = event.is_read_closed || event.is_error;
             self.is_wire_closing |= ends;
             self.tunnel
-                .note_wire(event.is_readable() || ends, event.is_writable() || ends);
+                .note_wire(event.is_readable || ends, event.is_writable || ends);
         }
     }
 
     /// Notes what an event says of a connection. One that can't be made may be used at once, so that it fails.
-    fn note_stream(&mut self, id: u32, event: &Event)
+    fn note_stream(&mut self, id: u32, event: Event)
         ensures { Runs self.old.tunnel self.new.tunnel }
     {
-        let ends = event.is_read_closed() || event.is_error();
-        let can_pull = event.is_readable() || ends;
-        let can_push = event.is_writable() || ends;
+        let ends = event.is_read_closed || event.is_error;
+        let can_pull = event.is_readable || ends;
+        let can_push = event.is_writable || ends;
         self.tunnel.note_line(id, can_pull, can_push, ends);
     }
 
@@ -412,7 +423,7 @@ impl<'a> TunnelLoop<'a> {
     }
 
     /// A connection that came, if one may be accepted.
-    fn next_connection<R: Wait>(&mut self, rt: &R) -> Option<TcpStream>
+    fn next_connection<R: Wait>(&mut self, rt: &R) -> Option<TcpConnection>
         ensures { self.new.tunnel ≡ self.old.tunnel }
     {
         let open = self.tunnel.len();
@@ -427,14 +438,14 @@ impl<'a> TunnelLoop<'a> {
 
     /// Opens a stream for a connection. Once the session is lost the connection is closed, and it is the last one
     /// unless others are counted on.
-    fn begin_local<V: Watcher>(&mut self, socket: TcpStream, watcher: &mut V)
+    fn begin_local<V: Watcher>(&mut self, socket: TcpConnection, watcher: &mut V)
         ensures { Runs self.old.tunnel self.new.tunnel }
     {
         let origin = watcher.begins(&socket);
         if self.is_lost() {
             self.stop_endless();
         }
-        let _ = socket.set_nodelay(true);
+        socket.send_at_once();
         if let Err(why) = self.open(Socket::connected(socket, origin)) {
             self.decline(origin, why, watcher);
         }
@@ -515,9 +526,9 @@ impl<'a> TunnelLoop<'a> {
         ensures { Runs self.old.tunnel self.new.tunnel }
     {
         let origin = watcher.begins(self.tunnel.wire().connection());
-        match TcpStream::connect(rt, target) {
+        match TcpConnection::begin(rt, target) {
             Ok(socket) => {
-                let _ = socket.set_nodelay(true);
+                socket.send_at_once();
                 match self.accept(Socket::begun(socket, origin)) {
                     Ok(Some(id)) => self.note_begun(id),
                     Ok(None) => {}
@@ -720,5 +731,5 @@ fn new_engine(alloc: Global, role: Role, window: u32) -> Result<Engine, NewFault
 /// The connection to the peer, of whose events the poll tells. None where the system refuses.
 pub(crate) fn wire_of(peer: Peer, poll: &Poll) -> Option<Socket> {
     let mut wire = Socket::connected(peer.into_socket(), Origin::untold());
-    wire.register(poll.registry(), Token(WIRE)).then_some(wire)
+    wire.register(poll, WIRE).then_some(wire)
 }

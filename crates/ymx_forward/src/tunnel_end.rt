@@ -7,15 +7,14 @@ use crate::peer::Peer;
 use crate::sides::{Forwarded, TunnelSide};
 use crate::socket::Socket;
 use crate::starting::StartFault;
+use crate::system::{Events, Poll, TcpConnection, Waker};
 use crate::tunnel::{TunnelLoop, wire_of};
 use crate::watching::{Declined, Watcher};
-use mio::net::TcpStream;
-use mio::{Events, Poll, Token, Waker};
 use std::alloc::{AllocError, Global};
-use std::net::{Net, SocketAddr};
+use std::io;
+use std::net::{Net, SocketAddr, TcpListener, TcpStream};
 use std::sync::{Arc, Wait};
 use std::time::{Clock, Duration};
-use std::{io, net};
 use ymx_model::CallFault;
 use ymx_session::NewFault;
 
@@ -110,7 +109,7 @@ pub(crate) struct TunnelEnd {
     /// How long the peer is waited for.
     pub(crate) limits: Limits,
     /// A connection that came while there was no session.
-    pub(crate) waiting: Option<TcpStream>,
+    pub(crate) waiting: Option<TcpConnection>,
 }
 
 impl TunnelEnd {
@@ -143,7 +142,7 @@ impl TunnelEnd {
         limits: Limits,
     ) -> Result<(TunnelEnd, Arc<Inbox, Global>), StartFault> {
         let poll = Poll::new(rt)?;
-        let waker = Waker::new(poll.registry(), Token(LISTENER))?;
+        let waker = Waker::new(&poll, LISTENER)?;
         let inbox = Arc::new(alloc, Inbox::new(alloc, waker, acceptor))?;
         let listening = Listening::of_inbox(Arc::try_clone(&inbox)?);
         let tunnel_end = TunnelEnd {
@@ -169,7 +168,7 @@ impl TunnelEnd {
         &mut self,
         rt: &R,
         alloc: Global,
-        connection: net::TcpStream,
+        connection: TcpStream,
         window: u32,
         events: &mut Events,
         watcher: &mut V,
@@ -256,7 +255,7 @@ impl TunnelEnd {
     pub(crate) fn await_peer<R: Wait, V: Watcher>(
         &mut self,
         rt: &R,
-        listener: net::TcpListener,
+        listener: TcpListener,
         events: &mut Events,
         watcher: &mut V,
     ) -> AwaitedPeer {
@@ -295,14 +294,14 @@ impl TunnelEnd {
     }
 
     /// Accepts peers of this listener, without waiting.
-    fn listen_for_peers(&self, listener: net::TcpListener) -> io::Result<Listening> {
-        Listening::new(listener, None, true, self.poll.registry(), Token(PEERS))
+    fn listen_for_peers(&self, listener: TcpListener) -> io::Result<Listening> {
+        Listening::new(listener, None, true, &self.poll, PEERS)
     }
 
     /// Waits for events, and where a listener is full only for a while.
     fn wait(&mut self, events: &mut Events, is_full: bool) -> io::Result<()> {
         self.poll
-            .poll(events, is_full.then_some(Duration::from_secs(RETRY)))
+            .wait(events, is_full.then_some(Duration::from_secs(RETRY)))
     }
 
     /// Whether a connection may wait for which there was no descriptor or no memory.
@@ -365,8 +364,7 @@ impl TunnelEnd {
 fn listen(side: TunnelSide, is_kept: bool, poll: &Poll) -> io::Result<Side> {
     match side {
         TunnelSide::Local { listener, count } => {
-            let registry = poll.registry();
-            let listening = Listening::new(listener, count, is_kept, registry, Token(LISTENER))?;
+            let listening = Listening::new(listener, count, is_kept, poll, LISTENER)?;
             Ok(Side::Local(listening))
         }
         TunnelSide::Remote { target, workers } => Ok(Side::Remote {

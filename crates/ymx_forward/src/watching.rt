@@ -2,7 +2,7 @@
 
 use crate::reason::Reason;
 use crate::socket::{Socket, SocketFault};
-use mio::net::TcpStream;
+use crate::system::TcpConnection;
 use std::net::SocketAddr;
 use ymx_engine::{Connection, Flow, Line};
 use ymx_model::CallFault;
@@ -78,7 +78,7 @@ pub(crate) enum Declined {
 /// other two calls.
 pub(crate) trait Watcher {
     /// A connection begins, of somebody at the other end of this socket.
-    fn begins(&mut self, from: &TcpStream) -> Origin;
+    fn begins(&mut self, from: &TcpConnection) -> Origin;
 
     /// A connection that had a stream has ended.
     fn ended(&mut self, origin: Origin, ended: &EndedConnection);
@@ -98,7 +98,7 @@ pub(crate) trait Watcher {
 pub(crate) struct Unwatched;
 
 impl Watcher for Unwatched {
-    fn begins(&mut self, _from: &TcpStream) -> Origin {
+    fn begins(&mut self, _from: &TcpConnection) -> Origin {
         Origin::untold()
     }
 

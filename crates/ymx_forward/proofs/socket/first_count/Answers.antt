@@ -1,4 +1,4 @@
-use Rattle.std.proofs.Common.{◌≡◌, ◌<◌, length, arith}
+use Rattle.std.proofs.Common.{arith}
 use Rattle.ymx_forward.proofs.Pieces.{none_so_far, some_there}
 use Rattle.ymx_forward.proofs.socket.first_count.Goals as goal
 

@@ -1,6 +1,6 @@
 use Rattle.std.specs.Prelude.{◌≡◌, false}
 use Rattle.std.specs.Io.KnownBytes.{Keeps}
-use Rattle.ymx_forward.proofs.links.say_all.Given as goal
+use Rattle.ymx_forward.proofs.links.hear_all.Given as goal
 
 -- nothing was said unless a fault was
 abbrev pub invariant-loop : goal.invariant-loop

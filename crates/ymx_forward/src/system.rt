@@ -1,0 +1,332 @@
+//! What touches the system's sockets: connections, listeners, and the events that tell of them. Each function makes the
+//! calls that it names, in that order, and decides nothing. No contract sees which bytes a socket carries, nor what the
+//! system does, so this file is to be read. No other file of this crate makes such a call: the sockets that never wait
+//! are private here.
+
+ghost use Rattle.std.specs.Prelude.{◌≡◌, ◌≤◌, ◌<◌, ◌^◌, ◌==◌, [], false, true, length, IfOk, OnErr};
+ghost use Rattle.std.specs.Io.{ReadsAtMost, WritesAtMost};
+ghost use Rattle.std.specs.Io.Slices.{io_slices_bytes};
+ghost use Rattle.std.specs.Slice.Iter.{iter_rest, iter_steps};
+ghost use Rattle.std.specs.Iterator.Runs.{EveryRun, ItemsMapTo};
+ghost use Rattle.mio.specs.declared.event.event.Event.{Event as SystemEvent};
+ghost use Rattle.mio.specs.Event.{event_token, is_readable, is_writable, is_error, is_read_closed};
+ghost use Rattle.mio.specs.Events.{items, capacity as events_capacity};
+
+use mio::event::Iter;
+use mio::{Interest, Token};
+use std::alloc::{AllocError, Global};
+use std::io::{ErrorKind, IoSlice, Read, Write};
+use std::net::{Net, Shutdown, SocketAddr, TcpListener, TcpStream};
+use std::time::Duration;
+use std::{io, net};
+use ymx_devices::{read, write};
+
+/// How often a write of several pieces that a signal interrupted is made again before it counts as failed.
+const RETRIES: u32 = 1_000_000;
+
+// ---- connections that never wait
+
+/// A connection whose calls never wait. It is closed when it is dropped.
+#[derive(Drop)]
+pub(crate) struct TcpConnection {
+    inner: mio::net::TcpStream,
+    /// A poll was asked to tell of it.
+    is_registered: bool,
+}
+
+impl TcpConnection {
+    /// One that waits, made one that never does.
+    pub(crate) fn of(connection: TcpStream) -> io::Result<TcpConnection>
+        ensures { IfOk result (λ connection. connection.is_registered ≡ false) }
+    {
+        connection.set_nonblocking(true)?;
+        Ok(TcpConnection::new(mio::net::TcpStream::from_std(connection)))
+    }
+
+    /// Begins to connect to this address.
+    pub(crate) fn begin<R: Net>(rt: &R, address: SocketAddr) -> io::Result<TcpConnection>
+        ensures { IfOk result (λ connection. connection.is_registered ≡ false) }
+    {
+        Ok(TcpConnection::new(mio::net::TcpStream::connect(rt, address)?))
+    }
+
+    fn new(inner: mio::net::TcpStream) -> TcpConnection
+        ensures { result.is_registered ≡ false }
+    {
+        TcpConnection {
+            inner,
+            is_registered: false,
+        }
+    }
+
+    /// Whether a poll was asked to tell of it.
+    pub(crate) fn is_registered(&self) -> bool
+        ensures { result ≡ self.now.is_registered }
+    {
+        self.is_registered
+    }
+
+    /// From now on this poll tells under this token when it may give bytes or take some. False where the system refuses.
+    /// It is asked once.
+    pub(crate) fn register(&mut self, poll: &Poll, token: usize) -> bool
+        requires once { self.old.is_registered ≡ false }
+        ensures registered { self.new.is_registered ≡ true }
+    {
+        self.is_registered = true;
+        let both = Interest::READABLE | Interest::WRITABLE;
+        let registry = poll.inner.registry();
+        registry
+            .register(&mut self.inner, Token(token), both)
+            .is_ok()
+    }
+
+    /// What is written goes out at once.
+    pub(crate) fn send_at_once(&self) {
+        let _ = self.inner.set_nodelay(true);
+    }
+
+    /// Who is at its other end. None while nobody is.
+    pub(crate) fn peer(&self) -> Option<SocketAddr> {
+        self.inner.peer_addr().ok()
+    }
+
+    /// Why it could not be made, if it couldn't and that wasn't told.
+    pub(crate) fn take_fault(&self) -> io::Result<Option<io::Error>> {
+        self.inner.take_error()
+    }
+
+    /// Reads once into the front of this buffer, and says how many bytes. None, and no fault, where no more come.
+    pub(crate) fn read(&self, buffer: &mut [u8]) -> io::Result<usize>
+        ensures { ReadsAtMost result buffer.new }
+    {
+        read(&mut &self.inner, buffer)
+    }
+
+    /// Writes the first of these bytes once, and says how many.
+    pub(crate) fn write(&self, bytes: &[u8]) -> io::Result<usize>
+        ensures { WritesAtMost result bytes.now }
+    {
+        write(&mut &self.inner, bytes)
+    }
+
+    /// Writes the first bytes of these pieces in one call, and says how many. It is made again where a signal interrupts
+    /// it, up to a million times.
+    pub(crate) fn write_pieces(&self, pieces: &[IoSlice<'_>]) -> io::Result<usize>
+        ensures { WritesAtMost result (io_slices_bytes pieces.now) }
+    {
+        'again: for _ in 0..RETRIES {
+            match self.inner.write_vectored(pieces) {
+                Err(e) if e.kind() == ErrorKind::Interrupted => {}
+                done => return done,
+            }
+        }
+        self.inner.write_vectored(pieces)
+    }
+
+    /// The other end reads what was written, and then the end.
+    pub(crate) fn finish(&self) {
+        let _ = self.inner.shutdown(Shutdown::Write);
+    }
+
+    /// Nothing goes either way any more.
+    pub(crate) fn shut(&self) {
+        let _ = self.inner.shutdown(Shutdown::Both);
+    }
+}
+
+/// Where connections come from, of which a poll tells. Its calls never wait. It is closed when it is dropped.
+#[derive(Drop)]
+pub(crate) struct Listener {
+    inner: mio::net::TcpListener,
+}
+
+impl Listener {
+    /// One that waits, made one that never does. From now on this poll tells under this token when a connection comes.
+    pub(crate) fn new(listener: TcpListener, poll: &Poll, token: usize) -> io::Result<Listener> {
+        listener.set_nonblocking(true)?;
+        let mut inner = mio::net::TcpListener::from_std(listener);
+        let registry = poll.inner.registry();
+        registry.register(&mut inner, Token(token), Interest::READABLE)?;
+        Ok(Listener { inner })
+    }
+
+    /// The next connection. Where none waits the error says so.
+    pub(crate) fn next(&self) -> io::Result<TcpConnection>
+        ensures { IfOk result (λ connection. connection.is_registered ≡ false) }
+    {
+        let (connection, _) = self.inner.accept()?;
+        Ok(TcpConnection::new(connection))
+    }
+}
+
+// ---- events
+
+/// What waits until something that was registered with it is ready.
+#[derive(Drop)]
+pub(crate) struct Poll {
+    inner: mio::Poll,
+}
+
+impl Poll {
+    /// One with which nothing is registered.
+    pub(crate) fn new<R: Net>(rt: &R) -> io::Result<Poll> {
+        Ok(Poll {
+            inner: mio::Poll::new(rt)?,
+        })
+    }
+
+    /// Waits for events, and no longer than the limit, if there is one. They take the place of those that were there.
+    pub(crate) fn wait(&mut self, events: &mut Events, limit: Option<Duration>) -> io::Result<()>
+        ensures count { length (items events.new.inner) ≤ events_capacity events.old.inner }
+        ensures err { OnErr result (items events.new.inner ≡ []) }
+        ensures capacity { events_capacity events.new.inner ≡ events_capacity events.old.inner }
+    {
+        self.inner.poll(&mut events.inner, limit)
+    }
+}
+
+/// Room for the events that are taken at once.
+#[derive(Drop)]
+pub(crate) struct Events {
+    inner: mio::Events,
+}
+
+impl Events {
+    /// Room for so many.
+    pub(crate) fn with_capacity(alloc: Global, capacity: usize) -> Result<Events, AllocError>
+        ensures empty { IfOk result (λ events. items events.inner ≡ []) }
+        ensures capacity { IfOk result (λ events. events_capacity events.inner ≡ capacity) }
+    {
+        Ok(Events {
+            inner: mio::Events::with_capacity(alloc, capacity)?,
+        })
+    }
+
+    /// Whether none came.
+    pub(crate) fn is_empty(&self) -> bool
+        ensures { result ≡ (length (items self.now.inner) == 0) }
+    {
+        self.inner.is_empty()
+    }
+
+    /// Each, as the system gave it: [`Event::of`] reads it.
+    pub(crate) fn iter(&self) -> Iter<'_>
+        ensures rest { iter_rest result ≡ items self.now.inner }
+        ensures len { length (iter_rest result) < 2 ^ 64 }
+        ensures runs { EveryRun (iter_steps {A = SystemEvent}) (λ p. ItemsMapTo p (λ e. e.now) (iter_rest p.from)) }
+    {
+        self.inner.iter()
+    }
+}
+
+/// What an event says.
+#[derive(Clone, Copy)]
+pub(crate) struct Event {
+    /// Under which token something was registered.
+    pub(crate) token: usize,
+    /// It may give bytes, or connections.
+    pub(crate) is_readable: bool,
+    /// It may take bytes.
+    pub(crate) is_writable: bool,
+    /// No more bytes come behind those that wait.
+    pub(crate) is_read_closed: bool,
+    /// It has failed.
+    pub(crate) is_error: bool,
+}
+
+impl Event {
+    /// What this event of the system says.
+    pub(crate) fn of(event: &mio::event::Event) -> Event
+        ensures token { result.token ≡ (event_token event.now).0 }
+        ensures readable { result.is_readable ≡ is_readable event.now }
+        ensures writable { result.is_writable ≡ is_writable event.now }
+        ensures read_closed { result.is_read_closed ≡ is_read_closed event.now }
+        ensures error { result.is_error ≡ is_error event.now }
+    {
+        let Token(token) = event.token();
+        Event {
+            token,
+            is_readable: event.is_readable(),
+            is_writable: event.is_writable(),
+            is_read_closed: event.is_read_closed(),
+            is_error: event.is_error(),
+        }
+    }
+}
+
+/// What ends the wait of a poll from another thread.
+#[derive(Drop)]
+pub(crate) struct Waker {
+    inner: mio::Waker,
+}
+
+impl Waker {
+    /// One that ends the waits of this poll by an event under this token.
+    pub(crate) fn new(poll: &Poll, token: usize) -> io::Result<Waker> {
+        Ok(Waker {
+            inner: mio::Waker::new(poll.inner.registry(), Token(token))?,
+        })
+    }
+
+    /// Ends the wait that is under way, or else the next.
+    pub(crate) fn wake(&self) {
+        let _ = self.inner.wake();
+    }
+}
+
+// ---- connections and listeners that wait
+
+/// Connects to this address.
+pub(crate) fn connect<R: Net<Stream = TcpStream>>(
+    rt: &R,
+    address: SocketAddr,
+) -> io::Result<TcpStream> {
+    TcpStream::connect(rt, address)
+}
+
+/// What is written to this connection goes out at once.
+pub(crate) fn send_at_once(connection: &TcpStream) {
+    let _ = connection.set_nodelay(true);
+}
+
+/// Listens at this address.
+pub(crate) fn listen<R: Net<Stream = TcpStream, Listener = TcpListener>>(
+    rt: &R,
+    address: SocketAddr,
+) -> io::Result<TcpListener> {
+    TcpListener::bind(rt, address)
+}
+
+/// Where this one listens.
+pub(crate) fn address_of(listener: &TcpListener) -> io::Result<SocketAddr> {
+    listener.local_addr()
+}
+
+/// The next connection that comes.
+pub(crate) fn accept(listener: &TcpListener) -> io::Result<TcpStream> {
+    let (connection, _) = listener.accept()?;
+    Ok(connection)
+}
+
+/// Reads once into the front of this buffer, and says how many bytes. None, and no fault, where no more come.
+pub(crate) fn receive(mut connection: &TcpStream, buffer: &mut [u8]) -> io::Result<usize>
+    ensures { ReadsAtMost result buffer.new }
+{
+    connection.read(buffer)
+}
+
+/// Writes all of these bytes.
+pub(crate) fn send(mut connection: &TcpStream, bytes: &[u8]) -> io::Result<()> {
+    connection.write_all(bytes)
+}
+
+/// The other end reads what was written, and then the end.
+pub(crate) fn finish(connection: &TcpStream) -> io::Result<()> {
+    connection.shutdown(Shutdown::Write)
+}
+
+/// Sends back all that comes, and then the end.
+pub(crate) fn echo(connection: &TcpStream) {
+    let _ = io::copy(&mut &*connection, &mut &*connection);
+    let _ = connection.shutdown(Shutdown::Write);
+}

@@ -1,0 +1,58 @@
+#!/usr/bin/env python3
+"""system_calls.py: whether one short file makes all calls of the program's tunnel that reach the system's sockets.
+
+No contract says what such a call does, so `crates/ymx_forward/src/system.rt` is to be read, and it has at most 350 lines.
+Sockets that never wait are private there. Those that wait are the standard library's, and other files may name their
+types, as bounds do. They make no call of them, and import nothing else of `std::net` or `std::io`, so that reads and
+writes of such a socket aren't in scope. And they name neither `mio` nor `libc`.
+It prints each place that does, and ends with 'N lines to be read, M calls elsewhere'.
+"""
+import re
+import sys
+from pathlib import Path
+
+SOURCES = Path(__file__).resolve().parent.parent / "crates" / "ymx_forward" / "src"
+READ = "system.rt"
+MOST = 350
+# what others may import of `std::net` and of `std::io`
+MAY = {
+    "net": {"Net", "Ipv4Addr", "SocketAddr", "SocketAddrV4", "TcpListener", "TcpStream"},
+    "io": {"ErrorKind", "IoSlice"},
+}
+IMPORT = re.compile(r"\buse std::(net|io)::(\{[^}]*\}|[\w*]+)")
+METHODS = "incoming|local_addr|peer_addr|take_error|set_\\w+|shutdown|try_clone|peek|write_vectored|as_\\w*fd"
+CALL = re.compile(
+    r"\b(?:mio|libc|os)\b|\bio::(?:copy|Read|Write)\b|\buse std::\{[^;]*\b(?:io|net)::"
+    r"|\b(?:Tcp(?:Stream|Listener)|UdpSocket|Unix\w+)::\w+"
+    rf"|\.(?:accept\(\)|(?:{METHODS})\()"
+)
+
+
+def places(code):
+    """Where this code makes a call of the system's sockets, or imports one."""
+    for found in CALL.finditer(code):
+        yield found.start()
+    for found in IMPORT.finditer(code):
+        if not set(re.findall(r"[\w*]+", found[2])) <= MAY[found[1]]:
+            yield found.start()
+
+
+def main():
+    lines = (SOURCES / READ).read_text(encoding="utf-8").count("\n")
+    calls = 0
+    for path in sorted(SOURCES.glob("**/*.rt")):
+        if path.name == READ:
+            continue
+        code = re.sub("//.*", "", path.read_text(encoding="utf-8"))
+        for place in sorted(places(code)):
+            calls += 1
+            number = code.count("\n", 0, place) + 1
+            print(f"crates/ymx_forward/src/{path.name}:{number}: a call of sockets: {code.splitlines()[number - 1].strip()}")
+    if lines > MOST:
+        print(f"crates/ymx_forward/src/{READ}: more than {MOST} lines")
+    print(f"{lines} lines to be read, {calls} calls elsewhere")
+    return 1 if calls or lines > MOST else 0
+
+
+if __name__ == "__main__":
+    sys.exit(main())
