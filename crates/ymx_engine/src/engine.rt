@@ -49,7 +49,7 @@ use ymx_session::{Session, Touched};
 /// payload goes straight to the devices that take it, and only the rest into the rings of the streams.
 ///
 /// A contract sees the session, the bytes that it has emitted and the wire has not taken, and those that the wire gave
-/// and the session has not taken.
+/// and the session has not taken; what is known of the wire and of each connection, and who waits for a turn.
 #[derive(Drop)]
 pub struct Engine {
     pub(crate) session: Session,
