@@ -4,6 +4,7 @@ use Rattle.std.specs.Io.KnownBytes.{Keeps}
 use Rattle.clap.specs.Words.{Text}
 use Rattle.ymx_arguments.specs.CommandLine.{IsFrames, IsScript, SaysMistake}
 use Rattle.ymx_arguments.specs.declared.reading.Task.TheVariants.{Frames, Script, Tunnel}
+use Rattle.ymx_cli.specs.Outcomes.{status_of}
 use Rattle.ymx_cli.proofs.command.ymx_main.Goals as goal
 
 not_some : (name : Text) → None ≡ Some name → ⊥
@@ -204,4 +205,4 @@ returns-in-Ok-Tunnel-clause-options g c = λ bad no_help. absurd (true≢false (
 pub returns-in-Err-clause-options : goal.returns-in-Err-clause-options
 returns-in-Err-clause-options g c = λ bad no_help.
     let mistake : SaysMistake c.in-Err.fault = c.in-Err.ensures.mistake no_help in
-    by_status c.explain.result _ c.explain.ensures.status (λ e. (c.explain.ensures.help e).0 mistake) (λ e. by_reason _ _ _ _ mistake (c.explain.ensures.failed e))
+    by_status (status_of c.explain.result) _ c.explain.ensures.status (λ e. (c.explain.ensures.help e).0 mistake) (λ e. by_reason _ _ _ _ mistake (c.explain.ensures.failed e))
