@@ -167,7 +167,7 @@ each_way() {
 
 # says_no_fault: whether both ends have only said where they listen, and how connections ended
 says_no_fault() {
-    ! grep -hv '^ymx: listening at \|^ymx: connection [0-9]*: [0-9]* bytes ' local.said remote.said
+    ! grep -hv '^ymx: listening at \|^ymx: connection [0-9]* from [0-9.:]*: [0-9]* bytes ' local.said remote.said
 }
 
 # try NAME COMMAND..: a case. The last line of what it says stands in its line.
