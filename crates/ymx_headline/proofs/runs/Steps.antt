@@ -23,6 +23,7 @@ use Rattle.ymx_machine.specs.machine.Machines.{Machine, mirror_machine, flip_ent
 use Rattle.ymx_machine.specs.machine.Runs.{MachineStepOfA, MachineRun}
 use Rattle.ymx_machine.proofs.Tests.{when}
 use Rattle.ymx_headline.proofs.machine.lanes.StreamFacts.{if-so_true, if-so_false}
+use Rattle.ymx_headline.proofs.machine.order.Maps.{flip-back}
 use Rattle.ymx_headline.specs.Agrees.{RunsAlike, Agrees, AgreesAs, Follows}
 use Rattle.ymx_headline.proofs.relation.Mirrors.{mirrors-agree}
 use Rattle.ymx_headline.proofs.relation.Still.{still}
@@ -45,13 +46,6 @@ both-runs may [] (given ∷ more) w v m n r = absurd r
 both-runs may (st ∷ sts) [] w v m n r = absurd r
 
 -- ---- from side A to either side
-
-not_back : (b : Bool) → not (not b) ≡ b
-not_back true = refl
-not_back false = refl
-
-flip-back : (s : Stream) → flip (flip s) ≡ s
-flip-back s = rw (not_back s.own) refl
 
 streams-back : (xs : List (ℕ × Stream)) → map flip_entry (map flip_entry xs) ≡ xs
 streams-back [] = refl

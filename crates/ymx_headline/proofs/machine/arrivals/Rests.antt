@@ -8,11 +8,11 @@ use Rattle.ymx_machine.specs.declared.types.Call.TheVariants as call
 use Rattle.ymx_machine.specs.declared.types.Step.{Step}
 use Rattle.ymx_machine.specs.declared.types.Step.TheVariants as step
 use Rattle.ymx_machine.specs.declared.types.Answer.{Answer}
-use Rattle.ymx_machine.specs.shared.Phases.{is_unborn}
+use Rattle.ymx_machine.specs.shared.Phases.{Phase, is_unborn}
 use Rattle.ymx_machine.specs.shared.Lists.{look, change}
 use Rattle.ymx_machine.specs.shared.Steps.{is_of_a}
-use Rattle.ymx_machine.specs.stream.Lanes.{is_said}
-use Rattle.ymx_machine.specs.stream.Streams.{Stream, IsStill, after_move, stream_accept, stream_read}
+use Rattle.ymx_machine.specs.stream.Lanes.{Lane, Mark, is_said}
+use Rattle.ymx_machine.specs.stream.Streams.{Stream, IsStill, flip, after_move, stream_accept, stream_read}
 use Rattle.ymx_machine.specs.stream.Streams.Move.{Released}
 use Rattle.ymx_machine.specs.stream.StreamRules.StreamCall.{Reads}
 use Rattle.ymx_machine.specs.machine.Machines.{Machine, mirror_machine}
@@ -24,7 +24,7 @@ use Rattle.ymx_machine.proofs.Tests.{when, same_or_not}
 use Rattle.ymx_headline.specs.machine.Arrivals.{only_takes}
 use Rattle.ymx_headline.specs.machine.Runs.{IsOpenMachine}
 use Rattle.ymx_headline.proofs.machine.lanes.StreamFacts.{if-so_true, if-so_false}
-use Rattle.ymx_headline.proofs.machine.order.Maps.{look-change, look-change_other, flipped, look-mirror}
+use Rattle.ymx_headline.proofs.machine.order.Maps.{look-change, look-change_other, flip-back, flipped, look-mirror}
 use Rattle.ymx_headline.proofs.machine.order.Cores.{core, Sound, sound-mirror, offered-front, offered-stream}
 
 -- nothing of a stream is under way but an acknowledgement
@@ -87,16 +87,7 @@ rests-flip (Some s) h = record {
 
 rests-unflip : (o : Option Stream) → RestsAt (flipped o) → RestsAt o
 rests-unflip None h = tt
-rests-unflip (Some s) h = record {
-  me_born = h.you_born;
-  you_born = h.me_born;
-  way_outbound = h.way_inbound;
-  way_inbound = h.way_outbound;
-  fin_outbound = h.fin_inbound;
-  fin_inbound = h.fin_outbound;
-  rst_outbound = h.rst_inbound;
-  rst_inbound = h.rst_outbound;
-}
+rests-unflip (Some s) h = subst IsResting (flip-back s) (rests-flip (Some (flip s)) h)
 
 pub rests-mirror : (m : Machine) → IsRestingMachine m → IsRestingMachine (mirror_machine m)
 rests-mirror m h = record {
@@ -123,41 +114,31 @@ rests-change i j f s xs e g at = elim (same_or_not i j) [
 rests-is : (m n : Machine) → n ≡ m → IsRestingMachine m → IsRestingMachine n
 rests-is m n e h = subst IsRestingMachine (sym e) h
 
-released : (s : Stream) → IsResting s → IsResting (after_move Released s)
-released s h = record {
-  me_born = refl;
-  you_born = h.you_born;
-  way_outbound = h.way_outbound;
-  way_inbound = h.way_inbound;
-  fin_outbound = h.fin_outbound;
-  fin_inbound = h.fin_inbound;
-  rst_outbound = h.rst_outbound;
-  rst_inbound = h.rst_inbound;
+-- what a resting stream says beside its own end
+abbrev beside : Stream → Phase × Lane × Lane × Mark × Mark
+beside s = (s.you, record s.outbound { here = []; credit = 0; owed = 0 }, record s.inbound { here = []; credit = 0; owed = 0 }, s.rst_outbound, s.rst_inbound)
+
+-- it rests on while that stays, and its own end is no unborn one
+rests-like : (s t : Stream) → is_unborn t.me ≡ false → beside t ≡ beside s → IsResting s → IsResting t
+rests-like s t b e h = record {
+  me_born = b;
+  you_born = ap (λ x. is_unborn x.0) e ∙ h.you_born;
+  way_outbound = ap (λ x. x.1.way) e ∙ h.way_outbound;
+  way_inbound = ap (λ x. x.2.way) e ∙ h.way_inbound;
+  fin_outbound = ap (λ x. is_said x.1.fin) e ∙ h.fin_outbound;
+  fin_inbound = ap (λ x. is_said x.2.fin) e ∙ h.fin_inbound;
+  rst_outbound = ap (λ x. is_said x.3) e ∙ h.rst_outbound;
+  rst_inbound = ap (λ x. is_said x.4) e ∙ h.rst_inbound;
 }
+
+released : (s : Stream) → IsResting s → IsResting (after_move Released s)
+released s h = rests-like s _ refl refl h
 
 accepts-rest : (lost : Bool) (s : Stream) → IsResting s → IsResting (stream_accept lost s)
-accepts-rest lost s h = record {
-  me_born = refl;
-  you_born = h.you_born;
-  way_outbound = h.way_outbound;
-  way_inbound = h.way_inbound;
-  fin_outbound = h.fin_outbound;
-  fin_inbound = h.fin_inbound;
-  rst_outbound = h.rst_outbound;
-  rst_inbound = h.rst_inbound;
-}
+accepts-rest lost s h = rests-like s _ refl refl h
 
 reads-rest : (n : ℕ) (s : Stream) → IsResting s → IsResting (stream_read n s)
-reads-rest n s h = record {
-  me_born = h.me_born;
-  you_born = h.you_born;
-  way_outbound = h.way_outbound;
-  way_inbound = h.way_inbound;
-  fin_outbound = h.fin_outbound;
-  fin_inbound = h.fin_inbound;
-  rst_outbound = h.rst_outbound;
-  rst_inbound = h.rst_inbound;
-}
+reads-rest n s h = rests-like s _ h.me_born refl h
 
 rests-release : (id : ℕ) (m : Machine) → MayMove (OfStream id Released) m → IsRestingMachine m → IsRestingMachine (moved_by (OfStream id Released) m)
 rests-release id m a h = record {

@@ -6,7 +6,7 @@ use Rattle.ymx_machine.specs.declared.types.Reply.TheVariants as reply
 use Rattle.ymx_machine.specs.declared.types.Wrote.TheVariants.{Took}
 use Rattle.ymx_machine.specs.stream.Lanes.{Mark, Lane, new_lane, is_unsaid, is_here, lane_arrive, lane_vanish, lane_struck}
 use Rattle.ymx_machine.specs.shared.Limits.{first_credit}
-use Rattle.ymx_machine.specs.stream.Lanes.Mark.{Said}
+use Rattle.ymx_machine.specs.stream.Lanes.Mark.{Said, Here}
 use Rattle.ymx_machine.specs.shared.Phases.{Phase, struck, is_up, takes, is_unborn}
 use Rattle.ymx_machine.specs.stream.Streams.{Stream, flip, opened_stream, Move, Allowed, after_move, stream_write, stream_read, stream_finish, stream_accept, stream_forget, stream_reset}
 use Rattle.ymx_machine.specs.stream.Streams.Move.{Arrive, EndArrives, Return, SynOffered, SynRefused, AckArrives, ResetArrives, Released}
@@ -16,11 +16,12 @@ use Rattle.std.specs.Prelude.{MatchBool}
 use Rattle.ymx_machine.specs.shared.Replies.{bytes_moved, is_done, write_reply, read_reply, forget_reply}
 use Rattle.ymx_machine.specs.stream.StreamRules.StreamCall.{Writes, Reads, Finishes, Resets, Forgets}
 use Rattle.ymx_machine.proofs.Tests.{when}
-use Rattle.ymx_headline.proofs.machine.faces.Pasts.{Past, HasFaces}
+use Rattle.ymx_headline.proofs.machine.faces.Pasts.{Past, HasFace, IsWhole, HasFaces}
 use Rattle.ymx_headline.proofs.machine.lanes.LaneLaws.{lists}
 use Rattle.ymx_headline.proofs.machine.faces.LaneFaces.{wrote, gave, face-new, face-write, face-arrive, face-vanish, face-end, face-read, face-return, face-finish, face-over, face-empty, face-cut, face-struck, face-phases}
 use Rattle.ymx_headline.proofs.machine.lanes.StreamFacts.{if-so_true, if-so_false, write-fits, write-live, read-live, read-over, finish-live, reset-live, live-up, takes-up, born-up}
 use Rattle.ymx_headline.proofs.machine.lanes.StreamLaws.{struck-down}
+use Rattle.ymx_headline.proofs.machine.order.Maps.{flip-back}
 
 pub faces-flip : (mine yours : ℕ) (s : Stream) (po pi : Past) → HasFaces mine yours s po pi → HasFaces yours mine (flip s) pi po
 faces-flip mine yours s po pi c = record {
@@ -35,16 +36,26 @@ faces-flip mine yours s po pi c = record {
 }
 
 pub faces-unflip : (mine yours : ℕ) (s : Stream) (po pi : Past) → HasFaces mine yours (flip s) po pi → HasFaces yours mine s pi po
-faces-unflip mine yours s po pi c = record {
-  outbound = c.inbound;
-  inbound = c.outbound;
-  rst_outbound = c.rst_inbound;
-  rst_inbound = c.rst_outbound;
-  came_outbound = c.came_inbound;
-  came_inbound = c.came_outbound;
-  whole_outbound = c.whole_inbound;
-  whole_inbound = c.whole_outbound;
+faces-unflip mine yours s po pi c = subst (λ (x : Stream). HasFaces yours mine x pi po) (flip-back s) (faces-flip mine yours (flip s) po pi c)
+
+-- only the lane that is read changes, and its past
+inbound-now : (mine yours : ℕ) (l : Lane) (now : Past) (s : Stream) (po pi : Past) → (face : HasFace mine s.you s.me l now) → IsWhole s.me s.rst_inbound l now face.1 →
+    HasFaces mine yours s po pi → HasFaces mine yours (record s { inbound = l }) po now
+inbound-now mine yours l now s po pi face whole c = record {
+  outbound = c.outbound;
+  inbound = face;
+  rst_outbound = c.rst_outbound;
+  rst_inbound = c.rst_inbound;
+  came_outbound = c.came_outbound;
+  came_inbound = c.came_inbound;
+  whole_outbound = c.whole_outbound;
+  whole_inbound = whole;
 }
+
+-- only the lane that is written changes, and its past
+outbound-now : (mine yours : ℕ) (l : Lane) (now : Past) (s : Stream) (po pi : Past) → (face : HasFace yours s.me s.you l now) → IsWhole s.you s.rst_outbound l now face.1 →
+    HasFaces mine yours s po pi → HasFaces mine yours (record s { outbound = l }) now pi
+outbound-now mine yours l now s po pi face whole c = faces-unflip yours mine _ pi now (inbound-now yours mine l now (flip s) pi po face whole (faces-flip mine yours s po pi c))
 
 faces-is : (mine yours : ℕ) (s t : Stream) (po pi : Past) → t ≡ s → HasFaces mine yours s po pi → HasFaces mine yours t po pi
 faces-is mine yours s t po pi e c = subst (λ (x : Stream). HasFaces mine yours x po pi) (sym e) c
@@ -57,28 +68,17 @@ arrives : (mine yours n : ℕ) (s : Stream) (po pi : Past) → is_unborn s.me �
     HasFaces mine yours s po pi → HasFaces mine yours (after_move (Arrive n) s) po pi
 arrives mine yours n s po pi b (inl t) c =
     let e : (if takes s.me then lane_arrive n s.inbound else lane_vanish n s.inbound) ≡ lane_arrive n s.inbound = rw t refl in
-    comes-to mine yours _ _ s po pi e (record {
-      outbound = c.outbound;
-      inbound = (c.inbound.0, c.inbound.1, face-arrive mine s.you s.me n s.inbound pi c.inbound.0 c.inbound.1 (takes-up s.me t) c.inbound.2);
-      rst_outbound = c.rst_outbound;
-      rst_inbound = c.rst_inbound;
-      came_outbound = c.came_outbound;
-      came_inbound = c.came_inbound;
-      whole_outbound = c.whole_outbound;
-      whole_inbound = c.whole_inbound;
-    })
+    comes-to mine yours _ _ s po pi e (inbound-now mine yours _ pi s po pi
+    (c.inbound.0, c.inbound.1, face-arrive mine s.you s.me n s.inbound pi c.inbound.0 c.inbound.1 (takes-up s.me t) c.inbound.2) c.whole_inbound c)
 arrives mine yours n s po pi b (inr t) c =
     let e : (if takes s.me then lane_arrive n s.inbound else lane_vanish n s.inbound) ≡ lane_vanish n s.inbound = rw t refl in
-    comes-to mine yours _ _ s po pi e (record {
-      outbound = c.outbound;
-      inbound = (c.inbound.0, c.inbound.1, face-vanish mine s.you s.me n s.inbound pi c.inbound.0 c.inbound.1 (born-up s.me b t) c.inbound.2);
-      rst_outbound = c.rst_outbound;
-      rst_inbound = c.rst_inbound;
-      came_outbound = c.came_outbound;
-      came_inbound = c.came_inbound;
-      whole_outbound = c.whole_outbound;
-      whole_inbound = c.whole_inbound;
-    })
+    comes-to mine yours _ _ s po pi e (inbound-now mine yours _ pi s po pi
+    (c.inbound.0, c.inbound.1, face-vanish mine s.you s.me n s.inbound pi c.inbound.0 c.inbound.1 (born-up s.me b t) c.inbound.2) c.whole_inbound c)
+
+-- only the acknowledgement changes
+ack-now : (mine yours : ℕ) (m : Mark) (s : Stream) (po pi : Past) → HasFaces mine yours s po pi → HasFaces mine yours (record s { ack = m }) po pi
+ack-now mine yours m s po pi c =
+    record { outbound = c.outbound; inbound = c.inbound; rst_outbound = c.rst_outbound; rst_inbound = c.rst_inbound; came_outbound = c.came_outbound; came_inbound = c.came_inbound; whole_outbound = c.whole_outbound; whole_inbound = c.whole_inbound }
 
 -- an end that goes another way comes up only if it was up
 not-up : (b c : Bool) → (b ≡ true → c ≡ true) → c ≡ false → b ≡ false
@@ -108,39 +108,14 @@ up-unsaid b c p q f u e = grind arith
 
 pub faces-move : (mine yours : ℕ) (m : Move) (s : Stream) (po pi : Past) → Allowed m s → HasFaces mine yours s po pi → HasFaces mine yours (after_move m s) po pi
 faces-move mine yours (Arrive n) s po pi a c = arrives mine yours n s po pi a.0 (when (takes s.me)) c
-faces-move mine yours EndArrives s po pi a c = record {
-  outbound = c.outbound;
-  inbound = (c.inbound.0, c.inbound.1, face-end mine s.you s.me s.inbound pi c.inbound.0 c.inbound.1 a.0 a.2 c.inbound.2);
-  rst_outbound = c.rst_outbound;
-  rst_inbound = c.rst_inbound;
-  came_outbound = c.came_outbound;
-  came_inbound = c.came_inbound;
-  whole_outbound = c.whole_outbound;
-  whole_inbound = λ u e. ((c.whole_inbound u e).0, λ f. refl);
-}
-faces-move mine yours (Return n) s po pi a c = record {
-  outbound = (c.outbound.0, c.outbound.1, face-return yours s.me s.you n s.outbound po c.outbound.0 c.outbound.1 a.1 c.outbound.2);
-  inbound = c.inbound;
-  rst_outbound = c.rst_outbound;
-  rst_inbound = c.rst_inbound;
-  came_outbound = c.came_outbound;
-  came_inbound = c.came_inbound;
-  whole_outbound = c.whole_outbound;
-  whole_inbound = c.whole_inbound;
-}
+faces-move mine yours EndArrives s po pi a c = inbound-now mine yours _ pi s po pi
+    (c.inbound.0, c.inbound.1, face-end mine s.you s.me s.inbound pi c.inbound.0 c.inbound.1 a.0 a.2 c.inbound.2) (λ u e. ((c.whole_inbound u e).0, λ f. refl)) c
+faces-move mine yours (Return n) s po pi a c = outbound-now mine yours _ po s po pi
+    (c.outbound.0, c.outbound.1, face-return yours s.me s.you n s.outbound po c.outbound.0 c.outbound.1 a.1 c.outbound.2) c.whole_outbound c
 faces-move mine yours SynOffered s po pi a c =
     faces-me mine yours Offered s.rst_outbound s po pi (λ u. ap is_up a) (λ e. up-unsaid (is_unsaid s.rst_outbound) true s.me Offered c.rst_outbound (ap is_up a) e) (λ u. u) (λ u. u) c
 faces-move mine yours SynRefused s po pi a c = faces-me mine yours Refused Said s po pi (λ u. absurd (cc)) (λ e. refl) (λ u. absurd (cc)) (λ u. absurd (cc)) c
-faces-move mine yours AckArrives s po pi a c = record {
-  outbound = c.outbound;
-  inbound = c.inbound;
-  rst_outbound = c.rst_outbound;
-  rst_inbound = c.rst_inbound;
-  came_outbound = c.came_outbound;
-  came_inbound = c.came_inbound;
-  whole_outbound = c.whole_outbound;
-  whole_inbound = c.whole_inbound;
-}
+faces-move mine yours AckArrives s po pi a c = ack-now mine yours Here s po pi c
 faces-move mine yours ResetArrives s po pi a c =
     let d : is_up s.you ≡ false = c.rst_inbound (ap is_unsaid a.0) in
     let e = struck-down s.me a.1 in record {
@@ -238,20 +213,12 @@ writes mine yours lost bytes s t r po pi e f (inr z) c =
     let l = write-live lost bytes s.me (not (is_unsaid s.outbound.fin)) s.outbound.credit (subst (λ (x : Reply). (bytes_moved x == 0) ≡ false) e z) in
     let a : took_bytes bytes r ≡ take (bytes_moved r) bytes = subst (λ (x : Reply). took_bytes bytes x ≡ take (bytes_moved x) bytes) (sym e) (took-is lost bytes s.me (not (is_unsaid s.outbound.fin)) s.outbound.credit) in
     let fits : length (take (bytes_moved r) bytes) ≤ s.outbound.credit = subst (λ (x : Reply). length (take (bytes_moved x) bytes) ≤ s.outbound.credit) (sym e) (write-fits lost bytes s.me (not (is_unsaid s.outbound.fin)) s.outbound.credit) in
-    faces-is mine yours (stream_write (take (bytes_moved r) bytes) s) t _ pi f (record {
-      outbound = (
-        c.outbound.0 ++ take (bytes_moved r) bytes,
-        [],
-        rw a (face-write yours s.me s.you (take (bytes_moved r) bytes) s.outbound po c.outbound.0 c.outbound.1 (live-up s.me l.0) (not-false _ l.1) fits c.outbound.2),
-      );
-      inbound = c.inbound;
-      rst_outbound = c.rst_outbound;
-      rst_inbound = c.rst_inbound;
-      came_outbound = c.came_outbound;
-      came_inbound = c.came_inbound;
-      whole_outbound = λ u w. (refl, (c.whole_outbound u w).1);
-      whole_inbound = c.whole_inbound;
-    })
+    faces-is mine yours (stream_write (take (bytes_moved r) bytes) s) t _ pi f (outbound-now mine yours _ _ s po pi (
+      c.outbound.0 ++ take (bytes_moved r) bytes,
+      [],
+      rw a (face-write yours s.me s.you (take (bytes_moved r) bytes) s.outbound po c.outbound.0 c.outbound.1 (live-up s.me l.0) (not-false _ l.1) fits c.outbound.2),
+    )
+    (λ u w. (refl, (c.whole_outbound u w).1)) c)
 
 reads : (mine yours : ℕ) (lost : Bool) (max : ℕ) (s : Stream) (r : Reply) (po pi : Past) → r ≡ read_reply lost max s.me s.inbound.here (is_here s.inbound.fin) →
     ((bytes_moved r == 0) ≡ true) ⊎ ((bytes_moved r == 0) ≡ false) →
@@ -260,16 +227,9 @@ reads mine yours lost max s r po pi e z c =
     let a : gave_bytes r ≡ take (bytes_moved r) s.inbound.here = subst (λ (x : Reply). gave_bytes x ≡ take (bytes_moved x) s.inbound.here) (sym e) (gave-is lost max s.me s.inbound.here (is_here s.inbound.fin)) in
     elim z [
       | inl n ↦ faces-is mine yours s _ po _ (read-none _ s n) (past-same mine yours s po po pi _ refl (gave-none pi _ (a ∙ none-taken _ s.inbound.here n)) c)
-      | inr n ↦ (let l = read-live lost max s.me s.inbound.here (is_here s.inbound.fin) (subst (λ (x : Reply). (bytes_moved x == 0) ≡ false) e n) in rw a (record {
-        outbound = c.outbound;
-        inbound = (drop (bytes_moved r) s.inbound.here ++ (s.inbound.way ++ c.inbound.1), c.inbound.1, face-read mine s.you s.me (bytes_moved r) s.inbound pi c.inbound.0 c.inbound.1 (live-up s.me l) c.inbound.2);
-        rst_outbound = c.rst_outbound;
-        rst_inbound = c.rst_inbound;
-        came_outbound = c.came_outbound;
-        came_inbound = c.came_inbound;
-        whole_outbound = c.whole_outbound;
-        whole_inbound = c.whole_inbound;
-      }))
+      | inr n ↦ (let l = read-live lost max s.me s.inbound.here (is_here s.inbound.fin) (subst (λ (x : Reply). (bytes_moved x == 0) ≡ false) e n) in rw a (inbound-now mine yours _ _ s po pi
+          (drop (bytes_moved r) s.inbound.here ++ (s.inbound.way ++ c.inbound.1), c.inbound.1, face-read mine s.you s.me (bytes_moved r) s.inbound pi c.inbound.0 c.inbound.1 (live-up s.me l) c.inbound.2)
+          c.whole_inbound c))
     ]
 
 is-read_end : (r : Reply) → is_end r ≡ true → r ≡ reply.ReadEnd
@@ -282,29 +242,13 @@ reads-end : (mine yours : ℕ) (lost : Bool) (max : ℕ) (s : Stream) (r : Reply
     is_end r ≡ true → HasFaces mine yours s po pi → HasFaces mine yours (stream_read (bytes_moved r) s) po (record pi { ended = true })
 reads-end mine yours lost max s r po pi e n c =
     let k = read-over lost max s.me s.inbound.here (is_here s.inbound.fin) (sym e ∙ is-read_end r n) in
-    faces-is mine yours s _ po _ (read-none _ s (end-moves_none r n)) (record {
-      outbound = c.outbound;
-      inbound = (c.inbound.0, c.inbound.1, face-over mine s.you s.me s.inbound pi c.inbound.0 c.inbound.1 (live-up s.me k.0) (none-there s.inbound.here k.1) k.2 c.inbound.2);
-      rst_outbound = c.rst_outbound;
-      rst_inbound = c.rst_inbound;
-      came_outbound = c.came_outbound;
-      came_inbound = c.came_inbound;
-      whole_outbound = c.whole_outbound;
-      whole_inbound = c.whole_inbound;
-    })
+    faces-is mine yours s _ po _ (read-none _ s (end-moves_none r n)) (inbound-now mine yours s.inbound (record pi { ended = true }) s po pi
+    (c.inbound.0, c.inbound.1, face-over mine s.you s.me s.inbound pi c.inbound.0 c.inbound.1 (live-up s.me k.0) (none-there s.inbound.here k.1) k.2 c.inbound.2) c.whole_inbound c)
 
 finishes : (mine yours : ℕ) (s : Stream) (po pi : Past) → s.me ≡ Live → is_unsaid s.outbound.fin ≡ true → HasFaces mine yours s po pi →
     HasFaces mine yours (stream_finish s) (record po { finished = true }) pi
-finishes mine yours s po pi l o c = record {
-  outbound = (c.outbound.0, c.outbound.1, face-finish yours s.me s.you s.outbound po c.outbound.0 c.outbound.1 (live-up s.me l) o c.outbound.2);
-  inbound = c.inbound;
-  rst_outbound = c.rst_outbound;
-  rst_inbound = c.rst_inbound;
-  came_outbound = c.came_outbound;
-  came_inbound = c.came_inbound;
-  whole_outbound = λ u w. ((c.whole_outbound u w).0, λ f. refl);
-  whole_inbound = c.whole_inbound;
-}
+finishes mine yours s po pi l o c = outbound-now mine yours _ _ s po pi
+    (c.outbound.0, c.outbound.1, face-finish yours s.me s.you s.outbound po c.outbound.0 c.outbound.1 (live-up s.me l) o c.outbound.2) (λ u w. ((c.whole_outbound u w).0, λ f. refl)) c
 
 resets : (mine yours : ℕ) (p : Phase) (s t : Stream) (po pi : Past) → is_up p ≡ false → s.me ≡ Live → ResetsTo p s t → HasFaces mine yours s po pi → HasFaces mine yours t po pi
 resets mine yours p s t po pi d l h c = faces-is mine yours (stream_reset p h.0 h.1 h.2 s) t po pi h.4 (record {
@@ -336,8 +280,8 @@ forgets-quietly mine yours s po pi c = record {
 
 pub faces-accept : (mine yours : ℕ) (lost : Bool) (s : Stream) (po pi : Past) → s.me ≡ Offered → HasFaces mine yours s po pi → HasFaces mine yours (stream_accept lost s) po pi
 faces-accept mine yours lost s po pi o c =
-    let k = faces-me mine yours Live s.rst_outbound s po pi (λ u. ap is_up o) (λ e. up-unsaid (is_unsaid s.rst_outbound) true s.me Live c.rst_outbound (ap is_up o) e) (λ u. u) (λ u. u) c in
-    record { outbound = k.outbound; inbound = k.inbound; rst_outbound = k.rst_outbound; rst_inbound = k.rst_inbound; came_outbound = k.came_outbound; came_inbound = k.came_inbound; whole_outbound = k.whole_outbound; whole_inbound = k.whole_inbound }
+    ack-now mine yours (if lost then s.ack else Said) (record s { me = Live }) po pi
+    (faces-me mine yours Live s.rst_outbound s po pi (λ u. ap is_up o) (λ e. up-unsaid (is_unsaid s.rst_outbound) true s.me Live c.rst_outbound (ap is_up o) e) (λ u. u) (λ u. u) c)
 
 pub faces-new : (mine yours : ℕ) (bytes : List ℕ) (po pi : Past) → first_credit ≤ mine → first_credit ≤ yours → length bytes ≤ first_credit →
     po.written ≡ [] → po.got ≡ [] → po.finished ≡ false → po.ended ≡ false → pi.written ≡ [] → pi.got ≡ [] → pi.finished ≡ false → pi.ended ≡ false →

@@ -1,5 +1,5 @@
 -- What stands under a number after a change, as the machine's laws ask for it, and lists of numbers that pass a test.
-use Rattle.std.proofs.Common.{◌≡◌, ◌≢◌, inl, inr, ℕ, List, [], ◌∷◌, ◌++◌, Bool, true, false, ◌==◌, map, Option, None, Some, refl, subst, arith}
+use Rattle.std.proofs.Common.{◌≡◌, ◌≢◌, inl, inr, ℕ, List, [], ◌∷◌, ◌++◌, Bool, true, false, not, ◌==◌, map, Option, None, Some, refl, subst, arith}
 use Rattle.std.proofs.lemmas.Bool.Decides.{nat_tests}
 use Rattle.ymx_machine.specs.stream.Streams.{Stream, flip}
 use Rattle.ymx_machine.specs.shared.Lists.{look, change, drop_id}
@@ -22,6 +22,13 @@ look-add_other i j x xs n = look-added_other j i x xs n
 
 pub look-add_there : {X : Type 0} (i j : ℕ) (x y : X) (xs : List (ℕ × X)) → look i xs ≡ Some y → look i (xs ++ (j, x) ∷ []) ≡ Some y
 look-add_there i j x y xs e = look-added_there j i x y xs e
+
+not-back : (b : Bool) → not (not b) ≡ b
+not-back true = refl
+not-back false = refl
+
+pub flip-back : (s : Stream) → flip (flip s) ≡ s
+flip-back s = rw (not-back s.own) refl
 
 abbrev pub flipped : Option Stream → Option Stream
 flipped None = None
