@@ -520,7 +520,7 @@ impl Engine {
     ///
     /// Payload goes into its stream's ring where its device may not take bytes now, or where a call of it is not worth
     /// making. It is worth one where `least` bytes of the frame wait, or where at least 4,096 bytes do that all go in one
-    /// call: those of at most four frames of the stream that wait in a row, with no more of them behind.
+    /// call: those of at most four frames of the stream that wait in a row, with something else behind them.
     pub fn advance(&mut self, least: usize) -> Option<u32>
         // What was fed is the front of what waited.
         ensures fed { HandlesIn false self.old.engine self.new.engine }
@@ -589,7 +589,7 @@ impl Engine {
     }
 
     /// Whether payload of this stream waits that is worth a call of its device, which may take some: so many bytes of one
-    /// frame, or all that waits in a row.
+    /// frame, or a whole row.
     fn may_pass(&self, id: u32, least: usize) -> bool
         ensures { result ≡ true → IsPayload id 1 self.now.engine }
     {
@@ -599,8 +599,7 @@ impl Engine {
         }
     }
 
-    /// Whether so many bytes of this stream's payload wait, one at least, or all that waits in a row fills a call of its
-    /// device.
+    /// Whether so many bytes of this stream's payload wait, one at least, or a whole row of it fills a call of its device.
     fn is_worth_a_call(&self, id: u32, least: usize) -> bool
         ensures { result ≡ true → IsPayload id 1 self.now.engine }
     {

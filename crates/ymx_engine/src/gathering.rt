@@ -128,9 +128,12 @@ impl<'a> Gathered<'a> {
             .saturating_add(self.fourth.payload.len())
     }
 
-    /// Whether they are all that waits in a row, and many enough for a call of the device.
+    /// Whether they are a whole row, behind which something else waits, and many enough for a call of the device. A row at
+    /// the end of what the wire gave may go on in its next read, and one long write costs less than two short ones.
     pub(crate) fn fills_a_call(&self, session: &Session) -> bool {
-        self.len() >= LEAST_IN_ROW && self.fourth.next(session).payload.is_empty()
+        self.len() >= LEAST_IN_ROW
+            && !self.fourth.behind.is_empty()
+            && self.fourth.next(session).payload.is_empty()
     }
 
     /// The device takes the first of these bytes, in one call.
