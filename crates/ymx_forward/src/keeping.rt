@@ -6,6 +6,7 @@ ghost use Rattle.ymx_forward.specs.Exits.{status_of};
 
 use crate::accepting::AllCame;
 use crate::exit::{Done, Exit};
+use crate::host::Host;
 use crate::notices::ProgramWatcher;
 use crate::peer::Peer;
 use crate::programs::{report, report_session};
@@ -59,11 +60,7 @@ pub(crate) struct Meeting {
 
 /// Forwards each connection that comes, through one session after another. Ends once no more connections come, or no peer
 /// can. Says each fault as it comes, and answers how it ended.
-pub(crate) fn keep_local<
-    R: Net<Stream = TcpStream, Listener = TcpListener> + Clock + Wait,
-    V: ProgramWatcher,
-    E: Outlet,
->(
+pub(crate) fn keep_local<R: Host, V: ProgramWatcher, E: Outlet>(
     rt: &R,
     alloc: Global,
     meeting: Meeting,

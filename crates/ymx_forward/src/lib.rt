@@ -11,6 +11,7 @@ mod closing;
 mod door;
 mod exit;
 mod forwarding;
+mod host;
 mod inbox;
 mod keeping;
 mod links;
@@ -35,5 +36,6 @@ mod tunnel_end;
 mod watching;
 
 pub use exit::{Done, Exit};
+pub use host::Host;
 pub use programs::{run_local, run_remote};
 pub use selftest::run_selftest;

@@ -8,6 +8,7 @@ ghost use Rattle.ymx_forward.specs.Exits.{status_of};
 
 use crate::accepting::Listening;
 use crate::exit::{Done, Exit};
+use crate::host::Host;
 use crate::inbox::{Inbox, NotLeft, Taken, are_closed, close_all, leave_lightest};
 use crate::notices::ProgramWatcher;
 use crate::peer::Peer;
@@ -93,7 +94,7 @@ impl<R: Wait, V: ProgramWatcher> Watcher for LinkWatcher<'_, R, V> {
 /// Forwards each connection that comes through the link to this peer that has the fewest. Says what went wrong, and answers
 /// how it ended. The links are made at once, or with `--keep` as connections come.
 pub(crate) fn run_links<
-    R: Net<Stream = TcpStream, Listener = TcpListener> + Clock + Threads + Wait + Sync,
+    R: Host + Threads + Sync,
     V: ProgramWatcher + Send + Drop,
     E: Outlet + Send,
 >(
@@ -204,11 +205,7 @@ fn new_link<R: Net>(
 
 /// Serves users through these links, each in a thread of its own, and says what went wrong in one more. Answers how
 /// it ended.
-fn serve_links<
-    R: Net<Stream = TcpStream, Listener = TcpListener> + Clock + Threads + Wait + Sync,
-    V: ProgramWatcher + Send + Drop,
-    E: Outlet + Send,
->(
+fn serve_links<R: Host + Threads + Sync, V: ProgramWatcher + Send + Drop, E: Outlet + Send>(
     rt: &R,
     alloc: Global,
     address: SocketAddr,
@@ -272,10 +269,7 @@ fn hear_all<R: Wait, E: Outlet>(
 }
 
 /// Runs each link in a thread of its own, and accepts users in this one. Where a thread can't be made nobody is served.
-fn run_all<
-    R: Net<Stream = TcpStream, Listener = TcpListener> + Clock + Threads + Wait + Sync,
-    V: ProgramWatcher + Send + Drop,
->(
+fn run_all<R: Host + Threads + Sync, V: ProgramWatcher + Send + Drop>(
     rt: &R,
     alloc: Global,
     address: SocketAddr,

@@ -5,6 +5,7 @@ ghost use Rattle.std.specs.Io.KnownBytes.{Keeps};
 ghost use Rattle.ymx_forward.specs.Exits.{status_of};
 
 use crate::exit::{Done, Exit};
+use crate::host::Host;
 use crate::keeping::{Meeting, keep_calling, keep_local};
 use crate::links::run_links;
 use crate::meeting::meet;
@@ -30,11 +31,13 @@ const PEERS: u32 = 16;
 
 /// Meets the peer, and forwards each connection that comes as a stream. Says faults on `errors`, and the lines
 /// that `is_verbose` asks for on `lines`. Answers how it ended.
-pub fn run_local<
-    R: Net<Stream = TcpStream, Listener = TcpListener> + Clock + Threads + Wait + Sync,
-    E: Outlet + Send,
-    L: Outlet + Send,
->(rt: &R, alloc: Global, options: LocalOptions, errors: &mut E, lines: &mut L) -> Exit
+pub fn run_local<R: Host + Threads + Sync, E: Outlet + Send, L: Outlet + Send>(
+    rt: &R,
+    alloc: Global,
+    options: LocalOptions,
+    errors: &mut E,
+    lines: &mut L,
+) -> Exit
     ensures good { status_of result ≡ 0 → Keeps (E.contents errors.old) (E.contents errors.new) }
     ensures silent { options.is_verbose ≡ false → Keeps (L.contents lines.old) (L.contents lines.new) }
 {
@@ -46,11 +49,13 @@ pub fn run_local<
 }
 
 /// Meets the peer, and forwards each connection that comes as a stream. Answers how it ended.
-fn local_end<
-    R: Net<Stream = TcpStream, Listener = TcpListener> + Clock + Threads + Wait + Sync,
-    V: ProgramWatcher + Send + Drop,
-    E: Outlet + Send,
->(rt: &R, alloc: Global, options: LocalOptions, watcher: V, errors: &mut E) -> Exit
+fn local_end<R: Host + Threads + Sync, V: ProgramWatcher + Send + Drop, E: Outlet + Send>(
+    rt: &R,
+    alloc: Global,
+    options: LocalOptions,
+    watcher: V,
+    errors: &mut E,
+) -> Exit
     ensures good { status_of result ≡ 0 → Keeps (E.contents errors.old) (E.contents errors.new) }
 {
     let mut watcher = watcher;
@@ -75,11 +80,13 @@ fn local_end<
 }
 
 /// Calls the peer, then listens for connections, and forwards them through one session. Answers how it ended.
-fn reaching_end<
-    R: Net<Stream = TcpStream, Listener = TcpListener> + Clock + Wait,
-    V: ProgramWatcher,
-    E: Outlet,
->(rt: &R, alloc: Global, options: LocalOptions, watcher: &mut V, errors: &mut E) -> Exit
+fn reaching_end<R: Host, V: ProgramWatcher, E: Outlet>(
+    rt: &R,
+    alloc: Global,
+    options: LocalOptions,
+    watcher: &mut V,
+    errors: &mut E,
+) -> Exit
     ensures good { status_of result ≡ 0 → Keeps (E.contents errors.old) (E.contents errors.new) }
 {
     let Some(connection) = meet(rt, alloc, options.peer, watcher, errors) else {
@@ -93,11 +100,7 @@ fn reaching_end<
 
 /// Listens for the peer, then for connections, so that a mistake in either ends nobody else, and forwards them through one
 /// session after another, or one alone. Answers how it ended.
-fn awaiting_end<
-    R: Net<Stream = TcpStream, Listener = TcpListener> + Clock + Wait,
-    V: ProgramWatcher,
-    E: Outlet,
->(
+fn awaiting_end<R: Host, V: ProgramWatcher, E: Outlet>(
     rt: &R,
     alloc: Global,
     address: SocketAddr,
@@ -155,11 +158,7 @@ fn forward_all<R: Net + Clock + Wait, V: ProgramWatcher, E: Outlet>(
 }
 
 /// Listens for connections, and forwards them through one session after another. Answers how it ended.
-fn meeting_end<
-    R: Net<Stream = TcpStream, Listener = TcpListener> + Clock + Wait,
-    V: ProgramWatcher,
-    E: Outlet,
->(
+fn meeting_end<R: Host, V: ProgramWatcher, E: Outlet>(
     rt: &R,
     alloc: Global,
     meeting: Meeting,
@@ -197,11 +196,13 @@ fn meeting_end<
 
 /// Meets one peer, or as many as are asked for, and connects each of their streams to the target. Says faults on
 /// `errors`, and the lines that `is_verbose` asks for on `lines`. Answers how it ended.
-pub fn run_remote<
-    R: Net<Stream = TcpStream, Listener = TcpListener> + Clock + Threads + Wait + Sync,
-    E: Outlet + Send,
-    L: Outlet + Send,
->(rt: &R, alloc: Global, options: RemoteOptions, errors: &mut E, lines: &mut L) -> Exit
+pub fn run_remote<R: Host + Threads + Sync, E: Outlet + Send, L: Outlet + Send>(
+    rt: &R,
+    alloc: Global,
+    options: RemoteOptions,
+    errors: &mut E,
+    lines: &mut L,
+) -> Exit
     ensures good { status_of result ≡ 0 → Keeps (E.contents errors.old) (E.contents errors.new) }
     ensures silent { options.is_verbose ≡ false → Keeps (L.contents lines.old) (L.contents lines.new) }
 {
@@ -213,11 +214,13 @@ pub fn run_remote<
 }
 
 /// Meets its peers, and connects each of their streams to the target. Answers how it ended.
-fn remote_end<
-    R: Net<Stream = TcpStream, Listener = TcpListener> + Clock + Threads + Wait + Sync,
-    V: ProgramWatcher + Send + Drop,
-    E: Outlet + Send,
->(rt: &R, alloc: Global, options: RemoteOptions, watcher: V, errors: &mut E) -> Exit
+fn remote_end<R: Host + Threads + Sync, V: ProgramWatcher + Send + Drop, E: Outlet + Send>(
+    rt: &R,
+    alloc: Global,
+    options: RemoteOptions,
+    watcher: V,
+    errors: &mut E,
+) -> Exit
     ensures good { status_of result ≡ 0 → Keeps (E.contents errors.old) (E.contents errors.new) }
 {
     let mut watcher = watcher;
@@ -233,11 +236,7 @@ fn remote_end<
 }
 
 /// Serves the peers that call at this address, so many at once. Answers how it ended.
-fn serving_end<
-    R: Net<Stream = TcpStream, Listener = TcpListener> + Clock + Threads + Wait + Sync,
-    V: ProgramWatcher + Send + Drop,
-    E: Outlet + Send,
->(
+fn serving_end<R: Host + Threads + Sync, V: ProgramWatcher + Send + Drop, E: Outlet + Send>(
     rt: &R,
     alloc: Global,
     address: SocketAddr,
@@ -259,11 +258,13 @@ fn serving_end<
 }
 
 /// Meets one peer, so that others are refused, and connects each of its streams to the target. Answers how it ended.
-fn single_end<
-    R: Net<Stream = TcpStream, Listener = TcpListener> + Clock + Wait,
-    V: ProgramWatcher,
-    E: Outlet,
->(rt: &R, alloc: Global, options: RemoteOptions, watcher: &mut V, errors: &mut E) -> Exit
+fn single_end<R: Host, V: ProgramWatcher, E: Outlet>(
+    rt: &R,
+    alloc: Global,
+    options: RemoteOptions,
+    watcher: &mut V,
+    errors: &mut E,
+) -> Exit
     ensures good { status_of result ≡ 0 → Keeps (E.contents errors.old) (E.contents errors.new) }
 {
     let Some(connection) = meet(rt, alloc, options.peer, watcher, errors) else {

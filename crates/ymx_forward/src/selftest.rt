@@ -11,6 +11,7 @@ ghost use Rattle.ymx_forward.specs.Exits.{status_of};
 
 use crate::exit::{Done, Exit};
 use crate::forwarding::forward;
+use crate::host::Host;
 use crate::sides::TunnelSide;
 use crate::sockets::connect;
 use crate::system::{accept, address_of, echo, finish, listen, receive, send};
@@ -21,7 +22,6 @@ use std::alloc::{AllocError, Global};
 use std::net::{Ipv4Addr, Net, SocketAddr, SocketAddrV4, TcpListener, TcpStream};
 use std::sync::Wait;
 use std::thread::Threads;
-use std::time::Clock;
 use std::{io, thread};
 use ymx_devices::push_all;
 use ymx_model::Outlet;
@@ -88,11 +88,12 @@ enum Stop {
 
 /// Sends three connections through both ends of a tunnel to an echo server, all on 127.0.0.1, and prints a line for
 /// each. Answers how it ended.
-pub fn run_selftest<
-    R: Net<Stream = TcpStream, Listener = TcpListener> + Threads + Clock + Wait + Sync,
-    W: Outlet,
-    E: Outlet,
->(rt: &R, alloc: Global, writer: &mut W, errors: &mut E) -> Exit
+pub fn run_selftest<R: Host + Threads + Sync, W: Outlet, E: Outlet>(
+    rt: &R,
+    alloc: Global,
+    writer: &mut W,
+    errors: &mut E,
+) -> Exit
     ensures good { status_of result ≡ 0 → Keeps (E.contents errors.old) (E.contents errors.new) }
 {
     let Some((addresses, owned)) = prepare(rt) else {
@@ -108,10 +109,7 @@ pub fn run_selftest<
 
 /// Runs the three servers and the client in threads, and prints a line for each connection as it ends. Where a thread
 /// can't be made the first connection has failed.
-fn run_all<
-    R: Net<Stream = TcpStream, Listener = TcpListener> + Threads + Clock + Wait + Sync,
-    W: Outlet,
->(
+fn run_all<R: Host + Threads + Sync, W: Outlet>(
     rt: &R,
     alloc: Global,
     addresses: Addresses,
@@ -259,12 +257,7 @@ fn serve_echoes(listener: TcpListener) {
 }
 
 /// The end of the tunnel at the echo server.
-fn run_remote_end<R: Net<Stream = TcpStream, Listener = TcpListener> + Clock + Wait>(
-    rt: &R,
-    alloc: Global,
-    connection: TcpStream,
-    target: SocketAddr,
-) {
+fn run_remote_end<R: Host>(rt: &R, alloc: Global, connection: TcpStream, target: SocketAddr) {
     let side = TunnelSide::Remote {
         target,
         workers: CONNECTIONS,
@@ -273,12 +266,7 @@ fn run_remote_end<R: Net<Stream = TcpStream, Listener = TcpListener> + Clock + W
 }
 
 /// The end of the tunnel at the client.
-fn run_local_end<R: Net<Stream = TcpStream, Listener = TcpListener> + Clock + Wait>(
-    rt: &R,
-    alloc: Global,
-    connection: TcpStream,
-    listener: TcpListener,
-) {
+fn run_local_end<R: Host>(rt: &R, alloc: Global, connection: TcpStream, listener: TcpListener) {
     let side = TunnelSide::Local {
         listener,
         count: Some(CONNECTIONS),

@@ -7,6 +7,7 @@ ghost use Rattle.ymx_forward.specs.Exits.{status_of};
 
 use crate::door::{Door, Inside, Knock};
 use crate::exit::Exit;
+use crate::host::Host;
 use crate::notices::ProgramWatcher;
 use crate::peer::Peer;
 use crate::programs::{new_end, remote_side, report_session};
@@ -17,11 +18,11 @@ use crate::starting::StartFault;
 use crate::tell::{cannot_listen, lacks_memory};
 use crate::tunnel_end::{Limits, new_events};
 use std::alloc::Global;
-use std::net::{Net, SocketAddr, TcpListener, TcpStream};
-use std::sync::{Mutex, Wait};
+use std::net::{SocketAddr, TcpListener};
+use std::sync::Mutex;
 use std::thread;
 use std::thread::Threads;
-use std::time::{Clock, Duration};
+use std::time::Duration;
 use ymx_arguments::{PeerAddress, RemoteOptions};
 use ymx_model::Outlet;
 
@@ -71,11 +72,7 @@ impl Reporter for Gathering {
 /// target. With `--keep` it says each fault as it comes, and ends only where nobody can be accepted any more. Without, it
 /// ends once one was there and none is any more, and says then what went wrong in any session, if anything did. Answers
 /// how it ended.
-pub(crate) fn serve<
-    R: Net<Stream = TcpStream, Listener = TcpListener> + Clock + Threads + Wait + Sync,
-    V: ProgramWatcher + Send + Drop,
-    E: Outlet + Send,
->(
+pub(crate) fn serve<R: Host + Threads + Sync, V: ProgramWatcher + Send + Drop, E: Outlet + Send>(
     rt: &R,
     alloc: Global,
     listener: TcpListener,
@@ -134,7 +131,7 @@ fn no_door<V: ProgramWatcher, E: Outlet>(
 /// Serves each peer that comes in by the door in a thread of its own. One for which no thread can be made is closed, and
 /// others are let in after a while; but where none has been served, and none else is awaited, no more are.
 fn serve_peers<
-    R: Net<Stream = TcpStream, Listener = TcpListener> + Clock + Threads + Wait + Sync,
+    R: Host + Threads + Sync,
     V: ProgramWatcher + Send + Drop,
     S: Reporter + Send + Drop,
 >(
@@ -181,11 +178,7 @@ fn serve_peers<
 }
 
 /// Serves a peer, and reports how its session ended.
-fn serve_peer<
-    R: Net<Stream = TcpStream, Listener = TcpListener> + Clock + Wait,
-    V: ProgramWatcher,
-    S: Reporter,
->(
+fn serve_peer<R: Host, V: ProgramWatcher, S: Reporter>(
     rt: &R,
     alloc: Global,
     peer: Peer,
@@ -203,10 +196,13 @@ fn serve_peer<
 }
 
 /// Runs the session of a peer.
-fn forward_peer<
-    R: Net<Stream = TcpStream, Listener = TcpListener> + Clock + Wait,
-    V: ProgramWatcher,
->(rt: &R, alloc: Global, peer: Peer, options: RemoteOptions, watcher: &mut V) -> Forwarded {
+fn forward_peer<R: Host, V: ProgramWatcher>(
+    rt: &R,
+    alloc: Global,
+    peer: Peer,
+    options: RemoteOptions,
+    watcher: &mut V,
+) -> Forwarded {
     let mut events = match new_events(alloc) {
         Ok(events) => events,
         Err(refused) => return Forwarded::without_memory(refused),
