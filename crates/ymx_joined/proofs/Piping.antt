@@ -17,25 +17,28 @@ use Rattle.ymx_model.specs.session.Sessions.{Session}
 use Rattle.ymx_model.specs.session.Emissions.{in_turn}
 use Rattle.ymx_model.specs.session.Feeds.{Feeds}
 use Rattle.ymx_model.specs.session.Histories.{Gives}
-use Rattle.ymx_model.specs.world.Worlds.{Pipe, new_pipe}
+use Rattle.ymx_model.specs.world.Worlds.{World, Pipe, Runs, new_pipe}
 use Rattle.ymx_headline.specs.audit.Joints.{ended_pipe, sent_into, TakesFront, Gets, world_steps, IsJoint}
-use Rattle.ymx_headline.proofs.audit.Events.{put-ended}
+use Rattle.ymx_headline.specs.audit.Told.{answers_of, is_ended_behind, told_from}
+use Rattle.ymx_headline.proofs.audit.Events.{world, event-a, event-b, gets-ended, put-ended, over-behind}
 use Rattle.ymx_headline.proofs.audit.OneRun.{are-one-run}
+use Rattle.ymx_headline.proofs.audit.Orders.{runs-on}
+use Rattle.ymx_headline.proofs.audit.Over.{IsOver}
 use Rattle.ymx_engine.specs.Engines.{Engine}
 use Rattle.ymx_engine.specs.Events.{Happen}
 use Rattle.ymx_engine.specs.Wires.{emitted_at, emitted, fed_at, fed, is_of_read, is_of_flush, OffersFront, FeedsFront}
 use Rattle.ymx_engine.proofs.Exchanging.{happen_then}
 use Rattle.ymx_joined.specs.Tunnels.{entries_from, entries}
-use Rattle.ymx_joined.specs.Pairs.{Pair, is_call, IsCalls, IsRead, IsFlush, IsTunnelTurn, IsTurn, Turn, TakesTurn, TakeTurns, at_a, at_b, events_at_a, events_at_b, AreOnePipedRun}
+use Rattle.ymx_joined.specs.Pairs.{Pair, pair_of, is_call, IsCalls, IsRead, IsFlush, IsTunnelTurn, IsTurn, Turn, TakesTurn, TakeTurns, at_a, at_b, events_at_a, events_at_b, AreOnePipedRun}
 use Rattle.ymx_joined.proofs.Histories.{replays}
 
 -- ---- a pipe of the world beside the bytes under way
 
-abbrev open_pipe : List ℕ → Pipe
+abbrev pub open_pipe : List ℕ → Pipe
 open_pipe bytes = record { bytes = bytes; stopped = false; ended = false }
 
 -- its end was told, or it carries these bytes
-abbrev Holds : Pipe → List ℕ → Type 0
+abbrev pub Holds : Pipe → List ℕ → Type 0
 Holds p bytes = (p.ended ≡ true) ⊎ (p ≡ open_pipe bytes)
 
 same_holds : (p : Pipe) (xs ys : List ℕ) → xs ≡ ys → Holds p xs → Holds p ys
@@ -79,7 +82,7 @@ length_front n xs h = length-take-le n xs h
 drop_twice : (xs ys zs : List ℕ) → drop (length ys) (drop (length xs) zs) ≡ drop (length (xs ++ ys)) zs
 drop_twice xs ys zs = drop-drop (length ys) (length xs) zs ∙ ap (λ (n : ℕ). drop n zs) (sym (length-append xs ys))
 
-drop_front : (xs ys : List ℕ) → drop (length xs) (xs ++ ys) ≡ ys
+pub drop_front : (xs ys : List ℕ) → drop (length xs) (xs ++ ys) ≡ ys
 drop_front [] ys = refl
 drop_front (x ∷ xs) ys = drop_front xs ys
 
@@ -275,61 +278,143 @@ from_holds es old new to from to_new from_new far p m h =
     let left : drop (length (fed es)) (old.incoming ++ m.came) ≡ new.incoming = ap (drop (length (fed es))) m.from_wire ∙ drop_front (fed es) new.incoming in
     subst (λ (v : List ℕ). GotAll es p (v ++ (from_new ++ far))) left got
 
--- ---- a joint order
+-- ---- a joint order, and the run of the world that it is
 
-record Joint (ab ba : Pipe) (xs ys : List Entry) : Type 0 where
-  turns : List Bool
-  steps : List Step
-  joint : IsJoint turns ab ba xs ys steps
+-- a pipe of the world carries what A has to send, what is in the pipe, and what waits to be fed to B
+abbrev pub HoldsAB : Pipe → Pair → Type 0
+HoldsAB pipe p = Holds pipe (p.b.incoming ++ (p.ab ++ p.a.outgoing))
 
-joint_a : (es more : List (Event × Reply)) (i : ℕ) (ab ba q : Pipe) (ys : List Entry) → GetsAll es ba q → ((k : ℕ) → Joint (sent_all es ab) q (entries_from k more) ys) →
-    Joint ab ba (entries_from i (es ++ more)) ys
-joint_a [] more i ab ba q ys g rest = subst (λ (z : Pipe). Joint ab z (entries_from i more) ys) g (rest i)
-joint_a (e ∷ es) more i ab ba q ys g rest =
-    let r = joint_a es more (i + 1) (sent_into e.0 e.1 ab) g.0 q ys g.2 rest in record {
+abbrev pub HoldsBA : Pipe → Pair → Type 0
+HoldsBA pipe p = Holds pipe (p.a.incoming ++ (p.ba ++ p.b.outgoing))
+
+-- behind the end of its input a session is over
+abbrev OverIf : Pipe → Session → Type 0
+OverIf pipe s = pipe.ended ≡ true → IsOver s
+
+-- These entries have a joint order, which is a run of the world from these sessions and pipes to the sessions of q; its
+-- pipes carry then what those of q do.
+pub record Joint (a b : Session) (ab ba : Pipe) (xs ys : List Entry) (q : Pair) : Type 0 where
+  pub turns : List Bool
+  pub steps : List Step
+  pub joint : IsJoint turns ab ba xs ys steps
+  pub last_ab : Pipe
+  pub last_ba : Pipe
+  pub runs : Runs in_turn steps (told_from turns ba.ended ab.ended xs ys) (world a b ab ba) (world q.a.session q.b.session last_ab last_ba)
+  pub holds_ab : HoldsAB last_ab q
+  pub holds_ba : HoldsBA last_ba q
+  pub over_a : last_ba.ended ≡ true → IsOver q.a.session
+  pub over_b : last_ab.ended ≡ true → IsOver q.b.session
+
+-- a run goes on behind an event of A, and behind one of B
+run_a : (e : Event) (told : Reply) (turns : List Bool) (steps : List Step) (xs ys : List Entry) (a b s : Session) (ab ba p : Pipe) (last : World) → Gives in_turn a e told s → Gets e told ba p → OverIf ba a →
+    Runs in_turn steps (told_from turns p.ended (sent_into e told ab).ended xs ys) (world s b (sent_into e told ab) p) last →
+    Runs in_turn (world_steps A ba e ++ steps) (answers_of ba.ended e told ++ told_from turns (is_ended_behind ba.ended e) ab.ended xs ys) (world a b ab ba) last
+run_a e told turns steps xs ys a b s ab ba p last g h over r =
+    runs-on in_turn (world_steps A ba e) steps (answers_of ba.ended e told) _ (world a b ab ba) (world s b (sent_into e told ab) p) last (event-a in_turn e told a b s ab ba p g h over)
+    (subst (λ (v : Bool). Runs in_turn steps (told_from turns v ab.ended xs ys) (world s b (sent_into e told ab) p) last) (gets-ended e told ba p h)
+    (subst (λ (v : Bool). Runs in_turn steps (told_from turns p.ended v xs ys) (world s b (sent_into e told ab) p) last) (put-ended e told ab) r))
+
+run_b : (e : Event) (told : Reply) (turns : List Bool) (steps : List Step) (xs ys : List Entry) (a b s : Session) (ab ba p : Pipe) (last : World) → Gives in_turn b e told s → Gets e told ab p → OverIf ab b →
+    Runs in_turn steps (told_from turns (sent_into e told ba).ended p.ended xs ys) (world a s p (sent_into e told ba)) last →
+    Runs in_turn (world_steps B ab e ++ steps) (answers_of ab.ended e told ++ told_from turns ba.ended (is_ended_behind ab.ended e) xs ys) (world a b ab ba) last
+run_b e told turns steps xs ys a b s ab ba p last g h over r =
+    runs-on in_turn (world_steps B ab e) steps (answers_of ab.ended e told) _ (world a b ab ba) (world a s p (sent_into e told ba)) last (event-b in_turn e told a b s ab ba p g h over)
+    (subst (λ (v : Bool). Runs in_turn steps (told_from turns ba.ended v xs ys) (world a s p (sent_into e told ba)) last) (gets-ended e told ab p h)
+    (subst (λ (v : Bool). Runs in_turn steps (told_from turns v p.ended xs ys) (world a s p (sent_into e told ba)) last) (put-ended e told ba) r))
+
+-- a turn at which nothing happened
+over_same : (s t : Session) (p q : Pipe) → t ≡ s → q ≡ p → OverIf p s → OverIf q t
+over_same s t p q h g over e = subst IsOver (sym h) (over (sym (ap (λ (z : Pipe). z.ended) g) ∙ e))
+
+joint_a : (es more : List (Event × Reply)) (i : ℕ) (a b s : Session) (ab ba p : Pipe) (ys : List Entry) (q : Pair) → Happen es a s → GetsAll es ba p → OverIf ba a →
+    ((k : ℕ) → OverIf p s → Joint s b (sent_all es ab) p (entries_from k more) ys q) → Joint a b ab ba (entries_from i (es ++ more)) ys q
+joint_a [] more i a b s ab ba p ys q h g over rest =
+    subst (λ (z : Session). Joint z b ab ba (entries_from i more) ys q) h
+    (subst (λ (z : Pipe). Joint s b ab z (entries_from i more) ys q) g (rest i (over_same a s ba p h g over)))
+joint_a (e ∷ es) more i a b s ab ba p ys q h g over rest =
+    let r = joint_a es more (i + 1) h.0 b s (sent_into e.0 e.1 ab) g.0 p ys q h.2 g.2 (over-behind in_turn e.0 e.1 a h.0 ba g.0 h.1 g.1 over) rest in record {
       turns = true ∷ r.turns;
       steps = world_steps A ba e.0 ++ r.steps;
       joint = (record { position = i; seat = 0; event = e.0; reply = e.1 }, entries_from (i + 1) (es ++ more), g.0, r.steps, refl, g.1, refl, r.joint);
+      last_ab = r.last_ab;
+      last_ba = r.last_ba;
+      runs = run_a e.0 e.1 r.turns r.steps (entries_from (i + 1) (es ++ more)) ys a b h.0 ab ba g.0 _ h.1 g.1 over r.runs;
+      holds_ab = r.holds_ab;
+      holds_ba = r.holds_ba;
+      over_a = r.over_a;
+      over_b = r.over_b;
     }
 
-joint_b : (es more : List (Event × Reply)) (i : ℕ) (ab ba q : Pipe) (xs : List Entry) → GetsAll es ab q → ((k : ℕ) → Joint q (sent_all es ba) xs (entries_from k more)) →
-    Joint ab ba xs (entries_from i (es ++ more))
-joint_b [] more i ab ba q xs g rest = subst (λ (z : Pipe). Joint z ba xs (entries_from i more)) g (rest i)
-joint_b (e ∷ es) more i ab ba q xs g rest =
-    let r = joint_b es more (i + 1) g.0 (sent_into e.0 e.1 ba) q xs g.2 rest in record {
+joint_b : (es more : List (Event × Reply)) (i : ℕ) (a b s : Session) (ab ba p : Pipe) (xs : List Entry) (q : Pair) → Happen es b s → GetsAll es ab p → OverIf ab b →
+    ((k : ℕ) → OverIf p s → Joint a s p (sent_all es ba) xs (entries_from k more) q) → Joint a b ab ba xs (entries_from i (es ++ more)) q
+joint_b [] more i a b s ab ba p xs q h g over rest =
+    subst (λ (z : Session). Joint a z ab ba xs (entries_from i more) q) h
+    (subst (λ (z : Pipe). Joint a s z ba xs (entries_from i more) q) g (rest i (over_same b s ab p h g over)))
+joint_b (e ∷ es) more i a b s ab ba p xs q h g over rest =
+    let r = joint_b es more (i + 1) a h.0 s g.0 (sent_into e.0 e.1 ba) p xs q h.2 g.2 (over-behind in_turn e.0 e.1 b h.0 ab g.0 h.1 g.1 over) rest in record {
       turns = false ∷ r.turns;
       steps = world_steps B ab e.0 ++ r.steps;
       joint = (record { position = i; seat = 0; event = e.0; reply = e.1 }, entries_from (i + 1) (es ++ more), g.0, r.steps, refl, g.1, refl, r.joint);
+      last_ab = r.last_ab;
+      last_ba = r.last_ba;
+      runs = run_b e.0 e.1 r.turns r.steps xs (entries_from (i + 1) (es ++ more)) a b h.0 ab ba g.0 _ h.1 g.1 over r.runs;
+      holds_ab = r.holds_ab;
+      holds_ba = r.holds_ba;
+      over_a = r.over_a;
+      over_b = r.over_b;
     }
 
--- a pipe of the world carries what A has to send, what is in the pipe, and what waits to be fed to B
-abbrev HoldsAB : Pipe → Pair → Type 0
-HoldsAB pipe p = Holds pipe (p.b.incoming ++ (p.ab ++ p.a.outgoing))
+-- what is sent into a pipe tells no end
+sent_over : (es : List (Event × Reply)) (p : Pipe) → (sent_all es p).ended ≡ p.ended
+sent_over [] p = refl
+sent_over (e ∷ es) p = sent_over es (sent_into e.0 e.1 p) ∙ put-ended e.0 e.1 p
 
-abbrev HoldsBA : Pipe → Pair → Type 0
-HoldsBA pipe p = Holds pipe (p.a.incoming ++ (p.ba ++ p.b.outgoing))
+-- the side whose turn it isn't
+over_beside : (es : List (Event × Reply)) (p : Pipe) (e f : Engine) → f ≡ e → OverIf p e.session → OverIf (sent_all es p) f.session
+over_beside es p e f t over h = subst (λ (z : Engine). IsOver z.session) (sym t) (over (sym (sent_over es p) ∙ h))
 
-joint_turn : (side : Side) (es more_a more_b : List (Event × Reply)) (p q : Pair) (ab ba : Pipe) (i j : ℕ) → TakesTurn side es p q → HoldsAB ab p → HoldsBA ba p →
-    ((ab2 ba2 : Pipe) (i2 j2 : ℕ) → HoldsAB ab2 q → HoldsBA ba2 q → Joint ab2 ba2 (entries_from i2 more_a) (entries_from j2 more_b)) →
-    Joint ab ba (entries_from i (at_a side es ++ more_a)) (entries_from j (at_b side es ++ more_b))
-joint_turn A es more_a more_b p q ab ba i j t h k rest =
+joint_turn : (side : Side) (es more_a more_b : List (Event × Reply)) (p q last : Pair) (ab ba : Pipe) (i j : ℕ) → TakesTurn side es p q → HoldsAB ab p → HoldsBA ba p → OverIf ba p.a.session → OverIf ab p.b.session →
+    ((ab2 ba2 : Pipe) (i2 j2 : ℕ) → HoldsAB ab2 q → HoldsBA ba2 q → OverIf ba2 q.a.session → OverIf ab2 q.b.session →
+    Joint q.a.session q.b.session ab2 ba2 (entries_from i2 more_a) (entries_from j2 more_b) last) →
+    Joint p.a.session p.b.session ab ba (entries_from i (at_a side es ++ more_a)) (entries_from j (at_b side es ++ more_b)) last
+joint_turn A es more_a more_b p q last ab ba i j t h k over_a over_b rest =
     let m = turn_moves es p.a q.a p.ab p.ba q.ab q.ba t.0 in
     let got = from_holds es p.a q.a p.ab p.ba q.ab q.ba p.b.outgoing ba m k in
     let to : HoldsAB (sent_all es ab) q = same_holds (sent_all es ab) _ _ (ap (λ (e : Engine). e.incoming ++ (q.ab ++ q.a.outgoing)) (sym t.1)) (to_holds es p.a q.a p.ab p.ba q.ab q.ba p.b.incoming ab m h) in
     let from : HoldsBA got.pipe q = same_holds got.pipe _ _ (ap (λ (e : Engine). q.a.incoming ++ (q.ba ++ e.outgoing)) (sym t.1)) got.holds in
-    joint_a es more_a i ab ba got.pipe (entries_from j more_b) got.gets (λ n. rest (sent_all es ab) got.pipe n j to from)
-joint_turn B es more_a more_b p q ab ba i j t h k rest =
+    joint_a es more_a i p.a.session p.b.session q.a.session ab ba got.pipe (entries_from j more_b) last m.happen got.gets over_a
+    (λ n over. subst (λ (e : Engine). Joint q.a.session e.session (sent_all es ab) got.pipe (entries_from n more_a) (entries_from j more_b) last) t.1
+    (rest (sent_all es ab) got.pipe n j to from over (over_beside es ab p.b q.b t.1 over_b)))
+joint_turn B es more_a more_b p q last ab ba i j t h k over_a over_b rest =
     let m = turn_moves es p.b q.b p.ba p.ab q.ba q.ab t.0 in
     let got = from_holds es p.b q.b p.ba p.ab q.ba q.ab p.a.outgoing ab m h in
     let to : HoldsBA (sent_all es ba) q = same_holds (sent_all es ba) _ _ (ap (λ (e : Engine). e.incoming ++ (q.ba ++ q.b.outgoing)) (sym t.1)) (to_holds es p.b q.b p.ba p.ab q.ba q.ab p.a.incoming ba m k) in
     let from : HoldsAB got.pipe q = same_holds got.pipe _ _ (ap (λ (e : Engine). q.b.incoming ++ (q.ab ++ e.outgoing)) (sym t.1)) got.holds in
-    joint_b es more_b j ab ba got.pipe (entries_from i more_a) got.gets (λ n. rest got.pipe (sent_all es ba) i n from to)
+    joint_b es more_b j p.a.session p.b.session q.b.session ab ba got.pipe (entries_from i more_a) last m.happen got.gets over_b
+    (λ n over. subst (λ (e : Engine). Joint e.session q.b.session got.pipe (sent_all es ba) (entries_from i more_a) (entries_from n more_b) last) t.1
+    (rest got.pipe (sent_all es ba) i n from to (over_beside es ba p.a q.a t.1 over_a) over))
 
-joint_turns : (ts : List Turn) (p q : Pair) (ab ba : Pipe) (i j : ℕ) → TakeTurns ts p q → HoldsAB ab p → HoldsBA ba p →
-    Joint ab ba (entries_from i (events_at_a ts)) (entries_from j (events_at_b ts))
-joint_turns [] p q ab ba i j r h k = record { turns = []; steps = []; joint = (refl, refl, refl) }
-joint_turns (t ∷ ts) p q ab ba i j r h k =
-    joint_turn t.side t.events (events_at_a ts) (events_at_b ts) p r.0 ab ba i j r.1 h k (λ ab2 ba2 i2 j2 h2 k2. joint_turns ts r.0 q ab2 ba2 i2 j2 r.2 h2 k2)
+pub joint_turns : (ts : List Turn) (p q : Pair) (ab ba : Pipe) (i j : ℕ) → TakeTurns ts p q → HoldsAB ab p → HoldsBA ba p → OverIf ba p.a.session → OverIf ab p.b.session →
+    Joint p.a.session p.b.session ab ba (entries_from i (events_at_a ts)) (entries_from j (events_at_b ts)) q
+joint_turns [] p q ab ba i j r h k over_a over_b = record {
+  turns = [];
+  steps = [];
+  joint = (refl, refl, refl);
+  last_ab = ab;
+  last_ba = ba;
+  runs = ap (λ (z : Pair). world z.a.session z.b.session ab ba) r;
+  holds_ab = subst (HoldsAB ab) (sym r) h;
+  holds_ba = subst (HoldsBA ba) (sym r) k;
+  over_a = subst (λ (z : Pair). OverIf ba z.a.session) (sym r) over_a;
+  over_b = subst (λ (z : Pair). OverIf ab z.b.session) (sym r) over_b;
+}
+joint_turns (t ∷ ts) p q ab ba i j r h k over_a over_b =
+    joint_turn t.side t.events (events_at_a ts) (events_at_b ts) p r.0 q ab ba i j r.1 h k over_a over_b
+    (λ ab2 ba2 i2 j2 h2 k2 over_a2 over_b2. joint_turns ts r.0 q ab2 ba2 i2 j2 r.2 h2 k2 over_a2 over_b2)
+
+-- from two new engines, and empty pipes
+pub joint_new : (ts : List Turn) (s t : Session) (q : Pair) → TakeTurns ts (pair_of s t) q → Joint s t new_pipe new_pipe (entries (events_at_a ts)) (entries (events_at_b ts)) q
+joint_new ts s t q r = joint_turns ts (pair_of s t) q new_pipe new_pipe 0 0 r (inr refl) (inr refl) (λ e. absurd cc) (λ e. absurd cc)
 
 -- ---- what happened at each side
 
@@ -351,7 +436,7 @@ happens_b (t ∷ ts) p q r = turn_happens_b t.side t.events (events_at_b ts) p r
 
 pub are_one_piped_run : (ts : List Turn) → AreOnePipedRun ts
 are_one_piped_run ts = λ wa fa wb fb q good r.
-    let j = joint_turns ts _ q new_pipe new_pipe 0 0 r (inr refl) (inr refl) in (
+    let j = joint_new ts _ _ q r in (
       j.steps,
       are-one-run in_turn (entries (events_at_a ts)) (entries (events_at_b ts)) j.steps (j.turns, j.joint) wa fa wb fb q.a.session q.b.session good
           (replays 0 (events_at_a ts) _ q.a.session (happens_a ts _ q r)) (replays 0 (events_at_b ts) _ q.b.session (happens_b ts _ q r)),
