@@ -13,3 +13,5 @@ pub mod Turns
 pub mod Driving
 pub mod Tracing
 pub mod Tunneling
+pub mod Arriving
+pub mod Quiet

@@ -39,7 +39,7 @@ one_turn : (side : Side) (es : List (Event × Reply)) (p q : TunnelPair) → One
 one_turn A es p q t = (inr (inr (inr t.0.turn)), t.1)
 one_turn B es p q t = (inr (inr (inr t.0.turn)), t.1)
 
-turns_of : (ts : List Turn) (p q : TunnelPair) → BothWork ts p q → TakeTurns ts p.pair q.pair
+pub turns_of : (ts : List Turn) (p q : TunnelPair) → BothWork ts p q → TakeTurns ts p.pair q.pair
 turns_of [] p q h = ap (λ (v : TunnelPair). v.pair) h
 turns_of (t ∷ ts) p q h = (h.0.pair, one_turn t.side t.events p h.0 h.1, turns_of ts h.0 q h.2)
 
@@ -56,11 +56,11 @@ plain_at_b : (side : Side) (es : List (Event × Reply)) (p q : TunnelPair) → O
 plain_at_b A es p q t = refl
 plain_at_b B es p q t = works_plain es _ _ _ _ _ _ _ _ t.0
 
-plain_a : (ts : List Turn) (p q : TunnelPair) → BothWork ts p q → has_open_with (events_at_a ts) ≡ false
+pub plain_a : (ts : List Turn) (p q : TunnelPair) → BothWork ts p q → has_open_with (events_at_a ts) ≡ false
 plain_a [] p q h = refl
 plain_a (t ∷ ts) p q h = plain_then (at_a t.side t.events) (events_at_a ts) (plain_at_a t.side t.events p h.0 h.1) (plain_a ts h.0 q h.2)
 
-plain_b : (ts : List Turn) (p q : TunnelPair) → BothWork ts p q → has_open_with (events_at_b ts) ≡ false
+pub plain_b : (ts : List Turn) (p q : TunnelPair) → BothWork ts p q → has_open_with (events_at_b ts) ≡ false
 plain_b [] p q h = refl
 plain_b (t ∷ ts) p q h = plain_then (at_b t.side t.events) (events_at_b ts) (plain_at_b t.side t.events p h.0 h.1) (plain_b ts h.0 q h.2)
 

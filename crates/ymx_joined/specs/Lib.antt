@@ -6,3 +6,4 @@ pub mod Pairs
 pub mod Reached
 pub mod Drives
 pub mod Carried
+pub mod Quiet

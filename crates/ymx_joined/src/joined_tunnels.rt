@@ -9,6 +9,7 @@ ghost use Rattle.ymx_engine.specs.Events.{lacks_memory};
 ghost use Rattle.ymx_engine.specs.Lines.{Trades, Change, Lives, sinces};
 ghost use Rattle.ymx_joined.specs.Pairs.{Turn};
 ghost use Rattle.ymx_joined.specs.Carried.{Carries, HadOne, IsPassedOn, TunnelsCarry};
+ghost use Rattle.ymx_joined.specs.Quiet.{AllHasCome};
 
 /// Two tunnels, a client's and a server's, over two pipes in memory. They make any calls, in any order; their devices and
 /// the pipes answer as they like, and may fail. Then what each stream gave at one end is a beginning of what it took at the
@@ -34,4 +35,12 @@ pub fn one_device_gets_what_the_other_gave()
         IsPassedOn giver giver_last taker taker_last }
     ensures stays { (id : ℕ) (joined : Change) (rest : List (Event × Reply)) (now : Seen) → Lives id (joined ∷ []) rest None (Some now) → HadOne id (sinces (joined ∷ []) ++ rest) joined.seen now }
     ensures left { (id : ℕ) (joined left : Change) (rest : List (Event × Reply)) → Lives id (joined ∷ left ∷ []) rest None None → HadOne id (sinces (joined ∷ left ∷ []) ++ rest) joined.seen left.seen }
+{}
+
+/// Nothing sticks between two tunnels. They are a client's and a server's, over two pipes in memory; they made any calls, in
+/// any order, and are quiet now: nothing is due, no byte waits for a wire, in a pipe, or to be fed, and both sessions run.
+/// Then all that a stream took at one end was given at the other, or waits there to be given, if the session there has the
+/// stream; and its end has come there exactly if it was finished.
+pub fn quiet_tunnels_have_carried_all()
+    ensures { (turns : List Turn) → AllHasCome turns }
 {}
