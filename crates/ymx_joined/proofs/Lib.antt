@@ -14,4 +14,6 @@ pub mod Driving
 pub mod Tracing
 pub mod Tunneling
 pub mod Arriving
+pub mod Keeping
+pub mod Holding
 pub mod Quiet

@@ -295,7 +295,7 @@ done_a : (id : ℕ) (c : Call) (told : Reply) → finished_by A id (step.At A c)
 done_a id (call.Finish to) reply.Done h = h
 done_a id c told h = let no : ⊥ = cc in absurd no
 
-either : (a b p q : Bool) → (a || b) ≡ true → (a ≡ true → p ≡ true) → (b ≡ true → q ≡ true) → (p || q) ≡ true
+pub either : (a b p q : Bool) → (a || b) ≡ true → (a ≡ true → p ≡ true) → (b ≡ true → q ≡ true) → (p || q) ≡ true
 either true b p q h f g = ap (λ (v : Bool). v || q) (f refl)
 either false b p q h f g = or_second p q (g h)
 

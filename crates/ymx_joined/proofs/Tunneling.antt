@@ -132,7 +132,7 @@ tunnels_carry ts = λ wa fa wb fb q good r id.
 -- ---- what two devices of a stream pass on
 
 -- bytes are lost only for want of memory
-no_cause : (b c : Bool) → c ≡ false → (b ≡ true → c ≡ true) → b ≡ false
+pub no_cause : (b c : Bool) → c ≡ false → (b ≡ true → c ≡ true) → b ≡ false
 no_cause true c h f = sym (f refl) ∙ h
 no_cause false c h f = refl
 
@@ -160,11 +160,11 @@ devices_get id from to d d2 e e2 x y c plenty =
 
 -- what moved in all events moved while the device was there
 
-taken_during : (id : ℕ) (before during after : List (Event × Reply)) → IsIdle id before → IsIdle id after → taken id (before ++ (during ++ after)) ≡ taken id during
+pub taken_during : (id : ℕ) (before during after : List (Event × Reply)) → IsIdle id before → IsIdle id after → taken id (before ++ (during ++ after)) ≡ taken id during
 taken_during id before during after x y =
     taken_then id before (during ++ after) ∙ ap (λ (v : List ℕ). v ++ taken id (during ++ after)) x.0 ∙ taken_then id during after ∙ ap (λ (v : List ℕ). taken id during ++ v) y.0 ∙ append-nil (taken id during)
 
-given_during : (id : ℕ) (before during after : List (Event × Reply)) → IsIdle id before → IsIdle id after → given id (before ++ (during ++ after)) ≡ given id during
+pub given_during : (id : ℕ) (before during after : List (Event × Reply)) → IsIdle id before → IsIdle id after → given id (before ++ (during ++ after)) ≡ given id during
 given_during id before during after x y =
     given_then id before (during ++ after) ∙ ap (λ (v : List ℕ). v ++ given id (during ++ after)) x.1 ∙ given_then id during after ∙ ap (λ (v : List ℕ). given id during ++ v) y.1 ∙ append-nil (given id during)
 
@@ -176,7 +176,7 @@ end_during : (id : ℕ) (before during after : List (Event × Reply)) → IsIdle
 end_during id before during after x y =
     end_then id before (during ++ after) ∙ ap (λ (v : Bool). v || has_end id (during ++ after)) x.3 ∙ end_then id during after ∙ ap (λ (v : Bool). has_end id during || v) y.3 ∙ or_none (has_end id during)
 
-plenty_during : (id : ℕ) (before during after : List (Event × Reply)) → lacks_memory id (before ++ (during ++ after)) ≡ false → lacks_memory id during ≡ false
+pub plenty_during : (id : ℕ) (before during after : List (Event × Reply)) → lacks_memory id (before ++ (during ++ after)) ≡ false → lacks_memory id during ≡ false
 plenty_during id before during after h =
     let tail = or_neither (lacks_memory id before) (lacks_memory id (during ++ after)) (sym (lacks_then id before (during ++ after)) ∙ h) in
     let parts = or_neither (lacks_memory id during) (lacks_memory id after) (sym (lacks_then id during after) ∙ tail.1) in

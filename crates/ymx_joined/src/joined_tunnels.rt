@@ -3,13 +3,15 @@
 
 ghost use Rattle.std.specs.Prelude.{ℕ, ◌≡◌, ◌++◌, ◌∷◌, List, [], None, Some, false};
 ghost use Rattle.ymx_model.specs.session.Events.{Event};
+ghost use Rattle.ymx_model.specs.session.Sessions.{Session};
 ghost use Rattle.ymx_machine.specs.shared.Events.{Reply};
+ghost use Rattle.ymx_session.specs.Streams.{waiting};
 ghost use Rattle.ymx_engine.specs.Devices.{Seen};
 ghost use Rattle.ymx_engine.specs.Events.{lacks_memory};
 ghost use Rattle.ymx_engine.specs.Lines.{Trades, Change, Lives, sinces};
 ghost use Rattle.ymx_joined.specs.Pairs.{Turn};
 ghost use Rattle.ymx_joined.specs.Carried.{Carries, HadOne, IsPassedOn, TunnelsCarry};
-ghost use Rattle.ymx_joined.specs.Quiet.{AllHasCome};
+ghost use Rattle.ymx_joined.specs.Quiet.{HasCome, AllHasCome, IsAllPassedOn};
 
 /// Two tunnels, a client's and a server's, over two pipes in memory. They make any calls, in any order; their devices and
 /// the pipes answer as they like, and may fail. Then what each stream gave at one end is a beginning of what it took at the
@@ -40,7 +42,17 @@ pub fn one_device_gets_what_the_other_gave()
 /// Nothing sticks between two tunnels. They are a client's and a server's, over two pipes in memory; they made any calls, in
 /// any order, and are quiet now: nothing is due, no byte waits for a wire, in a pipe, or to be fed, and both sessions run.
 /// Then all that a stream took at one end was given at the other, or waits there to be given, if the session there has the
-/// stream; and its end has come there exactly if it was finished.
+/// stream; and its end has come there exactly if it was finished. Both sessions have each stream that both were given and
+/// neither left.
 pub fn quiet_tunnels_have_carried_all()
     ensures { (turns : List Turn) → AllHasCome turns }
+{}
+
+/// Then the device at one end of a stream has taken all that the device at the other end gave, but for the bytes that wait
+/// at its session. One device and no other was joined to the stream at each end, and no write of what was given was refused
+/// for want of memory.
+pub fn quiet_devices_have_all_but_what_waits()
+    ensures { (id : ℕ) (at_giver at_taker : List (Event × Reply)) (giver giver_last taker taker_last : Seen) (reader : Session) →
+        HadOne id at_giver giver giver_last → HadOne id at_taker taker taker_last → HasCome id at_giver at_taker reader → lacks_memory id at_giver ≡ false →
+        IsAllPassedOn giver giver_last taker taker_last (waiting id reader) }
 {}
