@@ -1,4 +1,5 @@
 pub mod Windows
+pub mod Unsent
 pub mod Directions
 pub mod Stages
 pub mod Frames

@@ -1,5 +1,5 @@
 -- The window of one direction of a stream at its reader: what is unread, granted and owed (flow control).
-use Rattle.std.specs.Prelude.{ℕ, ◌≡◌, ◌+◌, ◌≤◌, length, Bool}
+use Rattle.std.specs.Prelude.{ℕ, ◌≡◌, ◌+◌, ◌≤◌, length, Bool, false}
 use Rattle.ymx_machine.specs.shared.Limits.{greatest_number}
 use Rattle.ymx_ring.specs.Ring.{Contents}
 use Rattle.ymx_credit.specs.Debts.{Owing}
@@ -9,14 +9,10 @@ use Rattle.ymx_model.specs.session.Records.{Reader}
 abbrev pub reader_with : Contents → ℕ → Owing → Bool → Reader
 reader_with unread granted debt ended = record { unread = unread.items; granted = granted; owed = debt.owed; ended = ended }
 
--- Each byte of the window is unread, granted or owed, and there is room for all of them. A window is
--- below 2^32.
-pub record FillsWindow (unread : Contents) (granted : ℕ) (debt : Owing) : Type 0 where
-  pub balanced : length unread.items + granted + debt.owed ≡ debt.window
-  pub room : unread.capacity ≡ debt.window
-  pub limit : debt.window ≤ greatest_number
-
--- the same, where unread bytes may have been dropped
-pub record WithinWindow (unread : Contents) (granted : ℕ) (debt : Owing) : Type 0 where
+-- No byte is beyond the window. Until the end has arrived each byte of it is unread, granted or owed, and there is room
+-- for all of them; behind the end unread bytes may have been dropped. A window is below 2^32.
+pub record KeepsWindow (unread : Contents) (granted : ℕ) (debt : Owing) (ended : Bool) : Type 0 where
   pub within : length unread.items + granted + debt.owed ≤ debt.window
+  pub balanced : ended ≡ false → length unread.items + granted + debt.owed ≡ debt.window
+  pub room : ended ≡ false → unread.capacity ≡ debt.window
   pub limit : debt.window ≤ greatest_number

@@ -6,18 +6,16 @@
 
 mod dead;
 mod directions;
-mod done;
-mod ended;
 mod frame;
+mod kind;
 mod receive;
 mod send;
 mod stream;
 
 pub use dead::DeadHalf;
-pub use done::DoneHalf;
-pub use ended::EndedHalf;
-pub use receive::RecvHalf;
-pub use send::SendHalf;
+pub use kind::{Kind, Open, Over};
+pub use receive::{EndedHalf, ReceivingHalf, RecvHalf};
+pub use send::{DoneHalf, SendHalf, SendingHalf};
 pub use stream::{Stage, StreamRec};
 pub use ymx_header::FIRST_CREDIT;
 pub use ymx_model::FrameKind;

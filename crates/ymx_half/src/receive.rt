@@ -1,43 +1,50 @@
-//! A receiving half that is open.
+//! The receiving half of a stream, until its end arrives and behind it.
 
 ghost use Rattle.std.specs.Prelude.{◌≡◌, ◌+◌, ◌<◌, ◌≤◌, ◌++◌, length, take, drop, min, IfOk};
 ghost use Rattle.ymx_machine.specs.shared.Limits.{first_credit, widest_window};
-ghost use Rattle.ymx_model.specs.session.Records.{new_reader, reader_arrive, reader_read, reader_announce, reader_end};
+ghost use Rattle.ymx_model.specs.session.Records.{new_reader, reader_arrive, reader_read, reader_announce, reader_end, reader_empty};
 ghost use Rattle.ymx_half.specs.Passing.{reader_pass};
 
-use crate::{DeadHalf, EndedHalf, FIRST_CREDIT};
+use crate::{DeadHalf, FIRST_CREDIT, Kind, Open, Over};
 use std::alloc::Global;
-use std::marker::Model;
+use std::marker::{Model, PhantomData};
 use ymx_credit::Debt;
 use ymx_memory::RefusedAllocation;
 use ymx_ring::{Ring, Warm};
 
-/// A receiving half whose end has not arrived (flow control).
+/// A receiving half, whose end has arrived or not (flow control). `RecvHalf` and `EndedHalf` are its two kinds.
 ///
 /// A contract sees the bytes that came and were not read, how many bytes the peer may still send, and
-/// how many were read and not yet announced to it. Together these are always the window, so whatever
-/// the peer may send has room.
+/// how many were read and not yet announced to it. Until the end has arrived these are together always the window,
+/// so whatever the peer may send has room.
 #[derive(Drop)]
-pub struct RecvHalf {
+pub struct ReceivingHalf<K: Kind> {
     unread: Ring,
     granted: u32,
     debt: Debt,
+    kind: PhantomData<K>,
 }
 
-impl Model for RecvHalf {
-    ghost use Rattle.std.specs.Prelude.{false};
+/// A receiving half whose end has not arrived.
+pub type RecvHalf = ReceivingHalf<Open>;
+
+/// A receiving half whose end has arrived. What is unread can still be read. Nothing more comes, and so
+/// no credit is returned.
+pub type EndedHalf = ReceivingHalf<Over>;
+
+impl<K: Kind> Model for ReceivingHalf<K> {
     ghost use Rattle.ymx_model.specs.session.Records.{Reader};
 
     ghost Value = { Reader };
 
-    ghost use Rattle.ymx_half.specs.Windows.{reader_with, FillsWindow};
+    ghost use Rattle.ymx_half.specs.Windows.{reader_with, KeepsWindow};
 
-    ghost view = { λ half. reader_with half.unread half.granted half.debt false };
+    ghost view = { λ half. reader_with half.unread half.granted half.debt K.OVER };
 
-    ghost invariant = { λ half. FillsWindow half.unread half.granted half.debt };
+    ghost invariant = { λ half. KeepsWindow half.unread half.granted half.debt K.OVER };
 }
 
-impl RecvHalf {
+impl ReceivingHalf<Open> {
     /// Makes the half of a new stream, with memory for the whole window, in bytes: 262,144 to 16,777,216. The
     /// peer may send 262,144 bytes at first, and what the window has beyond these is owed to it. Without the
     /// memory it answers `RefusedAllocation`.
@@ -49,10 +56,11 @@ impl RecvHalf {
         ensures { IfOk result (λ half. half ≡ new_reader window) }
     {
         let unread = Ring::new_warm(alloc, warm, window as usize)?;
-        Ok(RecvHalf {
+        Ok(ReceivingHalf {
             unread,
             granted: FIRST_CREDIT,
             debt: Debt::starting(window, window - FIRST_CREDIT),
+            kind: PhantomData,
         })
     }
 
@@ -65,8 +73,50 @@ impl RecvHalf {
         self.granted -= bytes.len() as u32;
     }
 
+    /// These bytes come and are read at once, and so they are owed. They are no more than the peer may send. The unread
+    /// bytes stay as they are: none of these is put among them.
+    pub fn pass(&mut self, bytes: &[u8])
+        requires { length bytes.now ≤ self.old.granted }
+        ensures { self.new ≡ reader_pass (length bytes.now) self.old }
+    {
+        let granted = self.granted;
+        let count = bytes.len() as u32;
+        self.granted = granted - count;
+        self.debt.read(count);
+    }
+
+    /// The peer's end has arrived.
+    pub fn end(self) -> EndedHalf
+        ensures { result ≡ reader_end self }
+    {
+        let ReceivingHalf {
+            unread,
+            granted,
+            debt,
+            ..
+        } = self;
+        ReceivingHalf {
+            unread,
+            granted,
+            debt,
+            kind: PhantomData,
+        }
+    }
+}
+
+impl ReceivingHalf<Over> {
+    /// What is unread is dropped: the stream is given up.
+    pub fn empty(&mut self, warm: &mut Warm)
+        ensures { self.new ≡ reader_empty self.old }
+    {
+        self.unread.cool(warm);
+    }
+}
+
+impl<K: Kind> ReceivingHalf<K> {
     /// Moves the first unread bytes into `buffer`, as many as are there and fit, and returns their
-    /// number. They are owed to the peer from then on. The rest of `buffer` stays as it was.
+    /// number. They are owed to the peer from then on. The rest of `buffer` stays as it was. Where nothing is
+    /// unread, and the end has arrived, it is reached.
     pub fn read(&mut self, warm: &mut Warm, buffer: &mut [u8]) -> usize
         ensures count { result ≡ min (length buffer.old) (length self.old.unread) }
         ensures gave { buffer.new ≡ take result self.old.unread ++ drop result buffer.old }
@@ -97,19 +147,8 @@ impl RecvHalf {
         taken
     }
 
-    /// These bytes come and are read at once, and so they are owed. They are no more than the peer may send. The unread
-    /// bytes stay as they are: none of these is put among them.
-    pub fn pass(&mut self, bytes: &[u8])
-        requires { length bytes.now ≤ self.old.granted }
-        ensures { self.new ≡ reader_pass (length bytes.now) self.old }
-    {
-        let granted = self.granted;
-        let count = bytes.len() as u32;
-        self.granted = granted - count;
-        self.debt.read(count);
-    }
-
     /// `n` of the owed bytes (all, if they are fewer) are announced: the peer may send them from now on.
+    /// The frame that opens or accepts the stream says the window even where the peer has ended already.
     ///
     /// Example: a window of 1,048,576 bytes is announced by the frame that opens or accepts the stream,
     /// with `n` 786,432; the peer may then send 1,048,576 bytes.
@@ -121,21 +160,9 @@ impl RecvHalf {
         self.granted += announced;
     }
 
-    /// The peer's end has arrived.
-    pub fn end(self) -> EndedHalf
-        ensures { result ≡ reader_end self }
-    {
-        let RecvHalf {
-            unread,
-            granted,
-            debt,
-        } = self;
-        EndedHalf::new(unread, granted, debt)
-    }
-
     /// The stream is reset: the unread bytes are dropped, and `warm` has their block for the next stream.
     pub fn reset(self, warm: &mut Warm) -> DeadHalf {
-        let RecvHalf { unread, .. } = self;
+        let ReceivingHalf { unread, .. } = self;
         unread.end(warm);
         DeadHalf
     }
@@ -147,7 +174,7 @@ impl RecvHalf {
         self.unread.len()
     }
 
-    /// How many bytes the peer may still send.
+    /// How many bytes the peer may still send, or could have sent before its end.
     pub fn granted(&self) -> u32
         ensures { result ≡ self.now.granted }
     {

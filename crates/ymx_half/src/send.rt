@@ -1,39 +1,48 @@
-//! A sending half that is open.
+//! The sending half of a stream, until it is finished and behind that.
 
-ghost use Rattle.std.specs.Prelude.{◌≡◌, ◌+◌, ◌≤◌, ◌++◌, length, take, drop, min, IsOk, IfOk, OnErr};
+ghost use Rattle.std.specs.Prelude.{◌≡◌, ◌+◌, ◌≤◌, ◌++◌, [], false, length, take, drop, min, IsOk, IfOk, OnErr};
 ghost use Rattle.ymx_machine.specs.shared.Limits.{first_credit, greatest_number};
-ghost use Rattle.ymx_model.specs.session.Records.{new_writer, writer_write, writer_send, writer_grant, writer_finish};
+ghost use Rattle.ymx_model.specs.session.Records.{new_writer, writer_write, writer_send, writer_grant, writer_finish, writer_begin_fin};
 
-use crate::{DeadHalf, DoneHalf, FIRST_CREDIT};
+use crate::{DeadHalf, FIRST_CREDIT, Kind, Open, Over};
 use std::alloc::Global;
-use std::marker::Model;
+use std::marker::{Model, PhantomData};
 use ymx_credit::Credit;
 use ymx_memory::RefusedAllocation;
 use ymx_ring::{Ring, Warm};
 
-/// A sending half to which bytes may still be written (flow control).
+/// A sending half, which was finished or not (flow control). `SendHalf` and `DoneHalf` are its two kinds.
 ///
-/// A contract sees the credit, which is how many bytes may still be written, and the bytes that were
-/// written and belong to no frame yet.
+/// A contract sees the credit, which is how many bytes may still be written, the bytes that were
+/// written and belong to no frame yet, and whether the end went out.
 #[derive(Drop)]
-pub struct SendHalf {
+pub struct SendingHalf<K: Kind> {
     credit: Credit,
     unsent: Ring,
+    fin_sent: bool,
+    kind: PhantomData<K>,
 }
 
-impl Model for SendHalf {
-    ghost use Rattle.std.specs.Prelude.{◌≤◌, false};
-    ghost use Rattle.ymx_machine.specs.shared.Limits.{first_credit};
+/// A sending half to which bytes may still be written.
+pub type SendHalf = SendingHalf<Open>;
+
+/// A sending half that was finished: its unsent bytes still go out, and then its end. Nothing is
+/// written to it.
+pub type DoneHalf = SendingHalf<Over>;
+
+impl<K: Kind> Model for SendingHalf<K> {
     ghost use Rattle.ymx_model.specs.session.Records.{Writer};
 
     ghost Value = { Writer };
 
-    ghost view = { λ half. record { credit = half.credit; unsent = half.unsent.items; finished = false; fin_sent = false } };
+    ghost use Rattle.ymx_half.specs.Unsent.{writer_with, KeepsUnsent};
 
-    ghost invariant = { λ half. first_credit ≤ half.unsent.capacity };
+    ghost view = { λ half. writer_with half.credit half.unsent K.OVER half.fin_sent };
+
+    ghost invariant = { λ half. KeepsUnsent half.unsent K.OVER half.fin_sent };
 }
 
-impl SendHalf {
+impl SendingHalf<Open> {
     ghost use Rattle.ymx_half.specs.Through.{writer_spend};
 
     /// Makes the half of a new stream: 262,144 bytes may be written, and there is memory for so many
@@ -42,9 +51,11 @@ impl SendHalf {
         ensures { IfOk result (λ half. half ≡ new_writer) }
     {
         let unsent = Ring::new_warm(alloc, warm, FIRST_CREDIT as usize)?;
-        Ok(SendHalf {
+        Ok(SendingHalf {
             credit: Credit::new(FIRST_CREDIT),
             unsent,
+            fin_sent: false,
+            kind: PhantomData,
         })
     }
 
@@ -82,8 +93,47 @@ impl SendHalf {
         self.credit.spend(count);
     }
 
+    /// Nothing more is written (half-close): the unsent bytes go out, and then the end.
+    pub fn finish(self) -> DoneHalf
+        ensures { result ≡ writer_finish self }
+    {
+        let SendingHalf {
+            credit,
+            unsent,
+            fin_sent,
+            ..
+        } = self;
+        SendingHalf {
+            credit,
+            unsent,
+            fin_sent,
+            kind: PhantomData,
+        }
+    }
+}
+
+impl SendingHalf<Over> {
+    /// The frame with FIN begins (half-close): once, and behind the last byte.
+    pub fn begin_fin(&mut self)
+        requires all_sent { self.old.unsent ≡ [] }
+        requires once { self.old.fin_sent ≡ false }
+        ensures { self.new ≡ writer_begin_fin self.old }
+    {
+        self.fin_sent = true;
+    }
+
+    /// Whether the frame with FIN has begun.
+    pub fn is_fin_sent(&self) -> bool
+        ensures { result ≡ self.now.fin_sent }
+    {
+        self.fin_sent
+    }
+}
+
+impl<K: Kind> SendingHalf<K> {
     /// The peer lets `delta` bytes more be written (Window Update). The credit is then at most
-    /// 4,294,967,295: above that the session broke (B6).
+    /// 4,294,967,295: above that the session broke (B6). A half that was
+    /// finished is granted too, though nothing is written to it.
     pub fn grant(&mut self, delta: u32)
         requires { self.old.credit + delta ≤ greatest_number }
         ensures { self.new ≡ writer_grant delta self.old }
@@ -101,17 +151,10 @@ impl SendHalf {
         self.unsent.take_warm(warm, buffer)
     }
 
-    /// Nothing more is written (half-close): the unsent bytes go out, and then the end.
-    pub fn finish(self) -> DoneHalf
-        ensures { result ≡ writer_finish self }
-    {
-        let SendHalf { credit, unsent } = self;
-        DoneHalf::new(credit, unsent)
-    }
-
-    /// The stream is reset: the unsent bytes are dropped, and `warm` has their block for the next stream.
+    /// The stream is reset: the unsent bytes and the end are dropped, and `warm` has their block for the next
+    /// stream.
     pub fn reset(self, warm: &mut Warm) -> DeadHalf {
-        let SendHalf { unsent, .. } = self;
+        let SendingHalf { unsent, .. } = self;
         unsent.end(warm);
         DeadHalf
     }
