@@ -3,9 +3,8 @@
 
 ghost use Rattle.std.specs.Prelude.{◌≡◌, ◌+◌, ◌≤◌, ◌++◌, length, take, drop, min, true, false, Some, IsSome, IfSome, IsOk, IfOk, OnErr};
 ghost use Rattle.std.specs.Option.{ForSome};
-ghost use Rattle.std.specs.Fn.{FnOnceTakesAtMut, FnOnceReturnsAtMut};
 ghost use Rattle.ymx_machine.specs.shared.Limits.{first_credit, greatest_number};
-ghost use Rattle.ymx_table.specs.Changes.{ChangesRecord};
+ghost use Rattle.ymx_table.specs.Changes.{ChangesRecord, TakesLent, ReturnsLent};
 ghost use Rattle.ymx_machine.specs.shared.Phases.{takes, is_offered, is_lingering};
 ghost use Rattle.ymx_model.specs.session.Records.{takes_payload, end_write, end_read, end_finish, end_accept, end_reset, end_forget, receive_piece, receive_head, receive_rst};
 ghost use Rattle.ymx_machine.specs.shared.Lists.{look};
@@ -19,6 +18,7 @@ use crate::Table;
 use crate::unsent::retotal;
 use ymx_half::{Stage, StreamRec};
 use ymx_memory::RefusedAllocation;
+use ymx_ring::Warm;
 
 impl Table {
     // ---- calls
@@ -110,7 +110,7 @@ impl Table {
         requires up { ForSome (look id self.old.entries) (λ e. takes e.phase ≡ true) }
         ensures { self.new ≡ with_record id end_finish self.old }
     {
-        self.change(id, |stream| stream.finish());
+        self.change(id, |stream, _| stream.finish());
     }
 
     /// An offered stream is accepted. Its ACK is due, unless the session is lost.
@@ -119,7 +119,7 @@ impl Table {
         requires offered { ForSome (look id self.old.entries) (λ e. is_offered e.phase ≡ true) }
         ensures { self.new ≡ with_record id (end_accept lost) self.old }
     {
-        self.change(id, |stream| stream.accept(lost));
+        self.change(id, |stream, _| stream.accept(lost));
     }
 
     /// Resets a stream that was neither reset nor given up before (flags). Its unread bytes, and its unsent bytes of no
@@ -132,14 +132,7 @@ impl Table {
         requires over { takes (phase_of stage) ≡ false }
         ensures { self.new ≡ with_record id (end_reset (phase_of stage)) self.old }
     {
-        let place = self.place_of(id);
-        self.last = place;
-        let stream = &mut self.records[place];
-        let before = stream.unsent_len();
-        stream.reset(&mut self.warm, stage);
-        self.unsent = retotal(self.unsent, before, stream.unsent_len());
-        let is_due = stream.is_due(self.window);
-        self.due.set(place, is_due);
+        self.change(id, |stream, warm| stream.reset(warm, stage));
     }
 
     /// The stream is given up, and lingers until what it still has to send went out. In a lost session that
@@ -149,14 +142,7 @@ impl Table {
         requires held { ForSome (look id self.old.entries) (λ e. is_lingering e.phase ≡ false) }
         ensures { self.new ≡ with_record id (end_forget lost) self.old }
     {
-        let place = self.place_of(id);
-        self.last = place;
-        let stream = &mut self.records[place];
-        let before = stream.unsent_len();
-        stream.forget(&mut self.warm, lost);
-        self.unsent = retotal(self.unsent, before, stream.unsent_len());
-        let is_due = stream.is_due(self.window);
-        self.due.set(place, is_due);
+        self.change(id, |stream, warm| stream.forget(warm, lost));
     }
 
     // ---- frames that come
@@ -184,7 +170,7 @@ impl Table {
         requires { IfSome (look id self.old.entries) (MayPass bytes.now) }
         ensures { self.new ≡ with_record id (passed fin bytes.now) self.old }
     {
-        self.change(id, |stream| stream.pass(fin, bytes));
+        self.change(id, |stream, _| stream.pass(fin, bytes));
     }
 
     /// The head of a frame without RST comes (flags, flow control): the peer acknowledges the stream if
@@ -195,7 +181,10 @@ impl Table {
         requires { IfSome (look id self.old.entries) (λ e. takes e.phase ≡ true → e.writer.credit + delta ≤ greatest_number) }
         ensures { self.new ≡ with_record id (receive_head acknowledges delta ends) self.old }
     {
-        self.change(id, |stream| stream.receive_head(acknowledges, delta, ends));
+        self.change(
+            id,
+            |stream, _| stream.receive_head(acknowledges, delta, ends),
+        );
     }
 
     /// The peer has reset the stream, which is not one that is only offered: the record of such a one is
@@ -205,26 +194,24 @@ impl Table {
         requires not_offered { ForSome (look id self.old.entries) (λ e. is_offered e.phase ≡ false) }
         ensures { self.new ≡ with_record id receive_rst self.old }
     {
-        let place = self.place_of(id);
-        self.last = place;
-        let stream = &mut self.records[place];
-        let before = stream.unsent_len();
-        stream.receive_rst(&mut self.warm);
-        self.unsent = retotal(self.unsent, before, stream.unsent_len());
-        let is_due = stream.is_due(self.window);
-        self.due.set(place, is_due);
+        self.change(id, |stream, warm| stream.receive_rst(warm));
     }
 
-    /// Changes the record under this id, and its flag with it. `None` if there is none.
-    fn change<R, F: FnOnce(&mut StreamRec) -> R>(&mut self, id: u32, change: F) -> Option<R>
-        requires { IfSome (look id self.old.entries) (λ e. FnOnceTakesAtMut F.FnOnce change e) }
-        ensures { ChangesRecord (FnOnceReturnsAtMut F.FnOnce change) id self.old result self.new }
+    /// Changes the record under this id, and its flag with it. The closure is lent the blocks of the table too. `None` if
+    /// there is no record.
+    fn change<R, F: FnOnce(&mut StreamRec, &mut Warm) -> R>(
+        &mut self,
+        id: u32,
+        change: F,
+    ) -> Option<R>
+        requires { IfSome (look id self.old.entries) (λ e. TakesLent F.FnOnce change e) }
+        ensures { ChangesRecord (ReturnsLent F.FnOnce change) id self.old result self.new }
     {
         let place = self.find(id)?;
         self.last = place;
         let stream = &mut self.records[place];
         let before = stream.unsent_len();
-        let answer = change(stream);
+        let answer = change(stream, &mut self.warm);
         self.unsent = retotal(self.unsent, before, stream.unsent_len());
         let is_due = stream.is_due(self.window);
         self.due.set(place, is_due);

@@ -1,6 +1,6 @@
 -- One record changes as the closure changes it, and its flag with it.
 use Rattle.std.proofs.Common.{arith, refl, rules}
-use Rattle.std.specs.Fn.{FnOnceReturnsAtMut}
+use Rattle.ymx_table.specs.Changes.{ReturnsLent}
 use Rattle.ymx_table.proofs.Writes.{written, found-before, kept-written, counted-written, unsent-part, unsent-few}
 use Rattle.ymx_table.proofs.Table.change.Goals as goal
 
@@ -18,7 +18,7 @@ retotal-self-inside-requires-clause-few g c = unsent-few c.self.invariant
 pub returns : goal.returns
 returns g c =
     let after = c.change-answer.new.arg2 in
-    let ran : FnOnceReturnsAtMut g.F.FnOnce c.args.change c.index_mut-stream.result.now c.change-answer.result after = search rules in (
+    let ran : ReturnsLent g.F.FnOnce c.args.change c.index_mut-stream.result.now c.change-answer.result after = search rules in (
       c.index_mut-stream.result.now,
       found-before c.self.view_is c.in_ok-place.ensures c.index_mut-stream.ensures.value,
       (after, ran, written c.self.view_is c.in_ok-place.ensures c.index_mut-stream.ensures.value (λ _. after) _ refl),

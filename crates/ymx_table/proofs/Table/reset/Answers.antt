@@ -1,23 +1,9 @@
--- One record changes, and its flag with it.
-use Rattle.std.proofs.Common.{arith}
+-- One record changes.
+use Rattle.std.proofs.Common.{rules}
 use Rattle.ymx_model.specs.session.Records.{end_reset}
 use Rattle.ymx_half.specs.Stages.{phase_of}
-use Rattle.ymx_table.proofs.Writes.{written, kept-written, flags_within, counted-written, unsent-part, unsent-few}
+use Rattle.ymx_table.proofs.Writes.{changed}
 use Rattle.ymx_table.proofs.Table.reset.Goals as goal
 
-pub set-requires : goal.set-requires
-set-requires c = flags_within c.self.view_is c.self.invariant c.place_of-place.ensures
-
-pub invariant_of-self : goal.invariant_of-self
-invariant_of-self c =
-    kept-written c.self.view_is c.place_of-place.ensures c.index_mut-stream.ensures.value _ c.self.invariant c.is_due-is_due.ensures c.set.ensures
-    (counted-written c.self.view_is c.place_of-place.ensures c.index_mut-stream.ensures.value _ c.self.invariant (omega arith) (omega arith))
-
-pub retotal-self-inside-requires-clause-part : goal.retotal-self-inside-requires-clause-part
-retotal-self-inside-requires-clause-part c = let p = unsent-part c.self.view_is c.place_of-place.ensures c.index_mut-stream.ensures.value c.self.invariant in omega arith
-
-pub retotal-self-inside-requires-clause-few : goal.retotal-self-inside-requires-clause-few
-retotal-self-inside-requires-clause-few c = unsent-few c.self.invariant
-
 pub returns : goal.returns
-returns c = written c.self.view_is c.place_of-place.ensures c.index_mut-stream.ensures.value (end_reset (phase_of c.args.stage)) _ c.reset.ensures
+returns c = changed _ c.args.id (end_reset (phase_of c.args.stage)) _ _ _ c.change.ensures (λ e after answer ran. search rules)
