@@ -9,4 +9,5 @@ mod lines;
 mod print;
 mod printer;
 
+pub use lines::append_number;
 pub use print::{FramesEnd, frames, one_printing};

@@ -83,7 +83,7 @@ fn write_digits(text: &mut Vec<u8>, shown: &[u8]) -> Result<(), RefusedAllocatio
 }
 
 /// Appends a name and a number in decimal digits.
-fn write_number<N: Integer>(
+pub fn append_number<N: Integer>(
     text: &mut Vec<u8>,
     name: &[u8],
     number: N,
@@ -133,8 +133,8 @@ fn write_fields(text: &mut Vec<u8>, header: &Header) -> Result<(), RefusedAlloca
     ensures kept { StartsWith text.new.items text.old.items }
 {
     write_kind(text, header)?;
-    write_number(text, b" id=", header.id)?;
-    write_number(text, b" len=", header.length)
+    append_number(text, b" id=", header.id)?;
+    append_number(text, b" len=", header.length)
 }
 
 /// Appends the line of a frame. Where there is no memory for it nothing is appended.
@@ -207,8 +207,8 @@ fn append_fault(text: &mut Vec<u8>, fault: Fault, offset: u64) -> Result<(), Ref
     ensures ok { OnOk result (text.new.items ≡ text.old.items ++ fault_line fault offset) }
     ensures kept { StartsWith text.new.items text.old.items }
 {
-    write_number(text, b"fault B", fault.number())?;
-    write_number(text, b" at ", offset)?;
+    append_number(text, b"fault B", fault.number())?;
+    append_number(text, b" at ", offset)?;
     extend(text, b"\n")
 }
 
@@ -217,6 +217,6 @@ fn append_rest(text: &mut Vec<u8>, count: usize) -> Result<(), RefusedAllocation
     ensures ok { OnOk result (text.new.items ≡ text.old.items ++ rest_line count) }
     ensures kept { StartsWith text.new.items text.old.items }
 {
-    write_number(text, b"rest ", count)?;
+    append_number(text, b"rest ", count)?;
     extend(text, b"\n")
 }

@@ -66,31 +66,11 @@ pub fn frames<R: Inlet, W: Outlet>(
     ensures reader_kept { (result ≡ FramesEnd.Reading) ⊎ (R.failures reader.new ≡ R.failures reader.old) }
     ensures writer_kept { (result ≡ FramesEnd.Writing) ⊎ (W.failures writer.new ≡ W.failures writer.old) }
 {
-    match zeros(alloc, INPUT) {
-        Ok(mut input) => print_all(rt, alloc, reader, writer, limit, input.as_mut_slice()),
-        Err(refused) => FramesEnd::Memory(refused),
-    }
-}
-
-/// The same, with the buffer that is read into.
-fn print_all<R: Inlet, W: Outlet>(
-    rt: &impl Wait,
-    alloc: Global,
-    reader: &mut R,
-    writer: &mut W,
-    limit: u32,
-    input: &mut [u8],
-) -> FramesEnd
-    requires { 0 < length input.old }
-    ensures printed { (text : List ℕ) × (output : List ℕ)
-        × Consumes (R.remaining reader.old) (R.remaining reader.new) text
-        × Appends (W.contents writer.old) (W.contents writer.new) output
-        × Prints limit text (IsAtEnd (R.remaining reader.new)) result output }
-    ensures reading { result ≡ FramesEnd.Reading → IsTrue (has_failed (R.failures reader.old) (R.failures reader.new)) }
-    ensures writing { result ≡ FramesEnd.Writing → IsTrue (has_failed (W.failures writer.old) (W.failures writer.new)) }
-    ensures reader_kept { (result ≡ FramesEnd.Reading) ⊎ (R.failures reader.new ≡ R.failures reader.old) }
-    ensures writer_kept { (result ≡ FramesEnd.Writing) ⊎ (W.failures writer.new ≡ W.failures writer.old) }
-{
+    let mut room = match zeros(alloc, INPUT) {
+        Ok(room) => room,
+        Err(refused) => return FramesEnd::Memory(refused),
+    };
+    let input = room.as_mut_slice();
     let mut printer = match Printer::new(alloc, limit, LINES) {
         Ok(printer) => printer,
         Err(refused) => return FramesEnd::Memory(refused),

@@ -12,9 +12,10 @@ ghost use Rattle.ymx_script.specs.Players.{place_of, asks_world};
 ghost use Rattle.ymx_script.specs.Scripts.{EndsLine, IsPlayed, Says, SaysAt, SaysIn, has_feed, is_bad_setting, is_mistake, longest, first_place, unless_late, with_config, world_or_new};
 
 use crate::command::{Command, command_of};
-use crate::printing::{append_answer, append_number, append_pipe, append_yes_or_no};
+use crate::printing::{append_answer, append_pipe, append_yes_or_no};
 use crate::settings::Settings;
 use std::alloc::Global;
+use ymx_frames::append_number;
 use ymx_memory::{RefusedAllocation, extend};
 use ymx_model::{Answer, Config, Side, Step};
 use ymx_world::World;

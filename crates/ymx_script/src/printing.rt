@@ -4,27 +4,13 @@ ghost use Rattle.std.specs.Prelude.{◌≡◌, ◌++◌, take, OnOk, codes};
 ghost use Rattle.std.specs.Io.{StartsWith};
 ghost use Rattle.ymx_script.specs.Printing.{accepted_text, answer_text, digits_text, fed_text, pipe_digits, pipe_text, read_text, refusal_text, stop_text, wrote_text, yes_or_no};
 
-use itoa::{Buffer, Integer};
 use std::alloc::Global;
+use ymx_frames::append_number;
 use ymx_memory::{RefusedAllocation, extend, zeros_for};
 use ymx_model::{Answer, CallFault, Fed, Why, Wrote};
 
 /// How many bytes of a pipe are shown.
 const SHOWN: usize = 32;
-
-/// Appends a name and a number in decimal digits.
-pub(crate) fn append_number<N: Integer>(
-    text: &mut Vec<u8>,
-    name: &[u8],
-    number: N,
-) -> Result<(), RefusedAllocation>
-    ensures ok { OnOk result (text.new.items ≡ text.old.items ++ (name.now ++ N.text number)) }
-    ensures kept { StartsWith text.new.items text.old.items }
-{
-    let mut buffer = Buffer::new();
-    extend(text, name)?;
-    extend(text, buffer.format(number).as_bytes())
-}
 
 /// Appends an answer, in words; `shown`: with the bytes that were read.
 pub(crate) fn append_answer(
