@@ -13,6 +13,7 @@ pub mod Turns
 pub mod Driving
 pub mod Tracing
 pub mod Tunneling
+pub mod Ways
 pub mod Arriving
 pub mod Keeping
 pub mod Holding

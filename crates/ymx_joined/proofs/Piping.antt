@@ -82,7 +82,7 @@ length_front n xs h = length-take-le n xs h
 drop_twice : (xs ys zs : List ℕ) → drop (length ys) (drop (length xs) zs) ≡ drop (length (xs ++ ys)) zs
 drop_twice xs ys zs = drop-drop (length ys) (length xs) zs ∙ ap (λ (n : ℕ). drop n zs) (sym (length-append xs ys))
 
-pub drop_front : (xs ys : List ℕ) → drop (length xs) (xs ++ ys) ≡ ys
+drop_front : (xs ys : List ℕ) → drop (length xs) (xs ++ ys) ≡ ys
 drop_front [] ys = refl
 drop_front (x ∷ xs) ys = drop_front xs ys
 

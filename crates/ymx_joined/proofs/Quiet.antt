@@ -12,21 +12,23 @@ use Rattle.ymx_headline.proofs.audit.Events.{world}
 use Rattle.ymx_headline.proofs.audit.Over.{IsOver}
 use Rattle.ymx_headline.proofs.machine.faces.Pasts.{Past}
 use Rattle.ymx_engine.specs.Devices.{Seen}
+use Rattle.ymx_engine.specs.Engines.{Engine}
 use Rattle.ymx_engine.specs.Events.{taken, given, lacks_memory}
 use Rattle.ymx_engine.specs.Lines.{all_of, loses}
 use Rattle.ymx_joined.specs.Tunnels.{entries}
 use Rattle.ymx_joined.specs.Pairs.{Pair, Turn, events_at_a, events_at_b}
 use Rattle.ymx_joined.specs.Carried.{tunnels_of, HadOne}
-use Rattle.ymx_joined.specs.Quiet.{AreQuiet, is_finished, HasCome, was_given, was_left, AllHasCome, IsAllPassedOn}
-use Rattle.ymx_joined.proofs.Arriving.{HasCome as Came, comes}
+use Rattle.ymx_joined.specs.Quiet.{IsQuietWay, AreQuiet, is_finished, HasCome, was_given, was_left, AllHasCome, IsAllPassedOn}
+use Rattle.ymx_joined.proofs.Arriving.{Came, comes}
 use Rattle.ymx_joined.proofs.Driving.{nothing_lost}
 use Rattle.ymx_joined.proofs.Holding.{all_done_a, all_done_b, given_of_a, given_of_b, left_of_a, left_of_b, all_given_a, all_given_b, all_left_a, all_left_b}
 use Rattle.ymx_joined.proofs.Keeping.{both_have}
 use Rattle.ymx_joined.proofs.Piping.{open_pipe, Holds, Joint, joint_new}
 use Rattle.ymx_joined.proofs.Tracing.{gathers_a, gathers_b, writes_of_a, writes_of_b, written_a, written_b, reads_of_a, reads_of_b, read_a, read_b, finishes_of_a, finishes_of_b}
 use Rattle.ymx_joined.proofs.Tunneling.{turns_of, plain_a, plain_b, no_cause, taken_during, given_during, plenty_during}
+use Rattle.ymx_joined.proofs.Ways.{IsStillWay}
 
--- ---- the world of two quiet engines
+-- ---- the world of two engines, where a way is quiet
 
 nothing_held : (xs ys zs : List ℕ) → xs ≡ [] → ys ≡ [] → zs ≡ [] → xs ++ (ys ++ zs) ≡ []
 nothing_held xs ys zs e f g = rw (e, f, g) refl
@@ -34,15 +36,25 @@ nothing_held xs ys zs e f g = rw (e, f, g) refl
 not_over : (s : Session) → is_running s.status ≡ true → IsOver s → ⊥
 not_over s e f = let no : true ≡ false = sym e ∙ f in absurd cc
 
-quiet_pipe : (p : Pipe) (s : Session) (bytes : List ℕ) → bytes ≡ [] → is_running s.status ≡ true → (p.ended ≡ true → IsOver s) → Holds p bytes → is_quiet_pipe p ≡ true
-quiet_pipe p s bytes e r over (inl ended) = absurd (not_over s r (over ended))
-quiet_pipe p s bytes e r over (inr same) = ap is_quiet_pipe (same ∙ ap open_pipe e)
+quiet_pipe : (p : Pipe) (from to : Engine) (pipe : List ℕ) → IsQuietWay from to pipe → (p.ended ≡ true → IsOver to.session) → Holds p (to.incoming ++ (pipe ++ from.outgoing)) → p ≡ open_pipe []
+quiet_pipe p from to pipe q over (inl ended) = absurd (not_over to.session q.to_runs (over ended))
+quiet_pipe p from to pipe q over (inr same) = same ∙ ap open_pipe (nothing_held to.incoming pipe from.outgoing q.fed q.empty q.flushed.0)
+
+-- the pipe from the one to the other in a world of these sessions
+still_way : (p other : Pipe) (from to : Engine) (pipe : List ℕ) → IsQuietWay from to pipe → p ≡ open_pipe [] → IsStillWay (world from.session to.session p other)
+still_way p other from to pipe q e = record {
+  runs_from = q.from_runs;
+  runs_to = q.to_runs;
+  ready = q.flushed.1;
+  bytes = ap (λ (z : Pipe). z.bytes) e;
+  on = ap (λ (z : Pipe). z.stopped) e;
+}
 
 all_quiet : (a b c d e f : Bool) → a ≡ false → b ≡ false → c ≡ true → d ≡ true → e ≡ true → f ≡ true → (not a && not b && c && d && e && f) ≡ true
 all_quiet a b c d e f p q r s t u = rw (p, q, r, s, t, u) refl
 
-quiet_world : (q : Pair) (ab ba : Pipe) → AreQuiet q → is_quiet_pipe ab ≡ true → is_quiet_pipe ba ≡ true → is_quiet (world q.a.session q.b.session ab ba) ≡ true
-quiet_world q ab ba h e f = all_quiet _ _ _ _ _ _ h.flushed_a.1 h.flushed_b.1 h.runs_a h.runs_b e f
+quiet_world : (q : Pair) (ab ba : Pipe) → AreQuiet q → ab ≡ open_pipe [] → ba ≡ open_pipe [] → is_quiet (world q.a.session q.b.session ab ba) ≡ true
+quiet_world q ab ba h e f = all_quiet _ _ _ _ _ _ h.0.flushed.1 h.1.flushed.1 h.0.from_runs h.0.to_runs (ap is_quiet_pipe e) (ap is_quiet_pipe f)
 
 -- what was kept, of a run
 kept : (given left given_then left_then : Bool) → (given ≡ true → given_then ≡ true) → left_then ≡ left → (given && not left) ≡ true → (given_then && not left_then) ≡ true
@@ -61,32 +73,33 @@ has_come id past from to reader w g f c = record {
 }
 
 pub all_has_come : (ts : List Turn) → AllHasCome ts
-all_has_come ts = λ wa fa wb fb q good r quiet id.
+all_has_come ts = λ wa fa wb fb q good r id.
     let s = new_session Client wa fa in
     let t = new_session Server wb fb in
+    let a = q.pair.a in
+    let b = q.pair.b in
     let es = events_at_a ts in
     let fs = events_at_b ts in
     let j : Joint s t new_pipe new_pipe (entries es) (entries fs) q.pair = joint_new ts s t q.pair (turns_of ts (tunnels_of s t) q r) in
     let plain_es = plain_a ts (tunnels_of s t) q r in
     let plain_fs = plain_b ts (tunnels_of s t) q r in
-    let pipe_ab = quiet_pipe j.last_ab q.pair.b.session _ (nothing_held _ _ _ quiet.fed_b quiet.ab quiet.flushed_a.0) quiet.runs_b j.over_b j.holds_ab in
-    let pipe_ba = quiet_pipe j.last_ba q.pair.a.session _ (nothing_held _ _ _ quiet.fed_a quiet.ba quiet.flushed_b.0) quiet.runs_a j.over_a j.holds_ba in
     let answers = told j.turns (entries es) (entries fs) in
-    let last : World = world q.pair.a.session q.pair.b.session j.last_ab j.last_ba in
-    let still : is_quiet last ≡ true = quiet_world q.pair j.last_ab j.last_ba quiet pipe_ab pipe_ba in
-    let come = comes in_turn j.steps answers wa fa wb fb last good j.runs still id in
+    let last : World = world a.session b.session j.last_ab j.last_ba in
+    let pipe_ab : IsQuietWay a b q.pair.ab → j.last_ab ≡ open_pipe [] = λ way. quiet_pipe j.last_ab a b q.pair.ab way j.over_b j.holds_ab in
+    let pipe_ba : IsQuietWay b a q.pair.ba → j.last_ba ≡ open_pipe [] = λ way. quiet_pipe j.last_ba b a q.pair.ba way j.over_a j.holds_ba in
+    let come = comes in_turn j.steps answers wa fa wb fb last good j.runs id in
     record {
-      to_b = λ has. has_come id _ es fs q.pair.b.session
+      to_b = λ way has. has_come id _ es fs b.session
           (gathers_a (writes_of_a id) j.turns new_pipe new_pipe false false 0 0 es fs j.steps j.joint refl refl plain_es ∙ written_a id es)
           (gathers_b (reads_of_b id) j.turns new_pipe new_pipe false false 0 0 es fs j.steps j.joint refl refl plain_fs ∙ read_b id fs)
           (gathers_a (finishes_of_a id) j.turns new_pipe new_pipe false false 0 0 es fs j.steps j.joint refl refl plain_es ∙ all_done_a id es)
-          (come.to_b has);
-      to_a = λ has. has_come id _ fs es q.pair.a.session
+          (come.to_b (still_way j.last_ab j.last_ba a b q.pair.ab way (pipe_ab way)) has);
+      to_a = λ way has. has_come id _ fs es a.session
           (gathers_b (writes_of_b id) j.turns new_pipe new_pipe false false 0 0 es fs j.steps j.joint refl refl plain_fs ∙ written_b id fs)
           (gathers_a (reads_of_a id) j.turns new_pipe new_pipe false false 0 0 es fs j.steps j.joint refl refl plain_es ∙ read_a id es)
           (gathers_b (finishes_of_b id) j.turns new_pipe new_pipe false false 0 0 es fs j.steps j.joint refl refl plain_fs ∙ all_done_b id fs)
-          (come.to_a has);
-      both = λ kept_a kept_b. both_have in_turn j.steps answers wa fa wb fb last good j.runs still id
+          (come.to_a (still_way j.last_ba j.last_ab b a q.pair.ba way (pipe_ba way)) has);
+      both = λ quiet kept_a kept_b. both_have in_turn j.steps answers wa fa wb fb last good j.runs (quiet_world q.pair j.last_ab j.last_ba quiet (pipe_ab quiet.0) (pipe_ba quiet.1)) id
           (kept (was_given id es) (was_left id es) _ _ (λ h. gathers_a (given_of_a id) j.turns new_pipe new_pipe false false 0 0 es fs j.steps j.joint refl refl plain_es ∙ all_given_a id es h)
           (gathers_a (left_of_a id) j.turns new_pipe new_pipe false false 0 0 es fs j.steps j.joint refl refl plain_es ∙ all_left_a id es) kept_a)
           (kept (was_given id fs) (was_left id fs) _ _ (λ h. gathers_b (given_of_b id) j.turns new_pipe new_pipe false false 0 0 es fs j.steps j.joint refl refl plain_fs ∙ all_given_b id fs h)

@@ -4,31 +4,36 @@ use Rattle.std.specs.Io.KnownBytes.{Appends, Consumes}
 use Rattle.ymx_machine.specs.declared.types.Call.TheVariants as call
 use Rattle.ymx_machine.specs.declared.types.Reply.TheVariants as reply
 use Rattle.ymx_machine.specs.shared.Events.{Reply}
+use Rattle.ymx_machine.specs.shared.Steps.{answer_of}
 use Rattle.ymx_model.specs.declared.types.Event.TheVariants as event
 use Rattle.ymx_model.specs.declared.types.Role.TheVariants.{Client, Server}
 use Rattle.ymx_model.specs.session.Events.{Event}
 use Rattle.ymx_model.specs.session.Sessions.{Session, new_session, is_running}
+use Rattle.ymx_model.specs.session.Emissions.{in_turn}
+use Rattle.ymx_model.specs.session.Histories.{Gives}
 use Rattle.ymx_session.specs.Replies.{stream_fault}
 use Rattle.ymx_session.specs.Streams.{waiting, has_ended}
 use Rattle.ymx_headline.specs.Laws.{AreGood}
+use Rattle.ymx_headline.specs.machine.Arrivals.{read_of}
 use Rattle.ymx_engine.specs.Devices.{Seen}
-use Rattle.ymx_engine.specs.Engines.{IsFlushed}
+use Rattle.ymx_engine.specs.Engines.{Engine, IsFlushed}
 use Rattle.ymx_engine.specs.Events.{taken, given}
 use Rattle.ymx_engine.specs.Lines.{opens_at}
 use Rattle.ymx_joined.specs.Pairs.{Pair, Turn, events_at_a, events_at_b}
 use Rattle.ymx_joined.specs.Carried.{TunnelPair, tunnels_of, BothWork}
 
--- Nothing is under way between two engines: nothing is due, no byte waits for a wire, in a pipe, or to be fed, and both
--- sessions run.
-pub record AreQuiet (p : Pair) : Type 0 where
-  pub flushed_a : IsFlushed p.a
-  pub flushed_b : IsFlushed p.b
-  pub ab : p.ab ≡ []
-  pub ba : p.ba ≡ []
-  pub fed_a : p.a.incoming ≡ []
-  pub fed_b : p.b.incoming ≡ []
-  pub runs_a : is_running p.a.session.status ≡ true
-  pub runs_b : is_running p.b.session.status ≡ true
+-- Nothing is under way from one engine to another over this pipe: nothing of the one is due, no byte waits for its wire, in
+-- the pipe, or to be fed to the other, and both sessions run.
+pub record IsQuietWay (from to : Engine) (pipe : List ℕ) : Type 0 where
+  pub flushed : IsFlushed from
+  pub empty : pipe ≡ []
+  pub fed : to.incoming ≡ []
+  pub from_runs : is_running from.session.status ≡ true
+  pub to_runs : is_running to.session.status ≡ true
+
+-- both ways
+abbrev pub AreQuiet : Pair → Type 0
+AreQuiet p = IsQuietWay p.a p.b p.ab × IsQuietWay p.b p.a p.ba
 
 -- the stream was finished, and this was not refused
 abbrev pub finish_done_at : ℕ → Event → Reply → Bool
@@ -44,6 +49,11 @@ is_finished id (e ∷ es) = finish_done_at id e.0 e.1 || is_finished id es
 pub record HasCome (id : ℕ) (from to : List (Event × Reply)) (reader : Session) : Type 0 where
   pub bytes : taken id from ≡ given id to ++ waiting id reader
   pub end : has_ended id reader ≡ is_finished id from
+
+-- What the next read of the stream answers: the first of what waits; where nothing waits, the end if it has come, and else
+-- that there is nothing yet.
+abbrev pub NextRead : ℕ → Session → Type 0
+NextRead id s = (room : ℕ) (told : Reply) (t : Session) → Gives in_turn s (event.Call (call.Read id room)) told t → answer_of told ≡ read_of room (waiting id s) (has_ended id s)
 
 -- ---- who has the stream
 
@@ -68,20 +78,20 @@ was_kept id es = was_given id es && not (was_left id es)
 
 -- ---- two tunnels
 
--- A stream of two quiet sessions: where one has it, all has come that it took at the other end. Both have it if both were
--- given it, and neither left it.
-pub record HasArrived (id : ℕ) (at_a at_b : List (Event × Reply)) (a b : Session) : Type 0 where
-  pub to_b : stream_fault id b ≡ None → HasCome id at_a at_b b
-  pub to_a : stream_fault id a ≡ None → HasCome id at_b at_a a
-  pub both : was_kept id at_a ≡ true → was_kept id at_b ≡ true → (stream_fault id a ≡ None) × (stream_fault id b ≡ None)
+-- A stream of two sessions. Where the way to one of them is quiet, and it has the stream, all has come that the stream took
+-- at the other end. Where both ways are, both have it if both were given it, and neither left it.
+pub record HasArrived (id : ℕ) (at_a at_b : List (Event × Reply)) (p : Pair) : Type 0 where
+  pub to_b : IsQuietWay p.a p.b p.ab → stream_fault id p.b.session ≡ None → HasCome id at_a at_b p.b.session
+  pub to_a : IsQuietWay p.b p.a p.ba → stream_fault id p.a.session ≡ None → HasCome id at_b at_a p.a.session
+  pub both : AreQuiet p → was_kept id at_a ≡ true → was_kept id at_b ≡ true → (stream_fault id p.a.session ≡ None) × (stream_fault id p.b.session ≡ None)
 
--- Two tunnels of new sessions, a client's and a server's, over two pipes: whatever they did, in whatever order, once they
--- are quiet each stream has arrived, both ways.
+-- Two tunnels of new sessions, a client's and a server's, over two pipes: whatever they did, in whatever order, each stream
+-- has arrived where the way is quiet.
 abbrev pub AllHasCome : List Turn → Type 0
 AllHasCome ts =
     (window_a first_a window_b first_b : ℕ) (q : TunnelPair) → AreGood window_a first_a window_b first_b →
-    BothWork ts (tunnels_of (new_session Client window_a first_a) (new_session Server window_b first_b)) q → AreQuiet q.pair →
-    (id : ℕ) → HasArrived id (events_at_a ts) (events_at_b ts) q.pair.a.session q.pair.b.session
+    BothWork ts (tunnels_of (new_session Client window_a first_a) (new_session Server window_b first_b)) q →
+    (id : ℕ) → HasArrived id (events_at_a ts) (events_at_b ts) q.pair
 
 -- ---- their devices
 

@@ -1,17 +1,18 @@
 //! The laws of two tunnels that are joined: the tunnel's promise. Each public function is a law: it does nothing, and its
 //! contract is the theorem.
 
-ghost use Rattle.std.specs.Prelude.{ℕ, ◌≡◌, ◌++◌, ◌∷◌, List, [], None, Some, false};
+ghost use Rattle.std.specs.Prelude.{ℕ, ◌≡◌, ◌++◌, ◌∷◌, List, [], None, Some, true, false};
 ghost use Rattle.ymx_model.specs.session.Events.{Event};
-ghost use Rattle.ymx_model.specs.session.Sessions.{Session};
+ghost use Rattle.ymx_model.specs.session.Sessions.{Session, is_running};
 ghost use Rattle.ymx_machine.specs.shared.Events.{Reply};
+ghost use Rattle.ymx_session.specs.Replies.{stream_fault};
 ghost use Rattle.ymx_session.specs.Streams.{waiting};
 ghost use Rattle.ymx_engine.specs.Devices.{Seen};
 ghost use Rattle.ymx_engine.specs.Events.{lacks_memory};
 ghost use Rattle.ymx_engine.specs.Lines.{Trades, Change, Lives, sinces};
 ghost use Rattle.ymx_joined.specs.Pairs.{Turn};
 ghost use Rattle.ymx_joined.specs.Carried.{Carries, HadOne, IsPassedOn, TunnelsCarry};
-ghost use Rattle.ymx_joined.specs.Quiet.{HasCome, AllHasCome, IsAllPassedOn};
+ghost use Rattle.ymx_joined.specs.Quiet.{HasCome, NextRead, AllHasCome, IsAllPassedOn};
 
 /// Two tunnels, a client's and a server's, over two pipes in memory. They make any calls, in any order; their devices and
 /// the pipes answer as they like, and may fail. Then what each stream gave at one end is a beginning of what it took at the
@@ -39,13 +40,15 @@ pub fn one_device_gets_what_the_other_gave()
     ensures left { (id : ℕ) (joined left : Change) (rest : List (Event × Reply)) → Lives id (joined ∷ left ∷ []) rest None None → HadOne id (sinces (joined ∷ left ∷ []) ++ rest) joined.seen left.seen }
 {}
 
-/// Nothing sticks between two tunnels. They are a client's and a server's, over two pipes in memory; they made any calls, in
-/// any order, and are quiet now: nothing is due, no byte waits for a wire, in a pipe, or to be fed, and both sessions run.
-/// Then all that a stream took at one end was given at the other, or waits there to be given, if the session there has the
-/// stream; and its end has come there exactly if it was finished. Both sessions have each stream that both were given and
-/// neither left.
+/// Nothing sticks between two tunnels. They are a client's and a server's, over two pipes in memory, and made any calls, in
+/// any order. The way from one to the other is quiet where nothing of the one is due, no byte waits for its wire, in the
+/// pipe, or to be fed to the other, and both sessions run. Then all that a stream took at the one was given at the other, or
+/// waits there to be given, if the session there has the stream; and its end has come there exactly if it was finished.
+/// Where both ways are quiet, both sessions have each stream that both were given and neither left. The next read gives the
+/// first of what waits, or the end where nothing does.
 pub fn quiet_tunnels_have_carried_all()
-    ensures { (turns : List Turn) → AllHasCome turns }
+    ensures carried { (turns : List Turn) → AllHasCome turns }
+    ensures next_read { (id : ℕ) (s : Session) → stream_fault id s ≡ None → is_running s.status ≡ true → NextRead id s }
 {}
 
 /// Then the device at one end of a stream has taken all that the device at the other end gave, but for the bytes that wait
