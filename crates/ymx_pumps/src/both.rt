@@ -42,24 +42,6 @@ fn write_if_begun<R: Recorder, W: Wait, O: Outlet, G: Gate>(
     write_on(rt, hub, seat, writer, gate, buffer)
 }
 
-/// The read pump, once the write pump has begun or was given up.
-fn read_after<R: Recorder, W: Wait, I: Inlet, G: Gate>(
-    rt: &W,
-    start: &Mutex<Start>,
-    hub: &Hub<R>,
-    seat: &mut Seat<R>,
-    reader: &mut I,
-    gate: &mut G,
-    buffer: &mut [u8],
-) -> Stop
-    requires { 0 < length buffer.old }
-    ensures gave { PumpRead R.KEEPS (I.remaining reader.old) (I.remaining reader.new) seat.old seat.new result.moved result.why }
-    ensures ended { ReadEnd R.KEEPS (I.failures reader.old) (I.failures reader.new) (I.remaining reader.new) (G.has_refused gate.new) result.why }
-{
-    await_begin(rt, start);
-    read_on(rt, hub, seat, reader, gate, buffer)
-}
-
 /// Both pumps, over what is lent.
 fn run_lent<
     'x,
@@ -97,7 +79,11 @@ fn run_lent<
         &mut || write_if_begun(rt, start, hub, write_seat, writer, write_gate, write_buffer),
         &mut || -> Stop
             requires { 0 < length read_buffer.now }
-        { read_after(rt, start, hub, read_seat, reader, read_gate, read_buffer) },
+        {
+            // The write pump has begun then, or was given up.
+            await_begin(rt, start);
+            read_on(rt, hub, read_seat, reader, read_gate, read_buffer)
+        },
     )
 }
 
