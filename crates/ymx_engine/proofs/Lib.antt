@@ -1,3 +1,7 @@
+pub mod Coming
+mod Calling
+mod Forgetting
+mod Beside
 pub mod Exchanging
 pub mod Carrying
 pub mod Refusing

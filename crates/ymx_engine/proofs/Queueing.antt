@@ -1,12 +1,15 @@
 -- How the connections of an engine change, and who is queued then.
-use Rattle.std.proofs.Common.{◌≡◌, ◌⊎◌, inl, inr, ℕ, zero, suc, List, [], ◌∷◌, ◌++◌, Bool, true, false, Option, None, Some, refl, sym, ap, ◌∙◌, subst, cond, arith}
-use Rattle.std.specs.Prelude.{nat_eq, nat_lt, ◌<◌, ◌&&◌, if◌then◌else◌, Contains, Result, Ok, Err, is_ok, IsOk, OnOk, IfSome, IsSome, option_map}
+use Rattle.std.proofs.Common.{◌≡◌, ◌⊎◌, inl, inr, ℕ, zero, suc, List, [], ◌∷◌, ◌++◌, Bool, true, false, not, ◌||◌, ◌+◌, take, length, Option, None, Some, refl, sym, ap, ◌∙◌, subst, cond, arith}
+use Rattle.std.specs.Prelude.{nat_eq, get_or, nat_lt, ◌<◌, ◌&&◌, if◌then◌else◌, Contains, Result, Ok, Err, is_ok, IsOk, OnOk, IfSome, IsSome, option_map}
 use Rattle.std.specs.Map.{lookup}
+use Rattle.std.specs.List.{list_any}
+use Rattle.std.proofs.lemmas.List.{take_more}
+use Rattle.std.proofs.lemmas.List.Folds.{list_any-append}
 use Rattle.std.proofs.lemmas.List.Elements.{Contains-append_left, Contains-append_cases, Contains-push}
-use Rattle.ymx_machine.proofs.Tests.{is_lt, both_of}
+use Rattle.ymx_machine.proofs.Tests.{is_lt, both_of, or_true}
 use Rattle.ymx_engine.specs.declared.connections.Entry.{Entry}
 use Rattle.ymx_engine.specs.declared.connection.Connection.{Connection}
-use Rattle.ymx_engine.specs.Turns.{Turns, known_as, AreListed, SameConnections, StaysOrAdds, AddsTurn, KeepsTurns, KeepsOthers}
+use Rattle.ymx_engine.specs.Turns.{Turns, known_as, Awaits, AreListed, SameConnections, StaysOrAdds, AddsTurn, KeepsTurns, KeepsOthers}
 use Rattle.indexmap.specs.IndexMap.{insert_entry}
 use Rattle.std.proofs.lemmas.Bool.Decides.{nat_tests}
 use Rattle.ymx_engine.proofs.Running.{eq_ids, inserted}
@@ -126,28 +129,45 @@ pub waits_then : (id other : ℕ) (f g f1 g1 f2 g2 : List ℕ) → f1 ≡ f → 
 waits_then id other f g f1 g1 f2 g2 p q x y h = stand_on id other f1 g1 f2 g2 x y (subst (λ (v : List ℕ). Stands v g1 other) (sym p) (subst (λ (v : List ℕ). Stands f v other) (sym q) h))
 
 pub keeps_same : (a : Turns) → KeepsTurns a a
-keeps_same a = record { known = λ id. refl; turns = λ id h. h }
+keeps_same a = record { known = λ id. refl; turns = λ id h. h; awaits = λ id some h. h }
 
 pub keeps_then : (a b c : Turns) → KeepsTurns a b → KeepsTurns b c → KeepsTurns a c
-keeps_then a b c x y = record { known = λ id. y.known id ∙ x.known id; turns = λ id h. y.turns id (x.turns id h) }
+keeps_then a b c x y = record {
+  known = λ id. y.known id ∙ x.known id;
+  turns = λ id h. y.turns id (x.turns id h);
+  awaits = λ id some h. y.awaits id (subst (λ (o : Option Connection). IsSome o) (sym (x.known id)) some) (x.awaits id some h);
+}
+
+-- one that waits waits on, and what was missed stays so
+pub await_on : (id : ℕ) (a b : Turns) → (Stands a.fresh a.busy id → Stands b.fresh b.busy id) → (a.missed ≡ true → b.missed ≡ true) → Awaits id a → Awaits id b
+await_on id a b on missed (inl h) = inl (on h)
+await_on id a b on missed (inr h) = inr (missed h)
 
 pub keeps_added : (id : ℕ) (a b : Turns) → SameConnections a b → AddsTurn id a b → KeepsTurns a b
-keeps_added id a b same (fresh, busy, held) = record { known = same; turns = λ other h. stand_on id other a.fresh a.busy b.fresh b.busy fresh busy h }
+keeps_added id a b same (fresh, busy, held, missed) =
+    let on : (other : ℕ) → Stands a.fresh a.busy other → Stands b.fresh b.busy other = λ other h. stand_on id other a.fresh a.busy b.fresh b.busy fresh busy h in
+    record { known = same; turns = on; awaits = λ other some h. await_on other a b (on other) missed h }
 
 -- one that was held back was let go of, and may wait for a turn now
 pub keeps_let_go : (id : ℕ) (a b d : Turns) (known : List (ℕ × Entry)) (fresh busy : List ℕ) → KeepsTurns a b → ((other : ℕ) → known_as other known ≡ known_as other b.known) → fresh ≡ b.fresh → busy ≡ b.busy →
-    ((other : ℕ) → known_as other d.known ≡ known_as other known) → StaysOrAdds id fresh d.fresh → StaysOrAdds id busy d.busy → KeepsTurns a d
-keeps_let_go id a b d known fresh busy keeps same f g same_then x y = record {
-  known = λ other. same_then other ∙ same other ∙ keeps.known other;
-  turns = λ other h. waits_then id other b.fresh b.busy fresh busy d.fresh d.busy f g x y (keeps.turns other h);
-}
+    ((other : ℕ) → known_as other d.known ≡ known_as other known) → StaysOrAdds id fresh d.fresh → StaysOrAdds id busy d.busy → (b.missed ≡ true → d.missed ≡ true) → KeepsTurns a d
+keeps_let_go id a b d known fresh busy keeps same f g same_then x y missed =
+    let on : (other : ℕ) → Stands b.fresh b.busy other → Stands d.fresh d.busy other = λ other h. waits_then id other b.fresh b.busy fresh busy d.fresh d.busy f g x y h in
+    record {
+      known = λ other. same_then other ∙ same other ∙ keeps.known other;
+      turns = λ other h. on other (keeps.turns other h);
+      awaits = λ other some h. await_on other b d (on other) missed (keeps.awaits other some h);
+    }
 
 -- one that was held back was let go of
-pub keeps_alike : (a b d : Turns) → KeepsTurns a b → SameConnections b d → d.fresh ≡ b.fresh → d.busy ≡ b.busy → KeepsTurns a d
-keeps_alike a b d keeps same f g = record {
-  known = λ other. same other ∙ keeps.known other;
-  turns = λ other h. waits_then 0 other b.fresh b.busy d.fresh d.busy d.fresh d.busy f g (inl refl) (inl refl) (keeps.turns other h);
-}
+pub keeps_alike : (a b d : Turns) → KeepsTurns a b → SameConnections b d → d.fresh ≡ b.fresh → d.busy ≡ b.busy → d.missed ≡ b.missed → KeepsTurns a d
+keeps_alike a b d keeps same f g m =
+    let on : (other : ℕ) → Stands b.fresh b.busy other → Stands d.fresh d.busy other = λ other h. waits_then 0 other b.fresh b.busy d.fresh d.busy d.fresh d.busy f g (inl refl) (inl refl) h in
+    record {
+      known = λ other. same other ∙ keeps.known other;
+      turns = λ other h. on other (keeps.turns other h);
+      awaits = λ other some h. await_on other b d (on other) (λ h. m ∙ h) (keeps.awaits other some h);
+    }
 
 pub keeps_from : (i a b : Turns) → i ≡ a → KeepsTurns i b → KeepsTurns a b
 keeps_from i a b same k = subst (λ (v : Turns). KeepsTurns v b) same k
@@ -156,14 +176,18 @@ pub others_from : (id : ℕ) (i a b : Turns) → i ≡ a → KeepsOthers id i b 
 others_from id i a b same k = subst (λ (v : Turns). KeepsOthers id v b) same k
 
 pub others_then : (id : ℕ) (a b c : Turns) → KeepsOthers id a b → KeepsTurns b c → KeepsOthers id a c
-others_then id a b c x y = record { known = λ other ne. y.known other ∙ x.known other ne; turns = λ other h. y.turns other (x.turns other h) }
+others_then id a b c x y = record {
+  known = λ other ne. y.known other ∙ x.known other ne;
+  turns = λ other h. y.turns other (x.turns other h);
+  awaits = λ other ne some h. y.awaits other (subst (λ (o : Option Connection). IsSome o) (sym (x.known other ne)) some) (x.awaits other ne some h);
+}
 
 pub others_same : (id : ℕ) (a : Turns) → KeepsOthers id a a
-others_same id a = record { known = λ other ne. refl; turns = λ other h. h }
+others_same id a = record { known = λ other ne. refl; turns = λ other h. h; awaits = λ other ne some h. h }
 
 -- ---- the first of a queue has had its turn
 
-popped_either : (f g f2 g2 : List ℕ) (id other : ℕ) → nat_eq id other ≡ false → ((f ≡ id ∷ f2) × (g2 ≡ g)) ⊎ ((g ≡ id ∷ g2) × (f2 ≡ f)) → Stands f g other → Stands f2 g2 other
+pub popped_either : (f g f2 g2 : List ℕ) (id other : ℕ) → nat_eq id other ≡ false → ((f ≡ id ∷ f2) × (g2 ≡ g)) ⊎ ((g ≡ id ∷ g2) × (f2 ≡ f)) → Stands f g other → Stands f2 g2 other
 popped_either f g f2 g2 id other ne (inl (first, same)) (inl h) = inl (popped f f2 id other first ne h)
 popped_either f g f2 g2 id other ne (inl (first, same)) (inr h) = inr (subst (λ (v : List ℕ). Contains v other) (sym same) h)
 popped_either f g f2 g2 id other ne (inr (first, same)) (inl h) = inl (subst (λ (v : List ℕ). Contains v other) (sym same) h)
@@ -202,3 +226,43 @@ others_set id k old new put none = by-known (known_as id old) refl
     by-known : (o : Option Connection) → known_as id old ≡ o → (other : ℕ) → nat_eq id other ≡ false → known_as other new ≡ known_as other old
     by-known None e = λ other ne. none e other
     by-known (Some x) e = others_known id x k old new (sym e) put
+
+-- ---- one that is called stands in a queue, or its turn is missed
+
+pushed_or_missed : {E : Type 0} (r : Result (Unit {0}) E) (ok m : Bool) (f new : List ℕ) (id : ℕ) → ok ≡ is_ok r → new ≡ (if is_ok r then f ++ id ∷ [] else f) → Contains new id ⊎ ((m || not ok) ≡ true)
+pushed_or_missed (Ok u) ok m f new id e items = inl (pushed_is true f new id items refl)
+pushed_or_missed (Err x) ok m f new id e items = inr (ap (λ (b : Bool). m || not b) e ∙ or_true m)
+
+pub called_fresh : {E : Type 0} (r : Result (Unit {0}) E) (ok m : Bool) (f new g : List ℕ) (id : ℕ) → ok ≡ is_ok r → new ≡ (if is_ok r then f ++ id ∷ [] else f) → Stands new g id ⊎ ((m || not ok) ≡ true)
+called_fresh r ok m f new g id e items = by (pushed_or_missed r ok m f new id e items)
+  where
+    by : Contains new id ⊎ ((m || not ok) ≡ true) → Stands new g id ⊎ ((m || not ok) ≡ true)
+    by (inl h) = inl (inl h)
+    by (inr h) = inr h
+
+pub called_busy : {E : Type 0} (r : Result (Unit {0}) E) (ok m : Bool) (f g new : List ℕ) (id : ℕ) → ok ≡ is_ok r → new ≡ (if is_ok r then g ++ id ∷ [] else g) → Stands f new id ⊎ ((m || not ok) ≡ true)
+called_busy r ok m f g new id e items = by (pushed_or_missed r ok m g new id e items)
+  where
+    by : Contains new id ⊎ ((m || not ok) ≡ true) → Stands f new id ⊎ ((m || not ok) ≡ true)
+    by (inl h) = inl (inr h)
+    by (inr h) = inr h
+
+-- one of a list more was called
+pub called_more : (t u : Turns) (xs : List ℕ) (n : ℕ) (known : List (ℕ × Entry)) → n < length xs → ((id : ℕ) → Awaits id t → Awaits id u) → (IsSome (known_as (get_or xs n 0) known) → Awaits (get_or xs n 0) u) →
+    ((id : ℕ) → list_any (nat_eq id) (take n xs) ≡ true → IsSome (known_as id known) → Awaits id t) → (id : ℕ) → list_any (nat_eq id) (take (n + 1) xs) ≡ true → IsSome (known_as id known) → Awaits id u
+called_more t u xs n known within on own before id among some =
+    let parts : list_any (nat_eq id) (take (n + 1) xs) ≡ (list_any (nat_eq id) (take n xs) || list_any (nat_eq id) (get_or xs n 0 ∷ [])) = ap (list_any (nat_eq id)) (take_more xs n 0 within) ∙ list_any-append (nat_eq id) (take n xs) (get_or xs n 0 ∷ []) in
+    by (list_any (nat_eq id) (take n xs)) (nat_eq id (get_or xs n 0)) refl refl (sym parts ∙ among)
+  where
+    by : (a b : Bool) → list_any (nat_eq id) (take n xs) ≡ a → nat_eq id (get_or xs n 0) ≡ b → (a || (b || false)) ≡ true → Awaits id u
+    by true b p q h = on id (before id p some)
+    by false true p q h = let same : get_or xs n 0 ≡ id = eq_ids id (get_or xs n 0) q in subst (λ (k : ℕ). Awaits k u) same (own (subst (λ (k : ℕ). IsSome (known_as k known)) (sym same) some))
+    by false false p q h = let no : ⊥ = cc in absurd no
+
+-- one that waited waits on, behind one more
+pub awaits_added : (id other : ℕ) (a b : Turns) → AddsTurn id a b → Awaits other a → Awaits other b
+awaits_added id other a b (fresh, busy, held, missed) h = await_on other a b (stand_on id other a.fresh a.busy b.fresh b.busy fresh busy) missed h
+
+pub second_true : (a b : Bool) → a ≡ false → (a || b) ≡ true → b ≡ true
+second_true true b e h = let no : true ≡ false = e in absurd cc
+second_true false b e h = h

@@ -22,6 +22,10 @@ use Rattle.ymx_engine.specs.Wires.{fed}
 use Rattle.ymx_engine.specs.Passes.{is_of_pass, Frame, bytes_of_frames, payload_of_frames, said_by, InRow, Gathers, GathersUpTo, MayFollow, Settles}
 use Rattle.ymx_engine.proofs.Advancing.{fed_then, drop_front, fronts_then, rest_of, fed_on, take_all}
 use Rattle.ymx_engine.proofs.Blocks.{part_length, room_length, rest_is}
+use Rattle.std.specs.Prelude.{nat_eq, ◌==◌, false}
+use Rattle.ymx_session.proofs.Passes.{passing-is}
+use Rattle.ymx_engine.proofs.Coming.{NoneCameOf}
+use Rattle.ymx_engine.proofs.Beside.{IsPiece, passes_beside, piece_came, header_came, whole_piece}
 use Rattle.ymx_engine.proofs.Exchanging.{happen_then, given_then, end_then, reset_then, stop_then, same_id}
 
 -- ---- gathering
@@ -265,7 +269,7 @@ header_waits id pieces left count payload waits s g fits least more = header_wai
 row_goes_on_at : HeaderFollows → (id missing left count pieces fewer : ℕ) (first behind payload waits header : List ℕ) (frames : List Frame) (told : Fed) (s t u : Session) → InRow id missing first frames →
     waits ≡ first ++ (bytes_of_frames frames ++ behind) → payload ≡ first ++ payload_of_frames frames → length frames < pieces → pieces ≡ fewer + 1 → PassesBehind id missing (said_by frames) s → 0 < missing →
     left ≤ length payload → count ≡ min left missing → count < left → Passes id (take count waits) s t → header ≡ take 12 (drop count waits) → Gives in_turn t (event.Feed header) (reply.Fed told) u →
-    (told ≡ all_fed header) × Gathers id fewer (drop count payload) (drop 12 (drop count waits)) u
+    (told ≡ all_fed header) × Gathers id fewer (drop count payload) (drop 12 (drop count waits)) u × ((said : ℕ) × IsPlainHeader id said header)
 row_goes_on_at law id missing left count pieces fewer first behind payload waits header [] told s t u h begins carried few one passes some fits least more x at g =
     let parts : length payload ≡ length first + 0 = ap length carried ∙ length-append first [] in
     let no : ⊥ = omega arith in absurd no
@@ -296,6 +300,7 @@ row_goes_on_at law id missing left count pieces fewer first behind payload waits
         carried = ap (drop count) carried ∙ ap (λ (n : ℕ). drop n (first ++ payload_of_frames (f ∷ fs))) whole ∙ drop_front first (payload_of_frames (f ∷ fs));
         passes = subst (λ (n : ℕ). PassesBehind id f.count n u) said next.1;
       },
+      (f.count, subst (λ (v : List ℕ). IsPlainHeader id f.count v) (sym same) h.1),
     )
 
 -- ---- in turns
@@ -313,6 +318,7 @@ pub record Going (id turn at left taken : ℕ) (payload waits : List ℕ) (s t :
   pub done : Settles id went waits (drop at waits) s t
   pub row : Gathers id pieces more (drop at waits) t
   pub turns : pieces + turn ≡ 4
+  pub others : (other : ℕ) → nat_eq id other ≡ false → NoneCameOf other s t
 
 pub going_starts : (id taken : ℕ) (payload waits : List ℕ) (s : Session) → Gathers id 4 payload waits s → 0 < taken → taken ≤ length payload → Going id 0 0 taken taken payload waits s s
 going_starts id taken payload waits s g some fits = record {
@@ -327,6 +333,7 @@ going_starts id taken payload waits s g some fits = record {
   done = settles_none id waits s;
   row = g;
   turns = omega arith;
+  others = λ other ne h. h;
 }
 
 -- the next piece waits
@@ -362,6 +369,13 @@ going_ends id turn at left taken count payload waits s t u x least over p =
     let all : length x.went + count ≡ taken = omega (arith, x.counted, least, over) in
     let y = settles_then id x.went (take count x.more) waits (drop at waits) (drop (at + count) waits) s t u x.done (went_on id at count left x.more waits x.pieces t u x.row x.some x.fits least p) in
     subst (λ (v : List ℕ). Settles id v waits (drop (at + count) waits) s u) (sym (take-append-add x.went x.more count) ∙ ap (take (length x.went + count)) (sym x.split) ∙ ap (λ (n : ℕ). take n payload) all) y
+
+next_piece : (id left count pieces : ℕ) (more waits : List ℕ) (t u : Session) → (g : Gathers id pieces more waits t) → 0 < left → left ≤ length more → count ≡ min left g.missing → Passes id (take count waits) t u →
+    IsPiece id (length (take count waits) == g.missing) t u
+next_piece id left count pieces more waits t u g some fits least y =
+    let p = piece_waits id pieces left count more waits t g some fits least in
+    let l : length (take count waits) ≡ count = length-take-le count waits p.0 in
+    passes_beside id g.missing (said_by g.frames) (take count waits) t u g.passes (omega (arith, l, p.1)) (omega (arith, l, p.2)) y
 
 -- a piece was passed on whole, and the header behind it fed
 pub going_on : HeaderFollows → (id turn at left taken count : ℕ) (payload waits : List ℕ) (told : Fed) (s t u v : Session) → (x : Going id turn at left taken payload waits s t) → count ≡ min left (x.row).missing → count < left →
@@ -401,7 +415,22 @@ going_on law id turn at left taken count payload waits told s t u v x least more
       done = subst (λ (w : List ℕ). Settles id w waits (drop (at + count + 12) waits) s v) (append-nil (x.went ++ take count x.more)) done;
       row = subst (λ (w : List ℕ). Gathers id (x.pieces - 1) (drop count x.more) w v) rest next.1;
       turns = omega (arith, few, positive);
+      others = λ other ne h.
+          let few_waits = (piece_waits id x.pieces left count x.more (drop at waits) t r x.some x.fits least).0 in
+          let all : count ≡ r.missing = omega (arith, least, more) in
+          let piece = next_piece id left count x.pieces x.more (drop at waits) t u r x.some x.fits least y in
+          let last = whole_piece count r.missing (drop at waits) few_waits all in
+          let running = (passing-is (record { id = id; missing = r.missing }) t (r.passes).passes).running in
+          x.others other ne (piece_came id other _ t u piece ne (header_came id (next.2).0 other header told u v (piece.status ∙ running) (piece.whole last) (next.2).1 next.0 g ne h));
     }
+
+-- nor do bytes of the others come with the last piece
+pub ends_beside : (id turn at left taken count : ℕ) (payload waits : List ℕ) (s t u : Session) → (x : Going id turn at left taken payload waits s t) → count ≡ min left (x.row).missing →
+    Passes id (take (at + count - at) (drop at waits)) t u → (other : ℕ) → nat_eq id other ≡ false → NoneCameOf other s u
+ends_beside id turn at left taken count payload waits s t u x least p other ne h =
+    let k : at + count - at ≡ count = omega arith in
+    let y : Passes id (take count (drop at waits)) t u = subst (λ (n : ℕ). Passes id (take n (drop at waits)) t u) k p in
+    x.others other ne (piece_came id other _ t u (next_piece id left count x.pieces x.more (drop at waits) t u x.row x.some x.fits least y) ne h)
 
 -- as many turns as pieces are enough
 pub going_over : (id at left taken : ℕ) (payload waits : List ℕ) (s t : Session) → Going id 4 at left taken payload waits s t → ⊥

@@ -12,4 +12,5 @@ pub mod Passes
 pub mod Tunnels
 pub mod Lines
 pub mod Serves
+pub mod Served
 pub mod Runs

@@ -32,9 +32,9 @@ abbrev pub may_read_wire : EngineView → Bool
 may_read_wire v =
     if has_bytes v.engine.incoming then not (has_bytes v.engine.outgoing) && is_running v.engine.session.status else may_have_bytes v.marks
 
--- a connection waits for a turn, the wire may be read, or it may take bytes and some are to go
+-- a connection waits for a turn or missed one, the wire may be read, or it may take bytes and some are to go
 abbrev pub has_work : EngineView → Bool
-has_work v = not (is_idle v.turns) || may_read_wire v || v.marks.can_push_wire && has_to_send v.engine
+has_work v = not (is_idle v.turns) || v.turns.missed || may_read_wire v || v.marks.can_push_wire && has_to_send v.engine
 
 -- eight whole frames of 16,384 bytes, with their headers
 abbrev pub eight_frames : ℕ

@@ -10,6 +10,7 @@ ghost use Rattle.ymx_model.specs.session.Histories.{Gives};
 ghost use Rattle.ymx_session.specs.Passing.{passing, FeedsSome};
 ghost use Rattle.ymx_session.specs.Streams.{room_of};
 ghost use Rattle.ymx_session.specs.Through.{WritesThrough};
+ghost use Rattle.ymx_session.specs.Touched.{NotesChanges};
 ghost use Rattle.ymx_engine.specs.Devices.{IsPulled, pulled_count};
 
 use crate::device::{Device, Pulled};
@@ -126,6 +127,7 @@ impl Block {
         ensures rest { self.new ≡ drop result.taken self.old }
         ensures some { is_stuck session.old ≡ false → 0 < count → 0 < length self.old → 0 < result.taken }
         ensures stops { result.taken < count → result.taken < length self.old → is_stuck session.new ≡ true }
+        ensures notes { NotesChanges session.old session.new touched.new }
     {
         let waiting = self.waiting();
         let front = &waiting[..count.min(waiting.len())];
@@ -139,6 +141,7 @@ impl Block {
         ensures fed { FeedsSome session.old self.old result session.new }
         ensures rest { self.new ≡ drop result.taken self.old }
         ensures stops { result.taken < length self.old → (is_stuck session.new ≡ true) ⊎ IsSome (passing session.new) }
+        ensures notes { NotesChanges session.old session.new touched.new }
     {
         let fed = session.feed_to_payload(self.waiting(), touched);
         self.drop_front(fed.taken);

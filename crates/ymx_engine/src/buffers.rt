@@ -1,6 +1,6 @@
 //! All that a new engine has beside its session.
 
-ghost use Rattle.std.specs.Prelude.{◌≡◌, ◌<◌, [], length, IfOk};
+ghost use Rattle.std.specs.Prelude.{◌≡◌, ◌<◌, [], length, false, IfOk};
 ghost use Rattle.ymx_engine.specs.Turns.{IsIdle};
 
 use crate::block::Block;
@@ -36,7 +36,7 @@ impl Buffers {
     pub(crate) fn new(alloc: Global) -> Result<Buffers, RefusedAllocation>
         ensures empty { IfOk result (λ memory. (memory.outgoing ≡ []) × (memory.incoming ≡ [])) }
         ensures space { IfOk result (λ memory. 0 < length memory.buffer.items) }
-        ensures none { IfOk result (λ memory. (memory.connections.known ≡ []) × IsIdle memory.connections) }
+        ensures none { IfOk result (λ memory. (memory.connections.known ≡ []) × IsIdle memory.connections × (memory.connections.missed ≡ false)) }
     {
         Ok(Buffers {
             outgoing: Block::new(alloc, OUTGOING)?,

@@ -1,9 +1,11 @@
 //! The connections of an engine by stream id, and whose turn comes.
 
-ghost use Rattle.std.specs.Prelude.{ℕ, ◌≡◌, ◌⊎◌, ◌+◌, ◌∷◌, [], length, nat_eq, min, true, false, None, Some, OnOk, IfSome, IfNone, IsSome};
-ghost use Rattle.ymx_engine.specs.Turns.{known_as, is_idle, Knows, KeepsTurns, SameConnections, SameTurns, SameQueues, Waits, IsIdle, AddsTurn, TakesTurn, WaitOn};
+ghost use Rattle.std.specs.Prelude.{ℕ, ◌≡◌, ◌⊎◌, ◌+◌, ◌∷◌, [], length, nat_eq, min, slice_get, true, false, None, Some, OnOk, IfSome, IfNone, IsSome};
+ghost use Rattle.ymx_engine.specs.Turns.{known_as, is_idle, Knows, KeepsTurns, SameConnections, SameTurns, SameQueues, Waits, Awaits, IsIdle, AddsTurn, TakesTurn, WaitOn, StaysMissed};
 ghost use Rattle.ymx_engine.specs.Known.{new_connection};
-ghost use Rattle.std.specs.Map.{lookup};
+ghost use Rattle.std.specs.List.{list_any};
+ghost use Rattle.std.specs.Map.{lookup, keys_of};
+ghost use Rattle.ymx_session.specs.Touched.{is_noted};
 
 use crate::connection::Connection;
 use indexmap::IndexMap;
@@ -51,6 +53,9 @@ pub(crate) struct Connections {
     held: VecDeque<u32>,
     /// The next turn is one of the busy ones'.
     is_for_busy: bool,
+    /// A queue had no room for one that was to wait for a turn. Memory for a turn of each is taken before it is added, so
+    /// this never is.
+    missed: bool,
 }
 
 impl Model for Connections {
@@ -61,7 +66,7 @@ impl Model for Connections {
 
     ghost Value = { Turns };
 
-    ghost view = { λ c. record { known = c.by_id.entries; fresh = c.fresh.items; busy = c.busy.items; held = c.held.items; has_room = nat_lt (deque_len c.fresh) (deque_capacity c.fresh) && nat_lt (deque_len c.busy) (deque_capacity c.busy); has_place = nat_lt 0 (spare c.by_id) } };
+    ghost view = { λ c. record { known = c.by_id.entries; fresh = c.fresh.items; busy = c.busy.items; held = c.held.items; has_room = nat_lt (deque_len c.fresh) (deque_capacity c.fresh) && nat_lt (deque_len c.busy) (deque_capacity c.busy); has_place = nat_lt 0 (spare c.by_id); missed = c.missed } };
 
     ghost invariant = { λ c. AreListed c.by_id.entries c.fresh.items c.busy.items };
 }
@@ -69,7 +74,7 @@ impl Model for Connections {
 impl Connections {
     /// There are none.
     pub(crate) fn new(alloc: Global) -> Connections
-        ensures { (result.known ≡ []) × (result.fresh ≡ []) × (result.busy ≡ []) × (result.held ≡ []) }
+        ensures { (result.known ≡ []) × (result.fresh ≡ []) × (result.busy ≡ []) × (result.held ≡ []) × (result.missed ≡ false) }
     {
         Connections {
             by_id: IndexMap::new(alloc),
@@ -77,6 +82,7 @@ impl Connections {
             busy: VecDeque::new(alloc),
             held: VecDeque::new(alloc),
             is_for_busy: false,
+            missed: false,
         }
     }
 
@@ -92,6 +98,13 @@ impl Connections {
         ensures { result ≡ is_idle self.now }
     {
         self.fresh.is_empty() && self.busy.is_empty()
+    }
+
+    /// Whether one that was to wait for a turn does not.
+    pub(crate) fn has_missed(&self) -> bool
+        ensures { result ≡ self.now.missed }
+    {
+        self.missed
     }
 
     /// Memory for one more, and for its turns.
@@ -154,10 +167,14 @@ impl Connections {
         ensures known { SameConnections self.old self.new }
         ensures turn { AddsTurn id self.old self.new }
         ensures waits { IsSome (known_as id self.old.known) → self.old.has_room ≡ true → Waits id self.new }
+        ensures awaits { IsSome (known_as id self.old.known) → Awaits id self.new }
+        ensures missed { self.old.has_room ≡ true → self.new.missed ≡ self.old.missed }
+        ensures keys { keys_of self.new.known ≡ keys_of self.old.known }
     {
         if let Some(found) = self.by_id.get_mut(&id) {
             if !found.is_queued {
                 found.is_queued = self.fresh.push_back(id).is_ok();
+                self.missed |= !found.is_queued;
             }
         }
     }
@@ -167,10 +184,14 @@ impl Connections {
         ensures known { SameConnections self.old self.new }
         ensures turn { AddsTurn id self.old self.new }
         ensures waits { IsSome (known_as id self.old.known) → self.old.has_room ≡ true → Waits id self.new }
+        ensures awaits { IsSome (known_as id self.old.known) → Awaits id self.new }
+        ensures missed { self.old.has_room ≡ true → self.new.missed ≡ self.old.missed }
+        ensures keys { keys_of self.new.known ≡ keys_of self.old.known }
     {
         if let Some(found) = self.by_id.get_mut(&id) {
             if !found.is_queued {
                 found.is_queued = self.busy.push_back(id).is_ok();
+                self.missed |= !found.is_queued;
             }
         }
     }
@@ -193,6 +214,8 @@ impl Connections {
         ensures known { IsSome (known_as id self.old.known) → Knows id (Some connection) self.old self.new }
         ensures turns { WaitOn self.old self.new }
         ensures again { more ≡ true → IsSome (known_as id self.old.known) → self.old.has_room ≡ true → Waits id self.new }
+        ensures awaits { more ≡ true → IsSome (known_as id self.old.known) → Awaits id self.new }
+        ensures missed { StaysMissed self.old self.new }
     {
         self.set(id, connection);
         if more {
@@ -207,6 +230,7 @@ impl Connections {
         ensures known { SameConnections self.old self.new }
         ensures some { IfSome result (λ id. TakesTurn id self.old self.new) }
         ensures none { IfNone result (IsIdle self.old × IsIdle self.new) }
+        ensures missed { self.new.missed ≡ self.old.missed }
     {
         let id = pop(&mut self.fresh, &mut self.busy, &mut self.is_for_busy)?;
         note_turn(&mut self.by_id, id);
@@ -237,9 +261,20 @@ impl Connections {
         Some(id)
     }
 
+    /// Those that missed a turn have something to move.
+    pub(crate) fn enqueue_missed(&mut self)
+        ensures { KeepsTurns self.old self.new }
+    {
+        if self.missed {
+            self.missed = false;
+            self.enqueue_all();
+        }
+    }
+
     /// All have something to move.
     pub(crate) fn enqueue_all(&mut self)
-        ensures { KeepsTurns self.old self.new }
+        ensures turns { KeepsTurns self.old self.new }
+        ensures all { (id : ℕ) → IsSome (known_as id self.old.known) → Awaits id self.new }
     {
         'place: for place in 0..self.by_id.len() {
             let Some(id) = self.id_at(place) else {
@@ -250,7 +285,9 @@ impl Connections {
     }
 
     /// The stream of the connection at this place.
-    fn id_at(&self, place: usize) -> Option<u32> {
+    fn id_at(&self, place: usize) -> Option<u32>
+        ensures { result ≡ slice_get (keys_of self.now.known) place }
+    {
         match self.by_id.get_index(place) {
             Some((id, _)) => Some(*id),
             None => None,
@@ -259,7 +296,8 @@ impl Connections {
 
     /// Those that bytes of the peer touched have something to move.
     pub(crate) fn enqueue_touched(&mut self, touched: &mut Touched)
-        ensures { KeepsTurns self.old self.new }
+        ensures turns { KeepsTurns self.old self.new }
+        ensures all { (id : ℕ) → is_noted id touched.old ≡ true → IsSome (known_as id self.old.known) → Awaits id self.new }
     {
         self.enqueue_those(touched);
         touched.clear();
@@ -267,7 +305,8 @@ impl Connections {
 
     /// Those that were touched have something to move.
     fn enqueue_those(&mut self, touched: &Touched)
-        ensures { KeepsTurns self.old self.new }
+        ensures turns { KeepsTurns self.old self.new }
+        ensures all { (id : ℕ) → is_noted id touched.now ≡ true → IsSome (known_as id self.old.known) → Awaits id self.new }
     {
         self.enqueue_some(touched.ids());
         if touched.is_all() {
@@ -277,7 +316,8 @@ impl Connections {
 
     /// These have something to move.
     fn enqueue_some(&mut self, ids: &[u32])
-        ensures { KeepsTurns self.old self.new }
+        ensures turns { KeepsTurns self.old self.new }
+        ensures all { (id : ℕ) → list_any (nat_eq id) ids.now ≡ true → IsSome (known_as id self.old.known) → Awaits id self.new }
     {
         'id: for id in ids {
             self.enqueue(*id);

@@ -19,6 +19,8 @@ ghost use Rattle.ymx_engine.specs.Known.{may_push, may_pull, new_connection, not
 ghost use Rattle.ymx_session.specs.Streams.{waiting, room_of};
 ghost use Rattle.ymx_engine.specs.Marks.{has_to_send, takes_more, may_have_bytes};
 ghost use Rattle.ymx_engine.specs.Turns.{known_as, Knows, Adds, SameConnections, SameQueues, KeepsTurns, KeepsOthers, Waits, IsIdle, AddsTurn, TakesTurn};
+ghost use Rattle.ymx_law_session.specs.Limits.{IsWithin};
+ghost use Rattle.ymx_engine.specs.Served.{AreServed, AreServedBut, KeepsServed};
 ghost use Rattle.ymx_engine.specs.Serves.{Exchanges};
 ghost use Rattle.ymx_engine.specs.Passes.{IsPayload, PassesOn};
 ghost use Rattle.ymx_engine.specs.Refusals.{GivesUp, OpensNone, OffersNone};
@@ -81,7 +83,8 @@ impl Engine {
     pub fn new(alloc: Global, session: Session) -> Result<Engine, RefusedAllocation>
         ensures engine { IfOk result (λ view. view.engine ≡ record { session = session; outgoing = []; incoming = [] }) }
         ensures marks { IfOk result (λ view. view.marks ≡ record { can_pull_wire = true; can_push_wire = true; is_wire_over = false }) }
-        ensures none { IfOk result (λ view. (view.turns.known ≡ []) × IsIdle view.turns) }
+        ensures none { IfOk result (λ view. (view.turns.known ≡ []) × IsIdle view.turns × (view.turns.missed ≡ false)) }
+        ensures served { IsWithin session → IfOk result AreServed }
     {
         let memory = Buffers::new(alloc)?;
         Ok(Engine {
@@ -105,6 +108,8 @@ impl Engine {
         ensures engine { self.new.engine ≡ self.old.engine }
         ensures noted { self.new.marks ≡ record self.old.marks { can_pull_wire = self.old.marks.can_pull_wire || can_pull; can_push_wire = self.old.marks.can_push_wire || can_push } }
         ensures turns { self.new.turns ≡ self.old.turns }
+        // Nobody is forgotten.
+        ensures served { KeepsServed self.old self.new }
     {
         self.can_pull_wire |= can_pull;
         self.can_push_wire |= can_push;
@@ -121,6 +126,8 @@ impl Engine {
         // Nothing else changes.
         ensures none { known_as id self.old.turns.known ≡ None → self.new ≡ self.old }
         ensures turn { AddsTurn id self.old.turns self.new.turns }
+        // Nobody is forgotten.
+        ensures served { KeepsServed self.old self.new }
     {
         if let Some(found) = self.connections.get(id) {
             let mut connection = found;
@@ -147,6 +154,8 @@ impl Engine {
         // The connection is new, is known and waits for a turn; of each other the same is known.
         ensures added { IfOk result (λ id. Adds id (new_connection true) self.old.turns self.new.turns) }
         ensures none { OnErr result (SameConnections self.old.turns self.new.turns × SameQueues self.old.turns self.new.turns) }
+        // Nobody is forgotten.
+        ensures served { KeepsServed self.old self.new }
     {
         if let Err(refused) = self.reserve() {
             return Err(CallFault::OutOfMemory(refused));
@@ -189,6 +198,7 @@ impl Engine {
         ensures opened { IfOk result (λ id. Gives in_turn self.old.engine.session (event.Call call.Open) (reply.Opened id) self.new.engine.session) }
         ensures refused { IfErr result (λ fault. Gives in_turn self.old.engine.session (event.Call call.Open) (reply.Refused fault) self.new.engine.session × (self.new.engine.session ≡ self.old.engine.session)) }
         ensures wire { KeepsWire self.old.engine self.new.engine }
+        ensures served { IfOk result (λ id. AreServed self.old → AreServedBut id self.new) }
     {
         self.session.open()
     }
@@ -208,6 +218,8 @@ impl Engine {
         ensures added { IfOk result (λ offered. IfSome offered (λ id. Adds id (new_connection false) self.old.turns self.new.turns)) }
         ensures same { IfOk result (λ offered. IfNone offered (SameConnections self.old.turns self.new.turns × SameQueues self.old.turns self.new.turns)) }
         ensures unknown { OnErr result (SameConnections self.old.turns self.new.turns × SameQueues self.old.turns self.new.turns) }
+        // Nobody is forgotten.
+        ensures served { KeepsServed self.old self.new }
     {
         self.reserve()?;
         match self.take_offered() {
@@ -227,6 +239,9 @@ impl Engine {
         ensures accepted { IfSome result (λ id. Gives in_turn self.old.engine.session (event.Call call.Accept) (reply.Accepted (Some id)) self.new.engine.session) }
         ensures none { IfNone result (OffersNone self.old.engine.session self.new.engine.session) }
         ensures wire { KeepsWire self.old.engine self.new.engine }
+        // Nobody is forgotten, unless a connection of this very stream is known.
+        ensures served { IfSome result (λ id. AreServed self.old → AreServedBut id self.new) }
+        ensures served_none { IfNone result (KeepsServed self.old self.new) }
     {
         match self.session.accept() {
             Ok(offered) => offered,
@@ -254,6 +269,8 @@ impl Engine {
         ensures gone { Knows id None self.old.turns self.new.turns }
         ensures queues { SameQueues self.old.turns self.new.turns }
         ensures marks { self.new.marks ≡ self.old.marks }
+        // Nobody else is forgotten.
+        ensures served { AreServedBut id self.old → AreServed self.new }
     {
         self.connections.remove(id);
         self.drop_stream(id);
@@ -267,6 +284,8 @@ impl Engine {
         ensures gone { Knows id None self.old.turns self.new.turns }
         ensures queues { SameQueues self.old.turns self.new.turns }
         ensures marks { self.new.marks ≡ self.old.marks }
+        // Nobody else is forgotten.
+        ensures served { AreServedBut id self.old → AreServed self.new }
     {
         self.connections.remove(id);
         let _ = self.session.forget(id);
@@ -279,6 +298,7 @@ impl Engine {
         ensures wire { KeepsWire self.old.engine self.new.engine }
         ensures marks { self.new.marks ≡ self.old.marks }
         ensures turns { self.new.turns ≡ self.old.turns }
+        ensures served { KeepsServed self.old self.new }
     {
         self.session.ping()
     }
@@ -290,6 +310,7 @@ impl Engine {
         ensures wire { KeepsWire self.old.engine self.new.engine }
         ensures marks { self.new.marks ≡ self.old.marks }
         ensures turns { self.new.turns ≡ self.old.turns }
+        ensures served { KeepsServed self.old self.new }
     {
         self.session.ponged(number)
     }
@@ -309,6 +330,9 @@ impl Engine {
         ensures known { SameConnections self.old.turns self.new.turns }
         ensures engine { self.new.engine ≡ self.old.engine }
         ensures marks { self.new.marks ≡ self.old.marks }
+        // Nobody is forgotten but this one, whose turn it is.
+        ensures served { IfSome result (λ id. AreServed self.old → AreServedBut id self.new) }
+        ensures served_none { IfNone result (KeepsServed self.old self.new) }
     {
         self.connections.next()
     }
@@ -341,6 +365,8 @@ impl Engine {
         // Of each other connection the same is known, and each that waits for a turn waits on.
         ensures others { KeepsOthers id self.old.turns self.new.turns }
         ensures marks { self.new.marks ≡ self.old.marks }
+        // Nobody is forgotten: where bytes wait still that its device may take, it waits for a further turn.
+        ensures served { AreServedBut id self.old → AreServed self.new }
     {
         if let Some(found) = self.connections.get(id) {
             let mut connection = found;
@@ -384,6 +410,8 @@ impl Engine {
         ensures asks { self.old.engine.incoming ≡ [] → may_have_bytes self.old.marks ≡ true → CountsSome (D.seen wire.old).counts.pulls (D.seen wire.new).counts.pulls }
         ensures push { self.new.marks.can_push_wire ≡ self.old.marks.can_push_wire }
         ensures turns { KeepsTurns self.old.turns self.new.turns }
+        // Nobody is forgotten.
+        ensures served { KeepsServed self.old self.new }
     {
         self.pull_wire(wire);
         if !self.is_fed() {
@@ -404,6 +432,8 @@ impl Engine {
         // That the wire may take bytes stays, and so does what is known of connections.
         ensures push { self.new.marks.can_push_wire ≡ self.old.marks.can_push_wire }
         ensures turns { KeepsTurns self.old.turns self.new.turns }
+        // Nobody is forgotten.
+        ensures served { KeepsServed self.old self.new }
     {
         if self.is_fed() && self.may_pull_wire() {
             self.pull_once(wire);
@@ -434,6 +464,7 @@ impl Engine {
         ensures push { self.new.marks.can_push_wire ≡ self.old.marks.can_push_wire }
         ensures turns { KeepsTurns self.old.turns self.new.turns }
         ensures moved { ReadsWireSo (is_end result) (is_pull_failure result) self.old.engine self.new.engine (D.seen wire.old) (D.seen wire.new) 1 }
+        ensures served { KeepsServed self.old self.new }
     {
         let pulled = self.take_from_wire(wire);
         self.hear_pulled(pulled);
@@ -457,6 +488,7 @@ impl Engine {
         ensures push { self.new.marks.can_push_wire ≡ self.old.marks.can_push_wire }
         ensures turns { KeepsTurns self.old.turns self.new.turns }
         ensures heard { HandlesIn (is_end pulled || is_pull_failure pulled) self.old.engine self.new.engine }
+        ensures served { KeepsServed self.old self.new }
     {
         match pulled {
             Pulled::Gave(count) => self.note_pulled(count == BLOCK),
@@ -481,6 +513,7 @@ impl Engine {
         ensures turns { KeepsTurns self.old.turns self.new.turns }
         ensures fed { HandlesIn false self.old.engine self.new.engine }
         ensures rest { IsFedOrStuck self.new.engine }
+        ensures served { KeepsServed self.old self.new }
     {
         let all = self.incoming.waiting().len();
         self.feed_front(all);
@@ -493,21 +526,24 @@ impl Engine {
         ensures fed { HandlesIn false self.old.engine self.new.engine }
         ensures some { is_stuck self.old.engine.session ≡ false → 0 < count → 0 < length self.old.engine.incoming → length self.new.engine.incoming < length self.old.engine.incoming }
         ensures rest { length self.old.engine.incoming ≤ count → IsFedOrStuck self.new.engine }
+        ensures served { KeepsServed self.old self.new }
     {
         let fed = self
             .incoming
             .feed_some(&mut self.session, count, &mut self.touched);
+        self.connections.enqueue_touched(&mut self.touched);
         self.hear_fed(fed.no_memory.get() > 0);
     }
 
-    /// A feed was made, for a part of which there may have been no memory: the streams that it touched are queued.
+    /// A feed was made, for a part of which there may have been no memory. Those that missed a turn are queued, and where the
+    /// session runs no more all are.
     fn hear_fed(&mut self, lacks_memory: bool)
         ensures engine { self.new.engine ≡ self.old.engine }
         ensures marks { self.new.marks ≡ self.old.marks }
         ensures turns { KeepsTurns self.old.turns self.new.turns }
     {
         self.has_lacked_memory |= lacks_memory;
-        self.connections.enqueue_touched(&mut self.touched);
+        self.connections.enqueue_missed();
         if self.session.status() != Status::Running {
             self.connections.enqueue_all();
         }
@@ -530,6 +566,8 @@ impl Engine {
         // What is known of the wire and of connections stays.
         ensures marks { self.new.marks ≡ self.old.marks }
         ensures turns { KeepsTurns self.old.turns self.new.turns }
+        // Nobody is forgotten.
+        ensures served { KeepsServed self.old self.new }
     {
         // each turn that goes on feeds a byte at least
         let turns = self.incoming.waiting().len().max(1);
@@ -554,10 +592,12 @@ impl Engine {
         ensures turns { KeepsTurns self.old.turns self.new.turns }
         ensures fed { HandlesIn false self.old.engine self.new.engine }
         ensures rest { (self.new.engine.incoming ≡ []) ⊎ ((is_stuck self.new.engine.session ≡ true) ⊎ IsSome (passing self.new.engine.session)) }
+        ensures served { KeepsServed self.old self.new }
     {
         let fed = self
             .incoming
             .feed_to_payload(&mut self.session, &mut self.touched);
+        self.connections.enqueue_touched(&mut self.touched);
         self.hear_fed(fed.no_memory.get() > 0);
     }
 
@@ -626,6 +666,8 @@ impl Engine {
         // Of each other connection the same is known, and each that waits for a turn waits on.
         ensures others { KeepsOthers id self.old.turns self.new.turns }
         ensures marks { self.new.marks ≡ self.old.marks }
+        // Nobody is forgotten.
+        ensures served { KeepsServed self.old self.new }
     {
         let count = self.payload_count(id);
         if count == 0 {
@@ -646,6 +688,7 @@ impl Engine {
         ensures goes_on { result ≡ 0 → is_stuck self.new.engine.session ≡ false }
         ensures others { KeepsOthers id self.old.turns self.new.turns }
         ensures marks { self.new.marks ≡ self.old.marks }
+        ensures served { KeepsServed self.old self.new }
     {
         match self.connections.get(id) {
             Some(connection) if connection.may_push() => self.offer_to(id, connection, device),
@@ -663,6 +706,7 @@ impl Engine {
         ensures goes_on { result ≡ 0 → is_stuck self.new.engine.session ≡ false }
         ensures others { KeepsOthers id self.old.turns self.new.turns }
         ensures marks { self.new.marks ≡ self.old.marks }
+        ensures served { KeepsServed self.old self.new }
     {
         let mut connection = connection;
         let waits = self.incoming.waiting();
@@ -700,6 +744,8 @@ impl Engine {
         // That the wire may have bytes stays, and so does what is known of connections.
         ensures pull { self.new.marks.can_pull_wire ≡ self.old.marks.can_pull_wire }
         ensures turns { KeepsTurns self.old.turns self.new.turns }
+        // Nobody is forgotten.
+        ensures served { KeepsServed self.old self.new }
     {
         'write: for turn in 0..4u64 {
             if !self.write_once(wire) {

@@ -6,6 +6,7 @@ ghost use Rattle.ymx_machine.specs.declared.types.Call.TheVariants as call;
 ghost use Rattle.ymx_machine.specs.shared.Events.{Reply};
 ghost use Rattle.ymx_model.specs.session.Emissions.{in_turn};
 ghost use Rattle.ymx_model.specs.session.Histories.{Gives};
+ghost use Rattle.ymx_law_session.specs.Limits.{IsWithin};
 ghost use Rattle.ymx_session.specs.Streams.{waiting, room_of};
 ghost use Rattle.ymx_engine.specs.Devices.{IsShut, CountsSome};
 ghost use Rattle.ymx_engine.specs.Exchanges.{Exchange};
@@ -37,6 +38,7 @@ pub(crate) fn serve<D: Device>(
     ensures follows { FollowsDevice connection.old connection.new (D.seen device.old).counts (D.seen device.new).counts }
     ensures delivers { may_push connection.old ≡ true → 0 < length (waiting id session.old) → IsOffered connection.new (D.seen device.old).counts (D.seen device.new).counts }
     ensures collects { reads ≡ true → 0 < length buffer.old → may_pull connection.old ≡ true → IsAsked connection.new (D.seen device.old).counts (D.seen device.new).counts (room_of id session.new) }
+    ensures stays { IsWithin session.old → may_push connection.new ≡ true → 0 < length (waiting id session.new) → result ≡ true }
 {
     let more = deliver(session, id, connection, device);
     hear_stop(session, id, connection, device);
@@ -57,6 +59,7 @@ fn deliver<D: Device>(
     ensures calls { (D.seen device.new).calls ≤ (D.seen device.old).calls + 8 }
     ensures follows { FollowsDevice connection.old connection.new (D.seen device.old).counts (D.seen device.new).counts }
     ensures delivers { may_push connection.old ≡ true → 0 < length (waiting id session.old) → IsOffered connection.new (D.seen device.old).counts (D.seen device.new).counts }
+    ensures stays { may_push connection.new ≡ true → 0 < length (waiting id session.new) → result ≡ true }
 {
     'push: for turn in 0..4u64 {
         if !connection.may_push() {
@@ -82,6 +85,7 @@ fn push_once<D: Device>(
     ensures follows { FollowsDevice connection.old connection.new (D.seen device.old).counts (D.seen device.new).counts }
     ensures delivers { 0 < length (waiting id session.old) → IsOffered connection.new (D.seen device.old).counts (D.seen device.new).counts }
     ensures goes_on { result ≡ true → may_push connection.new ≡ true }
+    ensures stays { may_push connection.new ≡ true → 0 < length (waiting id session.new) → result ≡ true }
 {
     let bytes = session.unread(id);
     if bytes.is_empty() {

@@ -1,10 +1,11 @@
 //! Offers payload straight to its device.
 
-ghost use Rattle.std.specs.Prelude.{◌≡◌, ◌+◌, ◌<◌, ◌≤◌, length, take, drop, false, Some};
+ghost use Rattle.std.specs.Prelude.{ℕ, ◌≡◌, ◌+◌, ◌<◌, ◌≤◌, length, take, drop, nat_eq, false, Some};
 ghost use Rattle.ymx_model.specs.session.Feeds.{is_stuck};
 ghost use Rattle.ymx_session.specs.declared.passing.Passing.{Passing};
 ghost use Rattle.ymx_session.specs.Passing.{passing};
 ghost use Rattle.ymx_engine.specs.Passes.{Gathers, OffersOnce, Settles};
+ghost use Rattle.ymx_engine.specs.Served.{GainsNone};
 
 use crate::calls::pass;
 use crate::connection::Connection;
@@ -27,6 +28,7 @@ pub(crate) fn offer<D: Device>(
     requires { (payload : Passing) × (passing session.old ≡ Some payload) × (payload.id ≡ id) × (0 < payload.missing) }
     ensures offered { OffersOnce id waits.now result session.old session.new (D.seen device.old) (D.seen device.new) }
     ensures goes_on { result ≡ 0 → is_stuck session.new ≡ false }
+    ensures others { (other : ℕ) → nat_eq id other ≡ false → GainsNone other session.old session.new }
 {
     let gathered = gather(session, waits);
     match gathered.push_to(device) {
@@ -63,6 +65,7 @@ fn settle(
     ensures within { result ≤ length waits.now }
     ensures some { 0 < result }
     ensures settled { Settles id (take taken gathered.now) waits.now (drop result waits.now) session.old session.new }
+    ensures others { (other : ℕ) → nat_eq id other ≡ false → GainsNone other session.old session.new }
 {
     payload_follows();
     let mut at = 0;

@@ -1,20 +1,31 @@
 //! How an engine stands: whether it has work, and what its session says.
 
-ghost use Rattle.std.specs.Prelude.{◌≡◌, length, true};
+ghost use Rattle.std.specs.Prelude.{◌≡◌, length, true, false};
 ghost use Rattle.ymx_model.specs.session.Sessions.{is_running};
 ghost use Rattle.ymx_engine.specs.Engines.{IsFlushed};
 ghost use Rattle.ymx_engine.specs.Marks.{may_have_bytes, may_read_wire, has_work};
+ghost use Rattle.ymx_engine.specs.Served.{AreServed, NoneWaits};
 
 use crate::engine::Engine;
 use ymx_model::Status;
 
 impl Engine {
-    /// Whether a round may move something though no event comes: a connection is queued, the wire may have bytes or bytes
-    /// of it wait to be fed, or something is due that the wire may take. If not, the caller may wait for the next event.
+    /// Whether a round may move something though no event comes: a connection is queued or missed its turn, the wire may have
+    /// bytes or bytes of it wait to be fed, or something is due that the wire may take. If not, the caller may wait for the next event.
     pub fn has_work(&self) -> bool
+        ensures exact { result ≡ has_work self.now }
+        // At rest no bytes of a stream wait that its device may take now.
+        ensures rest { AreServed self.now → result ≡ false → NoneWaits self.now }
+    {
+        self.may_move()
+    }
+
+    /// Whether a connection, the wire, or what is due may move something.
+    fn may_move(&self) -> bool
         ensures { result ≡ has_work self.now }
     {
         !self.connections.is_idle()
+            || self.connections.has_missed()
             || self.may_read_wire()
             || (self.can_push_wire && (self.session.due() || !self.outgoing.waiting().is_empty()))
     }

@@ -29,3 +29,9 @@ returns-then-not-push_once-clause-delivers g c = offered_next _ (λ s. 0 < lengt
 
 pub returns-then-not-may_push-clause-delivers : goal.returns-then-not-may_push-clause-delivers
 returns-then-not-may_push-clause-delivers g c = offered_before _ (λ s. 0 < length (waiting c.args.id s)) _ _ _ _ _ _ c.push.invariant.3 c.push.invariant.4 (sym c.may_push.ensures ∙ c.if-not-may_push.true)
+
+pub returns-then-not-may_push-clause-stays : goal.returns-then-not-may_push-clause-stays
+returns-then-not-may_push-clause-stays g c = λ may waits. absurd (let e = sym may ∙ sym c.may_push.ensures ∙ c.if-not-may_push.true in cc)
+
+pub returns-then-not-push_once-clause-stays : goal.returns-then-not-push_once-clause-stays
+returns-then-not-push_once-clause-stays g c = λ may waits. absurd (let e = sym (c.push_once.ensures.stays may waits) ∙ c.if-not-push_once.true in cc)

@@ -1,8 +1,7 @@
-use Rattle.std.proofs.Common.{refl, ◌∙◌}
+use Rattle.std.proofs.Common.{refl, ◌∙◌, ap, inl, inr, arith}
 use Rattle.ymx_engine.proofs.Exchanging.{stopped, unshut, shut_by}
 use Rattle.ymx_engine.proofs.Serving.{exchanges_once, exchanges_then, exchanges_due}
 use Rattle.ymx_engine.proofs.Following.{grow_same, follows_same, follows_broken}
-use Rattle.std.proofs.Common.{ap, inl, inr, arith}
 use Rattle.std.proofs.lemmas.Grind.{common_steps}
 use Rattle.ymx_session.specs.Streams.{room_of}
 use Rattle.ymx_engine.proofs.exchange.pull_once.Goals as goal

@@ -16,3 +16,12 @@ returns-then-holds-clause-turns c = λ other h. waits_then c.args.id other _ _ _
 
 pub returns-then-more-clause-again : goal.returns-then-more-clause-again
 returns-then-more-clause-again c = λ on some room. c.enqueue_again.ensures.waits (there_now c.args.id c.args.connection _ _ (c.set.ensures.known some)) (c.set.ensures.room ∙ room)
+
+pub returns-then-more-clause-awaits : goal.returns-then-more-clause-awaits
+returns-then-more-clause-awaits c = λ on some. c.enqueue_again.ensures.awaits (there_now c.args.id c.args.connection _ _ (c.set.ensures.known some))
+
+pub returns-then-more-clause-missed : goal.returns-then-more-clause-missed
+returns-then-more-clause-missed c = λ h. c.enqueue_again.ensures.turn.3 (c.set.ensures.queues.3 ∙ h)
+
+pub returns-then-holds-clause-missed : goal.returns-then-holds-clause-missed
+returns-then-holds-clause-missed c = λ h. c.hold.ensures.turns.2 ∙ c.set.ensures.queues.3 ∙ h

@@ -1,7 +1,7 @@
 use Rattle.std.proofs.Common.{sym, ap, ◌∙◌, inr}
 use Rattle.ymx_engine.specs.declared.connections.Entry.{Entry}
 use Rattle.ymx_engine.specs.Turns.{Turns}
-use Rattle.ymx_engine.proofs.Queueing.{listed_busy, pushed_there_behind}
+use Rattle.ymx_engine.proofs.Queueing.{listed_busy, pushed_there_behind, called_busy}
 use Rattle.ymx_engine.proofs.Running.{is_some_at}
 use Rattle.ymx_engine.proofs.connections.Connections.enqueue_again.Goals as goal
 
@@ -13,3 +13,6 @@ invariant_of-self c =
 
 pub returns-then-not-found-clause-waits : goal.returns-then-not-found-clause-waits
 returns-then-not-found-clause-waits c = λ some room. inr (pushed_there_behind c.push_back.result _ _ _ _ _ _ c.push_back.ensures.items c.push_back.ensures.succeeds (ap (λ (t : Turns). t.has_room) c.self.view_is ∙ room))
+
+pub returns-then-not-found-clause-awaits : goal.returns-then-not-found-clause-awaits
+returns-then-not-found-clause-awaits c = λ some. called_busy c.push_back.result _ c.self.inside.missed _ _ _ _ c.is_ok-found.ensures.value c.push_back.ensures.items

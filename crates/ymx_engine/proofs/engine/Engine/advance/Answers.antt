@@ -22,6 +22,7 @@ payload-preserved c =
       omega arith,
       keeps_then _ _ _ c.payload.invariant.2 (keeps_then _ _ _ c.feed_to_payload.ensures.turns c.feed_front.ensures.turns),
       c.feed_front.ensures.marks ∙ c.feed_to_payload.ensures.marks ∙ c.payload.invariant.3,
+      λ h. c.feed_front.ensures.served (c.feed_to_payload.ensures.served (c.payload.invariant.4 h)),
     )
 
 pub returns-in-None-clause-turns : goal.returns-in-None-clause-turns
@@ -31,7 +32,7 @@ pub returns-then-may_pass-clause-turns : goal.returns-then-may_pass-clause-turns
 returns-then-may_pass-clause-turns c = keeps_then _ _ _ c.payload.invariant.2 c.feed_to_payload.ensures.turns
 
 pub payload-init : goal.payload-init
-payload-init c = (handles_in_none _, omega arith, keeps_same _, refl)
+payload-init c = (handles_in_none _, omega arith, keeps_same _, refl, λ h. h)
 
 pub returns-clause-turns : goal.returns-clause-turns
 returns-clause-turns c = c.payload.invariant.2
@@ -44,3 +45,12 @@ returns-in-None-clause-marks c = c.feed_to_payload.ensures.marks ∙ c.payload.i
 
 pub returns-then-may_pass-clause-marks : goal.returns-then-may_pass-clause-marks
 returns-then-may_pass-clause-marks c = c.feed_to_payload.ensures.marks ∙ c.payload.invariant.3
+
+pub returns-clause-served : goal.returns-clause-served
+returns-clause-served c = c.payload.invariant.4
+
+pub returns-in-None-clause-served : goal.returns-in-None-clause-served
+returns-in-None-clause-served c = λ h. c.feed_to_payload.ensures.served (c.payload.invariant.4 h)
+
+pub returns-then-may_pass-clause-served : goal.returns-then-may_pass-clause-served
+returns-then-may_pass-clause-served c = λ h. c.feed_to_payload.ensures.served (c.payload.invariant.4 h)

@@ -1,3 +1,4 @@
+use Rattle.ymx_engine.proofs.Forgetting.{flushed_served}
 use Rattle.std.proofs.Common.{◌+◌, ◌∙◌, arith}
 use Rattle.ymx_engine.proofs.Carrying.{flushes_then, flushes_more, flushes_same}
 use Rattle.ymx_engine.proofs.Moving.{writes_none, writes_more, writes_offer, writes_still, then_some}
@@ -31,3 +32,9 @@ returns-clause-moved g c = flushes_more _ _ _ _ c.write.turn 4 (omega arith) c.w
 
 pub returns-then-not-write_once-clause-turns : goal.returns-then-not-write_once-clause-turns
 returns-then-not-write_once-clause-turns g c = keeps_then _ _ _ c.write.invariant.2 c.write_once.ensures.turns
+
+pub returns-then-not-write_once-clause-served : goal.returns-then-not-write_once-clause-served
+returns-then-not-write_once-clause-served g c = flushed_served _ _ _ _ _ (flushes_then _ _ _ _ _ _ _ 1 c.write.invariant.0 c.write_once.ensures.moved) (keeps_then _ _ _ c.write.invariant.2 c.write_once.ensures.turns)
+
+pub returns-clause-served : goal.returns-clause-served
+returns-clause-served g c = flushed_served _ _ _ _ _ c.write.invariant.0 c.write.invariant.2

@@ -1,7 +1,8 @@
 use Rattle.std.proofs.Common.{ap, ◌∙◌, drop}
 use Rattle.ymx_engine.specs.Marks.{EngineView}
 use Rattle.ymx_engine.proofs.Advancing.{offers_front}
-use Rattle.ymx_engine.proofs.Queueing.{others_from, others_set, waits_then}
+use Rattle.ymx_engine.proofs.Queueing.{others_from, others_set, waits_then, awaits_added}
+use Rattle.ymx_engine.proofs.Forgetting.{from_served, offered_served, same_awaits}
 use Rattle.ymx_engine.proofs.engine.Engine.offer_to.Goals as goal
 
 pub returns-clause-passed : goal.returns-clause-passed
@@ -17,4 +18,11 @@ returns-clause-others g c =
     others_from _ _ _ _ (ap (λ (v : EngineView). v.turns) c.self.view_is) (record {
       known = λ other ne. c.enqueue.ensures.known other ∙ others_set c.args.id _ _ _ c.set.ensures.known c.set.ensures.none other ne;
       turns = λ other h. waits_then c.args.id other _ _ _ _ _ _ q.0 q.1 t.0 t.1 h;
+      awaits = λ other ne some h. awaits_added c.args.id other c.set.new.self c.enqueue.new.self t (same_awaits other c.self.inside.connections c.set.new.self q.0 q.1 q.3 h);
     })
+
+pub returns-clause-served : goal.returns-clause-served
+returns-clause-served g c =
+    from_served _ _ _ c.self.view_is
+    (offered_served c.args.id c.offer-taken.result c.args.connection c.waiting-waits.result.now _ _ c.set.new.self _ _ c.offer-taken.ensures.offered c.offer-taken.ensures.others
+    (others_set c.args.id _ _ _ c.set.ensures.known c.set.ensures.none) c.set.ensures.queues c.enqueue.ensures.known c.enqueue.ensures.turn c.enqueue.ensures.awaits)

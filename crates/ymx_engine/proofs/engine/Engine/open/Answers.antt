@@ -1,3 +1,7 @@
+use Rattle.std.proofs.Common.{ap, true}
+use Rattle.ymx_engine.specs.Engines.{Engine}
+use Rattle.ymx_engine.specs.Known.{new_connection}
+use Rattle.ymx_engine.proofs.Forgetting.{added_served}
 use Rattle.ymx_model.specs.declared.types.Event.TheVariants as event
 use Rattle.ymx_machine.specs.declared.types.Call.TheVariants as call
 use Rattle.ymx_machine.specs.declared.types.Reply.TheVariants as reply
@@ -9,3 +13,6 @@ returns-in-Ok-clause-opened c = given_after (event.Call call.Open) (reply.Opened
 
 pub returns-in-Err-open_stream-clause-refused : goal.returns-in-Err-open_stream-clause-refused
 returns-in-Err-open_stream-clause-refused c = refused_after _ _ c.open_stream.new.self.engine _ c.reserve.ensures.engine c.in-Err-open_stream.ensures.refused
+
+pub returns-in-Ok-clause-served : goal.returns-in-Ok-clause-served
+returns-in-Ok-clause-served c = added_served c.in-Ok.id (new_connection true) _ c.reserve.new.self c.open_stream.new.self _ (ap (λ (e : Engine). e.session) c.reserve.ensures.engine) c.reserve.ensures.known c.reserve.ensures.queues c.in-Ok.ensures.served (ap (λ (e : Engine). e.session) c.add.ensures.engine) c.add.ensures.added

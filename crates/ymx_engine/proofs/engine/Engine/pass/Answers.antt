@@ -10,3 +10,9 @@ returns-then-count-eq0-clause-others g c = others_same _ _
 
 pub returns-then-taken-count-clause-others : goal.returns-then-taken-count-clause-others
 returns-then-taken-count-clause-others g c = others_then _ _ _ _ c.offer-taken.ensures.others c.feed_front.ensures.turns
+
+pub returns-then-count-eq0-clause-served : goal.returns-then-count-eq0-clause-served
+returns-then-count-eq0-clause-served g c = λ h. h
+
+pub returns-then-taken-count-clause-served : goal.returns-then-taken-count-clause-served
+returns-then-taken-count-clause-served g c = λ h. c.feed_front.ensures.served (c.offer-taken.ensures.served h)

@@ -1,11 +1,15 @@
-use Rattle.std.proofs.Common.{ℕ, List, ◌<◌, ◌≡◌, ◌∙◌, true, ap, sym, subst, length}
+use Rattle.std.proofs.Common.{ℕ, List, ◌<◌, ◌≡◌, ◌∙◌, true, refl, ap, sym, subst, length}
 use Rattle.ymx_session.specs.Streams.{waiting, room_of}
 use Rattle.ymx_engine.specs.Known.{may_push, may_pull}
 use Rattle.ymx_engine.specs.Follows.{FollowsDevice, IsOffered, IsAsked}
 use Rattle.ymx_engine.specs.Marks.{EngineView}
+use Rattle.ymx_engine.specs.Turns.{known_as}
 use Rattle.ymx_engine.proofs.Exchanging.{exchange_same}
 use Rattle.ymx_engine.proofs.Following.{still_known, none_known}
-use Rattle.ymx_engine.proofs.Queueing.{others_from, others_known, others_same}
+use Rattle.ymx_engine.proofs.Queueing.{others_from, others_known, others_same, await_on}
+use Rattle.ymx_engine.proofs.Running.{is_some_at}
+use Rattle.ymx_engine.proofs.Coming.{exchanges_calm}
+use Rattle.ymx_engine.proofs.Forgetting.{from_served_but, served_but, served_unknown, turn_served, calm_but}
 use Rattle.ymx_engine.proofs.Serving.{exchanges_once}
 use Rattle.ymx_engine.proofs.engine.Engine.serve.Goals as goal
 
@@ -23,7 +27,7 @@ returns-in_default-clause-delivers g c = λ some was at. absurd (none_known c.ar
 
 pub returns-in-Some-clause-others : goal.returns-in-Some-clause-others
 returns-in-Some-clause-others g c =
-    others_from _ _ _ _ (ap (λ (v : EngineView). v.turns) c.self.view_is) (record { known = others_known c.args.id _ _ _ _ c.in-Some.ensures c.end_turn.ensures.known; turns = c.end_turn.ensures.turns })
+    others_from _ _ _ _ (ap (λ (v : EngineView). v.turns) c.self.view_is) (record { known = others_known c.args.id _ _ _ _ c.in-Some.ensures c.end_turn.ensures.known; turns = c.end_turn.ensures.turns; awaits = λ other ne some h. await_on other c.self.inside.connections c.end_turn.new.self (c.end_turn.ensures.turns other) c.end_turn.ensures.missed h })
 
 pub returns-in-Some-clause-follows : goal.returns-in-Some-clause-follows
 returns-in-Some-clause-follows g c =
@@ -45,3 +49,14 @@ returns-in-Some-clause-collects g c = λ on.
     still_known c.args.id _ _ c.self.inside.connections c.args.self.now.turns c.end_turn.new.self
     (λ was now. may_pull was ≡ true → IsAsked now (g.D.Device.seen c.args.device.now).counts (g.D.Device.seen c.serve-more.new.device).counts (room_of c.args.id c.serve-more.new.session))
     (ap (λ (v : EngineView). v.turns) c.self.view_is) c.in-Some.ensures c.end_turn.ensures.known (c.serve-more.ensures.collects (c.may_take_more-may_pull.ensures ∙ on) (subst (λ (v : List ℕ). 0 < length v) (sym c.as_mut_slice-buffer.ensures.value) c.self.invariant))
+
+pub returns-in_default-clause-served : goal.returns-in_default-clause-served
+returns-in_default-clause-served g c = served_unknown c.args.id c.args.self.now _ refl (ap (λ (v : EngineView). known_as c.args.id v.turns.known) (sym c.self.view_is) ∙ sym c.in_default.ensures)
+
+pub returns-in-Some-clause-served : goal.returns-in-Some-clause-served
+returns-in-Some-clause-served g c =
+    let e = c.end_turn.ensures in
+    from_served_but _ _ _ _ c.self.view_is
+    (served_but c.args.id _ _ (λ w. calm_but c.args.id _ _ (exchanges_calm c.args.id _ _ _ _ _ _ c.serve-more.ensures.moved w)) (others_known c.args.id _ _ _ _ c.in-Some.ensures e.known)
+    (λ other ne some h. await_on other c.self.inside.connections c.end_turn.new.self (e.turns other) e.missed h)
+    (λ w. turn_served c.args.id _ _ c.self.inside.connections c.end_turn.new.self c.serve-more.new.session (is_some_at (sym c.in-Some.ensures)) e.known e.awaits (c.serve-more.ensures.stays w)))

@@ -1,0 +1,36 @@
+-- That nobody who can be served is forgotten (this project's own).
+use Rattle.std.specs.Prelude.{ℕ, ◌≡◌, ◌<◌, ◌⊎◌, List, [], length, true, false, Some, nat_eq}
+use Rattle.ymx_model.specs.session.Sessions.{Session}
+use Rattle.ymx_law_session.specs.Limits.{IsWithin}
+use Rattle.ymx_session.specs.Streams.{waiting}
+use Rattle.ymx_engine.specs.declared.connection.Connection.{Connection}
+use Rattle.ymx_engine.specs.Known.{may_push}
+use Rattle.ymx_engine.specs.Marks.{EngineView}
+use Rattle.ymx_engine.specs.Turns.{known_as, Awaits}
+
+-- Where bytes of this stream wait and its connection's device may take some, the connection waits for a turn, or some turn
+-- was missed.
+abbrev pub IsServed : ℕ → EngineView → Type 0
+IsServed id v = (c : Connection) → known_as id v.turns.known ≡ Some c → may_push c ≡ true → 0 < length (waiting id v.engine.session) → Awaits id v.turns
+
+-- So it is with each stream. The session keeps its limits, as each does.
+pub record AreServed (v : EngineView) : Type 0 where
+  pub within : IsWithin v.engine.session
+  pub each : (id : ℕ) → IsServed id v
+
+-- so it is with each stream but this
+pub record AreServedBut (id : ℕ) (v : EngineView) : Type 0 where
+  pub within : IsWithin v.engine.session
+  pub each : (other : ℕ) → nat_eq id other ≡ false → IsServed other v
+
+-- where bytes of this stream wait, some waited before
+abbrev pub GainsNone : ℕ → Session → Session → Type 0
+GainsNone id s t = 0 < length (waiting id t) → 0 < length (waiting id s)
+
+-- nobody is forgotten
+abbrev pub KeepsServed : EngineView → EngineView → Type 0
+KeepsServed old new = AreServed old → AreServed new
+
+-- no bytes of a stream wait that its connection's device may take now
+abbrev pub NoneWaits : EngineView → Type 0
+NoneWaits v = (id : ℕ) (c : Connection) → known_as id v.turns.known ≡ Some c → (waiting id v.engine.session ≡ []) ⊎ (may_push c ≡ false)
