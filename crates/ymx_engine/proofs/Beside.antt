@@ -1,5 +1,5 @@
 -- Payload of one stream that is passed on, and the header behind it, leave the other streams alone.
-use Rattle.std.proofs.Common.{◌≡◌, ◌≢◌, ◌⊎◌, inl, inr, ℕ, ◌+◌, ◌-◌, ◌<◌, ◌≤◌, ◌==◌, List, [], ◌∷◌, ◌++◌, length, take, Bool, true, false, if◌then◌else◌, Option, None, Some, refl, sym, ap, ◌∙◌, subst, arith, append_assoc, length-append, length-take-le, suc}
+use Rattle.std.proofs.Common.{◌≡◌, ◌≢◌, ℕ, ◌+◌, ◌-◌, ◌<◌, ◌≤◌, ◌==◌, List, [], ◌∷◌, ◌++◌, length, take, Bool, true, false, if◌then◌else◌, refl, sym, ap, ◌∙◌, subst, arith, append_assoc, length-append, length-take-le, suc}
 use Rattle.std.specs.Prelude.{nat_eq, nat_lt}
 use Rattle.std.proofs.lemmas.Bool.Decides.{nat_tests}
 use Rattle.ymx_header.specs.declared.header.Header.{Header}
@@ -11,22 +11,19 @@ use Rattle.ymx_machine.specs.shared.Lists.{look}
 use Rattle.ymx_machine.specs.shared.Events.{Reply}
 use Rattle.ymx_machine.proofs.Tests.{split}
 use Rattle.ymx_model.specs.declared.types.Event.TheVariants as event
-use Rattle.ymx_model.specs.declared.types.Status.{Status}
 use Rattle.ymx_model.specs.declared.types.Status.TheVariants.{Running}
 use Rattle.ymx_model.specs.session.Arrivals.{head_comes, piece_comes}
-use Rattle.ymx_model.specs.session.Calls.{outcome}
 use Rattle.ymx_model.specs.session.Emissions.{in_turn}
 use Rattle.ymx_model.specs.session.Feeds.{Takes, byte_comes, byte_in}
 use Rattle.ymx_model.specs.session.Histories.{Gives, CallGives}
 use Rattle.ymx_model.specs.session.Histories.CallGives.{Outcome as HasOutcome, NoMemory}
 use Rattle.ymx_model.specs.session.Tables.{remove_record}
-use Rattle.ymx_model.specs.session.Sessions.{Session, Incoming, is_closed, is_deaf, is_spent, on_stream, settle}
+use Rattle.ymx_model.specs.session.Sessions.{Session, Incoming, is_closed, is_spent, on_stream, settle}
 use Rattle.ymx_model.specs.session.Sessions.Incoming.{Head, Payload}
 use Rattle.ymx_law_session.proofs.nothing_else.Others.{head-others, piece-others, read-others}
 use Rattle.ymx_law_session.proofs.nothing_else.StreamCalls.{read-stays}
-use Rattle.ymx_session.specs.declared.passing.Passing.{Passing}
-use Rattle.ymx_session.specs.Passing.{passing, Passes, PassesBehind, IsPlainHeader, all_fed, plain_header}
-use Rattle.ymx_session.proofs.Passes.{IsPassing, passing-is}
+use Rattle.ymx_session.specs.Passing.{Passes, PassesBehind, IsPlainHeader, all_fed}
+use Rattle.ymx_session.proofs.Passes.{passing-is}
 use Rattle.ymx_engine.proofs.Advancing.{take_all}
 use Rattle.ymx_engine.proofs.Coming.{NoneCameOf, came_same}
 use Rattle.ymx_engine.proofs.Forgetting.{fed_open}

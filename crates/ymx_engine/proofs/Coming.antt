@@ -2,7 +2,6 @@
 use Rattle.std.proofs.Common.{◌≡◌, ◌≢◌, ◌⊎◌, inl, inr, ℕ, ◌<◌, List, [], ◌∷◌, length, drop, Bool, true, false, ◌==◌, ◌&&◌, ◌||◌, nat_lt, if◌then◌else◌, Option, None, Some, refl, sym, ap, ◌∙◌, subst, arith, length-drop}
 use Rattle.std.specs.Prelude.{is_some, option_map}
 use Rattle.std.specs.List.{list_all}
-use Rattle.std.proofs.lemmas.Grind.{common_steps}
 use Rattle.ymx_machine.specs.declared.types.Call.TheVariants as call
 use Rattle.ymx_machine.specs.declared.types.CallFault.TheVariants.{Closed as ClosedFault}
 use Rattle.ymx_machine.specs.shared.Events.{Reply, Call}
@@ -22,7 +21,7 @@ use Rattle.ymx_model.specs.session.FramesDue.{begin_frame, next_kind, spelled}
 use Rattle.ymx_model.specs.session.Tables.{with_record, pass_turn, remove_record}
 use Rattle.ymx_model.specs.session.Sessions.{Session, is_closed, is_lost, is_running, is_broken, is_spent, on_stream, settle, nothing_outgoing}
 use Rattle.ymx_model.specs.session.Calls.{outcome, write_outcome, read_outcome, finish_outcome, reset_outcome, status_input_ends, feed_end}
-use Rattle.ymx_model.specs.session.Emissions.{Choice, begin, begin_answer, begin_stream, begin_kind, begins, alarm_frame, go_away_frame, answer_frame, ping_frame, moves_on, settles, Ready, Flows, in_turn}
+use Rattle.ymx_model.specs.session.Emissions.{Choice, begin, begin_answer, begin_stream, begin_kind, begins, alarm_frame, go_away_frame, ping_frame, moves_on, settles, Ready, Flows, in_turn}
 use Rattle.ymx_model.specs.session.Emissions.Choice.{TheAlarm, TheGoAway, TheAnswer, ThePing, AStream}
 use Rattle.ymx_model.specs.session.GoAway.{away_due, begin_away}
 use Rattle.ymx_model.specs.session.Pings.{has_asked, begin_ping}

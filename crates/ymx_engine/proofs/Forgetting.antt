@@ -1,14 +1,12 @@
 -- Nobody who can be served is forgotten.
 use Rattle.std.proofs.Common.{◌≡◌, ◌≢◌, ◌⊎◌, inl, inr, ℕ, ◌<◌, List, [], ◌∷◌, length, take, Bool, true, false, not, ◌||◌, ◌&&◌, ◌==◌, if◌then◌else◌, Option, None, Some, Result, Ok, Err, refl, sym, ap, ◌∙◌, subst, cond, arith}
 use Rattle.std.specs.Prelude.{nat_eq, nat_le, IsSome, IfSome, IfNone, IfOk, count_by, Contains}
-use Rattle.std.specs.List.{list_all, list_any}
 use Rattle.std.proofs.lemmas.Bool.Decides.{nat_tests}
 use Rattle.ymx_machine.specs.declared.types.Call.TheVariants as call
 use Rattle.ymx_machine.specs.declared.types.CallFault.{CallFault}
 use Rattle.ymx_machine.specs.declared.types.CallFault.TheVariants as fault
 use Rattle.ymx_machine.specs.declared.types.Fed.{Fed}
 use Rattle.ymx_machine.specs.declared.types.Reply.TheVariants as reply
-use Rattle.ymx_machine.specs.shared.Evidence.{evidence}
 use Rattle.ymx_machine.specs.shared.Events.{Reply, Call}
 use Rattle.ymx_machine.specs.shared.Limits.{most_records, most_unacknowledged, most_pings, first_exhausted}
 use Rattle.ymx_machine.specs.shared.Lists.{look}
@@ -16,10 +14,9 @@ use Rattle.ymx_machine.proofs.Tests.{split, agrees, both_of}
 use Rattle.ymx_model.specs.declared.types.Event.TheVariants as event
 use Rattle.ymx_model.specs.declared.types.Status.{Status}
 use Rattle.ymx_model.specs.declared.types.Status.TheVariants.{Running, Lost, Broken, Closed}
-use Rattle.ymx_model.specs.session.Calls.{Outcome, outcome, answers, refused, open_or, session_opened, open_stream, accept, accept_of, ping, ponged, is_unacknowledged}
+use Rattle.ymx_model.specs.session.Calls.{Outcome, outcome, answers, refused, session_opened, open_stream, accept, accept_of, ping, ponged, is_unacknowledged}
 use Rattle.ymx_model.specs.session.Pings.{next_number, ask, has_back, collect}
 use Rattle.ymx_model.specs.session.Emissions.{in_turn}
-use Rattle.ymx_model.specs.session.Events.{Event}
 use Rattle.ymx_model.specs.session.Feeds.{Takes, byte_comes, byte_in}
 use Rattle.ymx_model.specs.session.Histories.{Gives, CallGives}
 use Rattle.ymx_model.specs.session.Histories.CallGives.{Outcome as HasOutcome, NoMemory}
@@ -31,22 +28,19 @@ use Rattle.ymx_law_session.proofs.nothing_else.Others.{forget-others}
 use Rattle.ymx_law_session.proofs.nothing_else.OthersOut.{open-others, accept-others}
 use Rattle.ymx_law_session.proofs.nothing_else.StreamCalls.{forget-stays}
 use Rattle.ymx_session.specs.Passing.{FeedsSome}
-use Rattle.ymx_session.specs.Replies.{opened_or, pinged_or, ponged_or}
+use Rattle.ymx_session.specs.Replies.{opened_or}
 use Rattle.ymx_session.specs.Streams.{waiting}
 use Rattle.ymx_session.specs.Touched.{Noted, is_noted, NotesChanges}
 use Rattle.ymx_engine.specs.declared.connection.Connection.{Connection}
-use Rattle.ymx_engine.specs.declared.connections.Entry.{Entry}
-use Rattle.ymx_engine.specs.Engines.{Engine}
 use Rattle.ymx_engine.specs.Devices.{Seen}
 use Rattle.ymx_engine.specs.Known.{may_push}
 use Rattle.ymx_engine.specs.Marks.{EngineView, has_work, may_read_wire, has_to_send}
 use Rattle.ymx_engine.specs.Passes.{OffersOnce}
 use Rattle.ymx_engine.specs.Refusals.{GivesUp}
 use Rattle.ymx_engine.specs.Served.{IsServed, AreServed, AreServedBut, KeepsServed, NoneWaits}
-use Rattle.ymx_engine.specs.Serves.{Exchanges}
-use Rattle.ymx_engine.specs.Turns.{Turns, known_as, Waits, Awaits, AwaitOn, SameConnections, SameQueues, Knows, Adds, AddsTurn, KeepsTurns, KeepsOthers, TakesTurn, IsIdle, is_idle}
+use Rattle.ymx_engine.specs.Turns.{Turns, known_as, Waits, Awaits, SameConnections, SameQueues, Knows, Adds, AddsTurn, KeepsTurns, TakesTurn, IsIdle, is_idle}
 use Rattle.ymx_engine.specs.Wires.{HandlesOut, FlushesWire}
-use Rattle.ymx_engine.proofs.Coming.{NoneCameOf, NoneCame, IsCalm, happen_within, came_same, came_then, calm_came, turn_is_calm, flush_is_calm}
+use Rattle.ymx_engine.proofs.Coming.{NoneCameOf, NoneCame, IsCalm, happen_within, came_same, calm_came, flush_is_calm}
 use Rattle.ymx_engine.proofs.Queueing.{awaits_added, popped_either}
 use Rattle.ymx_engine.proofs.Running.{eq_ids, is_some_at}
 

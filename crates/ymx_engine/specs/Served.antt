@@ -1,5 +1,5 @@
 -- That nobody who can be served is forgotten (this project's own).
-use Rattle.std.specs.Prelude.{ℕ, ◌≡◌, ◌<◌, ◌⊎◌, List, [], length, true, false, Some, nat_eq}
+use Rattle.std.specs.Prelude.{ℕ, ◌≡◌, ◌<◌, ◌⊎◌, [], length, true, false, Some, nat_eq}
 use Rattle.ymx_model.specs.session.Sessions.{Session}
 use Rattle.ymx_law_session.specs.Limits.{IsWithin}
 use Rattle.ymx_session.specs.Streams.{waiting}
