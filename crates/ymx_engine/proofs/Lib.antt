@@ -14,6 +14,8 @@ pub mod Serving
 pub mod Blocks
 pub mod Running
 pub mod Staying
+pub mod Tending
+pub mod Resting
 mod Moving
 mod Queueing
 mod Following

@@ -1,15 +1,24 @@
 -- What a contract sees of a tunnel (this project's own).
-use Rattle.std.specs.Prelude.{ℕ, ◌≡◌, List, [], ◌∷◌, Option, Some, nat_eq, cond, true, IfSome}
+use Rattle.std.specs.Prelude.{ℕ, ◌≡◌, List, [], ◌∷◌, Option, Some, nat_eq, cond, true, IfSome, IsSome, None}
 use Rattle.std.specs.Map.{lookup}
 use Rattle.ymx_engine.specs.Devices.{Seen}
 use Rattle.ymx_engine.specs.Engines.{Engine, KeepsWire}
 use Rattle.ymx_engine.specs.Refusals.{GivesUp}
+use Rattle.ymx_engine.specs.Marks.{Marks, EngineView}
+use Rattle.ymx_engine.specs.Turns.{Turns, known_as, Knows}
+use Rattle.ymx_engine.specs.Served.{AreServed, AreServedBut}
 
--- the engine, what is seen of its wire, and of the device of each stream
+-- what is seen of its engine, of its wire, and of the device of each stream
 pub record Tunnel : Type 0 where
   pub engine : Engine
+  pub marks : Marks
+  pub turns : Turns
   pub wire : Seen
   pub lines : List (ℕ × Seen)
+
+-- what is seen of its engine alone
+abbrev pub view_of : Tunnel → EngineView
+view_of t = record { engine = t.engine; marks = t.marks; turns = t.turns }
 
 -- what is seen of the device of this stream
 abbrev pub look : ℕ → List (ℕ × Seen) → Option Seen
@@ -24,15 +33,35 @@ lines_of seen (e ∷ es) = (e.0, seen e.1) ∷ lines_of seen es
 abbrev pub HasFailed : Seen → Type 0
 HasFailed s = IfSome s.failed (λ b. b ≡ true)
 
+-- each connection that the engine knows has its device
+abbrev pub HaveDevices : Tunnel → Type 0
+HaveDevices t = (id : ℕ) → IsSome (known_as id t.turns.known) → IsSome (look id t.lines)
+
+-- no connection is known that was not known before
+abbrev pub KnowsNoMore : (old new : Turns) → Type 0
+KnowsNoMore old new = (id : ℕ) → IsSome (known_as id new.known) → IsSome (known_as id old.known)
+
+-- Nobody who can be served is forgotten, and each connection that is known has its device.
+pub record Serving (t : Tunnel) : Type 0 where
+  pub served : AreServed (view_of t)
+  pub devices : HaveDevices t
+
+-- so it is, but the connection of this stream may be forgotten
+pub record ServingBut (id : ℕ) (t : Tunnel) : Type 0 where
+  pub served : AreServedBut id (view_of t)
+  pub devices : HaveDevices t
+
 -- this device joined a stream, and nothing else changed
 pub record Joins (id : ℕ) (seen : Seen) (old new : Tunnel) : Type 0 where
-  pub engine : new.engine ≡ old.engine
+  pub engine : view_of new ≡ view_of old
   pub wire : new.wire ≡ old.wire
   pub lines : (other : ℕ) → look other new.lines ≡ cond (nat_eq id other) (Some seen) (look other old.lines)
 
--- a stream was given up, and nothing else changed
+-- A stream was given up, and its connection is known no more; nothing else changed, and nobody else is forgotten.
 pub record DropsOut (id : ℕ) (old new : Tunnel) : Type 0 where
   pub up : GivesUp id old.engine.session new.engine.session
   pub keeps : KeepsWire old.engine new.engine
+  pub gone : Knows id None old.turns new.turns
+  pub served : AreServedBut id (view_of old) → AreServed (view_of new)
   pub wire : new.wire ≡ old.wire
   pub lines : new.lines ≡ old.lines

@@ -1,14 +1,16 @@
 //! The type `Tunnel`, and its calls.
 
-ghost use Rattle.std.specs.Prelude.{[], IfNone, option_map, ◌≡◌, ◌≤◌, true, false, IfOk, IfSome, IsSome, OnOk, OnErr, None, Ok, length};
+ghost use Rattle.std.specs.Prelude.{[], IfNone, option_map, ◌≡◌, ◌≤◌, ◌+◌, min, true, false, IfOk, IfSome, IsSome, OnOk, OnErr, None, Ok, length};
 ghost use Rattle.ymx_machine.specs.declared.types.Call.TheVariants as call;
 ghost use Rattle.ymx_model.specs.declared.types.Event.TheVariants as event;
 ghost use Rattle.ymx_model.specs.session.Emissions.{in_turn};
 ghost use Rattle.ymx_model.specs.session.Histories.{Gives};
 ghost use Rattle.ymx_session.specs.Replies.{pinged_or, ponged_or};
 ghost use Rattle.ymx_engine.specs.Refusals.{OffersNone};
+ghost use Rattle.ymx_engine.specs.Marks.{has_work};
 ghost use Rattle.ymx_engine.specs.Runs.{Runs, Stays, Changes, IsOver};
-ghost use Rattle.ymx_engine.specs.Tunnels.{look, Joins, DropsOut};
+ghost use Rattle.ymx_engine.specs.Served.{AreServed, KeepsServed, NoneWaits};
+ghost use Rattle.ymx_engine.specs.Tunnels.{look, view_of, Joins, DropsOut, Serving, ServingBut, KnowsNoMore};
 
 use crate::connection::Connection;
 use crate::device::Device;
@@ -47,12 +49,16 @@ impl<D: Line + Drop, W: Wire + Drop> Model for Tunnel<D, W> {
 
     ghost Value = { TunnelValue };
 
-    ghost view = { λ t. record { engine = t.engine.engine; wire = W.seen t.wire; lines = lines_of D.seen t.lines.entries } };
+    ghost view = { λ t. record { engine = t.engine.engine; marks = t.engine.marks; turns = t.engine.turns; wire = W.seen t.wire; lines = lines_of D.seen t.lines.entries } };
 }
 
 impl<D: Line + Drop, W: Wire + Drop> Tunnel<D, W> {
     /// A tunnel that has moved nothing, and has no connection.
-    pub fn new(alloc: Global, engine: Engine, wire: W) -> Tunnel<D, W> {
+    pub fn new(alloc: Global, engine: Engine, wire: W) -> Tunnel<D, W>
+        ensures made { result ≡ record { engine = engine.engine; marks = engine.marks; turns = engine.turns; wire = W.seen wire; lines = [] } }
+        // Nobody is forgotten.
+        ensures serves { AreServed engine → engine.turns.known ≡ [] → Serving result }
+    {
         Tunnel {
             engine,
             wire,
@@ -69,7 +75,10 @@ impl<D: Line + Drop, W: Wire + Drop> Tunnel<D, W> {
 
     /// What an event says of the wire: whether it may have bytes, and whether it may take some.
     pub fn note_wire(&mut self, can_pull: bool, can_push: bool)
-        ensures { self.new ≡ self.old }
+        ensures runs { Runs self.old self.new }
+        ensures engine { self.new.engine ≡ self.old.engine }
+        ensures wire { self.new.wire ≡ self.old.wire }
+        ensures lines { self.new.lines ≡ self.old.lines }
     {
         self.engine.note_wire(can_pull, can_push);
     }
@@ -89,7 +98,10 @@ impl<D: Line + Drop, W: Wire + Drop> Tunnel<D, W> {
     /// Once the session is lost, each connection is asked for bytes, so that it is shut, unless its end came before.
     /// What waits for one that is still being made is written first.
     pub fn tell_loss(&mut self)
-        ensures { self.new ≡ self.old }
+        ensures runs { Runs self.old self.new }
+        ensures engine { self.new.engine ≡ self.old.engine }
+        ensures wire { self.new.wire ≡ self.old.wire }
+        ensures lines { self.new.lines ≡ self.old.lines }
     {
         ask_all(&mut self.engine, &self.lines);
     }
@@ -157,12 +169,14 @@ impl<D: Line + Drop, W: Wire + Drop> Tunnel<D, W> {
         ensures lines { self.new.lines ≡ self.old.lines }
         ensures wire { self.new.wire ≡ self.old.wire }
     {
-        let Some(id) = self.engine.take_offered() else {
+        let Some(offered) = self.engine.take_offered() else {
             return false;
         };
         // no id is given twice, so this always is
-        if !self.lines.contains_key(&id) {
-            self.engine.refuse(id);
+        if !self.lines.contains_key(&offered) {
+            self.engine.refuse(offered);
+        } else {
+            self.engine.forget(offered);
         }
         true
     }
@@ -238,7 +252,8 @@ impl<D: Line + Drop, W: Wire + Drop> Tunnel<D, W> {
 
     /// The wire may have more, where `again` says so, until its end was read.
     fn note_more(&mut self, again: bool)
-        ensures { self.new ≡ self.old }
+        ensures runs { Runs self.old self.new }
+        ensures stays { Stays self.old self.new }
     {
         if again && !self.wire.is_over() {
             self.engine.note_wire(true, false);
@@ -280,6 +295,7 @@ impl<D: Line + Drop, W: Wire + Drop> Tunnel<D, W> {
     fn serve(&mut self, id: u32)
         ensures runs { Runs self.old self.new }
         ensures stays { Stays self.old self.new }
+        ensures serves { ServingBut id self.old → Serving self.new }
     {
         if let Some(device) = self.lines.get_mut(&id) {
             self.engine.serve(id, device);
@@ -395,12 +411,18 @@ impl<D: Line + Drop, W: Wire + Drop> Tunnel<D, W> {
     }
 
     /// Whether something can be done though no event comes.
-    pub fn has_work(&self) -> bool {
+    pub fn has_work(&self) -> bool
+        ensures value { result ≡ has_work (view_of self.now) }
+        // At rest no bytes of a stream wait that its device may take now.
+        ensures rest { Serving self.now → result ≡ false → NoneWaits (view_of self.now) }
+    {
         self.engine.has_work()
     }
 
     /// How many connections may have something to move.
-    pub fn queued_count(&self) -> usize {
+    pub fn queued_count(&self) -> usize
+        ensures { result ≡ min (length self.now.turns.fresh + length self.now.turns.busy) usize.MAX }
+    {
         self.engine.queued_count()
     }
 
@@ -431,7 +453,9 @@ impl<D: Line + Drop, W: Wire + Drop> Tunnel<D, W> {
 
 /// Each device that is there may have bytes.
 fn ask_all<D: Line + Drop>(engine: &mut Engine, lines: &IndexMap<u32, D>)
-    ensures { engine.new.engine ≡ engine.old.engine }
+    ensures engine { engine.new.engine ≡ engine.old.engine }
+    ensures known { KnowsNoMore engine.old.turns engine.new.turns }
+    ensures served { KeepsServed engine.old engine.new }
 {
     'line: for (id, device) in lines.iter() {
         if !device.is_connecting() {

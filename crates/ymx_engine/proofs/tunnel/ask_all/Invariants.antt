@@ -1,5 +1,11 @@
 use Rattle.std.specs.Prelude.{◌≡◌}
+use Rattle.ymx_engine.specs.Served.{KeepsServed}
+use Rattle.ymx_engine.specs.Tunnels.{KnowsNoMore}
 use Rattle.ymx_engine.proofs.tunnel.ask_all.Given as goal
 
 abbrev pub invariant-line : goal.invariant-line
-invariant-line g l = l.engine.engine ≡ l.fn.engine.engine
+invariant-line g l = record {
+  engine : l.engine.engine ≡ l.fn.engine.engine;
+  known : KnowsNoMore l.fn.engine.turns l.engine.turns;
+  served : KeepsServed l.fn.engine l.engine;
+}
