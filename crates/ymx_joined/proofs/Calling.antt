@@ -24,6 +24,7 @@ use Rattle.ymx_engine.proofs.Exchanging.{or_same}
 use Rattle.ymx_engine.specs.Serves.{Exchanges}
 use Rattle.ymx_engine.specs.Tunnels.{Tunnel, look}
 use Rattle.ymx_engine.proofs.Running.{served_run}
+use Rattle.ymx_engine.proofs.Tending.{lone_tunnel, lone_serves_none}
 use Rattle.ymx_engine.specs.Refusals.{GivesUp, OpensNone, OffersNone}
 use Rattle.ymx_joined.specs.Pairs.{is_call, IsCalls, IsTurn, IsTunnelTurn, HasCalls, HasFeeds, HasTurns, each_alone}
 use Rattle.ymx_joined.proofs.Piping.{both}
@@ -46,12 +47,12 @@ one_line false d e = refl
 pub served : (id : ℕ) (e f : Engine) (old new : Seen) → (x : Exchanges id e.session f.session e.outgoing f.outgoing old new) → f.incoming ≡ e.incoming → (to from : List ℕ) → IsTurn x.events e f to from to from
 served id e f old new x incoming to from =
     let wire : Seen = record { left = Some from; had = Some to; over = None; ended = None; failed = None; shut = None; calls = 0; counts = uncounted } in
-    let a : Tunnel = record { engine = e; wire = wire; lines = (id, old) ∷ [] } in
-    let b : Tunnel = record { engine = f; wire = wire; lines = (id, new) ∷ [] } in
+    let a : Tunnel = lone_tunnel e wire id old in
+    let b : Tunnel = lone_tunnel f wire id new in
     let at : look id a.lines ≡ Some old = rw (own_test id) refl in
     let now : (other : ℕ) → look other b.lines ≡ cond (nat_eq id other) (Some new) (look other a.lines) =
     λ other. subst (λ (t : Bool). cond (nat_eq other id) (Some new) None ≡ cond t (Some new) (cond (nat_eq other id) (Some old) None)) (sym (same_test id other)) (one_line (nat_eq other id) old new) in
-    let r = served_run a b id old new x incoming refl at now in
+    let r = served_run a b id old new x incoming refl at now (λ s. absurd (lone_serves_none e wire id old s)) in
     let turn : IsTunnelTurn x.events e f to from to from = record { before = a; after = b; runs = r.0; events = r.1; engine = refl; engine_new = refl; left = refl; left_new = refl; had = refl; had_new = refl } in
     inr (inr (inr turn))
 

@@ -18,3 +18,4 @@ pub mod Arriving
 pub mod Keeping
 pub mod Holding
 pub mod Quiet
+pub mod Resting

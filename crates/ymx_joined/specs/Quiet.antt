@@ -1,5 +1,5 @@
 -- When nothing is under way between two tunnels, and what has come then (this project's own).
-use Rattle.std.specs.Prelude.{ℕ, ◌≡◌, ◌==◌, ◌||◌, ◌&&◌, ◌++◌, ◌∷◌, List, [], Bool, true, false, not, None}
+use Rattle.std.specs.Prelude.{ℕ, ◌≡◌, ◌⊎◌, ◌==◌, ◌||◌, ◌&&◌, ◌++◌, ◌∷◌, List, [], Bool, true, false, not, None, Some}
 use Rattle.std.specs.Io.KnownBytes.{Appends, Consumes}
 use Rattle.ymx_machine.specs.declared.types.Call.TheVariants as call
 use Rattle.ymx_machine.specs.declared.types.Reply.TheVariants as reply
@@ -19,6 +19,11 @@ use Rattle.ymx_engine.specs.Devices.{Seen}
 use Rattle.ymx_engine.specs.Engines.{Engine, IsFlushed}
 use Rattle.ymx_engine.specs.Events.{taken, given}
 use Rattle.ymx_engine.specs.Lines.{opens_at}
+use Rattle.ymx_engine.specs.declared.connection.Connection.{Connection}
+use Rattle.ymx_engine.specs.Known.{may_push}
+use Rattle.ymx_engine.specs.Marks.{has_work}
+use Rattle.ymx_engine.specs.Turns.{known_as}
+use Rattle.ymx_engine.specs.Tunnels.{Tunnel, view_of, Serving}
 use Rattle.ymx_joined.specs.Pairs.{Pair, Turn, events_at_a, events_at_b}
 use Rattle.ymx_joined.specs.Carried.{TunnelPair, tunnels_of, BothWork}
 
@@ -102,3 +107,26 @@ pub record IsAllPassedOn (giver giver_new taker taker_new : Seen) (waits : List 
   pub gave : Consumes giver.left giver_new.left came
   pub took : Appends taker.had taker_new.had went
   pub all : came ≡ went ++ waits
+
+-- ---- two tunnels at rest
+
+-- A tunnel that forgets nobody has no work, though its wire may take bytes, and its session runs.
+pub record IsAtRest (t : Tunnel) : Type 0 where
+  pub serves : Serving t
+  pub idle : has_work (view_of t) ≡ false
+  pub takes : t.marks.can_push_wire ≡ true
+  pub runs : is_running t.engine.session.status ≡ true
+
+-- Where this end has the stream, and knows its connection: all that the stream took at the other end was given here, or the
+-- device here may take none now.
+abbrev pub IsDelivered : ℕ → (from to : List (Event × Reply)) → Tunnel → Type 0
+IsDelivered id from to here = (c : Connection) → stream_fault id here.engine.session ≡ None → known_as id here.turns.known ≡ Some c → (taken id from ≡ given id to) ⊎ (may_push c ≡ false)
+
+-- Two tunnels of new sessions, a client's and a server's, over two pipes: whatever they did, in whatever order, once both
+-- are at rest and the pipes are empty they are quiet, and each stream is delivered, both ways.
+abbrev pub AllIsDelivered : List Turn → Type 0
+AllIsDelivered ts =
+    (window_a first_a window_b first_b : ℕ) (q : TunnelPair) (a b : Tunnel) → AreGood window_a first_a window_b first_b →
+    BothWork ts (tunnels_of (new_session Client window_a first_a) (new_session Server window_b first_b)) q → a.engine ≡ q.pair.a → b.engine ≡ q.pair.b →
+    IsAtRest a → IsAtRest b → q.pair.ab ≡ [] → q.pair.ba ≡ [] →
+    AreQuiet q.pair × ((id : ℕ) → IsDelivered id (events_at_a ts) (events_at_b ts) b × IsDelivered id (events_at_b ts) (events_at_a ts) a)

@@ -12,7 +12,7 @@ ghost use Rattle.ymx_engine.specs.Events.{lacks_memory};
 ghost use Rattle.ymx_engine.specs.Lines.{Trades, Change, Lives, sinces};
 ghost use Rattle.ymx_joined.specs.Pairs.{Turn};
 ghost use Rattle.ymx_joined.specs.Carried.{Carries, HadOne, IsPassedOn, TunnelsCarry};
-ghost use Rattle.ymx_joined.specs.Quiet.{HasCome, NextRead, AllHasCome, IsAllPassedOn};
+ghost use Rattle.ymx_joined.specs.Quiet.{HasCome, NextRead, AllHasCome, IsAllPassedOn, AllIsDelivered};
 
 /// Two tunnels, a client's and a server's, over two pipes in memory. They make any calls, in any order; their devices and
 /// the pipes answer as they like, and may fail. Then what each stream gave at one end is a beginning of what it took at the
@@ -58,4 +58,13 @@ pub fn quiet_devices_have_all_but_what_waits()
     ensures { (id : ℕ) (at_giver at_taker : List (Event × Reply)) (giver giver_last taker taker_last : Seen) (reader : Session) →
         HadOne id at_giver giver giver_last → HadOne id at_taker taker taker_last → HasCome id at_giver at_taker reader → lacks_memory id at_giver ≡ false →
         IsAllPassedOn giver giver_last taker taker_last (waiting id reader) }
+{}
+
+/// Two tunnels that have no work have delivered all. They are a client's and a server's, over two pipes in memory; they made
+/// any calls, in any order. Now neither has work, though its wire may take bytes; the pipes are empty, and both sessions run.
+/// Then they are quiet; and where an end has a stream, and knows its connection, all that the stream took at the other end
+/// was given here, or the device here may take none now. (A tunnel keeps its connections served: clause `serves` of
+/// `Tunnel::new`, and of each of its calls.)
+pub fn tunnels_at_rest_have_delivered()
+    ensures { (turns : List Turn) → AllIsDelivered turns }
 {}

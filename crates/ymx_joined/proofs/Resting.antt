@@ -1,0 +1,69 @@
+-- Two tunnels at rest: they are quiet, and all that their streams took was given.
+use Rattle.std.proofs.Common.{◌≡◌, ◌⊎◌, inl, inr, ℕ, List, [], ◌++◌, true, false, None, Some, refl, sym, ap, ◌∙◌, subst, append-nil}
+use Rattle.ymx_machine.specs.shared.Events.{Reply}
+use Rattle.ymx_model.specs.session.Events.{Event}
+use Rattle.ymx_model.specs.session.Sessions.{Session, is_running}
+use Rattle.ymx_session.specs.Replies.{stream_fault}
+use Rattle.ymx_session.specs.Streams.{waiting}
+use Rattle.ymx_engine.specs.Engines.{Engine, IsFlushed}
+use Rattle.ymx_engine.specs.Events.{taken, given}
+use Rattle.ymx_engine.specs.Known.{may_push}
+use Rattle.ymx_engine.specs.Served.{NoneWaits}
+use Rattle.ymx_engine.specs.Tunnels.{Tunnel, view_of}
+use Rattle.ymx_engine.proofs.Resting.{rest_flushed, rest_fed, rest_none}
+use Rattle.ymx_joined.specs.Pairs.{Pair, Turn}
+use Rattle.ymx_joined.specs.Quiet.{AreQuiet, HasCome, IsAtRest, IsDelivered, AllIsDelivered}
+use Rattle.ymx_joined.proofs.Quiet.{all_has_come}
+
+-- ---- a tunnel at rest
+
+-- nothing is due or waits, and no bytes of a stream that its device may take
+record Rests (t : Tunnel) : Type 0 where
+  flushed : IsFlushed t.engine
+  fed : t.engine.incoming ≡ []
+  waits : NoneWaits (view_of t)
+
+rests : (t : Tunnel) → IsAtRest t → Rests t
+rests t r = record {
+  flushed = rest_flushed (view_of t) r.idle r.takes;
+  fed = rest_fed (view_of t) r.idle r.takes r.runs;
+  waits = rest_none (view_of t) r.serves.served r.idle;
+}
+
+-- ---- two of them
+
+pub delivered : (id : ℕ) (from to : List (Event × Reply)) (t : Tunnel) (s : Session) → t.engine.session ≡ s → NoneWaits (view_of t) → (stream_fault id s ≡ None → HasCome id from to s) → IsDelivered id from to t
+delivered id from to t s same waits come c has known = by (waits id c known)
+  where
+    come_here : HasCome id from to t.engine.session
+    come_here = subst (HasCome id from to) (sym same) (come (subst (λ (v : Session). stream_fault id v ≡ None) same has))
+
+    by : (waiting id t.engine.session ≡ []) ⊎ (may_push c ≡ false) → (taken id from ≡ given id to) ⊎ (may_push c ≡ false)
+    by (inl none) = inl (come_here.bytes ∙ ap (λ (v : List ℕ). given id to ++ v) none ∙ append-nil (given id to))
+    by (inr full) = inr full
+
+quiet_pair : (p : Pair) (a b : Tunnel) → a.engine ≡ p.a → b.engine ≡ p.b → IsAtRest a → IsAtRest b → p.ab ≡ [] → p.ba ≡ [] → AreQuiet p
+quiet_pair p a b same_a same_b x y ab ba =
+    let here = rests a x in
+    let there = rests b y in
+    record {
+      flushed_a = subst IsFlushed same_a here.flushed;
+      flushed_b = subst IsFlushed same_b there.flushed;
+      ab = ab;
+      ba = ba;
+      fed_a = subst (λ (e : Engine). e.incoming ≡ []) same_a here.fed;
+      fed_b = subst (λ (e : Engine). e.incoming ≡ []) same_b there.fed;
+      runs_a = subst (λ (e : Engine). is_running e.session.status ≡ true) same_a x.runs;
+      runs_b = subst (λ (e : Engine). is_running e.session.status ≡ true) same_b y.runs;
+    }
+
+pub all_is_delivered : (ts : List Turn) → AllIsDelivered ts
+all_is_delivered ts = λ wa fa wb fb q a b good work same_a same_b x y ab ba.
+    let quiet : AreQuiet q.pair = quiet_pair q.pair a b same_a same_b x y ab ba in (
+      quiet,
+      λ id.
+          let come = all_has_come ts wa fa wb fb q good work quiet id in (
+            delivered id _ _ b q.pair.b.session (ap (λ (e : Engine). e.session) same_b) (rests b y).waits come.to_b,
+            delivered id _ _ a q.pair.a.session (ap (λ (e : Engine). e.session) same_a) (rests a x).waits come.to_a,
+          ),
+    )
