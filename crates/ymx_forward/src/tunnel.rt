@@ -650,7 +650,10 @@ impl<'a> TunnelLoop<'a> {
     /// What waits for one that is still being made is written first. Who brings connections is told too, and where no
     /// session follows, who watches.
     fn tell_loss<R: Clock + Wait, V: Watcher>(&mut self, rt: &R, watcher: &mut V)
-        ensures { self.new.tunnel ≡ self.old.tunnel }
+        ensures runs { Runs self.old.tunnel self.new.tunnel }
+        ensures engine { self.new.tunnel.engine ≡ self.old.tunnel.engine }
+        ensures wire { self.new.tunnel.wire ≡ self.old.tunnel.wire }
+        ensures lines { self.new.tunnel.lines ≡ self.old.tunnel.lines }
     {
         if self.is_loss_told || !self.is_lost() {
             return;
