@@ -11,8 +11,8 @@ use Rattle.ymx_engine.specs.Known.{may_push}
 use Rattle.ymx_engine.specs.Served.{NoneWaits}
 use Rattle.ymx_engine.specs.Tunnels.{Tunnel, view_of}
 use Rattle.ymx_engine.proofs.Resting.{rest_flushed, rest_fed, rest_none}
-use Rattle.ymx_joined.specs.Pairs.{Pair, Turn}
-use Rattle.ymx_joined.specs.Quiet.{AreQuiet, HasCome, IsAtRest, IsDelivered, AllIsDelivered}
+use Rattle.ymx_joined.specs.Pairs.{Turn}
+use Rattle.ymx_joined.specs.Quiet.{IsQuietWay, HasCome, IsAtRest, IsDelivered, AllIsDelivered}
 use Rattle.ymx_joined.proofs.Quiet.{all_has_come}
 
 -- ---- a tunnel at rest
@@ -42,28 +42,23 @@ delivered id from to t s same waits come c has known = by (waits id c known)
     by (inl none) = inl (come_here.bytes ∙ ap (λ (v : List ℕ). given id to ++ v) none ∙ append-nil (given id to))
     by (inr full) = inr full
 
-quiet_pair : (p : Pair) (a b : Tunnel) → a.engine ≡ p.a → b.engine ≡ p.b → IsAtRest a → IsAtRest b → p.ab ≡ [] → p.ba ≡ [] → AreQuiet p
-quiet_pair p a b same_a same_b x y ab ba =
-    let here = rests a x in
-    let there = rests b y in
-    record {
-      flushed_a = subst IsFlushed same_a here.flushed;
-      flushed_b = subst IsFlushed same_b there.flushed;
-      ab = ab;
-      ba = ba;
-      fed_a = subst (λ (e : Engine). e.incoming ≡ []) same_a here.fed;
-      fed_b = subst (λ (e : Engine). e.incoming ≡ []) same_b there.fed;
-      runs_a = subst (λ (e : Engine). is_running e.session.status ≡ true) same_a x.runs;
-      runs_b = subst (λ (e : Engine). is_running e.session.status ≡ true) same_b y.runs;
-    }
+quiet_way : (from to : Engine) (pipe : List ℕ) (a b : Tunnel) → a.engine ≡ from → b.engine ≡ to → IsAtRest a → IsAtRest b → pipe ≡ [] → IsQuietWay from to pipe
+quiet_way from to pipe a b same_a same_b x y empty = record {
+  flushed = subst IsFlushed same_a (rests a x).flushed;
+  empty = empty;
+  fed = subst (λ (e : Engine). e.incoming ≡ []) same_b (rests b y).fed;
+  from_runs = subst (λ (e : Engine). is_running e.session.status ≡ true) same_a x.runs;
+  to_runs = subst (λ (e : Engine). is_running e.session.status ≡ true) same_b y.runs;
+}
 
 pub all_is_delivered : (ts : List Turn) → AllIsDelivered ts
 all_is_delivered ts = λ wa fa wb fb q a b good work same_a same_b x y ab ba.
-    let quiet : AreQuiet q.pair = quiet_pair q.pair a b same_a same_b x y ab ba in (
-      quiet,
+    let to_b = quiet_way q.pair.a q.pair.b q.pair.ab a b same_a same_b x y ab in
+    let to_a = quiet_way q.pair.b q.pair.a q.pair.ba b a same_b same_a y x ba in (
+      (to_b, to_a),
       λ id.
-          let come = all_has_come ts wa fa wb fb q good work quiet id in (
-            delivered id _ _ b q.pair.b.session (ap (λ (e : Engine). e.session) same_b) (rests b y).waits come.to_b,
-            delivered id _ _ a q.pair.a.session (ap (λ (e : Engine). e.session) same_a) (rests a x).waits come.to_a,
+          let come = all_has_come ts wa fa wb fb q good work id in (
+            delivered id _ _ b q.pair.b.session (ap (λ (e : Engine). e.session) same_b) (rests b y).waits (come.to_b to_b),
+            delivered id _ _ a q.pair.a.session (ap (λ (e : Engine). e.session) same_a) (rests a x).waits (come.to_a to_a),
           ),
     )
