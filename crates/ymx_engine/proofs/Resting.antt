@@ -37,14 +37,25 @@ none_read [] (x ∷ xs) true may e r h = let no : ⊥ = cc in absurd no
 none_read [] (x ∷ xs) false may e r h = let no : ⊥ = cc in absurd no
 none_read (y ∷ ys) (x ∷ xs) runs may e r h = let no : ⊥ = cc in absurd no
 
+both_true : (a b : Bool) → (a && b) ≡ true → (a ≡ true) × (b ≡ true)
+both_true true true h = (refl, refl)
+both_true true false h = let no : ⊥ = cc in absurd no
+both_true false b h = let no : ⊥ = cc in absurd no
+
+is_zero : (n : ℕ) → (n == 0) ≡ true → n ≡ 0
+is_zero n h = grind arith
+
+none_long : (xs : List ℕ) → length xs ≡ 0 → xs ≡ []
+none_long [] h = refl
+none_long (x ∷ xs) h = let no : ⊥ = cc in absurd no
+
 none_queued : (fresh busy : List ℕ) → ((length fresh == 0) && (length busy == 0)) ≡ true → (fresh ≡ []) × (busy ≡ [])
-none_queued [] [] h = (refl, refl)
-none_queued [] (x ∷ xs) h = let no : ⊥ = cc in absurd no
-none_queued (x ∷ xs) busy h = let no : ⊥ = cc in absurd no
+none_queued fresh busy h =
+    let two = both_true (length fresh == 0) (length busy == 0) h in (none_long fresh (is_zero (length fresh) two.0), none_long busy (is_zero (length busy) two.1))
 
 has_none : (xs : List ℕ) (id : ℕ) → xs ≡ [] → Contains xs id → ⊥
-has_none [] id e h = let less : h.0 < 0 = h.2.0 in omega (arith, less)
-has_none (x ∷ xs) id e h = let no : ⊥ = cc in no
+has_none [] id e h = let less : h.0 < 0 = h.1 in omega (arith, less)
+has_none (x ∷ xs) id e h = let no : x ∷ xs ≡ [] = e in absurd cc
 
 none_awaits : (t : Turns) (id : ℕ) → is_idle t ≡ true → t.missed ≡ false → Awaits id t → ⊥
 none_awaits t id idle missed (inl (inl x)) = let q = none_queued t.fresh t.busy idle in has_none t.fresh id q.0 x

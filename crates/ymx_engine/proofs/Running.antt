@@ -526,12 +526,12 @@ runs_rejected a e c id g keeps none up keeps2 gone served wire same serves =
     (record { up = up; keeps = keeps2; gone = gone; served = served; wire = wire; lines = same }) serves
 
 -- one was accepted that has a device, and forgotten at once
-pub runs_accepted_forgot : (a : Tunnel) (e : EngineView) (c : Tunnel) (id : ℕ) (told : Reply) → Gives in_turn a.engine.session (event.Call call.Accept) (reply.Accepted (Some id)) e.engine.session → KeepsWire a.engine e.engine →
-    Gives in_turn e.engine.session (event.Call (call.Forget id)) told c.engine.session → KeepsWire e.engine c.engine → c.wire ≡ a.wire → c.lines ≡ a.lines → (Serving a → Serving c) → Runs a c
+pub runs_accepted_forgot : (a : Tunnel) (e : Engine) (c : Tunnel) (id : ℕ) (told : Reply) → Gives in_turn a.engine.session (event.Call call.Accept) (reply.Accepted (Some id)) e.session → KeepsWire a.engine e →
+    Gives in_turn e.session (event.Call (call.Forget id)) told c.engine.session → KeepsWire e c.engine → c.wire ≡ a.wire → c.lines ≡ a.lines → (Serving a → Serving c) → Runs a c
 runs_accepted_forgot a e c id told g keeps f keeps2 wire same serves =
     let es : List (Event × Reply) = (event.Call call.Accept, reply.Accepted (Some id)) ∷ (event.Call (call.Forget id), told) ∷ [] in
     let kept : KeepsWire a.engine c.engine = record { outgoing = keeps2.outgoing ∙ keeps.outgoing; incoming = keeps2.incoming ∙ keeps.incoming } in
-    runs_idle a c es (e.engine.session, g, (c.engine.session, f, refl)) ((refl, λ w. (tt, (tt, tt))), refl, refl, refl) kept wire same
+    runs_idle a c es (e.session, g, (c.engine.session, f, refl)) ((refl, λ w. (tt, (tt, tt))), refl, refl, refl) kept wire same
     (λ other. life_quiet other es (look other a.lines) (refl, refl, refl, refl, refl, refl)) serves
 
 -- what an accept says of the stream that it gave, and where it gave none

@@ -1,4 +1,4 @@
-use Rattle.std.proofs.Common.{refl}
+use Rattle.std.proofs.Common.{refl, ℕ}
 use Rattle.ymx_engine.proofs.Running.{runs_forgot, from_view, look_removed}
 use Rattle.ymx_engine.proofs.Tending.{serving_forgot}
 use Rattle.ymx_engine.proofs.Staying.{changes_from}
@@ -9,7 +9,7 @@ returns-clause-runs g c =
     let seen = g.D.Device.seen in
     let m = c.self.inside.lines in
     let n = c.swap_remove.new.self in
-    let now = λ other. look_removed seen m.entries n.entries other _ (c.swap_remove.ensures.updates.0 other) in
+    let now = λ (other : ℕ). look_removed seen m.entries n.entries other _ (c.swap_remove.ensures.updates.0 other) in
     from_view _ _ _ c.self.view_is (runs_forgot _ _ c.args.id _ c.forget.ensures.forgotten.1 c.forget.ensures.wire refl now (serving_forgot _ _ c.args.id c.forget.ensures.served c.forget.ensures.gone now))
 
 pub returns-clause-gone : goal.returns-clause-gone

@@ -14,8 +14,8 @@ returns-in-Some-clause-runs g c =
 
 pub returns-in_default-clause-runs : goal.returns-in_default-clause-runs
 returns-in_default-clause-runs g c =
-    let same = λ j. lines_of g.D.Device.seen (c.get_mut.follows.holds-at-none j).entries in
-    from_view _ _ _ c.self.view_is (runs_alike _ _ refl refl same (serving_kept _ _ (λ s. s) (λ id h. h) same))
+    from_view _ _ _ c.self.view_is (runs_alike _ _ refl refl (λ j. lines_of g.D.Device.seen (c.get_mut.follows.holds-at-none j).entries)
+    (serving_kept _ _ (λ s. s) (λ id h. h) (λ j. lines_of g.D.Device.seen (c.get_mut.follows.holds-at-none j).entries)))
 
 pub returns-in-Some-clause-stays : goal.returns-in-Some-clause-stays
 returns-in-Some-clause-stays g c =
@@ -34,5 +34,5 @@ returns-in-Some-clause-serves g c =
 
 pub returns-in_default-clause-serves : goal.returns-in_default-clause-serves
 returns-in_default-clause-serves g c =
-    let same = λ j. lines_of g.D.Device.seen (c.get_mut.follows.holds-at-none j).entries in
-    turn_from _ _ _ c.args.id c.self.view_is (serving_unserved _ _ c.args.id refl same (look_lines g.D.Device.seen c.self.inside.lines.entries c.args.id ∙ ap (option_map g.D.Device.seen) (sym c.in_default.ensures.value)))
+    turn_from _ _ _ c.args.id c.self.view_is (serving_unserved _ _ c.args.id refl (λ j. lines_of g.D.Device.seen (c.get_mut.follows.holds-at-none j).entries)
+    (look_lines g.D.Device.seen c.self.inside.lines.entries c.args.id ∙ ap (option_map g.D.Device.seen) (sym c.in_default.ensures.value)))

@@ -5,10 +5,10 @@ use Rattle.ymx_engine.proofs.Staying.{stays_alike, stays_then, stays_from}
 use Rattle.ymx_engine.proofs.tunnel.Tunnel.serve_next.Goals as goal
 
 pub returns-in_err-id-clause-runs : goal.returns-in_err-id-clause-runs
-returns-in_err-id-clause-runs g c = from_view _ _ _ c.self.view_is (runs_alike _ _ c.next.ensures.engine refl refl (serving_same _ _ c.next.ensures.served_none c.next.ensures.known refl))
+returns-in_err-id-clause-runs g c = from_view _ _ _ c.self.view_is (runs_alike _ _ c.next.ensures.engine refl refl (serving_same _ _ c.in_err-id.ensures.served_none c.next.ensures.known refl))
 
 pub returns-clause-runs : goal.returns-clause-runs
-returns-clause-runs g c = from_view _ _ _ c.self.view_is (runs_behind _ _ _ c.serve.ensures.runs c.next.ensures.engine refl refl (λ s. c.serve.ensures.serves (serving_turn _ _ _ c.next.ensures.served c.next.ensures.known refl s)))
+returns-clause-runs g c = from_view _ _ _ c.self.view_is (runs_behind _ _ _ c.serve.ensures.runs c.next.ensures.engine refl refl (λ s. c.serve.ensures.serves (serving_turn _ _ c.in_ok-id.id c.in_ok-id.ensures.served c.next.ensures.known refl s)))
 
 pub returns-in_err-id-clause-stays : goal.returns-in_err-id-clause-stays
 returns-in_err-id-clause-stays g c = stays_from _ _ _ c.self.view_is (stays_alike _ _ refl refl)
