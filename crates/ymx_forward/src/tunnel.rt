@@ -3,8 +3,10 @@
 //! All that moves is moved by calls of [`ymx_engine::Tunnel`], which owns the wire and the connections. Each function
 //! here that makes such calls says that they are all it did: `Runs`.
 
-ghost use Rattle.std.specs.Prelude.{◌≡◌, [], true, false, IfSome};
+ghost use Rattle.std.specs.Prelude.{◌≡◌, [], true, false, IfOk, IfSome};
 ghost use Rattle.ymx_engine.specs.Runs.{Runs, IsOver};
+ghost use Rattle.ymx_engine.specs.Served.{AreServed, NoneWaits};
+ghost use Rattle.ymx_engine.specs.Tunnels.{Serving, view_of};
 ghost use Rattle.ymx_forward.specs.Loops.{WasLost};
 ghost use Rattle.ymx_model.specs.session.Sessions.{is_running};
 
@@ -106,7 +108,10 @@ impl<'a> TunnelLoop<'a> {
         wire: Socket,
         tunnel_end: &'a mut TunnelEnd,
         window: u32,
-    ) -> Result<TunnelLoop<'a>, NewFault> {
+    ) -> Result<TunnelLoop<'a>, NewFault>
+        // Its tunnel forgets nobody who can be served.
+        ensures serves { IfOk result (λ made. Serving made.tunnel) }
+    {
         let engine = new_engine(alloc, role_of(&tunnel_end.side), window)?;
         Ok(TunnelLoop {
             tunnel: Tunnel::new(alloc, engine, wire),
@@ -304,7 +309,10 @@ impl<'a> TunnelLoop<'a> {
     }
 
     /// Whether something can be done with no event.
-    fn has_work(&self) -> bool {
+    fn has_work(&self) -> bool
+        // Where it has none, no bytes of a stream wait that its connection may take now.
+        ensures rest { Serving self.now.tunnel → result ≡ false → NoneWaits (view_of self.now.tunnel) }
+    {
         let accepts = match &self.tunnel_end.side {
             Side::Local(listening) => {
                 listening.may_accept(self.tunnel.len()) && !self.is_to_be_followed()
@@ -726,7 +734,11 @@ fn role_of(side: &Side) -> Role {
 }
 
 /// An engine of a new session.
-fn new_engine(alloc: Global, role: Role, window: u32) -> Result<Engine, NewFault> {
+#[tactic(auto, using(crate::proofs::Sessions::within))]
+fn new_engine(alloc: Global, role: Role, window: u32) -> Result<Engine, NewFault>
+    ensures served { IfOk result AreServed }
+    ensures known { IfOk result (λ view. view.turns.known ≡ []) }
+{
     let session = Session::new(alloc, role, Config { window, first: 0 })?;
     Ok(Engine::new(alloc, session)?)
 }
