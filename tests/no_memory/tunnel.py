@@ -304,7 +304,9 @@ def try_all(run, name, variable):
         ending, came = run(variable, number)
         counts[ending] += 1
     told = ", ".join(f"{count} {ending}" for ending, count in sorted(counts.items()))
-    if counts[NO_THREAD] > (2 if "--links" in name else 1):
+    # Links allocate side by side, so the allocation for a thread may come under another number in the next run.
+    most = 1 if "--links" not in name else 2 if variable == THREAD else 4
+    if counts[NO_THREAD] > most:
         raise SystemExit(f"FAIL  ymx {name}: {variable}: {told}: one thread serves one peer")
     if counts["as ever"] == sum(counts.values()):
         raise SystemExit(f"FAIL  ymx {name}: {variable}: no run was refused anything")
