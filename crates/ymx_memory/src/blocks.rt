@@ -1,6 +1,6 @@
 //! Blocks of memory, in vectors and queues.
 
-ghost use Rattle.std.specs.Prelude.{◌≡◌, ◌+◌, ◌*◌, ◌≤◌, ◌-◌, length, ◌++◌, ◌∷◌, [], take, vec_len, vec_capacity, replicate, is_ok, if◌then◌else◌, IfOk, OnOk, OnErr, IsOk};
+ghost use Rattle.std.specs.Prelude.{◌≡◌, ◌+◌, ◌*◌, ◌<◌, ◌≤◌, ◌-◌, length, ◌++◌, ◌∷◌, [], take, vec_len, vec_capacity, replicate, is_ok, if◌then◌else◌, IfOk, OnOk, OnErr, IsOk};
 ghost use Rattle.std.specs.VecDeque.{deque_capacity, deque_len};
 ghost use Rattle.circular_buffer.specs.Buffer.{buffer};
 ghost use Rattle.ymx_memory.specs.Bounds.{widest_ring, most_written, most_items, most_text, most_zeros, most_entries};
@@ -172,9 +172,25 @@ pub fn reserve_queue<T, V>(
 ) -> Result<(), RefusedAllocation>
     requires at_most { additional ≤ length map.now.entries + 1 }
     ensures items { queue.new.items ≡ queue.old.items }
+    ensures len { deque_len queue.new ≡ deque_len queue.old }
     ensures room { OnOk result (deque_len queue.new + additional ≤ deque_capacity queue.new) }
+    ensures capacity { deque_capacity queue.old ≤ deque_capacity queue.new }
 {
     match queue.reserve(additional) {
+        Ok(()) => Ok(()),
+        Err(_) => Err(RefusedAllocation::new()),
+    }
+}
+
+/// The item goes behind those of a queue. A refusal drops it, and leaves the others: it comes only where the queue was
+/// full.
+///
+/// `RefusedAllocation` where the queue must grow and the allocator has no memory.
+pub fn push_back<T: Drop>(queue: &mut VecDeque<T>, item: T) -> Result<(), RefusedAllocation>
+    ensures items { queue.new.items ≡ (if is_ok result then queue.old.items ++ item ∷ [] else queue.old.items) }
+    ensures succeeds { deque_len queue.old < deque_capacity queue.old → IsOk result }
+{
+    match queue.push_back(item) {
         Ok(()) => Ok(()),
         Err(_) => Err(RefusedAllocation::new()),
     }

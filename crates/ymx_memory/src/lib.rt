@@ -11,9 +11,9 @@ mod refused;
 mod tables;
 
 pub use blocks::{
-    boxed, copied, extend, push, queue_with_capacity, reserve, reserve_for, reserve_queue,
-    resize_as_asked, ring, share, shared, text_with_capacity, vec_with_capacity, wider_ring, zeros,
-    zeros_as_asked, zeros_for,
+    boxed, copied, extend, push, push_back, queue_with_capacity, reserve, reserve_for,
+    reserve_queue, resize_as_asked, ring, share, shared, text_with_capacity, vec_with_capacity,
+    wider_ring, zeros, zeros_as_asked, zeros_for,
 };
 pub use refused::{RefusalCount, RefusedAllocation};
 pub use tables::{insert, reserve_map, reserve_set, set_with_capacity, table_of_words};

@@ -99,7 +99,7 @@ no-frames (Payload id n fin stray) (x ∷ tail) frames few some l a e = absurd c
 text-empty : (held bytes begun cut all : List ℕ) → bytes ≡ [] → begun ≡ [] → cut ≡ [] → held ++ (bytes ++ (begun ++ cut)) ≡ all → held ++ [] ≡ all
 text-empty held bytes begun cut all b g c t = let k : held ++ [] ≡ all = rw (b, g, c) at t in k
 
-none-frames : (w : World) (m : Machine) (parts : List (ℕ × Part)) → IsWithin w.b → w.ab.bytes ≡ [] → w.a.outgoing.bytes ≡ [] → is_running w.a.status ≡ true → (t : Text (sending w.a m.me) (hearing w.b m.you) w.ab.bytes parts) → (t.frames ≡ []) × (parts_left w.b.incoming t.tail ≡ [])
+pub none-frames : (w : World) (m : Machine) (parts : List (ℕ × Part)) → IsWithin w.b → w.ab.bytes ≡ [] → w.a.outgoing.bytes ≡ [] → is_running w.a.status ≡ true → (t : Text (sending w.a m.me) (hearing w.b m.you) w.ab.bytes parts) → (t.frames ≡ []) × (parts_left w.b.incoming t.tail ≡ [])
 none-frames w m parts within b g r t =
     no-frames w.b.incoming t.tail t.frames (λ seen inc. header_few seen w.b inc within) (λ id n fin stray inc. payload_some id n fin stray w.b inc within) t.missing t.each
     (text-empty (held_bytes w.b.incoming) w.ab.bytes w.a.outgoing.bytes t.cut (t.tail ++ concat t.frames) b g (t.kept (runs-open w.a.status r)) t.text)
@@ -145,7 +145,7 @@ end-quiet s id (Some d) e i l g k =
     let none = is-false (is_due s.table.window d) (λ due. let no : false ≡ true = sym i.due ∙ any-of s.table.window id s.table.entries d l due in absurd cc) in
     record { nothing = subst (λ z. is_due s.table.window z ≡ false) k.0 none; gone = g }
 
-ends-quiet : (x y : Role) (w : World) (m : Machine) (h : AgreesAs x y w m) → IsIdle w.a → (id : ℕ) → IsQuiet h.streams.a.window (h.streams.a.ends id)
+pub ends-quiet : (x y : Role) (w : World) (m : Machine) (h : AgreesAs x y w m) → IsIdle w.a → (id : ℕ) → IsQuiet h.streams.a.window (h.streams.a.ends id)
 ends-quiet x y w m h i id =
     subst (λ z. IsQuiet z (h.streams.a.ends id)) (sym h.a.records.window) (end-quiet w.a id (look id w.a.table.entries) (h.streams.a.ends id) i refl (gone (look id w.a.table.entries) refl (h.a.records.each id)) (h.a.records.each id))
   where
