@@ -12,6 +12,7 @@ pub mod Listing
 pub mod Trading
 pub mod Serving
 pub mod Blocks
+pub mod Working
 pub mod Running
 pub mod Staying
 pub mod Tending

@@ -49,36 +49,38 @@ listed_gone id old new f g all put = λ other e there marked. all other e (gone_
 
 -- ---- one more in a queue
 
-pushed_is : (b : Bool) (f new : List ℕ) (id : ℕ) → new ≡ (if b then f ++ id ∷ [] else f) → b ≡ true → Contains new id
-pushed_is true f new id e h = subst (λ (v : List ℕ). Contains v id) (sym e) (Contains-push f id)
-pushed_is false f new id e h = let no : ⊥ = cc in absurd no
+stays_or_adds : (id other : ℕ) (old new : List ℕ) → StaysOrAdds id old new → Contains old other → Contains new other
+stays_or_adds id other old new (inl e) h = subst (λ (v : List ℕ). Contains v other) (sym e) h
+stays_or_adds id other old new (inr e) h = subst (λ (v : List ℕ). Contains v other) (sym e) (Contains-append_left old (id ∷ []) other h)
 
-pushed_keeps : (b : Bool) (f new : List ℕ) (id other : ℕ) → new ≡ (if b then f ++ id ∷ [] else f) → Contains f other → Contains new other
-pushed_keeps true f new id other e h = subst (λ (v : List ℕ). Contains v other) (sym e) (Contains-append_left f (id ∷ []) other h)
-pushed_keeps false f new id other e h = subst (λ (v : List ℕ). Contains v other) (sym e) h
+stand_on : (id other : ℕ) (f g f2 g2 : List ℕ) → StaysOrAdds id f f2 → StaysOrAdds id g g2 → Stands f g other → Stands f2 g2 other
+stand_on id other f g f2 g2 x y (inl h) = inl (stays_or_adds id other f f2 x h)
+stand_on id other f g f2 g2 x y (inr h) = inr (stays_or_adds id other g g2 y h)
 
-pub listed_fresh : (id : ℕ) (b : Bool) (w : Entry) (old new : List (ℕ × Entry)) (f g f2 : List ℕ) → AreListed old f g → Written id w old new → f2 ≡ (if b then f ++ id ∷ [] else f) → w.is_queued ≡ b → AreListed new f2 g
-listed_fresh id b w old new f g f2 all put e marked = listed_written id w old new f g f2 g all put (λ h. inl (pushed_is b f f2 id e (sym marked ∙ h))) (λ other ne h. on other h)
-  where
-    on : (other : ℕ) → Stands f g other → Stands f2 g other
-    on other (inl h) = inl (pushed_keeps b f f2 id other e h)
-    on other (inr h) = inr h
+pub pushed_or_stays : {E : Type 0} (r : Result (Unit {0}) E) (f new : List ℕ) (id : ℕ) → new ≡ (if is_ok r then f ++ id ∷ [] else f) → StaysOrAdds id f new
+pushed_or_stays (Ok u) f new id e = inr e
+pushed_or_stays (Err x) f new id e = inl e
 
-pub listed_busy : (id : ℕ) (b : Bool) (w : Entry) (old new : List (ℕ × Entry)) (f g g2 : List ℕ) → AreListed old f g → Written id w old new → g2 ≡ (if b then g ++ id ∷ [] else g) → w.is_queued ≡ b → AreListed new f g2
-listed_busy id b w old new f g g2 all put e marked = listed_written id w old new f g f g2 all put (λ h. inr (pushed_is b g g2 id e (sym marked ∙ h))) (λ other ne h. on other h)
-  where
-    on : (other : ℕ) → Stands f g other → Stands f g2 other
-    on other (inl h) = inl h
-    on other (inr h) = inr (pushed_keeps b g g2 id other e h)
+pub pushed_fresh : {E : Type 0} (r : Result (Unit {0}) E) (f g new : List ℕ) (id : ℕ) → new ≡ (if is_ok r then f ++ id ∷ [] else f) → OnOk r (Contains new id ⊎ Contains g id)
+pushed_fresh (Ok u) f g new id e = inl (subst (λ (v : List ℕ). Contains v id) (sym e) (Contains-push f id))
+pushed_fresh (Err x) f g new id e = tt
 
--- where there is room it stands there
-pub pushed_there : {E : Type 0} (r : Result (Unit {0}) E) (f new : List ℕ) (id len cap : ℕ) (more : Bool) → new ≡ (if is_ok r then f ++ id ∷ [] else f) → (len < cap → IsOk r) → (nat_lt len cap && more) ≡ true → Contains new id
-pushed_there (Ok u) f new id len cap more e room h = pushed_is true f new id e refl
-pushed_there (Err x) f new id len cap more e room h = let no : ⊥ = let k = room (is_lt len cap (both_of (nat_lt len cap) more h).0) in cc in absurd no
+pub pushed_busy : {E : Type 0} (r : Result (Unit {0}) E) (f g new : List ℕ) (id : ℕ) → new ≡ (if is_ok r then g ++ id ∷ [] else g) → OnOk r (Contains f id ⊎ Contains new id)
+pushed_busy (Ok u) f g new id e = inr (subst (λ (v : List ℕ). Contains v id) (sym e) (Contains-push g id))
+pushed_busy (Err x) f g new id e = tt
 
-pub pushed_there_behind : {E : Type 0} (r : Result (Unit {0}) E) (f new : List ℕ) (id len cap : ℕ) (more : Bool) → new ≡ (if is_ok r then f ++ id ∷ [] else f) → (len < cap → IsOk r) → (more && nat_lt len cap) ≡ true → Contains new id
-pushed_there_behind (Ok u) f new id len cap more e room h = pushed_is true f new id e refl
-pushed_there_behind (Err x) f new id len cap more e room h = let no : ⊥ = let k = room (is_lt len cap (both_of more (nat_lt len cap) h).1) in cc in absurd no
+-- this entry says that it is queued, as it is
+pub listed_stood : (id : ℕ) (w : Entry) (old new : List (ℕ × Entry)) (f g f2 g2 : List ℕ) → AreListed old f g → Written id w old new → Stands f2 g2 id → StaysOrAdds id f f2 → StaysOrAdds id g g2 → AreListed new f2 g2
+listed_stood id w old new f g f2 g2 all put stands x y = listed_written id w old new f g f2 g2 all put (λ h. stands) (λ other ne h. stand_on id other f g f2 g2 x y h)
+
+-- there is room in both
+pub room_fresh : (a b : Bool) → (a && b) ≡ true → a ≡ true
+room_fresh true b h = refl
+room_fresh false b h = h
+
+pub room_busy : (a b : Bool) → (a && b) ≡ true → b ≡ true
+room_busy true b h = h
+room_busy false b h = let no : ⊥ = cc in absurd no
 
 -- ---- what is known
 
@@ -115,14 +117,6 @@ popped f rest id other e ne h = first (Contains-append_cases (id ∷ []) rest ot
     first (inr x) = x
 
 -- ---- what is kept
-
-stays_or_adds : (id other : ℕ) (old new : List ℕ) → StaysOrAdds id old new → Contains old other → Contains new other
-stays_or_adds id other old new (inl e) h = subst (λ (v : List ℕ). Contains v other) (sym e) h
-stays_or_adds id other old new (inr e) h = subst (λ (v : List ℕ). Contains v other) (sym e) (Contains-append_left old (id ∷ []) other h)
-
-stand_on : (id other : ℕ) (f g f2 g2 : List ℕ) → StaysOrAdds id f f2 → StaysOrAdds id g g2 → Stands f g other → Stands f2 g2 other
-stand_on id other f g f2 g2 x y (inl h) = inl (stays_or_adds id other f f2 x h)
-stand_on id other f g f2 g2 x y (inr h) = inr (stays_or_adds id other g g2 y h)
 
 -- the queues stayed, and then this id stood behind the others
 pub waits_then : (id other : ℕ) (f g f1 g1 f2 g2 : List ℕ) → f1 ≡ f → g1 ≡ g → StaysOrAdds id f1 f2 → StaysOrAdds id g1 g2 → Stands f g other → Stands f2 g2 other
@@ -227,25 +221,7 @@ others_set id k old new put none = by-known (known_as id old) refl
     by-known None e = λ other ne. none e other
     by-known (Some x) e = others_known id x k old new (sym e) put
 
--- ---- one that is called stands in a queue, or its turn is missed
-
-pushed_or_missed : {E : Type 0} (r : Result (Unit {0}) E) (ok m : Bool) (f new : List ℕ) (id : ℕ) → ok ≡ is_ok r → new ≡ (if is_ok r then f ++ id ∷ [] else f) → Contains new id ⊎ ((m || not ok) ≡ true)
-pushed_or_missed (Ok u) ok m f new id e items = inl (pushed_is true f new id items refl)
-pushed_or_missed (Err x) ok m f new id e items = inr (ap (λ (b : Bool). m || not b) e ∙ or_true m)
-
-pub called_fresh : {E : Type 0} (r : Result (Unit {0}) E) (ok m : Bool) (f new g : List ℕ) (id : ℕ) → ok ≡ is_ok r → new ≡ (if is_ok r then f ++ id ∷ [] else f) → Stands new g id ⊎ ((m || not ok) ≡ true)
-called_fresh r ok m f new g id e items = by (pushed_or_missed r ok m f new id e items)
-  where
-    by : Contains new id ⊎ ((m || not ok) ≡ true) → Stands new g id ⊎ ((m || not ok) ≡ true)
-    by (inl h) = inl (inl h)
-    by (inr h) = inr h
-
-pub called_busy : {E : Type 0} (r : Result (Unit {0}) E) (ok m : Bool) (f g new : List ℕ) (id : ℕ) → ok ≡ is_ok r → new ≡ (if is_ok r then g ++ id ∷ [] else g) → Stands f new id ⊎ ((m || not ok) ≡ true)
-called_busy r ok m f g new id e items = by (pushed_or_missed r ok m g new id e items)
-  where
-    by : Contains new id ⊎ ((m || not ok) ≡ true) → Stands f new id ⊎ ((m || not ok) ≡ true)
-    by (inl h) = inl (inr h)
-    by (inr h) = inr h
+-- ---- those that are called
 
 -- one of a list more was called
 pub called_more : (t u : Turns) (xs : List ℕ) (n : ℕ) (known : List (ℕ × Entry)) → n < length xs → ((id : ℕ) → Awaits id t → Awaits id u) → (IsSome (known_as (get_or xs n 0) known) → Awaits (get_or xs n 0) u) →

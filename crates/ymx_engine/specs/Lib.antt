@@ -13,4 +13,5 @@ pub mod Tunnels
 pub mod Lines
 pub mod Serves
 pub mod Served
+pub mod Work
 pub mod Runs

@@ -5,14 +5,16 @@ use Rattle.ymx_engine.specs.Devices.{Seen}
 use Rattle.ymx_engine.specs.Engines.{Engine, KeepsWire}
 use Rattle.ymx_engine.specs.Refusals.{GivesUp}
 use Rattle.ymx_engine.specs.Marks.{Marks, EngineView}
-use Rattle.ymx_engine.specs.Turns.{Turns, known_as, Knows}
+use Rattle.ymx_engine.specs.Turns.{Turns, known_as, Knows, WaitOn}
+use Rattle.ymx_engine.specs.declared.work.Work.{Work}
 use Rattle.ymx_engine.specs.Served.{AreServed, AreServedBut}
 
--- what is seen of its engine, of its wire, and of the device of each stream
+-- what is seen of its engine, how much work was done, and what is seen of its wire and of the device of each stream
 pub record Tunnel : Type 0 where
   pub engine : Engine
   pub marks : Marks
   pub turns : Turns
+  pub work : Work
   pub wire : Seen
   pub lines : List (ℕ × Seen)
 
@@ -54,14 +56,18 @@ pub record ServingBut (id : ℕ) (t : Tunnel) : Type 0 where
 -- this device joined a stream, and nothing else changed
 pub record Joins (id : ℕ) (seen : Seen) (old new : Tunnel) : Type 0 where
   pub engine : view_of new ≡ view_of old
+  pub work : new.work ≡ old.work
   pub wire : new.wire ≡ old.wire
   pub lines : (other : ℕ) → look other new.lines ≡ cond (nat_eq id other) (Some seen) (look other old.lines)
 
--- A stream was given up, and its connection is known no more; nothing else changed, and nobody else is forgotten.
+-- A stream was given up, and its connection is known no more; nothing else changed, nobody else is forgotten, and each that
+-- waited for a turn waits on.
 pub record DropsOut (id : ℕ) (old new : Tunnel) : Type 0 where
   pub up : GivesUp id old.engine.session new.engine.session
   pub keeps : KeepsWire old.engine new.engine
   pub gone : Knows id None old.turns new.turns
+  pub waits : WaitOn old.turns new.turns
+  pub work : new.work ≡ old.work
   pub served : AreServedBut id (view_of old) → AreServed (view_of new)
   pub wire : new.wire ≡ old.wire
   pub lines : new.lines ≡ old.lines

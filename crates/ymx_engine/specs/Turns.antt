@@ -6,7 +6,7 @@ use Rattle.ymx_engine.specs.declared.connections.Entry.{Entry}
 
 -- The connections by stream id; those that wait for a turn, which had none since they came to have something to move, or
 -- have more to move; those that are held back; whether one more may be queued, and one more kept, without memory; and
--- whether a turn was missed, as its queue had no room.
+-- whether a turn was missed, as its queue had no room and memory for it was refused.
 pub record Turns : Type 0 where
   pub known : List (ℕ × Entry)
   pub fresh : List ℕ

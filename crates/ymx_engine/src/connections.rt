@@ -1,9 +1,10 @@
 //! The connections of an engine by stream id, and whose turn comes.
 
-ghost use Rattle.std.specs.Prelude.{ℕ, ◌≡◌, ◌⊎◌, ◌+◌, ◌∷◌, [], length, nat_eq, min, slice_get, true, false, None, Some, OnOk, IfSome, IfNone, IsSome};
-ghost use Rattle.ymx_engine.specs.Turns.{known_as, is_idle, Knows, KeepsTurns, SameConnections, SameTurns, SameQueues, Waits, Awaits, IsIdle, AddsTurn, TakesTurn, WaitOn, StaysMissed};
+ghost use Rattle.std.specs.Prelude.{ℕ, ◌≡◌, ◌<◌, ◌⊎◌, ◌+◌, ◌∷◌, [], length, nat_eq, min, slice_get, true, false, None, Some, Contains, OnOk, OnErr, IsOk, IfSome, IfNone, IsSome};
+ghost use Rattle.ymx_engine.specs.Turns.{known_as, is_idle, Knows, KeepsTurns, SameConnections, SameTurns, SameQueues, Waits, Awaits, IsIdle, StaysOrAdds, AddsTurn, TakesTurn, WaitOn, StaysMissed};
 ghost use Rattle.ymx_engine.specs.Known.{new_connection};
 ghost use Rattle.std.specs.List.{list_any};
+ghost use Rattle.std.specs.VecDeque.{deque_len, deque_capacity};
 ghost use Rattle.std.specs.Map.{lookup, keys_of};
 ghost use Rattle.ymx_session.specs.Touched.{is_noted};
 
@@ -38,6 +39,15 @@ impl Entry {
     }
 }
 
+/// The queues in which one waits for a turn.
+#[derive(Clone, Copy)]
+pub(crate) enum Queue {
+    /// Of those that came to have something to move.
+    Fresh,
+    /// Of those that had a turn, and have more to move.
+    Busy,
+}
+
 /// Connections by stream id, those that may have something to move, each once, and those that are held back while
 /// bytes wait for the wire.
 ///
@@ -53,20 +63,20 @@ pub(crate) struct Connections {
     held: VecDeque<u32>,
     /// The next turn is one of the busy ones'.
     is_for_busy: bool,
-    /// A queue had no room for one that was to wait for a turn. Memory for a turn of each is taken before it is added, so
-    /// this never is.
-    missed: bool,
+    /// A queue had no room for one that was to wait for a turn, and memory for it was refused. Memory for a turn of each
+    /// is taken before it is added, so this never is.
+    missed: Option<RefusedAllocation>,
 }
 
 impl Model for Connections {
-    ghost use Rattle.std.specs.Prelude.{◌&&◌, nat_lt};
+    ghost use Rattle.std.specs.Prelude.{◌&&◌, nat_lt, is_some};
     ghost use Rattle.std.specs.VecDeque.{deque_len, deque_capacity};
     ghost use Rattle.indexmap.specs.IndexMap.{spare};
     ghost use Rattle.ymx_engine.specs.Turns.{Turns, AreListed};
 
     ghost Value = { Turns };
 
-    ghost view = { λ c. record { known = c.by_id.entries; fresh = c.fresh.items; busy = c.busy.items; held = c.held.items; has_room = nat_lt (deque_len c.fresh) (deque_capacity c.fresh) && nat_lt (deque_len c.busy) (deque_capacity c.busy); has_place = nat_lt 0 (spare c.by_id); missed = c.missed } };
+    ghost view = { λ c. record { known = c.by_id.entries; fresh = c.fresh.items; busy = c.busy.items; held = c.held.items; has_room = nat_lt (deque_len c.fresh) (deque_capacity c.fresh) && nat_lt (deque_len c.busy) (deque_capacity c.busy); has_place = nat_lt 0 (spare c.by_id); missed = is_some c.missed } };
 
     ghost invariant = { λ c. AreListed c.by_id.entries c.fresh.items c.busy.items };
 }
@@ -82,7 +92,7 @@ impl Connections {
             busy: VecDeque::new(alloc),
             held: VecDeque::new(alloc),
             is_for_busy: false,
-            missed: false,
+            missed: None,
         }
     }
 
@@ -104,7 +114,7 @@ impl Connections {
     pub(crate) fn has_missed(&self) -> bool
         ensures { result ≡ self.now.missed }
     {
-        self.missed
+        self.missed.is_some()
     }
 
     /// Memory for one more, and for its turns.
@@ -129,7 +139,7 @@ impl Connections {
         ensures turn { AddsTurn id self.old self.new }
     {
         let _ = ymx_memory::insert(&mut self.by_id, id, Entry::new(Connection::new(ready)));
-        self.enqueue(id);
+        self.enqueue(id, Queue::Fresh);
     }
 
     /// It is there no more.
@@ -162,8 +172,8 @@ impl Connections {
         }
     }
 
-    /// It may have something to move.
-    pub(crate) fn enqueue(&mut self, id: u32)
+    /// It waits for a turn, in this queue unless it waits already.
+    pub(crate) fn enqueue(&mut self, id: u32, queue: Queue)
         ensures known { SameConnections self.old self.new }
         ensures turn { AddsTurn id self.old self.new }
         ensures waits { IsSome (known_as id self.old.known) → self.old.has_room ≡ true → Waits id self.new }
@@ -173,25 +183,10 @@ impl Connections {
     {
         if let Some(found) = self.by_id.get_mut(&id) {
             if !found.is_queued {
-                found.is_queued = self.fresh.push_back(id).is_ok();
-                self.missed |= !found.is_queued;
-            }
-        }
-    }
-
-    /// It had a turn, and has more to move.
-    pub(crate) fn enqueue_again(&mut self, id: u32)
-        ensures known { SameConnections self.old self.new }
-        ensures turn { AddsTurn id self.old self.new }
-        ensures waits { IsSome (known_as id self.old.known) → self.old.has_room ≡ true → Waits id self.new }
-        ensures awaits { IsSome (known_as id self.old.known) → Awaits id self.new }
-        ensures missed { self.old.has_room ≡ true → self.new.missed ≡ self.old.missed }
-        ensures keys { keys_of self.new.known ≡ keys_of self.old.known }
-    {
-        if let Some(found) = self.by_id.get_mut(&id) {
-            if !found.is_queued {
-                found.is_queued = self.busy.push_back(id).is_ok();
-                self.missed |= !found.is_queued;
+                match stand(&mut self.fresh, &mut self.busy, id, queue) {
+                    Ok(()) => found.is_queued = true,
+                    Err(refused) => self.missed = Some(refused),
+                }
             }
         }
     }
@@ -219,7 +214,7 @@ impl Connections {
     {
         self.set(id, connection);
         if more {
-            self.enqueue_again(id);
+            self.enqueue(id, Queue::Busy);
         } else if holds {
             self.hold(id);
         }
@@ -245,7 +240,7 @@ impl Connections {
             let Some(id) = self.let_go() else {
                 return;
             };
-            self.enqueue_again(id);
+            self.enqueue(id, Queue::Busy);
         }
     }
 
@@ -265,8 +260,8 @@ impl Connections {
     pub(crate) fn enqueue_missed(&mut self)
         ensures { KeepsTurns self.old self.new }
     {
-        if self.missed {
-            self.missed = false;
+        if self.missed.is_some() {
+            self.missed = None;
             self.enqueue_all();
         }
     }
@@ -280,7 +275,7 @@ impl Connections {
             let Some(id) = self.id_at(place) else {
                 return;
             };
-            self.enqueue(id);
+            self.enqueue(id, Queue::Fresh);
         }
     }
 
@@ -320,8 +315,27 @@ impl Connections {
         ensures all { (id : ℕ) → list_any (nat_eq id) ids.now ≡ true → IsSome (known_as id self.old.known) → Awaits id self.new }
     {
         'id: for id in ids {
-            self.enqueue(*id);
+            self.enqueue(*id, Queue::Fresh);
         }
+    }
+}
+
+/// This one stands behind all others in this queue. A refusal leaves both queues, and comes only where one is full.
+fn stand(
+    fresh: &mut VecDeque<u32>,
+    busy: &mut VecDeque<u32>,
+    id: u32,
+    queue: Queue,
+) -> Result<(), RefusedAllocation>
+    ensures fresh { StaysOrAdds id fresh.old.items fresh.new.items }
+    ensures busy { StaysOrAdds id busy.old.items busy.new.items }
+    ensures stands { OnOk result (Contains fresh.new.items id ⊎ Contains busy.new.items id) }
+    ensures refused { OnErr result ((fresh.new.items ≡ fresh.old.items) × (busy.new.items ≡ busy.old.items)) }
+    ensures succeeds { deque_len fresh.old < deque_capacity fresh.old → deque_len busy.old < deque_capacity busy.old → IsOk result }
+{
+    match queue {
+        Queue::Fresh => ymx_memory::push_back(fresh, id),
+        Queue::Busy => ymx_memory::push_back(busy, id),
     }
 }
 

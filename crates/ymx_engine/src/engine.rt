@@ -29,7 +29,7 @@ ghost use Rattle.ymx_engine.specs.Wires.{ReadsWire, ReadsWireSo, FlushesWire, Fl
 use crate::block::Block;
 use crate::buffers::{BLOCK, Buffers, FRAMES};
 use crate::connection::Connection;
-use crate::connections::Connections;
+use crate::connections::{Connections, Queue};
 use crate::device::{Device, Pulled, Pushed};
 use crate::exchange::serve;
 use crate::gathering::gather;
@@ -135,7 +135,7 @@ impl Engine {
             connection.can_push |= can_push;
             connection.is_closing |= is_closing;
             self.connections.set(id, connection);
-            self.connections.enqueue(id);
+            self.connections.enqueue(id, Queue::Fresh);
         }
     }
 
@@ -713,7 +713,7 @@ impl Engine {
         let taken = offer(&mut self.session, id, &mut connection, device, waits);
         self.incoming.drop_front(taken);
         self.connections.set(id, connection);
-        self.connections.enqueue(id);
+        self.connections.enqueue(id, Queue::Fresh);
         taken
     }
 

@@ -18,9 +18,11 @@ mod passing;
 mod sending;
 mod standing;
 mod tunnel;
+mod work;
 
 pub use connection::{Connection, Flow};
 pub use device::{Device, Pulled, Pushed};
 pub use engine::Engine;
 pub use line::{Line, NotJoined, Registry, Wire};
 pub use tunnel::{Served, Tunnel};
+pub use work::Work;

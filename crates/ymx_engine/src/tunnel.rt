@@ -1,21 +1,25 @@
 //! The type `Tunnel`, and its calls.
 
-ghost use Rattle.std.specs.Prelude.{[], IfNone, option_map, ◌≡◌, ◌≤◌, ◌+◌, min, true, false, IfOk, IfSome, IsSome, OnOk, OnErr, None, Ok, length};
+ghost use Rattle.std.specs.Prelude.{[], IfNone, option_map, ◌≡◌, ◌⊎◌, ◌≤◌, ◌+◌, min, true, false, IfOk, IfSome, IsSome, OnOk, OnErr, None, Ok, length};
 ghost use Rattle.ymx_machine.specs.declared.types.Call.TheVariants as call;
 ghost use Rattle.ymx_model.specs.declared.types.Event.TheVariants as event;
 ghost use Rattle.ymx_model.specs.session.Emissions.{in_turn};
 ghost use Rattle.ymx_model.specs.session.Histories.{Gives};
 ghost use Rattle.ymx_session.specs.Replies.{pinged_or, ponged_or};
 ghost use Rattle.ymx_engine.specs.Refusals.{OffersNone};
-ghost use Rattle.ymx_engine.specs.Marks.{has_work};
+ghost use Rattle.ymx_engine.specs.Devices.{CountsOne, CountsSome};
+ghost use Rattle.ymx_engine.specs.Marks.{has_work, has_to_send, may_have_bytes};
 ghost use Rattle.ymx_engine.specs.Runs.{Runs, Stays, Changes, IsOver};
 ghost use Rattle.ymx_engine.specs.Served.{AreServed, KeepsServed, NoneWaits};
 ghost use Rattle.ymx_engine.specs.Tunnels.{look, view_of, Joins, DropsOut, Serving, ServingBut, KnowsNoMore};
+ghost use Rattle.ymx_engine.specs.Turns.{IsIdle, WaitOn};
+ghost use Rattle.ymx_engine.specs.Work.{Delivers, Collects, HasTurn};
 
 use crate::connection::Connection;
 use crate::device::Device;
 use crate::engine::Engine;
 use crate::line::{Line, NotJoined, Registry, Wire};
+use crate::work::{Work, one_more};
 use indexmap::IndexMap;
 use std::alloc::Global;
 use std::marker::Model;
@@ -40,6 +44,7 @@ pub struct Served {
 #[derive(Drop)]
 pub struct Tunnel<D: Line + Drop, W: Wire + Drop> {
     engine: Engine,
+    work: Work,
     wire: W,
     lines: IndexMap<u32, D>,
 }
@@ -49,18 +54,19 @@ impl<D: Line + Drop, W: Wire + Drop> Model for Tunnel<D, W> {
 
     ghost Value = { TunnelValue };
 
-    ghost view = { λ t. record { engine = t.engine.engine; marks = t.engine.marks; turns = t.engine.turns; wire = W.seen t.wire; lines = lines_of D.seen t.lines.entries } };
+    ghost view = { λ t. record { engine = t.engine.engine; marks = t.engine.marks; turns = t.engine.turns; work = t.work; wire = W.seen t.wire; lines = lines_of D.seen t.lines.entries } };
 }
 
 impl<D: Line + Drop, W: Wire + Drop> Tunnel<D, W> {
     /// A tunnel that has moved nothing, and has no connection.
     pub fn new(alloc: Global, engine: Engine, wire: W) -> Tunnel<D, W>
-        ensures made { result ≡ record { engine = engine.engine; marks = engine.marks; turns = engine.turns; wire = W.seen wire; lines = [] } }
+        ensures made { result ≡ record { engine = engine.engine; marks = engine.marks; turns = engine.turns; work = record { reads = 0; turns = 0; writes = 0 }; wire = W.seen wire; lines = [] } }
         // Nobody is forgotten.
         ensures serves { AreServed engine → engine.turns.known ≡ [] → Serving result }
     {
         Tunnel {
             engine,
+            work: Work::none(),
             wire,
             lines: IndexMap::new(alloc),
         }
@@ -222,6 +228,9 @@ impl<D: Line + Drop, W: Wire + Drop> Tunnel<D, W> {
     pub fn read_wire(&mut self, least: usize, again: bool)
         ensures runs { Runs self.old self.new }
         ensures stays { Stays self.old self.new }
+        // It is counted; and where nothing waits to be fed and the wire may have bytes, the wire is asked for some.
+        ensures reads { CountsSome self.old.work.reads self.new.work.reads }
+        ensures asks { self.old.engine.incoming ≡ [] → may_have_bytes self.old.marks ≡ true → CountsSome self.old.wire.counts.pulls self.new.wire.counts.pulls }
     {
         self.pull_wire(again);
         'payload: for _ in 0..PAYLOADS {
@@ -237,6 +246,8 @@ impl<D: Line + Drop, W: Wire + Drop> Tunnel<D, W> {
     fn pull_wire(&mut self, again: bool)
         ensures runs { Runs self.old self.new }
         ensures stays { Stays self.old self.new }
+        ensures reads { CountsOne self.old.work.reads self.new.work.reads }
+        ensures asks { self.old.engine.incoming ≡ [] → may_have_bytes self.old.marks ≡ true → CountsSome self.old.wire.counts.pulls self.new.wire.counts.pulls }
     {
         self.pull_once();
         self.note_more(again);
@@ -246,7 +257,10 @@ impl<D: Line + Drop, W: Wire + Drop> Tunnel<D, W> {
     fn pull_once(&mut self)
         ensures runs { Runs self.old self.new }
         ensures stays { Stays self.old self.new }
+        ensures reads { CountsOne self.old.work.reads self.new.work.reads }
+        ensures asks { self.old.engine.incoming ≡ [] → may_have_bytes self.old.marks ≡ true → CountsSome self.old.wire.counts.pulls self.new.wire.counts.pulls }
     {
+        self.work.reads = one_more(self.work.reads);
         self.engine.pull_wire(&mut self.wire);
     }
 
@@ -254,6 +268,8 @@ impl<D: Line + Drop, W: Wire + Drop> Tunnel<D, W> {
     fn note_more(&mut self, again: bool)
         ensures runs { Runs self.old self.new }
         ensures stays { Stays self.old self.new }
+        ensures wire { self.new.wire ≡ self.old.wire }
+        ensures work { self.new.work ≡ self.old.work }
     {
         if again && !self.wire.is_over() {
             self.engine.note_wire(true, false);
@@ -265,6 +281,7 @@ impl<D: Line + Drop, W: Wire + Drop> Tunnel<D, W> {
     fn advance(&mut self, least: usize) -> Option<u32>
         ensures runs { Runs self.old self.new }
         ensures stays { Stays self.old self.new }
+        ensures wire { self.new.wire ≡ self.old.wire }
     {
         self.engine.advance(least)
     }
@@ -273,6 +290,7 @@ impl<D: Line + Drop, W: Wire + Drop> Tunnel<D, W> {
     fn pass(&mut self, id: u32)
         ensures runs { Runs self.old self.new }
         ensures stays { Stays self.old self.new }
+        ensures wire { self.new.wire ≡ self.old.wire }
     {
         if let Some(device) = self.lines.get_mut(&id) {
             self.engine.pass(id, device);
@@ -283,8 +301,13 @@ impl<D: Line + Drop, W: Wire + Drop> Tunnel<D, W> {
     pub fn serve_next(&mut self) -> Option<Served>
         ensures runs { Runs self.old self.new }
         ensures stays { Stays self.old self.new }
+        // None only where none waits. Else the first of a queue has its turn: it is offered the bytes that wait for it,
+        // and asked for some.
+        ensures none { IfNone result (IsIdle self.old.turns) }
+        ensures turn { IfSome result (λ served. HasTurn served.id self.old self.new) }
     {
         let id = self.engine.next()?;
+        self.work.turns = one_more(self.work.turns);
         let before = self.pulled(id);
         self.serve(id);
         let gave = self.pulled(id).saturating_sub(before);
@@ -295,7 +318,10 @@ impl<D: Line + Drop, W: Wire + Drop> Tunnel<D, W> {
     fn serve(&mut self, id: u32)
         ensures runs { Runs self.old self.new }
         ensures stays { Stays self.old self.new }
+        ensures work { self.new.work ≡ self.old.work }
         ensures serves { ServingBut id self.old → Serving self.new }
+        ensures delivers { Delivers id self.old self.new }
+        ensures collects { Collects id self.old self.new }
     {
         if let Some(device) = self.lines.get_mut(&id) {
             self.engine.serve(id, device);
@@ -314,7 +340,13 @@ impl<D: Line + Drop, W: Wire + Drop> Tunnel<D, W> {
     pub fn flush(&mut self)
         ensures runs { Runs self.old self.new }
         ensures stays { Stays self.old self.new }
+        // It is counted; and where the wire may take bytes, and some wait or are due, it is offered some. It takes all that
+        // wait, or may take none now.
+        ensures writes { CountsOne self.old.work.writes self.new.work.writes }
+        ensures offers { self.old.marks.can_push_wire ≡ true → has_to_send self.old.engine ≡ true → CountsSome self.old.wire.counts.pushes self.new.wire.counts.pushes }
+        ensures all { self.old.marks.can_push_wire ≡ true → (self.new.engine.outgoing ≡ []) ⊎ (self.new.marks.can_push_wire ≡ false) }
     {
+        self.work.writes = one_more(self.work.writes);
         self.engine.flush(&mut self.wire);
     }
 
@@ -359,6 +391,13 @@ impl<D: Line + Drop, W: Wire + Drop> Tunnel<D, W> {
     }
 
     // ---- how it stands
+
+    /// How much it has done.
+    pub fn work(&self) -> Work
+        ensures { result ≡ self.now.work }
+    {
+        self.work
+    }
 
     /// Whether the wire has failed, or has taken all that was due.
     pub fn is_over(&self) -> bool
@@ -455,6 +494,7 @@ impl<D: Line + Drop, W: Wire + Drop> Tunnel<D, W> {
 fn ask_all<D: Line + Drop>(engine: &mut Engine, lines: &IndexMap<u32, D>)
     ensures engine { engine.new.engine ≡ engine.old.engine }
     ensures known { KnowsNoMore engine.old.turns engine.new.turns }
+    ensures waits { WaitOn engine.old.turns engine.new.turns }
     ensures served { KeepsServed engine.old engine.new }
 {
     'line: for (id, device) in lines.iter() {

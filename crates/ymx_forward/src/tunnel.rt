@@ -6,7 +6,9 @@
 ghost use Rattle.std.specs.Prelude.{◌≡◌, [], true, false, IfOk, IfSome};
 ghost use Rattle.ymx_engine.specs.Runs.{Runs, IsOver};
 ghost use Rattle.ymx_engine.specs.Served.{AreServed, NoneWaits};
+ghost use Rattle.ymx_engine.specs.Devices.{CountsOne, CountsSome};
 ghost use Rattle.ymx_engine.specs.Tunnels.{Serving, view_of};
+ghost use Rattle.ymx_engine.specs.Work.{HasTurns, WorksOnce};
 ghost use Rattle.ymx_forward.specs.Loops.{WasLost};
 ghost use Rattle.ymx_model.specs.session.Sessions.{is_running};
 
@@ -297,7 +299,9 @@ impl<'a> TunnelLoop<'a> {
 
     /// Does what can be done now.
     fn take_turn<R: Net + Clock + Wait, V: Watcher>(&mut self, rt: &R, watcher: &mut V)
-        ensures { Runs self.old.tunnel self.new.tunnel }
+        ensures runs { Runs self.old.tunnel self.new.tunnel }
+        // The wire is read and written, and where a connection waits for a turn, one has its turn.
+        ensures works { WorksOnce self.old.tunnel self.new.tunnel }
     {
         self.accept_connections(rt, watcher);
         self.read_wire();
@@ -598,7 +602,8 @@ impl<'a> TunnelLoop<'a> {
 
     /// Reads the wire, so often that about as many bytes are read of it as are written to it.
     fn read_wire(&mut self)
-        ensures { Runs self.old.tunnel self.new.tunnel }
+        ensures runs { Runs self.old.tunnel self.new.tunnel }
+        ensures reads { CountsSome self.old.tunnel.work.reads self.new.tunnel.work.reads }
     {
         'read: for _ in 0..WIRE_READS {
             self.tunnel.read_wire(LEAST_STRAIGHT, self.is_wire_closing);
@@ -608,7 +613,8 @@ impl<'a> TunnelLoop<'a> {
     /// Serves each connection that has something to move now, once, unless they give much: that is written first, and
     /// the peer read.
     fn serve_queued<V: Watcher>(&mut self, watcher: &mut V)
-        ensures { Runs self.old.tunnel self.new.tunnel }
+        ensures runs { Runs self.old.tunnel self.new.tunnel }
+        ensures turns { HasTurns self.old.tunnel self.new.tunnel }
     {
         'queued: for _ in 0..self.tunnel.queued_count() {
             if !self.serve_next(watcher) {
@@ -619,7 +625,8 @@ impl<'a> TunnelLoop<'a> {
 
     /// Serves the connection whose turn it is, and lets go of it if it is over. Whether another may be served.
     fn serve_next<V: Watcher>(&mut self, watcher: &mut V) -> bool
-        ensures { Runs self.old.tunnel self.new.tunnel }
+        ensures runs { Runs self.old.tunnel self.new.tunnel }
+        ensures turns { HasTurns self.old.tunnel self.new.tunnel }
     {
         let Some(served) = self.tunnel.serve_next() else {
             return false;
@@ -679,7 +686,8 @@ impl<'a> TunnelLoop<'a> {
 
     /// Writes what is due to the wire, and counts anew what connections give.
     fn flush(&mut self)
-        ensures { Runs self.old.tunnel self.new.tunnel }
+        ensures runs { Runs self.old.tunnel self.new.tunnel }
+        ensures writes { CountsOne self.old.tunnel.work.writes self.new.tunnel.work.writes }
     {
         self.unwritten = 0;
         self.tunnel.flush();

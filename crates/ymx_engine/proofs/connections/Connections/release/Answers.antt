@@ -7,7 +7,7 @@ held-init c = keeps_same _
 
 pub held-preserved : goal.held-preserved
 held-preserved c =
-    let e = c.enqueue_again.ensures in
+    let e = c.enqueue.ensures in
     keeps_let_go _ _ _ _ _ _ _ c.held.invariant c.let_go.ensures.known c.let_go.ensures.turns.0 c.let_go.ensures.turns.1 e.known e.turn.0 e.turn.1 (λ m. e.turn.3 (c.let_go.ensures.turns.2 ∙ m))
 
 pub returns-in_default : goal.returns-in_default

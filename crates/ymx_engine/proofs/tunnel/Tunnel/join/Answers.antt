@@ -7,11 +7,11 @@ returns-in-Ok-clause-joined g c =
     let seen = g.D.Device.seen in
     let m = c.self.inside.lines in
     joins_from _ _ _ _ _ c.self.view_is
-    (joins_by seen _ _ c.args.id c.args.device c.register.new.device m.entries c.insert.new.map.entries refl refl refl refl c.in-Ok.ensures.entries c.register.ensures)
+    (joins_by seen _ _ c.args.id c.args.device c.register.new.device m.entries c.insert.new.map.entries refl refl refl refl refl c.in-Ok.ensures.entries c.register.ensures)
 
 pub returns-in-Err-clause-refused : goal.returns-in-Err-clause-refused
 returns-in-Err-clause-refused g c =
     let seen = g.D.Device.seen in
     let m = c.self.inside.lines in
     let up = c.refuse-in-Err.ensures in
-    drops_by seen _ _ _ c.args.id m.entries c.insert.new.map.entries c.self.view_is up.given_up up.wire up.gone up.served refl refl refl c.in-Err.ensures.refused_unchanged
+    drops_by seen _ _ _ c.args.id m.entries c.insert.new.map.entries c.self.view_is up.given_up up.wire up.gone up.queues up.served refl refl refl refl c.in-Err.ensures.refused_unchanged

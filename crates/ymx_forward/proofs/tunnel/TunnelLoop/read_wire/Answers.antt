@@ -1,8 +1,16 @@
+use Rattle.std.proofs.Common.{arith}
 use Rattle.ymx_engine.proofs.Running.{runs_same, runs_then}
+use Rattle.ymx_engine.proofs.Working.{then_some}
 use Rattle.ymx_forward.proofs.tunnel.TunnelLoop.read_wire.Goals as goal
 
 pub read-init : goal.read-init
-read-init c = runs_same _
+read-init c = (runs_same _, λ some. absurd (omega (arith, some)))
 
 pub read-preserved : goal.read-preserved
-read-preserved c = runs_then _ _ _ c.read.invariant c.read_wire.ensures.runs
+read-preserved c = (runs_then _ _ _ c.read.invariant.0 c.read_wire.ensures.runs, λ some. then_some _ _ _ c.read.invariant.0.tends.grows.reads c.read_wire.ensures.reads)
+
+pub returns-clause-runs : goal.returns-clause-runs
+returns-clause-runs c = c.read.invariant.0
+
+pub returns-clause-reads : goal.returns-clause-reads
+returns-clause-reads c = c.read.invariant.1 (omega (arith, c.read-test.false))

@@ -5,7 +5,7 @@ pub loop-init : goal.loop-init
 loop-init g c = record { next = (tt, tt); runs = c.begin_waiting.ensures }
 
 pub loop-preserved : goal.loop-preserved
-loop-preserved g c = record { next = (tt, tt); runs = runs_then _ _ _ c.loop.invariant.runs (runs_then _ _ _ c.hear_silence-limit.ensures (runs_then _ _ _ c.await_events.ensures c.take_turn.ensures)) }
+loop-preserved g c = record { next = (tt, tt); runs = runs_then _ _ _ c.loop.invariant.runs (runs_then _ _ _ c.hear_silence-limit.ensures (runs_then _ _ _ c.await_events.ensures c.take_turn.ensures.runs)) }
 
 pub returns-then-is_err-clause-runs : goal.returns-then-is_err-clause-runs
 returns-then-is_err-clause-runs g c = runs_then _ _ _ c.loop.invariant.runs (runs_then _ _ _ c.hear_silence-limit.ensures (runs_then _ _ _ c.await_events.ensures c.leave_all.ensures))

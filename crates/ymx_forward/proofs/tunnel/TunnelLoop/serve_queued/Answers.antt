@@ -1,11 +1,22 @@
+use Rattle.std.proofs.Common.{arith, ap, ◌∙◌}
 use Rattle.ymx_engine.proofs.Running.{runs_same, runs_then}
+use Rattle.ymx_engine.proofs.Working.{turns_then, some_queued}
 use Rattle.ymx_forward.proofs.tunnel.TunnelLoop.serve_queued.Goals as goal
 
 pub queued-init : goal.queued-init
-queued-init g c = runs_same _
+queued-init g c = (runs_same _, λ some. absurd (omega (arith, some)))
 
 pub queued-preserved : goal.queued-preserved
-queued-preserved g c = runs_then _ _ _ c.queued.invariant c.serve_next.ensures
+queued-preserved g c = (runs_then _ _ _ c.queued.invariant.0 c.serve_next.ensures.runs, λ some. turns_then _ _ _ c.queued.invariant.0.tends c.serve_next.ensures.turns c.serve_next.ensures.runs.tends.grows)
 
-pub returns-then-not-serve_next : goal.returns-then-not-serve_next
-returns-then-not-serve_next g c = runs_then _ _ _ c.queued.invariant c.serve_next.ensures
+pub returns-then-not-serve_next-clause-runs : goal.returns-then-not-serve_next-clause-runs
+returns-then-not-serve_next-clause-runs g c = runs_then _ _ _ c.queued.invariant.0 c.serve_next.ensures.runs
+
+pub returns-then-not-serve_next-clause-turns : goal.returns-then-not-serve_next-clause-turns
+returns-then-not-serve_next-clause-turns g c = turns_then _ _ _ c.queued.invariant.0.tends c.serve_next.ensures.turns c.serve_next.ensures.runs.tends.grows
+
+pub returns-clause-runs : goal.returns-clause-runs
+returns-clause-runs g c = c.queued.invariant.0
+
+pub returns-clause-turns : goal.returns-clause-turns
+returns-clause-turns g c = λ waits. let some = some_queued _ _ (omega arith) waits in c.queued.invariant.1 (omega (arith, some, c.queued_count-queued-end.ensures, c.queued-test.false)) waits
