@@ -37,7 +37,9 @@ use Rattle.ymx_engine.specs.Known.{may_push}
 use Rattle.ymx_engine.specs.Marks.{EngineView, has_work, may_read_wire, has_to_send}
 use Rattle.ymx_engine.specs.Passes.{OffersOnce}
 use Rattle.ymx_engine.specs.Refusals.{GivesUp}
-use Rattle.ymx_engine.specs.Served.{IsServed, AreServed, AreServedBut, KeepsServed, NoneWaits}
+use Rattle.ymx_engine.specs.Engines.{KeepsWire}
+use Rattle.ymx_engine.proofs.Resting.{rest_none}
+use Rattle.ymx_engine.specs.Served.{IsServed, AreServed, AreServedBut, KeepsServed, NoneWaits, LetsGo}
 use Rattle.ymx_engine.specs.Turns.{Turns, known_as, Waits, Awaits, SameConnections, SameQueues, Knows, Adds, AddsTurn, KeepsTurns, TakesTurn, IsIdle, is_idle}
 use Rattle.ymx_engine.specs.Wires.{HandlesOut, FlushesWire}
 use Rattle.ymx_engine.proofs.Coming.{NoneCameOf, NoneCame, IsCalm, happen_within, came_same, calm_came, flush_is_calm}
@@ -220,6 +222,16 @@ gone_from id a b calm knows (f, g, held, m) =
 pub gone_served : (id : ℕ) (a b : EngineView) (q : Turns) → (IsWithin a.engine.session → IsCalmBut id a.engine.session b.engine.session) → Knows id None a.turns q → SameQueues a.turns q → b.turns ≡ q → AreServedBut id a → AreServed b
 gone_served id a b q calm knows same e = gone_from id a b calm (subst (Knows id None a.turns) (sym e) knows) (subst (SameQueues a.turns) (sym e) same)
 
+-- it was let go of
+pub lets_go_by : (i a b : EngineView) (id : ℕ) (q : Turns) → i ≡ a → KeepsWire i.engine b.engine → Knows id None i.turns q → SameQueues i.turns q → b.turns ≡ q → b.marks ≡ i.marks → (AreServedBut id i → AreServed b) → LetsGo id a b
+lets_go_by i a b id q e wire knows same turns marks served = subst (λ (v : EngineView). LetsGo id v b) e (record {
+  wire = wire;
+  gone = subst (Knows id None i.turns) (sym turns) knows;
+  queues = subst (SameQueues i.turns) (sym turns) same;
+  marks = marks;
+  served = served;
+})
+
 -- an open gives the next own id
 opened_id : (id : ℕ) (s : Session) → reply.Opened id ≡ (open_stream s).reply → id ≡ s.next
 opened_id id s =
@@ -392,41 +404,8 @@ offered_served id count now bytes a b q d e x came known (f, g, held, m) same tu
 
 -- ---- at rest
 
-quiet_parts : (a b c d : Bool) → (a || b || c || d) ≡ false → (a ≡ false) × (b ≡ false)
-quiet_parts false false c d e = (refl, refl)
-quiet_parts true b c d e = cc
-quiet_parts false true c d e = cc
-
-idle_by : (b : Bool) → not b ≡ false → b ≡ true
-idle_by true e = refl
-idle_by false e = cc
-
-none_in : (xs : List ℕ) (id : ℕ) → (length xs == 0) ≡ true → Contains xs id → ⊥
-none_in xs id e (k, within, same) = let none = agrees (length xs) 0 e in omega (arith, none, within)
-
-none_awaits : (id : ℕ) (v : EngineView) → has_work v ≡ false → Awaits id v.turns → ⊥
-none_awaits id v off h = by h
-  where
-    parts : (not (is_idle v.turns) ≡ false) × (v.turns.missed ≡ false)
-    parts = quiet_parts (not (is_idle v.turns)) v.turns.missed (may_read_wire v) (v.marks.can_push_wire && has_to_send v.engine) off
-
-    idle : ((length v.turns.fresh == 0) ≡ true) × ((length v.turns.busy == 0) ≡ true)
-    idle = both_of (length v.turns.fresh == 0) (length v.turns.busy == 0) (idle_by (is_idle v.turns) parts.0)
-
-    by : Awaits id v.turns → ⊥
-    by (inl (inl x)) = none_in v.turns.fresh id idle.0 x
-    by (inl (inr x)) = none_in v.turns.busy id idle.1 x
-    by (inr x) = let no : true ≡ false = sym x ∙ parts.1 in cc
-
 pub rest_by : (v : EngineView) (r : Bool) → r ≡ has_work v → AreServed v → r ≡ false → NoneWaits v
-rest_by v r e h off id c there = by (waiting id v.engine.session) (may_push c) refl refl
-  where
-    by : (xs : List ℕ) (may : Bool) → waiting id v.engine.session ≡ xs → may_push c ≡ may → (waiting id v.engine.session ≡ []) ⊎ (may_push c ≡ false)
-    by [] may p q = inl p
-    by (x ∷ xs) false p q = inr q
-    by (x ∷ xs) true p q =
-        let some : 0 < length (waiting id v.engine.session) = let l = ap length p in omega (arith, l) in
-        absurd (none_awaits id v (sym e ∙ off) (h.each id c there q some))
+rest_by v r e h off = rest_none v h (sym e ∙ off)
 
 -- a new engine has no connection
 pub new_served : (v : EngineView) (s : Session) → v.engine.session ≡ s → v.turns.known ≡ [] → IsWithin s → AreServed v

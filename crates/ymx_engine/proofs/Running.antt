@@ -30,9 +30,9 @@ use Rattle.ymx_engine.specs.Marks.{EngineView}
 use Rattle.ymx_engine.specs.Served.{AreServed, AreServedBut}
 use Rattle.ymx_engine.specs.Turns.{Knows, SameQueues}
 use Rattle.ymx_engine.specs.Runs.{Runs}
-use Rattle.ymx_engine.specs.Work.{Tends}
+use Rattle.ymx_engine.specs.Work.{Attends}
 use Rattle.ymx_engine.specs.declared.work.Work.{Work}
-use Rattle.ymx_engine.proofs.Working.{tends_same, tends_then, wait_queues}
+use Rattle.ymx_engine.proofs.Working.{attends_same, attends_then, wait_queues}
 use Rattle.ymx_engine.proofs.Listing.{FeedsNone, flush_feeds, read_emits, LeavesWire, PassEmits, pass_emits, other_id, others_quiet_passed, IsCalm, turn_calm, others_quiet_turned, plain_list, plain_then, read_plain, flush_plain}
 use Rattle.ymx_engine.proofs.Trading.{or_swap, life_quiet, life_then, life_trades, life_leaves, life_joins, life_idle, trades_passed}
 
@@ -59,7 +59,7 @@ runs_same a = record {
   shuts = false;
   shut = or_same a.wire.shut;
   lines = λ id. life_quiet id [] (look id a.lines) (refl, refl, refl, refl, refl, refl);
-  tends = tends_same a;
+  attends = attends_same a;
 }
 
 -- one run behind another
@@ -91,7 +91,7 @@ runs_then a b c x y =
       shuts = x.shuts || y.shuts;
       shut = y.shut ∙ ap (option_map (λ v. v || y.shuts)) x.shut ∙ or_twice x.shuts y.shuts a.wire.shut;
       lines = λ id. life_then id es fs (look id a.lines) (look id b.lines) (look id c.lines) (x.lines id) (y.lines id);
-      tends = tends_then a b c x.tends y.tends;
+      attends = attends_then a b c x.attends y.attends;
     }
 
 -- lines that stay as they are
@@ -99,8 +99,8 @@ still_lines : (a b : Tunnel) (es : List (Event × Reply)) → b.lines ≡ a.line
 still_lines a b es same q id = subst (λ (v : Option Seen). Life id es (look id a.lines) v) (ap (look id) (sym same)) (life_quiet id es (look id a.lines) (q id))
 
 -- the wire was read
-pub runs_read : (a b : Tunnel) (n : ℕ) → ReadsWire a.engine b.engine a.wire b.wire n → b.lines ≡ a.lines → Tends a b → Runs a b
-runs_read a b n x same tends = record {
+pub runs_read : (a b : Tunnel) (n : ℕ) → ReadsWire a.engine b.engine a.wire b.wire n → b.lines ≡ a.lines → Attends a b → Runs a b
+runs_read a b n x same attends = record {
   events = x.events;
   happen = x.happen;
   plain = plain_list is_of_read read_plain x.events x.own;
@@ -121,16 +121,16 @@ runs_read a b n x same tends = record {
   shuts = false;
   shut = x.shut ∙ or_same a.wire.shut;
   lines = still_lines a b x.events same (λ id. quiet is_of_read (λ c. refl) id x.events x.own);
-  tends = tends;
+  attends = attends;
 }
 
 -- what waited was fed
-pub runs_handled : (a b : Tunnel) → HandlesIn false a.engine b.engine → b.wire ≡ a.wire → b.lines ≡ a.lines → Tends a b → Runs a b
-runs_handled a b x wire same tends = runs_read a b 0 (subst (λ (v : Seen). ReadsWire a.engine b.engine a.wire v 0) (sym wire) (reads_handled a.engine b.engine a.wire 0 x)) same tends
+pub runs_handled : (a b : Tunnel) → HandlesIn false a.engine b.engine → b.wire ≡ a.wire → b.lines ≡ a.lines → Attends a b → Runs a b
+runs_handled a b x wire same attends = runs_read a b 0 (subst (λ (v : Seen). ReadsWire a.engine b.engine a.wire v 0) (sym wire) (reads_handled a.engine b.engine a.wire 0 x)) same attends
 
 -- the wire was written to
-pub runs_flushed : (a b : Tunnel) (n : ℕ) → FlushesWire a.engine b.engine a.wire b.wire n → b.lines ≡ a.lines → Tends a b → Runs a b
-runs_flushed a b n x same tends =
+pub runs_flushed : (a b : Tunnel) (n : ℕ) → FlushesWire a.engine b.engine a.wire b.wire n → b.lines ≡ a.lines → Attends a b → Runs a b
+runs_flushed a b n x same attends =
     let none : FeedsNone x.events = flush_feeds x.events x.own in
     record {
       events = x.events;
@@ -153,7 +153,7 @@ runs_flushed a b n x same tends =
       shuts = false;
       shut = x.shut ∙ or_same a.wire.shut;
       lines = still_lines a b x.events same (λ id. quiet is_of_flush (λ c. refl) id x.events x.own);
-      tends = tends;
+      attends = attends;
     }
 
 -- ---- one line's turn
@@ -177,8 +177,8 @@ served_line id other a b d e es false t at now moved own =
 
 -- nothing was fed, what was emitted waits, and the wire was left alone
 runs_moved : (a b : Tunnel) (es : List (Event × Reply)) → Happen es a.engine.session b.engine.session → FeedsNone es → has_feed_end es ≡ false → has_open_with es ≡ false →
-    a.engine.outgoing ++ emitted es ≡ b.engine.outgoing → b.engine.incoming ≡ a.engine.incoming → b.wire ≡ a.wire → ((id : ℕ) → Life id es (look id a.lines) (look id b.lines)) → Tends a b → Runs a b
-runs_moved a b es h feeds heard plain to_wire incoming wire lines tends = record {
+    a.engine.outgoing ++ emitted es ≡ b.engine.outgoing → b.engine.incoming ≡ a.engine.incoming → b.wire ≡ a.wire → ((id : ℕ) → Life id es (look id a.lines) (look id b.lines)) → Attends a b → Runs a b
+runs_moved a b es h feeds heard plain to_wire incoming wire lines attends = record {
   events = es;
   happen = h;
   plain = plain;
@@ -199,32 +199,32 @@ runs_moved a b es h feeds heard plain to_wire incoming wire lines tends = record
   shuts = false;
   shut = ap (λ (s : Seen). s.shut) wire ∙ or_same a.wire.shut;
   lines = lines;
-  tends = tends;
+  attends = attends;
 }
 
 -- calls alone happened, and the wire was left alone
-pub runs_called : (a b : Tunnel) (es : List (Event × Reply)) → Happen es a.engine.session b.engine.session → LeavesWire es → KeepsWire a.engine b.engine → b.wire ≡ a.wire → ((id : ℕ) → Life id es (look id a.lines) (look id b.lines)) → Tends a b → Runs a b
-runs_called a b es h leaves keeps wire lines tends =
-    runs_moved a b es h leaves.0 leaves.2 leaves.3 (ap (λ (v : List ℕ). a.engine.outgoing ++ v) leaves.1 ∙ append-nil a.engine.outgoing ∙ sym keeps.outgoing) keeps.incoming wire lines tends
+pub runs_called : (a b : Tunnel) (es : List (Event × Reply)) → Happen es a.engine.session b.engine.session → LeavesWire es → KeepsWire a.engine b.engine → b.wire ≡ a.wire → ((id : ℕ) → Life id es (look id a.lines) (look id b.lines)) → Attends a b → Runs a b
+runs_called a b es h leaves keeps wire lines attends =
+    runs_moved a b es h leaves.0 leaves.2 leaves.3 (ap (λ (v : List ℕ). a.engine.outgoing ++ v) leaves.1 ∙ append-nil a.engine.outgoing ∙ sym keeps.outgoing) keeps.incoming wire lines attends
 
 -- a stream and its own device had a turn
 pub runs_served : (a b : Tunnel) (id : ℕ) (d e : Seen) → Exchanges id a.engine.session b.engine.session a.engine.outgoing b.engine.outgoing d e → b.engine.incoming ≡ a.engine.incoming → b.wire ≡ a.wire → look id a.lines ≡ Some d →
-    ((other : ℕ) → look other b.lines ≡ cond (nat_eq id other) (Some e) (look other a.lines)) → Tends a b → Runs a b
-runs_served a b id d e x incoming wire at now tends =
+    ((other : ℕ) → look other b.lines ≡ cond (nat_eq id other) (Some e) (look other a.lines)) → Attends a b → Runs a b
+runs_served a b id d e x incoming wire at now attends =
     let calm : IsCalm x.events = turn_calm id x.events x.own in
     runs_moved a b x.events x.happen calm.0 calm.1 calm.2 x.to_wire incoming wire
-    (λ other. served_line id other a.lines b.lines d e x.events (nat_eq id other) refl at (now other) (life_trades id x.events d e x.trades) (others_quiet_turned id other x.events x.own)) tends
+    (λ other. served_line id other a.lines b.lines d e x.events (nat_eq id other) refl at (now other) (life_trades id x.events d e x.trades) (others_quiet_turned id other x.events x.own)) attends
 
 -- and just these events happened in it
 pub served_run : (a b : Tunnel) (id : ℕ) (d e : Seen) → (x : Exchanges id a.engine.session b.engine.session a.engine.outgoing b.engine.outgoing d e) → b.engine.incoming ≡ a.engine.incoming → b.wire ≡ a.wire → look id a.lines ≡ Some d →
-    ((other : ℕ) → look other b.lines ≡ cond (nat_eq id other) (Some e) (look other a.lines)) → Tends a b → (r : Runs a b) × (x.events ≡ r.events)
+    ((other : ℕ) → look other b.lines ≡ cond (nat_eq id other) (Some e) (look other a.lines)) → Attends a b → (r : Runs a b) × (x.events ≡ r.events)
 unfolding runs_served runs_moved
-served_run a b id d e x incoming wire at now tends = (runs_served a b id d e x incoming wire at now tends, refl)
+served_run a b id d e x incoming wire at now attends = (runs_served a b id d e x incoming wire at now attends, refl)
 
 -- payload was passed to a stream's own device
 pub runs_passed : (a b : Tunnel) (id : ℕ) (d e : Seen) (n : ℕ) → PassesOn id a.engine b.engine d e n → b.wire ≡ a.wire → look id a.lines ≡ Some d →
-    ((other : ℕ) → look other b.lines ≡ cond (nat_eq id other) (Some e) (look other a.lines)) → Tends a b → Runs a b
-runs_passed a b id d e n x wire at now tends =
+    ((other : ℕ) → look other b.lines ≡ cond (nat_eq id other) (Some e) (look other a.lines)) → Attends a b → Runs a b
+runs_passed a b id d e n x wire at now attends =
     let none : PassEmits x.events = pass_emits id x.events x.own in
     record {
       events = x.events;
@@ -247,7 +247,7 @@ runs_passed a b id d e n x wire at now tends =
       shuts = false;
       shut = ap (λ (s : Seen). s.shut) wire ∙ or_same a.wire.shut;
       lines = λ other. served_line id other a.lines b.lines d e x.events (nat_eq id other) refl at (now other) (life_trades id x.events d e (trades_passed id n a.engine b.engine d e x)) (others_quiet_passed id other x.events x.own);
-      tends = tends;
+      attends = attends;
     }
 
 -- one call that moves no byte happened, and the device of a stream joined or left
@@ -259,38 +259,38 @@ changed_line id other a b to es false t now life q = subst (λ (v : Option Seen)
 
 -- a device left, and its stream was forgotten
 pub runs_forgot : (a b : Tunnel) (id : ℕ) (told : Reply) → Gives in_turn a.engine.session (event.Call (call.Forget id)) told b.engine.session → KeepsWire a.engine b.engine → b.wire ≡ a.wire →
-    ((other : ℕ) → look other b.lines ≡ cond (nat_eq id other) None (look other a.lines)) → Tends a b → Runs a b
-runs_forgot a b id told g keeps wire now tends =
+    ((other : ℕ) → look other b.lines ≡ cond (nat_eq id other) None (look other a.lines)) → Attends a b → Runs a b
+runs_forgot a b id told g keeps wire now attends =
     let es : List (Event × Reply) = (event.Call (call.Forget id), told) ∷ [] in
     runs_called a b es (b.engine.session, g, refl) ((refl, λ w. (tt, tt)), refl, refl, refl) keeps wire
-    (λ other. changed_line id other a.lines b.lines None es (nat_eq id other) refl (now other) (life_leaves id told (look id a.lines)) (refl, refl, refl, refl, refl, refl)) tends
+    (λ other. changed_line id other a.lines b.lines None es (nat_eq id other) refl (now other) (life_leaves id told (look id a.lines)) (refl, refl, refl, refl, refl, refl)) attends
 
 -- a stream was opened or accepted, and a device joined it
 pub runs_joined : (a b c : Tunnel) (id : ℕ) (d : Seen) (k : Event × Reply) → opens_at id k.0 k.1 ≡ true → ((other : ℕ) → IsQuiet other (k ∷ [])) → LeavesWire (k ∷ []) →
-    Gives in_turn a.engine.session k.0 k.1 b.engine.session → KeepsWire a.engine b.engine → b.wire ≡ a.wire → b.lines ≡ a.lines → look id a.lines ≡ None → Joins id d b c → Tends a c → Runs a c
-runs_joined a b c id d k opens quiet leaves g keeps wire same none j tends =
+    Gives in_turn a.engine.session k.0 k.1 b.engine.session → KeepsWire a.engine b.engine → b.wire ≡ a.wire → b.lines ≡ a.lines → look id a.lines ≡ None → Joins id d b c → Attends a c → Runs a c
+runs_joined a b c id d k opens quiet leaves g keeps wire same none j attends =
     let es : List (Event × Reply) = k ∷ [] in
     let life : Life id es (look id a.lines) (Some d) = subst (λ (v : Option Seen). Life id es v (Some d)) (sym none) (life_joins id k d opens (quiet id)) in
     let g2 : Gives in_turn a.engine.session k.0 k.1 c.engine.session = subst (λ (v : EngineView). Gives in_turn a.engine.session k.0 k.1 v.engine.session) (sym j.engine) g in
     let keeps2 : KeepsWire a.engine c.engine = subst (λ (v : EngineView). KeepsWire a.engine v.engine) (sym j.engine) keeps in
     runs_called a c es (c.engine.session, g2, refl) leaves keeps2 (j.wire ∙ wire)
-    (λ other. changed_line id other a.lines c.lines (Some d) es (nat_eq id other) refl (j.lines other ∙ ap (λ (v : List (ℕ × Seen)). cond (nat_eq id other) (Some d) (look other v)) same) life (quiet other)) tends
+    (λ other. changed_line id other a.lines c.lines (Some d) es (nat_eq id other) refl (j.lines other ∙ ap (λ (v : List (ℕ × Seen)). cond (nat_eq id other) (Some d) (look other v)) same) life (quiet other)) attends
 
 pub runs_opened : (a b c : Tunnel) (id : ℕ) (d : Seen) → Gives in_turn a.engine.session (event.Call call.Open) (reply.Opened id) b.engine.session → KeepsWire a.engine b.engine → b.wire ≡ a.wire → b.lines ≡ a.lines →
-    look id a.lines ≡ None → Joins id d b c → Tends a c → Runs a c
-runs_opened a b c id d g keeps wire same none j tends =
-    runs_joined a b c id d (event.Call call.Open, reply.Opened id) (same_id id) (λ other. (refl, refl, refl, refl, refl, refl)) ((refl, λ w. (tt, tt)), refl, refl, refl) g keeps wire same none j tends
+    look id a.lines ≡ None → Joins id d b c → Attends a c → Runs a c
+runs_opened a b c id d g keeps wire same none j attends =
+    runs_joined a b c id d (event.Call call.Open, reply.Opened id) (same_id id) (λ other. (refl, refl, refl, refl, refl, refl)) ((refl, λ w. (tt, tt)), refl, refl, refl) g keeps wire same none j attends
 
 pub runs_accepted : (a b c : Tunnel) (id : ℕ) (d : Seen) → Gives in_turn a.engine.session (event.Call call.Accept) (reply.Accepted (Some id)) b.engine.session → KeepsWire a.engine b.engine → b.wire ≡ a.wire → b.lines ≡ a.lines →
-    look id a.lines ≡ None → Joins id d b c → Tends a c → Runs a c
-runs_accepted a b c id d g keeps wire same none j tends =
-    runs_joined a b c id d (event.Call call.Accept, reply.Accepted (Some id)) (same_id id) (λ other. (refl, refl, refl, refl, refl, refl)) ((refl, λ w. (tt, tt)), refl, refl, refl) g keeps wire same none j tends
+    look id a.lines ≡ None → Joins id d b c → Attends a c → Runs a c
+runs_accepted a b c id d g keeps wire same none j attends =
+    runs_joined a b c id d (event.Call call.Accept, reply.Accepted (Some id)) (same_id id) (λ other. (refl, refl, refl, refl, refl, refl)) ((refl, λ w. (tt, tt)), refl, refl, refl) g keeps wire same none j attends
 
 -- calls that are quiet on every stream, but may reset and forget one that has no device
 pub runs_idle : (a b : Tunnel) (es : List (Event × Reply)) → Happen es a.engine.session b.engine.session → LeavesWire es → KeepsWire a.engine b.engine → b.wire ≡ a.wire → b.lines ≡ a.lines →
-    ((id : ℕ) → Life id es (look id a.lines) (look id a.lines)) → Tends a b → Runs a b
-runs_idle a b es h leaves keeps wire same life tends =
-    runs_called a b es h leaves keeps wire (λ id. subst (λ (v : List (ℕ × Seen)). Life id es (look id a.lines) (look id v)) (sym same) (life id)) tends
+    ((id : ℕ) → Life id es (look id a.lines) (look id a.lines)) → Attends a b → Runs a b
+runs_idle a b es h leaves keeps wire same life attends =
+    runs_called a b es h leaves keeps wire (λ id. subst (λ (v : List (ℕ × Seen)). Life id es (look id a.lines) (look id v)) (sym same) (life id)) attends
 
 -- where a stream has no device no byte of it moves, and another one is left alone
 given_up_life : (id other : ℕ) (lines : List (ℕ × Seen)) (es : List (Event × Reply)) (test : Bool) → nat_eq id other ≡ test → look id lines ≡ None → IsIdle other es → ((other == id) ≡ false → IsQuiet other es) → Life other es (look other lines) (look other lines)
@@ -300,25 +300,25 @@ given_up_life id other lines es true t none idle q =
 given_up_life id other lines es false t none idle q = life_quiet other es (look other lines) (q (not_eq_ids id other t))
 
 -- one call was made that moves no byte of a stream, and no device joins or leaves
-pub runs_alone : (a b : Tunnel) (k : Event × Reply) → ((id : ℕ) → IsQuiet id (k ∷ [])) → LeavesWire (k ∷ []) → Gives in_turn a.engine.session k.0 k.1 b.engine.session → KeepsWire a.engine b.engine → b.wire ≡ a.wire → b.lines ≡ a.lines → Tends a b → Runs a b
-runs_alone a b k quiet leaves g keeps wire same tends = runs_idle a b (k ∷ []) (b.engine.session, g, refl) leaves keeps wire same (λ id. life_quiet id (k ∷ []) (look id a.lines) (quiet id)) tends
+pub runs_alone : (a b : Tunnel) (k : Event × Reply) → ((id : ℕ) → IsQuiet id (k ∷ [])) → LeavesWire (k ∷ []) → Gives in_turn a.engine.session k.0 k.1 b.engine.session → KeepsWire a.engine b.engine → b.wire ≡ a.wire → b.lines ≡ a.lines → Attends a b → Runs a b
+runs_alone a b k quiet leaves g keeps wire same attends = runs_idle a b (k ∷ []) (b.engine.session, g, refl) leaves keeps wire same (λ id. life_quiet id (k ∷ []) (look id a.lines) (quiet id)) attends
 
-pub runs_opened_alone : (a b : Tunnel) (told : Reply) → Gives in_turn a.engine.session (event.Call call.Open) told b.engine.session → KeepsWire a.engine b.engine → b.wire ≡ a.wire → b.lines ≡ a.lines → Tends a b → Runs a b
-runs_opened_alone a b told g keeps wire same tends = runs_alone a b (event.Call call.Open, told) (λ id. (refl, refl, refl, refl, refl, refl)) ((refl, λ w. (tt, tt)), refl, refl, refl) g keeps wire same tends
+pub runs_opened_alone : (a b : Tunnel) (told : Reply) → Gives in_turn a.engine.session (event.Call call.Open) told b.engine.session → KeepsWire a.engine b.engine → b.wire ≡ a.wire → b.lines ≡ a.lines → Attends a b → Runs a b
+runs_opened_alone a b told g keeps wire same attends = runs_alone a b (event.Call call.Open, told) (λ id. (refl, refl, refl, refl, refl, refl)) ((refl, λ w. (tt, tt)), refl, refl, refl) g keeps wire same attends
 
-pub runs_accepted_alone : (a b : Tunnel) (told : Reply) → Gives in_turn a.engine.session (event.Call call.Accept) told b.engine.session → KeepsWire a.engine b.engine → b.wire ≡ a.wire → b.lines ≡ a.lines → Tends a b → Runs a b
-runs_accepted_alone a b told g keeps wire same tends = runs_alone a b (event.Call call.Accept, told) (λ id. (refl, refl, refl, refl, refl, refl)) ((refl, λ w. (tt, tt)), refl, refl, refl) g keeps wire same tends
+pub runs_accepted_alone : (a b : Tunnel) (told : Reply) → Gives in_turn a.engine.session (event.Call call.Accept) told b.engine.session → KeepsWire a.engine b.engine → b.wire ≡ a.wire → b.lines ≡ a.lines → Attends a b → Runs a b
+runs_accepted_alone a b told g keeps wire same attends = runs_alone a b (event.Call call.Accept, told) (λ id. (refl, refl, refl, refl, refl, refl)) ((refl, λ w. (tt, tt)), refl, refl, refl) g keeps wire same attends
 
 -- the session is as it was
-runs_still : (a b : Tunnel) → b.engine.session ≡ a.engine.session → KeepsWire a.engine b.engine → b.wire ≡ a.wire → b.lines ≡ a.lines → Tends a b → Runs a b
-runs_still a b still keeps wire same tends = runs_idle a b [] still ((refl, λ w. tt), refl, refl, refl) keeps wire same (λ id. life_quiet id [] (look id a.lines) (refl, refl, refl, refl, refl, refl)) tends
+runs_still : (a b : Tunnel) → b.engine.session ≡ a.engine.session → KeepsWire a.engine b.engine → b.wire ≡ a.wire → b.lines ≡ a.lines → Attends a b → Runs a b
+runs_still a b still keeps wire same attends = runs_idle a b [] still ((refl, λ w. tt), refl, refl, refl) keeps wire same (λ id. life_quiet id [] (look id a.lines) (refl, refl, refl, refl, refl, refl)) attends
 
 -- no stream was opened, or none was offered
-pub runs_opens_none : (a b : Tunnel) (fault : CallFault) → OpensNone fault a.engine.session b.engine.session → KeepsWire a.engine b.engine → b.wire ≡ a.wire → b.lines ≡ a.lines → Tends a b → Runs a b
-runs_opens_none a b fault x keeps wire same tends = runs_still a b x.0 keeps wire same tends
+pub runs_opens_none : (a b : Tunnel) (fault : CallFault) → OpensNone fault a.engine.session b.engine.session → KeepsWire a.engine b.engine → b.wire ≡ a.wire → b.lines ≡ a.lines → Attends a b → Runs a b
+runs_opens_none a b fault x keeps wire same attends = runs_still a b x.0 keeps wire same attends
 
-pub runs_offers_none : (a b : Tunnel) → OffersNone a.engine.session b.engine.session → KeepsWire a.engine b.engine → b.wire ≡ a.wire → b.lines ≡ a.lines → Tends a b → Runs a b
-runs_offers_none a b x keeps wire same tends = runs_still a b x.0 keeps wire same tends
+pub runs_offers_none : (a b : Tunnel) → OffersNone a.engine.session b.engine.session → KeepsWire a.engine b.engine → b.wire ≡ a.wire → b.lines ≡ a.lines → Attends a b → Runs a b
+runs_offers_none a b x keeps wire same attends = runs_still a b x.0 keeps wire same attends
 
 -- the events at which a stream is given up
 abbrev given_up_by : (id : ℕ) (s t : Session) → GivesUp id s t → List (Event × Reply)
@@ -328,41 +328,41 @@ given_up_by id s t up = (event.Call (call.Reset id), up.told_reset) ∷ (event.C
 pub runs_given_up : (a b c : Tunnel) (id : ℕ) (k : Event × Reply) → Gives in_turn a.engine.session k.0 k.1 b.engine.session → KeepsWire a.engine b.engine → b.wire ≡ a.wire → b.lines ≡ a.lines →
     look id a.lines ≡ None → (j : DropsOut id b c) → LeavesWire (k ∷ given_up_by id b.engine.session c.engine.session j.up) →
     ((other : ℕ) → IsIdle other (k ∷ given_up_by id b.engine.session c.engine.session j.up)) →
-    ((other : ℕ) → (other == id) ≡ false → IsQuiet other (k ∷ given_up_by id b.engine.session c.engine.session j.up)) → Tends a c → Runs a c
-runs_given_up a b c id k g keeps wire same none j leaves idle quiet tends =
+    ((other : ℕ) → (other == id) ≡ false → IsQuiet other (k ∷ given_up_by id b.engine.session c.engine.session j.up)) → Attends a c → Runs a c
+runs_given_up a b c id k g keeps wire same none j leaves idle quiet attends =
     let up = j.up in
     let es : List (Event × Reply) = k ∷ given_up_by id b.engine.session c.engine.session up in
     let kept : KeepsWire a.engine c.engine = record { outgoing = j.keeps.outgoing ∙ keeps.outgoing; incoming = j.keeps.incoming ∙ keeps.incoming } in
     runs_idle a c es (b.engine.session, g, (up.between, up.reset, (c.engine.session, up.forgotten, refl))) leaves kept (j.wire ∙ wire) (j.lines ∙ same)
-    (λ other. given_up_life id other a.lines es (nat_eq id other) refl none (idle other) (quiet other)) tends
+    (λ other. given_up_life id other a.lines es (nat_eq id other) refl none (idle other) (quiet other)) attends
 
 -- another stream is reset and forgotten
 off : (id other : ℕ) → (other == id) ≡ false → ((id == other) || false) ≡ false
 off id other ne = ap (λ (v : Bool). v || false) (other_id id id other (same_id id) ne)
 
-pub runs_not_opened : (a b c : Tunnel) (id : ℕ) → Gives in_turn a.engine.session (event.Call call.Open) (reply.Opened id) b.engine.session → KeepsWire a.engine b.engine → b.wire ≡ a.wire → b.lines ≡ a.lines → look id a.lines ≡ None → DropsOut id b c → Tends a c → Runs a c
-runs_not_opened a b c id g keeps wire same none j tends =
+pub runs_not_opened : (a b c : Tunnel) (id : ℕ) → Gives in_turn a.engine.session (event.Call call.Open) (reply.Opened id) b.engine.session → KeepsWire a.engine b.engine → b.wire ≡ a.wire → b.lines ≡ a.lines → look id a.lines ≡ None → DropsOut id b c → Attends a c → Runs a c
+runs_not_opened a b c id g keeps wire same none j attends =
     runs_given_up a b c id (event.Call call.Open, reply.Opened id) g keeps wire same none j ((refl, λ w. (tt, (tt, (tt, tt)))), refl, refl, refl) (λ other. (refl, refl, refl, refl))
-    (λ other ne. (refl, refl, refl, refl, off id other ne, off id other ne)) tends
+    (λ other ne. (refl, refl, refl, refl, off id other ne, off id other ne)) attends
 
-pub runs_not_accepted : (a b c : Tunnel) (id : ℕ) → Gives in_turn a.engine.session (event.Call call.Accept) (reply.Accepted (Some id)) b.engine.session → KeepsWire a.engine b.engine → b.wire ≡ a.wire → b.lines ≡ a.lines → look id a.lines ≡ None → DropsOut id b c → Tends a c → Runs a c
-runs_not_accepted a b c id g keeps wire same none j tends =
+pub runs_not_accepted : (a b c : Tunnel) (id : ℕ) → Gives in_turn a.engine.session (event.Call call.Accept) (reply.Accepted (Some id)) b.engine.session → KeepsWire a.engine b.engine → b.wire ≡ a.wire → b.lines ≡ a.lines → look id a.lines ≡ None → DropsOut id b c → Attends a c → Runs a c
+runs_not_accepted a b c id g keeps wire same none j attends =
     runs_given_up a b c id (event.Call call.Accept, reply.Accepted (Some id)) g keeps wire same none j ((refl, λ w. (tt, (tt, (tt, tt)))), refl, refl, refl) (λ other. (refl, refl, refl, refl))
-    (λ other ne. (refl, refl, refl, refl, off id other ne, off id other ne)) tends
+    (λ other ne. (refl, refl, refl, refl, off id other ne, off id other ne)) attends
 
 -- a line was told of an event, and moved no byte
 pub runs_noted : (a b : Tunnel) (id : ℕ) (d e : Seen) → b.engine ≡ a.engine → b.wire ≡ a.wire → e ≡ d → look id a.lines ≡ Some d →
-    ((other : ℕ) → look other b.lines ≡ cond (nat_eq id other) (Some e) (look other a.lines)) → Tends a b → Runs a b
-runs_noted a b id d e engine wire same at now tends =
+    ((other : ℕ) → look other b.lines ≡ cond (nat_eq id other) (Some e) (look other a.lines)) → Attends a b → Runs a b
+runs_noted a b id d e engine wire same at now attends =
     let life : Life id [] (Some d) (Some e) = subst (λ (v : Seen). Life id [] (Some d) (Some v)) (sym same) (life_quiet id [] (Some d) (refl, refl, refl, refl, refl, refl)) in
     runs_called a b [] (ap (λ (v : Engine). v.session) engine) ((refl, λ w. tt), refl, refl, refl)
     (record { outgoing = ap (λ (v : Engine). v.outgoing) engine; incoming = ap (λ (v : Engine). v.incoming) engine }) wire
-    (λ other. served_line id other a.lines b.lines d e [] (nat_eq id other) refl at (now other) life (λ ne. (refl, refl, refl, refl, refl, refl))) tends
+    (λ other. served_line id other a.lines b.lines d e [] (nat_eq id other) refl at (now other) life (λ ne. (refl, refl, refl, refl, refl, refl))) attends
 
 -- the wire was ended or shut both ways, as these say
 runs_closed : (a b : Tunnel) (ends shuts : Bool) → b.engine ≡ a.engine → b.wire.left ≡ a.wire.left → b.wire.had ≡ a.wire.had → b.wire.over ≡ a.wire.over → b.wire.failed ≡ a.wire.failed →
-    b.wire.ended ≡ option_map (λ v. v || ends) a.wire.ended → b.wire.shut ≡ option_map (λ v. v || shuts) a.wire.shut → b.lines ≡ a.lines → Tends a b → Runs a b
-runs_closed a b ends shuts engine left had over failed ended shut same tends = record {
+    b.wire.ended ≡ option_map (λ v. v || ends) a.wire.ended → b.wire.shut ≡ option_map (λ v. v || shuts) a.wire.shut → b.lines ≡ a.lines → Attends a b → Runs a b
+runs_closed a b ends shuts engine left had over failed ended shut same attends = record {
   events = [];
   happen = ap (λ (v : Engine). v.session) engine;
   plain = refl;
@@ -383,21 +383,21 @@ runs_closed a b ends shuts engine left had over failed ended shut same tends = r
   shuts = shuts;
   shut = shut;
   lines = still_lines a b [] same (λ id. (refl, refl, refl, refl, refl, refl));
-  tends = tends;
+  attends = attends;
 }
 
 -- nothing more goes over the wire
-pub runs_ended : (a b : Tunnel) → b.engine ≡ a.engine → IsEnded a.wire b.wire → b.lines ≡ a.lines → Tends a b → Runs a b
-runs_ended a b engine x same tends = runs_closed a b true false engine x.left x.had x.over x.failed (x.ended ∙ or_true a.wire.ended) (x.shut ∙ or_same a.wire.shut) same tends
+pub runs_ended : (a b : Tunnel) → b.engine ≡ a.engine → IsEnded a.wire b.wire → b.lines ≡ a.lines → Attends a b → Runs a b
+runs_ended a b engine x same attends = runs_closed a b true false engine x.left x.had x.over x.failed (x.ended ∙ or_true a.wire.ended) (x.shut ∙ or_same a.wire.shut) same attends
 
 -- the wire was shut both ways
-pub runs_shut : (a b : Tunnel) → b.engine ≡ a.engine → IsShut a.wire b.wire → b.lines ≡ a.lines → Tends a b → Runs a b
-runs_shut a b engine x same tends = runs_closed a b false true engine x.left x.had x.over x.failed (x.ended ∙ or_same a.wire.ended) (x.shut ∙ or_true a.wire.shut) same tends
+pub runs_shut : (a b : Tunnel) → b.engine ≡ a.engine → IsShut a.wire b.wire → b.lines ≡ a.lines → Attends a b → Runs a b
+runs_shut a b engine x same attends = runs_closed a b false true engine x.left x.had x.over x.failed (x.ended ∙ or_same a.wire.ended) (x.shut ∙ or_true a.wire.shut) same attends
 
 -- a ping was asked, or its answer collected
-pub runs_pinged : (a b : Tunnel) (c : Call) (told : Reply) → ((id : ℕ) → IsQuiet id ((event.Call c, told) ∷ [])) → opens_with (event.Call c) ≡ false → Gives in_turn a.engine.session (event.Call c) told b.engine.session → KeepsWire a.engine b.engine → b.wire ≡ a.wire → b.lines ≡ a.lines → Tends a b → Runs a b
-runs_pinged a b c told quiet plain g keeps wire same tends =
-    runs_alone a b (event.Call c, told) quiet ((refl, λ w. (tt, tt)), refl, refl, ap (λ (v : Bool). v || false) plain) g keeps wire same tends
+pub runs_pinged : (a b : Tunnel) (c : Call) (told : Reply) → ((id : ℕ) → IsQuiet id ((event.Call c, told) ∷ [])) → opens_with (event.Call c) ≡ false → Gives in_turn a.engine.session (event.Call c) told b.engine.session → KeepsWire a.engine b.engine → b.wire ≡ a.wire → b.lines ≡ a.lines → Attends a b → Runs a b
+runs_pinged a b c told quiet plain g keeps wire same attends =
+    runs_alone a b (event.Call c, told) quiet ((refl, λ w. (tt, tt)), refl, refl, ap (λ (v : Bool). v || false) plain) g keeps wire same attends
 
 -- ---- lines and the map that keeps their devices
 
@@ -436,11 +436,11 @@ pub from_view : (a b c : Tunnel) → a ≡ b → Runs a c → Runs b c
 from_view a b c e x = subst (λ (v : Tunnel). Runs v c) e x
 
 -- one run behind parts of which the session, its bytes, the wire and the lines are as they were
-pub runs_behind : (a b c : Tunnel) → Runs b c → b.engine ≡ a.engine → b.wire ≡ a.wire → b.lines ≡ a.lines → Tends a c → Runs a c
-runs_behind a b c x p q r tends =
+pub runs_behind : (a b c : Tunnel) → Runs b c → b.engine ≡ a.engine → b.wire ≡ a.wire → b.lines ≡ a.lines → Attends a c → Runs a c
+runs_behind a b c x p q r attends =
     let d : Tunnel = record { engine = b.engine; marks = a.marks; turns = a.turns; work = a.work; wire = b.wire; lines = b.lines } in
     let same : d ≡ a = λ j. record { engine = p j; marks = a.marks; turns = a.turns; work = a.work; wire = q j; lines = r j } in
-    let run : Tends d c → Runs d c = λ kept. record {
+    let run : Attends d c → Runs d c = λ kept. record {
       events = x.events;
       happen = x.happen;
       plain = x.plain;
@@ -461,13 +461,13 @@ runs_behind a b c x p q r tends =
       shuts = x.shuts;
       shut = x.shut;
       lines = x.lines;
-      tends = kept;
+      attends = kept;
     } in
-    subst (λ (v : Tunnel). Tends v c → Runs v c) same run tends
+    subst (λ (v : Tunnel). Attends v c → Runs v c) same run attends
 
 -- they are as they were
-pub runs_alike : (a b : Tunnel) → b.engine ≡ a.engine → b.wire ≡ a.wire → b.lines ≡ a.lines → Tends a b → Runs a b
-runs_alike a b p q r tends = runs_behind a b b (runs_same b) p q r tends
+pub runs_alike : (a b : Tunnel) → b.engine ≡ a.engine → b.wire ≡ a.wire → b.lines ≡ a.lines → Attends a b → Runs a b
+runs_alike a b p q r attends = runs_behind a b b (runs_same b) p q r attends
 
 pub is_some_at : {A : Type 0} {o : Option A} {x : A} → o ≡ Some x → IsSome o
 is_some_at {A} {o} {x} e = subst (λ (v : Option A). IsSome v) (sym e) refl
@@ -507,19 +507,19 @@ joins_by seen a b id came kept ms ns engine work wire before behind put same = r
 
 -- a stream was accepted for which there is no device, and given up
 pub runs_rejected : (a : Tunnel) (e : EngineView) (c : Tunnel) (id : ℕ) → Gives in_turn a.engine.session (event.Call call.Accept) (reply.Accepted (Some id)) e.engine.session → KeepsWire a.engine e.engine → look id a.lines ≡ None →
-    GivesUp id e.engine.session c.engine.session → KeepsWire e.engine c.engine → Knows id None e.turns c.turns → SameQueues e.turns c.turns → (AreServedBut id e → AreServed (view_of c)) → c.work ≡ a.work → c.wire ≡ a.wire → c.lines ≡ a.lines → Tends a c → Runs a c
-runs_rejected a e c id g keeps none up keeps2 gone queues served work wire same tends =
+    GivesUp id e.engine.session c.engine.session → KeepsWire e.engine c.engine → Knows id None e.turns c.turns → SameQueues e.turns c.turns → (AreServedBut id e → AreServed (view_of c)) → c.work ≡ a.work → c.wire ≡ a.wire → c.lines ≡ a.lines → Attends a c → Runs a c
+runs_rejected a e c id g keeps none up keeps2 gone queues served work wire same attends =
     runs_not_accepted a (record { engine = e.engine; marks = e.marks; turns = e.turns; work = a.work; wire = a.wire; lines = a.lines }) c id g keeps refl refl none
-    (record { up = up; keeps = keeps2; gone = gone; waits = wait_queues e.turns c.turns queues; work = work; served = served; wire = wire; lines = same }) tends
+    (record { up = up; keeps = keeps2; gone = gone; waits = wait_queues e.turns c.turns queues; work = work; served = served; wire = wire; lines = same }) attends
 
 -- one was accepted that has a device, and forgotten at once
 pub runs_accepted_forgot : (a : Tunnel) (e : Engine) (c : Tunnel) (id : ℕ) (told : Reply) → Gives in_turn a.engine.session (event.Call call.Accept) (reply.Accepted (Some id)) e.session → KeepsWire a.engine e →
-    Gives in_turn e.session (event.Call (call.Forget id)) told c.engine.session → KeepsWire e c.engine → c.wire ≡ a.wire → c.lines ≡ a.lines → Tends a c → Runs a c
-runs_accepted_forgot a e c id told g keeps f keeps2 wire same tends =
+    Gives in_turn e.session (event.Call (call.Forget id)) told c.engine.session → KeepsWire e c.engine → c.wire ≡ a.wire → c.lines ≡ a.lines → Attends a c → Runs a c
+runs_accepted_forgot a e c id told g keeps f keeps2 wire same attends =
     let es : List (Event × Reply) = (event.Call call.Accept, reply.Accepted (Some id)) ∷ (event.Call (call.Forget id), told) ∷ [] in
     let kept : KeepsWire a.engine c.engine = record { outgoing = keeps2.outgoing ∙ keeps.outgoing; incoming = keeps2.incoming ∙ keeps.incoming } in
     runs_idle a c es (e.session, g, (c.engine.session, f, refl)) ((refl, λ w. (tt, (tt, tt))), refl, refl, refl) kept wire same
-    (λ other. life_quiet other es (look other a.lines) (refl, refl, refl, refl, refl, refl)) tends
+    (λ other. life_quiet other es (look other a.lines) (refl, refl, refl, refl, refl, refl)) attends
 
 -- what an accept says of the stream that it gave, and where it gave none
 pub accepted_at : (o : Option ℕ) (id : ℕ) (s t : Session) → o ≡ Some id → IfSome o (λ i. Gives in_turn s (event.Call call.Accept) (reply.Accepted (Some i)) t) → Gives in_turn s (event.Call call.Accept) (reply.Accepted (Some id)) t

@@ -14,8 +14,8 @@ use Rattle.ymx_engine.specs.Served.{IsServed, AreServed, AreServedBut, KeepsServ
 use Rattle.ymx_engine.specs.Tunnels.{Tunnel, look, lines_of, view_of, HaveDevices, KnowsNoMore, Joins, DropsOut, Serving, ServingBut}
 use Rattle.ymx_engine.specs.Runs.{Runs}
 use Rattle.ymx_engine.proofs.Running.{eq_ids, is_some_at, look_lines, runs_alike}
-use Rattle.ymx_engine.proofs.Working.{tends_on, wait_turns, grows_same}
-use Rattle.ymx_engine.specs.Work.{Tends}
+use Rattle.ymx_engine.proofs.Working.{attends_on, wait_turns, grows_same}
+use Rattle.ymx_engine.specs.Work.{Attends}
 
 -- ---- who is known
 
@@ -224,8 +224,8 @@ lone_tunnel e wire id seen = record {
 lone_serves_none : (e : Engine) (wire : Seen) (id : ℕ) (seen : Seen) → Serving (lone_tunnel e wire id seen) → ⊥
 lone_serves_none e wire id seen s = none_kept (nat_eq (id + 1) id) seen (next_id id) (s.devices (id + 1) (some_kept (nat_eq (id + 1) (id + 1)) (record { connection = new_connection false; is_queued = false; is_held = false }) (own_id (id + 1))))
 
-pub lone_tends : (e f : Engine) (wire : Seen) (id : ℕ) (old new : Seen) → Tends (lone_tunnel e wire id old) (lone_tunnel f wire id new)
-lone_tends e f wire id old new = record {
+pub lone_attends : (e f : Engine) (wire : Seen) (id : ℕ) (old new : Seen) → Attends (lone_tunnel e wire id old) (lone_tunnel f wire id new)
+lone_attends e f wire id old new = record {
   serves = λ s. absurd (lone_serves_none e wire id old s);
   waits = λ h. let no : true ≡ false = h in let none : ⊥ = cc in absurd none;
   grows = grows_same _ _ refl;
@@ -236,4 +236,4 @@ pub runs_unfound : (a b : Tunnel) → view_of b ≡ view_of a → b.work ≡ a.w
 runs_unfound a b view work wire lines =
     let turns : b.turns ≡ a.turns = ap (λ (v : EngineView). v.turns) view in
     runs_alike a b (ap (λ (v : EngineView). v.engine) view) wire lines
-    (tends_on a b (serving_kept a b (subst AreServed (sym view)) (same_turns a.turns b.turns turns) lines) (wait_turns a.turns b.turns turns) work)
+    (attends_on a b (serving_kept a b (subst AreServed (sym view)) (same_turns a.turns b.turns turns) lines) (wait_turns a.turns b.turns turns) work)

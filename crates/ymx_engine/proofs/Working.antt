@@ -14,7 +14,7 @@ use Rattle.ymx_engine.specs.Known.{may_push, may_pull}
 use Rattle.ymx_engine.specs.Marks.{EngineView, takes_more}
 use Rattle.ymx_engine.specs.Tunnels.{Tunnel, look, view_of, Serving, Joins, DropsOut}
 use Rattle.ymx_engine.specs.Turns.{Turns, Waits, WaitOn, SameConnections, SameQueues, Adds, AddsTurn, TakesTurn, StaysOrAdds, IsIdle, is_idle}
-use Rattle.ymx_engine.specs.Work.{WorkGrows, Tends, HasTurns, WorksOnce, StoodFirst, Delivers, Collects, HasTurn}
+use Rattle.ymx_engine.specs.Work.{WorkGrows, Attends, ServesOne, WorksOnce, StoodFirst, OffersBytes, AsksForBytes, ServesFirst}
 
 -- ---- counts
 
@@ -111,11 +111,11 @@ none_waited a b (idle, still) = wait_same a b (still.0 ∙ sym idle.0) (still.1 
 
 -- ---- a tunnel
 
-pub tends_same : (a : Tunnel) → Tends a a
-tends_same a = record { serves = λ s. s; waits = λ h. inl h; grows = grows_same a.work a.work refl }
+pub attends_same : (a : Tunnel) → Attends a a
+attends_same a = record { serves = λ s. s; waits = λ h. inl h; grows = grows_same a.work a.work refl }
 
-pub tends_then : (a b c : Tunnel) → Tends a b → Tends b c → Tends a c
-tends_then a b c x y = record { serves = λ s. y.serves (x.serves s); waits = λ h. by (x.waits h); grows = grows_then a.work b.work c.work x.grows y.grows }
+pub attends_then : (a b c : Tunnel) → Attends a b → Attends b c → Attends a c
+attends_then a b c x y = record { serves = λ s. y.serves (x.serves s); waits = λ h. by (x.waits h); grows = grows_then a.work b.work c.work x.grows y.grows }
   where
     on : (is_idle c.turns ≡ false) ⊎ CountsSome b.work.turns c.work.turns → (is_idle c.turns ≡ false) ⊎ CountsSome a.work.turns c.work.turns
     on (inl h) = inl h
@@ -126,64 +126,64 @@ tends_then a b c x y = record { serves = λ s. y.serves (x.serves s); waits = λ
     by (inr more) = inr (some_then a.work.turns b.work.turns c.work.turns more y.grows.turns)
 
 -- each that waited waits on, and no count falls
-pub tends_by : (a b : Tunnel) → (Serving a → Serving b) → WaitOn a.turns b.turns → WorkGrows a.work b.work → Tends a b
-tends_by a b serves on grows = record { serves = serves; waits = λ h. inl (not_idle_then a.turns b.turns on h); grows = grows }
+pub attends_by : (a b : Tunnel) → (Serving a → Serving b) → WaitOn a.turns b.turns → WorkGrows a.work b.work → Attends a b
+attends_by a b serves on grows = record { serves = serves; waits = λ h. inl (not_idle_then a.turns b.turns on h); grows = grows }
 
 -- no work was done
-pub tends_on : (a b : Tunnel) → (Serving a → Serving b) → WaitOn a.turns b.turns → b.work ≡ a.work → Tends a b
-tends_on a b serves on same = tends_by a b serves on (grows_same a.work b.work same)
+pub attends_on : (a b : Tunnel) → (Serving a → Serving b) → WaitOn a.turns b.turns → b.work ≡ a.work → Attends a b
+attends_on a b serves on same = attends_by a b serves on (grows_same a.work b.work same)
 
 -- one had its turn
-pub tends_turn : (a c : Tunnel) (w : Work) → (Serving a → Serving c) → CountsOne a.work.turns w.turns → w.reads ≡ a.work.reads → w.writes ≡ a.work.writes → WorkGrows w c.work → Tends a c
-tends_turn a c w serves one reads writes grows = record {
+pub attends_turn : (a c : Tunnel) (w : Work) → (Serving a → Serving c) → CountsOne a.work.turns w.turns → w.reads ≡ a.work.reads → w.writes ≡ a.work.writes → WorkGrows w c.work → Attends a c
+attends_turn a c w serves one reads writes grows = record {
   serves = serves;
   waits = λ h. inr (some_then a.work.turns w.turns c.work.turns (one_is_some a.work.turns w.turns one) grows.turns);
   grows = grows_then a.work w c.work (record { reads = same_count a.work.reads w.reads reads; turns = one_grows a.work.turns w.turns one; writes = same_count a.work.writes w.writes writes }) grows;
 }
 
 -- nobody's turn came, or left its queue
-pub tends_turns : (a b : Tunnel) → (Serving a → Serving b) → b.turns ≡ a.turns → b.work ≡ a.work → Tends a b
-tends_turns a b serves turns work = tends_on a b serves (wait_turns a.turns b.turns turns) work
+pub attends_turns : (a b : Tunnel) → (Serving a → Serving b) → b.turns ≡ a.turns → b.work ≡ a.work → Attends a b
+attends_turns a b serves turns work = attends_on a b serves (wait_turns a.turns b.turns turns) work
 
-pub tends_queues : (a b : Tunnel) → (Serving a → Serving b) → SameQueues a.turns b.turns → b.work ≡ a.work → Tends a b
-tends_queues a b serves queues work = tends_on a b serves (wait_queues a.turns b.turns queues) work
+pub attends_queues : (a b : Tunnel) → (Serving a → Serving b) → SameQueues a.turns b.turns → b.work ≡ a.work → Attends a b
+attends_queues a b serves queues work = attends_on a b serves (wait_queues a.turns b.turns queues) work
 
-pub tends_idle : (a b : Tunnel) → (Serving a → Serving b) → IsIdle a.turns × IsIdle b.turns → b.work ≡ a.work → Tends a b
-tends_idle a b serves idle work = tends_on a b serves (none_waited a.turns b.turns idle) work
+pub attends_idle : (a b : Tunnel) → (Serving a → Serving b) → IsIdle a.turns × IsIdle b.turns → b.work ≡ a.work → Attends a b
+attends_idle a b serves idle work = attends_on a b serves (none_waited a.turns b.turns idle) work
 
 -- this one waits for a turn too
-pub tends_added : (a b : Tunnel) (id : ℕ) → (Serving a → Serving b) → AddsTurn id a.turns b.turns → b.work ≡ a.work → Tends a b
-tends_added a b id serves turn work = tends_on a b serves (wait_added id a.turns b.turns turn) work
+pub attends_added : (a b : Tunnel) (id : ℕ) → (Serving a → Serving b) → AddsTurn id a.turns b.turns → b.work ≡ a.work → Attends a b
+attends_added a b id serves turn work = attends_on a b serves (wait_added id a.turns b.turns turn) work
 
 -- a device joined this one, or none could
-pub tends_joined : (a b c : Tunnel) (id : ℕ) (d : Seen) → (Serving a → Serving c) → AddsTurn id a.turns b.turns → b.work ≡ a.work → Joins id d b c → Tends a c
-tends_joined a b c id d serves turn work j =
-    tends_on a c serves (wait_then a.turns b.turns c.turns (wait_added id a.turns b.turns turn) (wait_turns b.turns c.turns (ap (λ (v : EngineView). v.turns) j.engine))) (j.work ∙ work)
+pub attends_joined : (a b c : Tunnel) (id : ℕ) (d : Seen) → (Serving a → Serving c) → AddsTurn id a.turns b.turns → b.work ≡ a.work → Joins id d b c → Attends a c
+attends_joined a b c id d serves turn work j =
+    attends_on a c serves (wait_then a.turns b.turns c.turns (wait_added id a.turns b.turns turn) (wait_turns b.turns c.turns (ap (λ (v : EngineView). v.turns) j.engine))) (j.work ∙ work)
 
-pub tends_dropped : (a b c : Tunnel) (id : ℕ) → (Serving a → Serving c) → AddsTurn id a.turns b.turns → b.work ≡ a.work → DropsOut id b c → Tends a c
-tends_dropped a b c id serves turn work j = tends_on a c serves (wait_then a.turns b.turns c.turns (wait_added id a.turns b.turns turn) j.waits) (j.work ∙ work)
+pub attends_dropped : (a b c : Tunnel) (id : ℕ) → (Serving a → Serving c) → AddsTurn id a.turns b.turns → b.work ≡ a.work → DropsOut id b c → Attends a c
+attends_dropped a b c id serves turn work j = attends_on a c serves (wait_then a.turns b.turns c.turns (wait_added id a.turns b.turns turn) j.waits) (j.work ∙ work)
 
 -- none was offered, or this one was accepted
-pub tends_offers_none : (a b : Tunnel) (o : Option ℕ) → o ≡ None → (Serving a → Serving b) → IfNone o (SameConnections a.turns b.turns × SameQueues a.turns b.turns) → b.work ≡ a.work → Tends a b
-tends_offers_none a b o none serves h work =
+pub attends_offers_none : (a b : Tunnel) (o : Option ℕ) → o ≡ None → (Serving a → Serving b) → IfNone o (SameConnections a.turns b.turns × SameQueues a.turns b.turns) → b.work ≡ a.work → Attends a b
+attends_offers_none a b o none serves h work =
     let same : SameConnections a.turns b.turns × SameQueues a.turns b.turns = subst (λ (v : Option ℕ). IfNone v (SameConnections a.turns b.turns × SameQueues a.turns b.turns)) none h in
-    tends_queues a b serves same.1 work
+    attends_queues a b serves same.1 work
 
 accepted : (a b : Turns) (o : Option ℕ) (id : ℕ) (k : Connection) → o ≡ Some id → IfSome o (λ i. Adds i k a b) → AddsTurn id a b
 accepted a b o id k some h = let adds : Adds id k a b = subst (λ (v : Option ℕ). IfSome v (λ i. Adds i k a b)) some h in adds.2
 
-pub tends_accepted : (a b : Tunnel) (o : Option ℕ) (id : ℕ) (k : Connection) → o ≡ Some id → (Serving a → Serving b) → IfSome o (λ i. Adds i k a.turns b.turns) → b.work ≡ a.work → Tends a b
-tends_accepted a b o id k some serves h work = tends_added a b id serves (accepted a.turns b.turns o id k some h) work
+pub attends_accepted : (a b : Tunnel) (o : Option ℕ) (id : ℕ) (k : Connection) → o ≡ Some id → (Serving a → Serving b) → IfSome o (λ i. Adds i k a.turns b.turns) → b.work ≡ a.work → Attends a b
+attends_accepted a b o id k some serves h work = attends_added a b id serves (accepted a.turns b.turns o id k some h) work
 
-pub tends_accept_joined : (a b c : Tunnel) (o : Option ℕ) (id : ℕ) (k : Connection) (d : Seen) → o ≡ Some id → (Serving a → Serving c) → IfSome o (λ i. Adds i k a.turns b.turns) → b.work ≡ a.work → Joins id d b c → Tends a c
-tends_accept_joined a b c o id k d some serves h work j = tends_joined a b c id d serves (accepted a.turns b.turns o id k some h) work j
+pub attends_accept_joined : (a b c : Tunnel) (o : Option ℕ) (id : ℕ) (k : Connection) (d : Seen) → o ≡ Some id → (Serving a → Serving c) → IfSome o (λ i. Adds i k a.turns b.turns) → b.work ≡ a.work → Joins id d b c → Attends a c
+attends_accept_joined a b c o id k d some serves h work j = attends_joined a b c id d serves (accepted a.turns b.turns o id k some h) work j
 
-pub tends_accept_dropped : (a b c : Tunnel) (o : Option ℕ) (id : ℕ) (k : Connection) → o ≡ Some id → (Serving a → Serving c) → IfSome o (λ i. Adds i k a.turns b.turns) → b.work ≡ a.work → DropsOut id b c → Tends a c
-tends_accept_dropped a b c o id k some serves h work j = tends_dropped a b c id serves (accepted a.turns b.turns o id k some h) work j
+pub attends_accept_dropped : (a b c : Tunnel) (o : Option ℕ) (id : ℕ) (k : Connection) → o ≡ Some id → (Serving a → Serving c) → IfSome o (λ i. Adds i k a.turns b.turns) → b.work ≡ a.work → DropsOut id b c → Attends a c
+attends_accept_dropped a b c o id k some serves h work j = attends_dropped a b c id serves (accepted a.turns b.turns o id k some h) work j
 
 -- one was accepted that was let go of
-pub tends_refused : (a c : Tunnel) (t : Turns) → (Serving a → Serving c) → t ≡ a.turns → SameQueues t c.turns → c.work ≡ a.work → Tends a c
-tends_refused a c t serves same queues work = tends_on a c serves (wait_then a.turns t c.turns (wait_turns a.turns t same) (wait_queues t c.turns queues)) work
+pub attends_refused : (a c : Tunnel) (t : Turns) → (Serving a → Serving c) → t ≡ a.turns → SameQueues t c.turns → c.work ≡ a.work → Attends a c
+attends_refused a c t serves same queues work = attends_on a c serves (wait_then a.turns t c.turns (wait_turns a.turns t same) (wait_queues t c.turns queues)) work
 
 pub grows_read : (a b : Work) → CountsOne a.reads b.reads → b.turns ≡ a.turns → b.writes ≡ a.writes → WorkGrows a b
 grows_read a b one turns writes = record { reads = one_grows a.reads b.reads one; turns = same_count a.turns b.turns turns; writes = same_count a.writes b.writes writes }
@@ -194,7 +194,7 @@ grows_write a b one reads turns = record { reads = same_count a.reads b.reads re
 -- ---- many steps
 
 -- one that waits has its turn behind what went before
-pub turns_then : (a b c : Tunnel) → Tends a b → HasTurns b c → WorkGrows b.work c.work → HasTurns a c
+pub turns_then : (a b c : Tunnel) → Attends a b → ServesOne b c → WorkGrows b.work c.work → ServesOne a c
 turns_then a b c x turns grows h = by (x.waits h)
   where
     by : (is_idle b.turns ≡ false) ⊎ CountsSome a.work.turns b.work.turns → CountsSome a.work.turns c.work.turns
@@ -202,12 +202,12 @@ turns_then a b c x turns grows h = by (x.waits h)
     by (inr more) = some_then a.work.turns b.work.turns c.work.turns more grows.turns
 
 -- one round: what comes before the wire is read, and behind it, until one has its turn and the wire is written to
-pub works_once : (a b c d e f g : Tunnel) → Tends a b → Tends b c → CountsSome b.work.reads c.work.reads → Tends c d → Tends d e → HasTurns d e → Tends e f → CountsOne e.work.writes f.work.writes → Tends f g → WorksOnce a g
+pub works_once : (a b c d e f g : Tunnel) → Attends a b → Attends b c → CountsSome b.work.reads c.work.reads → Attends c d → Attends d e → ServesOne d e → Attends e f → CountsOne e.work.writes f.work.writes → Attends f g → WorksOnce a g
 works_once a b c d e f g x y reads z u turns v writes w =
-    let to_d : Tends a d = tends_then a c d (tends_then a b c x y) z in
-    let to_e : Tends a e = tends_then a d e to_d u in
-    let from_c : Tends c g = tends_then c e g (tends_then c d e z u) (tends_then e f g v w) in
-    let from_e : Tends e g = tends_then e f g v w in
+    let to_d : Attends a d = attends_then a c d (attends_then a b c x y) z in
+    let to_e : Attends a e = attends_then a d e to_d u in
+    let from_c : Attends c g = attends_then c e g (attends_then c d e z u) (attends_then e f g v w) in
+    let from_e : Attends e g = attends_then e f g v w in
     record {
       reads = some_then a.work.reads c.work.reads g.work.reads (then_some a.work.reads b.work.reads c.work.reads x.grows.reads reads) from_c.grows.reads;
       turns = λ h. some_then a.work.turns e.work.turns g.work.turns (turns_then a d e to_d turns u.grows h) from_e.grows.turns;
@@ -231,33 +231,33 @@ none_is (Some y) none some = let no : ⊥ = cc in no
 
 -- this device was called
 pub delivers_by : (a b : Tunnel) (id : ℕ) (d e : Seen) → look id a.lines ≡ Some d → ((other : ℕ) → look other b.lines ≡ cond (nat_eq id other) (Some e) (look other a.lines)) →
-    (0 < length (waiting id a.engine.session) → StillKnown id a.turns b.turns (λ was now. may_push was ≡ true → IsOffered now d.counts e.counts)) → Delivers id a b
+    (0 < length (waiting id a.engine.session) → StillKnown id a.turns b.turns (λ was now. may_push was ≡ true → IsOffered now d.counts e.counts)) → OffersBytes id a b
 delivers_by a b id d e at now h = record { offers = λ before after p q some.
     subst (λ (v : Seen). StillKnown id a.turns b.turns (λ was now. may_push was ≡ true → IsOffered now v.counts after.counts)) (some_is (sym at ∙ p))
     (subst (λ (v : Seen). StillKnown id a.turns b.turns (λ was now. may_push was ≡ true → IsOffered now d.counts v.counts)) (some_is (sym (there_now id e a.lines b.lines now) ∙ q)) (h some)) }
 
 pub collects_by : (a b : Tunnel) (id : ℕ) (d e : Seen) → look id a.lines ≡ Some d → ((other : ℕ) → look other b.lines ≡ cond (nat_eq id other) (Some e) (look other a.lines)) →
-    (takes_more (view_of a) ≡ true → StillKnown id a.turns b.turns (λ was now. may_pull was ≡ true → IsAsked now d.counts e.counts (room_of id b.engine.session))) → Collects id a b
+    (takes_more (view_of a) ≡ true → StillKnown id a.turns b.turns (λ was now. may_pull was ≡ true → IsAsked now d.counts e.counts (room_of id b.engine.session))) → AsksForBytes id a b
 collects_by a b id d e at now h = record { asks = λ before after p q takes.
     subst (λ (v : Seen). StillKnown id a.turns b.turns (λ was now. may_pull was ≡ true → IsAsked now v.counts after.counts (room_of id b.engine.session))) (some_is (sym at ∙ p))
     (subst (λ (v : Seen). StillKnown id a.turns b.turns (λ was now. may_pull was ≡ true → IsAsked now d.counts v.counts (room_of id b.engine.session))) (some_is (sym (there_now id e a.lines b.lines now) ∙ q)) (h takes)) }
 
 -- no device is there
-pub delivers_none : (a b : Tunnel) (id : ℕ) → look id a.lines ≡ None → Delivers id a b
+pub delivers_none : (a b : Tunnel) (id : ℕ) → look id a.lines ≡ None → OffersBytes id a b
 delivers_none a b id none = record { offers = λ before after p q some. absurd (none_is (look id a.lines) none p) }
 
-pub collects_none : (a b : Tunnel) (id : ℕ) → look id a.lines ≡ None → Collects id a b
+pub collects_none : (a b : Tunnel) (id : ℕ) → look id a.lines ≡ None → AsksForBytes id a b
 collects_none a b id none = record { asks = λ before after p q takes. absurd (none_is (look id a.lines) none p) }
 
 -- what a call saw of the tunnel before
-pub delivers_from : (a b c : Tunnel) (id : ℕ) → a ≡ b → Delivers id a c → Delivers id b c
-delivers_from a b c id e h = subst (λ (v : Tunnel). Delivers id v c) e h
+pub delivers_from : (a b c : Tunnel) (id : ℕ) → a ≡ b → OffersBytes id a c → OffersBytes id b c
+delivers_from a b c id e h = subst (λ (v : Tunnel). OffersBytes id v c) e h
 
-pub collects_from : (a b c : Tunnel) (id : ℕ) → a ≡ b → Collects id a c → Collects id b c
-collects_from a b c id e h = subst (λ (v : Tunnel). Collects id v c) e h
+pub collects_from : (a b c : Tunnel) (id : ℕ) → a ≡ b → AsksForBytes id a c → AsksForBytes id b c
+collects_from a b c id e h = subst (λ (v : Tunnel). AsksForBytes id v c) e h
 
-pub had_turn_from : (a b c : Tunnel) (id : ℕ) → a ≡ b → HasTurn id a c → HasTurn id b c
-had_turn_from a b c id e h = subst (λ (v : Tunnel). HasTurn id v c) e h
+pub serves_first_from : (a b c : Tunnel) (id : ℕ) → a ≡ b → ServesFirst id a c → ServesFirst id b c
+serves_first_from a b c id e h = subst (λ (v : Tunnel). ServesFirst id v c) e h
 
 stood_first : (id : ℕ) (a b : Turns) → TakesTurn id a b → StoodFirst id a
 stood_first id a b (inl (first, same)) = (b.fresh, inl first)
@@ -267,9 +267,9 @@ known_before : (id : ℕ) (a b c : Turns) (P : Connection → Connection → Typ
 known_before id a b c P same h was at = h was (same id ∙ at)
 
 -- its turn came, and then it was served
-pub turn_by : (a b c : Tunnel) (id : ℕ) → TakesTurn id a.turns b.turns → SameConnections a.turns b.turns → b.engine ≡ a.engine → b.marks ≡ a.marks → b.lines ≡ a.lines → CountsOne a.work.turns b.work.turns →
-    Delivers id b c → Collects id b c → c.work ≡ b.work → HasTurn id a c
-turn_by a b c id takes same engine marks lines one delivers collects work = record {
+pub serves_first_by : (a b c : Tunnel) (id : ℕ) → TakesTurn id a.turns b.turns → SameConnections a.turns b.turns → b.engine ≡ a.engine → b.marks ≡ a.marks → b.lines ≡ a.lines → CountsOne a.work.turns b.work.turns →
+    OffersBytes id b c → AsksForBytes id b c → c.work ≡ b.work → ServesFirst id a c
+serves_first_by a b c id takes same engine marks lines one delivers collects work = record {
   first = stood_first id a.turns b.turns takes;
   delivers = record { offers = λ before after p q some. known_before id a.turns b.turns c.turns (λ was now. may_push was ≡ true → IsOffered now before.counts after.counts) same
       (delivers.offers before after (ap (look id) lines ∙ p) q (subst (λ (v : Engine). 0 < length (waiting id v.session)) (sym engine) some)) };

@@ -9,7 +9,7 @@ use Rattle.ymx_engine.specs.Events.{Happen, has_open_with}
 use Rattle.ymx_engine.specs.Wires.{fed, emitted, has_feed_end, FeedsFront}
 use Rattle.ymx_engine.specs.Tunnels.{Tunnel, look, HasFailed}
 use Rattle.ymx_engine.specs.Lines.{Life}
-use Rattle.ymx_engine.specs.Work.{Tends}
+use Rattle.ymx_engine.specs.Work.{Attends}
 
 -- Nothing happened but these events, at which no stream was opened with its first bytes. What the wire gave was fed in order or
 -- waits; what was emitted was sent in order or waits; the session heard of an end exactly if the wire said so or failed; and each
@@ -35,7 +35,7 @@ pub record Runs (old new : Tunnel) : Type 0 where
   pub shuts : Bool
   pub shut : new.wire.shut ≡ option_map (λ b. b || shuts) old.wire.shut
   pub lines : (id : ℕ) → Life id events (look id old.lines) (look id new.lines)
-  pub tends : Tends old new
+  pub attends : Attends old new
 
 -- the wire has failed, or has taken all that was due
 abbrev pub IsOver : Tunnel → Type 0

@@ -1,12 +1,13 @@
 -- That nobody who can be served is forgotten (this project's own).
-use Rattle.std.specs.Prelude.{ℕ, ◌≡◌, ◌<◌, ◌⊎◌, [], length, true, false, Some, nat_eq}
+use Rattle.std.specs.Prelude.{ℕ, ◌≡◌, ◌<◌, ◌⊎◌, [], length, true, false, None, Some, nat_eq}
 use Rattle.ymx_model.specs.session.Sessions.{Session}
 use Rattle.ymx_law_session.specs.Limits.{IsWithin}
 use Rattle.ymx_session.specs.Streams.{waiting}
 use Rattle.ymx_engine.specs.declared.connection.Connection.{Connection}
+use Rattle.ymx_engine.specs.Engines.{KeepsWire}
 use Rattle.ymx_engine.specs.Known.{may_push}
 use Rattle.ymx_engine.specs.Marks.{EngineView}
-use Rattle.ymx_engine.specs.Turns.{known_as, Awaits}
+use Rattle.ymx_engine.specs.Turns.{known_as, Awaits, Knows, SameQueues}
 
 -- Where bytes of this stream wait and its connection's device may take some, the connection waits for a turn, or some turn
 -- was missed.
@@ -30,6 +31,15 @@ GainsNone id s t = 0 < length (waiting id t) → 0 < length (waiting id s)
 -- nobody is forgotten
 abbrev pub KeepsServed : EngineView → EngineView → Type 0
 KeepsServed old new = AreServed old → AreServed new
+
+-- Of a connection that was let go of nothing is known any more, and of each other the same; nobody else is forgotten. The bytes
+-- that wait on the wire's two sides stay.
+pub record LetsGo (id : ℕ) (old new : EngineView) : Type 0 where
+  pub wire : KeepsWire old.engine new.engine
+  pub gone : Knows id None old.turns new.turns
+  pub queues : SameQueues old.turns new.turns
+  pub marks : new.marks ≡ old.marks
+  pub served : AreServedBut id old → AreServed new
 
 -- no bytes of a stream wait that its connection's device may take now
 abbrev pub NoneWaits : EngineView → Type 0

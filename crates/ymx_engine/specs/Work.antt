@@ -16,19 +16,19 @@ pub record WorkGrows (old new : Work) : Type 0 where
   pub writes : old.writes ≤ new.writes
 
 -- Nobody who can be served is forgotten; and where a connection waited for a turn, one waits still, or one had its turn.
-pub record Tends (old new : Tunnel) : Type 0 where
+pub record Attends (old new : Tunnel) : Type 0 where
   pub serves : Serving old → Serving new
   pub waits : is_idle old.turns ≡ false → (is_idle new.turns ≡ false) ⊎ CountsSome old.work.turns new.work.turns
   pub grows : WorkGrows old.work new.work
 
 -- where a connection waited for a turn, one had its turn
-abbrev pub HasTurns : Tunnel → Tunnel → Type 0
-HasTurns old new = is_idle old.turns ≡ false → CountsSome old.work.turns new.work.turns
+abbrev pub ServesOne : Tunnel → Tunnel → Type 0
+ServesOne old new = is_idle old.turns ≡ false → CountsSome old.work.turns new.work.turns
 
 -- The wire was read, and written to as far as it took bytes; and where a connection waited for a turn, one had its turn.
 pub record WorksOnce (old new : Tunnel) : Type 0 where
   pub reads : CountsSome old.work.reads new.work.reads
-  pub turns : HasTurns old new
+  pub turns : ServesOne old new
   pub writes : CountsSome old.work.writes new.work.writes
 
 -- ---- one turn
@@ -38,18 +38,18 @@ abbrev pub StoodFirst : ℕ → Turns → Type 0
 StoodFirst id t = (behind : List ℕ) × ((t.fresh ≡ id ∷ behind) ⊎ (t.busy ≡ id ∷ behind))
 
 -- where bytes waited in this stream and its device could take some, it was offered some
-pub record Delivers (id : ℕ) (old new : Tunnel) : Type 0 where
+pub record OffersBytes (id : ℕ) (old new : Tunnel) : Type 0 where
   pub offers : (before after : Seen) → look id old.lines ≡ Some before → look id new.lines ≡ Some after → 0 < length (waiting id old.engine.session) →
     StillKnown id old.turns new.turns (λ was now. may_push was ≡ true → IsOffered now before.counts after.counts)
 
 -- where connections could be read and its device could have bytes, it was asked for some, unless the stream takes none
-pub record Collects (id : ℕ) (old new : Tunnel) : Type 0 where
+pub record AsksForBytes (id : ℕ) (old new : Tunnel) : Type 0 where
   pub asks : (before after : Seen) → look id old.lines ≡ Some before → look id new.lines ≡ Some after → takes_more (view_of old) ≡ true →
     StillKnown id old.turns new.turns (λ was now. may_pull was ≡ true → IsAsked now before.counts after.counts (room_of id new.engine.session))
 
 -- the connection of this stream had its turn
-pub record HasTurn (id : ℕ) (old new : Tunnel) : Type 0 where
+pub record ServesFirst (id : ℕ) (old new : Tunnel) : Type 0 where
   pub first : StoodFirst id old.turns
-  pub delivers : Delivers id old new
-  pub collects : Collects id old new
+  pub delivers : OffersBytes id old new
+  pub collects : AsksForBytes id old new
   pub counted : CountsOne old.work.turns new.work.turns

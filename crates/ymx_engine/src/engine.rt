@@ -20,7 +20,7 @@ ghost use Rattle.ymx_session.specs.Streams.{waiting, room_of};
 ghost use Rattle.ymx_engine.specs.Marks.{has_to_send, takes_more, may_have_bytes};
 ghost use Rattle.ymx_engine.specs.Turns.{known_as, Knows, Adds, SameConnections, SameQueues, KeepsTurns, KeepsOthers, Waits, IsIdle, AddsTurn, TakesTurn};
 ghost use Rattle.ymx_law_session.specs.Limits.{IsWithin};
-ghost use Rattle.ymx_engine.specs.Served.{AreServed, AreServedBut, KeepsServed};
+ghost use Rattle.ymx_engine.specs.Served.{AreServed, AreServedBut, KeepsServed, LetsGo};
 ghost use Rattle.ymx_engine.specs.Serves.{Exchanges};
 ghost use Rattle.ymx_engine.specs.Passes.{IsPayload, PassesOn};
 ghost use Rattle.ymx_engine.specs.Refusals.{GivesUp, OpensNone, OffersNone};
@@ -264,13 +264,8 @@ impl Engine {
     /// an RST is due to the peer (flags). Nothing happens to a stream that isn't there.
     pub fn refuse(&mut self, id: u32)
         ensures given_up { GivesUp id self.old.engine.session self.new.engine.session }
-        ensures wire { KeepsWire self.old.engine self.new.engine }
-        // Nothing is known of it any more, and of each other the same.
-        ensures gone { Knows id None self.old.turns self.new.turns }
-        ensures queues { SameQueues self.old.turns self.new.turns }
-        ensures marks { self.new.marks ≡ self.old.marks }
-        // Nobody else is forgotten.
-        ensures served { AreServedBut id self.old → AreServed self.new }
+        // Nothing is known of it any more, and nobody else is forgotten.
+        ensures lets_go { LetsGo id self.old self.new }
     {
         self.connections.remove(id);
         self.drop_stream(id);
@@ -279,13 +274,8 @@ impl Engine {
     /// Gives a connection up of which neither way is open: its stream is no stream of the caller's any more.
     pub fn forget(&mut self, id: u32)
         ensures forgotten { (told : Reply) × Gives in_turn self.old.engine.session (event.Call (call.Forget id)) told self.new.engine.session }
-        ensures wire { KeepsWire self.old.engine self.new.engine }
-        // Nothing is known of it any more, and of each other the same.
-        ensures gone { Knows id None self.old.turns self.new.turns }
-        ensures queues { SameQueues self.old.turns self.new.turns }
-        ensures marks { self.new.marks ≡ self.old.marks }
-        // Nobody else is forgotten.
-        ensures served { AreServedBut id self.old → AreServed self.new }
+        // Nothing is known of it any more, and nobody else is forgotten.
+        ensures lets_go { LetsGo id self.old self.new }
     {
         self.connections.remove(id);
         let _ = self.session.forget(id);

@@ -13,13 +13,13 @@ ghost use Rattle.ymx_engine.specs.Runs.{Runs, Stays, Changes, IsOver};
 ghost use Rattle.ymx_engine.specs.Served.{AreServed, KeepsServed, NoneWaits};
 ghost use Rattle.ymx_engine.specs.Tunnels.{look, view_of, Joins, DropsOut, Serving, ServingBut, KnowsNoMore};
 ghost use Rattle.ymx_engine.specs.Turns.{IsIdle, WaitOn};
-ghost use Rattle.ymx_engine.specs.Work.{Delivers, Collects, HasTurn};
+ghost use Rattle.ymx_engine.specs.Work.{OffersBytes, AsksForBytes, ServesFirst};
 
 use crate::connection::Connection;
 use crate::device::Device;
 use crate::engine::Engine;
 use crate::line::{Line, NotJoined, Registry, Wire};
-use crate::work::{Work, one_more};
+use crate::work::{Work, add_one};
 use indexmap::IndexMap;
 use std::alloc::Global;
 use std::marker::Model;
@@ -260,7 +260,7 @@ impl<D: Line + Drop, W: Wire + Drop> Tunnel<D, W> {
         ensures reads { CountsOne self.old.work.reads self.new.work.reads }
         ensures asks { self.old.engine.incoming ≡ [] → may_have_bytes self.old.marks ≡ true → CountsSome self.old.wire.counts.pulls self.new.wire.counts.pulls }
     {
-        self.work.reads = one_more(self.work.reads);
+        self.work.reads = add_one(self.work.reads);
         self.engine.pull_wire(&mut self.wire);
     }
 
@@ -304,10 +304,10 @@ impl<D: Line + Drop, W: Wire + Drop> Tunnel<D, W> {
         // None only where none waits. Else the first of a queue has its turn: it is offered the bytes that wait for it,
         // and asked for some.
         ensures none { IfNone result (IsIdle self.old.turns) }
-        ensures turn { IfSome result (λ served. HasTurn served.id self.old self.new) }
+        ensures turn { IfSome result (λ served. ServesFirst served.id self.old self.new) }
     {
         let id = self.engine.next()?;
-        self.work.turns = one_more(self.work.turns);
+        self.work.turns = add_one(self.work.turns);
         let before = self.pulled(id);
         self.serve(id);
         let gave = self.pulled(id).saturating_sub(before);
@@ -320,8 +320,8 @@ impl<D: Line + Drop, W: Wire + Drop> Tunnel<D, W> {
         ensures stays { Stays self.old self.new }
         ensures work { self.new.work ≡ self.old.work }
         ensures serves { ServingBut id self.old → Serving self.new }
-        ensures delivers { Delivers id self.old self.new }
-        ensures collects { Collects id self.old self.new }
+        ensures delivers { OffersBytes id self.old self.new }
+        ensures collects { AsksForBytes id self.old self.new }
     {
         if let Some(device) = self.lines.get_mut(&id) {
             self.engine.serve(id, device);
@@ -346,7 +346,7 @@ impl<D: Line + Drop, W: Wire + Drop> Tunnel<D, W> {
         ensures offers { self.old.marks.can_push_wire ≡ true → has_to_send self.old.engine ≡ true → CountsSome self.old.wire.counts.pushes self.new.wire.counts.pushes }
         ensures all { self.old.marks.can_push_wire ≡ true → (self.new.engine.outgoing ≡ []) ⊎ (self.new.marks.can_push_wire ≡ false) }
     {
-        self.work.writes = one_more(self.work.writes);
+        self.work.writes = add_one(self.work.writes);
         self.engine.flush(&mut self.wire);
     }
 

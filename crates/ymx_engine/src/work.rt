@@ -29,7 +29,7 @@ impl Work {
 }
 
 /// One more. The greatest count stays.
-pub(crate) fn one_more(count: u64) -> u64
+pub(crate) fn add_one(count: u64) -> u64
     ensures { CountsOne count result }
 {
     count.saturating_add(1)

@@ -8,7 +8,7 @@ ghost use Rattle.ymx_engine.specs.Runs.{Runs, IsOver};
 ghost use Rattle.ymx_engine.specs.Served.{AreServed, NoneWaits};
 ghost use Rattle.ymx_engine.specs.Devices.{CountsOne, CountsSome};
 ghost use Rattle.ymx_engine.specs.Tunnels.{Serving, view_of};
-ghost use Rattle.ymx_engine.specs.Work.{HasTurns, WorksOnce};
+ghost use Rattle.ymx_engine.specs.Work.{ServesOne, WorksOnce};
 ghost use Rattle.ymx_forward.specs.Loops.{WasLost};
 ghost use Rattle.ymx_model.specs.session.Sessions.{is_running};
 
@@ -614,7 +614,7 @@ impl<'a> TunnelLoop<'a> {
     /// the peer read.
     fn serve_queued<V: Watcher>(&mut self, watcher: &mut V)
         ensures runs { Runs self.old.tunnel self.new.tunnel }
-        ensures turns { HasTurns self.old.tunnel self.new.tunnel }
+        ensures turns { ServesOne self.old.tunnel self.new.tunnel }
     {
         'queued: for _ in 0..self.tunnel.queued_count() {
             if !self.serve_next(watcher) {
@@ -626,7 +626,7 @@ impl<'a> TunnelLoop<'a> {
     /// Serves the connection whose turn it is, and lets go of it if it is over. Whether another may be served.
     fn serve_next<V: Watcher>(&mut self, watcher: &mut V) -> bool
         ensures runs { Runs self.old.tunnel self.new.tunnel }
-        ensures turns { HasTurns self.old.tunnel self.new.tunnel }
+        ensures turns { ServesOne self.old.tunnel self.new.tunnel }
     {
         let Some(served) = self.tunnel.serve_next() else {
             return false;

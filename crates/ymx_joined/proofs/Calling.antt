@@ -24,7 +24,7 @@ use Rattle.ymx_engine.proofs.Exchanging.{or_same}
 use Rattle.ymx_engine.specs.Serves.{Exchanges}
 use Rattle.ymx_engine.specs.Tunnels.{Tunnel, look}
 use Rattle.ymx_engine.proofs.Running.{served_run}
-use Rattle.ymx_engine.proofs.Tending.{lone_tunnel, lone_tends}
+use Rattle.ymx_engine.proofs.Tending.{lone_tunnel, lone_attends}
 use Rattle.ymx_engine.specs.Refusals.{GivesUp, OpensNone, OffersNone}
 use Rattle.ymx_joined.specs.Pairs.{is_call, IsCalls, IsTurn, IsTunnelTurn, HasCalls, HasFeeds, HasTurns, each_alone}
 use Rattle.ymx_joined.proofs.Piping.{both}
@@ -52,7 +52,7 @@ served id e f old new x incoming to from =
     let at : look id a.lines ≡ Some old = rw (own_test id) refl in
     let now : (other : ℕ) → look other b.lines ≡ cond (nat_eq id other) (Some new) (look other a.lines) =
     λ other. subst (λ (t : Bool). cond (nat_eq other id) (Some new) None ≡ cond t (Some new) (cond (nat_eq other id) (Some old) None)) (sym (same_test id other)) (one_line (nat_eq other id) old new) in
-    let r = served_run a b id old new x incoming refl at now (lone_tends e f wire id old new) in
+    let r = served_run a b id old new x incoming refl at now (lone_attends e f wire id old new) in
     let turn : IsTunnelTurn x.events e f to from to from = record { before = a; after = b; runs = r.0; events = r.1; engine = refl; engine_new = refl; left = refl; left_new = refl; had = refl; had_new = refl } in
     inr (inr (inr turn))
 

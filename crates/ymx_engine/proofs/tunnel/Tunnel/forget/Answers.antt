@@ -2,7 +2,7 @@ use Rattle.std.proofs.Common.{refl, ℕ}
 use Rattle.ymx_engine.proofs.Running.{runs_forgot, from_view, look_removed}
 use Rattle.ymx_engine.proofs.Tending.{serving_forgot}
 use Rattle.ymx_engine.proofs.Staying.{changes_from}
-use Rattle.ymx_engine.proofs.Working.{tends_queues}
+use Rattle.ymx_engine.proofs.Working.{attends_queues}
 use Rattle.ymx_engine.proofs.tunnel.Tunnel.forget.Goals as goal
 
 pub returns-clause-runs : goal.returns-clause-runs
@@ -11,7 +11,7 @@ returns-clause-runs g c =
     let m = c.self.inside.lines in
     let n = c.swap_remove.new.self in
     let now = λ (other : ℕ). look_removed seen m.entries n.entries other _ (c.swap_remove.ensures.updates.0 other) in
-    from_view _ _ _ c.self.view_is (runs_forgot _ _ c.args.id _ c.forget.ensures.forgotten.1 c.forget.ensures.wire refl now (tends_queues _ _ (serving_forgot _ _ c.args.id c.forget.ensures.served c.forget.ensures.gone now) c.forget.ensures.queues refl))
+    from_view _ _ _ c.self.view_is (runs_forgot _ _ c.args.id _ c.forget.ensures.forgotten.1 c.forget.ensures.lets_go.wire refl now (attends_queues _ _ (serving_forgot _ _ c.args.id c.forget.ensures.lets_go.served c.forget.ensures.lets_go.gone now) c.forget.ensures.lets_go.queues refl))
 
 pub returns-clause-gone : goal.returns-clause-gone
 returns-clause-gone g c =

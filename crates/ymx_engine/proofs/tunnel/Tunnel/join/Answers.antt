@@ -14,4 +14,4 @@ returns-in-Err-clause-refused g c =
     let seen = g.D.Device.seen in
     let m = c.self.inside.lines in
     let up = c.refuse-in-Err.ensures in
-    drops_by seen _ _ _ c.args.id m.entries c.insert.new.map.entries c.self.view_is up.given_up up.wire up.gone up.queues up.served refl refl refl refl c.in-Err.ensures.refused_unchanged
+    drops_by seen _ _ _ c.args.id m.entries c.insert.new.map.entries c.self.view_is up.given_up up.lets_go.wire up.lets_go.gone up.lets_go.queues up.lets_go.served refl refl refl refl c.in-Err.ensures.refused_unchanged

@@ -15,7 +15,7 @@ payload-preserved g c =
     record {
       runs = runs_then _ _ _ i.runs more;
       stays = stays_then _ _ _ i.stays (stays_then _ _ _ c.advance.ensures.stays c.pass.ensures.stays);
-      reads = some_then _ _ _ i.reads more.tends.grows.reads;
+      reads = some_then _ _ _ i.reads more.attends.grows.reads;
       asks = λ fed may. subst (λ (s : Seen). CountsSome c.args.self.now.wire.counts.pulls s.counts.pulls) (sym (c.pass.ensures.wire ∙ c.advance.ensures.wire)) (i.asks fed may);
     }
 
@@ -26,7 +26,7 @@ pub returns-in-None-clause-stays : goal.returns-in-None-clause-stays
 returns-in-None-clause-stays g c = stays_then _ _ _ c.payload.invariant.stays c.advance.ensures.stays
 
 pub returns-in-None-clause-reads : goal.returns-in-None-clause-reads
-returns-in-None-clause-reads g c = some_then _ _ _ c.payload.invariant.reads c.advance.ensures.runs.tends.grows.reads
+returns-in-None-clause-reads g c = some_then _ _ _ c.payload.invariant.reads c.advance.ensures.runs.attends.grows.reads
 
 pub returns-in-None-clause-asks : goal.returns-in-None-clause-asks
 returns-in-None-clause-asks g c = λ fed may. subst (λ (s : Seen). CountsSome c.args.self.now.wire.counts.pulls s.counts.pulls) (sym c.advance.ensures.wire) (c.payload.invariant.asks fed may)

@@ -7,7 +7,7 @@ pub read-init : goal.read-init
 read-init c = (runs_same _, λ some. absurd (omega (arith, some)))
 
 pub read-preserved : goal.read-preserved
-read-preserved c = (runs_then _ _ _ c.read.invariant.0 c.read_wire.ensures.runs, λ some. then_some _ _ _ c.read.invariant.0.tends.grows.reads c.read_wire.ensures.reads)
+read-preserved c = (runs_then _ _ _ c.read.invariant.0 c.read_wire.ensures.runs, λ some. then_some _ _ _ c.read.invariant.0.attends.grows.reads c.read_wire.ensures.reads)
 
 pub returns-clause-runs : goal.returns-clause-runs
 returns-clause-runs c = c.read.invariant.0

@@ -7,13 +7,13 @@ pub queued-init : goal.queued-init
 queued-init g c = (runs_same _, λ some. absurd (omega (arith, some)))
 
 pub queued-preserved : goal.queued-preserved
-queued-preserved g c = (runs_then _ _ _ c.queued.invariant.0 c.serve_next.ensures.runs, λ some. turns_then _ _ _ c.queued.invariant.0.tends c.serve_next.ensures.turns c.serve_next.ensures.runs.tends.grows)
+queued-preserved g c = (runs_then _ _ _ c.queued.invariant.0 c.serve_next.ensures.runs, λ some. turns_then _ _ _ c.queued.invariant.0.attends c.serve_next.ensures.turns c.serve_next.ensures.runs.attends.grows)
 
 pub returns-then-not-serve_next-clause-runs : goal.returns-then-not-serve_next-clause-runs
 returns-then-not-serve_next-clause-runs g c = runs_then _ _ _ c.queued.invariant.0 c.serve_next.ensures.runs
 
 pub returns-then-not-serve_next-clause-turns : goal.returns-then-not-serve_next-clause-turns
-returns-then-not-serve_next-clause-turns g c = turns_then _ _ _ c.queued.invariant.0.tends c.serve_next.ensures.turns c.serve_next.ensures.runs.tends.grows
+returns-then-not-serve_next-clause-turns g c = turns_then _ _ _ c.queued.invariant.0.attends c.serve_next.ensures.turns c.serve_next.ensures.runs.attends.grows
 
 pub returns-clause-runs : goal.returns-clause-runs
 returns-clause-runs g c = c.queued.invariant.0
