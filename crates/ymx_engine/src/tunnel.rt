@@ -44,6 +44,7 @@ pub struct Served {
 #[derive(Drop)]
 pub struct Tunnel<D: Line + Drop, W: Wire + Drop> {
     engine: Engine,
+    /// How much it has done, which its contracts tell.
     work: Work,
     wire: W,
     lines: IndexMap<u32, D>,
@@ -391,13 +392,6 @@ impl<D: Line + Drop, W: Wire + Drop> Tunnel<D, W> {
     }
 
     // ---- how it stands
-
-    /// How much it has done.
-    pub fn work(&self) -> Work
-        ensures { result ≡ self.now.work }
-    {
-        self.work
-    }
 
     /// Whether the wire has failed, or has taken all that was due.
     pub fn is_over(&self) -> bool
