@@ -232,15 +232,19 @@ none_is (Some y) none some = let no : ⊥ = cc in no
 -- this device was called
 pub delivers_by : (a b : Tunnel) (id : ℕ) (d e : Seen) → look id a.lines ≡ Some d → ((other : ℕ) → look other b.lines ≡ cond (nat_eq id other) (Some e) (look other a.lines)) →
     (0 < length (waiting id a.engine.session) → StillKnown id a.turns b.turns (λ was now. may_push was ≡ true → IsOffered now d.counts e.counts)) → OffersBytes id a b
-delivers_by a b id d e at now h = record { offers = λ before after p q some.
-    subst (λ (v : Seen). StillKnown id a.turns b.turns (λ was now. may_push was ≡ true → IsOffered now v.counts after.counts)) (some_is (sym at ∙ p))
-    (subst (λ (v : Seen). StillKnown id a.turns b.turns (λ was now. may_push was ≡ true → IsOffered now d.counts v.counts)) (some_is (sym (there_now id e a.lines b.lines now) ∙ q)) (h some)) }
+delivers_by a b id d e at now h = record {
+  offers = λ before after p q some.
+      subst (λ (v : Seen). StillKnown id a.turns b.turns (λ was now. may_push was ≡ true → IsOffered now v.counts after.counts)) (some_is (sym at ∙ p))
+      (subst (λ (v : Seen). StillKnown id a.turns b.turns (λ was now. may_push was ≡ true → IsOffered now d.counts v.counts)) (some_is (sym (there_now id e a.lines b.lines now) ∙ q)) (h some));
+}
 
 pub collects_by : (a b : Tunnel) (id : ℕ) (d e : Seen) → look id a.lines ≡ Some d → ((other : ℕ) → look other b.lines ≡ cond (nat_eq id other) (Some e) (look other a.lines)) →
     (takes_more (view_of a) ≡ true → StillKnown id a.turns b.turns (λ was now. may_pull was ≡ true → IsAsked now d.counts e.counts (room_of id b.engine.session))) → AsksForBytes id a b
-collects_by a b id d e at now h = record { asks = λ before after p q takes.
-    subst (λ (v : Seen). StillKnown id a.turns b.turns (λ was now. may_pull was ≡ true → IsAsked now v.counts after.counts (room_of id b.engine.session))) (some_is (sym at ∙ p))
-    (subst (λ (v : Seen). StillKnown id a.turns b.turns (λ was now. may_pull was ≡ true → IsAsked now d.counts v.counts (room_of id b.engine.session))) (some_is (sym (there_now id e a.lines b.lines now) ∙ q)) (h takes)) }
+collects_by a b id d e at now h = record {
+  asks = λ before after p q takes.
+      subst (λ (v : Seen). StillKnown id a.turns b.turns (λ was now. may_pull was ≡ true → IsAsked now v.counts after.counts (room_of id b.engine.session))) (some_is (sym at ∙ p))
+      (subst (λ (v : Seen). StillKnown id a.turns b.turns (λ was now. may_pull was ≡ true → IsAsked now d.counts v.counts (room_of id b.engine.session))) (some_is (sym (there_now id e a.lines b.lines now) ∙ q)) (h takes));
+}
 
 -- no device is there
 pub delivers_none : (a b : Tunnel) (id : ℕ) → look id a.lines ≡ None → OffersBytes id a b
@@ -271,10 +275,14 @@ pub serves_first_by : (a b c : Tunnel) (id : ℕ) → TakesTurn id a.turns b.tur
     OffersBytes id b c → AsksForBytes id b c → c.work ≡ b.work → ServesFirst id a c
 serves_first_by a b c id takes same engine marks lines one delivers collects work = record {
   first = stood_first id a.turns b.turns takes;
-  delivers = record { offers = λ before after p q some. known_before id a.turns b.turns c.turns (λ was now. may_push was ≡ true → IsOffered now before.counts after.counts) same
-      (delivers.offers before after (ap (look id) lines ∙ p) q (subst (λ (v : Engine). 0 < length (waiting id v.session)) (sym engine) some)) };
-  collects = record { asks = λ before after p q more. known_before id a.turns b.turns c.turns (λ was now. may_pull was ≡ true → IsAsked now before.counts after.counts (room_of id c.engine.session)) same
-      (collects.asks before after (ap (look id) lines ∙ p) q (takes_still engine marks ∙ more)) };
+  delivers = record {
+    offers = λ before after p q some. known_before id a.turns b.turns c.turns (λ was now. may_push was ≡ true → IsOffered now before.counts after.counts) same
+        (delivers.offers before after (ap (look id) lines ∙ p) q (subst (λ (v : Engine). 0 < length (waiting id v.session)) (sym engine) some));
+  };
+  collects = record {
+    asks = λ before after p q more. known_before id a.turns b.turns c.turns (λ was now. may_pull was ≡ true → IsAsked now before.counts after.counts (room_of id c.engine.session)) same
+        (collects.asks before after (ap (look id) lines ∙ p) q (takes_still engine marks ∙ more));
+  };
   counted = subst (λ (v : Work). CountsOne a.work.turns v.turns) (sym work) one;
 }
   where

@@ -40,12 +40,12 @@ StoodFirst id t = (behind : List ℕ) × ((t.fresh ≡ id ∷ behind) ⊎ (t.bus
 -- where bytes waited in this stream and its device could take some, it was offered some
 pub record OffersBytes (id : ℕ) (old new : Tunnel) : Type 0 where
   pub offers : (before after : Seen) → look id old.lines ≡ Some before → look id new.lines ≡ Some after → 0 < length (waiting id old.engine.session) →
-    StillKnown id old.turns new.turns (λ was now. may_push was ≡ true → IsOffered now before.counts after.counts)
+      StillKnown id old.turns new.turns (λ was now. may_push was ≡ true → IsOffered now before.counts after.counts)
 
 -- where connections could be read and its device could have bytes, it was asked for some, unless the stream takes none
 pub record AsksForBytes (id : ℕ) (old new : Tunnel) : Type 0 where
   pub asks : (before after : Seen) → look id old.lines ≡ Some before → look id new.lines ≡ Some after → takes_more (view_of old) ≡ true →
-    StillKnown id old.turns new.turns (λ was now. may_pull was ≡ true → IsAsked now before.counts after.counts (room_of id new.engine.session))
+      StillKnown id old.turns new.turns (λ was now. may_pull was ≡ true → IsAsked now before.counts after.counts (room_of id new.engine.session))
 
 -- the connection of this stream had its turn
 pub record ServesFirst (id : ℕ) (old new : Tunnel) : Type 0 where
