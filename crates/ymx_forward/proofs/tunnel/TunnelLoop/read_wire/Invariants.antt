@@ -6,4 +6,4 @@ use Rattle.ymx_forward.proofs.tunnel.TunnelLoop.read_wire.Given as goal
 abbrev pub invariant-read : goal.invariant-read
 invariant-read l =
     Runs l.initial.self.tunnel l.self.tunnel
-    × (0 < l.read → CountsSome l.initial.self.tunnel.work.reads l.self.tunnel.work.reads)
+    × (0 < l.counter → CountsSome l.initial.self.tunnel.work.reads l.self.tunnel.work.reads)

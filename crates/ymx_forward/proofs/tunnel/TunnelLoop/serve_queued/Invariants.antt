@@ -6,4 +6,4 @@ use Rattle.ymx_forward.proofs.tunnel.TunnelLoop.serve_queued.Given as goal
 abbrev pub invariant-queued : goal.invariant-queued
 invariant-queued g l =
     Runs l.initial.self.tunnel l.self.tunnel
-    × (0 < l.queued → ServesOne l.initial.self.tunnel l.self.tunnel)
+    × (0 < l.counter → ServesOne l.initial.self.tunnel l.self.tunnel)
