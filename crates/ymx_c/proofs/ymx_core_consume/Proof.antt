@@ -1,27 +1,7 @@
--- `ymx_core_consume` meets its contract: what lies at the pointer is lent to `face::consume` for a lifetime made for the call, and comes back.
-use Rattle.std.proofs.Common.{ℕ, [], ◌∷◌, refl, w32, w64, MutBor}
-use Rattle.std.proofs.raw_atomic.Walks.{proved}
-use base.Fraction.{full_share}
-use base.Logic.{id⊢}
-use base.Fml.{GName}
-use mir.Val.{vint, vptr}
-use contract.Running.{tables}
-use prog.Wp.{WpFn}
-use types.Kit.{◌$◌, ◌∵◌, !, qed, by, at_ret}
-use types.Run.{enter, of_opd, addr, stop, no_more, and_then, first, blocks, exec, returns}
-use types.ByLocal.{alloc_all, pass_all, free_all, look_at, get, through, sets, sets_last, lands_as, env}
-use denote.Plain.{uint_vals, uint_Tells}
-use denote.RattleType.{flat, Valss}
-use denote.RawPtr.{Ptr, block_ptr, rawptr_vals, rawptr_Tells}
-use denote.Signature.{types_at}
-use denote.Signed.{sint_Lawful}
-use denote.Triple.Spec.{triple_of}
-use denote.Triple.Table.{framed, enters}
-use denote.Triple.Walked.{walk_of, ends_at}
+-- `ymx_core_consume` meets its contract: what lies at the pointer is lent to `face::consume`.
 use Rattle.ymx_c.specs.contracts.handle.Handle.{the_row}
-use Rattle.ymx_c.specs.declared.handle.Handle.{Handle}
 use Rattle.ymx_c.specs.Handles.{ConsumesOf}
-use Rattle.ymx_c.proofs.Lending.{all_left, all_fit, all_go, behind, at_block, held, calls_lent}
+use Rattle.ymx_c.proofs.Exports.{lends_twice_numbered}
 use Rattle.ymx_c.specs.contracts.ymx_core_consume as f
 use Rattle.ymx_c.proofs.ymx_core_consume.Statement.{statement}
 use Rattle.ymx_c.proofs.ymx_core_consume.Code as code
@@ -30,12 +10,5 @@ use Rattle.ymx_c.proofs.face.consume.Met.{met}
 
 pub ymx_core_consume_spec : {M : Type 1} → statement M
 ymx_core_consume_spec 𝓤 𝓛 𝓜 𝓡 wired =
-    let c = f.clauses 𝓛 𝓜.mem 𝓡.returns in let hs = all_left f.ended.signature.params f.ended.kept in let W = walk_of 𝓛 f.ended hs c in let 𝓣 = tables 𝓤 𝓛.H 𝓜 𝓡 𝓡.env in let G = triple_of 𝓛 g.signature (g.spec 𝓛 𝓜.mem 𝓡.returns) in
-    proved 𝓛 f.ended hs c 𝓜 𝓡 (all_go 𝓛 0 f.ended.signature.params f.ended.kept) f.Key.name code.function (code.unfolded 𝓤 𝓛.H 𝓜 𝓡 wired) (λ κs. (rawptr_vals, (uint_vals w32, (uint_vals w32, tt)))) (λ κs. (rawptr_Tells, (uint_Tells w32, (uint_Tells w32, tt)))) (λ κs qs bounds a x are.
-    let i = a.1.0 in let j = a.1.1.0 in let vss : Valss (types_at (behind f.ended.signature.params) κs) = (vint w32 i ∷ [], (vint w32 j ∷ [], tt)) in let y : Ptr → W.Ghost = λ p. ((κs, qs, bounds, (p, a.1), (rawptr_vals p, vss)), x) in
-    at_block 𝓛 the_row x 0 (behind f.ended.signature.params) f.ended.kept.1 κs qs a.1 vss a.0 (λ p. WpFn 𝓤 𝓛.H 𝓣.C 𝓣.Λ code.function (flat (types_at f.ended.signature.params κs) (rawptr_vals p, vss)) (W.post (y p))) (λ b o.
-    let z : ℕ → GName → G.Ghost = λ α δ. let r : MutBor Handle = record { ref_ptr = (b, o); ghost_name = δ; now = x } in (((α ∷ [], κs), (full_share, qs), tt, (r, a.1), (vptr b o ∷ [], vss)), tt) in
-    qed 𝓛 (held 𝓛 the_row x 0 (behind f.ended.signature.params) f.ended.kept.1 κs qs a.1 vss b o ∷ []) ∵ enter ! _ _ _ _ _ $ alloc_all ! (λ l. pass_all ! refl ((tt, tt), ((tt, record { fits = are.1.0.1 }), ((tt, record { fits = are.1.1.0.1 }), tt))) $ first ! $ blocks ! $ sets ! (of_opd ! (get ! refl)) refl (tt, tt) $ sets ! (of_opd ! (get ! refl)) refl (tt, tt) $ sets_last ! (addr ! (through ! refl (stop !))) refl (tt, tt) $
-    exec ! 𝓣.C 𝓣.Λ (env code.Mir.locals l) code.Mir.t-2 (at_ret _ (W.post (y (block_ptr b o)))) $ sets ! (of_opd ! (get ! refl)) refl (tt, tt) $ sets ! (of_opd ! (get ! refl)) refl (tt, record { fits = are.1.0.1 }) $ sets ! (of_opd ! (get ! refl)) refl (tt, record { fits = are.1.1.0.1 }) $
-    calls_lent 𝓛 the_row x 0 (behind f.ended.signature.params) f.ended.kept.1 κs qs a.1 vss (λ u m w. ConsumesOf i j x u m) b o ! (framed 𝓤 𝓛.H 𝓜 𝓣) (enters 𝓤 𝓛.H 𝓜 𝓣 _) (flat (types_at (behind f.ended.signature.params) κs) vss) G (met 𝓤 𝓛 𝓜 𝓡 (code.calls-ymx_c::face::consume 𝓡.env wired)) z (λ α δ. refl) (λ α δ. id⊢ 𝓤 _) (λ α δ v. id⊢ 𝓤 _) (and_then ! (get ! refl) (and_then ! (get ! refl) (and_then ! (get ! refl) (no_more !)))) (λ v u w is.
-    lands_as ! refl refl ((sint_Lawful 𝓛 w64).typed u _ is).0 $ returns ! (look_at ! 0 refl) $ free_all ! refl $ by ! (ends_at 𝓛 f.ended hs c (y (block_ptr b o)) v u (tt, w) (all_fit κs f.ended.signature.params f.ended.kept a (tt, w)))))))
+    lends_twice_numbered 𝓛 𝓜 𝓡 the_row _ f.Key.name g.Key.name (λ x i j u m. ConsumesOf i j x u m)
+    (code.unfolded 𝓤 𝓛.H 𝓜 𝓡 wired) (met 𝓤 𝓛 𝓜 𝓡 (code.calls-ymx_c::face::consume 𝓡.env wired))

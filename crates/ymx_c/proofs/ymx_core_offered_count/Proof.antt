@@ -1,11 +1,6 @@
 -- `ymx_core_offered_count` meets its contract: what lies at the pointer is lent to `face::offered_count`.
-use Rattle.std.proofs.Common.{◌≡◌, [], ◌∷◌, refl, MutBor}
-use base.Fraction.{full_share}
-use base.Logic.{id⊢}
-use mir.Val.{vptr}
-use denote.Triple.Spec.{triple_of}
+use Rattle.std.proofs.Common.{◌≡◌}
 use Rattle.ymx_c.specs.contracts.handle.Handle.{the_row}
-use Rattle.ymx_c.specs.declared.handle.Handle.{Handle}
 use Rattle.ymx_c.specs.Readiness.{CountsOffered}
 use Rattle.ymx_c.proofs.Exports.{lends_alone}
 use Rattle.ymx_c.specs.contracts.ymx_core_offered_count as f
@@ -16,7 +11,5 @@ use Rattle.ymx_c.proofs.face.offered_count.Met.{met}
 
 pub ymx_core_offered_count_spec : {M : Type 1} → statement M
 ymx_core_offered_count_spec 𝓤 𝓛 𝓜 𝓡 wired =
-    lends_alone 𝓛 𝓜 𝓡 the_row _ f.Key.name g.Key.name (triple_of 𝓛 g.signature (g.spec 𝓛 𝓜.mem 𝓡.returns)) (λ x u m. CountsOffered x.session u × (m ≡ x))
+    lends_alone 𝓛 𝓜 𝓡 the_row _ f.Key.name g.Key.name (λ x u m. CountsOffered x.session u × (m ≡ x))
     (code.unfolded 𝓤 𝓛.H 𝓜 𝓡 wired) (met 𝓤 𝓛 𝓜 𝓡 (code.calls-ymx_c::face::offered_count 𝓡.env wired))
-    (λ κs qs a x b o α δ. let r : MutBor Handle = record { ref_ptr = (b, o); ghost_name = δ; now = x } in (((α ∷ [], κs), (full_share, qs), tt, (r, a.1), (vptr b o ∷ [], tt)), tt))
-    (λ κs qs a x b o α δ. refl) (λ κs qs a x b o α δ. id⊢ 𝓤 _) (λ κs qs a x b o α δ v. id⊢ 𝓤 _)

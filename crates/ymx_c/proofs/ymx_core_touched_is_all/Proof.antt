@@ -1,11 +1,6 @@
 -- `ymx_core_touched_is_all` meets its contract: what lies at the pointer is lent to `face::touched_is_all`.
-use Rattle.std.proofs.Common.{◌≡◌, [], ◌∷◌, refl, MutBor}
-use base.Fraction.{full_share}
-use base.Logic.{id⊢}
-use mir.Val.{vptr}
-use denote.Triple.Spec.{triple_of}
+use Rattle.std.proofs.Common.{◌≡◌}
 use Rattle.ymx_session.specs.contracts.touched.Touched.{the_row}
-use Rattle.ymx_session.specs.Touched.{Noted}
 use Rattle.ymx_c.specs.Answers.{flag}
 use Rattle.ymx_c.proofs.Exports.{lends_alone}
 use Rattle.ymx_c.specs.contracts.ymx_core_touched_is_all as f
@@ -16,7 +11,5 @@ use Rattle.ymx_c.proofs.face.touched_is_all.Met.{met}
 
 pub ymx_core_touched_is_all_spec : {M : Type 1} → statement M
 ymx_core_touched_is_all_spec 𝓤 𝓛 𝓜 𝓡 wired =
-    lends_alone 𝓛 𝓜 𝓡 the_row _ f.Key.name g.Key.name (triple_of 𝓛 g.signature (g.spec 𝓛 𝓜.mem 𝓡.returns)) (λ x u m. (u ≡ flag x.all) × (m ≡ x))
+    lends_alone 𝓛 𝓜 𝓡 the_row _ f.Key.name g.Key.name (λ x u m. (u ≡ flag x.all) × (m ≡ x))
     (code.unfolded 𝓤 𝓛.H 𝓜 𝓡 wired) (met 𝓤 𝓛 𝓜 𝓡 (code.calls-ymx_c::face::touched_is_all 𝓡.env wired))
-    (λ κs qs a x b o α δ. let r : MutBor Noted = record { ref_ptr = (b, o); ghost_name = δ; now = x } in (((α ∷ [], κs), (full_share, qs), tt, (r, a.1), (vptr b o ∷ [], tt)), tt))
-    (λ κs qs a x b o α δ. refl) (λ κs qs a x b o α δ. id⊢ 𝓤 _) (λ κs qs a x b o α δ v. id⊢ 𝓤 _)
