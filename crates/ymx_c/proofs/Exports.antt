@@ -1,14 +1,14 @@
 -- Whole exports, one lemma for each shape: what lies at the pointer is lent to a callee for a lifetime made for the call, and comes back. Assumes `Logic`.
-use Rattle.std.proofs.Common.{◌≡◌, ℕ, ℤ, List, [], ◌∷◌, ◌++◌, ◌+◌, refl, sym, ap, subst, w8, w32, w64, MutBor}
+use Rattle.std.proofs.Common.{ℕ, ℤ, List, [], ◌∷◌, ◌++◌, ◌+◌, refl, ap, w8, w32, w64}
 use Rattle.std.proofs.raw_atomic.Walks.{proved}
 use seplogic.Ra.Ura.{Ura}
 use base.Fraction.{full_share}
-use base.Logic.{SProp, ent, emp, id⊢, sep, ex}
-use base.Fml.{Fml, GName, ftrue, fat, fsep, flft, flent}
+use base.Logic.{SProp, emp, id⊢, sep, ex}
+use base.Fml.{GName, ftrue, fat, flft, flent}
 use lib.Dec.{T as Holds}
 use mir.Syntax.{Lifetime, Mutability, Opd as Operand, Ty, ty_int, ty_unit, opd_unit, ty_ptr, ty_ref, named, erased, imm, mut, place, field, deref, copy, rv_opd, addr_of, aggregate, Callee, Body, seq, assign, block, return, call, local, Local, value_local, Fn}
-use mir.Val.{Val, WT, has_ty, vint, vptr, vunit}
-use contract.Lifetimes.{Lfts, Shares, Within, lft_at, toks}
+use mir.Val.{Val, WT, has_ty, vptr, vunit}
+use contract.Lifetimes.{Lfts, Shares, Within, lft_at}
 use contract.Monad.{fact}
 use contract.Running.{Running, MachineTables, tables}
 use prog.Model.{Model}
@@ -21,9 +21,9 @@ use types.SemTy.{Body as Stored}
 use types.Run.{enter, of_opd, addr, from, fld, hop, load, look, forget, unit_lit, stop, no_more, and_then, first, blocks, exec, returns}
 use types.ByLocal.{alloc_all, pass_all, free_all, look_at, look_in_at, get, get_in, through, sets, sets_last, lands_as, env}
 use borrow.Table.OneValue.{One, part_out}
-use denote.Builtin.{i64, u8, u32, unit, SliceRefOf, SliceRefMutOf}
-use denote.Exit.{Kept, yes}
-use denote.Laws.{Is, Tells, Spells, valss, Tellss, Ises, Are, shows}
+use denote.Builtin.{i64, u8, u32, unit}
+use denote.Exit.{yes}
+use denote.Laws.{Is, Spells, valss, Tellss, Ises, Are, shows}
 use denote.Lend.{lends_ref, ref_back}
 use denote.Memory.{lone, part_at, mem}
 use denote.Plain.{uint_vals, uint_Tells}
@@ -32,9 +32,9 @@ use denote.RawPtr.{Ptr, RawPtr, block_ptr, lies_at, room_at, in_a_block, rawptr_
 use denote.Ref.{MutRef}
 use denote.Signature.{Slot, plain, mut_ref, mut_slice, shr_slice, types_at}
 use denote.Signed.{sint_Lawful}
-use denote.Slice.{ShrSlice, slice_ty, slice_val, shr_slice_vals, shr_slice_Tells, mut_slice_vals, mut_slice_Tells}
+use denote.Slice.{ShrSlice, slice_ty, shr_slice_vals, shr_slice_Tells, mut_slice_vals, mut_slice_Tells}
 use denote.Steps.{nothing, heard, peeks, only}
-use denote.Triple.Call.{calls_from, calls_at}
+use denote.Triple.Call.{calls_at}
 use denote.Triple.Clauses.{Ended, Clauses, closing, lasts}
 use denote.Triple.End.{Kepts, Fins, Outs, outs}
 use denote.Triple.Entry.{Args, on_entry}
@@ -42,96 +42,107 @@ use denote.Triple.Spec.{Meets, triple_of}
 use denote.Triple.Statement.{Contract, Triple}
 use denote.Triple.Table.{framed, enters}
 use denote.Triple.Walked.{says, Stays, stay_dropped, Goes-dropped, walk_of, ends_at}
-use Rattle.ymx_c.proofs.Lending.{all_left, all_fit, all_go, had_is_said, at_block, held, calls_lent, Brought, Given, Owed}
+use Rattle.ymx_c.proofs.Lending.{all_left, all_go, at_block, held, calls_lent}
 
 -- The parameters behind a pointer, in a signature of n lifetimes, and how they are spelled.
-pub record Others (n : ℕ) : Type 2 where
-  pub params : List (Slot n)
-  pub kept : Kepts params
-  pub spells : (κs : Lfts n) → Spells (types_at params κs)
-  pub tells : (κs : Lfts n) → Tellss (types_at params κs) (Ises (types_at params κs)) (spells κs)
+record Others (n : ℕ) : Type 2 where
+  params : List (Slot n)
+  kept : Kepts params
+  spells : (κs : Lfts n) → Spells (types_at params κs)
+  tells : (κs : Lfts n) → Tellss (types_at params κs) (Ises (types_at params κs)) (spells κs)
 
-abbrev pub none : (n : ℕ) → Others n
+abbrev none : (n : ℕ) → Others n
 none n = record { params = []; kept = tt; spells = λ κs. tt; tells = λ κs. tt }
 
 module _ {n : ℕ} where
-  abbrev pub number : Others n → Others n
+  abbrev number : Others n → Others n
   number O = record { params = plain (λ κs. u32) ∷ O.params; kept = (yes, O.kept); spells = λ κs. (uint_vals w32, O.spells κs); tells = λ κs. (uint_Tells w32, O.tells κs) }
 
   -- bytes that are borrowed for the lifetime j, and a buffer
-  abbrev pub bytes : (j : ℕ) → Within n j → Others n → Others n
+  abbrev bytes : (j : ℕ) → Within n j → Others n → Others n
   bytes j ok O = record { params = shr_slice j ok (λ κs. u8) ∷ O.params; kept = (yes, O.kept); spells = λ κs. (shr_slice_vals, O.spells κs); tells = λ κs. (shr_slice_Tells (named j) (lft_at n j ok κs) u8, O.tells κs) }
 
-  abbrev pub buffer : (E : RattleType) (j : ℕ) → Within n j → Others n → Others n
+  abbrev buffer : (E : RattleType) (j : ℕ) → Within n j → Others n → Others n
   buffer E j ok O = record { params = mut_slice j ok (λ κs. E) ∷ O.params; kept = (yes, O.kept); spells = λ κs. (mut_slice_vals, O.spells κs); tells = λ κs. (mut_slice_Tells (named j) (lft_at n j ok κs) E, O.tells κs) }
 
 module _ (R : RattleType) {n : ℕ} (O : Others n) where
   -- what is said of the others, of what lay at the pointer, of the answer, of what lies there then, and of the others at exit
-  abbrev pub Sayings : Type 1
+  abbrev Sayings : Type 1
   Sayings = (κs : Lfts n) → Denots (types_at O.params κs) → R.Denot → ℤ → R.Denot → Outs κs O.params O.kept → Type 0
 
   -- the signature of an export, and of its callee, which has a reference for the pointer
-  abbrev pub exported : Ended
+  abbrev exported : Ended
   exported = record { signature = record { lifetimes = n; outlives = []; params = plain (λ κs. RawPtr) ∷ O.params; result = plain (λ κs. i64) }; kept = (yes, O.kept) }
 
-  abbrev pub called : Within n 0 → Ended
+  abbrev called : Within n 0 → Ended
   called ok = record { signature = record { lifetimes = n; outlives = []; params = mut_ref 0 ok (λ κs. R) ∷ O.params; result = plain (λ κs. i64) }; kept = (yes, O.kept) }
 
   module _ (Says : Sayings) {M : Type 1} {𝓤 : Ura M} (𝓛 : Logic 𝓤) where
     -- A value of R lies at the pointer, and another one in the end, of which `Says` is true.
-    abbrev pub exported_says : Clauses 𝓤 exported
+    abbrev exported_says : Clauses 𝓤 exported
     exported_says κs a = record {
       ghost = R.Denot;
       requires = λ old. sem 𝓛 (lies_at R full_share a.0 old);
       ensures = λ old u e. ex 𝓤 (λ (m : R.Denot). sep 𝓤 (sem 𝓛 (lies_at R full_share a.0 m)) (fact 𝓤 (Says κs a.1 old u m e.1)));
     }
 
-    abbrev pub called_says : (ok : Within n 0) → Clauses 𝓤 (called ok)
+    abbrev called_says : (ok : Within n 0) → Clauses 𝓤 (called ok)
     called_says ok κs a = record { ghost = Unit {0}; requires = λ _. emp 𝓤; ensures = λ _ u e. fact 𝓤 (Says κs a.1 a.0.now u e.0.now e.1) }
 
 -- ---- a pointer to an R, bytes, and a pointer to an R'
 module _ (R R' : RattleType) where
-  abbrev pub exported_both : Ended
+  abbrev exported_both : Ended
   exported_both = record { signature = record { lifetimes = 1; outlives = []; params = plain (λ κs. RawPtr) ∷ shr_slice 0 tt (λ κs. u8) ∷ plain (λ κs. RawPtr) ∷ []; result = plain (λ κs. i64) }; kept = (yes, (yes, (yes, tt))) }
 
-  abbrev pub called_both : Ended
+  abbrev called_both : Ended
   called_both = record { signature = record { lifetimes = 3; outlives = []; params = mut_ref 0 tt (λ κs. R) ∷ shr_slice 1 tt (λ κs. u8) ∷ mut_ref 2 tt (λ κs. R') ∷ []; result = plain (λ κs. i64) }; kept = (yes, (yes, (yes, tt))) }
 
-  module _ (Says : R.Denot → R'.Denot → List ℕ → ℤ → R.Denot → R'.Denot → Type 0) {M : Type 1} {𝓤 : Ura M} (𝓛 : Logic 𝓤) where
-    abbrev both_lie : Ptr → Ptr → R.Denot × R'.Denot → SProp 𝓤 → SProp 𝓤
-    both_lie p r m P = sep 𝓤 (sem 𝓛 (lies_at R full_share p m.0)) (sep 𝓤 (sem 𝓛 (lies_at R' full_share r m.1)) P)
+  abbrev both_lie : {M : Type 1} {𝓤 : Ura M} (𝓛 : Logic 𝓤) → Ptr → Ptr → R.Denot × R'.Denot → SProp 𝓤 → SProp 𝓤
+  both_lie {𝓤 = 𝓤} 𝓛 p r m P = sep 𝓤 (sem 𝓛 (lies_at R full_share p m.0)) (sep 𝓤 (sem 𝓛 (lies_at R' full_share r m.1)) P)
 
-    abbrev pub exported_both_says : Clauses 𝓤 exported_both
+  module _ (Says : R.Denot → R'.Denot → List ℕ → ℤ → R.Denot → R'.Denot → Type 0) {M : Type 1} {𝓤 : Ura M} (𝓛 : Logic 𝓤) where
+    abbrev exported_both_says : Clauses 𝓤 exported_both
     exported_both_says κs a = record {
       ghost = R.Denot × R'.Denot;
       requires = λ old. sep 𝓤 (sem 𝓛 (lies_at R full_share a.0 old.0)) (sem 𝓛 (lies_at R' full_share a.1.1.0 old.1));
-      ensures = λ old u e. ex 𝓤 (λ (m : R.Denot × R'.Denot). both_lie a.0 a.1.1.0 m (fact 𝓤 (Says old.0 old.1 a.1.0.now u m.0 m.1)));
+      ensures = λ old u e. ex 𝓤 (λ (m : R.Denot × R'.Denot). both_lie 𝓛 a.0 a.1.1.0 m (fact 𝓤 (Says old.0 old.1 a.1.0.now u m.0 m.1)));
     }
 
-    abbrev pub called_both_says : Clauses 𝓤 called_both
+    abbrev called_both_says : Clauses 𝓤 called_both
     called_both_says κs a = record { ghost = Unit {0}; requires = λ _. emp 𝓤; ensures = λ _ u e. fact 𝓤 (Says a.0.now a.1.1.0.now a.1.0.now u e.0.now e.1.1.0.now) }
 
--- the signature of an export that ends what lies at its pointer
-abbrev pub ending : Ended
-ending = record { signature = record { lifetimes = 0; outlives = []; params = plain (λ κs. RawPtr) ∷ []; result = plain (λ κs. unit) }; kept = (yes, tt) }
+-- ---- a pointer to an R that is ended there
+abbrev ended : RattleType → Ended
+ended P = record { signature = record { lifetimes = 0; outlives = []; params = plain (λ κs. P) ∷ []; result = plain (λ κs. unit) }; kept = (yes, tt) }
 
 module _ {M : Type 1} {𝓤 : Ura M} (𝓛 : Logic 𝓤) (R : RattleType) where
   -- What lay there is gone, and its place is room again.
-  abbrev pub ending_says : Clauses 𝓤 ending
+  abbrev ending_says : Clauses 𝓤 (ended RawPtr)
   ending_says κs a = record { ghost = R.Denot; requires = λ old. sem 𝓛 (lies_at R full_share a.0 old); ensures = λ old u e. sem 𝓛 (room_at R a.0) }
 
--- ---- the code of each shape
+  abbrev ended_says : Clauses 𝓤 (ended R)
+  ended_says κs a = record { ghost = Unit {0}; requires = λ _. emp 𝓤; ensures = λ _ u e. emp 𝓤 }
+
+-- ---- the code of each shape, which is named for what stands behind the pointer: in `through` it is a number, bytes and a buffer
 abbrev function : (lifetimes params : ℕ) → List Local → Body → Fn
 function lifetimes params locals body = record { lifetimes = lifetimes; outlives = []; ty_params = []; givens = 0; params = params; locals = locals; body = body }
 
 abbrev value : Ty → Local
 value τ = local τ value_local
 
+abbrev u32_local : Local
+u32_local = value (ty_int w32)
+
 abbrev reference : Ty → Local
 reference T = value (ty_ref erased mut T)
 
 abbrev slice : Lifetime → Mutability → Ty → Local
 slice ℓ μ τ = value (slice_ty (ty_ref ℓ μ τ))
+
+-- what runs behind the first statement
+abbrev behind : Body → Body
+behind (seq first rest) = rest
+behind body = body
 
 -- to = from
 abbrev copies : (from to : ℕ) → Body
@@ -145,84 +156,45 @@ lends_to R at i to = block (seq (copies at i) (seq (copies i (i + 1)) (assign (p
 abbrev lends_buffer : Ty → (from to : ℕ) → Body → Body
 lends_buffer τ from to rest = seq (assign (place to []) (addr_of (place from (field 0 ∷ deref τ ∷ [])))) (seq (assign (place (to + 1) []) (aggregate (copy (place to []) ∷ copy (place from (field 1 ∷ [])) ∷ []))) rest)
 
--- T names the type whose values are R's.
+-- T names the type whose values are R's, and τ that of an element.
 module _ (R : RattleType) (T : Ty) (k : Callee) where
-  abbrev calls_with : List Operand → Body
-  calls_with xs = seq (call k xs (place 0 [])) return
+  -- k(unsafe { &mut *(at as *mut R) }, ..), of p parameters
+  abbrev lends_code : (n p : ℕ) (others passed : List Local) (passes : Body → Body) → List Operand → Fn
+  lends_code n p others passed passes xs = function n p (value (ty_int w64) ∷ value ty_ptr ∷ (others ++ (reference T ∷ reference T ∷ value ty_ptr ∷ value ty_ptr ∷ passed)))
+      (seq (lends_to R 1 (p + 3) (p + 2)) (seq (copies (p + 2) (p + 1)) (passes (seq (call k (copy (place (p + 1) []) ∷ xs) (place 0 [])) return))))
 
-  abbrev alone_rest : Body
-  alone_rest = seq (copies 3 2) (calls_with (copy (place 2 []) ∷ []))
+  abbrev alone_code : Fn
+  alone_code = lends_code 0 1 [] [] (λ rest. rest) []
 
-  -- k(unsafe { &mut *(at as *mut R) })
-  abbrev pub alone_code : Fn
-  alone_code = function 0 1 (value (ty_int w64) ∷ value ty_ptr ∷ reference T ∷ reference T ∷ value ty_ptr ∷ value ty_ptr ∷ []) (seq (lends_to R 1 4 3) (alone_rest))
+  abbrev numbered_code : Fn
+  numbered_code = lends_code 0 2 (u32_local ∷ []) (u32_local ∷ []) (seq (copies 2 7)) (copy (place 7 []) ∷ [])
 
-  abbrev numbered_rest : Body
-  numbered_rest = seq (copies 4 3) (seq (copies 2 7) (calls_with (copy (place 3 []) ∷ copy (place 7 []) ∷ [])))
+  abbrev twice_numbered_code : Fn
+  twice_numbered_code = lends_code 0 3 (u32_local ∷ u32_local ∷ []) (u32_local ∷ u32_local ∷ []) (λ rest. seq (copies 2 8) (seq (copies 3 9) rest)) (copy (place 8 []) ∷ copy (place 9 []) ∷ [])
 
-  -- k(unsafe { &mut *(at as *mut R) }, number)
-  abbrev pub numbered_code : Fn
-  numbered_code = function 0 2 (value (ty_int w64) ∷ value ty_ptr ∷ value (ty_int w32) ∷ reference T ∷ reference T ∷ value ty_ptr ∷ value ty_ptr ∷ value (ty_int w32) ∷ []) (seq (lends_to R 1 5 4) (numbered_rest))
+  abbrev sliced_code : Fn
+  sliced_code = lends_code 1 2 (slice (named 0) imm (ty_int w8) ∷ []) (slice erased imm (ty_int w8) ∷ []) (seq (copies 2 7)) (copy (place 7 []) ∷ [])
 
-  abbrev twice_numbered_rest : Body
-  twice_numbered_rest = seq (copies 5 4) (seq (copies 2 8) (seq (copies 3 9) (calls_with (copy (place 4 []) ∷ copy (place 8 []) ∷ copy (place 9 []) ∷ []))))
+  abbrev numbered_sliced_code : Fn
+  numbered_sliced_code = lends_code 1 3 (u32_local ∷ slice (named 0) imm (ty_int w8) ∷ []) (u32_local ∷ slice erased imm (ty_int w8) ∷ []) (λ rest. seq (copies 2 8) (seq (copies 3 9) rest)) (copy (place 8 []) ∷ copy (place 9 []) ∷ [])
 
-  -- k(unsafe { &mut *(at as *mut R) }, number, number)
-  abbrev pub twice_numbered_code : Fn
-  twice_numbered_code = function 0 3 (value (ty_int w64) ∷ value ty_ptr ∷ value (ty_int w32) ∷ value (ty_int w32) ∷ reference T ∷ reference T ∷ value ty_ptr ∷ value ty_ptr ∷ value (ty_int w32) ∷ value (ty_int w32) ∷ []) (seq (lends_to R 1 6 5) (twice_numbered_rest))
+  abbrev filled_code : Ty → Fn
+  filled_code τ = lends_code 1 2 (slice (named 0) mut τ ∷ []) (reference τ ∷ slice erased mut τ ∷ []) (lends_buffer τ 2 7) (copy (place 8 []) ∷ [])
 
-  abbrev sliced_rest : Body
-  sliced_rest = seq (copies 4 3) (seq (copies 2 7) (calls_with (copy (place 3 []) ∷ copy (place 7 []) ∷ [])))
+  abbrev numbered_filled_code : Ty → Fn
+  numbered_filled_code τ = lends_code 1 3 (u32_local ∷ slice (named 0) mut τ ∷ []) (u32_local ∷ reference τ ∷ slice erased mut τ ∷ []) (λ rest. seq (copies 2 8) (lends_buffer τ 3 9 rest)) (copy (place 8 []) ∷ copy (place 10 []) ∷ [])
 
-  -- k(unsafe { &mut *(at as *mut R) }, bytes)
-  abbrev pub sliced_code : Fn
-  sliced_code = function 1 2 (value (ty_int w64) ∷ value ty_ptr ∷ slice (named 0) imm (ty_int w8) ∷ reference T ∷ reference T ∷ value ty_ptr ∷ value ty_ptr ∷ slice erased imm (ty_int w8) ∷ []) (seq (lends_to R 1 5 4) (sliced_rest))
-
-  abbrev numbered_sliced_rest : Body
-  numbered_sliced_rest = seq (copies 5 4) (seq (copies 2 8) (seq (copies 3 9) (calls_with (copy (place 4 []) ∷ copy (place 8 []) ∷ copy (place 9 []) ∷ []))))
-
-  -- k(unsafe { &mut *(at as *mut R) }, number, bytes)
-  abbrev pub numbered_sliced_code : Fn
-  numbered_sliced_code = function 1 3 (value (ty_int w64) ∷ value ty_ptr ∷ value (ty_int w32) ∷ slice (named 0) imm (ty_int w8) ∷ reference T ∷ reference T ∷ value ty_ptr ∷ value ty_ptr ∷ value (ty_int w32) ∷ slice erased imm (ty_int w8) ∷ []) (seq (lends_to R 1 6 5) (numbered_sliced_rest))
-
-  abbrev filled_rest : (τ : Ty) → Body
-  filled_rest τ = seq (copies 4 3) (lends_buffer τ 2 7 (calls_with (copy (place 3 []) ∷ copy (place 8 []) ∷ [])))
-
-  -- k(unsafe { &mut *(at as *mut R) }, buffer)
-  abbrev pub filled_code : (τ : Ty) → Fn
-  filled_code τ = function 1 2 (value (ty_int w64) ∷ value ty_ptr ∷ slice (named 0) mut τ ∷ reference T ∷ reference T ∷ value ty_ptr ∷ value ty_ptr ∷ reference τ ∷ slice erased mut τ ∷ []) (seq (lends_to R 1 5 4) (filled_rest τ))
-
-  abbrev numbered_filled_rest : (τ : Ty) → Body
-  numbered_filled_rest τ = seq (copies 5 4) (seq (copies 2 8) (lends_buffer τ 3 9 (calls_with (copy (place 4 []) ∷ copy (place 8 []) ∷ copy (place 10 []) ∷ []))))
-
-  -- k(unsafe { &mut *(at as *mut R) }, number, buffer)
-  abbrev pub numbered_filled_code : (τ : Ty) → Fn
-  numbered_filled_code τ = function 1 3 (value (ty_int w64) ∷ value ty_ptr ∷ value (ty_int w32) ∷ slice (named 0) mut τ ∷ reference T ∷ reference T ∷ value ty_ptr ∷ value ty_ptr ∷ value (ty_int w32) ∷ reference τ ∷ slice erased mut τ ∷ []) (seq (lends_to R 1 6 5) (numbered_filled_rest τ))
-
-  abbrev through_rest : (τ : Ty) → Body
-  through_rest τ = seq (copies 6 5) (seq (copies 2 9) (seq (copies 3 10) (lends_buffer τ 4 11 (calls_with (copy (place 5 []) ∷ copy (place 9 []) ∷ copy (place 10 []) ∷ copy (place 12 []) ∷ [])))))
-
-  -- k(unsafe { &mut *(at as *mut R) }, number, bytes, buffer)
-  abbrev pub through_code : (τ : Ty) → Fn
-  through_code τ = function 2 4 (value (ty_int w64) ∷ value ty_ptr ∷ value (ty_int w32) ∷ slice (named 0) imm (ty_int w8) ∷ slice (named 1) mut τ ∷ reference T ∷ reference T ∷ value ty_ptr ∷ value ty_ptr ∷ value (ty_int w32) ∷ slice erased imm (ty_int w8) ∷ reference τ ∷ slice erased mut τ ∷ []) (seq (lends_to R 1 7 6) (through_rest τ))
-
-  abbrev ending_rest : Body
-  ending_rest = seq (copies 4 3) (seq (call k (copy (place 3 []) ∷ []) (place 2 [])) (seq (assign (place 0 []) (rv_opd opd_unit)) return))
+  abbrev through_code : Ty → Fn
+  through_code τ = lends_code 2 4 (u32_local ∷ slice (named 0) imm (ty_int w8) ∷ slice (named 1) mut τ ∷ []) (u32_local ∷ slice erased imm (ty_int w8) ∷ reference τ ∷ slice erased mut τ ∷ []) (λ rest. seq (copies 2 9) (seq (copies 3 10) (lends_buffer τ 4 11 rest))) (copy (place 9 []) ∷ copy (place 10 []) ∷ copy (place 12 []) ∷ [])
 
   -- k(unsafe { (at as *mut R).read() });
-  abbrev pub ending_code : Fn
-  ending_code = function 0 1 (value ty_unit ∷ value ty_ptr ∷ value ty_unit ∷ value T ∷ value T ∷ value ty_ptr ∷ value ty_ptr ∷ []) (seq (block (seq (copies 1 5) (seq (copies 5 6) (assign (place 4 []) (rv_opd (copy (place 6 (deref (lone R.mir) ∷ [])))))))) ending_rest)
+  abbrev ending_code : Fn
+  ending_code = function 0 1 (value ty_unit ∷ value ty_ptr ∷ value ty_unit ∷ value T ∷ value T ∷ value ty_ptr ∷ value ty_ptr ∷ []) (seq (block (seq (copies 1 5) (seq (copies 5 6) (assign (place 4 []) (rv_opd (copy (place 6 (deref (lone R.mir) ∷ [])))))))) (seq (copies 4 3) (seq (call k (copy (place 3 []) ∷ []) (place 2 [])) (seq (assign (place 0 []) (rv_opd opd_unit)) return))))
 
 module _ (R R' : RattleType) (T T' : Ty) (k : Callee) where
-  abbrev noted_rest : Body
-  noted_rest = seq (copies 10 9) (calls_with R T k (copy (place 4 []) ∷ copy (place 8 []) ∷ copy (place 9 []) ∷ []))
-
-  abbrev both_rest : Body
-  both_rest = seq (copies 5 4) (seq (copies 2 8) (seq (lends_to R' 3 11 10) noted_rest))
-
   -- k(unsafe { &mut *(at as *mut R) }, bytes, unsafe { &mut *(noted as *mut R') })
-  abbrev pub both_code : Fn
-  both_code = function 1 3 (value (ty_int w64) ∷ value ty_ptr ∷ slice (named 0) imm (ty_int w8) ∷ value ty_ptr ∷ reference T ∷ reference T ∷ value ty_ptr ∷ value ty_ptr ∷ slice erased imm (ty_int w8) ∷ reference T' ∷ reference T' ∷ value ty_ptr ∷ value ty_ptr ∷ []) (seq (lends_to R 1 6 5) both_rest)
+  abbrev both_code : Fn
+  both_code = function 1 3 (value (ty_int w64) ∷ value ty_ptr ∷ slice (named 0) imm (ty_int w8) ∷ value ty_ptr ∷ reference T ∷ reference T ∷ value ty_ptr ∷ value ty_ptr ∷ slice erased imm (ty_int w8) ∷ reference T' ∷ reference T' ∷ value ty_ptr ∷ value ty_ptr ∷ []) (seq (lends_to R 1 6 5) (seq (copies 5 4) (seq (copies 2 8) (seq (lends_to R' 3 11 10) (seq (copies 10 9) (seq (call k (copy (place 4 []) ∷ copy (place 8 []) ∷ copy (place 9 []) ∷ []) (place 0 [])) return))))))
 
 module _ {M : Type 1} {𝓤 : Ura M} (𝓛 : Logic 𝓤) (𝓜 : Model 𝓤 𝓛.H) (𝓡 : Running 𝓤 𝓛.H 𝓜) where
   abbrev 𝓣 : MachineTables 𝓤 𝓛.H 𝓜
@@ -263,13 +235,6 @@ module _ {M : Type 1} {𝓤 : Ura M} (𝓛 : Logic 𝓤) (𝓜 : Model 𝓤 𝓛
         at_block 𝓛 R x n O.params O.kept κs qs a.1 (words κs a.1) a.0 (λ p. WpFn 𝓤 𝓛.H 𝓣.C 𝓣.Λ code (flat (types_at S.signature.params κs) (rawptr_vals p, words κs a.1)) (W.post (start κs qs a x p))) (λ b o.
         qed 𝓛 (holding κs qs a x b o ∷ []) ∵ walk κs qs a x b o are.1))
 
-    leaves : (κs : Lfts n) (qs : Shares n) (a : Args S.signature κs) (x : R.Denot) (b o : ℕ) (v : Val) (u : ℤ) (w : Fins κs O.params O.kept a.1)
-        → ent 𝓤 (Owed 𝓛 R x n O.params O.kept κs qs a.1 (words κs a.1) (Told κs a.1 x) b o v u w) (W.post (start κs qs a x (block_ptr b o)) v)
-    leaves κs qs a x b o v u w =
-        subst (λ (F : Fml). ent 𝓤 (sep 𝓤 (sep 𝓤 (toks 𝓛 n κs qs) (sep 𝓤 (sem 𝓛 (fsep ftrue F)) (sem 𝓛 (i64.own_val u (v ∷ []))))) (ex 𝓤 (λ (m : R.Denot). sep 𝓤 (sem 𝓛 (lies_at R full_share (block_ptr b o) m)) (fact 𝓤 (Told κs a.1 x u m w))))) (W.post (start κs qs a x (block_ptr b o)) v))
-        (sym (had_is_said κs O.params O.kept a.1 w (words κs a.1))) (ends_at 𝓛 S stayed c (start κs qs a x (block_ptr b o)) v u (tt, w) (all_fit κs S.signature.params S.kept (block_ptr b o, a.1) (tt, w)))
-
-  -- the contract of a callee
   abbrev callee : (R : RattleType) {n : ℕ} (O : Others n) → Within n 0 → Sayings R O → Contract 𝓤
   callee R O ok Says = triple_of 𝓛 (called R O ok).signature (closing 𝓛 (called R O ok) (called_says R O Says 𝓛 ok))
 
@@ -277,96 +242,72 @@ module _ {M : Type 1} {𝓤 : Ura M} (𝓛 : Logic 𝓤) (𝓜 : Model 𝓤 𝓛
   abbrev Lends : (R : RattleType) {n m : ℕ} (O : Others n) (O' : Others m) → Within m 0 → Sayings R O → Sayings R O' → Callee → Fn → Callee → Type 2
   Lends R O O' ok Says Says' name code k = Closed 𝓤 𝓛.H 𝓣.C 𝓣.Λ name code → Triple 𝓤 (𝓣.C k) (callee R O' ok Says') → Meets 𝓛 (exported R O).signature (𝓣.C name) (closing 𝓛 (exported R O) (exported_says R O Says 𝓛))
 
-  pub lends_alone : (R : RattleType) (T : Ty) (name k : Callee) (Says : R.Denot → ℤ → R.Denot → Type 0)
-      → Lends R (none 0) (none 1) tt (λ κs a x u m e. Says x u m) (λ κs a x u m e. Says x u m) name (alone_code R T k) k
+  pub lends_alone : (R : RattleType) (T : Ty) (name k : Callee) (Says : R.Denot → ℤ → R.Denot → Type 0) → Lends R (none 0) (none 1) tt (λ κs a x u m e. Says x u m) (λ κs a x u m e. Says x u m) name (alone_code R T k) k
   lends_alone R T name k Says closed met =
-      let O = none 0 in let Y : Sayings R O = λ κs a x u m e. Says x u m in let G = callee R (none 1) tt (λ κs a x u m e. Says x u m) in
-      by_walk R O Y name (alone_code R T k) closed (λ κs qs a x b o are.
-      let z : ℕ → GName → G.Ghost = λ α δ. let r : MutBor R.Denot = record { ref_ptr = (b, o); ghost_name = δ; now = x } in (((α ∷ [], κs), (full_share, qs), tt, (r, a.1), (vptr b o ∷ [], words R O Y κs a.1)), tt) in
+      let O = none 0 in let Y : Sayings R O = λ κs a x u m e. Says x u m in by_walk R O Y name (alone_code R T k) closed (λ κs qs a x b o are.
       enter ! _ _ _ _ _ $ alloc_all ! (λ l. pass_all ! refl ((tt, tt), tt) $ first ! $ blocks ! $ sets ! (of_opd ! (get ! refl)) refl (tt, tt) $ sets ! (of_opd ! (get ! refl)) refl (tt, tt) $ sets_last ! (addr ! (through ! refl (stop !))) refl (tt, tt) $
-      exec ! 𝓣.C 𝓣.Λ (env (alone_code R T k).locals l) (alone_rest R T k) (at_ret _ _) $ sets ! (of_opd ! (get ! refl)) refl (tt, tt) $
-      calls_lent 𝓛 R x 0 O.params O.kept κs qs a.1 (words R O Y κs a.1) (Told R O Y κs a.1 x) b o ! (framed 𝓤 𝓛.H 𝓜 𝓣) (enters 𝓤 𝓛.H 𝓜 𝓣 _) (flat (types_at O.params κs) (words R O Y κs a.1)) G met z (λ α δ. refl) (λ α δ. id⊢ 𝓤 _) (λ α δ v. id⊢ 𝓤 _) (and_then ! (get ! refl) (no_more !)) (λ v u w is.
-      lands_as ! refl refl ((sint_Lawful 𝓛 w64).typed u _ is).0 $ returns ! (look_at ! 0 refl) $ free_all ! refl $ by ! (leaves R O Y κs qs a x b o v u w))))
+      exec ! 𝓣.C 𝓣.Λ (env (alone_code R T k).locals l) (behind (alone_code R T k).body) (at_ret _ _) $ sets ! (of_opd ! (get ! refl)) refl (tt, tt) $
+      calls_lent 𝓛 R x 0 O.params O.kept κs qs a.1 (words R O Y κs a.1) (Told R O Y κs a.1 x) b o ! (framed 𝓤 𝓛.H 𝓜 𝓣) (enters 𝓤 𝓛.H 𝓜 𝓣 _) (flat (types_at O.params κs) (words R O Y κs a.1)) _ met (λ α δ. (((α ∷ [], κs), (full_share, qs), tt, (record { ref_ptr = (b, o); ghost_name = δ; now = x }, a.1), (vptr b o ∷ [], words R O Y κs a.1)), tt)) (λ α δ. refl) (λ α δ. id⊢ 𝓤 _) (λ α δ v. id⊢ 𝓤 _) (and_then ! (get ! refl) (no_more !)) (λ v u w is.
+      lands_as ! refl refl ((sint_Lawful 𝓛 w64).typed u _ is).0 $ returns ! (look_at ! 0 refl) $ free_all ! refl $ by ! (ends_at 𝓛 (exported R O) (stayed R O Y) (exported_says R O Y 𝓛) (start R O Y κs qs a x (block_ptr b o)) v u (tt, w) (tt, tt)))))
 
-  pub lends_numbered : (R : RattleType) (T : Ty) (name k : Callee) (Says : R.Denot → ℕ → ℤ → R.Denot → Type 0)
-      → Lends R (number (none 0)) (number (none 1)) tt (λ κs a x u m e. Says x a.0 u m) (λ κs a x u m e. Says x a.0 u m) name (numbered_code R T k) k
+  pub lends_numbered : (R : RattleType) (T : Ty) (name k : Callee) (Says : R.Denot → ℕ → ℤ → R.Denot → Type 0) → Lends R (number (none 0)) (number (none 1)) tt (λ κs a x u m e. Says x a.0 u m) (λ κs a x u m e. Says x a.0 u m) name (numbered_code R T k) k
   lends_numbered R T name k Says closed met =
-      let O = number (none 0) in let Y : Sayings R O = λ κs a x u m e. Says x a.0 u m in let G = callee R (number (none 1)) tt (λ κs a x u m e. Says x a.0 u m) in
-      by_walk R O Y name (numbered_code R T k) closed (λ κs qs a x b o are.
-      let z : ℕ → GName → G.Ghost = λ α δ. let r : MutBor R.Denot = record { ref_ptr = (b, o); ghost_name = δ; now = x } in (((α ∷ [], κs), (full_share, qs), tt, (r, a.1), (vptr b o ∷ [], words R O Y κs a.1)), tt) in
+      let O = number (none 0) in let Y : Sayings R O = λ κs a x u m e. Says x a.0 u m in by_walk R O Y name (numbered_code R T k) closed (λ κs qs a x b o are.
       enter ! _ _ _ _ _ $ alloc_all ! (λ l. pass_all ! refl ((tt, tt), ((tt, record { fits = are.0.1 }), tt)) $ first ! $ blocks ! $ sets ! (of_opd ! (get ! refl)) refl (tt, tt) $ sets ! (of_opd ! (get ! refl)) refl (tt, tt) $ sets_last ! (addr ! (through ! refl (stop !))) refl (tt, tt) $
-      exec ! 𝓣.C 𝓣.Λ (env (numbered_code R T k).locals l) (numbered_rest R T k) (at_ret _ _) $ sets ! (of_opd ! (get ! refl)) refl (tt, tt) $ sets ! (of_opd ! (get ! refl)) refl (tt, record { fits = are.0.1 }) $
-      calls_lent 𝓛 R x 0 O.params O.kept κs qs a.1 (words R O Y κs a.1) (Told R O Y κs a.1 x) b o ! (framed 𝓤 𝓛.H 𝓜 𝓣) (enters 𝓤 𝓛.H 𝓜 𝓣 _) (flat (types_at O.params κs) (words R O Y κs a.1)) G met z (λ α δ. refl) (λ α δ. id⊢ 𝓤 _) (λ α δ v. id⊢ 𝓤 _) (and_then ! (get ! refl) (and_then ! (get ! refl) (no_more !))) (λ v u w is.
-      lands_as ! refl refl ((sint_Lawful 𝓛 w64).typed u _ is).0 $ returns ! (look_at ! 0 refl) $ free_all ! refl $ by ! (leaves R O Y κs qs a x b o v u w))))
+      exec ! 𝓣.C 𝓣.Λ (env (numbered_code R T k).locals l) (behind (numbered_code R T k).body) (at_ret _ _) $ sets ! (of_opd ! (get ! refl)) refl (tt, tt) $ sets ! (of_opd ! (get ! refl)) refl (tt, record { fits = are.0.1 }) $
+      calls_lent 𝓛 R x 0 O.params O.kept κs qs a.1 (words R O Y κs a.1) (Told R O Y κs a.1 x) b o ! (framed 𝓤 𝓛.H 𝓜 𝓣) (enters 𝓤 𝓛.H 𝓜 𝓣 _) (flat (types_at O.params κs) (words R O Y κs a.1)) _ met (λ α δ. (((α ∷ [], κs), (full_share, qs), tt, (record { ref_ptr = (b, o); ghost_name = δ; now = x }, a.1), (vptr b o ∷ [], words R O Y κs a.1)), tt)) (λ α δ. refl) (λ α δ. id⊢ 𝓤 _) (λ α δ v. id⊢ 𝓤 _) (and_then ! (get ! refl) (and_then ! (get ! refl) (no_more !))) (λ v u w is.
+      lands_as ! refl refl ((sint_Lawful 𝓛 w64).typed u _ is).0 $ returns ! (look_at ! 0 refl) $ free_all ! refl $ by ! (ends_at 𝓛 (exported R O) (stayed R O Y) (exported_says R O Y 𝓛) (start R O Y κs qs a x (block_ptr b o)) v u (tt, w) (tt, (tt, tt))))))
 
-  pub lends_twice_numbered : (R : RattleType) (T : Ty) (name k : Callee) (Says : R.Denot → ℕ → ℕ → ℤ → R.Denot → Type 0)
-      → Lends R (number (number (none 0))) (number (number (none 1))) tt (λ κs a x u m e. Says x a.0 a.1.0 u m) (λ κs a x u m e. Says x a.0 a.1.0 u m) name (twice_numbered_code R T k) k
+  pub lends_twice_numbered : (R : RattleType) (T : Ty) (name k : Callee) (Says : R.Denot → ℕ → ℕ → ℤ → R.Denot → Type 0) → Lends R (number (number (none 0))) (number (number (none 1))) tt (λ κs a x u m e. Says x a.0 a.1.0 u m) (λ κs a x u m e. Says x a.0 a.1.0 u m) name (twice_numbered_code R T k) k
   lends_twice_numbered R T name k Says closed met =
-      let O = number (number (none 0)) in let Y : Sayings R O = λ κs a x u m e. Says x a.0 a.1.0 u m in let G = callee R (number (number (none 1))) tt (λ κs a x u m e. Says x a.0 a.1.0 u m) in
-      by_walk R O Y name (twice_numbered_code R T k) closed (λ κs qs a x b o are.
-      let z : ℕ → GName → G.Ghost = λ α δ. let r : MutBor R.Denot = record { ref_ptr = (b, o); ghost_name = δ; now = x } in (((α ∷ [], κs), (full_share, qs), tt, (r, a.1), (vptr b o ∷ [], words R O Y κs a.1)), tt) in
+      let O = number (number (none 0)) in let Y : Sayings R O = λ κs a x u m e. Says x a.0 a.1.0 u m in by_walk R O Y name (twice_numbered_code R T k) closed (λ κs qs a x b o are.
       enter ! _ _ _ _ _ $ alloc_all ! (λ l. pass_all ! refl ((tt, tt), ((tt, record { fits = are.0.1 }), ((tt, record { fits = are.1.0.1 }), tt))) $ first ! $ blocks ! $ sets ! (of_opd ! (get ! refl)) refl (tt, tt) $ sets ! (of_opd ! (get ! refl)) refl (tt, tt) $ sets_last ! (addr ! (through ! refl (stop !))) refl (tt, tt) $
-      exec ! 𝓣.C 𝓣.Λ (env (twice_numbered_code R T k).locals l) (twice_numbered_rest R T k) (at_ret _ _) $ sets ! (of_opd ! (get ! refl)) refl (tt, tt) $ sets ! (of_opd ! (get ! refl)) refl (tt, record { fits = are.0.1 }) $ sets ! (of_opd ! (get ! refl)) refl (tt, record { fits = are.1.0.1 }) $
-      calls_lent 𝓛 R x 0 O.params O.kept κs qs a.1 (words R O Y κs a.1) (Told R O Y κs a.1 x) b o ! (framed 𝓤 𝓛.H 𝓜 𝓣) (enters 𝓤 𝓛.H 𝓜 𝓣 _) (flat (types_at O.params κs) (words R O Y κs a.1)) G met z (λ α δ. refl) (λ α δ. id⊢ 𝓤 _) (λ α δ v. id⊢ 𝓤 _) (and_then ! (get ! refl) (and_then ! (get ! refl) (and_then ! (get ! refl) (no_more !)))) (λ v u w is.
-      lands_as ! refl refl ((sint_Lawful 𝓛 w64).typed u _ is).0 $ returns ! (look_at ! 0 refl) $ free_all ! refl $ by ! (leaves R O Y κs qs a x b o v u w))))
+      exec ! 𝓣.C 𝓣.Λ (env (twice_numbered_code R T k).locals l) (behind (twice_numbered_code R T k).body) (at_ret _ _) $ sets ! (of_opd ! (get ! refl)) refl (tt, tt) $ sets ! (of_opd ! (get ! refl)) refl (tt, record { fits = are.0.1 }) $ sets ! (of_opd ! (get ! refl)) refl (tt, record { fits = are.1.0.1 }) $
+      calls_lent 𝓛 R x 0 O.params O.kept κs qs a.1 (words R O Y κs a.1) (Told R O Y κs a.1 x) b o ! (framed 𝓤 𝓛.H 𝓜 𝓣) (enters 𝓤 𝓛.H 𝓜 𝓣 _) (flat (types_at O.params κs) (words R O Y κs a.1)) _ met (λ α δ. (((α ∷ [], κs), (full_share, qs), tt, (record { ref_ptr = (b, o); ghost_name = δ; now = x }, a.1), (vptr b o ∷ [], words R O Y κs a.1)), tt)) (λ α δ. refl) (λ α δ. id⊢ 𝓤 _) (λ α δ v. id⊢ 𝓤 _) (and_then ! (get ! refl) (and_then ! (get ! refl) (and_then ! (get ! refl) (no_more !)))) (λ v u w is.
+      lands_as ! refl refl ((sint_Lawful 𝓛 w64).typed u _ is).0 $ returns ! (look_at ! 0 refl) $ free_all ! refl $ by ! (ends_at 𝓛 (exported R O) (stayed R O Y) (exported_says R O Y 𝓛) (start R O Y κs qs a x (block_ptr b o)) v u (tt, w) (tt, (tt, (tt, tt)))))))
 
-  pub lends_sliced : (R : RattleType) (T : Ty) (name k : Callee) (Says : R.Denot → List ℕ → ℤ → R.Denot → Type 0)
-      → Lends R (bytes 0 tt (none 1)) (bytes 1 tt (none 2)) tt (λ κs a x u m e. Says x a.0.now u m) (λ κs a x u m e. Says x a.0.now u m) name (sliced_code R T k) k
+  pub lends_sliced : (R : RattleType) (T : Ty) (name k : Callee) (Says : R.Denot → List ℕ → ℤ → R.Denot → Type 0) → Lends R (bytes 0 tt (none 1)) (bytes 1 tt (none 2)) tt (λ κs a x u m e. Says x a.0.now u m) (λ κs a x u m e. Says x a.0.now u m) name (sliced_code R T k) k
   lends_sliced R T name k Says closed met =
-      let O = bytes 0 tt (none 1) in let Y : Sayings R O = λ κs a x u m e. Says x a.0.now u m in let G = callee R (bytes 1 tt (none 2)) tt (λ κs a x u m e. Says x a.0.now u m) in
-      by_walk R O Y name (sliced_code R T k) closed (λ κs qs a x b o are.
-      let z : ℕ → GName → G.Ghost = λ α δ. let r : MutBor R.Denot = record { ref_ptr = (b, o); ghost_name = δ; now = x } in (((α ∷ [], κs), (full_share, qs), tt, (r, a.1), (vptr b o ∷ [], words R O Y κs a.1)), tt) in
+      let O = bytes 0 tt (none 1) in let Y : Sayings R O = λ κs a x u m e. Says x a.0.now u m in by_walk R O Y name (sliced_code R T k) closed (λ κs qs a x b o are.
       enter ! _ _ _ _ _ $ alloc_all ! (λ l. pass_all ! refl ((tt, tt), ((tt, (tt, (record { fits = are.0.0.1.0 }, tt))), tt)) $ first ! $ blocks ! $ sets ! (of_opd ! (get ! refl)) refl (tt, tt) $ sets ! (of_opd ! (get ! refl)) refl (tt, tt) $ sets_last ! (addr ! (through ! refl (stop !))) refl (tt, tt) $
-      exec ! 𝓣.C 𝓣.Λ (env (sliced_code R T k).locals l) (sliced_rest R T k) (at_ret _ _) $ sets ! (of_opd ! (get ! refl)) refl (tt, tt) $ sets ! (of_opd ! (get ! refl)) refl (tt, (tt, (record { fits = are.0.0.1.0 }, tt))) $
-      calls_lent 𝓛 R x 1 O.params O.kept κs qs a.1 (words R O Y κs a.1) (Told R O Y κs a.1 x) b o ! (framed 𝓤 𝓛.H 𝓜 𝓣) (enters 𝓤 𝓛.H 𝓜 𝓣 _) (flat (types_at O.params κs) (words R O Y κs a.1)) G met z (λ α δ. refl) (λ α δ. id⊢ 𝓤 _) (λ α δ v. id⊢ 𝓤 _) (and_then ! (get ! refl) (and_then ! (get ! refl) (no_more !))) (λ v u w is.
-      lands_as ! refl refl ((sint_Lawful 𝓛 w64).typed u _ is).0 $ returns ! (look_at ! 0 refl) $ free_all ! refl $ by ! (leaves R O Y κs qs a x b o v u w))))
+      exec ! 𝓣.C 𝓣.Λ (env (sliced_code R T k).locals l) (behind (sliced_code R T k).body) (at_ret _ _) $ sets ! (of_opd ! (get ! refl)) refl (tt, tt) $ sets ! (of_opd ! (get ! refl)) refl (tt, (tt, (record { fits = are.0.0.1.0 }, tt))) $
+      calls_lent 𝓛 R x 1 O.params O.kept κs qs a.1 (words R O Y κs a.1) (Told R O Y κs a.1 x) b o ! (framed 𝓤 𝓛.H 𝓜 𝓣) (enters 𝓤 𝓛.H 𝓜 𝓣 _) (flat (types_at O.params κs) (words R O Y κs a.1)) _ met (λ α δ. (((α ∷ [], κs), (full_share, qs), tt, (record { ref_ptr = (b, o); ghost_name = δ; now = x }, a.1), (vptr b o ∷ [], words R O Y κs a.1)), tt)) (λ α δ. refl) (λ α δ. id⊢ 𝓤 _) (λ α δ v. id⊢ 𝓤 _) (and_then ! (get ! refl) (and_then ! (get ! refl) (no_more !))) (λ v u w is.
+      lands_as ! refl refl ((sint_Lawful 𝓛 w64).typed u _ is).0 $ returns ! (look_at ! 0 refl) $ free_all ! refl $ by ! (ends_at 𝓛 (exported R O) (stayed R O Y) (exported_says R O Y 𝓛) (start R O Y κs qs a x (block_ptr b o)) v u (tt, w) (tt, (tt, tt))))))
 
-  pub lends_numbered_sliced : (R : RattleType) (T : Ty) (name k : Callee) (Says : R.Denot → ℕ → List ℕ → ℤ → R.Denot → Type 0)
-      → Lends R (number (bytes 0 tt (none 1))) (number (bytes 1 tt (none 2))) tt (λ κs a x u m e. Says x a.0 a.1.0.now u m) (λ κs a x u m e. Says x a.0 a.1.0.now u m) name (numbered_sliced_code R T k) k
+  pub lends_numbered_sliced : (R : RattleType) (T : Ty) (name k : Callee) (Says : R.Denot → ℕ → List ℕ → ℤ → R.Denot → Type 0) → Lends R (number (bytes 0 tt (none 1))) (number (bytes 1 tt (none 2))) tt (λ κs a x u m e. Says x a.0 a.1.0.now u m) (λ κs a x u m e. Says x a.0 a.1.0.now u m) name (numbered_sliced_code R T k) k
   lends_numbered_sliced R T name k Says closed met =
-      let O = number (bytes 0 tt (none 1)) in let Y : Sayings R O = λ κs a x u m e. Says x a.0 a.1.0.now u m in let G = callee R (number (bytes 1 tt (none 2))) tt (λ κs a x u m e. Says x a.0 a.1.0.now u m) in
-      by_walk R O Y name (numbered_sliced_code R T k) closed (λ κs qs a x b o are.
-      let z : ℕ → GName → G.Ghost = λ α δ. let r : MutBor R.Denot = record { ref_ptr = (b, o); ghost_name = δ; now = x } in (((α ∷ [], κs), (full_share, qs), tt, (r, a.1), (vptr b o ∷ [], words R O Y κs a.1)), tt) in
+      let O = number (bytes 0 tt (none 1)) in let Y : Sayings R O = λ κs a x u m e. Says x a.0 a.1.0.now u m in by_walk R O Y name (numbered_sliced_code R T k) closed (λ κs qs a x b o are.
       enter ! _ _ _ _ _ $ alloc_all ! (λ l. pass_all ! refl ((tt, tt), ((tt, record { fits = are.0.1 }), ((tt, (tt, (record { fits = are.1.0.0.1.0 }, tt))), tt))) $ first ! $ blocks ! $ sets ! (of_opd ! (get ! refl)) refl (tt, tt) $ sets ! (of_opd ! (get ! refl)) refl (tt, tt) $ sets_last ! (addr ! (through ! refl (stop !))) refl (tt, tt) $
-      exec ! 𝓣.C 𝓣.Λ (env (numbered_sliced_code R T k).locals l) (numbered_sliced_rest R T k) (at_ret _ _) $ sets ! (of_opd ! (get ! refl)) refl (tt, tt) $ sets ! (of_opd ! (get ! refl)) refl (tt, record { fits = are.0.1 }) $ sets ! (of_opd ! (get ! refl)) refl (tt, (tt, (record { fits = are.1.0.0.1.0 }, tt))) $
-      calls_lent 𝓛 R x 1 O.params O.kept κs qs a.1 (words R O Y κs a.1) (Told R O Y κs a.1 x) b o ! (framed 𝓤 𝓛.H 𝓜 𝓣) (enters 𝓤 𝓛.H 𝓜 𝓣 _) (flat (types_at O.params κs) (words R O Y κs a.1)) G met z (λ α δ. refl) (λ α δ. id⊢ 𝓤 _) (λ α δ v. id⊢ 𝓤 _) (and_then ! (get ! refl) (and_then ! (get ! refl) (and_then ! (get ! refl) (no_more !)))) (λ v u w is.
-      lands_as ! refl refl ((sint_Lawful 𝓛 w64).typed u _ is).0 $ returns ! (look_at ! 0 refl) $ free_all ! refl $ by ! (leaves R O Y κs qs a x b o v u w))))
+      exec ! 𝓣.C 𝓣.Λ (env (numbered_sliced_code R T k).locals l) (behind (numbered_sliced_code R T k).body) (at_ret _ _) $ sets ! (of_opd ! (get ! refl)) refl (tt, tt) $ sets ! (of_opd ! (get ! refl)) refl (tt, record { fits = are.0.1 }) $ sets ! (of_opd ! (get ! refl)) refl (tt, (tt, (record { fits = are.1.0.0.1.0 }, tt))) $
+      calls_lent 𝓛 R x 1 O.params O.kept κs qs a.1 (words R O Y κs a.1) (Told R O Y κs a.1 x) b o ! (framed 𝓤 𝓛.H 𝓜 𝓣) (enters 𝓤 𝓛.H 𝓜 𝓣 _) (flat (types_at O.params κs) (words R O Y κs a.1)) _ met (λ α δ. (((α ∷ [], κs), (full_share, qs), tt, (record { ref_ptr = (b, o); ghost_name = δ; now = x }, a.1), (vptr b o ∷ [], words R O Y κs a.1)), tt)) (λ α δ. refl) (λ α δ. id⊢ 𝓤 _) (λ α δ v. id⊢ 𝓤 _) (and_then ! (get ! refl) (and_then ! (get ! refl) (and_then ! (get ! refl) (no_more !)))) (λ v u w is.
+      lands_as ! refl refl ((sint_Lawful 𝓛 w64).typed u _ is).0 $ returns ! (look_at ! 0 refl) $ free_all ! refl $ by ! (ends_at 𝓛 (exported R O) (stayed R O Y) (exported_says R O Y 𝓛) (start R O Y κs qs a x (block_ptr b o)) v u (tt, w) (tt, (tt, (tt, tt)))))))
 
-  pub lends_filled : (E : RattleType) (τ : Ty) (R : RattleType) (T : Ty) (name k : Callee) (Says : R.Denot → (old new : List E.Denot) → ℤ → R.Denot → Type 0)
-      → Lends R (buffer E 0 tt (none 1)) (buffer E 1 tt (none 2)) tt (λ κs a x u m e. Says x a.0.now e.0.now u m) (λ κs a x u m e. Says x a.0.now e.0.now u m) name (filled_code R T k τ) k
+  pub lends_filled : (E : RattleType) (τ : Ty) (R : RattleType) (T : Ty) (name k : Callee) (Says : R.Denot → (old new : List E.Denot) → ℤ → R.Denot → Type 0) → Lends R (buffer E 0 tt (none 1)) (buffer E 1 tt (none 2)) tt (λ κs a x u m e. Says x a.0.now e.0.now u m) (λ κs a x u m e. Says x a.0.now e.0.now u m) name (filled_code R T k τ) k
   lends_filled E τ R T name k Says closed met =
-      let O = buffer E 0 tt (none 1) in let Y : Sayings R O = λ κs a x u m e. Says x a.0.now e.0.now u m in let G = callee R (buffer E 1 tt (none 2)) tt (λ κs a x u m e. Says x a.0.now e.0.now u m) in
-      by_walk R O Y name (filled_code R T k τ) closed (λ κs qs a x b o are.
-      let z : ℕ → GName → G.Ghost = λ α δ. let r : MutBor R.Denot = record { ref_ptr = (b, o); ghost_name = δ; now = x } in (((α ∷ [], κs), (full_share, qs), tt, (r, a.1), (vptr b o ∷ [], words R O Y κs a.1)), tt) in
+      let O = buffer E 0 tt (none 1) in let Y : Sayings R O = λ κs a x u m e. Says x a.0.now e.0.now u m in by_walk R O Y name (filled_code R T k τ) closed (λ κs qs a x b o are.
       enter ! _ _ _ _ _ $ alloc_all ! (λ l. pass_all ! refl ((tt, tt), ((tt, (tt, (record { fits = are.0.0.1.0 }, tt))), tt)) $ first ! $ blocks ! $ sets ! (of_opd ! (get ! refl)) refl (tt, tt) $ sets ! (of_opd ! (get ! refl)) refl (tt, tt) $ sets_last ! (addr ! (through ! refl (stop !))) refl (tt, tt) $
-      exec ! 𝓣.C 𝓣.Λ (env (filled_code R T k τ).locals l) (filled_rest R T k τ) (at_ret _ _) $ sets ! (of_opd ! (get ! refl)) refl (tt, tt) $ 
+      exec ! 𝓣.C 𝓣.Λ (env (filled_code R T k τ).locals l) (behind (filled_code R T k τ).body) (at_ret _ _) $ sets ! (of_opd ! (get ! refl)) refl (tt, tt) $
       sets ! (addr ! (from ! (fld ! refl (hop ! (look_in_at ! 2 (sub ! 0 refl (whole !))) (stop !))))) refl (tt, tt) $ sets ! (agg ! (and_then ! (get ! refl) (and_then ! (get_in ! (fld ! refl (stop !)) (sub ! 1 refl (whole !))) (no_more !)))) refl (tt, (tt, (record { fits = are.0.0.1.0 }, tt))) $
-      calls_lent 𝓛 R x 1 O.params O.kept κs qs a.1 (words R O Y κs a.1) (Told R O Y κs a.1 x) b o ! (framed 𝓤 𝓛.H 𝓜 𝓣) (enters 𝓤 𝓛.H 𝓜 𝓣 _) (flat (types_at O.params κs) (words R O Y κs a.1)) G met z (λ α δ. refl) (λ α δ. id⊢ 𝓤 _) (λ α δ v. id⊢ 𝓤 _) (and_then ! (get ! refl) (and_then ! (get ! refl) (no_more !))) (λ v u w is.
-      lands_as ! refl refl ((sint_Lawful 𝓛 w64).typed u _ is).0 $ returns ! (look_at ! 0 refl) $ free_all ! refl $ by ! (leaves R O Y κs qs a x b o v u w))))
+      calls_lent 𝓛 R x 1 O.params O.kept κs qs a.1 (words R O Y κs a.1) (Told R O Y κs a.1 x) b o ! (framed 𝓤 𝓛.H 𝓜 𝓣) (enters 𝓤 𝓛.H 𝓜 𝓣 _) (flat (types_at O.params κs) (words R O Y κs a.1)) _ met (λ α δ. (((α ∷ [], κs), (full_share, qs), tt, (record { ref_ptr = (b, o); ghost_name = δ; now = x }, a.1), (vptr b o ∷ [], words R O Y κs a.1)), tt)) (λ α δ. refl) (λ α δ. id⊢ 𝓤 _) (λ α δ v. id⊢ 𝓤 _) (and_then ! (get ! refl) (and_then ! (get ! refl) (no_more !))) (λ v u w is.
+      lands_as ! refl refl ((sint_Lawful 𝓛 w64).typed u _ is).0 $ returns ! (look_at ! 0 refl) $ free_all ! refl $ by ! (ends_at 𝓛 (exported R O) (stayed R O Y) (exported_says R O Y 𝓛) (start R O Y κs qs a x (block_ptr b o)) v u (tt, w) (tt, (tt, tt))))))
 
-  pub lends_numbered_filled : (E : RattleType) (τ : Ty) (R : RattleType) (T : Ty) (name k : Callee) (Says : R.Denot → ℕ → (old new : List E.Denot) → ℤ → R.Denot → Type 0)
-      → Lends R (number (buffer E 0 tt (none 1))) (number (buffer E 1 tt (none 2))) tt (λ κs a x u m e. Says x a.0 a.1.0.now e.1.0.now u m) (λ κs a x u m e. Says x a.0 a.1.0.now e.1.0.now u m) name (numbered_filled_code R T k τ) k
+  pub lends_numbered_filled : (E : RattleType) (τ : Ty) (R : RattleType) (T : Ty) (name k : Callee) (Says : R.Denot → ℕ → (old new : List E.Denot) → ℤ → R.Denot → Type 0) → Lends R (number (buffer E 0 tt (none 1))) (number (buffer E 1 tt (none 2))) tt (λ κs a x u m e. Says x a.0 a.1.0.now e.1.0.now u m) (λ κs a x u m e. Says x a.0 a.1.0.now e.1.0.now u m) name (numbered_filled_code R T k τ) k
   lends_numbered_filled E τ R T name k Says closed met =
-      let O = number (buffer E 0 tt (none 1)) in let Y : Sayings R O = λ κs a x u m e. Says x a.0 a.1.0.now e.1.0.now u m in let G = callee R (number (buffer E 1 tt (none 2))) tt (λ κs a x u m e. Says x a.0 a.1.0.now e.1.0.now u m) in
-      by_walk R O Y name (numbered_filled_code R T k τ) closed (λ κs qs a x b o are.
-      let z : ℕ → GName → G.Ghost = λ α δ. let r : MutBor R.Denot = record { ref_ptr = (b, o); ghost_name = δ; now = x } in (((α ∷ [], κs), (full_share, qs), tt, (r, a.1), (vptr b o ∷ [], words R O Y κs a.1)), tt) in
+      let O = number (buffer E 0 tt (none 1)) in let Y : Sayings R O = λ κs a x u m e. Says x a.0 a.1.0.now e.1.0.now u m in by_walk R O Y name (numbered_filled_code R T k τ) closed (λ κs qs a x b o are.
       enter ! _ _ _ _ _ $ alloc_all ! (λ l. pass_all ! refl ((tt, tt), ((tt, record { fits = are.0.1 }), ((tt, (tt, (record { fits = are.1.0.0.1.0 }, tt))), tt))) $ first ! $ blocks ! $ sets ! (of_opd ! (get ! refl)) refl (tt, tt) $ sets ! (of_opd ! (get ! refl)) refl (tt, tt) $ sets_last ! (addr ! (through ! refl (stop !))) refl (tt, tt) $
-      exec ! 𝓣.C 𝓣.Λ (env (numbered_filled_code R T k τ).locals l) (numbered_filled_rest R T k τ) (at_ret _ _) $ sets ! (of_opd ! (get ! refl)) refl (tt, tt) $ sets ! (of_opd ! (get ! refl)) refl (tt, record { fits = are.0.1 }) $
+      exec ! 𝓣.C 𝓣.Λ (env (numbered_filled_code R T k τ).locals l) (behind (numbered_filled_code R T k τ).body) (at_ret _ _) $ sets ! (of_opd ! (get ! refl)) refl (tt, tt) $ sets ! (of_opd ! (get ! refl)) refl (tt, record { fits = are.0.1 }) $
       sets ! (addr ! (from ! (fld ! refl (hop ! (look_in_at ! 3 (sub ! 0 refl (whole !))) (stop !))))) refl (tt, tt) $ sets ! (agg ! (and_then ! (get ! refl) (and_then ! (get_in ! (fld ! refl (stop !)) (sub ! 1 refl (whole !))) (no_more !)))) refl (tt, (tt, (record { fits = are.1.0.0.1.0 }, tt))) $
-      calls_lent 𝓛 R x 1 O.params O.kept κs qs a.1 (words R O Y κs a.1) (Told R O Y κs a.1 x) b o ! (framed 𝓤 𝓛.H 𝓜 𝓣) (enters 𝓤 𝓛.H 𝓜 𝓣 _) (flat (types_at O.params κs) (words R O Y κs a.1)) G met z (λ α δ. refl) (λ α δ. id⊢ 𝓤 _) (λ α δ v. id⊢ 𝓤 _) (and_then ! (get ! refl) (and_then ! (get ! refl) (and_then ! (get ! refl) (no_more !)))) (λ v u w is.
-      lands_as ! refl refl ((sint_Lawful 𝓛 w64).typed u _ is).0 $ returns ! (look_at ! 0 refl) $ free_all ! refl $ by ! (leaves R O Y κs qs a x b o v u w))))
+      calls_lent 𝓛 R x 1 O.params O.kept κs qs a.1 (words R O Y κs a.1) (Told R O Y κs a.1 x) b o ! (framed 𝓤 𝓛.H 𝓜 𝓣) (enters 𝓤 𝓛.H 𝓜 𝓣 _) (flat (types_at O.params κs) (words R O Y κs a.1)) _ met (λ α δ. (((α ∷ [], κs), (full_share, qs), tt, (record { ref_ptr = (b, o); ghost_name = δ; now = x }, a.1), (vptr b o ∷ [], words R O Y κs a.1)), tt)) (λ α δ. refl) (λ α δ. id⊢ 𝓤 _) (λ α δ v. id⊢ 𝓤 _) (and_then ! (get ! refl) (and_then ! (get ! refl) (and_then ! (get ! refl) (no_more !)))) (λ v u w is.
+      lands_as ! refl refl ((sint_Lawful 𝓛 w64).typed u _ is).0 $ returns ! (look_at ! 0 refl) $ free_all ! refl $ by ! (ends_at 𝓛 (exported R O) (stayed R O Y) (exported_says R O Y 𝓛) (start R O Y κs qs a x (block_ptr b o)) v u (tt, w) (tt, (tt, (tt, tt)))))))
 
-  pub lends_through : (E : RattleType) (τ : Ty) (R : RattleType) (T : Ty) (name k : Callee) (Says : R.Denot → ℕ → List ℕ → (old new : List E.Denot) → ℤ → R.Denot → Type 0)
-      → Lends R (number (bytes 0 tt (buffer E 1 tt (none 2)))) (number (bytes 1 tt (buffer E 2 tt (none 3)))) tt (λ κs a x u m e. Says x a.0 a.1.0.now a.1.1.0.now e.1.1.0.now u m) (λ κs a x u m e. Says x a.0 a.1.0.now a.1.1.0.now e.1.1.0.now u m) name (through_code R T k τ) k
+  pub lends_through : (E : RattleType) (τ : Ty) (R : RattleType) (T : Ty) (name k : Callee) (Says : R.Denot → ℕ → List ℕ → (old new : List E.Denot) → ℤ → R.Denot → Type 0) → Lends R (number (bytes 0 tt (buffer E 1 tt (none 2)))) (number (bytes 1 tt (buffer E 2 tt (none 3)))) tt (λ κs a x u m e. Says x a.0 a.1.0.now a.1.1.0.now e.1.1.0.now u m) (λ κs a x u m e. Says x a.0 a.1.0.now a.1.1.0.now e.1.1.0.now u m) name (through_code R T k τ) k
   lends_through E τ R T name k Says closed met =
-      let O = number (bytes 0 tt (buffer E 1 tt (none 2))) in let Y : Sayings R O = λ κs a x u m e. Says x a.0 a.1.0.now a.1.1.0.now e.1.1.0.now u m in let G = callee R (number (bytes 1 tt (buffer E 2 tt (none 3)))) tt (λ κs a x u m e. Says x a.0 a.1.0.now a.1.1.0.now e.1.1.0.now u m) in
-      by_walk R O Y name (through_code R T k τ) closed (λ κs qs a x b o are.
-      let z : ℕ → GName → G.Ghost = λ α δ. let r : MutBor R.Denot = record { ref_ptr = (b, o); ghost_name = δ; now = x } in (((α ∷ [], κs), (full_share, qs), tt, (r, a.1), (vptr b o ∷ [], words R O Y κs a.1)), tt) in
+      let O = number (bytes 0 tt (buffer E 1 tt (none 2))) in let Y : Sayings R O = λ κs a x u m e. Says x a.0 a.1.0.now a.1.1.0.now e.1.1.0.now u m in by_walk R O Y name (through_code R T k τ) closed (λ κs qs a x b o are.
       enter ! _ _ _ _ _ $ alloc_all ! (λ l. pass_all ! refl ((tt, tt), ((tt, record { fits = are.0.1 }), ((tt, (tt, (record { fits = are.1.0.0.1.0 }, tt))), ((tt, (tt, (record { fits = are.1.1.0.0.1.0 }, tt))), tt)))) $ first ! $ blocks ! $ sets ! (of_opd ! (get ! refl)) refl (tt, tt) $ sets ! (of_opd ! (get ! refl)) refl (tt, tt) $ sets_last ! (addr ! (through ! refl (stop !))) refl (tt, tt) $
-      exec ! 𝓣.C 𝓣.Λ (env (through_code R T k τ).locals l) (through_rest R T k τ) (at_ret _ _) $ sets ! (of_opd ! (get ! refl)) refl (tt, tt) $ sets ! (of_opd ! (get ! refl)) refl (tt, record { fits = are.0.1 }) $ sets ! (of_opd ! (get ! refl)) refl (tt, (tt, (record { fits = are.1.0.0.1.0 }, tt))) $
+      exec ! 𝓣.C 𝓣.Λ (env (through_code R T k τ).locals l) (behind (through_code R T k τ).body) (at_ret _ _) $ sets ! (of_opd ! (get ! refl)) refl (tt, tt) $ sets ! (of_opd ! (get ! refl)) refl (tt, record { fits = are.0.1 }) $ sets ! (of_opd ! (get ! refl)) refl (tt, (tt, (record { fits = are.1.0.0.1.0 }, tt))) $
       sets ! (addr ! (from ! (fld ! refl (hop ! (look_in_at ! 4 (sub ! 0 refl (whole !))) (stop !))))) refl (tt, tt) $ sets ! (agg ! (and_then ! (get ! refl) (and_then ! (get_in ! (fld ! refl (stop !)) (sub ! 1 refl (whole !))) (no_more !)))) refl (tt, (tt, (record { fits = are.1.1.0.0.1.0 }, tt))) $
-      calls_lent 𝓛 R x 2 O.params O.kept κs qs a.1 (words R O Y κs a.1) (Told R O Y κs a.1 x) b o ! (framed 𝓤 𝓛.H 𝓜 𝓣) (enters 𝓤 𝓛.H 𝓜 𝓣 _) (flat (types_at O.params κs) (words R O Y κs a.1)) G met z (λ α δ. refl) (λ α δ. id⊢ 𝓤 _) (λ α δ v. id⊢ 𝓤 _) (and_then ! (get ! refl) (and_then ! (get ! refl) (and_then ! (get ! refl) (and_then ! (get ! refl) (no_more !))))) (λ v u w is.
-      lands_as ! refl refl ((sint_Lawful 𝓛 w64).typed u _ is).0 $ returns ! (look_at ! 0 refl) $ free_all ! refl $ by ! (leaves R O Y κs qs a x b o v u w))))
+      calls_lent 𝓛 R x 2 O.params O.kept κs qs a.1 (words R O Y κs a.1) (Told R O Y κs a.1 x) b o ! (framed 𝓤 𝓛.H 𝓜 𝓣) (enters 𝓤 𝓛.H 𝓜 𝓣 _) (flat (types_at O.params κs) (words R O Y κs a.1)) _ met (λ α δ. (((α ∷ [], κs), (full_share, qs), tt, (record { ref_ptr = (b, o); ghost_name = δ; now = x }, a.1), (vptr b o ∷ [], words R O Y κs a.1)), tt)) (λ α δ. refl) (λ α δ. id⊢ 𝓤 _) (λ α δ v. id⊢ 𝓤 _) (and_then ! (get ! refl) (and_then ! (get ! refl) (and_then ! (get ! refl) (and_then ! (get ! refl) (no_more !))))) (λ v u w is.
+      lands_as ! refl refl ((sint_Lawful 𝓛 w64).typed u _ is).0 $ returns ! (look_at ! 0 refl) $ free_all ! refl $ by ! (ends_at 𝓛 (exported R O) (stayed R O Y) (exported_says R O Y 𝓛) (start R O Y κs qs a x (block_ptr b o)) v u (tt, w) (tt, (tt, (tt, (tt, tt))))))))
 
   pub lends_both : (R R' : RattleType) (T T' : Ty) (name k : Callee) (Says : R.Denot → R'.Denot → List ℕ → ℤ → R.Denot → R'.Denot → Type 0) → Closed 𝓤 𝓛.H 𝓣.C 𝓣.Λ name (both_code R R' T T' k)
       → Meets 𝓛 (called_both R R').signature (𝓣.C k) (closing 𝓛 (called_both R R') (called_both_says R R' Says 𝓛)) → Meets 𝓛 (exported_both R R').signature (𝓣.C name) (closing 𝓛 (exported_both R R') (exported_both_says R R' Says 𝓛))
@@ -374,8 +315,7 @@ module _ {M : Type 1} {𝓤 : Ura M} (𝓛 : Logic 𝓤) (𝓜 : Model 𝓤 𝓛
       let S = exported_both R R' in let S' = called_both R R' in let c = exported_both_says R R' Says 𝓛 in let code = both_code R R' T T' k in
       let G = triple_of 𝓛 S'.signature (closing 𝓛 S' (called_both_says R R' Says 𝓛)) in
       let stayed : Stays S.signature.params S.kept = (stay_dropped _ yes, (stay_dropped _ yes, (stay_dropped _ yes, tt))) in let W = walk_of 𝓛 S stayed c in
-      proved 𝓛 S stayed c 𝓜 𝓡 (Goes-dropped 𝓛 1 (plain (λ _. RawPtr)) yes (λ κs x w. refl), (Goes-dropped 𝓛 1 (shr_slice 0 tt (λ _. u8)) yes (λ κs x w. refl), (Goes-dropped 𝓛 1 (plain (λ _. RawPtr)) yes (λ κs x w. refl), tt)))
-      name code closed
+      proved 𝓛 S stayed c 𝓜 𝓡 (Goes-dropped 𝓛 1 (plain (λ _. RawPtr)) yes (λ κs x w. refl), (Goes-dropped 𝓛 1 (shr_slice 0 tt (λ _. u8)) yes (λ κs x w. refl), (Goes-dropped 𝓛 1 (plain (λ _. RawPtr)) yes (λ κs x w. refl), tt))) name code closed
       (λ κs. (rawptr_vals, (shr_slice_vals, (rawptr_vals, tt)))) (λ κs. (rawptr_Tells, (shr_slice_Tells (named 0) κs.0 u8, (rawptr_Tells, tt)))) (λ κs qs bounds a x are.
       let κ = κs.0 in let q = qs.0 in let s = a.1.0 in let ss = shr_slice_vals s in
       let y : Ptr → Ptr → W.Ghost = λ p r. ((κs, qs, bounds, (p, (s, (r, tt))), (rawptr_vals p, (ss, (rawptr_vals r, tt)))), x) in
@@ -388,22 +328,15 @@ module _ {M : Type 1} {𝓤 : Ura M} (𝓛 : Logic 𝓤) (𝓜 : Model 𝓤 𝓛
       regoal ! (λ p. prop (WpFn 𝓤 𝓛.H 𝓣.C 𝓣.Λ code (rawptr_vals (block_ptr b o) ++ (ss ++ (rawptr_vals p ++ []))) (W.post (y (block_ptr b o) p)))) e₂ refl $ move ! (1 ∷ []) $
       enter ! _ _ _ _ _ $ alloc_all ! (λ l. pass_all ! refl ((tt, tt), ((tt, (tt, (record { fits = are.1.0.0.1.0 }, tt))), ((tt, tt), tt))) $
       first ! $ blocks ! $ sets ! (of_opd ! (get ! refl)) refl (tt, tt) $ sets ! (of_opd ! (get ! refl)) refl (tt, tt) $ sets_last ! (addr ! (through ! refl (stop !))) refl (tt, tt) $
-      exec ! 𝓣.C 𝓣.Λ (env code.locals l) (both_rest R R' T T' k) (at_ret (env code.locals l) (W.post (y (block_ptr b o) (block_ptr d i)))) $
-      sets ! (of_opd ! (get ! refl)) refl (tt, tt) $
-      sets ! (of_opd ! (get ! refl)) refl (tt, (tt, (record { fits = are.1.0.0.1.0 }, tt))) $
+      exec ! 𝓣.C 𝓣.Λ (env code.locals l) (behind code.body) (at_ret (env code.locals l) (W.post (y (block_ptr b o) (block_ptr d i)))) $ sets ! (of_opd ! (get ! refl)) refl (tt, tt) $ sets ! (of_opd ! (get ! refl)) refl (tt, (tt, (record { fits = are.1.0.0.1.0 }, tt))) $
       first ! $ blocks ! $ sets ! (of_opd ! (get ! refl)) refl (tt, tt) $ sets ! (of_opd ! (get ! refl)) refl (tt, tt) $ sets_last ! (addr ! (through ! refl (stop !))) refl (tt, tt) $
-      exec ! 𝓣.C 𝓣.Λ (env code.locals l) (noted_rest R R' T T' k) (at_ret (env code.locals l) (W.post (y (block_ptr b o) (block_ptr d i)))) $
-      sets ! (of_opd ! (get ! refl)) refl (tt, tt) $
+      exec ! 𝓣.C 𝓣.Λ (env code.locals l) (behind (behind (behind (behind code.body)))) (at_ret (env code.locals l) (W.post (y (block_ptr b o) (block_ptr d i)))) $ sets ! (of_opd ! (get ! refl)) refl (tt, tt) $
       -- each is lent for a new lifetime
       lft_new ! tt (λ α. move ! (1 ∷ []) $
-      use1 𝓛 (later (some (λ (δ : GName). ‵ ((MutRef (named 0) (α ∷ []) R).own_val (record { ref_ptr = (b, o); ghost_name = δ; now = x.0 }) (vptr b o ∷ [])) ⊛ ‵ (flent (α ∷ []) (Stored (mem R) b o δ)))))
-      (lends_ref 𝓛 R (named 0) (α ∷ []) x.0 b o) $ await ! tt $ pick ! (λ δ. split ! $
+      use1 𝓛 (later (some (λ (δ : GName). ‵ ((MutRef (named 0) (α ∷ []) R).own_val (record { ref_ptr = (b, o); ghost_name = δ; now = x.0 }) (vptr b o ∷ [])) ⊛ ‵ (flent (α ∷ []) (Stored (mem R) b o δ))))) (lends_ref 𝓛 R (named 0) (α ∷ []) x.0 b o) $ await ! tt $ pick ! (λ δ. split ! $
       lft_new ! tt (λ β. move ! (4 ∷ []) $
-      use1 𝓛 (later (some (λ (ε : GName). ‵ ((MutRef (named 0) (β ∷ []) R').own_val (record { ref_ptr = (d, i); ghost_name = ε; now = x.1 }) (vptr d i ∷ [])) ⊛ ‵ (flent (β ∷ []) (Stored (mem R') d i ε)))))
-      (lends_ref 𝓛 R' (named 0) (β ∷ []) x.1 d i) $ await ! tt $ pick ! (λ ε. split ! $
-      let r : MutBor R.Denot = record { ref_ptr = (b, o); ghost_name = δ; now = x.0 } in
-      let t : MutBor R'.Denot = record { ref_ptr = (d, i); ghost_name = ε; now = x.1 } in
-      let z : G.Ghost = (((α ∷ [], (κ, (β ∷ [], tt))), (full_share, (q, (full_share, tt))), tt, (r, (s, (t, tt))), (vptr b o ∷ [], (ss, (vptr d i ∷ [], tt)))), tt) in
+      use1 𝓛 (later (some (λ (ε : GName). ‵ ((MutRef (named 0) (β ∷ []) R').own_val (record { ref_ptr = (d, i); ghost_name = ε; now = x.1 }) (vptr d i ∷ [])) ⊛ ‵ (flent (β ∷ []) (Stored (mem R') d i ε))))) (lends_ref 𝓛 R' (named 0) (β ∷ []) x.1 d i) $ await ! tt $ pick ! (λ ε. split ! $
+      let z : G.Ghost = (((α ∷ [], (κ, (β ∷ [], tt))), (full_share, (q, (full_share, tt))), tt, (record { ref_ptr = (b, o); ghost_name = δ; now = x.0 }, (s, (record { ref_ptr = (d, i); ghost_name = ε; now = x.1 }, tt))), (vptr b o ∷ [], (ss, (vptr d i ∷ [], tt)))), tt) in
       -- [the note's reference; its loan; β; the session's reference; its loan; α; the slice; its token]
       nothing ! $ move ! (1 ∷ []) $ join ! $ move ! (6 ∷ []) $ join ! $ move ! (3 ∷ []) $ join ! $
       nothing ! $ move ! (3 ∷ []) $ join ! $ move ! (5 ∷ []) $ join ! $ move ! (4 ∷ []) $ join ! $ join ! $ nothing ! $ move ! (1 ∷ 0 ∷ []) $ use2 𝓛 (raw (G.pre z)) (id⊢ 𝓤 _) $
@@ -418,31 +351,18 @@ module _ {M : Type 1} {𝓤 : Ura M} (𝓛 : Logic 𝓤) (𝓜 : Model 𝓤 𝓛
       move ! (2 ∷ []) $ fsplit ! $ move ! (1 ∷ []) $ fsplit ! $ fsplit ! $
       move ! (8 ∷ 11 ∷ 0 ∷ []) $ use3 𝓛 (later (‵ (part_at R' full_share ws.1.1.0 d i))) (ref_back 𝓛 R' (β ∷ []) ε ws.1.1.0 d i) $ await ! tt $
       returns ! (look_at ! 0 refl) $ free_all ! refl $ keep ! (6 ∷ 7 ∷ 8 ∷ 9 ∷ 4 ∷ 0 ∷ []) $ heard ! (Says x.0 x.1 s.now u ws.0 ws.1.1.0) (λ says_so.
-      move ! (2 ∷ 1 ∷ []) $ join ! $ move ! (1 ∷ []) $
-      suffices ! _ (ends_at 𝓛 S stayed c (y (block_ptr b o) (block_ptr d i)) v u (tt, (tt, (tt, tt))) (tt, (tt, (tt, tt)))) $
+      move ! (2 ∷ 1 ∷ []) $ join ! $ move ! (1 ∷ []) $ suffices ! _ (ends_at 𝓛 S stayed c (y (block_ptr b o) (block_ptr d i)) v u (tt, (tt, (tt, tt))) (tt, (tt, (tt, tt)))) $
       nothing ! $ nothing ! $ join ! $ nothing ! $ join ! $ nothing ! $ join ! $ move ! (2 ∷ 0 ∷ 1 ∷ []) $ group ! 3 $ frame ! $
-      show ! (λ (m : R.Denot × R'.Denot). sep 𝓤 (sem 𝓛 (lies_at R full_share (block_ptr b o) m.0)) (sep 𝓤 (sem 𝓛 (lies_at R' full_share (block_ptr d i) m.1)) (fact 𝓤 (Says x.0 x.1 s.now u m.0 m.1)))) (ws.0, ws.1.1.0) $ frame ! $ says ! says_so $ done !)))))))))))))
+      show ! (λ (m : R.Denot × R'.Denot). both_lie R R' 𝓛 (block_ptr b o) (block_ptr d i) m (fact 𝓤 (Says x.0 x.1 s.now u m.0 m.1))) (ws.0, ws.1.1.0) $ frame ! $ says ! says_so $ done !)))))))))))))
 
-  abbrev stays : Stays ending.signature.params ending.kept
-  stays = (stay_dropped _ yes, tt)
-
-  -- what the callee is handed, and what it gives
-  abbrev Taken : (R : RattleType) → R.Denot → Val → SProp 𝓤
-  Taken R x v = sep 𝓤 (sep 𝓤 (sem 𝓛 ftrue) (sem 𝓛 (fsep (R.own_val x (v ∷ [])) ftrue))) (emp 𝓤)
-
-  abbrev Ended_by : (rest : Unit {0} → SProp 𝓤) → Val → SProp 𝓤
-  Ended_by rest u = ex 𝓤 (λ (r : Unit {0}). sep 𝓤 (sep 𝓤 (sem 𝓛 ftrue) (sem 𝓛 (unit.own_val r (u ∷ [])))) (rest r))
-
-  pub ends : (R : RattleType) (T : Ty) (name k : Callee) (G : Contract 𝓤) → One R → ((x : R.Denot) (v : Val) → Is R x (v ∷ []) → Holds (has_ty T v) × WT v)
-      → Closed 𝓤 𝓛.H 𝓣.C 𝓣.Λ name (ending_code R T k) → Triple 𝓤 (𝓣.C k) G
-      → (z : (x : R.Denot) (v : Val) → G.Ghost) → ((x : R.Denot) (v : Val) → G.args (z x v) ≡ v ∷ [])
-      → ((x : R.Denot) (v : Val) → ent 𝓤 (Taken R x v) (G.pre (z x v))) → (rest : R.Denot → Unit {0} → SProp 𝓤) → ((x : R.Denot) (v u : Val) → ent 𝓤 (G.post (z x v) u) (𝓛.H.⇛ (Ended_by (rest x) u)))
-      → Meets 𝓛 ending.signature (𝓣.C name) (closing 𝓛 ending (ending_says 𝓛 R))
-  ends R T name k G one typed_as closed met z args takes rest gives =
-      let c = ending_says 𝓛 R in let W = walk_of 𝓛 ending stays c in
-      proved 𝓛 ending stays c 𝓜 𝓡 (Goes-dropped 𝓛 0 (plain (λ _. RawPtr)) yes (λ κs x w. refl), tt) name (ending_code R T k) closed (λ κs. (rawptr_vals, tt)) (λ κs. (rawptr_Tells, tt)) (λ κs qs bounds a x are.
+  pub ends : (R : RattleType) (T : Ty) (name k : Callee) → One R → ((x : R.Denot) (v : Val) → Is R x (v ∷ []) → Holds (has_ty T v) × WT v) → Closed 𝓤 𝓛.H 𝓣.C 𝓣.Λ name (ending_code R T k)
+      → Meets 𝓛 (ended R).signature (𝓣.C k) (closing 𝓛 (ended R) (ended_says 𝓛 R)) → Meets 𝓛 (ended RawPtr).signature (𝓣.C name) (closing 𝓛 (ended RawPtr) (ending_says 𝓛 R))
+  ends R T name k one typed_as closed met =
+      let S = ended RawPtr in let c = ending_says 𝓛 R in let stays : Stays S.signature.params S.kept = (stay_dropped _ yes, tt) in let W = walk_of 𝓛 S stays c in
+      let s = closing 𝓛 (ended R) (ended_says 𝓛 R) in let G = triple_of 𝓛 (ended R).signature s in
+      proved 𝓛 S stays c 𝓜 𝓡 (Goes-dropped 𝓛 0 (plain (λ _. RawPtr)) yes (λ κs x w. refl), tt) name (ending_code R T k) closed (λ κs. (rawptr_vals, tt)) (λ κs. (rawptr_Tells, tt)) (λ κs qs bounds a x are.
       let y : Ptr → W.Ghost = λ p. ((κs, qs, bounds, (p, tt), (rawptr_vals p, tt)), x) in
-      qed 𝓛 (raw (on_entry 𝓛 ending.signature κs qs a (y a.0).0.4) ∷ ‵ (lies_at R full_share a.0 x) ∷ []) ∵ drop ! $
+      qed 𝓛 (raw (on_entry 𝓛 S.signature κs qs a (y a.0).0.4) ∷ ‵ (lies_at R full_share a.0 x) ∷ []) ∵ drop ! $
       in_a_block ! a.0 (λ p. lies_at R full_share p x) (id⊢ 𝓤 _) (λ b o e.
       regoal ! (λ p. prop (WpFn 𝓤 𝓛.H 𝓣.C 𝓣.Λ (ending_code R T k) (rawptr_vals p ++ []) (W.post (y p)))) e refl $
       use1 𝓛 (some (λ (v : Val). ‵ (fat full_share (lone R.mir) b o v) ⊛ ‵ (R.own_val x (v ∷ [])))) (part_out 𝓛 R one full_share x b o) $ pick ! (λ v. split ! $
@@ -451,13 +371,14 @@ module _ {M : Type 1} {𝓤 : Ura M} (𝓛 : Logic 𝓤) (𝓜 : Model 𝓤 𝓛
       enter ! _ _ _ _ _ $ alloc_all ! (λ l. pass_all ! refl ((tt, tt), tt) $
       first ! $ blocks ! $ sets ! (of_opd ! (get ! refl)) refl (tt, tt) $ sets ! (of_opd ! (get ! refl)) refl (tt, tt) $
       sets_last ! (of_opd ! (load ! (through ! refl (stop !)) (look ! 0 refl))) refl (typed_as x v is) $
-      exec ! 𝓣.C 𝓣.Λ (env (ending_code R T k).locals l) (ending_rest R T k) (at_ret _ (W.post (y (block_ptr b o)))) $
+      exec ! 𝓣.C 𝓣.Λ (env (ending_code R T k).locals l) (behind (ending_code R T k).body) (at_ret _ (W.post (y (block_ptr b o)))) $
       sets ! (of_opd ! (get ! refl)) refl (typed_as x v is) $ forget ! 0 refl $
-      nothing ! $ move ! (2 ∷ []) $ fjoin ! $ nothing ! $ join ! $ nothing ! $ move ! (1 ∷ 0 ∷ []) $ use2 𝓛 (raw (G.pre (z x v))) (takes x v) $
-      calls_from ! (framed 𝓤 𝓛.H 𝓜 𝓣) (raw (G.pre (z x v))) (v ∷ []) (G.post (z x v)) (subst (λ (ns : List Val). ent 𝓤 (G.pre (z x v)) (𝓣.C k ns (G.post (z x v)))) (args x v) (met (z x v))) (and_then ! (get ! refl) (no_more !)) (λ u.
-      use1 𝓛 (later (some (λ (r : Unit {0}). (‵ ftrue ⊛ ‵ (unit.own_val r (u ∷ []))) ⊛ raw (rest x r)))) (gives x v u) $
+      let z : G.Ghost = ((tt, tt, tt, (x, tt), (v ∷ [], tt)), tt) in
+      nothing ! $ move ! (2 ∷ []) $ fjoin ! $ nothing ! $ join ! $ nothing ! $ move ! (1 ∷ 0 ∷ []) $ use2 𝓛 (raw (G.pre z)) (id⊢ 𝓤 _) $
+      calls_at ! (framed 𝓤 𝓛.H 𝓜 𝓣) G met z (and_then ! (get ! refl) (no_more !)) (λ u.
+      use1 𝓛 (later (some (λ (r : Unit {0}). (‵ ftrue ⊛ ‵ (unit.own_val r (u ∷ []))) ⊛ raw ((s tt (x, tt)).ensures tt r)))) (id⊢ 𝓤 _) $
       await ! tt $ pick ! (λ r. split ! $ split ! $ drop ! $ feq_l ! (λ is_unit. lands_as ! (ap only is_unit) refl (tt, tt) $
       sets ! (of_opd ! (unit_lit !)) refl (tt, tt) $
       returns ! (look_at ! 0 refl) $ free_all ! refl $ keep ! (1 ∷ []) $
-      suffices ! _ (ends_at 𝓛 ending stays c (y (block_ptr b o)) vunit tt (tt, tt) (tt, tt)) $
+      suffices ! _ (ends_at 𝓛 S stays c (y (block_ptr b o)) vunit tt (tt, tt) (tt, tt)) $
       feq_i ! _ (vunit ∷ []) _ refl $ nothing ! $ nothing ! $ join ! $ nothing ! $ group ! 3 $ done !))))))))

@@ -1,17 +1,23 @@
 -- The machine value of a `Made`, put together and taken apart, and what it hands to C. Assumes `Logic`.
 use Rattle.std.proofs.Common.{◌≡◌, ◌⊎◌, inl, inr, ℕ, ℤ, List, [], lit<, ◌∷◌, ◌++◌, refl, sym, ap, subst, ◌∙◌, w64}
 use seplogic.Ra.Ura.{Ura}
-use base.Fml.{ftrue}
+use base.Fraction.{full_share}
+use base.Fml.{Lft, Share, ftrue, flft, fobs, fauth, fobor}
 use lib.Dec.{T}
+use mir.Syntax.{Place, Rv as RValue, Body as Code, ty_ptr, named, seq, assign}
 use mir.Val.{Val, WT, vint, vstruct, vcons, vnil, of_list, of_z, has_ty}
+use prog.Wp.{Env, Calls, Loops}
 use types.Logic.{Logic}
-use types.Kit.{Item, Goal, Seq, Step, step, ‵, ◌$◌, move, drop, fsplit, fjoin, fpick, fpack, feq_i, feq_l, rewrite}
+use types.Kit.{Item, Goal, Post, Seq, Step, step, runs, ‵, ◌$◌, move, drop, fsplit, fsplit3, fjoin, fpick, fpack, feq_i, feq_l, rewrite}
+use types.Run.{Rv, Finds, store, assigns}
+use types.SemTy.{Body}
 use denote.Builtin.{i64, RawPtr}
 use denote.RattleType.{RattleType, Valss}
 use denote.Laws.{Is, shows}
-use denote.Memory.{lone}
-use denote.RawPtr.{Ptr, block_ptr, null_ptr, ptr_val}
-use denote.Steps.{nothing, peeks}
+use denote.Memory.{lone, mem, cell_at}
+use denote.RawPtr.{Ptr, block_ptr, null_ptr, ptr_val, rawptr_Lawful}
+use denote.Ref.{MutBor, MutRef, mut_at, mut_vals, at_last}
+use denote.Steps.{nothing, peeks, opens, closes}
 use denote.Struct.Owning.{shape}
 use denote.Struct.Struct.{within}
 use Rattle.std.specs.Box.Ownership.{box_owns}
@@ -49,8 +55,29 @@ module _ (R : RattleType) {M : Type 1} {𝓤 : Ura M} {𝓛 : Logic 𝓤} {K : T
       peeks t i64 (Is i64) (shows 𝓛 i64) m.answer vss.1.0 (λ is. rewrite t 0 (λ (ns : List Val). ‵ (i64.own_val m.answer ns)) is.0 refl $ move t (1 ∷ []) $ drop t $
       k (refl, is.1) (ev ∙ (λ j. vstruct (of_list (ep j ++ (is.0 j ++ []))) ∷ []))))))
 
--- unless it is NULL, the value that was made lies there
-pub settled : (R : RattleType) (p : Ptr) (o : Option R.Denot) (y : R.Denot) → ((IsSomewhere p × (o ≡ Some y)) ⊎ ((p ≡ null_ptr) × (o ≡ None)))
-    → owned_if_made R p o ≡ handed R p y
-settled R p o y (inl is) = ap (owned_if_made R p) is.1 ∙ subst (λ (q : Ptr). box_owns chunk R q y ≡ if_non_null q (box_owns chunk R q y)) (sym is.0.2) refl
-settled R p o y (inr is) = ap (owned_if_made R p) is.1 ∙ subst (λ (q : Ptr). ftrue ≡ if_non_null q (box_owns chunk R q y)) (sym is.0) refl
+-- what there is while a reference to a pointer is open
+abbrev opened : {M : Type 1} {𝓤 : Ura M} → Lft → Share → MutBor Ptr → List (Item 𝓤) → List (Item 𝓤)
+opened κ s r Γ = ‵ (cell_at full_share RawPtr.mir (ptr_val r.now ∷ []) r.ref_ptr.0 r.ref_ptr.1) ∷ ‵ (fobor κ s (Body (mem RawPtr) r.ref_ptr.0 r.ref_ptr.1 r.ghost_name)) ∷ ‵ (fobs r.ghost_name (RawPtr.coded.code r.now)) ∷ ‵ (fauth r.ghost_name (RawPtr.coded.code r.now)) ∷ ‵ (mut_at r (mut_vals r)) ∷ Γ
+
+-- an address is written through it
+module _ {M : Type 1} {𝓤 : Ura M} {𝓛 : Logic 𝓤} {K : Type 0} {Γ : List (Item 𝓤)} {E : Env 𝓤 𝓛.H} {C : Calls 𝓤 𝓛.H} {Λ : Loops 𝓤 𝓛.H} {q : Post 𝓤 𝓛.H} {place : Place} {rv : RValue} {rest : Code} where
+  pub writes : K → {κ : Lft} {s : Share} (r : MutBor Ptr) (p : Ptr) → Rv K 𝓛 (opened κ s r Γ) E rv (ptr_val p) → Finds K 𝓛 (opened κ s r Γ) E place (ty_ptr, r.ref_ptr.0, r.ref_ptr.1)
+      → Step K 𝓛 (‵ ((MutRef (named 0) κ RawPtr).own_val (at_last r p) (mut_vals r)) ∷ ‵ (flft κ s) ∷ Γ) (runs C Λ E rest q) (‵ ((MutRef (named 0) κ RawPtr).own_val r (mut_vals r)) ∷ ‵ (flft κ s) ∷ Γ) (runs C Λ E (seq (assign place rv) rest) q)
+  writes t r p value found = let b = r.ref_ptr.0 in let o = r.ref_ptr.1 in step (λ k.
+      fsplit3 t $ move t (1 ∷ 2 ∷ 3 ∷ []) $ opens t tt RawPtr b o (λ us. move t (1 ∷ []) $ feq_l t (λ was. rewrite t 0 (λ (ws : List Val). ‵ (cell_at full_share RawPtr.mir ws b o)) was refl $
+      assigns t value found (store t 0 refl ((rawptr_Lawful 𝓛).typed p (ptr_val p ∷ []) refl).0) $ feq_i t (List Val) (ptr_val p ∷ []) (ptr_val p ∷ []) refl $ move t (1 ∷ 0 ∷ []) $ closes t tt RawPtr p (ptr_val p ∷ []) b o $
+      fjoin t $ move t (2 ∷ 0 ∷ []) $ fjoin t $ k)))
+
+-- `Made` and `Refused` are what is said of an answer and an address where a y was made, and where not.
+module _ (R : RattleType) (Made Refused : ℤ → Ptr → Type 0) (y : R.Denot) where
+  abbrev pub Told : (made.the_row R).Denot → Type 0
+  Told m = (Made m.answer m.at × (m.value ≡ Some y)) ⊎ (Refused m.answer m.at × (m.value ≡ None))
+
+  pub said : (m : (made.the_row R).Denot) → Told m → Made m.answer m.at ⊎ Refused m.answer m.at
+  said m (inl is) = inl is.0
+  said m (inr is) = inr is.0
+
+  -- unless it is NULL, the value that was made lies there
+  pub settled : (m : (made.the_row R).Denot) → (Made m.answer m.at → IsSomewhere m.at) → (Refused m.answer m.at → m.at ≡ null_ptr) → Told m → owned_if_made R m.at m.value ≡ handed R m.at y
+  settled m somewhere null (inl is) = ap (owned_if_made R m.at) is.1 ∙ subst (λ (p : Ptr). box_owns chunk R p y ≡ if_non_null p (box_owns chunk R p y)) (sym (somewhere is.0).2) refl
+  settled m somewhere null (inr is) = ap (owned_if_made R m.at) is.1 ∙ subst (λ (p : Ptr). ftrue ≡ if_non_null p (box_owns chunk R p y)) (sym (null is.0)) refl

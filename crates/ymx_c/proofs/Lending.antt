@@ -1,5 +1,5 @@
 -- How an export calls its namesake: what lies at the pointer is lent for a lifetime made for the call, and comes back. Assumes `Logic`.
-use Rattle.std.proofs.Common.{◌≡◌, ℕ, ℤ, List, [], ◌∷◌, refl, ap, subst}
+use Rattle.std.proofs.Common.{◌≡◌, ℕ, ℤ, List, [], ◌∷◌, refl, subst}
 use seplogic.Ra.Ura.{Ura}
 use base.Fraction.{full_share}
 use base.Logic.{SProp, ent, emp, ex, id⊢, sep}
@@ -29,29 +29,16 @@ use denote.Triple.Call.{calls_from}
 use denote.Triple.End.{Kepts, Fins, lasts_of}
 use denote.Triple.Statement.{Contract, Triple, FmF}
 use denote.Triple.Table.{Enters}
-use denote.Triple.Walked.{says, Stays, AllGo, fits_of, has_of}
+use denote.Triple.Walked.{says, Stays, AllGo}
 
 -- of each parameter an export has at exit what its contract says of it, and no more
 abbrev pub all_left : {n : ℕ} (ss : List (Slot n)) (ks : Kepts ss) → Stays ss ks
 all_left [] ks = tt
 all_left (s ∷ ss) ks = (record { fit = λ κs x f. Unit {0}; has = λ κs x f vs. left ((s.row κs).exit ks.0) x f }, all_left ss ks.1)
 
-pub all_fit : {n : ℕ} (κs : Lfts n) (ss : List (Slot n)) (ks : Kepts ss) (a : Denots (types_at ss κs)) (ws : Fins κs ss ks a) → fits_of κs ss ks (all_left ss ks) a ws
-all_fit κs [] ks a ws = tt
-all_fit κs (s ∷ ss) ks a ws = (tt, all_fit κs ss ks.1 a.1 ws.1)
-
 pub all_go : {M : Type 1} {𝓤 : Ura M} (𝓛 : Logic 𝓤) (n : ℕ) (ss : List (Slot n)) (ks : Kepts ss) → AllGo 𝓛 n ss ks (all_left ss ks)
 all_go 𝓛 n [] ks = tt
 all_go 𝓛 n (s ∷ ss) ks = ((λ κs x f vs ok. 𝓛.laws.⇛_intro _), all_go 𝓛 n ss ks.1)
-
-pub had_is_said : {n : ℕ} (κs : Lfts n) (ss : List (Slot n)) (ks : Kepts ss) (a : Denots (types_at ss κs)) (ws : Fins κs ss ks a) (vs : Valss (types_at ss κs)) → lasts_of κs ss ks a ws ≡ has_of κs ss ks (all_left ss ks) a ws vs
-had_is_said κs [] ks a ws vs = refl
-had_is_said κs (s ∷ ss) ks a ws vs = ap (fsep (left ((s.row κs).exit ks.0) a.0 ws.0)) (had_is_said κs ss ks.1 a.1 ws.1 vs.1)
-
--- every parameter but the first
-abbrev pub behind : {n : ℕ} → List (Slot n) → List (Slot n)
-behind [] = []
-behind (s ∷ ss) = ss
 
 -- The value x of R lies at a pointer; the other parameters are `others`, with the machine values vs. `Says` is what the callee's
 -- contract says of its answer, of what lies there then, and of the others' last values.

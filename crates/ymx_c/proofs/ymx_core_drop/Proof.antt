@@ -1,7 +1,5 @@
 -- `ymx_core_drop` meets its contract: the session is moved out of what lies at the pointer, and `face::end` drops it.
 use Rattle.std.proofs.Common.{◌∷◌, [], refl}
-use base.Logic.{id⊢}
-use denote.Triple.Spec.{triple_of}
 use Rattle.ymx_c.specs.contracts.handle.Handle.{the_row}
 use Rattle.ymx_c.proofs.handle.Handle.TheLaws.{the_row_laws}
 use Rattle.ymx_c.proofs.Exports.{ends}
@@ -13,6 +11,5 @@ use Rattle.ymx_c.proofs.face.end.Met.{met}
 
 pub ymx_core_drop_spec : {M : Type 1} → statement M
 ymx_core_drop_spec 𝓤 𝓛 𝓜 𝓡 wired =
-    ends 𝓛 𝓜 𝓡 the_row _ f.Key.name g.Key.name (triple_of 𝓛 g.signature (g.spec 𝓛 𝓜.mem 𝓡.returns)) refl (λ x v is. ((the_row_laws.lawful 𝓛).typed x (v ∷ []) is).0)
+    ends 𝓛 𝓜 𝓡 the_row _ f.Key.name g.Key.name refl (λ x v is. ((the_row_laws.lawful 𝓛).typed x (v ∷ []) is).0)
     (code.unfolded 𝓤 𝓛.H 𝓜 𝓡 wired) (met 𝓤 𝓛 𝓜 𝓡 (code.calls-ymx_c::face::end 𝓡.env wired))
-    (λ x v. ((tt, tt, tt, (x, tt), (v ∷ [], tt)), tt)) (λ x v. refl) (λ x v. id⊢ 𝓤 _) (λ x r. (g.spec 𝓛 𝓜.mem 𝓡.returns tt (x, tt)).ensures tt r) (λ x v u. id⊢ 𝓤 _)

@@ -1,37 +1,35 @@
 -- `ymx_core_touched_new` meets its contract: what `face::make_touched` made is taken apart, and its address is written.
-use Rattle.std.proofs.Common.{◌≡◌, ◌⊎◌, inl, inr, List, [], ◌∷◌, refl, ap, w64}
+use Rattle.std.proofs.Common.{◌⊎◌, List, [], ◌∷◌, refl, ap, w64}
 use Rattle.std.proofs.raw_atomic.Walks.{proved}
 use Rattle.std.proofs.alloc.Global.TheLaws as heap_laws
 use Rattle.std.specs.contracts.alloc.Global as heap
-use base.Fraction.{full_share}
 use base.Logic.{emp, id⊢}
 use base.Fml.{Fml, ftrue, flft}
 use mir.Syntax.{named}
 use mir.Val.{Val, of_z}
 use contract.Monad.{fact, fact_i}
 use contract.Running.{tables}
-use types.Kit.{‵, raw, ◌⊛◌, some, later, ◌$◌, ◌∵◌, !, qed, done, move, keep, drop, use0, use1, use2, split, join, fsplit3, feq_i, feq_l, pick, await, rewrite, suffices, group}
+use types.Kit.{‵, raw, ◌⊛◌, some, later, ◌$◌, ◌∵◌, !, qed, done, move, keep, drop, use0, use1, use2, split, join, pick, await, rewrite, suffices, group}
 use types.Part.{sub, whole}
-use types.Run.{enter, of_opd, fld, store, stop, no_more, and_then, assigns, returns}
+use types.Run.{enter, of_opd, fld, stop, no_more, and_then, returns}
 use types.ByLocal.{alloc_all, pass_all, free_all, look_at, get, get_in, through, sets, lands_as}
 use denote.Exit.{yes}
-use denote.Memory.{cell_at}
-use denote.RawPtr.{RawPtr, null_ptr, ptr_val, rawptr_Lawful}
+use denote.RawPtr.{RawPtr, ptr_val, rawptr_Lawful}
 use denote.Ref.{MutRef, mut_vals, mut_Tells}
 use denote.Signature.{plain}
 use denote.Signed.{sint_Lawful}
-use denote.Steps.{nothing, heard, opens, closes, only}
+use denote.Steps.{nothing, heard, only}
 use denote.Struct.Laws.{val, tells}
 use denote.Triple.Call.{calls_at}
 use denote.Triple.Clauses.{lasts}
 use denote.Triple.Spec.{triple_of}
 use denote.Triple.Table.{framed}
 use denote.Triple.Walked.{Stays, stay_dropped, Goes-dropped, stay_ref, Goes-ref, walk_of, ends_at}
-use Rattle.std.specs.Prelude.{Some, None, false}
+use Rattle.std.specs.Prelude.{false}
 use Rattle.ymx_session.specs.contracts.touched.Touched.{the_row}
 use Rattle.ymx_session.specs.Touched.{nothing_noted}
-use Rattle.ymx_c.specs.NewAnswers.{IsSomewhere, IsNoteMade, IsNoNote}
-use Rattle.ymx_c.proofs.Handing.{made_out, made_typed, number, settled}
+use Rattle.ymx_c.specs.NewAnswers.{IsNoteMade, IsNoNote}
+use Rattle.ymx_c.proofs.Handing.{made_out, made_typed, number, writes, Told, said, settled}
 use Rattle.ymx_c.specs.contracts.made.Made as made
 use Rattle.ymx_c.specs.contracts.ymx_core_touched_new as f
 use Rattle.ymx_c.proofs.ymx_core_touched_new.Statement.{statement}
@@ -41,18 +39,6 @@ use Rattle.ymx_c.proofs.face.make_touched.Met.{met}
 
 abbrev stayed : Stays f.ended.signature.params f.ended.kept
 stayed = (stay_dropped _ yes, (stay_ref (0 ∷ []) tt (plain (λ _. RawPtr)), tt))
-
--- what `face::make_touched` says
-abbrev Told : (made.the_row the_row).Denot → Type 0
-Told m = (IsNoteMade m.answer m.at × (m.value ≡ Some (nothing_noted false))) ⊎ (IsNoNote m.answer m.at × (m.value ≡ None))
-
-there : (m : (made.the_row the_row).Denot) → Told m → (IsSomewhere m.at × (m.value ≡ Some (nothing_noted false))) ⊎ ((m.at ≡ null_ptr) × (m.value ≡ None))
-there m (inl is) = inl (is.0.1, is.1)
-there m (inr is) = inr (is.0.1, is.1)
-
-said : (m : (made.the_row the_row).Denot) → Told m → IsNoteMade m.answer m.at ⊎ IsNoNote m.answer m.at
-said m (inl is) = inl is.0
-said m (inr is) = inr is.0
 
 abbrev spelled : (heap.the_row).Denot → List Val
 spelled a = val heap.the_type heap_laws.the_laws a ∷ []
@@ -75,17 +61,14 @@ ymx_core_touched_new_spec 𝓤 𝓛 𝓜 𝓡 wired =
     nothing ! $ move ! (3 ∷ 0 ∷ []) $ join ! $ nothing ! $ join ! $ nothing ! $ move ! (1 ∷ 0 ∷ []) $ use2 𝓛 (raw (G.pre z)) (id⊢ 𝓤 _) $
     enter ! _ _ _ _ _ $ alloc_all ! (λ l. pass_all ! refl (((heap_laws.the_row_laws.lawful 𝓛).typed a.0 _ are.0).0, ((tt, tt), tt)) $
     calls_at ! (framed 𝓤 𝓛.H 𝓜 𝓣) G (met 𝓤 𝓛 𝓜 𝓡 (code.calls-ymx_c::face::make_touched 𝓡.env wired)) z (and_then ! (get ! refl) (no_more !)) (λ v.
-    use1 𝓛 (later (some (λ (m : (made.the_row the_row).Denot). (‵ ftrue ⊛ ‵ ((made.the_row the_row).own_val m (v ∷ []))) ⊛ some (λ (ws : Unit {0} × Unit {0}). ‵ (lasts g.ended z.0.0 z.0.3 ws) ⊛ raw (fact 𝓤 (Told m)))))) (id⊢ 𝓤 _) $
-    await ! tt $ pick ! (λ m. split ! $ split ! $ drop ! $ move ! (1 ∷ []) $ pick ! (λ ws. split ! $ drop ! $ heard ! (Told m) (λ told. made_out the_row ! m (v ∷ []) (λ is e.
+    use1 𝓛 (later (some (λ (m : (made.the_row the_row).Denot). (‵ ftrue ⊛ ‵ ((made.the_row the_row).own_val m (v ∷ []))) ⊛ some (λ (ws : Unit {0} × Unit {0}). ‵ (lasts g.ended z.0.0 z.0.3 ws) ⊛ raw (fact 𝓤 (Told the_row IsNoteMade IsNoNote (nothing_noted false) m)))))) (id⊢ 𝓤 _) $
+    await ! tt $ pick ! (λ m. split ! $ split ! $ drop ! $ move ! (1 ∷ []) $ pick ! (λ ws. split ! $ drop ! $ heard ! (Told the_row IsNoteMade IsNoNote (nothing_noted false) m) (λ told. made_out the_row ! m (v ∷ []) (λ is e.
     let typed = ((sint_Lawful 𝓛 w64).typed m.answer _ is).0 in let pointer = ((rawptr_Lawful 𝓛).typed m.at (ptr_val m.at ∷ []) refl).0 in
     lands_as ! (ap only e) refl (made_typed the_row m.at (of_z w64 m.answer) typed.1) $
     sets ! (of_opd ! (get_in ! (fld ! refl (stop !)) (sub ! 0 refl (whole !)))) refl pointer $ sets ! (of_opd ! (get_in ! (fld ! refl (stop !)) (sub ! 1 refl (whole !)))) refl typed $ sets ! (of_opd ! (get ! refl)) refl pointer $
-    -- the address is written
-    move ! (2 ∷ []) $ fsplit3 ! $ move ! (1 ∷ 2 ∷ 6 ∷ []) $ opens ! tt RawPtr b o (λ us. move ! (1 ∷ []) $ feq_l ! (λ was. rewrite ! 0 (λ (ws : List Val). ‵ (cell_at full_share RawPtr.mir ws b o)) was refl $
-    assigns ! (of_opd ! (get ! refl)) (through ! refl (stop !)) (store ! 0 refl pointer) $ sets ! (of_opd ! (get ! refl)) refl typed $
-    feq_i ! (List Val) (ptr_val m.at ∷ []) (ptr_val m.at ∷ []) refl $ move ! (1 ∷ 0 ∷ []) $ closes ! tt RawPtr m.at (ptr_val m.at ∷ []) b o $
-    returns ! (look_at ! 0 refl) $ free_all ! refl $ keep ! (3 ∷ 0 ∷ 1 ∷ 2 ∷ 4 ∷ 5 ∷ []) $
+    move ! (2 ∷ 4 ∷ []) $ writes ! r m.at (of_opd ! (get ! refl)) (through ! refl (stop !)) $ sets ! (of_opd ! (get ! refl)) refl typed $
+    returns ! (look_at ! 0 refl) $ free_all ! refl $ keep ! (0 ∷ 1 ∷ 2 ∷ 3 ∷ []) $
     suffices ! _ (ends_at 𝓛 f.ended stayed c y (number m.answer) m.answer (tt, (m.at, tt)) (tt, (tt, tt))) $
-    group ! 3 $ nothing ! $ move ! (1 ∷ 0 ∷ []) $ join ! $ nothing ! $ join ! $ nothing ! $ move ! (2 ∷ 0 ∷ []) $ join ! $ group ! 3 $
-    move ! (1 ∷ []) $ rewrite ! 0 (λ (F : Fml). ‵ F) (settled the_row m.at m.value (nothing_noted false) (there m told)) refl $
-    use0 𝓛 (raw (fact 𝓤 (IsNoteMade m.answer m.at ⊎ IsNoNote m.answer m.at))) (fact_i 𝓤 (IsNoteMade m.answer m.at ⊎ IsNoNote m.answer m.at) (emp 𝓤) (said m told)) $ move ! (2 ∷ 0 ∷ 1 ∷ []) $ done !)))))))))
+    nothing ! $ move ! (1 ∷ 0 ∷ []) $ join ! $ nothing ! $ join ! $ nothing ! $ move ! (2 ∷ 0 ∷ []) $ join ! $ group ! 3 $
+    move ! (1 ∷ []) $ rewrite ! 0 (λ (F : Fml). ‵ F) (settled the_row IsNoteMade IsNoNote (nothing_noted false) m (λ is. is.1) (λ is. is.1) told) refl $
+    use0 𝓛 (raw (fact 𝓤 (IsNoteMade m.answer m.at ⊎ IsNoNote m.answer m.at))) (fact_i 𝓤 (IsNoteMade m.answer m.at ⊎ IsNoNote m.answer m.at) (emp 𝓤) (said the_row IsNoteMade IsNoNote (nothing_noted false) m told)) $ move ! (2 ∷ 0 ∷ 1 ∷ []) $ done !)))))))
