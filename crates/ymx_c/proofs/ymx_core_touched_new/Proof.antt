@@ -55,7 +55,7 @@ ymx_core_touched_new_spec 𝓤 𝓛 𝓜 𝓡 wired =
     let y : (walk_of 𝓛 f.ended stayed c).Ghost = ((κs, qs, bounds, a, (spelled a.0, (mut_vals r, tt))), x) in
     qed 𝓛 (((‵ (flft κ q) ⊛ ‵ ftrue) ⊛ (‵ ((heap.the_row).own_val a.0 (spelled a.0)) ⊛ ‵ ((MutRef (named 0) κ RawPtr).own_val r (mut_vals r)) ⊛ ‵ ftrue)) ∷ ‵ ftrue ∷ []) ∵
     split ! $ split ! $ move ! (2 ∷ []) $ split ! $ move ! (1 ∷ []) $ split ! $
-    -- [the reference; nothing; the numbers, the last one first; the allocator; the token; nothing]
+    -- [the reference; nothing; the allocator; the token; nothing]
     let G = triple_of 𝓛 g.signature (g.spec 𝓛 𝓜.mem 𝓡.returns) in
     let z : G.Ghost = ((tt, tt, tt, (a.0, tt), (spelled a.0, tt)), tt) in
     nothing ! $ move ! (3 ∷ 0 ∷ []) $ join ! $ nothing ! $ join ! $ nothing ! $ move ! (1 ∷ 0 ∷ []) $ use2 𝓛 (raw (G.pre z)) (id⊢ 𝓤 _) $
