@@ -84,6 +84,9 @@ handles_out_none a = record {
 pub reads_handled : (a b : Engine) (d : Seen) (n : ℕ) → HandlesIn false a b → ReadsWire a b d d n
 reads_handled a b d n x = record { events = x.events; happen = x.happen; own = x.own; came = []; gave = Consumes-nil d.left; fronts = subst (λ (v : List ℕ). FeedsFront v x.events) (sym (append-nil a.incoming)) x.fronts; from_wire = append-nil a.incoming ∙ x.from_wire; said_end = false; over = or_same d.over; fails = false; failed = or_same d.failed; lost = x.heard; outgoing = x.outgoing; had = refl; ended = refl; shut = refl; few = omega arith }
 
+pub flushes_to : (a b c : Engine) (d : Seen) (n : ℕ) → c ≡ b → FlushesWire a b d d n → FlushesWire a c d d n
+flushes_to a b c d n e x = subst (λ (v : Engine). FlushesWire a v d d n) (sym e) x
+
 pub flushes_handled : (a b : Engine) (d : Seen) (n : ℕ) → HandlesOut false a b → FlushesWire a b d d n
 flushes_handled a b d n x = record { events = x.events; happen = x.happen; own = x.own; sent = []; took = Appends-nil d.had; to_wire = x.to_wire; fails = false; failed = or_same d.failed; lost = x.heard; incoming = x.incoming; left = refl; over = refl; ended = refl; shut = refl; few = omega arith }
 

@@ -9,7 +9,7 @@ use Rattle.std.proofs.lemmas.List.Elements.{Contains-append_left, Contains-appen
 use Rattle.ymx_machine.proofs.Tests.{is_lt, both_of, or_true}
 use Rattle.ymx_engine.specs.declared.connections.Entry.{Entry}
 use Rattle.ymx_engine.specs.declared.connection.Connection.{Connection}
-use Rattle.ymx_engine.specs.Turns.{Turns, known_as, Awaits, AreListed, SameConnections, StaysOrAdds, AddsTurn, KeepsTurns, KeepsOthers}
+use Rattle.ymx_engine.specs.Turns.{Turns, known_as, Awaits, Attended, queue_mark, held_mark, AreListed, AreHeld, SameConnections, StaysOrAdds, AddsTurn, KeepsTurns, KeepsOthers, SameQueues}
 use Rattle.indexmap.specs.IndexMap.{insert_entry}
 use Rattle.std.proofs.lemmas.Bool.Decides.{nat_tests}
 use Rattle.ymx_engine.proofs.Running.{eq_ids, inserted}
@@ -49,9 +49,12 @@ listed_gone id old new f g all put = λ other e there marked. all other e (gone_
 
 -- ---- one more in a queue
 
-stays_or_adds : (id other : ℕ) (old new : List ℕ) → StaysOrAdds id old new → Contains old other → Contains new other
+pub stays_or_adds : (id other : ℕ) (old new : List ℕ) → StaysOrAdds id old new → Contains old other → Contains new other
 stays_or_adds id other old new (inl e) h = subst (λ (v : List ℕ). Contains v other) (sym e) h
 stays_or_adds id other old new (inr e) h = subst (λ (v : List ℕ). Contains v other) (sym e) (Contains-append_left old (id ∷ []) other h)
+
+pub adds_from : (id : ℕ) (a b c : List ℕ) → b ≡ a → StaysOrAdds id b c → StaysOrAdds id a c
+adds_from id a b c e h = subst (λ (v : List ℕ). StaysOrAdds id v c) e h
 
 stand_on : (id other : ℕ) (f g f2 g2 : List ℕ) → StaysOrAdds id f f2 → StaysOrAdds id g g2 → Stands f g other → Stands f2 g2 other
 stand_on id other f g f2 g2 x y (inl h) = inl (stays_or_adds id other f f2 x h)
@@ -82,6 +85,74 @@ pub room_busy : (a b : Bool) → (a && b) ≡ true → b ≡ true
 room_busy true b h = h
 room_busy false b h = let no : ⊥ = cc in absurd no
 
+-- ---- the first of a queue has its turn
+
+popped : (f rest : List ℕ) (id other : ℕ) → f ≡ id ∷ rest → nat_eq id other ≡ false → Contains f other → Contains rest other
+popped f rest id other e ne h = first (Contains-append_cases (id ∷ []) rest other (subst (λ (v : List ℕ). Contains v other) e h))
+  where
+    first : Contains (id ∷ []) other ⊎ Contains rest other → Contains rest other
+    first (inl (zero, within, same)) = let is : id ≡ other = same in let no : ⊥ = grind (arith, nat_tests) in absurd no
+    first (inl (suc k, within, same)) = let no : ⊥ = omega arith in absurd no
+    first (inr x) = x
+
+-- ---- who is held back
+
+held_at : (b : Bool) (id other : ℕ) (w e : Entry) (o p : Option Entry) (xs ys : List ℕ) → nat_eq id other ≡ b → p ≡ cond b (Some w) o → p ≡ Some e → e.is_held ≡ true →
+    (o ≡ Some e → Contains xs other) → (w.is_held ≡ true → Contains ys id) → (nat_eq id other ≡ false → Contains xs other → Contains ys other) → Contains ys other
+held_at true id other w e o p xs ys t h there marked before own rest =
+    let same : w ≡ e = some_is (sym h ∙ there) in
+    subst (λ (n : ℕ). Contains ys n) (sym (eq_ids id other t)) (own (ap (λ (v : Entry). v.is_held) same ∙ marked))
+held_at false id other w e o p xs ys t h there marked before own rest = rest t (before (sym h ∙ there))
+
+-- one entry was written, and those that are held back changed for it alone
+pub held_written : (id : ℕ) (w : Entry) (old new : List (ℕ × Entry)) (xs ys : List ℕ) → AreHeld old xs → Written id w old new → (w.is_held ≡ true → Contains ys id) →
+    ((other : ℕ) → nat_eq id other ≡ false → Contains xs other → Contains ys other) → AreHeld new ys
+held_written id w old new xs ys all put own rest = λ other e there marked.
+    held_at (nat_eq id other) id other w e (lookup (nat_eq other) old) (lookup (nat_eq other) new) xs ys refl (put other) there marked (λ h. all other e h marked) own (rest other)
+
+-- its mark stays
+pub held_kept : (id : ℕ) (w e : Entry) (old new : List (ℕ × Entry)) (xs : List ℕ) → AreHeld old xs → Written id w old new → lookup (nat_eq id) old ≡ Some e → w.is_held ≡ e.is_held → AreHeld new xs
+held_kept id w e old new xs all put there same = held_written id w old new xs xs all put (λ on. all id e there (sym same ∙ on)) (λ other ne h. h)
+
+-- it is marked so no more, or isn't yet
+pub held_put : (id : ℕ) (w : Entry) (old new : List (ℕ × Entry)) (xs : List ℕ) → AreHeld old xs → Written id w old new → w.is_held ≡ false → AreHeld new xs
+held_put id w old new xs all put off = held_written id w old new xs xs all put (λ on. let no : ⊥ = cc in absurd no) (λ other ne h. h)
+
+marked_at : (o p : Option Entry) (e : Entry) → option_map (λ x. x.is_held) p ≡ option_map (λ x. x.is_held) o → p ≡ Some e → e.is_held ≡ true → (d : Entry) × (o ≡ Some d) × (d.is_held ≡ true)
+marked_at None p e h there marked = let no : ⊥ = cc in absurd no
+marked_at (Some d) p e h there marked = (d, refl, some_is (sym h ∙ ap (option_map (λ (x : Entry). x.is_held)) there) ∙ marked)
+
+-- all marks stay
+pub held_marks : (old new : List (ℕ × Entry)) (xs : List ℕ) → AreHeld old xs → ((other : ℕ) → held_mark other new ≡ held_mark other old) → AreHeld new xs
+held_marks old new xs all same = λ other e there marked. let was = marked_at (lookup (nat_eq other) old) (lookup (nat_eq other) new) e (same other) there marked in all other was.0 was.1 was.2
+
+queued_at : (o p : Option Entry) (e : Entry) → option_map (λ x. x.is_queued) p ≡ option_map (λ x. x.is_queued) o → p ≡ Some e → e.is_queued ≡ true → (d : Entry) × (o ≡ Some d) × (d.is_queued ≡ true)
+queued_at None p e h there marked = let no : ⊥ = cc in absurd no
+queued_at (Some d) p e h there marked = (d, refl, some_is (sym h ∙ ap (option_map (λ (x : Entry). x.is_queued)) there) ∙ marked)
+
+pub listed_marks : (old new : List (ℕ × Entry)) (f g : List ℕ) → AreListed old f g → ((other : ℕ) → queue_mark other new ≡ queue_mark other old) → AreListed new f g
+listed_marks old new f g all same = λ other e there marked. let was = queued_at (lookup (nat_eq other) old) (lookup (nat_eq other) new) e (same other) there marked in all other was.0 was.1 was.2
+
+unheld_at : (o : Option Entry) (e : Entry) → IfSome o (λ x. x.is_held ≡ false) → o ≡ Some e → e.is_held ≡ false
+unheld_at None e h there = let no : ⊥ = cc in absurd no
+unheld_at (Some x) e h there = subst (λ (v : Entry). v.is_held ≡ false) (some_is there) h
+
+-- the first of those was let go of
+pub held_let_go : (id : ℕ) (old new : List (ℕ × Entry)) (xs ys : List ℕ) → AreHeld old xs → ((other : ℕ) → nat_eq id other ≡ false → lookup (nat_eq other) new ≡ lookup (nat_eq other) old) → IfSome (lookup (nat_eq id) new) (λ x. x.is_held ≡ false) → xs ≡ id ∷ ys → AreHeld new ys
+held_let_go id old new xs ys all others unmarked first = λ other e there marked. by other e there marked (nat_eq id other) refl
+  where
+    by : (other : ℕ) (e : Entry) → lookup (nat_eq other) new ≡ Some e → e.is_held ≡ true → (t : Bool) → nat_eq id other ≡ t → Contains ys other
+    by other e there marked true t =
+        let off : e.is_held ≡ false = unheld_at (lookup (nat_eq id) new) e unmarked (subst (λ (n : ℕ). lookup (nat_eq n) new ≡ Some e) (eq_ids id other t) there) in
+        let no : true ≡ false = sym marked ∙ off in absurd cc
+    by other e there marked false t = popped xs ys id other first t (all other e (sym (others other t) ∙ there) marked)
+
+pub listed_kept : (id : ℕ) (w e : Entry) (old new : List (ℕ × Entry)) (f g : List ℕ) → AreListed old f g → Written id w old new → lookup (nat_eq id) old ≡ Some e → w.is_queued ≡ e.is_queued → AreListed new f g
+listed_kept id w e old new f g all put there same = listed_written id w old new f g f g all put (λ on. all id e there (sym same ∙ on)) (λ other ne h. h)
+
+pub held_gone : (id : ℕ) (old new : List (ℕ × Entry)) (xs : List ℕ) → AreHeld old xs → ((other : ℕ) → lookup (nat_eq other) new ≡ cond (nat_eq id other) None (lookup (nat_eq other) old)) → AreHeld new xs
+held_gone id old new xs all put = λ other e there marked. all other e (gone_at (nat_eq id other) (lookup (nat_eq other) old) (lookup (nat_eq other) new) e (put other) there) marked
+
 -- ---- what is known
 
 known_put : (b : Bool) (w : Entry) (o p : Option Entry) → p ≡ cond b (Some w) o → option_map (λ e. e.connection) p ≡ cond b (Some w.connection) (option_map (λ e. e.connection) o)
@@ -106,30 +177,31 @@ some_at false k o p t h = let no : ⊥ = cc in absurd no
 pub there_now : (id : ℕ) (k : Connection) (old new : List (ℕ × Entry)) → ((other : ℕ) → known_as other new ≡ cond (nat_eq id other) (Some k) (known_as other old)) → IsSome (known_as id new)
 there_now id k old new knows = some_at (nat_eq id id) k (known_as id old) (known_as id new) (grind (arith, nat_tests)) (knows id)
 
--- ---- the first of a queue has its turn
-
-popped : (f rest : List ℕ) (id other : ℕ) → f ≡ id ∷ rest → nat_eq id other ≡ false → Contains f other → Contains rest other
-popped f rest id other e ne h = first (Contains-append_cases (id ∷ []) rest other (subst (λ (v : List ℕ). Contains v other) e h))
-  where
-    first : Contains (id ∷ []) other ⊎ Contains rest other → Contains rest other
-    first (inl (zero, within, same)) = let is : id ≡ other = same in let no : ⊥ = grind (arith, nat_tests) in absurd no
-    first (inl (suc k, within, same)) = let no : ⊥ = omega arith in absurd no
-    first (inr x) = x
-
 -- ---- what is kept
 
 -- the queues stayed, and then this id stood behind the others
 pub waits_then : (id other : ℕ) (f g f1 g1 f2 g2 : List ℕ) → f1 ≡ f → g1 ≡ g → StaysOrAdds id f1 f2 → StaysOrAdds id g1 g2 → Stands f g other → Stands f2 g2 other
 waits_then id other f g f1 g1 f2 g2 p q x y h = stand_on id other f1 g1 f2 g2 x y (subst (λ (v : List ℕ). Stands v g1 other) (sym p) (subst (λ (v : List ℕ). Stands f v other) (sym q) h))
 
+-- one that waited, or was held back, does so or is so still
+pub attended_on : (id : ℕ) (a b : Turns) → (Awaits id a → Awaits id b) → (Contains a.held id → Attended id b) → Attended id a → Attended id b
+attended_on id a b on holds (inl h) = inl (on h)
+attended_on id a b on holds (inr h) = holds h
+
+pub held_same : (a b : Turns) → b.held ≡ a.held → (id : ℕ) → Contains a.held id → Attended id b
+held_same a b e id h = inr (subst (λ (v : List ℕ). Contains v id) (sym e) h)
+
 pub keeps_same : (a : Turns) → KeepsTurns a a
-keeps_same a = record { known = λ id. refl; turns = λ id h. h; awaits = λ id some h. h }
+keeps_same a = record { known = λ id. refl; turns = λ id h. h; awaits = λ id some h. h; holds = λ id some h. inr h }
 
 pub keeps_then : (a b c : Turns) → KeepsTurns a b → KeepsTurns b c → KeepsTurns a c
 keeps_then a b c x y = record {
   known = λ id. y.known id ∙ x.known id;
   turns = λ id h. y.turns id (x.turns id h);
   awaits = λ id some h. y.awaits id (subst (λ (o : Option Connection). IsSome o) (sym (x.known id)) some) (x.awaits id some h);
+  holds = λ id some h.
+      let still = subst (λ (o : Option Connection). IsSome o) (sym (x.known id)) some in
+      attended_on id b c (y.awaits id still) (y.holds id still) (x.holds id some h);
 }
 
 -- one that waits waits on, and what was missed stays so
@@ -140,28 +212,42 @@ await_on id a b on missed (inr h) = inr (missed h)
 pub keeps_added : (id : ℕ) (a b : Turns) → SameConnections a b → AddsTurn id a b → KeepsTurns a b
 keeps_added id a b same (fresh, busy, held, missed) =
     let on : (other : ℕ) → Stands a.fresh a.busy other → Stands b.fresh b.busy other = λ other h. stand_on id other a.fresh a.busy b.fresh b.busy fresh busy h in
-    record { known = same; turns = on; awaits = λ other some h. await_on other a b (on other) missed h }
+    record { known = same; turns = on; awaits = λ other some h. await_on other a b (on other) missed h; holds = λ other some. held_same a b held other }
 
--- one that was held back was let go of, and may wait for a turn now
-pub keeps_let_go : (id : ℕ) (a b d : Turns) (known : List (ℕ × Entry)) (fresh busy : List ℕ) → KeepsTurns a b → ((other : ℕ) → known_as other known ≡ known_as other b.known) → fresh ≡ b.fresh → busy ≡ b.busy →
-    ((other : ℕ) → known_as other d.known ≡ known_as other known) → StaysOrAdds id fresh d.fresh → StaysOrAdds id busy d.busy → (b.missed ≡ true → d.missed ≡ true) → KeepsTurns a d
-keeps_let_go id a b d known fresh busy keeps same f g same_then x y missed =
+-- one that was held back was let go of, and waits for a turn now
+pub keeps_let_go : (id : ℕ) (a b d : Turns) (known : List (ℕ × Entry)) (fresh busy held : List ℕ) → KeepsTurns a b → ((other : ℕ) → known_as other known ≡ known_as other b.known) → fresh ≡ b.fresh → busy ≡ b.busy → b.held ≡ id ∷ held →
+    ((other : ℕ) → known_as other d.known ≡ known_as other known) → StaysOrAdds id fresh d.fresh → StaysOrAdds id busy d.busy → d.held ≡ held → (b.missed ≡ true → d.missed ≡ true) → (IsSome (known_as id known) → Awaits id d) → KeepsTurns a d
+keeps_let_go id a b d known fresh busy held keeps same f g first same_then x y rest missed own =
     let on : (other : ℕ) → Stands b.fresh b.busy other → Stands d.fresh d.busy other = λ other h. waits_then id other b.fresh b.busy fresh busy d.fresh d.busy f g x y h in
+    let awaits : (other : ℕ) → Awaits other b → Awaits other d = λ other h. await_on other b d (on other) missed h in
     record {
       known = λ other. same_then other ∙ same other ∙ keeps.known other;
       turns = λ other h. on other (keeps.turns other h);
-      awaits = λ other some h. await_on other b d (on other) missed (keeps.awaits other some h);
+      awaits = λ other some h. awaits other (keeps.awaits other some h);
+      holds = λ other some h.
+          let there = subst (λ (o : Option Connection). IsSome o) (sym (same other ∙ keeps.known other)) some in
+          attended_on other b d (awaits other) (λ k. let_go other there (nat_eq id other) refl (subst (λ (v : List ℕ). Contains v other) first k)) (keeps.holds other some h);
     }
+  where
+    let_go : (other : ℕ) → IsSome (known_as other known) → (t : Bool) → nat_eq id other ≡ t → Contains (id ∷ held) other → Attended other d
+    let_go other there true t k = subst (λ (n : ℕ). Attended n d) (sym (eq_ids id other t)) (inl (own (subst (λ (n : ℕ). IsSome (known_as n known)) (eq_ids id other t) there)))
+    let_go other there false t k = inr (subst (λ (v : List ℕ). Contains v other) (sym rest) (popped (id ∷ held) held id other refl t k))
 
--- one that was held back was let go of
-pub keeps_alike : (a b d : Turns) → KeepsTurns a b → SameConnections b d → d.fresh ≡ b.fresh → d.busy ≡ b.busy → d.missed ≡ b.missed → KeepsTurns a d
-keeps_alike a b d keeps same f g m =
+-- nothing changed but what is known inside
+pub keeps_alike : (a b d : Turns) → KeepsTurns a b → SameConnections b d → d.fresh ≡ b.fresh → d.busy ≡ b.busy → d.missed ≡ b.missed → d.held ≡ b.held → KeepsTurns a d
+keeps_alike a b d keeps same f g m e =
     let on : (other : ℕ) → Stands b.fresh b.busy other → Stands d.fresh d.busy other = λ other h. waits_then 0 other b.fresh b.busy d.fresh d.busy d.fresh d.busy f g (inl refl) (inl refl) h in
+    let awaits : (other : ℕ) → Awaits other b → Awaits other d = λ other h. await_on other b d (on other) (λ h. m ∙ h) h in
     record {
       known = λ other. same other ∙ keeps.known other;
       turns = λ other h. on other (keeps.turns other h);
-      awaits = λ other some h. await_on other b d (on other) (λ h. m ∙ h) (keeps.awaits other some h);
+      awaits = λ other some h. awaits other (keeps.awaits other some h);
+      holds = λ other some h. attended_on other b d (awaits other) (held_same b d e other) (keeps.holds other some h);
     }
+
+-- the queues stay
+pub keeps_queues : (a b : Turns) → SameConnections a b → SameQueues a b → KeepsTurns a b
+keeps_queues a b known (f, g, e, m) = keeps_alike a a b (keeps_same a) known f g m e
 
 pub keeps_from : (i a b : Turns) → i ≡ a → KeepsTurns i b → KeepsTurns a b
 keeps_from i a b same k = subst (λ (v : Turns). KeepsTurns v b) same k
@@ -174,10 +260,13 @@ others_then id a b c x y = record {
   known = λ other ne. y.known other ∙ x.known other ne;
   turns = λ other h. y.turns other (x.turns other h);
   awaits = λ other ne some h. y.awaits other (subst (λ (o : Option Connection). IsSome o) (sym (x.known other ne)) some) (x.awaits other ne some h);
+  holds = λ other ne some h.
+      let still = subst (λ (o : Option Connection). IsSome o) (sym (x.known other ne)) some in
+      attended_on other b c (y.awaits other still) (y.holds other still) (x.holds other ne some h);
 }
 
 pub others_same : (id : ℕ) (a : Turns) → KeepsOthers id a a
-others_same id a = record { known = λ other ne. refl; turns = λ other h. h; awaits = λ other ne some h. h }
+others_same id a = record { known = λ other ne. refl; turns = λ other h. h; awaits = λ other ne some h. h; holds = λ other ne some h. inr h }
 
 -- ---- the first of a queue has had its turn
 

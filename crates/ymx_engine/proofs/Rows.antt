@@ -24,7 +24,8 @@ use Rattle.ymx_engine.proofs.Advancing.{fed_then, drop_front, fronts_then, rest_
 use Rattle.ymx_engine.proofs.Blocks.{part_length, room_length, rest_is}
 use Rattle.std.specs.Prelude.{nat_eq, ◌==◌, false}
 use Rattle.ymx_session.proofs.Passes.{passing-is}
-use Rattle.ymx_engine.proofs.Coming.{NoneCameOf}
+use Rattle.ymx_engine.specs.Served.{GainsNone}
+use Rattle.ymx_engine.proofs.Coming.{gains_then}
 use Rattle.ymx_engine.proofs.Beside.{IsPiece, passes_beside, piece_came, header_came, whole_piece}
 use Rattle.ymx_engine.proofs.Exchanging.{happen_then, given_then, end_then, reset_then, stop_then, same_id}
 
@@ -318,7 +319,7 @@ pub record Going (id turn at left taken : ℕ) (payload waits : List ℕ) (s t :
   pub done : Settles id went waits (drop at waits) s t
   pub row : Gathers id pieces more (drop at waits) t
   pub turns : pieces + turn ≡ 4
-  pub others : (other : ℕ) → nat_eq id other ≡ false → NoneCameOf other s t
+  pub others : (other : ℕ) → nat_eq id other ≡ false → GainsNone other s t
 
 pub going_starts : (id taken : ℕ) (payload waits : List ℕ) (s : Session) → Gathers id 4 payload waits s → 0 < taken → taken ≤ length payload → Going id 0 0 taken taken payload waits s s
 going_starts id taken payload waits s g some fits = record {
@@ -333,7 +334,7 @@ going_starts id taken payload waits s g some fits = record {
   done = settles_none id waits s;
   row = g;
   turns = omega arith;
-  others = λ other ne h. h;
+  others = λ other ne. record { bytes = λ w. w; room = λ r. r };
 }
 
 -- the next piece waits
@@ -415,22 +416,22 @@ going_on law id turn at left taken count payload waits told s t u v x least more
       done = subst (λ (w : List ℕ). Settles id w waits (drop (at + count + 12) waits) s v) (append-nil (x.went ++ take count x.more)) done;
       row = subst (λ (w : List ℕ). Gathers id (x.pieces - 1) (drop count x.more) w v) rest next.1;
       turns = omega (arith, few, positive);
-      others = λ other ne h.
+      others = λ other ne.
           let few_waits = (piece_waits id x.pieces left count x.more (drop at waits) t r x.some x.fits least).0 in
           let all : count ≡ r.missing = omega (arith, least, more) in
           let piece = next_piece id left count x.pieces x.more (drop at waits) t u r x.some x.fits least y in
           let last = whole_piece count r.missing (drop at waits) few_waits all in
           let running = (passing-is (record { id = id; missing = r.missing }) t (r.passes).passes).running in
-          x.others other ne (piece_came id other _ t u piece ne (header_came id (next.2).0 other header told u v (piece.status ∙ running) (piece.whole last) (next.2).1 next.0 g ne h));
+          gains_then other s t v (x.others other ne) (gains_then other t u v (piece_came id other _ t u piece ne) (header_came id (next.2).0 other header told u v (piece.status ∙ running) (piece.whole last) (next.2).1 next.0 g ne));
     }
 
 -- nor do bytes of the others come with the last piece
 pub ends_beside : (id turn at left taken count : ℕ) (payload waits : List ℕ) (s t u : Session) → (x : Going id turn at left taken payload waits s t) → count ≡ min left (x.row).missing →
-    Passes id (take (at + count - at) (drop at waits)) t u → (other : ℕ) → nat_eq id other ≡ false → NoneCameOf other s u
-ends_beside id turn at left taken count payload waits s t u x least p other ne h =
+    Passes id (take (at + count - at) (drop at waits)) t u → (other : ℕ) → nat_eq id other ≡ false → GainsNone other s u
+ends_beside id turn at left taken count payload waits s t u x least p other ne =
     let k : at + count - at ≡ count = omega arith in
     let y : Passes id (take count (drop at waits)) t u = subst (λ (n : ℕ). Passes id (take n (drop at waits)) t u) k p in
-    x.others other ne (piece_came id other _ t u (next_piece id left count x.pieces x.more (drop at waits) t u x.row x.some x.fits least y) ne h)
+    gains_then other s t u (x.others other ne) (piece_came id other _ t u (next_piece id left count x.pieces x.more (drop at waits) t u x.row x.some x.fits least y) ne)
 
 -- as many turns as pieces are enough
 pub going_over : (id at left taken : ℕ) (payload waits : List ℕ) (s t : Session) → Going id 4 at left taken payload waits s t → ⊥

@@ -120,7 +120,7 @@ serving_unserved a b id same lines none s = record {
         none_there (look other a.lines) (ap (λ (n : ℕ). look n a.lines) (eq_ids id other t) ∙ none) (s.devices other (is_some_at at))
 
     each : (other : ℕ) (t : Bool) → nat_eq id other ≡ t → IsServed other (view_of a)
-    each other true t = λ c at may waits. absurd (unknown other c t at)
+    each other true t = record { gets = λ c at may waits. absurd (unknown other c t at); gives = λ c at may waits. absurd (unknown other c t at) }
     each other false t = s.served.each other t
 
 -- what a call saw of the tunnel before

@@ -32,9 +32,13 @@ abbrev pub may_read_wire : EngineView → Bool
 may_read_wire v =
     if has_bytes v.engine.incoming then not (has_bytes v.engine.outgoing) && is_running v.engine.session.status else may_have_bytes v.marks
 
--- a connection waits for a turn or missed one, the wire may be read, or it may take bytes and some are to go
+-- bytes are to go to the wire, or a connection is held back until none are
+abbrev pub has_to_write : EngineView → Bool
+has_to_write v = has_to_send v.engine || not (length v.turns.held == 0)
+
+-- a connection waits for a turn or missed one, the wire may be read, or it may take bytes and is to be written to
 abbrev pub has_work : EngineView → Bool
-has_work v = not (is_idle v.turns) || v.turns.missed || may_read_wire v || v.marks.can_push_wire && has_to_send v.engine
+has_work v = not (is_idle v.turns) || v.turns.missed || may_read_wire v || v.marks.can_push_wire && has_to_write v
 
 -- eight whole frames of 16,384 bytes, with their headers
 abbrev pub eight_frames : ℕ

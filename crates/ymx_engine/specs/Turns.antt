@@ -28,6 +28,10 @@ Waits id t = Contains t.fresh id ⊎ Contains t.busy id
 abbrev pub Awaits : ℕ → Turns → Type 0
 Awaits id t = Waits id t ⊎ (t.missed ≡ true)
 
+-- it does, or is held back until nothing waits for the wire
+abbrev pub Attended : ℕ → Turns → Type 0
+Attended id t = Awaits id t ⊎ Contains t.held id
+
 abbrev pub is_idle : Turns → Bool
 is_idle t = (length t.fresh == 0) && (length t.busy == 0)
 
@@ -71,17 +75,23 @@ AddsTurn id old new = StaysOrAdds id old.fresh new.fresh × StaysOrAdds id old.b
 abbrev pub AwaitOn : Turns → Turns → Type 0
 AwaitOn old new = (id : ℕ) → IsSome (known_as id old.known) → Awaits id old → Awaits id new
 
--- of each connection the same is known, and each that waited for a turn waits on
+-- each that is known, and was held back, is so still, or waits for a turn unless some were missed
+abbrev pub HeldOn : Turns → Turns → Type 0
+HeldOn old new = (id : ℕ) → IsSome (known_as id old.known) → Contains old.held id → Attended id new
+
+-- Of each connection the same is known. Each that waited for a turn waits on, and each that was held back is so still or waits.
 pub record KeepsTurns (old new : Turns) : Type 0 where
   pub known : SameConnections old new
   pub turns : WaitOn old new
   pub awaits : AwaitOn old new
+  pub holds : HeldOn old new
 
 -- the same of each but this
 pub record KeepsOthers (id : ℕ) (old new : Turns) : Type 0 where
   pub known : (other : ℕ) → nat_eq id other ≡ false → known_as other new.known ≡ known_as other old.known
   pub turns : WaitOn old new
   pub awaits : (other : ℕ) → nat_eq id other ≡ false → IsSome (known_as other old.known) → Awaits other old → Awaits other new
+  pub holds : (other : ℕ) → nat_eq id other ≡ false → IsSome (known_as other old.known) → Contains old.held other → Attended other new
 
 -- of this connection this is known, and it waits for a turn behind the others; of each other what was known
 abbrev pub Adds : ℕ → Connection → Turns → Turns → Type 0
@@ -94,3 +104,15 @@ TakesTurn id old new = (old.fresh ≡ id ∷ new.fresh) × (new.busy ≡ old.bus
 -- each connection that is marked as queued stands in a queue
 abbrev pub AreListed : List (ℕ × Entry) → List ℕ → List ℕ → Type 0
 AreListed known fresh busy = (id : ℕ) (e : Entry) → lookup (nat_eq id) known ≡ Some e → e.is_queued ≡ true → Contains fresh id ⊎ Contains busy id
+
+-- whether it is marked as queued
+abbrev pub queue_mark : ℕ → List (ℕ × Entry) → Option Bool
+queue_mark id known = option_map (λ e. e.is_queued) (lookup (nat_eq id) known)
+
+-- whether it is marked as held back
+abbrev pub held_mark : ℕ → List (ℕ × Entry) → Option Bool
+held_mark id known = option_map (λ e. e.is_held) (lookup (nat_eq id) known)
+
+-- each that is marked as held back is so
+abbrev pub AreHeld : List (ℕ × Entry) → List ℕ → Type 0
+AreHeld known held = (id : ℕ) (e : Entry) → lookup (nat_eq id) known ≡ Some e → e.is_held ≡ true → Contains held id

@@ -82,9 +82,11 @@ impl Connection {
         self.can_pull && self.to_peer.is_open()
     }
 
-    /// Whether bytes of the device are to be asked for later, where `may_pull` says that none may be asked for now.
-    pub(crate) fn is_put_off(&self, may_pull: bool) -> bool {
-        !may_pull && self.may_pull()
+    /// Whether bytes of the device are to be asked for later, where `reads` says that none may be asked for now.
+    pub(crate) fn is_put_off(&self, reads: bool) -> bool
+        ensures { result ≡ (not reads && may_pull self.now) }
+    {
+        !reads && self.may_pull()
     }
 
     /// Whether nothing more goes to the device, though bytes of it may still come.

@@ -1,7 +1,7 @@
 //! The connections of an engine by stream id, and whose turn comes.
 
-ghost use Rattle.std.specs.Prelude.{ℕ, ◌≡◌, ◌<◌, ◌⊎◌, ◌+◌, ◌∷◌, [], length, nat_eq, min, slice_get, true, false, None, Some, Contains, OnOk, OnErr, IsOk, IfSome, IfNone, IsSome};
-ghost use Rattle.ymx_engine.specs.Turns.{known_as, is_idle, Knows, KeepsTurns, SameConnections, SameTurns, SameQueues, Waits, Awaits, IsIdle, StaysOrAdds, AddsTurn, TakesTurn, WaitOn, StaysMissed};
+ghost use Rattle.std.specs.Prelude.{ℕ, ◌≡◌, ◌<◌, ◌⊎◌, ◌+◌, ◌∷◌, ◌==◌, not, [], length, nat_eq, min, slice_get, true, false, None, Some, Contains, OnOk, OnErr, IsOk, IfSome, IfNone, IsSome};
+ghost use Rattle.ymx_engine.specs.Turns.{known_as, held_mark, queue_mark, is_idle, Knows, KeepsTurns, SameConnections, SameTurns, SameQueues, Waits, Awaits, Attended, IsIdle, StaysOrAdds, AddsTurn, TakesTurn, WaitOn, StaysMissed};
 ghost use Rattle.ymx_engine.specs.Known.{new_connection};
 ghost use Rattle.std.specs.List.{list_any};
 ghost use Rattle.std.specs.VecDeque.{deque_len, deque_capacity};
@@ -72,13 +72,13 @@ impl Model for Connections {
     ghost use Rattle.std.specs.Prelude.{◌&&◌, nat_lt, is_some};
     ghost use Rattle.std.specs.VecDeque.{deque_len, deque_capacity};
     ghost use Rattle.indexmap.specs.IndexMap.{spare};
-    ghost use Rattle.ymx_engine.specs.Turns.{Turns, AreListed};
+    ghost use Rattle.ymx_engine.specs.Turns.{Turns, AreListed, AreHeld};
 
     ghost Value = { Turns };
 
     ghost view = { λ c. record { known = c.by_id.entries; fresh = c.fresh.items; busy = c.busy.items; held = c.held.items; has_room = nat_lt (deque_len c.fresh) (deque_capacity c.fresh) && nat_lt (deque_len c.busy) (deque_capacity c.busy); has_place = nat_lt 0 (spare c.by_id); missed = is_some c.missed } };
 
-    ghost invariant = { λ c. AreListed c.by_id.entries c.fresh.items c.busy.items };
+    ghost invariant = { λ c. AreListed c.by_id.entries c.fresh.items c.busy.items × AreHeld c.by_id.entries c.held.items };
 }
 
 impl Connections {
@@ -194,11 +194,16 @@ impl Connections {
     /// It may have something to move once nothing waits for the wire.
     pub(crate) fn hold(&mut self, id: u32)
         ensures known { SameConnections self.old self.new }
-        ensures turns { SameTurns self.old self.new }
+        ensures turns { (self.new.fresh ≡ self.old.fresh) × (self.new.busy ≡ self.old.busy) × StaysMissed self.old self.new }
+        ensures held { StaysOrAdds id self.old.held self.new.held }
+        ensures attended { IsSome (known_as id self.old.known) → Attended id self.new }
     {
         if let Some(found) = self.by_id.get_mut(&id) {
             if !found.is_held {
-                found.is_held = self.held.push_back(id).is_ok();
+                match ymx_memory::push_back(&mut self.held, id) {
+                    Ok(()) => found.is_held = true,
+                    Err(refused) => self.missed = Some(refused),
+                }
             }
         }
     }
@@ -211,6 +216,8 @@ impl Connections {
         ensures again { more ≡ true → IsSome (known_as id self.old.known) → self.old.has_room ≡ true → Waits id self.new }
         ensures awaits { more ≡ true → IsSome (known_as id self.old.known) → Awaits id self.new }
         ensures missed { StaysMissed self.old self.new }
+        ensures held { StaysOrAdds id self.old.held self.new.held }
+        ensures attended { holds ≡ true → IsSome (known_as id self.old.known) → Attended id self.new }
     {
         self.set(id, connection);
         if more {
@@ -226,17 +233,33 @@ impl Connections {
         ensures some { IfSome result (λ id. TakesTurn id self.old self.new) }
         ensures none { IfNone result (IsIdle self.old × IsIdle self.new) }
         ensures missed { self.new.missed ≡ self.old.missed }
+        ensures held { self.new.held ≡ self.old.held }
     {
         let id = pop(&mut self.fresh, &mut self.busy, &mut self.is_for_busy)?;
         note_turn(&mut self.by_id, id);
         Some(id)
     }
 
+    /// How many are held back.
+    fn held_count(&self) -> usize
+        ensures { result ≡ length self.now.held }
+    {
+        self.held.len()
+    }
+
+    /// Whether one is held back.
+    pub(crate) fn has_held(&self) -> bool
+        ensures { result ≡ not (length self.now.held == 0) }
+    {
+        !self.held.is_empty()
+    }
+
     /// Nothing waits for the wire: those that were held back have their turns.
     pub(crate) fn release(&mut self)
-        ensures { KeepsTurns self.old self.new }
+        ensures turns { KeepsTurns self.old self.new }
+        ensures none { self.new.held ≡ [] }
     {
-        'held: for _ in 0..self.held.len() {
+        'held: for _ in 0..self.held_count() {
             let Some(id) = self.let_go() else {
                 return;
             };
@@ -248,11 +271,11 @@ impl Connections {
     fn let_go(&mut self) -> Option<u32>
         ensures known { SameConnections self.old self.new }
         ensures turns { SameTurns self.old self.new }
+        ensures some { IfSome result (λ id. self.old.held ≡ id ∷ self.new.held) }
+        ensures none { IfNone result ((self.old.held ≡ []) × (self.new.held ≡ [])) }
     {
         let id = self.held.pop_front()?;
-        if let Some(found) = self.by_id.get_mut(&id) {
-            found.is_held = false;
-        }
+        note_let_go(&mut self.by_id, id);
         Some(id)
     }
 
@@ -269,6 +292,7 @@ impl Connections {
     /// All have something to move.
     pub(crate) fn enqueue_all(&mut self)
         ensures turns { KeepsTurns self.old self.new }
+        ensures held { self.new.held ≡ self.old.held }
         ensures all { (id : ℕ) → IsSome (known_as id self.old.known) → Awaits id self.new }
     {
         'place: for place in 0..self.by_id.len() {
@@ -343,10 +367,23 @@ fn stand(
 fn note_turn(by_id: &mut IndexMap<u32, Entry>, id: u32)
     ensures known { (other : ℕ) → known_as other by_id.new.entries ≡ known_as other by_id.old.entries }
     ensures others { (other : ℕ) → nat_eq id other ≡ false → lookup (nat_eq other) by_id.new.entries ≡ lookup (nat_eq other) by_id.old.entries }
+    ensures held { (other : ℕ) → held_mark other by_id.new.entries ≡ held_mark other by_id.old.entries }
     ensures unmarked { IfSome (lookup (nat_eq id) by_id.new.entries) (λ e. e.is_queued ≡ false) }
 {
     if let Some(found) = by_id.get_mut(&id) {
         found.is_queued = false;
+    }
+}
+
+/// This one is held back no more.
+fn note_let_go(by_id: &mut IndexMap<u32, Entry>, id: u32)
+    ensures known { (other : ℕ) → known_as other by_id.new.entries ≡ known_as other by_id.old.entries }
+    ensures queued { (other : ℕ) → queue_mark other by_id.new.entries ≡ queue_mark other by_id.old.entries }
+    ensures others { (other : ℕ) → nat_eq id other ≡ false → lookup (nat_eq other) by_id.new.entries ≡ lookup (nat_eq other) by_id.old.entries }
+    ensures unmarked { IfSome (lookup (nat_eq id) by_id.new.entries) (λ e. e.is_held ≡ false) }
+{
+    if let Some(found) = by_id.get_mut(&id) {
+        found.is_held = false;
     }
 }
 

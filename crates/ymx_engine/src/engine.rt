@@ -318,6 +318,7 @@ impl Engine {
         ensures some { IfSome result (λ id. TakesTurn id self.old.turns self.new.turns) }
         ensures none { IfNone result (IsIdle self.old.turns × IsIdle self.new.turns) }
         ensures known { SameConnections self.old.turns self.new.turns }
+        ensures held { self.new.turns.held ≡ self.old.turns.held }
         ensures engine { self.new.engine ≡ self.old.engine }
         ensures marks { self.new.marks ≡ self.old.marks }
         // Nobody is forgotten but this one, whose turn it is.
@@ -714,6 +715,7 @@ impl Engine {
         ensures wire { KeepsWire self.old.engine self.new.engine }
         ensures over { self.new.marks ≡ record self.old.marks { is_wire_over = true } }
         ensures turns { KeepsTurns self.old.turns self.new.turns }
+        ensures held { self.new.turns.held ≡ self.old.turns.held }
     {
         self.is_wire_over = true;
         self.session.feed_end();
@@ -727,6 +729,8 @@ impl Engine {
         // none now.
         ensures offers { self.old.marks.can_push_wire ≡ true → has_to_send self.old.engine ≡ true → CountsSome (D.seen wire.old).counts.pushes (D.seen wire.new).counts.pushes }
         ensures all { self.old.marks.can_push_wire ≡ true → (self.new.engine.outgoing ≡ []) ⊎ (self.new.marks.can_push_wire ≡ false) }
+        // Nobody is held back any more, unless bytes wait for the wire.
+        ensures releases { self.old.marks.can_push_wire ≡ true → self.new.engine.outgoing ≡ [] → self.new.turns.held ≡ [] }
         // That it may take bytes ends only where it left some of those that it was offered.
         ensures off { self.old.marks.can_push_wire ≡ true → self.new.marks.can_push_wire ≡ false → CountsSome (D.seen wire.old).counts.pushes (D.seen wire.new).counts.pushes × (0 < length self.new.engine.outgoing) }
         // Where it may take none, nothing happens.
@@ -749,6 +753,7 @@ impl Engine {
         ensures moved { FlushesWire self.old.engine self.new.engine (D.seen wire.old) (D.seen wire.new) 1 }
         ensures goes_on { result ≡ true → (self.old.marks.can_push_wire ≡ true) × (self.new.marks.can_push_wire ≡ true) × (self.new.engine.outgoing ≡ []) × CountsSome (D.seen wire.old).counts.pushes (D.seen wire.new).counts.pushes }
         ensures stops { result ≡ false → (self.new.engine.outgoing ≡ []) ⊎ (self.new.marks.can_push_wire ≡ false) }
+        ensures releases { self.old.marks.can_push_wire ≡ true → self.new.engine.outgoing ≡ [] → self.new.turns.held ≡ [] }
         ensures offers { self.old.marks.can_push_wire ≡ true → has_to_send self.old.engine ≡ true → CountsSome (D.seen wire.old).counts.pushes (D.seen wire.new).counts.pushes }
         ensures off { self.old.marks.can_push_wire ≡ true → self.new.marks.can_push_wire ≡ false → CountsSome (D.seen wire.old).counts.pushes (D.seen wire.new).counts.pushes × (0 < length self.new.engine.outgoing) }
         ensures still { self.old.marks.can_push_wire ≡ false → self.new ≡ self.old }
@@ -761,10 +766,21 @@ impl Engine {
         }
         self.fill_outgoing();
         if self.is_sent() {
+            self.release();
             return false;
         }
         self.push_wire(wire);
         self.can_push_wire
+    }
+
+    /// Those that were held back wait for their turns.
+    fn release(&mut self)
+        ensures engine { self.new.engine ≡ self.old.engine }
+        ensures marks { self.new.marks ≡ self.old.marks }
+        ensures turns { KeepsTurns self.old.turns self.new.turns }
+        ensures none { self.new.turns.held ≡ [] }
+    {
+        self.connections.release();
     }
 
     /// What is due waits behind what waits, where there is room.
@@ -783,6 +799,7 @@ impl Engine {
         ensures offered { CountsSome (D.seen wire.old).counts.pushes (D.seen wire.new).counts.pushes × ((D.seen wire.old).counts.pushes ≤ (D.seen wire.new).counts.pushes) }
         ensures all { self.new.marks.can_push_wire ≡ true → self.new.engine.outgoing ≡ [] }
         ensures rest { self.new.marks.can_push_wire ≡ false → 0 < length self.new.engine.outgoing }
+        ensures releases { self.new.marks.can_push_wire ≡ true → self.new.turns.held ≡ [] }
         ensures pull { self.new.marks.can_pull_wire ≡ self.old.marks.can_pull_wire }
         ensures turns { KeepsTurns self.old.turns self.new.turns }
         ensures moved { FlushesWireSo (is_push_failure result) self.old.engine self.new.engine (D.seen wire.old) (D.seen wire.new) 1 }
@@ -808,6 +825,7 @@ impl Engine {
     fn hear_pushed(&mut self, pushed: Pushed, all: usize)
         ensures wire { KeepsWire self.old.engine self.new.engine }
         ensures push { self.new.marks.can_push_wire ≡ (pushed_count pushed == all) }
+        ensures releases { self.new.marks.can_push_wire ≡ true → self.new.turns.held ≡ [] }
         ensures pull { self.new.marks.can_pull_wire ≡ self.old.marks.can_pull_wire }
         ensures turns { KeepsTurns self.old.turns self.new.turns }
         ensures heard { HandlesOut (is_push_failure pushed) self.old.engine self.new.engine }
@@ -825,6 +843,7 @@ impl Engine {
         ensures engine { self.new.engine ≡ self.old.engine }
         ensures noted { self.new.marks ≡ record self.old.marks { can_push_wire = all } }
         ensures turns { KeepsTurns self.old.turns self.new.turns }
+        ensures releases { all ≡ true → self.new.turns.held ≡ [] }
     {
         self.can_push_wire = all;
         if all {

@@ -39,6 +39,7 @@ pub(crate) fn serve<D: Device>(
     ensures delivers { may_push connection.old ≡ true → 0 < length (waiting id session.old) → IsOffered connection.new (D.seen device.old).counts (D.seen device.new).counts }
     ensures collects { reads ≡ true → 0 < length buffer.old → may_pull connection.old ≡ true → IsAsked connection.new (D.seen device.old).counts (D.seen device.new).counts (room_of id session.new) }
     ensures stays { IsWithin session.old → may_push connection.new ≡ true → 0 < length (waiting id session.new) → result ≡ true }
+    ensures asks_on { reads ≡ true → 0 < length buffer.old → may_pull connection.new ≡ true → 0 < room_of id session.new → result ≡ true }
 {
     let more = deliver(session, id, connection, device);
     hear_stop(session, id, connection, device);
@@ -179,6 +180,7 @@ fn collect<D: Device>(
     ensures calls { (D.seen device.new).calls ≤ (D.seen device.old).calls + 4 }
     ensures follows { FollowsDevice connection.old connection.new (D.seen device.old).counts (D.seen device.new).counts }
     ensures collects { 0 < length buffer.old → may_pull connection.old ≡ true → CountsSome (D.seen device.old).counts.pulls (D.seen device.new).counts.pulls ⊎ (room_of id session.new ≡ 0) }
+    ensures asks_on { 0 < length buffer.old → may_pull connection.new ≡ true → 0 < room_of id session.new → result ≡ true }
 {
     if !connection.may_pull() {
         return false;
@@ -207,6 +209,7 @@ fn pull_once<D: Device>(
     ensures follows { FollowsDevice connection.old connection.new (D.seen device.old).counts (D.seen device.new).counts }
     ensures asks { 0 < length buffer.old → CountsSome (D.seen device.old).counts.pulls (D.seen device.new).counts.pulls ⊎ (room_of id session.new ≡ 0) }
     ensures goes_on { result ≡ true → CountsSome (D.seen device.old).counts.pulls (D.seen device.new).counts.pulls }
+    ensures asks_on { 0 < length buffer.old → may_pull connection.new ≡ true → 0 < room_of id session.new → result ≡ true }
 {
     put_due(session, outgoing);
     let room = session.room(id).min(buffer.len());
@@ -241,6 +244,7 @@ fn pull_into<D: Device>(
     ensures calls { (D.seen device.new).calls ≤ (D.seen device.old).calls + 2 }
     ensures follows { FollowsDevice connection.old connection.new (D.seen device.old).counts (D.seen device.new).counts }
     ensures asks { CountsSome (D.seen device.old).counts.pulls (D.seen device.new).counts.pulls }
+    ensures asks_on { may_pull connection.new ≡ true → result ≡ true }
 {
     match device.pull(buffer) {
         Pulled::Gave(count) => {

@@ -3,8 +3,8 @@
 ghost use Rattle.std.specs.Prelude.{◌≡◌, length, true, false};
 ghost use Rattle.ymx_model.specs.session.Sessions.{is_running};
 ghost use Rattle.ymx_engine.specs.Engines.{IsFlushed};
-ghost use Rattle.ymx_engine.specs.Marks.{may_have_bytes, may_read_wire, has_work};
-ghost use Rattle.ymx_engine.specs.Served.{AreServed, NoneWaits};
+ghost use Rattle.ymx_engine.specs.Marks.{may_have_bytes, may_read_wire, has_work, has_to_write};
+ghost use Rattle.ymx_engine.specs.Served.{AreServed, NoneWaits, NoneGives};
 
 use crate::engine::Engine;
 use ymx_model::Status;
@@ -16,6 +16,8 @@ impl Engine {
         ensures exact { result ≡ has_work self.now }
         // At rest no bytes of a stream wait that its device may take now.
         ensures rest { AreServed self.now → result ≡ false → NoneWaits self.now }
+        // Where the wire may take bytes too, no stream takes bytes that its device may have.
+        ensures gives { AreServed self.now → result ≡ false → self.now.marks.can_push_wire ≡ true → NoneGives self.now }
     {
         self.may_move()
     }
@@ -27,7 +29,14 @@ impl Engine {
         !self.connections.is_idle()
             || self.connections.has_missed()
             || self.may_read_wire()
-            || (self.can_push_wire && (self.session.due() || !self.outgoing.waiting().is_empty()))
+            || (self.can_push_wire && self.has_to_write())
+    }
+
+    /// Whether bytes are to go to the wire, or a connection is held back until none are.
+    fn has_to_write(&self) -> bool
+        ensures { result ≡ has_to_write self.now }
+    {
+        self.session.due() || !self.outgoing.waiting().is_empty() || self.connections.has_held()
     }
 
     /// Whether the wire may have bytes, or bytes of it may be fed now.

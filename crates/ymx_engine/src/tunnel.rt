@@ -10,7 +10,7 @@ ghost use Rattle.ymx_engine.specs.Refusals.{OffersNone};
 ghost use Rattle.ymx_engine.specs.Devices.{CountsOne, CountsSome};
 ghost use Rattle.ymx_engine.specs.Marks.{has_work, has_to_send, may_have_bytes};
 ghost use Rattle.ymx_engine.specs.Runs.{Runs, Stays, Changes, IsOver};
-ghost use Rattle.ymx_engine.specs.Served.{AreServed, KeepsServed, NoneWaits};
+ghost use Rattle.ymx_engine.specs.Served.{AreServed, KeepsServed, NoneWaits, NoneGives};
 ghost use Rattle.ymx_engine.specs.Tunnels.{look, view_of, Joins, DropsOut, Serving, ServingBut, KnowsNoMore};
 ghost use Rattle.ymx_engine.specs.Turns.{IsIdle, WaitOn};
 ghost use Rattle.ymx_engine.specs.Work.{OffersBytes, AsksForBytes, ServesFirst};
@@ -346,6 +346,8 @@ impl<D: Line + Drop, W: Wire + Drop> Tunnel<D, W> {
         ensures writes { CountsOne self.old.work.writes self.new.work.writes }
         ensures offers { self.old.marks.can_push_wire ≡ true → has_to_send self.old.engine ≡ true → CountsSome self.old.wire.counts.pushes self.new.wire.counts.pushes }
         ensures all { self.old.marks.can_push_wire ≡ true → (self.new.engine.outgoing ≡ []) ⊎ (self.new.marks.can_push_wire ≡ false) }
+        // Nobody is held back any more, unless bytes wait for the wire.
+        ensures releases { self.old.marks.can_push_wire ≡ true → self.new.engine.outgoing ≡ [] → self.new.turns.held ≡ [] }
     {
         self.work.writes = add_one(self.work.writes);
         self.engine.flush(&mut self.wire);
@@ -448,6 +450,8 @@ impl<D: Line + Drop, W: Wire + Drop> Tunnel<D, W> {
         ensures value { result ≡ has_work (view_of self.now) }
         // At rest no bytes of a stream wait that its device may take now.
         ensures rest { Serving self.now → result ≡ false → NoneWaits (view_of self.now) }
+        // Where the wire may take bytes too, no stream takes bytes that its device may have.
+        ensures gives { Serving self.now → result ≡ false → self.now.marks.can_push_wire ≡ true → NoneGives (view_of self.now) }
     {
         self.engine.has_work()
     }

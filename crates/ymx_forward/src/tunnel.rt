@@ -5,7 +5,7 @@
 
 ghost use Rattle.std.specs.Prelude.{◌≡◌, [], true, false, IfOk, IfSome};
 ghost use Rattle.ymx_engine.specs.Runs.{Runs, IsOver};
-ghost use Rattle.ymx_engine.specs.Served.{AreServed, NoneWaits};
+ghost use Rattle.ymx_engine.specs.Served.{AreServed, NoneWaits, NoneGives};
 ghost use Rattle.ymx_engine.specs.Devices.{CountsOne, CountsSome};
 ghost use Rattle.ymx_engine.specs.Tunnels.{Serving, view_of};
 ghost use Rattle.ymx_engine.specs.Work.{ServesOne, WorksOnce};
@@ -316,6 +316,8 @@ impl<'a> TunnelLoop<'a> {
     fn has_work(&self) -> bool
         // Where it has none, no bytes of a stream wait that its connection may take now.
         ensures rest { Serving self.now.tunnel → result ≡ false → NoneWaits (view_of self.now.tunnel) }
+        // Where the wire may take bytes too, no stream takes bytes that its connection may have.
+        ensures gives { Serving self.now.tunnel → result ≡ false → self.now.tunnel.marks.can_push_wire ≡ true → NoneGives (view_of self.now.tunnel) }
     {
         let accepts = match &self.tunnel_end.side {
             Side::Local(listening) => {

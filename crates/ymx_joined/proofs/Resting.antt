@@ -10,7 +10,7 @@ use Rattle.ymx_engine.specs.Events.{taken, given}
 use Rattle.ymx_engine.specs.Known.{may_push}
 use Rattle.ymx_engine.specs.Served.{NoneWaits}
 use Rattle.ymx_engine.specs.Tunnels.{Tunnel, view_of}
-use Rattle.ymx_engine.proofs.Resting.{rest_flushed, rest_fed, rest_none}
+use Rattle.ymx_engine.proofs.Resting.{rest_flushed, rest_fed, rest_none, rest_takes}
 use Rattle.ymx_joined.specs.Pairs.{Turn}
 use Rattle.ymx_joined.specs.Quiet.{IsQuietWay, HasCome, IsAtRest, IsDelivered, AllIsDelivered}
 use Rattle.ymx_joined.proofs.Quiet.{all_has_come}
@@ -61,4 +61,6 @@ all_is_delivered ts = λ wa fa wb fb q a b good work same_a same_b x y ab ba.
             delivered id _ _ b q.pair.b.session (ap (λ (e : Engine). e.session) same_b) (rests b y).waits (come.to_b to_b),
             delivered id _ _ a q.pair.a.session (ap (λ (e : Engine). e.session) same_a) (rests a x).waits (come.to_a to_a),
           ),
+      rest_takes (view_of a) x.serves.served x.idle x.takes,
+      rest_takes (view_of b) y.serves.served y.idle y.takes,
     )

@@ -22,6 +22,7 @@ use Rattle.ymx_engine.specs.Lines.{opens_at}
 use Rattle.ymx_engine.specs.declared.connection.Connection.{Connection}
 use Rattle.ymx_engine.specs.Known.{may_push}
 use Rattle.ymx_engine.specs.Marks.{has_work}
+use Rattle.ymx_engine.specs.Served.{NoneGives}
 use Rattle.ymx_engine.specs.Turns.{known_as}
 use Rattle.ymx_engine.specs.Tunnels.{Tunnel, view_of, Serving}
 use Rattle.ymx_joined.specs.Pairs.{Pair, Turn, events_at_a, events_at_b}
@@ -123,10 +124,12 @@ abbrev pub IsDelivered : ℕ → (from to : List (Event × Reply)) → Tunnel �
 IsDelivered id from to here = (c : Connection) → stream_fault id here.engine.session ≡ None → known_as id here.turns.known ≡ Some c → (taken id from ≡ given id to) ⊎ (may_push c ≡ false)
 
 -- Two tunnels of new sessions, a client's and a server's, over two pipes: whatever they did, in whatever order, once both
--- are at rest and the pipes are empty they are quiet, and each stream is delivered, both ways.
+-- are at rest and the pipes are empty they are quiet, and each stream is delivered, both ways; and no stream takes bytes whose
+-- device may have some.
 abbrev pub AllIsDelivered : List Turn → Type 0
 AllIsDelivered ts =
     (window_a first_a window_b first_b : ℕ) (q : TunnelPair) (a b : Tunnel) → AreGood window_a first_a window_b first_b →
     BothWork ts (tunnels_of (new_session Client window_a first_a) (new_session Server window_b first_b)) q → a.engine ≡ q.pair.a → b.engine ≡ q.pair.b →
     IsAtRest a → IsAtRest b → q.pair.ab ≡ [] → q.pair.ba ≡ [] →
     AreQuiet q.pair × ((id : ℕ) → IsDelivered id (events_at_a ts) (events_at_b ts) b × IsDelivered id (events_at_b ts) (events_at_a ts) a)
+    × NoneGives (view_of a) × NoneGives (view_of b)

@@ -63,8 +63,8 @@ pub fn quiet_devices_have_all_but_what_waits()
 /// Two tunnels that have no work have delivered all. They are a client's and a server's, over two pipes in memory; they made
 /// any calls, in any order. Now neither has work, though its wire may take bytes; the pipes are empty, and both sessions run.
 /// Then they are quiet; and where an end has a stream, and knows its connection, all that the stream took at the other end
-/// was given here, or the device here may take none now. (A tunnel forgets nobody: clause `serves` of `Tunnel::new`, and
-/// the record `Attends` of `Runs`, which each of its calls has.)
+/// was given here, or the device here may take none now. Nor does a stream take bytes then that its device may have. (A
+/// tunnel forgets nobody: clause `serves` of `Tunnel::new`, and the record `Attends` of `Runs`, which each of its calls has.)
 pub fn tunnels_at_rest_have_delivered()
     ensures { (turns : List Turn) → AllIsDelivered turns }
 {}

@@ -1,7 +1,7 @@
 use Rattle.ymx_engine.proofs.Exchanging.{exchange_same}
 use Rattle.ymx_engine.proofs.Serving.{exchanges_once, exchanges_then}
 use Rattle.ymx_engine.proofs.Following.{grow_same, follows_same, follows_then}
-use Rattle.std.proofs.Common.{sym, ◌∙◌, inl}
+use Rattle.std.proofs.Common.{ℕ, ◌<◌, sym, subst, ◌∙◌, inl}
 use Rattle.ymx_engine.proofs.Moving.{some_then}
 use Rattle.ymx_engine.proofs.exchange.collect.Goals as goal
 
@@ -22,3 +22,9 @@ returns-then-not-may_pull-clause-collects g c = λ some may. absurd (let e = sym
 
 pub returns-clause-collects : goal.returns-clause-collects
 returns-clause-collects g c = λ some may. inl (some_then _ _ _ (c.pull_once.ensures.goes_on c.if-not-pull_once.false) c.pull_once-2.ensures.follows.grows.pulls)
+
+pub returns-then-not-may_pull-clause-asks_on : goal.returns-then-not-may_pull-clause-asks_on
+returns-then-not-may_pull-clause-asks_on g c = λ some may room. absurd (let e = sym c.may_pull.ensures ∙ c.if-not-may_pull.true in cc)
+
+pub returns-clause-asks_on : goal.returns-clause-asks_on
+returns-clause-asks_on g c = λ some may room. c.pull_once-2.ensures.asks_on (subst (λ (n : ℕ). 0 < n) (sym c.pull_once.auto.buffer) some) may room

@@ -4,6 +4,7 @@ use Rattle.ymx_engine.proofs.Exchanging.{pulled_none, pull_failed, finished}
 use Rattle.ymx_engine.proofs.Serving.{exchanges_once, gave_sent, gave_lost}
 use Rattle.ymx_engine.proofs.Following.{grow_pull, grow_close, follows_then, follows_called, follows_gave, follows_lacked, follows_pulled, follows_finished, follows_broken}
 use Rattle.ymx_engine.proofs.Moving.{counts_some, some_then}
+use Rattle.ymx_engine.proofs.Coming.{broken_gives_none, ended_gives_none}
 use Rattle.ymx_engine.proofs.exchange.pull_into.Goals as goal
 
 pub returns-then-count-eq0-clause-moved : goal.returns-then-count-eq0-clause-moved
@@ -66,3 +67,12 @@ returns-in-Ended-clause-asks g c = counts_some _ _ c.in-Ended.ensures.counts.pul
 
 pub returns-in-Failed-clause-asks : goal.returns-in-Failed-clause-asks
 returns-in-Failed-clause-asks g c = some_then _ _ _ (counts_some _ _ c.in-Failed.ensures.counts.pulls) (grow_close _ _ c.reset_and_shut-in-Failed.ensures.shut.counts).pulls
+
+pub returns-else-send-clause-asks_on : goal.returns-else-send-clause-asks_on
+returns-else-send-clause-asks_on g c = λ may. absurd (broken_gives_none _ _ c.reset_and_shut.ensures.broken may)
+
+pub returns-in-Failed-clause-asks_on : goal.returns-in-Failed-clause-asks_on
+returns-in-Failed-clause-asks_on g c = λ may. absurd (broken_gives_none _ _ c.reset_and_shut-in-Failed.ensures.broken may)
+
+pub returns-in-Ended-clause-asks_on : goal.returns-in-Ended-clause-asks_on
+returns-in-Ended-clause-asks_on g c = λ may. absurd (ended_gives_none _ may)

@@ -4,6 +4,7 @@ use Rattle.ymx_engine.proofs.Serving.{exchanges_once, exchanges_then, exchanges_
 use Rattle.ymx_engine.proofs.Following.{grow_same, follows_same, follows_broken}
 use Rattle.std.proofs.lemmas.Grind.{common_steps}
 use Rattle.ymx_session.specs.Streams.{room_of}
+use Rattle.ymx_engine.proofs.Coming.{broken_gives_none}
 use Rattle.ymx_engine.proofs.exchange.pull_once.Goals as goal
 
 pub returns-then-room-gt0-clause-moved : goal.returns-then-room-gt0-clause-moved
@@ -38,3 +39,12 @@ returns-else-is_stopped-clause-asks g c = λ some. inr (ap (room_of c.args.id) c
 
 pub returns-then-room-gt0-clause-goes_on : goal.returns-then-room-gt0-clause-goes_on
 returns-then-room-gt0-clause-goes_on g c = λ on. c.pull_into.ensures.asks
+
+pub returns-then-room-gt0-clause-asks_on : goal.returns-then-room-gt0-clause-asks_on
+returns-then-room-gt0-clause-asks_on g c = λ some may room. c.pull_into.ensures.asks_on may
+
+pub returns-then-is_stopped-clause-asks_on : goal.returns-then-is_stopped-clause-asks_on
+returns-then-is_stopped-clause-asks_on g c = λ some may room. absurd (broken_gives_none _ _ c.break_off.ensures may)
+
+pub returns-else-is_stopped-clause-asks_on : goal.returns-else-is_stopped-clause-asks_on
+returns-else-is_stopped-clause-asks_on g c = λ some may room. absurd (let none = ap (room_of c.args.id) c.is_stopped.ensures.same in grind (arith, common_steps))

@@ -49,4 +49,4 @@ pub returns-in-Failed-clause-stays : goal.returns-in-Failed-clause-stays
 returns-in-Failed-clause-stays g c = λ may waits. absurd (broken_takes_none _ _ c.reset_and_shut.ensures.broken may)
 
 pub returns-then-is_empty-clause-stays : goal.returns-then-is_empty-clause-stays
-returns-then-is_empty-clause-stays g c = λ may waits. let came = exchange_came c.args.id _ _ _ _ c.hear_silence.ensures.moved c.args.id waits in let some = c.unread-bytes.ensures.some came in let e : (length c.unread-bytes.result.now == 0) ≡ true = sym c.is_empty.ensures ∙ c.if-is_empty.true in let no : ⊥ = grind (arith, nat_tests) in absurd no
+returns-then-is_empty-clause-stays g c = λ may waits. let came = (exchange_came c.args.id _ _ _ _ c.hear_silence.ensures.moved c.args.id).bytes waits in let some = c.unread-bytes.ensures.some came in let e : (length c.unread-bytes.result.now == 0) ≡ true = sym c.is_empty.ensures ∙ c.if-is_empty.true in let no : ⊥ = grind (arith, nat_tests) in absurd no

@@ -1,3 +1,4 @@
+use Rattle.std.proofs.Common.{◌≡◌, ◌∙◌, sym, true, false}
 use Rattle.ymx_engine.proofs.Coming.{exchange_came, exchanges_calm, could_push}
 use Rattle.ymx_engine.proofs.Exchanging.{exchange_then}
 use Rattle.ymx_engine.proofs.Serving.{exchanges_once, exchanges_then}
@@ -42,11 +43,14 @@ pub returns-else-collect-clause-collects : goal.returns-else-collect-clause-coll
 returns-else-collect-clause-collects g c = λ on some may. asked_then _ _ _ _ _ _ _ (follows_then _ _ _ _ _ _ c.deliver-more.ensures.follows c.hear_stop.ensures.follows) c.collect.ensures.follows (c.collect.ensures.collects some)
 
 pub returns-then-not-reads-clause-stays : goal.returns-then-not-reads-clause-stays
-returns-then-not-reads-clause-stays g c = λ w may waits. c.deliver-more.ensures.stays (could_push _ _ _ _ c.hear_stop.ensures.follows may) (exchange_came c.args.id _ _ _ _ c.hear_stop.ensures.moved c.args.id waits)
+returns-then-not-reads-clause-stays g c = λ w may waits. c.deliver-more.ensures.stays (could_push _ _ _ _ c.hear_stop.ensures.follows may) ((exchange_came c.args.id _ _ _ _ c.hear_stop.ensures.moved c.args.id).bytes waits)
 
 pub returns-else-collect-clause-stays : goal.returns-else-collect-clause-stays
 returns-else-collect-clause-stays g c = λ w may waits.
     let first = exchanges_calm c.args.id _ _ _ _ _ _ (exchanges_once c.args.id _ _ c.args.outgoing.now _ _ (exchange_then _ _ _ _ _ _ _ c.deliver-more.ensures.moved c.hear_stop.ensures.moved)) w in
     let second = exchanges_calm c.args.id _ _ _ _ _ _ c.collect.ensures.moved first.within in
     c.deliver-more.ensures.stays (could_push _ _ _ _ c.hear_stop.ensures.follows (could_push _ _ _ _ c.collect.ensures.follows may))
-    (exchange_came c.args.id _ _ _ _ c.hear_stop.ensures.moved c.args.id (second.came c.args.id waits))
+    ((exchange_came c.args.id _ _ _ _ c.hear_stop.ensures.moved c.args.id).bytes ((second.came c.args.id).bytes waits))
+
+pub returns-else-collect-clause-asks_on : goal.returns-else-collect-clause-asks_on
+returns-else-collect-clause-asks_on g c = λ on some may room. absurd (let no = sym c.if-collect.false ∙ c.collect.ensures.asks_on some may room in let wrong : false ≡ true = no in cc)

@@ -6,13 +6,14 @@ use Rattle.ymx_engine.proofs.Queueing.{keeps_same, keeps_then}
 use Rattle.ymx_engine.proofs.engine.Engine.flush.Goals as goal
 
 pub write-init : goal.write-init
-write-init g c = (flushes_same _ _ 0, writes_none _ _, keeps_same _)
+write-init g c = (flushes_same _ _ 0, writes_none _ _, keeps_same _, λ some. absurd (omega (arith, some)))
 
 pub write-preserved : goal.write-preserved
 write-preserved g c = let w = c.write_once.ensures in (
   flushes_then _ _ _ _ _ _ _ 1 c.write.invariant.0 w.moved,
   writes_more _ _ _ _ _ _ c.write.turn c.write.invariant.1 (w.goes_on c.if-not-write_once.false) w.pull w.counts,
   keeps_then _ _ _ c.write.invariant.2 w.turns,
+  λ some. let on = w.goes_on c.if-not-write_once.false in w.releases on.0 on.2,
 )
 
 pub returns-then-not-write_once-clause-moved : goal.returns-then-not-write_once-clause-moved
@@ -38,3 +39,9 @@ returns-then-not-write_once-clause-served g c = flushed_served _ _ _ _ _ (flushe
 
 pub returns-clause-served : goal.returns-clause-served
 returns-clause-served g c = flushed_served _ _ _ _ _ c.write.invariant.0 c.write.invariant.2
+
+pub returns-then-not-write_once-clause-releases : goal.returns-then-not-write_once-clause-releases
+returns-then-not-write_once-clause-releases g c = λ on out. c.write_once.ensures.releases (c.write.invariant.1.push ∙ on) out
+
+pub returns-clause-releases : goal.returns-clause-releases
+returns-clause-releases g c = λ on out. c.write.invariant.3 (omega (arith, c.write-test.false))

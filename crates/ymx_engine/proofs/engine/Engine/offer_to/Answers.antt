@@ -1,7 +1,7 @@
 use Rattle.std.proofs.Common.{ap, ◌∙◌, drop}
 use Rattle.ymx_engine.specs.Marks.{EngineView}
 use Rattle.ymx_engine.proofs.Advancing.{offers_front}
-use Rattle.ymx_engine.proofs.Queueing.{others_from, others_set, waits_then, awaits_added}
+use Rattle.ymx_engine.proofs.Queueing.{others_from, others_set, waits_then, awaits_added, held_same}
 use Rattle.ymx_engine.proofs.Forgetting.{from_served, offered_served, same_awaits}
 use Rattle.ymx_engine.proofs.engine.Engine.offer_to.Goals as goal
 
@@ -19,6 +19,7 @@ returns-clause-others g c =
       known = λ other ne. c.enqueue.ensures.known other ∙ others_set c.args.id _ _ _ c.set.ensures.known c.set.ensures.none other ne;
       turns = λ other h. waits_then c.args.id other _ _ _ _ _ _ q.0 q.1 t.0 t.1 h;
       awaits = λ other ne some h. awaits_added c.args.id other c.set.new.self c.enqueue.new.self t (same_awaits other c.self.inside.connections c.set.new.self q.0 q.1 q.3 h);
+      holds = λ other ne some h. held_same c.self.inside.connections c.enqueue.new.self (t.2 ∙ q.2) other h;
     })
 
 pub returns-clause-served : goal.returns-clause-served

@@ -1,4 +1,4 @@
-use Rattle.std.proofs.Common.{ℕ, List, ◌<◌, ◌≡◌, ◌∙◌, true, refl, ap, sym, subst, length}
+use Rattle.std.proofs.Common.{ℕ, List, ◌<◌, ◌≡◌, ◌∙◌, inr, true, refl, ap, sym, subst, length}
 use Rattle.ymx_session.specs.Streams.{waiting, room_of}
 use Rattle.ymx_engine.specs.Known.{may_push, may_pull}
 use Rattle.ymx_engine.specs.Follows.{FollowsDevice, IsOffered, IsAsked}
@@ -6,7 +6,7 @@ use Rattle.ymx_engine.specs.Marks.{EngineView}
 use Rattle.ymx_engine.specs.Turns.{known_as}
 use Rattle.ymx_engine.proofs.Exchanging.{exchange_same}
 use Rattle.ymx_engine.proofs.Following.{still_known, none_known}
-use Rattle.ymx_engine.proofs.Queueing.{others_from, others_known, others_same, await_on}
+use Rattle.ymx_engine.proofs.Queueing.{others_from, others_known, others_same, await_on, stays_or_adds}
 use Rattle.ymx_engine.proofs.Running.{is_some_at}
 use Rattle.ymx_engine.proofs.Coming.{exchanges_calm}
 use Rattle.ymx_engine.proofs.Forgetting.{from_served_but, served_but, served_unknown, turn_served, calm_but}
@@ -27,7 +27,7 @@ returns-in_default-clause-delivers g c = λ some was at. absurd (none_known c.ar
 
 pub returns-in-Some-clause-others : goal.returns-in-Some-clause-others
 returns-in-Some-clause-others g c =
-    others_from _ _ _ _ (ap (λ (v : EngineView). v.turns) c.self.view_is) (record { known = others_known c.args.id _ _ _ _ c.in-Some.ensures c.end_turn.ensures.known; turns = c.end_turn.ensures.turns; awaits = λ other ne some h. await_on other c.self.inside.connections c.end_turn.new.self (c.end_turn.ensures.turns other) c.end_turn.ensures.missed h })
+    others_from _ _ _ _ (ap (λ (v : EngineView). v.turns) c.self.view_is) (record { known = others_known c.args.id _ _ _ _ c.in-Some.ensures c.end_turn.ensures.known; turns = c.end_turn.ensures.turns; awaits = λ other ne some h. await_on other c.self.inside.connections c.end_turn.new.self (c.end_turn.ensures.turns other) c.end_turn.ensures.missed h; holds = λ other ne some h. inr (stays_or_adds c.args.id other _ _ c.end_turn.ensures.held h) })
 
 pub returns-in-Some-clause-follows : goal.returns-in-Some-clause-follows
 returns-in-Some-clause-follows g c =
@@ -59,4 +59,6 @@ returns-in-Some-clause-served g c =
     from_served_but _ _ _ _ c.self.view_is
     (served_but c.args.id _ _ (λ w. calm_but c.args.id _ _ (exchanges_calm c.args.id _ _ _ _ _ _ c.serve-more.ensures.moved w)) (others_known c.args.id _ _ _ _ c.in-Some.ensures e.known)
     (λ other ne some h. await_on other c.self.inside.connections c.end_turn.new.self (e.turns other) e.missed h)
-    (λ w. turn_served c.args.id _ _ c.self.inside.connections c.end_turn.new.self c.serve-more.new.session (is_some_at (sym c.in-Some.ensures)) e.known e.awaits (c.serve-more.ensures.stays w)))
+    (λ other ne some h. inr (stays_or_adds c.args.id other _ _ e.held h))
+    (λ w. turn_served c.args.id c.serve-more.new.connection c.serve-more.result c.is_put_off-holds.result c.may_take_more-may_pull.result _ c.self.inside.connections (is_some_at (sym c.in-Some.ensures)) e.known e.awaits (c.serve-more.ensures.stays w)
+    e.attended c.is_put_off-holds.ensures (λ reads. c.serve-more.ensures.asks_on reads (subst (λ (v : List ℕ). 0 < length v) (sym c.as_mut_slice-buffer.ensures.value) c.self.invariant))))
