@@ -1,6 +1,6 @@
 //! How a pump ended.
 
-ghost use Rattle.std.specs.Prelude.{◌≡◌};
+ghost use Rattle.std.specs.Prelude.{◌≡◌, ◌+◌, ◌-◌, ◌^◌, min};
 
 use ymx_header::Fault;
 use ymx_memory::RefusedAllocation;
@@ -51,5 +51,15 @@ impl Stop {
         ensures { result ≡ record { moved = 0; why = why } }
     {
         Stop { moved: 0, why }
+    }
+
+    /// The same, behind so many bytes that were moved before.
+    pub(crate) fn behind(self, moved: u64) -> Stop
+        ensures { result ≡ record { moved = min (moved + self.moved) (2 ^ 64 - 1); why = self.why } }
+    {
+        Stop {
+            moved: moved.saturating_add(self.moved),
+            why: self.why,
+        }
     }
 }

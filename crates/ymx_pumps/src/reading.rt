@@ -80,7 +80,7 @@ fn feed_all<R: Recorder, W: Wait, G: Gate>(
 }
 
 /// The input has ended, for this reason.
-fn end_input<R: Recorder, W: Wait>(
+pub(crate) fn end_input<R: Recorder, W: Wait>(
     rt: &W,
     hub: &Hub<R>,
     seat: &mut Seat<R>,
@@ -142,12 +142,7 @@ pub(crate) fn read_on<R: Recorder, W: Wait, I: Inlet, G: Gate>(
     for _ in rt.forever() {
         match read_turn(rt, hub, seat, reader, gate, buffer) {
             Ok(taken) => count = count.saturating_add(taken as u64),
-            Err(stop) => {
-                return Stop {
-                    moved: count.saturating_add(stop.moved),
-                    why: stop.why,
-                };
-            }
+            Err(stop) => return stop.behind(count),
         }
     }
     unreachable!()
@@ -198,12 +193,7 @@ fn read_settling<R: Recorder, W: Wait, I: Inlet, G: Gate>(
         let _ = hub.settle(rt, settler);
         match turn {
             Ok(fed) => count = count.saturating_add(fed as u64),
-            Err(stop) => {
-                return Stop {
-                    moved: count.saturating_add(stop.moved),
-                    why: stop.why,
-                };
-            }
+            Err(stop) => return stop.behind(count),
         }
     }
     unreachable!()

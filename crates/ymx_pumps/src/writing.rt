@@ -12,6 +12,7 @@ ghost use Rattle.ymx_pumps.specs.Turns.{SaysEnd, TurnWrote};
 
 use crate::gate::Gate;
 use crate::pump_end::{PumpEnd, PumpWhy, Stop};
+use crate::reading::end_input;
 use std::sync::Wait;
 use ymx_devices::push_all;
 use ymx_hub::{Hub, Turn};
@@ -23,12 +24,9 @@ fn lose_writer<R: Recorder, W: Wait>(rt: &W, hub: &Hub<R>, seat: &mut Seat<R>) -
     ensures ended { Books R.KEEPS seat.old seat.new (SaysEnd seat.old.number PumpWhy.Device result) }
     ensures reason { (result ≡ PumpWhy.Device) ⊎ ((R.KEEPS ≡ true) × (result ≡ PumpWhy.Memory evidence)) }
 {
-    let ended = hub.feed_end(rt, seat);
+    let why = end_input(rt, hub, seat, PumpWhy::Device);
     hub.mute(rt);
-    match ended {
-        Ok(()) => PumpWhy::Device,
-        Err(refused) => PumpWhy::Memory(refused),
-    }
+    why
 }
 
 /// Nothing more will be due: ends the writer.
@@ -107,12 +105,7 @@ pub(crate) fn write_on<R: Recorder, W: Wait, O: Outlet, G: Gate>(
     for _ in rt.forever() {
         match write_turn(rt, hub, seat, writer, gate, buffer) {
             Ok(written) => count = count.saturating_add(written as u64),
-            Err(stop) => {
-                return Stop {
-                    moved: count.saturating_add(stop.moved),
-                    why: stop.why,
-                };
-            }
+            Err(stop) => return stop.behind(count),
         }
     }
     unreachable!()

@@ -16,7 +16,7 @@ loop-preserved g c = record {
 
 pub returns-in-Err-clause-gave : goal.returns-in-Err-clause-gave
 returns-in-Err-clause-gave g c =
-    fed_last g.R.Recorder.KEEPS (g.I.Inlet.failures c.args.reader.now) (g.I.Inlet.failures c.loop.reader) (g.I.Inlet.failures c.read_turn-turn.new.reader) (g.I.Inlet.remaining c.args.reader.now) (g.I.Inlet.remaining c.loop.reader) (g.I.Inlet.remaining c.read_turn-turn.new.reader) c.args.seat.now c.loop.seat c.read_turn-turn.new.seat c.loop.count c.saturating_add.result c.in-Err.stop c.loop.invariant.fed c.in-Err.ensures.turned c.saturating_add.ensures
+    rw c.behind.ensures (fed_last g.R.Recorder.KEEPS (g.I.Inlet.failures c.args.reader.now) (g.I.Inlet.failures c.loop.reader) (g.I.Inlet.failures c.read_turn-turn.new.reader) (g.I.Inlet.remaining c.args.reader.now) (g.I.Inlet.remaining c.loop.reader) (g.I.Inlet.remaining c.read_turn-turn.new.reader) c.args.seat.now c.loop.seat c.read_turn-turn.new.seat c.loop.count _ c.in-Err.stop c.loop.invariant.fed c.in-Err.ensures.turned refl)
 
 pub returns-in-Err-clause-settled : goal.returns-in-Err-clause-settled
 returns-in-Err-clause-settled g c = settles_more g.R.Recorder.KEEPS _ _ _ c.loop.invariant.settled c.settle.ensures.booked

@@ -14,4 +14,4 @@ loop-preserved g c = record {
 
 pub returns-in-Err-clause-wrote : goal.returns-in-Err-clause-wrote
 returns-in-Err-clause-wrote g c =
-    written_last g.R.Recorder.KEEPS (length c.args.buffer.now) (length c.loop.buffer) (g.O.Outlet.failures c.args.writer.now) (g.O.Outlet.failures c.loop.writer) (g.O.Outlet.failures c.write_turn.new.writer) (g.O.Outlet.contents c.args.writer.now) (g.O.Outlet.contents c.loop.writer) (g.O.Outlet.contents c.write_turn.new.writer) c.args.seat.now c.loop.seat c.write_turn.new.seat c.loop.count c.saturating_add.result c.in-Err.stop c.loop.invariant.written c.loop.invariant.room c.in-Err.ensures.turned c.saturating_add.ensures
+    rw c.behind.ensures (written_last g.R.Recorder.KEEPS (length c.args.buffer.now) (length c.loop.buffer) (g.O.Outlet.failures c.args.writer.now) (g.O.Outlet.failures c.loop.writer) (g.O.Outlet.failures c.write_turn.new.writer) (g.O.Outlet.contents c.args.writer.now) (g.O.Outlet.contents c.loop.writer) (g.O.Outlet.contents c.write_turn.new.writer) c.args.seat.now c.loop.seat c.write_turn.new.seat c.loop.count _ c.in-Err.stop c.loop.invariant.written c.loop.invariant.room c.in-Err.ensures.turned refl)
