@@ -11,7 +11,6 @@ use crate::ended::Connected;
 use crate::handle::Handle;
 use crate::off::discard;
 use crate::running::{Buffers, run_beside};
-use crate::starting::RefusedThread;
 use crate::tcp::{ConnectionReader, ConnectionWriter};
 use std::alloc::Global;
 use std::net::TcpStream;
@@ -94,11 +93,26 @@ pub fn connect<
     ensures wrote { IfOk result (λ connected. HasWrittenUnseen (O.failures writer) (O.failures connected.writer) (O.contents writer) (O.contents connected.writer) (O.is_ended connected.writer) connected.ended.written_bytes connected.ended.written) }
     ensures refused { IfErr result (λ fault. IsConnectFault role config fault) }
 {
-    let prepared = match prepare(alloc, role, config) {
-        Ok(prepared) => prepared,
-        Err(fault) => return Err(fault),
-    };
-    match run(rt, prepared, reader, writer, work) {
+    let Prepared {
+        hub,
+        handle,
+        buffers,
+    } = prepare(alloc, role, config)?;
+    let mut seat = handle.spare_seat();
+    let connected = run_beside(
+        rt,
+        &*hub,
+        &mut seat,
+        reader,
+        writer,
+        buffers,
+        move || -> T
+            requires { F.IsAlwaysCallable work }
+            ensures { Answered F.FnOnce work result }
+        { answer_of(&handle, work) },
+    );
+    discard(seat);
+    match connected {
         Ok(connected) => Ok(connected),
         Err(refused) => Err(ConnectFault::NoThread(refused)),
     }
@@ -131,48 +145,6 @@ fn surround(alloc: Global, session: Session) -> Result<Prepared, RefusedAllocati
         handle,
         buffers,
     })
-}
-
-/// Runs the pumps, each in a thread, while the caller's function works. `RefusedThread`, and it was not called, if a
-/// thread can't be made.
-fn run<
-    W: Threads + Wait + Sync,
-    I: Inlet + Send + Drop,
-    O: Outlet + Send + Drop,
-    T: Drop,
-    F: FnOnce(&Handle) -> T,
->(
-    rt: &W,
-    prepared: Prepared,
-    reader: I,
-    writer: O,
-    work: F,
-) -> Result<Connected<T, I, O>, RefusedThread>
-    requires { F.IsAlwaysCallable work }
-    ensures answered { IfOk result (λ connected. Answered F.FnOnce work connected.answer) }
-    ensures read { IfOk result (λ connected. HasRead (I.failures reader) (I.failures connected.reader) (I.remaining reader) (I.remaining connected.reader) connected.ended.read_bytes connected.ended.read) }
-    ensures wrote { IfOk result (λ connected. HasWrittenUnseen (O.failures writer) (O.failures connected.writer) (O.contents writer) (O.contents connected.writer) (O.is_ended connected.writer) connected.ended.written_bytes connected.ended.written) }
-{
-    let Prepared {
-        hub,
-        handle,
-        buffers,
-    } = prepared;
-    let mut seat = handle.spare_seat();
-    let connected = run_beside(
-        rt,
-        &*hub,
-        &mut seat,
-        reader,
-        writer,
-        buffers,
-        move || -> T
-            requires { F.IsAlwaysCallable work }
-            ensures { Answered F.FnOnce work result }
-        { answer_of(&handle, work) },
-    );
-    discard(seat);
-    connected
 }
 
 /// What the caller's function answers.

@@ -77,7 +77,6 @@ pub(crate) fn run_beside<
                 writes_on,
                 move || -> PumpedOut<O>
                     requires { R.KEEPS ≡ false }
-                    ensures { HasWritten R.WITNESSED R.role R.config (O.failures writer) (O.failures result.writer) (O.contents writer) (O.contents result.writer) (O.is_ended result.writer) result.moved result.why }
                 { pump_to_wire(rt, hub, writer, out_of) },
             )?;
             let reading = start_with(
@@ -85,7 +84,6 @@ pub(crate) fn run_beside<
                 reads_on,
                 move || -> PumpedIn<I>
                     requires { R.KEEPS ≡ false }
-                    ensures { HasRead (I.failures reader) (I.failures result.reader) (I.remaining reader) (I.remaining result.reader) result.moved result.why }
                 { pump_from_wire(rt, hub, reader, into) },
             );
             if reading.is_err() {
