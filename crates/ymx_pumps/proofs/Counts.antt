@@ -1,13 +1,7 @@
--- Bytes that are counted, and failures.
-use Rattle.std.proofs.Common.{◌≡◌, ℕ, ◌+◌, ◌-◌, ◌^◌, List, [], ◌++◌, length, min, true, arith}
+-- Bytes that are counted.
+use Rattle.std.proofs.Common.{◌≡◌, ℕ, ◌+◌, ◌-◌, ◌^◌, List, [], ◌++◌, length, min, arith}
 use Rattle.std.proofs.lemmas.Grind.{common_steps}
-use Rattle.std.proofs.lemmas.Bool.Decides.{nat_tests}
-use Rattle.ymx_model.specs.devices.Devices.{has_failed, most_failures}
 use Rattle.ymx_pumps.specs.Pumps.{byte_count}
-
--- a call that fails is counted
-pub fails_once : (old new : ℕ) → new ≡ min (old + 1) most_failures → has_failed old new ≡ true
-fails_once old new e = grind (arith, nat_tests)
 
 pub counted_none : 0 ≡ byte_count []
 counted_none = omega arith

@@ -1,11 +1,11 @@
 -- What a write pump emits and writes.
-use Rattle.std.proofs.Common.{◌≡◌, ℕ, ◌+◌, ◌-◌, ◌^◌, ◌≤◌, List, [], ◌∷◌, ◌++◌, length, take, drop, min, Bool, true, false, Option, Ok, Err, inl, inr, arith, refl, sym, ap, ◌∙◌, subst, append_assoc, append-nil}
+use Rattle.std.proofs.Common.{◌≡◌, ℕ, ◌+◌, ◌-◌, ◌^◌, ◌≤◌, List, [], ◌∷◌, ◌++◌, length, take, min, Bool, true, false, Option, Ok, Err, inl, inr, arith, refl, sym, ap, ◌∙◌, subst, append_assoc, append-nil}
 use Rattle.std.proofs.lemmas.Grind.{common_steps}
 use Rattle.std.proofs.lemmas.List.{take_all}
-use Rattle.std.proofs.Math.Seq.{take-append-add, take-add}
+use Rattle.std.proofs.Math.Seq.{take-append-add}
 use Rattle.std.specs.Io.KnownBytes.{Appends, Keeps}
 use Rattle.std.proofs.KnownBytes.{Appends-nil, Appends-trans, Appends-kept, Keeps-refl}
-use Rattle.ymx_model.specs.devices.Devices.{has_failed, most_failures}
+use Rattle.ymx_model.specs.devices.Devices.{has_failed}
 use Rattle.ymx_model.specs.declared.types.Event.TheVariants as event
 use Rattle.ymx_machine.specs.declared.types.Reply.TheVariants as reply
 use Rattle.ymx_model.specs.declared.types.Entry.{Entry}
@@ -22,7 +22,7 @@ use Rattle.ymx_pumps.specs.declared.pump_end.PumpWhy.TheVariants.{Device, Memory
 use Rattle.ymx_pumps.specs.declared.pump_end.Stop.{Stop}
 use Rattle.ymx_pumps.specs.Pumps.{byte_count, AreEmits, IsWritten, EndsWrite, WriteAdds, PumpWrote}
 use Rattle.ymx_pumps.specs.Turns.{SaysEnd, TurnWrote}
-use Rattle.ymx_pumps.proofs.Counts.{fails_once, counted_on, counted_none}
+use Rattle.ymx_pumps.proofs.Counts.{counted_on, counted_none}
 
 -- ---- emissions
 
