@@ -117,6 +117,5 @@ else
     echo "--    a program of its own, by CMake: left out: there is no cmake, or no make"
 fi
 is "a copy with no toolchain builds it from the release" "$here/from_release.sh"
-is "the proofs are those that c/write_proofs.py writes" python3 "$root/c/write_proofs.py" --same "$root/crates/ymx_c"
 echo "$passed passed, $failed failed"
 [ $failed = 0 ]
