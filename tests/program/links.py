@@ -267,7 +267,8 @@ def many_through(*words):
         for user in users:
             user.join()
     assert not bad, f"{len(bad)} came back otherwise"
-    while (files(near), files(far)) != used:
+    # The first users' descriptors may still have been open when they were counted.
+    while files(near) > used[0] or files(far) > used[1]:
         time.sleep(0.01)
     assert is_threads(near, LINKS + 2) and is_threads(far, LINKS + 1)
 
