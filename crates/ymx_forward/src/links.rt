@@ -316,6 +316,12 @@ fn receive_users<R: Clock + Wait, V: ProgramWatcher>(
 ) -> Forwarded {
     let mut all = Forwarded::well();
     for _ in rt.forever() {
+        // This comes first: links that close behind the last user are no fault.
+        if reception.listening.is_over() {
+            all.done = reception.listening.all_came().map(Done::AllCame);
+            all.accept_failed = reception.listening.has_failed();
+            return all;
+        }
         if are_closed(rt, reception.inboxes.as_slice()) {
             all.is_unwatched = !reception.listening.is_endless();
             return all;
@@ -326,11 +332,7 @@ fn receive_users<R: Clock + Wait, V: ProgramWatcher>(
         }
         if let Some(reason) = reception.listening.take_refusal() {
             watcher.failed("--listen", reason);
-        }
-        if reception.listening.is_over() {
-            all.done = reception.listening.all_came().map(Done::AllCame);
-            all.accept_failed = reception.listening.has_failed();
-            return all;
+            continue;
         }
         if reception.wait().is_err() {
             all.accept_failed = true;
