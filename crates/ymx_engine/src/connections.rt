@@ -180,6 +180,9 @@ impl Connections {
         ensures awaits { IsSome (known_as id self.old.known) → Awaits id self.new }
         ensures missed { self.old.has_room ≡ true → self.new.missed ≡ self.old.missed }
         ensures keys { keys_of self.new.known ≡ keys_of self.old.known }
+        // It is marked then, and one that was marked stands in no queue a second time.
+        ensures marked { IsSome (known_as id self.old.known) → (queue_mark id self.new.known ≡ Some true) ⊎ (self.new.missed ≡ true) }
+        ensures once { queue_mark id self.old.known ≡ Some true → (self.new.fresh ≡ self.old.fresh) × (self.new.busy ≡ self.old.busy) }
     {
         if let Some(found) = self.by_id.get_mut(&id) {
             if !found.is_queued {
@@ -197,6 +200,9 @@ impl Connections {
         ensures turns { (self.new.fresh ≡ self.old.fresh) × (self.new.busy ≡ self.old.busy) × StaysMissed self.old self.new }
         ensures held { StaysOrAdds id self.old.held self.new.held }
         ensures attended { IsSome (known_as id self.old.known) → Attended id self.new }
+        // It is marked then, and one that was marked is not held back a second time.
+        ensures marked { IsSome (known_as id self.old.known) → (held_mark id self.new.known ≡ Some true) ⊎ (self.new.missed ≡ true) }
+        ensures once { held_mark id self.old.known ≡ Some true → self.new.held ≡ self.old.held }
     {
         if let Some(found) = self.by_id.get_mut(&id) {
             if !found.is_held {
