@@ -1,7 +1,6 @@
 -- A write of no bytes changes nothing, and what a device was asked.
-use Rattle.std.proofs.Common.{◌≡◌, ◌⊎◌, inl, inr, ℕ, ◌≤◌, [], Bool, true, false, ◌&&◌, if◌then◌else◌, Option, None, Some, refl, sym, ◌∙◌, arith}
+use Rattle.std.proofs.Common.{◌≡◌, ◌⊎◌, inl, inr, ℕ, [], Bool, true, false, ◌&&◌, if◌then◌else◌, Option, None, Some, refl, sym, ◌∙◌, arith}
 use Rattle.std.specs.Prelude.{◌==◌, not, Result, Ok, Err, OnErr}
-use Rattle.ymx_machine.specs.shared.Events.{Reply}
 use Rattle.ymx_machine.specs.shared.Replies.{bytes_moved}
 use Rattle.ymx_machine.specs.shared.Phases.{is_live, is_reset}
 use Rattle.ymx_machine.specs.shared.Lists.{look}

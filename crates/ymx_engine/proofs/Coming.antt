@@ -34,7 +34,7 @@ use Rattle.ymx_law_session.proofs.limits.CallsKeep.{with-keeps}
 use Rattle.ymx_law_session.proofs.limits.EmissionsKeep.{some_if, if_some, none_if, ready-keeps, moves-keep}
 use Rattle.ymx_law_session.proofs.limits.HistoriesKeep.{gives-keep}
 use Rattle.ymx_session.specs.Replies.{end_fault}
-use Rattle.ymx_session.specs.Streams.{waiting, unread_of, open_credit, room_of}
+use Rattle.ymx_session.specs.Streams.{unread_of, open_credit}
 use Rattle.ymx_engine.specs.declared.connection.Connection.{Connection}
 use Rattle.ymx_engine.specs.declared.connection.Flow.{Flow}
 use Rattle.ymx_engine.specs.declared.connection.Flow.TheVariants as flow

@@ -1,5 +1,5 @@
 -- Nobody who can be served is forgotten.
-use Rattle.std.proofs.Common.{◌≡◌, ◌≢◌, ◌⊎◌, inl, inr, ℕ, ◌<◌, List, [], ◌∷◌, length, take, Bool, true, false, not, ◌||◌, ◌&&◌, ◌==◌, if◌then◌else◌, Option, None, Some, Result, Ok, Err, refl, sym, ap, ◌∙◌, subst, cond, arith}
+use Rattle.std.proofs.Common.{◌≡◌, ◌≢◌, inl, inr, ℕ, ◌<◌, List, [], ◌∷◌, length, take, Bool, true, false, not, ◌||◌, ◌&&◌, if◌then◌else◌, Option, None, Some, Result, Ok, Err, refl, sym, ap, ◌∙◌, subst, cond, arith}
 use Rattle.std.specs.Prelude.{nat_eq, nat_le, IsSome, IfSome, IfNone, IfOk, count_by, Contains}
 use Rattle.std.proofs.lemmas.Bool.Decides.{nat_tests}
 use Rattle.ymx_machine.specs.declared.types.Call.TheVariants as call
@@ -10,7 +10,7 @@ use Rattle.ymx_machine.specs.declared.types.Reply.TheVariants as reply
 use Rattle.ymx_machine.specs.shared.Events.{Reply, Call}
 use Rattle.ymx_machine.specs.shared.Limits.{most_records, most_unacknowledged, most_pings, first_exhausted}
 use Rattle.ymx_machine.specs.shared.Lists.{look}
-use Rattle.ymx_machine.proofs.Tests.{split, agrees, both_of}
+use Rattle.ymx_machine.proofs.Tests.{split}
 use Rattle.ymx_model.specs.declared.types.Event.TheVariants as event
 use Rattle.ymx_model.specs.declared.types.Status.{Status}
 use Rattle.ymx_model.specs.declared.types.Status.TheVariants.{Running, Lost, Broken, Closed}
@@ -34,13 +34,13 @@ use Rattle.ymx_session.specs.Touched.{Noted, is_noted, NotesChanges}
 use Rattle.ymx_engine.specs.declared.connection.Connection.{Connection}
 use Rattle.ymx_engine.specs.Devices.{Seen}
 use Rattle.ymx_engine.specs.Known.{may_push, may_pull}
-use Rattle.ymx_engine.specs.Marks.{EngineView, has_work, may_read_wire, has_to_send}
+use Rattle.ymx_engine.specs.Marks.{EngineView, has_work}
 use Rattle.ymx_engine.specs.Passes.{OffersOnce}
 use Rattle.ymx_engine.specs.Refusals.{GivesUp}
 use Rattle.ymx_engine.specs.Engines.{KeepsWire}
 use Rattle.ymx_engine.proofs.Resting.{rest_none, rest_takes}
 use Rattle.ymx_engine.specs.Served.{IsServed, AreServed, AreServedBut, KeepsServed, NoneWaits, NoneGives, GainsNone, LetsGo}
-use Rattle.ymx_engine.specs.Turns.{Turns, known_as, Waits, Awaits, Attended, SameConnections, SameQueues, Knows, Adds, AddsTurn, KeepsTurns, TakesTurn, IsIdle, is_idle}
+use Rattle.ymx_engine.specs.Turns.{Turns, known_as, Waits, Awaits, Attended, SameConnections, SameQueues, Knows, Adds, AddsTurn, KeepsTurns, TakesTurn, IsIdle}
 use Rattle.ymx_engine.specs.Wires.{HandlesOut, FlushesWire}
 use Rattle.ymx_engine.proofs.Coming.{NoneCame, Goes, none_came, gains_then, IsCalm, happen_within, came_same, calm_came, flush_is_calm}
 use Rattle.ymx_engine.proofs.Queueing.{keeps_same, keeps_queues, keeps_then, awaits_added, popped_either, attended_on, held_same}

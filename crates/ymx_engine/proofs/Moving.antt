@@ -1,10 +1,9 @@
 -- What counts say, and what goes on where something moves.
-use Rattle.std.proofs.Common.{◌≡◌, ◌⊎◌, inl, inr, ℕ, zero, suc, ◌+◌, ◌≤◌, ◌<◌, List, [], ◌∷◌, length, take, Bool, true, false, ◌||◌, refl, sym, ap, ◌∙◌, arith}
+use Rattle.std.proofs.Common.{◌≡◌, ◌⊎◌, inl, inr, ℕ, zero, suc, ◌+◌, ◌≤◌, ◌<◌, List, [], length, take, true, false, refl, sym, ap, ◌∙◌, arith}
 use Rattle.std.proofs.lemmas.Grind.{common_steps}
 use Rattle.ymx_engine.specs.declared.device.Pulled.{Pulled}
-use Rattle.ymx_engine.specs.declared.device.Pushed.{Pushed}
 use Rattle.ymx_engine.specs.Marks.{EngineView, has_to_send}
-use Rattle.ymx_engine.specs.Devices.{Seen, Counts, CountsIfSome, CountsPull, CountsPush, CountsClose, CountsOne, CountsSome, IsPulled, IsPushed, pulled_count, pushed_count}
+use Rattle.ymx_engine.specs.Devices.{CountsOne, CountsSome, pulled_count}
 
 -- ---- counts
 

@@ -1,12 +1,12 @@
 -- How the connections of an engine change, and who is queued then.
-use Rattle.std.proofs.Common.{◌≡◌, ◌⊎◌, inl, inr, ℕ, zero, suc, List, [], ◌∷◌, ◌++◌, Bool, true, false, not, ◌||◌, ◌+◌, take, length, Option, None, Some, refl, sym, ap, ◌∙◌, subst, cond, arith}
+use Rattle.std.proofs.Common.{◌≡◌, ◌⊎◌, inl, inr, ℕ, zero, suc, List, [], ◌∷◌, ◌++◌, Bool, true, false, ◌||◌, ◌+◌, take, length, Option, None, Some, refl, sym, ap, ◌∙◌, subst, cond, arith}
 use Rattle.std.specs.Prelude.{nat_eq, get_or, nat_lt, ◌<◌, ◌&&◌, if◌then◌else◌, Contains, Result, Ok, Err, is_ok, IsOk, OnOk, IfSome, IsSome, option_map}
 use Rattle.std.specs.Map.{lookup}
 use Rattle.std.specs.List.{list_any}
 use Rattle.std.proofs.lemmas.List.{take_more}
 use Rattle.std.proofs.lemmas.List.Folds.{list_any-append}
 use Rattle.std.proofs.lemmas.List.Elements.{Contains-append_left, Contains-append_cases, Contains-push}
-use Rattle.ymx_machine.proofs.Tests.{is_lt, both_of, or_true}
+use Rattle.ymx_machine.proofs.Tests.{is_lt}
 use Rattle.ymx_engine.specs.declared.connections.Entry.{Entry}
 use Rattle.ymx_engine.specs.declared.connection.Connection.{Connection}
 use Rattle.ymx_engine.specs.Turns.{Turns, known_as, Awaits, Attended, queue_mark, held_mark, AreListed, AreHeld, SameConnections, StaysOrAdds, AddsTurn, KeepsTurns, KeepsOthers, SameQueues}

@@ -31,7 +31,6 @@ use Rattle.ymx_engine.specs.Served.{AreServed, AreServedBut}
 use Rattle.ymx_engine.specs.Turns.{Knows, SameQueues}
 use Rattle.ymx_engine.specs.Runs.{Runs}
 use Rattle.ymx_engine.specs.Work.{Attends}
-use Rattle.ymx_engine.specs.declared.work.Work.{Work}
 use Rattle.ymx_engine.proofs.Working.{attends_same, attends_then, wait_queues}
 use Rattle.ymx_engine.proofs.Listing.{FeedsNone, flush_feeds, read_emits, LeavesWire, PassEmits, pass_emits, other_id, others_quiet_passed, IsCalm, turn_calm, others_quiet_turned, plain_list, plain_then, read_plain, flush_plain}
 use Rattle.ymx_engine.proofs.Trading.{or_swap, life_quiet, life_then, life_trades, life_leaves, life_joins, life_idle, trades_passed}

@@ -174,16 +174,13 @@ all_emissions id (e ∷ es) h =
     rw (emission_of_turn id e.0 two.0) (all_emissions id es two.1)
 
 pub exchanges_then : (id : ℕ) (s t u : Session) (out mid new : List ℕ) (a b c : Seen) → Exchanges id s t out mid a b → Exchanges id t u mid new b c → Exchanges id s u out new a c
-exchanges_then id s t u out mid new a b c x y =
-    let es = x.events in
-    let fs = y.events in
-    record {
-      events = es ++ fs;
-      happen = happen_then es fs s t u x.happen y.happen;
-      own = rw (list_all-append (λ (e : Event × Reply). is_of_turn id e.0) es fs, x.own, y.own) refl;
-      trades = trades_then id es fs a b c x.trades y.trades;
-      to_wire = puts_then out mid new es fs x.to_wire y.to_wire;
-    }
+exchanges_then id s t u out mid new a b c x y = record {
+  events = x.events ++ y.events;
+  happen = happen_then x.events y.events s t u x.happen y.happen;
+  own = rw (list_all-append (λ (e : Event × Reply). is_of_turn id e.0) x.events y.events, x.own, y.own) refl;
+  trades = trades_then id x.events y.events a b c x.trades y.trades;
+  to_wire = puts_then out mid new x.events y.events x.to_wire y.to_wire;
+}
 
 -- calls on the stream alone
 pub exchanges_once : (id : ℕ) (s t : Session) (out : List ℕ) (a b : Seen) → Exchange id s t a b → Exchanges id s t out out a b

@@ -7,7 +7,7 @@ use Rattle.std.proofs.lemmas.List.Elements.{Contains-append_left, Contains-push}
 use Rattle.ymx_machine.proofs.Tests.{agrees}
 use Rattle.ymx_engine.specs.declared.work.Work.{Work}
 use Rattle.ymx_engine.specs.declared.connection.Connection.{Connection}
-use Rattle.ymx_engine.specs.Devices.{Seen, CountsOne, CountsSome, greatest_count}
+use Rattle.ymx_engine.specs.Devices.{Seen, CountsOne, CountsSome}
 use Rattle.ymx_engine.specs.Engines.{Engine}
 use Rattle.ymx_engine.specs.Follows.{StillKnown, IsOffered, IsAsked}
 use Rattle.ymx_engine.specs.Known.{may_push, may_pull}

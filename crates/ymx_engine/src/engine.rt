@@ -670,8 +670,9 @@ impl Engine {
         }
     }
 
-    /// Offers payload of this stream that waits in a row to its connection's device. How many of the bytes that wait came
-    /// then.
+    /// Offers payload of this stream that waits in a row to its connection's device, if it may take bytes. How many of the
+    /// bytes that wait came then. The connection has a turn then, as the end of the stream may have come with them, and a
+    /// device that failed is let go of at its turn.
     fn offer<D: Device>(&mut self, id: u32, device: &mut D) -> usize
         requires { IsPayload id 1 self.old.engine }
         ensures passed { PassesOn id self.old.engine self.new.engine (D.seen device.old) (D.seen device.new) 2 }
@@ -681,25 +682,12 @@ impl Engine {
         ensures marks { self.new.marks ≡ self.old.marks }
         ensures served { KeepsServed self.old self.new }
     {
-        match self.connections.get(id) {
-            Some(connection) if connection.may_push() => self.offer_to(id, connection, device),
-            _ => 0,
+        let Some(mut connection) = self.connections.get(id) else {
+            return 0;
+        };
+        if !connection.may_push() {
+            return 0;
         }
-    }
-
-    /// Offers it to the device of this connection, which may take bytes. How many of the bytes that wait came then. The
-    /// connection has a turn then, as the end of the stream may have come with them, and a device that failed is let go of
-    /// at its turn.
-    fn offer_to<D: Device>(&mut self, id: u32, connection: Connection, device: &mut D) -> usize
-        requires { IsPayload id 1 self.old.engine }
-        ensures passed { PassesOn id self.old.engine self.new.engine (D.seen device.old) (D.seen device.new) 2 }
-        ensures taken { self.new.engine.incoming ≡ drop result self.old.engine.incoming }
-        ensures goes_on { result ≡ 0 → is_stuck self.new.engine.session ≡ false }
-        ensures others { KeepsOthers id self.old.turns self.new.turns }
-        ensures marks { self.new.marks ≡ self.old.marks }
-        ensures served { KeepsServed self.old self.new }
-    {
-        let mut connection = connection;
         let waits = self.incoming.waiting();
         let taken = offer(&mut self.session, id, &mut connection, device, waits);
         self.incoming.drop_front(taken);

@@ -213,46 +213,21 @@ fn pull_once<D: Device>(
 {
     put_due(session, outgoing);
     let room = session.room(id).min(buffer.len());
-    if room > 0 {
-        return pull_into(
-            session,
-            id,
-            connection,
-            device,
-            &mut buffer[..room],
-            outgoing,
-        );
+    if room == 0 {
+        if is_stopped(session, id) {
+            connection.break_off();
+            device.shut();
+        }
+        return false;
     }
-    if is_stopped(session, id) {
-        connection.break_off();
-        device.shut();
-    }
-    false
-}
-
-/// Reads from the device once into this buffer, all of which the stream would take.
-fn pull_into<D: Device>(
-    session: &mut Session,
-    id: u32,
-    connection: &mut Connection,
-    device: &mut D,
-    buffer: &mut [u8],
-    outgoing: &mut Block,
-) -> bool
-    requires fits { length buffer.old ≤ room_of id session.old }
-    ensures moved { Exchanges id session.old session.new outgoing.old outgoing.new (D.seen device.old) (D.seen device.new) }
-    ensures calls { (D.seen device.new).calls ≤ (D.seen device.old).calls + 2 }
-    ensures follows { FollowsDevice connection.old connection.new (D.seen device.old).counts (D.seen device.new).counts }
-    ensures asks { CountsSome (D.seen device.old).counts.pulls (D.seen device.new).counts.pulls }
-    ensures asks_on { may_pull connection.new ≡ true → result ≡ true }
-{
-    match device.pull(buffer) {
+    let bytes = &mut buffer[..room];
+    match device.pull(bytes) {
         Pulled::Gave(count) => {
-            connection.hear_given(count < buffer.len());
+            connection.hear_given(count < room);
             if count == 0 {
                 return true;
             }
-            if send(session, id, &buffer[..count], outgoing) {
+            if send(session, id, &bytes[..count], outgoing) {
                 return true;
             }
             connection.lacked_memory = true;

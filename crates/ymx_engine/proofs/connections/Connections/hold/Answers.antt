@@ -1,4 +1,4 @@
-use Rattle.std.proofs.Common.{ℕ, List, sym, true, refl, inl, inr, subst}
+use Rattle.std.proofs.Common.{ℕ, List, sym, true, refl, inr, subst}
 use Rattle.std.specs.Prelude.{Contains}
 use Rattle.std.proofs.lemmas.List.Elements.{Contains-append_left, Contains-push}
 use Rattle.ymx_engine.specs.declared.connections.Entry.{Entry}

@@ -1,5 +1,4 @@
-use Rattle.std.proofs.Common.{◌≡◌, ◌+◌, ◌∙◌, ℕ, List, sym, ap, length, refl, arith}
-use Rattle.ymx_engine.specs.Turns.{Turns}
+use Rattle.std.proofs.Common.{◌∙◌, ℕ, List, sym, ap, length, arith}
 use Rattle.ymx_engine.proofs.Queueing.{keeps_same, keeps_let_go, keeps_alike}
 use Rattle.ymx_engine.proofs.Resting.{none_long}
 use Rattle.ymx_engine.proofs.connections.Connections.release.Goals as goal

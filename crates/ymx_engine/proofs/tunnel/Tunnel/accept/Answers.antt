@@ -1,4 +1,4 @@
-use Rattle.std.proofs.Common.{refl, sym, ◌∙◌, true, false}
+use Rattle.std.proofs.Common.{refl, sym, ◌∙◌, false}
 use Rattle.ymx_engine.specs.Known.{new_connection}
 use Rattle.ymx_engine.proofs.Running.{runs_accepted, runs_accepted_alone, runs_offers_none, runs_not_accepted, runs_behind, from_view, look_none, accepted_at, offered_none, offers_from}
 use Rattle.ymx_engine.proofs.Tending.{look_some, serving_same, serving_offers_none, accepts_there, accepts_joined, accepts_dropped}

@@ -1,5 +1,4 @@
-use Rattle.std.proofs.Common.{refl, ap, ◌∙◌}
-use Rattle.ymx_engine.specs.Tunnels.{Tunnel}
+use Rattle.std.proofs.Common.{refl}
 use Rattle.ymx_engine.proofs.Running.{runs_alike, from_view}
 use Rattle.ymx_engine.proofs.Tending.{same_turns, serving_kept}
 use Rattle.ymx_engine.proofs.Working.{attends_turns}

@@ -1,4 +1,4 @@
-use Rattle.std.proofs.Common.{sym, ap, ◌∙◌, subst}
+use Rattle.std.proofs.Common.{sym, ◌∙◌, subst}
 use Rattle.ymx_engine.specs.Devices.{Seen, CountsSome}
 use Rattle.ymx_engine.proofs.Running.{runs_then}
 use Rattle.ymx_engine.proofs.Staying.{stays_then}

@@ -3,7 +3,7 @@ use Rattle.ymx_engine.specs.Marks.{EngineView}
 use Rattle.ymx_engine.proofs.Advancing.{offers_front}
 use Rattle.ymx_engine.proofs.Queueing.{others_from, others_set, waits_then, awaits_added, held_same}
 use Rattle.ymx_engine.proofs.Forgetting.{from_served, offered_served, same_awaits}
-use Rattle.ymx_engine.proofs.engine.Engine.offer_to.Goals as goal
+use Rattle.ymx_engine.proofs.engine.Engine.offer.Goals as goal
 
 pub returns-clause-passed : goal.returns-clause-passed
 returns-clause-passed g c =
@@ -25,5 +25,5 @@ returns-clause-others g c =
 pub returns-clause-served : goal.returns-clause-served
 returns-clause-served g c =
     from_served _ _ _ c.self.view_is
-    (offered_served c.args.id c.offer-taken.result c.args.connection c.waiting-waits.result.now _ _ c.set.new.self _ _ c.offer-taken.ensures.offered c.offer-taken.ensures.others
+    (offered_served c.args.id c.offer-taken.result c.in-Some.connection c.waiting-waits.result.now _ _ c.set.new.self _ _ c.offer-taken.ensures.offered c.offer-taken.ensures.others
     (others_set c.args.id _ _ _ c.set.ensures.known c.set.ensures.none) c.set.ensures.queues c.enqueue.ensures.known c.enqueue.ensures.turn c.enqueue.ensures.awaits)
