@@ -3,7 +3,7 @@ that is lost; also that a link which breaks takes no other with it, and what is 
 
 It says which tests failed, and nothing where none did. No test follows one that hangs.
 
-usage: links.py YMX
+usage: links.py YMX SLOW_ACCEPTOR
 """
 
 import hashlib
@@ -27,10 +27,11 @@ CONNECTIONS, AT_ONCE, LINKS = 1_000, 20, 4
 FIRST = frame(WINDOW, SYN, 1, 0)
 
 
-def local_links(count, *words, listen_at=ANY):
+def local_links(count, *words, listen_at=ANY, variables=None):
     """`ymx local --links`, where it listens, its links in the order in which it made them, and where its peer listens."""
     listener, address = listen()
-    program = Program("local", "-v", "--links", str(count), "--listen", listen_at, "--peer", address, *words)
+    words = ("--links", str(count), "--listen", listen_at, "--peer", address, *words)
+    program = Program("local", "-v", *words, variables=variables)
     links = [Peer(accept(listener)) for _ in range(count)]
     return program, program.place(), links, listener
 
@@ -146,6 +147,17 @@ def lost_before_the_count():
     address = "{}:{}".format(*listener.getsockname())
     ended = connection(1, "0 bytes to the peer (ended), 0 bytes from the peer (ended)")
     assert program.end() == (1, f"{ended}{GONE}{GONE}ymx: cannot reach {address}\n")
+
+
+def lost_behind_the_last():
+    """Where all have come it ends well, also if the links are gone before it has seen that all have."""
+    program, place, links, _ = local_links(2, "--count", "1", variables={"LD_PRELOAD": sys.argv[2]})
+    user = call(place)
+    finish(which(links, 1), 1, user)
+    for link in links:
+        leave(link.connection)
+    ended = connection(1, "0 bytes to the peer (ended), 0 bytes from the peer (ended)")
+    assert program.end() == (0, f"{ended}{GONE}{GONE}")
 
 
 def no_links_at_first():
@@ -290,6 +302,7 @@ TESTS = (
     ("a link that is lost", a_lost_link, ()),
     ("a link that breaks", a_broken_link, ()),
     ("links that are lost before the count", lost_before_the_count, ()),
+    ("links that are lost behind the last", lost_behind_the_last, ()),
     ("no links at first", no_links_at_first, ()),
     ("links that are called again", links_are_called_again, ()),
     ("a peer that is away", a_peer_that_is_away, ()),

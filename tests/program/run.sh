@@ -144,7 +144,8 @@ holds 'both ends, frame by frame' python3 "$here/raw.py" "$ymx"
 holds 'connections beside others' python3 -B "$here/beside.py" "$ymx"
 "${CC-cc}" -O2 -shared -fPIC -o refusing.so "$here/../no_memory/failing_malloc.c" -ldl
 holds 'one session after another' python3 -B "$here/kept.py" "$ymx" "$scratch/refusing.so"
-holds 'many links to one peer' python3 -B "$here/links.py" "$ymx"
+"${CC-cc}" -O2 -shared -fPIC -o slow_acceptor.so "$here/slow_acceptor.c" -ldl
+holds 'many links to one peer' python3 -B "$here/links.py" "$ymx" "$scratch/slow_acceptor.so"
 holds 'the side that calls is the one that serves' python3 -B "$here/calling.py" "$ymx"
 holds 'a peer that is silent' python3 -B "$here/silence.py" "$ymx"
 holds 'the examples of the documents' python3 -B "$here/documents.py" "$ymx"
