@@ -1,6 +1,6 @@
 //! A socket that never waits, as a device of an engine.
 
-ghost use Rattle.std.specs.Prelude.{ℕ, List, [], ◌≡◌, ◌≤◌, ◌+◌, ◌-◌, ◌^◌, ◌<◌, ◌||◌, length, is_some, min, true, false};
+ghost use Rattle.std.specs.Prelude.{ℕ, List, [], ◌≡◌, ◌≤◌, ◌+◌, ◌-◌, ◌^◌, ◌<◌, ◌||◌, length, is_some, min, true, false, IfSome, IfNone};
 ghost use Rattle.std.specs.Io.{WritesAtMost};
 ghost use Rattle.std.specs.Io.Slices.{io_slices_bytes};
 ghost use Rattle.ymx_engine.specs.Devices.{IsEnded, IsPulled, IsPushed, IsShut, pulled_count, pushed_count, is_end, is_pull_failure, is_push_failure, CountsOne, CountsPull, CountsPush, CountsClose};
@@ -266,22 +266,6 @@ impl Socket {
         }
     }
 
-    /// Writes these bytes once, if it is there.
-    fn take_if_connected(&mut self, bytes: &[u8]) -> Pushed
-        ensures within { pushed_count result ≤ length bytes.now }
-        ensures failed { is_some self.new.failure ≡ (is_some self.old.failure || is_push_failure result) }
-        ensures rest { (self.new.has_ended ≡ self.old.has_ended) × (self.new.was_finished ≡ self.old.was_finished) × (self.new.was_shut ≡ self.old.was_shut) × (self.new.calls ≡ self.old.calls) × (self.new.counts ≡ self.old.counts) }
-    {
-        match self.state {
-            ConnectState::Connecting => Pushed::NotNow,
-            ConnectState::Unreachable => {
-                self.fail(SocketFault::Push, None);
-                Pushed::Failed
-            }
-            ConnectState::Connected => self.take(bytes),
-        }
-    }
-
     /// Reads once into this buffer.
     fn give(&mut self, buffer: &mut [u8]) -> Pulled
         ensures within { pulled_count result ≤ length buffer.new }
@@ -298,34 +282,48 @@ impl Socket {
         }
     }
 
-    /// Writes these bytes once.
+    /// What comes of a write while it isn't there. None where it is.
+    fn refuse_early(&mut self) -> Option<Pushed>
+        ensures none { IfSome result (λ pushed. pushed_count pushed ≡ 0) }
+        ensures failed { IfSome result (λ pushed. is_some self.new.failure ≡ (is_some self.old.failure || is_push_failure pushed)) }
+        ensures goes_on { IfNone result (self.new ≡ self.old) }
+        ensures rest { (self.new.has_ended ≡ self.old.has_ended) × (self.new.was_finished ≡ self.old.was_finished) × (self.new.was_shut ≡ self.old.was_shut) × (self.new.calls ≡ self.old.calls) × (self.new.counts ≡ self.old.counts) }
+    {
+        match self.state {
+            ConnectState::Connecting => Some(Pushed::NotNow),
+            ConnectState::Unreachable => {
+                self.fail(SocketFault::Push, None);
+                Some(Pushed::Failed)
+            }
+            ConnectState::Connected => None,
+        }
+    }
+
+    /// Writes these bytes once, if it is there.
     fn take(&mut self, bytes: &[u8]) -> Pushed
         ensures within { pushed_count result ≤ length bytes.now }
         ensures failed { is_some self.new.failure ≡ (is_some self.old.failure || is_push_failure result) }
         ensures rest { (self.new.has_ended ≡ self.old.has_ended) × (self.new.was_finished ≡ self.old.was_finished) × (self.new.was_shut ≡ self.old.was_shut) × (self.new.calls ≡ self.old.calls) × (self.new.counts ≡ self.old.counts) }
     {
+        if let Some(refused) = self.refuse_early() {
+            return refused;
+        }
         let written = self.socket.write(bytes);
         self.hear_written(written, bytes.is_empty())
     }
 
     /// Writes the bytes of these pieces once, in one call of the system, if it is there. `is_empty` says whether there are
     /// none.
-    fn take_pieces_if_connected(&mut self, pieces: &[IoSlice<'_>], is_empty: bool) -> Pushed
+    fn take_pieces(&mut self, pieces: &[IoSlice<'_>], is_empty: bool) -> Pushed
         ensures within { pushed_count result ≤ length (io_slices_bytes pieces.now) }
         ensures failed { is_some self.new.failure ≡ (is_some self.old.failure || is_push_failure result) }
         ensures rest { (self.new.has_ended ≡ self.old.has_ended) × (self.new.was_finished ≡ self.old.was_finished) × (self.new.was_shut ≡ self.old.was_shut) × (self.new.calls ≡ self.old.calls) × (self.new.counts ≡ self.old.counts) }
     {
-        match self.state {
-            ConnectState::Connecting => Pushed::NotNow,
-            ConnectState::Unreachable => {
-                self.fail(SocketFault::Push, None);
-                Pushed::Failed
-            }
-            ConnectState::Connected => {
-                let written = self.socket.write_pieces(pieces);
-                self.hear_written(written, is_empty)
-            }
+        if let Some(refused) = self.refuse_early() {
+            return refused;
         }
+        let written = self.socket.write_pieces(pieces);
+        self.hear_written(written, is_empty)
     }
 
     /// What came of a write. `is_empty` says whether there was nothing to write.
@@ -411,7 +409,7 @@ impl Device for Socket {
         ensures counted { self.new.calls ≡ min (self.old.calls + 1) (2 ^ 64 - 1) }
     {
         self.count_call();
-        let pushed = self.take_if_connected(bytes);
+        let pushed = self.take(bytes);
         self.counts.push(bytes.len(), pushed.count());
         pushed
     }
@@ -422,7 +420,7 @@ impl Device for Socket {
     {
         self.count_call();
         let offered = first_count(pieces);
-        let pushed = self.take_pieces_if_connected(pieces, offered == 0);
+        let pushed = self.take_pieces(pieces, offered == 0);
         self.counts.push(offered, pushed.count());
         pushed
     }
