@@ -1,5 +1,5 @@
 -- A session that could be made keeps its limits.
-use Rattle.std.proofs.Common.{◌≡◌, ℕ, ◌<◌, ◌≤◌, ◌^◌, [], Bool, true, false, ◌||◌, nat_lt, cond, Option, None, Some, refl, sym, subst, arith}
+use Rattle.std.proofs.Common.{◌≡◌, ℕ, ◌≤◌, Bool, true, false, ◌||◌, nat_lt, cond, Option, None, Some, refl, sym, subst, arith}
 use Rattle.std.proofs.lemmas.Bool.Decides.{nat_tests}
 use Rattle.ymx_machine.specs.shared.Limits.{first_credit, widest_window}
 use Rattle.ymx_model.specs.declared.types.Role.{Role}

@@ -1,8 +1,26 @@
--- How the loop of a session may be left (this project's own).
-use Rattle.std.specs.Prelude.{◌≡◌, false}
+-- How the loop of a session waits, and how it may be left (this project's own).
+use Rattle.std.specs.Prelude.{ℕ, ◌≡◌, ◌≤◌, ◌+◌, ◌∷◌, List, [], length, true, false}
 use Rattle.ymx_engine.specs.Runs.{Runs}
-use Rattle.ymx_engine.specs.Tunnels.{Tunnel}
+use Rattle.ymx_engine.specs.Served.{NoneWaits, NoneGives}
+use Rattle.ymx_engine.specs.Tunnels.{Tunnel, view_of}
 use Rattle.ymx_model.specs.session.Sessions.{is_running}
+
+-- Nothing can be moved without an event: no bytes of a stream wait that its connection may take; and where the wire may take
+-- bytes, no stream takes bytes that its connection may have.
+pub record NeedsEvents (t : Tunnel) : Type 0 where
+  pub waits : NoneWaits (view_of t)
+  pub gives : t.marks.can_push_wire ≡ true → NoneGives (view_of t)
+
+-- one led to the other through these, each of which needed events
+abbrev pub RunsThrough : List Tunnel → Tunnel → Tunnel → Type 0
+RunsThrough [] old new = Runs old new
+RunsThrough (needy ∷ later) old new = Runs old needy × NeedsEvents needy × RunsThrough later needy new
+
+-- Between these two, events were waited for no more often than nothing could be moved without one.
+pub record WaitsInNeed (old new : Tunnel) (before after : ℕ) : Type 0 where
+  pub needy : List Tunnel
+  pub through : RunsThrough needy old new
+  pub counted : after ≤ before + length needy
 
 -- at some point between these two the session was over
 pub record WasLost (old new : Tunnel) : Type 0 where

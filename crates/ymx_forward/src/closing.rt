@@ -2,7 +2,7 @@
 
 use crate::socket::Socket;
 use crate::stillness::Stillness;
-use crate::system::{Events, Poll};
+use crate::system::Poll;
 use std::sync::Wait;
 use std::time::{Clock, Duration};
 use ymx_engine::{Device, Line, Pulled, Wire};
@@ -15,7 +15,6 @@ const DROPPED: usize = 8_192;
 pub(crate) fn close<R: Clock + Wait>(
     rt: &R,
     poll: &mut Poll,
-    events: &mut Events,
     wire: Socket,
     is_broken: bool,
     limit: Option<Duration>,
@@ -36,7 +35,7 @@ pub(crate) fn close<R: Clock + Wait>(
         if wire.is_over() || is_too_still(rt, stillness, limit) {
             return;
         }
-        if poll.wait(events, limit).is_err() {
+        if poll.wait(limit).is_err() {
             return;
         }
     }

@@ -5,8 +5,8 @@ use crate::notices::ProgramWatcher;
 use crate::peer::Peer;
 use crate::shared::tell_failure;
 use crate::starting::StartFault;
-use crate::system::{Events, Poll, Waker};
-use crate::tunnel_end::{RETRY, new_events};
+use crate::system::{Poll, Waker};
+use crate::tunnel_end::RETRY;
 use std::alloc::Global;
 use std::io;
 use std::net::{Net, TcpListener};
@@ -60,7 +60,6 @@ impl Inside {
 #[derive(Drop)]
 pub(crate) struct Door {
     poll: Poll,
-    events: Events,
     listening: Listening,
     /// How many may be inside.
     places: u64,
@@ -80,8 +79,7 @@ impl Door {
         places: u32,
         is_kept: bool,
     ) -> Result<(Door, Inside), StartFault> {
-        let events = new_events(alloc)?;
-        let poll = Poll::new(rt)?;
+        let poll = Poll::new(rt, alloc)?;
         let waker = Waker::new(&poll, LEAVINGS)?;
         let listening = Listening::new(listener, None, true, &poll, KNOCKS)?;
         let inside = Inside {
@@ -90,7 +88,6 @@ impl Door {
         };
         let door = Door {
             poll,
-            events,
             listening,
             places: places as u64,
             is_kept,
@@ -141,6 +138,6 @@ impl Door {
     fn wait(&mut self) -> io::Result<()> {
         let is_full = self.listening.is_full();
         let timeout = is_full.then_some(Duration::from_secs(RETRY));
-        self.poll.wait(&mut self.events, timeout)
+        self.poll.wait(timeout)
     }
 }

@@ -1,7 +1,7 @@
 //! A tunnel over one connection, from its beginning to its end.
 
 use crate::sides::{Forwarded, TunnelSide};
-use crate::tunnel_end::{Limits, TunnelEnd, new_events};
+use crate::tunnel_end::{Limits, TunnelEnd};
 use crate::watching::Watcher;
 use std::alloc::Global;
 use std::net::{Net, TcpStream};
@@ -18,7 +18,7 @@ pub(crate) fn forward<R: Net + Clock + Wait, V: Watcher>(
     window: u32,
     watcher: &mut V,
 ) -> Option<Forwarded> {
-    let mut events = new_events(alloc).ok()?;
-    let mut tunnel_end = TunnelEnd::new(rt, side, false, Limits::new(None, false)).ok()?;
-    Some(tunnel_end.forward(rt, alloc, connection, window, &mut events, watcher))
+    let limits = Limits::new(None, false);
+    let (mut tunnel_end, mut poll) = TunnelEnd::new(rt, alloc, side, false, limits).ok()?;
+    Some(tunnel_end.forward(rt, alloc, connection, window, &mut poll, watcher))
 }

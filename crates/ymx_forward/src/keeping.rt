@@ -12,7 +12,7 @@ use crate::peer::Peer;
 use crate::programs::{report, report_session};
 use crate::reason::Reason;
 use crate::sockets::call;
-use crate::system::{Events, listen};
+use crate::system::{Poll, listen};
 use crate::tell::cannot_listen;
 use crate::tunnel_end::{Awaited, AwaitedPeer, NoneCome, TunnelEnd};
 use std::alloc::Global;
@@ -66,7 +66,7 @@ pub(crate) fn keep_local<R: Host, V: ProgramWatcher, E: Outlet>(
     meeting: Meeting,
     tunnel_end: &mut TunnelEnd,
     options: LocalOptions,
-    events: &mut Events,
+    poll: &mut Poll,
     watcher: &mut V,
     errors: &mut E,
 ) -> Exit
@@ -75,15 +75,13 @@ pub(crate) fn keep_local<R: Host, V: ProgramWatcher, E: Outlet>(
     let Meeting { address, listener } = meeting;
     let mut has_faulted = false;
     let mut next = match listener {
-        Some(listener) => next_of(tunnel_end.await_peer(rt, listener, events, watcher)),
-        None => next_session(rt, tunnel_end, options.peer, address, events, watcher),
+        Some(listener) => next_of(tunnel_end.await_peer(rt, listener, poll, watcher)),
+        None => next_session(rt, tunnel_end, options.peer, address, poll, watcher),
     };
     for _ in rt.forever() {
         let served = match next {
             Next::Peer(peer) => {
-                serve_local(
-                    rt, alloc, peer, tunnel_end, options, events, watcher, errors,
-                )
+                serve_local(rt, alloc, peer, tunnel_end, options, poll, watcher, errors)
             }
             Next::Unreached => false,
             Next::Over(end) => {
@@ -95,7 +93,7 @@ pub(crate) fn keep_local<R: Host, V: ProgramWatcher, E: Outlet>(
             has_faulted = served;
         }
         tunnel_end.refuse_waiting(watcher);
-        next = next_session(rt, tunnel_end, options.peer, address, events, watcher);
+        next = next_session(rt, tunnel_end, options.peer, address, poll, watcher);
     }
     unreachable!()
 }
@@ -108,14 +106,14 @@ fn serve_local<R: Net + Clock + Wait, V: ProgramWatcher, E: Outlet>(
     peer: Peer,
     tunnel_end: &mut TunnelEnd,
     options: LocalOptions,
-    events: &mut Events,
+    poll: &mut Poll,
     watcher: &mut V,
     errors: &mut E,
 ) -> bool
     ensures good { result ≡ false → Keeps (E.contents errors.old) (E.contents errors.new) }
 {
     watcher.came();
-    let forwarded = tunnel_end.forward_peer(rt, alloc, peer, options.window, events, watcher);
+    let forwarded = tunnel_end.forward_peer(rt, alloc, peer, options.window, poll, watcher);
     if let PeerAddress::Connect(_) = options.peer {
         watcher.gone();
     }
@@ -136,15 +134,15 @@ fn next_session<R: Net<Stream = TcpStream, Listener = TcpListener> + Wait, V: Pr
     tunnel_end: &mut TunnelEnd,
     peer: PeerAddress,
     address: SocketAddr,
-    events: &mut Events,
+    poll: &mut Poll,
     watcher: &mut V,
 ) -> Next {
     match peer {
-        PeerAddress::Connect(_) => match tunnel_end.await_connection(rt, events) {
+        PeerAddress::Connect(_) => match tunnel_end.await_connection(rt, poll) {
             Awaited::Came => session_over(call(rt, address, watcher)),
             Awaited::NoneCome(why) => Next::Over(KeptEnd::NoConnections(why)),
         },
-        PeerAddress::Listen(_) => next_of(next_peer(rt, tunnel_end, address, events, watcher)),
+        PeerAddress::Listen(_) => next_of(next_peer(rt, tunnel_end, address, poll, watcher)),
     }
 }
 
@@ -162,7 +160,7 @@ fn next_peer<R: Net<Stream = TcpStream, Listener = TcpListener> + Wait, V: Progr
     rt: &R,
     tunnel_end: &mut TunnelEnd,
     address: SocketAddr,
-    events: &mut Events,
+    poll: &mut Poll,
     watcher: &mut V,
 ) -> AwaitedPeer {
     if let Some(why) = tunnel_end.none_come() {
@@ -172,7 +170,7 @@ fn next_peer<R: Net<Stream = TcpStream, Listener = TcpListener> + Wait, V: Progr
     let listener = listen(rt, address);
     watcher.gone();
     match listener {
-        Ok(listener) => tunnel_end.await_peer(rt, listener, events, watcher),
+        Ok(listener) => tunnel_end.await_peer(rt, listener, poll, watcher),
         Err(error) => {
             watcher.failed("--bind", Reason::of(&error));
             AwaitedPeer::Refused
@@ -211,7 +209,7 @@ pub(crate) fn keep_calling<R: Net<Stream = TcpStream> + Clock + Wait, V: Program
     peer: SocketAddr,
     tunnel_end: &mut TunnelEnd,
     options: RemoteOptions,
-    events: &mut Events,
+    poll: &mut Poll,
     watcher: &mut V,
     errors: &mut E,
 ) -> Exit
@@ -219,9 +217,22 @@ pub(crate) fn keep_calling<R: Net<Stream = TcpStream> + Clock + Wait, V: Program
 {
     let mut seconds = 1u64;
     for _ in rt.forever() {
-        if has_served(
-            rt, alloc, peer, tunnel_end, options, events, watcher, errors,
-        ) {
+        let has_served = match call(rt, peer, watcher) {
+            Some(connection) => {
+                let began = Instant::now(rt);
+                watcher.came();
+                let window = options.window;
+                let forwarded = tunnel_end.forward(rt, alloc, connection, window, poll, watcher);
+                report_session(alloc, options.peer, forwarded, errors);
+                watcher.gone();
+                has_lasted(rt, began)
+            }
+            None => {
+                watcher.unreached(peer);
+                false
+            }
+        };
+        if has_served {
             seconds = 1;
         } else {
             thread::sleep(rt, Duration::from_secs(seconds));
@@ -229,29 +240,6 @@ pub(crate) fn keep_calling<R: Net<Stream = TcpStream> + Clock + Wait, V: Program
         }
     }
     unreachable!()
-}
-
-/// Calls this peer and, if it can be reached, serves it. Whether it was there for a while.
-fn has_served<R: Net<Stream = TcpStream> + Clock + Wait, V: ProgramWatcher, E: Outlet>(
-    rt: &R,
-    alloc: Global,
-    peer: SocketAddr,
-    tunnel_end: &mut TunnelEnd,
-    options: RemoteOptions,
-    events: &mut Events,
-    watcher: &mut V,
-    errors: &mut E,
-) -> bool {
-    let Some(connection) = call(rt, peer, watcher) else {
-        watcher.unreached(peer);
-        return false;
-    };
-    let began = Instant::now(rt);
-    watcher.came();
-    let forwarded = tunnel_end.forward(rt, alloc, connection, options.window, events, watcher);
-    report_session(alloc, options.peer, forwarded, errors);
-    watcher.gone();
-    has_lasted(rt, began)
 }
 
 /// Whether it is a while since then. Where the clock can't tell, it isn't.

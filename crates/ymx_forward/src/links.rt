@@ -17,10 +17,10 @@ use crate::reason::Reason;
 use crate::shared::{Shared, tell_failure};
 use crate::sides::Forwarded;
 use crate::sockets::{call, listen_for};
-use crate::starting::StartFault;
-use crate::system::{Events, Poll, TcpConnection, Waker, connect};
-use crate::tell::{cannot_listen, cannot_reach, lacks_memory};
-use crate::tunnel_end::{Awaited, Limits, NoneCome, RETRY, TunnelEnd, new_events};
+use crate::starting::{StartFault, cannot_begin};
+use crate::system::{Poll, TcpConnection, Waker, connect};
+use crate::tell::{cannot_listen, lacks_memory};
+use crate::tunnel_end::{Awaited, Limits, NoneCome, RETRY, TunnelEnd};
 use crate::watching::{Declined, EndedConnection, Origin, Watcher};
 use crossbeam_channel::{Receiver, Sender, bounded};
 use std::alloc::{AllocError, Global};
@@ -29,7 +29,7 @@ use std::sync::{Arc, Mutex, Wait};
 use std::thread::{Threads, join_mut};
 use std::time::{Clock, Duration};
 use std::{io, thread};
-use ymx_arguments::LocalOptions;
+use ymx_arguments::{LocalOptions, PeerAddress};
 use ymx_model::{CallFault, Outlet};
 
 /// The token of the listener.
@@ -47,7 +47,7 @@ struct Link {
     /// None where the peer is called only for a connection of a user.
     peer: Option<Peer>,
     tunnel_end: TunnelEnd,
-    events: Events,
+    poll: Poll,
     inbox: Arc<Inbox, Global>,
 }
 
@@ -55,9 +55,18 @@ struct Link {
 #[derive(Drop)]
 struct Reception {
     poll: Poll,
-    events: Events,
     listening: Listening,
     inboxes: Vec<Arc<Inbox, Global>>,
+}
+
+/// What serves users: where they come in, and the links that lead to their peer.
+#[derive(Drop)]
+struct Service {
+    /// Where the peer is called.
+    address: SocketAddr,
+    options: LocalOptions,
+    reception: Reception,
+    links: Vec<Link>,
 }
 
 /// Who is told of the connections of a link, and counts them.
@@ -110,26 +119,20 @@ pub(crate) fn run_links<
     let mut watcher = watcher;
     let peers = match call_all(rt, alloc, address, options) {
         Ok(peers) => peers,
-        Err(StartFault::Unwatched(error)) => {
-            watcher.failed("--peer", Reason::of(&error));
-            return cannot_reach(alloc, address, errors);
+        Err(fault) => {
+            let place = PeerAddress::Connect(address);
+            return cannot_begin(alloc, "--peer", place, fault, &mut watcher, errors);
         }
-        Err(StartFault::OutOfMemory(refused)) => return lacks_memory(refused, errors),
     };
     let Some(listener) = listen_for(rt, "--listen", options.listen, &mut watcher) else {
         return cannot_listen(alloc, options.listen, errors);
     };
-    match prepare(rt, alloc, listener, peers, options) {
-        Ok((reception, links)) => {
-            serve_links(
-                rt, alloc, address, reception, links, options, watcher, errors,
-            )
+    match prepare(rt, alloc, address, listener, peers, options) {
+        Ok(service) => serve_links(rt, alloc, service, watcher, errors),
+        Err(fault) => {
+            let place = PeerAddress::Listen(options.listen);
+            cannot_begin(alloc, "--listen", place, fault, &mut watcher, errors)
         }
-        Err(StartFault::Unwatched(error)) => {
-            watcher.failed("--listen", Reason::of(&error));
-            cannot_listen(alloc, options.listen, errors)
-        }
-        Err(StartFault::OutOfMemory(refused)) => lacks_memory(refused, errors),
     }
 }
 
@@ -161,11 +164,12 @@ fn new_peer<R: Net<Stream = TcpStream>>(rt: &R, address: SocketAddr) -> io::Resu
 fn prepare<R: Net>(
     rt: &R,
     alloc: Global,
+    address: SocketAddr,
     listener: TcpListener,
     peers: Vec<Option<Peer>>,
     options: LocalOptions,
-) -> Result<(Reception, Vec<Link>), StartFault> {
-    let poll = Poll::new(rt)?;
+) -> Result<Service, StartFault> {
+    let poll = Poll::new(rt, alloc)?;
     let acceptor = Arc::new(alloc, Waker::new(&poll, LOSSES)?)?;
     let listening = Listening::new(listener, options.count, options.is_kept, &poll, USERS)?;
     let mut links = Vec::new(alloc);
@@ -176,12 +180,16 @@ fn prepare<R: Net>(
         links.push(link)?;
     }
     let reception = Reception {
-        events: new_events(alloc)?,
         poll,
         listening,
         inboxes,
     };
-    Ok((reception, links))
+    Ok(Service {
+        address,
+        options,
+        reception,
+        links,
+    })
 }
 
 /// A link to this peer, or to one that is called later.
@@ -193,12 +201,12 @@ fn new_link<R: Net>(
     options: LocalOptions,
 ) -> Result<Link, StartFault> {
     let limits = Limits::new(options.ping, options.is_kept);
-    let events = new_events(alloc)?;
-    let (tunnel_end, inbox) = TunnelEnd::linked(rt, alloc, acceptor, options.is_kept, limits)?;
+    let linked = TunnelEnd::linked(rt, alloc, acceptor, options.is_kept, limits)?;
+    let (tunnel_end, poll, inbox) = linked;
     Ok(Link {
         peer,
         tunnel_end,
-        events,
+        poll,
         inbox,
     })
 }
@@ -208,10 +216,7 @@ fn new_link<R: Net>(
 fn serve_links<R: Host + Threads + Sync, V: ProgramWatcher + Send + Drop, E: Outlet + Send>(
     rt: &R,
     alloc: Global,
-    address: SocketAddr,
-    reception: Reception,
-    links: Vec<Link>,
-    options: LocalOptions,
+    service: Service,
     watcher: V,
     errors: &mut E,
 ) -> Exit
@@ -221,16 +226,15 @@ fn serve_links<R: Host + Threads + Sync, V: ProgramWatcher + Send + Drop, E: Out
         Ok(ends) => ends,
         Err(refused) => return lacks_memory(refused, errors),
     };
-    let mut work = Some((reception, links, watcher, sender));
+    let options = service.options;
+    let mut work = Some((service, watcher, sender));
     let (status, ()) = join_mut(
         rt,
         &mut || hear_all(rt, alloc, &receiver, options, errors),
         &mut || {
-            if let Some((reception, links, watcher, sender)) = work.take() {
+            if let Some((service, watcher, sender)) = work.take() {
                 let watcher = Mutex::new(watcher);
-                run_all(
-                    rt, alloc, address, reception, links, options, &watcher, &sender,
-                );
+                run_all(rt, alloc, service, &watcher, &sender);
             }
         },
     );
@@ -272,10 +276,7 @@ fn hear_all<R: Wait, E: Outlet>(
 fn run_all<R: Host + Threads + Sync, V: ProgramWatcher + Send + Drop>(
     rt: &R,
     alloc: Global,
-    address: SocketAddr,
-    reception: Reception,
-    links: Vec<Link>,
-    options: LocalOptions,
+    service: Service,
     watcher: &Mutex<V>,
     reports: &Sender<Forwarded, Global>,
 ) {
@@ -285,6 +286,12 @@ fn run_all<R: Host + Threads + Sync, V: ProgramWatcher + Send + Drop>(
         move |scope|
             requires { IsSend V.row }
         {
+            let Service {
+                address,
+                options,
+                reception,
+                links,
+            } = service;
             let mut reception = reception;
             for link in links {
                 if scope
@@ -369,7 +376,7 @@ impl Reception {
     fn wait(&mut self) -> io::Result<()> {
         let is_full = self.listening.is_full();
         let timeout = is_full.then_some(Duration::from_secs(RETRY));
-        self.poll.wait(&mut self.events, timeout)
+        self.poll.wait(timeout)
     }
 }
 
@@ -386,11 +393,11 @@ fn run_link<R: Net<Stream = TcpStream> + Clock + Wait, V: ProgramWatcher>(
     let Link {
         peer,
         tunnel_end,
-        events,
+        poll,
         inbox,
     } = link;
     let mut tunnel_end = tunnel_end;
-    let mut events = events;
+    let mut poll = poll;
     let shared = Shared { rt, watcher };
     let mut watcher = LinkWatcher { shared, inbox };
     match peer {
@@ -401,7 +408,7 @@ fn run_link<R: Net<Stream = TcpStream> + Clock + Wait, V: ProgramWatcher>(
                 alloc,
                 peer,
                 window,
-                &mut events,
+                &mut poll,
                 &mut watcher,
             );
             let _ = reports.send(rt, forwarded);
@@ -413,7 +420,7 @@ fn run_link<R: Net<Stream = TcpStream> + Clock + Wait, V: ProgramWatcher>(
                 address,
                 &mut tunnel_end,
                 options,
-                &mut events,
+                &mut poll,
                 &mut watcher,
                 reports,
             );
@@ -448,12 +455,12 @@ fn keep_link<R: Net<Stream = TcpStream> + Clock + Wait, V: ProgramWatcher>(
     address: SocketAddr,
     tunnel_end: &mut TunnelEnd,
     options: LocalOptions,
-    events: &mut Events,
+    poll: &mut Poll,
     watcher: &mut LinkWatcher<'_, R, V>,
     reports: &Sender<Forwarded, Global>,
 ) {
     for _ in rt.forever() {
-        match tunnel_end.await_connection(rt, events) {
+        match tunnel_end.await_connection(rt, poll) {
             Awaited::Came => {}
             Awaited::NoneCome(NoneCome::AllCame(_)) => return,
             Awaited::NoneCome(NoneCome::Refused) => {
@@ -466,7 +473,7 @@ fn keep_link<R: Net<Stream = TcpStream> + Clock + Wait, V: ProgramWatcher>(
                 watcher.inbox.resume(rt);
                 watcher.shared.came();
                 let window = options.window;
-                let forwarded = tunnel_end.forward_peer(rt, alloc, peer, window, events, watcher);
+                let forwarded = tunnel_end.forward_peer(rt, alloc, peer, window, poll, watcher);
                 watcher.shared.gone();
                 let _ = reports.send(rt, forwarded);
                 watcher.inbox.resume(rt);

@@ -10,13 +10,13 @@ use crate::keeping::{Meeting, keep_calling, keep_local};
 use crate::links::run_links;
 use crate::meeting::meet;
 use crate::notices::{Notices, ProgramWatcher};
-use crate::reason::Reason;
 use crate::serving::serve;
 use crate::sides::{Forwarded, TunnelSide};
 use crate::sockets::{accept, listen_for};
+use crate::starting::cannot_begin;
 use crate::system::address_of;
-use crate::tell::{cannot_listen, cannot_meet, lacked_memory, lacks_memory, session_broken};
-use crate::tunnel_end::{Limits, TunnelEnd, new_events};
+use crate::tell::{cannot_listen, cannot_meet, lacked_memory, session_broken};
+use crate::tunnel_end::{Limits, TunnelEnd};
 use crate::watching::Unwatched;
 use std::alloc::Global;
 use std::net::{Net, SocketAddr, TcpListener, TcpStream};
@@ -58,11 +58,13 @@ fn local_end<R: Host + Threads + Sync, V: ProgramWatcher + Send + Drop, E: Outle
 ) -> Exit
     ensures good { status_of result ≡ 0 → Keeps (E.contents errors.old) (E.contents errors.new) }
 {
+    if let PeerAddress::Connect(address) = options.peer {
+        if options.links > 1 {
+            return run_links(rt, alloc, address, options, watcher, errors);
+        }
+    }
     let mut watcher = watcher;
     match options.peer {
-        PeerAddress::Connect(address) if options.links > 1 => {
-            run_links(rt, alloc, address, options, watcher, errors)
-        }
         PeerAddress::Connect(_) if !options.is_kept => {
             reaching_end(rt, alloc, options, &mut watcher, errors)
         }
@@ -142,18 +144,17 @@ fn forward_all<R: Net + Clock + Wait, V: ProgramWatcher, E: Outlet>(
 ) -> Exit
     ensures good { status_of result ≡ 0 → Keeps (E.contents errors.old) (E.contents errors.new) }
 {
-    let mut events = match new_events(alloc) {
-        Ok(events) => events,
-        Err(refused) => return lacks_memory(refused, errors),
-    };
-    let count = options.count;
-    let side = TunnelSide::Local { listener, count };
     let limits = Limits::new(options.ping, false);
-    let Some(mut tunnel_end) = new_end(rt, side, false, limits, "--listen", watcher) else {
-        return cannot_listen(alloc, options.listen, errors);
+    let side = local_side(listener, options);
+    let (mut tunnel_end, mut poll) = match TunnelEnd::new(rt, alloc, side, false, limits) {
+        Ok(made) => made,
+        Err(fault) => {
+            let place = PeerAddress::Listen(options.listen);
+            return cannot_begin(alloc, "--listen", place, fault, watcher, errors);
+        }
     };
     let window = options.window;
-    let forwarded = tunnel_end.forward(rt, alloc, connection, window, &mut events, watcher);
+    let forwarded = tunnel_end.forward(rt, alloc, connection, window, &mut poll, watcher);
     report(alloc, options, forwarded, errors)
 }
 
@@ -171,27 +172,17 @@ fn meeting_end<R: Host, V: ProgramWatcher, E: Outlet>(
     let Some(listener) = listen_for(rt, "--listen", options.listen, watcher) else {
         return cannot_listen(alloc, options.listen, errors);
     };
-    let mut events = match new_events(alloc) {
-        Ok(events) => events,
-        Err(refused) => return lacks_memory(refused, errors),
-    };
-    let count = options.count;
-    let side = TunnelSide::Local { listener, count };
     let limits = Limits::new(options.ping, true);
-    let Some(mut tunnel_end) = new_end(rt, side, true, limits, "--listen", watcher) else {
-        return cannot_listen(alloc, options.listen, errors);
+    let side = local_side(listener, options);
+    let (mut tunnel_end, mut poll) = match TunnelEnd::new(rt, alloc, side, true, limits) {
+        Ok(made) => made,
+        Err(fault) => {
+            let place = PeerAddress::Listen(options.listen);
+            return cannot_begin(alloc, "--listen", place, fault, watcher, errors);
+        }
     };
     let end = &mut tunnel_end;
-    keep_local(
-        rt,
-        alloc,
-        meeting,
-        end,
-        options,
-        &mut events,
-        watcher,
-        errors,
-    )
+    keep_local(rt, alloc, meeting, end, options, &mut poll, watcher, errors)
 }
 
 /// Meets one peer, or as many as are asked for, and connects each of their streams to the target. Says faults on
@@ -270,18 +261,17 @@ fn single_end<R: Host, V: ProgramWatcher, E: Outlet>(
     let Some(connection) = meet(rt, alloc, options.peer, watcher, errors) else {
         return Exit::Faulted;
     };
-    let mut events = match new_events(alloc) {
-        Ok(events) => events,
-        Err(refused) => return lacks_memory(refused, errors),
-    };
     let limits = Limits::new(options.ping, false);
     let side = remote_side(options);
-    let Some(mut tunnel_end) = new_end(rt, side, false, limits, option_of(options.peer), watcher)
-    else {
-        return cannot_meet(alloc, options.peer, errors);
+    let (mut tunnel_end, mut poll) = match TunnelEnd::new(rt, alloc, side, false, limits) {
+        Ok(made) => made,
+        Err(fault) => {
+            let option = option_of(options.peer);
+            return cannot_begin(alloc, option, options.peer, fault, watcher, errors);
+        }
     };
     let window = options.window;
-    let forwarded = tunnel_end.forward(rt, alloc, connection, window, &mut events, watcher);
+    let forwarded = tunnel_end.forward(rt, alloc, connection, window, &mut poll, watcher);
     report_session(alloc, options.peer, forwarded, errors)
 }
 
@@ -296,45 +286,17 @@ fn calling_end<R: Net<Stream = TcpStream> + Clock + Wait, V: ProgramWatcher, E: 
 ) -> Exit
     ensures { result ≡ Exit.Faulted }
 {
-    let mut events = match new_events(alloc) {
-        Ok(events) => events,
-        Err(refused) => return lacks_memory(refused, errors),
-    };
     let limits = Limits::new(options.ping, true);
     let side = remote_side(options);
-    let Some(mut tunnel_end) = new_end(rt, side, true, limits, option_of(options.peer), watcher)
-    else {
-        return cannot_meet(alloc, options.peer, errors);
-    };
-    keep_calling(
-        rt,
-        alloc,
-        peer,
-        &mut tunnel_end,
-        options,
-        &mut events,
-        watcher,
-        errors,
-    )
-}
-
-/// A side that has served nothing, as [`TunnelEnd::new`] makes one. None if the system refuses, which is told of this
-/// option.
-pub(crate) fn new_end<R: Net, V: ProgramWatcher>(
-    rt: &R,
-    side: TunnelSide,
-    is_kept: bool,
-    limits: Limits,
-    option: &'static str,
-    watcher: &mut V,
-) -> Option<TunnelEnd> {
-    match TunnelEnd::new(rt, side, is_kept, limits) {
-        Ok(tunnel_end) => Some(tunnel_end),
-        Err(error) => {
-            watcher.failed(option, Reason::of(&error));
-            None
+    let (mut tunnel_end, mut poll) = match TunnelEnd::new(rt, alloc, side, true, limits) {
+        Ok(made) => made,
+        Err(fault) => {
+            let option = option_of(options.peer);
+            return cannot_begin(alloc, option, options.peer, fault, watcher, errors);
         }
-    }
+    };
+    let end = &mut tunnel_end;
+    keep_calling(rt, alloc, peer, end, options, &mut poll, watcher, errors)
 }
 
 /// The option that says so where the peer is met.
@@ -342,6 +304,14 @@ fn option_of(peer: PeerAddress) -> &'static str {
     match peer {
         PeerAddress::Connect(_) => "--peer",
         PeerAddress::Listen(_) => "--bind",
+    }
+}
+
+/// The side that `local` serves, to which connections come at this listener.
+fn local_side(listener: TcpListener, options: LocalOptions) -> TunnelSide {
+    TunnelSide::Local {
+        listener,
+        count: options.count,
     }
 }
 

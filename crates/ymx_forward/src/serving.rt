@@ -10,13 +10,13 @@ use crate::exit::Exit;
 use crate::host::Host;
 use crate::notices::ProgramWatcher;
 use crate::peer::Peer;
-use crate::programs::{new_end, remote_side, report_session};
+use crate::programs::{remote_side, report_session};
 use crate::reason::Reason;
 use crate::shared::{Shared, tell_failure};
 use crate::sides::Forwarded;
-use crate::starting::StartFault;
-use crate::tell::{cannot_listen, lacks_memory};
-use crate::tunnel_end::{Limits, new_events};
+use crate::starting::{StartFault, cannot_begin};
+use crate::tell::cannot_listen;
+use crate::tunnel_end::{Limits, TunnelEnd};
 use std::alloc::Global;
 use std::net::{SocketAddr, TcpListener};
 use std::sync::Mutex;
@@ -87,7 +87,10 @@ pub(crate) fn serve<R: Host + Threads + Sync, V: ProgramWatcher + Send + Drop, E
     let mut watcher = watcher;
     let (door, inside) = match Door::new(rt, alloc, listener, count, options.is_kept) {
         Ok(made) => made,
-        Err(fault) => return no_door(alloc, address, fault, &mut watcher, errors),
+        Err(fault) => {
+            let place = PeerAddress::Listen(address);
+            return cannot_begin(alloc, "--bind", place, fault, &mut watcher, errors);
+        }
     };
     let watcher = Mutex::new(watcher);
     if options.is_kept {
@@ -106,25 +109,6 @@ pub(crate) fn serve<R: Host + Threads + Sync, V: ProgramWatcher + Send + Drop, E
     match end {
         ServingEnd::Empty => report_session(alloc, options.peer, all, errors),
         ServingEnd::Failed => cannot_listen(alloc, address, errors),
-    }
-}
-
-/// Says why no peer can be let in.
-fn no_door<V: ProgramWatcher, E: Outlet>(
-    alloc: Global,
-    address: SocketAddr,
-    fault: StartFault,
-    watcher: &mut V,
-    errors: &mut E,
-) -> Exit
-    ensures { result ≡ Exit.Faulted }
-{
-    match fault {
-        StartFault::Unwatched(error) => {
-            watcher.failed("--bind", Reason::of(&error));
-            cannot_listen(alloc, address, errors)
-        }
-        StartFault::OutOfMemory(refused) => lacks_memory(refused, errors),
     }
 }
 
@@ -203,14 +187,15 @@ fn forward_peer<R: Host, V: ProgramWatcher>(
     options: RemoteOptions,
     watcher: &mut V,
 ) -> Forwarded {
-    let mut events = match new_events(alloc) {
-        Ok(events) => events,
-        Err(refused) => return Forwarded::without_memory(refused),
-    };
     let limits = Limits::new(options.ping, true);
-    let side = remote_side(options);
-    let Some(mut tunnel_end) = new_end(rt, side, true, limits, "--bind", watcher) else {
-        return Forwarded::unwatched();
-    };
-    tunnel_end.forward_peer(rt, alloc, peer, options.window, &mut events, watcher)
+    match TunnelEnd::new(rt, alloc, remote_side(options), true, limits) {
+        Ok((mut tunnel_end, mut poll)) => {
+            tunnel_end.forward_peer(rt, alloc, peer, options.window, &mut poll, watcher)
+        }
+        Err(StartFault::Unwatched(error)) => {
+            watcher.failed("--bind", Reason::of(&error));
+            Forwarded::unwatched()
+        }
+        Err(StartFault::OutOfMemory(refused)) => Forwarded::without_memory(refused),
+    }
 }

@@ -1,7 +1,15 @@
 //! Why something can't begin.
 
-use std::alloc::{AllocError, AllocFailed};
+ghost use Rattle.std.specs.Prelude.{◌≡◌};
+
+use crate::exit::Exit;
+use crate::notices::ProgramWatcher;
+use crate::reason::Reason;
+use crate::tell::{cannot_meet, lacks_memory};
+use std::alloc::{AllocError, AllocFailed, Global};
 use std::io;
+use ymx_arguments::PeerAddress;
+use ymx_model::Outlet;
 
 /// Why something can't begin.
 #[derive(Drop)]
@@ -27,5 +35,25 @@ impl From<AllocError> for StartFault {
 impl<T: Drop> From<AllocFailed<T>> for StartFault {
     fn from(refused: AllocFailed<T>) -> StartFault {
         StartFault::OutOfMemory(AllocError::from(refused))
+    }
+}
+
+/// Says why what this option asks for can't begin, at the place that it names.
+pub(crate) fn cannot_begin<V: ProgramWatcher, E: Outlet>(
+    alloc: Global,
+    option: &'static str,
+    place: PeerAddress,
+    fault: StartFault,
+    watcher: &mut V,
+    errors: &mut E,
+) -> Exit
+    ensures { result ≡ Exit.Faulted }
+{
+    match fault {
+        StartFault::Unwatched(error) => {
+            watcher.failed(option, Reason::of(&error));
+            cannot_meet(alloc, place, errors)
+        }
+        StartFault::OutOfMemory(refused) => lacks_memory(refused, errors),
     }
 }

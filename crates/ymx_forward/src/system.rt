@@ -3,18 +3,20 @@
 //! system does, so this file is to be read. No other file of this crate makes such a call: the sockets that never wait
 //! are private here.
 
-ghost use Rattle.std.specs.Prelude.{◌≡◌, ◌≤◌, ◌<◌, ◌^◌, ◌==◌, [], false, true, length, IfOk, OnErr};
+ghost use Rattle.std.specs.Prelude.{◌≡◌, ◌<◌, ◌^◌, ◌==◌, false, true, length, IfOk};
 ghost use Rattle.std.specs.Io.{ReadsAtMost, WritesAtMost};
 ghost use Rattle.std.specs.Io.Slices.{io_slices_bytes};
 ghost use Rattle.std.specs.Slice.Iter.{iter_rest, iter_steps};
 ghost use Rattle.std.specs.Iterator.Runs.{EveryRun, ItemsMapTo};
 ghost use Rattle.mio.specs.declared.event.event.Event.{Event as SystemEvent};
 ghost use Rattle.mio.specs.Event.{event_token, is_readable, is_writable, is_error, is_read_closed};
-ghost use Rattle.mio.specs.Events.{items, capacity as events_capacity};
+ghost use Rattle.mio.specs.Events.{items};
+ghost use Rattle.ymx_engine.specs.Devices.{CountsOne};
 
+use crate::starting::StartFault;
 use mio::event::Iter;
 use mio::{Interest, Token};
-use std::alloc::{AllocError, Global};
+use std::alloc::Global;
 use std::io::{ErrorKind, IoSlice, Read, Write};
 use std::net::{Net, Shutdown, SocketAddr, TcpListener, TcpStream};
 use std::time::Duration;
@@ -161,61 +163,57 @@ impl Listener {
 
 // ---- events
 
-/// What waits until something that was registered with it is ready.
+/// How many events are taken at once.
+const EVENTS: usize = 256;
+
+/// What waits until something that was registered with it is ready, and the events that told of it last.
 #[derive(Drop)]
 pub(crate) struct Poll {
     inner: mio::Poll,
+    events: mio::Events,
+    /// How often it has waited. It stays at the greatest `u64`.
+    waits: u64,
 }
 
 impl Poll {
     /// One with which nothing is registered.
-    pub(crate) fn new<R: Net>(rt: &R) -> io::Result<Poll> {
+    pub(crate) fn new<R: Net>(rt: &R, alloc: Global) -> Result<Poll, StartFault> {
         Ok(Poll {
+            events: mio::Events::with_capacity(alloc, EVENTS)?,
             inner: mio::Poll::new(rt)?,
+            waits: 0,
         })
     }
 
     /// Waits for events, and no longer than the limit, if there is one. They take the place of those that were there.
-    pub(crate) fn wait(&mut self, events: &mut Events, limit: Option<Duration>) -> io::Result<()>
-        ensures count { length (items events.new.inner) ≤ events_capacity events.old.inner }
-        ensures err { OnErr result (items events.new.inner ≡ []) }
-        ensures capacity { events_capacity events.new.inner ≡ events_capacity events.old.inner }
+    pub(crate) fn wait(&mut self, limit: Option<Duration>) -> io::Result<()>
+        ensures { CountsOne self.old.waits self.new.waits }
     {
-        self.inner.poll(&mut events.inner, limit)
-    }
-}
-
-/// Room for the events that are taken at once.
-#[derive(Drop)]
-pub(crate) struct Events {
-    inner: mio::Events,
-}
-
-impl Events {
-    /// Room for so many.
-    pub(crate) fn with_capacity(alloc: Global, capacity: usize) -> Result<Events, AllocError>
-        ensures empty { IfOk result (λ events. items events.inner ≡ []) }
-        ensures capacity { IfOk result (λ events. events_capacity events.inner ≡ capacity) }
-    {
-        Ok(Events {
-            inner: mio::Events::with_capacity(alloc, capacity)?,
-        })
+        self.waits = self.waits.saturating_add(1);
+        self.inner.poll(&mut self.events, limit)
     }
 
-    /// Whether none came.
-    pub(crate) fn is_empty(&self) -> bool
-        ensures { result ≡ (length (items self.now.inner) == 0) }
+    /// Takes the events that are there, which take the place of those before. It doesn't wait.
+    pub(crate) fn look(&mut self) -> io::Result<()>
+        ensures { self.new.waits ≡ self.old.waits }
     {
-        self.inner.is_empty()
+        self.inner.poll(&mut self.events, Some(Duration::ZERO))
     }
 
-    /// Each, as the system gave it: [`Event::of`] reads it.
-    pub(crate) fn iter(&self) -> Iter<'_>
-        ensures rest { iter_rest result ≡ items self.now.inner }
+    /// Whether no event is there.
+    pub(crate) fn has_none(&self) -> bool
+        ensures { result ≡ (length (items self.now.events) == 0) }
+    {
+        self.events.is_empty()
+    }
+
+    /// Each event, as the system gave it: [`Event::of`] reads it.
+    pub(crate) fn events(&self) -> Iter<'_>
+        ensures rest { iter_rest result ≡ items self.now.events }
         ensures len { length (iter_rest result) < 2 ^ 64 }
         ensures runs { EveryRun (iter_steps {A = SystemEvent}) (λ p. ItemsMapTo p (λ e. e.now) (iter_rest p.from)) }
     {
-        self.inner.iter()
+        self.events.iter()
     }
 }
 

@@ -3,13 +3,13 @@
 //! All that moves is moved by calls of [`ymx_engine::Tunnel`], which owns the wire and the connections. Each function
 //! here that makes such calls says that they are all it did: `Runs`.
 
-ghost use Rattle.std.specs.Prelude.{◌≡◌, [], true, false, IfOk, IfSome};
+ghost use Rattle.std.specs.Prelude.{◌≡◌, ◌⊎◌, [], true, false, IfOk, IfSome};
 ghost use Rattle.ymx_engine.specs.Runs.{Runs, IsOver};
 ghost use Rattle.ymx_engine.specs.Served.{AreServed, NoneWaits, NoneGives};
 ghost use Rattle.ymx_engine.specs.Devices.{CountsOne, CountsSome};
 ghost use Rattle.ymx_engine.specs.Tunnels.{Serving, view_of};
 ghost use Rattle.ymx_engine.specs.Work.{ServesOne, WorksOnce};
-ghost use Rattle.ymx_forward.specs.Loops.{WasLost};
+ghost use Rattle.ymx_forward.specs.Loops.{NeedsEvents, WaitsInNeed, WasLost};
 ghost use Rattle.ymx_model.specs.session.Sessions.{is_running};
 
 use crate::exit::Done;
@@ -19,7 +19,7 @@ use crate::sides::Forwarded;
 use crate::silence::{Due, Silence, shorter};
 use crate::socket::Socket;
 use crate::stillness::Stillness;
-use crate::system::{Event, Events, Poll, TcpConnection};
+use crate::system::{Event, Poll, TcpConnection};
 use crate::tunnel_end::{LISTENER, RETRY, Side, TunnelEnd};
 use crate::watching::{Declined, EndedConnection, Ending, Origin, Watcher};
 use std::alloc::Global;
@@ -141,11 +141,13 @@ impl<'a> TunnelLoop<'a> {
     pub(crate) fn run<R: Net + Clock + Wait, V: Watcher>(
         &mut self,
         rt: &R,
-        events: &mut Events,
+        poll: &mut Poll,
         watcher: &mut V,
         is_kept: bool,
     ) -> Option<Finished>
         ensures runs { Runs self.old.tunnel self.new.tunnel }
+        // It waits for events only where nothing can be moved without one.
+        ensures waits { Serving self.old.tunnel → WaitsInNeed self.old.tunnel self.new.tunnel poll.old.waits poll.new.waits }
         // A loop that wasn't left is over: nothing is due, or the wire has failed, and no connection is left.
         ensures over { IfSome result (λ finished. finished.was_left ≡ false → IsOver self.new.tunnel) }
         ensures empty { IfSome result (λ finished. finished.was_left ≡ false → self.new.tunnel.lines ≡ []) }
@@ -154,13 +156,13 @@ impl<'a> TunnelLoop<'a> {
         ensures lost { IfSome result (λ finished. finished.was_left ≡ true → WasLost self.old.tunnel self.new.tunnel) }
     {
         let mut silence = Silence::new(rt, self.tunnel_end.limits.silence);
-        self.begin_waiting(watcher);
+        self.begin_waiting(poll, watcher);
         for _ in rt.forever() {
             if self.is_over() {
                 return Some(Finished { was_left: false });
             }
             let limit = self.hear_silence(rt, &mut silence);
-            if self.await_events(rt, events, limit).is_err() {
+            if self.await_events(rt, poll, limit).is_err() {
                 self.is_unwatched = true;
                 self.leave_all(watcher);
                 return None;
@@ -169,7 +171,7 @@ impl<'a> TunnelLoop<'a> {
                 self.leave_all(watcher);
                 return Some(Finished { was_left: true });
             }
-            self.take_turn(rt, watcher);
+            self.take_turn(rt, poll, watcher);
         }
         unreachable!()
     }
@@ -250,18 +252,35 @@ impl<'a> TunnelLoop<'a> {
     fn await_events<R: Clock>(
         &mut self,
         rt: &R,
-        events: &mut Events,
+        poll: &mut Poll,
         limit: Option<Duration>,
     ) -> io::Result<()>
-        ensures { Runs self.old.tunnel self.new.tunnel }
+        ensures runs { Runs self.old.tunnel self.new.tunnel }
+        ensures waits { Serving self.old.tunnel → (poll.new.waits ≡ poll.old.waits) ⊎ (NeedsEvents self.old.tunnel × CountsOne poll.old.waits poll.new.waits) }
     {
         let is_waiting = !self.has_work();
         self.note_waiting(rt, is_waiting);
-        let timeout = shorter(self.timeout(is_waiting), limit);
-        self.tunnel_end.poll.wait(events, timeout)?;
-        self.note_waited(is_waiting && events.is_empty());
-        self.note_all(events);
+        self.take_events(poll, is_waiting, limit)?;
+        self.note_waited(is_waiting && poll.has_none());
+        self.note_all(poll);
         Ok(())
+    }
+
+    /// Takes the events that are there or, where it `is_waiting`, waits for some, for so long at most.
+    fn take_events(
+        &self,
+        poll: &mut Poll,
+        is_waiting: bool,
+        limit: Option<Duration>,
+    ) -> io::Result<()>
+        ensures looks { is_waiting ≡ false → poll.new.waits ≡ poll.old.waits }
+        ensures waits { is_waiting ≡ true → CountsOne poll.old.waits poll.new.waits }
+    {
+        if is_waiting {
+            poll.wait(shorter(self.timeout(), limit))
+        } else {
+            poll.look()
+        }
     }
 
     /// It begins to wait for events, or doesn't.
@@ -285,10 +304,7 @@ impl<'a> TunnelLoop<'a> {
     }
 
     /// How long it waits for events. None if for as long as none comes.
-    fn timeout(&self, is_waiting: bool) -> Option<Duration> {
-        if !is_waiting {
-            return Some(Duration::ZERO);
-        }
+    fn timeout(&self) -> Option<Duration> {
         if self.is_to_be_followed() {
             return Some(Duration::from_secs(GLANCE));
         }
@@ -298,14 +314,14 @@ impl<'a> TunnelLoop<'a> {
     }
 
     /// Does what can be done now.
-    fn take_turn<R: Net + Clock + Wait, V: Watcher>(&mut self, rt: &R, watcher: &mut V)
+    fn take_turn<R: Net + Clock + Wait, V: Watcher>(&mut self, rt: &R, poll: &Poll, watcher: &mut V)
         ensures runs { Runs self.old.tunnel self.new.tunnel }
         // The wire is read and written, and where a connection waits for a turn, one has its turn.
         ensures works { WorksOnce self.old.tunnel self.new.tunnel }
     {
-        self.accept_connections(rt, watcher);
+        self.accept_connections(rt, poll, watcher);
         self.read_wire();
-        self.accept_streams(rt, watcher);
+        self.accept_streams(rt, poll, watcher);
         self.tell_loss(rt, watcher);
         self.serve_queued(watcher);
         self.flush();
@@ -363,11 +379,11 @@ impl<'a> TunnelLoop<'a> {
 
     // ---- events
 
-    /// Notes what these events say.
-    fn note_all(&mut self, events: &Events)
+    /// Notes what the events say that are there.
+    fn note_all(&mut self, poll: &Poll)
         ensures { Runs self.old.tunnel self.new.tunnel }
     {
-        'event: for event in events.iter() {
+        'event: for event in poll.events() {
             self.note(Event::of(event));
         }
     }
@@ -412,16 +428,16 @@ impl<'a> TunnelLoop<'a> {
     // ---- connections that come
 
     /// Opens a stream for the connection that came while there was no session.
-    fn begin_waiting<V: Watcher>(&mut self, watcher: &mut V)
+    fn begin_waiting<V: Watcher>(&mut self, poll: &Poll, watcher: &mut V)
         ensures { Runs self.old.tunnel self.new.tunnel }
     {
         if let Some(socket) = self.tunnel_end.waiting.take() {
-            self.begin_local(socket, watcher);
+            self.begin_local(socket, poll, watcher);
         }
     }
 
     /// Opens a stream for each connection that waits. Those that come for the next session are left to it.
-    fn accept_connections<R: Wait, V: Watcher>(&mut self, rt: &R, watcher: &mut V)
+    fn accept_connections<R: Wait, V: Watcher>(&mut self, rt: &R, poll: &Poll, watcher: &mut V)
         ensures { Runs self.old.tunnel self.new.tunnel }
     {
         if self.is_to_be_followed() {
@@ -432,7 +448,7 @@ impl<'a> TunnelLoop<'a> {
                 self.tunnel_end.tell_refusal(watcher);
                 return;
             };
-            self.begin_local(socket, watcher);
+            self.begin_local(socket, poll, watcher);
         }
     }
 
@@ -452,7 +468,7 @@ impl<'a> TunnelLoop<'a> {
 
     /// Opens a stream for a connection. Once the session is lost the connection is closed, and it is the last one
     /// unless others are counted on.
-    fn begin_local<V: Watcher>(&mut self, socket: TcpConnection, watcher: &mut V)
+    fn begin_local<V: Watcher>(&mut self, socket: TcpConnection, poll: &Poll, watcher: &mut V)
         ensures { Runs self.old.tunnel self.new.tunnel }
     {
         let origin = watcher.begins(&socket);
@@ -460,19 +476,16 @@ impl<'a> TunnelLoop<'a> {
             self.stop_endless();
         }
         socket.send_at_once();
-        if let Err(why) = self.open(Socket::connected(socket, origin)) {
+        if let Err(why) = self.open(Socket::connected(socket, origin), poll) {
             self.decline(origin, why, watcher);
         }
     }
 
     /// Opens a stream for a connection.
-    fn open(&mut self, socket: Socket) -> Result<u32, NotJoined>
+    fn open(&mut self, socket: Socket, poll: &Poll) -> Result<u32, NotJoined>
         ensures { Runs self.old.tunnel self.new.tunnel }
     {
-        let mut tokens = Tokens {
-            poll: &self.tunnel_end.poll,
-        };
-        self.tunnel.open(socket, &mut tokens)
+        self.tunnel.open(socket, &mut Tokens { poll })
     }
 
     /// Says why a connection that came got no stream.
@@ -521,7 +534,7 @@ impl<'a> TunnelLoop<'a> {
     // ---- streams that come
 
     /// Begins a connection to the target for each stream that waits, as far as the limit lets it.
-    fn accept_streams<R: Net, V: Watcher>(&mut self, rt: &R, watcher: &mut V)
+    fn accept_streams<R: Net, V: Watcher>(&mut self, rt: &R, poll: &Poll, watcher: &mut V)
         ensures { Runs self.old.tunnel self.new.tunnel }
     {
         let Side::Remote { target, limit } = self.tunnel_end.side else {
@@ -531,19 +544,25 @@ impl<'a> TunnelLoop<'a> {
             if self.tunnel.len() >= limit {
                 return;
             }
-            self.begin_remote(rt, target, watcher);
+            self.begin_remote(rt, target, poll, watcher);
         }
     }
 
     /// Begins a connection to the target for the stream that came first. If it can't begin, the stream is reset.
-    fn begin_remote<R: Net, V: Watcher>(&mut self, rt: &R, target: SocketAddr, watcher: &mut V)
+    fn begin_remote<R: Net, V: Watcher>(
+        &mut self,
+        rt: &R,
+        target: SocketAddr,
+        poll: &Poll,
+        watcher: &mut V,
+    )
         ensures { Runs self.old.tunnel self.new.tunnel }
     {
         let origin = watcher.begins(self.tunnel.wire().connection());
         match TcpConnection::begin(rt, target) {
             Ok(socket) => {
                 socket.send_at_once();
-                match self.accept(Socket::begun(socket, origin)) {
+                match self.accept(Socket::begun(socket, origin), poll) {
                     Ok(Some(id)) => self.note_begun(id),
                     Ok(None) => {}
                     Err(why) => self.end_unjoined(origin, why, watcher),
@@ -577,13 +596,10 @@ impl<'a> TunnelLoop<'a> {
     }
 
     /// Accepts the stream that came first for this connection.
-    fn accept(&mut self, socket: Socket) -> Result<Option<u32>, NotJoined>
+    fn accept(&mut self, socket: Socket, poll: &Poll) -> Result<Option<u32>, NotJoined>
         ensures { Runs self.old.tunnel self.new.tunnel }
     {
-        let mut tokens = Tokens {
-            poll: &self.tunnel_end.poll,
-        };
-        self.tunnel.accept(socket, &mut tokens)
+        self.tunnel.accept(socket, &mut Tokens { poll })
     }
 
     /// Says why a connection to the target was not joined to its stream.

@@ -7,7 +7,7 @@ use crate::peer::Peer;
 use crate::sides::{Forwarded, TunnelSide};
 use crate::socket::Socket;
 use crate::starting::StartFault;
-use crate::system::{Events, Poll, TcpConnection, Waker};
+use crate::system::{Poll, TcpConnection, Waker};
 use crate::tunnel::{TunnelLoop, wire_of};
 use crate::watching::{Declined, Watcher};
 use std::alloc::{AllocError, Global};
@@ -17,9 +17,6 @@ use std::sync::{Arc, Wait};
 use std::time::{Clock, Duration};
 use ymx_model::CallFault;
 use ymx_session::NewFault;
-
-/// How many events are taken at once.
-const EVENTS: usize = 256;
 
 /// How many seconds go by until it is tried again to accept a connection for which there was no descriptor or no memory.
 pub(crate) const RETRY: u64 = 1;
@@ -94,15 +91,9 @@ impl Limits {
     }
 }
 
-/// Room for the events that are taken at once.
-pub(crate) fn new_events(alloc: Global) -> Result<Events, AllocError> {
-    Events::with_capacity(alloc, EVENTS)
-}
-
 /// One side of a tunnel, which lasts through its sessions: the listener of `Local` stays open.
 #[derive(Drop)]
 pub(crate) struct TunnelEnd {
-    pub(crate) poll: Poll,
     pub(crate) side: Side,
     /// Another session follows one that is lost.
     pub(crate) is_kept: bool,
@@ -113,23 +104,25 @@ pub(crate) struct TunnelEnd {
 }
 
 impl TunnelEnd {
-    /// A side that has served nothing. `is_kept` says that another session follows one that is lost. The error is the
-    /// system's, which refuses to watch where connections come from, or anything.
+    /// A side that has served nothing, and the poll that tells of what it waits for. `is_kept` says that another session
+    /// follows one that is lost. The fault is that there is no memory, or that the system refuses to watch where
+    /// connections come from, or anything.
     pub(crate) fn new<R: Net>(
         rt: &R,
+        alloc: Global,
         side: TunnelSide,
         is_kept: bool,
         limits: Limits,
-    ) -> io::Result<TunnelEnd> {
-        let poll = Poll::new(rt)?;
+    ) -> Result<(TunnelEnd, Poll), StartFault> {
+        let poll = Poll::new(rt, alloc)?;
         let side = listen(side, is_kept, &poll)?;
-        Ok(TunnelEnd {
-            poll,
+        let tunnel_end = TunnelEnd {
             side,
             is_kept,
             limits,
             waiting: None,
-        })
+        };
+        Ok((tunnel_end, poll))
     }
 
     /// A side whose connections another thread leaves in the inbox, as [`TunnelEnd::new`] makes one. That thread is woken by
@@ -140,19 +133,18 @@ impl TunnelEnd {
         acceptor: Arc<Waker, Global>,
         is_kept: bool,
         limits: Limits,
-    ) -> Result<(TunnelEnd, Arc<Inbox, Global>), StartFault> {
-        let poll = Poll::new(rt)?;
+    ) -> Result<(TunnelEnd, Poll, Arc<Inbox, Global>), StartFault> {
+        let poll = Poll::new(rt, alloc)?;
         let waker = Waker::new(&poll, LISTENER)?;
         let inbox = Arc::new(alloc, Inbox::new(alloc, waker, acceptor))?;
         let listening = Listening::of_inbox(Arc::try_clone(&inbox)?);
         let tunnel_end = TunnelEnd {
-            poll,
             side: Side::Local(listening),
             is_kept,
             limits,
             waiting: None,
         };
-        Ok((tunnel_end, inbox))
+        Ok((tunnel_end, poll, inbox))
     }
 
     /// Runs a session over this connection, and serves this side of the tunnel, in this thread alone. Once that side
@@ -170,11 +162,11 @@ impl TunnelEnd {
         alloc: Global,
         connection: TcpStream,
         window: u32,
-        events: &mut Events,
+        poll: &mut Poll,
         watcher: &mut V,
     ) -> Forwarded {
         match Peer::new(connection) {
-            Some(peer) => self.forward_peer(rt, alloc, peer, window, events, watcher),
+            Some(peer) => self.forward_peer(rt, alloc, peer, window, poll, watcher),
             None => Forwarded::unwatched(),
         }
     }
@@ -186,18 +178,18 @@ impl TunnelEnd {
         alloc: Global,
         peer: Peer,
         window: u32,
-        events: &mut Events,
+        poll: &mut Poll,
         watcher: &mut V,
     ) -> Forwarded {
         self.note_all();
-        let Some(wire) = wire_of(peer, &self.poll) else {
+        let Some(wire) = wire_of(peer, poll) else {
             return Forwarded::unwatched();
         };
-        match self.run(rt, alloc, wire, window, events, watcher) {
+        match self.run(rt, alloc, wire, window, poll, watcher) {
             Ok((forwarded, wire)) => {
                 let is_broken = forwarded.broken.is_some();
                 let limit = self.limits.close;
-                close(rt, &mut self.poll, events, wire, is_broken, limit);
+                close(rt, poll, wire, is_broken, limit);
                 forwarded
             }
             Err(NewFault::OutOfMemory(refused)) => {
@@ -215,12 +207,12 @@ impl TunnelEnd {
         alloc: Global,
         wire: Socket,
         window: u32,
-        events: &mut Events,
+        poll: &mut Poll,
         watcher: &mut V,
     ) -> Result<(Forwarded, Socket), NewFault> {
         let is_kept = self.is_kept;
         let mut tunnel = TunnelLoop::new(alloc, wire, self, window)?;
-        let finished = tunnel.run(rt, events, watcher, is_kept);
+        let finished = tunnel.run(rt, poll, watcher, is_kept);
         let forwarded = tunnel.forwarded(finished);
         Ok((forwarded, tunnel.into_wire()))
     }
@@ -234,7 +226,7 @@ impl TunnelEnd {
 
     /// Waits, while there is no session, until a connection comes that the next session is to serve, or none can come any
     /// more. At the limit of descriptors it goes on once there is one.
-    pub(crate) fn await_connection<R: Wait>(&mut self, rt: &R, events: &mut Events) -> Awaited {
+    pub(crate) fn await_connection<R: Wait>(&mut self, rt: &R, poll: &mut Poll) -> Awaited {
         for _ in rt.forever() {
             self.note_all();
             if self.take_waiting(rt) {
@@ -243,7 +235,7 @@ impl TunnelEnd {
             if let Some(why) = self.none_come() {
                 return Awaited::NoneCome(why);
             }
-            if self.wait(events, self.is_full()).is_err() {
+            if wait(poll, self.is_full()).is_err() {
                 return Awaited::NoneCome(NoneCome::Refused);
             }
         }
@@ -256,10 +248,10 @@ impl TunnelEnd {
         &mut self,
         rt: &R,
         listener: TcpListener,
-        events: &mut Events,
+        poll: &mut Poll,
         watcher: &mut V,
     ) -> AwaitedPeer {
-        let Ok(mut peers) = self.listen_for_peers(listener) else {
+        let Ok(mut peers) = listen_for_peers(listener, poll) else {
             return AwaitedPeer::Refused;
         };
         for _ in rt.forever() {
@@ -272,10 +264,7 @@ impl TunnelEnd {
                 self.refuse_waiting(watcher);
             } else if let Some(end) = self.end_of_wait(&peers) {
                 return end;
-            } else if self
-                .wait(events, self.is_full() || peers.is_full())
-                .is_err()
-            {
+            } else if wait(poll, self.is_full() || peers.is_full()).is_err() {
                 return AwaitedPeer::Refused;
             }
         }
@@ -291,17 +280,6 @@ impl TunnelEnd {
             return Some(AwaitedPeer::Refused);
         }
         None
-    }
-
-    /// Accepts peers of this listener, without waiting.
-    fn listen_for_peers(&self, listener: TcpListener) -> io::Result<Listening> {
-        Listening::new(listener, None, true, &self.poll, PEERS)
-    }
-
-    /// Waits for events, and where a listener is full only for a while.
-    fn wait(&mut self, events: &mut Events, is_full: bool) -> io::Result<()> {
-        self.poll
-            .wait(events, is_full.then_some(Duration::from_secs(RETRY)))
     }
 
     /// Whether a connection may wait for which there was no descriptor or no memory.
@@ -358,6 +336,16 @@ impl TunnelEnd {
             Side::Remote { .. } => Some(NoneCome::Refused),
         }
     }
+}
+
+/// Accepts peers of this listener, without waiting.
+fn listen_for_peers(listener: TcpListener, poll: &Poll) -> io::Result<Listening> {
+    Listening::new(listener, None, true, poll, PEERS)
+}
+
+/// Waits for events, and where a listener is full only for a while.
+fn wait(poll: &mut Poll, is_full: bool) -> io::Result<()> {
+    poll.wait(is_full.then_some(Duration::from_secs(RETRY)))
 }
 
 /// Where the connections of this side come from, or where they go to.

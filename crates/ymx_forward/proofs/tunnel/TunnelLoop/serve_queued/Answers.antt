@@ -1,4 +1,4 @@
-use Rattle.std.proofs.Common.{arith, ap, ◌∙◌}
+use Rattle.std.proofs.Common.{arith}
 use Rattle.ymx_engine.proofs.Running.{runs_same, runs_then}
 use Rattle.ymx_engine.proofs.Working.{turns_then, some_queued}
 use Rattle.ymx_forward.proofs.tunnel.TunnelLoop.serve_queued.Goals as goal
