@@ -1,5 +1,6 @@
 -- Two tunnels that are quiet: all that their streams took has come.
 use Rattle.std.proofs.Common.{◌≡◌, ℕ, List, [], ◌++◌, Bool, true, false, ◌&&◌, not, refl, sym, ap, ◌∙◌, inl, inr}
+use Rattle.ymx_machine.specs.declared.types.Side.TheVariants.{A, B}
 use Rattle.ymx_machine.specs.shared.Events.{Reply}
 use Rattle.ymx_model.specs.declared.types.Role.TheVariants.{Client, Server}
 use Rattle.ymx_model.specs.session.Events.{Event}
@@ -21,10 +22,10 @@ use Rattle.ymx_joined.specs.Carried.{tunnels_of, HadOne}
 use Rattle.ymx_joined.specs.Quiet.{IsQuietWay, AreQuiet, is_finished, HasCome, was_given, was_left, AllHasCome, IsAllPassedOn}
 use Rattle.ymx_joined.proofs.Arriving.{Came, comes}
 use Rattle.ymx_joined.proofs.Driving.{nothing_lost}
-use Rattle.ymx_joined.proofs.Holding.{all_done_a, all_done_b, given_of_a, given_of_b, left_of_a, left_of_b, all_given_a, all_given_b, all_left_a, all_left_b}
+use Rattle.ymx_joined.proofs.Holding.{all_done, given_of, left_of, all_given, all_left}
 use Rattle.ymx_joined.proofs.Keeping.{both_have}
 use Rattle.ymx_joined.proofs.Piping.{open_pipe, Holds, Joint, joint_new}
-use Rattle.ymx_joined.proofs.Tracing.{gathers_a, gathers_b, writes_of_a, writes_of_b, written_a, written_b, reads_of_a, reads_of_b, read_a, read_b, finishes_of_a, finishes_of_b}
+use Rattle.ymx_joined.proofs.Tracing.{gathers_a, gathers_b, writes_of, all_written, reads_of, all_read, finishes_of}
 use Rattle.ymx_joined.proofs.Tunneling.{turns_of, plain_a, plain_b, no_cause, taken_during, given_during, plenty_during}
 use Rattle.ymx_joined.proofs.Ways.{IsStillWay}
 
@@ -90,20 +91,20 @@ all_has_come ts = λ wa fa wb fb q good r id.
     let come = comes in_turn j.steps answers wa fa wb fb last good j.runs id in
     record {
       to_b = λ way has. has_come id _ es fs b.session
-          (gathers_a (writes_of_a id) j.turns new_pipe new_pipe false false 0 0 es fs j.steps j.joint refl refl plain_es ∙ written_a id es)
-          (gathers_b (reads_of_b id) j.turns new_pipe new_pipe false false 0 0 es fs j.steps j.joint refl refl plain_fs ∙ read_b id fs)
-          (gathers_a (finishes_of_a id) j.turns new_pipe new_pipe false false 0 0 es fs j.steps j.joint refl refl plain_es ∙ all_done_a id es)
+          (gathers_a (writes_of A B refl id) j.turns new_pipe new_pipe false false 0 0 es fs j.steps j.joint refl refl plain_es ∙ all_written A B refl id es)
+          (gathers_b (reads_of B A refl id) j.turns new_pipe new_pipe false false 0 0 es fs j.steps j.joint refl refl plain_fs ∙ all_read B A refl id fs)
+          (gathers_a (finishes_of A B refl id) j.turns new_pipe new_pipe false false 0 0 es fs j.steps j.joint refl refl plain_es ∙ all_done A B refl id es)
           (come.to_b (still_way j.last_ab j.last_ba a b q.pair.ab way (pipe_ab way)) has);
       to_a = λ way has. has_come id _ fs es a.session
-          (gathers_b (writes_of_b id) j.turns new_pipe new_pipe false false 0 0 es fs j.steps j.joint refl refl plain_fs ∙ written_b id fs)
-          (gathers_a (reads_of_a id) j.turns new_pipe new_pipe false false 0 0 es fs j.steps j.joint refl refl plain_es ∙ read_a id es)
-          (gathers_b (finishes_of_b id) j.turns new_pipe new_pipe false false 0 0 es fs j.steps j.joint refl refl plain_fs ∙ all_done_b id fs)
+          (gathers_b (writes_of B A refl id) j.turns new_pipe new_pipe false false 0 0 es fs j.steps j.joint refl refl plain_fs ∙ all_written B A refl id fs)
+          (gathers_a (reads_of A B refl id) j.turns new_pipe new_pipe false false 0 0 es fs j.steps j.joint refl refl plain_es ∙ all_read A B refl id es)
+          (gathers_b (finishes_of B A refl id) j.turns new_pipe new_pipe false false 0 0 es fs j.steps j.joint refl refl plain_fs ∙ all_done B A refl id fs)
           (come.to_a (still_way j.last_ba j.last_ab b a q.pair.ba way (pipe_ba way)) has);
       both = λ quiet kept_a kept_b. both_have in_turn j.steps answers wa fa wb fb last good j.runs (quiet_world q.pair j.last_ab j.last_ba quiet (pipe_ab quiet.0) (pipe_ba quiet.1)) id
-          (kept (was_given id es) (was_left id es) _ _ (λ h. gathers_a (given_of_a id) j.turns new_pipe new_pipe false false 0 0 es fs j.steps j.joint refl refl plain_es ∙ all_given_a id es h)
-          (gathers_a (left_of_a id) j.turns new_pipe new_pipe false false 0 0 es fs j.steps j.joint refl refl plain_es ∙ all_left_a id es) kept_a)
-          (kept (was_given id fs) (was_left id fs) _ _ (λ h. gathers_b (given_of_b id) j.turns new_pipe new_pipe false false 0 0 es fs j.steps j.joint refl refl plain_fs ∙ all_given_b id fs h)
-          (gathers_b (left_of_b id) j.turns new_pipe new_pipe false false 0 0 es fs j.steps j.joint refl refl plain_fs ∙ all_left_b id fs) kept_b);
+          (kept (was_given id es) (was_left id es) _ _ (λ h. gathers_a (given_of A B refl id) j.turns new_pipe new_pipe false false 0 0 es fs j.steps j.joint refl refl plain_es ∙ all_given A B refl id es h)
+          (gathers_a (left_of A B refl id) j.turns new_pipe new_pipe false false 0 0 es fs j.steps j.joint refl refl plain_es ∙ all_left A B refl id es) kept_a)
+          (kept (was_given id fs) (was_left id fs) _ _ (λ h. gathers_b (given_of B A refl id) j.turns new_pipe new_pipe false false 0 0 es fs j.steps j.joint refl refl plain_fs ∙ all_given B A refl id fs h)
+          (gathers_b (left_of B A refl id) j.turns new_pipe new_pipe false false 0 0 es fs j.steps j.joint refl refl plain_fs ∙ all_left B A refl id fs) kept_b);
     }
 
 -- ---- what two devices of a stream have passed on

@@ -1,5 +1,5 @@
 -- Two tunnels at rest: they are quiet, and all that their streams took was given.
-use Rattle.std.proofs.Common.{◌≡◌, ◌⊎◌, inl, inr, ℕ, List, [], ◌++◌, true, false, None, Some, refl, sym, ap, ◌∙◌, subst, append-nil}
+use Rattle.std.proofs.Common.{◌≡◌, ◌⊎◌, inl, inr, ℕ, List, [], ◌++◌, true, false, None, sym, ap, ◌∙◌, subst, append-nil}
 use Rattle.ymx_machine.specs.shared.Events.{Reply}
 use Rattle.ymx_model.specs.session.Events.{Event}
 use Rattle.ymx_model.specs.session.Sessions.{Session, is_running}

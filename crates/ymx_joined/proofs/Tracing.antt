@@ -1,6 +1,5 @@
 -- What a side writes, reads, finishes and sees the end of, in a joint order of two histories.
-use Rattle.std.proofs.Common.{◌≡◌, ℕ, ◌+◌, ◌==◌, List, [], ◌∷◌, ◌++◌, length, take, Bool, true, false, ◌||◌, ◌&&◌, if◌then◌else◌, refl, sym, ap, subst, ◌∙◌, append_assoc, arith}
-use Rattle.std.proofs.Math.Bool.{or_assoc}
+use Rattle.std.proofs.Common.{◌≡◌, ℕ, ◌+◌, ◌==◌, List, [], ◌∷◌, ◌++◌, length, take, Bool, true, false, ◌||◌, ◌&&◌, if◌then◌else◌, refl, sym, ap, subst, ◌∙◌}
 use Rattle.ymx_machine.specs.declared.types.Side.{Side}
 use Rattle.ymx_machine.specs.declared.types.Side.TheVariants.{A, B}
 use Rattle.ymx_machine.specs.declared.types.Direction.{Direction}
@@ -10,7 +9,7 @@ use Rattle.ymx_machine.specs.declared.types.Answer.{Answer}
 use Rattle.ymx_machine.specs.declared.types.Answer.TheVariants as answer
 use Rattle.ymx_machine.specs.declared.types.Call.TheVariants as call
 use Rattle.ymx_machine.specs.declared.types.Reply.TheVariants as reply
-use Rattle.ymx_machine.specs.declared.types.Wrote.TheVariants.{Took, Wait}
+use Rattle.ymx_machine.specs.declared.types.Wrote.TheVariants.{Took}
 use Rattle.ymx_machine.specs.shared.Events.{Call, Reply}
 use Rattle.ymx_machine.specs.shared.Steps.{answer_of}
 use Rattle.ymx_machine.specs.Promise.{is_same_side, written_by, got_by, written, got, finished_by, ended_by, finished, ended}
@@ -21,7 +20,7 @@ use Rattle.ymx_model.specs.world.Worlds.{Pipe}
 use Rattle.ymx_headline.specs.audit.Joints.{world_steps, Gets, sent_into, IsJoint}
 use Rattle.ymx_headline.specs.audit.Told.{answers_of, is_ended_behind, told_from}
 use Rattle.ymx_headline.proofs.audit.Events.{gets-ended, put-ended}
-use Rattle.ymx_engine.specs.Events.{took_count, taken_at, taken, bytes_of, given_at, given, is_read_end, ends_at, has_end, finishes_at, has_finish, opens_with, has_open_with}
+use Rattle.ymx_engine.specs.Events.{taken_at, taken, given_at, given, ends_at, has_end, finishes_at, has_finish, opens_with, has_open_with}
 use Rattle.ymx_engine.proofs.Advancing.{or_neither}
 use Rattle.ymx_engine.proofs.Exchanging.{or_second}
 use Rattle.ymx_joined.specs.Tunnels.{entries_from}
@@ -165,282 +164,148 @@ and_no : (b : Bool) → (b && false) ≡ false
 and_no true = refl
 and_no false = refl
 
-pub writes_a : (id : ℕ) (c : Call) (told : Reply) → opens_with (event.Call c) ≡ false → written_by A id (step.At A c) (answer_of told) ≡ taken_at id (event.Call c) told
-writes_a id (call.Write to bytes) (reply.Wrote (Took n)) p = refl
-writes_a id (call.Write to bytes) told p = sym (either_none (to == id) bytes)
-writes_a id (call.OpenWith bytes) told p = let no : ⊥ = cc in absurd no
-writes_a id c told p = refl
+pub same_side : (s : Side) → is_same_side s s ≡ true
+same_side A = refl
+same_side B = refl
 
-pub far_writes_a : (id : ℕ) (c : Call) (g : Answer) → written_by A id (step.At B c) g ≡ []
-far_writes_a id (call.Write to bytes) (answer.Wrote (Took n)) = refl
-far_writes_a id (call.OpenWith bytes) (answer.OpenedWith to n) = refl
-far_writes_a id c g = refl
+pub own_writes : (near : Side) (id : ℕ) (c : Call) (told : Reply) → opens_with (event.Call c) ≡ false → written_by near id (step.At near c) (answer_of told) ≡ taken_at id (event.Call c) told
+own_writes near id (call.Write to bytes) (reply.Wrote (Took n)) p = rw (same_side near) refl
+own_writes near id (call.Write to bytes) told p = sym (either_none (to == id) bytes)
+own_writes near id (call.OpenWith bytes) told p = let no : ⊥ = cc in absurd no
+own_writes near id c told p = refl
 
-abbrev pub writes_of_a : ℕ → Gathers A B (List ℕ)
-writes_of_a id = record {
+pub far_writes : (near far : Side) → is_same_side near far ≡ false → (id : ℕ) (c : Call) (g : Answer) → written_by near id (step.At far c) g ≡ []
+far_writes near far apart id (call.Write to bytes) (answer.Wrote (Took n)) = rw apart refl
+far_writes near far apart id (call.OpenWith bytes) (answer.OpenedWith to n) = rw apart refl
+far_writes near far apart id c g = refl
+
+abbrev pub writes_of : (near far : Side) → is_same_side near far ≡ false → ℕ → Gathers near far (List ℕ)
+writes_of near far apart id = record {
   unit = [];
   op = λ x y. x ++ y;
   unit_left = λ x. refl;
-  all = written A id;
-  one = written_by A id;
+  all = written near id;
+  one = written_by near id;
   none = refl;
   next = λ st sts g gs. refl;
   at = λ c told. taken_at id (event.Call c) told;
-  own = writes_a id;
-  far_call = far_writes_a id;
+  own = own_writes near id;
+  far_call = far_writes near far apart id;
   emits = λ side n g. refl;
   delivers = λ d n g. refl;
   stops = λ d g. refl;
   ends = λ d g. refl;
 }
 
-pub written_a : (id : ℕ) (es : List (Event × Reply)) → total (writes_of_a id) es ≡ taken id es
-written_a id [] = refl
-written_a id ((event.Call c, told) ∷ es) = ap (λ (v : List ℕ). taken_at id (event.Call c) told ++ v) (written_a id es)
-written_a id ((event.Feed bytes, told) ∷ es) = written_a id es
-written_a id ((event.FeedEnd, told) ∷ es) = written_a id es
-written_a id ((event.Emit n, told) ∷ es) = written_a id es
+pub all_written : (near far : Side) (apart : is_same_side near far ≡ false) (id : ℕ) (es : List (Event × Reply)) → total (writes_of near far apart id) es ≡ taken id es
+all_written near far apart id [] = refl
+all_written near far apart id ((event.Call c, told) ∷ es) = ap (λ (v : List ℕ). taken_at id (event.Call c) told ++ v) (all_written near far apart id es)
+all_written near far apart id ((event.Feed bytes, told) ∷ es) = all_written near far apart id es
+all_written near far apart id ((event.FeedEnd, told) ∷ es) = all_written near far apart id es
+all_written near far apart id ((event.Emit n, told) ∷ es) = all_written near far apart id es
 
-pub reads_a : (id : ℕ) (c : Call) (told : Reply) → opens_with (event.Call c) ≡ false → got_by A id (step.At A c) (answer_of told) ≡ given_at id (event.Call c) told
-reads_a id (call.Read from max) (reply.Read bytes) p = refl
-reads_a id (call.Read from max) told p = sym (either_empty (from == id))
-reads_a id c told p = refl
+pub own_reads : (near : Side) (id : ℕ) (c : Call) (told : Reply) → opens_with (event.Call c) ≡ false → got_by near id (step.At near c) (answer_of told) ≡ given_at id (event.Call c) told
+own_reads near id (call.Read from max) (reply.Read bytes) p = rw (same_side near) refl
+own_reads near id (call.Read from max) told p = sym (either_empty (from == id))
+own_reads near id c told p = refl
 
-pub far_reads_a : (id : ℕ) (c : Call) (g : Answer) → got_by A id (step.At B c) g ≡ []
-far_reads_a id (call.Read from max) (answer.Read bytes) = refl
-far_reads_a id c g = refl
+pub far_reads : (near far : Side) → is_same_side near far ≡ false → (id : ℕ) (c : Call) (g : Answer) → got_by near id (step.At far c) g ≡ []
+far_reads near far apart id (call.Read from max) (answer.Read bytes) = rw apart refl
+far_reads near far apart id c g = refl
 
-abbrev pub reads_of_a : ℕ → Gathers A B (List ℕ)
-reads_of_a id = record {
+abbrev pub reads_of : (near far : Side) → is_same_side near far ≡ false → ℕ → Gathers near far (List ℕ)
+reads_of near far apart id = record {
   unit = [];
   op = λ x y. x ++ y;
   unit_left = λ x. refl;
-  all = got A id;
-  one = got_by A id;
+  all = got near id;
+  one = got_by near id;
   none = refl;
   next = λ st sts g gs. refl;
   at = λ c told. given_at id (event.Call c) told;
-  own = reads_a id;
-  far_call = far_reads_a id;
+  own = own_reads near id;
+  far_call = far_reads near far apart id;
   emits = λ side n g. refl;
   delivers = λ d n g. refl;
   stops = λ d g. refl;
   ends = λ d g. refl;
 }
 
-pub read_a : (id : ℕ) (es : List (Event × Reply)) → total (reads_of_a id) es ≡ given id es
-read_a id [] = refl
-read_a id ((event.Call c, told) ∷ es) = ap (λ (v : List ℕ). given_at id (event.Call c) told ++ v) (read_a id es)
-read_a id ((event.Feed bytes, told) ∷ es) = read_a id es
-read_a id ((event.FeedEnd, told) ∷ es) = read_a id es
-read_a id ((event.Emit n, told) ∷ es) = read_a id es
+pub all_read : (near far : Side) (apart : is_same_side near far ≡ false) (id : ℕ) (es : List (Event × Reply)) → total (reads_of near far apart id) es ≡ given id es
+all_read near far apart id [] = refl
+all_read near far apart id ((event.Call c, told) ∷ es) = ap (λ (v : List ℕ). given_at id (event.Call c) told ++ v) (all_read near far apart id es)
+all_read near far apart id ((event.Feed bytes, told) ∷ es) = all_read near far apart id es
+all_read near far apart id ((event.FeedEnd, told) ∷ es) = all_read near far apart id es
+all_read near far apart id ((event.Emit n, told) ∷ es) = all_read near far apart id es
 
-pub ends_a : (id : ℕ) (c : Call) (told : Reply) → opens_with (event.Call c) ≡ false → ended_by A id (step.At A c) (answer_of told) ≡ ends_at id (event.Call c) told
-ends_a id (call.Read from max) reply.ReadEnd p = sym (and_yes (from == id))
-ends_a id (call.Read from max) told p = sym (and_no (from == id))
-ends_a id c told p = refl
+pub own_ends : (near : Side) (id : ℕ) (c : Call) (told : Reply) → opens_with (event.Call c) ≡ false → ended_by near id (step.At near c) (answer_of told) ≡ ends_at id (event.Call c) told
+own_ends near id (call.Read from max) reply.ReadEnd p = rw (same_side near) (sym (and_yes (from == id)))
+own_ends near id (call.Read from max) told p = sym (and_no (from == id))
+own_ends near id c told p = refl
 
-pub far_ends_a : (id : ℕ) (c : Call) (g : Answer) → ended_by A id (step.At B c) g ≡ false
-far_ends_a id (call.Read from max) answer.ReadEnd = refl
-far_ends_a id c g = refl
+pub far_ends : (near far : Side) → is_same_side near far ≡ false → (id : ℕ) (c : Call) (g : Answer) → ended_by near id (step.At far c) g ≡ false
+far_ends near far apart id (call.Read from max) answer.ReadEnd = rw apart refl
+far_ends near far apart id c g = refl
 
-abbrev pub ends_of_a : ℕ → Gathers A B Bool
-ends_of_a id = record {
+abbrev pub ends_of : (near far : Side) → is_same_side near far ≡ false → ℕ → Gathers near far Bool
+ends_of near far apart id = record {
   unit = false;
   op = λ x y. x || y;
   unit_left = λ x. refl;
-  all = ended A id;
-  one = ended_by A id;
+  all = ended near id;
+  one = ended_by near id;
   none = refl;
   next = λ st sts g gs. refl;
   at = λ c told. ends_at id (event.Call c) told;
-  own = ends_a id;
-  far_call = far_ends_a id;
+  own = own_ends near id;
+  far_call = far_ends near far apart id;
   emits = λ side n g. refl;
   delivers = λ d n g. refl;
   stops = λ d g. refl;
   ends = λ d g. refl;
 }
 
-pub ended_a : (id : ℕ) (es : List (Event × Reply)) → total (ends_of_a id) es ≡ has_end id es
-ended_a id [] = refl
-ended_a id ((event.Call c, told) ∷ es) = ap (λ (v : Bool). ends_at id (event.Call c) told || v) (ended_a id es)
-ended_a id ((event.Feed bytes, told) ∷ es) = ended_a id es
-ended_a id ((event.FeedEnd, told) ∷ es) = ended_a id es
-ended_a id ((event.Emit n, told) ∷ es) = ended_a id es
+pub all_ended : (near far : Side) (apart : is_same_side near far ≡ false) (id : ℕ) (es : List (Event × Reply)) → total (ends_of near far apart id) es ≡ has_end id es
+all_ended near far apart id [] = refl
+all_ended near far apart id ((event.Call c, told) ∷ es) = ap (λ (v : Bool). ends_at id (event.Call c) told || v) (all_ended near far apart id es)
+all_ended near far apart id ((event.Feed bytes, told) ∷ es) = all_ended near far apart id es
+all_ended near far apart id ((event.FeedEnd, told) ∷ es) = all_ended near far apart id es
+all_ended near far apart id ((event.Emit n, told) ∷ es) = all_ended near far apart id es
 
-pub far_finishes_a : (id : ℕ) (c : Call) (g : Answer) → finished_by A id (step.At B c) g ≡ false
-far_finishes_a id (call.Finish to) answer.Done = refl
-far_finishes_a id c g = refl
+pub far_finishes : (near far : Side) → is_same_side near far ≡ false → (id : ℕ) (c : Call) (g : Answer) → finished_by near id (step.At far c) g ≡ false
+far_finishes near far apart id (call.Finish to) answer.Done = rw apart refl
+far_finishes near far apart id c g = refl
 
-abbrev pub finishes_of_a : ℕ → Gathers A B Bool
-finishes_of_a id = record {
+abbrev pub finishes_of : (near far : Side) → is_same_side near far ≡ false → ℕ → Gathers near far Bool
+finishes_of near far apart id = record {
   unit = false;
   op = λ x y. x || y;
   unit_left = λ x. refl;
-  all = finished A id;
-  one = finished_by A id;
+  all = finished near id;
+  one = finished_by near id;
   none = refl;
   next = λ st sts g gs. refl;
-  at = λ c told. finished_by A id (step.At A c) (answer_of told);
+  at = λ c told. finished_by near id (step.At near c) (answer_of told);
   own = λ c told p. refl;
-  far_call = far_finishes_a id;
+  far_call = far_finishes near far apart id;
   emits = λ side n g. refl;
   delivers = λ d n g. refl;
   stops = λ d g. refl;
   ends = λ d g. refl;
 }
 
-done_a : (id : ℕ) (c : Call) (told : Reply) → finished_by A id (step.At A c) (answer_of told) ≡ true → finishes_at id (event.Call c) ≡ true
-done_a id (call.Finish to) reply.Done h = h
-done_a id c told h = let no : ⊥ = cc in absurd no
+own_finishes : (near : Side) (id : ℕ) (c : Call) (told : Reply) → finished_by near id (step.At near c) (answer_of told) ≡ true → finishes_at id (event.Call c) ≡ true
+own_finishes near id (call.Finish to) reply.Done h = ap (λ (b : Bool). b && (to == id)) (sym (same_side near)) ∙ h
+own_finishes near id c told h = let no : ⊥ = cc in absurd no
 
 pub either : (a b p q : Bool) → (a || b) ≡ true → (a ≡ true → p ≡ true) → (b ≡ true → q ≡ true) → (p || q) ≡ true
 either true b p q h f g = ap (λ (v : Bool). v || q) (f refl)
 either false b p q h f g = or_second p q (g h)
 
-pub finished_a : (id : ℕ) (es : List (Event × Reply)) → total (finishes_of_a id) es ≡ true → has_finish id es ≡ true
-finished_a id [] h = h
-finished_a id ((event.Call c, told) ∷ es) h =
-    either (finished_by A id (step.At A c) (answer_of told)) (total (finishes_of_a id) es) (finishes_at id (event.Call c)) (has_finish id es) h (done_a id c told) (finished_a id es)
-finished_a id ((event.Feed bytes, told) ∷ es) h = finished_a id es h
-finished_a id ((event.FeedEnd, told) ∷ es) h = finished_a id es h
-finished_a id ((event.Emit n, told) ∷ es) h = finished_a id es h
-
-pub writes_b : (id : ℕ) (c : Call) (told : Reply) → opens_with (event.Call c) ≡ false → written_by B id (step.At B c) (answer_of told) ≡ taken_at id (event.Call c) told
-writes_b id (call.Write to bytes) (reply.Wrote (Took n)) p = refl
-writes_b id (call.Write to bytes) told p = sym (either_none (to == id) bytes)
-writes_b id (call.OpenWith bytes) told p = let no : ⊥ = cc in absurd no
-writes_b id c told p = refl
-
-pub far_writes_b : (id : ℕ) (c : Call) (g : Answer) → written_by B id (step.At A c) g ≡ []
-far_writes_b id (call.Write to bytes) (answer.Wrote (Took n)) = refl
-far_writes_b id (call.OpenWith bytes) (answer.OpenedWith to n) = refl
-far_writes_b id c g = refl
-
-abbrev pub writes_of_b : ℕ → Gathers B A (List ℕ)
-writes_of_b id = record {
-  unit = [];
-  op = λ x y. x ++ y;
-  unit_left = λ x. refl;
-  all = written B id;
-  one = written_by B id;
-  none = refl;
-  next = λ st sts g gs. refl;
-  at = λ c told. taken_at id (event.Call c) told;
-  own = writes_b id;
-  far_call = far_writes_b id;
-  emits = λ side n g. refl;
-  delivers = λ d n g. refl;
-  stops = λ d g. refl;
-  ends = λ d g. refl;
-}
-
-pub written_b : (id : ℕ) (es : List (Event × Reply)) → total (writes_of_b id) es ≡ taken id es
-written_b id [] = refl
-written_b id ((event.Call c, told) ∷ es) = ap (λ (v : List ℕ). taken_at id (event.Call c) told ++ v) (written_b id es)
-written_b id ((event.Feed bytes, told) ∷ es) = written_b id es
-written_b id ((event.FeedEnd, told) ∷ es) = written_b id es
-written_b id ((event.Emit n, told) ∷ es) = written_b id es
-
-pub reads_b : (id : ℕ) (c : Call) (told : Reply) → opens_with (event.Call c) ≡ false → got_by B id (step.At B c) (answer_of told) ≡ given_at id (event.Call c) told
-reads_b id (call.Read from max) (reply.Read bytes) p = refl
-reads_b id (call.Read from max) told p = sym (either_empty (from == id))
-reads_b id c told p = refl
-
-pub far_reads_b : (id : ℕ) (c : Call) (g : Answer) → got_by B id (step.At A c) g ≡ []
-far_reads_b id (call.Read from max) (answer.Read bytes) = refl
-far_reads_b id c g = refl
-
-abbrev pub reads_of_b : ℕ → Gathers B A (List ℕ)
-reads_of_b id = record {
-  unit = [];
-  op = λ x y. x ++ y;
-  unit_left = λ x. refl;
-  all = got B id;
-  one = got_by B id;
-  none = refl;
-  next = λ st sts g gs. refl;
-  at = λ c told. given_at id (event.Call c) told;
-  own = reads_b id;
-  far_call = far_reads_b id;
-  emits = λ side n g. refl;
-  delivers = λ d n g. refl;
-  stops = λ d g. refl;
-  ends = λ d g. refl;
-}
-
-pub read_b : (id : ℕ) (es : List (Event × Reply)) → total (reads_of_b id) es ≡ given id es
-read_b id [] = refl
-read_b id ((event.Call c, told) ∷ es) = ap (λ (v : List ℕ). given_at id (event.Call c) told ++ v) (read_b id es)
-read_b id ((event.Feed bytes, told) ∷ es) = read_b id es
-read_b id ((event.FeedEnd, told) ∷ es) = read_b id es
-read_b id ((event.Emit n, told) ∷ es) = read_b id es
-
-pub ends_b : (id : ℕ) (c : Call) (told : Reply) → opens_with (event.Call c) ≡ false → ended_by B id (step.At B c) (answer_of told) ≡ ends_at id (event.Call c) told
-ends_b id (call.Read from max) reply.ReadEnd p = sym (and_yes (from == id))
-ends_b id (call.Read from max) told p = sym (and_no (from == id))
-ends_b id c told p = refl
-
-pub far_ends_b : (id : ℕ) (c : Call) (g : Answer) → ended_by B id (step.At A c) g ≡ false
-far_ends_b id (call.Read from max) answer.ReadEnd = refl
-far_ends_b id c g = refl
-
-abbrev pub ends_of_b : ℕ → Gathers B A Bool
-ends_of_b id = record {
-  unit = false;
-  op = λ x y. x || y;
-  unit_left = λ x. refl;
-  all = ended B id;
-  one = ended_by B id;
-  none = refl;
-  next = λ st sts g gs. refl;
-  at = λ c told. ends_at id (event.Call c) told;
-  own = ends_b id;
-  far_call = far_ends_b id;
-  emits = λ side n g. refl;
-  delivers = λ d n g. refl;
-  stops = λ d g. refl;
-  ends = λ d g. refl;
-}
-
-pub ended_b : (id : ℕ) (es : List (Event × Reply)) → total (ends_of_b id) es ≡ has_end id es
-ended_b id [] = refl
-ended_b id ((event.Call c, told) ∷ es) = ap (λ (v : Bool). ends_at id (event.Call c) told || v) (ended_b id es)
-ended_b id ((event.Feed bytes, told) ∷ es) = ended_b id es
-ended_b id ((event.FeedEnd, told) ∷ es) = ended_b id es
-ended_b id ((event.Emit n, told) ∷ es) = ended_b id es
-
-pub far_finishes_b : (id : ℕ) (c : Call) (g : Answer) → finished_by B id (step.At A c) g ≡ false
-far_finishes_b id (call.Finish to) answer.Done = refl
-far_finishes_b id c g = refl
-
-abbrev pub finishes_of_b : ℕ → Gathers B A Bool
-finishes_of_b id = record {
-  unit = false;
-  op = λ x y. x || y;
-  unit_left = λ x. refl;
-  all = finished B id;
-  one = finished_by B id;
-  none = refl;
-  next = λ st sts g gs. refl;
-  at = λ c told. finished_by B id (step.At B c) (answer_of told);
-  own = λ c told p. refl;
-  far_call = far_finishes_b id;
-  emits = λ side n g. refl;
-  delivers = λ d n g. refl;
-  stops = λ d g. refl;
-  ends = λ d g. refl;
-}
-
-done_b : (id : ℕ) (c : Call) (told : Reply) → finished_by B id (step.At B c) (answer_of told) ≡ true → finishes_at id (event.Call c) ≡ true
-done_b id (call.Finish to) reply.Done h = h
-done_b id c told h = let no : ⊥ = cc in absurd no
-
-pub finished_b : (id : ℕ) (es : List (Event × Reply)) → total (finishes_of_b id) es ≡ true → has_finish id es ≡ true
-finished_b id [] h = h
-finished_b id ((event.Call c, told) ∷ es) h =
-    either (finished_by B id (step.At B c) (answer_of told)) (total (finishes_of_b id) es) (finishes_at id (event.Call c)) (has_finish id es) h (done_b id c told) (finished_b id es)
-finished_b id ((event.Feed bytes, told) ∷ es) h = finished_b id es h
-finished_b id ((event.FeedEnd, told) ∷ es) h = finished_b id es h
-finished_b id ((event.Emit n, told) ∷ es) h = finished_b id es h
+pub all_finished : (near far : Side) (apart : is_same_side near far ≡ false) (id : ℕ) (es : List (Event × Reply)) → total (finishes_of near far apart id) es ≡ true → has_finish id es ≡ true
+all_finished near far apart id [] h = h
+all_finished near far apart id ((event.Call c, told) ∷ es) h =
+    either (finished_by near id (step.At near c) (answer_of told)) (total (finishes_of near far apart id) es) (finishes_at id (event.Call c)) (has_finish id es) h (own_finishes near id c told) (all_finished near far apart id es)
+all_finished near far apart id ((event.Feed bytes, told) ∷ es) h = all_finished near far apart id es h
+all_finished near far apart id ((event.FeedEnd, told) ∷ es) h = all_finished near far apart id es h
+all_finished near far apart id ((event.Emit n, told) ∷ es) h = all_finished near far apart id es h

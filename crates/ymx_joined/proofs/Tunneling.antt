@@ -1,6 +1,6 @@
 -- Two tunnels over two pipes: what each stream carries between its devices.
 use Rattle.std.proofs.Common.{◌≡◌, ℕ, List, [], ◌∷◌, ◌++◌, Bool, true, false, ◌||◌, Option, None, Some, refl, sym, ap, subst, ◌∙◌, inr, append-nil, append_assoc}
-use Rattle.std.specs.Prelude.{option_map, IfSome}
+use Rattle.std.specs.Prelude.{option_map}
 use Rattle.ymx_machine.specs.declared.types.Side.{Side}
 use Rattle.ymx_machine.specs.declared.types.Side.TheVariants.{A, B}
 use Rattle.ymx_machine.specs.declared.types.Step.{Step}
@@ -9,10 +9,9 @@ use Rattle.ymx_machine.specs.shared.Events.{Reply}
 use Rattle.ymx_machine.specs.Promise.{written, got, ended, finished}
 use Rattle.ymx_model.specs.session.Events.{Event}
 use Rattle.ymx_model.specs.declared.types.Role.TheVariants.{Client, Server}
-use Rattle.ymx_model.specs.session.Sessions.{Session, new_session}
+use Rattle.ymx_model.specs.session.Sessions.{new_session}
 use Rattle.ymx_model.specs.session.Emissions.{in_turn}
 use Rattle.ymx_model.specs.world.Worlds.{new_pipe}
-use Rattle.ymx_headline.specs.Laws.{AreGood}
 use Rattle.ymx_headline.specs.machine.Faces.{DeliversWithin}
 use Rattle.ymx_headline.specs.audit.Told.{IsOneRun, told}
 use Rattle.ymx_headline.proofs.runs.Runs.{run-face}
@@ -28,10 +27,10 @@ use Rattle.ymx_engine.proofs.Advancing.{or_neither}
 use Rattle.ymx_engine.proofs.Listing.{plain_then}
 use Rattle.ymx_engine.proofs.Trading.{life_then, life_quiet}
 use Rattle.ymx_joined.specs.Tunnels.{entries}
-use Rattle.ymx_joined.specs.Pairs.{Pair, Turn, TakesTurn, TakeTurns, at_a, at_b, events_at_a, events_at_b}
-use Rattle.ymx_joined.specs.Carried.{TunnelPair, tunnels_of, Works, OneWorks, BothWork, Carries, CarriesBoth, TunnelsCarry, IsPassedOn, HadOne}
+use Rattle.ymx_joined.specs.Pairs.{Turn, TakesTurn, TakeTurns, at_a, at_b, events_at_a, events_at_b}
+use Rattle.ymx_joined.specs.Carried.{TunnelPair, tunnels_of, Works, OneWorks, BothWork, Carries, TunnelsCarry, IsPassedOn, HadOne}
 use Rattle.ymx_joined.proofs.Piping.{are_one_piped_run}
-use Rattle.ymx_joined.proofs.Tracing.{gathers_a, gathers_b, writes_of_a, writes_of_b, written_a, written_b, reads_of_a, reads_of_b, read_a, read_b, ends_of_a, ends_of_b, ended_a, ended_b, finishes_of_a, finishes_of_b, finished_a, finished_b, total}
+use Rattle.ymx_joined.proofs.Tracing.{gathers_a, gathers_b, writes_of, all_written, reads_of, all_read, ends_of, all_ended, finishes_of, all_finished}
 
 -- ---- the turns of two tunnels are turns of their engines
 
@@ -118,15 +117,15 @@ tunnels_carry ts = λ wa fa wb fb q good r id.
       a = life_a id ts p q r;
       b = life_b id ts p q r;
       to_b = carried A B wb id o.0 answers es fs face.0
-          (gathers_a (writes_of_a id) one.turns new_pipe new_pipe false false 0 0 es fs o.0 one.joint refl refl plain_es ∙ written_a id es)
-          (gathers_b (reads_of_b id) one.turns new_pipe new_pipe false false 0 0 es fs o.0 one.joint refl refl plain_fs ∙ read_b id fs)
-          (gathers_b (ends_of_b id) one.turns new_pipe new_pipe false false 0 0 es fs o.0 one.joint refl refl plain_fs ∙ ended_b id fs)
-          (λ h. finished_a id es (sym (gathers_a (finishes_of_a id) one.turns new_pipe new_pipe false false 0 0 es fs o.0 one.joint refl refl plain_es) ∙ h));
+          (gathers_a (writes_of A B refl id) one.turns new_pipe new_pipe false false 0 0 es fs o.0 one.joint refl refl plain_es ∙ all_written A B refl id es)
+          (gathers_b (reads_of B A refl id) one.turns new_pipe new_pipe false false 0 0 es fs o.0 one.joint refl refl plain_fs ∙ all_read B A refl id fs)
+          (gathers_b (ends_of B A refl id) one.turns new_pipe new_pipe false false 0 0 es fs o.0 one.joint refl refl plain_fs ∙ all_ended B A refl id fs)
+          (λ h. all_finished A B refl id es (sym (gathers_a (finishes_of A B refl id) one.turns new_pipe new_pipe false false 0 0 es fs o.0 one.joint refl refl plain_es) ∙ h));
       to_a = carried B A wa id o.0 answers fs es face.1
-          (gathers_b (writes_of_b id) one.turns new_pipe new_pipe false false 0 0 es fs o.0 one.joint refl refl plain_fs ∙ written_b id fs)
-          (gathers_a (reads_of_a id) one.turns new_pipe new_pipe false false 0 0 es fs o.0 one.joint refl refl plain_es ∙ read_a id es)
-          (gathers_a (ends_of_a id) one.turns new_pipe new_pipe false false 0 0 es fs o.0 one.joint refl refl plain_es ∙ ended_a id es)
-          (λ h. finished_b id fs (sym (gathers_b (finishes_of_b id) one.turns new_pipe new_pipe false false 0 0 es fs o.0 one.joint refl refl plain_fs) ∙ h));
+          (gathers_b (writes_of B A refl id) one.turns new_pipe new_pipe false false 0 0 es fs o.0 one.joint refl refl plain_fs ∙ all_written B A refl id fs)
+          (gathers_a (reads_of A B refl id) one.turns new_pipe new_pipe false false 0 0 es fs o.0 one.joint refl refl plain_es ∙ all_read A B refl id es)
+          (gathers_a (ends_of A B refl id) one.turns new_pipe new_pipe false false 0 0 es fs o.0 one.joint refl refl plain_es ∙ all_ended A B refl id es)
+          (λ h. all_finished B A refl id fs (sym (gathers_b (finishes_of B A refl id) one.turns new_pipe new_pipe false false 0 0 es fs o.0 one.joint refl refl plain_fs) ∙ h));
     }
 
 -- ---- what two devices of a stream pass on

@@ -1,5 +1,5 @@
 -- One way between two sessions, of which nothing is due and nothing under way.
-use Rattle.std.proofs.Common.{◌≡◌, ℕ, List, [], Bool, true, false, refl, ◌∙◌}
+use Rattle.std.proofs.Common.{◌≡◌, ℕ, [], true, false, refl, ◌∙◌}
 use Rattle.ymx_machine.specs.machine.Machines.{Machine}
 use Rattle.ymx_model.specs.declared.types.Role.{Role}
 use Rattle.ymx_model.specs.session.Sessions.{is_running}
