@@ -1,7 +1,8 @@
 #!/bin/sh
 # Makes the release anew: proves the crates of the program and of the library for C and builds both, from nothing, and
 # writes ymx.gz, libymx_c.a.gz, RELEASE and seconds. With --kept it takes over what was proved before. With the name of a
-# file it takes that program, which `rt ci` built from these sources, and builds the library over what was proved before.
+# file it takes that program, which `rt ci` built from these sources, and builds the library over what was proved before,
+# unless the release has it: of the same sources, by the same kit.
 # The sources have to be committed, since RELEASE names their commit.
 set -eu
 here=$(cd "$(dirname "$0")" && pwd)
@@ -16,7 +17,11 @@ case ${1-} in
 --kept) release/prove.py --kept --library out/libymx_c.a out/built ;;
 *)
     cp "$1" out/built
-    release/prove.py --kept --library out/libymx_c.a
+    if grep -qx "library-sources: $(release/sources.sh ymx_c)" release/RELEASE && grep -qx "kit: $(rt version)" release/RELEASE; then
+        gunzip -c release/libymx_c.a.gz > out/libymx_c.a
+    else
+        release/prove.py --kept --library out/libymx_c.a
+    fi
     ;;
 esac
 gzip -9nc out/built > release/ymx.gz
