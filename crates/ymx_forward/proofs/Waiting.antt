@@ -16,14 +16,14 @@ through_then (m ∷ ms) ns a b c x y = (x.0, x.1, through_then ms ns m b c x.2 y
 
 waits_then : (a b c : Tunnel) (n m k : ℕ) → WaitsInNeed a b n m → WaitsInNeed b c m k → WaitsInNeed a c n k
 waits_then a b c n m k x y = record {
-  needy = x.needy ++ y.needy;
-  through = through_then x.needy y.needy a b c x.through y.through;
-  counted = let all = length-append x.needy y.needy in omega (arith, all, x.counted, y.counted);
+  moments = x.moments ++ y.moments;
+  through = through_then x.moments y.moments a b c x.through y.through;
+  counted = let all = length-append x.moments y.moments in omega (arith, all, x.counted, y.counted);
 }
 
 -- it didn't wait
 pub waits_never : (a b : Tunnel) (n m : ℕ) → Runs a b → m ≡ n → WaitsInNeed a b n m
-waits_never a b n m x same = record { needy = []; through = x; counted = omega (arith, same) }
+waits_never a b n m x same = record { moments = []; through = x; counted = omega (arith, same) }
 
 one_more : (n m : ℕ) → CountsOne n m → m ≤ n + 1
 one_more n m (inl e) = omega (arith, e)
@@ -32,7 +32,7 @@ one_more n m (inr (full, e)) = omega (arith, e)
 -- it waited once at most, in need
 waits_once : (a b : Tunnel) (n m : ℕ) → Runs a b → (m ≡ n) ⊎ (NeedsEvents a × CountsOne n m) → WaitsInNeed a b n m
 waits_once a b n m x (inl same) = waits_never a b n m x same
-waits_once a b n m x (inr (need, one)) = record { needy = a ∷ []; through = (runs_same a, need, x); counted = one_more n m one }
+waits_once a b n m x (inr (need, one)) = record { moments = a ∷ []; through = (runs_same a, need, x); counted = one_more n m one }
 
 -- it moved on without waiting
 pub waits_before : (a b c : Tunnel) (n m : ℕ) → WaitsInNeed a b n m → Runs b c → WaitsInNeed a c n m

@@ -11,16 +11,16 @@ pub record NeedsEvents (t : Tunnel) : Type 0 where
   pub waits : NoneWaits (view_of t)
   pub gives : t.marks.can_push_wire ≡ true → NoneGives (view_of t)
 
--- one led to the other through these, each of which needed events
+-- one led to the other through these moments, at each of which it needed events
 abbrev pub RunsThrough : List Tunnel → Tunnel → Tunnel → Type 0
 RunsThrough [] old new = Runs old new
-RunsThrough (needy ∷ later) old new = Runs old needy × NeedsEvents needy × RunsThrough later needy new
+RunsThrough (moment ∷ later) old new = Runs old moment × NeedsEvents moment × RunsThrough later moment new
 
--- Between these two, events were waited for no more often than nothing could be moved without one.
+-- Between these two it waited for events no more often than there were moments at which it needed some.
 pub record WaitsInNeed (old new : Tunnel) (before after : ℕ) : Type 0 where
-  pub needy : List Tunnel
-  pub through : RunsThrough needy old new
-  pub counted : after ≤ before + length needy
+  pub moments : List Tunnel
+  pub through : RunsThrough moments old new
+  pub counted : after ≤ before + length moments
 
 -- at some point between these two the session was over
 pub record WasLost (old new : Tunnel) : Type 0 where

@@ -172,13 +172,8 @@ fn prepare<R: Net>(
     let poll = Poll::new(rt, alloc)?;
     let acceptor = Arc::new(alloc, Waker::new(&poll, LOSSES)?)?;
     let listening = Listening::new(listener, options.count, options.is_kept, &poll, USERS)?;
-    let mut links = Vec::new(alloc);
-    let mut inboxes = Vec::new(alloc);
-    for peer in peers {
-        let link = new_link(rt, alloc, peer, Arc::try_clone(&acceptor)?, options)?;
-        inboxes.push(Arc::try_clone(&link.inbox)?)?;
-        links.push(link)?;
-    }
+    let links = new_links(rt, alloc, peers, acceptor, options)?;
+    let inboxes = inboxes_of(alloc, links.as_slice())?;
     let reception = Reception {
         poll,
         listening,
@@ -190,6 +185,31 @@ fn prepare<R: Net>(
         reception,
         links,
     })
+}
+
+/// A link to each of these peers.
+fn new_links<R: Net>(
+    rt: &R,
+    alloc: Global,
+    peers: Vec<Option<Peer>>,
+    acceptor: Arc<Waker, Global>,
+    options: LocalOptions,
+) -> Result<Vec<Link>, StartFault> {
+    let mut links = Vec::new(alloc);
+    for peer in peers {
+        let acceptor = Arc::try_clone(&acceptor)?;
+        links.push(new_link(rt, alloc, peer, acceptor, options)?)?;
+    }
+    Ok(links)
+}
+
+/// Where users are left for each of these links.
+fn inboxes_of(alloc: Global, links: &[Link]) -> Result<Vec<Arc<Inbox, Global>>, StartFault> {
+    let mut inboxes = Vec::new(alloc);
+    for link in links {
+        inboxes.push(Arc::try_clone(&link.inbox)?)?;
+    }
+    Ok(inboxes)
 }
 
 /// A link to this peer, or to one that is called later.

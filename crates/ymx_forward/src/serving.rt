@@ -192,10 +192,17 @@ fn forward_peer<R: Host, V: ProgramWatcher>(
         Ok((mut tunnel_end, mut poll)) => {
             tunnel_end.forward_peer(rt, alloc, peer, options.window, &mut poll, watcher)
         }
-        Err(StartFault::Unwatched(error)) => {
+        Err(fault) => unserved(fault, watcher),
+    }
+}
+
+/// What comes of a session that can't begin, which is told where the system refuses it.
+fn unserved<V: ProgramWatcher>(fault: StartFault, watcher: &mut V) -> Forwarded {
+    match fault {
+        StartFault::Unwatched(error) => {
             watcher.failed("--bind", Reason::of(&error));
             Forwarded::unwatched()
         }
-        Err(StartFault::OutOfMemory(refused)) => Forwarded::without_memory(refused),
+        StartFault::OutOfMemory(refused) => Forwarded::without_memory(refused),
     }
 }
