@@ -9,6 +9,7 @@ use clap::Error;
 use clap::error::ErrorKind;
 use std::alloc::Global;
 use std::fmt::Display;
+use ymx_forward::Exit;
 use ymx_memory::RefusedAllocation;
 
 /// What a run of the program comes to.
@@ -22,6 +23,8 @@ pub enum Outcome {
     BadWords,
     /// Memory was refused, as this shows.
     NoMemory(Refusal),
+    /// An end of a tunnel, or the test of one, ended so.
+    Tunnel(Exit),
 }
 
 impl Outcome {
@@ -33,6 +36,7 @@ impl Outcome {
             Outcome::Good => 0,
             Outcome::Faulted | Outcome::NoMemory(_) => 1,
             Outcome::BadWords => 2,
+            Outcome::Tunnel(exit) => exit.status(),
         }
     }
 }

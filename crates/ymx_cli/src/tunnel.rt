@@ -1,10 +1,9 @@
 //! The subcommands `local`, `remote` and `selftest`.
 
-ghost use Rattle.std.specs.Prelude.{◌≡◌, ◌≤◌};
+ghost use Rattle.std.specs.Prelude.{◌≡◌, ◌≤◌, true};
 ghost use Rattle.ymx_arguments.specs.CommandLine.{IsEnd, IsNotVerbose};
 ghost use Rattle.ymx_cli.specs.Messages.{IsUntouched, change_of};
-ghost use Rattle.ymx_cli.specs.Outcomes.{status_of};
-ghost use Rattle.ymx_forward.specs.Exits.{status_of as exit_status};
+ghost use Rattle.ymx_cli.specs.Outcomes.{is_tunnel, status_of};
 
 use crate::outcome::Outcome;
 use std::alloc::Global;
@@ -13,7 +12,7 @@ use std::sync::Wait;
 use std::thread::Threads;
 use std::time::Clock;
 use ymx_arguments::TunnelCommand;
-use ymx_forward::{Exit, run_local, run_remote, run_selftest};
+use ymx_forward::{run_local, run_remote, run_selftest};
 use ymx_model::Outlet;
 
 /// Does what was asked. Faults are said on `errors`, and what `-v` asks for on `lines`.
@@ -30,24 +29,20 @@ pub(crate) fn run_tunnel<
     errors: &mut E,
     lines: &mut L,
 ) -> Outcome
+    // It ended as the tunnel did: well, as something came to its end, or with a fault that was said.
+    ensures ran { is_tunnel result ≡ true }
     ensures status { status_of result ≤ 1 }
     ensures good { status_of result ≡ 0 → IsUntouched (change_of E.contents E.failures errors.old errors.new) }
     ensures silent { IsEnd command → IsUntouched (change_of W.contents W.failures writer.old writer.new) }
     ensures unsaid { IsNotVerbose command → IsUntouched (change_of L.contents L.failures lines.old lines.new) }
 {
     match command {
-        TunnelCommand::Local(options) => came_of(run_local(rt, alloc, options, errors, lines)),
-        TunnelCommand::Remote(options) => came_of(run_remote(rt, alloc, options, errors, lines)),
-        TunnelCommand::Selftest => came_of(run_selftest(rt, alloc, writer, errors)),
-    }
-}
-
-/// What a tunnel that ended so comes to.
-fn came_of(exit: Exit) -> Outcome
-    ensures { status_of result ≡ exit_status exit }
-{
-    match exit {
-        Exit::Done(_) => Outcome::Good,
-        Exit::Faulted => Outcome::Faulted,
+        TunnelCommand::Local(options) => {
+            Outcome::Tunnel(run_local(rt, alloc, options, errors, lines))
+        }
+        TunnelCommand::Remote(options) => {
+            Outcome::Tunnel(run_remote(rt, alloc, options, errors, lines))
+        }
+        TunnelCommand::Selftest => Outcome::Tunnel(run_selftest(rt, alloc, writer, errors)),
     }
 }

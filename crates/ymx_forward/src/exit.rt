@@ -1,10 +1,11 @@
 //! How a program of the tunnel ended, and what is known of a good end.
 
-ghost use Rattle.std.specs.Prelude.{◌≡◌, false};
+ghost use Rattle.std.specs.Prelude.{◌≡◌, None};
 ghost use Rattle.ymx_forward.specs.Exits.{status_of};
 
 use crate::accepting::AllCame;
 use crate::selftest::AllEchoed;
+use crate::tell::Said;
 use crate::tunnel::Finished;
 
 /// How a program of the tunnel ended.
@@ -12,8 +13,8 @@ use crate::tunnel::Finished;
 pub enum Exit {
     /// No fault was said, and this came to its end.
     Done(Done),
-    /// Something went wrong. The fault was said on the error device, as far as that took bytes.
-    Faulted,
+    /// Something went wrong, and that was said.
+    Faulted(Said),
 }
 
 /// What has come to its end. Only the code that brings it there can make one. It says no more: connections may have
@@ -30,13 +31,13 @@ pub enum Done {
 }
 
 impl Exit {
-    /// Whether a fault was said.
-    pub(crate) fn has_faulted(self) -> bool
-        ensures { result ≡ false → status_of self ≡ 0 }
+    /// That a fault was said, if one was.
+    pub(crate) fn said(self) -> Option<Said>
+        ensures { result ≡ None → status_of self ≡ 0 }
     {
         match self {
-            Exit::Done(_) => false,
-            Exit::Faulted => true,
+            Exit::Done(_) => None,
+            Exit::Faulted(said) => Some(said),
         }
     }
 
@@ -46,7 +47,7 @@ impl Exit {
     {
         match self {
             Exit::Done(_) => 0,
-            Exit::Faulted => 1,
+            Exit::Faulted(_) => 1,
         }
     }
 }

@@ -1,6 +1,6 @@
 //! The two ends of a tunnel through one session after another.
 
-ghost use Rattle.std.specs.Prelude.{◌≡◌, false};
+ghost use Rattle.std.specs.Prelude.{◌≡◌, None};
 ghost use Rattle.std.specs.Io.KnownBytes.{Keeps};
 ghost use Rattle.ymx_forward.specs.Exits.{status_of};
 
@@ -13,7 +13,7 @@ use crate::programs::{report, report_session};
 use crate::reason::Reason;
 use crate::sockets::call;
 use crate::system::{Poll, listen};
-use crate::tell::cannot_listen;
+use crate::tell::{Said, cannot_listen};
 use crate::tunnel_end::{Awaited, AwaitedPeer, NoneCome, TunnelEnd};
 use std::alloc::Global;
 use std::net::{Net, SocketAddr, TcpListener, TcpStream};
@@ -73,7 +73,7 @@ pub(crate) fn keep_local<R: Host, V: ProgramWatcher, E: Outlet>(
     ensures good { status_of result ≡ 0 → Keeps (E.contents errors.old) (E.contents errors.new) }
 {
     let Meeting { address, listener } = meeting;
-    let mut has_faulted = false;
+    let mut faulted: Option<Said> = None;
     let mut next = match listener {
         Some(listener) => next_of(tunnel_end.await_peer(rt, listener, poll, watcher)),
         None => next_session(rt, tunnel_end, options.peer, address, poll, watcher),
@@ -83,14 +83,14 @@ pub(crate) fn keep_local<R: Host, V: ProgramWatcher, E: Outlet>(
             Next::Peer(peer) => {
                 serve_local(rt, alloc, peer, tunnel_end, options, poll, watcher, errors)
             }
-            Next::Unreached => false,
+            Next::Unreached => None,
             Next::Over(end) => {
                 tunnel_end.tell_refusal(watcher);
-                return exit_of(alloc, end, options, address, has_faulted, errors);
+                return exit_of(alloc, end, options, address, faulted, errors);
             }
         };
-        if !has_faulted {
-            has_faulted = served;
+        if faulted.is_none() {
+            faulted = served;
         }
         tunnel_end.refuse_waiting(watcher);
         next = next_session(rt, tunnel_end, options.peer, address, poll, watcher);
@@ -99,7 +99,7 @@ pub(crate) fn keep_local<R: Host, V: ProgramWatcher, E: Outlet>(
 }
 
 /// Serves connections through a session with this peer, and says its fault. A peer that is awaited is said to have gone
-/// only once the next one can call. Whether something went wrong in the session.
+/// only once the next one can call. That a fault was said, if something went wrong in the session.
 fn serve_local<R: Net + Clock + Wait, V: ProgramWatcher, E: Outlet>(
     rt: &R,
     alloc: Global,
@@ -109,15 +109,15 @@ fn serve_local<R: Net + Clock + Wait, V: ProgramWatcher, E: Outlet>(
     poll: &mut Poll,
     watcher: &mut V,
     errors: &mut E,
-) -> bool
-    ensures good { result ≡ false → Keeps (E.contents errors.old) (E.contents errors.new) }
+) -> Option<Said>
+    ensures good { result ≡ None → Keeps (E.contents errors.old) (E.contents errors.new) }
 {
     watcher.came();
     let forwarded = tunnel_end.forward_peer(rt, alloc, peer, options.window, poll, watcher);
     if let PeerAddress::Connect(_) = options.peer {
         watcher.gone();
     }
-    report(alloc, options, forwarded, errors).has_faulted()
+    report(alloc, options, forwarded, errors).said()
 }
 
 /// A session over this connection. Where there is none the peer can't be reached.
@@ -185,16 +185,18 @@ fn exit_of<E: Outlet>(
     end: KeptEnd,
     options: LocalOptions,
     peers: SocketAddr,
-    has_faulted: bool,
+    faulted: Option<Said>,
     errors: &mut E,
 ) -> Exit
-    ensures good { status_of result ≡ 0 → (has_faulted ≡ false) × Keeps (E.contents errors.old) (E.contents errors.new) }
+    ensures good { status_of result ≡ 0 → (faulted ≡ None) × Keeps (E.contents errors.old) (E.contents errors.new) }
     // It ends well only where no more connections are accepted, though some could be.
     ensures shown { (done : Done) → result ≡ Exit.Done done → (all_came : AllCame) × (done ≡ Done.AllCame all_came) }
 {
     match end {
-        KeptEnd::NoConnections(NoneCome::AllCame(_)) if has_faulted => Exit::Faulted,
-        KeptEnd::NoConnections(NoneCome::AllCame(all_came)) => Exit::Done(Done::AllCame(all_came)),
+        KeptEnd::NoConnections(NoneCome::AllCame(all_came)) => match faulted {
+            Some(said) => Exit::Faulted(said),
+            None => Exit::Done(Done::AllCame(all_came)),
+        },
         KeptEnd::NoConnections(NoneCome::Refused) => cannot_listen(alloc, options.listen, errors),
         KeptEnd::NoPeers => cannot_listen(alloc, peers, errors),
     }
@@ -213,7 +215,7 @@ pub(crate) fn keep_calling<R: Net<Stream = TcpStream> + Clock + Wait, V: Program
     watcher: &mut V,
     errors: &mut E,
 ) -> Exit
-    ensures { result ≡ Exit.Faulted }
+    ensures { status_of result ≡ 1 }
 {
     let mut seconds = 1u64;
     for _ in rt.forever() {

@@ -2,8 +2,8 @@
 //! run one end of a tunnel over them, and say what went wrong. An end is one thread, or one for each peer or link: an
 //! engine that is driven by what epoll says of its wire, its listener and its connections.
 //!
-//! Whatever the system answers, nothing aborts; at a good end no fault is said. A session's loop waits for events only where
-//! it can move no byte without one. Which bytes a socket carries, no contract sees.
+//! Whatever the system answers, nothing aborts. At a good end no fault is said, and at a bad one a fault was. A session's
+//! loop waits for events only where it can move no byte without one. Which bytes a socket carries, no contract sees.
 #![tactic(auto)]
 
 mod accepting;
@@ -39,3 +39,4 @@ pub use exit::{Done, Exit};
 pub use host::Host;
 pub use programs::{run_local, run_remote};
 pub use selftest::run_selftest;
+pub use tell::Said;

@@ -19,7 +19,7 @@ use crate::sides::Forwarded;
 use crate::sockets::{call, listen_for};
 use crate::starting::{StartFault, cannot_begin};
 use crate::system::{Poll, TcpConnection, Waker, connect};
-use crate::tell::{cannot_listen, lacks_memory};
+use crate::tell::{Said, cannot_listen, lacks_memory};
 use crate::tunnel_end::{Awaited, Limits, NoneCome, RETRY, TunnelEnd};
 use crate::watching::{Declined, EndedConnection, Origin, Watcher};
 use crossbeam_channel::{Receiver, Sender, bounded};
@@ -272,20 +272,20 @@ fn hear_all<R: Wait, E: Outlet>(
 ) -> Exit
     ensures good { status_of result ≡ 0 → Keeps (E.contents errors.old) (E.contents errors.new) }
 {
-    let mut has_faulted = false;
+    let mut faulted: Option<Said> = None;
     let mut all = Forwarded::well();
     for _ in rt.forever() {
         let Ok(forwarded) = receiver.recv(rt) else {
-            if has_faulted {
-                return Exit::Faulted;
+            if let Some(said) = faulted {
+                return Exit::Faulted(said);
             }
             return report(alloc, options, all, errors);
         };
         all = all.and(forwarded);
         if options.is_kept {
-            let said = report(alloc, options, forwarded, errors);
-            if !has_faulted {
-                has_faulted = said.has_faulted();
+            let said = report(alloc, options, forwarded, errors).said();
+            if faulted.is_none() {
+                faulted = said;
             }
         }
     }

@@ -91,8 +91,9 @@ fn reaching_end<R: Host, V: ProgramWatcher, E: Outlet>(
 ) -> Exit
     ensures good { status_of result ≡ 0 → Keeps (E.contents errors.old) (E.contents errors.new) }
 {
-    let Some(connection) = meet(rt, alloc, options.peer, watcher, errors) else {
-        return Exit::Faulted;
+    let connection = match meet(rt, alloc, options.peer, watcher, errors) {
+        Ok(connection) => connection,
+        Err(exit) => return exit,
     };
     let Some(listener) = listen_for(rt, "--listen", options.listen, watcher) else {
         return cannot_listen(alloc, options.listen, errors);
@@ -258,8 +259,9 @@ fn single_end<R: Host, V: ProgramWatcher, E: Outlet>(
 ) -> Exit
     ensures good { status_of result ≡ 0 → Keeps (E.contents errors.old) (E.contents errors.new) }
 {
-    let Some(connection) = meet(rt, alloc, options.peer, watcher, errors) else {
-        return Exit::Faulted;
+    let connection = match meet(rt, alloc, options.peer, watcher, errors) {
+        Ok(connection) => connection,
+        Err(exit) => return exit,
     };
     let limits = Limits::new(options.ping, false);
     let side = remote_side(options);
@@ -284,7 +286,7 @@ fn calling_end<R: Net<Stream = TcpStream> + Clock + Wait, V: ProgramWatcher, E: 
     watcher: &mut V,
     errors: &mut E,
 ) -> Exit
-    ensures { result ≡ Exit.Faulted }
+    ensures { status_of result ≡ 1 }
 {
     let limits = Limits::new(options.ping, true);
     let side = remote_side(options);

@@ -229,7 +229,7 @@ fn print_line<W: Outlet>(
 
 /// Says that a connection failed.
 fn failed<E: Outlet>(alloc: Global, number: u32, errors: &mut E) -> Exit
-    ensures { result ≡ Exit.Faulted }
+    ensures { status_of result ≡ 1 }
 {
     match format!(in alloc; "ymx: selftest failed: connection {number}\n") {
         Ok(text) => say_fault(errors, text.as_bytes()),

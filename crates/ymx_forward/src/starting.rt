@@ -1,6 +1,7 @@
 //! Why something can't begin.
 
 ghost use Rattle.std.specs.Prelude.{◌≡◌};
+ghost use Rattle.ymx_forward.specs.Exits.{status_of};
 
 use crate::exit::Exit;
 use crate::notices::ProgramWatcher;
@@ -47,7 +48,7 @@ pub(crate) fn cannot_begin<V: ProgramWatcher, E: Outlet>(
     watcher: &mut V,
     errors: &mut E,
 ) -> Exit
-    ensures { result ≡ Exit.Faulted }
+    ensures { status_of result ≡ 1 }
 {
     match fault {
         StartFault::Unwatched(error) => {

@@ -206,3 +206,11 @@ pub returns-in-Err-clause-options : goal.returns-in-Err-clause-options
 returns-in-Err-clause-options g c = λ bad no_help.
     let mistake : SaysMistake c.in-Err.fault = c.in-Err.ensures.mistake no_help in
     by_status (status_of c.explain.result) _ c.explain.ensures.status (λ e. (c.explain.ensures.help e).0 mistake) (λ e. by_reason _ _ _ _ mistake (c.explain.ensures.failed e))
+
+pub returns-in-Ok-Tunnel-clause-tunnel : goal.returns-in-Ok-Tunnel-clause-tunnel
+returns-in-Ok-Tunnel-clause-tunnel g c = λ names no_help. inl c.run_tunnel.ensures.ran
+
+pub returns-in-Err-clause-tunnel : goal.returns-in-Err-clause-tunnel
+returns-in-Err-clause-tunnel g c = λ names no_help.
+    let mistake : SaysMistake c.in-Err.fault = c.in-Err.ensures.mistake no_help in
+    inr (by_status (status_of c.explain.result) _ c.explain.ensures.status (λ e. (c.explain.ensures.help e).0 mistake) (λ e. by_reason _ _ _ _ mistake (c.explain.ensures.failed e)))

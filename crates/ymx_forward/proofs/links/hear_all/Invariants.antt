@@ -1,4 +1,4 @@
-use Rattle.std.specs.Prelude.{◌≡◌, false}
+use Rattle.std.specs.Prelude.{◌≡◌, None}
 use Rattle.std.specs.Io.KnownBytes.{Keeps}
 use Rattle.ymx_forward.proofs.links.hear_all.Given as goal
 
@@ -6,5 +6,5 @@ use Rattle.ymx_forward.proofs.links.hear_all.Given as goal
 abbrev pub invariant-loop : goal.invariant-loop
 invariant-loop g l = record {
   next : (goal.iterator-loop g).can_next l.iterator' × (goal.iterator-loop g).is_finite l.iterator';
-  good : l.has_faulted ≡ false → Keeps (g.E.Outlet.contents l.initial.errors) (g.E.Outlet.contents l.errors);
+  good : l.faulted ≡ None → Keeps (g.E.Outlet.contents l.initial.errors) (g.E.Outlet.contents l.errors);
 }
