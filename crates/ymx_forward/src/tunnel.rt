@@ -7,6 +7,7 @@ ghost use Rattle.std.specs.Prelude.{◌≡◌, ◌⊎◌, [], true, false, IfOk,
 ghost use Rattle.ymx_engine.specs.Runs.{Runs, IsOver};
 ghost use Rattle.ymx_engine.specs.Served.{AreServed, NoneWaits, NoneGives};
 ghost use Rattle.ymx_engine.specs.Devices.{CountsOne, CountsSome};
+ghost use Rattle.ymx_engine.specs.Marks.{has_work};
 ghost use Rattle.ymx_engine.specs.Tunnels.{Serving, view_of};
 ghost use Rattle.ymx_engine.specs.Work.{ServesOne, WorksOnce};
 ghost use Rattle.ymx_forward.specs.Loops.{NeedsEvents, WaitsInNeed, WasLost};
@@ -330,7 +331,9 @@ impl<'a> TunnelLoop<'a> {
 
     /// Whether something can be done with no event.
     fn has_work(&self) -> bool
-        // Where it has none, no bytes of a stream wait that its connection may take now.
+        // Where it has none, its tunnel has none.
+        ensures idle { result ≡ false → has_work (view_of self.now.tunnel) ≡ false }
+        // Then no bytes of a stream wait that its connection may take now.
         ensures rest { Serving self.now.tunnel → result ≡ false → NoneWaits (view_of self.now.tunnel) }
         // Where the wire may take bytes too, no stream takes bytes that its connection may have.
         ensures gives { Serving self.now.tunnel → result ≡ false → self.now.tunnel.marks.can_push_wire ≡ true → NoneGives (view_of self.now.tunnel) }
