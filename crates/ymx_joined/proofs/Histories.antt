@@ -1,4 +1,4 @@
--- The events of an engine as a history.
+-- The events of a tunnel as a history.
 use Rattle.std.proofs.Common.{ℕ, ◌+◌, List, [], ◌∷◌, refl}
 use Rattle.ymx_model.specs.session.Events.{Event}
 use Rattle.ymx_machine.specs.shared.Events.{Reply}

@@ -8,9 +8,6 @@ pub mod NewWorlds
 mod Certificates
 pub mod Histories
 pub mod Piping
-pub mod Calling
-pub mod Turns
-pub mod Driving
 pub mod Tracing
 pub mod Tunneling
 pub mod Ways

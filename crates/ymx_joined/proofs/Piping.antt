@@ -1,7 +1,6 @@
--- Turns of two engines over two pipes, in a joint order.
-use Rattle.std.proofs.Common.{◌≡◌, ℕ, ◌+◌, ◌≤◌, ◌⊎◌, inl, inr, List, [], ◌∷◌, ◌++◌, length, take, drop, Bool, true, false, ◌&&◌, Option, Some, refl, sym, ap, subst, ◌∙◌, arith, append-nil, append_assoc, length-append, drop-drop}
+-- Turns of two tunnels over two pipes, in a joint order.
+use Rattle.std.proofs.Common.{◌≡◌, ℕ, ◌+◌, ◌≤◌, ◌⊎◌, inl, inr, List, [], ◌∷◌, ◌++◌, length, take, drop, Bool, true, false, Option, Some, refl, sym, ap, subst, ◌∙◌, arith, append-nil, append_assoc, length-append, drop-drop}
 use Rattle.std.specs.Prelude.{MatchBool}
-use Rattle.std.specs.List.{list_all}
 use Rattle.std.specs.Io.KnownBytes.{Appends, Consumes}
 use Rattle.std.proofs.lemmas.List.{drop-append-le, length-take-le}
 use Rattle.ymx_machine.specs.declared.types.Side.{Side}
@@ -24,12 +23,12 @@ use Rattle.ymx_headline.proofs.audit.Events.{world, event-a, event-b, gets-ended
 use Rattle.ymx_headline.proofs.audit.OneRun.{are-one-run}
 use Rattle.ymx_headline.proofs.audit.Orders.{runs-on}
 use Rattle.ymx_headline.proofs.audit.Over.{IsOver}
+use Rattle.ymx_engine.specs.Devices.{Seen}
 use Rattle.ymx_engine.specs.Engines.{Engine}
 use Rattle.ymx_engine.specs.Events.{Happen}
-use Rattle.ymx_engine.specs.Wires.{emitted_at, emitted, fed_at, fed, is_of_read, is_of_flush, OffersFront, FeedsFront}
+use Rattle.ymx_engine.specs.Wires.{emitted_at, emitted, fed_at, fed, OffersFront, FeedsFront}
 use Rattle.ymx_engine.proofs.Exchanging.{happen_then}
-use Rattle.ymx_joined.specs.Tunnels.{entries_from, entries}
-use Rattle.ymx_joined.specs.Pairs.{Pair, pair_of, is_call, IsCalls, IsRead, IsFlush, IsTunnelTurn, IsTurn, Turn, TakesTurn, TakeTurns, at_a, at_b, events_at_a, events_at_b, AreOnePipedRun}
+use Rattle.ymx_joined.specs.Tunnels.{TunnelPair, tunnels_of, Works, Turn, OneWorks, BothWork, at_a, at_b, events_at_a, events_at_b, entries_from, entries, AreOneTunnelRun}
 use Rattle.ymx_joined.proofs.Histories.{replays}
 
 -- ---- a pipe of the world beside the bytes under way
@@ -142,38 +141,6 @@ gets_all (e ∷ es) s t p waits rest h f k =
 
 -- ---- what a turn moves
 
-pub both : (a b : Bool) → (a && b) ≡ true → (a ≡ true) × (b ≡ true)
-both true b h = (refl, h)
-both false b h = let no : ⊥ = cc in absurd no
-
-unfed_one : (k : Event → Bool) (none : (bytes : List ℕ) → k (event.Feed bytes) ≡ false) (e : Event) (told : Reply) (waits : List ℕ) → k e ≡ true → OffersFront waits e × (fed_at e told ≡ [])
-unfed_one k none (event.Call c) told waits h = (tt, refl)
-unfed_one k none (event.Emit n) told waits h = (tt, refl)
-unfed_one k none event.FeedEnd told waits h = (tt, refl)
-unfed_one k none (event.Feed bytes) told waits h = let e : k (event.Feed bytes) ≡ false = none bytes in let no : ⊥ = cc in absurd no
-
--- where no event is a feed
-unfed : (k : Event → Bool) (none : (bytes : List ℕ) → k (event.Feed bytes) ≡ false) (es : List (Event × Reply)) (waits : List ℕ) → list_all (λ e. k e.0) es ≡ true → FeedsFront waits es × (fed es ≡ [])
-unfed k none [] waits h = (tt, refl)
-unfed k none (e ∷ es) waits h =
-    let two = both (k e.0) (list_all (λ e. k e.0) es) h in
-    let one = unfed_one k none e.0 e.1 waits two.0 in
-    let more = unfed k none es (drop (length (fed_at e.0 e.1)) waits) two.1 in
-    ((one.0, more.0), ap (λ (v : List ℕ). v ++ fed es) one.1 ∙ more.1)
-
-unsent_one : (k : Event → Bool) (none : (n : ℕ) → k (event.Emit n) ≡ false) (e : Event) (told : Reply) → k e ≡ true → emitted_at e told ≡ []
-unsent_one k none (event.Call c) told h = refl
-unsent_one k none (event.Feed bytes) told h = refl
-unsent_one k none event.FeedEnd told h = refl
-unsent_one k none (event.Emit n) told h = let e : k (event.Emit n) ≡ false = none n in let no : ⊥ = cc in absurd no
-
--- where no event is an emission
-unsent : (k : Event → Bool) (none : (n : ℕ) → k (event.Emit n) ≡ false) (es : List (Event × Reply)) → list_all (λ e. k e.0) es ≡ true → emitted es ≡ []
-unsent k none [] h = refl
-unsent k none (e ∷ es) h =
-    let two = both (k e.0) (list_all (λ e. k e.0) es) h in
-    ap (λ (v : List ℕ). v ++ emitted es) (unsent_one k none e.0 e.1 two.0) ∙ unsent k none es two.1
-
 -- what came was the front of one pipe, and what went is behind the other
 record Moves (es : List (Event × Reply)) (old new : Engine) (to from to_new from_new : List ℕ) : Type 0 where
   happen : Happen es old.session new.session
@@ -185,59 +152,14 @@ record Moves (es : List (Event × Reply)) (old new : Engine) (to from to_new fro
   took : to_new ≡ to ++ sent
   to_wire : old.outgoing ++ emitted es ≡ sent ++ new.outgoing
 
-calls_move : (es : List (Event × Reply)) (old new : Engine) (to from to_new from_new : List ℕ) → IsCalls es old new to from to_new from_new → Moves es old new to from to_new from_new
-calls_move es old new to from to_new from_new x =
-    let quiet = unfed is_call (λ bytes. refl) es (old.incoming ++ []) x.own in
-    let mute : emitted es ≡ [] = unsent is_call (λ n. refl) es x.own in
-    record {
-      happen = x.happen;
-      came = [];
-      gave = sym x.same_from;
-      fronts = quiet.0;
-      from_wire = append-nil old.incoming ∙ sym x.wire.incoming ∙ ap (λ (v : List ℕ). v ++ new.incoming) (sym quiet.1);
-      sent = [];
-      took = x.same_to ∙ sym (append-nil to);
-      to_wire = ap (λ (v : List ℕ). old.outgoing ++ v) mute ∙ append-nil old.outgoing ∙ sym x.wire.outgoing;
-    }
-
 consumed : (a b : Option (List ℕ)) (from from_new came : List ℕ) → a ≡ Some from → b ≡ Some from_new → Consumes a b came → from ≡ came ++ from_new
 consumed a b from from_new came e f h = subst (λ (o : Option (List ℕ)). Consumes (Some from) o came) f (subst (λ (o : Option (List ℕ)). Consumes o b came) e h)
 
 appended : (a b : Option (List ℕ)) (to to_new sent : List ℕ) → a ≡ Some to → b ≡ Some to_new → Appends a b sent → to_new ≡ to ++ sent
 appended a b to to_new sent e f h = subst (λ (o : Option (List ℕ)). Appends (Some to) o sent) f (subst (λ (o : Option (List ℕ)). Appends o b sent) e h)
 
-read_moves : (es : List (Event × Reply)) (old new : Engine) (to from to_new from_new : List ℕ) → IsRead es old new to from to_new from_new → Moves es old new to from to_new from_new
-read_moves es old new to from to_new from_new x =
-    let r = x.reads in
-    let mute : emitted r.events ≡ [] = unsent is_of_read (λ n. refl) r.events r.own in
-    let moves : Moves r.events old new to from to_new from_new = record {
-      happen = r.happen;
-      came = r.came;
-      gave = consumed x.before.left x.after.left from from_new r.came x.left x.left_new r.gave;
-      fronts = r.fronts;
-      from_wire = r.from_wire;
-      sent = [];
-      took = x.same_to ∙ sym (append-nil to);
-      to_wire = ap (λ (v : List ℕ). old.outgoing ++ v) mute ∙ append-nil old.outgoing ∙ sym r.outgoing;
-    } in subst (λ (v : List (Event × Reply)). Moves v old new to from to_new from_new) (sym x.events) moves
-
-flush_moves : (es : List (Event × Reply)) (old new : Engine) (to from to_new from_new : List ℕ) → IsFlush es old new to from to_new from_new → Moves es old new to from to_new from_new
-flush_moves es old new to from to_new from_new x =
-    let r = x.flushes in
-    let quiet = unfed is_of_flush (λ bytes. refl) r.events (old.incoming ++ []) r.own in
-    let moves : Moves r.events old new to from to_new from_new = record {
-      happen = r.happen;
-      came = [];
-      gave = sym x.same_from;
-      fronts = quiet.0;
-      from_wire = append-nil old.incoming ∙ sym r.incoming ∙ ap (λ (v : List ℕ). v ++ new.incoming) (sym quiet.1);
-      sent = r.sent;
-      took = appended x.before.had x.after.had to to_new r.sent x.had x.had_new r.took;
-      to_wire = r.to_wire;
-    } in subst (λ (v : List (Event × Reply)). Moves v old new to from to_new from_new) (sym x.events) moves
-
-tunnel_moves : (es : List (Event × Reply)) (old new : Engine) (to from to_new from_new : List ℕ) → IsTunnelTurn es old new to from to_new from_new → Moves es old new to from to_new from_new
-tunnel_moves es old new to from to_new from_new x =
+turn_moves : (es : List (Event × Reply)) (old new : Engine) (ls ms : List (ℕ × Seen)) (to from to_new from_new : List ℕ) → Works es old new ls ms to from to_new from_new → Moves es old new to from to_new from_new
+turn_moves es old new ls ms to from to_new from_new x =
     let r = x.runs in
     let moves : Moves r.events x.before.engine x.after.engine to from to_new from_new = record {
       happen = r.happen;
@@ -251,12 +173,6 @@ tunnel_moves es old new to from to_new from_new x =
     } in
     subst (λ (v : List (Event × Reply)). Moves v old new to from to_new from_new) (sym x.events)
     (subst (λ (e : Engine). Moves r.events e new to from to_new from_new) x.engine (subst (λ (e : Engine). Moves r.events x.before.engine e to from to_new from_new) x.engine_new moves))
-
-turn_moves : (es : List (Event × Reply)) (old new : Engine) (to from to_new from_new : List ℕ) → IsTurn es old new to from to_new from_new → Moves es old new to from to_new from_new
-turn_moves es old new to from to_new from_new (inl x) = calls_move es old new to from to_new from_new x
-turn_moves es old new to from to_new from_new (inr (inl x)) = read_moves es old new to from to_new from_new x
-turn_moves es old new to from to_new from_new (inr (inr (inl x))) = flush_moves es old new to from to_new from_new x
-turn_moves es old new to from to_new from_new (inr (inr (inr x))) = tunnel_moves es old new to from to_new from_new x
 
 -- the pipe that a turn's side writes to, and `far` is what waits at the other side
 to_holds : (es : List (Event × Reply)) (old new : Engine) (to from to_new from_new far : List ℕ) (p : Pipe) → Moves es old new to from to_new from_new →
@@ -281,10 +197,10 @@ from_holds es old new to from to_new from_new far p m h =
 -- ---- a joint order, and the run of the world that it is
 
 -- a pipe of the world carries what A has to send, what is in the pipe, and what waits to be fed to B
-abbrev pub HoldsAB : Pipe → Pair → Type 0
+abbrev pub HoldsAB : Pipe → TunnelPair → Type 0
 HoldsAB pipe p = Holds pipe (p.b.incoming ++ (p.ab ++ p.a.outgoing))
 
-abbrev pub HoldsBA : Pipe → Pair → Type 0
+abbrev pub HoldsBA : Pipe → TunnelPair → Type 0
 HoldsBA pipe p = Holds pipe (p.a.incoming ++ (p.ba ++ p.b.outgoing))
 
 -- behind the end of its input a session is over
@@ -293,7 +209,7 @@ OverIf pipe s = pipe.ended ≡ true → IsOver s
 
 -- These entries have a joint order, which is a run of the world from these sessions and pipes to the sessions of q; its
 -- pipes carry then what those of q do.
-pub record Joint (a b : Session) (ab ba : Pipe) (xs ys : List Entry) (q : Pair) : Type 0 where
+pub record Joint (a b : Session) (ab ba : Pipe) (xs ys : List Entry) (q : TunnelPair) : Type 0 where
   pub turns : List Bool
   pub steps : List Step
   pub joint : IsJoint turns ab ba xs ys steps
@@ -326,7 +242,7 @@ run_b e told turns steps xs ys a b s ab ba p last g h over r =
 over_same : (s t : Session) (p q : Pipe) → t ≡ s → q ≡ p → OverIf p s → OverIf q t
 over_same s t p q h g over e = subst IsOver (sym h) (over (sym (ap (λ (z : Pipe). z.ended) g) ∙ e))
 
-joint_a : (es more : List (Event × Reply)) (i : ℕ) (a b s : Session) (ab ba p : Pipe) (ys : List Entry) (q : Pair) → Happen es a s → GetsAll es ba p → OverIf ba a →
+joint_a : (es more : List (Event × Reply)) (i : ℕ) (a b s : Session) (ab ba p : Pipe) (ys : List Entry) (q : TunnelPair) → Happen es a s → GetsAll es ba p → OverIf ba a →
     ((k : ℕ) → OverIf p s → Joint s b (sent_all es ab) p (entries_from k more) ys q) → Joint a b ab ba (entries_from i (es ++ more)) ys q
 joint_a [] more i a b s ab ba p ys q h g over rest =
     subst (λ (z : Session). Joint z b ab ba (entries_from i more) ys q) h
@@ -345,7 +261,7 @@ joint_a (e ∷ es) more i a b s ab ba p ys q h g over rest =
       over_b = r.over_b;
     }
 
-joint_b : (es more : List (Event × Reply)) (i : ℕ) (a b s : Session) (ab ba p : Pipe) (xs : List Entry) (q : Pair) → Happen es b s → GetsAll es ab p → OverIf ab b →
+joint_b : (es more : List (Event × Reply)) (i : ℕ) (a b s : Session) (ab ba p : Pipe) (xs : List Entry) (q : TunnelPair) → Happen es b s → GetsAll es ab p → OverIf ab b →
     ((k : ℕ) → OverIf p s → Joint a s p (sent_all es ba) xs (entries_from k more) q) → Joint a b ab ba xs (entries_from i (es ++ more)) q
 joint_b [] more i a b s ab ba p xs q h g over rest =
     subst (λ (z : Session). Joint a z ab ba xs (entries_from i more) q) h
@@ -373,12 +289,12 @@ sent_over (e ∷ es) p = sent_over es (sent_into e.0 e.1 p) ∙ put-ended e.0 e.
 over_beside : (es : List (Event × Reply)) (p : Pipe) (e f : Engine) → f ≡ e → OverIf p e.session → OverIf (sent_all es p) f.session
 over_beside es p e f t over h = subst (λ (z : Engine). IsOver z.session) (sym t) (over (sym (sent_over es p) ∙ h))
 
-joint_turn : (side : Side) (es more_a more_b : List (Event × Reply)) (p q last : Pair) (ab ba : Pipe) (i j : ℕ) → TakesTurn side es p q → HoldsAB ab p → HoldsBA ba p → OverIf ba p.a.session → OverIf ab p.b.session →
+joint_turn : (side : Side) (es more_a more_b : List (Event × Reply)) (p q last : TunnelPair) (ab ba : Pipe) (i j : ℕ) → OneWorks side es p q → HoldsAB ab p → HoldsBA ba p → OverIf ba p.a.session → OverIf ab p.b.session →
     ((ab2 ba2 : Pipe) (i2 j2 : ℕ) → HoldsAB ab2 q → HoldsBA ba2 q → OverIf ba2 q.a.session → OverIf ab2 q.b.session →
     Joint q.a.session q.b.session ab2 ba2 (entries_from i2 more_a) (entries_from j2 more_b) last) →
     Joint p.a.session p.b.session ab ba (entries_from i (at_a side es ++ more_a)) (entries_from j (at_b side es ++ more_b)) last
 joint_turn A es more_a more_b p q last ab ba i j t h k over_a over_b rest =
-    let m = turn_moves es p.a q.a p.ab p.ba q.ab q.ba t.0 in
+    let m = turn_moves es p.a q.a p.lines_a q.lines_a p.ab p.ba q.ab q.ba t.0 in
     let got = from_holds es p.a q.a p.ab p.ba q.ab q.ba p.b.outgoing ba m k in
     let to : HoldsAB (sent_all es ab) q = same_holds (sent_all es ab) _ _ (ap (λ (e : Engine). e.incoming ++ (q.ab ++ q.a.outgoing)) (sym t.1)) (to_holds es p.a q.a p.ab p.ba q.ab q.ba p.b.incoming ab m h) in
     let from : HoldsBA got.pipe q = same_holds got.pipe _ _ (ap (λ (e : Engine). q.a.incoming ++ (q.ba ++ e.outgoing)) (sym t.1)) got.holds in
@@ -386,7 +302,7 @@ joint_turn A es more_a more_b p q last ab ba i j t h k over_a over_b rest =
     (λ n over. subst (λ (e : Engine). Joint q.a.session e.session (sent_all es ab) got.pipe (entries_from n more_a) (entries_from j more_b) last) t.1
     (rest (sent_all es ab) got.pipe n j to from over (over_beside es ab p.b q.b t.1 over_b)))
 joint_turn B es more_a more_b p q last ab ba i j t h k over_a over_b rest =
-    let m = turn_moves es p.b q.b p.ba p.ab q.ba q.ab t.0 in
+    let m = turn_moves es p.b q.b p.lines_b q.lines_b p.ba p.ab q.ba q.ab t.0 in
     let got = from_holds es p.b q.b p.ba p.ab q.ba q.ab p.a.outgoing ab m h in
     let to : HoldsBA (sent_all es ba) q = same_holds (sent_all es ba) _ _ (ap (λ (e : Engine). e.incoming ++ (q.ba ++ q.b.outgoing)) (sym t.1)) (to_holds es p.b q.b p.ba p.ab q.ba q.ab p.a.incoming ba m k) in
     let from : HoldsAB got.pipe q = same_holds got.pipe _ _ (ap (λ (e : Engine). q.b.incoming ++ (q.ab ++ e.outgoing)) (sym t.1)) got.holds in
@@ -394,7 +310,7 @@ joint_turn B es more_a more_b p q last ab ba i j t h k over_a over_b rest =
     (λ n over. subst (λ (e : Engine). Joint e.session q.b.session got.pipe (sent_all es ba) (entries_from i more_a) (entries_from n more_b) last) t.1
     (rest got.pipe (sent_all es ba) i n from to (over_beside es ba p.a q.a t.1 over_a) over))
 
-pub joint_turns : (ts : List Turn) (p q : Pair) (ab ba : Pipe) (i j : ℕ) → TakeTurns ts p q → HoldsAB ab p → HoldsBA ba p → OverIf ba p.a.session → OverIf ab p.b.session →
+pub joint_turns : (ts : List Turn) (p q : TunnelPair) (ab ba : Pipe) (i j : ℕ) → BothWork ts p q → HoldsAB ab p → HoldsBA ba p → OverIf ba p.a.session → OverIf ab p.b.session →
     Joint p.a.session p.b.session ab ba (entries_from i (events_at_a ts)) (entries_from j (events_at_b ts)) q
 joint_turns [] p q ab ba i j r h k over_a over_b = record {
   turns = [];
@@ -402,40 +318,40 @@ joint_turns [] p q ab ba i j r h k over_a over_b = record {
   joint = (refl, refl, refl);
   last_ab = ab;
   last_ba = ba;
-  runs = ap (λ (z : Pair). world z.a.session z.b.session ab ba) r;
+  runs = ap (λ (z : TunnelPair). world z.a.session z.b.session ab ba) r;
   holds_ab = subst (HoldsAB ab) (sym r) h;
   holds_ba = subst (HoldsBA ba) (sym r) k;
-  over_a = subst (λ (z : Pair). OverIf ba z.a.session) (sym r) over_a;
-  over_b = subst (λ (z : Pair). OverIf ab z.b.session) (sym r) over_b;
+  over_a = subst (λ (z : TunnelPair). OverIf ba z.a.session) (sym r) over_a;
+  over_b = subst (λ (z : TunnelPair). OverIf ab z.b.session) (sym r) over_b;
 }
 joint_turns (t ∷ ts) p q ab ba i j r h k over_a over_b =
     joint_turn t.side t.events (events_at_a ts) (events_at_b ts) p r.0 q ab ba i j r.1 h k over_a over_b
     (λ ab2 ba2 i2 j2 h2 k2 over_a2 over_b2. joint_turns ts r.0 q ab2 ba2 i2 j2 r.2 h2 k2 over_a2 over_b2)
 
--- from two new engines, and empty pipes
-pub joint_new : (ts : List Turn) (s t : Session) (q : Pair) → TakeTurns ts (pair_of s t) q → Joint s t new_pipe new_pipe (entries (events_at_a ts)) (entries (events_at_b ts)) q
-joint_new ts s t q r = joint_turns ts (pair_of s t) q new_pipe new_pipe 0 0 r (inr refl) (inr refl) (λ e. absurd cc) (λ e. absurd cc)
+-- from two new tunnels, and empty pipes
+pub joint_new : (ts : List Turn) (s t : Session) (q : TunnelPair) → BothWork ts (tunnels_of s t) q → Joint s t new_pipe new_pipe (entries (events_at_a ts)) (entries (events_at_b ts)) q
+joint_new ts s t q r = joint_turns ts (tunnels_of s t) q new_pipe new_pipe 0 0 r (inr refl) (inr refl) (λ e. absurd cc) (λ e. absurd cc)
 
 -- ---- what happened at each side
 
-turn_happens_a : (side : Side) (es more : List (Event × Reply)) (p q : Pair) (s : Session) → TakesTurn side es p q → Happen more q.a.session s → Happen (at_a side es ++ more) p.a.session s
-turn_happens_a A es more p q s t h = happen_then es more p.a.session q.a.session s (turn_moves es p.a q.a p.ab p.ba q.ab q.ba t.0).happen h
+turn_happens_a : (side : Side) (es more : List (Event × Reply)) (p q : TunnelPair) (s : Session) → OneWorks side es p q → Happen more q.a.session s → Happen (at_a side es ++ more) p.a.session s
+turn_happens_a A es more p q s t h = happen_then es more p.a.session q.a.session s (turn_moves es p.a q.a p.lines_a q.lines_a p.ab p.ba q.ab q.ba t.0).happen h
 turn_happens_a B es more p q s t h = subst (λ (e : Engine). Happen more e.session s) t.1 h
 
-turn_happens_b : (side : Side) (es more : List (Event × Reply)) (p q : Pair) (s : Session) → TakesTurn side es p q → Happen more q.b.session s → Happen (at_b side es ++ more) p.b.session s
+turn_happens_b : (side : Side) (es more : List (Event × Reply)) (p q : TunnelPair) (s : Session) → OneWorks side es p q → Happen more q.b.session s → Happen (at_b side es ++ more) p.b.session s
 turn_happens_b A es more p q s t h = subst (λ (e : Engine). Happen more e.session s) t.1 h
-turn_happens_b B es more p q s t h = happen_then es more p.b.session q.b.session s (turn_moves es p.b q.b p.ba p.ab q.ba q.ab t.0).happen h
+turn_happens_b B es more p q s t h = happen_then es more p.b.session q.b.session s (turn_moves es p.b q.b p.lines_b q.lines_b p.ba p.ab q.ba q.ab t.0).happen h
 
-happens_a : (ts : List Turn) (p q : Pair) → TakeTurns ts p q → Happen (events_at_a ts) p.a.session q.a.session
-happens_a [] p q r = ap (λ (z : Pair). z.a.session) r
+happens_a : (ts : List Turn) (p q : TunnelPair) → BothWork ts p q → Happen (events_at_a ts) p.a.session q.a.session
+happens_a [] p q r = ap (λ (z : TunnelPair). z.a.session) r
 happens_a (t ∷ ts) p q r = turn_happens_a t.side t.events (events_at_a ts) p r.0 q.a.session r.1 (happens_a ts r.0 q r.2)
 
-happens_b : (ts : List Turn) (p q : Pair) → TakeTurns ts p q → Happen (events_at_b ts) p.b.session q.b.session
-happens_b [] p q r = ap (λ (z : Pair). z.b.session) r
+happens_b : (ts : List Turn) (p q : TunnelPair) → BothWork ts p q → Happen (events_at_b ts) p.b.session q.b.session
+happens_b [] p q r = ap (λ (z : TunnelPair). z.b.session) r
 happens_b (t ∷ ts) p q r = turn_happens_b t.side t.events (events_at_b ts) p r.0 q.b.session r.1 (happens_b ts r.0 q r.2)
 
-pub are_one_piped_run : (ts : List Turn) → AreOnePipedRun ts
-are_one_piped_run ts = λ wa fa wb fb q good r.
+pub are_one_tunnel_run : (ts : List Turn) → AreOneTunnelRun ts
+are_one_tunnel_run ts = λ wa fa wb fb q good r.
     let j = joint_new ts _ _ q r in (
       j.steps,
       are-one-run in_turn (entries (events_at_a ts)) (entries (events_at_b ts)) j.steps (j.turns, j.joint) wa fa wb fb q.a.session q.b.session good

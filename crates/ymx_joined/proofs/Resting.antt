@@ -11,7 +11,7 @@ use Rattle.ymx_engine.specs.Known.{may_push}
 use Rattle.ymx_engine.specs.Served.{NoneWaits}
 use Rattle.ymx_engine.specs.Tunnels.{Tunnel, view_of}
 use Rattle.ymx_engine.proofs.Resting.{rest_flushed, rest_fed, rest_none, rest_takes}
-use Rattle.ymx_joined.specs.Pairs.{Turn}
+use Rattle.ymx_joined.specs.Tunnels.{Turn}
 use Rattle.ymx_joined.specs.Quiet.{IsQuietWay, HasCome, IsAtRest, IsDelivered, AllIsDelivered}
 use Rattle.ymx_joined.proofs.Quiet.{all_has_come}
 
@@ -53,13 +53,13 @@ quiet_way from to pipe a b same_a same_b x y empty = record {
 
 pub all_is_delivered : (ts : List Turn) → AllIsDelivered ts
 all_is_delivered ts = λ wa fa wb fb q a b good work same_a same_b x y ab ba.
-    let to_b = quiet_way q.pair.a q.pair.b q.pair.ab a b same_a same_b x y ab in
-    let to_a = quiet_way q.pair.b q.pair.a q.pair.ba b a same_b same_a y x ba in (
+    let to_b = quiet_way q.a q.b q.ab a b same_a same_b x y ab in
+    let to_a = quiet_way q.b q.a q.ba b a same_b same_a y x ba in (
       (to_b, to_a),
       λ id.
           let come = all_has_come ts wa fa wb fb q good work id in (
-            delivered id _ _ b q.pair.b.session (ap (λ (e : Engine). e.session) same_b) (rests b y).waits (come.to_b to_b),
-            delivered id _ _ a q.pair.a.session (ap (λ (e : Engine). e.session) same_a) (rests a x).waits (come.to_a to_a),
+            delivered id _ _ b q.b.session (ap (λ (e : Engine). e.session) same_b) (rests b y).waits (come.to_b to_b),
+            delivered id _ _ a q.a.session (ap (λ (e : Engine). e.session) same_a) (rests a x).waits (come.to_a to_a),
           ),
       rest_takes (view_of a) x.serves.served x.idle x.takes,
       rest_takes (view_of b) y.serves.served y.idle y.takes,

@@ -1,5 +1,5 @@
 -- Two tunnels over two pipes: what each stream carries between its devices.
-use Rattle.std.proofs.Common.{◌≡◌, ℕ, List, [], ◌∷◌, ◌++◌, Bool, true, false, ◌||◌, Option, None, Some, refl, sym, ap, subst, ◌∙◌, inr, append-nil, append_assoc}
+use Rattle.std.proofs.Common.{◌≡◌, ℕ, List, [], ◌∷◌, ◌++◌, Bool, true, false, ◌||◌, Option, None, Some, refl, sym, ap, subst, ◌∙◌, append-nil, append_assoc}
 use Rattle.std.specs.Prelude.{option_map}
 use Rattle.ymx_machine.specs.declared.types.Side.{Side}
 use Rattle.ymx_machine.specs.declared.types.Side.TheVariants.{A, B}
@@ -18,34 +18,22 @@ use Rattle.ymx_headline.proofs.runs.Runs.{run-face}
 use Rattle.ymx_engine.specs.Devices.{Seen}
 use Rattle.ymx_engine.specs.Engines.{Engine}
 use Rattle.ymx_engine.specs.Events.{taken, given, has_end, has_finish, has_open_with, lacks_memory}
-use Rattle.ymx_joined.proofs.Driving.{nothing_lost}
-use Rattle.ymx_engine.specs.Lines.{all_of, loses, Trades, IsIdle, Change, Lives, sinces, Life}
+use Rattle.ymx_engine.specs.Exchanges.{has_bytes}
+use Rattle.ymx_engine.specs.Lines.{all_of, kept_of, loses, Trades, IsIdle, Change, Lives, sinces, Life}
 use Rattle.ymx_engine.proofs.Advancing.{or_neither}
 use Rattle.ymx_engine.proofs.Exchanging.{taken_then, given_then, end_then, finish_then, lacks_then, or_none}
 use Rattle.ymx_engine.specs.Tunnels.{look}
-use Rattle.ymx_engine.proofs.Advancing.{or_neither}
 use Rattle.ymx_engine.proofs.Listing.{plain_then}
 use Rattle.ymx_engine.proofs.Trading.{life_then, life_quiet}
-use Rattle.ymx_joined.specs.Tunnels.{entries}
-use Rattle.ymx_joined.specs.Pairs.{Turn, TakesTurn, TakeTurns, at_a, at_b, events_at_a, events_at_b}
-use Rattle.ymx_joined.specs.Carried.{TunnelPair, tunnels_of, Works, OneWorks, BothWork, Carries, TunnelsCarry, IsPassedOn, HadOne}
-use Rattle.ymx_joined.proofs.Piping.{are_one_piped_run}
+use Rattle.ymx_joined.specs.Tunnels.{TunnelPair, tunnels_of, Works, Turn, OneWorks, BothWork, at_a, at_b, events_at_a, events_at_b, entries}
+use Rattle.ymx_joined.specs.Carried.{Carries, TunnelsCarry, IsPassedOn, HadOne}
+use Rattle.ymx_joined.proofs.Piping.{are_one_tunnel_run}
 use Rattle.ymx_joined.proofs.Tracing.{gathers_a, gathers_b, writes_of, all_written, reads_of, all_read, ends_of, all_ended, finishes_of, all_finished}
-
--- ---- the turns of two tunnels are turns of their engines
-
-one_turn : (side : Side) (es : List (Event × Reply)) (p q : TunnelPair) → OneWorks side es p q → TakesTurn side es p.pair q.pair
-one_turn A es p q t = (inr (inr (inr t.0.turn)), t.1)
-one_turn B es p q t = (inr (inr (inr t.0.turn)), t.1)
-
-pub turns_of : (ts : List Turn) (p q : TunnelPair) → BothWork ts p q → TakeTurns ts p.pair q.pair
-turns_of [] p q h = ap (λ (v : TunnelPair). v.pair) h
-turns_of (t ∷ ts) p q h = (h.0.pair, one_turn t.side t.events p h.0 h.1, turns_of ts h.0 q h.2)
 
 -- ---- no stream is opened with its first bytes
 
 works_plain : (es : List (Event × Reply)) (old new : Engine) (ls ms : List (ℕ × Seen)) (to from to_new from_new : List ℕ) → Works es old new ls ms to from to_new from_new → has_open_with es ≡ false
-works_plain es old new ls ms to from to_new from_new w = ap has_open_with w.turn.events ∙ w.turn.runs.plain
+works_plain es old new ls ms to from to_new from_new w = ap has_open_with w.events ∙ w.runs.plain
 
 plain_at_a : (side : Side) (es : List (Event × Reply)) (p q : TunnelPair) → OneWorks side es p q → has_open_with (at_a side es) ≡ false
 plain_at_a A es p q t = works_plain es _ _ _ _ _ _ _ _ t.0
@@ -67,9 +55,9 @@ plain_b (t ∷ ts) p q h = plain_then (at_b t.side t.events) (events_at_b ts) (p
 
 works_life : (id : ℕ) (es : List (Event × Reply)) (old new : Engine) (ls ms : List (ℕ × Seen)) (to from to_new from_new : List ℕ) → Works es old new ls ms to from to_new from_new → Life id es (look id ls) (look id ms)
 works_life id es old new ls ms to from to_new from_new w =
-    subst (λ (v : List (Event × Reply)). Life id v (look id ls) (look id ms)) (sym w.turn.events)
-    (subst (λ (v : List (ℕ × Seen)). Life id w.turn.runs.events (look id v) (look id ms)) w.begins
-    (subst (λ (v : List (ℕ × Seen)). Life id w.turn.runs.events (look id w.turn.before.lines) (look id v)) w.ends (w.turn.runs.lines id)))
+    subst (λ (v : List (Event × Reply)). Life id v (look id ls) (look id ms)) (sym w.events)
+    (subst (λ (v : List (ℕ × Seen)). Life id w.runs.events (look id v) (look id ms)) w.begins
+    (subst (λ (v : List (ℕ × Seen)). Life id w.runs.events (look id w.before.lines) (look id v)) w.ends (w.runs.lines id)))
 
 stays : (id : ℕ) (ls ms : List (ℕ × Seen)) → ms ≡ ls → Life id [] (look id ls) (look id ms)
 stays id ls ms e = subst (λ (v : List (ℕ × Seen)). Life id [] (look id ls) (look id v)) (sym e) (life_quiet id [] (look id ls) (refl, refl, refl, refl, refl, refl))
@@ -107,8 +95,8 @@ tunnels_carry ts = λ wa fa wb fb q good r id.
     let p = tunnels_of (new_session Client wa fa) (new_session Server wb fb) in
     let es = events_at_a ts in
     let fs = events_at_b ts in
-    let o = are_one_piped_run ts wa fa wb fb q.pair good (turns_of ts p q r) in
-    let one : IsOneRun in_turn (entries es) (entries fs) o.0 wa fa wb fb q.pair.a.session q.pair.b.session = o.1 in
+    let o = are_one_tunnel_run ts wa fa wb fb q good r in
+    let one : IsOneRun in_turn (entries es) (entries fs) o.0 wa fa wb fb q.a.session q.b.session = o.1 in
     let answers = told one.turns (entries es) (entries fs) in
     let face = run-face in_turn o.0 answers wa fa wb fb one.world good one.runs id in
     let plain_es = plain_a ts p q r in
@@ -129,6 +117,17 @@ tunnels_carry ts = λ wa fa wb fb q good r id.
     }
 
 -- ---- what two devices of a stream pass on
+
+-- where none were lost the stream took all
+no_bytes_of : (xs : List ℕ) → has_bytes xs ≡ false → xs ≡ []
+no_bytes_of [] h = refl
+no_bytes_of (x ∷ xs) h = cc
+
+pub nothing_lost : (ps : List (List ℕ × List ℕ)) → loses ps ≡ false → all_of ps ≡ kept_of ps
+nothing_lost [] h = refl
+nothing_lost (p ∷ ps) h =
+    let two = or_neither (has_bytes p.1) (loses ps) h in
+    ap (λ (v : List ℕ). (p.0 ++ v) ++ all_of ps) (no_bytes_of p.1 two.0) ∙ ap (λ (v : List ℕ). v ++ all_of ps) (append-nil p.0) ∙ ap (λ (v : List ℕ). p.0 ++ v) (nothing_lost ps two.1)
 
 -- bytes are lost only for want of memory
 pub no_cause : (b c : Bool) → c ≡ false → (b ≡ true → c ≡ true) → b ≡ false

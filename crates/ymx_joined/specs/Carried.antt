@@ -1,46 +1,16 @@
 -- What two tunnels carry between the devices of their streams (this project's own).
-use Rattle.std.specs.Prelude.{ℕ, ◌≡◌, ◌++◌, ◌∷◌, List, [], true, false, None, Some, IfSome}
+use Rattle.std.specs.Prelude.{ℕ, ◌≡◌, ◌++◌, List, true, false, None, Some, IfSome}
 use Rattle.std.specs.Io.KnownBytes.{Appends, Consumes}
-use Rattle.ymx_machine.specs.declared.types.Side.{Side}
-use Rattle.ymx_machine.specs.declared.types.Side.TheVariants.{A, B}
 use Rattle.ymx_machine.specs.shared.Events.{Reply}
 use Rattle.ymx_model.specs.session.Events.{Event}
 use Rattle.ymx_model.specs.declared.types.Role.TheVariants.{Client, Server}
-use Rattle.ymx_model.specs.session.Sessions.{Session, new_session}
+use Rattle.ymx_model.specs.session.Sessions.{new_session}
 use Rattle.ymx_headline.specs.Laws.{AreGood}
 use Rattle.ymx_engine.specs.Devices.{Seen}
-use Rattle.ymx_engine.specs.Engines.{Engine}
 use Rattle.ymx_engine.specs.Events.{taken, given, has_end, has_finish}
 use Rattle.ymx_engine.specs.Lines.{Trades, IsIdle, Life}
 use Rattle.ymx_engine.specs.Tunnels.{look}
-use Rattle.ymx_joined.specs.Pairs.{Pair, Turn, IsTunnelTurn, pair_of, events_at_a, events_at_b}
-
--- The engines of two tunnels and the pipes between them, and what is seen of the device of each stream at both.
-pub record TunnelPair : Type 0 where
-  pub pair : Pair
-  pub lines_a : List (ℕ × Seen)
-  pub lines_b : List (ℕ × Seen)
-
--- two tunnels of these sessions, with no connection, and empty pipes
-abbrev pub tunnels_of : Session → Session → TunnelPair
-tunnels_of s t = record { pair = pair_of s t; lines_a = []; lines_b = [] }
-
--- A tunnel made any number of calls, at which these events happened. Its wire gave the front of the pipe `from`, and put
--- what it took behind the bytes of the pipe `to`. It may also have failed, or said that no more bytes come.
-pub record Works (es : List (Event × Reply)) (old new : Engine) (lines lines_new : List (ℕ × Seen)) (to from to_new from_new : List ℕ) : Type 0 where
-  pub turn : IsTunnelTurn es old new to from to_new from_new
-  pub begins : turn.before.lines ≡ lines
-  pub ends : turn.after.lines ≡ lines_new
-
--- one side's tunnel works, and the other's stays as it was
-abbrev pub OneWorks : Side → List (Event × Reply) → TunnelPair → TunnelPair → Type 0
-OneWorks A es p q = Works es p.pair.a q.pair.a p.lines_a q.lines_a p.pair.ab p.pair.ba q.pair.ab q.pair.ba × (q.pair.b ≡ p.pair.b) × (q.lines_b ≡ p.lines_b)
-OneWorks B es p q = Works es p.pair.b q.pair.b p.lines_b q.lines_b p.pair.ba p.pair.ab q.pair.ba q.pair.ab × (q.pair.a ≡ p.pair.a) × (q.lines_a ≡ p.lines_a)
-
--- now one, now the other, from p to q
-abbrev pub BothWork : List Turn → TunnelPair → TunnelPair → Type 0
-BothWork [] p q = q ≡ p
-BothWork (t ∷ ts) p q = (next : TunnelPair) × OneWorks t.side t.events p next × BothWork ts next q
+use Rattle.ymx_joined.specs.Tunnels.{TunnelPair, Turn, tunnels_of, BothWork, events_at_a, events_at_b}
 
 -- What a stream gave at one end is a beginning of what it took at the other. Where its end was read there, it is all of
 -- it, and the stream was finished at the other.

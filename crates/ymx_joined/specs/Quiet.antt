@@ -25,8 +25,7 @@ use Rattle.ymx_engine.specs.Marks.{has_work}
 use Rattle.ymx_engine.specs.Served.{NoneGives}
 use Rattle.ymx_engine.specs.Turns.{known_as}
 use Rattle.ymx_engine.specs.Tunnels.{Tunnel, view_of, Serving}
-use Rattle.ymx_joined.specs.Pairs.{Pair, Turn, events_at_a, events_at_b}
-use Rattle.ymx_joined.specs.Carried.{TunnelPair, tunnels_of, BothWork}
+use Rattle.ymx_joined.specs.Tunnels.{TunnelPair, Turn, tunnels_of, BothWork, events_at_a, events_at_b}
 
 -- Nothing is under way from one engine to another over this pipe: nothing of the one is due, no byte waits for its wire, in
 -- the pipe, or to be fed to the other, and both sessions run.
@@ -38,7 +37,7 @@ pub record IsQuietWay (from to : Engine) (pipe : List ℕ) : Type 0 where
   pub to_runs : is_running to.session.status ≡ true
 
 -- both ways
-abbrev pub AreQuiet : Pair → Type 0
+abbrev pub AreQuiet : TunnelPair → Type 0
 AreQuiet p = IsQuietWay p.a p.b p.ab × IsQuietWay p.b p.a p.ba
 
 -- the stream was finished, and this was not refused
@@ -86,7 +85,7 @@ was_kept id es = was_given id es && not (was_left id es)
 
 -- A stream of two sessions. Where the way to one of them is quiet, and it has the stream, all has come that the stream took
 -- at the other end. Where both ways are, both have it if both were given it, and neither left it.
-pub record HasArrived (id : ℕ) (at_a at_b : List (Event × Reply)) (p : Pair) : Type 0 where
+pub record HasArrived (id : ℕ) (at_a at_b : List (Event × Reply)) (p : TunnelPair) : Type 0 where
   pub to_b : IsQuietWay p.a p.b p.ab → stream_fault id p.b.session ≡ None → HasCome id at_a at_b p.b.session
   pub to_a : IsQuietWay p.b p.a p.ba → stream_fault id p.a.session ≡ None → HasCome id at_b at_a p.a.session
   pub both : AreQuiet p → was_kept id at_a ≡ true → was_kept id at_b ≡ true → (stream_fault id p.a.session ≡ None) × (stream_fault id p.b.session ≡ None)
@@ -97,7 +96,7 @@ abbrev pub AllHasCome : List Turn → Type 0
 AllHasCome ts =
     (window_a first_a window_b first_b : ℕ) (q : TunnelPair) → AreGood window_a first_a window_b first_b →
     BothWork ts (tunnels_of (new_session Client window_a first_a) (new_session Server window_b first_b)) q →
-    (id : ℕ) → HasArrived id (events_at_a ts) (events_at_b ts) q.pair
+    (id : ℕ) → HasArrived id (events_at_a ts) (events_at_b ts) q
 
 -- ---- their devices
 
@@ -129,7 +128,7 @@ IsDelivered id from to here = (c : Connection) → stream_fault id here.engine.s
 abbrev pub AllIsDelivered : List Turn → Type 0
 AllIsDelivered ts =
     (window_a first_a window_b first_b : ℕ) (q : TunnelPair) (a b : Tunnel) → AreGood window_a first_a window_b first_b →
-    BothWork ts (tunnels_of (new_session Client window_a first_a) (new_session Server window_b first_b)) q → a.engine ≡ q.pair.a → b.engine ≡ q.pair.b →
-    IsAtRest a → IsAtRest b → q.pair.ab ≡ [] → q.pair.ba ≡ [] →
-    AreQuiet q.pair × ((id : ℕ) → IsDelivered id (events_at_a ts) (events_at_b ts) b × IsDelivered id (events_at_b ts) (events_at_a ts) a)
+    BothWork ts (tunnels_of (new_session Client window_a first_a) (new_session Server window_b first_b)) q → a.engine ≡ q.a → b.engine ≡ q.b →
+    IsAtRest a → IsAtRest b → q.ab ≡ [] → q.ba ≡ [] →
+    AreQuiet q × ((id : ℕ) → IsDelivered id (events_at_a ts) (events_at_b ts) b × IsDelivered id (events_at_b ts) (events_at_a ts) a)
     × NoneGives (view_of a) × NoneGives (view_of b)

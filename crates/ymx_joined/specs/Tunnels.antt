@@ -1,18 +1,94 @@
--- Two engines, the events of each as a history, and both as one run (this project's own).
-use Rattle.std.specs.Prelude.{ℕ, ◌+◌, List, [], ◌∷◌}
-use Rattle.ymx_model.specs.session.Events.{Event}
+-- Two tunnels over two pipes in memory, what happened at each, and both as one run (this project's own).
+use Rattle.std.specs.Prelude.{ℕ, ◌≡◌, ◌+◌, ◌++◌, ◌∷◌, List, [], Some}
+use Rattle.ymx_machine.specs.declared.types.Side.{Side}
+use Rattle.ymx_machine.specs.declared.types.Side.TheVariants.{A, B}
+use Rattle.ymx_machine.specs.declared.types.Step.{Step}
+use Rattle.ymx_machine.specs.shared.Events.{Reply}
 use Rattle.ymx_model.specs.declared.types.Entry.{Entry}
 use Rattle.ymx_model.specs.declared.types.Role.TheVariants.{Client, Server}
-use Rattle.ymx_machine.specs.shared.Events.{Reply}
-use Rattle.ymx_machine.specs.declared.types.Step.{Step}
+use Rattle.ymx_model.specs.session.Events.{Event}
 use Rattle.ymx_model.specs.session.Sessions.{Session, new_session}
 use Rattle.ymx_model.specs.session.Emissions.{in_turn}
 use Rattle.ymx_headline.specs.Laws.{AreGood}
-use Rattle.ymx_headline.specs.audit.Joints.{IsJointOrder}
 use Rattle.ymx_headline.specs.audit.Told.{IsOneRun}
-use Rattle.ymx_engine.specs.Events.{Happen}
+use Rattle.ymx_engine.specs.Devices.{Seen}
+use Rattle.ymx_engine.specs.Engines.{Engine}
+use Rattle.ymx_engine.specs.Runs.{Runs}
+use Rattle.ymx_engine.specs.Tunnels.{Tunnel}
 
--- the events of an engine as entries, whose positions go up by one; one caller made them all
+-- The engines of two tunnels, the bytes that A's wire took and B's has not given, those of the other way, and what is seen
+-- of the device of each stream at both.
+pub record TunnelPair : Type 0 where
+  pub a : Engine
+  pub b : Engine
+  pub ab : List ℕ
+  pub ba : List ℕ
+  pub lines_a : List (ℕ × Seen)
+  pub lines_b : List (ℕ × Seen)
+
+-- an engine of this session, for whose wire no byte waits
+abbrev pub engine_of : Session → Engine
+engine_of s = record { session = s; outgoing = []; incoming = [] }
+
+-- two tunnels of these sessions, with no connection, and empty pipes
+abbrev pub tunnels_of : Session → Session → TunnelPair
+tunnels_of s t = record { a = engine_of s; b = engine_of t; ab = []; ba = []; lines_a = []; lines_b = [] }
+
+-- ---- a turn of one side, at which these events happened; it reads the pipe `from`, and writes to the pipe `to`
+
+-- A tunnel made any number of calls. Its wire gave the front of the pipe `from`, and put what it took behind the bytes of the
+-- pipe `to`. It may also have failed, or said that no more bytes come.
+pub record Works (es : List (Event × Reply)) (old new : Engine) (lines lines_new : List (ℕ × Seen)) (to from to_new from_new : List ℕ) : Type 0 where
+  pub before : Tunnel
+  pub after : Tunnel
+  pub runs : Runs before after
+  pub events : es ≡ runs.events
+  pub engine : before.engine ≡ old
+  pub engine_new : after.engine ≡ new
+  pub begins : before.lines ≡ lines
+  pub ends : after.lines ≡ lines_new
+  pub left : before.wire.left ≡ Some from
+  pub left_new : after.wire.left ≡ Some from_new
+  pub had : before.wire.had ≡ Some to
+  pub had_new : after.wire.had ≡ Some to_new
+
+-- ---- the turns of both
+
+-- whose turn, and what happened at it
+pub record Turn : Type 0 where
+  pub side : Side
+  pub events : List (Event × Reply)
+
+-- one side's tunnel works, and the other's stays as it was
+abbrev pub OneWorks : Side → List (Event × Reply) → TunnelPair → TunnelPair → Type 0
+OneWorks A es p q = Works es p.a q.a p.lines_a q.lines_a p.ab p.ba q.ab q.ba × (q.b ≡ p.b) × (q.lines_b ≡ p.lines_b)
+OneWorks B es p q = Works es p.b q.b p.lines_b q.lines_b p.ba p.ab q.ba q.ab × (q.a ≡ p.a) × (q.lines_a ≡ p.lines_a)
+
+-- now one, now the other, from p to q
+abbrev pub BothWork : List Turn → TunnelPair → TunnelPair → Type 0
+BothWork [] p q = q ≡ p
+BothWork (t ∷ ts) p q = (next : TunnelPair) × OneWorks t.side t.events p next × BothWork ts next q
+
+abbrev pub at_a : Side → List (Event × Reply) → List (Event × Reply)
+at_a A es = es
+at_a B es = []
+
+abbrev pub at_b : Side → List (Event × Reply) → List (Event × Reply)
+at_b A es = []
+at_b B es = es
+
+-- all that happened at A, and at B
+abbrev pub events_at_a : List Turn → List (Event × Reply)
+events_at_a [] = []
+events_at_a (t ∷ ts) = at_a t.side t.events ++ events_at_a ts
+
+abbrev pub events_at_b : List Turn → List (Event × Reply)
+events_at_b [] = []
+events_at_b (t ∷ ts) = at_b t.side t.events ++ events_at_b ts
+
+-- ---- both as one run
+
+-- the events of a tunnel as entries, whose positions go up by one; one caller made them all
 abbrev pub entries_from : ℕ → List (Event × Reply) → List Entry
 entries_from at [] = []
 entries_from at (e ∷ es) = record { position = at; seat = 0; event = e.0; reply = e.1 } ∷ entries_from (at + 1) es
@@ -20,11 +96,10 @@ entries_from at (e ∷ es) = record { position = at; seat = 0; event = e.0; repl
 abbrev pub entries : List (Event × Reply) → List Entry
 entries events = entries_from 0 events
 
--- Where A's events lead from a client's new session to s, B's from a server's to t, and they have a joint order with
--- these steps, both are one run of the world and of the queue machine.
-abbrev pub AreJoined : List (Event × Reply) → List (Event × Reply) → List Step → Type 0
-AreJoined events_a events_b steps =
-    (window_a first_a window_b first_b : ℕ) (s t : Session) → AreGood window_a first_a window_b first_b →
-    Happen events_a (new_session Client window_a first_a) s → Happen events_b (new_session Server window_b first_b) t →
-    IsJointOrder (entries events_a) (entries events_b) steps →
-    IsOneRun in_turn (entries events_a) (entries events_b) steps window_a first_a window_b first_b s t
+-- All that happened at two tunnels of new sessions, a client's and a server's, over two pipes is one run of the world and of
+-- the queue machine, whatever they did, in whatever order.
+abbrev pub AreOneTunnelRun : List Turn → Type 0
+AreOneTunnelRun ts =
+    (window_a first_a window_b first_b : ℕ) (q : TunnelPair) → AreGood window_a first_a window_b first_b →
+    BothWork ts (tunnels_of (new_session Client window_a first_a) (new_session Server window_b first_b)) q →
+    (steps : List Step) × IsOneRun in_turn (entries (events_at_a ts)) (entries (events_at_b ts)) steps window_a first_a window_b first_b q.a.session q.b.session

@@ -4,15 +4,29 @@
 ghost use Rattle.std.specs.Prelude.{ℕ, ◌≡◌, ◌++◌, ◌∷◌, List, [], None, Some, true, false};
 ghost use Rattle.ymx_model.specs.session.Events.{Event};
 ghost use Rattle.ymx_model.specs.session.Sessions.{Session, is_running};
+ghost use Rattle.ymx_model.specs.session.Emissions.{in_turn};
+ghost use Rattle.ymx_model.specs.session.Histories.{Replays};
 ghost use Rattle.ymx_machine.specs.shared.Events.{Reply};
 ghost use Rattle.ymx_session.specs.Replies.{stream_fault};
 ghost use Rattle.ymx_session.specs.Streams.{waiting};
 ghost use Rattle.ymx_engine.specs.Devices.{Seen};
 ghost use Rattle.ymx_engine.specs.Events.{lacks_memory};
+ghost use Rattle.ymx_engine.specs.Runs.{Runs};
+ghost use Rattle.ymx_engine.specs.Tunnels.{Tunnel};
 ghost use Rattle.ymx_engine.specs.Lines.{Trades, Change, Lives, sinces};
-ghost use Rattle.ymx_joined.specs.Pairs.{Turn};
+ghost use Rattle.ymx_joined.specs.Tunnels.{Turn, entries, AreOneTunnelRun};
 ghost use Rattle.ymx_joined.specs.Carried.{Carries, HadOne, IsPassedOn, TunnelsCarry};
 ghost use Rattle.ymx_joined.specs.Quiet.{HasCome, NextRead, AllHasCome, IsAllPassedOn, AllIsDelivered};
+
+/// Two tunnels, a client's and a server's, over two pipes in memory, are one run of the queue machine. They make any calls,
+/// in any order; their devices and the pipes answer as they like, and may fail. What one's wire took and the other's has not
+/// given waits in the pipe. Then all that happened at both has a joint order, so that the replies are the answers of a run of
+/// these two sessions, and the queue machine has a run that goes alike. What happened at each is a history of its session, as
+/// the audit reads one.
+pub fn tunnels_are_one_run()
+    ensures one_run { (turns : List Turn) → AreOneTunnelRun turns }
+    ensures history { (old new : Tunnel) → (runs : Runs old new) → Replays in_turn (entries runs.events) old.engine.session new.engine.session }
+{}
 
 /// Two tunnels, a client's and a server's, over two pipes in memory. They make any calls, in any order; their devices and
 /// the pipes answer as they like, and may fail. Then what each stream gave at one end is a beginning of what it took at the

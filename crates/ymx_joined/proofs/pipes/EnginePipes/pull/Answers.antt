@@ -1,9 +1,0 @@
-use Rattle.ymx_machine.specs.declared.types.Side.TheVariants.{A, B}
-use Rattle.ymx_joined.proofs.Driving.{wire_turn_at, read_at_client, read_at_server}
-use Rattle.ymx_joined.proofs.pipes.EnginePipes.pull.Goals as goal
-
-pub returns-in-A : goal.returns-in-A
-returns-in-A c = wire_turn_at A _ _ _ _ c.in-A.is c.self.view_is (read_at_client _ _ _ _ _ _ _ c.pull.ensures)
-
-pub returns-in-B : goal.returns-in-B
-returns-in-B c = wire_turn_at B _ _ _ _ c.in-B.is c.self.view_is (read_at_server _ _ _ _ _ _ _ c.pull_round.ensures)

@@ -1,5 +1,0 @@
-use Rattle.ymx_joined.proofs.Turns.{read_noted}
-use Rattle.ymx_joined.proofs.pipes.read.Goals as goal
-
-pub returns : goal.returns
-returns c = read_noted _ _ _ _ _ _ _ _ c.note_wire.ensures.engine c.read_wire.ensures.moved
