@@ -26,7 +26,7 @@ async def answer(connection, reader, writer):
         except asyncio.IncompleteReadError as incomplete:
             word = incomplete.partial
         if word == b"reset":
-            writer.transport.abort()
+            writer.abort()
             return
         if word == b"break":
             writer.write(bytes(1000))
@@ -49,12 +49,7 @@ async def answer(connection, reader, writer):
 
 
 async def serve_one(connection):
-    running = set()
-    while True:
-        reader, writer = await connection.accept_stream()
-        task = asyncio.ensure_future(answer(connection, reader, writer))
-        running.add(task)
-        task.add_done_callback(running.discard)
+    await connection.serve_streams(lambda reader, writer: answer(connection, reader, writer))
 
 
 async def serve():
@@ -117,7 +112,7 @@ async def reset(connection):
 async def count(connection):
     reader, writer = await ask(connection, b"some bytes")
     await reader.readexactly(10)
-    writer.transport.abort()
+    writer.abort()
     for _ in range(100):
         reader, writer = await ask(connection, b"count")
         seen = await reader.read()

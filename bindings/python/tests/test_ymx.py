@@ -2,18 +2,15 @@
 import asyncio
 import os
 import unittest
-import warnings
 
 import ymx
+from both_sides import BothSides
 
 
 def exchange(one, other):
     """All that is due goes from one session to the other."""
     while data := one.emit():
         other.feed(data)
-
-
-warnings.simplefilter("ignore", ResourceWarning)  # streams that a test leaves open
 
 
 class SessionAlone(unittest.TestCase):
@@ -56,38 +53,23 @@ class SessionAlone(unittest.TestCase):
     def test_a_fault_breaks_the_session(self):
         self.server.feed(b"\x01" * 12)
         self.assertEqual(self.server.status(), ymx.BROKEN + 1)
+        self.assertEqual((ymx.fault_name(1), ymx.fault_name(9), ymx.fault_name(10)), ("B1", "B9", "UNKNOWN"))
+
+    def test_any_bytes_are_taken_from_anywhere_in_them(self):
+        for kind in bytes, bytearray, memoryview, lambda data: memoryview(bytearray(data)):
+            stream = self.client.open()
+            self.assertEqual(self.client.room(stream), ymx.LEAST_WINDOW)
+            self.assertEqual(self.client.write(stream, kind(b"-hello"), 1), 5)
+            self.assertEqual(self.client.write(stream, kind(b"x"), 1), 0)
+            with self.assertRaises(ValueError):
+                self.client.write(stream, kind(b"x"), 2)
+            self.assertEqual(self.client.room(stream), ymx.LEAST_WINDOW - 5)
+            data = self.client.emit()
+            self.assertEqual(self.server.feed(kind(b"---" + data), 3), len(data))
+            self.assertEqual((self.server.accept(), self.server.read(stream)), (stream, b"hello"))
 
 
-class OverTCP(unittest.IsolatedAsyncioTestCase):
-    async def asyncSetUp(self):
-        accepted = asyncio.get_running_loop().create_future()
-
-        async def serve(connection):
-            accepted.set_result(connection)
-            await connection.wait_closed()
-
-        self.listener = await ymx.start_server(serve, "127.0.0.1", 0)
-        self.client = await ymx.open_connection(*self.listener.sockets[0].getsockname())
-        self.server = await accepted
-
-    async def asyncTearDown(self):
-        self.client.close()
-        self.server.close()
-        self.listener.close()
-        await self.client.wait_closed()
-        await self.server.wait_closed()
-
-    async def pair(self):
-        near = await self.client.open_stream()
-        return near, await self.server.accept_stream()
-
-    async def gone(self):
-        for _ in range(500):
-            if self.client.stream_count == 0 and self.server.stream_count == 0:
-                return
-            await asyncio.sleep(0.01)
-        self.fail("a stream is still there")
-
+class OverTCP(BothSides):
     async def test_both_ways_at_once(self):
         (near_reader, near), (far_reader, far) = await self.pair()
         texts = os.urandom(1500000), os.urandom(1500000)
@@ -143,13 +125,13 @@ class OverTCP(unittest.IsolatedAsyncioTestCase):
             await self.client.open_stream()
 
     async def test_open_waits_where_256_are_not_acknowledged(self):
-        for _ in range(256):
-            await self.client.open_stream()
+        kept = [await self.client.open_stream() for _ in range(256)]
         opening = asyncio.ensure_future(self.client.open_stream())
         await asyncio.sleep(0.05)
         self.assertFalse(opening.done())
-        await self.server.accept_stream()
+        accepted = await self.server.accept_stream()
         await opening
+        self.assertEqual((len(kept), len(accepted)), (256, 2))
 
     async def test_go_away(self):
         self.server.go_away()
@@ -171,7 +153,7 @@ class OverTCP(unittest.IsolatedAsyncioTestCase):
 
     async def test_a_fault_of_the_peers_ends_the_connection(self):
         self.client._transport.write(b"\x09" * 12)
-        with self.assertRaisesRegex(ymx.ConnectionLost, "rule 1 of yamux"):
+        with self.assertRaisesRegex(ymx.ConnectionLost, r"rule 1 of yamux \(B1\)"):
             await self.server.accept_stream()
 
 

@@ -1,24 +1,56 @@
 """The declarations of ymx.h, which says what each call does. The library is the file that YMX_LIBRARY names, or is looked
-for as the system does."""
+for as the system does, by the name of the one major version that this package knows."""
 import ctypes
-import ctypes.util
 import os
-from typing import Any
+from typing import Any, Tuple, Union
 
 LEAST_WINDOW, WIDEST_WINDOW = 262144, 16777216
 MOST_TOUCHED = 1024
-WAIT, OPENS_PENDING, RESET = -12, -7, -3
+WAIT, OPENS_PENDING, PINGS_PENDING, LOST, RESET = -12, -7, -10, -4, -3
 
-_library = ctypes.CDLL(os.environ.get("YMX_LIBRARY") or ctypes.util.find_library("ymx") or "libymx.so.0")
-_pointer, _id, _bytes, _size = ctypes.c_void_p, ctypes.c_uint32, ctypes.c_char_p, ctypes.c_size_t
+# libymx.so.0 keeps its calls in all versions 0.x, and 0.2 is the first that has those below.
+_NAME, _MAJOR, _LEAST_MINOR = "libymx.so.0", 0, 2
+
+Bytes = Union[bytes, bytearray, memoryview]
+
+
+def _loaded() -> ctypes.CDLL:
+    named = os.environ.get("YMX_LIBRARY")
+    try:
+        return ctypes.CDLL(named or _NAME)
+    except OSError as error:
+        if named:
+            raise ImportError(f"YMX_LIBRARY names {named}, which can't be loaded: {error}") from None
+        raise ImportError(
+            f"{_NAME} isn't found. Build and install it by `c/build.sh install` and `ldconfig`, or let the environment"
+            f" variable YMX_LIBRARY name the file, as /usr/local/lib/{_NAME} ({error})"
+        ) from None
+
+
+_library = _loaded()
+_pointer, _id, _bytes, _size = ctypes.c_void_p, ctypes.c_uint32, ctypes.c_void_p, ctypes.c_size_t
 _place = ctypes.POINTER(ctypes.c_void_p)
 
 
 def _declared(name: str, *arguments: Any, answers: Any = ctypes.c_int64) -> Any:
-    call = getattr(_library, "ymx_" + name)
+    try:
+        call = getattr(_library, "ymx_" + name)
+    except AttributeError:
+        raise ImportError(f"{_library._name} has no ymx_{name}: YMX_LIBRARY is to name a {_NAME} of version 0.2") from None
     call.argtypes, call.restype = arguments, answers
     return call
 
+
+_version = _declared("version", answers=ctypes.c_char_p)
+
+
+def version() -> str:
+    """The library's version, as "0.2.0"."""
+    return str(_version().decode())
+
+
+if not (version().split(".")[0] == str(_MAJOR) and int(version().split(".")[1]) >= _LEAST_MINOR):
+    raise ImportError(f"{_library._name} is version {version()} of libymx: YMX_LIBRARY is to name a {_NAME} of version 0.2")
 
 new = _declared("new", ctypes.c_int, ctypes.c_uint32, ctypes.c_uint32, _place)
 free = _declared("free", _pointer, answers=None)
@@ -30,6 +62,7 @@ open_ = _declared("open", _pointer)
 accept = _declared("accept", _pointer)
 offered_count = _declared("offered_count", _pointer)
 write = _declared("write", _pointer, _id, _bytes, _size)
+room = _declared("room", _pointer, _id)
 read = _declared("read", _pointer, _id, _pointer, _size)
 is_at_end = _declared("is_at_end", _pointer, _id)
 has_ended = _declared("has_ended", _pointer, _id)
@@ -55,8 +88,8 @@ touched_ids = _declared("touched_ids", _pointer, ctypes.POINTER(_id), _size)
 touched_is_all = _declared("touched_is_all", _pointer)
 touched_has_pong = _declared("touched_has_pong", _pointer)
 touched_clear = _declared("touched_clear", _pointer)
-_error_name = _declared("error_name", ctypes.c_int64, answers=_bytes)
-_version = _declared("version", answers=_bytes)
+_error_name = _declared("error_name", ctypes.c_int64, answers=ctypes.c_char_p)
+_fault_name = _declared("fault_name", ctypes.c_int64, answers=ctypes.c_char_p)
 
 
 class Refused(Exception):
@@ -65,7 +98,10 @@ class Refused(Exception):
     def __init__(self, code: int) -> None:
         self.code = code
         self.name: str = _error_name(code).decode()
-        super().__init__(self.name)
+        super().__init__(code)
+
+    def __str__(self) -> str:
+        return self.name
 
 
 def good(answer: int) -> int:
@@ -75,6 +111,17 @@ def good(answer: int) -> int:
     return answer
 
 
-def version() -> str:
-    """The library's version, as "0.2.0"."""
-    return str(_version().decode())
+def lent(data: Bytes, start: int) -> Tuple[Any, int, bytes]:
+    """Where these bytes lie from `start` on, how many they are, and what has to be kept for as long as they are used.
+    No byte is copied if they are of the type bytes."""
+    kept = data if isinstance(data, bytes) else bytes(data)
+    if not 0 <= start <= len(kept):
+        raise ValueError(f"there is no byte {start} of {len(kept)}")
+    place = kept if start == 0 else (ctypes.cast(ctypes.c_char_p(kept), _pointer).value or 0) + start
+    return place, len(kept) - start, kept
+
+
+def fault_name(fault: int) -> str:
+    """The name of a fault of the peer's, "B1" to "B9" as docs/PROTOCOL.md has it; "UNKNOWN" of any other number. Of a
+    session that broke it is fault_name(status - BROKEN)."""
+    return str(_fault_name(fault).decode())

@@ -1,74 +1,126 @@
 """A session over asyncio. Each stream is a transport of its own, so its two ends are asyncio's StreamReader and
 StreamWriter."""
 import asyncio
+import os
 import ssl
-from collections import deque
-from typing import Any, Awaitable, Callable, Deque, Dict, List, Optional, Tuple, Union
+from typing import Any, Awaitable, Callable, Dict, List, Optional, Set, Tuple, Type, Union
 
 from . import _library
 from ._library import LEAST_WINDOW, Refused
+from .errors import ConnectionLost, StreamReset, again
 from .session import BROKEN, CLIENT, RUNNING, SERVER, Session
+from .streams import StreamReader, StreamTransport, StreamWriter
 
-Stream = Tuple[asyncio.StreamReader, asyncio.StreamWriter]
-_HIGH = 65536
-
-
-class StreamReset(ConnectionResetError):
-    """Either side has reset the stream."""
-
-
-class ConnectionLost(ConnectionError):
-    """The connection has ended before the stream."""
+Stream = Tuple[StreamReader, StreamWriter]
+Serve = Callable[["Connection"], Awaitable[None]]
+Answer = Callable[[StreamReader, StreamWriter], Awaitable[None]]
+LINGER = 10.0
 
 
 async def open_connection(
-    host: str, port: int, *, window: int = LEAST_WINDOW, tls: Union[bool, ssl.SSLContext, None] = None, **how: Any
+    host: str,
+    port: int,
+    *,
+    window: int = LEAST_WINDOW,
+    linger: float = LINGER,
+    tls: Union[bool, ssl.SSLContext, None] = None,
+    **how: Any,
 ) -> "Connection":
     """Connects, and begins the side that called. `how` is for `loop.create_connection`."""
     loop = asyncio.get_running_loop()
-    _, connection = await loop.create_connection(lambda: Connection(CLIENT, window), host, port, ssl=tls, **how)
+    _, connection = await loop.create_connection(
+        lambda: Connection(CLIENT, window, linger=linger), host, port, ssl=tls, **how
+    )
     return connection
 
 
 async def start_server(
-    serve: Callable[["Connection"], Awaitable[None]],
+    serve: Serve,
     host: Optional[str],
     port: int,
     *,
     window: int = LEAST_WINDOW,
+    linger: float = LINGER,
     tls: Optional[ssl.SSLContext] = None,
     **how: Any,
 ) -> asyncio.AbstractServer:
-    """Listens, and runs `serve` for each connection, as the side that was called. `how` is for `loop.create_server`."""
+    """Listens, and runs `serve(connection)` for each connection, as the side that was called. Where it returns, the
+    connection is closed as behind `async with`. `how` is for `loop.create_server`."""
     loop = asyncio.get_running_loop()
-    return await loop.create_server(lambda: Connection(SERVER, window, serve), host, port, ssl=tls, **how)
+    return await loop.create_server(
+        lambda: Connection(SERVER, window, serve, linger=linger), host, port, ssl=tls, **how
+    )
+
+
+async def start_stream_server(
+    answer: Answer, host: Optional[str], port: int, **how: Any
+) -> asyncio.AbstractServer:
+    """Listens, and runs `answer(reader, writer)` in a task of its own for each stream of each connection, as
+    `asyncio.start_server` does for each connection. `how` is for `start_server`."""
+    return await start_server(lambda connection: connection.serve_streams(answer), host, port, **how)
+
+
+class _Waiters:
+    """Those who wait for something, which each of them then looks for."""
+
+    def __init__(self, loop: asyncio.AbstractEventLoop) -> None:
+        self._loop = loop
+        self._futures: Set["asyncio.Future[None]"] = set()
+
+    async def wait(self) -> None:
+        future = self._loop.create_future()
+        self._futures.add(future)
+        try:
+            await future
+        finally:
+            self._futures.discard(future)
+
+    def wake(self) -> None:
+        for future in self._futures:
+            if not future.done():
+                future.set_result(None)
+
+    def __len__(self) -> int:
+        return len(self._futures)
 
 
 class Connection(asyncio.Protocol):
-    """One side of a connection. It belongs to one event loop. `async with` closes it."""
+    """One side of a connection. It belongs to one event loop.
+
+    `async with` leaves it in good order: all that was written to its streams is sent, as the peer grants credit for it, and
+    the peer has said that it came. Where nothing goes on for `linger` seconds, the connection is broken off, and
+    ConnectionLost is raised. Behind an exception nothing waits for credit; behind a cancellation nothing waits at all."""
 
     def __init__(
-        self, role: int, window: int = LEAST_WINDOW, serve: Optional[Callable[["Connection"], Awaitable[None]]] = None
+        self, role: int, window: int = LEAST_WINDOW, serve: Optional[Serve] = None, *, linger: float = LINGER
     ) -> None:
         self.session = Session(role, window)
+        self.linger = linger
         self._loop = asyncio.get_running_loop()
         self._serve = serve
-        self._task: Optional["asyncio.Task[None]"] = None
+        self._tasks: Set["asyncio.Task[None]"] = set()  # held here: the loop holds them weakly
         self._transport: Optional[asyncio.Transport] = None
-        self._streams: Dict[int, _StreamTransport] = {}
-        self._waiting: Deque["asyncio.Future[None]"] = deque()  # for a stream to accept, or to be allowed to open one
+        self._streams: Dict[int, StreamTransport] = {}
+        self._accepting, self._opening = _Waiters(self._loop), _Waiters(self._loop)
+        self._moving = _Waiters(self._loop)  # for bytes that streams have unsent
         self._pings: Dict[int, "asyncio.Future[None]"] = {}
         self._unfed = b""
         self._paused = False  # the transport has taken enough
+        self._pours = False  # it takes what is due all the same, as it ends
         self._planned = False  # a call of _send is planned
-        self._over: Optional[Exception] = None
+        self._over: Optional[Exception] = None  # why nothing goes on for the user
+        self._is_closed_here = False
+        self._farewell: Optional[int] = None  # the ping behind the last byte
+        self._is_short = False  # bytes that were written were not sent when it ended
+        self._gives_up = False  # nothing went on for too long
+        self._watching: Optional[asyncio.TimerHandle] = None
         self._closed: "asyncio.Future[None]" = self._loop.create_future()
 
     # ---- for the user
 
     async def open_stream(self) -> Stream:
         """Opens a stream. It waits while 256 are not acknowledged. Refused("PEER_AWAY") where the peer takes no more,
-        Refused("TOO_MANY") where 1,024 are there."""
+        Refused("TOO_MANY") where 1,024 are there. ConnectionLost once the connection has ended."""
         while True:
             self._check()
             try:
@@ -76,24 +128,37 @@ class Connection(asyncio.Protocol):
             except Refused as refused:
                 if refused.code != _library.OPENS_PENDING:
                     raise
-            await self._wait()
+            await self._opening.wait()
 
     async def accept_stream(self) -> Stream:
-        """Waits for a stream of the peer's. ConnectionLost once the connection has ended."""
+        """Waits for a stream of the peer's. Once the peer has hung up, or has broken a rule, it still gives the streams
+        that came before, and then raises ConnectionLost. Closed here, it raises ConnectionLost at once."""
         while True:
-            self._check()
-            stream = self.session.accept()
+            if self._is_closed_here:
+                self._check()
+            stream = self.session.accept() if self.session.offered() > 0 else None
             if stream is not None:
                 return self._stream(stream)
-            await self._wait()
+            self._check()
+            await self._accepting.wait()
+
+    async def serve_streams(self, answer: Answer) -> None:
+        """Runs `answer(reader, writer)` in a task of its own for each stream of the peer's, until the connection has
+        ended. The connection holds these tasks, and doesn't end them. Where one raises, or is cancelled, its stream is
+        reset, so that the peer never takes it for whole."""
+        try:
+            while True:
+                self._hold(self._answer(answer, *await self.accept_stream()))
+        except ConnectionLost:
+            pass
 
     async def ping(self) -> float:
         """Asks the peer for a sign of life, and returns how many seconds its answer took. Refused("PINGS_PENDING")
-        where 16 answers are awaited."""
+        where 16 answers are awaited, ConnectionLost where the connection ends before."""
         self._check()
         number, began = self.session.ping(), self._loop.time()
         future = self._pings[number] = self._loop.create_future()
-        self._plan()
+        self.plan()
         await asyncio.shield(future)
         return self._loop.time() - began
 
@@ -101,11 +166,21 @@ class Connection(asyncio.Protocol):
         """Takes no more streams of the peer's, and tells it so. Streams that are there go on."""
         self._check()
         self.session.go_away()
-        self._plan()
+        self.plan()
 
     def close(self) -> None:
-        """Sends what is due, and ends the connection and all its streams."""
+        """Ends the connection and all its streams for their users here. What the peer has granted credit for is still sent,
+        and the connection ends once the peer says that it came, or `linger` seconds have passed in which nothing went on.
+        To have all sent, leave the connection by `async with`."""
+        self._is_closed_here = True
         self._end(ConnectionLost("the connection was closed here"))
+
+    def abort(self) -> None:
+        """Ends the connection and all its streams at once. What is unsent is dropped."""
+        self._is_closed_here = True
+        self._end(ConnectionLost("the connection was broken off here"), is_at_once=True)
+        if self._transport is not None:
+            self._transport.abort()
 
     async def wait_closed(self) -> None:
         """Waits until the connection has ended."""
@@ -114,9 +189,8 @@ class Connection(asyncio.Protocol):
     async def __aenter__(self) -> "Connection":
         return self
 
-    async def __aexit__(self, *_: Any) -> None:
-        self.close()
-        await self.wait_closed()
+    async def __aexit__(self, kind: Optional[Type[BaseException]], *_: Any) -> None:
+        await self._leave(kind)
 
     @property
     def stream_count(self) -> int:
@@ -127,29 +201,77 @@ class Connection(asyncio.Protocol):
         """What the transport says of itself, as "peername"."""
         return default if self._transport is None else self._transport.get_extra_info(name, default)
 
+    # ---- tasks
+
+    def _hold(self, work: Any) -> None:
+        task = self._loop.create_task(work)
+        self._tasks.add(task)
+        task.add_done_callback(self._tasks.discard)
+
+    async def _run(self, serve: Serve) -> None:
+        kind: Optional[Type[BaseException]] = None
+        try:
+            await serve(self)
+        except ConnectionLost:
+            pass
+        except asyncio.CancelledError:
+            kind = asyncio.CancelledError
+            raise
+        except Exception as error:
+            kind = type(error)
+            self._say("serve has failed", error)
+        finally:
+            try:
+                await self._leave(kind)
+            except ConnectionLost:
+                pass
+
+    async def _answer(self, answer: Answer, reader: StreamReader, writer: StreamWriter) -> None:
+        try:
+            await answer(reader, writer)
+        except (StreamReset, ConnectionLost):
+            writer.abort()
+        except asyncio.CancelledError:
+            writer.abort()
+            raise
+        except Exception as error:
+            writer.abort()
+            self._say("the handler of a stream has failed", error)
+
+    def _say(self, what: str, error: Exception) -> None:
+        self._loop.call_exception_handler({"message": f"ymx: {what}", "exception": error, "protocol": self})
+
     # ---- asyncio calls these
 
     def connection_made(self, transport: asyncio.BaseTransport) -> None:
         assert isinstance(transport, asyncio.Transport)
         self._transport = transport
-        if self._serve is not None:
-            self._task = self._loop.create_task(self._run(self._serve))
-
-    async def _run(self, serve: Callable[["Connection"], Awaitable[None]]) -> None:
-        try:
-            await serve(self)
-        except ConnectionLost:
-            pass
-        finally:
-            self.close()
+        if self._over is not None:
+            transport.abort()
+        elif self._serve is not None:
+            self._hold(self._run(self._serve))
 
     def data_received(self, data: bytes) -> None:
         self._unfed += data
         self._feed()
 
+    def eof_received(self) -> Optional[bool]:
+        """The peer reads on until this side has ended, too: what is due still goes to it."""
+        self._pours = True
+        self._feed()
+        self._send()
+        self._lose(ConnectionLost("the connection has ended"))
+        return None
+
     def connection_lost(self, error: Optional[Exception]) -> None:
-        self._transport = None
-        self._end(ConnectionLost("the connection has ended" if error is None else str(error)))
+        transport, self._transport = self._transport, None
+        self._pours = True
+        if self._over is None:
+            self._unfed += _left_in(transport)
+            self._feed()
+        self._lose(ConnectionLost("the connection has ended" if error is None else str(error)))
+        if self._watching is not None:
+            self._watching.cancel()
         if not self._closed.done():
             self._closed.set_result(None)
 
@@ -159,24 +281,29 @@ class Connection(asyncio.Protocol):
     def resume_writing(self) -> None:
         self._paused = False
         self._send()
-        if self._unfed and self._over is None:
+        if self._unfed:
             self._feed()
 
     # ---- bytes come and go
 
     def _feed(self) -> None:
         """Feeds what came. What the session doesn't take waits until the transport takes some of its answers."""
-        while self._unfed and self._over is None:
-            taken = self.session.feed(self._unfed)
-            self._unfed = self._unfed[taken:]
+        start, data = 0, self._unfed
+        while start < len(data) and self.session.status() == RUNNING:
+            start += self.session.feed(data, start)
             self._look()
             self._send()
-            status = self.session.status()
-            if status != RUNNING:
-                self._end(ConnectionLost(f"the peer broke rule {status - BROKEN} of yamux"))
-            elif self._unfed and self._paused:
+            if self._paused and not self._pours:
                 break
-        if self._transport is not None and self._over is None:
+        status = self.session.status()
+        self._unfed = data[start:] if status == RUNNING else b""
+        if status > BROKEN:
+            fault = status - BROKEN
+            self._pours = True
+            self._end(ConnectionLost(f"the peer broke rule {fault} of yamux ({_library.fault_name(fault)})"))
+            self._send()
+            self._hang_up()
+        if self._transport is not None and not self._transport.is_closing():
             if self._unfed:
                 self._transport.pause_reading()
             else:
@@ -185,251 +312,187 @@ class Connection(asyncio.Protocol):
     def _look(self) -> None:
         """Looks at the streams that the bytes have touched, and at no other."""
         ids, has_pong = self.session.touched()
+        if has_pong:
+            self._collect_pongs()
+        if self._over is not None:
+            return
         for stream in list(self._streams) if ids is None else ids:
             transport = self._streams.get(stream)
             if transport is not None:
                 transport.touch()
-        if has_pong:
-            for number in list(self._pings):
-                if self.session.ponged(number):
-                    future = self._pings.pop(number)
-                    if not future.done():
-                        future.set_result(None)
-        self._wake()
+        if self._accepting and self.session.offered() > 0:
+            self._accepting.wake()
+        self._opening.wake()
+        self._moving.wake()
 
-    def _plan(self) -> None:
+    def _collect_pongs(self) -> None:
+        for number in list(self._pings):
+            if self.session.ponged(number):
+                future = self._pings.pop(number)
+                if not future.done():
+                    future.set_result(None)
+        if self._farewell is not None and self.session.ponged(self._farewell):
+            self._hang_up()
+
+    def plan(self) -> None:
         """Plans to send what is due, once this turn of the loop is over."""
         if not self._planned:
             self._planned = True
             self._loop.call_soon(self._send)
 
     def _send(self) -> None:
+        """Sends what is due, as far as the transport takes it. Without a transport it is dropped."""
         self._planned = False
-        while not self._paused and self._over is None and self._transport is not None:
+        while not self._paused or self._pours:
             data = self.session.emit()
-            if not data:
-                break
-            self._transport.write(data)
+            if data:
+                if self._transport is not None and not self._transport.is_closing():
+                    self._transport.write(data)
+            elif not self._is_leave_taken():
+                return
 
-    # ---- waiting
-
-    async def _wait(self) -> None:
-        future = self._loop.create_future()
-        self._waiting.append(future)
-        await future
-
-    def _wake(self) -> None:
-        for future in self._waiting:
-            if not future.done():
-                future.set_result(None)
-        self._waiting.clear()
-
-    def _check(self) -> None:
-        if self._over is not None:
-            raise self._over
+    def _is_leave_taken(self) -> bool:
+        """Asks the peer behind the last byte whether it has come, once the connection was closed here. Whether something
+        is due by this."""
+        if not self._is_closed_here or self._farewell is not None or self._transport is None:
+            return False
+        try:
+            self._farewell = self.session.ping()
+            return True
+        except Refused as refused:
+            if refused.code != _library.PINGS_PENDING:
+                self._hang_up()
+            return False
 
     # ---- streams
 
     def _stream(self, stream: int) -> Stream:
-        reader = asyncio.StreamReader(loop=self._loop)
-        protocol = asyncio.StreamReaderProtocol(reader, loop=self._loop)
-        transport = self._streams[stream] = _StreamTransport(self, stream, protocol)
-        protocol.connection_made(transport)
-        transport.touch()
-        self._plan()
-        return reader, asyncio.StreamWriter(transport, protocol, reader, self._loop)
+        transport = StreamTransport(self, stream, self._loop)
+        if self._over is None:
+            self._streams[stream] = transport
+        ends = transport.begin()
+        if self._over is None:
+            self.plan()
+        else:
+            transport.lose(again(self._over))
+        return ends
 
-    def _end(self, reason: Exception) -> None:
-        if self._over is not None:
-            return
-        self._paused = False  # the transport takes the rest, and sends it before it closes
-        self._send()
-        self._over = reason
-        for transport in list(self._streams.values()):
-            transport.lose(reason)
-        self._streams.clear()
-        for future in self._pings.values():
-            if not future.done():
-                future.set_exception(reason)
-        self._wake()
-        if self._transport is not None:
-            self._transport.close()
-
-
-class _StreamTransport(asyncio.Transport):
-    """One stream."""
-
-    def __init__(self, connection: Connection, stream: int, protocol: asyncio.StreamReaderProtocol) -> None:
-        super().__init__()
-        self._connection, self._session, self._id = connection, connection.session, stream
-        self._protocol = protocol
-        self._unsent: Deque[bytes] = deque()  # what the peer gave no credit for
-        self._unsent_size = 0
-        self._high, self._low = _HIGH, _HIGH // 4
-        self._told_to_wait = False
-        self._reading = True
-        self._at_end = False  # the peer's end was read
-        self._ending = False  # no more is written here
-        self._finished = False  # the session knows
-        self._closing = False
-        self._told = False  # the protocol knows that it is over
-        self._gone = False
-
-    # ---- the connection calls these
-
-    def touch(self) -> None:
-        """Bytes have come for this stream: data, credit, the end, or a reset."""
+    def leave(self, stream: int) -> None:
+        """The transport is done with this stream."""
+        self._streams.pop(stream, None)
         try:
-            self._give()
-            self._write()
-            self._leave_if_over()
-        except Refused as refused:
-            self._leave()
-            self._tell(StreamReset("the stream was reset") if refused.code == _library.RESET else ConnectionLost(str(refused)))
-
-    def lose(self, reason: Exception) -> None:
-        """The connection is over. What has come is given before."""
-        if self._gone:
-            return
-        try:
-            self._reading = True
-            self._give()
+            self.session.forget(stream)
         except Refused:
             pass
-        self._gone = True
-        self._tell(None if self._at_end and self._finished else reason)
+        self._opening.wake()
+        self._moving.wake()
+        self.plan()
 
-    def _tell(self, reason: Optional[Exception]) -> None:
-        if not self._told:
-            self._told = True
-            self._protocol.connection_lost(reason)
-
-    # ---- reading
-
-    def _give(self) -> None:
-        """Gives what has come to the protocol, or throws it away behind close."""
-        while not self._gone and not self._at_end and (self._reading or self._closing):
-            data = self._session.read(self._id)
-            if data is None:
-                return
-            if data == b"":
-                self._at_end = True
-                if not self._told:
-                    self._protocol.eof_received()
-            else:
-                self._connection._plan()  # there may be credit to send
-                if not self._told:
-                    self._protocol.data_received(data)
-
-    def pause_reading(self) -> None:
-        self._reading = False
-
-    def resume_reading(self) -> None:
-        self._reading = True
-        self._connection._loop.call_soon(self.touch)
-
-    def is_reading(self) -> bool:
-        return self._reading
-
-    # ---- writing
-
-    def write(self, data: Any) -> None:
-        if self._ending or self._told:
-            raise ConnectionResetError("the stream is closed for writing")
-        if len(data) == 0:
-            return
-        self._unsent.append(bytes(data))
-        self._unsent_size += len(data)
-        self._try_to_write()
-
-    def _try_to_write(self) -> None:
-        try:
-            self._write()
-        except Refused:
-            self._connection._loop.call_soon(self.touch)  # which tells it
-
-    def _write(self) -> None:
-        while self._unsent and not self._gone:
-            count = self._session.write(self._id, self._unsent[0])
-            self._unsent_size -= count
-            if count < len(self._unsent[0]):
-                self._unsent[0] = self._unsent[0][count:]
-                break
-            self._unsent.popleft()
-            self._connection._plan()
-        if self._told:
-            return
-        if self._told_to_wait and self._unsent_size <= self._low:
-            self._told_to_wait = False
-            self._protocol.resume_writing()
-        elif not self._told_to_wait and self._unsent_size > self._high:
-            self._told_to_wait = True
-            self._protocol.pause_writing()
-        if self._ending and not self._unsent and not self._finished and not self._gone:
-            self._finished = True
-            self._session.finish(self._id)
-            self._connection._plan()
-            if self._closing:
-                self._connection._loop.call_soon(self._tell, None)
-
-    def can_write_eof(self) -> bool:
-        return True
-
-    def write_eof(self) -> None:
-        if not self._ending:
-            self._ending = True
-            self._try_to_write()
-
-    def get_write_buffer_size(self) -> int:
-        return self._unsent_size
-
-    def get_write_buffer_limits(self) -> Tuple[int, int]:
-        return self._low, self._high
-
-    def set_write_buffer_limits(self, high: Optional[int] = None, low: Optional[int] = None) -> None:
-        self._high = high if high is not None else _HIGH if low is None else 4 * low
-        self._low = low if low is not None else self._high // 4
+    def _check(self) -> None:
+        if self._over is not None:
+            raise again(self._over)
 
     # ---- the end
 
-    def close(self) -> None:
-        """Ends the writing side behind the last byte. What the peer still sends is thrown away until its end comes."""
-        if self._closing or self._gone:
+    def _lose(self, reason: ConnectionLost) -> None:
+        """The peer has hung up, or the connection failed."""
+        if self.session.status() == RUNNING:
+            self.session.feed_end()
+        self._end(reason)
+
+    def _end(self, reason: ConnectionLost, is_at_once: bool = False) -> None:
+        if self._over is not None:
             return
-        self._closing = True
-        if self._finished:
-            self._connection._loop.call_soon(self._tell, None)
-        self._ending = True
-        self._connection._loop.call_soon(self.touch)
+        self._over = reason
+        for transport in list(self._streams.values()):
+            self._is_short |= transport.unsent_size > 0
+            transport.lose(again(reason))
+        self._is_short |= self.session.unsent_total() > 0
+        self._streams.clear()
+        for future in self._pings.values():
+            if not future.done():
+                future.set_exception(again(reason))
+                future.exception()  # nobody may wait for it any more
+        self._accepting.wake()
+        self._opening.wake()
+        self._moving.wake()
+        if self._transport is None or is_at_once:
+            return
+        self._send()
+        if not self._is_closed_here:
+            self._hang_up()
+        self._watch(self._sent(), self._loop.time())
 
-    def is_closing(self) -> bool:
-        return self._closing or self._told
+    def _hang_up(self) -> None:
+        if self._transport is not None:
+            self._transport.close()
 
-    def abort(self) -> None:
-        """Resets the stream."""
-        if not self._gone:
+    def _sent(self) -> Tuple[int, ...]:
+        """What changes as bytes go out behind the end."""
+        if self._transport is None:
+            return ()
+        return (self.session.unsent_total(), self._transport.get_write_buffer_size())
+
+    def _watch(self, before: Tuple[int, ...], since: float) -> None:
+        """Breaks the connection off where nothing has gone out for too long."""
+        if self._transport is None:
+            return
+        now, sent = self._loop.time(), self._sent()
+        if sent != before:
+            before, since = sent, now
+        if now - since >= self.linger:
+            self._gives_up = True
+            self._transport.abort()
+        else:
+            self._watching = self._loop.call_later(self.linger / 8, self._watch, before, since)
+
+    async def _leave(self, kind: Optional[Type[BaseException]]) -> None:
+        """What `async with` does behind its block, which has ended with an exception of this kind, or with none."""
+        was_closed = self._is_closed_here
+        try:
+            if kind is None and not was_closed:
+                await self._give_all()
+        finally:
+            self.close()
+        if kind is None or issubclass(kind, Exception):
+            await self.wait_closed()
+        if kind is None and not was_closed:
+            if self._gives_up:
+                raise ConnectionLost(f"the peer did not take all within {self.linger} seconds")
+            if self._is_short and self._over is not None:
+                raise again(self._over)
+
+    async def _give_all(self) -> None:
+        """Waits until the session has taken all that was written to streams so far."""
+        goals = [(each, each.taken_size + each.unsent_size) for each in self._streams.values() if each.unsent_size > 0]
+        before, since = -1, self._loop.time()
+        while self._over is None:
+            left = sum(max(0, goal - each.taken_size) for each, goal in goals if not each.is_gone)
+            if left == 0:
+                return
+            now = self._loop.time()
+            if left != before:
+                before, since = left, now
+            if now - since >= self.linger:
+                self._gives_up = True
+                self.abort()
+                return
             try:
-                self._session.reset(self._id)
-            except Refused:
+                await asyncio.wait_for(self._moving.wait(), since + self.linger - now)
+            except asyncio.TimeoutError:
                 pass
-            self._leave()
-        self._connection._loop.call_soon(self._tell, None)
 
-    def _leave_if_over(self) -> None:
-        """Forgets the stream once both sides have ended it and it is closed here. Sooner would reset it."""
-        if self._at_end and self._finished and self._closing:
-            self._leave()
 
-    def _leave(self) -> None:
-        if not self._gone:
-            self._gone = True
-            self._connection._streams.pop(self._id, None)
-            try:
-                self._session.forget(self._id)
-            except Refused:
-                pass
-            self._connection._plan()
-
-    def get_extra_info(self, name: str, default: Any = None) -> Any:
-        """"stream_id", or what the connection says."""
-        return self._id if name == "stream_id" else self._connection.get_extra_info(name, default)
+def _left_in(transport: Optional[asyncio.Transport]) -> bytes:
+    """What has come and wasn't read when sending failed. asyncio's own transport closes its socket only behind
+    connection_lost; of any other nothing is known."""
+    if transport is None or type(transport).__module__ != "asyncio.selector_events":
+        return b""
+    blocks: List[bytes] = []
+    try:
+        descriptor = transport.get_extra_info("socket").fileno()
+        while block := os.read(descriptor, 262144):
+            blocks.append(block)
+    except OSError:
+        pass
+    return b"".join(blocks)

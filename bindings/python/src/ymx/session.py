@@ -3,7 +3,7 @@ import ctypes
 from typing import List, Optional, Tuple
 
 from . import _library
-from ._library import LEAST_WINDOW, MOST_TOUCHED, WAIT, good
+from ._library import LEAST_WINDOW, MOST_TOUCHED, WAIT, Bytes, good, lent
 
 CLIENT, SERVER = 0, 1
 RUNNING, LOST, CLOSED, BROKEN = 0, 1, 2, 100
@@ -29,9 +29,11 @@ class Session:
         if getattr(self, "_touched", None):
             _library.touched_free(self._touched)
 
-    def feed(self, data: bytes) -> int:
-        """Feeds bytes of the peer's, and returns how many were taken. `touched` says which streams they touch."""
-        return good(_library.feed_touching(self._at, data, len(data), self._touched))
+    def feed(self, data: Bytes, start: int = 0) -> int:
+        """Feeds bytes of the peer's, from `start` on, and returns how many were taken. `touched` says which streams they
+        touch."""
+        place, size, _kept = lent(data, start)
+        return good(_library.feed_touching(self._at, place, size, self._touched))
 
     def touched(self) -> Tuple[Optional[List[int]], bool]:
         """The streams that were touched since the last call, or None where they are too many to name; and whether an
@@ -66,10 +68,15 @@ class Session:
         """How many streams of the peer's accept would give."""
         return good(_library.offered_count(self._at))
 
-    def write(self, stream: int, data: bytes) -> int:
-        """Writes to a stream, and returns how many bytes were taken: 0 where there is no credit."""
-        answer = _library.write(self._at, stream, data, len(data))
+    def write(self, stream: int, data: Bytes, start: int = 0) -> int:
+        """Writes bytes to a stream, from `start` on, and returns how many were taken: 0 where there is no credit."""
+        place, size, _kept = lent(data, start)
+        answer = _library.write(self._at, stream, place, size)
         return 0 if answer == WAIT else good(answer)
+
+    def room(self, stream: int) -> int:
+        """How many bytes a write would take now: 0 where there is no credit, or it would be refused."""
+        return good(_library.room(self._at, stream))
 
     def read(self, stream: int) -> Optional[bytes]:
         """Bytes of a stream; b"" at its end; None where nothing is there yet."""

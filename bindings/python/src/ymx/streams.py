@@ -1,0 +1,346 @@
+"""A stream: asyncio's StreamReader and StreamWriter, and the transport below them."""
+import asyncio
+import warnings
+from collections import deque
+from typing import TYPE_CHECKING, Any, Deque, List, Optional, Tuple
+
+from . import _library
+from ._library import Bytes, Refused
+from .errors import ConnectionLost, StreamClosed, StreamReset, again
+
+if TYPE_CHECKING:
+    from .connection import Connection
+
+_HIGH = 65536
+
+
+class StreamReader(asyncio.StreamReader):
+    """asyncio's, but that a stream which was cut off is never taken for one that has ended: what came before can be read,
+    and behind it each call raises why. A read that is cancelled loses nothing."""
+
+    _buffer: bytearray
+
+    def __init__(self, loop: asyncio.AbstractEventLoop) -> None:
+        super().__init__(loop=loop)
+        self._ended = False  # the peer's end has come
+        self._cut: Optional[Exception] = None  # why it won't come
+        self._lost: Optional[Exception] = None  # why nothing can be written any more
+
+    def feed_eof(self) -> None:
+        if self._cut is None:
+            self._ended = True
+        super().feed_eof()
+
+    def cut(self, reason: Exception) -> None:
+        """Nothing more comes behind what is there, for this reason; unless the peer's end has come before."""
+        if not self._ended and self._cut is None:
+            self._cut = reason
+            super().feed_eof()
+
+    def set_exception(self, exc: Exception) -> None:
+        """The stream is over. asyncio's protocol calls it, for readers and for those who wait in `drain`."""
+        self._lost = exc
+        if isinstance(exc, StreamReset) and not self._ended:
+            self._buffer.clear()
+        self.cut(exc)
+
+    def exception(self) -> Any:
+        """Why nothing can be written any more; None as long as that can be."""
+        return None if self._lost is None else again(self._lost)
+
+    def at_eof(self) -> bool:
+        """Whether the peer's end has come, and all was read. False of a stream that was cut off."""
+        return self._cut is None and super().at_eof()
+
+    async def read(self, n: int = -1) -> bytes:
+        if n < 0:
+            return await self._read_all()
+        data = await super().read(n)
+        if not data and n > 0 and self._cut is not None:
+            raise again(self._cut)
+        return data
+
+    async def _read_all(self) -> bytes:
+        blocks: List[bytes] = []
+        try:
+            while True:
+                block = await self.read(_HIGH)
+                if not block:
+                    return b"".join(blocks)
+                blocks.append(block)
+        except BaseException:
+            self._buffer[:0] = b"".join(blocks)
+            raise
+
+    async def readexactly(self, n: int) -> bytes:
+        try:
+            return await super().readexactly(n)
+        except asyncio.IncompleteReadError as short:
+            raise self._of(short) from None
+
+    async def readuntil(self, separator: Any = b"\n") -> bytes:
+        try:
+            return await super().readuntil(separator)
+        except asyncio.IncompleteReadError as short:
+            raise self._of(short) from None
+
+    def _of(self, short: asyncio.IncompleteReadError) -> Exception:
+        """What to raise where too few bytes came before the end."""
+        if self._cut is None:
+            return short
+        self._buffer[:0] = short.partial
+        return again(self._cut)
+
+
+class StreamWriter(asyncio.StreamWriter):
+    """asyncio's, but that one which is dropped without `write_eof` or `close` resets the stream: nobody has said that what
+    was written is whole."""
+
+    _transport: "StreamTransport"
+
+    def abort(self) -> None:
+        """Resets the stream: the peer gets no end, and what is unsent is dropped."""
+        self._transport.abort()
+
+    async def drain(self) -> None:
+        """Waits while more than 64 KiB are unsent for want of the peer's credit. StreamReset, ConnectionLost where the
+        rest is never sent."""
+        await super().drain()
+        lost = self._transport.reader.exception()
+        if lost is not None:
+            raise lost
+
+    def __del__(self) -> None:
+        transport = self._transport
+        if transport.is_closing() or transport.loop.is_closed():
+            return
+        warnings.warn(f"unclosed {self!r}", ResourceWarning, source=self)
+        try:
+            transport.loop.call_soon_threadsafe(transport.disown)
+        except RuntimeError:
+            pass  # the loop was closed meanwhile
+
+
+class StreamTransport(asyncio.Transport):
+    """One stream. It holds its reader, as asyncio's protocol does not."""
+
+    def __init__(self, connection: "Connection", stream: int, loop: asyncio.AbstractEventLoop) -> None:
+        super().__init__()
+        self.loop = loop
+        self.reader = StreamReader(loop)
+        self._protocol = asyncio.StreamReaderProtocol(self.reader, loop=loop)
+        self._connection, self._session, self._id = connection, connection.session, stream
+        self._unsent: Deque[bytes] = deque()  # what the peer gave no credit for
+        self._start = 0  # where in the first of them
+        self.unsent_size = 0
+        self.taken_size = 0  # what the session has taken, since the beginning
+        self._high, self._low = _HIGH, _HIGH // 4
+        self._told_to_wait = False
+        self._reading = True
+        self._at_end = False  # the peer's end was read
+        self._ending = False  # no more is written here
+        self._finished = False  # the session knows
+        self._closing = False
+        self._disowned = False  # the writer is gone, behind write_eof
+        self._why: Optional[Exception] = None  # why the stream is over
+        self._told = False  # the protocol knows that it is over
+        self.is_gone = False  # the session has no such stream any more, or has ended
+
+    def begin(self) -> "Tuple[StreamReader, StreamWriter]":
+        self._protocol.connection_made(self)
+        self.touch()
+        return self.reader, StreamWriter(self, self._protocol, self.reader, self.loop)
+
+    # ---- the connection calls these
+
+    def touch(self) -> None:
+        """Bytes have come for this stream: data, credit, the end, or a reset."""
+        try:
+            self._give()
+            self._write()
+            self._leave_if_over()
+        except Refused as refused:
+            self._leave()
+            reset = refused.code == _library.RESET
+            self._tell(StreamReset("the stream was reset") if reset else ConnectionLost(str(refused)))
+
+    def lose(self, reason: Exception) -> None:
+        """The connection is over. What has come is given before."""
+        if self.is_gone:
+            return
+        try:
+            self._give(is_last=True)
+        except Refused as refused:
+            if refused.code == _library.RESET:
+                reason = StreamReset("the stream was reset")
+        self.is_gone = True
+        self._tell(None if self._at_end and self._finished else reason)
+
+    def disown(self) -> None:
+        """The writer was dropped, and not closed. Where it has said that its text is whole, the stream is still read."""
+        if self._ending:
+            self._disowned = True
+            self.touch()
+        else:
+            self.abort()
+
+    def _tell(self, reason: Optional[Exception]) -> None:
+        if not self._told:
+            self._told = True
+            self._why = reason
+            self._protocol.connection_lost(reason)
+
+    # ---- reading
+
+    def _give(self, is_last: bool = False) -> None:
+        """Gives what has come to the protocol, or throws it away behind close. The last time also to a reader that has
+        enough."""
+        while not self.is_gone and not self._at_end and (self._reading or self._closing or is_last):
+            data = self._session.read(self._id)
+            if data is None:
+                return
+            if data == b"":
+                self._at_end = True
+                if not self._closing:
+                    self._protocol.eof_received()
+            else:
+                self._connection.plan()  # there may be credit to send
+                if not self._closing:
+                    self._protocol.data_received(data)
+
+    def pause_reading(self) -> None:
+        self._reading = False
+
+    def resume_reading(self) -> None:
+        self._reading = True
+        self.loop.call_soon(self.touch)
+
+    def is_reading(self) -> bool:
+        return self._reading
+
+    # ---- writing
+
+    def write(self, data: Bytes) -> None:
+        """Takes bytes to be sent: all of them, however many. A bytearray or memoryview may be changed afterwards.
+
+        RuntimeError behind write_eof. StreamClosed behind close; StreamReset, ConnectionLost once it is over."""
+        if not isinstance(data, (bytes, bytearray, memoryview)):
+            raise TypeError(f"data is to be bytes, a bytearray or a memoryview, and not {type(data).__name__}")
+        if self._why is not None:
+            raise again(self._why)
+        if self._closing or self._told:
+            raise StreamClosed("the stream is closed for writing")
+        if self._ending:
+            raise RuntimeError("Cannot call write() after write_eof()")
+        kept = bytes(data)
+        if not kept:
+            return
+        self._unsent.append(kept)
+        self.unsent_size += len(kept)
+        self._try_to_write()
+
+    def _try_to_write(self) -> None:
+        try:
+            self._write()
+        except Refused:
+            self.loop.call_soon(self.touch)  # which tells it
+
+    def _write(self) -> None:
+        while self._unsent and not self.is_gone:
+            count = self._session.write(self._id, self._unsent[0], self._start)
+            self._start += count
+            self.unsent_size -= count
+            self.taken_size += count
+            if count > 0:
+                self._connection.plan()
+            if self._start < len(self._unsent[0]):
+                break
+            self._unsent.popleft()
+            self._start = 0
+        if self._ending and not self._unsent and not self._finished and not self.is_gone:
+            self._finished = True
+            self._session.finish(self._id)
+            self._connection.plan()
+            if self._closing:
+                self.loop.call_soon(self._tell, None)
+        if self._told:
+            return
+        if self._told_to_wait and self.unsent_size <= self._low:
+            self._told_to_wait = False
+            self._protocol.resume_writing()
+        elif not self._told_to_wait and self.unsent_size > self._high:
+            self._told_to_wait = True
+            self._protocol.pause_writing()
+
+    def can_write_eof(self) -> bool:
+        return True
+
+    def write_eof(self) -> None:
+        """Says that what was written is whole: the peer reads an end behind it. The stream is still read."""
+        if not self._ending:
+            self._ending = True
+            self._try_to_write()
+
+    def get_write_buffer_size(self) -> int:
+        return self.unsent_size
+
+    def get_write_buffer_limits(self) -> Tuple[int, int]:
+        return self._low, self._high
+
+    def set_write_buffer_limits(self, high: Optional[int] = None, low: Optional[int] = None) -> None:
+        self._high = high if high is not None else _HIGH if low is None else 4 * low
+        self._low = low if low is not None else self._high // 4
+
+    # ---- the end
+
+    def close(self) -> None:
+        """Ends the writing side behind the last byte. What the peer still sends is thrown away until its end comes."""
+        if self._closing or self.is_gone:
+            return
+        self._closing = True
+        self.reader.cut(StreamClosed("the stream was closed here, before the peer's end"))
+        if self._finished:
+            self.loop.call_soon(self._tell, None)
+        self._ending = True
+        self.loop.call_soon(self.touch)
+
+    def is_closing(self) -> bool:
+        return self._closing or self._told
+
+    def abort(self) -> None:
+        """Resets the stream: the peer gets no end, and what is unsent is dropped."""
+        if not self.is_gone:
+            try:
+                self._session.reset(self._id)
+            except Refused:
+                pass
+            self._leave()
+        self._closing = True
+        if self._why is None and not self._told:
+            self._why = StreamReset("the stream was reset here")
+            self.reader.set_exception(self._why)
+        self.loop.call_soon(self._tell_gently)
+
+    def _tell_gently(self) -> None:
+        """Who has reset the stream needs no error from wait_closed."""
+        why = self._why
+        self._tell(None)
+        self._why = why
+
+    def _leave_if_over(self) -> None:
+        """Forgets the stream once both sides have ended it and it is closed here. Sooner would reset it."""
+        if self._at_end and self._finished and (self._closing or self._disowned):
+            self._leave()
+            if self._disowned:
+                self._tell(None)
+
+    def _leave(self) -> None:
+        if not self.is_gone:
+            self.is_gone = True
+            self._unsent.clear()
+            self.unsent_size = 0
+            self._connection.leave(self._id)
+
+    def get_extra_info(self, name: str, default: Any = None) -> Any:
+        """"stream_id", or what the connection says."""
+        return self._id if name == "stream_id" else self._connection.get_extra_info(name, default)
