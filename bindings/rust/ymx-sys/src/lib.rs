@@ -2,7 +2,11 @@
 #![no_std]
 #![allow(non_camel_case_types)]
 
-use core::ffi::{c_char, c_int, c_void};
+use core::ffi::c_void;
+
+/// The C types of x86-64 Linux, for which the library is. Older compilers have them outside of core alone.
+pub type c_char = i8;
+pub type c_int = i32;
 
 /// A session. It may go to another thread, and one at a time uses it.
 #[repr(C)]
@@ -35,13 +39,33 @@ pub const YMX_WAIT: i64 = -12;
 pub const YMX_E_BAD_WINDOW: i64 = -13;
 pub const YMX_E_BAD_FIRST: i64 = -14;
 pub const YMX_E_NULL: i64 = -15;
-pub const YMX_MOST_TOUCHED: usize = 1024;
+pub const YMX_E_BAD_ROLE: i64 = -16;
+pub const YMX_VERSION_MAJOR: u32 = 0;
+pub const YMX_VERSION_MINOR: u32 = 2;
+pub const YMX_VERSION_PATCH: u32 = 0;
+pub const YMX_VERSION_NUM: u32 =
+    YMX_VERSION_MAJOR * 10_000 + YMX_VERSION_MINOR * 100 + YMX_VERSION_PATCH;
 pub const YMX_LEAST_WINDOW: u32 = 262_144;
 pub const YMX_WIDEST_WINDOW: u32 = 16_777_216;
+pub const YMX_MOST_TOUCHED: usize = 1024;
+pub const YMX_MOST_STREAMS: usize = 1024;
+pub const YMX_MOST_OPENS_PENDING: usize = 256;
+pub const YMX_MOST_OFFERED: usize = 256;
+pub const YMX_MOST_PINGS_PENDING: usize = 16;
+pub const YMX_MOST_ANSWERS: usize = 1024;
 pub const YMX_RUNNING: i64 = 0;
 pub const YMX_LOST: i64 = 1;
 pub const YMX_CLOSED: i64 = 2;
 pub const YMX_BROKEN: i64 = 100;
+pub const YMX_FAULT_BAD_VERSION: i64 = 1;
+pub const YMX_FAULT_UNKNOWN_TYPE: i64 = 2;
+pub const YMX_FAULT_BAD_SYN: i64 = 3;
+pub const YMX_FAULT_STREAM_IN_USE: i64 = 4;
+pub const YMX_FAULT_WINDOW_EXCEEDED: i64 = 5;
+pub const YMX_FAULT_CREDIT_OVERFLOW: i64 = 6;
+pub const YMX_FAULT_BAD_GO_AWAY_CODE: i64 = 7;
+pub const YMX_FAULT_PEER_SAW_PROTOCOL_ERROR: i64 = 8;
+pub const YMX_FAULT_PEER_SAW_INTERNAL_ERROR: i64 = 9;
 
 extern "C" {
     pub fn ymx_new(role: c_int, window: u32, first: u32, out: *mut *mut ymx_session) -> i64;
@@ -103,5 +127,6 @@ extern "C" {
     pub fn ymx_touched_has_pong(touched: *const ymx_touched) -> i64;
     pub fn ymx_touched_clear(touched: *mut ymx_touched) -> i64;
     pub fn ymx_error_name(code: i64) -> *const c_char;
+    pub fn ymx_fault_name(fault: i64) -> *const c_char;
     pub fn ymx_version() -> *const c_char;
 }

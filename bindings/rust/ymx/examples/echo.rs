@@ -62,22 +62,27 @@ fn answer(connection: &Connection, mut reader: ReadHalf, mut writer: WriteHalf) 
     let mut word = Vec::new();
     reader.by_ref().take(5).read_to_end(&mut word)?;
     match &word[..] {
-        b"reset" => reader.reset(),
+        b"reset" => {
+            reader.reset();
+            return Ok(());
+        }
         b"break" => {
             writer.write_all(&[0; 1000])?;
             connection.close();
+            return Ok(());
         }
         b"count" => writer.write_all(RESETS.load(Ordering::SeqCst).to_string().as_bytes())?,
         _ => {
             writer.write_all(&word)?;
-            if io::copy(&mut reader, &mut writer)
-                .is_err_and(|error| error.kind() == ErrorKind::ConnectionReset)
-            {
-                RESETS.fetch_add(1, Ordering::SeqCst);
+            if let Err(error) = io::copy(&mut reader, &mut writer) {
+                if error.kind() == ErrorKind::ConnectionReset {
+                    RESETS.fetch_add(1, Ordering::SeqCst);
+                }
+                return Err(error); // and the writer, which is dropped, resets the stream
             }
         }
     }
-    Ok(())
+    writer.finish()
 }
 
 // ---- the client

@@ -1,16 +1,17 @@
 //! A session over a socket, with two threads: one reads and feeds, the other emits and writes. Calls that wait are woken
 //! where bytes have touched their stream.
 
-use crate::{Got, Refused, Role, Session, Touched};
+use crate::{Fault, Got, Refused, Role, Session, Touched};
 use std::collections::HashMap;
 use std::io::{self, ErrorKind, Read, Write};
 use std::net::{Shutdown, TcpStream};
 use std::sync::{Arc, Condvar, Mutex, MutexGuard};
-use std::thread;
 use std::time::{Duration, Instant};
+use std::{fmt, thread};
 use ymx_sys::*;
 
 const BLOCK: usize = 65_536;
+const LINGER: Duration = Duration::from_secs(10);
 
 /// What a [`Connection`] runs over: bytes that come, bytes that go, and what ends both.
 pub struct Side {
@@ -18,7 +19,7 @@ pub struct Side {
     pub reader: Box<dyn Read + Send>,
     /// Bytes for the peer.
     pub writer: Box<dyn Write + Send>,
-    /// Ends the connection, so that a read of it that waits ends too.
+    /// Ends the connection, so that a read or a write of it that waits ends too. It is called once.
     pub shut: Box<dyn Fn() + Send>,
 }
 
@@ -36,7 +37,34 @@ impl TryFrom<TcpStream> for Side {
     }
 }
 
-/// One side of a connection. Dropped, it sends what is due, and ends the connection and all its streams.
+/// Why a connection has ended. It is the inner error of `ConnectionAborted`.
+#[derive(Clone, Copy, Debug, PartialEq, Eq)]
+#[non_exhaustive]
+pub enum Ended {
+    /// It was closed here, or the `Connection` was dropped.
+    Here,
+    /// The peer has hung up.
+    Peer,
+    /// Reading or writing failed.
+    Failed(ErrorKind),
+    /// The peer broke a rule of yamux, or says that this side did.
+    Broken(Fault),
+}
+
+impl fmt::Display for Ended {
+    fn fmt(&self, f: &mut fmt::Formatter<'_>) -> fmt::Result {
+        match self {
+            Ended::Here => f.write_str("the connection was closed here"),
+            Ended::Peer => f.write_str("the connection has ended"),
+            Ended::Failed(kind) => write!(f, "the connection failed: {kind}"),
+            Ended::Broken(fault) => write!(f, "the connection broke: {fault}"),
+        }
+    }
+}
+
+impl std::error::Error for Ended {}
+
+/// One side of a connection. Dropped, it is closed.
 pub struct Connection(Arc<Shared>);
 
 struct Shared {
@@ -44,14 +72,40 @@ struct Shared {
     sender: Condvar,  // something is due, or it is over
     emitted: Condvar, // bytes were emitted
     changed: Condvar, // a stream waits to be accepted, one may be opened, or an answer to a ping came
+    gone_on: Condvar, // the writing thread is done, or has written
+    shut: Mutex<Option<Box<dyn Fn() + Send>>>,
 }
 
 struct State {
     session: Session,
     streams: HashMap<u32, Arc<Stream>>,
-    over: Option<&'static str>,
-    pongs: Vec<u32>,
-    pings: Vec<u32>,
+    over: Option<Ended>,
+    pings: HashMap<u32, Ping>,
+    linger: Duration,
+    farewell: Farewell,
+    is_read_out: bool,       // the reading thread is done
+    is_done: bool,           // the writing thread is done
+    is_watched: bool,        // a thread looks that the writing thread goes on
+    mute: Option<ErrorKind>, // writing has failed: what is emitted is dropped
+    is_short: bool,          // bytes of streams were dropped
+    gave_up: bool,           // nothing went on for too long
+    moved: Instant,          // when bytes were last written
+}
+
+/// A ping that the session awaits.
+#[derive(Clone, Copy, PartialEq, Eq)]
+enum Ping {
+    Awaited,
+    Back,
+    GivenUp, // nobody waits for it any more
+}
+
+/// The ping behind the last byte of a connection that was closed here. Its answer says that all came.
+#[derive(Clone, Copy, PartialEq, Eq)]
+enum Farewell {
+    Unsaid,
+    Said(u32),
+    Answered,
 }
 
 /// What the two halves of a stream have in common.
@@ -66,20 +120,30 @@ struct Stream {
 #[derive(Default)]
 struct Halves {
     unread: bool,    // the reading half is dropped: what comes is thrown away
-    finished: bool,  // the writing half is dropped or finished
+    finished: bool,  // the writing half is finished, or dropped
     forgotten: bool, // the session has forgotten the stream
     reset: bool,     // by either side, where that is known
 }
 
-/// The reading half of a stream. At the peer's end it reads 0 bytes. A reset is `ConnectionReset`, and a connection that
-/// ends before the stream `ConnectionAborted`. Dropped, it throws away what still comes.
-pub struct ReadHalf(Arc<Stream>);
+/// The reading half of a stream.
+///
+/// At the peer's end it reads 0 bytes. A reset is `ConnectionReset`, and a connection that ends before the stream
+/// `ConnectionAborted`, whose inner error is an [`Ended`]. Dropped, it throws away what still comes.
+pub struct ReadHalf {
+    stream: Arc<Stream>,
+    timeout: Option<Duration>,
+}
 
-/// The writing half of a stream. A write waits until the peer grants credit, and takes as many bytes. Dropped, it ends
-/// this side of the stream, behind the last byte.
-pub struct WriteHalf(Arc<Stream>);
+/// The writing half of a stream.
+///
+/// A write waits until the peer grants credit, and takes as many bytes. Dropped without [`finish`](WriteHalf::finish), it
+/// resets the stream, both ways: nobody has said that what was written is whole.
+pub struct WriteHalf {
+    stream: Arc<Stream>,
+    timeout: Option<Duration>,
+}
 
-fn lost(reason: &'static str) -> io::Error {
+fn lost(reason: Ended) -> io::Error {
     io::Error::new(ErrorKind::ConnectionAborted, reason)
 }
 
@@ -96,119 +160,251 @@ impl From<Refused> for io::Error {
     }
 }
 
+/// Until when to wait: for ever, if it is None.
+#[derive(Clone, Copy)]
+struct Until(Option<Instant>);
+
+impl Until {
+    fn ever() -> Until {
+        Until(None)
+    }
+
+    fn within(timeout: Duration) -> Until {
+        Until(Instant::now().checked_add(timeout))
+    }
+
+    fn of(timeout: Option<Duration>) -> Until {
+        timeout.map_or(Until::ever(), Until::within)
+    }
+
+    /// Waits for the condition, or fails with `TimedOut`.
+    fn wait<'a, T>(
+        self,
+        condition: &Condvar,
+        guard: MutexGuard<'a, T>,
+    ) -> io::Result<MutexGuard<'a, T>> {
+        let end = match self.0 {
+            None => return Ok(wait(condition, guard)),
+            Some(end) => end,
+        };
+        let left = end.saturating_duration_since(Instant::now());
+        if left.is_zero() {
+            return Err(io::Error::new(
+                ErrorKind::TimedOut,
+                "it took longer than was allowed",
+            ));
+        }
+        Ok(wait_for(condition, guard, left))
+    }
+}
+
+fn wait<'a, T>(condition: &Condvar, guard: MutexGuard<'a, T>) -> MutexGuard<'a, T> {
+    condition
+        .wait(guard)
+        .unwrap_or_else(|poisoned| poisoned.into_inner())
+}
+
+fn wait_for<'a, T>(
+    condition: &Condvar,
+    guard: MutexGuard<'a, T>,
+    timeout: Duration,
+) -> MutexGuard<'a, T> {
+    match condition.wait_timeout(guard, timeout) {
+        Ok((guard, _)) => guard,
+        Err(poisoned) => poisoned.into_inner().0,
+    }
+}
+
 impl Connection {
     /// Begins one side over a socket, with the usual window of 262,144 bytes.
     pub fn over(role: Role, socket: TcpStream) -> io::Result<Connection> {
         Connection::begin(role, YMX_LEAST_WINDOW, Side::try_from(socket)?)
     }
 
-    /// Begins one side. Its streams have at most `window` unread bytes each.
+    /// Begins one side. Its streams have at most `window` unread bytes each: 262,144 to 16,777,216.
     pub fn begin(role: Role, window: u32, side: Side) -> io::Result<Connection> {
         let touched = Touched::new()?;
+        let Side {
+            reader,
+            writer,
+            shut,
+        } = side;
         let state = State {
             session: Session::new(role, window, 0)?,
             streams: HashMap::new(),
             over: None,
-            pongs: Vec::new(),
-            pings: Vec::new(),
+            pings: HashMap::new(),
+            linger: LINGER,
+            farewell: Farewell::Unsaid,
+            is_read_out: false,
+            is_done: false,
+            is_watched: false,
+            mute: None,
+            is_short: false,
+            gave_up: false,
+            moved: Instant::now(),
         };
         let shared = Arc::new(Shared {
             state: Mutex::new(state),
             sender: Condvar::new(),
             emitted: Condvar::new(),
             changed: Condvar::new(),
+            gone_on: Condvar::new(),
+            shut: Mutex::new(Some(shut)),
         });
-        let Side {
-            reader,
-            writer,
-            shut,
-        } = side;
-        let receiving = Arc::clone(&shared);
-        thread::Builder::new()
-            .name("ymx reader".into())
-            .spawn(move || receiving.receive(reader, touched))?;
         let sending = Arc::clone(&shared);
-        let sender = thread::Builder::new()
+        thread::Builder::new()
             .name("ymx writer".into())
-            .spawn(move || sending.send(writer, shut));
-        if let Err(error) = sender {
-            shared.end("no thread");
+            .spawn(move || sending.send(writer))?;
+        let receiving = Arc::clone(&shared);
+        let receiver = thread::Builder::new()
+            .name("ymx reader".into())
+            .spawn(move || receiving.receive(reader, touched));
+        if let Err(error) = receiver {
+            shared.read_out(Ended::Failed(error.kind()));
             return Err(error);
         }
         Ok(Connection(shared))
     }
 
     /// Opens a stream. It waits while 256 are not acknowledged.
+    ///
+    /// `Other` with the inner error [`Refused`] `PEER_AWAY` where the peer takes no more, `TOO_MANY` where 1,024 are
+    /// there. `ConnectionAborted` once the connection has ended.
     pub fn open(&self) -> io::Result<(ReadHalf, WriteHalf)> {
+        self.open_until(Until::ever())
+    }
+
+    /// The same, and `TimedOut` where it would wait longer than this.
+    pub fn open_within(&self, timeout: Duration) -> io::Result<(ReadHalf, WriteHalf)> {
+        self.open_until(Until::within(timeout))
+    }
+
+    fn open_until(&self, until: Until) -> io::Result<(ReadHalf, WriteHalf)> {
         let mut state = self.0.lock();
         loop {
-            if let Some(reason) = state.over {
-                return Err(lost(reason));
-            }
+            state.check()?;
             match state.session.open() {
                 Ok(id) => return Ok(self.0.stream(&mut state, id)),
                 Err(Refused {
                     code: YMX_E_OPENS_PENDING,
-                }) => state = wait(&self.0.changed, state),
+                }) => state = until.wait(&self.0.changed, state)?,
                 Err(refused) => return Err(refused.into()),
             }
         }
     }
 
     /// Waits for a stream of the peer's.
+    ///
+    /// Once the peer has hung up, or has broken a rule, it still gives the streams that came before, and then
+    /// `ConnectionAborted`. Behind a `close` it answers that at once.
     pub fn accept(&self) -> io::Result<(ReadHalf, WriteHalf)> {
+        self.accept_until(Until::ever())
+    }
+
+    /// The same, and `TimedOut` where it would wait longer than this.
+    pub fn accept_within(&self, timeout: Duration) -> io::Result<(ReadHalf, WriteHalf)> {
+        self.accept_until(Until::within(timeout))
+    }
+
+    fn accept_until(&self, until: Until) -> io::Result<(ReadHalf, WriteHalf)> {
         let mut state = self.0.lock();
         loop {
-            if let Some(reason) = state.over {
-                return Err(lost(reason));
+            if state.over != Some(Ended::Here) && state.session.offered() > 0 {
+                if let Some(id) = state.session.accept()? {
+                    return Ok(self.0.stream(&mut state, id));
+                }
             }
-            if let Some(id) = state.session.accept()? {
-                return Ok(self.0.stream(&mut state, id));
-            }
-            state = wait(&self.0.changed, state);
+            state.check()?;
+            state = until.wait(&self.0.changed, state)?;
         }
     }
 
     /// Asks the peer for a sign of life, and says how long its answer took. It waits while 16 answers are awaited.
     pub fn ping(&self) -> io::Result<Duration> {
+        self.ping_until(Until::ever())
+    }
+
+    /// The same, and `TimedOut` where it would wait longer than this. An answer that still comes is dropped.
+    pub fn ping_within(&self, timeout: Duration) -> io::Result<Duration> {
+        self.ping_until(Until::within(timeout))
+    }
+
+    fn ping_until(&self, until: Until) -> io::Result<Duration> {
         let began = Instant::now();
         let mut state = self.0.lock();
         let number = loop {
-            if let Some(reason) = state.over {
-                return Err(lost(reason));
-            }
+            state.check()?;
             match state.session.ping() {
                 Ok(number) => break number,
                 Err(Refused {
                     code: YMX_E_PINGS_PENDING,
-                }) => state = wait(&self.0.changed, state),
+                }) => state = until.wait(&self.0.changed, state)?,
                 Err(refused) => return Err(refused.into()),
             }
         };
-        state.pings.push(number);
+        state.pings.insert(number, Ping::Awaited);
         self.0.sender.notify_one();
         loop {
-            if let Some(at) = state.pongs.iter().position(|back| *back == number) {
-                state.pongs.swap_remove(at);
+            if state.pings.get(&number) == Some(&Ping::Back) {
+                state.pings.remove(&number);
                 return Ok(began.elapsed());
             }
-            if let Some(reason) = state.over {
-                return Err(lost(reason));
-            }
-            state = wait(&self.0.changed, state);
+            state.check()?;
+            state = match until.wait(&self.0.changed, state) {
+                Ok(state) => state,
+                Err(error) => {
+                    self.0.give_ping_up(number);
+                    return Err(error);
+                }
+            };
         }
     }
 
     /// Takes no more streams of the peer's, and tells it so. Streams that are there go on.
     pub fn go_away(&self) -> io::Result<()> {
-        self.0.lock().session.go_away()?;
+        let mut state = self.0.lock();
+        state.check()?;
+        state.session.go_away()?;
         self.0.sender.notify_one();
         Ok(())
     }
 
-    /// Sends what is due, and ends the connection and all its streams. What has come can still be read.
+    /// For how long nothing may go on behind `close`: 10 seconds, if it isn't set.
+    pub fn set_linger(&self, linger: Duration) {
+        self.0.lock().linger = linger;
+    }
+
+    /// Ends the connection and all its streams for their users here. What has come can still be read. What was written is
+    /// sent, and the connection ends once the peer says that it came, or nothing has gone on for as long as `set_linger`
+    /// says. It doesn't wait for that: a program that ends at once may cut off what was written. `close_and_wait` does.
     pub fn close(&self) {
-        self.0.end("the connection was closed here");
+        self.0.close();
+    }
+
+    /// The same, and waits until it has ended. `TimedOut` where nothing went on for too long, and `ConnectionAborted`
+    /// where the connection was lost with bytes of a stream unsent.
+    pub fn close_and_wait(&self) -> io::Result<()> {
+        self.0.close();
+        let mut state = self.0.lock();
+        while !state.is_done {
+            state = wait(&self.0.gone_on, state);
+        }
+        if state.gave_up {
+            return Err(io::Error::new(
+                ErrorKind::TimedOut,
+                "the peer did not take all in time",
+            ));
+        }
+        match state.over {
+            Some(reason) if state.is_short => Err(lost(reason)),
+            _ => Ok(()),
+        }
+    }
+
+    /// Why it has ended; `None` as long as it has not.
+    pub fn ended(&self) -> Option<Ended> {
+        self.0.lock().over
     }
 
     /// How many streams there are that have not ended on both sides, or are not dropped here.
@@ -223,10 +419,10 @@ impl Drop for Connection {
     }
 }
 
-fn wait<'a, T>(condition: &Condvar, guard: MutexGuard<'a, T>) -> MutexGuard<'a, T> {
-    condition
-        .wait(guard)
-        .unwrap_or_else(|poisoned| poisoned.into_inner())
+impl State {
+    fn check(&self) -> io::Result<()> {
+        self.over.map_or(Ok(()), |reason| Err(lost(reason)))
+    }
 }
 
 impl Shared {
@@ -244,22 +440,83 @@ impl Shared {
             writable: Condvar::new(),
             halves: Mutex::default(),
         });
-        state.streams.insert(id, Arc::clone(&stream));
+        if state.over.is_none() {
+            state.streams.insert(id, Arc::clone(&stream));
+        }
         self.sender.notify_one();
-        (ReadHalf(Arc::clone(&stream)), WriteHalf(stream))
+        let reading = ReadHalf {
+            stream: Arc::clone(&stream),
+            timeout: None,
+        };
+        let writing = WriteHalf {
+            stream,
+            timeout: None,
+        };
+        (reading, writing)
     }
 
-    fn end(&self, reason: &'static str) {
+    fn give_ping_up(&self, number: u32) {
         let mut state = self.lock();
+        if state.pings.remove(&number) == Some(Ping::Awaited) {
+            state.pings.insert(number, Ping::GivenUp);
+        }
+    }
+
+    // ---- the end
+
+    fn end(&self, state: &mut State, reason: Ended) {
         if state.over.is_none() {
             state.over = Some(reason);
             for (_, stream) in state.streams.drain() {
                 stream.readable.notify_all();
                 stream.writable.notify_all();
             }
-            self.sender.notify_all();
-            self.emitted.notify_all();
             self.changed.notify_all();
+        }
+        self.sender.notify_all();
+        self.emitted.notify_all();
+    }
+
+    fn close(self: &Arc<Shared>) {
+        let mut state = self.lock();
+        self.end(&mut state, Ended::Here);
+        if state.is_done || std::mem::replace(&mut state.is_watched, true) {
+            return;
+        }
+        state.moved = Instant::now();
+        let watching = Arc::clone(self);
+        let watcher = thread::Builder::new()
+            .name("ymx closer".into())
+            .spawn(move || watching.watch());
+        if watcher.is_err() {
+            state.gave_up = true;
+            drop(state);
+            self.shut();
+        }
+    }
+
+    /// Waits until the writing thread is done, and ends the connection where it doesn't go on.
+    fn watch(&self) {
+        let mut state = self.lock();
+        while !state.is_done {
+            let left = state.linger.saturating_sub(state.moved.elapsed());
+            if left.is_zero() {
+                state.gave_up = true;
+                drop(state);
+                return self.shut();
+            }
+            state = wait_for(&self.gone_on, state, left);
+        }
+    }
+
+    fn shut(&self) {
+        let shut = self
+            .shut
+            .lock()
+            .unwrap_or_else(|poisoned| poisoned.into_inner())
+            .take();
+        if let Some(shut) = shut {
+            shut();
         }
     }
 
@@ -267,21 +524,30 @@ impl Shared {
 
     fn receive(&self, mut reader: Box<dyn Read + Send>, mut touched: Touched) {
         let mut block = vec![0; BLOCK];
-        loop {
+        let reason = loop {
             match reader.read(&mut block) {
-                Err(error) if error.kind() == ErrorKind::Interrupted => (),
-                Ok(0) | Err(_) => return self.end("the connection has ended"),
+                Ok(0) => break Ended::Peer,
                 Ok(count) => {
-                    if !self.feed(&block[..count], &mut touched) {
-                        return;
+                    if let Err(reason) = self.feed(&block[..count], &mut touched) {
+                        break reason;
                     }
                 }
+                Err(error) if error.kind() == ErrorKind::Interrupted => (),
+                Err(error) => break Ended::Failed(error.kind()),
             }
-        }
+        };
+        self.read_out(reason);
     }
 
-    /// Feeds all of it, and says whether the session goes on.
-    fn feed(&self, mut bytes: &[u8], touched: &mut Touched) -> bool {
+    /// Nothing more is read.
+    fn read_out(&self, reason: Ended) {
+        let mut state = self.lock();
+        state.is_read_out = true;
+        self.end(&mut state, reason);
+    }
+
+    /// Feeds all of it, or says why the session doesn't go on.
+    fn feed(&self, mut bytes: &[u8], touched: &mut Touched) -> Result<(), Ended> {
         let mut state = self.lock();
         loop {
             let taken = state.session.feed_touching(bytes, touched).unwrap_or(0);
@@ -291,16 +557,14 @@ impl Shared {
             if state.session.due() {
                 self.sender.notify_one();
             }
-            if state.session.status() != YMX_RUNNING {
-                drop(state);
-                self.end("the peer broke the rules of yamux");
-                return false;
-            }
-            if state.over.is_some() {
-                return false;
+            if let Some(fault) = state.session.fault() {
+                return Err(Ended::Broken(fault));
             }
             if bytes.is_empty() {
-                return true;
+                return Ok(());
+            }
+            if state.is_done {
+                return Err(Ended::Here);
             }
             state = wait(&self.emitted, state); // as many answers are unsent as the session keeps
         }
@@ -319,12 +583,22 @@ impl Shared {
             }
         }
         if touched.has_pong() {
-            for number in std::mem::take(&mut state.pings) {
-                if state.session.ponged(number).unwrap_or(false) {
-                    state.pongs.push(number);
-                } else {
-                    state.pings.push(number);
+            let State { session, pings, .. } = state;
+            pings.retain(|number, ping| {
+                if *ping == Ping::Back || !session.ponged(*number).unwrap_or(false) {
+                    return true;
                 }
+                let is_awaited = *ping == Ping::Awaited;
+                *ping = Ping::Back;
+                is_awaited
+            });
+            if let Farewell::Said(number) = state.farewell {
+                if state.session.ponged(number).unwrap_or(false) {
+                    state.farewell = Farewell::Answered;
+                }
+            }
+            if state.over.is_some() {
+                self.sender.notify_one();
             }
         }
         self.changed.notify_all();
@@ -332,35 +606,73 @@ impl Shared {
 
     // ---- the writing thread
 
-    fn send(&self, mut writer: Box<dyn Write + Send>, shut: Box<dyn Fn() + Send>) {
+    fn send(&self, mut writer: Box<dyn Write + Send>) {
         let mut block = vec![0; BLOCK];
-        while let Some(count) = self.emit(&mut block) {
-            if writer
+        while let Some((count, carries)) = self.emit(&mut block) {
+            let written = writer
                 .write_all(&block[..count])
-                .and_then(|()| writer.flush())
-                .is_err()
-            {
-                self.end("the connection has ended");
-                break;
+                .and_then(|()| writer.flush());
+            let mut state = self.lock();
+            state.moved = Instant::now();
+            match written {
+                Ok(()) => (),
+                Err(error) => {
+                    // what has come is still read: the reading thread finds the end
+                    state.mute = Some(error.kind());
+                    state.is_short |= carries || state.session.unsent_total() > 0;
+                }
             }
+            self.gone_on.notify_all();
         }
-        shut();
+        self.shut();
+        let mut state = self.lock();
+        state.is_short |= state.session.unsent_total() > 0;
+        state.is_done = true;
+        self.gone_on.notify_all();
+        self.emitted.notify_all();
     }
 
-    /// Waits until something is due, and emits it. `None` once it is over and nothing is left.
-    fn emit(&self, block: &mut [u8]) -> Option<usize> {
+    /// Waits until something is due, and emits it: so many bytes, and whether some are a stream's. `None` once it is over
+    /// and nothing is left.
+    fn emit(&self, block: &mut [u8]) -> Option<(usize, bool)> {
         let mut state = self.lock();
         loop {
+            let before = state.session.unsent_total();
             let count = state.session.emit(block).unwrap_or(0);
             if count > 0 {
                 self.emitted.notify_all();
-                return Some(count);
-            }
-            if state.over.is_some() {
+                if state.mute.is_none() {
+                    return Some((count, state.session.unsent_total() < before));
+                }
+            } else if state.over.is_some() && !self.is_awaiting(&mut state) {
                 return None;
+            } else if let Some(kind) = state.mute.filter(|_| state.over.is_none()) {
+                // a writer that failed, and a reader that finds no end
+                let left = state.linger.saturating_sub(state.moved.elapsed());
+                if left.is_zero() {
+                    self.end(&mut state, Ended::Failed(kind));
+                } else {
+                    state = wait_for(&self.sender, state, left);
+                }
+            } else if !state.session.due() {
+                state = wait(&self.sender, state);
             }
-            state = wait(&self.sender, state);
         }
+    }
+
+    /// Behind the last byte of a connection that was closed here: says farewell, and whether its answer may still come.
+    fn is_awaiting(&self, state: &mut State) -> bool {
+        let is_vain = state.is_read_out || state.mute.is_some() || state.gave_up;
+        if state.over != Some(Ended::Here) || is_vain {
+            return false;
+        }
+        if state.farewell == Farewell::Unsaid {
+            match state.session.ping() {
+                Ok(number) => state.farewell = Farewell::Said(number),
+                Err(refused) => return refused.code == YMX_E_PINGS_PENDING,
+            }
+        }
+        state.farewell != Farewell::Answered
     }
 }
 
@@ -402,24 +714,25 @@ impl Stream {
 
     fn reset(&self) {
         let mut state = self.shared.lock();
-        let _ = state.session.reset(self.id);
-        self.halves().reset = true;
-        self.readable.notify_all();
-        self.writable.notify_all();
-        self.shared.sender.notify_one();
-        self.tidy(&mut state);
+        self.reset_in(&mut state);
+    }
+
+    fn reset_in(&self, state: &mut State) {
+        if state.over.is_none() {
+            let _ = state.session.reset(self.id);
+            self.halves().reset = true;
+            self.readable.notify_all();
+            self.writable.notify_all();
+            self.shared.changed.notify_all();
+            self.shared.sender.notify_one();
+        }
+        self.tidy(state);
     }
 
     fn finish(&self) -> io::Result<()> {
         let mut state = self.shared.lock();
-        let mut halves = self.halves();
-        if std::mem::replace(&mut halves.finished, true) {
-            return Ok(());
-        }
-        drop(halves);
-        if let Some(reason) = state.over {
-            return Err(lost(reason)); // an end that still got out would be taken for a good one
-        }
+        self.halves().finished = true;
+        state.check()?; // an end that still got out would be taken for a good one
         let finished = state.session.finish(self.id);
         self.shared.sender.notify_one();
         self.tidy(&mut state);
@@ -433,12 +746,17 @@ impl Stream {
 impl ReadHalf {
     /// The stream's number on the wire.
     pub fn id(&self) -> u32 {
-        self.0.id
+        self.stream.id
+    }
+
+    /// For how long a read waits before it is `TimedOut`, with nothing lost: for ever, if it is None.
+    pub fn set_read_timeout(&mut self, timeout: Option<Duration>) {
+        self.timeout = timeout;
     }
 
     /// Breaks the stream off, both ways.
     pub fn reset(self) {
-        self.0.reset();
+        self.stream.reset();
     }
 }
 
@@ -447,49 +765,55 @@ impl Read for ReadHalf {
         if buffer.is_empty() {
             return Ok(0);
         }
-        let stream = &*self.0;
+        let stream = &*self.stream;
+        let until = Until::of(self.timeout);
         let mut state = stream.shared.lock();
         loop {
-            match state.session.read(stream.id, buffer)? {
-                Got::Bytes(count) => {
+            match state.session.read(stream.id, buffer) {
+                Ok(Got::Bytes(count)) => {
                     if state.session.due() {
                         stream.shared.sender.notify_one(); // there is credit to send
                     }
                     return Ok(count);
                 }
-                Got::End => return Ok(0),
-                Got::Wait => (),
+                Ok(Got::End) => return Ok(0),
+                Err(refused) if refused.code != YMX_E_LOST => return Err(refused.into()),
+                Ok(Got::Wait) | Err(_) => (),
             }
-            if let Some(reason) = state.over {
-                return Err(lost(reason));
-            }
-            state = wait(&stream.readable, state);
+            state.check()?;
+            state = until.wait(&stream.readable, state)?;
         }
     }
 }
 
 impl Drop for ReadHalf {
     fn drop(&mut self) {
-        let mut state = self.0.shared.lock();
-        self.0.halves().unread = true;
-        self.0.tidy(&mut state);
+        let mut state = self.stream.shared.lock();
+        self.stream.halves().unread = true;
+        self.stream.tidy(&mut state);
     }
 }
 
 impl WriteHalf {
     /// The stream's number on the wire.
     pub fn id(&self) -> u32 {
-        self.0.id
+        self.stream.id
     }
 
-    /// Ends this side of the stream, behind the last byte, and says whether it could.
+    /// For how long a write waits for credit before it is `TimedOut`, with no byte of it taken: for ever, if it is None.
+    pub fn set_write_timeout(&mut self, timeout: Option<Duration>) {
+        self.timeout = timeout;
+    }
+
+    /// Ends this side of the stream, behind the last byte, and says whether it could. The peer reads an end then, and
+    /// nowhere else.
     pub fn finish(self) -> io::Result<()> {
-        self.0.finish()
+        self.stream.finish()
     }
 
     /// Breaks the stream off, both ways.
     pub fn reset(self) {
-        self.0.reset();
+        self.stream.reset();
     }
 }
 
@@ -498,12 +822,11 @@ impl Write for WriteHalf {
         if bytes.is_empty() {
             return Ok(0);
         }
-        let stream = &*self.0;
+        let stream = &*self.stream;
+        let until = Until::of(self.timeout);
         let mut state = stream.shared.lock();
         loop {
-            if let Some(reason) = state.over {
-                return Err(lost(reason));
-            }
+            state.check()?;
             if stream.halves().reset {
                 return Err(Refused { code: YMX_E_RESET }.into());
             }
@@ -511,7 +834,7 @@ impl Write for WriteHalf {
                 stream.shared.sender.notify_one();
                 return Ok(count);
             }
-            state = wait(&stream.writable, state);
+            state = until.wait(&stream.writable, state)?;
         }
     }
 
@@ -523,6 +846,10 @@ impl Write for WriteHalf {
 
 impl Drop for WriteHalf {
     fn drop(&mut self) {
-        drop(self.0.finish());
+        let mut state = self.stream.shared.lock();
+        let is_finished = std::mem::replace(&mut self.stream.halves().finished, true);
+        if !is_finished {
+            self.stream.reset_in(&mut state);
+        }
     }
 }

@@ -3,9 +3,36 @@
 
 mod connection;
 
-pub use connection::{Connection, ReadHalf, Side, WriteHalf};
+pub use connection::{Connection, Ended, ReadHalf, Side, WriteHalf};
 use std::{ffi::CStr, fmt, ptr};
 use ymx_sys::*;
+
+/// The least window of a stream, in bytes, which is the usual one.
+pub const LEAST_WINDOW: u32 = YMX_LEAST_WINDOW;
+/// The widest window of a stream, in bytes.
+pub const WIDEST_WINDOW: u32 = YMX_WIDEST_WINDOW;
+/// How many streams a session has, at most.
+pub const MOST_STREAMS: usize = YMX_MOST_STREAMS;
+/// How many own streams are not acknowledged, at most.
+pub const MOST_OPENS_PENDING: usize = YMX_MOST_OPENS_PENDING;
+/// How many streams of the peer's wait to be accepted, at most.
+pub const MOST_OFFERED: usize = YMX_MOST_OFFERED;
+/// How many pings are awaited, at most.
+pub const MOST_PINGS_PENDING: usize = YMX_MOST_PINGS_PENDING;
+/// How many answers to the peer are unsent, at most: a feed takes nothing more then.
+pub const MOST_ANSWERS: usize = YMX_MOST_ANSWERS;
+/// How many streams a [`Touched`] names, at most.
+pub const MOST_TOUCHED: usize = YMX_MOST_TOUCHED;
+
+/// The library's version, as "0.2.0".
+pub fn version() -> &'static str {
+    text(unsafe { ymx_version() })
+}
+
+/// A static text of the library's.
+fn text(at: *const c_char) -> &'static str {
+    unsafe { CStr::from_ptr(at) }.to_str().unwrap_or("UNKNOWN")
+}
 
 /// Which side of the connection it is.
 #[derive(Clone, Copy, Debug, PartialEq, Eq)]
@@ -22,9 +49,7 @@ pub struct Refused {
 
 impl Refused {
     pub fn name(self) -> &'static str {
-        unsafe { CStr::from_ptr(ymx_error_name(self.code)) }
-            .to_str()
-            .unwrap_or("UNKNOWN")
+        text(unsafe { ymx_error_name(self.code) })
     }
 }
 
@@ -35,6 +60,103 @@ impl fmt::Display for Refused {
 }
 
 impl std::error::Error for Refused {}
+
+/// Why a session broke. This side has found the first seven, the peer says the last two.
+#[derive(Clone, Copy, Debug, PartialEq, Eq)]
+pub enum Fault {
+    /// A frame's version is not 0.
+    BadVersion,
+    /// A frame's type is above 3.
+    UnknownType,
+    /// A SYN for stream 0, or for an id of this side's.
+    BadSyn,
+    /// A SYN for a stream that is there.
+    StreamInUse,
+    /// Data beyond the window.
+    WindowExceeded,
+    /// A credit above 4,294,967,295 bytes.
+    CreditOverflow,
+    /// A Go Away code above 2.
+    BadGoAwayCode,
+    /// The peer says that it found a protocol error.
+    PeerSawProtocolError,
+    /// The peer says that it has an internal error.
+    PeerSawInternalError,
+}
+
+const FAULTS: [(Fault, i64, &str); 9] = [
+    (
+        Fault::BadVersion,
+        YMX_FAULT_BAD_VERSION,
+        "a frame's version is not 0",
+    ),
+    (
+        Fault::UnknownType,
+        YMX_FAULT_UNKNOWN_TYPE,
+        "a frame's type is above 3",
+    ),
+    (
+        Fault::BadSyn,
+        YMX_FAULT_BAD_SYN,
+        "a SYN for stream 0, or for an id of this side's",
+    ),
+    (
+        Fault::StreamInUse,
+        YMX_FAULT_STREAM_IN_USE,
+        "a SYN for a stream that is there",
+    ),
+    (
+        Fault::WindowExceeded,
+        YMX_FAULT_WINDOW_EXCEEDED,
+        "Data beyond the window",
+    ),
+    (
+        Fault::CreditOverflow,
+        YMX_FAULT_CREDIT_OVERFLOW,
+        "a credit above 4,294,967,295 bytes",
+    ),
+    (
+        Fault::BadGoAwayCode,
+        YMX_FAULT_BAD_GO_AWAY_CODE,
+        "a Go Away code above 2",
+    ),
+    (
+        Fault::PeerSawProtocolError,
+        YMX_FAULT_PEER_SAW_PROTOCOL_ERROR,
+        "the peer says that it found a protocol error",
+    ),
+    (
+        Fault::PeerSawInternalError,
+        YMX_FAULT_PEER_SAW_INTERNAL_ERROR,
+        "the peer says that it has an internal error",
+    ),
+];
+
+impl Fault {
+    /// The fault of this number, 1 to 9.
+    pub fn of_number(number: i64) -> Option<Fault> {
+        FAULTS
+            .iter()
+            .find(|(_, of, _)| *of == number)
+            .map(|(fault, _, _)| *fault)
+    }
+
+    /// Its number in ymx.h, 1 to 9.
+    pub fn number(self) -> i64 {
+        self as i64 + YMX_FAULT_BAD_VERSION
+    }
+
+    /// Its name in docs/PROTOCOL.md, "B1" to "B9".
+    pub fn name(self) -> &'static str {
+        text(unsafe { ymx_fault_name(self.number()) })
+    }
+}
+
+impl fmt::Display for Fault {
+    fn fmt(&self, f: &mut fmt::Formatter<'_>) -> fmt::Result {
+        write!(f, "{} ({})", FAULTS[*self as usize].2, self.name())
+    }
+}
 
 /// What a read gives.
 #[derive(Clone, Copy, Debug, PartialEq, Eq)]
@@ -304,6 +426,11 @@ impl Session {
     /// 0 running, 1 lost, 2 closed, 101 to 109 broken.
     pub fn status(&self) -> i64 {
         unsafe { ymx_status(self.0.as_ptr()) }
+    }
+
+    /// Why it broke; `None` where it did not.
+    pub fn fault(&self) -> Option<Fault> {
+        Fault::of_number(self.status() - YMX_BROKEN)
     }
 }
 

@@ -64,3 +64,37 @@ fn touched_streams_are_named() {
     server.consume(busy, 4).unwrap();
     assert!(server.unread(busy).is_empty() && server.is_at_end(busy));
 }
+
+#[test]
+fn faults_have_numbers_and_names() {
+    use ymx::Fault;
+    for number in 1..10 {
+        let fault = Fault::of_number(number).unwrap();
+        assert_eq!(fault.number(), number);
+        assert_eq!(fault.name(), format!("B{number}"));
+        assert!(fault.to_string().ends_with(&format!(" (B{number})")));
+    }
+    assert_eq!((Fault::of_number(0), Fault::of_number(10)), (None, None));
+    let mut session = Session::new(Role::Server, ymx::LEAST_WINDOW, 0).unwrap();
+    assert_eq!(session.fault(), None);
+    session.feed(&[0, 4, 0, 0, 0, 0, 0, 0, 0, 0, 0, 0]).unwrap(); // a type above 3
+    assert_eq!(session.fault(), Some(Fault::UnknownType));
+}
+
+#[test]
+fn the_limits_are_those_that_the_library_keeps() {
+    let mut client = Session::new(Role::Client, ymx::WIDEST_WINDOW, 0).unwrap();
+    let mut opened = 0;
+    while client.open().is_ok() {
+        opened += 1;
+    }
+    assert_eq!(opened, ymx::MOST_OPENS_PENDING);
+    let mut pings = 0;
+    while client.ping().is_ok() {
+        pings += 1;
+    }
+    assert_eq!(pings, ymx::MOST_PINGS_PENDING);
+    assert!(Session::new(Role::Client, ymx::WIDEST_WINDOW + 1, 0).is_err());
+    assert!(Session::new(Role::Client, ymx::LEAST_WINDOW - 1, 0).is_err());
+    assert!(ymx::version().starts_with("0."));
+}
