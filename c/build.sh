@@ -9,8 +9,8 @@
 # the same under any umask.
 # The proved part is that of release/, if it was made from these very sources: this needs no toolchain but C's. Where a
 # source has changed, `rt lib` in crates/ymx_c proves what isn't proved yet. --prove proves all crates of the library from
-# nothing with `rt`, and compares what it built with the release. Or YMX_ARCHIVE names the crate's archive. CC and CFLAGS
-# are for the C part, ymx.c.
+# nothing with `rt`, and compares what it built with the release. Or YMX_ARCHIVE names the crate's archive. CC, CPPFLAGS and
+# CFLAGS are for the C part, ymx.c; CC, CFLAGS and LDFLAGS for libymx.so.
 set -eu
 here=$(cd "$(dirname "$0")" && pwd)
 root=$(cd "$here/.." && pwd)
@@ -75,6 +75,10 @@ $libdir/pkgconfig/ymx.pc
 $libdir/cmake/ymx/ymxConfig.cmake
 $libdir/cmake/ymx/ymxConfigVersion.cmake
 $prefix/share/man/man3/ymx.3"
+# A page for each call, which leads to ymx.3: the calls that it shows.
+pages=$(sed -n 's/^\.B .*[ *]\(ymx_[a-z_]*\)(.*);$/\1.3/p' "$here/ymx.3")
+files="$files
+$(printf '%s\n' "$pages" | sed "s|^|$(printf '%s\n' "$prefix" | sed 's/[\\&|]/\\&/g')/share/man/man3/|")"
 # of the program and of the library
 license=$prefix/share/doc/ymx/LICENSE
 
@@ -138,15 +142,18 @@ archive=$(absolute "$archive")
 cd "$scratch"
 ar x "$archive"
 [ -f heap.pic.o ] || ar x "$(dirname "$(rt doc)")/c/liblibc_c.a" heap.pic.o
+# (ld -r can't read what -flto makes)
 # shellcheck disable=SC2086
-$compiler ${CFLAGS--O2} -std=c99 -fPIC -Wall -Wextra -pedantic -Werror -I"$here" -c "$here/ymx.c" -o ymx.o
+$compiler ${CPPFLAGS-} ${CFLAGS--O2} -std=c99 -fPIC -fno-lto -fasynchronous-unwind-tables -Wall -Wextra -pedantic \
+    -I"$here" -c "$here/ymx.c" -o ymx.o
 ld -r -o libymx.o ymx_c.o heap.pic.o ymx.o
 nm ymx.o | sed -n 's/^[0-9a-f]* T //p' | grep '^ymx_' > names
 objcopy --keep-global-symbols=names libymx.o
 rm -f "$target/lib/libymx.a"
 ar rcs "$target/lib/libymx.a" libymx.o
-$compiler -shared "-Wl,-soname,$soname" -Wl,-z,relro,-z,now,-z,noexecstack -Wl,--no-undefined \
-    -o "$target/lib/libymx.so.$version" libymx.o
+# shellcheck disable=SC2086
+$compiler ${CFLAGS--O2} -fno-lto ${LDFLAGS-} -shared "-Wl,-soname,$soname" "-Wl,--version-script,$here/libymx.map" \
+    -Wl,-z,relro,-z,now,-z,noexecstack -Wl,--no-undefined -o "$target/lib/libymx.so.$version" libymx.o
 ln -sf "libymx.so.$version" "$target/lib/$soname"
 ln -sf "$soname" "$target/lib/libymx.so"
 cp "$here/ymx.h" "$target/include/ymx.h"
@@ -214,6 +221,10 @@ put 644 installed/ymx.pc "$libdir/pkgconfig/ymx.pc"
 put 644 installed/ymxConfig.cmake "$libdir/cmake/ymx/ymxConfig.cmake"
 put 644 installed/ymxConfigVersion.cmake "$libdir/cmake/ymx/ymxConfigVersion.cmake"
 put 644 "$here/ymx.3" "$prefix/share/man/man3/ymx.3"
+echo '.so man3/ymx.3' > page
+for page in $pages; do
+    put 644 page "$prefix/share/man/man3/$page"
+done
 put 644 "$root/LICENSE" "$license"
 echo "libymx $version installed below $destdir$prefix"
 [ -n "$destdir" ] || echo "a program may find $soname in $libdir only once \`ldconfig\` has run"

@@ -41,6 +41,7 @@ drwxr-xr-x usr/share/man
 drwxr-xr-x usr/share/man/man3
 -rw-r--r-- usr/share/man/man3/ymx.3
 END_OF_LIST
+    sed -n 's|^YMX_API.*[ *]\(ymx_[a-z_]*\)(.*|-rw-r--r-- usr/share/man/man3/\1.3|p' "$root/c/ymx.h" | LC_ALL=C sort >> wanted
     for mask in 022 077; do
         mkdir "place$mask"
         (umask $mask && DESTDIR=place$mask PREFIX=/usr "$root/c/build.sh" install)
@@ -48,6 +49,12 @@ END_OF_LIST
         diff wanted found || fail "under umask $mask other things are put"
     done
     diff -r place022 place077 || fail 'under another umask other files are put'
+    if command -v man > /dev/null && man --version 2> /dev/null | grep -q man; then
+        for page in ymx ymx_open ymx_touched_is_all; do
+            MANPAGER=cat man -M place022/usr/share/man 3 $page > shown || fail "there is no page of $page"
+            grep -q 'ymx_open(ymx_session' shown || fail "the page of $page does not lead to that of ymx"
+        done
+    fi
 
     # a library of one's own beside it, and the program's licence, stay
     mkdir place022/usr/bin

@@ -13,7 +13,7 @@ trap 'rm -rf "$scratch"' EXIT
 trap 'exit 130' INT TERM
 passed=0
 failed=0
-"$root/c/build.sh" "$scratch/built"
+CFLAGS='-O2 -Werror' "$root/c/build.sh" "$scratch/built"
 library=$scratch/built/lib
 cd "$scratch"
 
@@ -52,10 +52,22 @@ in_cpp() {
 }
 
 only_ours() {
-    nm -D --defined-only "$library/libymx.so" | sed 's/.* //' | sort > shown
+    nm -D --defined-only "$library/libymx.so" | sed -n 's/.* T //p' | sort > versions
+    sed 's/@@.*//' versions > shown
     sed -n 's/^YMX_API.*[ *]\(ymx_[a-z_]*\)(.*/\1/p' "$root/c/ymx.h" | sort > declared
     nm -g --defined-only "$library/libymx.a" | sed -n 's/.* T //p' | sort > linked
-    diff declared shown && diff declared linked
+    diff declared shown && diff declared linked && ! grep -v '@@LIBYMX_[0-9]*\.[0-9]*$' versions
+}
+
+# With the flags of a distribution, and with those of clang, where it stands.
+any_flags() {
+    CPPFLAGS=-DNDEBUG CFLAGS='-O3 -g -flto=auto -fstack-protector-strong' LDFLAGS='-Wl,-z,separate-code -Wl,--build-id=0xabcdef01' \
+        "$root/c/build.sh" flagged || return 1
+    readelf -n flagged/lib/libymx.so | grep -q 'Build ID: abcdef01$' || { echo 'LDFLAGS are not honoured'; return 1; }
+    readelf -S flagged/lib/libymx.a | grep -q '\.debug_info' || { echo 'CFLAGS are not honoured'; return 1; }
+    cc -o by_flagged -Iflagged/include "$root/examples/c/pair.c" -Lflagged/lib -lymx && LD_LIBRARY_PATH=flagged/lib ./by_flagged || return 1
+    readelf -V by_flagged | grep -q LIBYMX_0.2 || { echo 'a program asks for no version'; return 1; }
+    ! command -v clang > /dev/null || CC=clang "$root/c/build.sh" by_clang
 }
 
 only_libc() {
@@ -98,6 +110,7 @@ same_manual() {
 is "ymx.h and a program in C++11" in_cpp
 is "the libraries show what ymx.h declares, and nothing else" only_ours
 is "the shared library needs libc alone" only_libc
+is "it is built with any flags, and a program asks for its version" any_flags
 is "each constant is the proved crate's" same_numbers
 is "what ymx.h says in words" built_and_run words "$here/words.c" -O1 -fsanitize=address,undefined -fno-sanitize-recover=all
 is "NULL" built_and_run nulls "$here/nulls.c" -fsanitize=address,undefined -fno-sanitize-recover=all
