@@ -367,6 +367,37 @@ class Leaving(unittest.IsolatedAsyncioTestCase):
                 writer.close()
         self.assertEqual(await asyncio.wait_for(came, 10), texts)
 
+    async def test_a_slow_peer_gets_all_also_what_the_socket_does_not_take_at_once(self):
+        """More than the sockets hold, at a peer that looks only now and then, and sends meanwhile."""
+        done = asyncio.get_running_loop().create_future()
+
+        async def serve(connection):
+            pings = []
+            for at in range(1000):  # it reads now and then
+                if connection._over is not None:
+                    break
+                connection._transport.pause_reading()
+                await asyncio.sleep(0.01)
+                connection._transport.resume_reading()
+                await asyncio.sleep(0.001)
+                if at % 4 == 0 and at < 64:
+                    pings.append(asyncio.ensure_future(connection.ping()))
+            streams = [await connection.accept_stream() for _ in range(40)]
+            done.set_result([len(await reader.read()) for reader, _ in streams])
+            await asyncio.gather(*pings, return_exceptions=True)
+
+        listener = socket.socket()
+        listener.setsockopt(socket.SOL_SOCKET, socket.SO_RCVBUF, 100000)
+        listener.bind(("127.0.0.1", 0))
+        server = await ymx.start_server(serve, None, None, sock=listener)
+        self.addCleanup(server.close)
+        async with await ymx.open_connection(*listener.getsockname()) as connection:
+            kept = [await connection.open_stream() for _ in range(40)]
+            for _, writer in kept:
+                writer.write(bytes(250000))
+                writer.write_eof()
+        self.assertEqual(await asyncio.wait_for(done, 10), [250000] * 40)
+
     async def test_a_server_that_returns_sends_all_that_was_written(self):
         text = os.urandom(1000000)
 

@@ -269,6 +269,7 @@ class Connection(asyncio.Protocol):
         if self._over is None:
             self._unfed += _left_in(transport)
             self._feed()
+        self._is_short |= self.session.unsent_total() > 0
         self._lose(ConnectionLost("the connection has ended" if error is None else str(error)))
         if self._watching is not None:
             self._watching.cancel()
@@ -407,7 +408,6 @@ class Connection(asyncio.Protocol):
         for transport in list(self._streams.values()):
             self._is_short |= transport.unsent_size > 0
             transport.lose(again(reason))
-        self._is_short |= self.session.unsent_total() > 0
         self._streams.clear()
         for future in self._pings.values():
             if not future.done():
