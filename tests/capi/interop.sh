@@ -64,12 +64,13 @@ tests_in_go() {
 }
 
 tests_in_python() {
-    timeout 120 python3 -W ignore -m unittest discover -s "$root/bindings/python/tests"
+    "$root/bindings/python/test.sh" > tests 2>&1 || { cat tests; return 1; }
+    sed -n 's/^Ran \([0-9]* tests\) .*/\1/p; s/^Success: //p; /^no mypy/p' tests | paste -sd, -
 }
 
 tests_in_rust() {
-    (cd "$root/bindings/rust" && timeout 300 cargo test --offline --workspace) > tests 2>&1 || { cat tests; return 1; }
-    echo "$(grep -c '^test .* ok$' tests) tests"
+    "$root/bindings/rust/test.sh" > tests 2>&1 || { cat tests; return 1; }
+    echo "$(grep -c '^test .* ok$' tests) tests, $(tail -n 2 tests | paste -sd, -)"
     grep -q '^test .* ok$' tests
 }
 
