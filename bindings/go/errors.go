@@ -1,3 +1,5 @@
+//go:build cgo
+
 package yamux
 
 /*
@@ -5,17 +7,27 @@ package yamux
 */
 import "C"
 
-import "errors"
+import (
+	"errors"
+	"net"
+	"os"
+	"syscall"
+)
 
-// netError is an error that says whether it is a timeout, as net.Error asks.
-type netError struct {
+// fault is an error with the text of github.com/hashicorp/yamux, which is by errors.Is an error of the standard library
+// too. It is a net.Error, as net.ErrClosed is.
+type fault struct {
 	text               string
+	standard           error // or nil
 	timeout, temporary bool
 }
 
-func (e *netError) Error() string   { return e.text }
-func (e *netError) Timeout() bool   { return e.timeout }
-func (e *netError) Temporary() bool { return e.temporary }
+func (f *fault) Error() string   { return f.text }
+func (f *fault) Timeout() bool   { return f.timeout }
+func (f *fault) Temporary() bool { return f.temporary }
+
+// Is has errors.Is find the standard library's error.
+func (f *fault) Is(target error) bool { return f.standard != nil && target == f.standard }
 
 // The errors have the names and texts of github.com/hashicorp/yamux. Compare them by == or errors.Is.
 var (
@@ -23,27 +35,29 @@ var (
 	ErrInvalidVersion = errors.New("invalid protocol version")
 	// ErrInvalidMsgType: the peer sent a frame of an unknown type.
 	ErrInvalidMsgType = errors.New("invalid msg type")
-	// ErrSessionShutdown: the session has ended, before the call or during it.
-	ErrSessionShutdown = errors.New("session shutdown")
+	// ErrSessionShutdown: the session has ended, before the call or during it. By errors.Is it is net.ErrClosed.
+	ErrSessionShutdown error = &fault{text: "session shutdown", standard: net.ErrClosed}
 	// ErrStreamsExhausted: all ids for streams are used up. Make a new session.
 	ErrStreamsExhausted = errors.New("streams exhausted")
 	// ErrDuplicateStream: the peer opened a stream that is there.
 	ErrDuplicateStream = errors.New("duplicate stream initiated")
 	// ErrRecvWindowExceeded: the peer sent more than its credit.
 	ErrRecvWindowExceeded = errors.New("recv window exceeded")
-	// ErrTimeout: a deadline has passed, or no answer to a ping came. It is a net.Error whose Timeout is true.
-	ErrTimeout error = &netError{"i/o deadline reached", true, true}
-	// ErrStreamClosed: this side has closed the stream.
-	ErrStreamClosed = errors.New("stream closed")
+	// ErrTimeout: a deadline has passed, or no answer to a ping came. It is a net.Error whose Timeout is true, and by
+	// errors.Is os.ErrDeadlineExceeded.
+	ErrTimeout error = &fault{text: "i/o deadline reached", standard: os.ErrDeadlineExceeded, timeout: true, temporary: true}
+	// ErrStreamClosed: this side has closed the stream, before the call or during it. By errors.Is it is net.ErrClosed.
+	ErrStreamClosed error = &fault{text: "stream closed", standard: net.ErrClosed}
 	// ErrUnexpectedFlag is here for programs that name it. No call returns it: such a frame is passed over.
 	ErrUnexpectedFlag = errors.New("unexpected flag")
 	// ErrRemoteGoAway: the peer takes no more streams.
 	ErrRemoteGoAway = errors.New("remote end is not accepting connections")
-	// ErrConnectionReset: either side has reset the stream. The peer does so with a stream that it can't take.
-	ErrConnectionReset = errors.New("connection reset")
+	// ErrConnectionReset: either side has reset the stream. The peer does so with a stream that it can't take. By errors.Is
+	// it is syscall.ECONNRESET.
+	ErrConnectionReset error = &fault{text: "connection reset", standard: syscall.ECONNRESET}
 	// ErrConnectionWriteTimeout: the connection took no bytes for Config.ConnectionWriteTimeout. It is a net.Error whose
-	// Timeout is true.
-	ErrConnectionWriteTimeout error = &netError{"connection write timeout", true, false}
+	// Timeout is true. No deadline has passed, so it isn't os.ErrDeadlineExceeded.
+	ErrConnectionWriteTimeout error = &fault{text: "connection write timeout", timeout: true}
 	// ErrKeepAliveTimeout: a keepalive had no answer, so the session has ended.
 	ErrKeepAliveTimeout = errors.New("keepalive timeout")
 
@@ -78,7 +92,6 @@ func refusal(answer int64) error {
 const (
 	answerWait         = C.YMX_WAIT
 	answerOpensPending = C.YMX_E_OPENS_PENDING
-	answerPingsPending = C.YMX_E_PINGS_PENDING
 )
 
 // broken is the error for a status of YMX_BROKEN and more.
