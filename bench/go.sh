@@ -22,12 +22,12 @@ go 1.19
 
 require (
 	github.com/hashicorp/yamux v0.0.0
-	ymx/yamux v0.0.0
+	ymx.example/yamux v0.0.0
 )
 
 replace (
 	github.com/hashicorp/yamux => $theirs
-	ymx/yamux => $top/bindings/go
+	ymx.example/yamux => $top/bindings/go
 )
 END
 go build -o go_bench .

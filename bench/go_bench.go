@@ -14,7 +14,7 @@ import (
 	"time"
 
 	theirs "github.com/hashicorp/yamux"
-	ours "ymx/yamux"
+	ours "ymx.example/yamux"
 )
 
 type session interface {

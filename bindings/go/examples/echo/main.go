@@ -24,7 +24,7 @@ import (
 	"sync/atomic"
 	"time"
 
-	"ymx/yamux"
+	"ymx.example/yamux"
 )
 
 // How many streams the peers have reset.
