@@ -1,3 +1,5 @@
+//go:build cgo
+
 package yamux
 
 /*
@@ -88,6 +90,25 @@ static int64_t core_emit(core *c, uint8_t *buffer, size_t len) {
 static int64_t core_unread(core *c, uint32_t id) {
     return ymx_unread(c->session, id, &c->lent);
 }
+
+// What core_look answers, as a sum.
+enum { is_acknowledged = 1, is_reset = 2, has_ended = 4, has_unread = 8 };
+
+// Says of a stream what a session asks once bytes have touched it: one call in place of four.
+static int core_look(core *c, uint32_t id) {
+    int said = 0;
+    if (ymx_is_acknowledged(c->session, id) == 1) said |= is_acknowledged;
+    if (ymx_is_reset(c->session, id) == 1) said |= is_reset;
+    if (ymx_has_ended(c->session, id) == 1) said |= has_ended;
+    if (ymx_unread(c->session, id, &c->lent) > 0) said |= has_unread;
+    return said;
+}
+
+// Forgets a stream, which may make a reset due.
+static void core_forget(core *c, uint32_t id) {
+    ymx_forget(c->session, id);
+    c->due = ymx_due(c->session);
+}
 */
 import "C"
 
@@ -132,11 +153,8 @@ func (core core) touched() (ids []C.uint32_t, isAll bool) {
 func (core core) hasPong() bool  { return core.c.pong == 1 }
 func (core core) offered() int64 { return int64(core.c.offered) }
 
-// isDue says whether something was due behind the last feed or read.
+// isDue says whether something was due behind the last feed, read or forget.
 func (core core) isDue() bool { return core.c.due == 1 }
-
-// dueNow asks the library.
-func (core core) dueNow() bool { return C.ymx_due(core.c.session) == 1 }
 
 func (core core) status() int64 { return int64(core.c.status) }
 
@@ -168,7 +186,9 @@ func (core core) read(id uint32, buffer []byte) int64 {
 func (core core) atEnd(id uint32) bool   { return C.ymx_is_at_end(core.c.session, C.uint32_t(id)) == 1 }
 func (core core) finish(id uint32) int64 { return int64(C.ymx_finish(core.c.session, C.uint32_t(id))) }
 func (core core) reset(id uint32) int64  { return int64(C.ymx_reset(core.c.session, C.uint32_t(id))) }
-func (core core) forget(id uint32)       { C.ymx_forget(core.c.session, C.uint32_t(id)) }
+
+// forget renews isDue.
+func (core core) forget(id uint32) { C.core_forget(core.c, C.uint32_t(id)) }
 
 // take appends the bytes that wait on a stream to some, by at most `most` bytes. They are copied from where they lie.
 func (core core) take(id uint32, some []byte, most int) []byte {
@@ -187,17 +207,21 @@ func (core core) take(id uint32, some []byte, most int) []byte {
 	return some
 }
 
-// hasEnded says whether the peer's end has arrived, also with bytes unread.
-func (core core) hasEnded(id uint32) bool {
-	return C.ymx_has_ended(core.c.session, C.uint32_t(id)) == 1
-}
+// news is what there is to say of a stream.
+type news C.int
+
+// look asks for the news of a stream.
+func (core core) look(id uint32) news { return news(C.core_look(core.c, C.uint32_t(id))) }
 
 // isAcknowledged says whether the peer has acknowledged a stream that was opened here.
-func (core core) isAcknowledged(id uint32) bool {
-	return C.ymx_is_acknowledged(core.c.session, C.uint32_t(id)) == 1
-}
+func (n news) isAcknowledged() bool { return n&C.is_acknowledged != 0 }
 
-func (core core) isReset(id uint32) bool { return C.ymx_is_reset(core.c.session, C.uint32_t(id)) == 1 }
+func (n news) isReset() bool { return n&C.is_reset != 0 }
+
+// hasEnded says whether the peer's end has arrived, also with bytes unread.
+func (n news) hasEnded() bool { return n&C.has_ended != 0 }
+
+func (n news) hasUnread() bool { return n&C.has_unread != 0 }
 
 func (core core) ping() int64 { return int64(C.ymx_ping(core.c.session)) }
 func (core core) ponged(number uint32) bool {

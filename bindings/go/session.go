@@ -1,3 +1,5 @@
+//go:build cgo
+
 // Package yamux carries many streams over one connection. It has the calls of github.com/hashicorp/yamux, over libymx,
 // whose session is proved. The README says how to build it, and where it differs.
 package yamux
@@ -12,9 +14,8 @@ import (
 	"time"
 )
 
-// One block has room for the window of one stream and the headers of its frames, so that what one write made due goes
-// out in one piece.
-const blockSize = leastWindow + 16*1024
+// How long a session that can't write any more goes on to read what the peer has still sent.
+const lastReads = time.Second
 
 // Session is one side of a connection. All its calls may be made by many goroutines at once.
 //
@@ -25,7 +26,8 @@ type Session struct {
 	config     *Config
 	logger     *log.Logger
 	connection io.ReadWriteCloser
-	atOnce     *atOnce       // nil where the connection has no call that writes what it takes at once
+	socket     *socket       // nil where the connection is none
+	source     *source       // for the reading goroutine alone
 	done       chan struct{} // closed as the session ends
 	readerDone chan struct{} // closed as the reading goroutine ends
 	pingSeats  chan struct{} // the pings that the library keeps: 16 at most
@@ -33,7 +35,8 @@ type Session struct {
 	lock     sync.Mutex // guards all below, and each call of the core
 	core     core
 	over     bool
-	failure  error // why it is over, or will be once the last bytes are out
+	mute     bool  // nothing goes out any more, and what the peer has sent is still read
+	failure  error // why it is over, or will be once the last bytes are out or read
 	due      bool  // there is something to emit
 	busy     bool  // somebody writes to the connection
 	full     bool  // the connection didn't take all at once, so the writing goroutine waits for it
@@ -41,9 +44,10 @@ type Session struct {
 	unacked  int   // own streams that the peer has not acknowledged
 	streams  map[uint32]*Stream
 	leaving  map[uint32]*Stream // forgotten by the library, but their end is not out
+	kept     []*Stream          // the peer's, which came before the session ended, and wait for AcceptStream
 	pings    map[uint32]*ping
-	block    []byte // for what is emitted
-	rest     []byte // what of it the connection has not taken
+	block    *[blockSize]byte // for what is emitted; nil while nothing is
+	rest     []byte           // what of it the connection has not taken
 	out      outgoing
 	drains   uint64    // emissions after which nothing was due
 	outside  uint64    // how many of them the connection has taken
@@ -51,6 +55,8 @@ type Session struct {
 	turns    []*Stream // of which a Write waits for the connection, the first to come first
 	away     bool      // our Go Away is out
 	watching bool      // a look at those who wait for the connection to take their bytes is planned
+	opening  patience  // own streams that the peer has not acknowledged
+	closing  patience  // streams that are closed here, and not ended by the peer
 
 	sender     *sync.Cond // the writing goroutine has something to do
 	emitted    *sync.Cond // bytes were emitted
@@ -81,8 +87,7 @@ func newSession(config *Config, connection io.ReadWriteCloser, client bool) (*Se
 		config:     config,
 		logger:     logger,
 		connection: connection,
-		atOnce:     newAtOnce(connection),
-		block:      make([]byte, blockSize),
+		socket:     newSocket(connection),
 		done:       make(chan struct{}),
 		readerDone: make(chan struct{}),
 		pingSeats:  make(chan struct{}, 16),
@@ -91,6 +96,9 @@ func newSession(config *Config, connection io.ReadWriteCloser, client bool) (*Se
 		leaving:    make(map[uint32]*Stream),
 		pings:      make(map[uint32]*ping),
 	}
+	s.source = newSource(connection, s.socket)
+	s.opening = patience{lock: &s.lock, limit: config.StreamOpenTimeout, tired: (*Stream).openTimedOut}
+	s.closing = patience{lock: &s.lock, limit: config.StreamCloseTimeout, tired: (*Stream).closeTimedOut}
 	for _, cond := range []**sync.Cond{&s.sender, &s.emitted, &s.acceptable, &s.openable, &s.written} {
 		*cond = sync.NewCond(&s.lock)
 	}
@@ -117,10 +125,21 @@ func (s *Session) IsClosed() bool {
 // CloseChan gives a channel that is closed as the session ends.
 func (s *Session) CloseChan() <-chan struct{} { return s.done }
 
-// Close ends the session and its connection, and all streams. What has come of a stream can still be read.
+// Close ends the session and its connection, and all streams. What has come of a stream that was accepted or opened can
+// still be read. Streams that nobody has accepted are gone.
+//
+// What Write and Close of a stream have returned for is on its way: where the peer has no room for it, Close waits for a
+// second at most (on Linux, over TCP).
 func (s *Session) Close() error {
+	s.lock.Lock()
+	for s.writeHere() {
+	}
+	s.lock.Unlock()
 	s.end(ErrSessionShutdown)
 	<-s.readerDone
+	s.lock.Lock()
+	s.kept = nil
+	s.lock.Unlock()
 	return nil
 }
 
@@ -131,31 +150,70 @@ func (s *Session) end(reason error) {
 		s.lock.Unlock()
 		return
 	}
-	s.over = true
 	if s.failure == nil {
 		s.failure = reason
 	}
+	s.over = true
 	for _, stream := range s.streams {
 		stream.abandon()
 	}
+	s.keepOffered()
 	s.wakeFlushing() // also of streams that the library has forgotten
 	s.core.free()
+	s.opening.stop()
+	s.closing.stop()
 	close(s.done)
 	for _, cond := range []*sync.Cond{s.sender, s.emitted, s.acceptable, s.openable, s.written} {
 		cond.Broadcast()
 	}
 	s.lock.Unlock()
+	if reason == ErrSessionShutdown && s.socket != nil {
+		s.socket.settle(lastReads)
+	}
 	s.connection.Close()
+}
+
+// keepOffered takes what the peer has sent of streams that nobody has accepted yet, so that AcceptStream still gives them.
+func (s *Session) keepOffered() {
+	for id := s.core.accept(); id > 0; id = s.core.accept() {
+		stream := newStream(s, uint32(id))
+		stream.abandon()
+		s.kept = append(s.kept, stream)
+	}
+}
+
+// isDown says whether nothing goes out any more.
+func (s *Session) isDown() bool { return s.over || s.mute }
+
+// silence notes that the connection takes no more bytes. Before the session ends for this reason, what the peer has sent
+// is read: a peer that hangs up refuses ours.
+func (s *Session) silence(reason error) {
+	if s.over || s.mute {
+		return
+	}
+	s.mute = true
+	if s.failure == nil {
+		s.failure = reason
+	}
+	for _, stream := range s.streams {
+		stream.writable.Broadcast()
+	}
+	s.wakeFlushing()
+	for _, cond := range []*sync.Cond{s.emitted, s.openable, s.written} {
+		cond.Broadcast()
+	}
+	time.AfterFunc(lastReads, func() { s.end(reason) })
 }
 
 // ---- bytes that come
 
 func (s *Session) receive() {
 	defer close(s.readerDone)
-	block := make([]byte, blockSize)
 	for {
-		count, err := s.connection.Read(block)
-		if count > 0 && !s.feed(block[:count]) {
+		bytes, err := s.source.read()
+		goesOn := s.feed(bytes)
+		s.source.release()
+		if !goesOn {
 			return
 		}
 		if err != nil {
@@ -170,6 +228,9 @@ func (s *Session) receive() {
 
 // feed feeds all of it, and says whether the session goes on.
 func (s *Session) feed(bytes []byte) bool {
+	if len(bytes) == 0 {
+		return true
+	}
 	s.lock.Lock()
 	defer s.lock.Unlock()
 	for !s.over {
@@ -183,9 +244,21 @@ func (s *Session) feed(bytes []byte) bool {
 		if len(bytes) == 0 {
 			return true
 		}
+		if s.mute {
+			s.discard() // nobody will send the answers
+			continue
+		}
 		s.emitted.Wait() // as many answers are unsent as the library keeps
 	}
 	return false
+}
+
+// discard takes what is due out of the library, for nobody.
+func (s *Session) discard() {
+	block := blocks.Get().(*[blockSize]byte)
+	for s.core.emit(block[:]) == blockSize {
+	}
+	blocks.Put(block)
 }
 
 // serve wakes those for whom the fed bytes have changed something.
@@ -224,7 +297,7 @@ func (s *Session) serve() {
 func (s *Session) breakOff(reason error) {
 	s.logger.Printf("[ERR] yamux: the peer broke the rules: %v", reason)
 	s.failure = reason
-	if !s.due {
+	if !s.due || s.mute {
 		go s.end(reason)
 		return
 	}
@@ -252,13 +325,15 @@ func (s *Session) send() {
 			continue
 		}
 		err := s.writeRest(s.connection.Write)
-		s.full = false
-		s.nextTurn()
-		if err != nil && !s.over {
-			s.logger.Printf("[ERR] yamux: Failed to write: %v", err)
-			go s.end(err)
+		if err != nil {
+			if !s.over {
+				s.logger.Printf("[ERR] yamux: Failed to write: %v", err)
+				s.silence(err)
+			}
 			return
 		}
+		s.full = false
+		s.nextTurn()
 	}
 }
 
@@ -270,15 +345,33 @@ func (s *Session) fill() bool {
 	if !s.due {
 		return false
 	}
-	count := s.core.emit(s.block)
+	s.takeBlock()
+	count := s.core.emit(s.block[:])
 	s.rest = s.block[:count]
-	s.due = count == len(s.block)
+	s.due = count == blockSize
 	if !s.due {
 		s.drains++
 	}
 	s.emitted.Broadcast()
 	s.drained()
+	s.giveBlock()
 	return count > 0
+}
+
+// takeBlock has a block for what is emitted.
+func (s *Session) takeBlock() {
+	if s.block == nil {
+		s.block = blocks.Get().(*[blockSize]byte)
+	}
+}
+
+// giveBlock gives it back, once the connection has taken all.
+func (s *Session) giveBlock() {
+	if s.block != nil && len(s.rest) == 0 && !s.busy {
+		s.rest = nil
+		blocks.Put(s.block)
+		s.block = nil
+	}
 }
 
 // through has bytes of a stream go straight into frames, if all that was due before is out, and says how many.
@@ -286,11 +379,13 @@ func (s *Session) through(id uint32, bytes []byte) int {
 	if s.isOccupied() || s.due {
 		return 0
 	}
-	taken, filled := s.core.writeThrough(id, bytes, s.block)
+	s.takeBlock()
+	taken, filled := s.core.writeThrough(id, bytes, s.block[:])
+	s.rest = s.block[:filled]
 	if filled > 0 {
-		s.rest = s.block[:filled]
 		s.drains++ // nothing is due behind it
 	}
+	s.giveBlock()
 	return taken
 }
 
@@ -310,24 +405,25 @@ func (s *Session) writeRest(write func([]byte) (int, error)) error {
 			go s.end(s.failure)
 		}
 	}
+	s.giveBlock()
 	return err
 }
 
 // writeHere writes what is due in the calling goroutine, as far as the connection takes it at once, and says whether it
 // did. Then the lock was released meanwhile, so the caller looks anew before it waits. The writing goroutine goes on.
 func (s *Session) writeHere() bool {
-	if s.busy || s.full || s.over {
+	if s.busy || s.full || s.isDown() {
 		return false
 	}
 	if !s.fill() {
 		s.nextTurn()
 		return false
 	}
-	if s.atOnce == nil {
+	if s.socket == nil {
 		s.sender.Signal()
 		return false
 	}
-	s.writeRest(s.atOnce.write)
+	s.writeRest(s.socket.write)
 	s.full = len(s.rest) > 0
 	if s.due || s.full {
 		s.sender.Signal()
@@ -421,11 +517,12 @@ func (s *Session) Open() (net.Conn, error) {
 	return stream, nil
 }
 
-// OpenStream opens a stream. It waits while AcceptBacklog streams are not acknowledged.
+// OpenStream opens a stream. It waits while AcceptBacklog streams are not acknowledged. Once the session is over it returns
+// ErrSessionShutdown, and ErrRemoteGoAway where the peer takes no more streams.
 func (s *Session) OpenStream() (*Stream, error) {
 	s.lock.Lock()
 	defer s.lock.Unlock()
-	for !s.over {
+	for !s.isDown() {
 		if s.unacked >= s.config.AcceptBacklog {
 			s.openable.Wait()
 			continue
@@ -441,15 +538,18 @@ func (s *Session) OpenStream() (*Stream, error) {
 		stream := newStream(s, uint32(answer))
 		stream.isUnacked = true
 		s.unacked++
-		if limit := s.config.StreamOpenTimeout; limit > 0 {
-			stream.openTimer = time.AfterFunc(limit, stream.endUnacked)
+		s.opening.add(&stream.opening, stream)
+		if err := stream.begin(); err != nil {
+			stream.breakOff(err)
+			return nil, err
 		}
-		return stream.begun()
+		return stream, nil
 	}
 	return nil, ErrSessionShutdown
 }
 
-// Accept is AcceptStream for programs that want a net.Conn. With it a Session is a net.Listener.
+// Accept is AcceptStream for programs that want a net.Conn. With it a Session is a net.Listener, whose end is no
+// net.ErrClosed unless this side has closed it.
 func (s *Session) Accept() (net.Conn, error) {
 	stream, err := s.AcceptStream()
 	if err != nil {
@@ -458,7 +558,10 @@ func (s *Session) Accept() (net.Conn, error) {
 	return stream, nil
 }
 
-// AcceptStream waits for a stream of the peer's. Once the session is over it returns why.
+// AcceptStream waits for a stream of the peer's. Once the session is over, and all streams that came before are given,
+// it returns why: io.EOF where the peer has hung up, ErrSessionShutdown where this side has closed the session,
+// ErrKeepAliveTimeout, ErrTimeout where the peer has not acknowledged a stream in time, the fault where the peer broke the
+// rules, or the error of the connection. Where this side has closed the session, streams that came before are not given.
 func (s *Session) AcceptStream() (*Stream, error) {
 	return s.AcceptStreamWithContext(context.Background())
 }
@@ -480,9 +583,17 @@ func (s *Session) AcceptStreamWithContext(waits context.Context) (*Stream, error
 	}
 	s.lock.Lock()
 	defer s.lock.Unlock()
-	for !s.over {
+	for {
 		if err := waits.Err(); err != nil {
 			return nil, err
+		}
+		if len(s.kept) > 0 {
+			stream := s.kept[0]
+			s.kept = s.kept[1:]
+			return stream, nil
+		}
+		if s.over {
+			return nil, s.failure
 		}
 		if s.offered == 0 {
 			s.acceptable.Wait()
@@ -497,9 +608,10 @@ func (s *Session) AcceptStreamWithContext(waits context.Context) (*Stream, error
 		if answer < 0 {
 			return nil, refusal(answer)
 		}
-		return newStream(s, uint32(answer)).begun()
+		stream := newStream(s, uint32(answer))
+		stream.begin() // a later call tells if the session has ended: what came of the stream is there
+		return stream, nil
 	}
-	return nil, s.failure
 }
 
 // ---- the session as a whole
@@ -508,7 +620,7 @@ func (s *Session) AcceptStreamWithContext(waits context.Context) (*Stream, error
 func (s *Session) GoAway() error {
 	s.lock.Lock()
 	defer s.lock.Unlock()
-	if s.over {
+	if s.isDown() {
 		return ErrSessionShutdown
 	}
 	if answer := s.core.goAway(); answer < 0 {
@@ -516,7 +628,7 @@ func (s *Session) GoAway() error {
 	}
 	s.wakeWriter()
 	for since := time.Now(); !s.away; s.written.Wait() {
-		if s.over {
+		if s.isDown() {
 			return ErrSessionShutdown
 		}
 		if s.overdue(since) {
@@ -561,7 +673,8 @@ func (s *Session) beginPing(timeout <-chan time.Time) (*ping, error) {
 	}
 	s.lock.Lock()
 	defer s.lock.Unlock()
-	if s.over {
+	if s.isDown() {
+		<-s.pingSeats
 		return nil, ErrSessionShutdown
 	}
 	answer := s.core.ping()

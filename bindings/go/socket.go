@@ -1,51 +1,162 @@
+//go:build cgo
+
 package yamux
 
 import (
 	"io"
 	"net"
+	"os"
+	"sync"
 	"syscall"
+	"time"
 )
 
-// atOnce writes to a connection what it takes at once, and never waits. One goroutine at a time uses it.
-type atOnce struct {
-	socket syscall.RawConn
-	try    func(socket uintptr) bool // kept, so that a write allocates nothing
-	bytes  []byte
-	count  int
-	err    error
+// A block is for bytes that are on their way from or to a connection, for as long as that takes.
+const blockSize = 128 * 1024
+
+// blocks serve all sessions in turn, so that one in which nothing moves has none.
+var blocks = sync.Pool{New: func() any { return new([blockSize]byte) }}
+
+// socket is a connection that is read and written without waiting while a block is held.
+type socket struct {
+	connection net.Conn
+	raw        syscall.RawConn
+
+	// What one write gives and answers. One goroutine at a time writes.
+	try   func(descriptor uintptr) bool // kept, so that a write allocates nothing
+	bytes []byte
+	count int
+	err   error
+
+	// What one read answers. The reading goroutine alone reads.
+	look  func(descriptor uintptr) bool
+	block *[blockSize]byte
+	came  int
+	fault error
 }
 
-// newAtOnce gives nil for a connection that is no socket.
-func newAtOnce(connection io.ReadWriteCloser) *atOnce {
-	var socket syscall.RawConn
+// newSocket gives nil for a connection that is no socket.
+func newSocket(connection io.ReadWriteCloser) *socket {
+	var raw syscall.RawConn
 	var err error
 	switch connection := connection.(type) {
 	case *net.TCPConn:
-		socket, err = connection.SyscallConn()
+		raw, err = connection.SyscallConn()
 	case *net.UnixConn:
-		socket, err = connection.SyscallConn()
+		raw, err = connection.SyscallConn()
 	default:
 		return nil
 	}
 	if err != nil {
 		return nil
 	}
-	a := &atOnce{socket: socket}
-	a.try = func(socket uintptr) bool {
-		a.count, a.err = syscall.Write(int(socket), a.bytes)
+	s := &socket{connection: connection.(net.Conn), raw: raw}
+	s.try = func(descriptor uintptr) bool {
+		s.count, s.err = syscall.Write(int(descriptor), s.bytes)
 		return true // don't wait and try again
 	}
-	return a
+	s.look = s.readAtOnce
+	return s
 }
 
-// write says how many bytes were taken. An error is told again by the next write that waits.
-func (a *atOnce) write(bytes []byte) (int, error) {
-	a.bytes, a.count = bytes, 0
-	if err := a.socket.Write(a.try); err != nil {
+// write writes what the socket takes at once, and says how much. An error is told again by the next write that waits.
+func (s *socket) write(bytes []byte) (int, error) {
+	s.bytes, s.count = bytes, 0
+	err := s.raw.Write(s.try)
+	s.bytes = nil
+	if err != nil {
 		return 0, err
 	}
-	if a.count < 0 {
-		a.count = 0
+	if s.count < 0 {
+		s.count = 0
 	}
-	return a.count, a.err
+	return s.count, s.err
+}
+
+// read waits for bytes, and gives them with their block, which the caller gives back. No block is held while it waits.
+func (s *socket) read() (block *[blockSize]byte, count int, err error) {
+	if err := s.raw.Read(s.look); err != nil {
+		return nil, 0, err
+	}
+	block, s.block = s.block, nil
+	if s.fault != nil {
+		err = &net.OpError{Op: "read", Net: s.connection.LocalAddr().Network(), Source: s.connection.LocalAddr(),
+			Addr: s.connection.RemoteAddr(), Err: os.NewSyscallError("read", s.fault)}
+	} else if s.came == 0 {
+		err = io.EOF
+	}
+	return block, s.came, err
+}
+
+// readAtOnce takes a block and reads into it. It says whether there was anything: bytes, the end or a fault.
+func (s *socket) readAtOnce(descriptor uintptr) bool {
+	s.block = blocks.Get().(*[blockSize]byte)
+	for {
+		s.came, s.fault = syscall.Read(int(descriptor), s.block[:])
+		if s.fault != syscall.EINTR {
+			break
+		}
+	}
+	if s.fault == nil {
+		return true
+	}
+	s.came = 0
+	if s.fault == syscall.EAGAIN {
+		blocks.Put(s.block)
+		s.block = nil
+		return false
+	}
+	return true
+}
+
+// settle waits until the system has sent all that was written, for so long at most. It drops what it has still to send
+// where a connection is closed while something unread is there.
+func (s *socket) settle(most time.Duration) {
+	for since, wait := time.Now(), time.Millisecond; time.Since(since) < most; wait *= 2 {
+		left := 0
+		if err := s.raw.Control(func(descriptor uintptr) { left = unsent(descriptor) }); err != nil || left == 0 {
+			return
+		}
+		time.Sleep(wait)
+	}
+}
+
+// source is what a session reads from: a socket, or any other connection, which is read into bytes of its own.
+type source struct {
+	socket     *socket
+	connection io.Reader
+	own        []byte
+	block      *[blockSize]byte // where the bytes lie that a socket gave
+}
+
+// ownSize is what a read of a connection that is no socket gives at most: two records of TLS.
+const ownSize = 32 * 1024
+
+func newSource(connection io.Reader, socket *socket) *source {
+	if socket != nil {
+		return &source{socket: socket}
+	}
+	return &source{connection: connection, own: make([]byte, ownSize)}
+}
+
+// read waits for bytes, which are good until `release`.
+func (s *source) read() ([]byte, error) {
+	if s.socket == nil {
+		count, err := s.connection.Read(s.own)
+		return s.own[:count], err
+	}
+	block, count, err := s.socket.read()
+	s.block = block
+	if block == nil {
+		return nil, err
+	}
+	return block[:count], err
+}
+
+// release lets others have the block in which the bytes of the last read lay.
+func (s *source) release() {
+	if s.block != nil {
+		blocks.Put(s.block)
+		s.block = nil
+	}
 }

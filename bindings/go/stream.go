@@ -1,3 +1,5 @@
+//go:build cgo
+
 package yamux
 
 import (
@@ -13,8 +15,8 @@ type Stream struct {
 	sending sync.Mutex // one Write at a time
 
 	// The session's lock guards all below.
-	readable *sync.Cond // something has come, or the end; or a credit is out
-	writable *sync.Cond // credit has come, or the end; or bytes are out
+	readable sync.Cond // something has come, or the end; or a credit is out
+	writable sync.Cond // credit has come, or the end; or bytes are out
 	reading  deadline
 	writing  deadline
 
@@ -23,11 +25,11 @@ type Stream struct {
 	rest    []byte // what has come after Close, or before the session ended
 	end     error  // what Read returns behind that, once the library has forgotten the stream; nil before
 
-	finished   bool // our end is on its way, or out
-	closed     bool
-	isUnacked  bool // the peer has not acknowledged it
-	openTimer  *time.Timer
-	closeTimer *time.Timer
+	finished  bool // our end is on its way, or out
+	closed    bool
+	isUnacked bool // the peer has not acknowledged it
+	opening   waiting
+	closing   waiting
 
 	taken   uint64 // bytes that the library took from Write
 	gone    uint64 // how many of them are out
@@ -41,19 +43,21 @@ type Stream struct {
 
 func newStream(session *Session, id uint32) *Stream {
 	stream := &Stream{session: session, id: id}
-	stream.readable, stream.writable = sync.NewCond(&session.lock), sync.NewCond(&session.lock)
+	stream.readable.L, stream.writable.L = &session.lock, &session.lock
 	session.streams[id] = stream
 	return stream
 }
 
-// begun waits until the first frame of a stream that was just opened or accepted is out.
-func (st *Stream) begun() (*Stream, error) {
-	st.session.due = true
-	if err := st.flush(st.writable, func() bool { return st.begins }); err != nil {
-		st.breakOff(err)
-		return nil, err
+// begin sends the first frame of a stream that was just opened or accepted. A socket takes it together with what comes
+// next, or as soon as the writing goroutine has its turn. Over any other connection this waits until the frame is out.
+func (st *Stream) begin() error {
+	s := st.session
+	if s.socket != nil {
+		s.wakeWriter()
+		return nil
 	}
-	return st, nil
+	s.due = true
+	return st.flush(&st.writable, func() bool { return st.begins })
 }
 
 // Session gives the stream's session.
@@ -68,7 +72,9 @@ func (st *Stream) Shrink() {}
 // ---- reading
 
 // Read reads what has come, and waits while there is nothing. io.EOF comes once the peer has ended the stream and all was
-// read. After Close it goes on to give what comes. Where the session ends before the stream, it is ErrSessionShutdown.
+// read, and for no other reason. After Close it gives what has come, and then ErrStreamClosed, also to a Read that waits
+// already. Where the session ends before the stream, it gives what has come, and then ErrSessionShutdown. Behind a reset it
+// is ErrConnectionReset, and ErrTimeout where nothing is there and the deadline has passed.
 func (st *Stream) Read(buffer []byte) (int, error) {
 	if len(buffer) == 0 {
 		return 0, nil
@@ -102,6 +108,9 @@ func (st *Stream) Read(buffer []byte) (int, error) {
 			}
 			st.nothing = true
 		}
+		if st.closed {
+			return 0, ErrStreamClosed
+		}
 		if st.reading.isPast() {
 			return 0, ErrTimeout
 		}
@@ -117,11 +126,44 @@ func (st *Stream) credit() error {
 	}
 	s.due = true
 	wanted := st.credits + 1
-	err := st.flush(st.readable, func() bool { return st.credits >= wanted || st.reading.isPast() })
+	err := st.flush(&st.readable, func() bool { return st.credits >= wanted || st.closed || st.reading.isPast() })
 	if err == ErrSessionShutdown {
 		return nil // the bytes have come, and the next call tells it
 	}
 	return err
+}
+
+// copySize is how many bytes WriteTo has on the way.
+const copySize = 32 * 1024
+
+// WriteTo has io.Copy write all that comes. It returns nil once the peer has ended the stream and all is written. Where
+// this side has closed the stream it returns io.EOF, which io.Copy then returns too, and never does at an end: so a copy
+// that was broken off isn't taken for a whole one, and programs that pass over io.EOF, as go-plugin, log nothing.
+func (st *Stream) WriteTo(writer io.Writer) (int64, error) {
+	block := make([]byte, copySize)
+	var all int64
+	for {
+		count, err := st.Read(block)
+		if count > 0 {
+			written, fault := writer.Write(block[:count])
+			all += int64(written)
+			if fault == nil && written < count {
+				fault = io.ErrShortWrite
+			}
+			if fault != nil {
+				return all, fault
+			}
+		}
+		switch err {
+		case nil:
+		case io.EOF:
+			return all, nil
+		case ErrStreamClosed:
+			return all, io.EOF
+		default:
+			return all, err
+		}
+	}
 }
 
 // ---- writing
@@ -138,7 +180,7 @@ func (st *Stream) Write(bytes []byte) (int, error) {
 	}
 	before, all := st.taken, len(bytes)
 	err := st.hand(bytes)
-	fault := st.flush(st.writable, func() bool { return st.gone >= st.taken || st.writing.isPast() })
+	fault := st.flush(&st.writable, func() bool { return st.gone >= st.taken || st.closed || st.writing.isPast() })
 	if err == nil {
 		err = fault
 	}
@@ -156,11 +198,11 @@ func (st *Stream) Write(bytes []byte) (int, error) {
 
 // unsent is why bytes of a Write didn't get out.
 func (st *Stream) unsent() error {
-	if st.end == nil && st.session.core.isReset(st.id) {
+	if st.end == nil && st.session.core.look(st.id).isReset() {
 		st.leave(ErrConnectionReset)
 	}
-	if st.end != nil {
-		return st.writeFault()
+	if fault := st.writeFault(); fault != nil {
+		return fault
 	}
 	return ErrTimeout
 }
@@ -260,6 +302,9 @@ func (st *Stream) writeFault() error {
 	if st.end == io.EOF {
 		return ErrStreamClosed
 	}
+	if st.end == nil && st.session.mute {
+		return ErrSessionShutdown
+	}
 	return st.end
 }
 
@@ -287,7 +332,7 @@ func (st *Stream) flush(cond *sync.Cond, areOut func() bool) error {
 				return nil
 			}
 		}
-		if s.over {
+		if s.isDown() {
 			return ErrSessionShutdown
 		}
 		if areOut() || s.outside >= enough {
@@ -334,15 +379,28 @@ func (st *Stream) sentFrame(kind byte, flags uint16, length uint32) {
 
 // ---- the end
 
-// CloseWrite ends the writing side, behind the last byte. It may still be read.
+// CloseWrite ends the writing side, behind the last byte, and waits until the connection has taken the end. The stream may
+// still be read. It returns ErrConnectionReset or ErrSessionShutdown where the end can't be told any more, and
+// ErrConnectionWriteTimeout where the connection doesn't take it.
 func (st *Stream) CloseWrite() error {
 	st.session.lock.Lock()
 	defer st.session.lock.Unlock()
+	if st.finished {
+		return nil
+	}
+	if fault := st.writeFault(); fault != nil {
+		if st.end == io.EOF {
+			return nil
+		}
+		return fault
+	}
 	return st.finish()
 }
 
-// Close ends the writing side, behind the last byte, and lets the stream go once the peer has ended its own. What comes
-// until then can still be read, or is thrown away at the latest after StreamCloseTimeout, with a reset.
+// Close ends both sides. The writing side ends behind the last byte, and Close waits until the connection has taken that
+// end. A Read or Write that waits returns ErrStreamClosed, but a Read gives what has come first. Who wants to read on calls
+// CloseWrite. The stream is gone once the peer has ended it, and is reset if that takes longer than StreamCloseTimeout.
+// Close returns nil, whatever happens; CloseWrite before it says whether the peer can learn of the end.
 func (st *Stream) Close() error {
 	s := st.session
 	s.lock.Lock()
@@ -352,9 +410,8 @@ func (st *Stream) Close() error {
 		return nil
 	}
 	st.closed = true
-	if limit := s.config.StreamCloseTimeout; limit > 0 {
-		st.closeTimer = time.AfterFunc(limit, st.endClosed)
-	}
+	st.readable.Broadcast()
+	s.closing.add(&st.closing, st)
 	st.finish()
 	if st.end == nil {
 		st.tidy()
@@ -373,7 +430,7 @@ func (st *Stream) finish() error {
 	}
 	st.session.due = true
 	st.writable.Broadcast()
-	return st.flush(st.writable, func() bool { return st.ends })
+	return st.flush(&st.writable, func() bool { return st.ends })
 }
 
 // Reset breaks the stream off, both ways. Both sides' calls return ErrConnectionReset.
@@ -397,14 +454,17 @@ func (st *Stream) breakOff(reason error) {
 
 // touch is called where bytes have come for this stream.
 func (st *Stream) touch() {
-	if core := st.session.core; st.isUnacked && (core.isAcknowledged(st.id) || core.isReset(st.id)) {
-		st.acknowledged()
-	}
 	st.nothing, st.stalled = false, false
-	st.readable.Broadcast()
-	if st.closed {
-		st.tidy()
+	if st.isUnacked || st.closed {
+		news := st.session.core.look(st.id)
+		if news.isAcknowledged() || news.isReset() {
+			st.acknowledged()
+		}
+		if st.closed {
+			st.settle(news)
+		}
 	}
+	st.readable.Broadcast()
 	st.writable.Broadcast()
 }
 
@@ -416,21 +476,21 @@ func (st *Stream) acknowledged() {
 	st.isUnacked = false
 	st.session.unacked--
 	st.session.openable.Broadcast()
-	if st.openTimer != nil {
-		st.openTimer.Stop()
-	}
+	st.session.opening.remove(&st.opening)
 }
 
-// tidy lets a closed stream go, once the peer has ended it. What has come waits for Read.
-func (st *Stream) tidy() {
-	s := st.session
-	if s.core.hasEnded(st.id) {
-		st.rest = s.core.take(st.id, st.rest, widestWindow)
+// tidy lets a closed stream go, if that can be.
+func (st *Stream) tidy() { st.settle(st.session.core.look(st.id)) }
+
+// settle lets a closed stream go, once the peer has ended it. What has come waits for Read.
+func (st *Stream) settle(news news) {
+	if news.isReset() {
+		st.leave(ErrConnectionReset)
+	} else if news.hasEnded() {
+		if news.hasUnread() {
+			st.rest = st.session.core.take(st.id, st.rest, widestWindow)
+		}
 		st.leave(io.EOF)
-		return
-	}
-	if answer := s.core.read(st.id, nil); answer < 0 && answer != answerWait {
-		st.leave(refusal(answer))
 	}
 }
 
@@ -439,7 +499,7 @@ func (st *Stream) leave(reason error) {
 	s := st.session
 	st.acknowledged()
 	s.core.forget(st.id)
-	if s.core.dueNow() {
+	if s.core.isDue() {
 		s.wakeWriter() // there is a reset to send
 	}
 	delete(s.streams, st.id)
@@ -449,12 +509,21 @@ func (st *Stream) leave(reason error) {
 	st.over(reason)
 }
 
-// abandon keeps what has come, as the session ends.
+// abandon keeps what has come, as the session ends. Only where the library has the peer's end is that an end.
 func (st *Stream) abandon() {
-	st.rest = st.session.core.take(st.id, st.rest, widestWindow)
+	core := st.session.core
+	news := core.look(st.id)
+	if news.hasUnread() {
+		st.rest = core.take(st.id, st.rest, widestWindow)
+	}
 	reason := ErrSessionShutdown
-	if st.session.core.atEnd(st.id) {
+	switch {
+	case news.isReset():
+		reason = ErrConnectionReset
+	case news.hasEnded():
 		reason = io.EOF
+	case st.closed:
+		reason = ErrStreamClosed
 	}
 	delete(st.session.streams, st.id)
 	st.over(reason)
@@ -462,34 +531,27 @@ func (st *Stream) abandon() {
 
 func (st *Stream) over(reason error) {
 	st.end = reason
-	for _, timer := range []*time.Timer{st.openTimer, st.closeTimer} {
-		if timer != nil {
-			timer.Stop()
-		}
-	}
+	st.session.opening.remove(&st.opening)
+	st.session.closing.remove(&st.closing)
 	st.readable.Broadcast()
 	st.writable.Broadcast()
 }
 
-// endClosed is called where the peer hasn't ended a closed stream in time.
-func (st *Stream) endClosed() {
-	st.session.lock.Lock()
-	defer st.session.lock.Unlock()
+// closeTimedOut is called where the peer hasn't ended a closed stream in time.
+func (st *Stream) closeTimedOut() {
 	if st.end == nil {
-		st.rest = nil
 		st.breakOff(ErrStreamClosed)
 	}
 }
 
-// endUnacked is called where the peer hasn't acknowledged a stream in time.
-func (st *Stream) endUnacked() {
+// openTimedOut is called where the peer hasn't acknowledged a stream in time.
+func (st *Stream) openTimedOut() {
 	s := st.session
-	s.lock.Lock()
-	late := st.isUnacked && !s.over
-	s.lock.Unlock()
-	if late {
-		s.logger.Printf("[ERR] yamux: aborted stream open: i/o deadline reached")
-		s.end(ErrTimeout)
+	if st.isUnacked && !s.over {
+		go func() {
+			s.logger.Printf("[ERR] yamux: aborted stream open: i/o deadline reached")
+			s.end(ErrTimeout)
+		}()
 	}
 }
 
@@ -529,12 +591,12 @@ func (st *Stream) SetDeadline(at time.Time) error {
 
 // SetReadDeadline sets when a Read that waits returns ErrTimeout, also one that waits already.
 func (st *Stream) SetReadDeadline(at time.Time) error {
-	st.reading.set(at, st.readable)
+	st.reading.set(at, &st.readable)
 	return nil
 }
 
 // SetWriteDeadline sets when a Write that waits returns ErrTimeout, also one that waits already.
 func (st *Stream) SetWriteDeadline(at time.Time) error {
-	st.writing.set(at, st.writable)
+	st.writing.set(at, &st.writable)
 	return nil
 }

@@ -159,10 +159,10 @@ func TestManyStreamsCarryTheirBytes(t *testing.T) {
 	}
 }
 
-func TestCloseGoesOnToRead(t *testing.T) {
+func TestCloseWriteGoesOnToRead(t *testing.T) {
 	client, server := overTCP(t, quiet())
 	near, far := pair(t, client, server)
-	good(t, near.Close())
+	good(t, near.CloseWrite())
 	if _, err := near.Write([]byte("x")); err != ErrStreamClosed {
 		t.Fatal(err)
 	}
@@ -175,6 +175,154 @@ func TestCloseGoesOnToRead(t *testing.T) {
 	came, err := io.ReadAll(near)
 	if err != nil || !bytes.Equal(came, sent) {
 		t.Fatal(len(came), err)
+	}
+}
+
+func TestCloseWriteSaysWhatIsLost(t *testing.T) {
+	client, server := overTCP(t, quiet())
+	near, far := pair(t, client, server)
+	good(t, far.Reset())
+	_, err := near.Read(make([]byte, 1))
+	if err != ErrConnectionReset || near.CloseWrite() != ErrConnectionReset {
+		t.Fatal(err)
+	}
+	near, _ = pair(t, client, server)
+	good(t, client.Close())
+	if err := near.CloseWrite(); err != ErrSessionShutdown {
+		t.Fatal(err)
+	}
+}
+
+// A Read, a copy and a Write that wait are ended by Close, and none of them takes that for the peer's end.
+func TestCloseEndsCallsThatWait(t *testing.T) {
+	for _, begin := range []func(*testing.T, *Config) (*Session, *Session){overTCP, overPipe} {
+		client, server := begin(t, quiet())
+		near, far := pair(t, client, server)
+		_, err := far.Write([]byte("a beginning"))
+		good(t, err)
+		reads, writes := make(chan error, 1), make(chan error, 1)
+		var came []byte
+		go func() {
+			var err error
+			came, err = io.ReadAll(struct{ io.Reader }{near})
+			reads <- err
+		}()
+		go func() {
+			_, err := near.Write(make([]byte, 2*leastWindow))
+			writes <- err
+		}()
+		copied, _ := pair(t, client, server)
+		copies := make(chan error, 1)
+		go func() {
+			_, err := io.Copy(io.Discard, copied)
+			copies <- err
+		}()
+		time.Sleep(20 * time.Millisecond)
+		good(t, near.Close())
+		good(t, copied.Close())
+		for _, one := range []struct {
+			name string
+			back chan error
+			want error
+		}{{"Read", reads, ErrStreamClosed}, {"Write", writes, ErrStreamClosed}, {"Copy", copies, io.EOF}} {
+			select {
+			case err := <-one.back:
+				if err != one.want {
+					t.Errorf("%s returns %v", one.name, err)
+				}
+			case <-time.After(5 * time.Second):
+				t.Fatalf("%s waits on", one.name)
+			}
+		}
+		if string(came) != "a beginning" {
+			t.Errorf("%q", came)
+		}
+		if _, err := near.Read(make([]byte, 1)); !errors.Is(err, net.ErrClosed) {
+			t.Error(err)
+		}
+	}
+}
+
+// A Write that waits for the connection is ended too, not only one that waits for credit.
+func TestCloseEndsAWriteThatTheConnectionDoesNotTake(t *testing.T) {
+	config := quiet()
+	config.ConnectionWriteTimeout = time.Hour
+	config.EnableKeepAlive = false
+	near, far := net.Pipe()
+	client, err := Client(near, config)
+	good(t, err)
+	defer client.Close()
+	go io.ReadFull(far, make([]byte, headerSize)) // the stream's first frame, and nothing more
+	stream, err := client.OpenStream()
+	good(t, err)
+	back := make(chan error, 1)
+	go func() {
+		_, err := stream.Write([]byte("hello"))
+		back <- err
+	}()
+	time.Sleep(20 * time.Millisecond)
+	go stream.Close()
+	select {
+	case err := <-back:
+		if err != ErrStreamClosed {
+			t.Fatal(err)
+		}
+	case <-time.After(5 * time.Second):
+		t.Fatal("Write waits on")
+	}
+}
+
+// What has come is read also behind Close, and so is the end.
+func TestCloseLeavesWhatHasCome(t *testing.T) {
+	client, server := overTCP(t, quiet())
+	near, far := pair(t, client, server)
+	good(t, near.Close())
+	_, err := far.Write([]byte("late"))
+	good(t, err)
+	good(t, far.Close())
+	soon(t, "the stream is gone", func() bool { return client.NumStreams() == 0 })
+	came, err := io.ReadAll(near)
+	if string(came) != "late" || err != nil {
+		t.Fatalf("%q %v", came, err)
+	}
+}
+
+// The usual proxy: two copies, and both connections are closed once either is done.
+func TestAProxyOfTwoCopiesEndsAtOnce(t *testing.T) {
+	for round := 0; round < 50; round++ {
+		client, server := overTCP(t, quiet())
+		user, far := pair(t, client, server)
+		service, target := net.Pipe()
+		go io.Copy(target, target)
+		done := make(chan bool, 2)
+		go func() {
+			io.Copy(service, far)
+			done <- true
+		}()
+		go func() {
+			io.Copy(far, service)
+			done <- true
+		}()
+		_, err := user.Write([]byte("hello"))
+		good(t, err)
+		_, err = io.ReadFull(user, make([]byte, 5))
+		good(t, err)
+		if round%2 == 0 {
+			good(t, user.Close())
+		} else {
+			good(t, target.Close())
+		}
+		for ended := 0; ended < 2; ended++ {
+			select {
+			case <-done:
+				good(t, far.Close())
+				good(t, service.Close())
+			case <-time.After(5 * time.Second):
+				t.Fatal("a copy goes on")
+			}
+		}
+		client.Close()
+		server.Close()
 	}
 }
 
@@ -251,6 +399,95 @@ func TestALostConnectionIsNoEnd(t *testing.T) {
 	}
 	if _, err = near.Write([]byte("x")); err != ErrSessionShutdown {
 		t.Fatal(err)
+	}
+}
+
+// What the peer has sent before it hung up is given: each stream, with its bytes and its end.
+func TestStreamsThatCameWholeAreAccepted(t *testing.T) {
+	const count = 60
+	for _, begin := range []func(*testing.T, *Config) (*Session, *Session){overTCP, overPipe} {
+		client, server := begin(t, quiet())
+		for number := 0; number < count; number++ {
+			stream, err := client.OpenStream()
+			good(t, err)
+			_, err = stream.Write(random(number, 1000*number))
+			good(t, err)
+			good(t, stream.Close())
+		}
+		cut, err := client.OpenStream()
+		good(t, err)
+		_, err = cut.Write([]byte("a beginning"))
+		good(t, err)
+		good(t, client.Close())
+		soon(t, "the server's session has ended", server.IsClosed)
+		for number := 0; number < count; number++ {
+			stream, err := server.AcceptStream()
+			if err != nil {
+				t.Fatalf("stream %d: %v", number, err)
+			}
+			came, err := io.ReadAll(stream)
+			if err != nil || !bytes.Equal(came, random(number, 1000*number)) {
+				t.Fatalf("stream %d: %d bytes, %v", number, len(came), err)
+			}
+			good(t, stream.Close())
+		}
+		stream, err := server.AcceptStream()
+		good(t, err)
+		came, err := io.ReadAll(stream)
+		if string(came) != "a beginning" || err != ErrSessionShutdown {
+			t.Fatalf("%q %v", came, err)
+		}
+		if _, err := server.AcceptStream(); err != io.EOF {
+			t.Fatal(err)
+		}
+	}
+}
+
+// The same where a server accepts while the streams come and the peer hangs up, so that its own answers are refused.
+func TestStreamsThatCameWholeAreAcceptedMeanwhile(t *testing.T) {
+	const count = 60
+	for round := 0; round < 20; round++ {
+		client, server := overTCP(t, quiet())
+		whole := make(chan int)
+		go func() {
+			number := 0
+			for {
+				stream, err := server.AcceptStream()
+				if err != nil {
+					whole <- number
+					return
+				}
+				came, err := io.ReadAll(stream)
+				if err == nil && len(came) == 1000 {
+					number++
+				}
+				stream.Write([]byte("an answer"))
+				stream.Close()
+			}
+		}()
+		for number := 0; number < count; number++ {
+			stream, err := client.OpenStream()
+			good(t, err)
+			_, err = stream.Write(random(number, 1000))
+			good(t, err)
+			good(t, stream.Close())
+		}
+		good(t, client.Close())
+		if number := <-whole; number != count {
+			t.Fatalf("%d of %d streams", number, count)
+		}
+	}
+}
+
+func TestAcceptEndsWithItsOwnSession(t *testing.T) {
+	client, server := overTCP(t, quiet())
+	_, err := client.OpenStream()
+	good(t, err)
+	good(t, server.Close())
+	for times := 0; times < 2; times++ {
+		if _, err := server.AcceptStream(); !errors.Is(err, net.ErrClosed) {
+			t.Fatal(err)
+		}
 	}
 }
 
