@@ -32,31 +32,33 @@ type Session struct {
 	readerDone chan struct{} // closed as the reading goroutine ends
 	pingSeats  chan struct{} // the pings that the library keeps: 16 at most
 
-	lock     sync.Mutex // guards all below, and each call of the core
-	core     core
-	over     bool
-	mute     bool  // nothing goes out any more, and what the peer has sent is still read
-	failure  error // why it is over, or will be once the last bytes are out or read
-	due      bool  // there is something to emit
-	busy     bool  // somebody writes to the connection
-	full     bool  // the connection didn't take all at once, so the writing goroutine waits for it
-	offered  int64 // streams that wait for AcceptStream
-	unacked  int   // own streams that the peer has not acknowledged
-	streams  map[uint32]*Stream
-	leaving  map[uint32]*Stream // forgotten by the library, but their end is not out
-	kept     []*Stream          // the peer's, which came before the session ended, and wait for AcceptStream
-	pings    map[uint32]*ping
-	block    *[blockSize]byte // for what is emitted; nil while nothing is
-	rest     []byte           // what of it the connection has not taken
-	out      outgoing
-	drains   uint64    // emissions after which nothing was due
-	outside  uint64    // how many of them the connection has taken
-	flushing []*Stream // of which calls wait for their bytes to be out
-	turns    []*Stream // of which a Write waits for the connection, the first to come first
-	away     bool      // our Go Away is out
-	watching bool      // a look at those who wait for the connection to take their bytes is planned
-	opening  patience  // own streams that the peer has not acknowledged
-	closing  patience  // streams that are closed here, and not ended by the peer
+	lock      sync.Mutex // guards all below, and each call of the core
+	core      core
+	over      bool
+	mute      bool  // nothing goes out any more, and what the peer has sent is still read
+	failure   error // why it is over, or will be once the last bytes are out or read
+	due       bool  // there is something to emit
+	busy      bool  // somebody writes to the connection
+	full      bool  // the connection didn't take all at once, so the writing goroutine waits for it
+	offered   int64 // streams that wait for AcceptStream
+	unacked   int   // own streams that the peer has not acknowledged
+	streams   map[uint32]*Stream
+	leaving   map[uint32]*Stream // forgotten by the library, but their end is not out
+	kept      []*Stream          // the peer's, which came before the session ended, and wait for AcceptStream
+	pings     map[uint32]*ping
+	block     *[blockSize]byte // for what is emitted; nil while nothing is
+	rest      []byte           // what of it the connection has not taken
+	out       outgoing
+	drains    uint64      // emissions after which nothing was due
+	outside   uint64      // how many of them the connection has taken
+	flushing  []*Stream   // of which calls wait for their bytes to be out
+	turns     []*Stream   // of which a Write waits for the connection, the first to come first
+	away      bool        // our Go Away is out
+	watching  bool        // a look at those who wait for the connection to take their bytes is planned
+	opening   patience    // own streams that the peer has not acknowledged
+	closing   patience    // streams that are closed here, and not ended by the peer
+	timer     *time.Timer // for what is sent soon; nil before the first time
+	isPlanned bool        // the timer will send it
 
 	sender     *sync.Cond // the writing goroutine has something to do
 	emitted    *sync.Cond // bytes were emitted
@@ -162,6 +164,9 @@ func (s *Session) end(reason error) {
 	s.core.free()
 	s.opening.stop()
 	s.closing.stop()
+	if s.timer != nil {
+		s.timer.Stop()
+	}
 	close(s.done)
 	for _, cond := range []*sync.Cond{s.sender, s.emitted, s.acceptable, s.openable, s.written} {
 		cond.Broadcast()
@@ -310,6 +315,36 @@ func (s *Session) breakOff(reason error) {
 func (s *Session) wakeWriter() {
 	if !s.due {
 		s.due = true
+		s.sender.Signal()
+	}
+}
+
+// soon is how long a stream's first frame waits for something that goes out together with it.
+const soon = 100 * time.Microsecond
+
+// sendSoon has what is due sent with the next bytes that go out, or before the next Read waits, and in any case soon.
+func (s *Session) sendSoon() {
+	if s.due {
+		return
+	}
+	s.due = true
+	if s.isPlanned {
+		return
+	}
+	s.isPlanned = true
+	if s.timer == nil {
+		s.timer = time.AfterFunc(soon, s.sendNow)
+	} else {
+		s.timer.Reset(soon)
+	}
+}
+
+// sendNow is the timer's call.
+func (s *Session) sendNow() {
+	s.lock.Lock()
+	defer s.lock.Unlock()
+	s.isPlanned = false
+	if s.due {
 		s.sender.Signal()
 	}
 }

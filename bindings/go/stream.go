@@ -48,12 +48,12 @@ func newStream(session *Session, id uint32) *Stream {
 	return stream
 }
 
-// begin sends the first frame of a stream that was just opened or accepted. A socket takes it together with what comes
-// next, or as soon as the writing goroutine has its turn. Over any other connection this waits until the frame is out.
+// begin sends the first frame of a stream that was just opened or accepted. Over a socket that is soon, and together with
+// what comes meanwhile. Over any other connection this waits until the frame is out.
 func (st *Stream) begin() error {
 	s := st.session
 	if s.socket != nil {
-		s.wakeWriter()
+		s.sendSoon()
 		return nil
 	}
 	s.due = true
@@ -113,6 +113,9 @@ func (st *Stream) Read(buffer []byte) (int, error) {
 		}
 		if st.reading.isPast() {
 			return 0, ErrTimeout
+		}
+		if s.due && s.writeHere() {
+			continue // something may have come meanwhile
 		}
 		st.readable.Wait()
 	}

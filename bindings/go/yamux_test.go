@@ -104,8 +104,8 @@ var (
 	_ net.Error    = ErrTimeout.(net.Error)
 )
 
-// soon waits until it holds, for at most five seconds.
-func soon(t *testing.T, what string, holds func() bool) {
+// await waits until it holds, for at most five seconds.
+func await(t *testing.T, what string, holds func() bool) {
 	t.Helper()
 	for tries := 0; !holds(); tries++ {
 		if tries == 1000 {
@@ -155,7 +155,7 @@ func TestManyStreamsCarryTheirBytes(t *testing.T) {
 			}(number)
 		}
 		all.Wait()
-		soon(t, "all streams are gone", func() bool { return client.NumStreams() == 0 && server.NumStreams() == 0 })
+		await(t, "all streams are gone", func() bool { return client.NumStreams() == 0 && server.NumStreams() == 0 })
 	}
 }
 
@@ -280,7 +280,7 @@ func TestCloseLeavesWhatHasCome(t *testing.T) {
 	_, err := far.Write([]byte("late"))
 	good(t, err)
 	good(t, far.Close())
-	soon(t, "the stream is gone", func() bool { return client.NumStreams() == 0 })
+	await(t, "the stream is gone", func() bool { return client.NumStreams() == 0 })
 	came, err := io.ReadAll(near)
 	if string(came) != "late" || err != nil {
 		t.Fatalf("%q %v", came, err)
@@ -333,7 +333,7 @@ func TestCloseWithUnreadBytesLetsTheStreamGo(t *testing.T) {
 	good(t, err)
 	good(t, near.Close())
 	good(t, far.Close())
-	soon(t, "the streams are gone", func() bool { return client.NumStreams() == 0 && server.NumStreams() == 0 })
+	await(t, "the streams are gone", func() bool { return client.NumStreams() == 0 && server.NumStreams() == 0 })
 	came, err := io.ReadAll(near)
 	if err != nil || len(came) != 1000 {
 		t.Fatal(len(came), err)
@@ -419,7 +419,7 @@ func TestStreamsThatCameWholeAreAccepted(t *testing.T) {
 		_, err = cut.Write([]byte("a beginning"))
 		good(t, err)
 		good(t, client.Close())
-		soon(t, "the server's session has ended", server.IsClosed)
+		await(t, "the server's session has ended", server.IsClosed)
 		for number := 0; number < count; number++ {
 			stream, err := server.AcceptStream()
 			if err != nil {
@@ -567,7 +567,7 @@ func TestACutConnectionLetsEverybodyGo(t *testing.T) {
 		client.Close()
 		server.Close()
 	}
-	soon(t, "all goroutines have ended", func() bool { return runtime.NumGoroutine() <= before+2 })
+	await(t, "all goroutines have ended", func() bool { return runtime.NumGoroutine() <= before+2 })
 }
 
 // net/http takes a Session for a listener. Its server ends reads that wait by deadlines.
@@ -603,7 +603,7 @@ func TestHTTPOverStreams(t *testing.T) {
 		}
 		all.Wait()
 		caller.CloseIdleConnections()
-		soon(t, "all streams are gone", func() bool { return client.NumStreams() == 0 && server.NumStreams() == 0 })
+		await(t, "all streams are gone", func() bool { return client.NumStreams() == 0 && server.NumStreams() == 0 })
 	}
 }
 
