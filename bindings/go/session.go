@@ -217,7 +217,7 @@ func (s *Session) receive() {
 	for {
 		bytes, err := s.source.read()
 		goesOn := s.feed(bytes)
-		s.source.release()
+		s.source.release(len(bytes))
 		if !goesOn {
 			return
 		}

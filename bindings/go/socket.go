@@ -11,8 +11,9 @@ import (
 	"time"
 )
 
-// A block is for bytes that are on their way from or to a connection, for as long as that takes.
-const blockSize = 128 * 1024
+// A block is for bytes that are on their way from or to a connection, for as long as that takes. It has room for the window
+// of one stream and the headers of its frames, so that what one write made due goes out in one piece.
+const blockSize = leastWindow + 16*1024
 
 // blocks serve all sessions in turn, so that one in which nothing moves has none.
 var blocks = sync.Pool{New: func() any { return new([blockSize]byte) }}
@@ -121,16 +122,20 @@ func (s *socket) settle(most time.Duration) {
 	}
 }
 
-// source is what a session reads from: a socket, or any other connection, which is read into bytes of its own.
+// source is what a session reads from: a socket, or any other connection, where a read waits with the place for its bytes.
+// That place is `own` until bytes come, and a block from then on, until they come in small reads alone.
 type source struct {
 	socket     *socket
 	connection io.Reader
 	own        []byte
-	block      *[blockSize]byte // where the bytes lie that a socket gave
+	block      *[blockSize]byte
+	smallReads int // how many there were since the last one that was not small
 }
 
-// ownSize is what a read of a connection that is no socket gives at most: two records of TLS.
-const ownSize = 32 * 1024
+const (
+	ownSize        = 16 * 1024 // what TLS gives by one read, at most
+	mostSmallReads = 64
+)
 
 func newSource(connection io.Reader, socket *socket) *source {
 	if socket != nil {
@@ -142,8 +147,12 @@ func newSource(connection io.Reader, socket *socket) *source {
 // read waits for bytes, which are good until `release`.
 func (s *source) read() ([]byte, error) {
 	if s.socket == nil {
-		count, err := s.connection.Read(s.own)
-		return s.own[:count], err
+		place := s.own
+		if s.block != nil {
+			place = s.block[:]
+		}
+		count, err := s.connection.Read(place)
+		return place[:count], err
 	}
 	block, count, err := s.socket.read()
 	s.block = block
@@ -153,8 +162,20 @@ func (s *source) read() ([]byte, error) {
 	return block[:count], err
 }
 
-// release lets others have the block in which the bytes of the last read lay.
-func (s *source) release() {
+// release lets others have the block in which so many bytes lay, unless the next read waits with it.
+func (s *source) release(count int) {
+	if s.socket == nil {
+		s.smallReads++
+		if count >= ownSize {
+			s.smallReads = 0
+		}
+		if s.smallReads < mostSmallReads {
+			if s.block == nil {
+				s.block = blocks.Get().(*[blockSize]byte)
+			}
+			return
+		}
+	}
 	if s.block != nil {
 		blocks.Put(s.block)
 		s.block = nil

@@ -27,6 +27,7 @@ type Stream struct {
 
 	finished  bool // our end is on its way, or out
 	closed    bool
+	closedAt  time.Time
 	isUnacked bool // the peer has not acknowledged it
 	opening   waiting
 	closing   waiting
@@ -71,17 +72,26 @@ func (st *Stream) Shrink() {}
 
 // ---- reading
 
+// lateReads is how long behind Close a Read that begins there waits for bytes that are on their way already.
+const lateReads = 100 * time.Millisecond
+
 // Read reads what has come, and waits while there is nothing. io.EOF comes once the peer has ended the stream and all was
-// read, and for no other reason. After Close it gives what has come, and then ErrStreamClosed, also to a Read that waits
-// already. Where the session ends before the stream, it gives what has come, and then ErrSessionShutdown. Behind a reset it
-// is ErrConnectionReset, and ErrTimeout where nothing is there and the deadline has passed.
+// read, and for no other reason. Close ends a Read that waits, with ErrStreamClosed. A Read that begins behind Close gives
+// what has come, or comes within 100 milliseconds behind Close, and then ErrStreamClosed. Where the session ends before the
+// stream, Read gives what has come, and then ErrSessionShutdown. Behind a reset it is ErrConnectionReset, and ErrTimeout
+// where nothing is there and the deadline has passed.
 func (st *Stream) Read(buffer []byte) (int, error) {
+	st.session.lock.Lock()
+	defer st.session.lock.Unlock()
+	return st.read(buffer, st.closed)
+}
+
+// read is Read. isLate says whether the call began behind Close.
+func (st *Stream) read(buffer []byte, isLate bool) (int, error) {
 	if len(buffer) == 0 {
 		return 0, nil
 	}
 	s := st.session
-	s.lock.Lock()
-	defer s.lock.Unlock()
 	for {
 		if len(st.rest) > 0 {
 			count := copy(buffer, st.rest)
@@ -109,7 +119,11 @@ func (st *Stream) Read(buffer []byte) (int, error) {
 			st.nothing = true
 		}
 		if st.closed {
-			return 0, ErrStreamClosed
+			left := lateReads - time.Since(st.closedAt)
+			if !isLate || left <= 0 {
+				return 0, ErrStreamClosed
+			}
+			time.AfterFunc(left, st.wakeReaders)
 		}
 		if st.reading.isPast() {
 			return 0, ErrTimeout
@@ -119,6 +133,12 @@ func (st *Stream) Read(buffer []byte) (int, error) {
 		}
 		st.readable.Wait()
 	}
+}
+
+func (st *Stream) wakeReaders() {
+	st.session.lock.Lock()
+	st.readable.Broadcast()
+	st.session.lock.Unlock()
 }
 
 // credit sends what a read has made due, and waits until it is out.
@@ -144,9 +164,14 @@ const copySize = 32 * 1024
 // that was broken off isn't taken for a whole one, and programs that pass over io.EOF, as go-plugin, log nothing.
 func (st *Stream) WriteTo(writer io.Writer) (int64, error) {
 	block := make([]byte, copySize)
+	st.session.lock.Lock()
+	isLate := st.closed
+	st.session.lock.Unlock()
 	var all int64
 	for {
-		count, err := st.Read(block)
+		st.session.lock.Lock()
+		count, err := st.read(block, isLate)
+		st.session.lock.Unlock()
 		if count > 0 {
 			written, fault := writer.Write(block[:count])
 			all += int64(written)
@@ -412,7 +437,7 @@ func (st *Stream) Close() error {
 		st.closed = true
 		return nil
 	}
-	st.closed = true
+	st.closed, st.closedAt = true, time.Now()
 	st.readable.Broadcast()
 	s.closing.add(&st.closing, st)
 	st.finish()

@@ -11,8 +11,10 @@ import (
 	"net"
 	"net/http"
 	"net/http/httptest"
+	"os"
 	"runtime"
 	"sync"
+	"syscall"
 	"testing"
 	"time"
 )
@@ -626,6 +628,37 @@ func TestDeadlinesEndCallsThatWait(t *testing.T) {
 	isTimeout(err)
 	if count != leastWindow {
 		t.Fatal(count)
+	}
+}
+
+// The errors are those of the standard library too, and have the texts of HashiCorp's package.
+func TestErrorsAreTheStandards(t *testing.T) {
+	for _, one := range []struct {
+		err, standard error
+		text          string
+		isTimeout     bool
+	}{
+		{ErrTimeout, os.ErrDeadlineExceeded, "i/o deadline reached", true},
+		{ErrStreamClosed, net.ErrClosed, "stream closed", false},
+		{ErrSessionShutdown, net.ErrClosed, "session shutdown", false},
+		{ErrConnectionReset, syscall.ECONNRESET, "connection reset", false},
+		{ErrConnectionWriteTimeout, nil, "connection write timeout", true},
+	} {
+		if one.standard != nil && !errors.Is(one.err, one.standard) {
+			t.Errorf("%v is not %v", one.err, one.standard)
+		}
+		for _, other := range []error{os.ErrDeadlineExceeded, net.ErrClosed, syscall.ECONNRESET, io.EOF} {
+			if other != one.standard && errors.Is(one.err, other) {
+				t.Errorf("%v is %v", one.err, other)
+			}
+		}
+		if one.err.Error() != one.text {
+			t.Errorf("%v is not %q", one.err, one.text)
+		}
+		var asked net.Error
+		if !errors.As(one.err, &asked) || asked.Timeout() != one.isTimeout {
+			t.Errorf("%v is a timeout: %v", one.err, !one.isTimeout)
+		}
 	}
 }
 
