@@ -16,15 +16,18 @@ has_go || fail "Go or its yamux is not here: apt-get install golang-go golang-gi
 # Tests that need not pass: the name; `never`, or `race` for one that has to pass once in 20 tries; at which sides,
 # client/server or any; and why.
 cat > "$scratch/excused" <<'END'
-TestSession_PartialReadWindowUpdate never any it reads the private credit of a stream behind its Close, where libymx tells none; a race where theirs is the server
-TestSession_WindowUpdateWriteDuringRead never theirs/ours it wants 262,143 bytes by one Read, which their side gives frame by frame, and libymx sends frames of 16,384
+TestSession_PartialReadWindowUpdate never ours/ours it reads the private credit of a stream behind its Close, where libymx tells none
+TestSession_PartialReadWindowUpdate never theirs/ours it reads the private credit of a stream behind its Close, where libymx tells none
+TestSession_PartialReadWindowUpdate race ours/theirs nothing waits for the credit to be read at the server
+TestSession_WindowUpdateWriteDuringRead race theirs/ours it wants 262,143 bytes by one Read, which their side gives frame by frame, and libymx sends frames of 16,384
 TestSession_WindowUpdateWriteDuringRead race any if the peer's end has come before the Read, libymx sends no credit, so the Read needn't wait
-TestHalfClose race ours/theirs their Read says EOF after Close where the bytes have not come yet
 TestBacklogExceeded_Accept race any nothing waits for the goroutine that accepts, and an error in it fails the test; theirs fails it too
 TestGoAway race any nothing waits for the Go Away to be read; theirs fails it too, less often
 TestSendData_Small race any it counts the streams before the last end is read; theirs fails it too
 END
 
+# Go keeps where the library stood; so this has a cache of its own, and leaves the user's alone
+export GOCACHE="$scratch/cache"
 PREFIX=$scratch/built "$root/c/build.sh" "$scratch/built" > "$scratch/log" 2>&1 || fail "libymx can't be built" "$scratch/log"
 export PKG_CONFIG_PATH="$scratch/built/lib/pkgconfig" LD_LIBRARY_PATH="$scratch/built/lib"
 mkdir "$scratch/ours" "$scratch/theirs" "$scratch/tests"

@@ -19,6 +19,8 @@ stop() {
 }
 trap 'stop; rm -rf "$scratch"' EXIT
 trap 'exit 130' INT TERM
+# Go keeps where the library stood; so this has a cache of its own, and leaves the user's alone
+export GOCACHE="$scratch/cache"
 PREFIX=$scratch/built "$root/c/build.sh" "$scratch/built"
 built=$scratch/built
 export PKG_CONFIG_PATH="$built/lib/pkgconfig" LD_LIBRARY_PATH="$built/lib"
