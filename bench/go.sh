@@ -1,7 +1,9 @@
 #!/bin/sh
 # Times yamux for Go over libymx (bindings/go) and HashiCorp's package in turn, over TCP on the loopback: words of 64
-# bytes there and back, one stream, and 64 streams at once. Medians of five runs of the speed and the processor time of
-# both sides, and ours as a part of HashiCorp's. Needs Go, golang-github-hashicorp-yamux-dev and a C compiler. With a number it makes so many runs.
+# bytes there and back, one stream, 64 streams at once, and streams that are opened and closed: one after another, and
+# each once the other side has closed the one before. Medians of five runs of the speed and the processor time of both
+# sides, and ours as a part of HashiCorp's; and what a new session has on Go's heap. Needs Go,
+# golang-github-hashicorp-yamux-dev and a C compiler. With a number it makes so many runs.
 set -eu
 top=$(cd "$(dirname "$0")/.." && pwd)
 theirs=/usr/share/gocode/src/github.com/hashicorp/yamux
@@ -44,4 +46,4 @@ median 3 > speed
 median 4 > spent
 paste -d ' ' speed spent | awk '
   $2 == "hashicorp" { speed = $3; time = $6 }
-  $2 == "ymx" { printf "%-14s ymx %d, hashicorp %d a second: %.2f; processor time %d, %d ms: %.2f\n", $1, $3, speed, $3 / speed, $6, time, $6 / time }'
+  $2 == "ymx" { printf "%-15s ymx %d, hashicorp %d a second: %.2f; processor time %d, %d ms: %.2f\n", $1, $3, speed, $3 / speed, $6, time, $6 / time }'

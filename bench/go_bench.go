@@ -8,6 +8,7 @@ import (
 	"log"
 	"net"
 	"os"
+	"runtime"
 	"strconv"
 	"sync"
 	"syscall"
@@ -120,6 +121,73 @@ func bulk(client, server session, streams, size int) float64 {
 	return float64(streams) * float64(size) / 1e6 / time.Since(began).Seconds()
 }
 
+// Streams that are opened and closed one after another, and accepted and closed at the other side meanwhile.
+func openAndClose(client, server session, count int) float64 {
+	var all sync.WaitGroup
+	all.Add(1)
+	began := time.Now()
+	go func() {
+		defer all.Done()
+		for number := 0; number < count; number++ {
+			stream, err := server.Accept()
+			check(err)
+			check(stream.Close())
+		}
+	}()
+	for number := 0; number < count; number++ {
+		stream, err := client.Open()
+		check(err)
+		check(stream.Close())
+	}
+	all.Wait()
+	return float64(count) / time.Since(began).Seconds()
+}
+
+// The same, but each side waits for the other's end before the next stream.
+func inTurn(client, server session, count int) float64 {
+	go func() {
+		for number := 0; number < count; number++ {
+			stream, err := server.Accept()
+			if err != nil {
+				return
+			}
+			stream.Close()
+		}
+	}()
+	nothing := make([]byte, 1)
+	began := time.Now()
+	for number := 0; number < count; number++ {
+		stream, err := client.Open()
+		check(err)
+		if _, err := stream.Read(nothing); err != io.EOF {
+			log.Fatal(err)
+		}
+		check(stream.Close())
+	}
+	return float64(count) / time.Since(began).Seconds()
+}
+
+// What a session has on Go's heap before anything was sent.
+func heap(begin func() (session, session)) uint64 {
+	const pairs = 50
+	var before, after runtime.MemStats
+	all := make([]session, 0, 2*pairs)
+	runtime.GC()
+	runtime.ReadMemStats(&before)
+	for number := 0; number < pairs; number++ {
+		client, server := begin()
+		all = append(all, client, server)
+	}
+	for times := 0; times < 3; times++ {
+		runtime.GC() // what both packages pool is no session's, and goes by the second one
+	}
+	runtime.ReadMemStats(&after)
+	for _, session := range all {
+		session.Close()
+	}
+	return (after.HeapAlloc - before.HeapAlloc) / uint64(len(all))
+}
+
 // The processor time of this process.
 func spent() time.Duration {
 	var usage syscall.Rusage
@@ -130,6 +198,7 @@ func spent() time.Duration {
 func main() {
 	runs, err := strconv.Atoi(os.Args[1])
 	check(err)
+	fmt.Fprintf(os.Stderr, "heap of a session: ymx %d, hashicorp %d bytes\n", heap(ofOurs), heap(ofTheirs))
 	for ; runs > 0; runs-- {
 		for _, one := range []struct {
 			name  string
@@ -142,6 +211,8 @@ func main() {
 				{"words", func(c, s session) float64 { return words(c, s, 20000) }},
 				{"one_stream_MB", func(c, s session) float64 { return bulk(c, s, 1, 1<<29) }},
 				{"64_streams_MB", func(c, s session) float64 { return bulk(c, s, 64, 1<<23) }},
+				{"open_and_close", func(c, s session) float64 { return openAndClose(c, s, 20000) }},
+				{"open_close_turn", func(c, s session) float64 { return inTurn(c, s, 20000) }},
 			} {
 				client, server := one.begin()
 				before := spent()
