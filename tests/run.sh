@@ -1,5 +1,6 @@
 #!/bin/sh
-# Runs all tests that stand beside `rt ci`, a line each, and what a test that failed has to say. With --all it
+# Runs all tests that stand beside `rt ci`, a line each, and what a test that failed has to say. With --no-kit it runs
+# those that need no Rattle kit: of the released program, the library for C, and the documents. With --all it
 # proves and runs the programs of the guide too, tries the wrong bodies, talks to Go's yamux where that stands, makes
 # 10,000 random connections, and kills processes, which takes an hour or more.
 # Ends with 'N passed, M failed'.
@@ -31,9 +32,9 @@ try() {
 }
 
 case ${1-} in
-'' | --all) ;;
+'' | --all | --no-kit) ;;
 *)
-    echo "usage: tests/run.sh [--all]" >&2
+    echo "usage: tests/run.sh [--all | --no-kit]" >&2
     exit 2
     ;;
 esac
@@ -43,18 +44,20 @@ try 'the picture of the speeds' "$root/tools/speeds.py" --same
 try 'bodies are the same for all recorders' "$root/tools/recorders.py"
 try 'requests of memory are bounded' "$root/tools/requests.py"
 try 'the calls of sockets stand in one file' "$root/tools/system_calls.py"
-try 'wrong bodies and the sources' "$root/tests/wrong_bodies.sh" --fit
 try 'the released program' "$root/tests/release/run.sh"
 try 'the program from outside' "$root/tests/program/run.sh"
 try 'the program, installed' "$root/tests/release/installed.sh"
 try '500 random connections' "$root/tests/kill/random.sh" 500
 try 'scripts and what they print' "$root/tests/script/run.sh"
-try 'programs that must not compile' "$root/tests/must_not_compile/run.sh"
-try 'each allocation fails once' "$root/tests/no_memory/run.sh"
-# compiled together, as most of the time goes into what they share
-try 'sessions, engines, threads and units' "$root/tests/try_tests.sh" session worlds engine hub tunnel connect no_memory/parts units
 try 'the C interface' "$root/tests/capi/run.sh"
-try "the guide's client and server" "$root/tests/examples/run.sh" guide
+if [ "${1-}" != --no-kit ]; then
+    try 'wrong bodies and the sources' "$root/tests/wrong_bodies.sh" --fit
+    try 'each allocation fails once' "$root/tests/no_memory/run.sh"
+    try 'programs that must not compile' "$root/tests/must_not_compile/run.sh"
+    # compiled together, as most of the time goes into what they share
+    try 'sessions, engines, threads and units' "$root/tests/try_tests.sh" session worlds engine hub tunnel connect no_memory/parts units
+    try "the guide's client and server" "$root/tests/examples/run.sh" guide
+fi
 if [ "${1-}" = --all ]; then
     try 'the programs of the guide' "$root/tests/examples/run.sh"
     try 'wrong bodies' "$root/tests/wrong_bodies.sh"

@@ -8,7 +8,8 @@ What it compares, layout aside:
   without a name. Such a clause must stand at that function.
 - there, a definition: an equation `Name words = ..` or a record at the start of a line, with the indented lines behind
   it. It must stand in the specs of a crate.
-- in README.md and docs/GUIDE.md a block of Rust: its lines must stand so, one behind another, in a file of examples/.
+- in README.md and docs/GUIDE.md a block of Rust: its lines must stand so, one behind another, in a file of examples/. A
+  block of Go in README.md must stand so in the program that bindings/go/README.md shows, which its tests run.
 - everywhere in them and in docs/PROVED.md a formula between backticks: it must stand in a clause or a definition.
 - in docs/THEOREMS.md the table of the lines that a reader must believe: tools/lines_to_believe.py must count as
   many, and README.md must say the same.
@@ -263,14 +264,17 @@ def compare_block(code, name, first, lines):
     return count, wrong
 
 
-def compare_program(name, first, lines):
+PROGRAMS = {"rust": "examples/**/*.rattle", "go": "bindings/go/README.md"}
+
+
+def compare_program(name, first, language, lines):
     def joined(text):
-        return "\n".join(line.strip() for line in text if line.strip())
+        return "\n".join(" ".join(line.split()) for line in text if line.strip())
 
     wanted = joined(lines)
-    if any(wanted in joined(path.read_text().splitlines()) for path in ROOT.glob("examples/**/*.rattle")):
+    if any(wanted in joined(path.read_text().splitlines()) for path in ROOT.glob(PROGRAMS[language])):
         return []
-    return [f"{name}:{first}: these lines stand in no file of examples/: {lines[0]} .."]
+    return [f"{name}:{first}: these lines stand nowhere in {PROGRAMS[language]}: {lines[0].strip()} .."]
 
 
 def compare_formula(code, name, line, text):
@@ -340,8 +344,8 @@ def main():
             if language == "":
                 more, bad = compare_block(code, name, first, lines)
                 count, wrong = count + more, wrong + bad
-            elif language == "rust":
-                count, wrong = count + 1, wrong + compare_program(name, first, lines)
+            elif language in PROGRAMS:
+                count, wrong = count + 1, wrong + compare_program(name, first, language, lines)
         for line, text in document.marked():
             if SIGNS.search(text) and " " in text and "<" not in text:
                 count, wrong = count + 1, wrong + compare_formula(code, name, line, text)
