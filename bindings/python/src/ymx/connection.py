@@ -111,7 +111,7 @@ class Connection(asyncio.Protocol):
         self._over: Optional[Exception] = None  # why nothing goes on for the user
         self._is_closed_here = False
         self._farewell: Optional[int] = None  # the ping behind the last byte
-        self._is_short = False  # bytes that were written were not sent when it ended
+        self._is_short = False  # bytes that were to be sent were not when it ended
         self._gives_up = False  # nothing went on for too long
         self._watching: Optional[asyncio.TimerHandle] = None
         self._closed: "asyncio.Future[None]" = self._loop.create_future()
@@ -406,7 +406,7 @@ class Connection(asyncio.Protocol):
             return
         self._over = reason
         for transport in list(self._streams.values()):
-            self._is_short |= transport.unsent_size > 0
+            self._is_short |= transport.unsent_size > 0 and not self._is_closed_here
             transport.lose(again(reason))
         self._streams.clear()
         for future in self._pings.values():
@@ -459,8 +459,8 @@ class Connection(asyncio.Protocol):
         if kind is None and not was_closed:
             if self._gives_up:
                 raise ConnectionLost(f"the peer did not take all within {self.linger} seconds")
-            if self._is_short and self._over is not None:
-                raise again(self._over)
+            if self._is_short:
+                raise ConnectionLost("the connection has ended before all was sent")
 
     async def _give_all(self) -> None:
         """Waits until the session has taken all that was written to streams so far."""
