@@ -146,7 +146,16 @@ ar x "$archive"
 # shellcheck disable=SC2086
 $compiler ${CPPFLAGS-} ${CFLAGS--O2} -std=c99 -fPIC -fno-lto -fasynchronous-unwind-tables -Wall -Wextra -pedantic \
     -I"$here" -c "$here/ymx.c" -o ymx.o
-ld -r -o libymx.o ymx_c.o heap.pic.o ymx.o
+# The compiler of the proved part writes no unwind tables. They are made of its code; where that can't be, awk says why, and
+# there are none.
+nm -S ymx_c.o > sizes
+objdump -dr --no-show-raw-insn ymx_c.o > code
+awk -f "$here/unwind.awk" sizes code > unwind.s || : > unwind.s
+nm ymx_c.o | sed -n 's/^[0-9a-f]* t /--globalize-symbol=/p' | tr '\n' '\0' | xargs -0 sh -c 'objcopy "$@" ymx_c.o' sh
+as -o unwind.o unwind.s
+ld -r -o core.o ymx_c.o unwind.o
+objcopy --rename-section .unwind=.eh_frame core.o
+ld -r -o libymx.o core.o heap.pic.o ymx.o
 nm ymx.o | sed -n 's/^[0-9a-f]* T //p' | grep '^ymx_' > names
 objcopy --keep-global-symbols=names libymx.o
 rm -f "$target/lib/libymx.a"

@@ -78,6 +78,14 @@ only_libc() {
     ! grep -qvE '^(malloc|realloc|free|memcpy|memmove|memset|memcmp)$' asks
 }
 
+# A way back to the caller from each function, and from each instruction that calls go through.
+unwinds() {
+    nm "$library/libymx.a" | grep -ci ' t ' > functions
+    readelf --debug-dump=frames "$library/libymx.a" | grep -c FDE | diff functions - || return 1
+    # shellcheck disable=SC2086
+    cc -std=c99 -O1 -mno-red-zone $strict -o unwind "$here/unwind.c" -L"$library" -lymx && LD_LIBRARY_PATH=$library ./unwind
+}
+
 # The numbers of the proved crate, in the names of ymx.h.
 numbers_of_crate() {
     sed -n 's/^ *CallFault::\([A-Za-z]*\)[(_)]* => \(-[0-9]*\),/\1 \2/p; s/^ *NewFault::\(Bad[A-Za-z]*\) => \(-[0-9]*\),/\1 \2/p' "$root/crates/ymx_c/src/face.rt" |
@@ -111,6 +119,7 @@ is "ymx.h and a program in C++11" in_cpp
 is "the libraries show what ymx.h declares, and nothing else" only_ours
 is "the shared library needs libc alone" only_libc
 is "it is built with any flags, and a program asks for its version" any_flags
+is "from each instruction there is a way back to the caller" unwinds
 is "each constant is the proved crate's" same_numbers
 is "what ymx.h says in words" built_and_run words "$here/words.c" -O1 -fsanitize=address,undefined -fno-sanitize-recover=all
 is "NULL" built_and_run nulls "$here/nulls.c" -fsanitize=address,undefined -fno-sanitize-recover=all
