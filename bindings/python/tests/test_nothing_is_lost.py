@@ -4,7 +4,10 @@ import fcntl
 import gc
 import os
 import socket
+import ssl
 import struct
+import subprocess
+import tempfile
 import termios
 import time
 import unittest
@@ -352,20 +355,56 @@ class Leaving(unittest.IsolatedAsyncioTestCase):
         return server.sockets[0].getsockname()
 
     async def test_all_is_sent_that_was_written(self):
-        came = asyncio.get_running_loop().create_future()
-
         async def serve(connection):
             readers = [await connection.accept_stream() for _ in range(3)]
             await asyncio.sleep(0.1)
             came.set_result([await reader.read() for reader, _ in readers])
 
-        texts = [os.urandom(1000000) for _ in range(3)]
-        async with await ymx.open_connection(*await self.begin(serve)) as connection:
-            for text in texts:
-                _, writer = await connection.open_stream()
-                writer.write(text)
-                writer.close()
-        self.assertEqual(await asyncio.wait_for(came, 10), texts)
+        for size in 0, 1, 1000, 1000000:
+            came = asyncio.get_running_loop().create_future()
+            texts = [os.urandom(size) for _ in range(3)]
+            async with await ymx.open_connection(*await self.begin(serve)) as connection:
+                for text in texts:
+                    _, writer = await connection.open_stream()
+                    writer.write(text)
+                    writer.close()
+            self.assertEqual([len(text) for text in await asyncio.wait_for(came, 10)], [size] * 3)
+            self.assertEqual(came.result(), texts)
+
+    async def test_over_tls_all_is_sent_and_given_behind_the_end(self):
+        with tempfile.TemporaryDirectory() as folder:
+            key, certificate = os.path.join(folder, "key"), os.path.join(folder, "certificate")
+            words = "openssl req -x509 -newkey rsa:2048 -nodes -days 2 -subj /CN=localhost -addext subjectAltName=IP:127.0.0.1"
+            try:
+                subprocess.run([*words.split(), "-keyout", key, "-out", certificate], capture_output=True, check=True)
+            except FileNotFoundError:
+                self.skipTest("there is no openssl")
+            at_server = ssl.SSLContext(ssl.PROTOCOL_TLS_SERVER)
+            at_server.load_cert_chain(certificate, key)
+            at_client = ssl.create_default_context(cafile=certificate)
+        for before in True, False:
+            for size in 1000, 200000, 1000000 if not before else 0:
+                came = asyncio.get_running_loop().create_future()
+
+                async def serve(connection):
+                    if before:
+                        await connection.wait_closed()
+                    sizes = []
+                    try:
+                        while True:
+                            reader, writer = await connection.accept_stream()
+                            sizes.append(len(await reader.read()))
+                            writer.close()
+                    finally:
+                        came.set_result(sizes)
+
+                address = await self.begin(serve, tls=at_server)
+                async with await ymx.open_connection(*address, tls=at_client) as connection:
+                    for _ in range(3):
+                        _, writer = await connection.open_stream()
+                        writer.write(bytes(size))
+                        writer.close()
+                self.assertEqual(await asyncio.wait_for(came, 10), [size] * 3)
 
     async def test_a_slow_peer_gets_all_also_what_the_socket_does_not_take_at_once(self):
         """More than the sockets hold, at a peer that looks only now and then, and sends meanwhile."""

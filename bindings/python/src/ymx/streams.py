@@ -302,6 +302,7 @@ class StreamTransport(asyncio.Transport):
         if self._finished:
             self.loop.call_soon(self._tell, None)
         self._ending = True
+        self._try_to_write()  # at once, as the connection may be closed next
         self.loop.call_soon(self.touch)
 
     def is_closing(self) -> bool:
