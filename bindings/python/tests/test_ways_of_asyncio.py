@@ -103,6 +103,14 @@ class WaysOfAsyncio(BothSides):
         rest = [await asyncio.wait_for(self.server.accept_stream(), 5) for _ in range(20 - len(given))]
         self.assertEqual(len(given) + len(rest), len(opened))
 
+    async def test_who_accepts_first_gets_the_first_stream(self):
+        accepting = [asyncio.ensure_future(self.server.accept_stream()) for _ in range(10)]
+        await asyncio.sleep(0.01)
+        opened = [await self.client.open_stream() for _ in range(10)]
+        ids = [writer.get_extra_info("stream_id") for _, writer in opened]
+        came = await asyncio.wait_for(asyncio.gather(*accepting), 5)
+        self.assertEqual([writer.get_extra_info("stream_id") for _, writer in came], ids)
+
     async def test_an_abort_ends_all_at_once(self):
         (near_reader, near), (far_reader, far) = await self.pair()
         near.write(bytes(1000000))

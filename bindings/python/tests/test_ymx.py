@@ -44,6 +44,7 @@ class SessionAlone(unittest.TestCase):
         for name, call in (
             ("BAD_WINDOW", lambda: ymx.Session(ymx.CLIENT, 1)),
             ("BAD_FIRST", lambda: ymx.Session(ymx.CLIENT, first=2)),
+            ("BAD_ROLE", lambda: ymx.Session(7)),
             ("NO_STREAM", lambda: self.client.read(7)),
         ):
             with self.assertRaises(ymx.Refused) as refused:

@@ -61,19 +61,19 @@ async def start_stream_server(
 
 
 class _Waiters:
-    """Those who wait for something, which each of them then looks for."""
+    """Those who wait for something, which each of them then looks for, in the order in which they came."""
 
     def __init__(self, loop: asyncio.AbstractEventLoop) -> None:
         self._loop = loop
-        self._futures: Set["asyncio.Future[None]"] = set()
+        self._futures: Dict["asyncio.Future[None]", None] = {}
 
     async def wait(self) -> None:
         future = self._loop.create_future()
-        self._futures.add(future)
+        self._futures[future] = None
         try:
             await future
         finally:
-            self._futures.discard(future)
+            del self._futures[future]
 
     def wake(self) -> None:
         for future in self._futures:
