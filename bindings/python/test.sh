@@ -9,7 +9,7 @@ export PYTHONPATH="$here/src" PYTHONDONTWRITEBYTECODE=1
 tried=
 checked=no
 for python in python3 /usr/bin/python3; do
-    where=$(command -v "$python") && where=$("$where" -c 'import sys; print(sys.base_prefix, sys.version.split()[0])') || continue
+    where=$("$python" -c 'import sys; print(sys.base_prefix, sys.version.split()[0])' 2> /dev/null) || continue
     [ "$where" != "$tried" ] || continue
     tried=$where
     echo "$where:"

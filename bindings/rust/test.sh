@@ -31,23 +31,25 @@ linked() {
     [ $needs = "$2" ] || fail "$1: libymx.so.0 is needed: $needs"
 }
 export LD_LIBRARY_PATH="$folder${LD_LIBRARY_PATH:+:$LD_LIBRARY_PATH}"
-YMX_LINK=shared linked 'linked as a shared library, from a folder' yes
+(export YMX_LINK=shared && linked 'linked as a shared library, from a folder' yes)
 unset YMX_LIB_DIR
 export PKG_CONFIG_PATH="$folder/pkgconfig"
 linked 'found by pkg-config' no
-YMX_LINK=shared linked 'found by pkg-config, and shared' yes
+(export YMX_LINK=shared && linked 'found by pkg-config, and shared' yes)
 
 # refused NAME TEXT: it is not built, and this is said
 refused() {
     if cargo build --offline > "$scratch/said" 2>&1; then fail "$1: it is built all the same"; fi
     grep -qF "$2" "$scratch/said" || fail "$1: this is not said: $2"
 }
-YMX_LINK=other refused 'another word' 'YMX_LINK is `other`, and not `static` or `shared`'
-YMX_LIB_DIR=/nowhere refused 'a folder without it' 'there is no /nowhere/libymx.a'
-PKG_CONFIG=/nowhere/pkg-config refused 'no pkg-config' 'by `c/build.sh install`'
-export PKG_CONFIG_PATH=/nowhere PKG_CONFIG_LIBDIR=/nowhere
-refused 'not installed' 'Or let YMX_LIB_DIR name the folder in which libymx.a lies'
-unset PKG_CONFIG_PATH PKG_CONFIG_LIBDIR
+# shellcheck disable=SC2016
+(export YMX_LINK=other && refused 'another word' 'YMX_LINK is `other`, and not `static` or `shared`')
+(export YMX_LIB_DIR=/nowhere && refused 'a folder without it' 'there is no /nowhere/libymx.a')
+# shellcheck disable=SC2016
+(export PKG_CONFIG=/nowhere/pkg-config && refused 'no pkg-config' 'by `c/build.sh install`')
+(export PKG_CONFIG_PATH=/nowhere PKG_CONFIG_LIBDIR=/nowhere &&
+    refused 'not installed' 'Or let YMX_LIB_DIR name the folder in which libymx.a lies')
+unset PKG_CONFIG_PATH
 
 export YMX_LIB_DIR="$folder"
 cargo fmt --all --check > "$scratch/said" 2>&1 || fail 'cargo fmt would change something'

@@ -51,7 +51,7 @@ END_OF_LIST
     diff -r place022 place077 || fail 'under another umask other files are put'
     if command -v man > /dev/null && man --version 2> /dev/null | grep -q man; then
         for page in ymx ymx_open ymx_touched_is_all; do
-            MANPAGER=cat man -M place022/usr/share/man 3 $page > shown || fail "there is no page of $page"
+            MANPAGER='cat' man -M place022/usr/share/man 3 $page > shown || fail "there is no page of $page"
             grep -q 'ymx_open(ymx_session' shown || fail "the page of $page does not lead to that of ymx"
         done
     fi

@@ -1,7 +1,8 @@
 #!/bin/sh
-# Tries libymx as a C program gets it: ymx.h in C99 and C++11 without a warning, the libraries' names, each constant
-# against the proved crate's, what ymx.h says in words, NULL everywhere, bytes in pieces, touched streams and lent bytes,
-# streams that are released, bytes without copies, each allocation refused, every byte over a socketpair under the sanitizers, the manual, what is installed and found by
+# Tries libymx as a C program gets it: ymx.h in C99 and C++11 without a warning, the libraries' names and their versions,
+# any flags, the way back from each instruction, each constant against the proved crate's, what ymx.h says in words, NULL
+# everywhere, bytes in pieces, touched streams and lent bytes, streams that are released, bytes without copies, each
+# allocation refused, every byte over a socketpair under the sanitizers, the manual, what is installed and found by
 # pkg-config and CMake, and a copy of the repository that builds it from the release with no toolchain but C's. It ends
 # with a line that says the count.
 # c/build.sh says what it is built from.
