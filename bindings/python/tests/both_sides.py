@@ -52,7 +52,10 @@ class BothSides(unittest.IsolatedAsyncioTestCase):
 
 
 class Collecting:
-    """Collects garbage all the time."""
+    """Collects garbage all the time, or with pauses of so many seconds."""
+
+    def __init__(self, pause=0):
+        self._pause = pause
 
     async def __aenter__(self):
         self._task = asyncio.ensure_future(self._collect())
@@ -63,4 +66,4 @@ class Collecting:
     async def _collect(self):
         while True:
             gc.collect()
-            await asyncio.sleep(0)
+            await asyncio.sleep(self._pause)

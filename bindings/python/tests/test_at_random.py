@@ -10,7 +10,8 @@ import unittest
 import ymx
 from both_sides import Collecting
 
-SECONDS = 4
+SECONDS, MOST_SECONDS = 4, 90  # and on until enough were whole and enough were cut
+ENOUGH = 10
 HEAD = struct.Struct(">IB")
 
 
@@ -82,9 +83,12 @@ class AtRandom(unittest.IsolatedAsyncioTestCase):
         await connection.serve_streams(self.exchange)
         await asyncio.gather(*users)
 
-    async def call(self, address, end):
-        loop = asyncio.get_running_loop()
-        while loop.time() < end:
+    def goes_on(self):
+        passed = asyncio.get_running_loop().time() - self.began
+        return passed < SECONDS or (passed < MOST_SECONDS and min(self.whole, self.cut) <= ENOUGH)
+
+    async def call(self, address):
+        while self.goes_on():
             users = []
             try:
                 async with await ymx.open_connection(*address, linger=2) as connection:
@@ -98,7 +102,7 @@ class AtRandom(unittest.IsolatedAsyncioTestCase):
                         raise KeyError
             except (KeyError, ymx.ConnectionLost):
                 pass
-            await asyncio.wait_for(asyncio.gather(*users), 20)
+            await asyncio.wait_for(asyncio.gather(*users), 60)
 
     async def test_what_reads_as_ended_is_whole(self):
         seed = int(os.environ.get("YMX_TEST_SEED") or random.randrange(1 << 30))
@@ -110,8 +114,9 @@ class AtRandom(unittest.IsolatedAsyncioTestCase):
         )
         server = await ymx.start_server(self.serve, "127.0.0.1", 0, linger=2)
         address = server.sockets[0].getsockname()
-        async with Collecting():
-            await asyncio.gather(*(self.call(address, loop.time() + SECONDS) for _ in range(4)))
+        self.began = loop.time()
+        async with Collecting(pause=0.02):
+            await asyncio.gather(*(self.call(address) for _ in range(4)))
         server.close()
         for _ in range(100):
             gc.collect()
@@ -120,8 +125,7 @@ class AtRandom(unittest.IsolatedAsyncioTestCase):
                 break
             await asyncio.sleep(0.1)
         self.assertEqual((self.wrong, len(others)), ([], 0), f"YMX_TEST_SEED={seed}")
-        self.assertGreater(self.whole, 10)
-        self.assertGreater(self.cut, 10)
+        self.assertGreater(min(self.whole, self.cut), ENOUGH)
 
 
 if __name__ == "__main__":
