@@ -170,22 +170,28 @@ func inTurn(client, server session, count int) float64 {
 // What a session has on Go's heap before anything was sent.
 func heap(begin func() (session, session)) uint64 {
 	const pairs = 50
-	var before, after runtime.MemStats
 	all := make([]session, 0, 2*pairs)
-	runtime.GC()
-	runtime.ReadMemStats(&before)
+	before := onHeap()
 	for number := 0; number < pairs; number++ {
 		client, server := begin()
 		all = append(all, client, server)
 	}
-	for times := 0; times < 3; times++ {
-		runtime.GC() // what both packages pool is no session's, and goes by the second one
-	}
-	runtime.ReadMemStats(&after)
+	after := onHeap()
 	for _, session := range all {
 		session.Close()
 	}
-	return (after.HeapAlloc - before.HeapAlloc) / uint64(len(all))
+	return (after - before) / uint64(len(all))
+}
+
+// How much is on the heap, once all that nobody needs is gone. What packages pool goes by the second collection.
+func onHeap() uint64 {
+	var found runtime.MemStats
+	for times := 0; times < 3; times++ {
+		time.Sleep(50 * time.Millisecond)
+		runtime.GC()
+	}
+	runtime.ReadMemStats(&found)
+	return found.HeapAlloc
 }
 
 // The processor time of this process.

@@ -162,6 +162,7 @@ func (s *Session) end(reason error) {
 	s.keepOffered()
 	s.wakeFlushing() // also of streams that the library has forgotten
 	s.core.free()
+	s.giveBlock()
 	s.opening.stop()
 	s.closing.stop()
 	if s.timer != nil {
@@ -214,11 +215,10 @@ func (s *Session) silence(reason error) {
 
 func (s *Session) receive() {
 	defer close(s.readerDone)
+	defer s.source.release()
 	for {
 		bytes, err := s.source.read()
-		goesOn := s.feed(bytes)
-		s.source.release(len(bytes))
-		if !goesOn {
+		if !s.feed(bytes) {
 			return
 		}
 		if err != nil {
@@ -400,9 +400,9 @@ func (s *Session) takeBlock() {
 	}
 }
 
-// giveBlock gives it back, once the connection has taken all.
+// giveBlock gives it back, once the connection has taken all, or takes no more.
 func (s *Session) giveBlock() {
-	if s.block != nil && len(s.rest) == 0 && !s.busy {
+	if s.block != nil && !s.busy && (s.over || len(s.rest) == 0) {
 		s.rest = nil
 		blocks.Put(s.block)
 		s.block = nil

@@ -31,7 +31,7 @@ type socket struct {
 
 	// What one read answers. The reading goroutine alone reads.
 	look  func(descriptor uintptr) bool
-	block *[blockSize]byte
+	block *[blockSize]byte // where the bytes lie; nil while a read waits
 	came  int
 	fault error
 }
@@ -74,40 +74,38 @@ func (s *socket) write(bytes []byte) (int, error) {
 	return s.count, s.err
 }
 
-// read waits for bytes, and gives them with their block, which the caller gives back. No block is held while it waits.
-func (s *socket) read() (block *[blockSize]byte, count int, err error) {
+// read waits for bytes, which are good until the next read. No block is held while it waits.
+func (s *socket) read() ([]byte, error) {
 	if err := s.raw.Read(s.look); err != nil {
-		return nil, 0, err
+		return nil, err
 	}
-	block, s.block = s.block, nil
 	if s.fault != nil {
-		err = &net.OpError{Op: "read", Net: s.connection.LocalAddr().Network(), Source: s.connection.LocalAddr(),
+		return nil, &net.OpError{Op: "read", Net: s.connection.LocalAddr().Network(), Source: s.connection.LocalAddr(),
 			Addr: s.connection.RemoteAddr(), Err: os.NewSyscallError("read", s.fault)}
-	} else if s.came == 0 {
-		err = io.EOF
 	}
-	return block, s.came, err
+	if s.came == 0 {
+		return nil, io.EOF
+	}
+	return s.block[:s.came], nil
 }
 
-// readAtOnce takes a block and reads into it. It says whether there was anything: bytes, the end or a fault.
+// readAtOnce reads into a block, and says whether there was anything: bytes, the end or a fault.
 func (s *socket) readAtOnce(descriptor uintptr) bool {
-	s.block = blocks.Get().(*[blockSize]byte)
+	if s.block == nil {
+		s.block = blocks.Get().(*[blockSize]byte)
+	}
 	for {
 		s.came, s.fault = syscall.Read(int(descriptor), s.block[:])
 		if s.fault != syscall.EINTR {
 			break
 		}
 	}
-	if s.fault == nil {
+	if s.fault == nil && s.came > 0 {
 		return true
 	}
-	s.came = 0
-	if s.fault == syscall.EAGAIN {
-		blocks.Put(s.block)
-		s.block = nil
-		return false
-	}
-	return true
+	blocks.Put(s.block)
+	s.block = nil
+	return s.fault != syscall.EAGAIN
 }
 
 // settle waits until the system has sent all that was written, for so long at most. It drops what it has still to send
@@ -129,7 +127,8 @@ type source struct {
 	connection io.Reader
 	own        []byte
 	block      *[blockSize]byte
-	smallReads int // how many there were since the last one that was not small
+	hasRead    bool
+	smallReads int // how many there were since the last one that was not small, or since the first
 }
 
 const (
@@ -141,43 +140,40 @@ func newSource(connection io.Reader, socket *socket) *source {
 	if socket != nil {
 		return &source{socket: socket}
 	}
-	return &source{connection: connection, own: make([]byte, ownSize)}
+	return &source{connection: connection, own: make([]byte, ownSize), smallReads: mostSmallReads}
 }
 
-// read waits for bytes, which are good until `release`.
+// read waits for bytes, which are good until the next read.
 func (s *source) read() ([]byte, error) {
-	if s.socket == nil {
-		place := s.own
-		if s.block != nil {
-			place = s.block[:]
-		}
-		count, err := s.connection.Read(place)
-		return place[:count], err
+	if s.socket != nil {
+		return s.socket.read()
 	}
-	block, count, err := s.socket.read()
-	s.block = block
-	if block == nil {
-		return nil, err
-	}
-	return block[:count], err
-}
-
-// release lets others have the block in which so many bytes lay, unless the next read waits with it.
-func (s *source) release(count int) {
-	if s.socket == nil {
-		s.smallReads++
-		if count >= ownSize {
-			s.smallReads = 0
+	place := s.own
+	if s.smallReads < mostSmallReads {
+		if s.block == nil {
+			s.block = blocks.Get().(*[blockSize]byte)
 		}
-		if s.smallReads < mostSmallReads {
-			if s.block == nil {
-				s.block = blocks.Get().(*[blockSize]byte)
-			}
-			return
-		}
-	}
-	if s.block != nil {
+		place = s.block[:]
+	} else if s.block != nil {
 		blocks.Put(s.block)
 		s.block = nil
+	}
+	count, err := s.connection.Read(place)
+	if s.smallReads++; count >= ownSize || !s.hasRead {
+		s.smallReads = 0
+	}
+	s.hasRead = true
+	return place[:count], err
+}
+
+// release gives back the block, behind the last read.
+func (s *source) release() {
+	place := &s.block
+	if s.socket != nil {
+		place = &s.socket.block
+	}
+	if *place != nil {
+		blocks.Put(*place)
+		*place = nil
 	}
 }
