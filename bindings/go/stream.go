@@ -32,6 +32,7 @@ type Stream struct {
 	opening   waiting
 	closing   waiting
 
+	waiting int    // bytes of a Write that waits, which the library hasn't taken
 	taken   uint64 // bytes that the library took from Write
 	gone    uint64 // how many of them are out
 	begins  bool   // its first frame is out
@@ -208,6 +209,7 @@ func (st *Stream) Write(bytes []byte) (int, error) {
 	}
 	before, all := st.taken, len(bytes)
 	err := st.hand(bytes)
+	st.waiting = 0
 	fault := st.flush(&st.writable, func() bool { return st.gone >= st.taken || st.closed || st.writing.isPast() })
 	if err == nil {
 		err = fault
@@ -243,6 +245,7 @@ const leastTurn = 16384
 func (st *Stream) hand(bytes []byte) error {
 	s := st.session
 	for len(bytes) > 0 {
+		st.waiting = len(bytes)
 		if err := st.writeFault(); err != nil {
 			return err
 		}
@@ -407,10 +410,12 @@ func (st *Stream) sentFrame(kind byte, flags uint16, length uint32) {
 
 // ---- the end
 
-// CloseWrite ends the writing side, behind the last byte, and waits until the connection has taken the end. The stream may
-// still be read. It returns ErrConnectionReset or ErrSessionShutdown where the end can't be told any more, and
-// ErrConnectionWriteTimeout where the connection doesn't take it.
+// CloseWrite ends the writing side, behind the last byte and behind a Write that is under way, and waits until the
+// connection has taken the end. The stream may still be read. It returns ErrConnectionReset or ErrSessionShutdown where the
+// end can't be told any more, and ErrConnectionWriteTimeout where the connection doesn't take it.
 func (st *Stream) CloseWrite() error {
+	st.sending.Lock()
+	defer st.sending.Unlock()
 	st.session.lock.Lock()
 	defer st.session.lock.Unlock()
 	if st.finished {
@@ -428,6 +433,10 @@ func (st *Stream) CloseWrite() error {
 // Close ends both sides. The writing side ends behind the last byte, and Close waits until the connection has taken that
 // end. A Read or Write that waits returns ErrStreamClosed, but a Read gives what has come first. Who wants to read on calls
 // CloseWrite. The stream is gone once the peer has ended it, and is reset if that takes longer than StreamCloseTimeout.
+//
+// Where it ends a Write that has bytes left for which the peer gave no credit, the stream is reset, so that the peer doesn't
+// take what has come for the whole.
+//
 // Close returns nil, whatever happens; CloseWrite before it says whether the peer can learn of the end.
 func (st *Stream) Close() error {
 	s := st.session
@@ -439,6 +448,17 @@ func (st *Stream) Close() error {
 	}
 	st.closed, st.closedAt = true, time.Now()
 	st.readable.Broadcast()
+	if st.waiting > 0 && !st.finished {
+		reason := ErrStreamClosed
+		if s.core.look(st.id).hasEnded() {
+			reason = io.EOF // behind what has come
+		}
+		st.rest = s.core.take(st.id, st.rest, widestWindow)
+		st.breakOff(reason)
+		for s.writeHere() {
+		}
+		return nil
+	}
 	s.closing.add(&st.closing, st)
 	st.finish()
 	if st.end == nil {

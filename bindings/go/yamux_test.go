@@ -14,6 +14,7 @@ import (
 	"os"
 	"runtime"
 	"sync"
+	"sync/atomic"
 	"syscall"
 	"testing"
 	"time"
@@ -243,6 +244,43 @@ func TestCloseEndsCallsThatWait(t *testing.T) {
 			t.Error(err)
 		}
 	}
+}
+
+// What has come of a Write that Close ended isn't the whole, so the peer sees no end.
+func TestCloseOfAHalfWrittenTextIsNoEnd(t *testing.T) {
+	for _, begin := range []func(*testing.T, *Config) (*Session, *Session){overTCP, overPipe} {
+		client, server := begin(t, quiet())
+		near, far := pair(t, client, server)
+		back := make(chan error, 1)
+		go func() {
+			_, err := near.Write(make([]byte, 2*leastWindow))
+			back <- err
+		}()
+		time.Sleep(20 * time.Millisecond)
+		good(t, near.Close())
+		if err := <-back; err != ErrStreamClosed {
+			t.Fatal(err)
+		}
+		if _, err := io.ReadAll(far); err != ErrConnectionReset {
+			t.Fatal(err)
+		}
+	}
+}
+
+// The end goes out behind a Write that is under way.
+func TestCloseWriteWaitsForAWrite(t *testing.T) {
+	client, server := overTCP(t, quiet())
+	near, far := pair(t, client, server)
+	sent := random(5, 3*leastWindow)
+	go near.Write(sent)
+	time.Sleep(20 * time.Millisecond)
+	ended := make(chan error)
+	go func() { ended <- near.CloseWrite() }()
+	came, err := io.ReadAll(far)
+	if err != nil || !bytes.Equal(came, sent) {
+		t.Fatal(len(came), err)
+	}
+	good(t, <-ended)
 }
 
 // A Write that waits for the connection is ended too, not only one that waits for credit.
@@ -568,6 +606,121 @@ func TestACutConnectionLetsEverybodyGo(t *testing.T) {
 		all.Wait()
 		client.Close()
 		server.Close()
+	}
+	await(t, "all goroutines have ended", func() bool { return runtime.NumGoroutine() <= before+2 })
+}
+
+// Streams end in all ways at once, and whatever happens: where a reader sees an end, it has seen the whole.
+func TestAnEndIsNeverFaked(t *testing.T) {
+	before := runtime.NumGoroutine()
+	var wholes, faults int64
+	for round := 0; round < 24; round++ {
+		begin := overTCP
+		if round%4 == 3 {
+			begin = overPipe
+		}
+		client, server := begin(t, quiet())
+		var all sync.WaitGroup
+		// a stream has its length and its bytes
+		write := func(stream *Stream, seed int) {
+			defer all.Done()
+			size := seed * 7919 % 300000
+			head := binary.BigEndian.AppendUint32(nil, uint32(size))
+			_, err := stream.Write(append(head, random(seed, size)...))
+			switch {
+			case err != nil:
+				stream.Reset()
+			case seed%2 == 0:
+				stream.CloseWrite()
+			default:
+				stream.Close()
+			}
+		}
+		read := func(stream *Stream, seed int) {
+			defer all.Done()
+			var came []byte
+			var err error
+			switch seed % 3 {
+			case 0:
+				came, err = io.ReadAll(stream)
+			case 1:
+				var buffer bytes.Buffer
+				_, err = io.Copy(&buffer, stream)
+				came = buffer.Bytes()
+			default:
+				came, err = io.ReadAll(io.LimitReader(stream, 1<<40))
+			}
+			if err != nil {
+				atomic.AddInt64(&faults, 1)
+				return
+			}
+			if len(came) < 4 || int(binary.BigEndian.Uint32(came)) != len(came)-4 {
+				t.Errorf("round %d: an end behind %d bytes", round, len(came))
+			}
+			atomic.AddInt64(&wholes, 1)
+		}
+		use := func(stream *Stream, seed int) {
+			all.Add(2)
+			go write(stream, seed)
+			go read(stream, seed)
+			if seed%5 == 4 { // somebody breaks it off, or reads no more
+				all.Add(1)
+				time.AfterFunc(time.Duration(seed%7)*time.Millisecond, func() {
+					defer all.Done()
+					switch seed % 4 {
+					case 0:
+						stream.Reset()
+					case 1:
+						stream.SetReadDeadline(time.Now())
+					case 2:
+						stream.SetDeadline(time.Now())
+					default:
+						stream.Reset()
+						stream.Close()
+					}
+				})
+			}
+		}
+		for number, session := range []*Session{client, server} {
+			session, number := session, number
+			all.Add(2)
+			go func() {
+				defer all.Done()
+				for seed := 1; ; seed++ {
+					stream, err := session.AcceptStream()
+					if err != nil {
+						return
+					}
+					use(stream, seed)
+				}
+			}()
+			go func() {
+				defer all.Done()
+				for seed := 1; seed < 40; seed++ {
+					stream, err := session.OpenStream()
+					if err != nil {
+						return
+					}
+					use(stream, seed+number)
+				}
+			}()
+		}
+		time.Sleep(time.Duration(round) * 2 * time.Millisecond)
+		switch round % 3 {
+		case 0:
+			client.connection.Close()
+		case 1:
+			server.Close()
+		default:
+			server.GoAway()
+			client.Close()
+		}
+		all.Wait()
+		client.Close()
+		server.Close()
+	}
+	if wholes == 0 || faults == 0 {
+		t.Errorf("%d whole streams, and %d that were broken off", wholes, faults)
 	}
 	await(t, "all goroutines have ended", func() bool { return runtime.NumGoroutine() <= before+2 })
 }
