@@ -134,8 +134,7 @@ func (s *Session) CloseChan() <-chan struct{} { return s.done }
 // second at most (on Linux, over TCP).
 func (s *Session) Close() error {
 	s.lock.Lock()
-	for s.writeHere() {
-	}
+	s.writeHere() // what is sent soon
 	s.lock.Unlock()
 	s.end(ErrSessionShutdown)
 	<-s.readerDone
@@ -159,7 +158,9 @@ func (s *Session) end(reason error) {
 	for _, stream := range s.streams {
 		stream.abandon()
 	}
-	s.keepOffered()
+	if reason != ErrSessionShutdown {
+		s.keepOffered()
+	}
 	s.wakeFlushing() // also of streams that the library has forgotten
 	s.core.free()
 	s.giveBlock()
@@ -192,10 +193,10 @@ func (s *Session) keepOffered() {
 func (s *Session) isDown() bool { return s.over || s.mute }
 
 // silence notes that the connection takes no more bytes. Before the session ends for this reason, what the peer has sent
-// is read: a peer that hangs up refuses ours.
-func (s *Session) silence(reason error) {
-	if s.over || s.mute {
-		return
+// is read: a peer that hangs up refuses ours. It says whether that is new.
+func (s *Session) silence(reason error) bool {
+	if s.isDown() {
+		return false
 	}
 	s.mute = true
 	if s.failure == nil {
@@ -209,6 +210,7 @@ func (s *Session) silence(reason error) {
 		cond.Broadcast()
 	}
 	time.AfterFunc(lastReads, func() { s.end(reason) })
+	return true
 }
 
 // ---- bytes that come
@@ -218,7 +220,11 @@ func (s *Session) receive() {
 	defer s.source.release()
 	for {
 		bytes, err := s.source.read()
-		if !s.feed(bytes) {
+		goesOn, fault := s.feed(bytes)
+		if fault != nil {
+			s.logger.Printf("[ERR] yamux: the peer broke the rules: %v", fault)
+		}
+		if !goesOn {
 			return
 		}
 		if err != nil {
@@ -231,10 +237,10 @@ func (s *Session) receive() {
 	}
 }
 
-// feed feeds all of it, and says whether the session goes on.
-func (s *Session) feed(bytes []byte) bool {
+// feed feeds all of it, and says whether the session goes on, and which rule the peer broke.
+func (s *Session) feed(bytes []byte) (goesOn bool, fault error) {
 	if len(bytes) == 0 {
-		return true
+		return true, nil
 	}
 	s.lock.Lock()
 	defer s.lock.Unlock()
@@ -243,11 +249,12 @@ func (s *Session) feed(bytes []byte) bool {
 		bytes = bytes[taken:]
 		s.serve()
 		if s.core.status() >= statusBroken {
-			s.breakOff(broken(s.core.status()))
-			return false
+			fault = broken(s.core.status())
+			s.breakOff(fault)
+			return false, fault
 		}
 		if len(bytes) == 0 {
-			return true
+			return true, nil
 		}
 		if s.mute {
 			s.discard() // nobody will send the answers
@@ -255,7 +262,7 @@ func (s *Session) feed(bytes []byte) bool {
 		}
 		s.emitted.Wait() // as many answers are unsent as the library keeps
 	}
-	return false
+	return false, nil
 }
 
 // discard takes what is due out of the library, for nobody.
@@ -300,7 +307,6 @@ func (s *Session) serve() {
 
 // breakOff ends the session once the Go Away that names the peer's fault is out, or can't get out.
 func (s *Session) breakOff(reason error) {
-	s.logger.Printf("[ERR] yamux: the peer broke the rules: %v", reason)
 	s.failure = reason
 	if !s.due || s.mute {
 		go s.end(reason)
@@ -361,9 +367,10 @@ func (s *Session) send() {
 		}
 		err := s.writeRest(s.connection.Write)
 		if err != nil {
-			if !s.over {
+			if s.silence(err) {
+				s.lock.Unlock() // a log may write to a stream
 				s.logger.Printf("[ERR] yamux: Failed to write: %v", err)
-				s.silence(err)
+				s.lock.Lock()
 			}
 			return
 		}

@@ -331,7 +331,10 @@ func (st *Stream) writeFault() error {
 		return ErrStreamClosed
 	}
 	if st.end == io.EOF {
-		return ErrStreamClosed
+		if st.closed {
+			return ErrStreamClosed
+		}
+		return ErrSessionShutdown // which has ended behind the peer's end of the stream
 	}
 	if st.end == nil && st.session.mute {
 		return ErrSessionShutdown
@@ -455,8 +458,7 @@ func (st *Stream) Close() error {
 		}
 		st.rest = s.core.take(st.id, st.rest, widestWindow)
 		st.breakOff(reason)
-		for s.writeHere() {
-		}
+		s.writeHere()
 		return nil
 	}
 	s.closing.add(&st.closing, st)

@@ -519,6 +519,49 @@ func TestStreamsThatCameWholeAreAcceptedMeanwhile(t *testing.T) {
 	}
 }
 
+// A connection that takes no more bytes has still to give what the peer has sent.
+func TestAConnectionThatTakesNothingIsReadOn(t *testing.T) {
+	near, far := net.Pipe()
+	client, err := Client(near, quiet())
+	good(t, err)
+	defer client.Close()
+	server, err := Server(&unwritable{Conn: far}, quiet())
+	good(t, err)
+	defer server.Close()
+	stream, err := client.OpenStream()
+	good(t, err)
+	_, err = stream.Write([]byte("all"))
+	good(t, err)
+	good(t, stream.CloseWrite())
+	served, err := server.AcceptStream() // its answer is refused
+	good(t, err)
+	later, err := client.OpenStream()
+	good(t, err)
+	_, err = later.Write([]byte("all of it"))
+	good(t, err)
+	good(t, later.CloseWrite())
+	if came, err := io.ReadAll(served); string(came) != "all" || err != nil {
+		t.Fatalf("%q %v", came, err)
+	}
+	if _, err := served.Write([]byte("x")); err != ErrSessionShutdown {
+		t.Fatal(err)
+	}
+	served, err = server.AcceptStream()
+	good(t, err)
+	if came, err := io.ReadAll(served); string(came) != "all of it" || err != nil {
+		t.Fatalf("%q %v", came, err)
+	}
+	if _, err := server.AcceptStream(); err != errUnwritable {
+		t.Fatal(err)
+	}
+}
+
+var errUnwritable = errors.New("nothing is taken")
+
+type unwritable struct{ net.Conn }
+
+func (*unwritable) Write([]byte) (int, error) { return 0, errUnwritable }
+
 func TestAcceptEndsWithItsOwnSession(t *testing.T) {
 	client, server := overTCP(t, quiet())
 	_, err := client.OpenStream()
