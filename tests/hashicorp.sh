@@ -13,17 +13,17 @@ tries=${1-3}
 theirs=/usr/share/gocode/src/github.com/hashicorp/yamux
 has_go || fail "Go or its yamux is not here: apt-get install golang-go golang-github-hashicorp-yamux-dev"
 
-# Tests that need not pass: the name; `never`, or `race` for one that has to pass once in 20 tries; at which sides,
-# client/server or any; and why.
+# Tests that may fail, as each is a race: the name; at which sides, client/server or any; and why. Each has to pass once in
+# 20 tries.
 cat > "$scratch/excused" <<'END'
-TestSession_PartialReadWindowUpdate never ours/ours it reads the private credit of a stream behind its Close, where libymx tells none
-TestSession_PartialReadWindowUpdate never theirs/ours it reads the private credit of a stream behind its Close, where libymx tells none
-TestSession_PartialReadWindowUpdate race ours/theirs nothing waits for the credit to be read at the server
-TestSession_WindowUpdateWriteDuringRead race theirs/ours it wants 262,143 bytes by one Read, which their side gives frame by frame, and libymx sends frames of 16,384
-TestSession_WindowUpdateWriteDuringRead race any if the peer's end has come before the Read, libymx sends no credit, so the Read needn't wait
-TestBacklogExceeded_Accept race any nothing waits for the goroutine that accepts, and an error in it fails the test; theirs fails it too
-TestGoAway race any nothing waits for the Go Away to be read; theirs fails it too, less often
-TestSendData_Small race any it counts the streams before the last end is read; theirs fails it too
+TestSession_PartialReadWindowUpdate ours/ours if the peer's end has come before the Read, libymx sends no credit
+TestSession_PartialReadWindowUpdate ours/theirs if the peer's end has come before the Read, libymx sends no credit
+TestSession_WindowUpdateWriteDuringRead ours/ours if the peer's end has come before the Read, libymx sends no credit, so the Read needn't wait
+TestSession_WindowUpdateWriteDuringRead ours/theirs if the peer's end has come before the Read, libymx sends no credit, so the Read needn't wait
+TestSession_WindowUpdateWriteDuringRead theirs/ours it wants 262,143 bytes by one Read, which their side gives frame by frame, and libymx sends frames of 16,384
+TestBacklogExceeded_Accept any nothing waits for the goroutine that accepts, and an error in it fails the test; theirs fails it too
+TestGoAway any nothing waits for the Go Away to be read; theirs fails it too, less often
+TestSendData_Small any it counts the streams before the last end is read; theirs fails it too
 END
 
 # Go keeps where the library stood; so this has a cache of its own, and leaves the user's alone
@@ -46,18 +46,18 @@ pass() {
     CLIENT=${2%/*} SERVER=${2#*/} timeout 120 ./their_tests -test.run "^$1\$" -test.timeout 100s > said 2>&1
 }
 
-# excuse TEST SIDES: `never`, `race` or nothing
+# excuse TEST SIDES: `race`, or nothing
 excuse() {
-    awk -v test="$1" -v sides="$2" '$1 == test && ($3 == sides || $3 == "any") { print $2; exit }' excused
+    awk -v test="$1" -v sides="$2" '$1 == test && ($2 == sides || $2 == "any") { print "race"; exit }' excused
 }
 
 # enough EXCUSE: whether so many tries have passed
 enough() {
-    case $1 in
-    never) true ;;
-    race) [ "$passes" != 0 ] ;;
-    *) [ $((passes * 2)) -gt $made ] ;;
-    esac
+    if [ "$1" = race ]; then
+        [ "$passes" != 0 ]
+    else
+        [ $((passes * 2)) -gt $made ]
+    fi
 }
 
 # cell TEST SIDES: how many tries passed, of how many
@@ -80,7 +80,6 @@ cell() {
     excuse=$(excuse "$1" "$2")
     if [ -n "$excuse" ] && [ $passes != $made ]; then
         text="$text *"
-        [ "$excuse" != never ] || return 0
     fi
     if enough "$excuse"; then
         good
@@ -103,6 +102,6 @@ done
 echo
 echo "Not run, as they call private helpers of their package and no session:"
 sed -n 's/^func \(Test[A-Za-z_]*\).*/    \1/p' tests/const_test.go tests/util_test.go
-echo "May fail, at client/server:"
-awk '{ test = $1; kind = $2; sides = $3; $1 = $2 = $3 = ""; print "    " test " (" sides "):" $0 (kind == "race" ? " (a race)" : "") }' excused
+echo "May fail, at client/server, each as a race:"
+awk '{ test = $1; sides = $2; $1 = $2 = ""; print "    " test " (" sides "):" $0 }' excused
 counted

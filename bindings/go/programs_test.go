@@ -168,15 +168,17 @@ func TestReplaceServesTheirPrograms(t *testing.T) {
 	}
 }
 
-// The conformance test of golang.org/x/net for a net.Conn, over TCP and over a pipe (nettest_test.go).
+// The conformance test of golang.org/x/net for a net.Conn, over TCP, a Unix socket and a pipe (nettest_test.go).
 func TestStreamsAreConns(t *testing.T) {
 	need(t, "golang.org/x/net/nettest", "golang-golang-x-net-dev")
 	folder, err := os.Getwd()
 	good(t, err)
 	said := inFolder(t, folder, []string{"GO111MODULE=off", "GOFLAGS=", "GOPATH=" + filepath.Dir(packages)},
 		"test", "-count=1", "-v", "-tags=nettest", "-run=^TestNettest$", ".")
-	if passed := strings.Count(said, "--- PASS: TestNettest/TCP/") + strings.Count(said, "--- PASS: TestNettest/Pipe/"); passed != 22 {
-		t.Fatalf("%d of 22 passed\n%s", passed, said)
+	for _, over := range []string{"TCP", "Unix", "Pipe"} {
+		if passed := strings.Count(said, "--- PASS: TestNettest/"+over+"/"); passed != 11 {
+			t.Fatalf("%d of 11 passed over %s\n%s", passed, over, said)
+		}
 	}
 }
 

@@ -50,14 +50,18 @@ type stream interface {
 	net.Conn
 	StreamID() uint32
 	Shrink()
-	SendWindow() uint32
 }
+
+// What theirs have beside it.
+type hasWindow interface{ SendWindow() uint32 }
 
 type Session struct {
 	session
 	conn   io.ReadWriteCloser
 	config *Config
 	logger *log.Logger
+	side   string
+	wire   *wire
 
 	// The pings that went out are counted on the connection.
 	pingLock sync.Mutex
@@ -67,6 +71,7 @@ type Session struct {
 type Stream struct {
 	stream
 	recvBuf *bytes.Buffer // a test logs its size
+	session *Session
 }
 
 // A connection that counts the pings in writes of headers alone.
@@ -75,7 +80,15 @@ type counting struct {
 	session *Session
 }
 
+func (c counting) Read(p []byte) (int, error) {
+	count, err := c.ReadWriteCloser.Read(p)
+	c.session.wire.came(p[:count])
+	return count, err
+}
+
+// Write notes the bytes first, as the peer may answer before the write is over.
 func (c counting) Write(p []byte) (int, error) {
+	c.session.wire.went(p)
 	for rest := p; len(p)%headerSize == 0 && len(rest) > 0; rest = rest[headerSize:] {
 		if h := header(rest); h.MsgType() == typePing && h.Flags() == flagSYN {
 			c.session.pingLock.Lock()
@@ -98,6 +111,74 @@ func (c counting) Write(p []byte) (int, error) {
 // looked at yet where their Read behind Close looks for it, and that Read says EOF. So short writes go in two pieces here.
 const shortWrite = 100
 
+// wire is what the frames of a connection say of the credit that its side has on each stream.
+type wire struct {
+	lock    sync.Mutex
+	credit  map[uint32]int64 // beyond the first window
+	in, out frames
+}
+
+// frames cuts a direction's bytes into frames.
+type frames struct {
+	header  []byte
+	payload int
+}
+
+// cut calls for each header.
+func (f *frames) cut(p []byte, call func(header)) {
+	for len(p) > 0 {
+		if f.payload > 0 {
+			count := f.payload
+			if count > len(p) {
+				count = len(p)
+			}
+			f.payload -= count
+			p = p[count:]
+			continue
+		}
+		count := headerSize - len(f.header)
+		if count > len(p) {
+			count = len(p)
+		}
+		f.header = append(f.header, p[:count]...)
+		p = p[count:]
+		if len(f.header) == headerSize {
+			h := header(f.header)
+			call(h)
+			if h.MsgType() == typeData {
+				f.payload = int(h.Length())
+			}
+			f.header = f.header[:0]
+		}
+	}
+}
+
+func (w *wire) came(p []byte) {
+	w.lock.Lock()
+	defer w.lock.Unlock()
+	w.in.cut(p, func(h header) {
+		if h.MsgType() == typeWindowUpdate {
+			w.credit[h.StreamID()] += int64(h.Length())
+		}
+	})
+}
+
+func (w *wire) went(p []byte) {
+	w.lock.Lock()
+	defer w.lock.Unlock()
+	w.out.cut(p, func(h header) {
+		if h.MsgType() == typeData {
+			w.credit[h.StreamID()] -= int64(h.Length())
+		}
+	})
+}
+
+func (w *wire) of(id uint32) uint32 {
+	w.lock.Lock()
+	defer w.lock.Unlock()
+	return uint32(int64(initialStreamWindow) + w.credit[id])
+}
+
 // A log's lines go to the logger that the test has put in last.
 type forwarding struct{ session *Session }
 
@@ -117,7 +198,8 @@ func Server(conn io.ReadWriteCloser, config *Config) (*Session, error) {
 func begin(side string, conn io.ReadWriteCloser, config *Config,
 	beginOurs func(io.ReadWriteCloser, *ours.Config) (*ours.Session, error),
 	beginTheirs func(io.ReadWriteCloser, *theirs.Config) (*theirs.Session, error)) (*Session, error) {
-	s := &Session{conn: conn, config: config, logger: log.New(config.LogOutput, "", log.LstdFlags)}
+	s := &Session{conn: conn, config: config, logger: log.New(config.LogOutput, "", log.LstdFlags), side: side,
+		wire: &wire{credit: make(map[uint32]int64)}}
 	logger := log.New(forwarding{s}, "", 0)
 	var err error
 	if side == "ours" {
@@ -160,15 +242,15 @@ func same(err error) error {
 	return err
 }
 
-func streamOf(conn net.Conn, err error) (*Stream, error) {
+func (s *Session) streamOf(conn net.Conn, err error) (*Stream, error) {
 	if err != nil {
 		return nil, same(err)
 	}
-	return &Stream{conn.(stream), new(bytes.Buffer)}, nil
+	return &Stream{conn.(stream), new(bytes.Buffer), s}, nil
 }
 
-func (s *Session) OpenStream() (*Stream, error)   { return streamOf(s.session.Open()) }
-func (s *Session) AcceptStream() (*Stream, error) { return streamOf(s.session.Accept()) }
+func (s *Session) OpenStream() (*Stream, error)   { return s.streamOf(s.session.Open()) }
+func (s *Session) AcceptStream() (*Stream, error) { return s.streamOf(s.session.Accept()) }
 
 func (s *Session) Open() (net.Conn, error) {
 	stream, err := s.OpenStream()
@@ -195,8 +277,14 @@ func (s *Session) Ping() (time.Duration, error) {
 
 func (s *Session) sendNoWait(h header) error { return same(s.session.SendNoWait(h)) }
 
-// A field in their package. hashicorp.sh writes the tests' mention of it as a call.
-func (s *Stream) sendWindow() uint32 { return s.stream.SendWindow() }
+// A field in their package. hashicorp.sh writes the tests' mention of it as a call. libymx doesn't say the credit of a stream
+// that was finished, so for ours it is what the wire says.
+func (s *Stream) sendWindow() uint32 {
+	if s.session.side == "ours" {
+		return s.session.wire.of(s.StreamID())
+	}
+	return s.stream.(hasWindow).SendWindow()
+}
 
 func (s *Stream) Read(p []byte) (int, error) {
 	count, err := s.stream.Read(p)
