@@ -327,6 +327,31 @@ func TestCloseLeavesWhatHasCome(t *testing.T) {
 	}
 }
 
+// A Read that begins behind Close waits for what is on its way, but not for long.
+func TestAReadBehindCloseWaitsALittle(t *testing.T) {
+	client, server := overTCP(t, quiet())
+	near, far := pair(t, client, server)
+	good(t, near.Close())
+	time.AfterFunc(10*time.Millisecond, func() { far.Write([]byte("late")) })
+	place := make([]byte, 10)
+	if count, err := near.Read(place); string(place[:count]) != "late" || err != nil {
+		t.Fatalf("%q %v", place[:count], err)
+	}
+	back := make(chan error, 1)
+	go func() {
+		_, err := near.Read(place)
+		back <- err
+	}()
+	select {
+	case err := <-back:
+		if err != ErrStreamClosed {
+			t.Fatal(err)
+		}
+	case <-time.After(5 * time.Second):
+		t.Fatal("Read waits on")
+	}
+}
+
 // The usual proxy: two copies, and both connections are closed once either is done.
 func TestAProxyOfTwoCopiesEndsAtOnce(t *testing.T) {
 	for round := 0; round < 50; round++ {
@@ -975,6 +1000,43 @@ func TestPingsWaitForOneAnother(t *testing.T) {
 		}()
 	}
 	all.Wait()
+}
+
+// A session in which nothing moves has no block, neither before its first byte nor behind a lot of them.
+func TestAnIdleSessionIsSmall(t *testing.T) {
+	onHeap := func() uint64 {
+		var found runtime.MemStats
+		for times := 0; times < 3; times++ { // what is pooled goes by the second one
+			time.Sleep(20 * time.Millisecond)
+			runtime.GC()
+		}
+		runtime.ReadMemStats(&found)
+		return found.HeapAlloc
+	}
+	const pairs, most = 20, 64 * 1024
+	before := onHeap()
+	var all []*Session
+	for number := 0; number < pairs; number++ {
+		client, server := overTCP(t, quiet())
+		all = append(all, client, server)
+	}
+	if each := (onHeap() - before) / (2 * pairs); each > most {
+		t.Errorf("%d bytes a new session", each)
+	}
+	for number := 0; number < len(all); number += 2 {
+		near, far := pair(t, all[number], all[number+1])
+		go func() {
+			near.Write(make([]byte, 4*leastWindow))
+			near.Close()
+		}()
+		_, err := io.Copy(io.Discard, far)
+		good(t, err)
+		good(t, far.Close())
+	}
+	if each := (onHeap() - before) / (2 * pairs); each > most {
+		t.Errorf("%d bytes a session that has carried a lot", each)
+	}
+	runtime.KeepAlive(all)
 }
 
 func TestConfigsAreVerified(t *testing.T) {
