@@ -1020,7 +1020,7 @@ func TestAnIdleSessionIsSmall(t *testing.T) {
 		client, server := overTCP(t, quiet())
 		all = append(all, client, server)
 	}
-	if each := (onHeap() - before) / (2 * pairs); each > most {
+	if each := (int64(onHeap()) - int64(before)) / (2 * pairs); each > most {
 		t.Errorf("%d bytes a new session", each)
 	}
 	for number := 0; number < len(all); number += 2 {
@@ -1033,7 +1033,7 @@ func TestAnIdleSessionIsSmall(t *testing.T) {
 		good(t, err)
 		good(t, far.Close())
 	}
-	if each := (onHeap() - before) / (2 * pairs); each > most {
+	if each := (int64(onHeap()) - int64(before)) / (2 * pairs); each > most {
 		t.Errorf("%d bytes a session that has carried a lot", each)
 	}
 	runtime.KeepAlive(all)
