@@ -36,7 +36,7 @@ type Session struct {
 	core      core
 	over      bool
 	mute      bool  // nothing goes out any more, and what the peer has sent is still read
-	failure   error // why it is over, or will be once the last bytes are out or read
+	failure   error // why it is over, or will be once the last bytes are out
 	due       bool  // there is something to emit
 	busy      bool  // somebody writes to the connection
 	full      bool  // the connection didn't take all at once, so the writing goroutine waits for it
@@ -192,16 +192,13 @@ func (s *Session) keepOffered() {
 // isDown says whether nothing goes out any more.
 func (s *Session) isDown() bool { return s.over || s.mute }
 
-// silence notes that the connection takes no more bytes. Before the session ends for this reason, what the peer has sent
-// is read: a peer that hangs up refuses ours. It says whether that is new.
+// silence notes that the connection takes no more bytes. What the peer has sent is still read: a peer that hangs up refuses
+// ours. If the connection doesn't end by that, the session ends for this reason. It says whether that is new.
 func (s *Session) silence(reason error) bool {
 	if s.isDown() {
 		return false
 	}
 	s.mute = true
-	if s.failure == nil {
-		s.failure = reason
-	}
 	for _, stream := range s.streams {
 		stream.writable.Broadcast()
 	}
