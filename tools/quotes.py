@@ -13,7 +13,7 @@ What it compares, layout aside:
 - everywhere in them and in docs/PROVED.md a formula between backticks: it must stand in a clause or a definition.
 - in docs/THEOREMS.md the table of the lines that a reader must believe: tools/lines_to_believe.py must count as
   many, and README.md must say the same.
-- in docs/ARCHITECTURE.md and docs/PROVED.md the rows of crates: each crate of crates.txt must have one.
+- in docs/PROVED.md the rows of crates: each crate of crates.txt must have one, in that order.
 - in the documents of `OF_OURS` a name between backticks: it must stand in the repository.
 
 A quote may leave out words by `..`, the type of a variable, and the variables at its front. A formula that stands in a
@@ -287,18 +287,21 @@ def compare_formula(code, name, line, text):
 
 def compare_promise():
     """The README says how many lines one reads to believe the promise: as many as the first row of that table."""
-    told = re.search(r"To believe it you read ([\d,]+) lines", "\n".join(Document("README.md").lines))
+    told = re.search(r"To believe (?:it|the first) you read ([\d,]+) lines", "\n".join(Document("README.md").lines))
     row = re.search(r"^\| `face` \| ([\d,]+) \|", "\n".join(Document("docs/THEOREMS.md").lines), re.M)
-    if told and row and told.group(1) != row.group(1):
+    if not told or not row:
+        yield "README.md or docs/THEOREMS.md doesn't say any more, in words that this script knows, how many lines one reads to believe the promise"
+    elif row.group(1) != told.group(1):
         yield f"README.md: it says {told.group(1)} lines, and docs/THEOREMS.md {row.group(1)}"
 
 
 def compare_crates():
-    """Each crate has a row in the tables of docs/ARCHITECTURE.md and docs/PROVED.md."""
-    crates = kit.listed(ROOT)
-    for name in ("docs/ARCHITECTURE.md", "docs/PROVED.md"):
-        rows = set(re.findall(r"^\| `(\w+)` \|", (ROOT / name).read_text(), re.M))
-        yield from (f"{name}: there is no row of {crate}" for crate in crates if crate not in rows)
+    """The table of docs/PROVED.md has a row of each crate, in the order of crates.txt."""
+    crates = list(kit.listed(ROOT))
+    rows = re.findall(r"^\| `(\w+)` \|", (ROOT / "docs/PROVED.md").read_text(), re.M)
+    yield from (f"docs/PROVED.md: there is no row of {crate}" for crate in crates if crate not in rows)
+    if set(rows) >= set(crates) and rows != crates:
+        yield f"docs/PROVED.md: the rows aren't the crates in their order: {' '.join(rows)}"
 
 
 def names_of_repository():
