@@ -42,6 +42,7 @@ try 'what the documents quote' "$root/tools/quotes.py"
 try 'the links of the documents' "$root/tools/links.py"
 try 'the picture of the speeds' "$root/tools/speeds.py" --same
 try 'bodies are the same for all recorders' "$root/tools/recorders.py"
+try 'what the documents show is run' "$root/tests/documents.sh"
 try 'requests of memory are bounded' "$root/tools/requests.py"
 try 'the calls of sockets stand in one file' "$root/tools/system_calls.py"
 try 'the released program' "$root/tests/release/run.sh"

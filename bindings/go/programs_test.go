@@ -48,7 +48,7 @@ func write(t *testing.T, folder, name, text string) {
 }
 
 // fence is a block of README: its kind, and its text.
-var fence = regexp.MustCompile("(?ms)^```([a-z]*)\n(.*?)^```$")
+var fence = regexp.MustCompile("(?ms)^```([a-z.]*)\n(.*?)^```$")
 
 // blocksOf gives README's blocks of one kind.
 func blocksOf(t *testing.T, kind string) []string {
@@ -69,7 +69,7 @@ func here(t *testing.T, line string) string {
 	t.Helper()
 	folder, err := os.Getwd()
 	good(t, err)
-	for _, block := range blocksOf(t, "") {
+	for _, block := range blocksOf(t, "go.mod") {
 		if strings.Contains(block, line) {
 			return strings.ReplaceAll(block, "/path/to/bindings/go", folder)
 		}

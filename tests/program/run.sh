@@ -148,7 +148,6 @@ holds 'one session after another' python3 -B "$here/kept.py" "$ymx" "$scratch/re
 holds 'many links to one peer' python3 -B "$here/links.py" "$ymx" "$scratch/slow_acceptor.so"
 holds 'the side that calls is the one that serves' python3 -B "$here/calling.py" "$ymx"
 holds 'a peer that is silent' python3 -B "$here/silence.py" "$ymx"
-holds 'the examples of the documents' python3 -B "$here/documents.py" "$ymx"
 
 expect 0 "$here/help" nothing hello --help
 expect 0 "$here/local_help" nothing hello local --help

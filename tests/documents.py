@@ -1,0 +1,221 @@
+#!/usr/bin/env python3
+"""Runs each block of commands (```sh) of the documents in a copy of the repository of its own, and compares what it
+prints with the blocks of output that follow it in the same section.
+
+- A line that serves (`ymx local`, `ymx remote`, a web server) is begun, as in a terminal of its own, and goes on until
+  the block is over. Every other line is run to its end, and has to end well.
+- The ports that are shown become free ones, and 192.0.2.7 this machine. In a block that begins no web server one stands
+  at each `--target`. A block that has no user for its `--listen` gets one, which fetches a page.
+- What lines print that end is compared letter by letter; a block of output may stand for some commands that print the
+  same. What a line that serves prints is compared but for its numbers, of which only the ports that are shown must agree.
+- `<!-- not run: WHY -->` in the line above a block leaves it out. `<!-- needs: COMMAND.. -->` leaves it out where these
+  commands aren't there.
+
+It says which failed, how many were run and how many were not, and ends with 'N passed, M failed'.
+
+usage: documents.py CLONE    a copy of the repository with the program in its out/
+"""
+
+import contextlib
+import http.server
+import os
+import re
+import shutil
+import signal
+import subprocess
+import sys
+import tempfile
+import threading
+import time
+import urllib.request
+from collections import Counter
+from concurrent.futures import ThreadPoolExecutor
+from pathlib import Path
+
+from ports import free_ports
+
+ROOT = Path(__file__).resolve().parent.parent
+# How long a command may take, and how long a line that serves until it listens, or has said what it must.
+SECONDS, SOON = 80, 20
+PAGE = b"a page\n"
+# A block of code with the mark above it, or a heading.
+PART = re.compile(r"^(?:<!-- (not run|needs): ([^\n]*) -->\n)?```([\w.]*)\n(.*?)^```$|^#", re.M | re.S)
+SERVES = re.compile(r"\bymx (?:remote|local) |-m http\.server |\becho\.py serve$", re.M)
+PORT = re.compile(r"((?<=\d:)|(?<=http\.server ))\d+\b")
+# How a line of commands begins, where a block forgets to say that it has any.
+COMMAND = re.compile(r"^(?:\$ |ymx |\./|c/|release/|tests/|cc |go |cargo |pip )", re.M)
+
+
+class Block:
+    def __init__(self, path, line, mark, word, text):
+        self.name = f"{path.relative_to(ROOT)}:{line}"
+        self.mark, self.word, self.text, self.outputs = mark, word, text, []
+
+
+def blocks_of(path):
+    """The blocks of commands of a document, each with its outputs."""
+    text, found, commands = path.read_text(), [], None
+    for part in PART.finditer(text):
+        mark, word, language, body = part.groups()
+        line = text.count("\n", 0, part.start()) + 1
+        if language == "sh":
+            commands = Block(path, line, mark, word, body)
+            found.append(commands)
+        elif language == "" and commands:
+            commands.outputs.append(body)
+        else:
+            commands = None
+            if language in ("bash", "shell", "console") or language == "" and COMMAND.search(body):
+                sys.exit(f"FAIL  {path.relative_to(ROOT)}:{line}: a block of commands has to be called `sh`")
+    return found
+
+
+# ---- commands that end
+
+
+@contextlib.contextmanager
+def begun(line, folder, said):
+    """These words in a shell, and all that they begin, which ends with this."""
+    bin = folder / "bin"
+    words = {**os.environ, "PATH": f"{bin}:{os.environ['PATH']}", "GOCACHE": str(folder / "go")}
+    process = subprocess.Popen(["sh", "-e", "-c", line], cwd=folder / "clone", env=words, start_new_session=True,
+                               stdin=subprocess.DEVNULL, stdout=said, stderr=subprocess.STDOUT)
+    try:
+        yield process
+    finally:
+        with contextlib.suppress(ProcessLookupError):
+            os.killpg(process.pid, signal.SIGKILL)
+        process.wait()
+
+
+def printed(line, folder):
+    """What these words print until they have ended well."""
+    with tempfile.TemporaryFile() as said, begun(line, folder, said) as process:
+        try:
+            status = process.wait(SECONDS)
+        except subprocess.TimeoutExpired:
+            status = f"none after {SECONDS} seconds"
+        said.seek(0)
+        text = said.read().decode()
+    assert status == 0, f"status {status} of {line}\n{text}"
+    return text
+
+
+def run(block, folder):
+    text = printed(block.text, folder)
+    wanted = "".join(f"(?:{re.escape(output)})+" for output in block.outputs)
+    assert not wanted or re.fullmatch(wanted, text), f"it prints\n{text}"
+
+
+# ---- lines that serve
+
+
+class Page(http.server.BaseHTTPRequestHandler):
+    def do_GET(self):
+        self.send_response(200)
+        self.end_headers()
+        self.wfile.write(PAGE)
+
+    def log_message(self, *_):
+        pass
+
+
+def listening():
+    """The ports at which somebody of this machine listens."""
+    rows = [row.split() for row in Path("/proc/net/tcp").read_text().splitlines()[1:]]
+    return {int(row[1].split(":")[1], 16) for row in rows if row[3] == "0A"}
+
+
+def in_time(holds, text):
+    """Waits until this holds."""
+    end = time.monotonic() + SOON
+    while not holds():
+        assert time.monotonic() < end, text()
+        time.sleep(0.05)
+
+
+def serve(block, folder):
+    shown = sorted({port.group() for port in PORT.finditer(block.text)})
+    ports = dict(zip(shown, map(str, free_ports(len(shown)))))
+
+    def here(text):
+        return PORT.sub(lambda port: ports.get(port.group(), port.group()), text).replace("192.0.2.7", "127.0.0.1")
+
+    lines = here(block.text).splitlines()
+    targets = set() if "http.server" in block.text else set(re.findall(r"--target [\d.]+:(\d+)", here(block.text)))
+    users = [line for line in lines if not SERVES.search(line)]
+    said, heard = [], set()
+    with contextlib.ExitStack() as open_until_here:
+        for port in targets:
+            service = http.server.ThreadingHTTPServer(("127.0.0.1", int(port)), Page)
+            threading.Thread(target=service.serve_forever, daemon=True).start()
+            open_until_here.callback(service.server_close)
+            open_until_here.callback(service.shutdown)
+            heard.add(int(port))
+        serving = []
+        for line in filter(None, lines):
+            if line in users:
+                text = printed(line, folder)
+                assert not targets or text.encode().endswith(PAGE), f"another page comes:\n{text}"
+                continue
+            file = folder / f"said{len(said)}"
+            said.append(file)
+            serving.append(open_until_here.enter_context(begun(line, folder, open_until_here.enter_context(file.open("wb")))))
+            wanted = {int(port.group()) for port in PORT.finditer(line)} - heard
+            in_time(lambda: wanted <= listening() if wanted else heard or file.read_text(), lambda: f"{line}: nobody listens at {wanted}\n{file.read_text()}")
+            heard |= wanted
+        if "--listen" in block.text and not users:
+            place = re.search(r"--listen (\S+)", here(block.text)).group(1)
+            with urllib.request.urlopen(f"http://{place}/", timeout=SOON) as answer:
+                assert answer.read() == PAGE, "another page comes"
+        for output in block.outputs:
+            wanted = re.sub(r"\d+", lambda number: number.group() if number.group() in ports.values() else r"\d+", re.escape(here(output)))
+            in_time(lambda: any(re.fullmatch(wanted, file.read_text()) for file in said),
+                    lambda: "no line prints\n" + here(output) + "\nbut\n" + "\n".join(file.read_text() for file in said))
+        assert all(process.poll() is None for process in serving), "a line that serves has ended\n" + "\n".join(file.read_text() for file in said)
+
+
+# ---- all of them
+
+
+def tried(block):
+    """What is wrong with a block, or nothing."""
+    with tempfile.TemporaryDirectory() as name:
+        folder = Path(name)
+        shutil.copytree(sys.argv[1], folder / "clone", symlinks=True)
+        (folder / "bin").mkdir()
+        (folder / "bin/ymx").symlink_to(folder / "clone/out/ymx")
+        block.text = block.text.replace("$HOME", str(folder / "home"))
+        try:
+            (serve if SERVES.search(block.text) else run)(block, folder)
+        except (AssertionError, OSError) as wrong:
+            return str(wrong).replace(name, "..")
+
+
+def fate(block):
+    """Whether it is run, and if not, why."""
+    if block.mark == "needs":
+        absent = [word for word in block.word.split() if not shutil.which(word)]
+        return f"for want of {absent[0]}" if absent else "run"
+    return block.mark or "run"
+
+
+def main():
+    documents = [ROOT / "README.md", *sorted(ROOT.glob("docs/*.md")), *sorted(ROOT.glob("bindings/**/README.md"))]
+    blocks = [block for path in documents for block in blocks_of(path)]
+    fates = Counter(map(fate, blocks))
+    wanted = [block for block in blocks if fate(block) == "run"]
+    with ThreadPoolExecutor(4) as pool:
+        results = list(pool.map(tried, wanted))
+    for block, wrong in zip(wanted, results):
+        if wrong:
+            print(f"FAIL  {block.name}: {wrong}")
+    left_out = "".join(f", {count} left out {why}" for why, count in fates.items() if why not in ("run", "not run"))
+    print(f"{fates['run']} blocks of commands were run, {fates['not run']} are marked as not run{left_out}")
+    failed = sum(wrong is not None for wrong in results)
+    print(f"{len(wanted) - failed} passed, {failed} failed")
+    return failed > 0
+
+
+if __name__ == "__main__":
+    sys.exit(main())
