@@ -2,7 +2,8 @@
 # Installs the program ymx, with its man pages, completions for bash, zsh and fish, and services for systemd.
 # Usage: release/install.sh [PREFIX]               PREFIX is /usr/local, if it is left out
 #        release/install.sh --uninstall [PREFIX]   takes away what was installed there
-# With DESTDIR all is put below that folder, to be moved from there to PREFIX. Modes are the same under any umask. The
+# With DESTDIR all is put below that folder, to be moved from there to PREFIX. Modes are the same under any umask. fish
+# finds its completions below PREFIX where XDG_DATA_DIRS names PREFIX/share; for /usr/local they lie in /etc too. The
 # program is that of ./ymx: the released one, where it was made from these very sources. The services' files of options,
 # in /etc/ymx, are the user's: none is made or taken away.
 set -eu
@@ -28,11 +29,12 @@ absolute() {
 
 prefix=$(absolute "${1-/usr/local}")
 prefix=${prefix%/}
-place=${DESTDIR-}
-[ -z "$place" ] || place=$(absolute "$place")
-place=${place%/}$prefix
+destdir=${DESTDIR-}
+[ -z "$destdir" ] || destdir=$(absolute "$destdir")
+destdir=${destdir%/}
+place=$destdir$prefix
 
-# Each file: its mode, what it is made from, and where it lies below PREFIX.
+# Each file: its mode, what it is made from, and where it lies, below PREFIX unless it begins with a /.
 files='755 ymx bin/ymx
 644 ymx.1 share/man/man1/ymx.1
 644 ymx-local.1 share/man/man1/ymx-local.1
@@ -43,12 +45,23 @@ files='755 ymx bin/ymx
 644 ymx-local@.service lib/systemd/system/ymx-local@.service
 644 ymx-remote@.service lib/systemd/system/ymx-remote@.service
 644 LICENSE share/doc/ymx/LICENSE'
+# fish looks below /usr, where XDG_DATA_DIRS says, and always in /etc
+[ "$prefix" != /usr/local ] || files="$files
+644 ymx.fish /etc/fish/completions/ymx.fish"
+
+# place_of FILE: where it is put
+place_of() {
+    case $1 in
+    /*) printf '%s\n' "$destdir$1" ;;
+    *) printf '%s\n' "$place/$1" ;;
+    esac
+}
 
 if [ $task = uninstall ]; then
     printf '%s\n' "$files" | while read -r _ _ file; do
         # the licence stays as long as the library for C does
         if [ "$file" = share/doc/ymx/LICENSE ] && [ -e "$place/include/ymx.h" ]; then continue; fi
-        rm -f "$place/$file"
+        rm -f "$(place_of "$file")"
     done
     # (a folder that something else is in stays)
     rmdir "$place/share/doc/ymx" 2> /dev/null || true
@@ -69,7 +82,8 @@ done
 # for the folders that are made
 umask 022
 printf '%s\n' "$files" | while read -r mode source file; do
-    mkdir -p "$(dirname "$place/$file")"
-    install -m "$mode" "$scratch/$source" "$place/$file"
+    to=$(place_of "$file")
+    mkdir -p "$(dirname "$to")"
+    install -m "$mode" "$scratch/$source" "$to"
 done
 echo "$("$scratch/ymx" --version) installed below $place"

@@ -182,7 +182,8 @@ def tried(block):
     """What is wrong with a block, or nothing."""
     with tempfile.TemporaryDirectory() as name:
         folder = Path(name)
-        shutil.copytree(sys.argv[1], folder / "clone", symlinks=True)
+        shutil.copytree(sys.argv[1], folder / "clone", ignore=shutil.ignore_patterns("crates"))
+        (folder / "clone/crates").symlink_to(Path(sys.argv[1]) / "crates")
         (folder / "bin").mkdir()
         (folder / "bin/ymx").symlink_to(folder / "clone/out/ymx")
         block.text = block.text.replace("$HOME", str(folder / "home"))

@@ -1,7 +1,8 @@
 #!/bin/sh
 # release/install.sh: what is put where, with which modes, is the same under umask 022 and 077; the program that was
 # installed runs; SIGTERM ends it by the signal, which systemd takes for a clean end; `--uninstall` leaves no file, and
-# takes nothing that isn't the program's. And the man pages and the completions have the options of that program.
+# takes nothing that isn't the program's; fish finds its completions below /usr/local too. And the man pages and the
+# completions have the options of that program, and ymx-local's sample has its words.
 set -eu
 here=$(cd "$(dirname "$0")" && pwd)
 . "$here/../over.sh"
@@ -71,13 +72,38 @@ done
 printf 'connection %s bytes echoed\n' '1: 0' '2: 1' '3: 300000' > echoed
 if "$installed/bin/ymx" selftest > got && cmp got echoed; then good; else bad 'the installed program fails its selftest' got; fi
 
+# shape FILE: its lines about connections, whatever their numbers
+shape() {
+    sed -n '/^ymx: connection /s/[0-9][0-9.]*/N/gp' "$1"
+}
+
+# a connection through both ends; nobody listens at the target, so both ways fail there
 begin_anywhere remote_says "$installed/bin/ymx" remote -v --bind 127.0.0.1:0 --target 127.0.0.1:1
 remote=${jobs##* }
+begin_anywhere local_says "$installed/bin/ymx" local -v --listen 127.0.0.1:0 --peer "$address"
+python3 -c 'import socket, sys; host, port = sys.argv[1].split(":"); socket.create_connection((host, int(port))).recv(1)' "$address" 2> /dev/null || true
+in_time grep -q '^ymx: connection' local_says || bad 'local tells no connection' local_says
+shape local_says | sed 's/([^)]*)/(WHY)/g' > wanted
+shape "$installed/share/man/man1/ymx-local.1" | sed 's/([^)]*)/(WHY)/g' > found
+if cmp -s wanted found; then good; else bad "the sample of ymx-local.1 isn't what the program says:" found wanted; fi
 kill -TERM "$remote"
 status=0
 wait "$remote" 2> /dev/null || status=$?
 jobs=
 if [ $status = 143 ]; then good; else bad "SIGTERM ends the program with status $status" remote_says; fi
+
+# below /usr/local; what fish finds in that folder, where it stands
+DESTDIR=$scratch/local "$root/release/install.sh" > said 2>&1 || fail 'it is not installed below /usr/local:' said
+completions=local/etc/fish/completions
+if cmp -s "$root/release/share/ymx.fish" "$completions/ymx.fish" && [ -x local/usr/local/bin/ymx ]; then good; else bad 'there is nothing for fish in /etc'; fi
+if command -v fish > /dev/null; then
+    # shellcheck disable=SC2016
+    if HOME=$scratch fish -c 'contains /etc/fish/completions $fish_complete_path'; then good; else bad 'fish does not look into /etc/fish/completions'; fi
+    PATH=$scratch/local/usr/local/bin:$PATH HOME=$scratch fish -c "set fish_complete_path $completions; complete -C 'ymx fr'" > found
+    if grep -q '^frames' found; then good; else bad 'fish completes nothing:' found; fi
+fi
+DESTDIR=$scratch/local "$root/release/install.sh" --uninstall > said
+if [ -z "$(find local ! -type d)" ]; then good; else bad 'something is left below /usr/local or /etc' said; fi
 
 if python3 "$here/options.py" "$installed/bin/ymx" > said 2>&1; then
     good
