@@ -41,6 +41,7 @@ esac
 try 'what the documents quote' "$root/tools/quotes.py"
 try 'the links of the documents' "$root/tools/links.py"
 try 'the picture of the speeds' "$root/tools/speeds.py" --same
+try 'the pictures of what the program prints' "$root/tools/pictures.py" --same
 try 'bodies are the same for all recorders' "$root/tools/recorders.py"
 try 'what the documents show is run' "$root/tests/documents.sh"
 try 'requests of memory are bounded' "$root/tools/requests.py"

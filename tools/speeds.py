@@ -1,8 +1,8 @@
 #!/usr/bin/env python3
 """speeds.py [--same]: draws docs/speeds.svg from the table of bench/README.md.
 
-It takes the rows `hubs over TCP, .. : Off; Full; Go's yamux` and `tunnel, ..: ymx; Go's yamux; plain copying`, and the
-days and the machine that the page tells of them. Each row has a scale of its own: its longest bar is its highest figure.
+It takes the rows `tunnel, ..: ymx; Go's yamux; plain copying`, and the day and the machine that the page tells of them.
+Each row has a scale of its own: its longest bar is its highest figure.
 With --same it draws nothing: it fails where the picture is another one, or where what README.md says of the tunnel's
 speed isn't what bench/README.md says.
 """
@@ -20,31 +20,21 @@ def rows_of(page):
     """(what is measured, the unit, [(who, the figure as it is written)]) for each row that compares."""
     rows = []
     for line in page.splitlines():
-        row = re.fullmatch(r"\| ((?:tunnel|hubs over TCP), .*): (`Off`; `Full`; Go's yamux|ymx; Go's yamux; plain copying) \| (.*) \|", line)
+        row = re.fullmatch(r"\| tunnel, (.*): (ymx; Go's yamux; plain copying) \| (.*) \|", line)
         if row:
             what, who, told = row.groups()
             figures = re.findall(r"\d[\d,]*", told)[:3]
             unit = told[told.rindex(figures[-1]) + len(figures[-1]) :].strip()
-            pairs = dict(zip(who.replace("`Off`", "ymx").split("; "), figures))
-            pairs.pop("`Full`", None)
-            rows.append((what, unit, list(pairs.items())))
+            rows.append((what, unit, list(zip(who.split("; "), figures))))
     return rows
 
 
 def taken_at(page):
-    """When the figures of each group of rows were taken, and on what."""
-    told = {
-        "tunnel": re.search(r"The tunnel's figures are medians of (\w+) runs on ([^,]*), on a virtual machine with ([^,]*? GHz)", page),
-        "hubs over TCP": re.search(r"The hubs' figures are medians of (\w+) runs on ([^,]*), on such a machine", page),
-    }
-    for group, found in told.items():
-        if found is None:
-            sys.exit(f"bench/README.md doesn't say any more when the figures of '{group}' were taken, in words that this script knows")
-    return {group: (found.group(1), found.group(2)) for group, found in told.items()}, told["tunnel"].group(3)
-
-
-def group_of(what):
-    return "tunnel" if what.startswith("tunnel") else "hubs over TCP"
+    """How many runs the figures are medians of, on which day, and on what machine."""
+    told = re.search(r"The tunnel's figures are medians of (\w+) runs on ([^,]*), on a virtual machine with ([^,]*? GHz)", page)
+    if told is None:
+        sys.exit("bench/README.md doesn't say any more when the tunnel's figures were taken, in words that this script knows")
+    return told.groups()
 
 
 def bars(y, what, unit, pairs):
@@ -62,23 +52,18 @@ def bars(y, what, unit, pairs):
 
 
 def picture_of(page):
-    days, machine = taken_at(page)
-    lines, y, above = [], 62, None
-    for what, unit, pairs in sorted(rows_of(page), key=lambda row: group_of(row[0]) != "tunnel"):
-        group = group_of(what)
-        if group != above:
-            y += 10 if above else 0
-            runs, day = days[group]
-            lines.append(f'  <text x="{LEFT}" y="{y}" font-style="italic">{group}: medians of {runs} runs on {day}</text>')
-            above, y = group, y + 20
-        more, y = bars(y, what.removeprefix(f"{group}, "), unit, pairs)
+    runs, day, machine = taken_at(page)
+    lines, y = [], 80
+    for what, unit, pairs in rows_of(page):
+        more, y = bars(y, what, unit, pairs)
         lines += more
     head = [
         f'<svg xmlns="http://www.w3.org/2000/svg" viewBox="0 0 {WIDTH} {y}" font-family="sans-serif" font-size="11" fill="#1f2d3a" role="img" '
         'aria-label="Speeds of ymx, of Go\'s yamux and of plain copying, as bars; bench/README.md has the figures">',
         f'  <rect x="0.5" y="0.5" width="{WIDTH - 1}" height="{y - 1}" rx="8" fill="#ffffff" stroke="#c8d2dc"/>',
-        f'  <text x="{LEFT}" y="22">A longer bar is faster. Each group of bars has its own scale.</text>',
-        f'  <text x="{LEFT}" y="38">A virtual machine with {machine}.</text>',
+        f'  <text x="{LEFT}" y="22">Through the tunnel. A longer bar is faster. Each group of bars has its own scale.</text>',
+        f'  <text x="{LEFT}" y="38">Medians of {runs} runs on {day},</text>',
+        f'  <text x="{LEFT}" y="54">on a virtual machine with {machine}.</text>',
     ]
     return "\n".join([*head, *lines, "</svg>", ""])
 
@@ -94,10 +79,10 @@ def strange_figures(page):
         yield "README.md doesn't tell the tunnel's speed in words that this script knows"
         return
     *figures, runs, day = told.groups()
-    if figures != known.get("tunnel, 1 connection of 1 GiB"):
-        yield f"README.md says {figures} of 1 GiB, and bench/README.md {known.get('tunnel, 1 connection of 1 GiB')}"
-    if (runs, day) != taken_at(page)[0]["tunnel"]:
-        yield f"README.md says {runs} runs on {day}, and bench/README.md {taken_at(page)[0]['tunnel']}"
+    if figures != known.get("1 connection of 1 GiB"):
+        yield f"README.md says {figures} of 1 GiB, and bench/README.md {known.get('1 connection of 1 GiB')}"
+    if (runs, day) != taken_at(page)[:2]:
+        yield f"README.md says {runs} runs on {day}, and bench/README.md {taken_at(page)[:2]}"
 
 
 def main(words):
