@@ -39,7 +39,7 @@ ROOT = Path(__file__).resolve().parent.parent
 SECONDS, SOON = 80, 20
 PAGE = b"a page\n"
 # A block of code with the mark above it, or a heading.
-PART = re.compile(r"^(?:<!-- (not run|needs): ([^\n]*) -->\n)?```([\w.]*)\n(.*?)^```$|^#", re.M | re.S)
+PART = re.compile(r"^(?:<!-- (not run|needs): ([^\n]+) -->\n)?```([^`\n]*)\n(.*?)^```$|^#", re.M | re.S)
 SERVES = re.compile(r"\bymx (?:remote|local) |-m http\.server |\becho\.py serve$", re.M)
 PORT = re.compile(r"((?<=\d:)|(?<=http\.server ))\d+\b")
 # How a line of commands begins, where a block forgets to say that it has any.
@@ -134,45 +134,64 @@ def in_time(holds, text):
         time.sleep(0.05)
 
 
+@contextlib.contextmanager
+def service(port):
+    """A web server with one page."""
+    server = http.server.ThreadingHTTPServer(("127.0.0.1", port), Page)
+    threading.Thread(target=server.serve_forever, daemon=True).start()
+    try:
+        yield
+    finally:
+        server.shutdown()
+        server.server_close()
+
+
+def as_here(text, ports):
+    """The same with the ports and the machine that stand for those that are shown."""
+    return PORT.sub(lambda port: ports.get(port.group(), port.group()), text).replace("192.0.2.7", "127.0.0.1")
+
+
+def but_for_numbers(text, ports):
+    """What matches this text with other numbers, but with these ports."""
+    return re.sub(r"\d+", lambda number: number.group() if number.group() in ports else r"\d+", re.escape(text))
+
+
 def serve(block, folder):
     shown = sorted({port.group() for port in PORT.finditer(block.text)})
     ports = dict(zip(shown, map(str, free_ports(len(shown)))))
+    text = as_here(block.text, ports)
+    targets = [] if "http.server" in text else map(int, set(re.findall(r"--target [\d.]+:(\d+)", text)))
+    # What the lines that serve have said, and where somebody has listened.
+    said, serving, heard, has_user = [], [], set(), False
 
-    def here(text):
-        return PORT.sub(lambda port: ports.get(port.group(), port.group()), text).replace("192.0.2.7", "127.0.0.1")
+    def all_said():
+        return "\n".join(file.read_text() for file in said)
 
-    lines = here(block.text).splitlines()
-    targets = set() if "http.server" in block.text else set(re.findall(r"--target [\d.]+:(\d+)", here(block.text)))
-    users = [line for line in lines if not SERVES.search(line)]
-    said, heard = [], set()
-    with contextlib.ExitStack() as open_until_here:
+    with contextlib.ExitStack() as until_the_end:
         for port in targets:
-            service = http.server.ThreadingHTTPServer(("127.0.0.1", int(port)), Page)
-            threading.Thread(target=service.serve_forever, daemon=True).start()
-            open_until_here.callback(service.server_close)
-            open_until_here.callback(service.shutdown)
-            heard.add(int(port))
-        serving = []
-        for line in filter(None, lines):
-            if line in users:
-                text = printed(line, folder)
-                assert not targets or text.encode().endswith(PAGE), f"another page comes:\n{text}"
+            until_the_end.enter_context(service(port))
+            heard.add(port)
+        for line in filter(None, text.splitlines()):
+            if not SERVES.search(line):
+                page, has_user = printed(line, folder), True
+                assert "--listen" not in text or "http.server" in text or page.encode().endswith(PAGE), f"another page comes:\n{page}"
                 continue
             file = folder / f"said{len(said)}"
             said.append(file)
-            serving.append(open_until_here.enter_context(begun(line, folder, open_until_here.enter_context(file.open("wb")))))
-            wanted = {int(port.group()) for port in PORT.finditer(line)} - heard
-            in_time(lambda: wanted <= listening() if wanted else heard or file.read_text(), lambda: f"{line}: nobody listens at {wanted}\n{file.read_text()}")
-            heard |= wanted
-        if "--listen" in block.text and not users:
-            place = re.search(r"--listen (\S+)", here(block.text)).group(1)
+            process = until_the_end.enter_context(begun(line, folder, until_the_end.enter_context(file.open("wb"))))
+            serving.append(process)
+            ours = {int(port.group()) for port in PORT.finditer(line)} - heard
+            in_time(lambda: ours <= listening() if ours else heard or all_said(), lambda: f"{line}: nobody listens\n{all_said()}")
+            heard |= ours
+        if "--listen" in text and not has_user:
+            place = re.search(r"--listen (\S+)", text).group(1)
             with urllib.request.urlopen(f"http://{place}/", timeout=SOON) as answer:
                 assert answer.read() == PAGE, "another page comes"
         for output in block.outputs:
-            wanted = re.sub(r"\d+", lambda number: number.group() if number.group() in ports.values() else r"\d+", re.escape(here(output)))
+            wanted = but_for_numbers(as_here(output, ports), ports.values())
             in_time(lambda: any(re.fullmatch(wanted, file.read_text()) for file in said),
-                    lambda: "no line prints\n" + here(output) + "\nbut\n" + "\n".join(file.read_text() for file in said))
-        assert all(process.poll() is None for process in serving), "a line that serves has ended\n" + "\n".join(file.read_text() for file in said)
+                    lambda: f"no line prints\n{as_here(output, ports)}\nbut\n{all_said()}")
+        assert all(process.poll() is None for process in serving), f"a line that serves has ended\n{all_said()}"
 
 
 # ---- all of them
@@ -202,7 +221,7 @@ def fate(block):
 
 
 def main():
-    documents = [ROOT / "README.md", *sorted(ROOT.glob("docs/*.md")), *sorted(ROOT.glob("bindings/**/README.md"))]
+    documents = [ROOT / "README.md", *sorted(ROOT.glob("docs/*.md")), *sorted(ROOT.glob("bindings/*/README.md"))]
     blocks = [block for path in documents for block in blocks_of(path)]
     fates = Counter(map(fate, blocks))
     wanted = [block for block in blocks if fate(block) == "run"]
