@@ -89,7 +89,7 @@ if cmp -s wanted found; then good; else bad "the sample of ymx-local.1 isn't wha
 kill -TERM "$remote"
 status=0
 wait "$remote" 2> /dev/null || status=$?
-jobs=
+stop
 if [ $status = 143 ]; then good; else bad "SIGTERM ends the program with status $status" remote_says; fi
 
 # below /usr/local; what fish finds in that folder, where it stands
