@@ -1,0 +1,4 @@
+pub mod Machine
+pub mod Plans
+pub mod Table
+pub mod Texts

@@ -1,0 +1,69 @@
+-- What an end is told to do, and what follows of it (this project's own).
+use Rattle.std.specs.Prelude.{◌&&◌, ◌||◌, ℕ, Bool, true, false, not, nat_lt, Option, None, is_some, unwrap_or}
+use Rattle.std.specs.declared.net.socket_addr.SocketAddrV4.{SocketAddrV4}
+use Rattle.ymx_policy.specs.declared.options.PeerAddress.{PeerAddress}
+use Rattle.ymx_policy.specs.declared.options.PeerAddress.TheVariants.{Connect, Listen}
+use Rattle.ymx_policy.specs.declared.options.LocalOptions.{LocalOptions}
+use Rattle.ymx_policy.specs.declared.options.RemoteOptions.{RemoteOptions}
+use Rattle.ymx_policy.specs.declared.asks.Side.TheVariants.{Client, Server}
+use Rattle.ymx_policy.specs.declared.plan.Plan.{Plan}
+use Rattle.ymx_policy.specs.declared.plan.Plan.TheVariants.{Local, Link, Remote}
+use Rattle.ymx_policy.specs.declared.plan.Role.{Role}
+use Rattle.ymx_policy.specs.declared.plan.Role.TheVariants as role
+use Rattle.ymx_policy.specs.declared.plan.Terms.{Terms}
+
+-- the address where the peer is met
+abbrev pub address_of : PeerAddress → SocketAddrV4
+address_of (Connect address) = address
+address_of (Listen address) = address
+
+-- the peer is called
+abbrev pub is_called : PeerAddress → Bool
+is_called (Connect address) = true
+is_called (Listen address) = false
+
+-- which end a `local` is that meets its peer so
+abbrev pub local_role : PeerAddress → Role
+local_role (Connect address) = role.LocalCalls
+local_role (Listen address) = role.LocalAwaits
+
+-- which end a `remote` is that meets its peer so
+abbrev pub remote_role : PeerAddress → Role
+remote_role (Connect address) = role.RemoteCalls
+remote_role (Listen address) = role.RemoteAwaits
+
+-- of `local`: users come to --listen, --count of them; the session has --window and --ping; with --keep it goes on
+abbrev pub local_terms : LocalOptions → Role → Terms
+local_terms o which = record {
+  role = which;
+  goes_on = o.is_kept;
+  peer = address_of o.peer;
+  users = record { address = o.listen; count = o.count; is_patient = o.is_kept };
+  session = record { side = Client; window = o.window; ping = o.ping; is_followed = o.is_kept };
+  places = o.links;
+  is_verbose = o.is_verbose;
+}
+
+-- of `remote`: streams go to --target, --workers of them at once; --peers are served at once, or 16; users don't come to it
+abbrev pub remote_terms : RemoteOptions → Terms
+remote_terms o = record {
+  role = remote_role o.peer;
+  goes_on = o.is_kept;
+  peer = address_of o.peer;
+  users = record { address = address_of o.peer; count = None; is_patient = o.is_kept };
+  session = record { side = Server o.target o.workers; window = o.window; ping = o.ping; is_followed = o.is_kept || is_some o.peers };
+  places = unwrap_or o.peers 16;
+  is_verbose = o.is_verbose;
+}
+
+-- what follows of a plan
+abbrev pub terms_of : Plan → Terms
+terms_of (Local o) = local_terms o (local_role o.peer)
+terms_of (Link o) = local_terms o role.Link
+terms_of (Remote o) = remote_terms o
+
+-- it has several sessions at once: `local --peer` with more than one link, and `remote --bind` with --keep or --peers
+abbrev pub has_pool : Plan → Bool
+has_pool (Local o) = is_called o.peer && nat_lt 1 o.links
+has_pool (Link o) = false
+has_pool (Remote o) = not (is_called o.peer) && (o.is_kept || is_some o.peers)

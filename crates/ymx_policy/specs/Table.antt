@@ -1,0 +1,158 @@
+-- Where an end begins, and what follows what: the tables that it goes by (this project's own).
+use Rattle.std.specs.Prelude.{◌*◌, ◌==◌, ℕ, Bool, true, false, if◌then◌else◌, min, Option, Some, None}
+use Rattle.std.specs.declared.net.socket_addr.SocketAddrV4.{SocketAddrV4}
+use Rattle.ymx_policy.specs.declared.plan.Role.{Role}
+use Rattle.ymx_policy.specs.declared.plan.Role.TheVariants.{LocalCalls, LocalAwaits, Link, RemoteCalls, RemoteAwaits}
+use Rattle.ymx_policy.specs.declared.reason.Reason.{Reason}
+use Rattle.ymx_policy.specs.declared.asks.Named.{Named}
+use Rattle.ymx_policy.specs.declared.asks.Named.TheVariants as option
+use Rattle.ymx_policy.specs.declared.asks.Notice.{Notice}
+use Rattle.ymx_policy.specs.declared.asks.Notice.TheVariants as notice
+use Rattle.ymx_policy.specs.declared.asks.Fault.{Fault}
+use Rattle.ymx_policy.specs.declared.asks.Fault.TheVariants as fault
+use Rattle.ymx_policy.specs.declared.asks.Words.{Words}
+use Rattle.ymx_policy.specs.declared.asks.SessionEnd.{SessionEnd}
+use Rattle.ymx_policy.specs.declared.state.Stage.{Stage}
+use Rattle.ymx_policy.specs.declared.state.Stage.TheVariants as stage
+
+-- ---- where it goes
+
+-- Where it begins, without --keep and with it: a mistake at a port of its own comes first, but a `local` without --keep calls first.
+abbrev pub begins : Role → (kept : Bool) → Stage
+begins LocalCalls false = stage.Calling
+begins LocalCalls true = stage.OpeningUsers
+begins LocalAwaits kept = stage.OpeningPeers
+begins Link kept = stage.AwaitingUser
+begins RemoteCalls kept = stage.Calling
+begins RemoteAwaits kept = stage.OpeningPeers
+
+-- users are brought to a link from the beginning
+abbrev pub begins_with_users : Role → Bool
+begins_with_users Link = true
+begins_with_users role = false
+
+-- once it listens for its peer: `local` listens for users too, once
+abbrev pub behind_peers : Role → (has_users : Bool) → Stage
+behind_peers LocalAwaits false = stage.OpeningUsers
+behind_peers role has_users = stage.AwaitingPeer
+
+-- once it listens for users: without --keep the peer that was called is there
+abbrev pub behind_users : Role → (kept : Bool) → Stage
+behind_users LocalCalls false = stage.Serving
+behind_users LocalCalls true = stage.AwaitingUser
+behind_users role kept = stage.AwaitingPeer
+
+-- once the peer that was called is there: `local` listens for users, once
+abbrev pub behind_call : Role → (has_users : Bool) → Stage
+behind_call LocalCalls false = stage.OpeningUsers
+behind_call role has_users = stage.Serving
+
+-- Behind a session: without --keep nothing. `local` closes the user that waits. A `remote` that calls does so at once where no pause
+-- is due; one that awaits its peer has had its only one.
+abbrev pub behind_session : Role → (kept : Bool) → (pause : ℕ) → Stage
+behind_session role false pause = stage.Over
+behind_session LocalCalls true pause = stage.Closing
+behind_session LocalAwaits true pause = stage.Closing
+behind_session Link true pause = stage.Closing
+behind_session RemoteCalls true pause = if pause == 0 then stage.Calling else stage.Pausing
+behind_session RemoteAwaits true pause = stage.Over
+
+-- once the user that waited is closed: `local` waits for the next one before it calls; a peer that is awaited can call again
+abbrev pub behind_user : Role → Stage
+behind_user LocalAwaits = stage.OpeningPeers
+behind_user role = stage.AwaitingUser
+
+-- the pause behind a pause of so many seconds: 1 behind none, and then 2, 4, 8, 16, 30
+abbrev pub longer : ℕ → ℕ
+longer seconds = if seconds == 0 then 1 else min 30 (2 * seconds)
+
+-- ---- what it says
+
+-- nothing
+abbrev pub silence : Words
+silence = record { first = None; second = None; fault = None; last = None }
+
+-- this alone
+abbrev pub tells : Notice → Words
+tells n = record silence { first = Some n }
+
+-- that the system refused what an option asks for, where the reason is known
+abbrev pub refusal : Named → Option Reason → Option Notice
+refusal named (Some reason) = Some (notice.Refused named reason)
+refusal named None = None
+
+-- Once it listens for its peer it tells where. Where it listens again for the next one, it tells that the last one has gone.
+abbrev pub opened : (has_users : Bool) → SocketAddrV4 → Words
+opened false address = tells (notice.Listening address)
+opened true address = tells notice.PeerGone
+
+-- a peer that is awaited is told to have gone once the next one can call, or none will
+abbrev pub gone_if : (is_due : Bool) → Option Notice
+gone_if true = Some notice.PeerGone
+gone_if false = None
+
+-- that is due while the user is closed behind its session
+abbrev pub owes_gone : Role → Bool
+owes_gone LocalAwaits = true
+owes_gone role = false
+
+-- with --keep it tells that a peer has come
+abbrev pub came : (kept : Bool) → Words
+came true = tells notice.PeerCame
+came false = silence
+
+-- What is said behind a session with this fault, before which the system may have refused something: without --keep the fault. With
+-- it also that the peer has gone: by `local` at first, by `remote` at last, and by one that awaits its peers not yet.
+abbrev pub parting : Role → (kept : Bool) → (refused : Option Notice) → Option Fault → Words
+parting role false refused f = record { first = refused; second = None; fault = f; last = None }
+parting LocalCalls true refused f = record { first = Some notice.PeerGone; second = refused; fault = f; last = None }
+parting Link true refused f = record { first = Some notice.PeerGone; second = refused; fault = f; last = None }
+parting LocalAwaits true refused f = record { first = refused; second = None; fault = f; last = None }
+parting RemoteCalls true refused f = record { first = refused; second = None; fault = f; last = Some notice.PeerGone }
+parting RemoteAwaits true refused f = record { first = refused; second = None; fault = f; last = None }
+
+-- ---- which fault it is
+
+-- the option that says where the peer is met
+abbrev pub meeting : Role → Named
+meeting LocalCalls = option.Peer
+meeting Link = option.Peer
+meeting RemoteCalls = option.Peer
+meeting LocalAwaits = option.Bind
+meeting RemoteAwaits = option.Bind
+
+-- where the poll of a session can't be had, that option is named, but by `local` the one where its users come from
+abbrev pub serving : Role → Named
+serving RemoteCalls = option.Peer
+serving RemoteAwaits = option.Bind
+serving role = option.Listen
+
+-- the peer at this address can't be had: it is called there, or calls
+abbrev pub cannot_meet : Role → SocketAddrV4 → Fault
+cannot_meet LocalCalls address = fault.CannotReach address
+cannot_meet Link address = fault.CannotReach address
+cannot_meet RemoteCalls address = fault.CannotReach address
+cannot_meet LocalAwaits address = fault.CannotListen address
+cannot_meet RemoteAwaits address = fault.CannotListen address
+
+-- of two faults the first, if there is one
+abbrev pub or_else : Option Fault → Option Fault → Option Fault
+or_else (Some f) other = Some f
+or_else None other = other
+
+-- where this is so, this fault
+abbrev pub fault_if : Bool → Fault → Option Fault
+fault_if true f = Some f
+fault_if false f = None
+
+-- this rule was broken, if one was
+abbrev pub broken_by : Option ℕ → Option Fault
+broken_by (Some rule) = Some (fault.Broken rule)
+broken_by None = None
+
+-- Of a failed accept, a broken session and want of memory the first in this order, and behind these a peer that can't be watched. Users
+-- come to `users`; where the peer can't be had, `unmet` says so.
+abbrev pub first_fault : (users : SocketAddrV4) → (unmet : Fault) → SessionEnd → Option Fault
+first_fault users unmet s =
+    or_else (fault_if s.accept_failed (fault.CannotListen users)) (or_else (broken_by s.broken)
+    (or_else (fault_if s.lacked_memory fault.OutOfMemory) (fault_if s.is_unwatched unmet)))

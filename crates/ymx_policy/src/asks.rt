@@ -1,0 +1,168 @@
+//! What an end of a tunnel asks for, and what it is told.
+
+use crate::reason::Reason;
+use std::net::SocketAddrV4;
+
+/// Where users come from.
+#[derive(Clone, Copy)]
+pub struct Users {
+    /// Where they connect to.
+    pub address: SocketAddrV4,
+    /// How many are to come, or as many as do.
+    pub count: Option<u32>,
+    /// A want of descriptors or of memory doesn't end it.
+    pub is_patient: bool,
+}
+
+/// Which side of a session an end is.
+#[derive(Clone, Copy)]
+pub enum Side {
+    /// The yamux client: each user becomes a stream.
+    Client,
+    /// The yamux server: each stream becomes a connection to the target.
+    Server {
+        /// Where connections go to.
+        target: SocketAddrV4,
+        /// How many streams are served at once. Others wait.
+        workers: u32,
+    },
+}
+
+/// What a session is to be like.
+#[derive(Clone, Copy)]
+pub struct Session {
+    /// Which side of it this end is.
+    pub side: Side,
+    /// How many bytes of a stream may be unread here.
+    pub window: u32,
+    /// After how many seconds without a sign of the peer it is asked for one. None if never.
+    pub ping: Option<u32>,
+    /// Others wait for its end: what lingers behind it is cut off after a while.
+    pub is_followed: bool,
+}
+
+/// An option of the command line, as it is named where the system refuses what it asks for.
+#[derive(Clone, Copy)]
+pub enum Named {
+    /// `--listen`
+    Listen,
+    /// `--peer`
+    Peer,
+    /// `--bind`
+    Bind,
+    /// `--peers`
+    Peers,
+    /// `--links`
+    Links,
+}
+
+/// What `-v` tells.
+#[derive(Clone, Copy)]
+pub enum Notice {
+    /// It listens here.
+    Listening(SocketAddrV4),
+    /// A peer has come, after which others may.
+    PeerCame,
+    /// The peer has gone.
+    PeerGone,
+    /// The peer at this address can't be reached, and is called again.
+    Unreached(SocketAddrV4),
+    /// The system refused, for this reason, what this option asks for.
+    Refused(Named, Reason),
+}
+
+/// What went wrong, which is said.
+#[derive(Clone, Copy)]
+pub enum Fault {
+    /// Nobody can come in at this address.
+    CannotListen(SocketAddrV4),
+    /// The peer at this address can't be had.
+    CannotReach(SocketAddrV4),
+    /// A side broke this rule of yamux: 1 for B1.
+    Broken(u8),
+    /// There was no memory.
+    OutOfMemory,
+}
+
+/// What is told and said before something is done: the notices where `-v` asks for them, the fault always, in this order.
+#[derive(Clone, Copy)]
+pub struct Words {
+    /// Told at first.
+    pub first: Option<Notice>,
+    /// Told behind that.
+    pub second: Option<Notice>,
+    /// Said behind both.
+    pub fault: Option<Fault>,
+    /// Told at last.
+    pub last: Option<Notice>,
+}
+
+/// How a session ended. If nothing here is so, it was over by the peer's end or its own.
+#[derive(Clone, Copy)]
+pub struct SessionEnd {
+    /// A user could not be accepted, and none will be.
+    pub accept_failed: bool,
+    /// A side broke this rule: 1 for B1.
+    pub broken: Option<u8>,
+    /// Somewhere there was no memory.
+    pub lacked_memory: bool,
+    /// The system refused to watch the peer.
+    pub is_unwatched: bool,
+    /// It went on for a second at least.
+    pub has_lasted: bool,
+}
+
+/// What is to be done.
+#[derive(Clone, Copy)]
+pub enum Deed {
+    /// Listen for the peer here.
+    ListenForPeer(SocketAddrV4),
+    /// Listen for users.
+    ListenForUsers(Users),
+    /// Call the peer there.
+    Call(SocketAddrV4),
+    /// Wait until the peer calls, after which nobody listens for it. Users that come meanwhile and can't wait are closed.
+    AwaitPeer,
+    /// Wait until a user comes.
+    AwaitUser,
+    /// Run a session with the peer that is there.
+    Serve(Session),
+    /// Close the user that waits, if one does.
+    CloseUser,
+    /// Let so many seconds go by.
+    Pause(u64),
+    /// Nothing any more: end with this status.
+    End(u8),
+}
+
+/// What an end asks for: to say something, if there is something to be said, and then to do this.
+#[derive(Clone, Copy)]
+pub struct Ask {
+    /// What is said.
+    pub words: Words,
+    /// What is done then.
+    pub deed: Deed,
+}
+
+/// What happened.
+#[derive(Clone, Copy)]
+pub enum Happened {
+    /// It listens, at this address.
+    Listening(SocketAddrV4),
+    /// It can't be done: the system refuses it, for this reason if one is known.
+    Failed(Option<Reason>),
+    /// There was no memory for it.
+    LackedMemory,
+    /// The peer is there.
+    PeerCame,
+    /// A user waits.
+    UserCame,
+    /// All users have come that were to.
+    AllCame,
+    /// No user can be accepted any more, for this reason if one is known.
+    NoUsers(Option<Reason>),
+    /// The session ended so.
+    SessionEnded(SessionEnd),
+    /// It is done.
+    Done,
+}

@@ -1,0 +1,174 @@
+//! What an end is told to do, and what follows of it.
+
+ghost use Rattle.std.specs.Prelude.{◌≡◌};
+ghost use Rattle.ymx_policy.specs.Plans.{address_of, has_pool, is_called, local_role, local_terms, remote_role, remote_terms, terms_of};
+
+use crate::asks::{Session, Side, Users};
+use crate::options::{LocalOptions, PeerAddress, RemoteOptions};
+use std::net::SocketAddrV4;
+
+/// How many peers a `remote` with `--keep` serves at once where the command line says nothing.
+const PEERS: u32 = 16;
+
+/// What an end is told to do: its options as they were read.
+#[derive(Clone, Copy)]
+pub enum Plan {
+    /// `ymx local`
+    Local(LocalOptions),
+    /// `ymx remote`
+    Remote(RemoteOptions),
+    /// One of the links of `ymx local --links N --keep`: users are brought to it.
+    Link(LocalOptions),
+}
+
+/// Which end of a tunnel it is, and whether it calls its peer or awaits it.
+#[derive(Clone, Copy)]
+pub enum Role {
+    /// `ymx local --peer`
+    LocalCalls,
+    /// `ymx local --bind`
+    LocalAwaits,
+    /// A link of `ymx local --peer --links N --keep`
+    Link,
+    /// `ymx remote --peer`
+    RemoteCalls,
+    /// `ymx remote --bind`
+    RemoteAwaits,
+}
+
+/// What follows of a plan: all that an end decides by, and asks with.
+#[derive(Clone, Copy)]
+pub struct Terms {
+    /// Which end it is.
+    pub role: Role,
+    /// Another session follows one that is lost.
+    pub goes_on: bool,
+    /// Where the peer is called, or calls.
+    pub peer: SocketAddrV4,
+    /// Where users come from.
+    pub users: Users,
+    /// What its sessions are like.
+    pub session: Session,
+    /// How many sessions it may have at once.
+    pub places: u32,
+    /// Notices are told.
+    pub is_verbose: bool,
+}
+
+impl PeerAddress {
+    /// The address itself.
+    fn address(self) -> SocketAddrV4
+        ensures { result ≡ address_of self }
+    {
+        match self {
+            PeerAddress::Connect(address) | PeerAddress::Listen(address) => address,
+        }
+    }
+
+    /// Whether the peer is called.
+    fn is_called(self) -> bool
+        ensures { result ≡ is_called self }
+    {
+        match self {
+            PeerAddress::Connect(_) => true,
+            PeerAddress::Listen(_) => false,
+        }
+    }
+}
+
+impl Plan {
+    /// What follows of it.
+    pub fn terms(self) -> Terms
+        ensures { result ≡ terms_of self }
+    {
+        match self {
+            Plan::Local(options) => local_terms(options, local_role(options.peer)),
+            Plan::Link(options) => local_terms(options, Role::Link),
+            Plan::Remote(options) => remote_terms(options),
+        }
+    }
+
+    /// Whether it has several sessions at once, each in a thread of its own.
+    pub fn has_pool(self) -> bool
+        ensures { result ≡ has_pool self }
+    {
+        match self {
+            Plan::Local(options) => options.peer.is_called() && options.links > 1,
+            Plan::Remote(options) => {
+                !options.peer.is_called() && (options.is_kept || options.peers.is_some())
+            }
+            Plan::Link(_) => false,
+        }
+    }
+}
+
+/// Which end a `local` is that meets its peer so.
+fn local_role(peer: PeerAddress) -> Role
+    ensures { result ≡ local_role peer }
+{
+    match peer {
+        PeerAddress::Connect(_) => Role::LocalCalls,
+        PeerAddress::Listen(_) => Role::LocalAwaits,
+    }
+}
+
+/// Which end a `remote` is that meets its peer so.
+fn remote_role(peer: PeerAddress) -> Role
+    ensures { result ≡ remote_role peer }
+{
+    match peer {
+        PeerAddress::Connect(_) => Role::RemoteCalls,
+        PeerAddress::Listen(_) => Role::RemoteAwaits,
+    }
+}
+
+/// What follows of the options of `local`, or of a link.
+fn local_terms(options: LocalOptions, role: Role) -> Terms
+    ensures { result ≡ local_terms options role }
+{
+    Terms {
+        role,
+        goes_on: options.is_kept,
+        peer: options.peer.address(),
+        users: Users {
+            address: options.listen,
+            count: options.count,
+            is_patient: options.is_kept,
+        },
+        session: Session {
+            side: Side::Client,
+            window: options.window,
+            ping: options.ping,
+            is_followed: options.is_kept,
+        },
+        places: options.links,
+        is_verbose: options.is_verbose,
+    }
+}
+
+/// What follows of the options of `remote`.
+fn remote_terms(options: RemoteOptions) -> Terms
+    ensures { result ≡ remote_terms options }
+{
+    Terms {
+        role: remote_role(options.peer),
+        goes_on: options.is_kept,
+        peer: options.peer.address(),
+        users: Users {
+            address: options.peer.address(),
+            count: None,
+            is_patient: options.is_kept,
+        },
+        session: Session {
+            side: Side::Server {
+                target: options.target,
+                workers: options.workers,
+            },
+            window: options.window,
+            ping: options.ping,
+            is_followed: options.is_kept || options.peers.is_some(),
+        },
+        places: options.peers.unwrap_or(PEERS),
+        is_verbose: options.is_verbose,
+    }
+}

@@ -1,0 +1,309 @@
+//! Where an end of a tunnel has come to, and where what happens leads it.
+
+ghost use Rattle.std.specs.Prelude.{◌≡◌};
+ghost use Rattle.ymx_policy.specs.Machine.{fresh, deed_at, asked, after, goes, ends, no_users, no_peers, parted, after_opening_peers, after_opening_users, after_no_call, after_calling, after_awaiting_peer, after_awaiting_user, after_closing, after_serving};
+
+use crate::asks::{Ask, Deed, Fault, Happened, Named, Notice, SessionEnd, Words};
+use crate::plan::{Role, Terms};
+use crate::reason::Reason;
+use crate::table::{
+    begins, begins_with_users, behind_call, behind_peers, behind_session, behind_user,
+    behind_users, came, cannot_meet, first_fault, gone_if, longer, opened, owes_gone, parting,
+    refusal, serving, silence, tells,
+};
+use std::net::SocketAddrV4;
+
+/// What an end waits for.
+#[derive(Clone, Copy)]
+pub enum Stage {
+    /// It is to listen for its peer.
+    OpeningPeers,
+    /// It is to listen for users.
+    OpeningUsers,
+    /// It calls its peer.
+    Calling,
+    /// Its peer is to call.
+    AwaitingPeer,
+    /// A user is to come.
+    AwaitingUser,
+    /// A session runs.
+    Serving,
+    /// A user that waits is closed.
+    Closing,
+    /// It lets time go by.
+    Pausing,
+    /// It has ended.
+    Over,
+}
+
+/// Where an end has come to.
+#[derive(Clone, Copy)]
+pub struct State {
+    /// What it waits for.
+    pub stage: Stage,
+    /// What is to be said now.
+    pub words: Words,
+    /// It listens for users.
+    pub has_users: bool,
+    /// How many seconds are to go by before the next call, or 0.
+    pub pause: u64,
+    /// Where its peer is called, or calls: at port 0 the port that the system chose.
+    pub peers: SocketAddrV4,
+    /// It has said a fault, or does so now.
+    pub has_faulted: bool,
+}
+
+impl State {
+    /// An end that has done nothing yet.
+    pub fn new(terms: &Terms) -> State
+        ensures { result ≡ fresh terms.now }
+    {
+        State {
+            stage: begins(terms.role, terms.goes_on),
+            words: silence(),
+            has_users: begins_with_users(terms.role),
+            pause: 0,
+            peers: terms.peer,
+            has_faulted: false,
+        }
+    }
+
+    /// What is asked for now.
+    pub fn asked(&self, terms: &Terms) -> Ask
+        ensures { result ≡ asked terms.now self.now }
+    {
+        Ask {
+            words: self.words,
+            deed: self.deed(terms),
+        }
+    }
+
+    /// What is to be done now.
+    fn deed(&self, terms: &Terms) -> Deed
+        ensures { result ≡ deed_at self.now.stage terms.now self.now.pause self.now.peers self.now.has_faulted }
+    {
+        match self.stage {
+            Stage::OpeningPeers => Deed::ListenForPeer(self.peers),
+            Stage::OpeningUsers => Deed::ListenForUsers(terms.users),
+            Stage::Calling => Deed::Call(terms.peer),
+            Stage::AwaitingPeer => Deed::AwaitPeer,
+            Stage::AwaitingUser => Deed::AwaitUser,
+            Stage::Serving => Deed::Serve(terms.session),
+            Stage::Closing => Deed::CloseUser,
+            Stage::Pausing => Deed::Pause(self.pause),
+            Stage::Over => Deed::End(if self.has_faulted { 1 } else { 0 }),
+        }
+    }
+
+    /// Hears what happened.
+    pub fn hear(&mut self, terms: &Terms, happened: Happened)
+        ensures { self.new ≡ after terms.now self.old happened }
+    {
+        match self.stage {
+            Stage::OpeningPeers => self.hear_opening_peers(terms, happened),
+            Stage::OpeningUsers => self.hear_opening_users(terms, happened),
+            Stage::Calling => self.hear_call(terms, happened),
+            Stage::AwaitingPeer => self.hear_peer(terms, happened),
+            Stage::AwaitingUser => self.hear_user(terms, happened),
+            Stage::Serving => self.hear_session(terms, happened),
+            Stage::Closing => self.hear_closing(terms, happened),
+            Stage::Pausing => self.go(Stage::Calling, silence()),
+            Stage::Over => {}
+        }
+    }
+
+    /// Goes on here, and says this.
+    fn go(&mut self, stage: Stage, words: Words)
+        ensures { self.new ≡ goes self.old stage words }
+    {
+        self.stage = stage;
+        self.words = words;
+    }
+
+    /// Says these two and this fault, and ends.
+    fn end(&mut self, first: Option<Notice>, second: Option<Notice>, fault: Fault)
+        ensures { self.new ≡ ends self.old first second fault }
+    {
+        self.stage = Stage::Over;
+        self.words = Words {
+            first,
+            second,
+            fault: Some(fault),
+            last: None,
+        };
+        self.has_faulted = true;
+    }
+
+    /// Nobody can be accepted where users come in.
+    fn end_users(&mut self, terms: &Terms, gone: Option<Notice>, why: Option<Reason>)
+        ensures { self.new ≡ no_users terms.now self.old gone why }
+    {
+        let fault = Fault::CannotListen(terms.users.address);
+        self.end(gone, refusal(Named::Listen, why), fault);
+    }
+
+    /// Nobody can be accepted where peers come in.
+    fn end_peers(&mut self, gone: Option<Notice>, why: Option<Reason>)
+        ensures { self.new ≡ no_peers self.old gone why }
+    {
+        let fault = Fault::CannotListen(self.peers);
+        self.end(gone, refusal(Named::Bind, why), fault);
+    }
+
+    /// It listens for its peer, or can't.
+    fn hear_opening_peers(&mut self, terms: &Terms, happened: Happened)
+        ensures { self.new ≡ after_opening_peers terms.now self.old happened }
+    {
+        let gone = gone_if(self.has_users);
+        match happened {
+            Happened::Listening(address) => {
+                self.stage = behind_peers(terms.role, self.has_users);
+                self.words = opened(self.has_users, address);
+                self.peers = address;
+            }
+            Happened::LackedMemory => self.end(gone, None, Fault::OutOfMemory),
+            Happened::Failed(why) => self.end_peers(gone, why),
+            _ => self.end_peers(gone, None),
+        }
+    }
+
+    /// It listens for users, or can't.
+    fn hear_opening_users(&mut self, terms: &Terms, happened: Happened)
+        ensures { self.new ≡ after_opening_users terms.now self.old happened }
+    {
+        match happened {
+            Happened::Listening(address) => {
+                self.stage = behind_users(terms.role, terms.goes_on);
+                self.words = tells(Notice::Listening(address));
+                self.has_users = true;
+            }
+            Happened::LackedMemory => self.end(None, None, Fault::OutOfMemory),
+            Happened::Failed(why) => self.end_users(terms, None, why),
+            _ => self.end_users(terms, None, None),
+        }
+    }
+
+    /// The peer that it called is there, or can't be reached.
+    fn hear_call(&mut self, terms: &Terms, happened: Happened)
+        ensures { self.new ≡ after_calling terms.now self.old happened }
+    {
+        match happened {
+            Happened::PeerCame => {
+                self.go(behind_call(terms.role, self.has_users), came(terms.goes_on));
+            }
+            Happened::Failed(why) => self.hear_no_call(terms, refusal(Named::Peer, why)),
+            _ => self.hear_no_call(terms, None),
+        }
+    }
+
+    /// The peer that it called can't be reached.
+    fn hear_no_call(&mut self, terms: &Terms, refused: Option<Notice>)
+        ensures { self.new ≡ after_no_call terms.now.role terms.now.goes_on terms.now.peer refused self.old }
+    {
+        if !terms.goes_on {
+            self.end(refused, None, Fault::CannotReach(terms.peer));
+            return;
+        }
+        let mut words = silence();
+        words.first = refused;
+        match terms.role {
+            Role::RemoteCalls => {
+                words.second = Some(Notice::Unreached(terms.peer));
+                self.go(Stage::Pausing, words);
+                self.pause = longer(self.pause);
+            }
+            Role::LocalCalls | Role::LocalAwaits | Role::Link | Role::RemoteAwaits => {
+                self.go(Stage::Closing, words);
+            }
+        }
+    }
+
+    /// The peer that it awaited is there, or none comes.
+    fn hear_peer(&mut self, terms: &Terms, happened: Happened)
+        ensures { self.new ≡ after_awaiting_peer terms.now self.old happened }
+    {
+        match happened {
+            Happened::PeerCame => self.go(Stage::Serving, came(terms.goes_on)),
+            Happened::AllCame => self.go(Stage::Over, silence()),
+            Happened::NoUsers(why) => self.end_users(terms, None, why),
+            Happened::Failed(why) => self.end_peers(None, why),
+            _ => self.end_peers(None, None),
+        }
+    }
+
+    /// A user waits, or none comes.
+    fn hear_user(&mut self, terms: &Terms, happened: Happened)
+        ensures { self.new ≡ after_awaiting_user terms.now self.old happened }
+    {
+        match happened {
+            Happened::UserCame => self.go(Stage::Calling, silence()),
+            Happened::AllCame => self.go(Stage::Over, silence()),
+            Happened::NoUsers(why) => self.end_users(terms, None, why),
+            _ => self.end_users(terms, None, None),
+        }
+    }
+
+    /// The user that waited is closed.
+    fn hear_closing(&mut self, terms: &Terms, happened: Happened)
+        ensures { self.new ≡ after_closing terms.now self.old happened }
+    {
+        let gone = gone_if(owes_gone(terms.role));
+        match happened {
+            Happened::AllCame => {
+                let mut words = silence();
+                words.first = gone;
+                self.go(Stage::Over, words);
+            }
+            Happened::NoUsers(why) => self.end_users(terms, gone, why),
+            _ => self.go(behind_user(terms.role), silence()),
+        }
+    }
+
+    /// The session has ended, or could not begin.
+    fn hear_session(&mut self, terms: &Terms, happened: Happened)
+        ensures { self.new ≡ after_serving terms.now self.old happened }
+    {
+        let unmet = cannot_meet(terms.role, self.peers);
+        match happened {
+            Happened::SessionEnded(how) => self.hear_end(terms, how),
+            Happened::LackedMemory => {
+                self.part(terms, None, Some(Fault::OutOfMemory), longer(self.pause));
+            }
+            Happened::Failed(why) => {
+                let refused = refusal(serving(terms.role), why);
+                self.part(terms, refused, Some(unmet), longer(self.pause));
+            }
+            _ => self.part(terms, None, Some(unmet), longer(self.pause)),
+        }
+    }
+
+    /// The session has ended so.
+    fn hear_end(&mut self, terms: &Terms, how: SessionEnd)
+        ensures { self.new ≡ after_serving terms.now self.old (Happened.SessionEnded how) }
+    {
+        let unmet = cannot_meet(terms.role, self.peers);
+        let fault = first_fault(terms.users.address, unmet, how);
+        let pause = if how.has_lasted {
+            0
+        } else {
+            longer(self.pause)
+        };
+        self.part(terms, None, fault, pause);
+    }
+
+    /// Goes on behind a session with this fault, where this pause is due before the next call.
+    fn part(
+        &mut self,
+        terms: &Terms,
+        refused: Option<Notice>,
+        fault: Option<Fault>,
+        pause: u64,
+    )
+        ensures { self.new ≡ parted terms.now self.old refused fault pause }
+    {
+        self.stage = behind_session(terms.role, terms.goes_on, pause);
+        self.words = parting(terms.role, terms.goes_on, refused, fault);
+        self.pause = pause;
+        self.has_faulted = self.has_faulted || fault.is_some();
+    }
+}
