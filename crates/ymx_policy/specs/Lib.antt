@@ -1,4 +1,6 @@
 pub mod Machine
+pub mod Past
 pub mod Plans
 pub mod Table
 pub mod Texts
+pub mod Voices

@@ -4,16 +4,22 @@
 #![tactic(auto)]
 
 mod asks;
+mod driver;
 mod options;
 mod plan;
 mod reason;
 mod state;
 mod table;
+mod telling;
+mod world;
 
 pub use asks::{
     Ask, Deed, Fault, Happened, Named, Notice, Session, SessionEnd, Side, Users, Words,
 };
+pub use driver::run;
 pub use options::{LocalOptions, PeerAddress, RemoteOptions};
 pub use plan::{Plan, Role, Terms};
 pub use reason::Reason;
 pub use state::{Stage, State};
+pub use telling::{Text, fault_text, notice_text};
+pub use world::{Errors, Lines, World};

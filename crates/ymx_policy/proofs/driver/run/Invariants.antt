@@ -1,0 +1,15 @@
+use Rattle.std.proofs.Common.{◌≡◌}
+use Rattle.ymx_policy.specs.Past.{HasCome}
+use Rattle.ymx_policy.specs.Plans.{terms_of}
+use Rattle.ymx_policy.proofs.driver.run.Given as goal
+
+-- so far it has come to where its state says, by what it asked for
+abbrev pub invariant-loop : goal.invariant-loop
+invariant-loop g l = record {
+  next : (goal.iterator-loop g).can_next l.iterator' × (goal.iterator-loop g).is_finite l.iterator';
+  terms : l.terms ≡ terms_of l.fn.plan;
+  may : g.W.World.may l.world;
+  came : HasCome l.terms l.state
+    (record { log = g.W.World.log l.fn.world; told = g.L.Lines.told l.fn.lines; taken = g.E.Errors.contents l.fn.errors; failures = g.E.Errors.failures l.fn.errors })
+    (record { log = g.W.World.log l.world; told = g.L.Lines.told l.lines; taken = g.E.Errors.contents l.errors; failures = g.E.Errors.failures l.errors });
+}

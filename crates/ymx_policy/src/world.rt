@@ -1,0 +1,49 @@
+//! What an end needs of the world: who does what it asks for, and where faults and notices are told.
+
+ghost use Rattle.std.specs.Prelude.{ℕ, List, [], ◌∷◌, Option};
+ghost use Rattle.ymx_policy.specs.Past.{Adds};
+ghost use Rattle.ymx_policy.specs.Voices.{IsSaid};
+ghost use Rattle.ymx_policy.specs.Texts.{fault_text, notice_text};
+ghost use Rattle.ymx_policy.specs.declared.asks.Deed.{Deed as Asked};
+ghost use Rattle.ymx_policy.specs.declared.asks.Happened.{Happened as Heard};
+
+use crate::asks::{Deed, Fault, Happened, Notice};
+
+/// Where notices are told.
+pub trait Lines {
+    /// The texts that were told, the newest first, if it can tell.
+    ghost told: { Self → Option (List (List ℕ)) };
+
+    /// Tells this.
+    fn tell(&mut self, notice: Notice)
+        ensures { Adds (notice_text notice ∷ []) (told self.old) (told self.new) };
+}
+
+/// Where faults are said.
+pub trait Errors {
+    /// The bytes taken so far, if it can tell.
+    ghost contents: { Self → Option (List ℕ) };
+
+    /// How many calls have failed.
+    ghost failures: { Self → ℕ };
+
+    /// Says this, or a beginning of it where the device fails.
+    fn say(&mut self, fault: Fault)
+        ensures { IsSaid (contents self.old) (contents self.new) (failures self.old) (failures self.new) (fault_text fault) };
+}
+
+/// Who does what an end asks for. It may tell lines of its own where notices are told, as of connections that have ended.
+pub trait World<L: Lines> {
+    /// What it was asked for and what happened then, the newest first, if it can tell.
+    ghost log: { Self → Option (List (Asked × Heard)) };
+
+    /// What it needs of its types, as that they may go to another thread.
+    ghost may: { Self → Type 0 };
+
+    /// Does this, and answers what happened. It tells no notice.
+    fn perform(&mut self, deed: Deed, lines: &mut L) -> Happened
+        requires { may self.old }
+        ensures may { may self.new }
+        ensures logged { Adds ((deed, result) ∷ []) (log self.old) (log self.new) }
+        ensures untold { Adds [] (L.told lines.old) (L.told lines.new) };
+}
