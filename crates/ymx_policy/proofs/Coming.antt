@@ -51,20 +51,22 @@ told_texts true (Some x) None (Some z) older = refl
 told_texts true (Some x) (Some y) None older = refl
 told_texts true (Some x) (Some y) (Some z) older = refl
 
--- the text of a fault that is said is in front of those said before
-said_texts : (fault : Option Fault) (older : List Fault) → map fault_text (with fault older) ≡ map fault_text (with fault []) ++ map fault_text older
-said_texts None older = refl
-said_texts (Some f) older = refl
+-- texts of what is said with these words are in front of those said before
+said_texts : (fault ending : Option Fault) (older : List Fault) → map fault_text (with ending (with fault older)) ≡ map fault_text (with ending (with fault [])) ++ map fault_text older
+said_texts None None older = refl
+said_texts None (Some z) older = refl
+said_texts (Some f) None older = refl
+said_texts (Some f) (Some z) older = refl
 
 -- ---- what is seen
 
 -- nothing was done and said yet
-pub shows_none : (verbose : Bool) (seen : Seen) → Shows seen seen [] (heeded verbose []) []
+pub shows_none : {D H : Type 0} (verbose : Bool) (seen : Seen D H) → Shows seen seen [] (heeded verbose []) []
 shows_none false seen = record { does = adds_none seen.log; tells = adds_none seen.told; says = (refl, refl) }
 shows_none true seen = record { does = adds_none seen.log; tells = adds_none seen.told; says = (refl, refl) }
 
 -- and then these words were said
-pub shows_words : (verbose : Bool) (before now : Seen) (done : List (Deed × Happened)) (told : List Notice) (said : List Fault) → Shows before now done (heeded verbose told) said
+pub shows_words : {D H : Type 0} (verbose : Bool) (before now : Seen D H) (done : List (D × H)) (told : List Notice) (said : List Fault) → Shows before now done (heeded verbose told) said
     → (words : Words) → (told_new : Option (List (List ℕ))) → (taken_new : Option (List ℕ)) → (failures_new : ℕ)
     → Adds (map notice_text (heeded verbose (then_told words []))) now.told told_new
     → AreSaid now.taken taken_new now.failures failures_new (map fault_text (then_said words []))
@@ -72,12 +74,12 @@ pub shows_words : (verbose : Bool) (before now : Seen) (done : List (Deed × Hap
 shows_words verbose before now done told said shown words told_new taken_new failures_new tells says = record {
   does = shown.does;
   tells = rw (told_texts verbose words.first words.second words.last told) (adds_then _ _ before.told now.told told_new shown.tells tells);
-  says = rw (said_texts words.fault said) (said_then _ _ before.taken now.taken taken_new before.failures now.failures failures_new shown.says says);
+  says = rw (said_texts words.fault words.ending said) (said_then _ _ before.taken now.taken taken_new before.failures now.failures failures_new shown.says says);
 }
 
 -- and then this was done
-pub shows_deed : (before now : Seen) (done : List (Deed × Happened)) (told : List Notice) (said : List Fault) → Shows before now done told said
-    → (entry : Deed × Happened) → (log_new : Option (List (Deed × Happened))) → (told_new : Option (List (List ℕ)))
+pub shows_deed : {D H : Type 0} (before now : Seen D H) (done : List (D × H)) (told : List Notice) (said : List Fault) → Shows before now done told said
+    → (entry : D × H) → (log_new : Option (List (D × H))) → (told_new : Option (List (List ℕ)))
     → Adds (entry ∷ []) now.log log_new → Adds [] now.told told_new
     → Shows before (record { log = log_new; told = told_new; taken = now.taken; failures = now.failures }) (entry ∷ done) told said
 shows_deed before now done told said shown entry log_new told_new does tells = record {
@@ -94,11 +96,11 @@ no_end (deed.End status) h = absurd (h status refl)
 no_end other h = refl
 
 -- nothing was asked for yet
-pub comes_first : (t : Terms) (seen : Seen) → HasCome t (fresh t) seen seen
+pub comes_first : (t : Terms) (seen : Seen Deed Happened) → HasCome t (fresh t) seen seen
 comes_first t seen = record { past = []; valid = tt; state = refl; shown = shows_none t.is_verbose seen }
 
 -- and then this was asked for and heard
-pub comes_then : (t : Terms) (here there : State) (before now : Seen) → HasCome t here before now
+pub comes_then : (t : Terms) (here there : State) (before now : Seen Deed Happened) → HasCome t here before now
     → (a : Ask) → a ≡ asked t here → is_end a.deed ≡ false → (h : Happened) → there ≡ after t here h
     → (told1 told2 : Option (List (List ℕ))) → (taken1 : Option (List ℕ)) → (failures1 : ℕ) → (log2 : Option (List (Deed × Happened)))
     → Adds (map notice_text (heeded t.is_verbose (then_told a.words []))) now.told told1
@@ -110,12 +112,12 @@ comes_then t here there before now came a is_asked goes_on h leads told1 told2 t
   valid = (is_asked ∙ ap (asked t) came.state, goes_on, came.valid);
   state = leads ∙ ap (λ s. after t s h) came.state;
   shown = shows_deed before _ (deeds came.past) _ _
-    (shows_words t.is_verbose before now (deeds came.past) (notices came.past) (faults came.past) came.shown a.words told1 taken1 failures1 tells says)
-    (a.deed, h) log2 told2 does untold;
+      (shows_words t.is_verbose before now (deeds came.past) (notices came.past) (faults came.past) came.shown a.words told1 taken1 failures1 tells says)
+      (a.deed, h) log2 told2 does untold;
 }
 
 -- and then it said its last words, and ended
-pub ends_then : (t : Terms) (here : State) (before now : Seen) → HasCome t here before now
+pub ends_then : (t : Terms) (here : State) (before now : Seen Deed Happened) → HasCome t here before now
     → (a : Ask) → a ≡ asked t here → (status : ℕ) → a.deed ≡ deed.End status
     → (told1 : Option (List (List ℕ))) → (taken1 : Option (List ℕ)) → (failures1 : ℕ)
     → Adds (map notice_text (heeded t.is_verbose (then_told a.words []))) now.told told1
@@ -129,5 +131,5 @@ ends_then t here before now came a is_asked status ends told1 taken1 failures1 t
       valid = came.valid;
       ends = ap (λ x. x.deed) same ∙ ends;
       shown = let P : Words → Type 0 = λ w. Shows before (record { log = now.log; told = told1; taken = taken1; failures = failures1 }) (deeds came.past) (heeded t.is_verbose (then_told w (notices came.past))) (then_said w (faults came.past)) in
-        subst P (sym last) (shows_words t.is_verbose before now (deeds came.past) (notices came.past) (faults came.past) came.shown a.words told1 taken1 failures1 tells says);
+          subst P (sym last) (shows_words t.is_verbose before now (deeds came.past) (notices came.past) (faults came.past) came.shown a.words told1 taken1 failures1 tells says);
     }

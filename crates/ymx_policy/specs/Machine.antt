@@ -55,7 +55,7 @@ goes s next words = record s { stage = next; words = words }
 -- it says these two, and this fault, and ends
 abbrev pub ends : State → (first second : Option Notice) → Fault → State
 ends s first second f =
-    record s { stage = stage.Over; words = record { first = first; second = second; fault = Some f; last = None }; has_faulted = true }
+    record s { stage = stage.Over; words = record { first = first; second = second; fault = Some f; last = None; ending = None }; has_faulted = true }
 
 -- nobody can be accepted where users come in
 abbrev pub no_users : Terms → State → (gone : Option Notice) → Option Reason → State
@@ -85,7 +85,7 @@ after_opening_users t s other = no_users t s None None
 abbrev pub after_no_call : Role → (kept : Bool) → (peer : SocketAddrV4) → (refused : Option Notice) → State → State
 after_no_call role false peer refused s = ends s refused None (fault.CannotReach peer)
 after_no_call RemoteCalls true peer refused s =
-    record s { stage = stage.Pausing; words = record { first = refused; second = Some (notice.Unreached peer); fault = None; last = None }; pause = longer s.pause }
+    record s { stage = stage.Pausing; words = record { first = refused; second = Some (notice.Unreached peer); fault = None; last = None; ending = None }; pause = longer s.pause }
 after_no_call role true peer refused s = goes s stage.Closing (record silence { first = refused })
 
 -- the peer that it called is there, or can't be reached

@@ -37,9 +37,9 @@ abbrev pub with : {A : Type 0} → Option A → List A → List A
 with None others = others
 with (Some x) others = x ∷ others
 
--- the fault that is said with these words, in front of those that were said before
+-- the faults that are said with these words, the last one first, in front of those that were said before
 abbrev pub then_said : Words → List Fault → List Fault
-then_said words faults = with words.fault faults
+then_said words faults = with words.ending (with words.fault faults)
 
 -- the notices that are told with these words, the last one first, in front of those that were told before
 abbrev pub then_told : Words → List Notice → List Notice
@@ -69,27 +69,27 @@ abbrev pub Adds : {A : Type 0} → List A → Option (List A) → Option (List A
 Adds new old_list new_list = new_list ≡ option_map (λ list. new ++ list) old_list
 
 -- what is known of the world and of the two places where something is said: the deeds, the texts told, the bytes taken, the failures
-pub record Seen : Type 0 where
-  pub log : Option (List (Deed × Happened))
+pub record Seen (D H : Type 0) : Type 0 where
+  pub log : Option (List (D × H))
   pub told : Option (List (List ℕ))
   pub taken : Option (List ℕ)
   pub failures : ℕ
 
 -- Between these two the world did just these deeds, and just these notices were told and faults said.
-pub record Shows (before now : Seen) (done : List (Deed × Happened)) (told : List Notice) (said : List Fault) : Type 0 where
+pub record Shows {D H : Type 0} (before now : Seen D H) (done : List (D × H)) (told : List Notice) (said : List Fault) : Type 0 where
   pub does : Adds done before.log now.log
   pub tells : Adds (map notice_text told) before.told now.told
   pub says : AreSaid before.taken now.taken before.failures now.failures (map fault_text said)
 
 -- An end with these terms has come here: it asked and heard this, and what it asked for was done and said.
-pub record HasCome (t : Terms) (here : State) (before now : Seen) : Type 0 where
+pub record HasCome (t : Terms) (here : State) (before now : Seen Deed Happened) : Type 0 where
   pub past : List (Ask × Happened)
   pub valid : IsPast t past
   pub state : here ≡ state_of t past
   pub shown : Shows before now (deeds past) (heeded t.is_verbose (notices past)) (faults past)
 
 -- An end with these terms has ended with this status: by its tables alone, and what it asked for was done and said.
-pub record HasEnded (t : Terms) (status : ℕ) (before now : Seen) : Type 0 where
+pub record HasEnded (t : Terms) (status : ℕ) (before now : Seen Deed Happened) : Type 0 where
   pub past : List (Ask × Happened)
   pub valid : IsPast t past
   pub ends : (asks t past).deed ≡ deed.End status

@@ -70,7 +70,7 @@ longer seconds = if seconds == 0 then 1 else min 30 (2 * seconds)
 
 -- nothing
 abbrev pub silence : Words
-silence = record { first = None; second = None; fault = None; last = None }
+silence = record { first = None; second = None; fault = None; last = None; ending = None }
 
 -- this alone
 abbrev pub tells : Notice → Words
@@ -104,12 +104,12 @@ came false = silence
 -- What is said behind a session with this fault, before which the system may have refused something: without --keep the fault. With
 -- it also that the peer has gone: by `local` at first, by `remote` at last, and by one that awaits its peers not yet.
 abbrev pub parting : Role → (kept : Bool) → (refused : Option Notice) → Option Fault → Words
-parting role false refused f = record { first = refused; second = None; fault = f; last = None }
-parting LocalCalls true refused f = record { first = Some notice.PeerGone; second = refused; fault = f; last = None }
-parting Link true refused f = record { first = Some notice.PeerGone; second = refused; fault = f; last = None }
-parting LocalAwaits true refused f = record { first = refused; second = None; fault = f; last = None }
-parting RemoteCalls true refused f = record { first = refused; second = None; fault = f; last = Some notice.PeerGone }
-parting RemoteAwaits true refused f = record { first = refused; second = None; fault = f; last = None }
+parting role false refused f = record { first = refused; second = None; fault = f; last = None; ending = None }
+parting LocalCalls true refused f = record { first = Some notice.PeerGone; second = refused; fault = f; last = None; ending = None }
+parting Link true refused f = record { first = Some notice.PeerGone; second = refused; fault = f; last = None; ending = None }
+parting LocalAwaits true refused f = record { first = refused; second = None; fault = f; last = None; ending = None }
+parting RemoteCalls true refused f = record { first = refused; second = None; fault = f; last = Some notice.PeerGone; ending = None }
+parting RemoteAwaits true refused f = record { first = refused; second = None; fault = f; last = None; ending = None }
 
 -- ---- which fault it is
 

@@ -1,4 +1,4 @@
-//! What an end of a tunnel asks for, and what it is told.
+//! What an end of a tunnel, or a pool of sessions, asks for, and what it is told.
 
 use crate::reason::Reason;
 use std::net::SocketAddrV4;
@@ -93,8 +93,10 @@ pub struct Words {
     pub second: Option<Notice>,
     /// Said behind both.
     pub fault: Option<Fault>,
-    /// Told at last.
+    /// Told behind that.
     pub last: Option<Notice>,
+    /// Said at last: what ends it, where that is a fault of its own.
+    pub ending: Option<Fault>,
 }
 
 /// How a session ended. If nothing here is so, it was over by the peer's end or its own.
@@ -163,6 +165,71 @@ pub enum Happened {
     NoUsers(Option<Reason>),
     /// The session ended so.
     SessionEnded(SessionEnd),
+    /// It is done.
+    Done,
+}
+
+// ---- a pool
+
+/// What is to be done for a pool.
+#[derive(Clone, Copy)]
+pub enum PoolDeed {
+    /// Listen for peers here.
+    ListenForPeers(SocketAddrV4),
+    /// Listen for users.
+    ListenForUsers(Users),
+    /// Call the peer there once more, for one more link.
+    Call(SocketAddrV4),
+    /// Make a thread that runs such a session, with the peer that came, or of the next link.
+    Start(Session),
+    /// Wait until somebody comes, or a session ends.
+    Await,
+    /// Wait until a session ends.
+    AwaitLeaving,
+    /// Bring the user that came to the link that has the fewest.
+    PlaceUser,
+    /// Bring no more users to any link.
+    CloseLinks,
+    /// Let so many seconds go by.
+    Pause(u64),
+    /// Nothing any more: end with this status.
+    End(u8),
+}
+
+/// What a pool asks for: to say something, if there is something to be said, and then to do this.
+#[derive(Clone, Copy)]
+pub struct PoolAsk {
+    /// What is said.
+    pub words: Words,
+    /// What is done then.
+    pub deed: PoolDeed,
+}
+
+/// What happened.
+#[derive(Clone, Copy)]
+pub enum PoolHappened {
+    /// It listens, at this address.
+    Listening(SocketAddrV4),
+    /// It can't be done: the system refuses it, for this reason if one is known.
+    Failed(Option<Reason>),
+    /// There was no memory for it.
+    LackedMemory,
+    /// Somebody is there: a peer, or a user.
+    Came,
+    /// Somebody could not be let in now, for this reason.
+    Delayed(Reason),
+    /// All users have come that were to.
+    AllCame,
+    /// Nobody can come in any more, for this reason if one is known.
+    NobodyComes(Option<Reason>),
+    /// No link takes users any more.
+    NoLinks,
+    /// The thread runs.
+    Started,
+    /// A session has ended so, and its thread with it.
+    Left(SessionEnd),
+    /// A link, which goes on, has met this fault.
+    Met(Fault),
     /// It is done.
     Done,
 }

@@ -7,6 +7,7 @@ mod asks;
 mod driver;
 mod options;
 mod plan;
+mod pool;
 mod reason;
 mod state;
 mod table;
@@ -14,12 +15,14 @@ mod telling;
 mod world;
 
 pub use asks::{
-    Ask, Deed, Fault, Happened, Named, Notice, Session, SessionEnd, Side, Users, Words,
+    Ask, Deed, Fault, Happened, Named, Notice, PoolAsk, PoolDeed, PoolHappened, Session,
+    SessionEnd, Side, Users, Words,
 };
-pub use driver::run;
+pub use driver::{run, run_pool};
 pub use options::{LocalOptions, PeerAddress, RemoteOptions};
 pub use plan::{Plan, Role, Terms};
+pub use pool::{Pool, PoolStage};
 pub use reason::Reason;
 pub use state::{Stage, State};
 pub use telling::{Text, fault_text, notice_text};
-pub use world::{Errors, Lines, World};
+pub use world::{Errors, Lines, PoolWorld, World};

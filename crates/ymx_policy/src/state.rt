@@ -130,6 +130,7 @@ impl State {
             second,
             fault: Some(fault),
             last: None,
+            ending: None,
         };
         self.has_faulted = true;
     }
@@ -292,13 +293,7 @@ impl State {
     }
 
     /// Goes on behind a session with this fault, where this pause is due before the next call.
-    fn part(
-        &mut self,
-        terms: &Terms,
-        refused: Option<Notice>,
-        fault: Option<Fault>,
-        pause: u64,
-    )
+    fn part(&mut self, terms: &Terms, refused: Option<Notice>, fault: Option<Fault>, pause: u64)
         ensures { self.new ≡ parted terms.now self.old refused fault pause }
     {
         self.stage = behind_session(terms.role, terms.goes_on, pause);

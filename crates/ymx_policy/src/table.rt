@@ -111,6 +111,7 @@ pub(crate) fn silence() -> Words
         second: None,
         fault: None,
         last: None,
+        ending: None,
     }
 }
 
@@ -123,6 +124,7 @@ pub(crate) fn tells(notice: Notice) -> Words
         second: None,
         fault: None,
         last: None,
+        ending: None,
     }
 }
 
@@ -151,11 +153,7 @@ pub(crate) fn opened(has_users: bool, address: SocketAddrV4) -> Words
 pub(crate) fn gone_if(is_due: bool) -> Option<Notice>
     ensures { result ≡ gone_if is_due }
 {
-    if is_due {
-        Some(Notice::PeerGone)
-    } else {
-        None
-    }
+    if is_due { Some(Notice::PeerGone) } else { None }
 }
 
 /// Whether that is due while the user is closed behind its session.
@@ -193,6 +191,7 @@ pub(crate) fn parting(
         second: None,
         fault,
         last: None,
+        ending: None,
     };
     if is_kept {
         match role {

@@ -6,8 +6,10 @@ ghost use Rattle.ymx_policy.specs.Voices.{IsSaid};
 ghost use Rattle.ymx_policy.specs.Texts.{fault_text, notice_text};
 ghost use Rattle.ymx_policy.specs.declared.asks.Deed.{Deed as Asked};
 ghost use Rattle.ymx_policy.specs.declared.asks.Happened.{Happened as Heard};
+ghost use Rattle.ymx_policy.specs.declared.asks.PoolDeed.{PoolDeed as PoolAsked};
+ghost use Rattle.ymx_policy.specs.declared.asks.PoolHappened.{PoolHappened as PoolHeard};
 
-use crate::asks::{Deed, Fault, Happened, Notice};
+use crate::asks::{Deed, Fault, Happened, Notice, PoolDeed, PoolHappened};
 
 /// Where notices are told.
 pub trait Lines {
@@ -42,6 +44,22 @@ pub trait World<L: Lines> {
 
     /// Does this, and answers what happened. It tells no notice.
     fn perform(&mut self, deed: Deed, lines: &mut L) -> Happened
+        requires { may self.old }
+        ensures may { may self.new }
+        ensures logged { Adds ((deed, result) ∷ []) (log self.old) (log self.new) }
+        ensures untold { Adds [] (L.told lines.old) (L.told lines.new) };
+}
+
+/// Who does what a pool asks for, as a [`World`] does for an end.
+pub trait PoolWorld<L: Lines> {
+    /// What it was asked for and what happened then, the newest first, if it can tell.
+    ghost log: { Self → Option (List (PoolAsked × PoolHeard)) };
+
+    /// What it needs of its types, as that they may go to another thread.
+    ghost may: { Self → Type 0 };
+
+    /// Does this, and answers what happened. It tells no notice.
+    fn perform(&mut self, deed: PoolDeed, lines: &mut L) -> PoolHappened
         requires { may self.old }
         ensures may { may self.new }
         ensures logged { Adds ((deed, result) ∷ []) (log self.old) (log self.new) }

@@ -1,5 +1,7 @@
 use Rattle.std.proofs.Common.{◌≡◌, sym, subst, refl}
 use Rattle.ymx_policy.specs.declared.plan.Terms.{Terms}
+use Rattle.ymx_policy.specs.declared.asks.Deed.{Deed}
+use Rattle.ymx_policy.specs.declared.asks.Happened.{Happened}
 use Rattle.ymx_policy.specs.declared.state.State.{State}
 use Rattle.ymx_policy.specs.Past.{HasCome, HasEnded, Seen}
 use Rattle.ymx_policy.proofs.Coming.{comes_first, comes_then, ends_then, no_end}
@@ -7,7 +9,7 @@ use Rattle.ymx_policy.proofs.driver.run.Goals as goal
 
 pub loop-init : goal.loop-init
 loop-init g c =
-    let seen : Seen = record { log = g.W.World.log c.args.world.now; told = g.L.Lines.told c.args.lines.now; taken = g.E.Errors.contents c.args.errors.now; failures = g.E.Errors.failures c.args.errors.now } in
+    let seen : Seen Deed Happened = record { log = g.W.World.log c.args.world.now; told = g.L.Lines.told c.args.lines.now; taken = g.E.Errors.contents c.args.errors.now; failures = g.E.Errors.failures c.args.errors.now } in
     let P : State → Type 0 = λ s. HasCome c.terms-terms.result s seen seen in
     record {
       next = (tt, tt);
@@ -18,8 +20,8 @@ loop-init g c =
 
 pub returns-in-End : goal.returns-in-End
 returns-in-End g c =
-    let before : Seen = record { log = g.W.World.log c.args.world.now; told = g.L.Lines.told c.args.lines.now; taken = g.E.Errors.contents c.args.errors.now; failures = g.E.Errors.failures c.args.errors.now } in
-    let now : Seen = record { log = g.W.World.log c.loop.world; told = g.L.Lines.told c.speak.new.lines; taken = g.E.Errors.contents c.speak.new.errors; failures = g.E.Errors.failures c.speak.new.errors } in
+    let before : Seen Deed Happened = record { log = g.W.World.log c.args.world.now; told = g.L.Lines.told c.args.lines.now; taken = g.E.Errors.contents c.args.errors.now; failures = g.E.Errors.failures c.args.errors.now } in
+    let now : Seen Deed Happened = record { log = g.W.World.log c.loop.world; told = g.L.Lines.told c.speak.new.lines; taken = g.E.Errors.contents c.speak.new.errors; failures = g.E.Errors.failures c.speak.new.errors } in
     let P : Terms → Type 0 = λ t. HasEnded t c.in-End.status before now in
     subst P c.terms-terms.ensures (ends_then _ _ _ _ c.loop.invariant.came c.asked-ask.result c.asked-ask.ensures c.in-End.status c.in-End.is _ _ _ c.speak.ensures.told c.speak.ensures.said)
 

@@ -1,0 +1,60 @@
+-- How a pool comes one step on.
+use Rattle.std.proofs.Common.{◌≡◌, ℕ, List, [], ◌∷◌, false, Option, refl, ap, sym, ◌∙◌, subst}
+use Rattle.std.specs.Prelude.{map}
+use Rattle.ymx_policy.specs.declared.plan.Terms.{Terms}
+use Rattle.ymx_policy.specs.declared.asks.Words.{Words}
+use Rattle.ymx_policy.specs.declared.asks.PoolDeed.{PoolDeed}
+use Rattle.ymx_policy.specs.declared.asks.PoolDeed.TheVariants as deed
+use Rattle.ymx_policy.specs.declared.asks.PoolAsk.{PoolAsk}
+use Rattle.ymx_policy.specs.declared.asks.PoolHappened.{PoolHappened}
+use Rattle.ymx_policy.specs.declared.pool.Pool.{Pool}
+use Rattle.ymx_policy.specs.Texts.{fault_text, notice_text}
+use Rattle.ymx_policy.specs.Voices.{AreSaid}
+use Rattle.ymx_policy.specs.PoolTable.{fresh, asked, after}
+use Rattle.ymx_policy.specs.Past.{Adds, Seen, Shows, heeded, then_said, then_told}
+use Rattle.ymx_policy.specs.PoolPast.{HasCome, HasEnded, asks, deeds, faults, is_end, notices, pool_of}
+use Rattle.ymx_policy.proofs.Coming.{shows_none, shows_words, shows_deed}
+
+-- what is not its end doesn't end it
+pub no_end : (d : PoolDeed) → ((status : ℕ) → d ≡ deed.End status → ⊥) → is_end d ≡ false
+no_end (deed.End status) h = absurd (h status refl)
+no_end other h = refl
+
+-- nothing was asked for yet
+pub comes_first : (t : Terms) (seen : Seen PoolDeed PoolHappened) → HasCome t (fresh t) seen seen
+comes_first t seen = record { past = []; valid = tt; pool = refl; shown = shows_none t.is_verbose seen }
+
+-- and then this was asked for and heard
+pub comes_then : (t : Terms) (here there : Pool) (before now : Seen PoolDeed PoolHappened) → HasCome t here before now
+    → (a : PoolAsk) → a ≡ asked t here → is_end a.deed ≡ false → (h : PoolHappened) → there ≡ after t here h
+    → (told1 told2 : Option (List (List ℕ))) → (taken1 : Option (List ℕ)) → (failures1 : ℕ) → (log2 : Option (List (PoolDeed × PoolHappened)))
+    → Adds (map notice_text (heeded t.is_verbose (then_told a.words []))) now.told told1
+    → AreSaid now.taken taken1 now.failures failures1 (map fault_text (then_said a.words []))
+    → Adds ((a.deed, h) ∷ []) now.log log2 → Adds [] told1 told2
+    → HasCome t there before (record { log = log2; told = told2; taken = taken1; failures = failures1 })
+comes_then t here there before now came a is_asked goes_on h leads told1 told2 taken1 failures1 log2 tells says does untold = record {
+  past = (a, h) ∷ came.past;
+  valid = (is_asked ∙ ap (asked t) came.pool, goes_on, came.valid);
+  pool = leads ∙ ap (λ s. after t s h) came.pool;
+  shown = shows_deed before _ (deeds came.past) _ _
+      (shows_words t.is_verbose before now (deeds came.past) (notices came.past) (faults came.past) came.shown a.words told1 taken1 failures1 tells says)
+      (a.deed, h) log2 told2 does untold;
+}
+
+-- and then it said its last words, and ended
+pub ends_then : (t : Terms) (here : Pool) (before now : Seen PoolDeed PoolHappened) → HasCome t here before now
+    → (a : PoolAsk) → a ≡ asked t here → (status : ℕ) → a.deed ≡ deed.End status
+    → (told1 : Option (List (List ℕ))) → (taken1 : Option (List ℕ)) → (failures1 : ℕ)
+    → Adds (map notice_text (heeded t.is_verbose (then_told a.words []))) now.told told1
+    → AreSaid now.taken taken1 now.failures failures1 (map fault_text (then_said a.words []))
+    → HasEnded t status before (record { log = now.log; told = told1; taken = taken1; failures = failures1 })
+ends_then t here before now came a is_asked status ends told1 taken1 failures1 tells says =
+    let same : asks t came.past ≡ a = ap (asked t) (sym came.pool) ∙ sym is_asked in
+    let last : (asks t came.past).words ≡ a.words = ap (λ x. x.words) same in
+    record {
+      past = came.past;
+      valid = came.valid;
+      ends = ap (λ x. x.deed) same ∙ ends;
+      shown = let P : Words → Type 0 = λ w. Shows before (record { log = now.log; told = told1; taken = taken1; failures = failures1 }) (deeds came.past) (heeded t.is_verbose (then_told w (notices came.past))) (then_said w (faults came.past)) in
+          subst P (sym last) (shows_words t.is_verbose before now (deeds came.past) (notices came.past) (faults came.past) came.shown a.words told1 taken1 failures1 tells says);
+    }
