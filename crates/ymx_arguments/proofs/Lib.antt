@@ -1,3 +1,2 @@
-pub mod Addresses
 pub mod Asked
 pub mod Read

@@ -1,13 +1,19 @@
 -- What is read of the matches of a command line.
 use Rattle.std.proofs.Common.{◌≡◌, ◌≤◌, ℕ, List, Option, Some, None, option_map, arith, refl, sym, ◌∙◌, ap, subst, codes, decimal, get_or, inl, inr}
-use Rattle.std.specs.Prelude.{◌⊎◌, IfSome, IsSomeAnd, option_and_then, unwrap_or}
+use Rattle.std.specs.Prelude.{◌⊎◌, Result, Ok, Err, MatchResult, IfOk, IfSome, IsSomeAnd, option_and_then, unwrap_or}
 use Rattle.std.specs.Str.Parse.{digits_value}
 use Rattle.std.proofs.lemmas.Fmt.{decimal_is_IsNumeral}
 use Rattle.clap.specs.declared.parser.matches.ArgMatches.{ArgMatches}
 use Rattle.clap.specs.declared.parser.matches.ArgMatches.TheViews.{out-ArgMatches}
-use Rattle.clap.specs.Words.{Row, Text, one_of, subcommand_name_of, subcommand_rows_of}
+use Rattle.clap.specs.Words.{Row, Text, first_value, one_of, one_text, rows_of, subcommand_name_of, subcommand_rows_of}
 use Rattle.clap.specs.Walk.{first_of}
-use Rattle.ymx_arguments.specs.CommandLine.{AreBothGiven, HasBadOption, IsBad, IsBadEnd, IsNotSaid, IsNumberIn, IsUndecided, ReadsAs, named_words}
+use Rattle.clap.proofs.WalkLemmas.{first_value-rows, one_text-rows}
+use Rattle.std.proofs.Math.Path.{fun_ext}
+use Rattle.clap.specs.declared.parser.matches.Found.{Found}
+use Rattle.ymx_arguments.specs.declared.options.TunnelCommand.{TunnelCommand}
+use Rattle.ymx_arguments.specs.declared.options.TunnelCommand.TheVariants as tunnel
+use Rattle.ymx_arguments.specs.declared.reading.Task.TheVariants.{Tunnel as ATunnel}
+use Rattle.ymx_arguments.specs.CommandLine.{AreBothGiven, HasBadOption, HasOptions, IsBad, IsBadEnd, IsLocalOf, IsNotSaid, IsNumberIn, IsRemoteOf, IsToldBy, IsUndecided, ReadsAs, named_words}
 
 -- the rows of a subcommand that was met have its limit
 pub named_text : (rows : List Row) (met : Option (Text × List Row)) (name : Text) (text word : Option Text) → Some rows ≡ option_map (λ p. p.1) met →
@@ -119,3 +125,50 @@ not_said rows None e quiet = cc
 not_said rows (Some p) e quiet =
     let has : rows ≡ p.1 = ap (λ (o : Option (List Row)). unwrap_or o rows) e in
     rw has quiet
+
+-- ---- the options of an end
+
+-- what holds of a good answer, and what follows of it
+pub told_ok : {T E : Type 0} (r : Result T E) (P Q : T → Type 0) (R : E → Type 0) → MatchResult r P R → ((x : T) → P x → Q x) → IfOk r Q
+told_ok (Ok x) P Q R h f = f x h
+told_ok (Err e) P Q R h f = tt
+
+-- what was given to options, by the matches and by their rows
+given_rows : (found : Found) → first_value found ≡ (λ n. first_of n (rows_of found))
+given_rows found = fun_ext (λ n. first_value-rows found n)
+
+-- the same of flags
+flags_rows : (found : Found) → one_text found ≡ (λ n. one_of n (rows_of found))
+flags_rows found = fun_ext (λ n. one_text-rows found n)
+
+-- options that were read of the matches are those of their rows
+by_rows : (found : Found) (P : (Text → Option Text) → (Text → Option Text) → Type 0) → P (first_value found) (one_text found) → P (λ n. first_of n (rows_of found)) (λ n. one_of n (rows_of found))
+by_rows found P h =
+    subst (λ (given : Text → Option Text). P given (λ n. one_of n (rows_of found))) (given_rows found)
+    (subst (λ (flag : Text → Option Text). P (first_value found) flag) (flags_rows found) h)
+
+-- `local` has the options that were given
+pub local_has : (found : Found) (name : Text) (command : TunnelCommand) → name ≡ codes "local" → IsLocalOf (first_value found) (one_text found) command → HasOptions name (rows_of found) command
+local_has found name (tunnel.Local o) is h = (is, by_rows found (λ given flag. IsLocalOf given flag (tunnel.Local o)) h)
+local_has found name (tunnel.Remote o) is h = absurd h
+local_has found name tunnel.Selftest is h = tt
+
+-- so has `remote`
+pub remote_has : (found : Found) (name : Text) (command : TunnelCommand) → name ≡ codes "remote" → IsRemoteOf (first_value found) (one_text found) command → HasOptions name (rows_of found) command
+remote_has found name (tunnel.Local o) is h = absurd h
+remote_has found name (tunnel.Remote o) is h = (is, by_rows found (λ given flag. IsRemoteOf given flag (tunnel.Remote o)) h)
+remote_has found name tunnel.Selftest is h = tt
+
+-- the options of the subcommand that was met are those of its name and its rows
+pub told_met : (rows : List Row) (met : Option (Text × List Row)) (name : Text) (command : TunnelCommand) → Some name ≡ option_map (λ p. p.0) met → Some rows ≡ option_map (λ p. p.1) met →
+    HasOptions name rows command → IsToldBy met (ATunnel command)
+told_met rows None name command n e h = cc
+told_met rows (Some p) name command n e h =
+    let named : name ≡ p.0 = ap (λ (o : Option Text). unwrap_or o name) n in
+    let has : rows ≡ p.1 = ap (λ (o : Option (List Row)). unwrap_or o rows) e in
+    rw (← named, ← has) h
+
+-- the test has no options
+pub selftest_told : (met : Option (Text × List Row)) → IsToldBy met (ATunnel tunnel.Selftest)
+selftest_told None = refl
+selftest_told (Some p) = tt

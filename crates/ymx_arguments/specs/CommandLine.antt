@@ -3,8 +3,7 @@ use Rattle.std.specs.Prelude.{◌≡◌, ◌≢◌, ⊤, ◌≤◌, ◌⊎◌, �
 use Rattle.std.specs.Str.{bytes_eq}
 use Rattle.std.specs.Str.Parse.{IsNumeral, digits_value}
 use Rattle.std.specs.Net.Grammar.{IsSocketV4Text}
-use Rattle.std.specs.declared.net.socket_addr.SocketAddr.{SocketAddr}
-use Rattle.std.specs.declared.net.socket_addr.SocketAddr.TheVariants as socket
+use Rattle.std.specs.declared.net.socket_addr.SocketAddrV4.{SocketAddrV4}
 use Rattle.clap.specs.Kinds.{IsAmong}
 use Rattle.clap.specs.Faults.{fault_of}
 use Rattle.clap.specs.Walk.{first_of}
@@ -15,8 +14,8 @@ use Rattle.clap.specs.declared.error.kind.ErrorKind.{ErrorKind}
 use Rattle.clap.specs.declared.error.kind.ErrorKind.TheVariants.{ArgumentConflict, DisplayHelp, DisplayVersion, MissingRequiredArgument, OutOfMemory, ValueValidation}
 use Rattle.ymx_arguments.specs.declared.arguments.BadOption.{BadOption}
 use Rattle.ymx_arguments.specs.declared.arguments.BadOption.TheVariants as bad
-use Rattle.ymx_arguments.specs.declared.options.PeerAddress.{PeerAddress}
-use Rattle.ymx_arguments.specs.declared.options.PeerAddress.TheVariants as peer
+use Rattle.ymx_policy.specs.declared.options.PeerAddress.{PeerAddress}
+use Rattle.ymx_policy.specs.declared.options.PeerAddress.TheVariants as peer
 use Rattle.ymx_arguments.specs.declared.options.TunnelCommand.{TunnelCommand}
 use Rattle.ymx_arguments.specs.declared.options.TunnelCommand.TheVariants as tunnel
 use Rattle.ymx_arguments.specs.declared.reading.CommandFault.{CommandFault}
@@ -329,14 +328,13 @@ abbrev pub ReadsFlag : Option Text → Bool → Type 0
 ReadsFlag text flag = (IsNotSaid text → flag ≡ false) × (text ≡ Some (codes "true") → flag ≡ true)
 
 -- what was given to an option is a text, and spells this IPv4 address with its port
-abbrev pub IsAddressOf : Option Text → SocketAddr → Type 0
+abbrev pub IsAddressOf : Option Text → SocketAddrV4 → Type 0
 IsAddressOf None address = ⊥
-IsAddressOf (Some text) (socket.V4 address) = IsSocketV4Text text address
-IsAddressOf (Some text) (socket.V6 address) = ⊥
+IsAddressOf (Some text) address = IsSocketV4Text text address
 
 -- what was given to an option spells no address, and the mistake shows it
 abbrev pub IsNoAddress : Option Text → BadOption → Type 0
-IsNoAddress given (bad.Address text) = (text.now ≡ unwrap_or given []) × ((address : SocketAddr) → IsAddressOf given address → ⊥)
+IsNoAddress given (bad.Address text) = (text.now ≡ unwrap_or given []) × ((address : SocketAddrV4) → IsAddressOf given address → ⊥)
 IsNoAddress given (bad.Number name text) = ⊥
 IsNoAddress given bad.NoPeer = ⊥
 IsNoAddress given bad.TwoPeers = ⊥
@@ -401,3 +399,16 @@ IsRemoteOf given flag (tunnel.Remote remote) =
     × ReadsFlag (flag (codes "keep")) remote.is_kept × ReadsFlag (flag (codes "verbose")) remote.is_verbose
 IsRemoteOf given flag (tunnel.Local local) = ⊥
 IsRemoteOf given flag tunnel.Selftest = ⊥
+
+-- of a subcommand of this name, with these rows, an end of a tunnel has the options that were given
+abbrev pub HasOptions : Text → List Row → TunnelCommand → Type 0
+HasOptions name rows (tunnel.Local local) = (name ≡ codes "local") × IsLocalOf (λ n. first_of n rows) (λ n. one_of n rows) (tunnel.Local local)
+HasOptions name rows (tunnel.Remote remote) = (name ≡ codes "remote") × IsRemoteOf (λ n. first_of n rows) (λ n. one_of n rows) (tunnel.Remote remote)
+HasOptions name rows tunnel.Selftest = ⊤
+
+-- an end of a tunnel was asked for by the subcommand that the words name, if they name one, and has the options that it gave
+abbrev pub IsToldBy : Option (Text × List Row) → Task → Type 0
+IsToldBy (Some (name, rows)) (ATunnel command) = HasOptions name rows command
+IsToldBy None (ATunnel command) = command ≡ tunnel.Selftest
+IsToldBy met (Frames limit file) = ⊤
+IsToldBy met (Script file) = ⊤

@@ -9,5 +9,6 @@ mod ends;
 mod options;
 mod reading;
 
-pub use options::{LocalOptions, PeerAddress, RemoteOptions, TunnelCommand};
+pub use options::TunnelCommand;
 pub use reading::{CommandFault, Task, parse};
+pub use ymx_policy::{LocalOptions, PeerAddress, RemoteOptions};

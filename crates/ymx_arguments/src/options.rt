@@ -2,11 +2,12 @@
 
 ghost use Rattle.std.specs.Prelude.{◌≡◌, ◌⊎◌, codes, IfErr, IfOk, IsErr, MatchResult};
 ghost use Rattle.clap.specs.Words.{first_value, found_of, one_text, rows_of};
-ghost use Rattle.ymx_arguments.specs.CommandLine.{AreBothGiven, IsAddressOf, IsBad, IsBadEnd, IsBadLinks, IsBadLocal, IsBadPeer, IsBadRemote, IsEnd, IsLocalOf, IsNoAddress, IsNotSaid, IsNotVerbose, IsPeerOf, IsRemoteOf, IsUndecided, ReadsOr};
+ghost use Rattle.ymx_arguments.specs.CommandLine.{AreBothGiven, HasOptions, IsAddressOf, IsBad, IsBadEnd, IsBadLinks, IsBadLocal, IsBadPeer, IsBadRemote, IsEnd, IsLocalOf, IsNoAddress, IsNotSaid, IsNotVerbose, IsPeerOf, IsRemoteOf, IsUndecided, ReadsOr};
 
 use crate::arguments::{BadOption, number_of};
 use clap::ArgMatches;
-use std::net::{SocketAddr, SocketAddrV4};
+use std::net::SocketAddrV4;
+use ymx_policy::{LocalOptions, PeerAddress, RemoteOptions};
 
 /// How many bytes of a stream may be unread where the command line says nothing.
 const DEFAULT_WINDOW: u32 = 262_144;
@@ -16,15 +17,6 @@ const DEFAULT_WORKERS: u32 = 1_024;
 
 /// How many connections to its peer `local` keeps where the command line says nothing.
 const DEFAULT_LINKS: u32 = 1;
-
-/// Where an end of the tunnel meets its peer.
-#[derive(Clone, Copy)]
-pub enum PeerAddress {
-    /// It connects to the peer at this address.
-    Connect(SocketAddr),
-    /// It listens at this address for the peer.
-    Listen(SocketAddr),
-}
 
 /// A subcommand of the tunnel.
 #[derive(Clone, Copy)]
@@ -37,48 +29,6 @@ pub enum TunnelCommand {
     Selftest,
 }
 
-/// The options of `ymx local`.
-#[derive(Clone, Copy)]
-pub struct LocalOptions {
-    /// Where connections come from.
-    pub listen: SocketAddr,
-    /// Where it meets the peer of its session.
-    pub peer: PeerAddress,
-    /// How many connections are forwarded, or as many as come.
-    pub count: Option<u32>,
-    /// How many bytes of a stream may be unread here, 262,144 to 16,777,216.
-    pub window: u32,
-    /// Whether it meets its peer again once a session was lost: it connects at the next connection, or listens.
-    pub is_kept: bool,
-    /// How many connections to its peer it keeps, 1 to 64: one where it listens for its peer.
-    pub links: u32,
-    /// After how many seconds without a sign of the peer it asks for one, 1 to 3,600. None if it never does.
-    pub ping: Option<u32>,
-    /// Whether it says that it is ready, and how each connection ended.
-    pub is_verbose: bool,
-}
-
-/// The options of `ymx remote`.
-#[derive(Clone, Copy)]
-pub struct RemoteOptions {
-    /// Where it meets the peer of its session.
-    pub peer: PeerAddress,
-    /// Where connections go to.
-    pub target: SocketAddr,
-    /// How many bytes of a stream may be unread here, 262,144 to 16,777,216.
-    pub window: u32,
-    /// How many streams are served at once, 1 to 1,024.
-    pub workers: u32,
-    /// Whether it meets the next peer once one has gone.
-    pub is_kept: bool,
-    /// How many peers it serves at once, 1 to 256. None if the command line doesn't say.
-    pub peers: Option<u32>,
-    /// After how many seconds without a sign of the peer it asks for one, 1 to 3,600. None if it never does.
-    pub ping: Option<u32>,
-    /// Whether it says that it is ready, and how each connection ended.
-    pub is_verbose: bool,
-}
-
 /// What the matches of this subcommand ask for.
 pub(crate) fn tunnel_command<'a>(
     name: &str,
@@ -87,6 +37,7 @@ pub(crate) fn tunnel_command<'a>(
     ensures end { (name.now ≡ codes "local") ⊎ (name.now ≡ codes "remote") → IfOk result IsEnd }
     ensures silent { IsNotSaid (one_text (found_of found.now) (codes "verbose")) → IfOk result IsNotVerbose }
     ensures options { IsBadEnd name.now (rows_of (found_of found.now)) → IsErr result }
+    ensures told { IfOk result (HasOptions name.now (rows_of (found_of found.now))) }
 {
     match name {
         "local" => local_options(found),
@@ -197,14 +148,14 @@ fn peer_of<'a>(found: &ArgMatches<'a>) -> Result<PeerAddress, BadOption<'a>>
 }
 
 /// The IPv4 address with its port that `--NAME` was given.
-fn address_of<'a>(found: &ArgMatches<'a>, name: &str) -> Result<SocketAddr, BadOption<'a>>
+fn address_of<'a>(found: &ArgMatches<'a>, name: &str) -> Result<SocketAddrV4, BadOption<'a>>
     ensures { MatchResult result (IsAddressOf (first_value (found_of found.now) name.now)) (IsNoAddress (first_value (found_of found.now) name.now)) }
 {
     let Some(text) = found.get_str(name) else {
         return Err(BadOption::Address { text: "" });
     };
     match text.parse::<SocketAddrV4>() {
-        Ok(address) => Ok(SocketAddr::V4(address)),
+        Ok(address) => Ok(address),
         Err(_) => Err(BadOption::Address { text }),
     }
 }

@@ -1,8 +1,8 @@
 //! What the words of a command line ask for.
 
 ghost use Rattle.std.specs.Prelude.{ℕ, List, Option, None, Some, ◌≡◌, ◌≤◌, ◌⊎◌, codes, decimal, map, option_and_then, option_map, IfErr, IfOk, IfSome, IsErr, IsSomeAnd, MatchResult};
-ghost use Rattle.clap.specs.Words.{first_value, found_of, kind_of, one_of, subcommand_rows_of};
-ghost use Rattle.ymx_arguments.specs.CommandLine.{AsksFrames, AsksNoHelp, AsksNoLines, AsksScript, GivesBadOption, HasBadOption, IsClap, IsEndTask, IsFaultFor, IsFrames, IsNotSaid, IsScript, IsSilentTask, LacksMemory, NamesAnother, SaysMistake, file_of, named_words};
+ghost use Rattle.clap.specs.Words.{first_value, found_of, kind_of, one_of, subcommand_of, subcommand_rows_of};
+ghost use Rattle.ymx_arguments.specs.CommandLine.{AsksFrames, AsksNoHelp, AsksNoLines, AsksScript, GivesBadOption, HasBadOption, IsClap, IsEndTask, IsFaultFor, IsFrames, IsNotSaid, IsScript, IsSilentTask, IsToldBy, LacksMemory, NamesAnother, SaysMistake, file_of, named_words, ymx_app};
 
 use crate::arguments::{BadOption, number_of};
 use crate::command::{command, frames_command};
@@ -82,6 +82,8 @@ pub fn parse<'a, S: AsStr>(alloc: Global, words: &'a [S]) -> Result<Task<'a>, Co
     // A number that isn't decimal digits alone, or is out of its range, is refused. So is an end of a tunnel that is to
     // meet its peer in no way, or in two.
     ensures options { GivesBadOption (map S.text words.entry.now) → IsErr result }
+    // Whatever the words, an end of a tunnel has the options that they gave.
+    ensures told { IfOk result (IsToldBy (subcommand_of ymx_app (map S.text words.entry.now))) }
 {
     let matches = command(alloc)?.try_get_matches_from(words)?;
     match task_of(&matches) {
@@ -158,6 +160,7 @@ fn task_of<'a>(matches: &ArgMatches<'a>) -> Result<Task<'a>, BadOption<'a>>
     ensures limits { IfOk result (λ task. (limit : ℕ) (file : Option (List ℕ)) → IsFrames limit file task → (262144 ≤ limit) × (limit ≤ 16777216)) }
     ensures silent { IfSome (subcommand_rows_of matches.now) (λ p. IsNotSaid (one_of (codes "verbose") p.1)) → IfOk result IsSilentTask }
     ensures options { IsSomeAnd (subcommand_rows_of matches.now) HasBadOption → IsErr result }
+    ensures told { IfOk result (IsToldBy (subcommand_rows_of matches.now)) }
 {
     match matches.subcommand() {
         Some(("frames", found)) => {

@@ -2,7 +2,7 @@ use Rattle.std.proofs.Common.{inl, inr, subst, sym, codes}
 use Rattle.clap.specs.Words.{Text, found_of, rows_of}
 use Rattle.clap.proofs.WalkLemmas.{first_value-rows}
 use Rattle.ymx_arguments.specs.CommandLine.{IsBad, IsBadEnd}
-use Rattle.ymx_arguments.proofs.Read.{local_mistakes, remote_mistakes}
+use Rattle.ymx_arguments.proofs.Read.{local_has, local_mistakes, remote_has, remote_mistakes, told_ok}
 use Rattle.ymx_arguments.proofs.options.tunnel_command.Goals as goal
 
 pub returns-in-local-clause-options : goal.returns-in-local-clause-options
@@ -29,3 +29,11 @@ returns-in-remote-clause-options c = λ bad.
       | inr (inr (inr (inl h))) ↦ c.remote_options.ensures.peers (subst (IsBad 1 256) (sym (first_value-rows found (codes "peers"))) h)
       | inr (inr (inr (inr h))) ↦ c.remote_options.ensures.peer (rw (first_value-rows found (codes "peer"), first_value-rows found (codes "bind")) h)
     ]
+
+pub returns-in-local-clause-told : goal.returns-in-local-clause-told
+returns-in-local-clause-told c =
+    told_ok _ _ _ _ c.local_options.ensures.read (λ command h. local_has (found_of c.args.found.now) c.args.name.now command c.in-local.is h)
+
+pub returns-in-remote-clause-told : goal.returns-in-remote-clause-told
+returns-in-remote-clause-told c =
+    told_ok _ _ _ _ c.remote_options.ensures.read (λ command h. remote_has (found_of c.args.found.now) c.args.name.now command c.in-remote.is h)

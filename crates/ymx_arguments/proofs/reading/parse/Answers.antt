@@ -4,7 +4,7 @@ use Rattle.clap.specs.Kinds.{HasKind}
 use Rattle.clap.specs.Words.{App, Text, is_simple, kind_of, subcommand_of, subcommand_rows_of, takes}
 use Rattle.clap.specs.declared.error.Error.{Error}
 use Rattle.clap.specs.declared.error.kind.ErrorKind.TheVariants.{OutOfMemory}
-use Rattle.ymx_arguments.specs.CommandLine.{AsksNoHelp, IsMistake, named_words, ymx_app}
+use Rattle.ymx_arguments.specs.CommandLine.{AsksNoHelp, IsMistake, IsToldBy, named_words, ymx_app}
 use Rattle.ymx_arguments.proofs.Asked.{asked_taken, is_simple-ymx, is_simple_and_free-ymx, script_taken}
 use Rattle.ymx_arguments.proofs.reading.parse.Goals as goal
 
@@ -70,6 +70,13 @@ returns-in-Ok-clause-options g c = λ bad.
     let app = c.in_ok-command.ensures in
     let rows : subcommand_rows_of c.in_ok-matches.matches ≡ subcommand_of ymx_app words = (c.in_ok-matches.ensures.matches (ap is_simple app ∙ is_simple-ymx)).1 ∙ ap (λ (a : App). subcommand_of a words) app in
     c.in-Ok.ensures.options (rw rows bad)
+
+pub returns-in-Ok-clause-told : goal.returns-in-Ok-clause-told
+returns-in-Ok-clause-told g c =
+    let words = map g.S.AsStr.text c.args.words.now in
+    let app = c.in_ok-command.ensures in
+    let rows : subcommand_rows_of c.in_ok-matches.matches ≡ subcommand_of ymx_app words = (c.in_ok-matches.ensures.matches (ap is_simple app ∙ is_simple-ymx)).1 ∙ ap (λ (a : App). subcommand_of a words) app in
+    subst (λ met. IsToldBy met c.in-Ok.task) rows c.in-Ok.ensures.told
 
 -- digits of a number in its range are taken
 pub returns-clause-frames : goal.returns-clause-frames

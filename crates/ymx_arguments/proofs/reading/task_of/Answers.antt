@@ -3,7 +3,7 @@ use Rattle.std.specs.Prelude.{option_and_then, unwrap_or}
 use Rattle.clap.specs.Words.{found_of, first_value, rows_of, subcommand_rows_of}
 use Rattle.clap.proofs.WalkLemmas.{first_value-rows, one_text-rows}
 use Rattle.ymx_arguments.specs.CommandLine.{HasBadOption, IsBad, IsNotSaid, file_of}
-use Rattle.ymx_arguments.proofs.Read.{decimal_good, decimal_read, frames_numbers, name_met, named_text, not_said, of_met, read_is_good}
+use Rattle.ymx_arguments.proofs.Read.{decimal_good, decimal_read, frames_numbers, name_met, named_text, not_said, of_met, read_is_good, selftest_told, told_met}
 use Rattle.ymx_arguments.proofs.reading.task_of.Goals as goal
 
 pub returns-in_err-limit-in-Some-frames-default-clause-frames : goal.returns-in_err-limit-in-Some-frames-default-clause-frames
@@ -40,3 +40,11 @@ returns-in_ok-tunnel_command-in-Some-clause-silent c = λ quiet.
     let found = found_of c.in-Some.found.now in
     let unsaid = not_said (rows_of found) (subcommand_rows_of c.args.matches.now) c.in-Some.ensures.rows quiet in
     c.in_ok-tunnel_command-in-Some.ensures.silent (subst IsNotSaid (sym (one_text-rows found (codes "verbose"))) unsaid)
+
+pub returns-in_ok-tunnel_command-in-Some-clause-told : goal.returns-in_ok-tunnel_command-in-Some-clause-told
+returns-in_ok-tunnel_command-in-Some-clause-told c =
+    told_met (rows_of (found_of c.in-Some.found.now)) (subcommand_rows_of c.args.matches.now) c.in-Some.name.now c.in_ok-tunnel_command-in-Some.field-0
+    (c.in-Some.ensures.name ∙ name_met c.args.matches.now) c.in-Some.ensures.rows c.in_ok-tunnel_command-in-Some.ensures.told
+
+pub returns-in-None-clause-told : goal.returns-in-None-clause-told
+returns-in-None-clause-told c = selftest_told (subcommand_rows_of c.args.matches.now)
