@@ -1,2 +1,9 @@
 pub mod Coming
+pub mod Endings
+pub mod Keeping
 pub mod PoolComing
+pub mod PoolKeeping
+pub mod Ports
+pub mod Reasons
+pub mod Visits
+pub mod Waits

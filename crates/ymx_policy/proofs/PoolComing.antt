@@ -12,7 +12,7 @@ use Rattle.ymx_policy.specs.Texts.{fault_text, notice_text}
 use Rattle.ymx_policy.specs.Voices.{AreSaid}
 use Rattle.ymx_policy.specs.PoolTable.{fresh, asked, after}
 use Rattle.ymx_policy.specs.Past.{Adds, Seen, Shows, heeded, then_said, then_told}
-use Rattle.ymx_policy.specs.PoolPast.{HasCome, HasEnded, asks, deeds, faults, is_end, notices, pool_of}
+use Rattle.ymx_policy.specs.PoolPast.{ComesToEnd, HasCome, HasEnded, asks, deeds, faults, is_end, notices, pool_of}
 use Rattle.ymx_policy.proofs.Coming.{shows_none, shows_words, shows_deed}
 
 -- what is not its end doesn't end it
@@ -41,20 +41,23 @@ comes_then t here there before now came a is_asked goes_on h leads told1 told2 t
       (a.deed, h) log2 told2 does untold;
 }
 
--- and then it said its last words, and ended
-pub ends_then : (t : Terms) (here : Pool) (before now : Seen PoolDeed PoolHappened) → HasCome t here before now
-    → (a : PoolAsk) → a ≡ asked t here → (status : ℕ) → a.deed ≡ deed.End status
-    → (told1 : Option (List (List ℕ))) → (taken1 : Option (List ℕ)) → (failures1 : ℕ)
-    → Adds (map notice_text (heeded t.is_verbose (then_told a.words []))) now.told told1
-    → AreSaid now.taken taken1 now.failures failures1 (map fault_text (then_said a.words []))
-    → HasEnded t status before (record { log = now.log; told = told1; taken = taken1; failures = failures1 })
-ends_then t here before now came a is_asked status ends told1 taken1 failures1 tells says =
+-- and then it ended
+pub ends_now : (t : Terms) (here : Pool) (before now : Seen PoolDeed PoolHappened) → HasCome t here before now
+    → (a : PoolAsk) → a ≡ asked t here → (status : ℕ) → a.deed ≡ deed.End status → ComesToEnd t status a.words before now
+ends_now t here before now came a is_asked status ends =
     let same : asks t came.past ≡ a = ap (asked t) (sym came.pool) ∙ sym is_asked in
-    let last : (asks t came.past).words ≡ a.words = ap (λ x. x.words) same in
-    record {
-      past = came.past;
-      valid = came.valid;
-      ends = ap (λ x. x.deed) same ∙ ends;
-      shown = let P : Words → Type 0 = λ w. Shows before (record { log = now.log; told = told1; taken = taken1; failures = failures1 }) (deeds came.past) (heeded t.is_verbose (then_told w (notices came.past))) (then_said w (faults came.past)) in
-          subst P (sym last) (shows_words t.is_verbose before now (deeds came.past) (notices came.past) (faults came.past) came.shown a.words told1 taken1 failures1 tells says);
-    }
+    record { past = came.past; valid = came.valid; last = ap (λ x. x.words) same; ends = ap (λ x. x.deed) same ∙ ends; shown = came.shown }
+
+-- and said its last words
+pub concludes : (t : Terms) (status : ℕ) (words : Words) (before now : Seen PoolDeed PoolHappened) → ComesToEnd t status words before now
+    → (told1 : Option (List (List ℕ))) → (taken1 : Option (List ℕ)) → (failures1 : ℕ)
+    → Adds (map notice_text (heeded t.is_verbose (then_told words []))) now.told told1
+    → AreSaid now.taken taken1 now.failures failures1 (map fault_text (then_said words []))
+    → HasEnded t status before (record { log = now.log; told = told1; taken = taken1; failures = failures1 })
+concludes t status words before now comes told1 taken1 failures1 tells says = record {
+  past = comes.past;
+  valid = comes.valid;
+  ends = comes.ends;
+  shown = let P : Words → Type 0 = λ w. Shows before (record { log = now.log; told = told1; taken = taken1; failures = failures1 }) (deeds comes.past) (heeded t.is_verbose (then_told w (notices comes.past))) (then_said w (faults comes.past)) in
+    subst P (sym comes.last) (shows_words t.is_verbose before now (deeds comes.past) (notices comes.past) (faults comes.past) comes.shown words told1 taken1 failures1 tells says);
+}

@@ -1,6 +1,9 @@
+pub mod Endings
+pub mod Laws
 pub mod Machine
 pub mod Past
 pub mod Plans
+pub mod PoolLaws
 pub mod PoolPast
 pub mod PoolTable
 pub mod Table

@@ -3,6 +3,7 @@ use Rattle.std.specs.Prelude.{◌≡◌, ℕ, List, [], ◌∷◌, Bool, true, f
 use Rattle.ymx_policy.specs.declared.plan.Terms.{Terms}
 use Rattle.ymx_policy.specs.declared.asks.Notice.{Notice}
 use Rattle.ymx_policy.specs.declared.asks.Fault.{Fault}
+use Rattle.ymx_policy.specs.declared.asks.Words.{Words}
 use Rattle.ymx_policy.specs.declared.asks.PoolDeed.{PoolDeed}
 use Rattle.ymx_policy.specs.declared.asks.PoolDeed.TheVariants as deed
 use Rattle.ymx_policy.specs.declared.asks.PoolAsk.{PoolAsk}
@@ -49,6 +50,15 @@ pub record HasCome (t : Terms) (here : Pool) (before now : Seen PoolDeed PoolHap
   pub past : List (PoolAsk × PoolHappened)
   pub valid : IsPast t past
   pub pool : here ≡ pool_of t past
+  pub shown : Shows before now (deeds past) (heeded t.is_verbose (notices past)) (faults past)
+
+-- A pool with these terms has come to its end with this status, and these words are still to be said: it asked and heard this by its
+-- tables alone, and what it asked for was done and said.
+pub record ComesToEnd (t : Terms) (status : ℕ) (words : Words) (before now : Seen PoolDeed PoolHappened) : Type 0 where
+  pub past : List (PoolAsk × PoolHappened)
+  pub valid : IsPast t past
+  pub last : (asks t past).words ≡ words
+  pub ends : (asks t past).deed ≡ deed.End status
   pub shown : Shows before now (deeds past) (heeded t.is_verbose (notices past)) (faults past)
 
 -- A pool with these terms has ended with this status: by its tables alone, and what it asked for was done and said.

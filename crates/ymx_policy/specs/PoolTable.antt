@@ -249,6 +249,11 @@ abbrev pub let_in : (links room : Bool) → PoolStage
 let_in links true = serving links
 let_in links false = stage.Waiting
 
+-- A link that goes on has met this fault, which is said at once. Without --keep none goes on: it counts as one that can't be watched.
+abbrev pub meets : (kept : Bool) → Pool → Fault → Pool
+meets true p f = record p { words = record silence { fault = Some f }; has_faulted = true }
+meets false p f = record p { words = silence; all = both p.all unlinked }
+
 -- no users come any more: all have come, no link takes any, or none can be accepted
 abbrev pub after_users : Terms → Pool → PoolHappened → Pool
 after_users t p AllCame = shuts true t (record p { words = silence })
@@ -271,7 +276,7 @@ abbrev pub after_waiting : (links : Bool) → Terms → Pool → PoolHappened �
 after_waiting links t p Came = goes p (let_in links (has_room links p.running t.places p.is_shut)) silence
 after_waiting links t p (Delayed why) = goes p stage.Waiting (record silence { first = refusal (opening links) (Some why) })
 after_waiting links t p (Left how) = left links t p how
-after_waiting links t p (Met f) = record p { words = record silence { fault = Some f }; has_faulted = true }
+after_waiting links t p (Met f) = meets t.goes_on p f
 after_waiting links t p other = after_last links t p other
 
 -- it waits

@@ -1,9 +1,9 @@
 //! The loops that do what an end, or a pool, asks for.
 
-ghost use Rattle.std.specs.Prelude.{[], map};
+ghost use Rattle.std.specs.Prelude.{◌≡◌, [], map};
 ghost use Rattle.ymx_policy.specs.Past.{Adds, HasEnded, heeded, then_said, then_told, with};
 ghost use Rattle.ymx_policy.specs.Plans.{terms_of};
-ghost use Rattle.ymx_policy.specs.PoolPast.{HasEnded as PoolHasEnded};
+ghost use Rattle.ymx_policy.specs.PoolPast.{ComesToEnd, HasEnded as PoolHasEnded};
 ghost use Rattle.ymx_policy.specs.Texts.{fault_text, notice_text};
 ghost use Rattle.ymx_policy.specs.Voices.{AreSaid};
 
@@ -56,14 +56,56 @@ pub fn run_pool<R: Wait, L: Lines, W: PoolWorld<L>, E: Errors>(
         (record { log = W.log world.old; told = L.told lines.old; taken = E.contents errors.old; failures = E.failures errors.old })
         (record { log = W.log world.new; told = L.told lines.new; taken = E.contents errors.new; failures = E.failures errors.new }) }
 {
+    let end = run_pool_to_end(rt, plan, world, lines, errors);
+    end.conclude(plan, lines, errors)
+}
+
+/// How a pool has ended, whose last words are still to be said.
+#[derive(Clone, Copy)]
+pub struct PoolEnd {
+    /// The exit status.
+    pub status: u8,
+    /// What is to be said at last.
+    pub words: Words,
+}
+
+impl PoolEnd {
+    /// Says its last words. Answers the exit status.
+    pub fn conclude<L: Lines, E: Errors>(self, plan: Plan, lines: &mut L, errors: &mut E) -> u8
+        ensures status { result ≡ self.status }
+        ensures told { Adds (map notice_text (heeded (terms_of plan).is_verbose (then_told self.words []))) (L.told lines.old) (L.told lines.new) }
+        ensures said { AreSaid (E.contents errors.old) (E.contents errors.new) (E.failures errors.old) (E.failures errors.new) (map fault_text (then_said self.words [])) }
+    {
+        speak(plan.terms().is_verbose, self.words, lines, errors);
+        self.status
+    }
+}
+
+/// Runs a pool as [`run_pool`] does, up to its last words.
+pub fn run_pool_to_end<R: Wait, L: Lines, W: PoolWorld<L>, E: Errors>(
+    rt: &R,
+    plan: Plan,
+    world: &mut W,
+    lines: &mut L,
+    errors: &mut E,
+) -> PoolEnd
+    requires { W.may world.old }
+    // It has come to its end by the tables alone: whatever was done and said before its last words, they asked for.
+    ensures { ComesToEnd (terms_of plan) result.status result.words
+        (record { log = W.log world.old; told = L.told lines.old; taken = E.contents errors.old; failures = E.failures errors.old })
+        (record { log = W.log world.new; told = L.told lines.new; taken = E.contents errors.new; failures = E.failures errors.new }) }
+{
     let terms = plan.terms();
     let mut pool = Pool::new(&terms);
     for _ in rt.forever() {
         let ask = pool.asked(&terms);
-        speak(terms.is_verbose, ask.words, lines, errors);
         if let PoolDeed::End(status) = ask.deed {
-            return status;
+            return PoolEnd {
+                status,
+                words: ask.words,
+            };
         }
+        speak(terms.is_verbose, ask.words, lines, errors);
         let happened = world.perform(ask.deed, lines);
         pool.hear(&terms, happened);
     }

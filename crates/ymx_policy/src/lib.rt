@@ -5,6 +5,7 @@
 
 mod asks;
 mod driver;
+mod laws;
 mod options;
 mod plan;
 mod pool;
@@ -18,7 +19,11 @@ pub use asks::{
     Ask, Deed, Fault, Happened, Named, Notice, PoolAsk, PoolDeed, PoolHappened, Session,
     SessionEnd, Side, Users, Words,
 };
-pub use driver::{run, run_pool};
+pub use driver::{PoolEnd, run, run_pool, run_pool_to_end};
+pub use laws::{
+    calls_forever, does_as_told, each_fault_is_said, faults_have_reasons, keeps_on, lines,
+    local_options, one_fault, own_port_first, pauses, remote_options, serves_peers, statuses,
+};
 pub use options::{LocalOptions, PeerAddress, RemoteOptions};
 pub use plan::{Plan, Role, Terms};
 pub use pool::{Pool, PoolStage};

@@ -1,7 +1,7 @@
 //! Several sessions at once, each in a thread of its own: where such a pool has come to, and where what happens leads it.
 
 ghost use Rattle.std.specs.Prelude.{◌≡◌};
-ghost use Rattle.ymx_policy.specs.PoolTable.{fresh, asked, deed_at, listening, after, goes, ends, settles, settles_at, has_links, heeds, shuts, rests, left, after_users, after_peers, after_last, after_calling, after_opening, after_no_thread, after_starting, after_waiting, after_placing, clean, first_rule, both, begins, behind_opening, one_more, behind_call, behind_start, settled, ending_at, has_room, opening, cannot_open, peers_at, begun, unlinked, leaving, lost_links, serving, let_in};
+ghost use Rattle.ymx_policy.specs.PoolTable.{fresh, asked, deed_at, listening, after, goes, ends, settles, settles_at, has_links, heeds, shuts, rests, left, meets, after_users, after_peers, after_last, after_calling, after_opening, after_no_thread, after_starting, after_waiting, after_placing, clean, first_rule, both, begins, behind_opening, one_more, behind_call, behind_start, settled, ending_at, has_room, opening, cannot_open, peers_at, begun, unlinked, leaving, lost_links, serving, let_in};
 
 use crate::asks::{Fault, Named, Notice, PoolAsk, PoolDeed, PoolHappened, SessionEnd, Words};
 use crate::plan::{Role, Terms};
@@ -302,12 +302,21 @@ impl Pool {
                 self.go(PoolStage::Waiting, words);
             }
             PoolHappened::Left(how) => self.leave(links, terms, how),
-            PoolHappened::Met(fault) => {
-                self.words = silence();
-                self.words.fault = Some(fault);
-                self.has_faulted = true;
-            }
+            PoolHappened::Met(fault) => self.meet(terms.goes_on, fault),
             _ => self.hear_last(links, terms, happened),
+        }
+    }
+
+    /// A link that goes on has met this fault.
+    fn meet(&mut self, is_kept: bool, fault: Fault)
+        ensures { self.new ≡ meets is_kept self.old fault }
+    {
+        self.words = silence();
+        if is_kept {
+            self.words.fault = Some(fault);
+            self.has_faulted = true;
+        } else {
+            self.all = both(self.all, unlinked());
         }
     }
 

@@ -1,36 +1,15 @@
-use Rattle.std.proofs.Common.{◌≡◌, sym, subst, refl}
-use Rattle.ymx_policy.specs.declared.plan.Terms.{Terms}
+use Rattle.std.proofs.Common.{ℕ, sym, subst}
 use Rattle.ymx_policy.specs.declared.asks.PoolDeed.{PoolDeed}
 use Rattle.ymx_policy.specs.declared.asks.PoolHappened.{PoolHappened}
-use Rattle.ymx_policy.specs.declared.pool.Pool.{Pool}
 use Rattle.ymx_policy.specs.Past.{Seen}
-use Rattle.ymx_policy.specs.PoolPast.{HasCome, HasEnded}
-use Rattle.ymx_policy.proofs.PoolComing.{comes_first, comes_then, ends_then, no_end}
+use Rattle.ymx_policy.specs.Plans.{terms_of}
+use Rattle.ymx_policy.specs.PoolPast.{HasEnded}
+use Rattle.ymx_policy.proofs.PoolComing.{concludes}
 use Rattle.ymx_policy.proofs.driver.run_pool.Goals as goal
 
-pub loop-init : goal.loop-init
-loop-init g c =
-    let seen : Seen PoolDeed PoolHappened = record { log = g.W.PoolWorld.log c.args.world.now; told = g.L.Lines.told c.args.lines.now; taken = g.E.Errors.contents c.args.errors.now; failures = g.E.Errors.failures c.args.errors.now } in
-    let P : Pool → Type 0 = λ s. HasCome c.terms-terms.result s seen seen in
-    record {
-      next = (tt, tt);
-      terms = c.terms-terms.ensures;
-      may = c.requires;
-      came = subst P (sym c.new-pool.ensures) (comes_first c.terms-terms.result seen);
-    }
-
-pub returns-in-End : goal.returns-in-End
-returns-in-End g c =
+pub returns : goal.returns
+returns g c =
     let before : Seen PoolDeed PoolHappened = record { log = g.W.PoolWorld.log c.args.world.now; told = g.L.Lines.told c.args.lines.now; taken = g.E.Errors.contents c.args.errors.now; failures = g.E.Errors.failures c.args.errors.now } in
-    let now : Seen PoolDeed PoolHappened = record { log = g.W.PoolWorld.log c.loop.world; told = g.L.Lines.told c.speak.new.lines; taken = g.E.Errors.contents c.speak.new.errors; failures = g.E.Errors.failures c.speak.new.errors } in
-    let P : Terms → Type 0 = λ t. HasEnded t c.in-End.status before now in
-    subst P c.terms-terms.ensures (ends_then _ _ _ _ c.loop.invariant.came c.asked-ask.result c.asked-ask.ensures c.in-End.status c.in-End.is _ _ _ c.speak.ensures.told c.speak.ensures.said)
-
-pub loop-preserved : goal.loop-preserved
-loop-preserved g c = record {
-  next = (tt, tt);
-  terms = c.terms-terms.ensures;
-  may = c.perform-happened.ensures.may;
-  came = comes_then _ _ _ _ _ c.loop.invariant.came c.asked-ask.result c.asked-ask.ensures (no_end _ c.in_default.not-End) c.perform-happened.result c.hear.ensures
-      _ _ _ _ _ c.speak.ensures.told c.speak.ensures.said c.perform-happened.ensures.logged c.perform-happened.ensures.untold;
-}
+    let now : Seen PoolDeed PoolHappened = record { log = g.W.PoolWorld.log c.run_pool_to_end-end.new.world; told = g.L.Lines.told c.conclude.new.lines; taken = g.E.Errors.contents c.conclude.new.errors; failures = g.E.Errors.failures c.conclude.new.errors } in
+    let P : ℕ → Type 0 = λ n. HasEnded (terms_of c.args.plan) n before now in
+    subst P (sym c.conclude.ensures.status) (concludes _ _ _ _ _ c.run_pool_to_end-end.ensures _ _ _ c.conclude.ensures.told c.conclude.ensures.said)

@@ -1,7 +1,7 @@
 use Rattle.std.proofs.Common.{◌≡◌}
 use Rattle.ymx_policy.specs.PoolPast.{HasCome}
 use Rattle.ymx_policy.specs.Plans.{terms_of}
-use Rattle.ymx_policy.proofs.driver.run_pool.Given as goal
+use Rattle.ymx_policy.proofs.driver.run_pool_to_end.Given as goal
 
 -- so far it has come to where it says, by what it asked for
 abbrev pub invariant-loop : goal.invariant-loop

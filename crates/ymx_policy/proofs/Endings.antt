@@ -1,0 +1,81 @@
+-- How a program with a plan ends.
+use Rattle.std.proofs.Common.{◌≡◌, ℕ, List, [], ◌∷◌, Bool, true, false, Option, None, Some, refl, ap, sym, ◌∙◌, subst, true≢false}
+use Rattle.std.specs.Prelude.{map}
+use Rattle.std.specs.Io.KnownBytes.{Keeps}
+use Rattle.ymx_policy.specs.declared.plan.Plan.{Plan}
+use Rattle.ymx_policy.specs.declared.plan.Role.TheVariants.{RemoteAwaits}
+use Rattle.ymx_policy.specs.declared.plan.Terms.{Terms}
+use Rattle.ymx_policy.specs.declared.asks.Fault.{Fault}
+use Rattle.ymx_policy.specs.declared.asks.Words.{Words}
+use Rattle.ymx_policy.specs.declared.asks.Deed.{Deed}
+use Rattle.ymx_policy.specs.declared.asks.Happened.{Happened}
+use Rattle.ymx_policy.specs.declared.asks.PoolDeed.{PoolDeed}
+use Rattle.ymx_policy.specs.declared.asks.PoolHappened.{PoolHappened}
+use Rattle.ymx_policy.specs.Texts.{fault_text}
+use Rattle.ymx_policy.specs.Voices.{AreSaid}
+use Rattle.ymx_policy.specs.Laws.{status_of}
+use Rattle.ymx_policy.specs.Past.{HasEnded, Seen, then_said}
+use Rattle.ymx_policy.specs.PoolPast.{ComesToEnd, HasEnded as PoolHasEnded, faults}
+use Rattle.ymx_policy.specs.Endings.{EndsAlone, EndsAt, EndsTogether}
+use Rattle.ymx_policy.proofs.Keeping.{said}
+use Rattle.ymx_policy.proofs.PoolKeeping.{never_well, quiet, said as pool_said}
+
+-- what a device took stays where nothing was said
+stays : (fs : List Fault) (taken taken_new : Option (List ℕ)) (failures failures_new : ℕ) → 0 ≡ status_of fs → AreSaid taken taken_new failures failures_new (map fault_text fs) → Keeps taken taken_new
+stays [] None taken_new failures failures_new e said = tt
+stays [] (Some xs) taken_new failures failures_new e said = let P : Option (List ℕ) → Type 0 = λ o. Keeps (Some xs) o in subst P (sym said.0) refl
+stays (f ∷ fs) taken taken_new failures failures_new e said = cc
+
+-- ---- an end
+
+-- it ended so
+pub ends_alone : (t : Terms) (status : ℕ) (before now : Seen Deed Happened) → HasEnded t status before now → EndsAlone t status before.taken now.taken before.failures now.failures
+ends_alone t status before now ended = record { past = ended.past; valid = ended.valid; ends = ended.ends; says = ended.shown.says }
+
+-- a good end says nothing
+pub alone_well : (t : Terms) (status : ℕ) (taken taken_new : Option (List ℕ)) (failures failures_new : ℕ) → EndsAlone t status taken taken_new failures failures_new → status ≡ 0 → Keeps taken taken_new
+alone_well t status taken taken_new failures failures_new ended e =
+    stays _ taken taken_new failures failures_new (sym e ∙ said t ended.past status ended.valid ended.ends) ended.says
+
+-- ---- a pool
+
+-- it ended so
+pub ends_together : (t : Terms) (status : ℕ) (before now : Seen PoolDeed PoolHappened) → PoolHasEnded t status before now → EndsTogether t status before.taken now.taken before.failures now.failures
+ends_together t status before now ended = record { past = ended.past; valid = ended.valid; ends = ended.ends; says = λ k. ended.shown.says }
+
+-- a good end of one that has said all itself says nothing
+pub together_well : (t : Terms) (status : ℕ) (before now : Seen PoolDeed PoolHappened) → PoolHasEnded t status before now → status ≡ 0 → Keeps before.taken now.taken
+together_well t status before now ended e =
+    stays _ before.taken now.taken before.failures now.failures (sym e ∙ pool_said t ended.past status ended.valid ended.ends) ended.shown.says
+
+-- it came to its end
+pub ends_at : (t : Terms) (status : ℕ) (words : Words) (before now : Seen PoolDeed PoolHappened) → ComesToEnd t status words before now → EndsAt t status words
+ends_at t status words before now comes = record { past = comes.past; valid = comes.valid; last = comes.last; ends = comes.ends }
+
+-- the faults of the last words are all, where nothing was said before
+last_faults : (words : Words) (fs : List Fault) → fs ≡ [] → then_said words [] ≡ then_said words fs
+last_faults words fs e = ap (then_said words) (sym e)
+
+-- and then said its last words
+pub ends_behind : (t : Terms) (status : ℕ) (words : Words) (taken taken_new : Option (List ℕ)) (failures failures_new : ℕ) → EndsAt t status words
+    → (t.goes_on ≡ false → AreSaid taken taken_new failures failures_new (map fault_text (then_said words []))) → EndsTogether t status taken taken_new failures failures_new
+ends_behind t status words taken taken_new failures failures_new comes says = record {
+  past = comes.past;
+  valid = comes.valid;
+  ends = comes.ends;
+  says = λ k.
+    let P : List Fault → Type 0 = λ fs. AreSaid taken taken_new failures failures_new (map fault_text fs) in
+    let Q : Words → Type 0 = λ w. AreSaid taken taken_new failures failures_new (map fault_text (then_said w (faults comes.past))) in
+    subst Q (sym comes.last) (subst P (last_faults words (faults comes.past) (quiet t comes.past k comes.valid)) (says k));
+}
+
+not_both : (n : ℕ) → n ≡ 0 → n ≡ 1 → ⊥
+not_both n e f = cc
+
+-- a good end of a pool of peers says nothing: there is none with --keep
+pub peers_well : (t : Terms) (status : ℕ) (taken taken_new : Option (List ℕ)) (failures failures_new : ℕ) → t.role ≡ RemoteAwaits → EndsTogether t status taken taken_new failures failures_new → status ≡ 0 → Keeps taken taken_new
+peers_well t status taken taken_new failures failures_new r ended e = by_keep t.goes_on refl
+  where
+    by_keep : (kept : Bool) → t.goes_on ≡ kept → Keeps taken taken_new
+    by_keep true k = absurd (not_both status e (never_well t ended.past status r k ended.valid ended.ends))
+    by_keep false k = stays _ taken taken_new failures failures_new (sym e ∙ pool_said t ended.past status ended.valid ended.ends) (ended.says k)

@@ -1,0 +1,8 @@
+use Rattle.ymx_policy.proofs.Visits.{come, gone}
+use Rattle.ymx_policy.proofs.laws.lines.Goals as goal
+
+pub returns-clause-come : goal.returns-clause-come
+returns-clause-come c = come
+
+pub returns-clause-gone : goal.returns-clause-gone
+returns-clause-gone c = gone

@@ -1,0 +1,47 @@
+-- How a program with a plan ends, and what its error device took (this project's own).
+use Rattle.std.specs.Prelude.{◌≡◌, ℕ, List, Bool, true, false, Option, map}
+use Rattle.ymx_policy.specs.declared.plan.Plan.{Plan}
+use Rattle.ymx_policy.specs.declared.plan.Terms.{Terms}
+use Rattle.ymx_policy.specs.declared.asks.Words.{Words}
+use Rattle.ymx_policy.specs.declared.asks.Deed.TheVariants as deed
+use Rattle.ymx_policy.specs.declared.asks.Ask.{Ask}
+use Rattle.ymx_policy.specs.declared.asks.Happened.{Happened}
+use Rattle.ymx_policy.specs.declared.asks.PoolDeed.TheVariants as pool_deed
+use Rattle.ymx_policy.specs.declared.asks.PoolAsk.{PoolAsk}
+use Rattle.ymx_policy.specs.declared.asks.PoolHappened.{PoolHappened}
+use Rattle.ymx_policy.specs.Plans.{has_pool, terms_of}
+use Rattle.ymx_policy.specs.Texts.{fault_text}
+use Rattle.ymx_policy.specs.Voices.{AreSaid}
+use Rattle.ymx_policy.specs.Past.{IsPast, asks, faults, then_said}
+use Rattle.ymx_policy.specs.PoolPast.{IsPast as IsPoolPast, asks as pool_asks, faults as pool_faults}
+
+-- An end with these terms has ended with this status, by its tables alone, and the error device took the texts of its faults.
+pub record EndsAlone (t : Terms) (status : ℕ) (taken taken_new : Option (List ℕ)) (failures failures_new : ℕ) : Type 0 where
+  pub past : List (Ask × Happened)
+  pub valid : IsPast t past
+  pub ends : (asks t past).deed ≡ deed.End status
+  pub says : AreSaid taken taken_new failures failures_new (map fault_text (then_said (asks t past).words (faults past)))
+
+-- A pool with these terms has come to its end with this status, by its tables alone, and these are its last words.
+pub record EndsAt (t : Terms) (status : ℕ) (words : Words) : Type 0 where
+  pub past : List (PoolAsk × PoolHappened)
+  pub valid : IsPoolPast t past
+  pub last : (pool_asks t past).words ≡ words
+  pub ends : (pool_asks t past).deed ≡ pool_deed.End status
+
+-- A pool with these terms has ended with this status, by its tables alone. Without --keep the error device took the texts of its faults.
+pub record EndsTogether (t : Terms) (status : ℕ) (taken taken_new : Option (List ℕ)) (failures failures_new : ℕ) : Type 0 where
+  pub past : List (PoolAsk × PoolHappened)
+  pub valid : IsPoolPast t past
+  pub ends : (pool_asks t past).deed ≡ pool_deed.End status
+  pub says : t.goes_on ≡ false → AreSaid taken taken_new failures failures_new (map fault_text (then_said (pool_asks t past).words (pool_faults past)))
+
+-- an end, or a pool
+abbrev pub EndsSo : (pool : Bool) → Terms → (status : ℕ) → (taken taken_new : Option (List ℕ)) → (failures failures_new : ℕ) → Type 0
+EndsSo false t status taken taken_new failures failures_new = EndsAlone t status taken taken_new failures failures_new
+EndsSo true t status taken taken_new failures failures_new = EndsTogether t status taken taken_new failures failures_new
+
+-- A program with this plan has ended with this status, by the tables of its end or of its pool alone, and what its error device took are
+-- the texts of the faults that they asked to say.
+abbrev pub EndsBy : Plan → (status : ℕ) → (taken taken_new : Option (List ℕ)) → (failures failures_new : ℕ) → Type 0
+EndsBy p status taken taken_new failures failures_new = EndsSo (has_pool p) (terms_of p) status taken taken_new failures failures_new

@@ -1,0 +1,119 @@
+//! What holds of each end, and of each pool, at each moment, whatever happens: in the words of a user.
+
+ghost use Rattle.std.specs.Prelude.{◌≡◌, ◌≢◌, ◌⊎◌, ◌<◌, ◌≤◌, ℕ, List, [], ◌∷◌, Bool, true, false, Some, None, length, map};
+ghost use Rattle.std.specs.declared.net.socket_addr.SocketAddrV4.{SocketAddrV4 as Address};
+ghost use Rattle.ymx_policy.specs.Past.{IsPast, asks, faults, then_said};
+ghost use Rattle.ymx_policy.specs.Plans.{terms_of, address_of};
+ghost use Rattle.ymx_policy.specs.Laws.{NamesPlace, ends_well, failed_tries, has_opened, has_peer, is_clean, is_explained, is_local, is_port_last, is_told_there, last_deed, pause_of, peers_of, says_fault, status_of, told_by};
+ghost use Rattle.ymx_policy.specs.declared.options.LocalOptions.{LocalOptions as LocalGiven};
+ghost use Rattle.ymx_policy.specs.declared.options.RemoteOptions.{RemoteOptions as RemoteGiven};
+ghost use Rattle.ymx_policy.specs.declared.plan.Terms.{Terms as Told};
+ghost use Rattle.ymx_policy.specs.declared.asks.Ask.{Ask as Asked};
+ghost use Rattle.ymx_policy.specs.declared.asks.Happened.{Happened as Heard};
+ghost use Rattle.ymx_policy.specs.declared.asks.Fault.{Fault as Faulted};
+ghost use Rattle.ymx_policy.specs.declared.asks.Session.{Session as Served};
+ghost use Rattle.ymx_policy.specs.declared.asks.Users.{Users as Awaited};
+ghost use Rattle.ymx_policy.specs.declared.asks.SessionEnd.{SessionEnd as Ended};
+
+use crate::asks::{Deed, Happened, Notice, Side};
+use crate::plan::{Plan, Role};
+
+/// The exit status is 0 exactly where no fault was said, and else 1. It is 0 only behind a session in which nothing went
+/// wrong, or where all users have come that were to.
+pub fn statuses()
+    ensures said { (t : Told) (past : List (Asked × Heard)) (n : ℕ) → IsPast t past → (asks t past).deed ≡ Deed.End n → n ≡ status_of (then_said (asks t past).words (faults past)) }
+    ensures well { (t : Told) (past : List (Asked × Heard)) → IsPast t past → (asks t past).deed ≡ Deed.End 0 → ends_well past ≡ true }
+{}
+
+/// Without `--keep` no more than one fault is said.
+pub fn one_fault()
+    ensures { (t : Told) (past : List (Asked × Heard)) → t.goes_on ≡ false → IsPast t past → length (then_said (asks t past).words (faults past)) ≤ 1 }
+{}
+
+/// A `remote` that calls never ends with `--keep`.
+pub fn calls_forever()
+    ensures { (t : Told) (past : List (Asked × Heard)) (n : ℕ) → t.role ≡ Role.RemoteCalls → t.goes_on ≡ true → IsPast t past → (asks t past).deed ≢ Deed.End n }
+{}
+
+/// Every session is with a peer that has come for it.
+pub fn serves_peers()
+    ensures { (t : Told) (past : List (Asked × Heard)) (session : Served) → IsPast t past → (asks t past).deed ≡ Deed.Serve session → has_peer past ≡ true }
+{}
+
+/// A mistake at the port for users ends nobody else: with `--keep` or `--bind` a `local` listens there before it calls its
+/// peer, or awaits it. Without them it calls first.
+pub fn own_port_first()
+    ensures kept { (t : Told) (past : List (Asked × Heard)) (peer : Address) → t.role ≡ Role.LocalCalls → t.goes_on ≡ true → IsPast t past → (asks t past).deed ≡ Deed.Call peer → has_opened past ≡ true }
+    ensures bound { (t : Told) (past : List (Asked × Heard)) → t.role ≡ Role.LocalAwaits → IsPast t past → (asks t past).deed ≡ Deed.AwaitPeer → has_opened past ≡ true }
+    ensures served { (t : Told) (past : List (Asked × Heard)) (session : Served) → is_local t.role ≡ true → IsPast t past → (asks t past).deed ≡ Deed.Serve session → has_opened past ≡ true }
+    ensures called { (t : Told) (past : List (Asked × Heard)) (users : Awaited) → t.role ≡ Role.LocalCalls → t.goes_on ≡ false → IsPast t past → (asks t past).deed ≡ Deed.ListenForUsers users → has_peer past ≡ true }
+{}
+
+/// With `--keep` an end ends only for what happened where users or peers come in, and never behind a call or a session.
+pub fn keeps_on()
+    ensures { (t : Told) (past : List (Asked × Heard)) (n : ℕ) → t.role ≢ Role.RemoteAwaits → t.goes_on ≡ true → IsPast t past → (asks t past).deed ≡ Deed.End n → is_port_last past ≡ true }
+{}
+
+/// Each fault that is said has its reason in what happened just before: the rule that was broken, the place. It names the
+/// place of users, or that of the peer.
+pub fn faults_have_reasons()
+    ensures reason { (t : Told) (past : List (Asked × Heard)) → IsPast t past → is_explained (asks t past).words.fault past ≡ true }
+    ensures alone { (t : Told) (past : List (Asked × Heard)) → IsPast t past → (asks t past).words.ending ≡ None }
+    ensures place { (t : Told) (past : List (Asked × Heard)) → IsPast t past → NamesPlace t.peer (peers_of t past) t.users.address (asks t past).words.fault }
+{}
+
+/// A `remote` that calls with `--keep` pauses for 1 second, and then for 2, 4, 8, 16 and 30, as many tries have failed in a
+/// row.
+pub fn pauses()
+    ensures long { (t : Told) (past : List (Asked × Heard)) (n : ℕ) → t.role ≡ Role.RemoteCalls → t.goes_on ≡ true → IsPast t past → (asks t past).deed ≡ Deed.Pause n → n ≡ pause_of (failed_tries past) }
+    ensures rests { (t : Told) (past : List (Asked × Heard)) (peer : Address) → t.role ≡ Role.RemoteCalls → t.goes_on ≡ true → IsPast t past → (asks t past).deed ≡ Deed.Call peer → 0 < failed_tries past → last_deed past ≡ Some (Deed.Pause (pause_of (failed_tries past))) }
+    ensures row { map pause_of (1 ∷ 2 ∷ 3 ∷ 4 ∷ 5 ∷ 6 ∷ 7 ∷ []) ≡ 1 ∷ 2 ∷ 4 ∷ 8 ∷ 16 ∷ 30 ∷ 30 ∷ [] }
+{}
+
+/// Where something went wrong in a session, a fault is said at once. A user whose peer can't be reached is closed.
+pub fn each_fault_is_said()
+    ensures said { (t : Told) (past : List (Asked × Heard)) (session : Served) (how : Ended) → IsPast t past → (asks t past).deed ≡ Deed.Serve session → is_clean how ≡ false → says_fault (asks t ((asks t past, Happened.SessionEnded how) ∷ past)).words ≡ true }
+    ensures closed { (t : Told) (past : List (Asked × Heard)) (peer : Address) → t.role ≡ Role.LocalCalls → t.goes_on ≡ true → IsPast t past → (asks t past).deed ≡ Deed.Call peer → (asks t ((asks t past, Happened.Failed None) ∷ past)).deed ≡ Deed.CloseUser }
+{}
+
+/// What is done is what the plan says: the peer is called at its address, users come to theirs, each session is the plan's,
+/// and a peer is awaited at its address, or later where the first one was.
+pub fn does_as_told()
+    ensures calls { (t : Told) (past : List (Asked × Heard)) (peer : Address) → IsPast t past → (asks t past).deed ≡ Deed.Call peer → peer ≡ t.peer }
+    ensures listens { (t : Told) (past : List (Asked × Heard)) (users : Awaited) → IsPast t past → (asks t past).deed ≡ Deed.ListenForUsers users → users ≡ t.users }
+    ensures serves { (t : Told) (past : List (Asked × Heard)) (session : Served) → IsPast t past → (asks t past).deed ≡ Deed.Serve session → session ≡ t.session }
+    ensures awaits { (t : Told) (past : List (Asked × Heard)) (peers : Address) → IsPast t past → (asks t past).deed ≡ Deed.ListenForPeer peers → peers ≡ peers_of t past }
+{}
+
+/// Each option of `local` does what it says.
+pub fn local_options()
+    ensures listen { (o : LocalGiven) → (terms_of (Plan.Local o)).users.address ≡ o.listen }
+    ensures count { (o : LocalGiven) → (terms_of (Plan.Local o)).users.count ≡ o.count }
+    ensures peer { (o : LocalGiven) → (terms_of (Plan.Local o)).peer ≡ address_of o.peer }
+    ensures window { (o : LocalGiven) → (terms_of (Plan.Local o)).session.window ≡ o.window }
+    ensures ping { (o : LocalGiven) → (terms_of (Plan.Local o)).session.ping ≡ o.ping }
+    ensures side { (o : LocalGiven) → (terms_of (Plan.Local o)).session.side ≡ Side.Client }
+    ensures keep { (o : LocalGiven) → (terms_of (Plan.Local o)).goes_on ≡ o.is_kept }
+    ensures links { (o : LocalGiven) → (terms_of (Plan.Local o)).places ≡ o.links }
+    ensures verbose { (o : LocalGiven) → (terms_of (Plan.Local o)).is_verbose ≡ o.is_verbose }
+{}
+
+/// Each option of `remote` does what it says.
+pub fn remote_options()
+    ensures peer { (o : RemoteGiven) → (terms_of (Plan.Remote o)).peer ≡ address_of o.peer }
+    ensures side { (o : RemoteGiven) → (terms_of (Plan.Remote o)).session.side ≡ Side.Server o.target o.workers }
+    ensures window { (o : RemoteGiven) → (terms_of (Plan.Remote o)).session.window ≡ o.window }
+    ensures ping { (o : RemoteGiven) → (terms_of (Plan.Remote o)).session.ping ≡ o.ping }
+    ensures keep { (o : RemoteGiven) → (terms_of (Plan.Remote o)).goes_on ≡ o.is_kept }
+    ensures peers { (o : RemoteGiven) (n : ℕ) → o.peers ≡ Some n → (terms_of (Plan.Remote o)).places ≡ n }
+    ensures unsaid { (o : RemoteGiven) → o.peers ≡ None → (terms_of (Plan.Remote o)).places ≡ 16 }
+    ensures verbose { (o : RemoteGiven) → (terms_of (Plan.Remote o)).is_verbose ≡ o.is_verbose }
+{}
+
+/// With `--keep` each session begins with a line that the peer has come, and each peer that was told to have come is told
+/// to have gone before the next is awaited, and before the end. Where users or peers can come is told.
+pub fn lines()
+    ensures come { (t : Told) (past : List (Asked × Heard)) (session : Served) → t.role ≢ Role.RemoteAwaits → t.goes_on ≡ true → IsPast t past → (asks t past).deed ≡ Deed.Serve session → told_by (asks t past).words (is_told_there past) ≡ true }
+    ensures gone { (t : Told) (past : List (Asked × Heard)) (n : ℕ) → t.role ≢ Role.RemoteAwaits → IsPast t past → (asks t past).deed ≡ Deed.End n → told_by (asks t past).words (is_told_there past) ≡ false }
+    ensures users { (t : Told) (past : List (Asked × Heard)) (users : Awaited) (address : Address) → IsPast t past → (asks t past).deed ≡ Deed.ListenForUsers users → (asks t ((asks t past, Happened.Listening address) ∷ past)).words.first ≡ Some (Notice.Listening address) }
+{}
