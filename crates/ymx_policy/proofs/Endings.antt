@@ -64,9 +64,9 @@ ends_behind t status words taken taken_new failures failures_new comes says = re
   valid = comes.valid;
   ends = comes.ends;
   says = λ k.
-    let P : List Fault → Type 0 = λ fs. AreSaid taken taken_new failures failures_new (map fault_text fs) in
-    let Q : Words → Type 0 = λ w. AreSaid taken taken_new failures failures_new (map fault_text (then_said w (faults comes.past))) in
-    subst Q (sym comes.last) (subst P (last_faults words (faults comes.past) (quiet t comes.past k comes.valid)) (says k));
+      let P : List Fault → Type 0 = λ fs. AreSaid taken taken_new failures failures_new (map fault_text fs) in
+      let Q : Words → Type 0 = λ w. AreSaid taken taken_new failures failures_new (map fault_text (then_said w (faults comes.past))) in
+      subst Q (sym comes.last) (subst P (last_faults words (faults comes.past) (quiet t comes.past k comes.valid)) (says k));
 }
 
 not_both : (n : ℕ) → n ≡ 0 → n ≡ 1 → ⊥

@@ -7,3 +7,4 @@ pub mod Ports
 pub mod Reasons
 pub mod Visits
 pub mod Waits
+pub mod Crowds

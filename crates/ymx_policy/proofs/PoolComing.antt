@@ -59,5 +59,5 @@ concludes t status words before now comes told1 taken1 failures1 tells says = re
   valid = comes.valid;
   ends = comes.ends;
   shown = let P : Words → Type 0 = λ w. Shows before (record { log = now.log; told = told1; taken = taken1; failures = failures1 }) (deeds comes.past) (heeded t.is_verbose (then_told w (notices comes.past))) (then_said w (faults comes.past)) in
-    subst P (sym comes.last) (shows_words t.is_verbose before now (deeds comes.past) (notices comes.past) (faults comes.past) comes.shown words told1 taken1 failures1 tells says);
+      subst P (sym comes.last) (shows_words t.is_verbose before now (deeds comes.past) (notices comes.past) (faults comes.past) comes.shown words told1 taken1 failures1 tells says);
 }

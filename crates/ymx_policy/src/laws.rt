@@ -4,6 +4,9 @@ ghost use Rattle.std.specs.Prelude.{◌≡◌, ◌≢◌, ◌⊎◌, ◌<◌, �
 ghost use Rattle.std.specs.declared.net.socket_addr.SocketAddrV4.{SocketAddrV4 as Address};
 ghost use Rattle.ymx_policy.specs.Past.{IsPast, asks, faults, then_said};
 ghost use Rattle.ymx_policy.specs.Plans.{terms_of, address_of};
+ghost use Rattle.ymx_policy.specs.PoolPast.{IsPast as IsPoolPast, asks as pool_asks, faults as pool_faults};
+ghost use Rattle.ymx_policy.specs.PoolLaws.{called, running};
+ghost use Rattle.ymx_policy.specs.PoolTable.{has_links};
 ghost use Rattle.ymx_policy.specs.Laws.{NamesPlace, ends_well, failed_tries, has_opened, has_peer, is_clean, is_explained, is_local, is_port_last, is_told_there, last_deed, pause_of, peers_of, says_fault, status_of, told_by};
 ghost use Rattle.ymx_policy.specs.declared.options.LocalOptions.{LocalOptions as LocalGiven};
 ghost use Rattle.ymx_policy.specs.declared.options.RemoteOptions.{RemoteOptions as RemoteGiven};
@@ -14,8 +17,10 @@ ghost use Rattle.ymx_policy.specs.declared.asks.Fault.{Fault as Faulted};
 ghost use Rattle.ymx_policy.specs.declared.asks.Session.{Session as Served};
 ghost use Rattle.ymx_policy.specs.declared.asks.Users.{Users as Awaited};
 ghost use Rattle.ymx_policy.specs.declared.asks.SessionEnd.{SessionEnd as Ended};
+ghost use Rattle.ymx_policy.specs.declared.asks.PoolAsk.{PoolAsk as PoolAsked};
+ghost use Rattle.ymx_policy.specs.declared.asks.PoolHappened.{PoolHappened as PoolHeard};
 
-use crate::asks::{Deed, Happened, Notice, Side};
+use crate::asks::{Deed, Happened, Notice, PoolDeed, PoolHappened, Side};
 use crate::plan::{Plan, Role};
 
 /// The exit status is 0 exactly where no fault was said, and else 1. It is 0 only behind a session in which nothing went
@@ -116,4 +121,35 @@ pub fn lines()
     ensures come { (t : Told) (past : List (Asked × Heard)) (session : Served) → t.role ≢ Role.RemoteAwaits → t.goes_on ≡ true → IsPast t past → (asks t past).deed ≡ Deed.Serve session → told_by (asks t past).words (is_told_there past) ≡ true }
     ensures gone { (t : Told) (past : List (Asked × Heard)) (n : ℕ) → t.role ≢ Role.RemoteAwaits → IsPast t past → (asks t past).deed ≡ Deed.End n → told_by (asks t past).words (is_told_there past) ≡ false }
     ensures users { (t : Told) (past : List (Asked × Heard)) (users : Awaited) (address : Address) → IsPast t past → (asks t past).deed ≡ Deed.ListenForUsers users → (asks t ((asks t past, Happened.Listening address) ∷ past)).words.first ≡ Some (Notice.Listening address) }
+{}
+
+// ---- pools
+
+/// The exit status is 0 exactly where no fault was said, and else 1. With `--keep` a pool of peers never ends well.
+pub fn pool_statuses()
+    ensures said { (t : Told) (past : List (PoolAsked × PoolHeard)) (n : ℕ) → IsPoolPast t past → (pool_asks t past).deed ≡ PoolDeed.End n → n ≡ status_of (then_said (pool_asks t past).words (pool_faults past)) }
+    ensures kept { (t : Told) (past : List (PoolAsked × PoolHeard)) (n : ℕ) → t.role ≡ Role.RemoteAwaits → t.goes_on ≡ true → IsPoolPast t past → (pool_asks t past).deed ≡ PoolDeed.End n → n ≡ 1 }
+{}
+
+/// Without `--keep` nothing is said before the end.
+pub fn pool_says_late()
+    ensures { (t : Told) (past : List (PoolAsked × PoolHeard)) → t.goes_on ≡ false → IsPoolPast t past → pool_faults past ≡ [] }
+{}
+
+/// No more sessions run at once than there are places, and where it ends none runs.
+pub fn pool_places()
+    ensures few { (t : Told) (past : List (PoolAsked × PoolHeard)) → 0 < t.places → IsPoolPast t past → running past ≤ t.places }
+    ensures empty { (t : Told) (past : List (PoolAsked × PoolHeard)) (n : ℕ) → 0 < t.places → IsPoolPast t past → (pool_asks t past).deed ≡ PoolDeed.End n → running past ≡ 0 }
+{}
+
+/// Without `--keep` users can come only once every link was called.
+pub fn pool_links()
+    ensures { (t : Told) (past : List (PoolAsked × PoolHeard)) (users : Awaited) → 0 < t.places → has_links t.role ≡ true → t.goes_on ≡ false → IsPoolPast t past → (pool_asks t past).deed ≡ PoolDeed.ListenForUsers users → called past ≡ t.places }
+{}
+
+/// What is done is what the plan says.
+pub fn pool_does_as_told()
+    ensures calls { (t : Told) (past : List (PoolAsked × PoolHeard)) (peer : Address) → IsPoolPast t past → (pool_asks t past).deed ≡ PoolDeed.Call peer → peer ≡ t.peer }
+    ensures listens { (t : Told) (past : List (PoolAsked × PoolHeard)) (users : Awaited) → IsPoolPast t past → (pool_asks t past).deed ≡ PoolDeed.ListenForUsers users → users ≡ t.users }
+    ensures serves { (t : Told) (past : List (PoolAsked × PoolHeard)) (session : Served) → IsPoolPast t past → (pool_asks t past).deed ≡ PoolDeed.Start session → session ≡ t.session }
 {}
