@@ -7,4 +7,5 @@ pub mod Ports
 pub mod Reasons
 pub mod Visits
 pub mod Waits
+pub mod Counting
 pub mod Crowds

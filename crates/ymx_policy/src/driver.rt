@@ -15,12 +15,12 @@ use crate::world::{Errors, Lines, PoolWorld, World};
 use std::sync::Wait;
 
 /// Runs an end: says and does what it asks for, and tells it what happened, until it ends. Answers the exit status.
-pub fn run<R: Wait, L: Lines, W: World<L>, E: Errors>(
+pub fn run<R: Wait, L: Lines, W: World<L>, D, E: Errors<D>>(
     rt: &R,
     plan: Plan,
     world: &mut W,
     lines: &mut L,
-    errors: &mut E,
+    errors: &mut D,
 ) -> u8
     requires { W.may world.old }
     // It has come to its end with this status, by the tables alone: whatever was done and said, they asked for.
@@ -32,7 +32,7 @@ pub fn run<R: Wait, L: Lines, W: World<L>, E: Errors>(
     let mut state = State::new(&terms);
     for _ in rt.forever() {
         let ask = state.asked(&terms);
-        speak(terms.is_verbose, ask.words, lines, errors);
+        speak::<L, D, E>(terms.is_verbose, ask.words, lines, errors);
         if let Deed::End(status) = ask.deed {
             return status;
         }
@@ -43,12 +43,12 @@ pub fn run<R: Wait, L: Lines, W: World<L>, E: Errors>(
 }
 
 /// Runs a pool: says and does what it asks for, and tells it what happened, until it ends. Answers the exit status.
-pub fn run_pool<R: Wait, L: Lines, W: PoolWorld<L>, E: Errors>(
+pub fn run_pool<R: Wait, L: Lines, W: PoolWorld<L>, D, E: Errors<D>>(
     rt: &R,
     plan: Plan,
     world: &mut W,
     lines: &mut L,
-    errors: &mut E,
+    errors: &mut D,
 ) -> u8
     requires { W.may world.old }
     // It has come to its end with this status, by the tables alone: whatever was done and said, they asked for.
@@ -56,8 +56,8 @@ pub fn run_pool<R: Wait, L: Lines, W: PoolWorld<L>, E: Errors>(
         (record { log = W.log world.old; told = L.told lines.old; taken = E.contents errors.old; failures = E.failures errors.old })
         (record { log = W.log world.new; told = L.told lines.new; taken = E.contents errors.new; failures = E.failures errors.new }) }
 {
-    let end = run_pool_to_end(rt, plan, world, lines, errors);
-    end.conclude(plan, lines, errors)
+    let end = run_pool_to_end::<R, L, W, D, E>(rt, plan, world, lines, errors);
+    end.conclude::<L, D, E>(plan, lines, errors)
 }
 
 /// How a pool has ended, whose last words are still to be said.
@@ -71,23 +71,28 @@ pub struct PoolEnd {
 
 impl PoolEnd {
     /// Says its last words. Answers the exit status.
-    pub fn conclude<L: Lines, E: Errors>(self, plan: Plan, lines: &mut L, errors: &mut E) -> u8
+    pub fn conclude<L: Lines, D, E: Errors<D>>(
+        self,
+        plan: Plan,
+        lines: &mut L,
+        errors: &mut D,
+    ) -> u8
         ensures status { result ≡ self.status }
         ensures told { Adds (map notice_text (heeded (terms_of plan).is_verbose (then_told self.words []))) (L.told lines.old) (L.told lines.new) }
         ensures said { AreSaid (E.contents errors.old) (E.contents errors.new) (E.failures errors.old) (E.failures errors.new) (map fault_text (then_said self.words [])) }
     {
-        speak(plan.terms().is_verbose, self.words, lines, errors);
+        speak::<L, D, E>(plan.terms().is_verbose, self.words, lines, errors);
         self.status
     }
 }
 
 /// Runs a pool as [`run_pool`] does, up to its last words.
-pub fn run_pool_to_end<R: Wait, L: Lines, W: PoolWorld<L>, E: Errors>(
+pub fn run_pool_to_end<R: Wait, L: Lines, W: PoolWorld<L>, D, E: Errors<D>>(
     rt: &R,
     plan: Plan,
     world: &mut W,
     lines: &mut L,
-    errors: &mut E,
+    errors: &mut D,
 ) -> PoolEnd
     requires { W.may world.old }
     // It has come to its end by the tables alone: whatever was done and said before its last words, they asked for.
@@ -105,7 +110,7 @@ pub fn run_pool_to_end<R: Wait, L: Lines, W: PoolWorld<L>, E: Errors>(
                 words: ask.words,
             };
         }
-        speak(terms.is_verbose, ask.words, lines, errors);
+        speak::<L, D, E>(terms.is_verbose, ask.words, lines, errors);
         let happened = world.perform(ask.deed, lines);
         pool.hear(&terms, happened);
     }
@@ -113,20 +118,20 @@ pub fn run_pool_to_end<R: Wait, L: Lines, W: PoolWorld<L>, E: Errors>(
 }
 
 /// Says these words: the notices where lines were asked for, and the faults.
-pub(crate) fn speak<L: Lines, E: Errors>(
+pub(crate) fn speak<L: Lines, D, E: Errors<D>>(
     is_verbose: bool,
     words: Words,
     lines: &mut L,
-    errors: &mut E,
+    errors: &mut D,
 )
     ensures told { Adds (map notice_text (heeded is_verbose (then_told words []))) (L.told lines.old) (L.told lines.new) }
     ensures said { AreSaid (E.contents errors.old) (E.contents errors.new) (E.failures errors.old) (E.failures errors.new) (map fault_text (then_said words [])) }
 {
     tell(is_verbose, words.first, lines);
     tell(is_verbose, words.second, lines);
-    say(words.fault, errors);
+    say::<D, E>(words.fault, errors);
     tell(is_verbose, words.last, lines);
-    say(words.ending, errors);
+    say::<D, E>(words.ending, errors);
 }
 
 /// Tells a notice, if there is one and lines were asked for.
@@ -141,10 +146,10 @@ fn tell<L: Lines>(is_verbose: bool, notice: Option<Notice>, lines: &mut L)
 }
 
 /// Says a fault, if there is one.
-fn say<E: Errors>(fault: Option<Fault>, errors: &mut E)
+fn say<D, E: Errors<D>>(fault: Option<Fault>, errors: &mut D)
     ensures { AreSaid (E.contents errors.old) (E.contents errors.new) (E.failures errors.old) (E.failures errors.new) (map fault_text (with fault [])) }
 {
     if let Some(fault) = fault {
-        errors.say(fault);
+        E::say(errors, fault);
     }
 }

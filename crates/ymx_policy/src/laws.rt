@@ -3,9 +3,9 @@
 ghost use Rattle.std.specs.Prelude.{◌≡◌, ◌≢◌, ◌⊎◌, ◌<◌, ◌≤◌, ℕ, List, [], ◌∷◌, Bool, true, false, Some, None, length, map};
 ghost use Rattle.std.specs.declared.net.socket_addr.SocketAddrV4.{SocketAddrV4 as Address};
 ghost use Rattle.ymx_policy.specs.Past.{IsPast, asks, faults, then_said};
-ghost use Rattle.ymx_policy.specs.Plans.{terms_of, address_of};
+ghost use Rattle.ymx_policy.specs.Plans.{terms_of, address_of, has_pool, is_called};
 ghost use Rattle.ymx_policy.specs.PoolPast.{IsPast as IsPoolPast, asks as pool_asks, faults as pool_faults};
-ghost use Rattle.ymx_policy.specs.PoolLaws.{called, running};
+ghost use Rattle.ymx_policy.specs.PoolLaws.{all_clean, called, running};
 ghost use Rattle.ymx_policy.specs.PoolTable.{has_links};
 ghost use Rattle.ymx_policy.specs.Laws.{NamesPlace, ends_well, failed_tries, has_opened, has_peer, is_clean, is_explained, is_local, is_port_last, is_told_there, last_deed, pause_of, peers_of, says_fault, status_of, told_by};
 ghost use Rattle.ymx_policy.specs.declared.options.LocalOptions.{LocalOptions as LocalGiven};
@@ -20,7 +20,7 @@ ghost use Rattle.ymx_policy.specs.declared.asks.SessionEnd.{SessionEnd as Ended}
 ghost use Rattle.ymx_policy.specs.declared.asks.PoolAsk.{PoolAsk as PoolAsked};
 ghost use Rattle.ymx_policy.specs.declared.asks.PoolHappened.{PoolHappened as PoolHeard};
 
-use crate::asks::{Deed, Happened, Notice, PoolDeed, PoolHappened, Side};
+use crate::asks::{Deed, Fault, Happened, Notice, PoolDeed, Side};
 use crate::plan::{Plan, Role};
 
 /// The exit status is 0 exactly where no fault was said, and else 1. It is 0 only behind a session in which nothing went
@@ -64,6 +64,7 @@ pub fn keeps_on()
 pub fn faults_have_reasons()
     ensures reason { (t : Told) (past : List (Asked × Heard)) → IsPast t past → is_explained (asks t past).words.fault past ≡ true }
     ensures alone { (t : Told) (past : List (Asked × Heard)) → IsPast t past → (asks t past).words.ending ≡ None }
+    ensures users { (t : Told) (past : List (Asked × Heard)) (users : Awaited) (address : Address) → IsPast t past → (asks t past).deed ≡ Deed.ListenForUsers users → (asks t ((asks t past, Happened.Failed None) ∷ past)).words.fault ≡ Some (Fault.CannotListen t.users.address) }
     ensures place { (t : Told) (past : List (Asked × Heard)) → IsPast t past → NamesPlace t.peer (peers_of t past) t.users.address (asks t past).words.fault }
 {}
 
@@ -115,6 +116,17 @@ pub fn remote_options()
     ensures verbose { (o : RemoteGiven) → (terms_of (Plan.Remote o)).is_verbose ≡ o.is_verbose }
 {}
 
+/// A `local` has a pool where it keeps more than one link, and a `remote` where it awaits many peers, or goes on.
+pub fn pools()
+    ensures one_link { (o : LocalGiven) → o.links ≤ 1 → has_pool (Plan.Local o) ≡ false }
+    ensures bound { (o : LocalGiven) → is_called o.peer ≡ false → has_pool (Plan.Local o) ≡ false }
+    ensures links { (o : LocalGiven) → is_called o.peer ≡ true → 1 < o.links → has_pool (Plan.Local o) ≡ true }
+    ensures calls { (o : RemoteGiven) → is_called o.peer ≡ true → has_pool (Plan.Remote o) ≡ false }
+    ensures one_peer { (o : RemoteGiven) → o.is_kept ≡ false → o.peers ≡ None → has_pool (Plan.Remote o) ≡ false }
+    ensures kept { (o : RemoteGiven) → is_called o.peer ≡ false → o.is_kept ≡ true → has_pool (Plan.Remote o) ≡ true }
+    ensures peers { (o : RemoteGiven) (n : ℕ) → is_called o.peer ≡ false → o.peers ≡ Some n → has_pool (Plan.Remote o) ≡ true }
+{}
+
 /// With `--keep` each session begins with a line that the peer has come, and each peer that was told to have come is told
 /// to have gone before the next is awaited, and before the end. Where users or peers can come is told.
 pub fn lines()
@@ -134,6 +146,11 @@ pub fn pool_statuses()
 /// Without `--keep` nothing is said before the end.
 pub fn pool_says_late()
     ensures { (t : Told) (past : List (PoolAsked × PoolHeard)) → t.goes_on ≡ false → IsPoolPast t past → pool_faults past ≡ [] }
+{}
+
+/// It ends well only where nothing went wrong in any session.
+pub fn pool_counts_faults()
+    ensures { (t : Told) (past : List (PoolAsked × PoolHeard)) → IsPoolPast t past → (pool_asks t past).deed ≡ PoolDeed.End 0 → all_clean past ≡ true }
 {}
 
 /// No more sessions run at once than there are places, and where it ends none runs.

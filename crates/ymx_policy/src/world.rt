@@ -21,17 +21,17 @@ pub trait Lines {
         ensures { Adds (notice_text notice ∷ []) (told self.old) (told self.new) };
 }
 
-/// Where faults are said.
-pub trait Errors {
-    /// The bytes taken so far, if it can tell.
-    ghost contents: { Self → Option (List ℕ) };
+/// How faults are said on a device.
+pub trait Errors<D> {
+    /// The bytes that the device has taken so far, if it can tell.
+    ghost contents: { D → Option (List ℕ) };
 
-    /// How many calls have failed.
-    ghost failures: { Self → ℕ };
+    /// How many calls of the device have failed.
+    ghost failures: { D → ℕ };
 
-    /// Says this, or a beginning of it where the device fails.
-    fn say(&mut self, fault: Fault)
-        ensures { IsSaid (contents self.old) (contents self.new) (failures self.old) (failures self.new) (fault_text fault) };
+    /// Says this on the device, or a beginning of it where the device fails.
+    fn say(device: &mut D, fault: Fault)
+        ensures { IsSaid (contents device.old) (contents device.new) (failures device.old) (failures device.new) (fault_text fault) };
 }
 
 /// Who does what an end asks for. It may tell lines of its own where notices are told, as of connections that have ended.
