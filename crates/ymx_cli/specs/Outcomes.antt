@@ -1,6 +1,5 @@
 -- What a run of the program comes to, and its exit status (this project's own).
 use Rattle.std.specs.Prelude.{ℕ, Bool, true, false}
-use Rattle.ymx_forward.specs.Exits.{status_of as exit_status}
 use Rattle.ymx_cli.specs.declared.outcome.Outcome.{Outcome}
 use Rattle.ymx_cli.specs.declared.outcome.Outcome.TheVariants as outcome
 
@@ -10,7 +9,7 @@ status_of outcome.Good = 0
 status_of outcome.Faulted = 1
 status_of outcome.BadWords = 2
 status_of (outcome.NoMemory refusal) = 1
-status_of (outcome.Tunnel exit) = exit_status exit
+status_of (outcome.Tunnel status) = status
 
 -- memory was refused, and the outcome holds what shows it
 abbrev pub has_refusal : Outcome → Bool
@@ -19,5 +18,5 @@ has_refusal _ = false
 
 -- an end of a tunnel, or the test of one, has run, and ended so
 abbrev pub is_tunnel : Outcome → Bool
-is_tunnel (outcome.Tunnel exit) = true
+is_tunnel (outcome.Tunnel status) = true
 is_tunnel _ = false

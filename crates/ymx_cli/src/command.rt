@@ -4,11 +4,12 @@ ghost use Rattle.std.specs.Prelude.{ℕ, List, Option, None, Some, ◌++◌, ◌
 ghost use Rattle.std.specs.IoError.{error_kind};
 ghost use Rattle.std.specs.declared.io.ErrorKind.TheVariants.{InvalidData};
 ghost use Rattle.std.specs.Io.KnownBytes.{Keeps};
-ghost use Rattle.clap.specs.Words.{kind_of};
+ghost use Rattle.clap.specs.Words.{kind_of, subcommand_of};
 ghost use Rattle.clap.specs.declared.error.kind.ErrorKind.TheVariants.{OutOfMemory};
-ghost use Rattle.ymx_arguments.specs.CommandLine.{AsksFrames, AsksNoHelp, AsksNoLines, AsksScript, GivesBadOption, IsMistake, LacksMemory, NamesAnother, SaysMistake};
+ghost use Rattle.ymx_arguments.specs.CommandLine.{AsksFrames, AsksNoHelp, AsksNoLines, AsksScript, GivesBadOption, IsMistake, LacksMemory, NamesAnother, SaysMistake, ymx_app};
 ghost use Rattle.ymx_cli.specs.Messages.{IsUntouched, PlaysFile, PlaysScript, PrintsFile, PrintsFrames, SaysNoMemory, SaysText, Shows, TakesText, TakesPart, change_of, fails, frames_lack, not_text, opening_failed, out_of_memory, reason, script_lacks, script_reason, writing_failed};
 ghost use Rattle.ymx_cli.specs.Outcomes.{has_refusal, is_tunnel, status_of};
+ghost use Rattle.ymx_cli.specs.Plans.{ComesByPlan};
 
 use crate::outcome::{NoWords, Outcome, Refusal, text_of};
 use crate::tunnel::run_tunnel;
@@ -102,11 +103,12 @@ pub fn ymx_main<
     // Words that name an end of a tunnel write nothing to the writer, unless they ask for help or the version.
     ensures silent { NamesAnother (map S.text words.now) → AsksNoHelp (map S.text words.now) →
         IsUntouched (change_of W.contents W.failures writer.old writer.new) }
-    // They come to what that end came to, unless they are a mistake, or there is no memory to read them.
+    // They come to what the tables of that end come to, with the options that they give, unless they are a mistake, or there
+    // is no memory to read them.
     ensures tunnel { NamesAnother (map S.text words.now) → AsksNoHelp (map S.text words.now) →
         let output = change_of W.contents W.failures writer.old writer.new in
         let says = change_of E.contents E.failures errors.old errors.new in
-        (is_tunnel result ≡ true) ⊎ ((status_of result ≡ 2) ⊎ SaysNoMemory result output says) }
+        ((is_tunnel result ≡ true) × ComesByPlan (subcommand_of ymx_app (map S.text words.now)) result says) ⊎ ((status_of result ≡ 2) ⊎ SaysNoMemory result output says) }
     // A number that isn't decimal digits alone, or is out of its range, is a mistake. So is an end of a tunnel that is to
     // meet its peer in no way, or in two.
     ensures options { GivesBadOption (map S.text words.now) → AsksNoHelp (map S.text words.now) →

@@ -9,7 +9,6 @@ use clap::Error;
 use clap::error::ErrorKind;
 use std::alloc::Global;
 use std::fmt::Display;
-use ymx_forward::Exit;
 use ymx_memory::RefusedAllocation;
 
 /// What a run of the program comes to.
@@ -23,8 +22,8 @@ pub enum Outcome {
     BadWords,
     /// Memory was refused, as this shows.
     NoMemory(Refusal),
-    /// An end of a tunnel, or the test of one, ended so.
-    Tunnel(Exit),
+    /// An end of a tunnel, or the test of one, has run, and ended with this status: 0 where no fault was said, else 1.
+    Tunnel(u8),
 }
 
 impl Outcome {
@@ -36,7 +35,7 @@ impl Outcome {
             Outcome::Good => 0,
             Outcome::Faulted | Outcome::NoMemory(_) => 1,
             Outcome::BadWords => 2,
-            Outcome::Tunnel(exit) => exit.status(),
+            Outcome::Tunnel(status) => status,
         }
     }
 }

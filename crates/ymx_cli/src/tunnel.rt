@@ -4,6 +4,7 @@ ghost use Rattle.std.specs.Prelude.{◌≡◌, ◌≤◌, true};
 ghost use Rattle.ymx_arguments.specs.CommandLine.{IsEnd, IsNotVerbose};
 ghost use Rattle.ymx_cli.specs.Messages.{IsUntouched, change_of};
 ghost use Rattle.ymx_cli.specs.Outcomes.{is_tunnel, status_of};
+ghost use Rattle.ymx_cli.specs.Plans.{ComesByTables};
 
 use crate::outcome::Outcome;
 use std::alloc::Global;
@@ -29,8 +30,9 @@ pub(crate) fn run_tunnel<
     errors: &mut E,
     lines: &mut L,
 ) -> Outcome
-    // It ended as the tunnel did: well, as something came to its end, or with a fault that was said.
+    // It ended as the tunnel did, an end of it by its tables alone, with the options that it has.
     ensures ran { is_tunnel result ≡ true }
+    ensures ended { ComesByTables command result (change_of E.contents E.failures errors.old errors.new) }
     ensures status { status_of result ≤ 1 }
     ensures good { status_of result ≡ 0 → IsUntouched (change_of E.contents E.failures errors.old errors.new) }
     ensures silent { IsEnd command → IsUntouched (change_of W.contents W.failures writer.old writer.new) }

@@ -1,3 +1,2 @@
-pub mod Exits
 pub mod Loops
 pub mod Sockets

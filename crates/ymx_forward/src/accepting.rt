@@ -3,7 +3,6 @@
 ghost use Rattle.std.specs.Prelude.{◌≡◌, ◌-◌, Some, IfSome, IfNone, IsNone, option_map};
 
 use crate::inbox::{Inbox, Taken};
-use crate::reason::Reason;
 use crate::system::{Listener, Poll, TcpConnection};
 use std::alloc::Global;
 use std::io;
@@ -11,6 +10,7 @@ use std::io::ErrorKind;
 use std::net::TcpListener;
 use std::sync::{Arc, Wait};
 use std::time::Clock;
+use ymx_policy::Reason;
 
 /// How often an accept whose connection went away meanwhile is made again in a row.
 const RETRIES: u32 = 1_024;
@@ -26,13 +26,6 @@ enum Source {
     Closed,
     /// None can be accepted any more.
     Failed,
-}
-
-/// No more connections are accepted, as all have come that were to, or nobody is to accept more. Only a [`Listening`] that
-/// has stopped so makes one.
-#[derive(Clone, Copy)]
-pub struct AllCame {
-    seal: (),
 }
 
 /// Where connections come from, and how many may still come.
@@ -107,14 +100,6 @@ impl Listening {
         match self.source {
             Source::Listener(_) | Source::Inbox(_) => false,
             Source::Closed | Source::Failed => true,
-        }
-    }
-
-    /// That no more are accepted, though some could be.
-    pub(crate) fn all_came(&self) -> Option<AllCame> {
-        match &self.source {
-            Source::Closed => Some(AllCame { seal: () }),
-            Source::Listener(_) | Source::Inbox(_) | Source::Failed => None,
         }
     }
 

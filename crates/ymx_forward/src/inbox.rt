@@ -110,6 +110,11 @@ impl Inbox {
         self.acceptor.wake();
     }
 
+    /// Ends the wait of the thread that accepts.
+    pub(crate) fn wake_acceptor(&self) {
+        self.acceptor.wake();
+    }
+
     /// The link has no peer now: others are to be preferred for a while.
     pub(crate) fn rest<R: Clock + Wait>(&self, rt: &R) {
         let mut stillness = Stillness::new();

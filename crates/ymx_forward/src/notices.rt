@@ -1,13 +1,14 @@
 //! What `-v` asks for: lines about a tunnel while it runs.
 
-use crate::reason::Reason;
-use crate::system::{TcpConnection, address_of};
-use crate::watching::{Declined, EndedConnection, Ending, Origin, Passed, Unwatched, Watcher};
+ghost use Rattle.std.specs.Prelude.{◌≡◌, None};
+
+use crate::system::TcpConnection;
+use crate::watching::{Declined, EndedConnection, Ending, Origin, Passed, Watcher};
 use arrayvec::ArrayString;
 use std::fmt::Write;
-use std::net::{SocketAddr, TcpListener};
 use ymx_devices::push_all;
 use ymx_model::{CallFault, Outlet};
+use ymx_policy::{Lines, Notice, Reason, notice_text};
 
 /// Room for the longest line, in bytes: that of a connection with the greatest numbers and the longest reason has 242.
 const LINE: usize = 256;
@@ -18,29 +19,10 @@ const GONE: &str = "ymx: the peer has gone";
 /// A line, which takes no memory.
 type Line = ArrayString<LINE>;
 
-/// Who is told of what a program does besides.
-pub(crate) trait ProgramWatcher: Watcher {
-    /// It listens here, and was to listen at this address.
-    fn listening(&mut self, listener: &TcpListener, wanted: SocketAddr);
-
-    /// A session with a peer begins, after which another may come.
-    fn came(&mut self);
-
-    /// That session has ended.
-    fn gone(&mut self);
-
-    /// The peer at this address can't be reached, and is called again.
-    fn unreached(&mut self, peer: SocketAddr);
-}
-
-impl ProgramWatcher for Unwatched {
-    fn listening(&mut self, _listener: &TcpListener, _wanted: SocketAddr) {}
-
-    fn came(&mut self) {}
-
-    fn gone(&mut self) {}
-
-    fn unreached(&mut self, _peer: SocketAddr) {}
+/// Who is told of connections, and of what a program does besides.
+pub(crate) trait ProgramWatcher: Watcher + Lines {
+    /// It can't tell a contract what it was told.
+    ghost is_mute: { (w : Self) → Self.told w ≡ None };
 }
 
 /// Says that a tunnel is ready, and how each of its connections ended, a line each. Where the device fails the line is
@@ -61,6 +43,12 @@ impl<'a, L: Outlet> Notices<'a, L> {
     /// Says a line.
     fn say(&mut self, line: &Line) {
         let _ = push_all(&mut *self.device, line.as_str().as_bytes());
+    }
+
+    /// Says the text of this notice.
+    pub(crate) fn say_notice(&mut self, notice: Notice) {
+        let text = notice_text(notice);
+        let _ = push_all(&mut *self.device, text.as_str().as_bytes());
     }
 
     /// Says this text as a line.
@@ -97,30 +85,6 @@ impl<L: Outlet> Watcher for Notices<'_, L> {
         let _ = write!(line, "ymx: {option}: ");
         write_reason(&mut line, reason);
         let _ = writeln!(line, "");
-        self.say(&line);
-    }
-}
-
-impl<L: Outlet> ProgramWatcher for Notices<'_, L> {
-    /// At port 0 the system chose a port, which is said.
-    fn listening(&mut self, listener: &TcpListener, wanted: SocketAddr) {
-        let address = address_of(listener).unwrap_or(wanted);
-        let mut line = Line::new();
-        let _ = writeln!(line, "ymx: listening at {address}");
-        self.say(&line);
-    }
-
-    fn came(&mut self) {
-        self.say_text("ymx: the peer has come");
-    }
-
-    fn gone(&mut self) {
-        self.say_text(GONE);
-    }
-
-    fn unreached(&mut self, peer: SocketAddr) {
-        let mut line = Line::new();
-        let _ = writeln!(line, "ymx: cannot reach {peer}");
         self.say(&line);
     }
 }

@@ -1,7 +1,8 @@
 //! The connection to a peer.
 
-use crate::system::TcpConnection;
-use std::net::TcpStream;
+use crate::system::{TcpConnection, connect};
+use std::io;
+use std::net::{Net, SocketAddr, SocketAddrV4, TcpStream};
 
 /// A connection to a peer, which never waits, and whose bytes go out at once.
 #[derive(Drop)]
@@ -10,9 +11,17 @@ pub(crate) struct Peer {
 }
 
 impl Peer {
-    /// A peer over this connection. None where the system can't make it one that never waits.
-    pub(crate) fn new(connection: TcpStream) -> Option<Peer> {
-        Some(Peer::of(TcpConnection::of(connection).ok()?))
+    /// Calls the peer at this address.
+    pub(crate) fn call<R: Net<Stream = TcpStream>>(
+        rt: &R,
+        address: SocketAddrV4,
+    ) -> io::Result<Peer> {
+        Peer::over(connect(rt, SocketAddr::V4(address))?)
+    }
+
+    /// A peer over this connection. The fault is that the system can't make it one that never waits.
+    pub(crate) fn over(connection: TcpStream) -> io::Result<Peer> {
+        Ok(Peer::of(TcpConnection::of(connection)?))
     }
 
     /// A peer over this connection, which never waits.

@@ -5,26 +5,29 @@
 //! Then whoever waits there is told at once. Who could still wait for a connection that nobody makes is released at the
 //! end.
 
-ghost use Rattle.std.specs.Prelude.{◌≡◌};
+ghost use Rattle.std.specs.Prelude.{◌≡◌, ◌≤◌};
 ghost use Rattle.std.specs.Io.KnownBytes.{Keeps};
-ghost use Rattle.ymx_forward.specs.Exits.{status_of};
 
-use crate::exit::{Done, Exit};
-use crate::forwarding::forward;
+use crate::accepting::Listening;
 use crate::host::Host;
-use crate::sides::TunnelSide;
-use crate::sockets::connect;
-use crate::system::{accept, address_of, echo, finish, listen, receive, send};
-use crate::tell::{cannot_listen, lacks_memory, say_fault};
+use crate::peer::Peer;
+use crate::site::Site;
+use crate::sockets::{connect, listen_at};
+use crate::starting::StartFault;
+use crate::system::{accept, echo, finish, receive, send};
+use crate::tunnel_end::{LISTENER, TunnelEnd};
 use crate::watching::Unwatched;
+use arrayvec::ArrayString;
 use crossbeam_channel::{Receiver, Sender, bounded};
 use std::alloc::{AllocError, Global};
+use std::fmt::Write;
 use std::net::{Ipv4Addr, Net, SocketAddr, SocketAddrV4, TcpListener, TcpStream};
 use std::sync::Wait;
 use std::thread::Threads;
 use std::{io, thread};
 use ymx_devices::push_all;
 use ymx_model::Outlet;
+use ymx_policy::{Fault, Session, Side, fault_text};
 
 /// How many bytes each connection sends.
 const SIZES: [u32; 3] = [0, 1, 300_000];
@@ -51,17 +54,11 @@ struct Echoed {
     is_whole: bool,
 }
 
-/// Each connection of the test came back whole, and its line was printed. Only [`print_all`] makes one.
-#[derive(Clone, Copy)]
-pub struct AllEchoed {
-    seal: (),
-}
-
 /// Where two of the servers listen.
 #[derive(Clone, Copy)]
 struct Addresses {
-    echo: SocketAddr,
-    local: SocketAddr,
+    echo: SocketAddrV4,
+    local: SocketAddrV4,
 }
 
 /// What the servers own.
@@ -87,24 +84,33 @@ enum Stop {
 }
 
 /// Sends three connections through both ends of a tunnel to an echo server, all on 127.0.0.1, and prints a line for
-/// each. Answers how it ended.
+/// each. Answers the exit status.
 pub fn run_selftest<R: Host + Threads + Sync, W: Outlet, E: Outlet>(
     rt: &R,
     alloc: Global,
     writer: &mut W,
     errors: &mut E,
-) -> Exit
-    ensures good { status_of result ≡ 0 → Keeps (E.contents errors.old) (E.contents errors.new) }
+) -> u8
+    ensures good { result ≡ 0 → Keeps (E.contents errors.old) (E.contents errors.new) }
+    ensures status { result ≤ 1 }
 {
     let Some((addresses, owned)) = prepare(rt) else {
-        return cannot_listen(alloc, any_port(), errors);
+        return say(errors, fault_text(Fault::CannotListen(any_port())).as_str());
     };
     match run_all(rt, alloc, addresses, owned, writer) {
-        Ok(all_echoed) => Exit::Done(Done::AllEchoed(all_echoed)),
-        Err(Stop::Connection(number)) => failed(alloc, number, errors),
-        Err(Stop::Writing) => say_fault(errors, b"ymx: writing failed\n"),
-        Err(Stop::Memory(refused)) => lacks_memory(refused, errors),
+        Ok(()) => 0,
+        Err(Stop::Connection(number)) => failed(number, errors),
+        Err(Stop::Writing) => say(errors, "ymx: writing failed\n"),
+        Err(Stop::Memory(_)) => say(errors, fault_text(Fault::OutOfMemory).as_str()),
     }
+}
+
+/// Says a fault. Where the error device fails too there is nobody left to tell.
+fn say<E: Outlet>(errors: &mut E, text: &str) -> u8
+    ensures { result ≡ 1 }
+{
+    let _ = push_all(errors, text.as_bytes());
+    1
 }
 
 /// Runs the three servers and the client in threads, and prints a line for each connection as it ends. Where a thread
@@ -115,7 +121,7 @@ fn run_all<R: Host + Threads + Sync, W: Outlet>(
     addresses: Addresses,
     owned: Owned,
     writer: &mut W,
-) -> Result<AllEchoed, Stop> {
+) -> Result<(), Stop> {
     let (sender, receiver) = match bounded::<Echoed, Global>(alloc, WAITING_RESULTS) {
         Ok(ends) => ends,
         Err(refused) => return Err(Stop::Memory(refused)),
@@ -151,20 +157,17 @@ fn run_all<R: Host + Threads + Sync, W: Outlet>(
 }
 
 /// A port of 127.0.0.1 that the system chooses.
-fn any_port() -> SocketAddr {
-    SocketAddr::V4(SocketAddrV4::new(Ipv4Addr::LOCALHOST, 0))
+fn any_port() -> SocketAddrV4 {
+    SocketAddrV4::new(Ipv4Addr::LOCALHOST, 0)
 }
 
 /// Listens at two ports, and connects both ends of the session, so that neither has to wait for the other.
 fn prepare<R: Net<Stream = TcpStream, Listener = TcpListener>>(
     rt: &R,
 ) -> Option<(Addresses, Owned)> {
-    let echo = listen(rt, any_port()).ok()?;
-    let local = listen(rt, any_port()).ok()?;
+    let (echo, echo_address) = listen_at(rt, any_port()).ok()?;
+    let (local, local_address) = listen_at(rt, any_port()).ok()?;
     let (near, far) = connect_session(rt)?;
-    let (Ok(echo_address), Ok(local_address)) = (address_of(&echo), address_of(&local)) else {
-        return None;
-    };
     let addresses = Addresses {
         echo: echo_address,
         local: local_address,
@@ -182,9 +185,8 @@ fn prepare<R: Net<Stream = TcpStream, Listener = TcpListener>>(
 fn connect_session<R: Net<Stream = TcpStream, Listener = TcpListener>>(
     rt: &R,
 ) -> Option<(TcpStream, TcpStream)> {
-    let listener = listen(rt, any_port()).ok()?;
-    let address = address_of(&listener).ok()?;
-    let near = connect(rt, address).ok()?;
+    let (listener, address) = listen_at(rt, any_port()).ok()?;
+    let near = connect(rt, SocketAddr::V4(address)).ok()?;
     let far = accept(&listener).ok()?;
     Some((near, far))
 }
@@ -196,7 +198,7 @@ fn print_all<R: Wait, W: Outlet>(
     alloc: Global,
     receiver: &Receiver<Echoed, Global>,
     writer: &mut W,
-) -> Result<AllEchoed, Stop> {
+) -> Result<(), Stop> {
     let mut number = 0u32;
     for size in SIZES {
         number = number.saturating_add(1);
@@ -207,7 +209,7 @@ fn print_all<R: Wait, W: Outlet>(
             _ => return Err(Stop::Connection(number)),
         }
     }
-    Ok(AllEchoed { seal: () })
+    Ok(())
 }
 
 /// Prints the line of a connection.
@@ -228,21 +230,20 @@ fn print_line<W: Outlet>(
 }
 
 /// Says that a connection failed.
-fn failed<E: Outlet>(alloc: Global, number: u32, errors: &mut E) -> Exit
-    ensures { status_of result ≡ 1 }
+fn failed<E: Outlet>(number: u32, errors: &mut E) -> u8
+    ensures { result ≡ 1 }
 {
-    match format!(in alloc; "ymx: selftest failed: connection {number}\n") {
-        Ok(text) => say_fault(errors, text.as_bytes()),
-        Err(refused) => lacks_memory(refused, errors),
-    }
+    let mut text = ArrayString::<64>::new();
+    let _ = writeln!(text, "ymx: selftest failed: connection {number}");
+    say(errors, text.as_str())
 }
 
 /// Connects to each listener as often as its server accepts, so that none waits any longer. A listener that has closed
 /// refuses it.
 fn release<R: Net<Stream = TcpStream, Listener = TcpListener>>(rt: &R, addresses: Addresses) {
     for _ in 0..CONNECTIONS {
-        let _ = connect(rt, addresses.local);
-        let _ = connect(rt, addresses.echo);
+        let _ = connect(rt, SocketAddr::V4(addresses.local));
+        let _ = connect(rt, SocketAddr::V4(addresses.echo));
     }
 }
 
@@ -257,27 +258,64 @@ fn serve_echoes(listener: TcpListener) {
 }
 
 /// The end of the tunnel at the echo server.
-fn run_remote_end<R: Host>(rt: &R, alloc: Global, connection: TcpStream, target: SocketAddr) {
-    let side = TunnelSide::Remote {
+fn run_remote_end<R: Host>(rt: &R, alloc: Global, connection: TcpStream, target: SocketAddrV4) {
+    let session = session_of(Side::Server {
         target,
         workers: CONNECTIONS,
-    };
-    let _ = forward(rt, alloc, connection, side, WINDOW, &mut Unwatched);
+    });
+    if let Ok(site) = Site::new(rt, alloc) {
+        run_session(site, None, connection, session);
+    }
 }
 
 /// The end of the tunnel at the client.
 fn run_local_end<R: Host>(rt: &R, alloc: Global, connection: TcpStream, listener: TcpListener) {
-    let side = TunnelSide::Local {
-        listener,
-        count: Some(CONNECTIONS),
-    };
-    let _ = forward(rt, alloc, connection, side, WINDOW, &mut Unwatched);
+    if let Ok((site, end)) = local_end(rt, alloc, listener) {
+        run_session(site, Some(end), connection, session_of(Side::Client));
+    }
+}
+
+/// What the client's end needs to take its connections from this listener.
+fn local_end<R: Host>(
+    rt: &R,
+    alloc: Global,
+    listener: TcpListener,
+) -> Result<(Site<'_, R>, TunnelEnd), StartFault> {
+    let site = Site::new(rt, alloc)?;
+    let listening = Listening::new(listener, Some(CONNECTIONS), false, &site.poll, LISTENER)?;
+    Ok((site, TunnelEnd::local(listening, false)))
+}
+
+/// A session of this side, which is the only one.
+fn session_of(side: Side) -> Session {
+    Session {
+        side,
+        window: WINDOW,
+        ping: None,
+        is_followed: false,
+    }
+}
+
+/// Runs such a session over this connection.
+fn run_session<R: Host>(
+    site: Site<'_, R>,
+    end: Option<TunnelEnd>,
+    connection: TcpStream,
+    session: Session,
+) {
+    let mut site = site;
+    if let (Ok(peer), Some(mut end)) = (
+        Peer::over(connection),
+        TunnelEnd::for_session(end, session),
+    ) {
+        let _ = site.serve(&mut end, peer, session, &mut Unwatched);
+    }
 }
 
 /// Makes the three connections, one after the other, and sends what became of each.
 fn run_client<R: Net<Stream = TcpStream> + Wait>(
     rt: &R,
-    address: SocketAddr,
+    address: SocketAddrV4,
     sender: Sender<Echoed, Global>,
 ) {
     let mut number = 0u32;
@@ -291,8 +329,8 @@ fn run_client<R: Net<Stream = TcpStream> + Wait>(
 }
 
 /// Whether so many bytes come back from a connection to this address.
-fn is_whole<R: Net<Stream = TcpStream>>(rt: &R, address: SocketAddr, size: u32) -> bool {
-    match connect(rt, address) {
+fn is_whole<R: Net<Stream = TcpStream>>(rt: &R, address: SocketAddrV4, size: u32) -> bool {
+    match connect(rt, SocketAddr::V4(address)) {
         Ok(socket) => is_echoed(&socket, size).unwrap_or(false),
         Err(_) => false,
     }

@@ -1,11 +1,10 @@
 //! Who is told of what several threads do.
 
 use crate::notices::ProgramWatcher;
-use crate::reason::Reason;
 use crate::system::TcpConnection;
 use crate::watching::{Declined, EndedConnection, Origin, Watcher};
-use std::net::{SocketAddr, TcpListener};
 use std::sync::{Mutex, Wait};
+use ymx_policy::Reason;
 
 /// A watcher that threads share: each tells it under its lock. So connections are numbered through all threads.
 #[derive(Drop)]
@@ -39,37 +38,4 @@ impl<R: Wait, V: ProgramWatcher> Watcher for Shared<'_, R, V> {
         let mut watcher = self.watcher.lock(self.rt);
         watcher.failed(option, reason);
     }
-}
-
-impl<R: Wait, V: ProgramWatcher> ProgramWatcher for Shared<'_, R, V> {
-    fn listening(&mut self, listener: &TcpListener, wanted: SocketAddr) {
-        let mut watcher = self.watcher.lock(self.rt);
-        watcher.listening(listener, wanted);
-    }
-
-    fn came(&mut self) {
-        let mut watcher = self.watcher.lock(self.rt);
-        watcher.came();
-    }
-
-    fn gone(&mut self) {
-        let mut watcher = self.watcher.lock(self.rt);
-        watcher.gone();
-    }
-
-    fn unreached(&mut self, peer: SocketAddr) {
-        let mut watcher = self.watcher.lock(self.rt);
-        watcher.unreached(peer);
-    }
-}
-
-/// Tells that the system refused, for this reason, what this option asks for.
-pub(crate) fn tell_failure<R: Wait, V: ProgramWatcher>(
-    rt: &R,
-    option: &'static str,
-    reason: Reason,
-    watcher: &Mutex<V>,
-) {
-    let mut watcher = watcher.lock(rt);
-    watcher.failed(option, reason);
 }

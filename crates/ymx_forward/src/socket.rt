@@ -7,12 +7,12 @@ ghost use Rattle.ymx_engine.specs.Devices.{IsEnded, IsPulled, IsPushed, IsShut, 
 ghost use Rattle.ymx_forward.specs.Sockets.{counts_of};
 ghost use Rattle.ymx_engine.specs.Tunnels.{HasFailed};
 
-use crate::reason::Reason;
 use crate::system::{Poll, TcpConnection};
 use crate::watching::Origin;
 use std::io;
 use std::io::{ErrorKind, IoSlice};
 use ymx_engine::{Device, Line, Pulled, Pushed, Wire};
+use ymx_policy::Reason;
 
 /// Whether a socket has its peer.
 #[derive(Clone, Copy, PartialEq, Eq)]

@@ -1,16 +1,8 @@
 //! Why something can't begin.
 
-ghost use Rattle.std.specs.Prelude.{◌≡◌};
-ghost use Rattle.ymx_forward.specs.Exits.{status_of};
-
-use crate::exit::Exit;
-use crate::notices::ProgramWatcher;
-use crate::reason::Reason;
-use crate::tell::{cannot_meet, lacks_memory};
-use std::alloc::{AllocError, AllocFailed, Global};
+use std::alloc::{AllocError, AllocFailed};
 use std::io;
-use ymx_arguments::PeerAddress;
-use ymx_model::Outlet;
+use ymx_policy::{Happened, PoolHappened, Reason};
 
 /// Why something can't begin.
 #[derive(Drop)]
@@ -19,6 +11,29 @@ pub(crate) enum StartFault {
     Unwatched(io::Error),
     /// There is no memory.
     OutOfMemory(AllocError),
+}
+
+impl StartFault {
+    /// What happened to an end.
+    pub(crate) fn happened(self) -> Happened {
+        match self {
+            StartFault::Unwatched(error) => failed(&error),
+            StartFault::OutOfMemory(_) => Happened::LackedMemory,
+        }
+    }
+
+    /// What happened to a pool.
+    pub(crate) fn happened_to_pool(self) -> PoolHappened {
+        match self {
+            StartFault::Unwatched(error) => PoolHappened::Failed(Some(Reason::of(&error))),
+            StartFault::OutOfMemory(_) => PoolHappened::LackedMemory,
+        }
+    }
+}
+
+/// The system refused, for this reason.
+pub(crate) fn failed(error: &io::Error) -> Happened {
+    Happened::Failed(Some(Reason::of(error)))
 }
 
 impl From<io::Error> for StartFault {
@@ -36,25 +51,5 @@ impl From<AllocError> for StartFault {
 impl<T: Drop> From<AllocFailed<T>> for StartFault {
     fn from(refused: AllocFailed<T>) -> StartFault {
         StartFault::OutOfMemory(AllocError::from(refused))
-    }
-}
-
-/// Says why what this option asks for can't begin, at the place that it names.
-pub(crate) fn cannot_begin<V: ProgramWatcher, E: Outlet>(
-    alloc: Global,
-    option: &'static str,
-    place: PeerAddress,
-    fault: StartFault,
-    watcher: &mut V,
-    errors: &mut E,
-) -> Exit
-    ensures { status_of result ≡ 1 }
-{
-    match fault {
-        StartFault::Unwatched(error) => {
-            watcher.failed(option, Reason::of(&error));
-            cannot_meet(alloc, place, errors)
-        }
-        StartFault::OutOfMemory(refused) => lacks_memory(refused, errors),
     }
 }

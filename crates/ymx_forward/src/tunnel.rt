@@ -13,10 +13,7 @@ ghost use Rattle.ymx_engine.specs.Work.{ServesOne, WorksOnce};
 ghost use Rattle.ymx_forward.specs.Loops.{NeedsEvents, WaitsInNeed, WasLost};
 ghost use Rattle.ymx_model.specs.session.Sessions.{is_running};
 
-use crate::exit::Done;
 use crate::peer::Peer;
-use crate::reason::Reason;
-use crate::sides::Forwarded;
 use crate::silence::{Due, Silence, shorter};
 use crate::socket::Socket;
 use crate::stillness::Stillness;
@@ -30,6 +27,7 @@ use std::sync::Wait;
 use std::time::{Clock, Duration};
 use ymx_engine::{Engine, Line, NotJoined, Registry, Tunnel, Wire};
 use ymx_model::{CallFault, Config, Role, Status};
+use ymx_policy::{Reason, SessionEnd};
 use ymx_session::{NewFault, Session};
 
 /// The wire's token.
@@ -738,18 +736,18 @@ impl<'a> TunnelLoop<'a> {
 
     // ---- how it ends
 
-    /// How it has ended, and what its loop answered.
-    pub(crate) fn forwarded(&self, finished: Option<Finished>) -> Forwarded {
-        Forwarded {
-            done: finished.map(Done::Ran),
+    /// How it has ended.
+    pub(crate) fn end(&self) -> SessionEnd {
+        SessionEnd {
             accept_failed: self.has_unwatched
                 || (!self.tunnel_end.is_kept && self.tunnel_end.accept_failed()),
             broken: match self.tunnel.status() {
-                Status::Broken(fault) => Some(fault),
+                Status::Broken(fault) => Some(fault.number()),
                 _ => None,
             },
-            is_unwatched: self.is_unwatched,
             lacked_memory: self.lacked_memory || self.tunnel.has_lacked_memory(),
+            is_unwatched: self.is_unwatched,
+            has_lasted: false,
         }
     }
 }

@@ -1,11 +1,11 @@
 //! Who is told how connections ended, and what is told.
 
-use crate::reason::Reason;
 use crate::socket::{Socket, SocketFault};
 use crate::system::TcpConnection;
 use std::net::SocketAddr;
 use ymx_engine::{Connection, Flow, Line};
 use ymx_model::CallFault;
+use ymx_policy::Reason;
 
 /// Why one direction of a connection ended.
 #[derive(Clone, Copy, PartialEq, Eq)]

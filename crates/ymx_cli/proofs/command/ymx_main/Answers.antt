@@ -1,8 +1,10 @@
 use Rattle.std.proofs.Common.{◌≡◌, ◌≤◌, ℕ, zero, suc, arith, Option, Some, None, [], rules, ap, subst, sym, inl, inr, refl, true≢false}
 use Rattle.std.specs.Prelude.{◌⊎◌, unwrap_or}
 use Rattle.std.specs.Io.KnownBytes.{Keeps}
-use Rattle.clap.specs.Words.{Text}
-use Rattle.ymx_arguments.specs.CommandLine.{IsFrames, IsScript, SaysMistake}
+use Rattle.std.specs.Prelude.{map}
+use Rattle.clap.specs.Words.{Text, subcommand_of}
+use Rattle.ymx_arguments.specs.CommandLine.{IsEndTask, IsFrames, IsScript, IsToldBy, SaysMistake, ymx_app}
+use Rattle.ymx_cli.proofs.Planning.{planned}
 use Rattle.ymx_arguments.specs.declared.reading.Task.TheVariants.{Frames, Script, Tunnel}
 use Rattle.ymx_cli.specs.Outcomes.{status_of}
 use Rattle.ymx_cli.proofs.command.ymx_main.Goals as goal
@@ -208,7 +210,13 @@ returns-in-Err-clause-options g c = λ bad no_help.
     by_status (status_of c.explain.result) _ c.explain.ensures.status (λ e. (c.explain.ensures.help e).0 mistake) (λ e. by_reason _ _ _ _ mistake (c.explain.ensures.failed e))
 
 pub returns-in-Ok-Tunnel-clause-tunnel : goal.returns-in-Ok-Tunnel-clause-tunnel
-returns-in-Ok-Tunnel-clause-tunnel g c = λ names no_help. inl c.run_tunnel.ensures.ran
+returns-in-Ok-Tunnel-clause-tunnel g c = λ names no_help.
+    let e = c.in-Ok-Tunnel in
+    let is : e.field-0 ≡ Tunnel e.command = cc in
+    let met = subcommand_of ymx_app (map g.S.AsStr.text c.args.words.now) in
+    let told : IsToldBy met (Tunnel e.command) = subst (IsToldBy met) is e.ensures.told in
+    let end : IsEndTask (Tunnel e.command) = subst IsEndTask is (e.ensures.other names) in
+    inl (c.run_tunnel.ensures.ran, planned met e.command _ _ told end c.run_tunnel.ensures.ended)
 
 pub returns-in-Err-clause-tunnel : goal.returns-in-Err-clause-tunnel
 returns-in-Err-clause-tunnel g c = λ names no_help.

@@ -1,0 +1,225 @@
+//! What an end with one session after another asks for, done over sockets.
+
+ghost use Rattle.std.specs.Prelude.{None, ⊤};
+
+use crate::accepting::Listening;
+use crate::host::Host;
+use crate::inbox::Inbox;
+use crate::notices::ProgramWatcher;
+use crate::peer::Peer;
+use crate::site::Site;
+use crate::sockets::{accept, listen_at};
+use crate::starting::{StartFault, failed};
+use crate::tunnel_end::{LISTENER, TunnelEnd};
+use std::alloc::Global;
+use std::net::{SocketAddrV4, TcpListener};
+use std::sync::Arc;
+use std::thread;
+use std::time::Duration;
+use ymx_policy::{Deed, Happened, Session, Users, World};
+
+/// The sockets of an end.
+#[derive(Drop)]
+pub(crate) struct EndSockets<'a, R> {
+    rt: &'a R,
+    alloc: Global,
+    /// Where its sessions run, once it listens for users, or has had one.
+    site: Option<Site<'a, R>>,
+    /// Its side of the tunnel, once it listens for users, or has had a session.
+    end: Option<TunnelEnd>,
+    /// Where peers come in, while one is awaited.
+    peers: Option<TcpListener>,
+    /// The peer that is there.
+    peer: Option<Peer>,
+    /// Where users are brought to a link.
+    inbox: Option<Arc<Inbox, Global>>,
+}
+
+impl<'a, R: Host> EndSockets<'a, R> {
+    /// None is open.
+    pub(crate) fn new(rt: &'a R, alloc: Global) -> EndSockets<'a, R> {
+        EndSockets {
+            rt,
+            alloc,
+            site: None,
+            end: None,
+            peers: None,
+            peer: None,
+            inbox: None,
+        }
+    }
+
+    /// Those of a link, to which users are brought in this inbox.
+    pub(crate) fn of_link(
+        site: Site<'a, R>,
+        end: TunnelEnd,
+        inbox: Arc<Inbox, Global>,
+    ) -> EndSockets<'a, R> {
+        EndSockets {
+            rt: site.rt,
+            alloc: site.alloc,
+            site: Some(site),
+            end: Some(end),
+            peers: None,
+            peer: None,
+            inbox: Some(inbox),
+        }
+    }
+
+    /// Listens for the peer.
+    fn listen_for_peer(&mut self, address: SocketAddrV4) -> Happened {
+        match listen_at(self.rt, address) {
+            Ok((listener, at)) => {
+                self.peers = Some(listener);
+                Happened::Listening(at)
+            }
+            Err(error) => failed(&error),
+        }
+    }
+
+    /// Listens for users.
+    fn listen_for_users(&mut self, users: Users) -> Happened {
+        match listen_at(self.rt, users.address) {
+            Ok((listener, at)) => match self.open(listener, users) {
+                Ok(()) => Happened::Listening(at),
+                Err(fault) => fault.happened(),
+            },
+            Err(error) => failed(&error),
+        }
+    }
+
+    /// Takes the users who come to this listener.
+    fn open(&mut self, listener: TcpListener, users: Users) -> Result<(), StartFault> {
+        let site = Site::new(self.rt, self.alloc)?;
+        let Users {
+            count,
+            is_patient,
+            ..
+        } = users;
+        let listening = Listening::new(listener, count, is_patient, &site.poll, LISTENER)?;
+        self.end = Some(TunnelEnd::local(listening, is_patient));
+        self.site = Some(site);
+        Ok(())
+    }
+
+    /// Calls the peer. A link that has none is to be spared for a while.
+    fn call(&mut self, address: SocketAddrV4) -> Happened {
+        match Peer::call(self.rt, address) {
+            Ok(peer) => {
+                self.resume();
+                self.peer = Some(peer);
+                Happened::PeerCame
+            }
+            Err(error) => {
+                if let Some(inbox) = &self.inbox {
+                    inbox.rest(self.rt);
+                }
+                failed(&error)
+            }
+        }
+    }
+
+    /// A link can serve again.
+    fn resume(&self) {
+        if let Some(inbox) = &self.inbox {
+            inbox.resume(self.rt);
+        }
+    }
+
+    /// Waits until the peer calls. With `--keep` users that come meanwhile are closed, and without they wait.
+    fn await_peer<V: ProgramWatcher>(&mut self, watcher: &mut V) -> Happened {
+        let Some(listener) = self.peers.take() else {
+            return Happened::Failed(None);
+        };
+        let met = match (&mut self.end, &mut self.site) {
+            (Some(end), Some(site)) if end.is_kept => end.await_peer(site, listener, watcher),
+            _ => accept(listener)
+                .and_then(Peer::over)
+                .map_err(|error| failed(&error)),
+        };
+        match met {
+            Ok(peer) => {
+                self.peer = Some(peer);
+                Happened::PeerCame
+            }
+            Err(happened) => happened,
+        }
+    }
+
+    /// Waits until a user comes.
+    fn await_user(&mut self) -> Happened {
+        match (&mut self.end, &mut self.site) {
+            (Some(end), Some(site)) => end.await_user(site),
+            _ => Happened::NoUsers(None),
+        }
+    }
+
+    /// Runs a session with the peer that is there.
+    fn serve<V: ProgramWatcher>(&mut self, session: Session, watcher: &mut V) -> Happened {
+        let Some(peer) = self.peer.take() else {
+            return Happened::Failed(None);
+        };
+        if let Err(fault) = self.prepare() {
+            return fault.happened();
+        }
+        self.end = TunnelEnd::for_session(self.end.take(), session);
+        let how = match (&mut self.end, &mut self.site) {
+            (Some(end), Some(site)) => site.serve(end, peer, session, watcher),
+            _ => return Happened::Failed(None),
+        };
+        self.resume();
+        Happened::SessionEnded(how)
+    }
+
+    /// Makes a place for its sessions, where there is none yet.
+    fn prepare(&mut self) -> Result<(), StartFault> {
+        if self.site.is_none() {
+            self.site = Some(Site::new(self.rt, self.alloc)?);
+        }
+        Ok(())
+    }
+
+    /// Closes the user that waits, if one does.
+    fn close_user<V: ProgramWatcher>(&mut self, watcher: &mut V) -> Happened {
+        match &mut self.end {
+            Some(end) => {
+                end.refuse_waiting(watcher);
+                end.no_users().unwrap_or(Happened::Done)
+            }
+            None => Happened::NoUsers(None),
+        }
+    }
+
+    /// Lets so many seconds go by.
+    fn pause(&self, seconds: u64) -> Happened {
+        thread::sleep(self.rt, Duration::from_secs(seconds));
+        Happened::Done
+    }
+
+    /// Closes the user that waits, if one does.
+    pub(crate) fn refuse<V: ProgramWatcher>(&mut self, watcher: &mut V) {
+        if let Some(end) = &mut self.end {
+            end.refuse_waiting(watcher);
+        }
+    }
+}
+
+impl<R: Host, V: ProgramWatcher> World<V> for EndSockets<'_, R> {
+    ghost log = { λ _. None };
+
+    ghost may = { λ _. ⊤ };
+
+    fn perform(&mut self, deed: Deed, watcher: &mut V) -> Happened {
+        match deed {
+            Deed::ListenForPeer(address) => self.listen_for_peer(address),
+            Deed::ListenForUsers(users) => self.listen_for_users(users),
+            Deed::Call(address) => self.call(address),
+            Deed::AwaitPeer => self.await_peer(watcher),
+            Deed::AwaitUser => self.await_user(),
+            Deed::Serve(session) => self.serve(session, watcher),
+            Deed::CloseUser => self.close_user(watcher),
+            Deed::Pause(seconds) => self.pause(seconds),
+            Deed::End(_) => Happened::Done,
+        }
+    }
+}

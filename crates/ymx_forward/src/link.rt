@@ -1,0 +1,227 @@
+//! One of several links to the peer of a `local`, which runs in a thread of its own.
+
+ghost use Rattle.std.specs.Prelude.{None, refl};
+
+use crate::end::EndSockets;
+use crate::host::Host;
+use crate::inbox::{Inbox, Taken};
+use crate::notices::ProgramWatcher;
+use crate::peer::Peer;
+use crate::shared::Shared;
+use crate::site::{Site, unwatched, well};
+use crate::system::{Poll, TcpConnection};
+use crate::tunnel_end::TunnelEnd;
+use crate::watching::{Declined, EndedConnection, Origin, Watcher};
+use crossbeam_channel::Sender;
+use std::alloc::Global;
+use std::sync::{Arc, Wait};
+use ymx_model::CallFault;
+use ymx_policy::{
+    Errors, Fault, Lines, LocalOptions, Notice, Plan, PoolHappened, Reason, Session, SessionEnd,
+    run,
+};
+
+/// What the thread of a link needs.
+#[derive(Drop)]
+pub(crate) struct Link {
+    pub(crate) poll: Poll,
+    pub(crate) end: TunnelEnd,
+    /// Where users are left for it.
+    pub(crate) inbox: Arc<Inbox, Global>,
+    /// The same, for who counts its users.
+    pub(crate) counted: Arc<Inbox, Global>,
+    /// The same, for who reports.
+    pub(crate) reported: Arc<Inbox, Global>,
+    /// None where the peer is called only for a user.
+    pub(crate) peer: Option<Peer>,
+}
+
+/// A link that is to run.
+#[derive(Drop)]
+pub(crate) struct LinkJob {
+    pub(crate) link: Link,
+    pub(crate) session: Session,
+    pub(crate) options: LocalOptions,
+}
+
+/// What a link reports.
+#[derive(Clone, Copy)]
+pub(crate) enum Report {
+    /// It goes on, and has met this fault.
+    Met(Fault),
+    /// It has ended so.
+    Left(SessionEnd),
+}
+
+impl Report {
+    /// What happened.
+    pub(crate) fn happened(self) -> PoolHappened {
+        match self {
+            Report::Met(fault) => PoolHappened::Met(fault),
+            Report::Left(how) => PoolHappened::Left(how),
+        }
+    }
+}
+
+/// Where links report.
+#[derive(Drop)]
+pub(crate) struct Reports<'a, R> {
+    pub(crate) rt: &'a R,
+    pub(crate) reports: &'a Sender<Report, Global>,
+    /// Whose thread is woken then.
+    pub(crate) inbox: Arc<Inbox, Global>,
+}
+
+impl<R: Wait> Reports<'_, R> {
+    /// Reports this.
+    fn send(&self, report: Report) {
+        let _ = self.reports.send(self.rt, report);
+        self.inbox.wake_acceptor();
+    }
+}
+
+/// Says faults where links report.
+pub(crate) struct ReportedErrors;
+
+impl<'a, R: Wait> Errors<Reports<'a, R>> for ReportedErrors {
+    ghost contents = { λ _. None };
+
+    ghost failures = { λ _. 0 };
+
+    fn say(device: &mut Reports<'a, R>, fault: Fault) {
+        device.send(Report::Met(fault));
+    }
+}
+
+/// Who is told of the connections of a link, and counts them.
+#[derive(Drop)]
+struct LinkWatcher<'a, R: Wait, V: ProgramWatcher> {
+    shared: Shared<'a, R, V>,
+    inbox: Arc<Inbox, Global>,
+}
+
+impl<R: Wait, V: ProgramWatcher> Watcher for LinkWatcher<'_, R, V> {
+    fn begins(&mut self, from: &TcpConnection) -> Origin {
+        self.shared.begins(from)
+    }
+
+    fn ended(&mut self, origin: Origin, ended: &EndedConnection) {
+        self.inbox.note_ended();
+        self.shared.ended(origin, ended);
+    }
+
+    fn refused(&mut self, origin: Origin, why: Declined) {
+        self.inbox.note_ended();
+        self.shared.refused(origin, why);
+    }
+
+    fn lost(&mut self) {
+        self.shared.lost();
+    }
+
+    fn failed(&mut self, option: &'static str, reason: Reason) {
+        self.shared.failed(option, reason);
+    }
+}
+
+impl<R: Wait, V: ProgramWatcher> Lines for LinkWatcher<'_, R, V> {
+    ghost told = { λ _. None };
+
+    fn tell(&mut self, notice: Notice) {
+        self.shared.tell(notice);
+    }
+}
+
+impl<R: Wait, V: ProgramWatcher> ProgramWatcher for LinkWatcher<'_, R, V> {
+    ghost is_mute = { λ _. refl };
+}
+
+impl<R: Wait, V: ProgramWatcher> LinkWatcher<'_, R, V> {
+    /// Closes the users that wait, and takes no more.
+    fn refuse_all(&mut self) {
+        let rt = self.shared.rt;
+        self.inbox.close(rt);
+        for _ in rt.forever() {
+            match self.inbox.take(rt) {
+                Taken::Connection(socket) => {
+                    let origin = self.begins(&socket);
+                    self.refused(origin, Declined::BySession(CallFault::Lost));
+                }
+                Taken::NotNow | Taken::Closed => return,
+            }
+        }
+        unreachable!()
+    }
+}
+
+impl LinkJob {
+    /// Runs the link until no more users come to it, closes those that still wait there, and reports how it ended.
+    pub(crate) fn run<R: Host, V: ProgramWatcher>(
+        self,
+        alloc: Global,
+        shared: Shared<'_, R, V>,
+        reports: &Sender<Report, Global>,
+    ) {
+        let LinkJob {
+            link,
+            session,
+            options,
+        } = self;
+        let Link {
+            poll,
+            end,
+            inbox,
+            counted,
+            reported,
+            peer,
+        } = link;
+        let rt = shared.rt;
+        let site = Site { rt, alloc, poll };
+        let mut watcher = LinkWatcher {
+            shared,
+            inbox: counted,
+        };
+        let mut reports = Reports {
+            rt,
+            reports,
+            inbox: reported,
+        };
+        let how = match peer {
+            Some(peer) => serve(site, end, peer, session, &mut watcher),
+            None => {
+                let mut sockets = EndSockets::of_link(site, end, inbox);
+                let plan = Plan::Link(options);
+                let _ = run::<_, _, _, _, ReportedErrors>(
+                    rt,
+                    plan,
+                    &mut sockets,
+                    &mut watcher,
+                    &mut reports,
+                );
+                sockets.refuse(&mut watcher);
+                well()
+            }
+        };
+        watcher.refuse_all();
+        reports.send(Report::Left(how));
+    }
+}
+
+/// Runs the only session of a link, with this peer.
+fn serve<R: Host, V: Watcher>(
+    site: Site<'_, R>,
+    end: TunnelEnd,
+    peer: Peer,
+    session: Session,
+    watcher: &mut V,
+) -> SessionEnd {
+    let mut site = site;
+    match TunnelEnd::for_session(Some(end), session) {
+        Some(mut end) => {
+            let how = site.serve(&mut end, peer, session, watcher);
+            end.refuse_waiting(watcher);
+            how
+        }
+        None => unwatched(),
+    }
+}

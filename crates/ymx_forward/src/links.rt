@@ -1,0 +1,359 @@
+//! What a `local` with several links asks for, done over sockets and threads. A link is a connection to the peer, with a
+//! session and a thread of its own. One thread accepts the users, and brings each to the link that has the fewest.
+
+ghost use Rattle.std.specs.Prelude.{None, ⊤};
+ghost use Rattle.std.specs.Thread.{IsSend};
+
+use crate::accepting::Listening;
+use crate::host::Host;
+use crate::inbox::{Inbox, NotLeft, are_closed, close_all, leave_lightest};
+use crate::link::{Link, LinkJob, Report};
+use crate::notices::ProgramWatcher;
+use crate::peer::Peer;
+use crate::peers::refused;
+use crate::shared::Shared;
+use crate::site::Site;
+use crate::sockets::listen_at;
+use crate::starting::StartFault;
+use crate::system::{Poll, TcpConnection, Waker};
+use crate::tunnel_end::{LISTENER, TunnelEnd};
+use crate::watching::{Declined, Watcher};
+use crossbeam_channel::{Receiver, Sender, bounded};
+use std::alloc::Global;
+use std::net::SocketAddrV4;
+use std::sync::{Arc, Mutex, Wait};
+use std::thread;
+use std::thread::Threads;
+use std::time::Duration;
+use ymx_model::CallFault;
+use ymx_policy::{LocalOptions, PoolDeed, PoolHappened, PoolWorld, Reason, Session, Users};
+
+/// The token of the listener.
+const USERS: usize = 0;
+
+/// The token of the links, which tell that they are lost, or have something to report.
+const REPORTS: usize = 1;
+
+/// How many links may wait for their threads.
+const LINKS: usize = 64;
+
+/// How many reports may wait to be heard.
+const WAITING_REPORTS: usize = 1_024;
+
+/// Who has links started, and hears of them.
+#[derive(Drop)]
+struct Starter {
+    /// Takes links, each to run in a thread of its own. None once no more are started.
+    jobs: Option<Sender<LinkJob, Global>>,
+    /// Whether the thread for the last one could be made.
+    started: Receiver<bool, Global>,
+    /// What links report.
+    reports: Receiver<Report, Global>,
+}
+
+impl Starter {
+    /// Has a link started. Whether a thread could be made for it.
+    fn start<R: Wait>(&self, rt: &R, job: LinkJob) -> bool {
+        let Some(jobs) = &self.jobs else {
+            return false;
+        };
+        if jobs.send(rt, job).is_err() {
+            return false;
+        }
+        match self.started.recv(rt) {
+            Ok(is_started) => is_started,
+            Err(_) => false,
+        }
+    }
+}
+
+/// Who starts the threads of links.
+#[derive(Drop)]
+pub(crate) struct LinkThreads {
+    jobs: Receiver<LinkJob, Global>,
+    started: Sender<bool, Global>,
+    reports: Sender<Report, Global>,
+}
+
+impl LinkThreads {
+    /// Runs each link in a thread of its own, until no more are started and all have ended.
+    pub(crate) fn run<R: Host + Threads + Sync, V: ProgramWatcher + Send + Drop>(
+        &self,
+        rt: &R,
+        alloc: Global,
+        watcher: &Mutex<V>,
+    ) {
+        let reports = &self.reports;
+        thread::scope(
+            thread::scope_env(),
+            rt,
+            move |scope|
+                requires { IsSend V.row }
+            {
+                for _ in rt.forever() {
+                    let Ok(job) = self.jobs.recv(rt) else {
+                        return;
+                    };
+                    let is_started = scope
+                        .spawn(move || job.run(alloc, Shared { rt, watcher }, reports))
+                        .is_ok();
+                    let _ = self.started.send(rt, is_started);
+                }
+                unreachable!()
+            },
+        )
+    }
+}
+
+/// Where users come in, and who starts the threads of links.
+pub(crate) fn new_links<'a, R: Host>(
+    rt: &'a R,
+    alloc: Global,
+    options: LocalOptions,
+) -> Result<(LinkSockets<'a, R>, LinkThreads), StartFault> {
+    let (give, jobs) = bounded::<LinkJob, Global>(alloc, LINKS)?;
+    let (answer, started) = bounded::<bool, Global>(alloc, LINKS)?;
+    let (reports, heard) = bounded::<Report, Global>(alloc, WAITING_REPORTS)?;
+    let starter = Starter {
+        jobs: Some(give),
+        started,
+        reports: heard,
+    };
+    let sockets = LinkSockets::new(rt, alloc, options, starter)?;
+    let threads = LinkThreads {
+        jobs,
+        started: answer,
+        reports,
+    };
+    Ok((sockets, threads))
+}
+
+/// Where users come in, and the links that they are brought to.
+#[derive(Drop)]
+pub(crate) struct LinkSockets<'a, R> {
+    site: Site<'a, R>,
+    options: LocalOptions,
+    starter: Starter,
+    /// Ends the wait of the thread that accepts.
+    acceptor: Arc<Waker, Global>,
+    /// The peers that were called for links.
+    peers: Vec<Peer>,
+    /// The links that have no thread yet.
+    links: Vec<Link>,
+    /// Where users are left for each link.
+    inboxes: Vec<Arc<Inbox, Global>>,
+    listening: Option<Listening>,
+    /// The user that has come, until a link has it.
+    user: Option<TcpConnection>,
+}
+
+impl<'a, R: Host> LinkSockets<'a, R> {
+    /// None is open.
+    fn new(
+        rt: &'a R,
+        alloc: Global,
+        options: LocalOptions,
+        starter: Starter,
+    ) -> Result<LinkSockets<'a, R>, StartFault> {
+        let site = Site::new(rt, alloc)?;
+        let acceptor = Arc::new(alloc, Waker::new(&site.poll, REPORTS)?)?;
+        Ok(LinkSockets {
+            site,
+            options,
+            starter,
+            acceptor,
+            peers: Vec::new(alloc),
+            links: Vec::new(alloc),
+            inboxes: Vec::new(alloc),
+            listening: None,
+            user: None,
+        })
+    }
+
+    /// Its runtime and its allocator.
+    pub(crate) fn runtime(&self) -> (&'a R, Global) {
+        (self.site.rt, self.site.alloc)
+    }
+
+    /// Calls the peer for one more link.
+    fn call(&mut self, address: SocketAddrV4) -> PoolHappened {
+        match Peer::call(self.site.rt, address) {
+            Ok(peer) => match self.peers.push(peer) {
+                Ok(()) => PoolHappened::Came,
+                Err(_) => PoolHappened::LackedMemory,
+            },
+            Err(error) => PoolHappened::Failed(Some(Reason::of(&error))),
+        }
+    }
+
+    /// Listens for users, and makes all that the threads of links need.
+    fn listen(&mut self, users: Users) -> PoolHappened {
+        match self.open(users) {
+            Ok(at) => PoolHappened::Listening(at),
+            Err(fault) => fault.happened_to_pool(),
+        }
+    }
+
+    /// Listens for users, and makes what the threads of links need. Answers where.
+    fn open(&mut self, users: Users) -> Result<SocketAddrV4, StartFault> {
+        let Users {
+            address,
+            count,
+            is_patient,
+        } = users;
+        let (listener, at) = listen_at(self.site.rt, address)?;
+        let listening = Listening::new(listener, count, is_patient, &self.site.poll, USERS)?;
+        self.listening = Some(listening);
+        for _ in 0..self.options.links {
+            self.add_link()?;
+        }
+        Ok(at)
+    }
+
+    /// Makes one more link, with a peer that was called, if one was.
+    fn add_link(&mut self) -> Result<(), StartFault> {
+        let alloc = self.site.alloc;
+        let poll = Poll::new(self.site.rt, alloc)?;
+        let waker = Waker::new(&poll, LISTENER)?;
+        let acceptor = Arc::try_clone(&self.acceptor)?;
+        let inbox = Arc::new(alloc, Inbox::new(alloc, waker, acceptor))?;
+        let end = TunnelEnd::linked(Arc::try_clone(&inbox)?, self.options.is_kept);
+        self.inboxes.push(Arc::try_clone(&inbox)?)?;
+        let counted = Arc::try_clone(&inbox)?;
+        let reported = Arc::try_clone(&inbox)?;
+        let link = Link {
+            poll,
+            end,
+            inbox,
+            counted,
+            reported,
+            peer: self.peers.pop(),
+        };
+        self.links.push(link)?;
+        Ok(())
+    }
+
+    /// Makes a thread for the next link.
+    fn begin(&mut self, session: Session) -> PoolHappened {
+        let Some(link) = self.links.pop() else {
+            return PoolHappened::Failed(None);
+        };
+        let job = LinkJob {
+            link,
+            session,
+            options: self.options,
+        };
+        if self.starter.start(self.site.rt, job) {
+            PoolHappened::Started
+        } else {
+            PoolHappened::Failed(Some(Reason::NoThread))
+        }
+    }
+
+    /// No more links are started.
+    pub(crate) fn finish(&mut self) {
+        self.starter.jobs = None;
+    }
+
+    /// Waits until a user comes, or a link has something to report.
+    fn wait(&mut self) -> PoolHappened {
+        let rt = self.site.rt;
+        let Some(listening) = &mut self.listening else {
+            return PoolHappened::NobodyComes(None);
+        };
+        for _ in rt.forever() {
+            // This comes first: links that close behind the last user are no fault.
+            if listening.is_over() {
+                return last_of(listening);
+            }
+            if are_closed(rt, self.inboxes.as_slice()) {
+                return PoolHappened::NoLinks;
+            }
+            if let Ok(report) = self.starter.reports.try_recv(rt) {
+                return report.happened();
+            }
+            if let Some(socket) = listening.accept(rt, 0) {
+                self.user = Some(socket);
+                return PoolHappened::Came;
+            }
+            if let Some(happened) = refused(listening) {
+                return happened;
+            }
+            if self.site.wait(listening.is_full()).is_err() {
+                return PoolHappened::NobodyComes(None);
+            }
+        }
+        unreachable!()
+    }
+
+    /// Waits until a link has something to report.
+    fn wait_for_report(&self) -> PoolHappened {
+        match self.starter.reports.recv(self.site.rt) {
+            Ok(report) => report.happened(),
+            Err(_) => PoolHappened::NobodyComes(None),
+        }
+    }
+
+    /// Leaves the user that came at the link that has the fewest. Where there is none it is closed.
+    fn place<V: Watcher>(&mut self, watcher: &mut V) -> PoolHappened {
+        let Some(user) = self.user.take() else {
+            return PoolHappened::Done;
+        };
+        match leave_lightest(self.site.rt, user, self.inboxes.as_slice()) {
+            Ok(()) => PoolHappened::Done,
+            Err(NotLeft::Closed(socket)) => {
+                let origin = watcher.begins(&socket);
+                watcher.refused(origin, Declined::BySession(CallFault::Lost));
+                PoolHappened::Done
+            }
+            Err(NotLeft::OutOfMemory(refused)) => {
+                let origin = watcher.begins(&refused.value);
+                watcher.refused(origin, Declined::OutOfMemory);
+                PoolHappened::LackedMemory
+            }
+        }
+    }
+
+    /// Listens no more, and brings no more users to any link.
+    fn close(&mut self) -> PoolHappened {
+        self.listening = None;
+        close_all(self.site.rt, self.inboxes.as_slice());
+        PoolHappened::Done
+    }
+
+    /// Lets so many seconds go by.
+    fn pause(&self, seconds: u64) -> PoolHappened {
+        thread::sleep(self.site.rt, Duration::from_secs(seconds));
+        PoolHappened::Done
+    }
+}
+
+/// Why no users come any more.
+fn last_of(listening: &mut Listening) -> PoolHappened {
+    if listening.has_failed() {
+        PoolHappened::NobodyComes(listening.take_refusal())
+    } else {
+        PoolHappened::AllCame
+    }
+}
+
+impl<R: Host, V: ProgramWatcher> PoolWorld<V> for LinkSockets<'_, R> {
+    ghost log = { λ _. None };
+
+    ghost may = { λ _. ⊤ };
+
+    fn perform(&mut self, deed: PoolDeed, watcher: &mut V) -> PoolHappened {
+        match deed {
+            PoolDeed::ListenForUsers(users) => self.listen(users),
+            PoolDeed::Call(address) => self.call(address),
+            PoolDeed::Start(session) => self.begin(session),
+            PoolDeed::Await => self.wait(),
+            PoolDeed::AwaitLeaving => self.wait_for_report(),
+            PoolDeed::PlaceUser => self.place(watcher),
+            PoolDeed::CloseLinks => self.close(),
+            PoolDeed::Pause(seconds) => self.pause(seconds),
+            PoolDeed::ListenForPeers(_) => PoolHappened::Failed(None),
+            PoolDeed::End(_) => PoolHappened::Done,
+        }
+    }
+}

@@ -1,0 +1,142 @@
+//! Where an end runs its sessions: its runtime, its allocator, and the poll that tells it of events.
+
+use crate::closing::close;
+use crate::peer::Peer;
+use crate::socket::Socket;
+use crate::starting::StartFault;
+use crate::system::Poll;
+use crate::tunnel::{TunnelLoop, wire_of};
+use crate::tunnel_end::{RETRY, TunnelEnd};
+use crate::watching::Watcher;
+use std::alloc::Global;
+use std::io;
+use std::net::Net;
+use std::sync::Wait;
+use std::time::{Clock, Duration, Instant};
+use ymx_policy::{Session, SessionEnd};
+use ymx_session::NewFault;
+
+/// How many seconds a session lasts at least behind which the peer is called again at once.
+const LASTING: u64 = 1;
+
+/// Where an end runs its sessions.
+#[derive(Drop)]
+pub(crate) struct Site<'a, R> {
+    pub(crate) rt: &'a R,
+    pub(crate) alloc: Global,
+    pub(crate) poll: Poll,
+}
+
+impl<'a, R: Net> Site<'a, R> {
+    /// A place with a poll of its own.
+    pub(crate) fn new(rt: &'a R, alloc: Global) -> Result<Site<'a, R>, StartFault> {
+        let poll = Poll::new(rt, alloc)?;
+        Ok(Site { rt, alloc, poll })
+    }
+}
+
+impl<R> Site<'_, R> {
+    /// Waits for events, and where a listener is full only for a while.
+    pub(crate) fn wait(&mut self, is_full: bool) -> io::Result<()> {
+        self.poll
+            .wait(is_full.then_some(Duration::from_secs(RETRY)))
+    }
+}
+
+impl<R: Net + Clock + Wait> Site<'_, R> {
+    /// Runs such a session with this peer, and serves this end, in this thread alone. Once that end has ended it sends all
+    /// that is due, closes its writing side, and waits for the peer to close the connection. How it ended.
+    ///
+    /// A client ends after its count of connections, or at an accept that fails. Without a count it also ends at the first
+    /// connection that is accepted after the session was lost or, where another session follows, as soon as it is lost. A
+    /// server ends with the session. Both end only once all connections have. Where another session follows, connections
+    /// that have taken nothing for ten seconds since the loss are closed.
+    pub(crate) fn serve<V: Watcher>(
+        &mut self,
+        end: &mut TunnelEnd,
+        peer: Peer,
+        session: Session,
+        watcher: &mut V,
+    ) -> SessionEnd {
+        let began = Instant::now(self.rt);
+        end.note_all();
+        let mut how = match wire_of(peer, &self.poll) {
+            Some(wire) => self.run(end, wire, session, watcher),
+            None => unwatched(),
+        };
+        how.has_lasted = self.has_lasted(began);
+        how
+    }
+
+    /// Runs a session over this wire, and ends the wire.
+    fn run<V: Watcher>(
+        &mut self,
+        end: &mut TunnelEnd,
+        wire: Socket,
+        session: Session,
+        watcher: &mut V,
+    ) -> SessionEnd {
+        let is_kept = end.is_kept;
+        let limit = end.limits.close;
+        let mut tunnel = match TunnelLoop::new(self.alloc, wire, end, session.window) {
+            Ok(tunnel) => tunnel,
+            Err(fault) => return unbegun(fault),
+        };
+        let _ = tunnel.run(self.rt, &mut self.poll, watcher, is_kept);
+        let how = tunnel.end();
+        let wire = tunnel.into_wire();
+        close(self.rt, &mut self.poll, wire, how.broken.is_some(), limit);
+        how
+    }
+
+    /// Whether it is a while since then. Where the clock can't tell, it isn't.
+    fn has_lasted(&self, began: io::Result<Instant>) -> bool {
+        match began {
+            Ok(began) => began
+                .elapsed(self.rt)
+                .is_ok_and(|passed| passed.as_secs() >= LASTING),
+            Err(_) => false,
+        }
+    }
+}
+
+/// How a session ended that could not begin.
+fn unbegun(fault: NewFault) -> SessionEnd {
+    match fault {
+        NewFault::OutOfMemory(_) => lacking(),
+        _ => unwatched(),
+    }
+}
+
+/// How a session ended in which nothing went wrong.
+pub(crate) fn well() -> SessionEnd {
+    SessionEnd {
+        accept_failed: false,
+        broken: None,
+        lacked_memory: false,
+        is_unwatched: false,
+        has_lasted: false,
+    }
+}
+
+/// How a session ended of which nothing was done, for want of memory.
+fn lacking() -> SessionEnd {
+    let mut how = well();
+    how.lacked_memory = true;
+    how
+}
+
+/// How a session ended of which nothing was done, as the system refused to watch the peer.
+pub(crate) fn unwatched() -> SessionEnd {
+    let mut how = well();
+    how.is_unwatched = true;
+    how
+}
+
+/// How a session ended that could not begin for this.
+pub(crate) fn unstarted(fault: StartFault) -> SessionEnd {
+    match fault {
+        StartFault::Unwatched(_) => unwatched(),
+        StartFault::OutOfMemory(_) => lacking(),
+    }
+}
