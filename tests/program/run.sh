@@ -62,7 +62,8 @@ expect 2 nothing "$(says 'ymx: bad address 1')" nothing local --listen 1 --peer 
 expect 2 nothing "$(says 'ymx: bad address x')" nothing remote --target 1 --peer x
 expect 2 nothing "$(says 'ymx: bad address ')" nothing remote --call '' --target x
 
-# port_of FILE: the port that a program has said in this file, once it has
+# port_of FILE: the port that a program has said in this file, once it has. What an earlier one said there has to be gone
+# before the program begins: in the background the file may be emptied late.
 port_of() {
     in_time grep -qs '[0-9]$' "$1"
     sed -n '1s/.*[^0-9]//; 1p' "$1"
@@ -111,6 +112,7 @@ holds 'what local -v says' cmp -s "$(told local_err)" "$(says "ymx: listening at
 holds 'what remote -v says' cmp -s "$(told remote_err)" "$(says "ymx: listening at 127.0.0.1:$peer" "$end" "$gone")"
 
 # without -v nothing is said
+rm -f echo_port remote_err local_err
 python3 "$here/ends.py" echo > echo_port &
 target=127.0.0.1:$(port_of echo_port)
 free_ports 2 > ports
@@ -127,6 +129,7 @@ holds 'local says nothing' cmp -s local_err nothing
 holds 'remote says nothing' cmp -s remote_err nothing
 
 # nobody listens at the target
+rm -f remote_err local_err
 free_ports 2 > ports
 { read -r peer && read -r nobody; } < ports
 timeout 60 "$ymx" remote -v --bind "127.0.0.1:$peer" --target "127.0.0.1:$nobody" > remote_out 2> remote_err &
@@ -252,6 +255,7 @@ peer.sendall(b"\x01" + bytes(11))
 while peer.recv(4096):
     pass
 END
+jobs="$jobs $!"
 expect 1 nothing "$(says 'ymx: session broken: B1')" nothing remote --bind "127.0.0.1:$port" --target 127.0.0.1:1
 
 # scripts: of a file, of standard input, of a file that isn't there, and of one that can't be read
