@@ -1,25 +1,35 @@
 #!/usr/bin/env python3
-"""as_they_come.py PROGRAM LIBRARY: whether `selftest` prints a line before the last connection is over.
+"""as_they_come.py PROGRAM LIBRARY: whether `selftest` prints the line of a connection before it makes the next one.
 
-Each call of `connect` takes 200 milliseconds at least, by the library, which is preloaded. Between the first connection
-and the last there are two of the client's and two of the tunnel's. Lines that are printed as they come are that far
-apart, and lines that are printed at the end all come at once.
+Each call of `connect` is held until this script lets it go, by the library, which is preloaded. A connection takes two:
+the client's and the tunnel's. They are let go once the line of the connection before has come, so a program that keeps
+its lines until the end prints none, and is given up after a minute.
 """
 import os
+import select
 import subprocess
 import sys
-import time
+
+SECONDS = 60
+# One call joins the two ends, before the first connection.
+FIRST, EACH = 3, 2
 
 program, library = sys.argv[1:]
-child = subprocess.Popen([program, "selftest"], stdout=subprocess.PIPE, env={**os.environ, "LD_PRELOAD": library})
-came = []
-for line in child.stdout:
-    came.append((time.monotonic(), line))
-status = child.wait(60)
-lines = [line for _, line in came]
-wanted = [b"connection %d: %d bytes echoed\n" % row for row in ((1, 0), (2, 1), (3, 300000))]
-if status != 0 or lines != wanted:
-    sys.exit(f"selftest: status {status}, lines {lines}")
-apart = came[-1][0] - came[0][0]
-if apart < 0.3:
-    sys.exit(f"the last line came {apart:.3f} seconds behind the first")
+held, lets_go = os.pipe()
+environment = {**os.environ, "LD_PRELOAD": library, "HELD_BY": str(held)}
+child = subprocess.Popen([program, "selftest"], stdout=subprocess.PIPE, bufsize=0, env=environment, pass_fds=[held])
+os.close(held)
+for number, size in enumerate((0, 1, 300000), 1):
+    os.write(lets_go, bytes(FIRST if number == 1 else EACH))
+    if not select.select([child.stdout], [], [], SECONDS)[0]:
+        child.kill()
+        sys.exit(f"selftest: line {number} doesn't come before the connection behind it is made")
+    line = child.stdout.readline()
+    if line != b"connection %d: %d bytes echoed\n" % (number, size):
+        sys.exit(f"selftest: line {number} is {line}")
+# What it connects to at the end, so that nobody waits, is no connection of the test.
+os.close(lets_go)
+rest = child.stdout.read()
+status = child.wait(SECONDS)
+if status != 0 or rest != b"":
+    sys.exit(f"selftest: status {status}, and behind its lines {rest}")

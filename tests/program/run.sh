@@ -47,8 +47,8 @@ expect 1 nothing "$(says 'ymx: reading failed')" hello frames .
 # the tunnel: three connections through it, and addresses that are none, the first of which is told
 printf 'connection %s bytes echoed\n' '1: 0' '2: 1' '3: 300000' > echoed
 expect 0 echoed nothing nothing selftest
-"${CC-cc}" -O2 -shared -fPIC -o slow.so "$here/slow_connect.c" -ldl
-if timeout 60 "$here/as_they_come.py" "$ymx" "$scratch/slow.so" > log 2>&1; then
+"${CC-cc}" -O2 -shared -fPIC -o held.so "$here/held_connect.c" -ldl
+if timeout 60 "$here/as_they_come.py" "$ymx" "$scratch/held.so" > log 2>&1; then
     good
 else
     bad "a line of selftest doesn't come with its connection:" log
