@@ -78,12 +78,12 @@ free_ports() {
     python3 "$root/tests/ports.py" "$1"
 }
 
-# in_time COMMAND..: tries it until it succeeds, for at most 30 seconds
+# in_time COMMAND..: tries it until it succeeds, for two minutes or longer: a bound that no slow machine comes to
 in_time() {
     tries=0
     until "$@"; do
         tries=$((tries + 1))
-        [ $tries -lt 300 ] || return 1
+        [ $tries -lt 1200 ] || return 1
         sleep 0.1
     done
 }

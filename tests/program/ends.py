@@ -8,7 +8,8 @@ import socket
 import sys
 import time
 
-SECONDS = 30
+# How long what must come may take: also on a slow machine where others run.
+SECONDS = 120
 
 
 def listen():

@@ -1,7 +1,8 @@
 """Plays the peer of `ymx local` and of `ymx remote` frame by frame, with users and a target of its own, and looks at
 what each does, says and answers: at its limits, where something fails, and where its words are bad.
 
-The system chooses all ports but those that are used again. Nothing is proved by waiting: each test waits for what must come, for at most a minute.
+The system chooses all ports but those that are used again. Nothing is proved by waiting: each test waits for what must come, for at most five
+minutes.
 It says which tests failed, and nothing where none did. No test follows one that hangs.
 
 usage: raw.py YMX
@@ -18,8 +19,8 @@ import sys
 sys.path.append(os.path.join(os.path.dirname(__file__), ".."))
 from ports import free_ports
 
-# How long a test may take.
-SECONDS = 60
+# How long a test may take, in seconds: also on a loaded machine.
+SECONDS = 300
 DATA, WINDOW, PING, AWAY = 0, 1, 2, 3
 SYN, ACK, FIN = 1, 2, 4
 HEADER = struct.Struct(">BBHII")

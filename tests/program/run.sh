@@ -1,7 +1,7 @@
 #!/bin/sh
 # Tries the program from outside, as ./ymx builds it: its exit status, and what it writes on standard output
-# and on standard error. The texts that it must write stand in this folder. A program that hangs is ended after a
-# minute, and fails.
+# and on standard error. The texts that it must write stand in this folder. A program that hangs is ended after five
+# minutes, and fails; on a loaded machine too each of them needs less.
 set -eu
 here=$(cd "$(dirname "$0")" && pwd)
 . "$here/../over.sh"
@@ -19,7 +19,7 @@ expect() {
     status=$1 output=$2 errors=$3 input=$4
     shift 4
     got=0
-    timeout 60 "$ymx" "$@" < "$input" > out 2> err || got=$?
+    timeout 300 "$ymx" "$@" < "$input" > out 2> err || got=$?
     if [ "$got" = "$status" ] && cmp -s out "$output" && cmp -s err "$errors"; then
         good
     else
@@ -48,7 +48,7 @@ expect 1 nothing "$(says 'ymx: reading failed')" hello frames .
 printf 'connection %s bytes echoed\n' '1: 0' '2: 1' '3: 300000' > echoed
 expect 0 echoed nothing nothing selftest
 "${CC-cc}" -O2 -shared -fPIC -o held.so "$here/held_connect.c" -ldl
-if timeout 60 "$here/as_they_come.py" "$ymx" "$scratch/held.so" > log 2>&1; then
+if timeout 300 "$here/as_they_come.py" "$ymx" "$scratch/held.so" > log 2>&1; then
     good
 else
     bad "a line of selftest doesn't come with its connection:" log
@@ -99,10 +99,10 @@ both_end() {
 
 python3 "$here/ends.py" echo > echo_port &
 target=127.0.0.1:$(port_of echo_port)
-timeout 60 "$ymx" remote -v --bind 127.0.0.1:0 --target "$target" > remote_out 2> remote_err &
+timeout 300 "$ymx" remote -v --bind 127.0.0.1:0 --target "$target" > remote_out 2> remote_err &
 remote=$!
 peer=$(port_of remote_err)
-timeout 60 "$ymx" local --verbose --listen 127.0.0.1:0 --peer "127.0.0.1:$peer" --count 1 > local_out 2> local_err &
+timeout 300 "$ymx" local --verbose --listen 127.0.0.1:0 --peer "127.0.0.1:$peer" --count 1 > local_out 2> local_err &
 local=$!
 port=$(port_of local_err)
 end='ymx: connection 1: 5 bytes to the peer (ended), 5 bytes from the peer (ended)'
@@ -117,10 +117,10 @@ python3 "$here/ends.py" echo > echo_port &
 target=127.0.0.1:$(port_of echo_port)
 free_ports 2 > ports
 { read -r peer && read -r port; } < ports
-timeout 60 "$ymx" remote --bind "127.0.0.1:$peer" --target "$target" > remote_out 2> remote_err &
+timeout 300 "$ymx" remote --bind "127.0.0.1:$peer" --target "$target" > remote_out 2> remote_err &
 remote=$!
 reach() {
-    timeout 60 "$ymx" local --listen "127.0.0.1:$port" --peer "127.0.0.1:$peer" --count 1 > local_out 2> local_err
+    timeout 300 "$ymx" local --listen "127.0.0.1:$port" --peer "127.0.0.1:$peer" --count 1 > local_out 2> local_err
 }
 in_time reach &
 local=$!
@@ -132,10 +132,10 @@ holds 'remote says nothing' cmp -s remote_err nothing
 rm -f remote_err local_err
 free_ports 2 > ports
 { read -r peer && read -r nobody; } < ports
-timeout 60 "$ymx" remote -v --bind "127.0.0.1:$peer" --target "127.0.0.1:$nobody" > remote_out 2> remote_err &
+timeout 300 "$ymx" remote -v --bind "127.0.0.1:$peer" --target "127.0.0.1:$nobody" > remote_out 2> remote_err &
 remote=$!
 port_of remote_err > remote_port
-timeout 60 "$ymx" local -v --listen 127.0.0.1:0 --peer "127.0.0.1:$peer" --count 1 > local_out 2> local_err &
+timeout 300 "$ymx" local -v --listen 127.0.0.1:0 --peer "127.0.0.1:$peer" --count 1 > local_out 2> local_err &
 local=$!
 python3 "$here/ends.py" ask "$(port_of local_err)" > answer 2> answer_err || true
 holds 'both end well without a target' both_end
@@ -167,7 +167,7 @@ refuses() {
     beginning=$1
     shift
     got=0
-    timeout 60 "$ymx" "$@" < hello > out 2> err || got=$?
+    timeout 300 "$ymx" "$@" < hello > out 2> err || got=$?
     if [ "$got" = 2 ] && cmp -s out nothing && head -n 1 err | grep -q "^$beginning"; then
         good
     else
@@ -272,7 +272,7 @@ expect 1 nothing "$(says 'ymx: reading failed')" nothing script .
 # on_full SUBCOMMAND INPUT: a full device takes nothing
 on_full() {
     got=0
-    timeout 60 "$ymx" "$1" < "$2" > /dev/full 2> err || got=$?
+    timeout 300 "$ymx" "$1" < "$2" > /dev/full 2> err || got=$?
     if [ "$got" = 1 ] && cmp -s err "$(says 'ymx: writing failed')"; then
         good
     else
