@@ -20,7 +20,9 @@ PATIENCE = 1
 # How much less may have gone by, as the clocks of two processes count it.
 EARLY = 0.1
 # How long it may take where the machine is slow.
-LATE = 20
+LATE = 100
+# How often a peer speaks at most, where this process may have been held up for so long that it was silent.
+ATTEMPTS = 5
 
 
 class Sides:
@@ -73,16 +75,29 @@ def a_peer_that_answers(name):
 
 
 def a_peer_that_speaks(name):
-    """Whatever comes of it is a sign, so it isn't asked."""
-    sides = Sides(name)
+    """Whatever comes of it is a sign, so it isn't asked. Where this process or the program is held up, the peer may have
+    been silent for the program; so it is tried again."""
+    for _ in range(ATTEMPTS):
+        answer, silent = speak(Sides(name))
+        if answer is None:
+            return
+        assert silent >= PATIENCE - EARLY, f"{answer.hex()} comes after {silent} seconds"
+    raise AssertionError(f"it was held up {ATTEMPTS} times")
+
+
+def speak(sides):
+    """Speaks in half of the time that may pass in silence, eight times. What comes that is no answer, and how long after
+    the sign of life before; None where all are answers."""
+    before = sides.began
     for number in range(8):
         time.sleep(PATIENCE / 2)
+        now = time.monotonic()
         sides.peer.sendall(frame(PING, SYN, 0, number))
         answer = take(sides.peer, 12)
-        if answer == frame(PING, SYN, 0, 0):
-            # the machine was slow, and it was asked
-            answer = take(sides.peer, 12)
-        assert answer == frame(PING, ACK, 0, number), answer.hex()
+        if answer != frame(PING, ACK, 0, number):
+            return answer, time.monotonic() - before
+        before = now
+    return None, 0
 
 
 def a_wire_that_is_stuck():
