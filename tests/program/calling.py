@@ -13,14 +13,14 @@ import time
 import raw
 from beside import Peer, swap
 from kept import BYTES, COME, GONE, LOST, SESSIONS, SETTLED, WHOLE
-from kept import connection, finish, is_refused, listen_again, says, used
+from kept import connection, finish, is_refused, listen_again, rests, says, used
 from raw import ACK, ANY, FIN, NOWHERE, PING, REFUSED, SYN, Program
 from raw import accept, break_off, call, frame, free_place, free_places, has_ended, leave, listen, take
 
 # How much less than the pauses may have gone by, as the clocks of two processes count it.
 EARLY = 0.1
 # How often a time is taken at most, where the machine may have been slow.
-ATTEMPTS = 3
+ATTEMPTS = 5
 
 
 def calling(*words):
@@ -252,6 +252,7 @@ def many_peers():
         finish(peer, 1, user)
         leave(peer.connection)
         says(program, connection(number, "1 bytes to the peer (ended), 1 bytes from the peer (ended)"), GONE)
+        rests(program)
         if number == SETTLED:
             before = used(program)
         peer = Peer(call(place))
