@@ -35,10 +35,10 @@ USUAL_COUNT = 10_000
 USUAL_SEED = 20
 BLOCKS = 5
 AT_ONCE = 100
-# How long one side of a connection may take, in seconds.
-PATIENCE = 60
-# How long both `ymx` may take to close what is over, in seconds.
-REST = 60
+# How long one side of a connection may take, in seconds: also on a loaded machine.
+PATIENCE = 300
+# How long both `ymx` may take to close what is over, or to take what is sent, in seconds.
+REST = 120
 # How long a connection is waited for whose end is taken away, in seconds.
 SHORT = 2
 # How long nobody reads, at most, in seconds.
@@ -486,19 +486,29 @@ async def run_held(folder, program):
         before = check_rest(tunnel)
         for _ in range(AT_ONCE):
             users.append(socket.create_connection(tunnel.address))
-            users[-1].settimeout(0.01)
-            try:
-                users[-1].sendall(bytes(16 << 20))
-            except socket.timeout:
-                pass
-        # The tunnel takes what was sent as fast as it comes to it.
-        wait_for(lambda: found(lambda: check_growth(before, held(tunnel))), REST)
+            users[-1].setblocking(False)
+
+        def is_found():
+            """Sends what the tunnel takes now: how fast that is depends on the machine."""
+            for one in users:
+                send_some(one)
+            return found(lambda: check_growth(before, held(tunnel)))
+
+        wait_for(is_found, REST)
         return [found(lambda: check_rest(tunnel, 0.2)), found(lambda: check_growth(before, held(tunnel)))]
     finally:
         for one in users:
             one.close()
         listener.close()
         tunnel.kill()
+
+
+def send_some(connection):
+    """Sends what a connection takes now, of some bytes."""
+    try:
+        connection.send(bytes(1 << 20))
+    except BlockingIOError:
+        pass
 
 
 def found(check):
