@@ -4,8 +4,9 @@ A client, `ymx local`, `ymx remote` and a target stand on the loopback. Each sid
 their place in the connection settles, and compares what comes: so what came is always a beginning of what was sent.
 
 1. At a random moment `ymx remote`, `ymx local`, the target or a client is killed, 100 times. Where the session is
-   lost, the clients see an end, and the other `ymx` ends with its status, within 5 seconds. Where a client or the
-   target died, the same tunnel serves the next clients, holds no descriptor of the dead ones, and has one thread.
+   lost, the clients see an end, and the other `ymx` ends with its status, within a minute; how long it took at most is
+   printed. Where a client or the target died, the same tunnel serves the next clients, holds no descriptor of the dead
+   ones, and has one thread.
 2. The same for `ymx` and connections on which nothing moves: idle ones, ones of which one side has ended, ones of
    which nobody reads.
 3. Short connections, 64 at once: descriptors and threads after 1,000, 10,000 and 20,000. The second 10,000 must leave
@@ -39,8 +40,10 @@ AT_ONCE = 65_536
 ENDLESS = 1 << 40
 # How long a tunnel may take to begin, in seconds.
 BEGINNING = 60.0
-# How long whatever must end may take after a kill, in seconds.
-PATIENCE = 5.0
+# How long whatever must end may take after a kill, in seconds: also on a loaded machine.
+PATIENCE = 60.0
+# How long nobody runs where nothing moves any more, in seconds.
+STILL = 0.3
 # How much more resident memory 10,000 short connections may leave behind, in KiB: less than 1 KiB for each, where a
 # ring, a buffer or a stack that is left would be 4 at least.
 MOST_GROWTH = 8192
@@ -343,6 +346,13 @@ def memory(pid, name="VmRSS"):
         return next(int(line.split()[1]) for line in lines if line.startswith(name + ":"))
 
 
+def waits(pid):
+    """Whether it waits, and how often it has begun to."""
+    with open(f"/proc/{pid}/status") as status:
+        lines = dict(line.split(":", 1) for line in status)
+    return lines["State"].split()[0] == "S", int(lines["voluntary_ctxt_switches"])
+
+
 class Fault(Exception):
     """What should hold and doesn't."""
 
@@ -432,7 +442,7 @@ class Tunnel:
         return [(descriptors(one.pid), threads(one.pid)) for one in (self.local, self.remote)]
 
     def check_rest(self):
-        """Both hold the descriptors that they held at first, and have one thread. In 5 seconds at most."""
+        """Both hold the descriptors that they held at first, and have one thread. In a minute at most."""
         wanted = [(held, 1) for held, _ in self.at_rest]
         if wait_for(lambda: self.holds() == wanted) is None:
             raise Fault(f"descriptors and threads of local and remote are {self.holds()}, and were {wanted}")
@@ -598,12 +608,12 @@ class Killing:
 
     def kill_client(self, client, beside, _began):
         client.kill()
-        beside.check_whole(20)
+        beside.check_whole(PATIENCE)
         self.goes_on()
 
     def goes_on(self):
         """The tunnel serves the next client, and holds nothing of those before."""
-        self.client(4, self.chance.randrange(1 << 20)).check_whole(20)
+        self.client(4, self.chance.randrange(1 << 20)).check_whole(PATIENCE)
         self.tunnel.check_rest()
 
 
@@ -636,20 +646,33 @@ UNREAD = {
 }
 
 
+def wait_until_still(pids):
+    """Waits until each of these has waited for a while, and not run."""
+
+    def is_still():
+        before = [waits(pid) for pid in pids]
+        time.sleep(STILL)
+        return before == [waits(pid) for pid in pids] and all(now for now, _ in before)
+
+    if wait_for(is_still) is None:
+        raise Fault("somebody runs where nothing moves")
+
+
 def run_quiet(folder, program, victim, plan, workers=32, has_readers=True):
     """One `ymx` is killed where nothing moves any more: the other one ends, once those who don't read are gone."""
     target = Target(folder)
     tunnel = Tunnel(folder, program, target, workers)
     holders = []
 
+
     def holds():
         sides = [call(tunnel.address, number, **plan) for number in range(4)]
         run_client(sides, None)
-        time.sleep(60)
+        signal.pause()
 
     try:
         holders.append(fork(holds))
-        time.sleep(0.7)
+        wait_until_still([holders[0], target.pid, tunnel.local.pid, tunnel.remote.pid])
         dead, alive = (tunnel.remote, tunnel.local) if victim == "remote" else (tunnel.local, tunnel.remote)
         dead.kill()
         if not has_readers:
@@ -697,9 +720,9 @@ def run_leaks(folder, program, tests):
             for _ in range(50):
                 number = next(numbers)
                 clients.append(Client(folder, tunnel.address, [number], target_sends=ENDLESS, sends=ENDLESS))
-            time.sleep(0.5)
             for client in clients:
-                os.close(client.begun)
+                client.wait_until_begun()
+            for client in clients:
                 client.kill()
         target.check()
         tunnel.check_rest()
