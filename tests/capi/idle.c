@@ -1,5 +1,5 @@
-/* One busy stream beside 1,000 idle ones: what a block of it costs at both ends, against the same with none. It fails
- * where the idle ones make it half as much again. */
+/* One busy stream beside 1,000 idle ones: what processor time a block of it costs at both ends, against the same with none.
+ * It fails where the idle ones make it half as much again. */
 #define _POSIX_C_SOURCE 200809L
 #include "check.h"
 
@@ -14,7 +14,7 @@ static void carry(ymx_session *from, ymx_session *to) {
     while ((count = ymx_emit(from, wire, sizeof wire)) > 0) CHECK(ymx_feed(to, wire, (size_t)count) == count);
 }
 
-/* Seconds for so many rounds of a block beside this many idle streams. */
+/* Seconds of the processor for so many rounds of a block beside this many idle streams. */
 static double rounds(int idle) {
     ymx_session *client, *server;
     struct timespec began, ended;
@@ -27,14 +27,14 @@ static double rounds(int idle) {
         CHECK(ymx_accept(server) == id);
         carry(server, client);
     }
-    clock_gettime(CLOCK_MONOTONIC, &began);
+    clock_gettime(CLOCK_PROCESS_CPUTIME_ID, &began);
     for (int i = 0; i < ROUNDS; i++) {
         CHECK(ymx_write(client, (uint32_t)id, block, BLOCK) == BLOCK);
         carry(client, server);
         bytes += ymx_read(server, (uint32_t)id, block, BLOCK);
         carry(server, client);
     }
-    clock_gettime(CLOCK_MONOTONIC, &ended);
+    clock_gettime(CLOCK_PROCESS_CPUTIME_ID, &ended);
     CHECK(bytes == (int64_t)ROUNDS * BLOCK);
     ymx_free(client);
     ymx_free(server);
