@@ -1,33 +1,38 @@
--- How what waits is fed piece by piece, and what of it is passed on.
-use Rattle.std.proofs.Common.{◌≡◌, ℕ, ◌+◌, ◌-◌, ◌≤◌, List, [], ◌∷◌, ◌++◌, length, take, drop, min, Bool, true, false, ◌||◌, ◌&&◌, Option, refl, sym, ap, ◌∙◌, subst, arith, append-nil, append_assoc, take-append-drop, length-append, drop-drop}
-use Rattle.std.specs.Prelude.{option_map}
+-- How what waits is fed, and passed on.
+use Rattle.std.proofs.Common.{◌≡◌, ℕ, ◌+◌, ◌-◌, ◌≤◌, List, [], ◌∷◌, ◌++◌, length, take, drop, Bool, true, false, ◌||◌, ◌&&◌, Option, refl, sym, ap, ◌∙◌, subst, arith, append-nil, append_assoc, take-append-drop, length-append, drop-drop, ◌<◌, inl, inr, min}
+use Rattle.std.specs.Prelude.{option_map, ◌⊎◌}
 use Rattle.std.specs.List.{list_all}
 use Rattle.std.specs.Io.KnownBytes.{Appends}
 use Rattle.std.proofs.KnownBytes.{Appends-nil}
 use Rattle.std.proofs.lemmas.Grind.{common_steps}
 use Rattle.std.proofs.Math.Seq.{take-append_seam}
-use Rattle.std.proofs.lemmas.List.{drop-append-le, length-take-le, length-drop}
+use Rattle.std.proofs.lemmas.List.{length-take-le, length-drop, drop-append-le}
 use Rattle.std.proofs.lemmas.List.Folds.{list_all-append}
-use Rattle.ymx_machine.specs.shared.Events.{Call}
 use Rattle.ymx_machine.specs.declared.types.Call.TheVariants as call
-use Rattle.ymx_machine.specs.declared.types.Fed.{Fed}
-use Rattle.ymx_machine.specs.shared.Events.{Reply}
-use Rattle.ymx_machine.specs.declared.types.Reply.TheVariants as reply
+use Rattle.ymx_machine.specs.shared.Events.{Reply, Call}
 use Rattle.ymx_model.specs.session.Events.{Event}
 use Rattle.ymx_model.specs.declared.types.Event.TheVariants as event
 use Rattle.ymx_model.specs.session.Sessions.{Session}
 use Rattle.ymx_model.specs.session.Emissions.{in_turn}
 use Rattle.ymx_model.specs.session.Histories.{Gives}
-use Rattle.ymx_session.specs.Passing.{FeedsSome}
-use Rattle.ymx_engine.specs.declared.device.Pushed.{Pushed}
+use Rattle.ymx_engine.specs.declared.ways.Ways.{Ways}
 use Rattle.ymx_engine.specs.declared.device.Pushed.TheVariants as pushed
-use Rattle.ymx_engine.specs.Devices.{Seen, pushed_count, is_push_failure, IsPushed, IsShut}
-use Rattle.ymx_engine.specs.Events.{Happen, given, has_end, has_finish, has_reset, has_stop, taken}
+use Rattle.ymx_engine.specs.Devices.{Seen, Marks, may_take_more, IsPushed, IsShut, pushed_count, is_push_failure}
+use Rattle.ymx_engine.specs.declared.device.Pushed.{Pushed}
+use Rattle.ymx_engine.specs.Events.{Happen, given, has_end, has_reset, has_stop, has_finish, taken}
 use Rattle.ymx_engine.specs.Engines.{Engine}
-use Rattle.ymx_engine.specs.Wires.{fed_at, fed, is_of_read, ends_feed, has_feed_end, OffersFront, FeedsFront, ReadsWire, HandlesIn}
+use Rattle.ymx_engine.specs.Wires.{fed_at, fed, is_of_read, ends_feed, has_feed_end, FeedsFront, HandlesIn, OffersFront, ReadsWire}
 use Rattle.ymx_engine.specs.Passes.{is_of_pass, PassesOn, OffersOnce, Settles}
+use Rattle.ymx_engine.proofs.Exchanging.{happen_then, given_then, end_then, reset_then, stop_then, or_same, or_none, or_true, same_id, none_pushed, some_bytes, take_both, still}
+use Rattle.ymx_engine.proofs.Following.{ways_then, ways_fed, ways_passed, ways_reset, breaks}
+use Rattle.ymx_engine.specs.Ways.{ways_after, break_if, may_push, is_open}
+use Rattle.ymx_engine.proofs.Quiet.{both, or_neither, quiet}
+use Rattle.ymx_machine.specs.declared.types.Fed.{Fed}
+use Rattle.ymx_machine.specs.declared.types.Reply.TheVariants as reply
+use Rattle.ymx_session.specs.Passing.{FeedsSome}
 use Rattle.ymx_engine.proofs.Carrying.{feed_end_then, gives_from}
-use Rattle.ymx_engine.proofs.Exchanging.{happen_then, given_then, end_then, reset_then, stop_then, or_same, or_none, or_true, same_id, none_pushed, take_both, still}
+
+-- How what waits is fed piece by piece, and what of it is passed on.
 
 -- ---- what is fed
 
@@ -131,151 +136,6 @@ feeds_some a b told s waits same all x incoming outgoing =
       heard = refl;
     }
 
--- ---- events that are no calls on a stream
-
-abbrev pub IsQuiet : ℕ → List (Event × Reply) → Type 0
-IsQuiet id es = (taken id es ≡ []) × (given id es ≡ []) × (has_end id es ≡ false) × (has_finish id es ≡ false) × (has_reset id es ≡ false) × (has_stop id es ≡ false)
-
-quiet_behind : (k : Event → Bool) (none : (c : Call) → k (event.Call c) ≡ false) (id : ℕ) (e : Event) (told : Reply) (es : List (Event × Reply)) → k e ≡ true → IsQuiet id es → IsQuiet id ((e, told) ∷ es)
-quiet_behind k none id (event.Call c) told es h x = let e : k (event.Call c) ≡ false = none c in let no : ⊥ = cc in absurd no
-quiet_behind k none id (event.Feed bytes) told es h x = x
-quiet_behind k none id event.FeedEnd told es h x = x
-quiet_behind k none id (event.Emit room) told es h x = x
-
-pub both : (a b : Bool) → (a && b) ≡ true → (a ≡ true) × (b ≡ true)
-both true b h = (refl, h)
-both false b h = let no : ⊥ = cc in absurd no
-
-pub quiet : (k : Event → Bool) (none : (c : Call) → k (event.Call c) ≡ false) (id : ℕ) (es : List (Event × Reply)) → list_all (λ e. k e.0) es ≡ true → IsQuiet id es
-quiet k none id [] h = (refl, refl, refl, refl, refl, refl)
-quiet k none id (e ∷ es) h = let two = both (k e.0) (list_all (λ e. k e.0) es) h in quiet_behind k none id e.0 e.1 es two.0 (quiet k none id es two.1)
-
--- ---- what is passed on
-
-pub passes_none : (id : ℕ) (a : Engine) (d : Seen) (n : ℕ) → PassesOn id a a d d n
-passes_none id a d n = record { events = []; happen = refl; own = refl; fronts = tt; from_wire = refl; from_peer = Appends-nil d.had; fails = false; failed = or_same d.failed; reset = refl; outgoing = refl; left = refl; over = refl; ended = or_same d.ended; shut = or_same d.shut; few = omega arith }
-
-and_both : (a b : Bool) → a ≡ true → b ≡ true → (a && b) ≡ true
-and_both true b h k = k
-and_both false b h k = h
-
-pub or_neither : (a b : Bool) → (a || b) ≡ false → (a ≡ false) × (b ≡ false)
-or_neither true b h = let no : ⊥ = cc in absurd no
-or_neither false b h = (refl, h)
-
-of_feed : (id : ℕ) (e : Event) → is_of_read e ≡ true → ends_feed e ≡ false → is_of_pass id e ≡ true
-of_feed id (event.Call c) h k = let no : ⊥ = cc in absurd no
-of_feed id (event.Feed bytes) h k = refl
-of_feed id event.FeedEnd h k = let no : ⊥ = cc in absurd no
-of_feed id (event.Emit room) h k = let no : ⊥ = cc in absurd no
-
-of_feeds : (id : ℕ) (es : List (Event × Reply)) → list_all (λ e. is_of_read e.0) es ≡ true → has_feed_end es ≡ false → list_all (λ e. is_of_pass id e.0) es ≡ true
-of_feeds id [] h k = refl
-of_feeds id (e ∷ es) h k =
-    let two = both (is_of_read e.0) (list_all (λ e. is_of_read e.0) es) h in
-    let none = or_neither (ends_feed e.0) (has_feed_end es) k in
-    and_both (is_of_pass id e.0) (list_all (λ e. is_of_pass id e.0) es) (of_feed id e.0 two.0 none.0) (of_feeds id es two.1 none.1)
-
--- a piece was passed on, and then what waits was fed
-pub passes_then_handles : (id : ℕ) (a b c : Engine) (p q : Seen) (n : ℕ) → PassesOn id a b p q n → HandlesIn false b c → PassesOn id a c p q n
-passes_then_handles id a b c p q n x y =
-    let still_there = quiet is_of_read (λ k. refl) id y.events y.own in
-    let all : given id x.events ≡ given id (x.events ++ y.events) =
-    sym (append-nil (given id x.events)) ∙ ap (λ (v : List ℕ). given id x.events ++ v) (sym still_there.1) ∙ sym (given_then id x.events y.events) in
-    record {
-      events = x.events ++ y.events;
-      happen = happen_then x.events y.events _ _ _ x.happen y.happen;
-      own = rw (list_all-append (λ (e : Event × Reply). is_of_pass id e.0) x.events y.events, x.own, of_feeds id y.events y.own y.heard) refl;
-      fronts = fronts_then x.events y.events a.incoming b.incoming (rest_of x.events a.incoming b.incoming x.from_wire) x.fronts y.fronts;
-      from_wire = fed_on x.events y.events a.incoming b.incoming c.incoming x.from_wire y.from_wire;
-      from_peer = subst (Appends p.had q.had) all x.from_peer;
-      fails = x.fails;
-      failed = x.failed;
-      reset = reset_then id x.events y.events ∙ ap (λ (v : Bool). has_reset id x.events || v) still_there.4 ∙ or_none (has_reset id x.events) ∙ x.reset;
-      outgoing = y.outgoing ∙ x.outgoing;
-      left = x.left;
-      over = x.over;
-      ended = x.ended ∙ ap (λ (v : Bool). option_map (λ b. b || v) p.ended) (sym (end_then id x.events y.events ∙ ap (λ (v : Bool). has_end id x.events || v) still_there.2 ∙ or_none (has_end id x.events)));
-      shut = x.shut ∙ ap (λ (v : Bool). option_map (λ b. b || v) p.shut) (sym (stop_then id x.events y.events ∙ ap (λ (v : Bool). has_stop id x.events || v) still_there.5 ∙ or_none (has_stop id x.events)));
-      few = x.few;
-    }
-
--- ---- one offer
-
--- the device took nothing, and did not fail
-pub offered_none : (id : ℕ) (s : Session) (r : Pushed) (bytes : List ℕ) (a b : Seen) → IsPushed r bytes a b → pushed_count r ≡ 0 → is_push_failure r ≡ false → OffersOnce id bytes 0 s s a b
-offered_none id s r bytes a b p n well = record {
-  events = [];
-  happen = refl;
-  own = refl;
-  fronts = tt;
-  within = omega arith;
-  took = refl;
-  from_peer = none_pushed r bytes a b p n;
-  fails = false;
-  failed = still (is_push_failure r) a.failed b.failed p.failed well ∙ or_same a.failed;
-  reset = refl;
-  left = p.left;
-  over = p.over;
-  ended = p.ended ∙ or_same a.ended;
-  shut = p.shut ∙ or_same a.shut;
-  few = let i = p.counted in omega arith;
-}
-
-pub take_all : (xs : List ℕ) → take (length xs) xs ≡ xs
-take_all xs = grind (arith, common_steps)
-
-front_is : (front waits : List ℕ) (count : ℕ) → count ≤ length waits → waits ≡ front ++ drop count waits → front ≡ take count waits
-front_is front waits count within e =
-    let l : length waits ≡ length front + length (drop count waits) = ap length e ∙ length-append front (drop count waits) in
-    let m : length (drop count waits) ≡ length waits - count = length-drop count waits in
-    let n : length front ≡ count = omega arith in sym (take-append_seam front (drop count waits)) ∙ ap (take (length front)) (sym e) ∙ ap (λ (k : ℕ). take k waits) n
-
--- the device took the first bytes, which came and were read
-pub offered_some : (id n count : ℕ) (s t : Session) (payload waits : List ℕ) (a b : Seen) → IsPushed (pushed.Took n) payload a b → count ≤ length waits → Settles id (take n payload) waits (drop count waits) s t →
-    OffersOnce id waits count s t a b
-offered_some id n count s t payload waits a b p within x = record {
-  events = x.events;
-  happen = x.happen;
-  own = x.own;
-  fronts = x.fronts;
-  within = within;
-  took = front_is (fed x.events) waits count within x.took;
-  from_peer = subst (Appends a.had b.had) (sym x.gave) p.took;
-  fails = false;
-  failed = p.failed;
-  reset = x.resets;
-  left = p.left;
-  over = p.over;
-  ended = rw x.ends (p.ended ∙ or_same a.ended);
-  shut = rw x.stops (p.shut ∙ or_same a.shut);
-  few = let j = p.counted in omega arith;
-}
-
--- the device failed: the stream was reset, and the device shut
-pub offered_failed : (id : ℕ) (told : Reply) (s t : Session) (payload waits : List ℕ) (a b c : Seen) → IsPushed pushed.Failed payload a b → Gives in_turn s (event.Call (call.Reset id)) told t → IsShut b c →
-    OffersOnce id waits 0 s t a c
-offered_failed id told s t payload waits a b c p g q =
-    let i = same_id id in
-    let e : Event = event.Call (call.Reset id) in
-    record {
-      events = (e, told) ∷ [];
-      happen = (t, g, refl);
-      own = rw i refl;
-      fronts = (tt, tt);
-      within = omega arith;
-      took = refl;
-      from_peer = subst (λ (o : Option (List ℕ)). Appends a.had o []) (sym q.had) (none_pushed pushed.Failed payload a b p refl);
-      fails = true;
-      failed = q.failed ∙ p.failed;
-      reset = rw i refl;
-      left = q.left ∙ p.left;
-      over = q.over ∙ p.over;
-      ended = q.ended ∙ p.ended ∙ or_same a.ended;
-      shut = rw i (q.shut ∙ ap (option_map (λ x. true)) p.shut ∙ or_true a.shut);
-      few = let j = p.counted in let k = q.counted in omega arith;
-    }
-
 front_more : (waits more : List ℕ) (e : Event) → OffersFront waits e → OffersFront (waits ++ more) e
 front_more waits more (event.Feed bytes) h = (h.0 ++ more, ap (λ (v : List ℕ). v ++ more) h.1 ∙ append_assoc bytes h.0 more)
 front_more waits more (event.Call c) h = tt
@@ -299,11 +159,187 @@ fronts_more waits more (e ∷ es) h = (
   subst (λ (v : List ℕ). FeedsFront v es) (sym (drop-append-le (length (fed_at e.0 e.1)) waits more (fed_fits waits e.0 e.1 h.0))) (fronts_more (drop (length (fed_at e.0 e.1)) waits) more es h.1),
 )
 
+-- ---- what is passed on
+
+pub passes_none : (id : ℕ) (a : Engine) (d : Seen) (n : ℕ) (w : Ways) → PassesOn id a a d d n w w
+passes_none id a d n w = record {
+  events = [];
+  happen = refl;
+  own = refl;
+  fronts = tt;
+  from_wire = refl;
+  from_peer = Appends-nil d.had;
+  fails = false;
+  failed = or_same d.failed;
+  reset = refl;
+  outgoing = refl;
+  left = refl;
+  over = refl;
+  ended = or_same d.ended;
+  shut = or_same d.shut;
+  few = omega arith;
+  ways = refl;
+  pull_on = λ on. inl on;
+  push_on = λ on. inl on;
+}
+
+and_both : (a b : Bool) → a ≡ true → b ≡ true → (a && b) ≡ true
+and_both true b h k = k
+and_both false b h k = h
+
+of_feed : (id : ℕ) (e : Event) → is_of_read e ≡ true → ends_feed e ≡ false → is_of_pass id e ≡ true
+of_feed id (event.Call c) h k = let no : ⊥ = cc in absurd no
+of_feed id (event.Feed bytes) h k = refl
+of_feed id event.FeedEnd h k = let no : ⊥ = cc in absurd no
+of_feed id (event.Emit room) h k = let no : ⊥ = cc in absurd no
+
+of_feeds : (id : ℕ) (es : List (Event × Reply)) → list_all (λ e. is_of_read e.0) es ≡ true → has_feed_end es ≡ false → list_all (λ e. is_of_pass id e.0) es ≡ true
+of_feeds id [] h k = refl
+of_feeds id (e ∷ es) h k =
+    let two = both (is_of_read e.0) (list_all (λ e. is_of_read e.0) es) h in
+    let none = or_neither (ends_feed e.0) (has_feed_end es) k in
+    and_both (is_of_pass id e.0) (list_all (λ e. is_of_pass id e.0) es) (of_feed id e.0 two.0 none.0) (of_feeds id es two.1 none.1)
+
+-- one of two, of which the second is said otherwise
+or_else : {A : Type 0} {b c : Bool} → A ⊎ (b ≡ true) → c ≡ b → A ⊎ (c ≡ true)
+or_else (inl a) e = inl a
+or_else (inr h) e = inr (e ∙ h)
+
+-- a piece was passed on, and then what waits was fed
+pub passes_then_handles : (id : ℕ) (a b c : Engine) (p q : Seen) (n : ℕ) (v w : Ways) → PassesOn id a b p q n v w → HandlesIn false b c → PassesOn id a c p q n v w
+passes_then_handles id a b c p q n v w x y =
+    let still_there = quiet is_of_read (λ k. refl) id y.events y.own in
+    let all : given id x.events ≡ given id (x.events ++ y.events) =
+    sym (append-nil (given id x.events)) ∙ ap (λ (v : List ℕ). given id x.events ++ v) (sym still_there.1) ∙ sym (given_then id x.events y.events) in
+    let stop : has_stop id (x.events ++ y.events) ≡ has_stop id x.events = stop_then id x.events y.events ∙ ap (λ (v : Bool). has_stop id x.events || v) still_there.5 ∙ or_none (has_stop id x.events) in
+    record {
+      events = x.events ++ y.events;
+      happen = happen_then x.events y.events _ _ _ x.happen y.happen;
+      own = rw (list_all-append (λ (e : Event × Reply). is_of_pass id e.0) x.events y.events, x.own, of_feeds id y.events y.own y.heard) refl;
+      fronts = fronts_then x.events y.events a.incoming b.incoming (rest_of x.events a.incoming b.incoming x.from_wire) x.fronts y.fronts;
+      from_wire = fed_on x.events y.events a.incoming b.incoming c.incoming x.from_wire y.from_wire;
+      from_peer = subst (Appends p.had q.had) all x.from_peer;
+      fails = x.fails;
+      failed = x.failed;
+      reset = reset_then id x.events y.events ∙ ap (λ (v : Bool). has_reset id x.events || v) still_there.4 ∙ or_none (has_reset id x.events) ∙ x.reset;
+      outgoing = y.outgoing ∙ x.outgoing;
+      left = x.left;
+      over = x.over;
+      ended = x.ended ∙ ap (λ (v : Bool). option_map (λ b. b || v) p.ended) (sym (end_then id x.events y.events ∙ ap (λ (v : Bool). has_end id x.events || v) still_there.2 ∙ or_none (has_end id x.events)));
+      shut = x.shut ∙ ap (λ (v : Bool). option_map (λ b. b || v) p.shut) (sym stop);
+      few = x.few;
+      ways = x.ways ∙ sym (ways_then id x.events y.events v ∙ ways_fed id y.events (ways_after id x.events v) y.own);
+      pull_on = λ on. or_else (x.pull_on on) stop;
+      push_on = λ on. or_else (x.push_on on) stop;
+    }
+
+-- ---- one offer
+
+-- a push leaves the mark of bytes that may come, and turns that of bytes that it may take on for nothing
+pull_stays : (r : Pushed) (bytes : List ℕ) (a b : Seen) → IsPushed r bytes a b → b.marks.may_pull ≡ true → a.marks.may_pull ≡ true
+pull_stays r bytes a b p on = sym (ap (λ (m : Marks). m.may_pull) p.marks) ∙ on
+
+push_stays : (r : Pushed) (bytes : List ℕ) (a b : Seen) → IsPushed r bytes a b → b.marks.may_push ≡ true → a.marks.may_push ≡ true
+push_stays r bytes a b p on = (both a.marks.may_push (may_take_more r (length bytes)) (sym (ap (λ (m : Marks). m.may_push) p.marks) ∙ on)).0
+
+and_none : (b : Bool) → (b && false) ≡ false
+and_none true = refl
+and_none false = refl
+
+takes_none_now : (w : Ways) (bytes : List ℕ) (a b : Seen) → IsPushed pushed.NotNow bytes a b → may_push w b.marks ≡ false
+takes_none_now w bytes a b p = ap (λ (m : Marks). m.may_push && is_open w.from_peer) p.marks ∙ ap (λ (v : Bool). v && is_open w.from_peer) (and_none a.marks.may_push)
+
+-- the device took nothing, and did not fail
+pub offered_none : (id : ℕ) (s : Session) (payload waits : List ℕ) (a b : Seen) (w : Ways) → IsPushed pushed.NotNow payload a b → OffersOnce id waits 0 s s a b w w
+offered_none id s payload waits a b w p = record {
+  events = [];
+  happen = refl;
+  own = refl;
+  fronts = tt;
+  within = omega arith;
+  took = refl;
+  from_peer = none_pushed pushed.NotNow payload a b p refl;
+  fails = false;
+  failed = p.failed;
+  reset = refl;
+  left = p.left;
+  over = p.over;
+  ended = p.ended ∙ or_same a.ended;
+  shut = p.shut ∙ or_same a.shut;
+  few = let i = p.counted in omega arith;
+  ways = refl;
+  delivers = inr (takes_none_now w payload a b p);
+  pull_on = λ on. inl (pull_stays pushed.NotNow payload a b p on);
+  push_on = λ on. inl (push_stays pushed.NotNow payload a b p on);
+}
+
+pub take_all : (xs : List ℕ) → take (length xs) xs ≡ xs
+take_all xs = grind (arith, common_steps)
+
+front_is : (front waits : List ℕ) (count : ℕ) → count ≤ length waits → waits ≡ front ++ drop count waits → front ≡ take count waits
+front_is front waits count within e =
+    let l : length waits ≡ length front + length (drop count waits) = ap length e ∙ length-append front (drop count waits) in
+    let m : length (drop count waits) ≡ length waits - count = length-drop count waits in
+    let n : length front ≡ count = omega arith in sym (take-append_seam front (drop count waits)) ∙ ap (take (length front)) (sym e) ∙ ap (λ (k : ℕ). take k waits) n
+
+-- the device took the first bytes, which came and were read
+pub offered_some : (id n count : ℕ) (s t : Session) (payload waits : List ℕ) (a b : Seen) (w : Ways) → IsPushed (pushed.Took n) payload a b → 0 < n → count ≤ length waits → Settles id (take n payload) waits (drop count waits) s t →
+    OffersOnce id waits count s t a b w w
+offered_some id n count s t payload waits a b w p some within x = record {
+  events = x.events;
+  happen = x.happen;
+  own = x.own;
+  fronts = x.fronts;
+  within = within;
+  took = front_is (fed x.events) waits count within x.took;
+  from_peer = subst (Appends a.had b.had) (sym x.gave) p.took;
+  fails = false;
+  failed = p.failed;
+  reset = x.resets;
+  left = p.left;
+  over = p.over;
+  ended = rw x.ends (p.ended ∙ or_same a.ended);
+  shut = rw x.stops (p.shut ∙ or_same a.shut);
+  few = let j = p.counted in omega arith;
+  ways = sym (ways_passed id x.events w x.own x.ends x.stops);
+  delivers = inl (some_bytes (given id x.events) (subst (λ (v : List ℕ). 0 < length v) (sym x.gave) (let l = length-take-le n payload p.within in omega arith)));
+  pull_on = λ on. inl (pull_stays (pushed.Took n) payload a b p on);
+  push_on = λ on. inl (push_stays (pushed.Took n) payload a b p on);
+}
+
+-- the device failed: the stream was reset, and the device shut
+pub offered_failed : (id : ℕ) (told : Reply) (s t : Session) (payload waits : List ℕ) (a b c : Seen) (v w : Ways) → IsPushed pushed.Failed payload a b → Gives in_turn s (event.Call (call.Reset id)) told t → IsShut b c →
+    w ≡ record v { to_peer = break_if true v.to_peer; from_peer = break_if true v.from_peer } → OffersOnce id waits 0 s t a c v w
+offered_failed id told s t payload waits a b c v w p g q broken =
+    let i = same_id id in
+    let e : Event = event.Call (call.Reset id) in
+    record {
+      events = (e, told) ∷ [];
+      happen = (t, g, refl);
+      own = rw i refl;
+      fronts = (tt, tt);
+      within = omega arith;
+      took = refl;
+      from_peer = subst (λ (o : Option (List ℕ)). Appends a.had o []) (sym q.had) (none_pushed pushed.Failed payload a b p refl);
+      fails = true;
+      failed = q.failed ∙ p.failed;
+      reset = rw i refl;
+      left = q.left ∙ p.left;
+      over = q.over ∙ p.over;
+      ended = q.ended ∙ p.ended ∙ or_same a.ended;
+      shut = rw i (q.shut ∙ ap (option_map (λ x. true)) p.shut ∙ or_true a.shut);
+      few = let j = p.counted in let k = q.counted in omega arith;
+      ways = broken ∙ sym (ways_reset id told v);
+      delivers = inr (ap (λ (x : Ways). c.marks.may_push && is_open x.from_peer) broken ∙ ap (λ (b : Bool). c.marks.may_push && b) (breaks v.from_peer) ∙ and_none c.marks.may_push);
+      pull_on = λ on. inr (rw i refl);
+      push_on = λ on. inr (rw i refl);
+    }
+
 -- the front of what waits was offered
-pub offers_front : (id count : ℕ) (waits : List ℕ) (a b : Engine) (s : Session) (d e : Seen) → s ≡ a.session → waits ≡ a.incoming → OffersOnce id waits count s b.session d e →
-    b.incoming ≡ drop count a.incoming → b.outgoing ≡ a.outgoing → PassesOn id a b d e 2
-offers_front id count waits a b s d e same all x incoming outgoing =
-    let y : OffersOnce id a.incoming count s b.session d e = subst (λ (v : List ℕ). OffersOnce id v count s b.session d e) all x in record {
+pub offers_front : (id count : ℕ) (waits : List ℕ) (a b : Engine) (s : Session) (d e : Seen) (v w : Ways) → s ≡ a.session → waits ≡ a.incoming → OffersOnce id waits count s b.session d e v w →
+    b.incoming ≡ drop count a.incoming → b.outgoing ≡ a.outgoing → PassesOn id a b d e 2 v w
+offers_front id count waits a b s d e v w same all x incoming outgoing =
+    let y : OffersOnce id a.incoming count s b.session d e v w = subst (λ (bytes : List ℕ). OffersOnce id bytes count s b.session d e v w) all x in record {
       events = y.events;
       happen = subst (λ (v : Session). Happen y.events v b.session) same y.happen;
       own = y.own;
@@ -319,4 +355,7 @@ offers_front id count waits a b s d e same all x incoming outgoing =
       ended = y.ended;
       shut = y.shut;
       few = y.few;
+      ways = y.ways;
+      pull_on = y.pull_on;
+      push_on = y.push_on;
     }

@@ -114,6 +114,11 @@ pulled_heard r a b c d e none t x =
       few = t.pulled.counted;
     } in (moved, refl, refl)
 
+-- and what came is what it gave
+pub pulled_so : (r : Pulled) (a b c : Engine) (d e : Seen) (none : a.incoming ≡ []) (t : TakesIn r a b d e) (x : HandlesIn (is_end r || is_pull_failure r) b c) → (m : ReadsWire a c d e 1) × (m.came ≡ take (pulled_count r) t.buffer)
+unfolding pulled_heard
+pulled_so r a b c d e none t x = ((pulled_heard r a b c d e none t x).0, refl)
+
 -- the wire was called with bytes, and what it said was heard
 pub pushed_heard : (r : Pushed) (a b c : Engine) (d e : Seen) → GivesOut r a b d e → HandlesOut (is_push_failure r) b c → FlushesWireSo (is_push_failure r) a c d e 1
 pushed_heard r a b c d e g x =
@@ -136,6 +141,11 @@ pushed_heard r a b c d e g x =
       shut = g.pushed.shut;
       few = g.pushed.counted;
     } in (moved, refl)
+
+-- and what went is what the wire took of it
+pub pushed_heard_so : (r : Pushed) (a b c : Engine) (d e : Seen) → GivesOut r a b d e → HandlesOut (is_push_failure r) b c → (m : FlushesWire a c d e 1) × (m.sent ≡ take (pushed_count r) a.outgoing)
+unfolding pushed_heard
+pushed_heard_so r a b c d e g x = ((pushed_heard r a b c d e g x).0, refl)
 
 pub feeds_one : (a b : Engine) (told : Fed) (s : Session) (bytes : List ℕ) → s ≡ a.session → bytes ≡ a.incoming → Gives in_turn s (event.Feed bytes) (reply.Fed told) b.session →
     b.incoming ≡ drop told.taken a.incoming → b.outgoing ≡ a.outgoing → HandlesIn false a b

@@ -1,5 +1,5 @@
 -- Bytes come to wait on a stream, and room on it, only by feeds.
-use Rattle.std.proofs.Common.{◌≡◌, ◌≢◌, ◌⊎◌, inl, inr, ℕ, ◌<◌, List, [], ◌∷◌, length, drop, ◌-◌, Bool, true, false, ◌==◌, ◌&&◌, ◌||◌, nat_lt, if◌then◌else◌, Option, None, Some, refl, sym, ap, ◌∙◌, subst, arith, length-drop}
+use Rattle.std.proofs.Common.{◌≡◌, ◌≢◌, ◌⊎◌, inl, inr, ℕ, ◌<◌, List, [], ◌∷◌, length, drop, ◌-◌, Bool, true, false, ◌==◌, ◌&&◌, ◌||◌, nat_lt, if◌then◌else◌, Option, None, Some, refl, sym, subst, arith, length-drop}
 use Rattle.std.specs.Prelude.{is_some, option_map}
 use Rattle.std.specs.List.{list_all}
 use Rattle.ymx_machine.specs.declared.types.Call.TheVariants as call
@@ -35,14 +35,8 @@ use Rattle.ymx_law_session.proofs.limits.EmissionsKeep.{some_if, if_some, none_i
 use Rattle.ymx_law_session.proofs.limits.HistoriesKeep.{gives-keep}
 use Rattle.ymx_session.specs.Replies.{end_fault}
 use Rattle.ymx_session.specs.Streams.{unread_of, open_credit}
-use Rattle.ymx_engine.specs.declared.connection.Connection.{Connection}
-use Rattle.ymx_engine.specs.declared.connection.Flow.{Flow}
-use Rattle.ymx_engine.specs.declared.connection.Flow.TheVariants as flow
-use Rattle.ymx_engine.specs.Devices.{Seen, Counts}
-use Rattle.ymx_engine.specs.Events.{Happen, is_on}
-use Rattle.ymx_engine.specs.Exchanges.{Exchange}
-use Rattle.ymx_engine.specs.Follows.{FollowsDevice}
-use Rattle.ymx_engine.specs.Known.{is_open, broken, broken_off, may_push, may_pull}
+use Rattle.ymx_engine.specs.Devices.{Seen}
+use Rattle.ymx_engine.specs.Events.{Happen}
 use Rattle.ymx_engine.specs.Served.{GainsNone}
 use Rattle.ymx_engine.specs.Serves.{is_of_turn, Exchanges}
 use Rattle.ymx_engine.specs.Wires.{is_of_flush}
@@ -323,72 +317,11 @@ turn_is_calm id = happen_calm (is_of_turn id) (turn_calm id)
 pub flush_is_calm : (es : List (Event × Reply)) (s t : Session) → Happen es s t → list_all (λ (e : Event × Reply). is_of_flush e.0) es ≡ true → IsWithin s → IsCalm s t
 flush_is_calm = happen_calm is_of_flush flush_calm
 
--- ---- events of one stream alone
-
-on_came_at : (id : ℕ) (e : Event) (told : Reply) (s t : Session) → is_on id e ≡ true → Gives in_turn s e told t → NoneCame s t
-on_came_at id (event.Call (call.Write other bytes)) told s t own g = called_came (call.Write other bytes) s t told (write_came other bytes s) g
-on_came_at id (event.Call (call.Read other max)) told s t own g = called_came (call.Read other max) s t told (read_came other max s) g
-on_came_at id (event.Call (call.Finish other)) told s t own g = called_came (call.Finish other) s t told (finish_came other s) g
-on_came_at id (event.Call (call.Reset other)) told s t own g = called_came (call.Reset other) s t told (reset_came other s) g
-on_came_at id (event.Call call.Open) told s t own g = cc
-on_came_at id (event.Call (call.OpenWith bytes)) told s t own g = cc
-on_came_at id (event.Call call.Accept) told s t own g = cc
-on_came_at id (event.Call (call.Forget other)) told s t own g = cc
-on_came_at id (event.Call call.Ping) told s t own g = cc
-on_came_at id (event.Call (call.Ponged n)) told s t own g = cc
-on_came_at id (event.Call call.GoAway) told s t own g = cc
-on_came_at id (event.Call call.Close) told s t own g = cc
-on_came_at id (event.Feed bytes) told s t own g = cc
-on_came_at id event.FeedEnd told s t own g = cc
-on_came_at id (event.Emit room) told s t own g = cc
-
-on_came_all : (id : ℕ) (es : List (Event × Reply)) (s t : Session) → Happen es s t → list_all (λ (e : Event × Reply). is_on id e.0) es ≡ true → NoneCame s t
-on_came_all id [] s t h own = subst (NoneCame s) (sym h) (none_came s)
-on_came_all id (e ∷ es) s t h own = let two = both_of (is_on id e.0) (list_all (λ (x : Event × Reply). is_on id x.0) es) own in came_then s h.0 t (on_came_at id e.0 e.1 s h.0 two.0 h.1) (on_came_all id es h.0 t h.2 two.1)
-
-pub exchange_came : (id : ℕ) (s t : Session) (before after : Seen) → Exchange id s t before after → NoneCame s t
-exchange_came id s t before after x = on_came_all id x.events s t x.happen x.own
-
 pub exchanges_calm : (id : ℕ) (s t : Session) (out out_new : List ℕ) (before after : Seen) → Exchanges id s t out out_new before after → IsWithin s → IsCalm s t
 exchanges_calm id s t out out_new before after x = turn_is_calm id x.events s t x.happen x.own
 
--- a device that may take bytes now could before
-pub could_push : (a b : Connection) (x y : Counts) → FollowsDevice a b x y → may_push b ≡ true → may_push a ≡ true
-could_push a b x y f may = let two = both_of b.can_push (is_open b.from_peer) may in both (f.push_on two.0) (f.from_on two.1)
-  where
-    both : a.can_push ≡ true → is_open a.from_peer ≡ true → (a.can_push && is_open a.from_peer) ≡ true
-    both p q = rw (p, q) refl
-
--- so of one that may have bytes
-pub could_pull : (a b : Connection) (x y : Counts) → FollowsDevice a b x y → may_pull b ≡ true → may_pull a ≡ true
-could_pull a b x y f may = let two = both_of b.can_pull (is_open b.to_peer) may in both (f.pull_on two.0) (f.to_on two.1)
-  where
-    both : a.can_pull ≡ true → is_open a.to_peer ≡ true → (a.can_pull && is_open a.to_peer) ≡ true
-    both p q = rw (p, q) refl
-
--- one that broke off takes none
-pub broken_takes_none : (a b : Connection) → b ≡ broken_off a → may_push b ≡ true → ⊥
-broken_takes_none a b e may =
-    let same : is_open (broken a.from_peer) ≡ true = ap (λ (c : Connection). is_open c.from_peer) (sym e) ∙ (both_of b.can_push (is_open b.from_peer) may).1 in no a.from_peer same
-  where
-    no : (f : Flow) → is_open (broken f) ≡ true → ⊥
-    no flow.Open h = cc
-    no flow.Ended h = cc
-    no flow.Broken h = cc
-
--- one that broke off gives none, and neither does one that ended
-pub broken_gives_none : (a b : Connection) → b ≡ broken_off a → may_pull b ≡ true → ⊥
-broken_gives_none a b e may =
-    let same : is_open (broken a.to_peer) ≡ true = ap (λ (c : Connection). is_open c.to_peer) (sym e) ∙ (both_of b.can_pull (is_open b.to_peer) may).1 in no a.to_peer same
-  where
-    no : (f : Flow) → is_open (broken f) ≡ true → ⊥
-    no flow.Open h = cc
-    no flow.Ended h = cc
-    no flow.Broken h = cc
-
-pub ended_gives_none : (b : Bool) → (b && false) ≡ true → ⊥
-ended_gives_none true h = let no : false ≡ true = h in cc
-ended_gives_none false h = let no : false ≡ true = h in cc
+pub read_gives : (id max : ℕ) (told : Reply) (s t : Session) → Gives in_turn s (event.Call (call.Read id max)) told t → NoneCame s t
+read_gives id max told s t g = called_came (call.Read id max) s t told (read_came id max s) g
 
 pub reset_gives : (id : ℕ) (told : Reply) (s t : Session) → Gives in_turn s (event.Call (call.Reset id)) told t → NoneCame s t
 reset_gives id told s t g = called_came (call.Reset id) s t told (reset_came id s) g

@@ -1,23 +1,32 @@
-pub mod Coming
-mod Calling
-mod Forgetting
-mod Beside
 pub mod Exchanging
-pub mod Carrying
-pub mod Refusing
+pub mod WaysAfter
 pub mod Advancing
-pub mod Feeding
-pub mod Rows
+pub mod Carrying
 pub mod Listing
 pub mod Trading
 pub mod Serving
+pub mod Parts
 pub mod Blocks
-pub mod Working
+pub mod Coming
+pub mod Asking
+pub mod Steady
+pub mod Entries
+pub mod Marking
+pub mod Queueing
+pub mod Turning
+mod Calling
+pub mod Quiet
+pub mod Following
+pub mod Forgetting
+pub mod Beside
+pub mod Feeding
+pub mod Rows
 pub mod Running
-pub mod Staying
+pub mod Attending
+pub mod Readings
 pub mod Tending
 pub mod Resting
-mod Moving
-mod Queueing
-mod Following
-mod Asking
+pub mod Partaking
+pub mod Turned
+pub mod Entering
+pub mod Flushing

@@ -9,7 +9,7 @@ use Rattle.ymx_engine.specs.Events.{is_on, taken_at, taken, given_at, given, end
 use Rattle.ymx_engine.specs.Wires.{emitted_at, emitted, fed_at, fed, is_of_read, is_of_flush, has_feed_end, OffersFront, FeedsFront}
 use Rattle.ymx_engine.specs.Passes.{is_of_pass}
 use Rattle.ymx_engine.specs.Serves.{is_of_turn}
-use Rattle.ymx_engine.proofs.Advancing.{both, or_neither, IsQuiet}
+use Rattle.ymx_engine.proofs.Quiet.{both, or_neither, IsQuiet}
 
 -- ---- lists that leave the wire alone
 

@@ -1,15 +1,16 @@
--- How payload of several frames is gathered, and passed on piece by piece.
-use Rattle.std.proofs.Common.{◌≡◌, ℕ, ◌+◌, ◌-◌, ◌<◌, ◌≤◌, List, [], ◌∷◌, ◌++◌, length, take, drop, min, Bool, ◌||◌, Option, None, Some, inl, inr, refl, sym, ap, ◌∙◌, subst, arith, append-nil, append_assoc, take-append-drop, length-append, drop-drop}
-use Rattle.std.specs.Prelude.{IfSome}
-use Rattle.std.specs.Option.{ForSome}
-use Rattle.std.proofs.Math.Seq.{take-append-add, take-append_seam}
+-- How payload of several frames in a row is found, and passed on piece by piece.
+use Rattle.std.proofs.Common.{◌≡◌, ◌⊎◌, ℕ, zero, suc, ◌+◌, ◌-◌, ◌<◌, ◌≤◌, ◌==◌, List, [], ◌∷◌, ◌++◌, length, take, drop, min, Bool, true, false, ◌||◌, inl, inr, refl, sym, ap, ◌∙◌, subst, arith, append-nil, append_assoc, take-append-drop, length-append, drop-drop, get_or, drop-cons, add-one}
+use Rattle.std.specs.Prelude.{nat_eq, sum, Some}
+use Rattle.std.proofs.Math.Seq.{take-append-add}
+use Rattle.std.proofs.lemmas.Bool.Decides.{nat_tests}
 use Rattle.std.proofs.lemmas.List.{length-take-le, length-drop, take-append-le}
 use Rattle.std.proofs.lemmas.List.Folds.{list_all-append}
+use Rattle.std.proofs.lemmas.List.Sums.{sum_by-cons}
+use Rattle.std.proofs.lemmas.Grind.{common_steps}
 use Rattle.ymx_machine.specs.declared.types.Call.TheVariants as call
 use Rattle.ymx_machine.specs.declared.types.Fed.{Fed}
 use Rattle.ymx_machine.specs.shared.Events.{Reply}
 use Rattle.ymx_machine.specs.declared.types.Reply.TheVariants as reply
-use Rattle.ymx_machine.specs.shared.Limits.{widest_window}
 use Rattle.ymx_model.specs.session.Events.{Event}
 use Rattle.ymx_model.specs.declared.types.Event.TheVariants as event
 use Rattle.ymx_model.specs.session.Sessions.{Session}
@@ -17,164 +18,190 @@ use Rattle.ymx_model.specs.session.Emissions.{in_turn}
 use Rattle.ymx_model.specs.session.Histories.{Gives}
 use Rattle.ymx_session.specs.declared.passing.Passing.{Passing}
 use Rattle.ymx_session.specs.Passing.{passing, all_fed, Passes, IsPlainHeader, PassesBehind}
+use Rattle.ymx_session.proofs.Passes.{passing-is}
 use Rattle.ymx_engine.specs.Events.{given, has_end, has_reset, has_stop}
 use Rattle.ymx_engine.specs.Wires.{fed}
-use Rattle.ymx_engine.specs.Passes.{is_of_pass, Frame, bytes_of_frames, payload_of_frames, said_by, InRow, Gathers, GathersUpTo, MayFollow, Settles}
-use Rattle.ymx_engine.proofs.Advancing.{fed_then, drop_front, fronts_then, rest_of, fed_on, take_all}
-use Rattle.ymx_engine.proofs.Blocks.{part_length, room_length, rest_is}
-use Rattle.std.specs.Prelude.{nat_eq, ◌==◌, false}
-use Rattle.ymx_session.proofs.Passes.{passing-is}
+use Rattle.ymx_engine.specs.declared.row.Row.{Row}
+use Rattle.ymx_engine.specs.Engines.{Engine}
+use Rattle.ymx_engine.specs.Passes.{is_of_pass, IsPayload, counts_of, payload_in, payload_of, behind_row, InRow, IsRow, Follows, MayFollow, Settles}
 use Rattle.ymx_engine.specs.Served.{GainsNone}
-use Rattle.ymx_engine.proofs.Coming.{gains_then}
+use Rattle.ymx_engine.proofs.Advancing.{fed_then, fronts_then, rest_of, fed_on, take_all}
 use Rattle.ymx_engine.proofs.Beside.{IsPiece, passes_beside, piece_came, header_came, whole_piece}
-use Rattle.ymx_engine.proofs.Exchanging.{happen_then, given_then, end_then, reset_then, stop_then, same_id}
+use Rattle.ymx_engine.proofs.Coming.{gains_then}
+use Rattle.ymx_engine.proofs.Exchanging.{happen_then, given_then, end_then, reset_then, stop_then, same_id, take_both}
 
--- ---- gathering
+first_and : (n : ℕ) (ns : List ℕ) → sum (n ∷ ns) ≡ n + sum ns
+first_and n ns = sum_by-cons (λ (x : ℕ). x) n ns
 
--- the payload that comes, as far as it waits
-pub gathers_first : (p : Passing) (n : ℕ) (waits : List ℕ) (s : Session) → passing s ≡ Some p → 0 < p.missing → n ≡ min p.missing (length waits) →
-    GathersUpTo p.id p.missing 1 0 (take n waits) waits (take (length waits - n) (drop n waits)) s
-gathers_first p n waits s e some least =
-    let l : length (take n waits) ≡ n = length-take-le n waits (omega arith) in
-    let r : length (take (length waits - n) (drop n waits)) ≡ length waits - n = room_length n waits in (
-      record {
-        missing = p.missing;
-        first = take n waits;
-        frames = [];
-        behind = take (length waits - n) (drop n waits);
-        some = some;
-        row = omega arith;
-        few = omega arith;
-        begins = sym (take-append-drop n waits) ∙ ap (λ (v : List ℕ). take n waits ++ v) (sym (rest_is n waits));
-        carried = sym (append-nil (take n waits));
-        passes = record { passes = e; further = λ none. let no : ⊥ = omega arith in absurd no };
-      },
-      refl,
-      refl,
-      refl,
-      λ more. omega arith,
-    )
+-- ---- what is found
 
--- the payload of the frame behind, as far as it waits
-pub follows_next : (id missing ahead said n : ℕ) (waits : List ℕ) (s : Session) → 12 ≤ length waits → IsPlainHeader id said (take 12 waits) → PassesBehind id missing (ahead + said) s →
-    n ≡ min said (length waits - 12) →
-    MayFollow id missing ahead waits (take (12 + n - 12) (drop 12 waits)) (take (length waits - (12 + n)) (drop (12 + n) waits)) (ahead + said) s
-follows_next id missing ahead said n waits s long plain passes least =
-    let k : 12 + n - 12 ≡ n = omega arith in
-    let l : length (take (12 + n - 12) (drop 12 waits)) ≡ n = part_length 12 n waits (omega arith) in
-    let r : length (take (length waits - (12 + n)) (drop (12 + n) waits)) ≡ length waits - (12 + n) = room_length (12 + n) waits in
-    inr
-    (record {
-      header = take 12 waits;
-      count = said;
-      begins =
-          sym (take-append-drop 12 waits)
-          ∙ ap (λ (v : List ℕ). take 12 waits ++ v)
-          (sym (take-append-drop n (drop 12 waits)) ∙ ap (λ (m : ℕ). take m (drop 12 waits) ++ drop n (drop 12 waits)) (sym k)
-          ∙ ap (λ (v : List ℕ). take (12 + n - 12) (drop 12 waits) ++ v) (drop-drop n 12 waits ∙ sym (rest_is (12 + n) waits)));
-      plain = plain;
-      within = omega arith;
-      whole = λ more. omega arith;
-      said = refl;
-      passes = passes;
-    })
+-- Behind what waits so many bytes of each further frame were found, until the row ended; then the headers say `total` bytes, and
+-- `last` waits.
+abbrev pub Found : (id missing : ℕ) → (ended : Bool) → (ahead : ℕ) → (waits : List ℕ) → List ℕ → (total : ℕ) → (last : List ℕ) → Session → Type 0
+Found id missing ended ahead waits [] total last s = (total ≡ ahead) × (last ≡ waits)
+Found id missing ended ahead waits (n ∷ ns) total last s =
+    (behind : List ℕ) × (next : ℕ) × (ends : Bool) × MayFollow id missing ended ahead waits n behind next ends s × Found id missing ends next behind ns total last s
 
--- what is said of a frame that may follow
-pub follows_if : (r : Option ℕ) (ahead : ℕ) (waits header : List ℕ) (s : Session) → 12 ≤ length waits → header ≡ take 12 waits → IfSome r (λ n. ForSome (passing s) (λ p. IsPlainHeader p.id n header)) →
-    IfSome r (λ n. ForSome (passing s) (λ p. PassesBehind p.id p.missing (ahead + n) s)) → IfSome r (λ n. ahead + n ≤ widest_window) →
-    IfSome r (λ n. (12 ≤ length waits) × (ahead + n ≤ widest_window) × ForSome (passing s) (λ p. IsPlainHeader p.id n (take 12 waits) × PassesBehind p.id p.missing (ahead + n) s))
-follows_if None ahead waits header s long same plain behind few = tt
-follows_if (Some n) ahead waits header s long same plain behind few = (long, few, λ p e. (subst (λ (v : List ℕ). IsPlainHeader p.id n v) same (plain p e), behind p e))
+none_of : (n : ℕ) (ns : List ℕ) → n ≡ 0 → sum ns ≡ 0 → sum (n ∷ ns) ≡ 0
+none_of n ns e f = let k = first_and n ns in omega arith
 
-bytes_then : (fs : List Frame) (f : Frame) (rest : List ℕ) → bytes_of_frames fs ++ (f.header ++ (f.payload ++ rest)) ≡ bytes_of_frames (fs ++ f ∷ []) ++ rest
-bytes_then [] f rest = ap (λ (v : List ℕ). f.header ++ (v ++ rest)) (sym (append-nil f.payload)) ∙ sym (append_assoc f.header (f.payload ++ []) rest)
-bytes_then (g ∷ gs) f rest =
-    append_assoc g.header (g.payload ++ bytes_of_frames gs) (f.header ++ (f.payload ++ rest))
-    ∙ ap (λ (v : List ℕ). g.header ++ v)
-    (append_assoc g.payload (bytes_of_frames gs) (f.header ++ (f.payload ++ rest)) ∙ ap (λ (v : List ℕ). g.payload ++ v) (bytes_then gs f rest) ∙ sym (append_assoc g.payload (bytes_of_frames (gs ++ f ∷ [])) rest))
-    ∙ sym (append_assoc g.header (g.payload ++ bytes_of_frames (gs ++ f ∷ [])) rest)
+-- behind the end of a row stands nothing of it
+found_none : (id missing ahead total : ℕ) (ended : Bool) (waits ns last : List ℕ) (s : Session) → ended ≡ true → Found id missing ended ahead waits ns total last s → sum ns ≡ 0
+found_none id missing ahead total ended waits [] last s e h = refl
+found_none id missing ahead total ended waits (n ∷ ns) last s e (behind, next, ends, inl none, more) = none_of n ns none.0 (found_none id missing next total ends behind ns last s none.2 more)
+found_none id missing ahead total ended waits (n ∷ ns) last s e (behind, next, ends, inr there, more) =
+    let no : true ≡ false = sym e ∙ there.0 in cc
 
-payload_then : (fs : List Frame) (f : Frame) → payload_of_frames (fs ++ f ∷ []) ≡ payload_of_frames fs ++ f.payload
-payload_then [] f = append-nil f.payload
-payload_then (g ∷ gs) f = ap (λ (v : List ℕ). g.payload ++ v) (payload_then gs f) ∙ sym (append_assoc g.payload (payload_of_frames gs) f.payload)
+found_stays : (id missing ahead total : ℕ) (ended : Bool) (waits ns last : List ℕ) (s : Session) → ended ≡ true → Found id missing ended ahead waits ns total last s → last ≡ waits
+found_stays id missing ahead total ended waits [] last s e h = h.1
+found_stays id missing ahead total ended waits (n ∷ ns) last s e (behind, next, ends, inl none, more) = found_stays id missing next total ends behind ns last s none.2 more ∙ none.3
+found_stays id missing ahead total ended waits (n ∷ ns) last s e (behind, next, ends, inr there, more) =
+    let no : true ≡ false = sym e ∙ there.0 in cc
 
-said_then : (fs : List Frame) (f : Frame) → said_by (fs ++ f ∷ []) ≡ said_by fs + f.count
-said_then [] f = omega arith
-said_then (g ∷ gs) f = omega (arith, said_then gs f)
+-- headers only add to what they say
+found_more : (id missing ahead total : ℕ) (ended : Bool) (waits ns last : List ℕ) (s : Session) → Found id missing ended ahead waits ns total last s → ahead ≤ total
+found_more id missing ahead total ended waits [] last s h = let i = h.0 in omega arith
+found_more id missing ahead total ended waits (n ∷ ns) last s (behind, next, ends, inl none, more) =
+    let i = found_more id missing next total ends behind ns last s more in let j = none.1 in omega arith
+found_more id missing ahead total ended waits (n ∷ ns) last s (behind, next, ends, inr there, more) =
+    let i = found_more id missing next total ends behind ns last s more in let j = (there.1).sums in omega arith
 
--- a frame stands behind a row that is whole
-row_then : (id missing : ℕ) (first : List ℕ) (fs : List Frame) (f : Frame) → InRow id missing first fs → length first + length (payload_of_frames fs) ≡ missing + said_by fs →
-    IsPlainHeader id f.count f.header → length f.payload ≤ f.count → InRow id missing first (fs ++ f ∷ [])
-row_then id missing first [] f h whole plain within = (omega arith, plain, within)
-row_then id missing first (g ∷ gs) f h whole plain within = (
-  h.0,
-  h.1,
-  row_then id g.count g.payload gs f h.2 (omega (arith, whole, h.0, length-append g.payload (payload_of_frames gs))) plain within,
-)
+fewer_behind : (id missing ahead count next : ℕ) (waits behind : List ℕ) (s : Session) → Follows id missing ahead count waits behind next s → length behind ≤ length waits
+fewer_behind id missing ahead count next waits behind s f = let l : length behind ≡ length waits - (12 + count) = ap length f.rest ∙ length-drop (12 + count) waits in omega arith
 
--- one piece more is gathered, or none
-pub gathers_more : (id missing n ahead next : ℕ) (so_far waits behind payload rest : List ℕ) (s : Session) → GathersUpTo id missing n ahead so_far waits behind s →
-    MayFollow id missing ahead behind payload rest next s → GathersUpTo id missing (n + 1) next (so_far ++ payload) waits rest s
-gathers_more id missing n ahead next so_far waits behind payload rest s x (inl h) =
-    let g = x.0 in (
-      record {
-        missing = g.missing;
-        first = g.first;
-        frames = g.frames;
-        behind = g.behind;
-        some = g.some;
-        row = g.row;
-        few = let i = g.few in omega arith;
-        begins = g.begins;
-        carried = ap (λ (v : List ℕ). so_far ++ v) h.0 ∙ append-nil so_far ∙ g.carried;
-        passes = g.passes;
-      },
-      x.1,
-      x.2 ∙ sym h.1,
-      x.3 ∙ sym h.2,
-      λ more.
-          let i : length so_far ≡ missing + ahead = x.4 (subst (λ (v : List ℕ). 0 < length v) h.1 more) in
-          let j : length payload ≡ 0 = ap length h.0 in
-          let k = length-append so_far payload in omega (arith, h.2),
-    )
-gathers_more id missing n ahead next so_far waits behind payload rest s x (inr h) =
-    let g = x.0 in
-    let f : Frame = record { header = h.header; count = h.count; payload = payload } in
-    let long : length behind ≡ length h.header + length (payload ++ rest) = ap length h.begins ∙ length-append h.header (payload ++ rest) in
-    let header : length h.header ≡ 12 = (h.plain).whole in
-    let whole : length so_far ≡ missing + ahead = x.4 (omega arith) in
-    let parts : length so_far ≡ length g.first + length (payload_of_frames g.frames) = ap length g.carried ∙ length-append g.first (payload_of_frames g.frames) in
-    let said : said_by (g.frames ++ f ∷ []) ≡ next = omega (arith, said_then g.frames f, x.3, h.said) in (
-      record {
-        missing = g.missing;
-        first = g.first;
-        frames = g.frames ++ f ∷ [];
-        behind = rest;
-        some = g.some;
-        row = row_then id g.missing g.first g.frames f g.row (omega (arith, x.1, x.3)) h.plain h.within;
-        few = let i = g.few in let j = length-append g.frames (f ∷ []) in omega arith;
-        begins = g.begins ∙ ap (λ (v : List ℕ). g.first ++ (bytes_of_frames g.frames ++ v)) (x.2 ∙ h.begins) ∙ ap (λ (v : List ℕ). g.first ++ v) (bytes_then g.frames f rest);
-        carried = ap (λ (v : List ℕ). v ++ payload) g.carried ∙ append_assoc g.first (payload_of_frames g.frames) payload ∙ ap (λ (v : List ℕ). g.first ++ v) (sym (payload_then g.frames f));
-        passes = subst (λ (m : ℕ). PassesBehind id m (said_by (g.frames ++ f ∷ [])) s) (sym x.1) (subst (λ (m : ℕ). PassesBehind id missing m s) (sym said) h.passes);
-      },
-      x.1,
-      refl,
-      said,
-      λ more. let i = h.whole more in let k = length-append so_far payload in omega (arith, h.said),
-    )
+-- and what waits only gets less
+found_fewer : (id missing ahead total : ℕ) (ended : Bool) (waits ns last : List ℕ) (s : Session) → Found id missing ended ahead waits ns total last s → length last ≤ length waits
+found_fewer id missing ahead total ended waits [] last s h = let i : length last ≡ length waits = ap length h.1 in omega arith
+found_fewer id missing ahead total ended waits (n ∷ ns) last s (behind, next, ends, inl none, more) =
+    let i = found_fewer id missing next total ends behind ns last s more in let j : length behind ≡ length waits = ap length none.3 in omega arith
+found_fewer id missing ahead total ended waits (n ∷ ns) last s (behind, next, ends, inr there, more) =
+    let i = found_fewer id missing next total ends behind ns last s more in let j = fewer_behind id missing ahead n next waits behind s there.1 in omega arith
 
-pub gathers_four : (id missing a b c d : ℕ) (p q r t waits i j k l : List ℕ) (s : Session) → GathersUpTo id missing 1 a p waits i s → MayFollow id missing a i q j b s → MayFollow id missing b j r k c s →
-    MayFollow id missing c k t l d s → Gathers id 4 (p ++ (q ++ (r ++ t))) waits s
-gathers_four id missing a b c d p q r t waits i j k l s one two three four =
-    let all = gathers_more id missing 3 c d ((p ++ q) ++ r) waits k t l s (gathers_more id missing 2 b c (p ++ q) waits j r k s (gathers_more id missing 1 a b p waits i q j s one two) three) four in
-    subst (λ (v : List ℕ). Gathers id 4 v waits s) (append_assoc (p ++ q) r t ∙ append_assoc p q (r ++ t)) all.0
+found_passes : (id missing ahead total : ℕ) (ended : Bool) (waits ns last : List ℕ) (s : Session) → PassesBehind id missing ahead s → Found id missing ended ahead waits ns total last s → PassesBehind id missing total s
+found_passes id missing ahead total ended waits [] last s p h = subst (λ (n : ℕ). PassesBehind id missing n s) (sym h.0) p
+found_passes id missing ahead total ended waits (n ∷ ns) last s p (behind, next, ends, inl none, more) =
+    found_passes id missing next total ends behind ns last s (subst (λ (m : ℕ). PassesBehind id missing m s) (sym none.1) p) more
+found_passes id missing ahead total ended waits (n ∷ ns) last s p (behind, next, ends, inr there, more) = found_passes id missing next total ends behind ns last s (there.1).passes more
+
+-- the payload that comes may be passed on
+passes_first : (p : Passing) (s : Session) → passing s ≡ Some p → PassesBehind p.id p.missing 0 s
+passes_first p s e = record { passes = e; further = λ none. let no : ⊥ = omega arith in absurd no }
+
+at_least : (n a b : ℕ) → n ≡ min a b → (n ≤ a) × (n ≤ b)
+at_least n a b e = (omega arith, omega arith)
+
+-- a frame behind which no byte of the row waits
+in_row_last : (id missing said n : ℕ) (ns waits : List ℕ) → n ≡ min missing (length waits) → sum ns ≡ 0 → InRow id missing said (n ∷ ns) waits
+in_row_last id missing said n ns waits least none =
+    let two = at_least n missing (length waits) least in (two.0, two.1, λ some. let no : ⊥ = omega (arith, none) in absurd no)
+
+long_enough : (waits : List ℕ) → length (take 12 waits) ≡ 12 → 12 ≤ length waits
+long_enough waits e = let short : length (take 12 waits) ≤ length waits = grind (arith, common_steps) in omega arith
+
+is_all : (n missing all left : ℕ) → n ≡ min missing all → left ≡ all - n → 12 ≤ left → n ≡ missing
+is_all n missing all left least rest long = omega arith
+
+fits_in : (ahead said next total : ℕ) → next ≡ ahead + said → next ≤ total → (said ≤ total - ahead) × (total - next ≡ total - ahead - said)
+fits_in ahead said next total e le = (omega arith, omega arith)
+
+-- a frame behind which one more waits
+in_row_more : (id of missing ahead next total n m : ℕ) (ms waits behind rest : List ℕ) (s : Session) → n ≡ min missing (length waits) → behind ≡ drop n waits → (f : Follows id of ahead m behind rest next s) → next ≤ total →
+    InRow id f.said (total - next) (m ∷ ms) (drop 12 behind) → InRow id missing (total - ahead) (n ∷ m ∷ ms) waits
+in_row_more id of missing ahead next total n m ms waits behind rest s least is f le inner =
+    let two = at_least n missing (length waits) least in
+    let fits = fits_in ahead f.said next total f.sums le in
+    let left : length behind ≡ length waits - n = ap length is ∙ length-drop n waits in
+    let whole : n ≡ missing = is_all n missing (length waits) (length behind) least left (long_enough behind (f.plain).whole) in
+    let at : drop 12 behind ≡ drop (n + 12) waits = ap (drop 12) is ∙ drop-drop 12 n waits in
+    let plain : IsPlainHeader id f.said (take 12 (drop n waits)) = subst (λ (v : List ℕ). IsPlainHeader id f.said (take 12 v)) is f.plain in
+    let moved : InRow id f.said (total - next) (m ∷ ms) (drop (n + 12) waits) = subst (λ (v : List ℕ). InRow id f.said (total - next) (m ∷ ms) v) at inner in
+    let counted : InRow id f.said (total - ahead - f.said) (m ∷ ms) (drop (n + 12) waits) = subst (λ (k : ℕ). InRow id f.said k (m ∷ ms) (drop (n + 12) waits)) fits.1 moved in
+    (two.0, two.1, λ some. (whole, (f.said, plain, fits.0, counted)))
+
+least_behind : (id of ahead next m : ℕ) (behind rest : List ℕ) (s : Session) → (f : Follows id of ahead m behind rest next s) → m ≡ min f.said (length (drop 12 behind))
+least_behind id of ahead next m behind rest s f = f.least ∙ ap (λ (k : ℕ). min f.said k) (sym (length-drop 12 behind))
+
+rest_behind : (id of ahead next m : ℕ) (behind rest : List ℕ) (s : Session) → Follows id of ahead m behind rest next s → rest ≡ drop m (drop 12 behind)
+rest_behind id of ahead next m behind rest s f = f.rest ∙ sym (drop-drop m 12 behind)
+
+-- what was found stands in a row
+found_in_row : (id of missing ahead total n : ℕ) (ended : Bool) (waits behind ns last : List ℕ) (s : Session) → n ≡ min missing (length waits) → behind ≡ drop n waits → Found id of ended ahead behind ns total last s →
+    InRow id missing (total - ahead) (n ∷ ns) waits
+found_in_row id of missing ahead total n ended waits behind [] last s least is h = in_row_last id missing (total - ahead) n [] waits least refl
+found_in_row id of missing ahead total n ended waits behind (m ∷ ms) last s least is (rest, next, ends, inl none, more) =
+    in_row_last id missing (total - ahead) n (m ∷ ms) waits least (none_of m ms none.0 (found_none id of next total ends rest ms last s none.2 more))
+found_in_row id of missing ahead total n ended waits behind (m ∷ ms) last s least is (rest, next, ends, inr there, more) =
+    in_row_more id of missing ahead next total n m ms waits behind rest s least is there.1 (found_more id of next total ends rest ms last s more)
+    (found_in_row id of (there.1).said next total m ends (drop 12 behind) rest ms last s (least_behind id of ahead next m behind rest s there.1) (rest_behind id of ahead next m behind rest s there.1) more)
+
+row_ends : (n : ℕ) (ns waits : List ℕ) → sum ns ≡ 0 → behind_row (n ∷ ns) waits ≡ drop n waits
+unfolding behind_row
+row_ends n ns waits e = grind (arith, nat_tests, e)
+
+row_goes : (n : ℕ) (ns waits : List ℕ) → 0 < sum ns → behind_row (n ∷ ns) waits ≡ behind_row ns (drop (n + 12) waits)
+unfolding behind_row
+row_goes n ns waits some = grind (arith, nat_tests, some)
+
+-- where no byte of the frame behind waits, nothing waits behind it
+nothing_behind : (id of ahead next m : ℕ) (behind rest last : List ℕ) (s : Session) → Follows id of ahead m behind rest next s → m ≡ 0 → length last ≤ length rest → 0 < length last → ⊥
+nothing_behind id of ahead next m behind rest last s f none fewer some =
+    let long = long_enough behind (f.plain).whole in
+    let positive = (f.plain).some in
+    let least = f.least in
+    let l : length rest ≡ length behind - (12 + m) = ap length f.rest ∙ length-drop (12 + m) behind in omega arith
+
+zero_or : (n : ℕ) → (n ≡ 0) ⊎ (0 < n)
+zero_or zero = inl refl
+zero_or (suc n) = inr (omega arith)
+
+behind_more : (id of ahead next n m : ℕ) (ms waits behind rest last : List ℕ) (s : Session) → behind ≡ drop n waits → Follows id of ahead m behind rest next s → length last ≤ length rest → 0 < length last → last ≡ behind_row (m ∷ ms) (drop 12 behind) →
+    last ≡ behind_row (n ∷ m ∷ ms) waits
+behind_more id of ahead next n m ms waits behind rest last s is f fewer some same = by (zero_or (sum (m ∷ ms)))
+  where
+    at : drop 12 behind ≡ drop (n + 12) waits
+    at = ap (drop 12) is ∙ drop-drop 12 n waits
+
+    by : (sum (m ∷ ms) ≡ 0) ⊎ (0 < sum (m ∷ ms)) → last ≡ behind_row (n ∷ m ∷ ms) waits
+    by (inl none) = absurd (nothing_behind id of ahead next m behind rest last s f (let k = first_and m ms in omega arith) fewer some)
+    by (inr more) = same ∙ ap (behind_row (m ∷ ms)) at ∙ sym (row_goes n (m ∷ ms) waits more)
+
+-- what waits last waits behind the row
+found_behind : (id of ahead total n : ℕ) (ended : Bool) (waits behind ns last : List ℕ) (s : Session) → behind ≡ drop n waits → Found id of ended ahead behind ns total last s → 0 < length last → last ≡ behind_row (n ∷ ns) waits
+found_behind id of ahead total n ended waits behind [] last s is h some = h.1 ∙ is ∙ sym (row_ends n [] waits refl)
+found_behind id of ahead total n ended waits behind (m ∷ ms) last s is (rest, next, ends, inl none, more) some =
+    found_stays id of next total ends rest ms last s none.2 more ∙ none.3 ∙ is ∙ sym (row_ends n (m ∷ ms) waits (none_of m ms none.0 (found_none id of next total ends rest ms last s none.2 more)))
+found_behind id of ahead total n ended waits behind (m ∷ ms) last s is (rest, next, ends, inr there, more) some =
+    behind_more id of ahead next n m ms waits behind rest last s is there.1 (found_fewer id of next total ends rest ms last s more) some
+    (found_behind id of next total m ends (drop 12 behind) rest ms last s (rest_behind id of ahead next m behind rest s there.1) more some)
+
+-- the row that was found
+pub is_row : (r : Row) (missing ahead total : ℕ) (ended : Bool) (waits behind last : List ℕ) (s : Session) → passing s ≡ Some (record { id = r.id; missing = missing }) → r.first ≡ min missing (length waits) → behind ≡ drop r.first waits → ahead ≡ 0 →
+    Found r.id missing ended ahead behind (r.second ∷ r.third ∷ r.fourth ∷ []) total last s → (r.is_whole ≡ true → 0 < length last) → IsRow r waits s
+is_row r missing ahead total ended waits behind last s e least rest none found whole =
+    let from : PassesBehind r.id missing ahead s = subst (λ (n : ℕ). PassesBehind r.id missing n s) (sym none) (passes_first (record { id = r.id; missing = missing }) s e) in
+    let same : total - ahead ≡ total = omega arith in
+    let row : InRow r.id missing (total - ahead) (r.first ∷ r.second ∷ r.third ∷ r.fourth ∷ []) waits = found_in_row r.id missing missing ahead total r.first ended waits behind (r.second ∷ r.third ∷ r.fourth ∷ []) last s least rest found in
+    record {
+      missing = missing;
+      said = total;
+      first = least;
+      in_row = subst (λ (n : ℕ). InRow r.id missing n (r.first ∷ r.second ∷ r.third ∷ r.fourth ∷ []) waits) same row;
+      passes = found_passes r.id missing ahead total ended behind (r.second ∷ r.third ∷ r.fourth ∷ []) last s from found;
+      whole = λ is.
+          let some = whole is in
+          subst (λ (v : List ℕ). 0 < length v) (found_behind r.id missing ahead total r.first ended waits behind (r.second ∷ r.third ∷ r.fourth ∷ []) last s rest found some) some;
+    }
+
+-- so the first of what waits is payload that may be passed on
+pub is_payload : (r : Row) (e : Engine) → IsRow r e.incoming e.session → IsPayload r.id r.first e
+is_payload r e row = record { payload = record { id = r.id; missing = row.missing }; next = (row.passes).passes; same = refl; missing = row.in_row.0; waits = row.in_row.1 }
 
 -- ---- passing on
 
-pub settles_none : (id : ℕ) (waits : List ℕ) (s : Session) → Settles id [] waits waits s s
+settles_none : (id : ℕ) (waits : List ℕ) (s : Session) → Settles id [] waits waits s s
 settles_none id waits s = record { events = []; happen = refl; own = refl; fronts = tt; took = refl; gave = refl; some = omega arith; ends = refl; resets = refl; stops = refl }
 
-pub settles_pass : (id : ℕ) (bytes waits rest : List ℕ) (s t : Session) → waits ≡ bytes ++ rest → Passes id bytes s t → Settles id bytes waits rest s t
+settles_pass : (id : ℕ) (bytes waits rest : List ℕ) (s t : Session) → waits ≡ bytes ++ rest → Passes id bytes s t → Settles id bytes waits rest s t
 settles_pass id bytes waits rest s t e x =
     let i = same_id id in
     let f : Event = event.Feed bytes in
@@ -193,7 +220,7 @@ settles_pass id bytes waits rest s t e x =
       stops = rw i refl;
     }
 
-pub settles_feed : (id : ℕ) (header waits rest : List ℕ) (told : Fed) (s t : Session) → waits ≡ header ++ rest → told ≡ all_fed header → Gives in_turn s (event.Feed header) (reply.Fed told) t → Settles id [] waits rest s t
+settles_feed : (id : ℕ) (header waits rest : List ℕ) (told : Fed) (s t : Session) → waits ≡ header ++ rest → told ≡ all_fed header → Gives in_turn s (event.Feed header) (reply.Fed told) t → Settles id [] waits rest s t
 settles_feed id header waits rest told s t e same g =
     let all : take (length header) header ++ [] ≡ header = append-nil (take (length header) header) ∙ take_all header in
     record {
@@ -209,7 +236,7 @@ settles_feed id header waits rest told s t e same g =
       stops = refl;
     }
 
-pub settles_then : (id : ℕ) (xs ys a b c : List ℕ) (s t u : Session) → Settles id xs a b s t → Settles id ys b c t u → Settles id (xs ++ ys) a c s u
+settles_then : (id : ℕ) (xs ys a b c : List ℕ) (s t u : Session) → Settles id xs a b s t → Settles id ys b c t u → Settles id (xs ++ ys) a c s u
 settles_then id xs ys a b c s t u x y =
     let es = x.events in
     let fs = y.events in record {
@@ -233,206 +260,227 @@ HeaderFollows =
     (id missing behind count : ℕ) (bytes header : List ℕ) (told : Fed) (s t u : Session) → PassesBehind id missing behind s → 0 < missing → length bytes ≡ missing → Passes id bytes s t → IsPlainHeader id count header →
     count ≤ behind → Gives in_turn t (event.Feed header) (reply.Fed told) u → (told ≡ all_fed header) × PassesBehind id count (behind - count) u
 
+-- of each frame at most so many bytes are there
+payload_fits : (ns waits : List ℕ) → length (payload_in ns waits) ≤ sum ns
+payload_fits [] waits = omega arith
+payload_fits (n ∷ ns) waits =
+    let i = payload_fits ns (drop (n + 12) waits) in
+    let j = length-append (take n waits) (payload_in ns (drop (n + 12) waits)) in
+    let k : length (take n waits) ≤ n = grind (arith, common_steps) in
+    let l = first_and n ns in
+    omega arith
+
 -- of what is left the next piece waits
-within_first : (id missing left : ℕ) (first : List ℕ) (frames : List Frame) → InRow id missing first frames → left ≤ length first + length (payload_of_frames frames) → min left missing ≤ length first
-within_first id missing left first [] h fits = omega arith
-within_first id missing left first (f ∷ fs) h fits = omega (arith, h.0)
+pub record Waits (missing n left count : ℕ) (ns waits : List ℕ) : Type 0 where
+  pub within : count ≤ length waits
+  pub some : 0 < count
+  pub few : count ≤ missing
+  pub front : take count waits ≡ take count (payload_in (n ∷ ns) waits)
+  pub more : count < left → (count ≡ n) × (0 < sum ns)
 
-pub piece_waits : (id pieces left count : ℕ) (payload waits : List ℕ) (s : Session) → (g : Gathers id pieces payload waits s) → 0 < left → left ≤ length payload → count ≡ min left g.missing →
-    (count ≤ length waits) × (0 < count) × (count ≤ g.missing) × (take count waits ≡ take count payload)
-piece_waits id pieces left count payload waits s g some fits least =
-    let parts : length payload ≡ length g.first + length (payload_of_frames g.frames) = ap length g.carried ∙ length-append g.first (payload_of_frames g.frames) in
-    let all : length waits ≡ length g.first + length (bytes_of_frames g.frames ++ g.behind) = ap length g.begins ∙ length-append g.first (bytes_of_frames g.frames ++ g.behind) in
-    let one : min left g.missing ≤ length g.first = within_first id g.missing left g.first g.frames g.row (omega arith) in
-    let more = g.some in (
-      omega arith,
-      omega arith,
-      omega arith,
-      ap (take count) g.begins ∙ take-append-le count g.first (bytes_of_frames g.frames ++ g.behind) (omega arith) ∙ sym (take-append-le count g.first (payload_of_frames g.frames) (omega arith)) ∙ ap (take count) (sym g.carried),
-    )
+some_if : (n : ℕ) → (n ≡ 0 → ⊥) → 0 < n
+some_if n h = omega (arith, h)
 
--- where more is left behind the next piece, a header waits behind it
-header_waits_at : (id missing left count : ℕ) (first behind payload waits : List ℕ) (frames : List Frame) → InRow id missing first frames → waits ≡ first ++ (bytes_of_frames frames ++ behind) →
-    payload ≡ first ++ payload_of_frames frames → left ≤ length payload → count ≡ min left missing → count < left → count + 12 ≤ length waits
-header_waits_at id missing left count first behind payload waits [] h begins carried fits least more =
-    let parts : length payload ≡ length first + 0 = ap length carried ∙ length-append first [] in
-    let no : ⊥ = omega arith in absurd no
-header_waits_at id missing left count first behind payload waits (f ∷ fs) h begins carried fits least more =
-    let all : length waits ≡ length first + length ((f.header ++ (f.payload ++ bytes_of_frames fs)) ++ behind) = ap length begins ∙ length-append first ((f.header ++ (f.payload ++ bytes_of_frames fs)) ++ behind) in
-    let next = length-append (f.header ++ (f.payload ++ bytes_of_frames fs)) behind in
-    let header = length-append f.header (f.payload ++ bytes_of_frames fs) in
-    let twelve : length f.header ≡ 12 = (h.1).whole in omega (arith, all, next, header, twelve, h.0, least, more)
-
-pub header_waits : (id pieces left count : ℕ) (payload waits : List ℕ) (s : Session) → (g : Gathers id pieces payload waits s) → left ≤ length payload → count ≡ min left g.missing → count < left → count + 12 ≤ length waits
-header_waits id pieces left count payload waits s g fits least more = header_waits_at id g.missing left count g.first g.behind payload waits g.frames g.row g.begins g.carried fits least more
-
--- the next piece was passed on whole, and the header behind it fed: the rest stands in a row
-row_goes_on_at : HeaderFollows → (id missing left count pieces fewer : ℕ) (first behind payload waits header : List ℕ) (frames : List Frame) (told : Fed) (s t u : Session) → InRow id missing first frames →
-    waits ≡ first ++ (bytes_of_frames frames ++ behind) → payload ≡ first ++ payload_of_frames frames → length frames < pieces → pieces ≡ fewer + 1 → PassesBehind id missing (said_by frames) s → 0 < missing →
-    left ≤ length payload → count ≡ min left missing → count < left → Passes id (take count waits) s t → header ≡ take 12 (drop count waits) → Gives in_turn t (event.Feed header) (reply.Fed told) u →
-    (told ≡ all_fed header) × Gathers id fewer (drop count payload) (drop 12 (drop count waits)) u × ((said : ℕ) × IsPlainHeader id said header)
-row_goes_on_at law id missing left count pieces fewer first behind payload waits header [] told s t u h begins carried few one passes some fits least more x at g =
-    let parts : length payload ≡ length first + 0 = ap length carried ∙ length-append first [] in
-    let no : ⊥ = omega arith in absurd no
-row_goes_on_at law id missing left count pieces fewer first behind payload waits header (f ∷ fs) told s t u h begins carried few one passes some fits least more x at g =
-    let whole : count ≡ length first = omega (arith, h.0) in
-    let long : count + 12 ≤ length waits = header_waits_at id missing left count first behind payload waits (f ∷ fs) h begins carried fits least more in
-    let rest : drop count waits ≡ f.header ++ ((f.payload ++ bytes_of_frames fs) ++ behind) =
-    ap (drop count) begins ∙ ap (λ (n : ℕ). drop n (first ++ (bytes_of_frames (f ∷ fs) ++ behind))) whole ∙ drop_front first (bytes_of_frames (f ∷ fs) ++ behind)
-    ∙ append_assoc f.header (f.payload ++ bytes_of_frames fs) behind in
-    let twelve : length f.header ≡ 12 = (h.1).whole in
-    let same : header ≡ f.header =
-    at ∙ ap (take 12) rest ∙ ap (λ (n : ℕ). take n (f.header ++ ((f.payload ++ bytes_of_frames fs) ++ behind))) (sym twelve) ∙ take-append_seam f.header ((f.payload ++ bytes_of_frames fs) ++ behind) in
-    let went : length (take count waits) ≡ missing = omega (arith, length-take-le count waits (omega arith), h.0, whole) in
-    let said : f.count + said_by fs - f.count ≡ said_by fs = omega arith in
-    let next = law id missing (f.count + said_by fs) f.count (take count waits) header told s t u passes some went x (subst (λ (v : List ℕ). IsPlainHeader id f.count v) (sym same) h.1) (omega arith) g in (
-      next.0,
-      record {
-        missing = f.count;
-        first = f.payload;
-        frames = fs;
-        behind = behind;
-        some = (h.1).some;
-        row = h.2;
-        few = omega (arith, few);
-        begins =
-            ap (drop 12) rest ∙ ap (λ (n : ℕ). drop n (f.header ++ ((f.payload ++ bytes_of_frames fs) ++ behind))) (sym twelve) ∙ drop_front f.header ((f.payload ++ bytes_of_frames fs) ++ behind)
-            ∙ append_assoc f.payload (bytes_of_frames fs) behind;
-        carried = ap (drop count) carried ∙ ap (λ (n : ℕ). drop n (first ++ payload_of_frames (f ∷ fs))) whole ∙ drop_front first (payload_of_frames (f ∷ fs));
-        passes = subst (λ (n : ℕ). PassesBehind id f.count n u) said next.1;
-      },
-      (f.count, subst (λ (v : List ℕ). IsPlainHeader id f.count v) (sym same) h.1),
-    )
+piece_waits : (id missing said n left count : ℕ) (ns waits : List ℕ) → InRow id missing said (n ∷ ns) waits → 0 < missing → 0 < left → left ≤ length (payload_in (n ∷ ns) waits) → count ≡ min left n →
+    Waits missing n left count ns waits
+piece_waits id missing said n left count ns waits h positive some fits least =
+    let tail : List ℕ = payload_in ns (drop (n + 12) waits) in
+    let all : length (payload_in (n ∷ ns) waits) ≡ length (take n waits) + length tail = length-append (take n waits) tail in
+    let l : length (take n waits) ≡ n = length-take-le n waits h.1 in
+    let i : length tail ≤ sum ns = payload_fits ns (drop (n + 12) waits) in
+    let there : 0 < n = some_if n (λ (e : n ≡ 0). let whole : n ≡ missing = (h.2 (omega arith)).0 in omega arith) in
+    let a = h.0 in
+    let b = h.1 in
+    record {
+      within = omega arith;
+      some = omega arith;
+      few = omega arith;
+      front = sym (take-append-le count (take n waits) tail (omega arith) ∙ take_both count n waits (omega arith));
+      more = λ less. (omega arith, omega arith);
+    }
 
 -- ---- in turns
 
--- So far `at` bytes of what waited came. Of the payload that is to be passed on `left` bytes are left, and wait in a row.
-pub record Going (id turn at left taken : ℕ) (payload waits : List ℕ) (s t : Session) : Type 0 where
+-- a row of which a byte waits
+pub row_some : (r : Row) (waits : List ℕ) (s : Session) → IsRow r waits s → 0 < r.first → 0 < length (payload_of r waits)
+row_some r waits s row some =
+    let tail : List ℕ = payload_in (r.second ∷ r.third ∷ r.fourth ∷ []) (drop (r.first + 12) waits) in
+    let i : length (payload_of r waits) ≡ length (take r.first waits) + length tail = length-append (take r.first waits) tail in
+    let j : length (take r.first waits) ≡ r.first = length-take-le r.first waits row.in_row.1 in omega arith
+
+-- So far `at` bytes of what waited came. Of the payload that is to be passed on `left` bytes are left, and wait in a row of so
+-- many bytes of each frame.
+pub record Going (id at left taken : ℕ) (counts payload waits : List ℕ) (s t : Session) : Type 0 where
   pub went : List ℕ
-  pub more : List ℕ
-  pub pieces : ℕ
-  pub split : payload ≡ went ++ more
+  pub missing : ℕ
+  pub said : ℕ
+  pub split : payload ≡ went ++ payload_in counts (drop at waits)
   pub counted : length went + left ≡ taken
   pub some : 0 < left
-  pub fits : left ≤ length more
+  pub fits : left ≤ length (payload_in counts (drop at waits))
   pub within : at ≤ length waits
+  pub positive : 0 < missing
   pub done : Settles id went waits (drop at waits) s t
-  pub row : Gathers id pieces more (drop at waits) t
-  pub turns : pieces + turn ≡ 4
+  pub row : InRow id missing said counts (drop at waits)
+  pub passes : PassesBehind id missing said t
   pub others : (other : ℕ) → nat_eq id other ≡ false → GainsNone other s t
+  pub status : t.status ≡ s.status
 
-pub going_starts : (id taken : ℕ) (payload waits : List ℕ) (s : Session) → Gathers id 4 payload waits s → 0 < taken → taken ≤ length payload → Going id 0 0 taken taken payload waits s s
-going_starts id taken payload waits s g some fits = record {
+going_starts : (id missing said taken : ℕ) (counts waits : List ℕ) (s : Session) → InRow id missing said counts waits → PassesBehind id missing said s → 0 < missing → 0 < taken → taken ≤ length (payload_in counts waits) →
+    Going id 0 taken taken counts (payload_in counts waits) waits s s
+going_starts id missing said taken counts waits s row passes positive some fits = record {
   went = [];
-  more = payload;
-  pieces = 4;
+  missing = missing;
+  said = said;
   split = refl;
   counted = omega arith;
   some = some;
   fits = fits;
   within = omega arith;
+  positive = positive;
   done = settles_none id waits s;
-  row = g;
-  turns = omega arith;
+  row = row;
+  passes = passes;
   others = λ other ne. record { bytes = λ w. w; room = λ r. r };
+  status = refl;
 }
 
+pub going_row : (r : Row) (taken : ℕ) (counts waits : List ℕ) (s : Session) → counts ≡ counts_of r → IsRow r waits s → 0 < r.first → 0 < taken → taken ≤ length (payload_of r waits) → Going r.id 0 taken taken counts (payload_of r waits) waits s s
+going_row r taken counts waits s is row first some fits =
+    let positive : 0 < row.missing = let i = row.in_row.0 in omega arith in
+    subst (λ (v : List ℕ). Going r.id 0 taken taken v (payload_of r waits) waits s s) (sym is) (going_starts r.id row.missing row.said taken (counts_of r) waits s row.in_row row.passes positive some fits)
+
+-- the frame whose turn it is
+pub going_at : (r : Row) (id at left taken i : ℕ) (items payload waits : List ℕ) (s t : Session) → items ≡ counts_of r → Going id at left taken (drop i items) payload waits s t → i < 4 →
+    Going id at left taken (get_or items i 0 ∷ drop (i + 1) items) payload waits s t
+going_at r id at left taken i items payload waits s t is x inside =
+    let all : length items ≡ 4 = ap length is in
+    let within : i < length items = omega arith in
+    let e : drop i items ≡ get_or items i 0 ∷ drop (i + 1) items = rw (add-one, drop-cons items i 0) refl in
+    subst (λ (v : List ℕ). Going id at left taken v payload waits s t) e x
+
 -- the next piece waits
-pub going_piece : (id turn at left taken count : ℕ) (payload waits : List ℕ) (s t : Session) → (x : Going id turn at left taken payload waits s t) → count ≡ min left (x.row).missing →
-    (at + count ≤ length waits) × (0 < count) × (count ≤ (x.row).missing)
-going_piece id turn at left taken count payload waits s t x least =
-    let p = piece_waits id x.pieces left count x.more (drop at waits) t x.row x.some x.fits least in
-    let l : length (drop at waits) ≡ length waits - at = length-drop at waits in
-    let w = x.within in let q = p.0 in (omega arith, p.1, p.2)
+going_piece : (id at left taken n count : ℕ) (ns payload waits : List ℕ) (s t : Session) → (x : Going id at left taken (n ∷ ns) payload waits s t) → count ≡ min left n → Waits x.missing n left count ns (drop at waits)
+going_piece id at left taken n count ns payload waits s t x least = piece_waits id x.missing x.said n left count ns (drop at waits) x.row x.positive x.some x.fits least
 
 -- the header behind it waits
-pub going_header : (id turn at left taken count : ℕ) (payload waits : List ℕ) (s t : Session) → (x : Going id turn at left taken payload waits s t) → count ≡ min left (x.row).missing → count < left →
-    at + count + 12 ≤ length waits
-going_header id turn at left taken count payload waits s t x least more =
-    let h = header_waits id x.pieces left count x.more (drop at waits) t x.row x.fits least more in
-    let l : length (drop at waits) ≡ length waits - at = length-drop at waits in
-    let w = x.within in omega arith
+pub going_header : (id at left taken n count : ℕ) (ns payload waits : List ℕ) (s t : Session) → Going id at left taken (n ∷ ns) payload waits s t → count ≡ min left n → count < left → at + count + 12 ≤ length waits
+going_header id at left taken n count ns payload waits s t x least less =
+    let more = (going_piece id at left taken n count ns payload waits s t x least).more less in
+    let header = (x.row.2 more.1).1 in
+    let whole : length (take 12 (drop n (drop at waits))) ≡ 12 = (header.1).whole in
+    let short : length (take 12 (drop n (drop at waits))) ≤ length (drop n (drop at waits)) = grind (arith, common_steps) in
+    let l : length (drop n (drop at waits)) ≡ length (drop at waits) - n = length-drop n (drop at waits) in
+    let k : length (drop at waits) ≡ length waits - at = length-drop at waits in
+    let w = x.within in
+    let c = more.0 in omega arith
 
-went_on : (id at count left : ℕ) (more waits : List ℕ) (pieces : ℕ) (s t : Session) → (g : Gathers id pieces more (drop at waits) s) → 0 < left → left ≤ length more → count ≡ min left g.missing →
-    Passes id (take (at + count - at) (drop at waits)) s t → Settles id (take count more) (drop at waits) (drop (at + count) waits) s t
-went_on id at count left more waits pieces s t g some fits least x =
+-- what is passed on is the front of what is left
+went_on : (id at left taken n count : ℕ) (ns payload waits : List ℕ) (s t u : Session) → (x : Going id at left taken (n ∷ ns) payload waits s t) → count ≡ min left n → Passes id (take (at + count - at) (drop at waits)) t u →
+    Settles id (x.went ++ take count (payload_in (n ∷ ns) (drop at waits))) waits (drop (at + count) waits) s u
+went_on id at left taken n count ns payload waits s t u x least p =
     let k : at + count - at ≡ count = omega arith in
-    let p = piece_waits id pieces left count more (drop at waits) s g some fits least in
-    let y : Passes id (take count more) s t = subst (λ (v : List ℕ). Passes id v s t) (ap (λ (n : ℕ). take n (drop at waits)) k ∙ p.3) x in
-    settles_pass id (take count more) (drop at waits) (drop (at + count) waits) s t
-    (sym (take-append-drop count (drop at waits)) ∙ ap (λ (v : List ℕ). v ++ drop count (drop at waits)) p.3 ∙ ap (λ (v : List ℕ). take count more ++ v) (drop-drop count at waits)) y
+    let front = (going_piece id at left taken n count ns payload waits s t x least).front in
+    let more : List ℕ = take count (payload_in (n ∷ ns) (drop at waits)) in
+    let y : Passes id more t u = subst (λ (v : List ℕ). Passes id v t u) (ap (λ (m : ℕ). take m (drop at waits)) k ∙ front) p in
+    settles_then id x.went more waits (drop at waits) (drop (at + count) waits) s t u x.done
+    (settles_pass id more (drop at waits) (drop (at + count) waits) t u (sym (take-append-drop count (drop at waits)) ∙ ap (λ (v : List ℕ). v ++ drop count (drop at waits)) front ∙ ap (λ (v : List ℕ). more ++ v) (drop-drop count at waits)) y)
 
 -- all that is to be passed on was
-pub going_ends : (id turn at left taken count : ℕ) (payload waits : List ℕ) (s t u : Session) → (x : Going id turn at left taken payload waits s t) → count ≡ min left (x.row).missing → left - count ≡ 0 →
+pub going_ends : (id at left taken n count : ℕ) (ns payload waits : List ℕ) (s t u : Session) → (x : Going id at left taken (n ∷ ns) payload waits s t) → count ≡ min left n → left - count ≡ 0 →
     Passes id (take (at + count - at) (drop at waits)) t u → Settles id (take taken payload) waits (drop (at + count) waits) s u
-going_ends id turn at left taken count payload waits s t u x least over p =
-    let q = going_piece id turn at left taken count payload waits s t x least in
+going_ends id at left taken n count ns payload waits s t u x least over p =
     let all : length x.went + count ≡ taken = omega (arith, x.counted, least, over) in
-    let y = settles_then id x.went (take count x.more) waits (drop at waits) (drop (at + count) waits) s t u x.done (went_on id at count left x.more waits x.pieces t u x.row x.some x.fits least p) in
-    subst (λ (v : List ℕ). Settles id v waits (drop (at + count) waits) s u) (sym (take-append-add x.went x.more count) ∙ ap (take (length x.went + count)) (sym x.split) ∙ ap (λ (n : ℕ). take n payload) all) y
+    let rest : List ℕ = payload_in (n ∷ ns) (drop at waits) in
+    subst (λ (v : List ℕ). Settles id v waits (drop (at + count) waits) s u) (sym (take-append-add x.went rest count) ∙ ap (take (length x.went + count)) (sym x.split) ∙ ap (λ (m : ℕ). take m payload) all)
+    (went_on id at left taken n count ns payload waits s t u x least p)
 
-next_piece : (id left count pieces : ℕ) (more waits : List ℕ) (t u : Session) → (g : Gathers id pieces more waits t) → 0 < left → left ≤ length more → count ≡ min left g.missing → Passes id (take count waits) t u →
-    IsPiece id (length (take count waits) == g.missing) t u
-next_piece id left count pieces more waits t u g some fits least y =
-    let p = piece_waits id pieces left count more waits t g some fits least in
-    let l : length (take count waits) ≡ count = length-take-le count waits p.0 in
-    passes_beside id g.missing (said_by g.frames) (take count waits) t u g.passes (omega (arith, l, p.1)) (omega (arith, l, p.2)) y
-
--- a piece was passed on whole, and the header behind it fed
-pub going_on : HeaderFollows → (id turn at left taken count : ℕ) (payload waits : List ℕ) (told : Fed) (s t u v : Session) → (x : Going id turn at left taken payload waits s t) → count ≡ min left (x.row).missing → count < left →
-    Passes id (take (at + count - at) (drop at waits)) t u → Gives in_turn u (event.Feed (take (at + count + 12 - (at + count)) (drop (at + count) waits))) (reply.Fed told) v → turn < 4 →
-    Going id (turn + 1) (at + count + 12) (left - count) taken payload waits s v
-going_on law id turn at left taken count payload waits told s t u v x least more p g inside =
-    let k : at + count - at ≡ count = omega arith in
-    let k2 : at + count + 12 - (at + count) ≡ 12 = omega arith in
-    let k3 : at + count + 12 ≡ at + (count + 12) = omega arith in
-    let r = x.row in
-    let few = x.turns in
-    let header : List ℕ = take (at + count + 12 - (at + count)) (drop (at + count) waits) in
-    let d : drop count (drop at waits) ≡ drop (at + count) waits = drop-drop count at waits in
-    let is : header ≡ take 12 (drop count (drop at waits)) = ap (λ (n : ℕ). take n (drop (at + count) waits)) k2 ∙ ap (take 12) (sym d) in
-    let y : Passes id (take count (drop at waits)) t u = subst (λ (n : ℕ). Passes id (take n (drop at waits)) t u) k p in
-    let positive : 0 < x.pieces = let i = r.few in omega arith in
-    let next = row_goes_on_at law id r.missing left count x.pieces (x.pieces - 1) r.first r.behind x.more (drop at waits) header r.frames told t u v r.row r.begins r.carried r.few (omega arith) r.passes r.some x.fits least more y is g in
-    let rest : drop 12 (drop count (drop at waits)) ≡ drop (at + count + 12) waits = ap (drop 12) d ∙ drop-drop 12 (at + count) waits in
-    let long = going_header id turn at left taken count payload waits s t x least more in
-    let split : take 12 (drop (at + count) waits) ++ drop 12 (drop (at + count) waits) ≡ drop (at + count) waits = take-append-drop 12 (drop (at + count) waits) in
-    let fed_so : Settles id [] (drop (at + count) waits) (drop (at + count + 12) waits) u v =
-    settles_feed id header (drop (at + count) waits) (drop (at + count + 12) waits) told u v
-    (sym split ∙ ap (λ (w : List ℕ). w ++ drop 12 (drop (at + count) waits)) (ap (λ (n : ℕ). take n (drop (at + count) waits)) (sym k2)) ∙ ap (λ (w : List ℕ). header ++ w) (drop-drop 12 (at + count) waits)) next.0 g in
-    let now = settles_then id x.went (take count x.more) waits (drop at waits) (drop (at + count) waits) s t u x.done (went_on id at count left x.more waits x.pieces t u r x.some x.fits least p) in
-    let done = settles_then id (x.went ++ take count x.more) [] waits (drop (at + count) waits) (drop (at + count + 12) waits) s u v now fed_so in
-    let l : length (take count x.more) ≡ count = length-take-le count x.more (omega (arith, x.fits, least)) in
-    let m : length (drop count x.more) ≡ length x.more - count = length-drop count x.more in
-    record {
-      went = x.went ++ take count x.more;
-      more = drop count x.more;
-      pieces = x.pieces - 1;
-      split = x.split ∙ ap (λ (w : List ℕ). x.went ++ w) (sym (take-append-drop count x.more)) ∙ sym (append_assoc x.went (take count x.more) (drop count x.more));
-      counted = omega (arith, x.counted, length-append x.went (take count x.more), l, least, more);
-      some = omega (arith, more);
-      fits = omega (arith, x.fits, m);
-      within = omega (arith, long);
-      done = subst (λ (w : List ℕ). Settles id w waits (drop (at + count + 12) waits) s v) (append-nil (x.went ++ take count x.more)) done;
-      row = subst (λ (w : List ℕ). Gathers id (x.pieces - 1) (drop count x.more) w v) rest next.1;
-      turns = omega (arith, few, positive);
-      others = λ other ne.
-          let few_waits = (piece_waits id x.pieces left count x.more (drop at waits) t r x.some x.fits least).0 in
-          let all : count ≡ r.missing = omega (arith, least, more) in
-          let piece = next_piece id left count x.pieces x.more (drop at waits) t u r x.some x.fits least y in
-          let last = whole_piece count r.missing (drop at waits) few_waits all in
-          let running = (passing-is (record { id = id; missing = r.missing }) t (r.passes).passes).running in
-          gains_then other s t v (x.others other ne) (gains_then other t u v (piece_came id other _ t u piece ne) (header_came id (next.2).0 other header told u v (piece.status ∙ running) (piece.whole last) (next.2).1 next.0 g ne));
-    }
+next_piece : (id at left taken n count : ℕ) (ns payload waits : List ℕ) (s t u : Session) → (x : Going id at left taken (n ∷ ns) payload waits s t) → count ≡ min left n → Passes id (take count (drop at waits)) t u →
+    IsPiece id (length (take count (drop at waits)) == x.missing) t u
+next_piece id at left taken n count ns payload waits s t u x least y =
+    let p = going_piece id at left taken n count ns payload waits s t x least in
+    let l : length (take count (drop at waits)) ≡ count = length-take-le count (drop at waits) p.within in
+    passes_beside id x.missing x.said (take count (drop at waits)) t u x.passes (omega (arith, l, p.some)) (omega (arith, l, p.few)) y
 
 -- nor do bytes of the others come with the last piece
-pub ends_beside : (id turn at left taken count : ℕ) (payload waits : List ℕ) (s t u : Session) → (x : Going id turn at left taken payload waits s t) → count ≡ min left (x.row).missing →
+pub ends_beside : (id at left taken n count : ℕ) (ns payload waits : List ℕ) (s t u : Session) → (x : Going id at left taken (n ∷ ns) payload waits s t) → count ≡ min left n →
     Passes id (take (at + count - at) (drop at waits)) t u → (other : ℕ) → nat_eq id other ≡ false → GainsNone other s u
-ends_beside id turn at left taken count payload waits s t u x least p other ne =
+ends_beside id at left taken n count ns payload waits s t u x least p other ne =
     let k : at + count - at ≡ count = omega arith in
-    let y : Passes id (take count (drop at waits)) t u = subst (λ (n : ℕ). Passes id (take n (drop at waits)) t u) k p in
-    gains_then other s t u (x.others other ne) (piece_came id other _ t u (next_piece id left count x.pieces x.more (drop at waits) t u x.row x.some x.fits least y) ne)
+    let y : Passes id (take count (drop at waits)) t u = subst (λ (m : ℕ). Passes id (take m (drop at waits)) t u) k p in
+    gains_then other s t u (x.others other ne) (piece_came id other _ t u (next_piece id at left taken n count ns payload waits s t u x least y) ne)
 
--- as many turns as pieces are enough
-pub going_over : (id at left taken : ℕ) (payload waits : List ℕ) (s t : Session) → Going id 4 at left taken payload waits s t → ⊥
-going_over id at left taken payload waits s t x = let i = x.turns in let j = (x.row).few in omega arith
+-- nor does the session stop with it
+pub ends_status : (id at left taken n count : ℕ) (ns payload waits : List ℕ) (s t u : Session) → (x : Going id at left taken (n ∷ ns) payload waits s t) → count ≡ min left n →
+    Passes id (take (at + count - at) (drop at waits)) t u → u.status ≡ s.status
+ends_status id at left taken n count ns payload waits s t u x least p =
+    let k : at + count - at ≡ count = omega arith in
+    let y : Passes id (take count (drop at waits)) t u = subst (λ (m : ℕ). Passes id (take m (drop at waits)) t u) k p in
+    (next_piece id at left taken n count ns payload waits s t u x least y).status ∙ x.status
+
+-- a piece was passed on whole, and the header behind it fed
+pub going_on : HeaderFollows → (id at left taken n count : ℕ) (ns payload waits : List ℕ) (told : Fed) (s t u v : Session) → (x : Going id at left taken (n ∷ ns) payload waits s t) → count ≡ min left n → count < left →
+    Passes id (take (at + count - at) (drop at waits)) t u → Gives in_turn u (event.Feed (take (at + count + 12 - (at + count)) (drop (at + count) waits))) (reply.Fed told) v →
+    Going id (at + count + 12) (left - count) taken ns payload waits s v
+going_on law id at left taken n count ns payload waits told s t u v x least less p g =
+    let k : at + count - at ≡ count = omega arith in
+    let k2 : at + count + 12 - (at + count) ≡ 12 = omega arith in
+    let k3 : at + (n + 12) ≡ at + count + 12 = omega arith in
+    let waiting : List ℕ = drop at waits in
+    let piece = going_piece id at left taken n count ns payload waits s t x least in
+    let more = piece.more less in
+    let h = x.row.2 more.1 in
+    let next : ℕ = (h.1).0 in
+    let header : List ℕ = take (at + count + 12 - (at + count)) (drop (at + count) waits) in
+    let spelled : header ≡ take 12 (drop n waiting) =
+    ap (λ (m : ℕ). take m (drop (at + count) waits)) k2 ∙ ap (take 12) (sym (drop-drop count at waits) ∙ ap (λ (m : ℕ). drop m waiting) more.0) in
+    let plain : IsPlainHeader id next header = subst (λ (w : List ℕ). IsPlainHeader id next w) (sym spelled) (h.1).1 in
+    let y : Passes id (take count waiting) t u = subst (λ (m : ℕ). Passes id (take m waiting) t u) k p in
+    let l : length (take count waiting) ≡ count = length-take-le count waiting piece.within in
+    let whole : length (take count waiting) ≡ x.missing = l ∙ more.0 ∙ h.0 in
+    let behind = law id x.missing x.said next (take count waiting) header told t u v x.passes x.positive whole y plain (h.1).2 g in
+    let rest : drop (n + 12) waiting ≡ drop (at + count + 12) waits = drop-drop (n + 12) at waits ∙ ap (λ (m : ℕ). drop m waits) k3 in
+    let tail : List ℕ = payload_in ns (drop (at + count + 12) waits) in
+    let tail_is : payload_in ns (drop (n + 12) waiting) ≡ tail = ap (payload_in ns) rest in
+    let taken_is : take count (payload_in (n ∷ ns) waiting) ≡ take n waiting = sym piece.front ∙ ap (λ (m : ℕ). take m waiting) more.0 in
+    let went : List ℕ = x.went ++ take n waiting in
+    let now : Settles id went waits (drop (at + count) waits) s u =
+    subst (λ (w : List ℕ). Settles id (x.went ++ w) waits (drop (at + count) waits) s u) taken_is (went_on id at left taken n count ns payload waits s t u x least p) in
+    let fed_so : Settles id [] (drop (at + count) waits) (drop (at + count + 12) waits) u v =
+    settles_feed id header (drop (at + count) waits) (drop (at + count + 12) waits) told u v
+    (sym (take-append-drop 12 (drop (at + count) waits)) ∙ ap (λ (w : List ℕ). w ++ drop 12 (drop (at + count) waits)) (ap (λ (m : ℕ). take m (drop (at + count) waits)) (sym k2)) ∙ ap (λ (w : List ℕ). header ++ w) (drop-drop 12 (at + count) waits))
+    behind.0 g in
+    let done = settles_then id went [] waits (drop (at + count) waits) (drop (at + count + 12) waits) s u v now fed_so in
+    let long = going_header id at left taken n count ns payload waits s t x least less in
+    let parts : length (payload_in (n ∷ ns) waiting) ≡ length (take n waiting) + length tail = length-append (take n waiting) (payload_in ns (drop (n + 12) waiting)) ∙ ap (λ (w : List ℕ). length (take n waiting) + length w) tail_is in
+    let first : length (take n waiting) ≡ n = length-take-le n waiting x.row.1 in
+    record {
+      went = went;
+      missing = next;
+      said = x.said - next;
+      split = x.split ∙ ap (λ (w : List ℕ). x.went ++ (take n waiting ++ w)) tail_is ∙ sym (append_assoc x.went (take n waiting) tail);
+      counted = omega (arith, x.counted, length-append x.went (take n waiting), first, more.0, less);
+      some = omega (arith, less);
+      fits = omega (arith, x.fits, parts, first, more.0);
+      within = omega (arith, long);
+      positive = plain.some;
+      done = subst (λ (w : List ℕ). Settles id w waits (drop (at + count + 12) waits) s v) (append-nil went) done;
+      row = subst (λ (w : List ℕ). InRow id next (x.said - next) ns w) rest ((h.1).3);
+      passes = behind.1;
+      others = λ other ne.
+          let last = whole_piece count x.missing waiting piece.within (more.0 ∙ h.0) in
+          let beside = next_piece id at left taken n count ns payload waits s t u x least y in
+          let running = (passing-is (record { id = id; missing = x.missing }) t (x.passes).passes).running in
+          gains_then other s t v (x.others other ne) (gains_then other t u v (piece_came id other _ t u beside ne) (header_came id next other header told u v (beside.status ∙ running) (beside.whole last) plain behind.0 g ne));
+      status =
+          let was = (passing-is (record { id = id; missing = x.missing }) t (x.passes).passes).running in
+          let is = (passing-is (record { id = id; missing = next }) v (behind.1).passes).running in
+          is ∙ sym was ∙ x.status;
+    }
+
+pub piece_some : (id at left taken n count : ℕ) (ns payload waits : List ℕ) (s t : Session) → Going id at left taken (n ∷ ns) payload waits s t → count ≡ min left n → 0 < length (take (at + count - at) (drop at waits))
+piece_some id at left taken n count ns payload waits s t x least =
+    let p = going_piece id at left taken n count ns payload waits s t x least in
+    let some = p.some in
+    let k : at + count - at ≡ count = omega arith in
+    let l : length (take (at + count - at) (drop at waits)) ≡ count = ap (λ (m : ℕ). length (take m (drop at waits))) k ∙ length-take-le count (drop at waits) p.within in omega arith

@@ -1,239 +1,446 @@
--- How a tunnel keeps everyone served.
-use Rattle.std.proofs.Common.{◌≡◌, ℕ, ◌+◌, List, [], ◌∷◌, Bool, true, false, Option, None, Some, refl, sym, ap, ◌∙◌, subst, cond, arith}
+-- Nobody who can be served is forgotten.
+use Rattle.std.proofs.Common.{◌≡◌, ◌≢◌, ◌⊎◌, inl, inr, ℕ, ◌<◌, List, [], ◌∷◌, length, take, Bool, true, false, not, ◌||◌, Option, None, Some, refl, sym, ap, ◌∙◌, subst, cond, arith}
+use Rattle.std.specs.Prelude.{nat_eq, nat_le, IsSome, count_by, Contains}
+use Rattle.std.specs.List.{list_all}
 use Rattle.std.proofs.lemmas.Bool.Decides.{nat_tests}
-use Rattle.std.specs.Prelude.{nat_eq, is_some, option_map, IsSome, IfSome, IfNone}
-use Rattle.std.specs.Map.{lookup}
-use Rattle.ymx_engine.specs.declared.connection.Connection.{Connection}
-use Rattle.ymx_engine.specs.declared.connections.Entry.{Entry}
+use Rattle.ymx_machine.specs.declared.types.Call.TheVariants as call
+use Rattle.ymx_machine.specs.declared.types.CallFault.TheVariants as fault
+use Rattle.ymx_machine.specs.declared.types.Fed.{Fed}
+use Rattle.ymx_machine.specs.declared.types.Reply.TheVariants as reply
+use Rattle.ymx_machine.specs.shared.Events.{Reply, Call}
+use Rattle.ymx_machine.specs.shared.Limits.{most_records, most_unacknowledged, most_pings, first_exhausted}
+use Rattle.ymx_machine.specs.shared.Lists.{look as look_up}
+use Rattle.ymx_machine.proofs.Tests.{split}
+use Rattle.ymx_model.specs.declared.types.Event.TheVariants as event
+use Rattle.ymx_model.specs.declared.types.Status.{Status}
+use Rattle.ymx_model.specs.declared.types.Status.TheVariants.{Running, Lost, Broken, Closed}
+use Rattle.ymx_model.specs.session.Calls.{Outcome, outcome, answers, refused, session_opened, open_stream, accept, accept_of, ping, ponged, is_unacknowledged, status_input_ends, feed_end}
+use Rattle.ymx_model.specs.session.Events.{Event}
+use Rattle.ymx_model.specs.session.Pings.{next_number, ask, has_back, collect}
+use Rattle.ymx_model.specs.session.Emissions.{in_turn}
+use Rattle.ymx_model.specs.session.Feeds.{Takes, byte_comes, byte_in}
+use Rattle.ymx_model.specs.session.Histories.{Gives, CallGives}
+use Rattle.ymx_model.specs.session.Histories.CallGives.{Outcome as HasOutcome, NoMemory}
+use Rattle.ymx_model.specs.session.Sessions.{Session, is_closed, is_running, is_broken, is_deaf, is_lost, on_stream, settle}
+use Rattle.ymx_law_session.specs.Limits.{IsWithin}
+use Rattle.ymx_law_session.proofs.limits.HistoriesKeep.{gives-keep}
+use Rattle.ymx_law_session.proofs.nothing_else.Others.{forget-others}
+use Rattle.ymx_law_session.proofs.nothing_else.OthersOut.{open-others, accept-others}
+use Rattle.ymx_law_session.proofs.nothing_else.StreamCalls.{forget-stays}
+use Rattle.ymx_session.specs.Passing.{FeedsSome}
+use Rattle.ymx_session.specs.Streams.{waiting, room_of}
+use Rattle.ymx_session.specs.Touched.{Noted, is_noted, NotesChanges}
+use Rattle.ymx_engine.specs.declared.device.Readiness.{Readiness}
+use Rattle.ymx_engine.specs.declared.ways.Ways.{Ways}
 use Rattle.ymx_engine.specs.Devices.{Seen}
-use Rattle.ymx_engine.specs.Engines.{Engine}
-use Rattle.ymx_engine.specs.Known.{new_connection}
-use Rattle.ymx_engine.specs.Marks.{EngineView}
-use Rattle.ymx_engine.specs.Turns.{Turns, known_as, Knows, SameConnections, SameQueues, Adds, KeepsOthers}
-use Rattle.ymx_engine.specs.Served.{IsServed, AreServed, AreServedBut, KeepsServed}
-use Rattle.ymx_engine.specs.Tunnels.{Tunnel, look, lines_of, view_of, HaveDevices, KnowsNoMore, Joins, DropsOut, Serving, ServingBut}
-use Rattle.ymx_engine.specs.Runs.{Runs}
-use Rattle.ymx_engine.proofs.Running.{eq_ids, is_some_at, look_lines, runs_alike}
-use Rattle.ymx_engine.proofs.Working.{attends_on, wait_turns, grows_same}
-use Rattle.ymx_engine.specs.Work.{Attends}
+use Rattle.ymx_engine.specs.Events.{Happen}
+use Rattle.ymx_engine.specs.Joins.{Joins, DropsOut}
+use Rattle.ymx_engine.specs.Refusals.{GivesUp}
+use Rattle.ymx_engine.specs.Served.{IsServed, Serving, ServingBut, GainsNone}
+use Rattle.ymx_engine.specs.Serves.{is_of_turn, Turn}
+use Rattle.ymx_engine.specs.Steps.{TakesPart}
+use Rattle.ymx_engine.specs.Tunnels.{Tunnel}
+use Rattle.ymx_engine.specs.Turns.{Line, Lines, line_of, Waits, Awaits, Attended, SameLines, SameQueues, Puts, Adds, AddsTurn, KeepsLines, KeepsOthers, TakesTurn, IsFirst, takes_busy, StaysOrAdds, Notes}
+use Rattle.ymx_engine.specs.Ways.{is_open, may_push, may_pull}
+use Rattle.ymx_engine.proofs.Coming.{NoneCame, Goes, none_came, gains_then, came_same, calm_came, happen_calm, exchanges_calm, still_runs}
+use Rattle.ymx_engine.proofs.Entries.{eq_ids, same_id, is_some_at}
+use Rattle.ymx_engine.proofs.Marking.{popped, stays_or_adds}
+use Rattle.ymx_engine.proofs.Queueing.{keeps_same, keeps_then, awaits_added, attended_on, attended_held, line_put_at, line_put_other, extends_queues, extends_added, others_put}
+use Rattle.ymx_engine.proofs.Steady.{is_steady, steady_all, settled_status, called_status, reset_stays}
 
--- ---- who is known
+-- the session keeps its limits, no stream gained anything, and it runs on if it ran
+pub record Calms (s t : Session) : Type 0 where
+  pub within : IsWithin t
+  pub came : NoneCame s t
+  pub runs : is_running t.status ≡ false → is_running s.status ≡ false
 
-pub same_known : (a b : Turns) → SameConnections a b → KnowsNoMore a b
-same_known a b same id h = subst (λ (o : Option Connection). IsSome o) (same id) h
+-- the same, but of this stream
+pub record CalmsBut (id : ℕ) (s t : Session) : Type 0 where
+  pub within : IsWithin t
+  pub came : (other : ℕ) → nat_eq id other ≡ false → GainsNone other s t
+  pub runs : is_running t.status ≡ false → is_running s.status ≡ false
 
-pub same_turns : (a b : Turns) → b ≡ a → KnowsNoMore a b
-same_turns a b same id h = subst (λ (t : Turns). IsSome (known_as id t.known)) same h
+same_runs : (s t : Session) → t.status ≡ s.status → is_running t.status ≡ false → is_running s.status ≡ false
+same_runs s t e h = sym (ap is_running e) ∙ h
 
-pub no_more_then : (a b c : Turns) → KnowsNoMore a b → KnowsNoMore b c → KnowsNoMore a c
-no_more_then a b c x y id h = x id (y id h)
+pub calms_same : (s t : Session) → t ≡ s → IsWithin s → Calms s t
+calms_same s t e w = subst (Calms s) (sym e) (record { within = w; came = none_came s; runs = λ h. h })
 
--- what an event says of a device makes nobody known
-pub noted_known : (id : ℕ) (f : Connection → Connection) (a b : EngineView) → IfSome (known_as id a.turns.known) (λ c. Knows id (Some (f c)) a.turns b.turns) → (known_as id a.turns.known ≡ None → b ≡ a) → KnowsNoMore a.turns b.turns
-noted_known id f a b noted none other h = by (known_as id a.turns.known) refl noted none
-  where
-    back : (c : Connection) (t : Bool) → known_as id a.turns.known ≡ Some c → nat_eq id other ≡ t → IsSome (cond t (Some (f c)) (known_as other a.turns.known)) → IsSome (known_as other a.turns.known)
-    back c true at t some = subst (λ (n : ℕ). IsSome (known_as n a.turns.known)) (sym (eq_ids id other t)) (is_some_at at)
-    back c false at t some = some
+pub calms_but : (id : ℕ) (s t : Session) → Calms s t → CalmsBut id s t
+calms_but id s t x = record { within = x.within; came = λ other ne. x.came other; runs = x.runs }
 
-    by : (o : Option Connection) → known_as id a.turns.known ≡ o → IfSome o (λ c. Knows id (Some (f c)) a.turns b.turns) → (o ≡ None → b ≡ a) → IsSome (known_as other a.turns.known)
-    by None at knows still = same_turns a.turns b.turns (ap (λ (v : EngineView). v.turns) (still refl)) other h
-    by (Some c) at knows still = back c (nat_eq id other) at refl (subst (λ (o : Option Connection). IsSome o) (knows other) h)
+pub but_same : (id : ℕ) (s t : Session) → t ≡ s → IsWithin s → CalmsBut id s t
+but_same id s t e w = calms_but id s t (calms_same s t e w)
 
--- of another connection the same is known
-known_else : (id other : ℕ) (what : Option Connection) (a b : Turns) → Knows id what a b → nat_eq id other ≡ false → known_as other b.known ≡ known_as other a.known
-known_else id other what a b knows ne = knows other ∙ ap (λ (t : Bool). cond t what (known_as other a.known)) ne
+-- ---- what stays served
 
--- ---- the devices of those that are known
-
-still_there : (id : ℕ) (a b : Tunnel) → b.lines ≡ a.lines → IsSome (look id a.lines) → IsSome (look id b.lines)
-still_there id a b lines h = subst (λ (v : List (ℕ × Seen)). IsSome (look id v)) (sym lines) h
-
--- this device is there now, and nobody else is known who was not
-pub line_devices : (a b : Tunnel) (id : ℕ) (e : Seen) → ((other : ℕ) → look other b.lines ≡ cond (nat_eq id other) (Some e) (look other a.lines)) →
-    ((other : ℕ) → nat_eq id other ≡ false → IsSome (known_as other b.turns.known) → IsSome (known_as other a.turns.known)) → HaveDevices a → HaveDevices b
-line_devices a b id e now known have other h = by (nat_eq id other) refl (now other)
-  where
-    by : (t : Bool) → nat_eq id other ≡ t → look other b.lines ≡ cond t (Some e) (look other a.lines) → IsSome (look other b.lines)
-    by true t at = is_some_at at
-    by false t at = subst (λ (o : Option Seen). IsSome o) (sym at) (have other (known other t h))
-
--- this connection is known no more
-gone_devices : (b c : Tunnel) (id : ℕ) → Knows id None b.turns c.turns → ((other : ℕ) → nat_eq id other ≡ false → IsSome (known_as other b.turns.known) → IsSome (look other c.lines)) → HaveDevices c
-gone_devices b c id gone have other h = by (nat_eq id other) refl (subst (λ (o : Option Connection). IsSome o) (gone other) h)
-  where
-    by : (t : Bool) → nat_eq id other ≡ t → IsSome (cond t None (known_as other b.turns.known)) → IsSome (look other c.lines)
-    by true t some = let no : ⊥ = cc in absurd no
-    by false t some = have other t some
-
--- ---- a tunnel
-
-pub but_one : (id : ℕ) (v : EngineView) → AreServed v → AreServedBut id v
-but_one id v s = record { within = s.within; each = λ other ne. s.each other }
-
--- the devices stay, and nobody is known who was not
-pub serving_kept : (a b : Tunnel) → KeepsServed (view_of a) (view_of b) → KnowsNoMore a.turns b.turns → b.lines ≡ a.lines → Serving a → Serving b
-serving_kept a b served known lines s = record { served = served s.served; devices = λ id h. still_there id a b lines (s.devices id (known id h)) }
-
--- so they do where of each connection the same is known
-pub serving_same : (a b : Tunnel) → KeepsServed (view_of a) (view_of b) → SameConnections a.turns b.turns → b.lines ≡ a.lines → Serving a → Serving b
-serving_same a b served same lines = serving_kept a b served (same_known a.turns b.turns same) lines
-
--- no stream was offered
-pub serving_offers_none : (a b : Tunnel) (o : Option ℕ) → o ≡ None → KeepsServed (view_of a) (view_of b) → IfNone o (SameConnections a.turns b.turns × SameQueues a.turns b.turns) → b.lines ≡ a.lines → Serving a → Serving b
-serving_offers_none a b o none served h lines =
-    let same : SameConnections a.turns b.turns × SameQueues a.turns b.turns = subst (λ (v : Option ℕ). IfNone v (SameConnections a.turns b.turns × SameQueues a.turns b.turns)) none h in serving_same a b served same.0 lines
-
--- a device that is there was told of an event
-pub serving_noted : (a b : Tunnel) (id : ℕ) (e : Seen) → KeepsServed (view_of a) (view_of b) → KnowsNoMore a.turns b.turns → ((other : ℕ) → look other b.lines ≡ cond (nat_eq id other) (Some e) (look other a.lines)) → Serving a → Serving b
-serving_noted a b id e served known now s = record { served = served s.served; devices = line_devices a b id e now (λ other ne. known other) s.devices }
-
-called_devices : (a b : Tunnel) (id : ℕ) (e : Seen) → KeepsOthers id a.turns b.turns → ((other : ℕ) → look other b.lines ≡ cond (nat_eq id other) (Some e) (look other a.lines)) → HaveDevices a → HaveDevices b
-called_devices a b id e others now = line_devices a b id e now (λ other ne h. subst (λ (o : Option Connection). IsSome o) (others.known other ne) h)
-
--- it was called
-pub serving_called : (a b : Tunnel) (id : ℕ) (e : Seen) → KeepsServed (view_of a) (view_of b) → KeepsOthers id a.turns b.turns → ((other : ℕ) → look other b.lines ≡ cond (nat_eq id other) (Some e) (look other a.lines)) → Serving a → Serving b
-serving_called a b id e served others now s = record { served = served s.served; devices = called_devices a b id e others now s.devices }
-
--- it was served
-pub serving_served : (a b : Tunnel) (id : ℕ) (e : Seen) → (AreServedBut id (view_of a) → AreServed (view_of b)) → KeepsOthers id a.turns b.turns → ((other : ℕ) → look other b.lines ≡ cond (nat_eq id other) (Some e) (look other a.lines)) →
-    ServingBut id a → Serving b
-serving_served a b id e served others now s = record { served = served s.served; devices = called_devices a b id e others now s.devices }
-
--- it may be forgotten too
-pub serving_but : (id : ℕ) (a : Tunnel) → Serving a → ServingBut id a
-serving_but id a s = record { served = but_one id (view_of a) s.served; devices = s.devices }
-
-none_there : (o : Option Seen) → o ≡ None → IsSome o → ⊥
-none_there None none some = let no : ⊥ = cc in no
-none_there (Some d) none some = let no : ⊥ = cc in no
-
--- where it has no device its connection is not known
-pub serving_unserved : (a b : Tunnel) (id : ℕ) → view_of b ≡ view_of a → b.lines ≡ a.lines → look id a.lines ≡ None → ServingBut id a → Serving b
-serving_unserved a b id same lines none s = record {
-  served = subst AreServed (sym same) (record { within = s.served.within; each = λ other. each other (nat_eq id other) refl });
-  devices = λ other h. still_there other a b lines (s.devices other (subst (λ (v : EngineView). IsSome (known_as other v.turns.known)) same h));
-}
-  where
-    unknown : (other : ℕ) (c : Connection) → nat_eq id other ≡ true → known_as other a.turns.known ≡ Some c → ⊥
-    unknown other c t at =
-        none_there (look other a.lines) (ap (λ (n : ℕ). look n a.lines) (eq_ids id other t) ∙ none) (s.devices other (is_some_at at))
-
-    each : (other : ℕ) (t : Bool) → nat_eq id other ≡ t → IsServed other (view_of a)
-    each other true t = record { gets = λ c at may waits. absurd (unknown other c t at); gives = λ c at may waits. absurd (unknown other c t at) }
-    each other false t = s.served.each other t
-
--- what a call saw of the tunnel before
-pub turn_from : (a b c : Tunnel) (id : ℕ) → a ≡ b → (ServingBut id a → Serving c) → ServingBut id b → Serving c
-turn_from a b c id e h = subst (λ (v : Tunnel). ServingBut id v → Serving c) e h
-
--- its turn came
-pub serving_turn : (a b : Tunnel) (id : ℕ) → (AreServed (view_of a) → AreServedBut id (view_of b)) → SameConnections a.turns b.turns → b.lines ≡ a.lines → Serving a → ServingBut id b
-serving_turn a b id served same lines s = record { served = served s.served; devices = λ other h. still_there other a b lines (s.devices other (same_known a.turns b.turns same other h)) }
-
--- its device left
-pub serving_forgot : (a b : Tunnel) (id : ℕ) → (AreServedBut id (view_of a) → AreServed (view_of b)) → Knows id None a.turns b.turns → ((other : ℕ) → look other b.lines ≡ cond (nat_eq id other) None (look other a.lines)) → Serving a → Serving b
-serving_forgot a b id served gone now s = record {
-  served = served (but_one id (view_of a) s.served);
-  devices = gone_devices a b id gone (λ other ne h. subst (λ (o : Option Seen). IsSome o) (sym (now other ∙ ap (λ (t : Bool). cond t None (look other a.lines)) ne)) (s.devices other h));
+served_at : (id : ℕ) (a b : Tunnel) → GainsNone id a.engine.session b.engine.session → (is_running b.engine.session.status ≡ false → is_running a.engine.session.status ≡ false) → line_of id b.lines ≡ line_of id a.lines →
+    (IsSome (line_of id a.lines) → Awaits id a.lines → Awaits id b.lines) → (IsSome (line_of id a.lines) → Contains a.lines.held id → Attended id b.lines) → IsServed id a → IsServed id b
+served_at id a b came runs same on holds before = record {
+  gets = λ l there may some. let was = sym same ∙ there in on (is_some_at was) (before.gets l was may (came.bytes some));
+  gives = λ l there may some. let was = sym same ∙ there in attended_on id a.lines b.lines (on (is_some_at was)) (holds (is_some_at was)) (before.gives l was may (came.room some));
+  hears = λ l there over connected opened. let was = sym same ∙ there in on (is_some_at was) (before.hears l was (runs over) connected opened);
 }
 
--- a stream was opened or accepted, and a device joined it
-pub serving_joined : (a b c : Tunnel) (id : ℕ) (d : Seen) (k : Connection) → KeepsServed (view_of a) (view_of b) → Knows id (Some k) a.turns b.turns → b.lines ≡ a.lines → Joins id d b c → Serving a → Serving c
-serving_joined a b c id d k served knows lines j s = record {
-  served = subst AreServed (sym j.engine) (served s.served);
-  devices = λ other h. by other (subst (λ (v : EngineView). IsSome (known_as other v.turns.known)) j.engine h) (nat_eq id other) refl (j.lines other);
+pub serving_kept : (a b : Tunnel) → (IsWithin a.engine.session → Calms a.engine.session b.engine.session) → KeepsLines a.lines b.lines → Serving a → Serving b
+serving_kept a b calm keeps h =
+    let q = calm h.within in
+    record { within = q.within; each = λ id. served_at id a b (q.came id) q.runs (keeps.lines id) (keeps.awaits id) (keeps.holds id) (h.each id) }
+
+-- where the session stays
+pub serving_lines : (a b : Tunnel) → b.engine.session ≡ a.engine.session → KeepsLines a.lines b.lines → Serving a → Serving b
+serving_lines a b e keeps = serving_kept a b (calms_same a.engine.session b.engine.session e) keeps
+
+-- where the connections stay
+pub serving_session : (a b : Tunnel) → (IsWithin a.engine.session → Calms a.engine.session b.engine.session) → b.lines ≡ a.lines → Serving a → Serving b
+serving_session a b calm same = serving_kept a b calm (subst (KeepsLines a.lines) (sym same) (keeps_same a.lines))
+
+pub serving_alike : (a b : Tunnel) → b.engine.session ≡ a.engine.session → b.lines ≡ a.lines → Serving a → Serving b
+serving_alike a b e same = serving_session a b (calms_same a.engine.session b.engine.session e) same
+
+pub serving_from : (a b c : Tunnel) → a ≡ b → (Serving a → Serving c) → Serving b → Serving c
+serving_from a b c e x = subst (λ (v : Tunnel). Serving v → Serving c) e x
+
+pub serving_but_from : (id : ℕ) (a b c : Tunnel) → a ≡ b → (ServingBut id a → Serving c) → ServingBut id b → Serving c
+serving_but_from id a b c e x = subst (λ (v : Tunnel). ServingBut id v → Serving c) e x
+
+pub but_of : (id : ℕ) (a : Tunnel) → Serving a → ServingBut id a
+but_of id a h = record { within = h.within; each = λ other ne. h.each other }
+
+-- where all have a turn
+pub serving_all : (b : Tunnel) → IsWithin b.engine.session → ((id : ℕ) → IsSome (line_of id b.lines) → Awaits id b.lines) → Serving b
+serving_all b w all = record {
+  within = w;
+  each = λ id. record {
+    gets = λ l there may some. all id (is_some_at there);
+    gives = λ l there may some. inl (all id (is_some_at there));
+    hears = λ l there over connected opened. all id (is_some_at there);
+  };
+}
+
+-- a connection that waits for its turn
+pub served_waits : (id : ℕ) (b : Tunnel) → Awaits id b.lines → IsServed id b
+served_waits id b waits = record { gets = λ l there may some. waits; gives = λ l there may some. inl waits; hears = λ l there over connected opened. waits }
+
+-- one that is served with the others
+pub serving_with : (id : ℕ) (a b : Tunnel) → (IsWithin a.engine.session → CalmsBut id a.engine.session b.engine.session) → KeepsOthers id a.lines b.lines → (IsWithin a.engine.session → IsServed id b) → ServingBut id a → Serving b
+serving_with id a b calm others own h =
+    let q = calm h.within in record { within = q.within; each = λ other. by q other (nat_eq id other) refl }
+  where
+    by : CalmsBut id a.engine.session b.engine.session → (other : ℕ) (t : Bool) → nat_eq id other ≡ t → IsServed other b
+    by q other true t = subst (λ (n : ℕ). IsServed n b) (sym (eq_ids id other t)) (own h.within)
+    by q other false t = served_at other a b (q.came other t) q.runs (others.lines other t) (others.awaits other t) (others.holds other t) (h.each other t)
+
+-- one that isn't there waits for nothing
+pub served_none : (id : ℕ) (b : Tunnel) → line_of id b.lines ≡ None → IsServed id b
+served_none id b none = record {
+  gets = λ l there may some. let no : None ≡ Some l = sym none ∙ there in absurd cc;
+  gives = λ l there may some. let no : None ≡ Some l = sym none ∙ there in absurd cc;
+  hears = λ l there over connected opened. let no : None ≡ Some l = sym none ∙ there in absurd cc;
+}
+
+pub serving_unserved : (id : ℕ) (a b : Tunnel) → b ≡ a → line_of id a.lines ≡ None → ServingBut id a → Serving b
+serving_unserved id a b e none h = subst Serving (sym e) (record { within = h.within; each = λ other. by other (nat_eq id other) refl })
+  where
+    by : (other : ℕ) (t : Bool) → nat_eq id other ≡ t → IsServed other a
+    by other true t = subst (λ (n : ℕ). IsServed n a) (sym (eq_ids id other t)) (served_none id a none)
+    by other false t = h.each other t
+
+-- ---- feeds
+
+whole : (x : Bool) (s y : Session) → x ≡ true → cond x s y ≡ s
+whole true s y e = refl
+whole false s y e = cc
+
+deaf_closed : (st : Status) → is_closed st ≡ true → is_deaf st ≡ true
+deaf_closed Running c = cc
+deaf_closed Lost c = refl
+deaf_closed (Broken f) c = cc
+deaf_closed Closed c = refl
+
+takes_closed : (bytes : List ℕ) (s t : Session) (n : ℕ) → Takes bytes s t n → is_closed s.status ≡ true → is_closed t.status ≡ true
+takes_closed [] s t n h c = ap (λ (x : Session). is_closed x.status) h.0 ∙ c
+takes_closed (b ∷ bytes) s t n (no_memory, more, stuck, counts, rest) c =
+    let still : byte_comes no_memory b s ≡ s = whole (is_deaf s.status) s (byte_in no_memory b s s.incoming) (deaf_closed s.status c) in
+    takes_closed bytes (byte_comes no_memory b s) t more rest (ap (λ (x : Session). is_closed x.status) still ∙ c)
+
+stopped_deaf : (st : Status) (rest : Bool) → is_running st ≡ false → (is_broken st || rest) ≡ false → is_deaf st ≡ true
+stopped_deaf Running rest c e = cc
+stopped_deaf Lost rest c e = refl
+stopped_deaf (Broken f) rest c e = cc
+stopped_deaf Closed rest c e = refl
+
+-- one that doesn't run takes nothing that makes it run
+takes_stopped : (bytes : List ℕ) (s t : Session) (n : ℕ) → Takes bytes s t n → is_running s.status ≡ false → is_running t.status ≡ false
+takes_stopped [] s t n h c = ap (λ (x : Session). is_running x.status) h.0 ∙ c
+takes_stopped (b ∷ bytes) s t n (no_memory, more, stuck, counts, rest) c =
+    let still : byte_comes no_memory b s ≡ s = whole (is_deaf s.status) s (byte_in no_memory b s s.incoming) (stopped_deaf s.status _ c stuck) in
+    takes_stopped bytes (byte_comes no_memory b s) t more rest (ap (λ (x : Session). is_running x.status) still ∙ c)
+
+back : (b c x : Bool) → (b ≡ x → c ≡ x) → c ≡ not x → b ≡ not x
+back true c true h e = let no : true ≡ false = sym (h refl) ∙ e in absurd cc
+back false c true h e = refl
+back true c false h e = refl
+back false c false h e = let no : false ≡ true = sym (h refl) ∙ e in absurd cc
+
+fed_goes : (bytes : List ℕ) (f : Fed) (s t : Session) → Gives in_turn s (event.Feed bytes) (reply.Fed f) t → Goes s t
+fed_goes bytes f s t g =
+    let took = (g.2).took in
+    (back (is_closed s.status) (is_closed t.status) true (takes_closed _ s t took.0 took.1), back (is_running s.status) (is_running t.status) false (takes_stopped _ s t took.0 took.1))
+
+-- Those whom a feed touched were called, and of the others no bytes came; where the session is over then, all were called.
+pub serving_fed : (n : Noted) (input : List ℕ) (f : Fed) (a b : Tunnel) (t : Session) (q : Lines) → FeedsSome a.engine.session input f t → NotesChanges a.engine.session t n → KeepsLines a.lines q →
+    ((id : ℕ) → is_noted id n ≡ true → IsSome (line_of id a.lines) → Awaits id q) → b.engine.session ≡ t → KeepsLines q b.lines →
+    (is_running b.engine.session.status ≡ false → (id : ℕ) → IsSome (line_of id b.lines) → Awaits id b.lines) → Serving a → Serving b
+serving_fed n input f a b t q x notes keeps all same later over h = by (is_running b.engine.session.status) refl
+  where
+    within : IsWithin b.engine.session
+    within = subst IsWithin (sym same) (gives-keep in_turn a.engine.session t (event.Feed (take x.count input)) (reply.Fed f) x.feeds h.within)
+
+    runs_no_more : (r : Bool) → r ≡ true → r ≡ false → ⊥
+    runs_no_more true p q = let no : true ≡ false = q in cc
+    runs_no_more false p q = let no : false ≡ true = p in cc
+
+    called : (id : ℕ) → is_noted id n ≡ true → (l : Line) → line_of id b.lines ≡ Some l → Awaits id b.lines
+    called id is l there =
+        let was : line_of id q ≡ Some l = sym (later.lines id) ∙ there in
+        let first : line_of id a.lines ≡ Some l = sym (keeps.lines id) ∙ was in
+        later.awaits id (is_some_at was) (all id is (is_some_at first))
+
+    each : is_running b.engine.session.status ≡ true → (id : ℕ) (noted : Bool) → is_noted id n ≡ noted → IsServed id b
+    each runs id true is = record { gets = λ l there may some. called id is l there; gives = λ l there may some. inl (called id is l there); hears = λ l there stops connected opened. called id is l there }
+    each runs id false is =
+        let came : GainsNone id a.engine.session t = came_same id a.engine.session t (fed_goes (take x.count input) f a.engine.session t x.feeds) (notes.streams id is) in
+        let both = keeps_then a.lines q b.lines keeps later in
+        served_at id a b (subst (GainsNone id a.engine.session) (sym same) came) (λ stops. absurd (runs_no_more (is_running b.engine.session.status) runs stops)) (both.lines id) (both.awaits id) (both.holds id) (h.each id)
+
+    by : (r : Bool) → is_running b.engine.session.status ≡ r → Serving b
+    by true r = record { within = within; each = λ id. each r id (is_noted id n) refl }
+    by false r = serving_all b within (over r)
+
+-- ---- the wire's end
+
+pub ends_within : (s t : Session) → Gives in_turn s event.FeedEnd reply.Done t → IsWithin s → IsWithin t
+ends_within s t g w = gives-keep in_turn s t event.FeedEnd reply.Done g w
+
+ended_stops : (st : Status) → is_running (status_input_ends st) ≡ false
+ended_stops Running = refl
+ended_stops Lost = refl
+ended_stops (Broken f) = refl
+ended_stops Closed = refl
+
+pub ends_running : (s t : Session) → Gives in_turn s event.FeedEnd reply.Done t → is_running t.status ≡ false
+ends_running s t g = subst (λ (x : Session). is_running x.status ≡ false) (sym g.1) (ended_stops s.status)
+
+-- ---- a stream is opened, accepted, or given up
+
+differ : (id other : ℕ) → nat_eq id other ≡ false → other ≢ id
+differ id other ne = grind (arith, nat_tests)
+
+forget_status : (id : ℕ) (s : Session) → (outcome (call.Forget id) s).next.status ≡ s.status
+forget_status id s = forget-stays (λ (t : Session). t.status ≡ s.status) id s (record { now = refl; changed = λ f. refl; gone = λ f. settled_status id (on_stream id f s) })
+
+others_calm : (id : ℕ) (s t : Session) → t.status ≡ s.status → ((j : ℕ) → j ≢ id → look_up j t.table.entries ≡ look_up j s.table.entries) → IsWithin t → CalmsBut id s t
+others_calm id s t status same w = record {
+  within = w;
+  came = λ other ne. came_same other s t (λ c. sym (ap is_closed status) ∙ c, λ c. sym (ap is_running status) ∙ c) (same other (differ id other ne));
+  runs = same_runs s t status;
+}
+
+pub forgotten_status : (id : ℕ) (told : Reply) (s t : Session) → Gives in_turn s (event.Call (call.Forget id)) told t → t.status ≡ s.status
+forgotten_status id told s t g = called_status (call.Forget id) s t told (forget_status id s) g
+
+pub forgotten_calm : (id : ℕ) (told : Reply) (s t : Session) → Gives in_turn s (event.Call (call.Forget id)) told t → IsWithin s → CalmsBut id s t
+forgotten_calm id told s t (HasOutcome answer state) w =
+    let within = gives-keep in_turn s t (event.Call (call.Forget id)) told (HasOutcome answer state) w in
+    others_calm id s t (ap (λ (x : Session). x.status) state ∙ forget_status id s) (λ j n. ap (λ (x : Session). look_up j x.table.entries) state ∙ forget-others id s j n) within
+forgotten_calm id told s t (NoMemory needs answer state) w = but_same id s t state w
+
+reset_calm : (id : ℕ) (told : Reply) (s t : Session) → Gives in_turn s (event.Call (call.Reset id)) told t → IsWithin s → Calms s t
+reset_calm id told s t g w = record {
+  within = gives-keep in_turn s t (event.Call (call.Reset id)) told g w;
+  came = calm_came (event.Call (call.Reset id)) told s t refl g w;
+  runs = same_runs s t (reset_stays id told s t g);
+}
+
+but_then : (id : ℕ) (s t u : Session) → CalmsBut id s t → CalmsBut id t u → CalmsBut id s u
+but_then id s t u x y = record { within = y.within; came = λ other ne. gains_then other s t u (x.came other ne) (y.came other ne); runs = λ h. x.runs (y.runs h) }
+
+pub given_up_calm : (id : ℕ) (s t : Session) → GivesUp id s t → IsWithin s → CalmsBut id s t
+given_up_calm id s t x w =
+    let r = calms_but id s x.between (reset_calm id x.told_reset s x.between x.reset w) in
+    but_then id s x.between t r (forgotten_calm id x.told_forget x.between t x.forgotten r.within)
+
+-- its connection is there no more
+pub serving_gone : (id : ℕ) (a b : Tunnel) → (IsWithin a.engine.session → CalmsBut id a.engine.session b.engine.session) → Puts id None a.lines b.lines → SameQueues a.lines b.lines → ServingBut id a → Serving b
+serving_gone id a b calm puts q =
+    serving_with id a b calm (others_put id None a.lines b.lines puts (extends_queues a.lines b.lines q) (λ m. q.missed ∙ m) (λ other h. subst (λ (v : List ℕ). Contains v other) (sym q.held) h)) (λ w. served_none id b (line_put_at id None a.lines b.lines puts))
+
+-- a stream that has no connection was given up
+pub serving_dropped : (id : ℕ) (a b : Tunnel) → DropsOut id a b → ServingBut id a → Serving b
+serving_dropped id a b x h =
+    let q = given_up_calm id a.engine.session b.engine.session x.up h.within in
+    record { within = q.within; each = λ other. by q other (nat_eq id other) refl }
+  where
+    still : (other : ℕ) → Awaits other a.lines → Awaits other b.lines
+    still other w = subst (Awaits other) (sym x.lines) w
+
+    by : CalmsBut id a.engine.session b.engine.session → (other : ℕ) (t : Bool) → nat_eq id other ≡ t → IsServed other b
+    by q other true t = subst (λ (n : ℕ). IsServed n b) (sym (eq_ids id other t)) (served_none id b (ap (line_of id) x.lines ∙ x.free))
+    by q other false t = served_at other a b (q.came other t) q.runs (ap (line_of other) x.lines) (λ some. still other) (λ some w. attended_held a.lines b.lines (ap (λ (l : Lines). l.held) x.lines) other w) (h.each other t)
+
+-- an open gives the next own id
+opened_id : (id : ℕ) (s : Session) → reply.Opened id ≡ (open_stream s).reply → id ≡ s.next
+opened_id id s =
+    let P : Outcome → Type 0 = λ o. reply.Opened id ≡ o.reply → id ≡ s.next in
+    split P (is_closed s.status) (refused fault.Closed s) _ (λ e h. cc) (λ e.
+    split P (is_lost s.status) (refused fault.Lost s) _ (λ e h. cc) (λ e.
+    split P s.away.there (refused fault.PeerAway s) _ (λ e h. cc) (λ e.
+    split P (nat_le first_exhausted s.next) (refused fault.Exhausted s) _ (λ e h. cc) (λ e.
+    split P (nat_le most_unacknowledged (count_by (is_unacknowledged s.role) s.table.entries)) (refused fault.OpensPending s) _ (λ e h. cc) (λ e.
+    split P (nat_le most_records (length s.table.entries)) (refused fault.TooMany s) (answers (reply.Opened s.next) (session_opened false [] s)) (λ e h. cc) (λ e h. cc))))))
+
+opened_status : (s : Session) → (open_stream s).next.status ≡ s.status
+opened_status s =
+    let P : Outcome → Type 0 = λ o. o.next.status ≡ s.status in
+    split P (is_closed s.status) (refused fault.Closed s) _ (λ e. refl) (λ e.
+    split P (is_lost s.status) (refused fault.Lost s) _ (λ e. refl) (λ e.
+    split P s.away.there (refused fault.PeerAway s) _ (λ e. refl) (λ e.
+    split P (nat_le first_exhausted s.next) (refused fault.Exhausted s) _ (λ e. refl) (λ e.
+    split P (nat_le most_unacknowledged (count_by (is_unacknowledged s.role) s.table.entries)) (refused fault.OpensPending s) _ (λ e. refl) (λ e.
+    split P (nat_le most_records (length s.table.entries)) (refused fault.TooMany s) (answers (reply.Opened s.next) (session_opened false [] s)) (λ e. refl) (λ e. refl))))))
+
+pub opened_calm : (id : ℕ) (s t : Session) → Gives in_turn s (event.Call call.Open) (reply.Opened id) t → IsWithin s → CalmsBut id s t
+opened_calm id s t (HasOutcome answer state) w =
+    let within = gives-keep in_turn s t (event.Call call.Open) (reply.Opened id) (HasOutcome answer state) w in
+    let is : id ≡ s.next = opened_id id s answer in
+    others_calm id s t (ap (λ (x : Session). x.status) state ∙ opened_status s) (λ j n. ap (λ (x : Session). look_up j x.table.entries) state ∙ open-others s j (λ e. n (e ∙ sym is))) within
+opened_calm id s t (NoMemory needs answer state) w = cc
+
+accepted_status : (s : Session) → (accept s).next.status ≡ s.status
+accepted_status s = let P : Outcome → Type 0 = λ o. o.next.status ≡ s.status in split P (is_closed s.status) (refused fault.Closed s) (accept_of s.offered s) (λ e. refl) (λ e. of s.offered)
+  where
+    of : (ids : List ℕ) → (accept_of ids s).next.status ≡ s.status
+    of [] = split (λ (o : Outcome). o.next.status ≡ s.status) (is_lost s.status) (refused fault.Lost s) (answers (reply.Accepted None) s) (λ e. refl) (λ e. refl)
+    of (x ∷ xs) = refl
+
+pub accepted_calm : (id : ℕ) (s t : Session) → Gives in_turn s (event.Call call.Accept) (reply.Accepted (Some id)) t → IsWithin s → CalmsBut id s t
+accepted_calm id s t (HasOutcome answer state) w =
+    let within = gives-keep in_turn s t (event.Call call.Accept) (reply.Accepted (Some id)) (HasOutcome answer state) w in
+    others_calm id s t (ap (λ (x : Session). x.status) state ∙ accepted_status s) (λ j n. ap (λ (x : Session). look_up j x.table.entries) state ∙ accept-others id s (sym answer) j n) within
+accepted_calm id s t (NoMemory needs answer state) w = cc
+
+-- the others are served where one stream changed
+pub serving_but : (id : ℕ) (a b : Tunnel) → (IsWithin a.engine.session → CalmsBut id a.engine.session b.engine.session) → KeepsLines a.lines b.lines → Serving a → ServingBut id b
+serving_but id a b calm keeps h =
+    let q = calm h.within in
+    record { within = q.within; each = λ other ne. served_at other a b (q.came other ne) q.runs (keeps.lines other) (keeps.awaits other) (keeps.holds other) (h.each other) }
+
+-- a device joined it, and waits for a turn
+pub serving_joined : (id : ℕ) (seen : Seen) (a b : Tunnel) → Joins id seen a b → ServingBut id a → Serving b
+serving_joined id seen a b x =
+    serving_with id a b (λ w. but_same id a.engine.session b.engine.session (ap (λ e. e.session) x.engine) w) (others_put id _ a.lines b.lines x.lines.lines (extends_added id a.lines b.lines x.lines.turn) x.lines.turn.missed
+      (λ other h. subst (λ (v : List ℕ). Contains v other) (sym x.lines.turn.held) h)) (λ w. served_waits id b (inl x.lines.waits))
+
+-- it has one already, which is what it was
+pub serving_there : (id : ℕ) (a b : Tunnel) → (IsWithin a.engine.session → CalmsBut id a.engine.session b.engine.session) → KeepsLines a.lines b.lines → IsServed id b → Serving a → Serving b
+serving_there id a b calm keeps own h =
+    let q = serving_but id a b calm keeps h in record { within = q.within; each = λ other. by q other (nat_eq id other) refl }
+  where
+    by : ServingBut id b → (other : ℕ) (t : Bool) → nat_eq id other ≡ t → IsServed other b
+    by q other true t = subst (λ (n : ℕ). IsServed n b) (sym (eq_ids id other t)) own
+    by q other false t = q.each other t
+
+-- ---- whose turn it is
+
+awaits_popped : (busy : Bool) (id other : ℕ) (a b : Lines) → IsFirst busy id a b → b.missed ≡ a.missed → nat_eq id other ≡ false → Awaits other a → Awaits other b
+awaits_popped true id other a b f m ne (inl (inl x)) = inl (inl (subst (λ (v : List ℕ). Contains v other) (sym f.1) x))
+awaits_popped true id other a b f m ne (inl (inr x)) = inl (inr (popped a.busy b.busy id other f.0 ne x))
+awaits_popped false id other a b f m ne (inl (inl x)) = inl (inl (popped a.fresh b.fresh id other f.0 ne x))
+awaits_popped false id other a b f m ne (inl (inr x)) = inl (inr (subst (λ (v : List ℕ). Contains v other) (sym f.1) x))
+awaits_popped busy id other a b f m ne (inr x) = inr (m ∙ x)
+
+pub serving_turn : (id : ℕ) (a b : Tunnel) → b.engine ≡ a.engine → SameLines a.lines b.lines → TakesTurn id a.lines b.lines → b.lines.missed ≡ a.lines.missed → b.lines.held ≡ a.lines.held → Serving a → ServingBut id b
+serving_turn id a b e same takes m held h =
+    let q = calms_same a.engine.session b.engine.session (ap (λ v. v.session) e) h.within in
+    record { within = q.within; each = λ other ne. served_at other a b (q.came other) q.runs (same other) (λ some. awaits_popped (takes_busy a.lines) id other a.lines b.lines takes.first m ne) (λ some. attended_held a.lines b.lines held other) (h.each other) }
+
+-- ---- a turn
+
+turn_steady : (id : ℕ) (e : Event) → is_of_turn id e ≡ true → is_steady e ≡ true
+turn_steady id (event.Call (call.Write other bytes)) h = refl
+turn_steady id (event.Call (call.Read other max)) h = refl
+turn_steady id (event.Call (call.Finish other)) h = refl
+turn_steady id (event.Call (call.Reset other)) h = refl
+turn_steady id (event.Call call.Open) h = cc
+turn_steady id (event.Call (call.OpenWith bytes)) h = cc
+turn_steady id (event.Call call.Accept) h = cc
+turn_steady id (event.Call (call.Forget other)) h = cc
+turn_steady id (event.Call call.Ping) h = cc
+turn_steady id (event.Call (call.Ponged n)) h = cc
+turn_steady id (event.Call call.GoAway) h = cc
+turn_steady id (event.Call call.Close) h = cc
+turn_steady id (event.Feed bytes) h = cc
+turn_steady id event.FeedEnd h = cc
+turn_steady id (event.Emit room) h = refl
+
+pub turn_calm : (id : ℕ) (reads : Bool) (s t : Session) (out out_new : List ℕ) (before after : Seen) (was now : Ways) (more : Bool) (gave : ℕ) → Turn id reads s t out out_new before after was now more gave → IsWithin s → Calms s t
+turn_calm id reads s t out out_new before after was now more gave x w =
+    let calm = exchanges_calm id s t out out_new before after x.moved w in
+    record { within = calm.within; came = calm.came; runs = same_runs s t (steady_all (is_of_turn id) (turn_steady id) x.moved.events s t x.moved.happen x.moved.own) }
+
+part_served : (id : ℕ) (reads : Bool) (was : Line) (a b : Tunnel) (gave : ℕ) → TakesPart id reads was a.engine.session b.engine.session a.engine.outgoing b.engine.outgoing a.lines b.lines gave → IsWithin a.engine.session → IsServed id b
+part_served id reads was a b gave x w = record {
+  gets = λ l there may some. x.again (x.turn.stays w (subst (λ (v : Line). may_push v.ways v.seen.marks ≡ true) (is_now l there) may) some);
+  gives = λ l there may some. by reads refl (subst (λ (v : Line). may_pull v.ways v.seen.marks ≡ true) (is_now l there) may) some;
+  hears = λ l there over connected opened. x.again (x.turn.hears over (subst (λ (v : Line). v.seen.marks.is_connecting ≡ false) (is_now l there) connected) (subst (λ (v : Line). is_open v.ways.to_peer ≡ true) (is_now l there) opened));
 }
   where
-    by : (other : ℕ) → IsSome (known_as other b.turns.known) → (t : Bool) → nat_eq id other ≡ t → look other c.lines ≡ cond t (Some d) (look other b.lines) → IsSome (look other c.lines)
-    by other h true t now = is_some_at now
-    by other h false t now = subst (λ (o : Option Seen). IsSome o) (sym now) (still_there other a b lines (s.devices other (subst (λ (o : Option Connection). IsSome o) (known_else id other (Some k) a.turns b.turns knows t) h)))
+    is_now : (l : Line) → line_of id b.lines ≡ Some l → l ≡ x.now
+    is_now l there = let e : Some l ≡ Some x.now = sym there ∙ line_put_at id (Some x.now) a.lines b.lines x.lines in cc
 
--- none could join it, and it was given up
-pub serving_dropped : (a b c : Tunnel) (id : ℕ) (k : Connection) → KeepsServed (view_of a) (view_of b) → Knows id (Some k) a.turns b.turns → b.lines ≡ a.lines → DropsOut id b c → Serving a → Serving c
-serving_dropped a b c id k served knows lines j s = record {
-  served = j.served (but_one id (view_of b) (served s.served));
-  devices = gone_devices b c id j.gone (λ other ne h. still_there other b c j.lines (still_there other a b lines (s.devices other (subst (λ (o : Option Connection). IsSome o) (known_else id other (Some k) a.turns b.turns knows ne) h))));
-}
+    by : (r : Bool) → reads ≡ r → may_pull x.now.ways x.now.seen.marks ≡ true → 0 < room_of id b.engine.session → Attended id b.lines
+    by true e may some = inl (x.again (x.turn.asks_on e may some))
+    by false e may some = x.put_off e may
 
--- it has a device
-pub serving_there : (a b : Tunnel) (id : ℕ) (k : Connection) → KeepsServed (view_of a) (view_of b) → Knows id (Some k) a.turns b.turns → b.lines ≡ a.lines → IsSome (look id a.lines) → Serving a → Serving b
-serving_there a b id k served knows lines there s = record { served = served s.served; devices = λ other h. still_there other a b lines (by other h (nat_eq id other) refl) }
-  where
-    by : (other : ℕ) → IsSome (known_as other b.turns.known) → (t : Bool) → nat_eq id other ≡ t → IsSome (look other a.lines)
-    by other h true t = subst (λ (n : ℕ). IsSome (look n a.lines)) (sym (eq_ids id other t)) there
-    by other h false t = s.devices other (subst (λ (o : Option Connection). IsSome o) (known_else id other (Some k) a.turns b.turns knows t) h)
+pub serving_part : (id : ℕ) (reads : Bool) (was : Line) (a b : Tunnel) (gave : ℕ) → TakesPart id reads was a.engine.session b.engine.session a.engine.outgoing b.engine.outgoing a.lines b.lines gave → KeepsOthers id a.lines b.lines → ServingBut id a → Serving b
+serving_part id reads was a b gave x others =
+    serving_with id a b (λ w. calms_but id a.engine.session b.engine.session (turn_calm id reads a.engine.session b.engine.session a.engine.outgoing b.engine.outgoing was.seen x.now.seen was.ways x.now.ways x.more gave x.turn w)) others (λ w. part_served id reads was a b gave x w)
 
--- ---- one that was accepted
+-- ---- what an event said of a device
 
-accepts_known : (a b : Tunnel) (o : Option ℕ) (id : ℕ) (k : Connection) → o ≡ Some id → IfSome o (λ i. Adds i k a.turns b.turns) → Knows id (Some k) a.turns b.turns
-accepts_known a b o id k some h = let adds : Adds id k a.turns b.turns = subst (λ (v : Option ℕ). IfSome v (λ i. Adds i k a.turns b.turns)) some h in adds.0
+pub serving_noted : (id : ℕ) (ready : Readiness) (was : Line) (a b : Tunnel) → b.engine ≡ a.engine → Notes id ready was a.lines b.lines → Serving a → Serving b
+serving_noted id ready was a b e x h =
+    serving_with id a b (λ w. but_same id a.engine.session b.engine.session (ap (λ v. v.session) e) w) (others_put id _ a.lines b.lines x.lines (extends_added id a.lines b.lines x.turn) x.turn.missed
+      (λ other h. subst (λ (v : List ℕ). Contains v other) (sym x.turn.held) h)) (λ w. served_waits id b x.awaits) (but_of id a h)
 
-pub accepts_there : (a b : Tunnel) (o : Option ℕ) (id : ℕ) (k : Connection) → o ≡ Some id → KeepsServed (view_of a) (view_of b) → IfSome o (λ i. Adds i k a.turns b.turns) → b.lines ≡ a.lines → IsSome (look id a.lines) → Serving a → Serving b
-accepts_there a b o id k some served h lines there = serving_there a b id k served (accepts_known a b o id k some h) lines there
+-- ---- pings
 
-pub accepts_joined : (a b c : Tunnel) (o : Option ℕ) (id : ℕ) (d : Seen) (k : Connection) → o ≡ Some id → KeepsServed (view_of a) (view_of b) → IfSome o (λ i. Adds i k a.turns b.turns) → b.lines ≡ a.lines → Joins id d b c → Serving a → Serving c
-accepts_joined a b c o id d k some served h lines j = serving_joined a b c id d k served (accepts_known a b o id k some h) lines j
+kept_calls : (c : Call) (s t : Session) (told : Reply) → ((outcome c s).next.table ≡ s.table) → ((outcome c s).next.status ≡ s.status) → CallGives s c told t → NoneCame s t
+kept_calls c s t told table status (HasOutcome answer state) =
+    subst (NoneCame s) (sym state) (λ id. came_same id s (outcome c s).next (λ k. sym (ap is_closed status) ∙ k, λ k. sym (ap is_running status) ∙ k) (ap (λ x. look_up id x.entries) table))
+kept_calls c s t told table status (NoMemory needs answer state) = subst (NoneCame s) (sym state) (none_came s)
 
-pub accepts_dropped : (a b c : Tunnel) (o : Option ℕ) (id : ℕ) (k : Connection) → o ≡ Some id → KeepsServed (view_of a) (view_of b) → IfSome o (λ i. Adds i k a.turns b.turns) → b.lines ≡ a.lines → DropsOut id b c → Serving a → Serving c
-accepts_dropped a b c o id k some served h lines j = serving_dropped a b c id k served (accepts_known a b o id k some h) lines j
+ping_same : (s : Session) → ((ping s).next.table ≡ s.table) × ((ping s).next.status ≡ s.status)
+ping_same s =
+    let P : Outcome → Type 0 = λ o. (o.next.table ≡ s.table) × (o.next.status ≡ s.status) in
+    split P (is_closed s.status) (refused fault.Closed s) _ (λ e. (refl, refl)) (λ e.
+    split P (is_lost s.status) (refused fault.Lost s) _ (λ e. (refl, refl)) (λ e.
+    split P (nat_le most_pings (length s.pings.pending)) (refused fault.PingsPending s) (answers (reply.Pinged (next_number s.pings)) (record s { pings = ask s.pings })) (λ e. (refl, refl)) (λ e. (refl, refl))))
 
--- one was accepted of which no connection is kept, and forgotten
-pub serving_refused : (a c : Tunnel) (e : EngineView) (id : ℕ) → (AreServed (view_of a) → AreServedBut id e) → e.turns ≡ a.turns → Knows id None e.turns c.turns → (AreServedBut id e → AreServed (view_of c)) → c.lines ≡ a.lines → Serving a → Serving c
-serving_refused a c e id offered same gone served lines s = record {
-  served = served (offered s.served);
-  devices = gone_devices a c id (subst (λ (t : Turns). Knows id None t c.turns) same gone) (λ other ne h. still_there other a c lines (s.devices other h));
-}
+ponged_same : (n : ℕ) (s : Session) → ((ponged n s).next.table ≡ s.table) × ((ponged n s).next.status ≡ s.status)
+ponged_same n s =
+    let P : Outcome → Type 0 = λ o. (o.next.table ≡ s.table) × (o.next.status ≡ s.status) in
+    split P (is_closed s.status) (refused fault.Closed s) _ (λ e. (refl, refl)) (λ e.
+    split P (has_back n s.pings.pending) (answers (reply.Ponged true) (record s { pings = collect n s.pings })) _ (λ e. (refl, refl)) (λ e.
+    split P (is_lost s.status) (refused fault.Lost s) (answers (reply.Ponged false) s) (λ e. (refl, refl)) (λ e. (refl, refl))))
 
--- a device that is in the map is there
-pub look_some : {D : Type 0} (seen : D → Seen) (es : List (ℕ × D)) (id : ℕ) → is_some (lookup (nat_eq id) es) ≡ true → IsSome (look id (lines_of seen es))
-look_some seen es id h = subst (λ (o : Option Seen). IsSome o) (sym (look_lines seen es id)) (mapped seen (lookup (nat_eq id) es) h)
-  where
-    mapped : {D : Type 0} (seen : D → Seen) (o : Option D) → is_some o ≡ true → IsSome (option_map seen o)
-    mapped seen None h = h
-    mapped seen (Some d) h = refl
+pub pinged_calm : (told : Reply) (s t : Session) → Gives in_turn s (event.Call call.Ping) told t → IsWithin s → Calms s t
+pinged_calm told s t g w =
+    let k = ping_same s in
+    record { within = gives-keep in_turn s t (event.Call call.Ping) told g w; came = kept_calls call.Ping s t told k.0 k.1 g; runs = same_runs s t (called_status call.Ping s t told k.1 g) }
 
--- ---- one device alone
-
-some_kept : (t : Bool) (e : Entry) → t ≡ true → IsSome (option_map (λ (x : Entry). x.connection) (cond t (Some e) None))
-some_kept true e h = refl
-some_kept false e h = let no : ⊥ = cc in absurd no
-
-none_kept : (t : Bool) (d : Seen) → t ≡ false → IsSome (cond t (Some d) None) → ⊥
-none_kept true d h some = let no : ⊥ = cc in no
-none_kept false d h some = let no : ⊥ = cc in no
-
-own_id : (n : ℕ) → nat_eq n n ≡ true
-own_id n = grind (arith, nat_tests)
-
-next_id : (n : ℕ) → nat_eq (n + 1) n ≡ false
-next_id n = grind (arith, nat_tests)
-
--- A tunnel of one device, whose engine knows a connection that has none. It serves nobody, so that its calls promise only
--- what they move.
-abbrev pub lone_tunnel : Engine → Seen → ℕ → Seen → Tunnel
-lone_tunnel e wire id seen = record {
-  engine = e;
-  marks = record { can_pull_wire = false; can_push_wire = false; is_wire_over = false };
-  turns = record { known = (id + 1, record { connection = new_connection false; is_queued = false; is_held = false }) ∷ []; fresh = []; busy = []; held = []; has_room = false; has_place = false; missed = false };
-  work = record { reads = 0; turns = 0; writes = 0 };
-  wire = wire;
-  lines = (id, seen) ∷ [];
-}
-
-lone_serves_none : (e : Engine) (wire : Seen) (id : ℕ) (seen : Seen) → Serving (lone_tunnel e wire id seen) → ⊥
-lone_serves_none e wire id seen s = none_kept (nat_eq (id + 1) id) seen (next_id id) (s.devices (id + 1) (some_kept (nat_eq (id + 1) (id + 1)) (record { connection = new_connection false; is_queued = false; is_held = false }) (own_id (id + 1))))
-
-pub lone_attends : (e f : Engine) (wire : Seen) (id : ℕ) (old new : Seen) → Attends (lone_tunnel e wire id old) (lone_tunnel f wire id new)
-lone_attends e f wire id old new = record {
-  serves = λ s. absurd (lone_serves_none e wire id old s);
-  waits = λ h. let no : true ≡ false = h in let none : ⊥ = cc in absurd none;
-  grows = grows_same _ _ refl;
-}
-
--- a device was looked for that is not there
-pub runs_unfound : (a b : Tunnel) → view_of b ≡ view_of a → b.work ≡ a.work → b.wire ≡ a.wire → b.lines ≡ a.lines → Runs a b
-runs_unfound a b view work wire lines =
-    let turns : b.turns ≡ a.turns = ap (λ (v : EngineView). v.turns) view in
-    runs_alike a b (ap (λ (v : EngineView). v.engine) view) wire lines
-    (attends_on a b (serving_kept a b (subst AreServed (sym view)) (same_turns a.turns b.turns turns) lines) (wait_turns a.turns b.turns turns) work)
+pub ponged_calm : (n : ℕ) (told : Reply) (s t : Session) → Gives in_turn s (event.Call (call.Ponged n)) told t → IsWithin s → Calms s t
+ponged_calm n told s t g w =
+    let k = ponged_same n s in
+    record { within = gives-keep in_turn s t (event.Call (call.Ponged n)) told g w; came = kept_calls (call.Ponged n) s t told k.0 k.1 g; runs = same_runs s t (called_status (call.Ponged n) s t told k.1 g) }

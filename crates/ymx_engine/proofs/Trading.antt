@@ -1,5 +1,5 @@
 -- How a stream and its device go on over many turns.
-use Rattle.std.proofs.Common.{◌≡◌, ℕ, List, [], ◌∷◌, ◌++◌, Bool, true, false, ◌||◌, Option, None, Some, refl, sym, ap, ◌∙◌, subst, append-nil, append_assoc, inl, inr}
+use Rattle.std.proofs.Common.{◌≡◌, ℕ, List, [], ◌∷◌, ◌++◌, Bool, true, false, ◌||◌, Option, None, Some, refl, sym, ap, ◌∙◌, subst, append_assoc, inl, inr}
 use Rattle.std.specs.Prelude.{option_map, IfSome}
 use Rattle.std.specs.Io.KnownBytes.{Appends, Consumes}
 use Rattle.std.proofs.KnownBytes.{Appends-nil, Appends-trans, Consumes-nil, Consumes-trans}
@@ -8,26 +8,26 @@ use Rattle.ymx_machine.specs.shared.Events.{Reply}
 use Rattle.ymx_model.specs.session.Events.{Event}
 use Rattle.ymx_machine.specs.declared.types.Call.TheVariants as call
 use Rattle.ymx_model.specs.declared.types.Event.TheVariants as event
-use Rattle.ymx_model.specs.session.Sessions.{Session}
 use Rattle.ymx_engine.specs.Devices.{Seen}
 use Rattle.ymx_engine.specs.Events.{taken, given, has_end, has_finish, has_reset, has_stop, lacks_memory}
-use Rattle.ymx_engine.specs.Exchanges.{has_bytes, Exchange}
+use Rattle.ymx_engine.specs.Exchanges.{has_bytes}
 use Rattle.ymx_engine.specs.Engines.{Engine}
 use Rattle.ymx_engine.specs.Passes.{PassesOn}
-use Rattle.ymx_engine.proofs.Advancing.{IsQuiet}
+use Rattle.ymx_engine.specs.declared.ways.Ways.{Ways}
+use Rattle.ymx_engine.proofs.Quiet.{IsQuiet}
 use Rattle.ymx_engine.proofs.Exchanging.{taken_then, given_then, end_then, finish_then, reset_then, stop_then, lacks_then, or_none, or_second, or_cases, or_same, or_twice, same_consumes, whole_before, whole_after}
 use Rattle.ymx_engine.proofs.Listing.{takes_none}
-use Rattle.ymx_engine.specs.Lines.{all_of, kept_of, loses, Trades, IsIdle, opens_at, Opens, Forgets, Change, Lives, sinces, Life}
+use Rattle.ymx_engine.specs.Lives.{all_of, kept_of, loses, Trades, IsIdle, opens_at, Opens, Forgets, Change, Lives, sinces, Life}
 
-all_then : (ps qs : List (List ℕ × List ℕ)) → all_of (ps ++ qs) ≡ all_of ps ++ all_of qs
+pub all_then : (ps qs : List (List ℕ × List ℕ)) → all_of (ps ++ qs) ≡ all_of ps ++ all_of qs
 all_then [] qs = refl
 all_then (p ∷ ps) qs = ap (λ (v : List ℕ). (p.0 ++ p.1) ++ v) (all_then ps qs) ∙ sym (append_assoc (p.0 ++ p.1) (all_of ps) (all_of qs))
 
-kept_then : (ps qs : List (List ℕ × List ℕ)) → kept_of (ps ++ qs) ≡ kept_of ps ++ kept_of qs
+pub kept_then : (ps qs : List (List ℕ × List ℕ)) → kept_of (ps ++ qs) ≡ kept_of ps ++ kept_of qs
 kept_then [] qs = refl
 kept_then (p ∷ ps) qs = ap (λ (v : List ℕ). p.0 ++ v) (kept_then ps qs) ∙ sym (append_assoc p.0 (kept_of ps) (kept_of qs))
 
-loses_then : (ps qs : List (List ℕ × List ℕ)) → loses (ps ++ qs) ≡ (loses ps || loses qs)
+pub loses_then : (ps qs : List (List ℕ × List ℕ)) → loses (ps ++ qs) ≡ (loses ps || loses qs)
 loses_then [] qs = refl
 loses_then (p ∷ ps) qs = ap (λ (v : Bool). has_bytes p.1 || v) (loses_then ps qs) ∙ sym (or_assoc (has_bytes p.1) (loses ps) (loses qs))
 
@@ -39,16 +39,16 @@ or_swap false false true d = refl
 or_swap false false false d = refl
 
 -- two flags that were raised, one after the other
-raised : (x y z : Bool) (a b c : Option Bool) → z ≡ (x || y) → b ≡ option_map (λ v. v || x) a → c ≡ option_map (λ v. v || y) b → c ≡ option_map (λ v. v || z) a
+pub raised : (x y z : Bool) (a b c : Option Bool) → z ≡ (x || y) → b ≡ option_map (λ v. v || x) a → c ≡ option_map (λ v. v || y) b → c ≡ option_map (λ v. v || z) a
 raised x y z a b c e p q = q ∙ ap (option_map (λ v. v || y)) p ∙ or_twice x y a ∙ ap (λ (w : Bool). option_map (λ v. v || w) a) (sym e)
 
 -- each of two implies its own, so either does
-either : (a b p q : Bool) → (a || b) ≡ true → (a ≡ true → p ≡ true) → (b ≡ true → q ≡ true) → (p || q) ≡ true
+pub either : (a b p q : Bool) → (a || b) ≡ true → (a ≡ true → p ≡ true) → (b ≡ true → q ≡ true) → (p || q) ≡ true
 either true b true q h f g = refl
 either true b false q h f g = let no : false ≡ true = f refl in cc
 either false b p q h f g = or_second p q (g h)
 
-pub trades_quiet : (id : ℕ) (es : List (Event × Reply)) (a : Seen) → IsQuiet id es → Trades id es a a
+unfoldable pub trades_quiet : (id : ℕ) (es : List (Event × Reply)) (a : Seen) → IsQuiet id es → Trades id es a a
 trades_quiet id es a q = record {
   pieces = [];
   kept = q.0;
@@ -64,7 +64,7 @@ trades_quiet id es a q = record {
   shut = or_same a.shut ∙ ap (λ (v : Bool). option_map (λ x. x || v) a.shut) (sym q.5);
 }
 
-pub trades_then : (id : ℕ) (es fs : List (Event × Reply)) (a b c : Seen) → Trades id es a b → Trades id fs b c → Trades id (es ++ fs) a c
+unfoldable pub trades_then : (id : ℕ) (es fs : List (Event × Reply)) (a b c : Seen) → Trades id es a b → Trades id fs b c → Trades id (es ++ fs) a c
 trades_then id es fs a b c x y = record {
   pieces = x.pieces ++ y.pieces;
   kept = taken_then id es fs ∙ ap (λ (v : List ℕ). v ++ taken id fs) x.kept ∙ ap (λ (v : List ℕ). kept_of x.pieces ++ v) y.kept ∙ sym (kept_then x.pieces y.pieces);
@@ -85,28 +85,9 @@ trades_then id es fs a b c x y = record {
   shut = raised (has_stop id es) (has_stop id fs) _ _ _ _ (stop_then id es fs) x.shut y.shut;
 }
 
--- calls on the stream alone
-pub trades_once : (id : ℕ) (s t : Session) (a b : Seen) → (x : Exchange id s t a b) → Trades id x.events a b
-trades_once id s t a b x =
-    let all : taken id x.events ≡ (taken id x.events ++ []) ++ [] = sym (append-nil (taken id x.events)) ∙ sym (append-nil (taken id x.events ++ [])) in
-    record {
-      pieces = (taken id x.events, []) ∷ [];
-      kept = sym (append-nil (taken id x.events));
-      to_peer = subst (Consumes a.left b.left) all x.to_peer;
-      from_peer = x.from_peer;
-      whole = λ h. subst (λ (v : List ℕ). IfSome a.left (λ w. w ≡ v)) all (x.whole h);
-      over = x.over;
-      ended = x.ended;
-      fails = x.fails;
-      failed = x.failed;
-      reset = x.reset ∙ sym (or_none x.fails);
-      cause = λ h. let no : ⊥ = cc in absurd no;
-      shut = x.shut;
-    }
-
 -- payload that is passed on
-pub trades_passed : (id n : ℕ) (a b : Engine) (d e : Seen) → (x : PassesOn id a b d e n) → Trades id x.events d e
-trades_passed id n a b d e x =
+pub trades_passed : (id n : ℕ) (a b : Engine) (d e : Seen) (v w : Ways) → (x : PassesOn id a b d e n v w) → Trades id x.events d e
+trades_passed id n a b d e v w x =
     let none = takes_none id x.events x.own in
     record {
       pieces = [];

@@ -1,8 +1,9 @@
 -- What a contract sees of the tunnel of one end, and what its calls leave alone (this project's own).
-use Rattle.std.specs.Prelude.{ℕ, ◌≡◌, ◌⊎◌, List, [], true, false}
+use Rattle.std.specs.Prelude.{ℕ, ◌≡◌, ◌⊎◌, ◌&&◌, not, List, [], Bool, true, false}
 use Rattle.ymx_model.specs.session.Sessions.{Session}
 use Rattle.ymx_model.specs.session.Feeds.{is_stuck}
 use Rattle.ymx_model.specs.session.Emissions.{is_ready}
+use Rattle.ymx_engine.specs.Exchanges.{has_bytes}
 
 -- The session, the bytes that it emitted and the wire has not taken, and those that the wire gave and the session
 -- has not taken.
@@ -19,6 +20,10 @@ pub record KeepsWire (old new : Engine) : Type 0 where
 -- All that the wire gave was fed; or the session takes no byte now, as it is broken or its row of answers is full.
 abbrev pub IsFedOrStuck : Engine → Type 0
 IsFedOrStuck e = (e.incoming ≡ []) ⊎ (is_stuck e.session ≡ true)
+
+-- whether nothing is due, and the wire has taken all that was emitted
+abbrev pub is_flushed : Engine → Bool
+is_flushed e = not (has_bytes e.outgoing) && not (is_ready e.session)
 
 -- Nothing is due, and the wire has taken all that was emitted.
 abbrev pub IsFlushed : Engine → Type 0

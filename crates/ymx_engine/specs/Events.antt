@@ -5,7 +5,7 @@ use Rattle.ymx_model.specs.session.Events.{Event}
 use Rattle.ymx_model.specs.declared.types.Event.TheVariants as event
 use Rattle.ymx_machine.specs.shared.Events.{Reply}
 use Rattle.ymx_machine.specs.declared.types.Reply.TheVariants as reply
-use Rattle.ymx_machine.specs.declared.types.CallFault.TheVariants.{OutOfMemory}
+use Rattle.ymx_machine.specs.declared.types.CallFault.TheVariants.{Finished, OutOfMemory}
 use Rattle.ymx_machine.specs.declared.types.Wrote.TheVariants.{Took}
 use Rattle.ymx_model.specs.session.Sessions.{Session}
 use Rattle.ymx_model.specs.session.Emissions.{in_turn}
@@ -89,11 +89,17 @@ abbrev pub is_refusal : Reply → Bool
 is_refusal (reply.Refused fault) = true
 is_refusal _ = false
 
--- the stream was reset, or this was refused; or a read or a write of it was refused
+-- the session refused, and not because the stream was finished here
+abbrev pub is_stop : Reply → Bool
+is_stop (reply.Refused Finished) = false
+is_stop (reply.Refused fault) = true
+is_stop _ = false
+
+-- the stream was reset, or this was refused; or a read of it was refused, or a write for anything but that it was finished
 abbrev pub stops_at : ℕ → Event → Reply → Bool
 stops_at id (event.Call (call.Reset other)) told = other == id
 stops_at id (event.Call (call.Read other room)) told = (other == id) && is_refusal told
-stops_at id (event.Call (call.Write other bytes)) told = (other == id) && is_refusal told
+stops_at id (event.Call (call.Write other bytes)) told = (other == id) && is_stop told
 stops_at id _ told = false
 
 abbrev pub has_stop : ℕ → List (Event × Reply) → Bool

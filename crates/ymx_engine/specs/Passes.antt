@@ -1,5 +1,5 @@
 -- What an engine passes from its wire straight on to the device of a connection (this project's own).
-use Rattle.std.specs.Prelude.{ℕ, ◌≡◌, ◌==◌, ◌+◌, ◌<◌, ◌≤◌, ◌++◌, ◌∷◌, ◌||◌, ◌⊎◌, List, [], length, take, Bool, true, false, option_map, Some}
+use Rattle.std.specs.Prelude.{ℕ, ⊤, ◌≡◌, ◌==◌, ◌+◌, ◌-◌, ◌<◌, ◌≤◌, ◌++◌, ◌∷◌, ◌||◌, ◌⊎◌, List, [], length, take, drop, min, sum, if◌then◌else◌, Bool, true, false, option_map, Some}
 use Rattle.std.specs.List.{list_all}
 use Rattle.std.specs.Io.KnownBytes.{Appends}
 use Rattle.ymx_machine.specs.declared.types.Call.TheVariants as call
@@ -9,9 +9,13 @@ use Rattle.ymx_model.specs.declared.types.Event.TheVariants as event
 use Rattle.ymx_model.specs.session.Sessions.{Session}
 use Rattle.ymx_session.specs.declared.passing.Passing.{Passing}
 use Rattle.ymx_session.specs.Passing.{passing, IsPlainHeader, PassesBehind}
+use Rattle.ymx_engine.specs.declared.row.Row.{Row}
+use Rattle.ymx_engine.specs.declared.ways.Ways.{Ways}
 use Rattle.ymx_engine.specs.Devices.{Seen}
 use Rattle.ymx_engine.specs.Events.{Happen, given, has_end, has_reset, has_stop}
 use Rattle.ymx_engine.specs.Engines.{Engine}
+use Rattle.ymx_engine.specs.Exchanges.{has_bytes}
+use Rattle.ymx_engine.specs.Ways.{ways_after, may_push}
 use Rattle.ymx_engine.specs.Wires.{fed, FeedsFront}
 
 -- the first so many of the bytes that wait are payload of this stream, and may be passed on
@@ -32,8 +36,9 @@ is_of_pass id _ = false
 -- Nothing happened but feeds of what waited, and reads and a reset of this stream. Each feed offers the front of what
 -- waits; the session took a beginning, and the rest waits. The device took just what the stream gave, in order, and gave
 -- nothing. It was ended exactly if the stream's end was read, and the stream was reset exactly if the device failed. The
--- device was shut exactly if the stream was reset, or refused a read. Nothing went to the wire.
-pub record PassesOn (id : ℕ) (old new : Engine) (before after : Seen) (calls : ℕ) : Type 0 where
+-- device was shut exactly if the stream was reset, or refused a read. Nothing went to the wire. The ways of the connection
+-- follow that, and no mark of the device went on, unless it was shut.
+pub record PassesOn (id : ℕ) (old new : Engine) (before after : Seen) (calls : ℕ) (was now : Ways) : Type 0 where
   pub events : List (Event × Reply)
   pub happen : Happen events old.session new.session
   pub own : list_all (λ e. is_of_pass id e.0) events ≡ true
@@ -49,12 +54,16 @@ pub record PassesOn (id : ℕ) (old new : Engine) (before after : Seen) (calls :
   pub ended : after.ended ≡ option_map (λ b. b || has_end id events) before.ended
   pub shut : after.shut ≡ option_map (λ b. b || has_stop id events) before.shut
   pub few : after.calls ≤ before.calls + calls
+  pub ways : now ≡ ways_after id events was
+  pub pull_on : after.marks.may_pull ≡ true → (before.marks.may_pull ≡ true) ⊎ (has_stop id events ≡ true)
+  pub push_on : after.marks.may_push ≡ true → (before.marks.may_push ≡ true) ⊎ (has_stop id events ≡ true)
 
 -- ---- a part of it
 
 -- Of these bytes the first `count` came, payload of this stream and headers between; the payload was read at once, and the
--- device took just that. Or the device failed, and the stream was reset.
-pub record OffersOnce (id : ℕ) (bytes : List ℕ) (count : ℕ) (s t : Session) (before after : Seen) : Type 0 where
+-- device took just that: some, or it may take none now. Or the device failed, and the stream was reset. The ways of the
+-- connection follow that, and no mark of the device went on, unless it was shut.
+pub record OffersOnce (id : ℕ) (bytes : List ℕ) (count : ℕ) (s t : Session) (before after : Seen) (was now : Ways) : Type 0 where
   pub events : List (Event × Reply)
   pub happen : Happen events s t
   pub own : list_all (λ e. is_of_pass id e.0) events ≡ true
@@ -70,68 +79,67 @@ pub record OffersOnce (id : ℕ) (bytes : List ℕ) (count : ℕ) (s t : Session
   pub ended : after.ended ≡ option_map (λ b. b || has_end id events) before.ended
   pub shut : after.shut ≡ option_map (λ b. b || has_stop id events) before.shut
   pub few : after.calls ≤ before.calls + 2
+  pub ways : now ≡ ways_after id events was
+  pub delivers : (has_bytes (given id events) ≡ true) ⊎ (may_push now after.marks ≡ false)
+  pub pull_on : after.marks.may_pull ≡ true → (before.marks.may_pull ≡ true) ⊎ (has_stop id events ≡ true)
+  pub push_on : after.marks.may_push ≡ true → (before.marks.may_push ≡ true) ⊎ (has_stop id events ≡ true)
 
 -- ---- frames in a row
 
--- A frame that waits: its header, how many bytes of payload this says, and the first of them, or all.
-pub record Frame : Type 0 where
-  pub header : List ℕ
-  pub count : ℕ
-  pub payload : List ℕ
+-- how many bytes of each of its frames wait
+abbrev pub counts_of : Row → List ℕ
+counts_of r = r.first ∷ r.second ∷ r.third ∷ r.fourth ∷ []
 
-abbrev pub bytes_of_frames : List Frame → List ℕ
-bytes_of_frames [] = []
-bytes_of_frames (f ∷ fs) = f.header ++ (f.payload ++ bytes_of_frames fs)
+-- how many these are
+abbrev pub row_len : Row → ℕ
+row_len r = r.first + r.second + r.third + r.fourth
 
-abbrev pub payload_of_frames : List Frame → List ℕ
-payload_of_frames [] = []
-payload_of_frames (f ∷ fs) = f.payload ++ payload_of_frames fs
+-- so many bytes of each frame, where a header of 12 bytes stands before each but the first
+abbrev pub payload_in : List ℕ → List ℕ → List ℕ
+payload_in [] waits = []
+payload_in (n ∷ ns) waits = take n waits ++ payload_in ns (drop (n + 12) waits)
 
--- how many bytes of payload their headers say
-abbrev pub said_by : List Frame → ℕ
-said_by [] = 0
-said_by (f ∷ fs) = f.count + said_by fs
+-- the payload that waits in a row
+abbrev pub payload_of : Row → List ℕ → List ℕ
+payload_of r waits = payload_in (counts_of r) waits
 
--- The rest of a payload, of which so many bytes are missing, and behind it frames of the same stream without flags. Each
--- payload is whole, but the last may be there in part.
-abbrev pub InRow : (id missing : ℕ) → (first : List ℕ) → List Frame → Type 0
-InRow id missing first [] = length first ≤ missing
-InRow id missing first (f ∷ fs) = (length first ≡ missing) × IsPlainHeader id f.count f.header × InRow id f.count f.payload fs
+-- So many bytes of each frame wait in a row. Of the first `missing` bytes are missing, and at most these wait. Where bytes of
+-- a further frame do, all do, and behind them its header, of the same stream and without flags; and so on. The headers say
+-- `said` bytes of payload at most.
+abbrev pub InRow : (id missing said : ℕ) → List ℕ → (waits : List ℕ) → Type 0
+InRow id missing said [] waits = ⊤
+InRow id missing said (n ∷ ns) waits = (n ≤ missing) × (n ≤ length waits)
+    × (0 < sum ns → (n ≡ missing) × ((next : ℕ) × IsPlainHeader id next (take 12 (drop n waits)) × (next ≤ said) × InRow id next (said - next) ns (drop (n + 12) waits)))
 
--- What waits begins with payload of this stream in a row, in at most so many pieces. All of it may be passed on.
-pub record Gathers (id pieces : ℕ) (payload waits : List ℕ) (s : Session) : Type 0 where
+-- what waits behind so many bytes of each frame of a row
+unfoldable pub behind_row : List ℕ → List ℕ → List ℕ
+behind_row [] waits = waits
+behind_row (n ∷ ns) waits = if sum ns == 0 then drop n waits else behind_row ns (drop (n + 12) waits)
+
+-- What waits begins with this payload of one stream in a row, all of its first frame that waits. All of it may be passed on.
+-- Something else waits behind it, where it is whole.
+pub record IsRow (row : Row) (waits : List ℕ) (s : Session) : Type 0 where
   pub missing : ℕ
-  pub first : List ℕ
-  pub frames : List Frame
-  pub behind : List ℕ
-  pub some : 0 < missing
-  pub row : InRow id missing first frames
-  pub few : length frames < pieces
-  pub begins : waits ≡ first ++ (bytes_of_frames frames ++ behind)
-  pub carried : payload ≡ first ++ payload_of_frames frames
-  pub passes : PassesBehind id missing (said_by frames) s
+  pub said : ℕ
+  pub first : row.first ≡ min missing (length waits)
+  pub in_row : InRow row.id missing said (counts_of row) waits
+  pub passes : PassesBehind row.id missing said s
+  pub whole : row.is_whole ≡ true → 0 < length (behind_row (counts_of row) waits)
 
--- what waits behind the row, and how many bytes the headers in it say, are known; only a whole row has more behind it
-abbrev pub GathersUpTo : (id missing pieces ahead : ℕ) → (payload waits behind : List ℕ) → (s : Session) → Type 0
-GathersUpTo id missing pieces ahead payload waits behind s =
-    (row : Gathers id pieces payload waits s) × (row.missing ≡ missing) × (row.behind ≡ behind) × (said_by row.frames ≡ ahead)
-    × (0 < length behind → length payload ≡ missing + ahead)
-
--- behind a row whose headers say `ahead` bytes stands one frame more
-pub record Follows (id missing ahead : ℕ) (waits payload behind : List ℕ) (next : ℕ) (s : Session) : Type 0 where
-  pub header : List ℕ
-  pub count : ℕ
-  pub begins : waits ≡ header ++ (payload ++ behind)
-  pub plain : IsPlainHeader id count header
-  pub within : length payload ≤ count
-  pub whole : 0 < length behind → length payload ≡ count
-  pub said : next ≡ ahead + count
+-- Behind a row whose headers say `ahead` bytes stands one frame more: its header, and so many bytes of its payload, all that
+-- wait.
+pub record Follows (id missing ahead count : ℕ) (waits behind : List ℕ) (next : ℕ) (s : Session) : Type 0 where
+  pub said : ℕ
+  pub plain : IsPlainHeader id said (take 12 waits)
+  pub least : count ≡ min said (length waits - 12)
+  pub rest : behind ≡ drop (12 + count) waits
+  pub sums : next ≡ ahead + said
   pub passes : PassesBehind id missing next s
 
--- one frame more, or none
-abbrev pub MayFollow : (id missing ahead : ℕ) → (waits payload behind : List ℕ) → (next : ℕ) → (s : Session) → Type 0
-MayFollow id missing ahead waits payload behind next s =
-    ((payload ≡ []) × (behind ≡ waits) × (next ≡ ahead)) ⊎ Follows id missing ahead waits payload behind next s
+-- one frame more, unless the row ended before; or none, and then it ends
+abbrev pub MayFollow : (id missing : ℕ) → (ended : Bool) → (ahead : ℕ) → (waits : List ℕ) → (count : ℕ) → (behind : List ℕ) → (next : ℕ) → (ends : Bool) → (s : Session) → Type 0
+MayFollow id missing ended ahead waits count behind next ends s =
+    ((count ≡ 0) × (next ≡ ahead) × (ends ≡ true) × (behind ≡ waits)) ⊎ ((ended ≡ false) × Follows id missing ahead count waits behind next s)
 
 -- Nothing happened but feeds of the front of what waited and reads of this stream, which gave just these bytes. What was fed
 -- waits no more.

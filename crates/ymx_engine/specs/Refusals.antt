@@ -19,6 +19,11 @@ pub record GivesUp (id : ℕ) (s t : Session) : Type 0 where
   pub told_forget : Reply
   pub forgotten : Gives in_turn between (event.Call (call.Forget id)) told_forget t
 
+-- the stream was forgotten, and nothing else happened; the session may have refused this
+pub record IsForgotten (id : ℕ) (s t : Session) : Type 0 where
+  pub told : Reply
+  pub forgotten : Gives in_turn s (event.Call (call.Forget id)) told t
+
 -- No stream was opened, and the session is as it was: it refused for this fault; or the fault is want of memory to keep
 -- the connection.
 abbrev pub OpensNone : CallFault → Session → Session → Type 0

@@ -1,40 +1,17 @@
--- What a tunnel moves over any number of turns (this project's own).
-use Rattle.std.specs.Prelude.{ℕ, ◌≡◌, ◌⊎◌, ◌||◌, ◌++◌, List, Bool, false, Option, option_map, is_some, nat_eq, cond}
-use Rattle.std.specs.Io.KnownBytes.{Appends, Consumes}
-use Rattle.ymx_model.specs.session.Events.{Event}
-use Rattle.ymx_machine.specs.shared.Events.{Reply}
+-- How a tunnel goes on, call by call (this project's own).
+use Rattle.std.specs.Prelude.{ℕ, ◌≡◌, ◌⊎◌, Option, is_some, nat_eq, cond, true, Some}
 use Rattle.ymx_engine.specs.Devices.{Seen}
 use Rattle.ymx_engine.specs.Engines.{IsFlushed}
-use Rattle.ymx_engine.specs.Events.{Happen, has_open_with}
-use Rattle.ymx_engine.specs.Wires.{fed, emitted, has_feed_end, FeedsFront}
-use Rattle.ymx_engine.specs.Tunnels.{Tunnel, look, HasFailed}
-use Rattle.ymx_engine.specs.Lines.{Life}
+use Rattle.ymx_engine.specs.Moves.{Moves}
+use Rattle.ymx_engine.specs.Tunnels.{Tunnel, HasFailed}
+use Rattle.ymx_engine.specs.Turns.{Line, line_of, look}
+use Rattle.ymx_engine.specs.Ways.{is_over}
 use Rattle.ymx_engine.specs.Work.{Attends}
 
--- Nothing happened but these events, at which no stream was opened with its first bytes. What the wire gave was fed in order or
--- waits; what was emitted was sent in order or waits; the session heard of an end exactly if the wire said so or failed; and each
--- line moved what its stream did. Where nobody was forgotten, nobody is, and one that waited for a turn waits on, or one had it.
+-- It moved what `Moves` says; nobody who can be served was forgotten; and nobody who waited for a turn left its place, or the first
+-- had its turn.
 pub record Runs (old new : Tunnel) : Type 0 where
-  pub events : List (Event × Reply)
-  pub happen : Happen events old.engine.session new.engine.session
-  pub plain : has_open_with events ≡ false
-  pub came : List ℕ
-  pub gave : Consumes old.wire.left new.wire.left came
-  pub fronts : FeedsFront (old.engine.incoming ++ came) events
-  pub from_wire : old.engine.incoming ++ came ≡ fed events ++ new.engine.incoming
-  pub sent : List ℕ
-  pub took : Appends old.wire.had new.wire.had sent
-  pub to_wire : old.engine.outgoing ++ emitted events ≡ sent ++ new.engine.outgoing
-  pub said_end : Bool
-  pub over : new.wire.over ≡ option_map (λ b. b || said_end) old.wire.over
-  pub fails : Bool
-  pub failed : new.wire.failed ≡ option_map (λ b. b || fails) old.wire.failed
-  pub lost : has_feed_end events ≡ (said_end || fails)
-  pub ends : Bool
-  pub ended : new.wire.ended ≡ option_map (λ b. b || ends) old.wire.ended
-  pub shuts : Bool
-  pub shut : new.wire.shut ≡ option_map (λ b. b || shuts) old.wire.shut
-  pub lines : (id : ℕ) → Life id events (look id old.lines) (look id new.lines)
+  pub moves : Moves old new
   pub attends : Attends old new
 
 -- the wire has failed, or has taken all that was due
@@ -46,6 +23,13 @@ pub record Stays (old new : Tunnel) : Type 0 where
   pub joined : (id : ℕ) → is_some (look id new.lines) ≡ is_some (look id old.lines)
   pub ended : new.wire.ended ≡ old.wire.ended
   pub shut : new.wire.shut ≡ old.wire.shut
+
+-- No mark went on: a device that may have bytes now, or may take some, might before, unless its connection is over, as it was shut.
+pub record Rests (old new : Tunnel) : Type 0 where
+  pub wire_pull : new.wire.marks.may_pull ≡ true → old.wire.marks.may_pull ≡ true
+  pub wire_push : new.wire.marks.may_push ≡ true → old.wire.marks.may_push ≡ true
+  pub pull : (id : ℕ) (l : Line) → line_of id new.lines ≡ Some l → l.seen.marks.may_pull ≡ true → (is_over l.ways ≡ true) ⊎ ((was : Line) × (line_of id old.lines ≡ Some was) × (was.seen.marks.may_pull ≡ true))
+  pub push : (id : ℕ) (l : Line) → line_of id new.lines ≡ Some l → l.seen.marks.may_push ≡ true → (is_over l.ways ≡ true) ⊎ ((was : Line) × (line_of id old.lines ≡ Some was) × (was.seen.marks.may_push ≡ true))
 
 -- The device of this stream came or left, as `there` says, and those of all others stayed as they were, and so did the wire.
 pub record Changes (id : ℕ) (there : Option Seen) (old new : Tunnel) : Type 0 where

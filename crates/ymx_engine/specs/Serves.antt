@@ -1,13 +1,21 @@
 -- What a connection moves in one turn (this project's own).
-use Rattle.std.specs.Prelude.{ℕ, ◌≡◌, ◌++◌, List, [], Bool, true, false}
+use Rattle.std.specs.Prelude.{ℕ, ◌≡◌, ◌⊎◌, ◌+◌, ◌<◌, ◌≤◌, ◌++◌, List, [], length, Bool, true, false}
 use Rattle.std.specs.List.{list_all}
 use Rattle.ymx_model.specs.session.Events.{Event}
 use Rattle.ymx_model.specs.declared.types.Event.TheVariants as event
 use Rattle.ymx_machine.specs.shared.Events.{Reply}
+use Rattle.ymx_machine.specs.declared.types.Reply.TheVariants as reply
 use Rattle.ymx_model.specs.session.Sessions.{Session}
+use Rattle.ymx_model.specs.session.Sessions.{is_running}
+use Rattle.ymx_model.specs.session.Calls.{read_from, write_to}
+use Rattle.ymx_law_session.specs.Limits.{IsWithin}
+use Rattle.ymx_session.specs.Streams.{waiting, room_of}
+use Rattle.ymx_engine.specs.declared.ways.Ways.{Ways}
 use Rattle.ymx_engine.specs.Devices.{Seen}
-use Rattle.ymx_engine.specs.Events.{Happen, is_on, taken, given, has_end, has_finish, has_reset, has_stop}
-use Rattle.ymx_engine.specs.Lines.{Trades}
+use Rattle.ymx_engine.specs.Events.{Happen, is_on, taken, given, has_end, has_finish, has_reset, is_stop, has_stop}
+use Rattle.ymx_engine.specs.Exchanges.{has_bytes}
+use Rattle.ymx_engine.specs.Lives.{Trades, all_of}
+use Rattle.ymx_engine.specs.Ways.{is_open, ways_after, may_push, may_pull}
 use Rattle.ymx_engine.specs.Wires.{emitted}
 
 -- a write, a read or an end of this stream, or an emission
@@ -33,7 +41,42 @@ pub record Exchanges (id : ℕ) (s t : Session) (out out_new : List ℕ) (before
   pub trades : Trades id events before after
   pub to_wire : out ++ emitted events ≡ out_new
 
+-- One turn of a connection, in which it is read as well where this says so. Nothing happened but what `Exchanges` says, in at most
+-- thirteen calls of the device, and its ways follow that. Where bytes waited that the device might take, it took some, or may take
+-- none now. Where it might have bytes and was to be read, it gave some, or may have none now, or the stream takes none. No mark
+-- went on, unless the device was shut. It has more to do at least where bytes wait still that the device may take; where it may
+-- have bytes that the stream takes, and was to be read; and where the session is over, its way to the peer is open, and its
+-- connection is not still being made.
+pub record Turn (id : ℕ) (reads : Bool) (s t : Session) (out out_new : List ℕ) (before after : Seen) (was now : Ways) (more : Bool) (gave : ℕ) : Type 0 where
+  pub moved : Exchanges id s t out out_new before after
+  pub few : after.calls ≤ before.calls + 13
+  pub ways : now ≡ ways_after id moved.events was
+  pub gives : gave ≡ length (all_of moved.trades.pieces)
+  pub delivers : may_push was before.marks ≡ true → 0 < length (waiting id s) → (has_bytes (given id moved.events) ≡ true) ⊎ (may_push now after.marks ≡ false)
+  pub collects : reads ≡ true → may_pull was before.marks ≡ true → (0 < gave) ⊎ ((may_pull now after.marks ≡ false) ⊎ (room_of id t ≡ 0))
+  pub pull_on : after.marks.may_pull ≡ true → (before.marks.may_pull ≡ true) ⊎ (has_stop id moved.events ≡ true)
+  pub push_on : after.marks.may_push ≡ true → (before.marks.may_push ≡ true) ⊎ (has_stop id moved.events ≡ true)
+  pub stays : IsWithin s → may_push now after.marks ≡ true → 0 < length (waiting id t) → more ≡ true
+  pub asks_on : reads ≡ true → may_pull now after.marks ≡ true → 0 < room_of id t → more ≡ true
+  pub hears : is_running t.status ≡ false → after.marks.is_connecting ≡ false → is_open now.to_peer ≡ true → more ≡ true
+
 -- ---- a part of it
+
+-- Nothing happened but what `Exchanges` says, in at most so many calls of the device, which gave so many bytes; and the ways
+-- follow that. No mark went on, unless the device was shut.
+pub record Part (id : ℕ) (s t : Session) (out out_new : List ℕ) (before after : Seen) (was now : Ways) (calls gave : ℕ) : Type 0 where
+  pub moved : Exchanges id s t out out_new before after
+  pub few : after.calls ≤ before.calls + calls
+  pub ways : now ≡ ways_after id moved.events was
+  pub gives : gave ≡ length (all_of moved.trades.pieces)
+  pub pull_on : after.marks.may_pull ≡ true → (before.marks.may_pull ≡ true) ⊎ (has_stop id moved.events ≡ true)
+  pub push_on : after.marks.may_push ≡ true → (before.marks.may_push ≡ true) ⊎ (has_stop id moved.events ≡ true)
+
+-- A part in which the device gave nothing, and nothing came to wait for the wire. Where bytes waited that the device might take,
+-- it took some, or may take none now.
+pub record Delivers (id : ℕ) (s t : Session) (before after : Seen) (was now : Ways) (calls : ℕ) : Type 0 where
+  pub part : Part id s t [] [] before after was now calls 0
+  pub delivers : may_push was before.marks ≡ true → 0 < length (waiting id s) → (has_bytes (given id part.moved.events) ≡ true) ⊎ (may_push now after.marks ≡ false)
 
 -- Nothing happened but writes of this stream, which took just these bytes, and emissions, which wait behind what waited.
 pub record Sends (id : ℕ) (bytes : List ℕ) (s t : Session) (out out_new : List ℕ) : Type 0 where
@@ -54,3 +97,13 @@ pub record PutsDue (s t : Session) (out out_new : List ℕ) : Type 0 where
   pub happen : Happen events s t
   pub own : list_all (λ e. is_emission e.0) events ≡ true
   pub to_wire : out ++ emitted events ≡ out_new
+
+-- ---- what a device hears
+
+-- the way to it is not open, or its stream says that more may come
+abbrev pub HearsEnd : ℕ → Session → Ways → Type 0
+HearsEnd id s now = (is_open now.from_peer ≡ false) ⊎ ((read_from id 1 s).reply ≡ reply.ReadWait)
+
+-- where the way from it is open, its stream takes bytes still, or was finished here
+abbrev pub HearsStop : ℕ → Session → Ways → Type 0
+HearsStop id s now = is_open now.to_peer ≡ true → is_stop (write_to id [] s).reply ≡ false

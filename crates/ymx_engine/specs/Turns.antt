@@ -1,118 +1,187 @@
--- Which connections an engine knows, and whose turns come (this project's own).
-use Rattle.std.specs.Prelude.{ℕ, ◌≡◌, ◌⊎◌, ◌∷◌, ◌++◌, ◌==◌, ◌&&◌, length, List, [], Bool, true, false, Option, Some, option_map, nat_eq, cond, Contains, IsSome}
+-- The connections of a tunnel, and whose turns come (this project's own).
+use Rattle.std.specs.Prelude.{ℕ, ◌≡◌, ◌⊎◌, ◌∷◌, ◌++◌, ◌==◌, ◌+◌, ◌*◌, ◌<◌, ◌&&◌, ◌||◌, not, length, List, [], Bool, true, false, if◌then◌else◌, Option, Some, option_map, nat_eq, cond, Contains, IsSome, slice_get}
 use Rattle.std.specs.Map.{lookup}
-use Rattle.ymx_engine.specs.declared.connection.Connection.{Connection}
-use Rattle.ymx_engine.specs.declared.connections.Entry.{Entry}
+use Rattle.std.specs.Option.{option_map_or}
+use Rattle.ymx_engine.specs.declared.device.Readiness.{Readiness}
+use Rattle.ymx_engine.specs.declared.ways.Ways.{Ways}
+use Rattle.ymx_engine.specs.Devices.{Seen, IsNoted}
+use Rattle.ymx_engine.specs.Ways.{is_over}
+
+-- what is seen of the device of a connection, and how its ways stand
+pub record Line : Type 0 where
+  pub seen : Seen
+  pub ways : Ways
+
+-- the same, whether it is marked as one that waits for a turn, and whether as one that is held back
+pub record Entry : Type 0 where
+  pub line : Line
+  pub is_queued : Bool
+  pub is_held : Bool
 
 -- The connections by stream id; those that wait for a turn, which had none since they came to have something to move, or
--- have more to move; those that are held back; whether one more may be queued, and one more kept, without memory; and
--- whether a turn was missed, as its queue had no room and memory for it was refused.
-pub record Turns : Type 0 where
-  pub known : List (ℕ × Entry)
+-- have more to move; those that are held back; whether the next turn is of those that have more; whether one more may be
+-- queued, and one more kept, without memory; and whether a turn was missed, as its queue had no room and memory for it was
+-- refused.
+pub record Lines : Type 0 where
+  pub by_id : List (ℕ × Entry)
   pub fresh : List ℕ
   pub busy : List ℕ
   pub held : List ℕ
+  pub is_for_busy : Bool
   pub has_room : Bool
   pub has_place : Bool
   pub missed : Bool
 
--- what is known of the connection of this stream
-abbrev pub known_as : ℕ → List (ℕ × Entry) → Option Connection
-known_as id known = option_map (λ e. e.connection) (lookup (nat_eq id) known)
+-- the connection of this stream
+abbrev pub line_of : ℕ → Lines → Option Line
+line_of id t = option_map (λ e. e.line) (lookup (nat_eq id) t.by_id)
+
+-- what is seen of its device
+abbrev pub look : ℕ → Lines → Option Seen
+look id t = option_map (λ l. l.seen) (line_of id t)
+
+-- how its ways stand
+abbrev pub ways_of : ℕ → Lines → Option Ways
+ways_of id t = option_map (λ l. l.ways) (line_of id t)
 
 -- the connection of this stream waits for a turn
-abbrev pub Waits : ℕ → Turns → Type 0
+abbrev pub Waits : ℕ → Lines → Type 0
 Waits id t = Contains t.fresh id ⊎ Contains t.busy id
 
 -- it does, or some turn was missed
-abbrev pub Awaits : ℕ → Turns → Type 0
+abbrev pub Awaits : ℕ → Lines → Type 0
 Awaits id t = Waits id t ⊎ (t.missed ≡ true)
 
 -- it does, or is held back until nothing waits for the wire
-abbrev pub Attended : ℕ → Turns → Type 0
+abbrev pub Attended : ℕ → Lines → Type 0
 Attended id t = Awaits id t ⊎ Contains t.held id
 
-abbrev pub is_idle : Turns → Bool
+abbrev pub is_idle : Lines → Bool
 is_idle t = (length t.fresh == 0) && (length t.busy == 0)
 
 -- none waits for a turn
-abbrev pub IsIdle : Turns → Type 0
+abbrev pub IsIdle : Lines → Type 0
 IsIdle t = (t.fresh ≡ []) × (t.busy ≡ [])
 
--- of the connection of this stream this is known now, and of each other what was known
-abbrev pub Knows : ℕ → Option Connection → Turns → Turns → Type 0
-Knows id what old new = (other : ℕ) → known_as other new.known ≡ cond (nat_eq id other) what (known_as other old.known)
+-- ---- whose turn it is
 
--- of each connection the same is known
-abbrev pub SameConnections : Turns → Turns → Type 0
-SameConnections old new = (id : ℕ) → known_as id new.known ≡ known_as id old.known
+-- the next turn is of one that has more to move
+abbrev pub takes_busy : Lines → Bool
+takes_busy t = (t.is_for_busy && not (length t.busy == 0)) || (length t.fresh == 0)
 
--- each that waited for a turn waits on
-abbrev pub WaitOn : Turns → Turns → Type 0
-WaitOn old new = (id : ℕ) → Waits id old → Waits id new
+-- The connection of this stream waits, and has its turn behind at most so many others. The two queues take turns, and in each
+-- those that stand before it come first.
+abbrev pub IsBehind : (id others : ℕ) → Lines → Type 0
+IsBehind id n t = (place : ℕ) × (((slice_get t.fresh place ≡ Some id) × (n ≡ 2 * place + (if t.is_for_busy then 1 else 0)))
+    ⊎ ((slice_get t.busy place ≡ Some id) × (n ≡ 2 * place + (if t.is_for_busy then 0 else 1))))
+
+-- this one was the first of those that had more to move, or else of the others
+abbrev pub IsFirst : (busy : Bool) → (id : ℕ) → (old new : Lines) → Type 0
+IsFirst true id old new = (old.busy ≡ id ∷ new.busy) × (new.fresh ≡ old.fresh)
+IsFirst false id old new = (old.fresh ≡ id ∷ new.fresh) × (new.busy ≡ old.busy)
+
+-- This one had its turn, as the first of the queue whose turn it was. Each other that waited has fewer before it now.
+pub record TakesTurn (id : ℕ) (old new : Lines) : Type 0 where
+  pub first : IsFirst (takes_busy old) id old new
+  pub comes : (other n : ℕ) → IsBehind other n old → (other ≡ id) ⊎ ((m : ℕ) × (m < n) × IsBehind other m new)
+
+-- ---- what changes
+
+-- the connection of this stream is this now, and each other what it was
+abbrev pub Puts : ℕ → Option Line → Lines → Lines → Type 0
+Puts id what old new = (other : ℕ) → line_of other new ≡ cond (nat_eq id other) what (line_of other old)
+
+-- each connection is what it was
+abbrev pub SameLines : Lines → Lines → Type 0
+SameLines old new = (id : ℕ) → line_of id new ≡ line_of id old
+
+-- Others may wait behind those that waited for a turn. None of these leaves its place.
+pub record Extends (old new : Lines) : Type 0 where
+  pub more_fresh : List ℕ
+  pub fresh : new.fresh ≡ old.fresh ++ more_fresh
+  pub more_busy : List ℕ
+  pub busy : new.busy ≡ old.busy ++ more_busy
+  pub flag : new.is_for_busy ≡ old.is_for_busy
 
 -- a turn that was missed stays so
-abbrev pub StaysMissed : Turns → Turns → Type 0
+abbrev pub StaysMissed : Lines → Lines → Type 0
 StaysMissed old new = old.missed ≡ true → new.missed ≡ true
 
--- the queues of those that wait for a turn stay, and no turn is missed anew
-abbrev pub SameTurns : Turns → Turns → Type 0
-SameTurns old new = (new.fresh ≡ old.fresh) × (new.busy ≡ old.busy) × (new.missed ≡ old.missed)
-
--- so do those that are held back
-abbrev pub SameQueues : Turns → Turns → Type 0
-SameQueues old new = (new.fresh ≡ old.fresh) × (new.busy ≡ old.busy) × (new.held ≡ old.held) × (new.missed ≡ old.missed)
+-- the queues stay, and no turn is missed anew
+pub record SameQueues (old new : Lines) : Type 0 where
+  pub fresh : new.fresh ≡ old.fresh
+  pub busy : new.busy ≡ old.busy
+  pub held : new.held ≡ old.held
+  pub flag : new.is_for_busy ≡ old.is_for_busy
+  pub missed : new.missed ≡ old.missed
 
 -- a queue stays, or this id stands behind the others
 abbrev pub StaysOrAdds : ℕ → List ℕ → List ℕ → Type 0
 StaysOrAdds id old new = (new ≡ old) ⊎ (new ≡ old ++ id ∷ [])
 
--- each that waited waits on, and none other waits but this
-abbrev pub AddsTurn : ℕ → Turns → Turns → Type 0
-AddsTurn id old new = StaysOrAdds id old.fresh new.fresh × StaysOrAdds id old.busy new.busy × (new.held ≡ old.held) × StaysMissed old new
+-- each that waited waits on at its place, and none other waits but this
+pub record AddsTurn (id : ℕ) (old new : Lines) : Type 0 where
+  pub fresh : StaysOrAdds id old.fresh new.fresh
+  pub busy : StaysOrAdds id old.busy new.busy
+  pub held : new.held ≡ old.held
+  pub flag : new.is_for_busy ≡ old.is_for_busy
+  pub missed : StaysMissed old new
 
--- each that is known, and waited for a turn unless some were missed, does so still
-abbrev pub AwaitOn : Turns → Turns → Type 0
-AwaitOn old new = (id : ℕ) → IsSome (known_as id old.known) → Awaits id old → Awaits id new
+-- each that is there, and waited for a turn unless some were missed, does so still
+abbrev pub AwaitOn : Lines → Lines → Type 0
+AwaitOn old new = (id : ℕ) → IsSome (line_of id old) → Awaits id old → Awaits id new
 
--- each that is known, and was held back, is so still, or waits for a turn unless some were missed
-abbrev pub HeldOn : Turns → Turns → Type 0
-HeldOn old new = (id : ℕ) → IsSome (known_as id old.known) → Contains old.held id → Attended id new
+-- each that is there, and was held back, is so still, or waits for a turn unless some were missed
+abbrev pub HeldOn : Lines → Lines → Type 0
+HeldOn old new = (id : ℕ) → IsSome (line_of id old) → Contains old.held id → Attended id new
 
--- Of each connection the same is known. Each that waited for a turn waits on, and each that was held back is so still or waits.
-pub record KeepsTurns (old new : Turns) : Type 0 where
-  pub known : SameConnections old new
-  pub turns : WaitOn old new
+-- Each connection is what it was. Each that waited for a turn waits on at its place, and each that was held back is so still
+-- or waits.
+pub record KeepsLines (old new : Lines) : Type 0 where
+  pub lines : SameLines old new
+  pub queues : Extends old new
   pub awaits : AwaitOn old new
   pub holds : HeldOn old new
 
 -- the same of each but this
-pub record KeepsOthers (id : ℕ) (old new : Turns) : Type 0 where
-  pub known : (other : ℕ) → nat_eq id other ≡ false → known_as other new.known ≡ known_as other old.known
-  pub turns : WaitOn old new
-  pub awaits : (other : ℕ) → nat_eq id other ≡ false → IsSome (known_as other old.known) → Awaits other old → Awaits other new
-  pub holds : (other : ℕ) → nat_eq id other ≡ false → IsSome (known_as other old.known) → Contains old.held other → Attended other new
+pub record KeepsOthers (id : ℕ) (old new : Lines) : Type 0 where
+  pub lines : (other : ℕ) → nat_eq id other ≡ false → line_of other new ≡ line_of other old
+  pub queues : Extends old new
+  pub awaits : (other : ℕ) → nat_eq id other ≡ false → IsSome (line_of other old) → Awaits other old → Awaits other new
+  pub holds : (other : ℕ) → nat_eq id other ≡ false → IsSome (line_of other old) → Contains old.held other → Attended other new
 
--- of this connection this is known, and it waits for a turn behind the others; of each other what was known
-abbrev pub Adds : ℕ → Connection → Turns → Turns → Type 0
-Adds id connection old new = Knows id (Some connection) old new × Waits id new × AddsTurn id old new
+-- this connection is there, and waits for a turn behind the others; each other is what it was
+pub record Adds (id : ℕ) (line : Line) (old new : Lines) : Type 0 where
+  pub lines : Puts id (Some line) old new
+  pub waits : Waits id new
+  pub turn : AddsTurn id old new
 
--- the first of a queue had its turn
-abbrev pub TakesTurn : ℕ → Turns → Turns → Type 0
-TakesTurn id old new = (old.fresh ≡ id ∷ new.fresh) × (new.busy ≡ old.busy) ⊎ (old.busy ≡ id ∷ new.busy) × (new.fresh ≡ old.fresh)
+-- an event said this of the device of a connection, which waits for a turn then; nothing else changed
+pub record Notes (id : ℕ) (ready : Readiness) (was : Line) (old new : Lines) : Type 0 where
+  pub now : Seen
+  pub noted : IsNoted ready was.seen now
+  pub lines : Puts id (Some (record { seen = now; ways = was.ways })) old new
+  pub turn : AddsTurn id old new
+  pub awaits : Awaits id new
+
+-- ---- marks
 
 -- each connection that is marked as queued stands in a queue
 abbrev pub AreListed : List (ℕ × Entry) → List ℕ → List ℕ → Type 0
-AreListed known fresh busy = (id : ℕ) (e : Entry) → lookup (nat_eq id) known ≡ Some e → e.is_queued ≡ true → Contains fresh id ⊎ Contains busy id
+AreListed by_id fresh busy = (id : ℕ) (e : Entry) → lookup (nat_eq id) by_id ≡ Some e → e.is_queued ≡ true → Contains fresh id ⊎ Contains busy id
 
 -- whether it is marked as queued
-abbrev pub queue_mark : ℕ → List (ℕ × Entry) → Option Bool
-queue_mark id known = option_map (λ e. e.is_queued) (lookup (nat_eq id) known)
+abbrev pub queue_mark : ℕ → Lines → Option Bool
+queue_mark id t = option_map (λ e. e.is_queued) (lookup (nat_eq id) t.by_id)
 
 -- whether it is marked as held back
-abbrev pub held_mark : ℕ → List (ℕ × Entry) → Option Bool
-held_mark id known = option_map (λ e. e.is_held) (lookup (nat_eq id) known)
+abbrev pub held_mark : ℕ → Lines → Option Bool
+held_mark id t = option_map (λ e. e.is_held) (lookup (nat_eq id) t.by_id)
 
 -- each that is marked as held back is so
 abbrev pub AreHeld : List (ℕ × Entry) → List ℕ → Type 0
-AreHeld known held = (id : ℕ) (e : Entry) → lookup (nat_eq id) known ≡ Some e → e.is_held ≡ true → Contains held id
+AreHeld by_id held = (id : ℕ) (e : Entry) → lookup (nat_eq id) by_id ≡ Some e → e.is_held ≡ true → Contains held id
+
+-- neither way of this connection is open, or it isn't there
+abbrev pub is_over_at : ℕ → Lines → Bool
+is_over_at id t = option_map_or is_over (ways_of id t) true

@@ -1,55 +1,117 @@
--- How much work a tunnel does, and that a connection that waits for a turn has one (this project's own).
-use Rattle.std.specs.Prelude.{ℕ, ◌≡◌, ◌⊎◌, ◌≤◌, ◌<◌, ◌∷◌, List, length, Some, true, false}
-use Rattle.ymx_session.specs.Streams.{waiting, room_of}
-use Rattle.ymx_engine.specs.declared.work.Work.{Work}
-use Rattle.ymx_engine.specs.Devices.{Seen, CountsOne, CountsSome}
-use Rattle.ymx_engine.specs.Follows.{StillKnown, IsOffered, IsAsked}
-use Rattle.ymx_engine.specs.Known.{may_push, may_pull}
-use Rattle.ymx_engine.specs.Marks.{takes_more}
-use Rattle.ymx_engine.specs.Tunnels.{Tunnel, look, view_of, Serving}
-use Rattle.ymx_engine.specs.Turns.{Turns, is_idle}
+-- What a tunnel has to do, and that each round does some of it (this project's own).
+use Rattle.std.specs.Prelude.{ℕ, ◌≡◌, ◌⊎◌, ◌||◌, ◌&&◌, ◌==◌, if◌then◌else◌, nat_lt, not, length, List, [], Bool, Some, true, false, is_some, option_map}
+use Rattle.std.specs.Io.KnownBytes.{Appends, Consumes}
+use Rattle.ymx_model.specs.session.Events.{Event}
+use Rattle.ymx_machine.specs.shared.Events.{Reply}
+use Rattle.ymx_model.specs.session.Sessions.{is_running}
+use Rattle.ymx_model.specs.session.Emissions.{is_ready}
+use Rattle.ymx_engine.specs.Engines.{Engine}
+use Rattle.ymx_engine.specs.Exchanges.{has_bytes}
+use Rattle.ymx_engine.specs.Moves.{Moves}
+use Rattle.ymx_engine.specs.Served.{Serving}
+use Rattle.ymx_engine.specs.Serves.{Turn}
+use Rattle.ymx_engine.specs.Tunnels.{Tunnel}
+use Rattle.ymx_engine.specs.Turns.{Line, Lines, line_of, is_idle, Extends, TakesTurn}
 
--- no count falls
-pub record WorkGrows (old new : Work) : Type 0 where
-  pub reads : old.reads ≤ new.reads
-  pub turns : old.turns ≤ new.turns
-  pub writes : old.writes ≤ new.writes
+-- bytes wait for the wire, or something is due
+abbrev pub has_to_send : Engine → Bool
+has_to_send e = has_bytes e.outgoing || is_ready e.session
 
--- Nobody who can be served is forgotten; and where a connection waited for a turn, one waits still, or one had its turn.
+-- the wire may have bytes
+abbrev pub may_have_bytes : Tunnel → Bool
+may_have_bytes t = t.wire.marks.may_pull && not t.is_wire_over
+
+-- The wire may have bytes, and none wait to be fed; or some do, and may be fed now: nothing waits for the wire, and the
+-- session runs.
+abbrev pub may_read_wire : Tunnel → Bool
+may_read_wire t =
+    if has_bytes t.engine.incoming then not (has_bytes t.engine.outgoing) && is_running t.engine.session.status else may_have_bytes t
+
+-- bytes are to go to the wire, or a connection is held back until none are
+abbrev pub has_to_write : Tunnel → Bool
+has_to_write t = has_to_send t.engine || not (length t.lines.held == 0)
+
+-- a connection waits for a turn or missed one, the wire may be read, or it may take bytes and is to be written to
+abbrev pub has_work : Tunnel → Bool
+has_work t = not (is_idle t.lines) || t.lines.missed || may_read_wire t || t.wire.marks.may_push && has_to_write t
+
+-- eight whole frames of 16,384 bytes, with their headers
+abbrev pub eight_frames : ℕ
+eight_frames = 131168
+
+-- connections may be read: the wire is over, or takes all, or may take bytes and fewer wait than eight frames
+abbrev pub takes_more : Tunnel → Bool
+takes_more t = t.is_wire_over || (length t.engine.outgoing == 0) || t.wire.marks.may_push && nat_lt (length t.engine.outgoing) eight_frames
+
+-- ---- one step
+
+-- The wire was read. Where nothing waited to be fed and it might have bytes, some came, or it may have none now.
+pub record Reads (old new : Tunnel) : Type 0 where
+  pub moves : Moves old new
+  pub asks : old.engine.incoming ≡ [] → may_have_bytes old ≡ true → (has_bytes moves.came ≡ true) ⊎ (may_have_bytes new ≡ false)
+
+-- What was due was written to the wire. Where it might take bytes and some waited or were due, it took some, or may take none
+-- now; it took all, or may take none now; and then nobody is held back any more.
+pub record Writes (old new : Tunnel) : Type 0 where
+  pub moves : Moves old new
+  pub offers : old.wire.marks.may_push ≡ true → has_to_send old.engine ≡ true → (has_bytes moves.sent ≡ true) ⊎ (new.wire.marks.may_push ≡ false)
+  pub all : old.wire.marks.may_push ≡ true → (new.engine.outgoing ≡ []) ⊎ (new.wire.marks.may_push ≡ false)
+  pub releases : old.wire.marks.may_push ≡ true → new.engine.outgoing ≡ [] → new.lines.held ≡ []
+
+-- What a connection does in its turn, if it is still there: it is read where connections may be.
+pub record HasItsTurn (id : ℕ) (was : Line) (old new : Tunnel) : Type 0 where
+  pub now : Line
+  pub there : line_of id new.lines ≡ Some now
+  pub more : Bool
+  pub gave : ℕ
+  pub turn : Turn id (takes_more old) old.engine.session new.engine.session old.engine.outgoing new.engine.outgoing was.seen now.seen was.ways now.ways more gave
+
+-- The first of the queue whose turn it was had its turn: each other that waited has fewer before it now.
+pub record ServesFirst (id : ℕ) (old new : Tunnel) : Type 0 where
+  pub taken : Lines
+  pub first : TakesTurn id old.lines taken
+  pub waits : Extends taken new.lines
+  pub served : (was : Line) → line_of id old.lines ≡ Some was → HasItsTurn id was old new
+
+-- ---- many steps
+
+-- The first that waited had its turn: until then none left its place.
+pub record FirstTurn (old new : Tunnel) : Type 0 where
+  pub id : ℕ
+  pub before : Tunnel
+  pub after : Tunnel
+  pub to : Moves old before
+  pub waits : Extends old.lines before.lines
+  pub turn : ServesFirst id before after
+  pub behind : Moves after new
+
+-- Nobody who can be served is forgotten; and nobody who waited for a turn left its place, or the first had its turn.
 pub record Attends (old new : Tunnel) : Type 0 where
   pub serves : Serving old → Serving new
-  pub waits : is_idle old.turns ≡ false → (is_idle new.turns ≡ false) ⊎ CountsSome old.work.turns new.work.turns
-  pub grows : WorkGrows old.work new.work
+  pub turns : Extends old.lines new.lines ⊎ FirstTurn old new
 
--- where a connection waited for a turn, one had its turn
+-- where a connection waited for a turn, the first had its turn
 abbrev pub ServesOne : Tunnel → Tunnel → Type 0
-ServesOne old new = is_idle old.turns ≡ false → CountsSome old.work.turns new.work.turns
+ServesOne old new = is_idle old.lines ≡ false → FirstTurn old new
 
--- The wire was read, and written to as far as it took bytes; and where a connection waited for a turn, one had its turn.
+-- between these two the wire was read
+pub record HasRead (old new : Tunnel) : Type 0 where
+  pub before : Tunnel
+  pub after : Tunnel
+  pub to : Moves old before
+  pub reads : Reads before after
+  pub behind : Moves after new
+
+-- between these two it was written to
+pub record HasWritten (old new : Tunnel) : Type 0 where
+  pub before : Tunnel
+  pub after : Tunnel
+  pub to : Moves old before
+  pub writes : Writes before after
+  pub behind : Moves after new
+
+-- A round: the wire was read, and written to; and where a connection waited for a turn, the first had its turn.
 pub record WorksOnce (old new : Tunnel) : Type 0 where
-  pub reads : CountsSome old.work.reads new.work.reads
+  pub reads : HasRead old new
   pub turns : ServesOne old new
-  pub writes : CountsSome old.work.writes new.work.writes
-
--- ---- one turn
-
--- the connection of this stream waited before all others of a queue
-abbrev pub StoodFirst : ℕ → Turns → Type 0
-StoodFirst id t = (behind : List ℕ) × ((t.fresh ≡ id ∷ behind) ⊎ (t.busy ≡ id ∷ behind))
-
--- where bytes waited in this stream and its device could take some, it was offered some
-pub record OffersBytes (id : ℕ) (old new : Tunnel) : Type 0 where
-  pub offers : (before after : Seen) → look id old.lines ≡ Some before → look id new.lines ≡ Some after → 0 < length (waiting id old.engine.session) →
-      StillKnown id old.turns new.turns (λ was now. may_push was ≡ true → IsOffered now before.counts after.counts)
-
--- where connections could be read and its device could have bytes, it was asked for some, unless the stream takes none
-pub record AsksForBytes (id : ℕ) (old new : Tunnel) : Type 0 where
-  pub asks : (before after : Seen) → look id old.lines ≡ Some before → look id new.lines ≡ Some after → takes_more (view_of old) ≡ true →
-      StillKnown id old.turns new.turns (λ was now. may_pull was ≡ true → IsAsked now before.counts after.counts (room_of id new.engine.session))
-
--- the connection of this stream had its turn
-pub record ServesFirst (id : ℕ) (old new : Tunnel) : Type 0 where
-  pub first : StoodFirst id old.turns
-  pub delivers : OffersBytes id old new
-  pub collects : AsksForBytes id old new
-  pub counted : CountsOne old.work.turns new.work.turns
+  pub writes : HasWritten old new

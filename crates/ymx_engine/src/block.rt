@@ -105,7 +105,7 @@ impl Block {
     /// What a device gives waits.
     pub(crate) fn pull_from<D: Device>(&mut self, device: &mut D) -> Pulled
         requires { self.old ≡ [] }
-        ensures { (buffer : List ℕ) × IsPulled result buffer (D.seen device.old) (D.seen device.new) × (self.new ≡ take (pulled_count result) buffer) }
+        ensures { (buffer : List ℕ) × (0 < length buffer) × IsPulled result buffer (D.seen device.old) (D.seen device.new) × (self.new ≡ take (pulled_count result) buffer) }
     {
         let pulled = device.pull(self.memory.as_mut_slice());
         self.at = 0;

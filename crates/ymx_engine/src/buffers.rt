@@ -1,10 +1,8 @@
-//! All that a new engine has beside its session.
+//! The memory for bytes that a tunnel has under way.
 
-ghost use Rattle.std.specs.Prelude.{◌≡◌, ◌<◌, [], length, false, IfOk};
-ghost use Rattle.ymx_engine.specs.Turns.{IsIdle};
+ghost use Rattle.std.specs.Prelude.{◌≡◌, ◌<◌, [], length, IfOk};
 
 use crate::block::Block;
-use crate::connections::Connections;
 use std::alloc::Global;
 use ymx_memory::RefusedAllocation;
 use ymx_session::Touched;
@@ -19,16 +17,15 @@ pub(crate) const FRAMES: usize = 131_168;
 /// connection fills, so that none is cut.
 const OUTGOING: usize = 2 * FRAMES;
 
-/// What a new engine has beside its session: no connections, and the memory for bytes under way.
+/// The memory for bytes under way, and for the ids of streams that were touched.
 ///
-/// It is made before the engine, so that an engine either has all of it or isn't made.
+/// It is made before the tunnel, so that a tunnel either has all of it or isn't made.
 #[derive(Drop)]
 pub(crate) struct Buffers {
     pub(crate) outgoing: Block,
     pub(crate) incoming: Block,
     pub(crate) buffer: Vec<u8>,
     pub(crate) touched: Touched,
-    pub(crate) connections: Connections,
 }
 
 impl Buffers {
@@ -36,14 +33,12 @@ impl Buffers {
     pub(crate) fn new(alloc: Global) -> Result<Buffers, RefusedAllocation>
         ensures empty { IfOk result (λ memory. (memory.outgoing ≡ []) × (memory.incoming ≡ [])) }
         ensures space { IfOk result (λ memory. 0 < length memory.buffer.items) }
-        ensures none { IfOk result (λ memory. (memory.connections.known ≡ []) × IsIdle memory.connections × (memory.connections.missed ≡ false)) }
     {
         Ok(Buffers {
             outgoing: Block::new(alloc, OUTGOING)?,
             incoming: Block::new(alloc, BLOCK)?,
             buffer: ymx_memory::zeros(alloc, BLOCK)?,
             touched: Touched::new(alloc)?,
-            connections: Connections::new(alloc),
         })
     }
 }

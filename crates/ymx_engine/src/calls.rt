@@ -4,14 +4,16 @@ ghost use Rattle.std.specs.Prelude.{◌≡◌, ◌<◌, ◌≤◌, [], length, t
 ghost use Rattle.ymx_model.specs.declared.types.Event.TheVariants as event;
 ghost use Rattle.ymx_machine.specs.declared.types.Call.TheVariants as call;
 ghost use Rattle.ymx_machine.specs.shared.Events.{Reply};
+ghost use Rattle.ymx_machine.specs.declared.types.Reply.TheVariants as reply;
+ghost use Rattle.ymx_model.specs.session.Calls.{read_from};
 ghost use Rattle.ymx_model.specs.session.Emissions.{in_turn};
 ghost use Rattle.ymx_model.specs.session.Histories.{Gives};
 ghost use Rattle.ymx_session.specs.declared.passing.Passing.{Passing};
 ghost use Rattle.ymx_session.specs.Passing.{passing, Passes};
 ghost use Rattle.ymx_session.specs.Streams.{waiting, room_of};
-ghost use Rattle.ymx_engine.specs.Events.{took_count, bytes_of, is_read_end, is_refusal, is_memory_refusal};
+ghost use Rattle.ymx_engine.specs.Events.{took_count, bytes_of, is_read_end, is_refusal, is_stop, is_memory_refusal};
 
-use ymx_model::{Got, Wrote};
+use ymx_model::{CallFault, Got, Wrote};
 use ymx_session::Session;
 
 /// Writes bytes, one at least, for which there is credit. Whether the stream took them: it takes none for want of memory.
@@ -27,12 +29,16 @@ pub(crate) fn write(session: &mut Session, id: u32, bytes: &[u8]) -> bool
     }
 }
 
-/// Whether the stream takes no bytes any more.
+/// Whether the stream takes no bytes any more, though it was not finished here.
 pub(crate) fn is_stopped(session: &mut Session, id: u32) -> bool
     ensures same { session.new ≡ session.old }
-    ensures happened { (told : Reply) × Gives in_turn session.old (event.Call (call.Write id [])) told session.new × (is_refusal told ≡ result) }
+    ensures happened { (told : Reply) × Gives in_turn session.old (event.Call (call.Write id [])) told session.new × (is_stop told ≡ result) }
 {
-    session.write(id, &[]).is_err()
+    match session.write(id, &[]) {
+        Ok(_) => false,
+        Err(CallFault::Finished) => false,
+        Err(_) => true,
+    }
 }
 
 /// Takes out the first `count` of the bytes that wait.
@@ -45,7 +51,7 @@ pub(crate) fn take_out(session: &mut Session, id: u32, count: usize)
 
 /// What a stream says of which no byte waits.
 #[derive(Clone, Copy)]
-pub(crate) enum Silence {
+pub(crate) enum Unreadable {
     /// More may come.
     Wait,
     /// Its end was read.
@@ -55,14 +61,15 @@ pub(crate) enum Silence {
 }
 
 /// Asks for a byte where none waits.
-pub(crate) fn ask(session: &mut Session, id: u32) -> Silence
+pub(crate) fn ask(session: &mut Session, id: u32) -> Unreadable
     requires { waiting id session.old ≡ [] }
-    ensures happened { (told : Reply) × Gives in_turn session.old (event.Call (call.Read id 1)) told session.new × (bytes_of told ≡ []) × (is_read_end told ≡ true → result ≡ Silence.End) × (result ≡ Silence.End → is_read_end told ≡ true) × (is_refusal told ≡ true → result ≡ Silence.Stopped) × (result ≡ Silence.Stopped → is_refusal told ≡ true) }
+    ensures happened { (told : Reply) × Gives in_turn session.old (event.Call (call.Read id 1)) told session.new × (bytes_of told ≡ []) × (is_read_end told ≡ true → result ≡ Unreadable.End) × (result ≡ Unreadable.End → is_read_end told ≡ true) × (is_refusal told ≡ true → result ≡ Unreadable.Stopped) × (result ≡ Unreadable.Stopped → is_refusal told ≡ true) }
+    ensures waits { result ≡ Unreadable.Wait → (read_from id 1 session.old).reply ≡ reply.ReadWait }
 {
     match session.consume(id, 1) {
-        Ok(Got::End) => Silence::End,
-        Ok(_) => Silence::Wait,
-        Err(_) => Silence::Stopped,
+        Ok(Got::End) => Unreadable::End,
+        Ok(_) => Unreadable::Wait,
+        Err(_) => Unreadable::Stopped,
     }
 }
 

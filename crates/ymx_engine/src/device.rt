@@ -1,13 +1,13 @@
 //! Devices that never wait.
 
-ghost use Rattle.std.specs.Prelude.{◌≡◌};
+ghost use Rattle.std.specs.Prelude.{◌≡◌, IfSome};
 ghost use Rattle.std.specs.Io.Slices.{io_slices_bytes};
-ghost use Rattle.ymx_engine.specs.Devices.{Seen, IsPulled, IsPushed, IsEnded, IsShut, pulled_count, pushed_count};
+ghost use Rattle.ymx_engine.specs.Devices.{Seen, IsPulled, IsPushed, IsEnded, IsShut, IsNoted, pulled_count, pushed_count};
 
 use std::io::IoSlice;
 
 /// What a call for bytes answered.
-#[derive(Clone, Copy, Debug, PartialEq, Eq)]
+#[derive(Clone, Copy)]
 pub enum Pulled {
     /// So many bytes came.
     Gave(usize),
@@ -32,7 +32,7 @@ impl Pulled {
 }
 
 /// What a call with bytes answered.
-#[derive(Clone, Copy, Debug, PartialEq, Eq)]
+#[derive(Clone, Copy)]
 pub enum Pushed {
     /// So many bytes were taken.
     Took(usize),
@@ -54,11 +54,24 @@ impl Pushed {
     }
 }
 
+/// What an event says of a device.
+#[derive(Clone, Copy)]
+pub struct Readiness {
+    /// It may have bytes, or its end.
+    pub can_pull: bool,
+    /// It may take bytes.
+    pub can_push: bool,
+    /// Its end is near: fewer bytes than there was room for don't say that none are left.
+    pub is_closing: bool,
+}
+
 /// A connection whose calls never wait, as a socket that is not blocking.
 ///
 /// A contract sees the bytes that it has still to give, those that it has taken, whether it said that no more come,
-/// whether it was ended, and whether it has failed, each where the device can tell (a socket cannot tell its bytes); and how
-/// many calls of each kind were made, as far as the device counts them. A device that counts none stands at `uncounted`.
+/// whether it was ended, whether it was shut, and whether it has failed, each where the device can tell; and its marks:
+/// whether it may have bytes now, and whether it may take some. A mark goes off only where a call moved fewer bytes than
+/// it was given room for or offered, or answered 'not now', an end or a failure, and each of these turns it off. It goes
+/// on only by what an event says, or where the device is shut.
 pub trait Device {
     /// What a contract sees.
     ghost seen: { Self → Seen };
@@ -82,4 +95,24 @@ pub trait Device {
     /// Shuts it both ways, without a word of good order.
     fn shut(&mut self)
         ensures { IsShut (seen self.old) (seen self.new) };
+
+    /// An event says this of it. No byte moves.
+    fn note_event(&mut self, ready: Readiness)
+        ensures { IsNoted ready (seen self.old) (seen self.new) };
+
+    /// Whether it may have bytes now, or its end.
+    fn may_pull(&self) -> bool
+        ensures { result ≡ (seen self.now).marks.may_pull };
+
+    /// Whether it may take bytes now.
+    fn may_push(&self) -> bool
+        ensures { result ≡ (seen self.now).marks.may_push };
+
+    /// Whether its connection is still being made.
+    fn is_connecting(&self) -> bool
+        ensures { result ≡ (seen self.now).marks.is_connecting };
+
+    /// Whether it has failed.
+    fn has_failed(&self) -> bool
+        ensures { IfSome (seen self.now).failed (λ b. result ≡ b) };
 }

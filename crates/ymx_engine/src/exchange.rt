@@ -1,72 +1,95 @@
 //! What moves between a stream and its device in one turn.
 
-ghost use Rattle.std.specs.Prelude.{◌≡◌, ◌⊎◌, ◌<◌, ◌≤◌, ◌+◌, [], length, true, false};
+ghost use Rattle.std.specs.Prelude.{◌≡◌, ◌⊎◌, ◌<◌, ◌≤◌, ◌&&◌, not, [], length, true, false};
 ghost use Rattle.ymx_model.specs.declared.types.Event.TheVariants as event;
+ghost use Rattle.ymx_model.specs.session.Sessions.{is_running};
 ghost use Rattle.ymx_machine.specs.declared.types.Call.TheVariants as call;
 ghost use Rattle.ymx_machine.specs.shared.Events.{Reply};
 ghost use Rattle.ymx_model.specs.session.Emissions.{in_turn};
 ghost use Rattle.ymx_model.specs.session.Histories.{Gives};
-ghost use Rattle.ymx_law_session.specs.Limits.{IsWithin};
 ghost use Rattle.ymx_session.specs.Streams.{waiting, room_of};
-ghost use Rattle.ymx_engine.specs.Devices.{IsShut, CountsSome};
-ghost use Rattle.ymx_engine.specs.Exchanges.{Exchange};
-ghost use Rattle.ymx_engine.specs.Follows.{IsOffered, IsAsked, FollowsDevice};
-ghost use Rattle.ymx_engine.specs.Known.{may_push, may_pull, broken_off};
-ghost use Rattle.ymx_engine.specs.Serves.{Exchanges};
+ghost use Rattle.ymx_engine.specs.Devices.{IsShut};
+ghost use Rattle.ymx_engine.specs.Served.{GainsNone};
+ghost use Rattle.ymx_engine.specs.Serves.{Turn, Part, Delivers, HearsEnd, HearsStop};
+ghost use Rattle.ymx_engine.specs.Ways.{is_open, may_push, may_pull, broken_off};
 
 use crate::block::Block;
-use crate::calls::{Silence, ask, finish, is_stopped, reset, take_out};
-use crate::connection::{Connection, Flow};
+use crate::buffers::BLOCK;
+use crate::calls::{Unreadable, ask, finish, is_stopped, reset, take_out};
 use crate::device::{Device, Pulled, Pushed};
 use crate::sending::{put_due, send};
+use crate::ways::{Flow, Ways};
+use ymx_model::Status;
 use ymx_session::Session;
 
-/// One turn of a connection: at most four writes to its device, then, where it `reads`, at most two reads from
-/// it. What is due and what these give waits behind what waits for the wire. Whether more may be moved at once. It makes at
-/// most 13 calls of the device.
+/// What a turn came to, or its reads.
+#[derive(Clone, Copy)]
+pub(crate) struct TurnEnd {
+    /// More may be moved at once.
+    pub(crate) more: bool,
+    /// How many bytes the device gave.
+    pub(crate) gave: usize,
+}
+
+impl TurnEnd {
+    /// Nothing was moved, and nothing more may be.
+    const NOTHING: TurnEnd = TurnEnd {
+        more: false,
+        gave: 0,
+    };
+}
+
+/// One turn of a connection: at most four writes to its device, then, where it `reads`, at most two reads from it. What is
+/// due and what these give waits behind what waits for the wire. It makes at most 13 calls of the device.
 pub(crate) fn serve<D: Device>(
     session: &mut Session,
     id: u32,
-    connection: &mut Connection,
+    ways: &mut Ways,
     device: &mut D,
     buffer: &mut [u8],
     outgoing: &mut Block,
     reads: bool,
-) -> bool
-    ensures moved { Exchanges id session.old session.new outgoing.old outgoing.new (D.seen device.old) (D.seen device.new) }
-    ensures calls { (D.seen device.new).calls ≤ (D.seen device.old).calls + 13 }
-    ensures follows { FollowsDevice connection.old connection.new (D.seen device.old).counts (D.seen device.new).counts }
-    ensures delivers { may_push connection.old ≡ true → 0 < length (waiting id session.old) → IsOffered connection.new (D.seen device.old).counts (D.seen device.new).counts }
-    ensures collects { reads ≡ true → 0 < length buffer.old → may_pull connection.old ≡ true → IsAsked connection.new (D.seen device.old).counts (D.seen device.new).counts (room_of id session.new) }
-    ensures stays { IsWithin session.old → may_push connection.new ≡ true → 0 < length (waiting id session.new) → result ≡ true }
-    ensures asks_on { reads ≡ true → 0 < length buffer.old → may_pull connection.new ≡ true → 0 < room_of id session.new → result ≡ true }
+) -> TurnEnd
+    requires room { 0 < length buffer.old }
+    ensures turn { Turn id reads session.old session.new outgoing.old outgoing.new (D.seen device.old) (D.seen device.new) ways.old ways.new result.more result.gave }
+    // A device that may take bytes, of which none wait, hears where the stream has ended, or is no more.
+    ensures hears_end { may_push ways.old (D.seen device.old).marks ≡ true → waiting id session.old ≡ [] → HearsEnd id session.old ways.new }
+    // One that may take none hears where the stream takes none any more, once its connection is there.
+    ensures tells { may_push ways.old (D.seen device.old).marks ≡ false → (D.seen device.old).marks.is_connecting ≡ false → HearsStop id session.old ways.new }
+    // It has more to do only where its device may take bytes or have some, or is still to be told that the session is over.
+    ensures rests { result.more ≡ true → (may_push ways.new (D.seen device.new).marks ≡ true) ⊎ ((may_pull ways.new (D.seen device.new).marks ≡ true) ⊎ ((is_running session.new.status ≡ false) × (is_open ways.new.to_peer ≡ true))) }
 {
-    let more = deliver(session, id, connection, device);
-    hear_stop(session, id, connection, device);
-    if !reads {
-        return more;
+    let writes = deliver(session, id, ways, device);
+    hear_stop(session, id, ways, device);
+    let read = collect(session, id, ways, device, buffer, outgoing, reads);
+    TurnEnd {
+        more: writes && ways.may_push(device) || read.more || is_untold(session, ways, device),
+        gave: read.gave,
     }
-    collect(session, id, connection, device, buffer, outgoing) || more
+}
+
+/// Whether the session is over, and the way to the peer still open of a device whose connection is there.
+fn is_untold<D: Device>(session: &Session, ways: &Ways, device: &D) -> bool
+    ensures { result ≡ (not (is_running session.now.status) && is_open ways.now.to_peer && not (D.seen device.now).marks.is_connecting) }
+{
+    !matches!(session.status(), Status::Running)
+        && ways.to_peer.is_open()
+        && !device.is_connecting()
 }
 
 /// At most four writes to the device, out of the stream's ring. Whether more may be written at once.
-fn deliver<D: Device>(
-    session: &mut Session,
-    id: u32,
-    connection: &mut Connection,
-    device: &mut D,
-) -> bool
-    ensures moved { Exchange id session.old session.new (D.seen device.old) (D.seen device.new) }
-    ensures calls { (D.seen device.new).calls ≤ (D.seen device.old).calls + 8 }
-    ensures follows { FollowsDevice connection.old connection.new (D.seen device.old).counts (D.seen device.new).counts }
-    ensures delivers { may_push connection.old ≡ true → 0 < length (waiting id session.old) → IsOffered connection.new (D.seen device.old).counts (D.seen device.new).counts }
-    ensures stays { may_push connection.new ≡ true → 0 < length (waiting id session.new) → result ≡ true }
+fn deliver<D: Device>(session: &mut Session, id: u32, ways: &mut Ways, device: &mut D) -> bool
+    ensures delivered { Delivers id session.old session.new (D.seen device.old) (D.seen device.new) ways.old ways.new 8 }
+    ensures goes_on { result ≡ true → may_push ways.new (D.seen device.new).marks ≡ true }
+    ensures hears_end { may_push ways.old (D.seen device.old).marks ≡ true → waiting id session.old ≡ [] → HearsEnd id session.old ways.new }
+    ensures idle { may_push ways.old (D.seen device.old).marks ≡ false → (session.new ≡ session.old) × (ways.new ≡ ways.old) × (D.seen device.new ≡ D.seen device.old) }
+    ensures stays { may_push ways.new (D.seen device.new).marks ≡ true → 0 < length (waiting id session.new) → result ≡ true }
 {
     'push: for turn in 0..4u64 {
-        if !connection.may_push() {
+        if !ways.may_push(device) {
             return false;
         }
-        if !push_once(session, id, connection, device) {
+        if !push_once(session, id, ways, device) {
             return false;
         }
     }
@@ -74,79 +97,74 @@ fn deliver<D: Device>(
 }
 
 /// Writes to the device once. Whether more may be written.
-fn push_once<D: Device>(
-    session: &mut Session,
-    id: u32,
-    connection: &mut Connection,
-    device: &mut D,
-) -> bool
-    requires { may_push connection.old ≡ true }
-    ensures moved { Exchange id session.old session.new (D.seen device.old) (D.seen device.new) }
-    ensures calls { (D.seen device.new).calls ≤ (D.seen device.old).calls + 2 }
-    ensures follows { FollowsDevice connection.old connection.new (D.seen device.old).counts (D.seen device.new).counts }
-    ensures delivers { 0 < length (waiting id session.old) → IsOffered connection.new (D.seen device.old).counts (D.seen device.new).counts }
-    ensures goes_on { result ≡ true → may_push connection.new ≡ true }
-    ensures stays { may_push connection.new ≡ true → 0 < length (waiting id session.new) → result ≡ true }
+fn push_once<D: Device>(session: &mut Session, id: u32, ways: &mut Ways, device: &mut D) -> bool
+    requires { may_push ways.old (D.seen device.old).marks ≡ true }
+    ensures delivered { Delivers id session.old session.new (D.seen device.old) (D.seen device.new) ways.old ways.new 2 }
+    ensures goes_on { result ≡ true → may_push ways.new (D.seen device.new).marks ≡ true }
+    ensures some { result ≡ true → 0 < length (waiting id session.old) }
+    ensures hears_end { waiting id session.old ≡ [] → HearsEnd id session.old ways.new }
+    ensures stays { may_push ways.new (D.seen device.new).marks ≡ true → 0 < length (waiting id session.new) → result ≡ true }
 {
     let bytes = session.unread(id);
     if bytes.is_empty() {
-        hear_silence(session, id, connection, device);
+        hear_silence(session, id, ways, device);
         return false;
     }
-    let all = bytes.len();
     match device.push(bytes) {
         Pushed::Took(count) => {
             take_out(session, id, count);
-            connection.can_push = count == all;
-            connection.can_push
+            ways.may_push(device)
         }
-        Pushed::NotNow => {
-            connection.can_push = false;
-            false
-        }
+        Pushed::NotNow => false,
         Pushed::Failed => {
-            reset_and_shut(session, id, connection, device);
+            reset_and_shut(session, id, ways, device);
             false
         }
     }
 }
 
 /// Nothing waits to be written: the device is ended at the stream's end, and shut where the stream is no more.
-fn hear_silence<D: Device>(
-    session: &mut Session,
-    id: u32,
-    connection: &mut Connection,
-    device: &mut D,
-)
-    requires { waiting id session.old ≡ [] }
-    ensures moved { Exchange id session.old session.new (D.seen device.old) (D.seen device.new) }
-    ensures calls { (D.seen device.new).calls ≤ (D.seen device.old).calls + 1 }
-    ensures follows { FollowsDevice connection.old connection.new (D.seen device.old).counts (D.seen device.new).counts }
+fn hear_silence<D: Device>(session: &mut Session, id: u32, ways: &mut Ways, device: &mut D)
+    requires none { waiting id session.old ≡ [] }
+    requires open { is_open ways.old.from_peer ≡ true }
+    ensures part { Part id session.old session.new [] [] (D.seen device.old) (D.seen device.new) ways.old ways.new 1 0 }
+    ensures hears_end { HearsEnd id session.old ways.new }
+    ensures none_came { GainsNone id session.old session.new }
 {
     match ask(session, id) {
-        Silence::Wait => {}
-        Silence::End => {
-            connection.from_peer = Flow::Ended;
+        Unreadable::Wait => {}
+        Unreadable::End => {
+            ways.from_peer = Flow::Ended;
             device.end();
         }
-        Silence::Stopped => {
-            connection.break_off();
+        Unreadable::Stopped => {
+            ways.break_off();
             device.shut();
         }
     }
 }
 
-/// Nothing more goes to the device: it is shut once its stream takes nothing any more.
-fn hear_stop<D: Device>(session: &mut Session, id: u32, connection: &mut Connection, device: &mut D)
-    ensures moved { Exchange id session.old session.new (D.seen device.old) (D.seen device.new) }
-    ensures calls { (D.seen device.new).calls ≤ (D.seen device.old).calls + 1 }
-    ensures follows { FollowsDevice connection.old connection.new (D.seen device.old).counts (D.seen device.new).counts }
+/// No byte goes to the device now, though some of it may come: it is shut once its stream takes none any more. As long as its
+/// connection is being made it isn't.
+fn hear_stop<D: Device>(session: &mut Session, id: u32, ways: &mut Ways, device: &mut D)
+    ensures part { Part id session.old session.new [] [] (D.seen device.old) (D.seen device.new) ways.old ways.new 1 0 }
+    ensures tells { may_push ways.old (D.seen device.old).marks ≡ false → (D.seen device.old).marks.is_connecting ≡ false → HearsStop id session.old ways.new }
+    ensures same { session.new ≡ session.old }
 {
-    if !connection.is_half_over() {
+    if !ways.to_peer.is_open() || ways.may_push(device) || device.is_connecting() {
         return;
     }
+    shut_if_stopped(session, id, ways, device);
+}
+
+/// The device is shut where its stream takes no bytes any more, though it was not finished here.
+fn shut_if_stopped<D: Device>(session: &mut Session, id: u32, ways: &mut Ways, device: &mut D)
+    ensures part { Part id session.old session.new [] [] (D.seen device.old) (D.seen device.new) ways.old ways.new 1 0 }
+    ensures tells { HearsStop id session.old ways.new }
+    ensures same { session.new ≡ session.old }
+{
     if is_stopped(session, id) {
-        connection.break_off();
+        ways.break_off();
         device.shut();
     }
 }
@@ -155,90 +173,93 @@ fn hear_stop<D: Device>(session: &mut Session, id: u32, connection: &mut Connect
 pub(crate) fn reset_and_shut<D: Device>(
     session: &mut Session,
     id: u32,
-    connection: &mut Connection,
+    ways: &mut Ways,
     device: &mut D,
 )
     ensures reset { (told : Reply) × Gives in_turn session.old (event.Call (call.Reset id)) told session.new }
     ensures shut { IsShut (D.seen device.old) (D.seen device.new) }
-    ensures broken { connection.new ≡ broken_off connection.old }
+    ensures broken { ways.new ≡ broken_off ways.old }
 {
     reset(session, id);
-    connection.break_off();
+    ways.break_off();
     device.shut();
 }
 
-/// At most two reads from the device. Whether more may be read at once.
+/// At most two reads from the device, where it is to be read.
 fn collect<D: Device>(
     session: &mut Session,
     id: u32,
-    connection: &mut Connection,
+    ways: &mut Ways,
     device: &mut D,
     buffer: &mut [u8],
     outgoing: &mut Block,
-) -> bool
-    ensures moved { Exchanges id session.old session.new outgoing.old outgoing.new (D.seen device.old) (D.seen device.new) }
-    ensures calls { (D.seen device.new).calls ≤ (D.seen device.old).calls + 4 }
-    ensures follows { FollowsDevice connection.old connection.new (D.seen device.old).counts (D.seen device.new).counts }
-    ensures collects { 0 < length buffer.old → may_pull connection.old ≡ true → CountsSome (D.seen device.old).counts.pulls (D.seen device.new).counts.pulls ⊎ (room_of id session.new ≡ 0) }
-    ensures asks_on { 0 < length buffer.old → may_pull connection.new ≡ true → 0 < room_of id session.new → result ≡ true }
+    reads: bool,
+) -> TurnEnd
+    requires room { 0 < length buffer.old }
+    ensures part { Part id session.old session.new outgoing.old outgoing.new (D.seen device.old) (D.seen device.new) ways.old ways.new 4 result.gave }
+    ensures collects { reads ≡ true → may_pull ways.old (D.seen device.old).marks ≡ true → (0 < result.gave) ⊎ ((may_pull ways.new (D.seen device.new).marks ≡ false) ⊎ (room_of id session.new ≡ 0)) }
+    ensures goes_on { result.more ≡ true → may_pull ways.new (D.seen device.new).marks ≡ true }
+    ensures asks_on { reads ≡ true → may_pull ways.new (D.seen device.new).marks ≡ true → 0 < room_of id session.new → result.more ≡ true }
 {
-    if !connection.may_pull() {
-        return false;
+    if !reads || !ways.may_pull(device) {
+        return TurnEnd::NOTHING;
     }
-    if !pull_once(session, id, connection, device, buffer, outgoing) {
-        return false;
+    let first = pull_once(session, id, ways, device, buffer, outgoing);
+    if !first.more {
+        return first;
     }
-    if !connection.may_pull() {
-        return false;
+    let second = pull_once(session, id, ways, device, buffer, outgoing);
+    TurnEnd {
+        more: second.more,
+        gave: first.gave + second.gave,
     }
-    pull_once(session, id, connection, device, buffer, outgoing)
 }
 
 /// Reads from the device once, as many bytes as the stream takes. What is due goes first, so that these bytes may go
-/// straight behind it. Whether more may be read: not once bytes were lost.
+/// straight behind it. More may be read at once as long as none are lost.
 fn pull_once<D: Device>(
     session: &mut Session,
     id: u32,
-    connection: &mut Connection,
+    ways: &mut Ways,
     device: &mut D,
     buffer: &mut [u8],
     outgoing: &mut Block,
-) -> bool
-    ensures moved { Exchanges id session.old session.new outgoing.old outgoing.new (D.seen device.old) (D.seen device.new) }
-    ensures calls { (D.seen device.new).calls ≤ (D.seen device.old).calls + 2 }
-    ensures follows { FollowsDevice connection.old connection.new (D.seen device.old).counts (D.seen device.new).counts }
-    ensures asks { 0 < length buffer.old → CountsSome (D.seen device.old).counts.pulls (D.seen device.new).counts.pulls ⊎ (room_of id session.new ≡ 0) }
-    ensures goes_on { result ≡ true → CountsSome (D.seen device.old).counts.pulls (D.seen device.new).counts.pulls }
-    ensures asks_on { 0 < length buffer.old → may_pull connection.new ≡ true → 0 < room_of id session.new → result ≡ true }
+) -> TurnEnd
+    requires room { 0 < length buffer.old }
+    requires open { is_open ways.old.to_peer ≡ true }
+    ensures part { Part id session.old session.new outgoing.old outgoing.new (D.seen device.old) (D.seen device.new) ways.old ways.new 2 result.gave }
+    ensures bounded { result.gave ≤ BLOCK }
+    ensures collects { (0 < result.gave) ⊎ ((may_pull ways.new (D.seen device.new).marks ≡ false) ⊎ (room_of id session.new ≡ 0)) }
+    ensures goes_on { result.more ≡ true → 0 < result.gave }
+    ensures on { result.more ≡ true → may_pull ways.new (D.seen device.new).marks ≡ true }
+    ensures asks_on { may_pull ways.new (D.seen device.new).marks ≡ true → 0 < room_of id session.new → result.more ≡ true }
 {
     put_due(session, outgoing);
-    let room = session.room(id).min(buffer.len());
+    let room = session.room(id).min(buffer.len()).min(BLOCK);
     if room == 0 {
-        if is_stopped(session, id) {
-            connection.break_off();
-            device.shut();
-        }
-        return false;
+        shut_if_stopped(session, id, ways, device);
+        return TurnEnd::NOTHING;
     }
     let bytes = &mut buffer[..room];
     match device.pull(bytes) {
         Pulled::Gave(count) => {
-            connection.hear_given(count < room);
-            if count == 0 {
-                return true;
-            }
             if send(session, id, &bytes[..count], outgoing) {
-                return true;
+                let more = ways.may_pull(device);
+                return TurnEnd { more, gave: count };
             }
-            connection.lacked_memory = true;
-            reset_and_shut(session, id, connection, device);
+            ways.lacked_memory = true;
+            reset_and_shut(session, id, ways, device);
+            return TurnEnd {
+                more: false,
+                gave: count,
+            };
         }
-        Pulled::NotNow => connection.can_pull = false,
+        Pulled::NotNow => {}
         Pulled::Ended => {
             finish(session, id);
-            connection.to_peer = Flow::Ended;
+            ways.to_peer = Flow::Ended;
         }
-        Pulled::Failed => reset_and_shut(session, id, connection, device),
+        Pulled::Failed => reset_and_shut(session, id, ways, device),
     }
-    false
+    TurnEnd::NOTHING
 }

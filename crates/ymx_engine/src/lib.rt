@@ -1,5 +1,5 @@
-//! The tunnel of one end as a value: a session, its streams, and what each waits for. It has no thread, no lock and
-//! no socket: devices are lent to its calls, none of which waits.
+//! The tunnel of one end as a value: a session, the wire that carries it, and the device of each of its streams. It has
+//! no thread, no lock and no socket, and none of its calls waits.
 //!
 //! Each call says which events happened, and what moved between streams, devices and the wire.
 #![tactic(auto)]
@@ -7,22 +7,21 @@
 mod block;
 mod buffers;
 mod calls;
-mod connection;
-mod connections;
 mod device;
-mod engine;
 mod exchange;
-mod gathering;
-mod line;
+mod joining;
+mod lines;
+mod steps;
 mod passing;
+mod reading;
+mod row;
 mod sending;
 mod standing;
 mod tunnel;
-mod work;
+mod ways;
+mod writing;
 
-pub use connection::{Connection, Flow};
-pub use device::{Device, Pulled, Pushed};
-pub use engine::Engine;
-pub use line::{Line, NotJoined, Registry, Wire};
+pub use device::{Device, Pulled, Pushed, Readiness};
+pub use joining::{NotJoined, Registry};
 pub use tunnel::{Served, Tunnel};
-pub use work::Work;
+pub use ways::{Flow, Ways};

@@ -1,42 +1,49 @@
-//! How an engine stands: whether it has work, and what its session says.
+//! How a tunnel stands: whether it has work, and what its session and its connections say.
 
-ghost use Rattle.std.specs.Prelude.{◌≡◌, length, true, false};
+ghost use Rattle.std.specs.Prelude.{ℕ, ◌≡◌, ◌+◌, [], length, min, true, false, option_map, IfNone, IfSome, is_none, Option};
 ghost use Rattle.ymx_model.specs.session.Sessions.{is_running};
-ghost use Rattle.ymx_engine.specs.Engines.{IsFlushed};
-ghost use Rattle.ymx_engine.specs.Marks.{may_have_bytes, may_read_wire, has_work, has_to_write};
-ghost use Rattle.ymx_engine.specs.Served.{AreServed, NoneWaits, NoneGives};
+ghost use Rattle.ymx_engine.specs.Engines.{is_flushed};
+ghost use Rattle.ymx_engine.specs.Runs.{IsOver};
+ghost use Rattle.ymx_engine.specs.Served.{Serving, NoneWaits, NoneGives, NoneHangs};
+ghost use Rattle.ymx_engine.specs.Turns.{look, ways_of, is_over_at};
+ghost use Rattle.ymx_engine.specs.Work.{has_work, has_to_write, may_read_wire};
 
-use crate::engine::Engine;
+use crate::device::Device;
+use crate::tunnel::Tunnel;
+use crate::ways::Ways;
 use ymx_model::Status;
 
-impl Engine {
-    /// Whether a round may move something though no event comes: a connection is queued or missed its turn, the wire may have
-    /// bytes or bytes of it wait to be fed, or something is due that the wire may take. If not, the caller may wait for the next event.
+impl<D: Device + Drop, W: Device + Drop> Tunnel<D, W> {
+    /// Whether a round may move something though no event comes: a connection waits for a turn or missed one, the wire may
+    /// have bytes or bytes of it wait to be fed, or something is due that the wire may take. If not, the caller may wait for
+    /// the next event.
     pub fn has_work(&self) -> bool
         ensures exact { result ≡ has_work self.now }
         // At rest no bytes of a stream wait that its device may take now.
-        ensures rest { AreServed self.now → result ≡ false → NoneWaits self.now }
+        ensures rest { Serving self.now → result ≡ false → NoneWaits self.now }
         // Where the wire may take bytes too, no stream takes bytes that its device may have.
-        ensures gives { AreServed self.now → result ≡ false → self.now.marks.can_push_wire ≡ true → NoneGives self.now }
+        ensures gives { Serving self.now → result ≡ false → self.now.wire.marks.may_push ≡ true → NoneGives self.now }
+        // In a session that is over no way to the peer is open then, unless its connection is still being made.
+        ensures hears { Serving self.now → result ≡ false → NoneHangs self.now }
     {
         self.may_move()
     }
 
-    /// Whether a connection, the wire, or what is due may move something.
+    /// Whether a round may move something.
     fn may_move(&self) -> bool
         ensures { result ≡ has_work self.now }
     {
-        !self.connections.is_idle()
-            || self.connections.has_missed()
+        !self.lines.is_idle()
+            || self.lines.has_missed()
             || self.may_read_wire()
-            || (self.can_push_wire && self.has_to_write())
+            || (self.wire.may_push() && self.has_to_write())
     }
 
     /// Whether bytes are to go to the wire, or a connection is held back until none are.
     fn has_to_write(&self) -> bool
         ensures { result ≡ has_to_write self.now }
     {
-        self.session.due() || !self.outgoing.waiting().is_empty() || self.connections.has_held()
+        self.session.due() || !self.outgoing.waiting().is_empty() || self.lines.has_held()
     }
 
     /// Whether the wire may have bytes, or bytes of it may be fed now.
@@ -44,7 +51,7 @@ impl Engine {
         ensures { result ≡ may_read_wire self.now }
     {
         if self.incoming.waiting().is_empty() {
-            self.may_pull_wire()
+            self.wire.may_pull() && !self.is_wire_over
         } else {
             self.outgoing.waiting().is_empty() && self.is_running()
         }
@@ -60,18 +67,74 @@ impl Engine {
         }
     }
 
-    /// Whether the wire may have bytes.
-    pub(crate) fn may_pull_wire(&self) -> bool
-        ensures { result ≡ may_have_bytes self.now.marks }
+    /// Whether the wire has failed, or has taken all that was due.
+    pub fn is_over(&self) -> bool
+        ensures { result ≡ true → IsOver self.now }
     {
-        self.can_pull_wire && !self.is_wire_over
+        self.wire.has_failed() || self.is_flushed()
     }
 
-    /// Whether all has gone out: the session has nothing due, and the wire has taken each byte that was emitted.
+    /// Whether nothing is due, and the wire has taken all that was emitted.
     pub fn is_flushed(&self) -> bool
-        ensures { result ≡ true → IsFlushed self.now.engine }
+        ensures { result ≡ is_flushed self.now.engine }
     {
         self.outgoing.waiting().is_empty() && !self.session.due()
+    }
+
+    /// Whether neither way of a connection is open, or the stream has none.
+    pub fn is_line_over(&self, id: u32) -> bool
+        ensures { result ≡ is_over_at id self.now.lines }
+    {
+        self.lines.is_over(id)
+    }
+
+    /// How the ways of a connection stand. `None` where the stream has none.
+    pub fn ways(&self, id: u32) -> Option<Ways>
+        ensures { result ≡ ways_of id self.now.lines }
+    {
+        self.lines.ways(id)
+    }
+
+    /// The device of a stream. `None` where it has none.
+    pub fn device(&self, id: u32) -> Option<&D>
+        ensures { option_map (λ device. D.seen device.now) result ≡ look id self.now.lines }
+    {
+        self.lines.device(id)
+    }
+
+    /// The stream of some connection. `None` where there is none.
+    pub fn first(&self) -> Option<u32>
+        ensures none { IfNone result (self.now.lines.by_id ≡ []) }
+    {
+        self.lines.first()
+    }
+
+    /// How many connections there are.
+    pub fn len(&self) -> usize
+        ensures { result ≡ length self.now.lines.by_id }
+    {
+        self.lines.len()
+    }
+
+    /// Whether there is no connection.
+    pub fn is_empty(&self) -> bool
+        ensures { result ≡ true → self.now.lines.by_id ≡ [] }
+    {
+        self.lines.len() == 0
+    }
+
+    /// The wire.
+    pub fn wire(&self) -> &W
+        ensures { W.seen result.now ≡ self.now.wire }
+    {
+        &self.wire
+    }
+
+    /// How many connections wait for a turn.
+    pub fn queued_count(&self) -> usize
+        ensures { result ≡ min (length self.now.lines.fresh + length self.now.lines.busy) usize.MAX }
+    {
+        self.lines.queued_count()
     }
 
     /// Whether a stream of the peer's was ever rejected for want of memory.

@@ -1,9 +1,10 @@
 -- The moments at which a loop waited for events.
 use Rattle.std.proofs.Common.{◌≡◌, ◌⊎◌, inl, inr, ℕ, ◌≤◌, ◌+◌, List, [], ◌∷◌, ◌++◌, refl, arith, length-append}
-use Rattle.ymx_engine.specs.Devices.{CountsOne}
+use Rattle.ymx_forward.specs.Counts.{CountsOne}
 use Rattle.ymx_engine.specs.Runs.{Runs}
-use Rattle.ymx_engine.specs.Tunnels.{Tunnel, Serving}
-use Rattle.ymx_engine.proofs.Running.{runs_same, runs_then}
+use Rattle.ymx_engine.specs.Served.{Serving}
+use Rattle.ymx_engine.specs.Tunnels.{Tunnel}
+use Rattle.ymx_engine.proofs.Attending.{runs_same, runs_then}
 use Rattle.ymx_forward.specs.Loops.{NeedsEvents, RunsThrough, WaitsInNeed}
 
 through_behind : (ms : List Tunnel) (a b c : Tunnel) → Runs a b → RunsThrough ms b c → RunsThrough ms a c

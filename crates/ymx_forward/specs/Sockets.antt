@@ -1,7 +1,14 @@
--- What a contract sees of a socket's counts (this project's own).
-use Rattle.ymx_engine.specs.Devices.{Counts as Counted}
-use Rattle.ymx_forward.specs.declared.socket.Counts.{Counts}
+-- What a contract sees of a socket (this project's own).
+use Rattle.std.specs.Prelude.{Bool, true, false}
+use Rattle.ymx_engine.specs.Devices.{Marks}
+use Rattle.ymx_forward.specs.declared.socket.ConnectState.{ConnectState}
+use Rattle.ymx_forward.specs.declared.socket.ConnectState.TheVariants as state
+use Rattle.ymx_forward.specs.declared.socket.Marks.{Marks as Said}
 
--- the same five counts
-abbrev pub counts_of : Counts → Counted
-counts_of c = record { pulls = c.pulls; gives = c.gives; pushes = c.pushes; takes = c.takes; closes = c.closes }
+abbrev pub is_being_made : ConnectState → Bool
+is_being_made state.Connecting = true
+is_being_made _ = false
+
+-- what was said of it, and whether its connection is being made
+abbrev pub marks_of : Said → ConnectState → Marks
+marks_of m s = record { may_pull = m.may_pull; may_push = m.may_push; is_closing = m.is_closing; is_connecting = is_being_made s }

@@ -1,40 +1,48 @@
 //! The end of the wire.
 
+ghost use Rattle.std.specs.Prelude.{◌≡◌, ◌⊎◌, ◌||◌, is_some, false, true, None};
+ghost use Rattle.ymx_forward.specs.Counts.{CountsSome};
+
 use crate::socket::Socket;
 use crate::stillness::Stillness;
+use crate::stream::Stream;
 use crate::system::Poll;
 use std::sync::Wait;
 use std::time::{Clock, Duration};
-use ymx_engine::{Device, Line, Pulled, Wire};
+use ymx_engine::{Device, Pulled};
 
 /// How many bytes that still come are read at once.
 const DROPPED: usize = 8_192;
 
 /// Nothing more goes over the wire. Unless the session broke, what still comes is dropped, until the peer has closed
 /// its side too, or nothing has come for so long, if there is a limit.
-pub(crate) fn close<R: Clock + Wait>(
+pub(crate) fn close<R: Clock + Wait, S: Stream + Drop>(
     rt: &R,
     poll: &mut Poll,
-    wire: Socket,
+    wire: &mut Socket<S>,
     is_broken: bool,
     limit: Option<Duration>,
-) {
-    let mut wire = wire;
+)
+    ensures ended { wire.new.was_finished ≡ true }
+    ensures had { S.had wire.new.socket ≡ S.had wire.old.socket }
+    // It is left only once the wire is over, or was waited for.
+    ensures awaited { is_broken ≡ false → ((wire.new.has_ended || is_some wire.new.failure) ≡ true) ⊎ CountsSome poll.old.waits poll.new.waits }
+{
     wire.end();
     if is_broken {
         return;
     }
     let mut stillness = Stillness::new();
-    for _ in rt.forever() {
+    'look: for _ in rt.forever() {
         let before = wire.pulled();
-        drop_waiting(rt, &mut wire);
+        drop_waiting(rt, wire);
         if wire.pulled() != before {
             stillness.end();
         }
-        stillness.go_on(rt);
         if wire.is_over() || is_too_still(rt, stillness, limit) {
             return;
         }
+        stillness.go_on(rt);
         if poll.wait(limit).is_err() {
             return;
         }
@@ -43,7 +51,9 @@ pub(crate) fn close<R: Clock + Wait>(
 }
 
 /// Whether nothing has moved for so long, if there is a limit.
-fn is_too_still<R: Clock>(rt: &R, stillness: Stillness, limit: Option<Duration>) -> bool {
+fn is_too_still<R: Clock>(rt: &R, stillness: Stillness, limit: Option<Duration>) -> bool
+    ensures { stillness.since ≡ None → result ≡ false }
+{
     match limit {
         Some(limit) => stillness.has_lasted(rt, limit),
         None => false,
@@ -51,9 +61,12 @@ fn is_too_still<R: Clock>(rt: &R, stillness: Stillness, limit: Option<Duration>)
 }
 
 /// Drops the bytes that wait.
-fn drop_waiting<R: Wait>(rt: &R, wire: &mut Socket) {
+fn drop_waiting<R: Wait, S: Stream + Drop>(rt: &R, wire: &mut Socket<S>)
+    ensures ended { wire.new.was_finished ≡ wire.old.was_finished }
+    ensures had { S.had wire.new.socket ≡ S.had wire.old.socket }
+{
     let mut dropped = [0u8; DROPPED];
-    for _ in rt.forever() {
+    'drop: for _ in rt.forever() {
         if wire.is_over() {
             return;
         }

@@ -3,7 +3,8 @@
 //! engine that is driven by what epoll says of its wire, its listener and its connections.
 //!
 //! Whatever the system answers, nothing aborts. At a good end no fault is said, and at a bad one a fault was. A session's
-//! loop waits for events only where it can move no byte without one. Which bytes a socket carries, no contract sees.
+//! loop waits for events only where it can move no byte without one. Which bytes the system's sockets carry, no contract
+//! sees; a socket is the same code over streams that tell theirs, and is proved over every one.
 #![tactic(auto)]
 
 mod accepting;
@@ -25,6 +26,7 @@ mod socket;
 mod sockets;
 mod starting;
 mod stillness;
+mod stream;
 mod system;
 mod tunnel;
 mod tunnel_end;

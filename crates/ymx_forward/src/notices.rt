@@ -2,6 +2,7 @@
 
 ghost use Rattle.std.specs.Prelude.{◌≡◌, None};
 
+use crate::stream::Stream;
 use crate::system::TcpConnection;
 use crate::watching::{Declined, EndedConnection, Ending, Origin, Passed, Watcher};
 use arrayvec::ArrayString;

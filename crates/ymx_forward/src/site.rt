@@ -84,8 +84,8 @@ impl<R: Net + Clock + Wait> Site<'_, R> {
         };
         let _ = tunnel.run(self.rt, &mut self.poll, watcher, is_kept);
         let how = tunnel.end();
-        let wire = tunnel.into_wire();
-        close(self.rt, &mut self.poll, wire, how.broken.is_some(), limit);
+        let mut wire = tunnel.into_wire();
+        close(self.rt, &mut self.poll, &mut wire, how.broken.is_some(), limit);
         how
     }
 

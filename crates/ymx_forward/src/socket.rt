@@ -1,17 +1,19 @@
 //! A socket that never waits, as a device of an engine.
 
-ghost use Rattle.std.specs.Prelude.{ℕ, List, [], ◌≡◌, ◌≤◌, ◌+◌, ◌-◌, ◌^◌, ◌<◌, ◌||◌, length, is_some, min, true, false, IfSome, IfNone};
+ghost use Rattle.std.specs.Prelude.{ℕ, List, [], ◌≡◌, ◌≤◌, ◌+◌, ◌-◌, ◌^◌, ◌<◌, ◌||◌, ◌&&◌, nat_le, length, is_some, min, true, false, IfSome, IfNone, IsOk, MatchResult, take, option_map};
 ghost use Rattle.std.specs.Io.{WritesAtMost};
+ghost use Rattle.std.specs.Io.KnownBytes.{Appends, Consumes, IsAtEnd};
 ghost use Rattle.std.specs.Io.Slices.{io_slices_bytes};
-ghost use Rattle.ymx_engine.specs.Devices.{IsEnded, IsPulled, IsPushed, IsShut, pulled_count, pushed_count, is_end, is_pull_failure, is_push_failure, CountsOne, CountsPull, CountsPush, CountsClose};
-ghost use Rattle.ymx_forward.specs.Sockets.{counts_of};
-ghost use Rattle.ymx_engine.specs.Tunnels.{HasFailed};
+ghost use Rattle.ymx_engine.specs.Devices.{IsEnded, IsNoted, IsPulled, IsPushed, IsShut, gives, is_end, is_pull_failure, is_push_failure, may_have_more, pulled_count, pushed_count, takes};
+ghost use Rattle.ymx_engine.specs.declared.device.Pulled.TheVariants as Pulled;
+ghost use Rattle.ymx_forward.specs.declared.socket.ConnectState.TheVariants as ConnectState;
 
+use crate::stream::Stream;
 use crate::system::{Poll, TcpConnection};
 use crate::watching::Origin;
 use std::io;
 use std::io::{ErrorKind, IoSlice};
-use ymx_engine::{Device, Line, Pulled, Pushed, Wire};
+use ymx_engine::{Device, Pulled, Pushed, Readiness};
 use ymx_policy::Reason;
 
 /// Whether a socket has its peer.
@@ -52,75 +54,73 @@ impl Traffic {
     }
 }
 
-/// How many calls of each kind were made of a socket as a device. Each count stays at the greatest `u64`.
+/// What events and calls have said of a socket.
 #[derive(Clone, Copy)]
-struct Counts {
-    /// For bytes.
-    pulls: u64,
-    /// That gave some.
-    gives: u64,
-    /// With bytes, one at least.
-    pushes: u64,
-    /// That took some.
-    takes: u64,
-    /// That ended it or shut it.
-    closes: u64,
+struct Marks {
+    /// It may have bytes now, or its end.
+    may_pull: bool,
+    /// It may take bytes now.
+    may_push: bool,
+    /// Its end is near: a short read does not say that nothing is left.
+    is_closing: bool,
 }
 
-impl Counts {
-    /// None was made.
-    fn none() -> Counts {
-        Counts {
-            pulls: 0,
-            gives: 0,
-            pushes: 0,
-            takes: 0,
-            closes: 0,
+impl Marks {
+    /// Nothing was said. `is_ready` says whether it may be used at once.
+    fn new(is_ready: bool) -> Marks {
+        Marks {
+            may_pull: is_ready,
+            may_push: is_ready,
+            is_closing: false,
         }
     }
 
-    /// One for bytes was made, which gave so many.
-    fn pull(&mut self, given: usize)
-        ensures { CountsPull given (counts_of self.old) (counts_of self.new) }
+    /// An event says this.
+    fn note(&mut self, ready: Readiness)
+        ensures { self.new ≡ record { may_pull = self.old.may_pull || ready.can_pull; may_push = self.old.may_push || ready.can_push; is_closing = self.old.is_closing || ready.is_closing } }
     {
-        self.pulls = one_more(self.pulls, 1);
-        self.gives = one_more(self.gives, given);
+        self.may_pull |= ready.can_pull;
+        self.may_push |= ready.can_push;
+        self.is_closing |= ready.is_closing;
     }
 
-    /// One with so many bytes was made, which took so many.
-    fn push(&mut self, offered: usize, taken: usize)
-        ensures { CountsPush offered taken (counts_of self.old) (counts_of self.new) }
+    /// A call for so many bytes answered this. One that gave fewer says that none are left, unless the end is near.
+    fn note_pulled(&mut self, pulled: Pulled, room: usize)
+        ensures { self.new ≡ record self.old { may_pull = self.old.may_pull && may_have_more pulled room self.old.is_closing } }
     {
-        self.pushes = one_more(self.pushes, offered);
-        self.takes = one_more(self.takes, taken);
+        self.may_pull &= match pulled {
+            Pulled::Gave(given) => given >= room || self.is_closing,
+            Pulled::NotNow | Pulled::Ended | Pulled::Failed => false,
+        };
     }
 
-    /// One that ends it or shuts it was made.
-    fn close(&mut self)
-        ensures { CountsClose (counts_of self.old) (counts_of self.new) }
+    /// A call with bytes answered this, and took all of them or not.
+    fn note_pushed(&mut self, pushed: Pushed, took_all: bool)
+        ensures { self.new ≡ record self.old { may_push = self.old.may_push && (takes pushed && took_all) } }
     {
-        self.closes = one_more(self.closes, 1);
+        self.may_push &= match pushed {
+            Pushed::Took(_) => took_all,
+            Pushed::NotNow | Pushed::Failed => false,
+        };
+    }
+
+    /// It was shut: a call of it answers at once.
+    fn note_shut(&mut self)
+        ensures { self.new ≡ record self.old { may_pull = true; may_push = true } }
+    {
+        self.may_pull = true;
+        self.may_push = true;
     }
 }
 
-/// One more where there are some bytes, up to the greatest `u64`.
-fn one_more(count: u64, bytes: usize) -> u64
-    ensures some { 0 < bytes → CountsOne count result }
-    ensures none { bytes ≡ 0 → result ≡ count }
-{
-    if bytes == 0 || count == u64::MAX {
-        return count;
-    }
-    count + 1
-}
-
-/// A socket, and what it has moved. No contract sees its bytes; but whether it said that no more come, whether its end
-/// was passed on, whether it has failed, whether it was shut, and how many calls of it were made.
+/// A socket, and what it has moved. A contract sees the bytes that its stream tells, and whether it said that no more
+/// come, whether its end was passed on, whether it has failed, whether it was shut, its marks, and how many calls of it
+/// were made.
 #[derive(Drop)]
-pub(crate) struct Socket {
+pub(crate) struct Socket<S: Stream = TcpConnection> {
     /// Which connection it is.
     origin: Origin,
-    socket: TcpConnection,
+    socket: S,
     state: ConnectState,
     /// What was first the matter with a call of it.
     failure: Option<SocketFault>,
@@ -133,25 +133,28 @@ pub(crate) struct Socket {
     was_finished: bool,
     /// It was shut both ways.
     was_shut: bool,
+    marks: Marks,
     /// How many calls of it as a device were made. It stays at the greatest `u64`.
     calls: u64,
-    counts: Counts,
 }
 
-impl Socket {
-    /// A connection that is there, and never waits.
-    pub(crate) fn connected(socket: TcpConnection, origin: Origin) -> Socket {
-        Socket::new(socket, origin, ConnectState::Connected)
+impl<S: Stream + Drop> Socket<S> {
+    /// A connection that is there, and never waits. It may be used at once.
+    pub(crate) fn connected(socket: S, origin: Origin) -> Socket<S> {
+        Socket::new(socket, origin, ConnectState::Connected, true)
     }
 
-    /// A connection that was begun, and never waits. It may be there at once, as on the same machine.
-    pub(crate) fn begun(socket: TcpConnection, origin: Origin) -> Socket {
-        let mut begun = Socket::new(socket, origin, ConnectState::Connecting);
+    /// A connection that was begun, and never waits. It may be there at once, as on the same machine: then it may take
+    /// bytes. So may one that can't be made, so that it fails.
+    pub(crate) fn begun(socket: S, origin: Origin) -> Socket<S> {
+        let mut begun = Socket::new(socket, origin, ConnectState::Connecting, false);
         begun.look();
+        begun.marks.may_push = !begun.is_connecting();
         begun
     }
 
-    fn new(socket: TcpConnection, origin: Origin, state: ConnectState) -> Socket {
+    /// One of which nothing was moved. `is_ready` says whether it may be used at once.
+    fn new(socket: S, origin: Origin, state: ConnectState, is_ready: bool) -> Socket<S> {
         Socket {
             origin,
             socket,
@@ -162,8 +165,8 @@ impl Socket {
             has_ended: false,
             was_finished: false,
             was_shut: false,
+            marks: Marks::new(is_ready),
             calls: 0,
-            counts: Counts::none(),
         }
     }
 
@@ -173,17 +176,22 @@ impl Socket {
     }
 
     /// Its connection.
-    pub(crate) fn connection(&self) -> &TcpConnection {
+    pub(crate) fn connection(&self) -> &S {
         &self.socket
     }
 
     /// From now on this poll tells of it under this token. False where the system refuses, or was asked before.
     pub(crate) fn register(&mut self, poll: &Poll, token: usize) -> bool
-        ensures kept { ⟦<Socket as Device>⟧.seen self.new ≡ ⟦<Socket as Device>⟧.seen self.old }
-        ensures once { result ≡ true → self.old.socket.is_registered ≡ false }
-        ensures asked { self.new.socket.is_registered ≡ true }
+        ensures kept { ⟦<Socket<S> as Device>⟧.seen self.new ≡ ⟦<Socket<S> as Device>⟧.seen self.old }
+        ensures once { result ≡ true → S.registered self.old.socket ≡ false }
+        ensures asked { S.registered self.new.socket ≡ true }
     {
         !self.socket.is_registered() && self.socket.register(poll, token)
+    }
+
+    /// How many bytes it has given. It stays at the greatest `u64`.
+    pub(crate) fn pulled(&self) -> u64 {
+        self.traffic.pulled
     }
 
     /// How many bytes it has taken. It stays at the greatest `u64`.
@@ -201,6 +209,13 @@ impl Socket {
         self.reason
     }
 
+    /// Whether no more bytes come from it, as it said so or failed.
+    pub(crate) fn is_over(&self) -> bool
+        ensures { result ≡ (self.now.has_ended || is_some self.now.failure) }
+    {
+        self.has_ended || self.failure.is_some()
+    }
+
     /// Whether nothing more goes to it.
     pub(crate) fn was_ended(&self) -> bool {
         self.was_finished || self.was_shut
@@ -214,7 +229,7 @@ impl Socket {
 
     /// Looks whether a connection that was begun is there, or can't be made.
     fn look(&mut self)
-        ensures { ⟦<Socket as Device>⟧.seen self.new ≡ ⟦<Socket as Device>⟧.seen self.old }
+        ensures { self.new ≡ record self.old { state = self.new.state; reason = self.new.reason } }
     {
         if self.socket.peer().is_some() {
             self.state = ConnectState::Connected;
@@ -239,7 +254,7 @@ impl Socket {
     /// A call of it failed, with this error if the system gave one.
     fn fail(&mut self, fault: SocketFault, error: Option<&io::Error>)
         ensures failed { is_some self.new.failure ≡ true }
-        ensures rest { (self.new.has_ended ≡ self.old.has_ended) × (self.new.was_finished ≡ self.old.was_finished) × (self.new.was_shut ≡ self.old.was_shut) × (self.new.calls ≡ self.old.calls) × (self.new.counts ≡ self.old.counts) }
+        ensures rest { (self.new.socket ≡ self.old.socket) × (self.new.has_ended ≡ self.old.has_ended) × (self.new.was_finished ≡ self.old.was_finished) × (self.new.was_shut ≡ self.old.was_shut) × (self.new.marks ≡ self.old.marks) × (self.new.state ≡ self.old.state) × (self.new.calls ≡ self.old.calls) }
     {
         if self.failure.is_none() {
             self.failure = Some(fault);
@@ -250,11 +265,17 @@ impl Socket {
     }
 
     /// Reads once into this buffer, if it is there.
+    #[tactic(auto, using(crate::proofs::Bytes::none_consumed, crate::proofs::Bytes::all_kept))]
     fn give_if_connected(&mut self, buffer: &mut [u8]) -> Pulled
         ensures within { pulled_count result ≤ length buffer.new }
+        ensures some { gives result ≡ true → 0 < pulled_count result }
+        ensures bytes { Consumes (S.left self.old.socket) (S.left self.new.socket) (take (pulled_count result) buffer.new) }
+        ensures end { result ≡ Pulled.Ended → IsAtEnd (S.left self.new.socket) }
+        ensures had { S.had self.new.socket ≡ S.had self.old.socket }
+        ensures open { (S.finished self.new.socket ≡ S.finished self.old.socket) × (S.closed self.new.socket ≡ S.closed self.old.socket) }
         ensures ended { self.new.has_ended ≡ (self.old.has_ended || is_end result) }
         ensures failed { is_some self.new.failure ≡ (is_some self.old.failure || is_pull_failure result) }
-        ensures rest { (self.new.was_finished ≡ self.old.was_finished) × (self.new.was_shut ≡ self.old.was_shut) × (self.new.calls ≡ self.old.calls) × (self.new.counts ≡ self.old.counts) }
+        ensures rest { (self.new.was_finished ≡ self.old.was_finished) × (self.new.was_shut ≡ self.old.was_shut) × (self.new.marks ≡ self.old.marks) × (self.new.state ≡ self.old.state) × (self.new.calls ≡ self.old.calls) }
     {
         match self.state {
             ConnectState::Connecting => Pulled::NotNow,
@@ -267,12 +288,21 @@ impl Socket {
     }
 
     /// Reads once into this buffer.
+    #[tactic(auto, using(crate::proofs::Bytes::none_consumed, crate::proofs::Bytes::all_kept))]
     fn give(&mut self, buffer: &mut [u8]) -> Pulled
         ensures within { pulled_count result ≤ length buffer.new }
+        ensures some { gives result ≡ true → 0 < pulled_count result }
+        ensures bytes { Consumes (S.left self.old.socket) (S.left self.new.socket) (take (pulled_count result) buffer.new) }
+        ensures end { result ≡ Pulled.Ended → IsAtEnd (S.left self.new.socket) }
+        ensures had { S.had self.new.socket ≡ S.had self.old.socket }
+        ensures open { (S.finished self.new.socket ≡ S.finished self.old.socket) × (S.closed self.new.socket ≡ S.closed self.old.socket) }
         ensures ended { self.new.has_ended ≡ (self.old.has_ended || is_end result) }
         ensures failed { is_some self.new.failure ≡ (is_some self.old.failure || is_pull_failure result) }
-        ensures rest { (self.new.was_finished ≡ self.old.was_finished) × (self.new.was_shut ≡ self.old.was_shut) × (self.new.calls ≡ self.old.calls) × (self.new.counts ≡ self.old.counts) }
+        ensures rest { (self.new.was_finished ≡ self.old.was_finished) × (self.new.was_shut ≡ self.old.was_shut) × (self.new.marks ≡ self.old.marks) × (self.new.state ≡ self.old.state) × (self.new.calls ≡ self.old.calls) }
     {
+        if buffer.is_empty() {
+            return Pulled::NotNow;
+        }
         match self.socket.read(buffer) {
             Ok(count) if count > 0 => {
                 self.traffic.pulled = self.traffic.pulled.saturating_add(count as u64);
@@ -284,10 +314,11 @@ impl Socket {
 
     /// What comes of a write while it isn't there. None where it is.
     fn refuse_early(&mut self) -> Option<Pushed>
-        ensures none { IfSome result (λ pushed. pushed_count pushed ≡ 0) }
+        ensures none { IfSome result (λ pushed. (pushed_count pushed ≡ 0) × (takes pushed ≡ false)) }
+        ensures socket { self.new.socket ≡ self.old.socket }
         ensures failed { IfSome result (λ pushed. is_some self.new.failure ≡ (is_some self.old.failure || is_push_failure pushed)) }
         ensures goes_on { IfNone result (self.new ≡ self.old) }
-        ensures rest { (self.new.has_ended ≡ self.old.has_ended) × (self.new.was_finished ≡ self.old.was_finished) × (self.new.was_shut ≡ self.old.was_shut) × (self.new.calls ≡ self.old.calls) × (self.new.counts ≡ self.old.counts) }
+        ensures rest { (self.new.has_ended ≡ self.old.has_ended) × (self.new.was_finished ≡ self.old.was_finished) × (self.new.was_shut ≡ self.old.was_shut) × (self.new.marks ≡ self.old.marks) × (self.new.state ≡ self.old.state) × (self.new.calls ≡ self.old.calls) }
     {
         match self.state {
             ConnectState::Connecting => Some(Pushed::NotNow),
@@ -300,10 +331,15 @@ impl Socket {
     }
 
     /// Writes these bytes once, if it is there.
+    #[tactic(auto, using(crate::proofs::Bytes::none_appended, crate::proofs::Bytes::all_kept))]
     fn take(&mut self, bytes: &[u8]) -> Pushed
         ensures within { pushed_count result ≤ length bytes.now }
+        ensures some { takes result ≡ true → 0 < length bytes.now → 0 < pushed_count result }
+        ensures bytes { Appends (S.had self.old.socket) (S.had self.new.socket) (take (pushed_count result) bytes.now) }
+        ensures left { S.left self.new.socket ≡ S.left self.old.socket }
+        ensures open { (S.finished self.new.socket ≡ S.finished self.old.socket) × (S.closed self.new.socket ≡ S.closed self.old.socket) }
         ensures failed { is_some self.new.failure ≡ (is_some self.old.failure || is_push_failure result) }
-        ensures rest { (self.new.has_ended ≡ self.old.has_ended) × (self.new.was_finished ≡ self.old.was_finished) × (self.new.was_shut ≡ self.old.was_shut) × (self.new.calls ≡ self.old.calls) × (self.new.counts ≡ self.old.counts) }
+        ensures rest { (self.new.has_ended ≡ self.old.has_ended) × (self.new.was_finished ≡ self.old.was_finished) × (self.new.was_shut ≡ self.old.was_shut) × (self.new.marks ≡ self.old.marks) × (self.new.state ≡ self.old.state) × (self.new.calls ≡ self.old.calls) }
     {
         if let Some(refused) = self.refuse_early() {
             return refused;
@@ -312,25 +348,32 @@ impl Socket {
         self.hear_written(written, bytes.is_empty())
     }
 
-    /// Writes the bytes of these pieces once, in one call of the system, if it is there. `is_empty` says whether there are
-    /// none.
-    fn take_pieces(&mut self, pieces: &[IoSlice<'_>], is_empty: bool) -> Pushed
+    /// Writes the bytes of these pieces once, in one call of the system, if it is there.
+    #[tactic(auto, using(crate::proofs::Bytes::none_appended, crate::proofs::Bytes::all_kept))]
+    fn take_pieces(&mut self, pieces: &[IoSlice<'_>]) -> Pushed
         ensures within { pushed_count result ≤ length (io_slices_bytes pieces.now) }
+        ensures some { takes result ≡ true → 0 < length (io_slices_bytes pieces.now) → 0 < pushed_count result }
+        ensures bytes { Appends (S.had self.old.socket) (S.had self.new.socket) (take (pushed_count result) (io_slices_bytes pieces.now)) }
+        ensures left { S.left self.new.socket ≡ S.left self.old.socket }
+        ensures open { (S.finished self.new.socket ≡ S.finished self.old.socket) × (S.closed self.new.socket ≡ S.closed self.old.socket) }
         ensures failed { is_some self.new.failure ≡ (is_some self.old.failure || is_push_failure result) }
-        ensures rest { (self.new.has_ended ≡ self.old.has_ended) × (self.new.was_finished ≡ self.old.was_finished) × (self.new.was_shut ≡ self.old.was_shut) × (self.new.calls ≡ self.old.calls) × (self.new.counts ≡ self.old.counts) }
+        ensures rest { (self.new.has_ended ≡ self.old.has_ended) × (self.new.was_finished ≡ self.old.was_finished) × (self.new.was_shut ≡ self.old.was_shut) × (self.new.marks ≡ self.old.marks) × (self.new.state ≡ self.old.state) × (self.new.calls ≡ self.old.calls) }
     {
         if let Some(refused) = self.refuse_early() {
             return refused;
         }
         let written = self.socket.write_pieces(pieces);
-        self.hear_written(written, is_empty)
+        self.hear_written(written, fit(pieces, 0))
     }
 
     /// What came of a write. `is_empty` says whether there was nothing to write.
     fn hear_written(&mut self, written: io::Result<usize>, is_empty: bool) -> Pushed
         ensures within { (bytes : List ℕ) → WritesAtMost written bytes → pushed_count result ≤ length bytes }
+        ensures some { takes result ≡ true → is_empty ≡ false → 0 < pushed_count result }
+        ensures socket { self.new.socket ≡ self.old.socket }
+        ensures count { MatchResult written (λ count. pushed_count result ≡ count) (λ _. pushed_count result ≡ 0) }
         ensures failed { is_some self.new.failure ≡ (is_some self.old.failure || is_push_failure result) }
-        ensures rest { (self.new.has_ended ≡ self.old.has_ended) × (self.new.was_finished ≡ self.old.was_finished) × (self.new.was_shut ≡ self.old.was_shut) × (self.new.calls ≡ self.old.calls) × (self.new.counts ≡ self.old.counts) }
+        ensures rest { (self.new.has_ended ≡ self.old.has_ended) × (self.new.was_finished ≡ self.old.was_finished) × (self.new.was_shut ≡ self.old.was_shut) × (self.new.marks ≡ self.old.marks) × (self.new.state ≡ self.old.state) × (self.new.calls ≡ self.old.calls) }
     {
         match written {
             Ok(count) if count > 0 || is_empty => {
@@ -351,10 +394,12 @@ impl Socket {
 
     /// What came of a read that found nothing or failed.
     fn give_nothing(&mut self, read: io::Result<usize>) -> Pulled
-        ensures none { pulled_count result ≡ 0 }
+        ensures none { (pulled_count result ≡ 0) × (gives result ≡ false) }
+        ensures socket { self.new.socket ≡ self.old.socket }
+        ensures ok { result ≡ Pulled.Ended → IsOk read }
         ensures ended { self.new.has_ended ≡ (self.old.has_ended || is_end result) }
         ensures failed { is_some self.new.failure ≡ (is_some self.old.failure || is_pull_failure result) }
-        ensures rest { (self.new.was_finished ≡ self.old.was_finished) × (self.new.was_shut ≡ self.old.was_shut) × (self.new.calls ≡ self.old.calls) × (self.new.counts ≡ self.old.counts) }
+        ensures rest { (self.new.was_finished ≡ self.old.was_finished) × (self.new.was_shut ≡ self.old.was_shut) × (self.new.marks ≡ self.old.marks) × (self.new.state ≡ self.old.state) × (self.new.calls ≡ self.old.calls) }
     {
         match read {
             Ok(_) if !self.is_broken() => {
@@ -374,112 +419,111 @@ impl Socket {
     }
 }
 
-/// How many bytes the first of these pieces has that has any, and 0 where none has.
-fn first_count(pieces: &[IoSlice<'_>]) -> usize
-    ensures some { 0 < result → 0 < length (io_slices_bytes pieces.now) }
-    ensures none { result ≡ 0 → io_slices_bytes pieces.now ≡ [] }
+/// Whether these pieces have no more than so many bytes together.
+fn fit(pieces: &[IoSlice<'_>], count: usize) -> bool
+    ensures { result ≡ nat_le (length (io_slices_bytes pieces.now)) count }
 {
+    let mut left = count;
     'piece: for at in 0..pieces.len() {
-        let count = pieces[at].as_slice().len();
-        if count > 0 {
-            return count;
+        let bytes = pieces[at].as_slice().len();
+        if bytes > left {
+            return false;
         }
+        left -= bytes;
     }
-    0
+    true
 }
 
-impl Device for Socket {
+impl<S: Stream + Drop> Device for Socket<S> {
     ghost use Rattle.std.specs.Prelude.{None, Some, is_some};
-    ghost use Rattle.ymx_forward.specs.Sockets.{counts_of};
+    ghost use Rattle.ymx_forward.specs.Sockets.{marks_of};
 
-    ghost seen = { λ s. record { left = None; had = None; over = Some s.has_ended; ended = Some s.was_finished; failed = Some (is_some s.failure); shut = Some s.was_shut; calls = s.calls; counts = counts_of s.counts } };
+    ghost seen = { λ s. record { left = S.left s.socket; had = S.had s.socket; over = Some s.has_ended; ended = Some s.was_finished; failed = Some (is_some s.failure); shut = Some s.was_shut; marks = marks_of s.marks s.state; calls = s.calls } };
 
     fn pull(&mut self, buffer: &mut [u8]) -> Pulled
-        ensures moved { IsPulled result buffer.new (⟦<Socket as Device>⟧.seen self.old) (⟦<Socket as Device>⟧.seen self.new) }
+        ensures moved { IsPulled result buffer.new (⟦<Socket<S> as Device>⟧.seen self.old) (⟦<Socket<S> as Device>⟧.seen self.new) }
+        ensures open { (S.finished self.new.socket ≡ S.finished self.old.socket) × (S.closed self.new.socket ≡ S.closed self.old.socket) }
         ensures counted { self.new.calls ≡ min (self.old.calls + 1) (2 ^ 64 - 1) }
     {
         self.count_call();
         let pulled = self.give_if_connected(buffer);
-        self.counts.pull(pulled.count());
+        self.marks.note_pulled(pulled, buffer.len());
         pulled
     }
 
     fn push(&mut self, bytes: &[u8]) -> Pushed
-        ensures moved { IsPushed result bytes.now (⟦<Socket as Device>⟧.seen self.old) (⟦<Socket as Device>⟧.seen self.new) }
+        ensures moved { IsPushed result bytes.now (⟦<Socket<S> as Device>⟧.seen self.old) (⟦<Socket<S> as Device>⟧.seen self.new) }
+        ensures open { (S.finished self.new.socket ≡ S.finished self.old.socket) × (S.closed self.new.socket ≡ S.closed self.old.socket) }
         ensures counted { self.new.calls ≡ min (self.old.calls + 1) (2 ^ 64 - 1) }
     {
         self.count_call();
         let pushed = self.take(bytes);
-        self.counts.push(bytes.len(), pushed.count());
+        self.marks.note_pushed(pushed, pushed.count() >= bytes.len());
         pushed
     }
 
     fn push_pieces(&mut self, pieces: &[IoSlice<'_>]) -> Pushed
-        ensures moved { IsPushed result (io_slices_bytes pieces.now) (⟦<Socket as Device>⟧.seen self.old) (⟦<Socket as Device>⟧.seen self.new) }
+        ensures moved { IsPushed result (io_slices_bytes pieces.now) (⟦<Socket<S> as Device>⟧.seen self.old) (⟦<Socket<S> as Device>⟧.seen self.new) }
+        ensures open { (S.finished self.new.socket ≡ S.finished self.old.socket) × (S.closed self.new.socket ≡ S.closed self.old.socket) }
         ensures counted { self.new.calls ≡ min (self.old.calls + 1) (2 ^ 64 - 1) }
     {
         self.count_call();
-        let offered = first_count(pieces);
-        let pushed = self.take_pieces(pieces, offered == 0);
-        self.counts.push(offered, pushed.count());
+        let pushed = self.take_pieces(pieces);
+        self.marks.note_pushed(pushed, fit(pieces, pushed.count()));
         pushed
     }
 
     /// Shuts the writing side: the other end reads what was written, and then the end.
     fn end(&mut self)
-        ensures ended { IsEnded (⟦<Socket as Device>⟧.seen self.old) (⟦<Socket as Device>⟧.seen self.new) }
+        ensures ended { IsEnded (⟦<Socket<S> as Device>⟧.seen self.old) (⟦<Socket<S> as Device>⟧.seen self.new) }
+        ensures finished { self.old.state ≡ ConnectState.Connected → S.finished self.new.socket ≡ option_map (λ _. true) (S.finished self.old.socket) }
+        ensures half { S.closed self.new.socket ≡ S.closed self.old.socket }
         ensures counted { self.new.calls ≡ min (self.old.calls + 1) (2 ^ 64 - 1) }
     {
         self.count_call();
-        self.counts.close();
         self.was_finished = true;
         if self.state == ConnectState::Connected {
             self.socket.finish();
         }
     }
 
-    /// Shuts it both ways.
+    /// Shuts it both ways. A call of it answers at once then.
     fn shut(&mut self)
-        ensures shut { IsShut (⟦<Socket as Device>⟧.seen self.old) (⟦<Socket as Device>⟧.seen self.new) }
+        ensures shut { IsShut (⟦<Socket<S> as Device>⟧.seen self.old) (⟦<Socket<S> as Device>⟧.seen self.new) }
+        ensures closed { self.old.state ≡ ConnectState.Connected → S.closed self.new.socket ≡ option_map (λ _. true) (S.closed self.old.socket) }
         ensures counted { self.new.calls ≡ min (self.old.calls + 1) (2 ^ 64 - 1) }
     {
         self.count_call();
-        self.counts.close();
         self.was_shut = true;
+        self.marks.note_shut();
         if self.state == ConnectState::Connected {
             self.socket.shut();
         }
     }
-}
 
-impl Line for Socket {
-    /// An event came for a connection that was being made: now it is there, or can't be made.
-    fn note_event(&mut self)
-        ensures { ⟦<Socket as Device>⟧.seen self.new ≡ ⟦<Socket as Device>⟧.seen self.old }
+    /// An event came. A connection that was being made is there now, or can't be made.
+    fn note_event(&mut self, ready: Readiness)
+        ensures { IsNoted ready (⟦<Socket<S> as Device>⟧.seen self.old) (⟦<Socket<S> as Device>⟧.seen self.new) }
     {
         if self.state == ConnectState::Connecting {
             self.look();
         }
+        self.marks.note(ready);
     }
 
-    /// It stays at the greatest `u64`.
-    fn pulled(&self) -> u64 {
-        self.traffic.pulled
+    fn may_pull(&self) -> bool {
+        self.marks.may_pull
+    }
+
+    fn may_push(&self) -> bool {
+        self.marks.may_push
     }
 
     fn is_connecting(&self) -> bool {
         self.state == ConnectState::Connecting
     }
-}
 
-impl Wire for Socket {
-    fn has_failed(&self) -> bool
-        ensures { result ≡ true → HasFailed (⟦<Socket as Device>⟧.seen self.now) }
-    {
+    fn has_failed(&self) -> bool {
         self.failure.is_some()
-    }
-
-    fn is_over(&self) -> bool {
-        self.has_ended || self.failure.is_some()
     }
 }

@@ -1,5 +1,7 @@
 //! How long nothing has moved.
 
+ghost use Rattle.std.specs.Prelude.{◌≡◌, false, None};
+
 use std::time::{Clock, Duration, Instant};
 
 /// A time in which nothing moved, by the clock.
@@ -11,12 +13,16 @@ pub(crate) struct Stillness {
 
 impl Stillness {
     /// Something has just moved.
-    pub(crate) fn new() -> Stillness {
+    pub(crate) fn new() -> Stillness
+        ensures { result.since ≡ None }
+    {
         Stillness { since: None }
     }
 
     /// Something has moved.
-    pub(crate) fn end(&mut self) {
+    pub(crate) fn end(&mut self)
+        ensures { self.new.since ≡ None }
+    {
         self.since = None;
     }
 
@@ -28,7 +34,9 @@ impl Stillness {
     }
 
     /// Whether it has lasted so long. Where the clock can't be read, it hasn't.
-    pub(crate) fn has_lasted<R: Clock>(&self, rt: &R, duration: Duration) -> bool {
+    pub(crate) fn has_lasted<R: Clock>(&self, rt: &R, duration: Duration) -> bool
+        ensures { self.now.since ≡ None → result ≡ false }
+    {
         self.since.is_some_and(|since| since.elapsed(rt).is_ok_and(|passed| passed >= duration))
     }
 }

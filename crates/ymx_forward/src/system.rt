@@ -1,19 +1,19 @@
 //! What touches the system's sockets: connections, listeners, and the events that tell of them. Each function makes the
-//! calls that it names, in that order, and decides nothing. No contract sees which bytes a socket carries, nor what the
-//! system does, so this file is to be read. No other file of this crate makes such a call: the sockets that never wait
-//! are private here.
+//! calls that it names, in that order, and decides nothing. No contract sees which bytes the system's sockets carry, nor
+//! what the system does, so this file is to be read. No other file of this crate makes such a call: the sockets that never
+//! wait are private here.
 
 ghost use Rattle.std.specs.Prelude.{◌≡◌, ◌<◌, ◌^◌, ◌==◌, false, true, length, IfOk};
-ghost use Rattle.std.specs.Io.{ReadsAtMost, WritesAtMost};
-ghost use Rattle.std.specs.Io.Slices.{io_slices_bytes};
+ghost use Rattle.std.specs.Io.{ReadsAtMost};
 ghost use Rattle.std.specs.Slice.Iter.{iter_rest, iter_steps};
 ghost use Rattle.std.specs.Iterator.Runs.{EveryRun, ItemsMapTo};
 ghost use Rattle.mio.specs.declared.event.event.Event.{Event as SystemEvent};
 ghost use Rattle.mio.specs.Event.{event_token, is_readable, is_writable, is_error, is_read_closed};
 ghost use Rattle.mio.specs.Events.{items};
-ghost use Rattle.ymx_engine.specs.Devices.{CountsOne};
+ghost use Rattle.ymx_forward.specs.Counts.{CountsOne};
 
 use crate::starting::StartFault;
+use crate::stream::Stream;
 use mio::event::Iter;
 use mio::{Interest, Token};
 use std::alloc::Global;
@@ -61,19 +61,30 @@ impl TcpConnection {
         }
     }
 
-    /// Whether a poll was asked to tell of it.
-    pub(crate) fn is_registered(&self) -> bool
-        ensures { result ≡ self.now.is_registered }
-    {
+    /// What is written goes out at once.
+    pub(crate) fn send_at_once(&self) {
+        let _ = self.inner.set_nodelay(true);
+    }
+}
+
+impl Stream for TcpConnection {
+    ghost use Rattle.std.specs.Prelude.{None};
+
+    ghost left = { λ _. None };
+
+    ghost had = { λ _. None };
+
+    ghost finished = { λ _. None };
+
+    ghost closed = { λ _. None };
+
+    ghost registered = { λ s. s.is_registered };
+
+    fn is_registered(&self) -> bool {
         self.is_registered
     }
 
-    /// From now on this poll tells under this token when it may give bytes or take some. False where the system refuses.
-    /// It is asked once.
-    pub(crate) fn register(&mut self, poll: &Poll, token: usize) -> bool
-        requires once { self.old.is_registered ≡ false }
-        ensures registered { self.new.is_registered ≡ true }
-    {
+    fn register(&mut self, poll: &Poll, token: usize) -> bool {
         self.is_registered = true;
         let both = Interest::READABLE | Interest::WRITABLE;
         let registry = poll.inner.registry();
@@ -82,40 +93,24 @@ impl TcpConnection {
             .is_ok()
     }
 
-    /// What is written goes out at once.
-    pub(crate) fn send_at_once(&self) {
-        let _ = self.inner.set_nodelay(true);
-    }
-
-    /// Who is at its other end. None while nobody is.
-    pub(crate) fn peer(&self) -> Option<SocketAddr> {
+    fn peer(&self) -> Option<SocketAddr> {
         self.inner.peer_addr().ok()
     }
 
-    /// Why it could not be made, if it couldn't and that wasn't told.
-    pub(crate) fn take_fault(&self) -> io::Result<Option<io::Error>> {
+    fn take_fault(&self) -> io::Result<Option<io::Error>> {
         self.inner.take_error()
     }
 
-    /// Reads once into the front of this buffer, and says how many bytes. None, and no fault, where no more come.
-    pub(crate) fn read(&self, buffer: &mut [u8]) -> io::Result<usize>
-        ensures { ReadsAtMost result buffer.new }
-    {
+    fn read(&mut self, buffer: &mut [u8]) -> io::Result<usize> {
         read(&mut &self.inner, buffer)
     }
 
-    /// Writes the first of these bytes once, and says how many.
-    pub(crate) fn write(&self, bytes: &[u8]) -> io::Result<usize>
-        ensures { WritesAtMost result bytes.now }
-    {
+    fn write(&mut self, bytes: &[u8]) -> io::Result<usize> {
         write(&mut &self.inner, bytes)
     }
 
-    /// Writes the first bytes of these pieces in one call, and says how many. It is made again where a signal interrupts
-    /// it, up to a million times.
-    pub(crate) fn write_pieces(&self, pieces: &[IoSlice<'_>]) -> io::Result<usize>
-        ensures { WritesAtMost result (io_slices_bytes pieces.now) }
-    {
+    /// The call is made again where a signal interrupts it, up to a million times.
+    fn write_pieces(&mut self, pieces: &[IoSlice<'_>]) -> io::Result<usize> {
         'again: for _ in 0..RETRIES {
             match self.inner.write_vectored(pieces) {
                 Err(e) if e.kind() == ErrorKind::Interrupted => {}
@@ -125,13 +120,11 @@ impl TcpConnection {
         self.inner.write_vectored(pieces)
     }
 
-    /// The other end reads what was written, and then the end.
-    pub(crate) fn finish(&self) {
+    fn finish(&mut self) {
         let _ = self.inner.shutdown(Shutdown::Write);
     }
 
-    /// Nothing goes either way any more.
-    pub(crate) fn shut(&self) {
+    fn shut(&mut self) {
         let _ = self.inner.shutdown(Shutdown::Both);
     }
 }

@@ -3,20 +3,22 @@
 //! All that moves is moved by calls of [`ymx_engine::Tunnel`], which owns the wire and the connections. Each function
 //! here that makes such calls says that they are all it did: `Runs`.
 
-ghost use Rattle.std.specs.Prelude.{◌≡◌, ◌⊎◌, [], true, false, IfOk, IfSome};
+ghost use Rattle.std.specs.Prelude.{◌≡◌, ◌⊎◌, [], true, false, IfOk, IfSome, Some};
 ghost use Rattle.ymx_engine.specs.Runs.{Runs, IsOver};
-ghost use Rattle.ymx_engine.specs.Served.{AreServed, NoneWaits, NoneGives};
-ghost use Rattle.ymx_engine.specs.Devices.{CountsOne, CountsSome};
-ghost use Rattle.ymx_engine.specs.Marks.{has_work};
-ghost use Rattle.ymx_engine.specs.Tunnels.{Serving, view_of};
-ghost use Rattle.ymx_engine.specs.Work.{ServesOne, WorksOnce};
+ghost use Rattle.ymx_engine.specs.Served.{Serving, NoneWaits, NoneGives, NoneHangs};
+ghost use Rattle.ymx_engine.specs.Turns.{Line as LineValue, line_of};
+ghost use Rattle.ymx_engine.specs.Ways.{is_over};
+ghost use Rattle.ymx_engine.specs.Work.{HasRead, ServesOne, WorksOnce, Writes, has_work};
+ghost use Rattle.ymx_forward.specs.Counts.{CountsOne};
 ghost use Rattle.ymx_forward.specs.Loops.{NeedsEvents, WaitsInNeed, WasLost};
+ghost use Rattle.ymx_law_session.specs.Limits.{IsWithin};
 ghost use Rattle.ymx_model.specs.session.Sessions.{is_running};
 
 use crate::peer::Peer;
 use crate::silence::{Due, Silence, shorter};
 use crate::socket::Socket;
 use crate::stillness::Stillness;
+use crate::stream::Stream;
 use crate::system::{Event, Poll, TcpConnection};
 use crate::tunnel_end::{LISTENER, RETRY, Side, TunnelEnd};
 use crate::watching::{Declined, EndedConnection, Ending, Origin, Watcher};
@@ -25,7 +27,7 @@ use std::io;
 use std::net::{Net, SocketAddr};
 use std::sync::Wait;
 use std::time::{Clock, Duration};
-use ymx_engine::{Engine, Line, NotJoined, Registry, Tunnel, Wire};
+use ymx_engine::{Device, NotJoined, Readiness, Registry, Tunnel};
 use ymx_model::{CallFault, Config, Role, Status};
 use ymx_policy::{Reason, SessionEnd};
 use ymx_session::{NewFault, Session};
@@ -64,8 +66,12 @@ struct Tokens<'a> {
     poll: &'a Poll,
 }
 
-impl Registry<Socket> for Tokens<'_> {
-    fn register(&mut self, id: u32, device: &mut Socket) -> bool {
+impl<S: Stream + Drop> Registry<Socket<S>> for Tokens<'_> {
+    ghost use Rattle.std.specs.Prelude.{None};
+
+    ghost told = { λ _. None };
+
+    fn register(&mut self, id: u32, device: &mut Socket<S>) -> bool {
         device.register(self.poll, (id as usize) + STREAMS)
     }
 }
@@ -86,9 +92,7 @@ pub(crate) struct TunnelLoop<'a> {
     tunnel_end: &'a mut TunnelEnd,
     /// How many bytes connections have given since the wire was last written to.
     unwritten: u64,
-    /// The wire's end is near: a short read does not say that nothing is left.
-    is_wire_closing: bool,
-    /// The connections were told that the session was lost.
+    /// Those who watch were told that the session was lost.
     is_loss_told: bool,
     /// How long nothing has moved.
     stillness: Stillness,
@@ -113,12 +117,11 @@ impl<'a> TunnelLoop<'a> {
         // Its tunnel forgets nobody who can be served.
         ensures serves { IfOk result (λ made. Serving made.tunnel) }
     {
-        let engine = new_engine(alloc, role_of(&tunnel_end.side), window)?;
+        let session = new_session(alloc, role_of(&tunnel_end.side), window)?;
         Ok(TunnelLoop {
-            tunnel: Tunnel::new(alloc, engine, wire),
+            tunnel: Tunnel::new(alloc, session, wire)?,
             tunnel_end,
             unwritten: 0,
-            is_wire_closing: false,
             is_loss_told: false,
             stillness: Stillness::new(),
             is_unwatched: false,
@@ -149,7 +152,7 @@ impl<'a> TunnelLoop<'a> {
         ensures waits { Serving self.old.tunnel → WaitsInNeed self.old.tunnel self.new.tunnel poll.old.waits poll.new.waits }
         // A loop that wasn't left is over: nothing is due, or the wire has failed, and no connection is left.
         ensures over { IfSome result (λ finished. finished.was_left ≡ false → IsOver self.new.tunnel) }
-        ensures empty { IfSome result (λ finished. finished.was_left ≡ false → self.new.tunnel.lines ≡ []) }
+        ensures empty { IfSome result (λ finished. finished.was_left ≡ false → self.new.tunnel.lines.by_id ≡ []) }
         // One is left only where another session follows, and only once its own was over.
         ensures left { IfSome result (λ finished. finished.was_left ≡ true → is_kept ≡ true) }
         ensures lost { IfSome result (λ finished. finished.was_left ≡ true → WasLost self.old.tunnel self.new.tunnel) }
@@ -163,6 +166,7 @@ impl<'a> TunnelLoop<'a> {
             let limit = self.hear_silence(rt, &mut silence);
             if self.await_events(rt, poll, limit).is_err() {
                 self.is_unwatched = true;
+                self.tunnel.give_up_wire();
                 self.leave_all(watcher);
                 return None;
             }
@@ -330,11 +334,13 @@ impl<'a> TunnelLoop<'a> {
     /// Whether something can be done with no event.
     fn has_work(&self) -> bool
         // Where it has none, its tunnel has none.
-        ensures idle { result ≡ false → has_work (view_of self.now.tunnel) ≡ false }
+        ensures idle { result ≡ false → has_work self.now.tunnel ≡ false }
         // Then no bytes of a stream wait that its connection may take now.
-        ensures rest { Serving self.now.tunnel → result ≡ false → NoneWaits (view_of self.now.tunnel) }
+        ensures rest { Serving self.now.tunnel → result ≡ false → NoneWaits self.now.tunnel }
         // Where the wire may take bytes too, no stream takes bytes that its connection may have.
-        ensures gives { Serving self.now.tunnel → result ≡ false → self.now.tunnel.marks.can_push_wire ≡ true → NoneGives (view_of self.now.tunnel) }
+        ensures gives { Serving self.now.tunnel → result ≡ false → self.now.tunnel.wire.marks.may_push ≡ true → NoneGives self.now.tunnel }
+        // In a session that is over no way to the peer is open then, unless its connection is still being made.
+        ensures hears { Serving self.now.tunnel → result ≡ false → NoneHangs self.now.tunnel }
     {
         let accepts = match &self.tunnel_end.side {
             Side::Local(listening) => {
@@ -350,7 +356,7 @@ impl<'a> TunnelLoop<'a> {
     /// Whether this side and all its connections have ended, and nothing more goes over the wire.
     fn is_over(&self) -> bool
         ensures over { result ≡ true → IsOver self.now.tunnel }
-        ensures empty { result ≡ true → self.now.tunnel.lines ≡ [] }
+        ensures empty { result ≡ true → self.now.tunnel.lines.by_id ≡ [] }
     {
         let is_side_over = match &self.tunnel_end.side {
             Side::Local(listening) => listening.is_over() || self.is_to_be_followed(),
@@ -409,10 +415,7 @@ impl<'a> TunnelLoop<'a> {
         ensures { Runs self.old.tunnel self.new.tunnel }
     {
         if !self.tunnel.wire().has_failed() {
-            let ends = event.is_read_closed || event.is_error;
-            self.is_wire_closing |= ends;
-            self.tunnel
-                .note_wire(event.is_readable || ends, event.is_writable || ends);
+            self.tunnel.note_wire(readiness_of(event));
         }
     }
 
@@ -420,10 +423,7 @@ impl<'a> TunnelLoop<'a> {
     fn note_stream(&mut self, id: u32, event: Event)
         ensures { Runs self.old.tunnel self.new.tunnel }
     {
-        let ends = event.is_read_closed || event.is_error;
-        let can_pull = event.is_readable || ends;
-        let can_push = event.is_writable || ends;
-        self.tunnel.note_line(id, can_pull, can_push, ends);
+        self.tunnel.note_line(id, readiness_of(event));
     }
 
     // ---- connections that come
@@ -504,6 +504,8 @@ impl<'a> TunnelLoop<'a> {
                 self.stop_unwatched();
                 watcher.refused(origin, Declined::Unwatched);
             }
+            // no id is given twice, so this never is
+            NotJoined::Twice => watcher.refused(origin, Declined::BySession(CallFault::NoStream)),
             NotJoined::OutOfMemory(_) => {
                 self.lacked_memory = true;
                 watcher.refused(origin, Declined::OutOfMemory);
@@ -564,8 +566,7 @@ impl<'a> TunnelLoop<'a> {
             Ok(socket) => {
                 socket.send_at_once();
                 match self.accept(Socket::begun(socket, origin), poll) {
-                    Ok(Some(id)) => self.note_begun(id),
-                    Ok(None) => {}
+                    Ok(_) => {}
                     Err(why) => self.end_unjoined(origin, why, watcher),
                 }
             }
@@ -576,23 +577,6 @@ impl<'a> TunnelLoop<'a> {
                     watcher.ended(origin, &ended);
                 }
             }
-        }
-    }
-
-    /// A connection to the target that is there already, or can't be made, has its turn with no event.
-    fn note_begun(&mut self, id: u32)
-        ensures { Runs self.old.tunnel self.new.tunnel }
-    {
-        if self.is_there(id) {
-            self.tunnel.note_line(id, false, true, false);
-        }
-    }
-
-    /// Whether the connection of this stream is there, or can't be made.
-    fn is_there(&self, id: u32) -> bool {
-        match self.tunnel.device(id) {
-            Some(socket) => !socket.is_connecting(),
-            None => false,
         }
     }
 
@@ -612,7 +596,9 @@ impl<'a> TunnelLoop<'a> {
                 self.lacked_memory = true;
                 Ending::OutOfMemory
             }
-            NotJoined::BySession(_) | NotJoined::Unregistered => Ending::ConnectionFailed,
+            NotJoined::BySession(_) | NotJoined::Unregistered | NotJoined::Twice => {
+                Ending::ConnectionFailed
+            }
         };
         watcher.ended(origin, &EndedConnection::of_nothing(ending, None));
     }
@@ -622,10 +608,10 @@ impl<'a> TunnelLoop<'a> {
     /// Reads the wire, so often that about as many bytes are read of it as are written to it.
     fn read_wire(&mut self)
         ensures runs { Runs self.old.tunnel self.new.tunnel }
-        ensures reads { CountsSome self.old.tunnel.work.reads self.new.tunnel.work.reads }
+        ensures reads { HasRead self.old.tunnel self.new.tunnel }
     {
         'read: for _ in 0..WIRE_READS {
-            self.tunnel.read_wire(LEAST_STRAIGHT, self.is_wire_closing);
+            self.tunnel.read_wire(LEAST_STRAIGHT);
         }
     }
 
@@ -650,7 +636,7 @@ impl<'a> TunnelLoop<'a> {
         let Some(served) = self.tunnel.serve_next() else {
             return false;
         };
-        self.unwritten = self.unwritten.saturating_add(served.gave);
+        self.unwritten = self.unwritten.saturating_add(served.gave as u64);
         self.forget_if_over(served.id, watcher);
         self.unwritten < UNWRITTEN
     }
@@ -666,13 +652,16 @@ impl<'a> TunnelLoop<'a> {
 
     /// Lets go of a connection, and says how it ended.
     fn forget<V: Watcher>(&mut self, id: u32, watcher: &mut V)
-        ensures { Runs self.old.tunnel self.new.tunnel }
+        // Nothing of it is left to move.
+        requires over { (line : LineValue) → line_of id self.old.tunnel.lines ≡ Some line → (is_over line.ways ≡ true) ⊎ (is_running self.old.tunnel.engine.session.status ≡ false) }
+        ensures runs { Runs self.old.tunnel self.new.tunnel }
+        ensures status { self.new.tunnel.engine.session.status ≡ self.old.tunnel.engine.session.status }
     {
-        let state = self.tunnel.connection(id);
+        let ways = self.tunnel.ways(id);
         let is_lost = self.is_lost() || self.is_unwatched;
         if let Some(socket) = self.tunnel.forget(id) {
-            let ended = match state {
-                Some(state) => EndedConnection::of(&socket, state, is_lost),
+            let ended = match ways {
+                Some(ways) => EndedConnection::of(&socket, ways, is_lost),
                 None => EndedConnection::of_nothing(Ending::Refused, None),
             };
             self.lacked_memory |= ended.lacked_memory();
@@ -680,14 +669,10 @@ impl<'a> TunnelLoop<'a> {
         }
     }
 
-    /// Once the session is lost, each connection is asked for bytes, so that it is shut, unless its end came before.
-    /// What waits for one that is still being made is written first. Who brings connections is told too, and where no
-    /// session follows, who watches.
+    /// Once the session is lost, who brings connections is told, and where no session follows, who watches. The connections
+    /// hear of it in their turns.
     fn tell_loss<R: Clock + Wait, V: Watcher>(&mut self, rt: &R, watcher: &mut V)
-        ensures runs { Runs self.old.tunnel self.new.tunnel }
-        ensures engine { self.new.tunnel.engine ≡ self.old.tunnel.engine }
-        ensures wire { self.new.tunnel.wire ≡ self.old.tunnel.wire }
-        ensures lines { self.new.tunnel.lines ≡ self.old.tunnel.lines }
+        ensures { self.new.tunnel ≡ self.old.tunnel }
     {
         if self.is_loss_told || !self.is_lost() {
             return;
@@ -700,13 +685,12 @@ impl<'a> TunnelLoop<'a> {
         if !is_kept {
             watcher.lost();
         }
-        self.tunnel.tell_loss();
     }
 
     /// Writes what is due to the wire, and counts anew what connections give.
     fn flush(&mut self)
         ensures runs { Runs self.old.tunnel self.new.tunnel }
-        ensures writes { CountsOne self.old.tunnel.work.writes self.new.tunnel.work.writes }
+        ensures writes { Writes self.old.tunnel self.new.tunnel }
     {
         self.unwritten = 0;
         self.tunnel.flush();
@@ -722,8 +706,9 @@ impl<'a> TunnelLoop<'a> {
         }
     }
 
-    /// Lets go of all connections.
+    /// Lets go of all connections of a session that is over.
     fn leave_all<V: Watcher>(&mut self, watcher: &mut V)
+        requires over { is_running self.old.tunnel.engine.session.status ≡ false }
         ensures { Runs self.old.tunnel self.new.tunnel }
     {
         'left: for _ in 0..self.tunnel.len() {
@@ -760,14 +745,22 @@ fn role_of(side: &Side) -> Role {
     }
 }
 
-/// An engine of a new session.
+/// A new session.
 #[tactic(auto, using(crate::proofs::Sessions::within))]
-fn new_engine(alloc: Global, role: Role, window: u32) -> Result<Engine, NewFault>
-    ensures served { IfOk result AreServed }
-    ensures known { IfOk result (λ view. view.turns.known ≡ []) }
+fn new_session(alloc: Global, role: Role, window: u32) -> Result<Session, NewFault>
+    ensures { IfOk result IsWithin }
 {
-    let session = Session::new(alloc, role, Config { window, first: 0 })?;
-    Ok(Engine::new(alloc, session)?)
+    Session::new(alloc, role, Config { window, first: 0 })
+}
+
+/// What an event says of a socket. One that fails may be used at once, so that it says so.
+fn readiness_of(event: Event) -> Readiness {
+    let is_closing = event.is_read_closed || event.is_error;
+    Readiness {
+        can_pull: event.is_readable || is_closing,
+        can_push: event.is_writable || is_closing,
+        is_closing,
+    }
 }
 
 /// The connection to the peer, of whose events the poll tells. None where the system refuses.

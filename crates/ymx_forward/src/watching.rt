@@ -3,7 +3,7 @@
 use crate::socket::{Socket, SocketFault};
 use crate::system::TcpConnection;
 use std::net::SocketAddr;
-use ymx_engine::{Connection, Flow, Line};
+use ymx_engine::{Flow, Ways};
 use ymx_model::CallFault;
 use ymx_policy::Reason;
 
@@ -123,20 +123,20 @@ impl EndedConnection {
     }
 
     /// How the connection of this socket ended, whose ways stand so. `is_lost` says whether the session was lost.
-    pub(crate) fn of(socket: &Socket, connection: Connection, is_lost: bool) -> EndedConnection {
+    pub(crate) fn of(socket: &Socket, ways: Ways, is_lost: bool) -> EndedConnection {
         let (to_peer, from_peer) = broken_endings(
             socket.fault(),
-            connection.lacked_memory,
+            ways.lacked_memory,
             is_lost,
         );
         EndedConnection {
             to_peer: Passed {
                 bytes: socket.pulled(),
-                ending: ending_of(connection.to_peer, to_peer),
+                ending: ending_of(ways.to_peer, to_peer),
             },
             from_peer: Passed {
                 bytes: socket.pushed(),
-                ending: ending_of(connection.from_peer, from_peer),
+                ending: ending_of(ways.from_peer, from_peer),
             },
             reason: socket.reason(),
         }

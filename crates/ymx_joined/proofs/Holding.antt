@@ -12,7 +12,7 @@ use Rattle.ymx_machine.specs.Promise.{is_same_side, finished_by}
 use Rattle.ymx_model.specs.declared.types.Event.TheVariants as event
 use Rattle.ymx_model.specs.session.Events.{Event}
 use Rattle.ymx_headline.specs.machine.Arrivals.{began_by, left_by, any_step}
-use Rattle.ymx_engine.specs.Lines.{opens_at}
+use Rattle.ymx_engine.specs.Lives.{opens_at}
 use Rattle.ymx_joined.specs.Quiet.{finish_done_at, is_finished, was_given, leaves_at, was_left}
 use Rattle.ymx_joined.proofs.Tracing.{Gathers, total, either, same_side, finishes_of}
 

@@ -15,4 +15,5 @@ pub mod Arriving
 pub mod Keeping
 pub mod Holding
 pub mod Quiet
+pub mod Serving
 pub mod Resting

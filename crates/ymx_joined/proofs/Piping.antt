@@ -12,7 +12,8 @@ use Rattle.ymx_machine.specs.declared.types.Reply.TheVariants as reply
 use Rattle.ymx_model.specs.session.Events.{Event}
 use Rattle.ymx_model.specs.declared.types.Event.TheVariants as event
 use Rattle.ymx_model.specs.declared.types.Entry.{Entry}
-use Rattle.ymx_model.specs.session.Sessions.{Session}
+use Rattle.ymx_model.specs.declared.types.Role.TheVariants.{Client, Server}
+use Rattle.ymx_model.specs.session.Sessions.{Session, new_session}
 use Rattle.ymx_model.specs.session.Emissions.{in_turn}
 use Rattle.ymx_model.specs.session.Feeds.{Feeds}
 use Rattle.ymx_model.specs.session.Histories.{Gives}
@@ -23,12 +24,12 @@ use Rattle.ymx_headline.proofs.audit.Events.{world, event-a, event-b, gets-ended
 use Rattle.ymx_headline.proofs.audit.OneRun.{are-one-run}
 use Rattle.ymx_headline.proofs.audit.Orders.{runs-on}
 use Rattle.ymx_headline.proofs.audit.Over.{IsOver}
-use Rattle.ymx_engine.specs.Devices.{Seen}
 use Rattle.ymx_engine.specs.Engines.{Engine}
 use Rattle.ymx_engine.specs.Events.{Happen}
 use Rattle.ymx_engine.specs.Wires.{emitted_at, emitted, fed_at, fed, OffersFront, FeedsFront}
+use Rattle.ymx_engine.specs.Turns.{Lines}
 use Rattle.ymx_engine.proofs.Exchanging.{happen_then}
-use Rattle.ymx_joined.specs.Tunnels.{TunnelPair, tunnels_of, Works, Turn, OneWorks, BothWork, at_a, at_b, events_at_a, events_at_b, entries_from, entries, AreOneTunnelRun}
+use Rattle.ymx_joined.specs.Tunnels.{TunnelPair, engine_of, Works, Turn, OneWorks, BothWork, HaveCome, at_a, at_b, events_at_a, events_at_b, entries_from, entries, AreOneTunnelRun}
 use Rattle.ymx_joined.proofs.Histories.{replays}
 
 -- ---- a pipe of the world beside the bytes under way
@@ -158,9 +159,9 @@ consumed a b from from_new came e f h = subst (λ (o : Option (List ℕ)). Consu
 appended : (a b : Option (List ℕ)) (to to_new sent : List ℕ) → a ≡ Some to → b ≡ Some to_new → Appends a b sent → to_new ≡ to ++ sent
 appended a b to to_new sent e f h = subst (λ (o : Option (List ℕ)). Appends (Some to) o sent) f (subst (λ (o : Option (List ℕ)). Appends o b sent) e h)
 
-turn_moves : (es : List (Event × Reply)) (old new : Engine) (ls ms : List (ℕ × Seen)) (to from to_new from_new : List ℕ) → Works es old new ls ms to from to_new from_new → Moves es old new to from to_new from_new
+turn_moves : (es : List (Event × Reply)) (old new : Engine) (ls ms : Lines) (to from to_new from_new : List ℕ) → Works es old new ls ms to from to_new from_new → Moves es old new to from to_new from_new
 turn_moves es old new ls ms to from to_new from_new x =
-    let r = x.runs in
+    let r = x.runs.moves in
     let moves : Moves r.events x.before.engine x.after.engine to from to_new from_new = record {
       happen = r.happen;
       came = r.came;
@@ -329,8 +330,17 @@ joint_turns (t ∷ ts) p q ab ba i j r h k over_a over_b =
     (λ ab2 ba2 i2 j2 h2 k2 over_a2 over_b2. joint_turns ts r.0 q ab2 ba2 i2 j2 r.2 h2 k2 over_a2 over_b2)
 
 -- from two new tunnels, and empty pipes
-pub joint_new : (ts : List Turn) (s t : Session) (q : TunnelPair) → BothWork ts (tunnels_of s t) q → Joint s t new_pipe new_pipe (entries (events_at_a ts)) (entries (events_at_b ts)) q
-joint_new ts s t q r = joint_turns ts (tunnels_of s t) q new_pipe new_pipe 0 0 r (inr refl) (inr refl) (λ e. absurd cc) (λ e. absurd cc)
+pub nothing_held : (xs ys zs : List ℕ) → xs ≡ [] → ys ≡ [] → zs ≡ [] → xs ++ (ys ++ zs) ≡ []
+nothing_held xs ys zs e f g = rw (e, f, g) refl
+
+none_way : (from to : Engine) (pipe : List ℕ) (s t : Session) → from ≡ engine_of s → to ≡ engine_of t → pipe ≡ [] → Holds new_pipe (to.incoming ++ (pipe ++ from.outgoing))
+none_way from to pipe s t e f g = inr (ap open_pipe (sym (nothing_held to.incoming pipe from.outgoing (ap (λ (v : Engine). v.incoming) f) g (ap (λ (v : Engine). v.outgoing) e))))
+
+pub joint_new : (ts : List Turn) (wa fa wb fb : ℕ) (q : TunnelPair) → HaveCome ts wa fa wb fb q → Joint (new_session Client wa fa) (new_session Server wb fb) new_pipe new_pipe (entries (events_at_a ts)) (entries (events_at_b ts)) q
+joint_new ts wa fa wb fb q h =
+    subst (λ (s : Session). Joint s (new_session Server wb fb) new_pipe new_pipe (entries (events_at_a ts)) (entries (events_at_b ts)) q) (ap (λ (e : Engine). e.session) h.a)
+    (subst (λ (t : Session). Joint h.new.a.session t new_pipe new_pipe (entries (events_at_a ts)) (entries (events_at_b ts)) q) (ap (λ (e : Engine). e.session) h.b)
+    (joint_turns ts h.new q new_pipe new_pipe 0 0 h.work (none_way h.new.a h.new.b h.new.ab _ _ h.a h.b h.ab) (none_way h.new.b h.new.a h.new.ba _ _ h.b h.a h.ba) (λ e. absurd cc) (λ e. absurd cc)))
 
 -- ---- what happened at each side
 
@@ -350,10 +360,14 @@ happens_b : (ts : List Turn) (p q : TunnelPair) → BothWork ts p q → Happen (
 happens_b [] p q r = ap (λ (z : TunnelPair). z.b.session) r
 happens_b (t ∷ ts) p q r = turn_happens_b t.side t.events (events_at_b ts) p r.0 q.b.session r.1 (happens_b ts r.0 q r.2)
 
+new_happens : (es : List (Event × Reply)) (e : Engine) (s t : Session) → e ≡ engine_of s → Happen es e.session t → Happen es s t
+new_happens es e s t same h = subst (λ (v : Session). Happen es v t) (ap (λ (v : Engine). v.session) same) h
+
 pub are_one_tunnel_run : (ts : List Turn) → AreOneTunnelRun ts
-are_one_tunnel_run ts = λ wa fa wb fb q good r.
-    let j = joint_new ts _ _ q r in (
+are_one_tunnel_run ts = λ wa fa wb fb q h.
+    let j = joint_new ts wa fa wb fb q h in (
       j.steps,
-      are-one-run in_turn (entries (events_at_a ts)) (entries (events_at_b ts)) j.steps (j.turns, j.joint) wa fa wb fb q.a.session q.b.session good
-          (replays 0 (events_at_a ts) _ q.a.session (happens_a ts _ q r)) (replays 0 (events_at_b ts) _ q.b.session (happens_b ts _ q r)),
+      are-one-run in_turn (entries (events_at_a ts)) (entries (events_at_b ts)) j.steps (j.turns, j.joint) wa fa wb fb q.a.session q.b.session h.good
+          (replays 0 (events_at_a ts) _ q.a.session (new_happens _ h.new.a _ _ h.a (happens_a ts h.new q h.work)))
+          (replays 0 (events_at_b ts) _ q.b.session (new_happens _ h.new.b _ _ h.b (happens_b ts h.new q h.work))),
     )

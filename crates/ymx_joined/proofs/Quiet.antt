@@ -15,22 +15,19 @@ use Rattle.ymx_headline.proofs.machine.faces.Pasts.{Past}
 use Rattle.ymx_engine.specs.Devices.{Seen}
 use Rattle.ymx_engine.specs.Engines.{Engine}
 use Rattle.ymx_engine.specs.Events.{taken, given, lacks_memory}
-use Rattle.ymx_engine.specs.Lines.{all_of, loses}
-use Rattle.ymx_joined.specs.Tunnels.{TunnelPair, Turn, tunnels_of, events_at_a, events_at_b, entries}
+use Rattle.ymx_engine.specs.Lives.{all_of, loses}
+use Rattle.ymx_joined.specs.Tunnels.{TunnelPair, Turn, events_at_a, events_at_b, entries}
 use Rattle.ymx_joined.specs.Carried.{HadOne}
 use Rattle.ymx_joined.specs.Quiet.{IsQuietWay, AreQuiet, is_finished, HasCome, was_given, was_left, AllHasCome, IsAllPassedOn}
 use Rattle.ymx_joined.proofs.Arriving.{Came, comes}
 use Rattle.ymx_joined.proofs.Holding.{all_done, given_of, left_of, all_given, all_left}
 use Rattle.ymx_joined.proofs.Keeping.{both_have}
-use Rattle.ymx_joined.proofs.Piping.{open_pipe, Holds, Joint, joint_new}
+use Rattle.ymx_joined.proofs.Piping.{open_pipe, Holds, Joint, nothing_held, joint_new}
 use Rattle.ymx_joined.proofs.Tracing.{gathers_a, gathers_b, writes_of, all_written, reads_of, all_read, finishes_of}
 use Rattle.ymx_joined.proofs.Tunneling.{plain_a, plain_b, nothing_lost, no_cause, taken_during, given_during, plenty_during}
 use Rattle.ymx_joined.proofs.Ways.{IsStillWay}
 
 -- ---- the world of two tunnels, where a way is quiet
-
-nothing_held : (xs ys zs : List ℕ) → xs ≡ [] → ys ≡ [] → zs ≡ [] → xs ++ (ys ++ zs) ≡ []
-nothing_held xs ys zs e f g = rw (e, f, g) refl
 
 not_over : (s : Session) → is_running s.status ≡ true → IsOver s → ⊥
 not_over s e f = let no : true ≡ false = sym e ∙ f in absurd cc
@@ -72,21 +69,21 @@ has_come id past from to reader w g f c = record {
 }
 
 pub all_has_come : (ts : List Turn) → AllHasCome ts
-all_has_come ts = λ wa fa wb fb q good r id.
+all_has_come ts = λ wa fa wb fb q h id.
     let s = new_session Client wa fa in
     let t = new_session Server wb fb in
     let a = q.a in
     let b = q.b in
     let es = events_at_a ts in
     let fs = events_at_b ts in
-    let j : Joint s t new_pipe new_pipe (entries es) (entries fs) q = joint_new ts s t q r in
-    let plain_es = plain_a ts (tunnels_of s t) q r in
-    let plain_fs = plain_b ts (tunnels_of s t) q r in
+    let j : Joint s t new_pipe new_pipe (entries es) (entries fs) q = joint_new ts wa fa wb fb q h in
+    let plain_es = plain_a ts h.new q h.work in
+    let plain_fs = plain_b ts h.new q h.work in
     let answers = told j.turns (entries es) (entries fs) in
     let last : World = world a.session b.session j.last_ab j.last_ba in
     let pipe_ab : IsQuietWay a b q.ab → j.last_ab ≡ open_pipe [] = λ way. quiet_pipe j.last_ab a b q.ab way j.over_b j.holds_ab in
     let pipe_ba : IsQuietWay b a q.ba → j.last_ba ≡ open_pipe [] = λ way. quiet_pipe j.last_ba b a q.ba way j.over_a j.holds_ba in
-    let come = comes in_turn j.steps answers wa fa wb fb last good j.runs id in
+    let come = comes in_turn j.steps answers wa fa wb fb last h.good j.runs id in
     record {
       to_b = λ way has. has_come id _ es fs b.session
           (gathers_a (writes_of A B refl id) j.turns new_pipe new_pipe false false 0 0 es fs j.steps j.joint refl refl plain_es ∙ all_written A B refl id es)
@@ -98,10 +95,10 @@ all_has_come ts = λ wa fa wb fb q good r id.
           (gathers_a (reads_of A B refl id) j.turns new_pipe new_pipe false false 0 0 es fs j.steps j.joint refl refl plain_es ∙ all_read A B refl id es)
           (gathers_b (finishes_of B A refl id) j.turns new_pipe new_pipe false false 0 0 es fs j.steps j.joint refl refl plain_fs ∙ all_done B A refl id fs)
           (come.to_a (still_way j.last_ba j.last_ab b a q.ba way (pipe_ba way)) has);
-      both = λ quiet kept_a kept_b. both_have in_turn j.steps answers wa fa wb fb last good j.runs (quiet_world q j.last_ab j.last_ba quiet (pipe_ab quiet.0) (pipe_ba quiet.1)) id
-          (kept (was_given id es) (was_left id es) _ _ (λ h. gathers_a (given_of A B refl id) j.turns new_pipe new_pipe false false 0 0 es fs j.steps j.joint refl refl plain_es ∙ all_given A B refl id es h)
+      both = λ quiet kept_a kept_b. both_have in_turn j.steps answers wa fa wb fb last h.good j.runs (quiet_world q j.last_ab j.last_ba quiet (pipe_ab quiet.0) (pipe_ba quiet.1)) id
+          (kept (was_given id es) (was_left id es) _ _ (λ k. gathers_a (given_of A B refl id) j.turns new_pipe new_pipe false false 0 0 es fs j.steps j.joint refl refl plain_es ∙ all_given A B refl id es k)
           (gathers_a (left_of A B refl id) j.turns new_pipe new_pipe false false 0 0 es fs j.steps j.joint refl refl plain_es ∙ all_left A B refl id es) kept_a)
-          (kept (was_given id fs) (was_left id fs) _ _ (λ h. gathers_b (given_of B A refl id) j.turns new_pipe new_pipe false false 0 0 es fs j.steps j.joint refl refl plain_fs ∙ all_given B A refl id fs h)
+          (kept (was_given id fs) (was_left id fs) _ _ (λ k. gathers_b (given_of B A refl id) j.turns new_pipe new_pipe false false 0 0 es fs j.steps j.joint refl refl plain_fs ∙ all_given B A refl id fs k)
           (gathers_b (left_of B A refl id) j.turns new_pipe new_pipe false false 0 0 es fs j.steps j.joint refl refl plain_fs ∙ all_left B A refl id fs) kept_b);
     }
 

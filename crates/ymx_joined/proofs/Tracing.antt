@@ -21,7 +21,7 @@ use Rattle.ymx_headline.specs.audit.Joints.{world_steps, Gets, sent_into, IsJoin
 use Rattle.ymx_headline.specs.audit.Told.{answers_of, is_ended_behind, told_from}
 use Rattle.ymx_headline.proofs.audit.Events.{gets-ended, put-ended}
 use Rattle.ymx_engine.specs.Events.{taken_at, taken, given_at, given, ends_at, has_end, finishes_at, has_finish, opens_with, has_open_with}
-use Rattle.ymx_engine.proofs.Advancing.{or_neither}
+use Rattle.ymx_engine.proofs.Quiet.{or_neither}
 use Rattle.ymx_engine.proofs.Exchanging.{or_second}
 use Rattle.ymx_joined.specs.Tunnels.{entries_from}
 

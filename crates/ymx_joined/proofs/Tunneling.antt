@@ -1,6 +1,7 @@
 -- Two tunnels over two pipes: what each stream carries between its devices.
 use Rattle.std.proofs.Common.{◌≡◌, ℕ, List, [], ◌∷◌, ◌++◌, Bool, true, false, ◌||◌, Option, None, Some, refl, sym, ap, subst, ◌∙◌, append-nil, append_assoc}
-use Rattle.std.specs.Prelude.{option_map}
+use Rattle.std.specs.Prelude.{option_map, nat_eq}
+use Rattle.std.specs.Map.{lookup}
 use Rattle.ymx_machine.specs.declared.types.Side.{Side}
 use Rattle.ymx_machine.specs.declared.types.Side.TheVariants.{A, B}
 use Rattle.ymx_machine.specs.declared.types.Step.{Step}
@@ -8,8 +9,6 @@ use Rattle.ymx_machine.specs.declared.types.Answer.{Answer}
 use Rattle.ymx_machine.specs.shared.Events.{Reply}
 use Rattle.ymx_machine.specs.Promise.{written, got, ended, finished}
 use Rattle.ymx_model.specs.session.Events.{Event}
-use Rattle.ymx_model.specs.declared.types.Role.TheVariants.{Client, Server}
-use Rattle.ymx_model.specs.session.Sessions.{new_session}
 use Rattle.ymx_model.specs.session.Emissions.{in_turn}
 use Rattle.ymx_model.specs.world.Worlds.{new_pipe}
 use Rattle.ymx_headline.specs.machine.Faces.{DeliversWithin}
@@ -19,21 +18,21 @@ use Rattle.ymx_engine.specs.Devices.{Seen}
 use Rattle.ymx_engine.specs.Engines.{Engine}
 use Rattle.ymx_engine.specs.Events.{taken, given, has_end, has_finish, has_open_with, lacks_memory}
 use Rattle.ymx_engine.specs.Exchanges.{has_bytes}
-use Rattle.ymx_engine.specs.Lines.{all_of, kept_of, loses, Trades, IsIdle, Change, Lives, sinces, Life}
-use Rattle.ymx_engine.proofs.Advancing.{or_neither}
+use Rattle.ymx_engine.specs.Lives.{all_of, kept_of, loses, Trades, IsIdle, Change, Lives, sinces, Life}
+use Rattle.ymx_engine.proofs.Quiet.{or_neither}
 use Rattle.ymx_engine.proofs.Exchanging.{taken_then, given_then, end_then, finish_then, lacks_then, or_none}
-use Rattle.ymx_engine.specs.Tunnels.{look}
+use Rattle.ymx_engine.specs.Turns.{Line, Entry, Lines, look}
 use Rattle.ymx_engine.proofs.Listing.{plain_then}
 use Rattle.ymx_engine.proofs.Trading.{life_then, life_quiet}
-use Rattle.ymx_joined.specs.Tunnels.{TunnelPair, tunnels_of, Works, Turn, OneWorks, BothWork, at_a, at_b, events_at_a, events_at_b, entries}
+use Rattle.ymx_joined.specs.Tunnels.{TunnelPair, Works, Turn, OneWorks, BothWork, at_a, at_b, events_at_a, events_at_b, entries}
 use Rattle.ymx_joined.specs.Carried.{Carries, TunnelsCarry, IsPassedOn, HadOne}
 use Rattle.ymx_joined.proofs.Piping.{are_one_tunnel_run}
 use Rattle.ymx_joined.proofs.Tracing.{gathers_a, gathers_b, writes_of, all_written, reads_of, all_read, ends_of, all_ended, finishes_of, all_finished}
 
 -- ---- no stream is opened with its first bytes
 
-works_plain : (es : List (Event × Reply)) (old new : Engine) (ls ms : List (ℕ × Seen)) (to from to_new from_new : List ℕ) → Works es old new ls ms to from to_new from_new → has_open_with es ≡ false
-works_plain es old new ls ms to from to_new from_new w = ap has_open_with w.events ∙ w.runs.plain
+works_plain : (es : List (Event × Reply)) (old new : Engine) (ls ms : Lines) (to from to_new from_new : List ℕ) → Works es old new ls ms to from to_new from_new → has_open_with es ≡ false
+works_plain es old new ls ms to from to_new from_new w = ap has_open_with w.events ∙ w.runs.moves.plain
 
 plain_at_a : (side : Side) (es : List (Event × Reply)) (p q : TunnelPair) → OneWorks side es p q → has_open_with (at_a side es) ≡ false
 plain_at_a A es p q t = works_plain es _ _ _ _ _ _ _ _ t.0
@@ -53,14 +52,14 @@ plain_b (t ∷ ts) p q h = plain_then (at_b t.side t.events) (events_at_b ts) (p
 
 -- ---- the devices of a stream
 
-works_life : (id : ℕ) (es : List (Event × Reply)) (old new : Engine) (ls ms : List (ℕ × Seen)) (to from to_new from_new : List ℕ) → Works es old new ls ms to from to_new from_new → Life id es (look id ls) (look id ms)
+works_life : (id : ℕ) (es : List (Event × Reply)) (old new : Engine) (ls ms : Lines) (to from to_new from_new : List ℕ) → Works es old new ls ms to from to_new from_new → Life id es (look id ls) (look id ms)
 works_life id es old new ls ms to from to_new from_new w =
     subst (λ (v : List (Event × Reply)). Life id v (look id ls) (look id ms)) (sym w.events)
-    (subst (λ (v : List (ℕ × Seen)). Life id w.runs.events (look id v) (look id ms)) w.begins
-    (subst (λ (v : List (ℕ × Seen)). Life id w.runs.events (look id w.before.lines) (look id v)) w.ends (w.runs.lines id)))
+    (subst (λ (v : Lines). Life id w.runs.moves.events (look id v) (look id ms)) w.begins
+    (subst (λ (v : Lines). Life id w.runs.moves.events (look id w.before.lines) (look id v)) w.ends (w.runs.moves.lines id)))
 
-stays : (id : ℕ) (ls ms : List (ℕ × Seen)) → ms ≡ ls → Life id [] (look id ls) (look id ms)
-stays id ls ms e = subst (λ (v : List (ℕ × Seen)). Life id [] (look id ls) (look id v)) (sym e) (life_quiet id [] (look id ls) (refl, refl, refl, refl, refl, refl))
+stays : (id : ℕ) (ls ms : Lines) → ms ≡ ls → Life id [] (look id ls) (look id ms)
+stays id ls ms e = subst (λ (v : Lines). Life id [] (look id ls) (look id v)) (sym e) (life_quiet id [] (look id ls) (refl, refl, refl, refl, refl, refl))
 
 life_at_a : (id : ℕ) (side : Side) (es : List (Event × Reply)) (p q : TunnelPair) → OneWorks side es p q → Life id (at_a side es) (look id p.lines_a) (look id q.lines_a)
 life_at_a id A es p q t = works_life id es _ _ _ _ _ _ _ _ t.0
@@ -78,6 +77,11 @@ life_b : (id : ℕ) (ts : List Turn) (p q : TunnelPair) → BothWork ts p q → 
 life_b id [] p q h = stays id p.lines_b q.lines_b (ap (λ (v : TunnelPair). v.lines_b) h)
 life_b id (t ∷ ts) p q h = life_then id (at_b t.side t.events) (events_at_b ts) _ _ _ (life_at_b id t.side t.events p h.0 h.1) (life_b id ts h.0 q h.2)
 
+-- no device was there before
+none_before : (id : ℕ) (es : List (Event × Reply)) (ls : Lines) (p : Option Seen) → ls.by_id ≡ [] → Life id es (look id ls) p → Life id es None p
+none_before id es ls p e h =
+    subst (λ (v : List (ℕ × Entry)). Life id es (option_map (λ (l : Line). l.seen) (option_map (λ (x : Entry). x.line) (lookup (nat_eq id) v))) p) e h
+
 -- ---- what is carried
 
 -- what the promise says of a run, said of the events of both sides
@@ -91,29 +95,30 @@ carried writer reader window id steps answers from to d w g e f = record {
 }
 
 pub tunnels_carry : (ts : List Turn) → TunnelsCarry ts
-tunnels_carry ts = λ wa fa wb fb q good r id.
-    let p = tunnels_of (new_session Client wa fa) (new_session Server wb fb) in
+tunnels_carry ts = λ wa fa wb fb q h id.
+    let p = h.new in
+    let r = h.work in
     let es = events_at_a ts in
     let fs = events_at_b ts in
-    let o = are_one_tunnel_run ts wa fa wb fb q good r in
+    let o = are_one_tunnel_run ts wa fa wb fb q h in
     let one : IsOneRun in_turn (entries es) (entries fs) o.0 wa fa wb fb q.a.session q.b.session = o.1 in
     let answers = told one.turns (entries es) (entries fs) in
-    let face = run-face in_turn o.0 answers wa fa wb fb one.world good one.runs id in
+    let face = run-face in_turn o.0 answers wa fa wb fb one.world h.good one.runs id in
     let plain_es = plain_a ts p q r in
     let plain_fs = plain_b ts p q r in
     record {
-      a = life_a id ts p q r;
-      b = life_b id ts p q r;
+      a = none_before id es p.lines_a _ h.none_a (life_a id ts p q r);
+      b = none_before id fs p.lines_b _ h.none_b (life_b id ts p q r);
       to_b = carried A B wb id o.0 answers es fs face.0
           (gathers_a (writes_of A B refl id) one.turns new_pipe new_pipe false false 0 0 es fs o.0 one.joint refl refl plain_es ∙ all_written A B refl id es)
           (gathers_b (reads_of B A refl id) one.turns new_pipe new_pipe false false 0 0 es fs o.0 one.joint refl refl plain_fs ∙ all_read B A refl id fs)
           (gathers_b (ends_of B A refl id) one.turns new_pipe new_pipe false false 0 0 es fs o.0 one.joint refl refl plain_fs ∙ all_ended B A refl id fs)
-          (λ h. all_finished A B refl id es (sym (gathers_a (finishes_of A B refl id) one.turns new_pipe new_pipe false false 0 0 es fs o.0 one.joint refl refl plain_es) ∙ h));
+          (λ k. all_finished A B refl id es (sym (gathers_a (finishes_of A B refl id) one.turns new_pipe new_pipe false false 0 0 es fs o.0 one.joint refl refl plain_es) ∙ k));
       to_a = carried B A wa id o.0 answers fs es face.1
           (gathers_b (writes_of B A refl id) one.turns new_pipe new_pipe false false 0 0 es fs o.0 one.joint refl refl plain_fs ∙ all_written B A refl id fs)
           (gathers_a (reads_of A B refl id) one.turns new_pipe new_pipe false false 0 0 es fs o.0 one.joint refl refl plain_es ∙ all_read A B refl id es)
           (gathers_a (ends_of A B refl id) one.turns new_pipe new_pipe false false 0 0 es fs o.0 one.joint refl refl plain_es ∙ all_ended A B refl id es)
-          (λ h. all_finished B A refl id fs (sym (gathers_b (finishes_of B A refl id) one.turns new_pipe new_pipe false false 0 0 es fs o.0 one.joint refl refl plain_fs) ∙ h));
+          (λ k. all_finished B A refl id fs (sym (gathers_b (finishes_of B A refl id) one.turns new_pipe new_pipe false false 0 0 es fs o.0 one.joint refl refl plain_fs) ∙ k));
     }
 
 -- ---- what two devices of a stream pass on

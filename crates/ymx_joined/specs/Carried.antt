@@ -3,14 +3,11 @@ use Rattle.std.specs.Prelude.{ℕ, ◌≡◌, ◌++◌, List, true, false, None,
 use Rattle.std.specs.Io.KnownBytes.{Appends, Consumes}
 use Rattle.ymx_machine.specs.shared.Events.{Reply}
 use Rattle.ymx_model.specs.session.Events.{Event}
-use Rattle.ymx_model.specs.declared.types.Role.TheVariants.{Client, Server}
-use Rattle.ymx_model.specs.session.Sessions.{new_session}
-use Rattle.ymx_headline.specs.Laws.{AreGood}
 use Rattle.ymx_engine.specs.Devices.{Seen}
 use Rattle.ymx_engine.specs.Events.{taken, given, has_end, has_finish}
-use Rattle.ymx_engine.specs.Lines.{Trades, IsIdle, Life}
-use Rattle.ymx_engine.specs.Tunnels.{look}
-use Rattle.ymx_joined.specs.Tunnels.{TunnelPair, Turn, tunnels_of, BothWork, events_at_a, events_at_b}
+use Rattle.ymx_engine.specs.Lives.{Trades, IsIdle, Life}
+use Rattle.ymx_engine.specs.Turns.{look}
+use Rattle.ymx_joined.specs.Tunnels.{TunnelPair, Turn, HaveCome, events_at_a, events_at_b}
 
 -- What a stream gave at one end is a beginning of what it took at the other. Where its end was read there, it is all of
 -- it, and the stream was finished at the other.
@@ -27,12 +24,10 @@ pub record CarriesBoth (id : ℕ) (at_a at_b : List (Event × Reply)) (q : Tunne
   pub to_b : Carries id at_a at_b
   pub to_a : Carries id at_b at_a
 
--- Two tunnels of new sessions, a client's and a server's, over two pipes: whatever they did, in whatever order, each
--- stream carries what its devices gave.
+-- Whatever two tunnels did, in whatever order, each stream carries what its devices gave.
 abbrev pub TunnelsCarry : List Turn → Type 0
 TunnelsCarry ts =
-    (window_a first_a window_b first_b : ℕ) (q : TunnelPair) → AreGood window_a first_a window_b first_b →
-    BothWork ts (tunnels_of (new_session Client window_a first_a) (new_session Server window_b first_b)) q →
+    (window_a first_a window_b first_b : ℕ) (q : TunnelPair) → HaveCome ts window_a first_a window_b first_b q →
     (id : ℕ) → CarriesBoth id (events_at_a ts) (events_at_b ts) q
 
 -- What one device took is a beginning of what the other gave. Where its end was passed on, it is all of it, and the other

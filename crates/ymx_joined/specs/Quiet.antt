@@ -6,26 +6,23 @@ use Rattle.ymx_machine.specs.declared.types.Reply.TheVariants as reply
 use Rattle.ymx_machine.specs.shared.Events.{Reply}
 use Rattle.ymx_machine.specs.shared.Steps.{answer_of}
 use Rattle.ymx_model.specs.declared.types.Event.TheVariants as event
-use Rattle.ymx_model.specs.declared.types.Role.TheVariants.{Client, Server}
 use Rattle.ymx_model.specs.session.Events.{Event}
-use Rattle.ymx_model.specs.session.Sessions.{Session, new_session, is_running}
+use Rattle.ymx_model.specs.session.Sessions.{Session, is_running}
 use Rattle.ymx_model.specs.session.Emissions.{in_turn}
 use Rattle.ymx_model.specs.session.Histories.{Gives}
 use Rattle.ymx_session.specs.Replies.{stream_fault}
 use Rattle.ymx_session.specs.Streams.{waiting, has_ended}
-use Rattle.ymx_headline.specs.Laws.{AreGood}
 use Rattle.ymx_headline.specs.machine.Arrivals.{read_of}
 use Rattle.ymx_engine.specs.Devices.{Seen}
 use Rattle.ymx_engine.specs.Engines.{Engine, IsFlushed}
 use Rattle.ymx_engine.specs.Events.{taken, given}
-use Rattle.ymx_engine.specs.Lines.{opens_at}
-use Rattle.ymx_engine.specs.declared.connection.Connection.{Connection}
-use Rattle.ymx_engine.specs.Known.{may_push}
-use Rattle.ymx_engine.specs.Marks.{has_work}
-use Rattle.ymx_engine.specs.Served.{NoneGives}
-use Rattle.ymx_engine.specs.Turns.{known_as}
-use Rattle.ymx_engine.specs.Tunnels.{Tunnel, view_of, Serving}
-use Rattle.ymx_joined.specs.Tunnels.{TunnelPair, Turn, tunnels_of, BothWork, events_at_a, events_at_b}
+use Rattle.ymx_engine.specs.Lives.{opens_at}
+use Rattle.ymx_engine.specs.Served.{NoneGives, NoneHangs}
+use Rattle.ymx_engine.specs.Tunnels.{Tunnel}
+use Rattle.ymx_engine.specs.Turns.{Line, line_of}
+use Rattle.ymx_engine.specs.Ways.{may_push}
+use Rattle.ymx_engine.specs.Work.{has_work}
+use Rattle.ymx_joined.specs.Tunnels.{TunnelPair, Turn, HaveCome, events_at_a, events_at_b}
 
 -- Nothing is under way from one engine to another over this pipe: nothing of the one is due, no byte waits for its wire, in
 -- the pipe, or to be fed to the other, and both sessions run.
@@ -90,12 +87,10 @@ pub record HasArrived (id : ℕ) (at_a at_b : List (Event × Reply)) (p : Tunnel
   pub to_a : IsQuietWay p.b p.a p.ba → stream_fault id p.a.session ≡ None → HasCome id at_b at_a p.a.session
   pub both : AreQuiet p → was_kept id at_a ≡ true → was_kept id at_b ≡ true → (stream_fault id p.a.session ≡ None) × (stream_fault id p.b.session ≡ None)
 
--- Two tunnels of new sessions, a client's and a server's, over two pipes: whatever they did, in whatever order, each stream
--- has arrived where the way is quiet.
+-- Whatever two tunnels did, in whatever order, each stream has arrived where the way is quiet.
 abbrev pub AllHasCome : List Turn → Type 0
 AllHasCome ts =
-    (window_a first_a window_b first_b : ℕ) (q : TunnelPair) → AreGood window_a first_a window_b first_b →
-    BothWork ts (tunnels_of (new_session Client window_a first_a) (new_session Server window_b first_b)) q →
+    (window_a first_a window_b first_b : ℕ) (q : TunnelPair) → HaveCome ts window_a first_a window_b first_b q →
     (id : ℕ) → HasArrived id (events_at_a ts) (events_at_b ts) q
 
 -- ---- their devices
@@ -110,25 +105,37 @@ pub record IsAllPassedOn (giver giver_new taker taker_new : Seen) (waits : List 
 
 -- ---- two tunnels at rest
 
--- A tunnel that forgets nobody has no work, though its wire may take bytes, and its session runs.
+-- A tunnel has no work, though its wire may take bytes.
 pub record IsAtRest (t : Tunnel) : Type 0 where
-  pub serves : Serving t
-  pub idle : has_work (view_of t) ≡ false
-  pub takes : t.marks.can_push_wire ≡ true
-  pub runs : is_running t.engine.session.status ≡ true
+  pub idle : has_work t ≡ false
+  pub takes : t.wire.marks.may_push ≡ true
 
--- Where this end has the stream, and knows its connection: all that the stream took at the other end was given here, or the
+-- These are now the two tunnels whose sessions and connections the pair has.
+pub record AreOf (q : TunnelPair) (a b : Tunnel) : Type 0 where
+  pub engine_a : a.engine ≡ q.a
+  pub lines_a : a.lines ≡ q.lines_a
+  pub engine_b : b.engine ≡ q.b
+  pub lines_b : b.lines ≡ q.lines_b
+
+-- Where this end has the stream, and its connection is there: all that the stream took at the other end was given here, or the
 -- device here may take none now.
 abbrev pub IsDelivered : ℕ → (from to : List (Event × Reply)) → Tunnel → Type 0
-IsDelivered id from to here = (c : Connection) → stream_fault id here.engine.session ≡ None → known_as id here.turns.known ≡ Some c → (taken id from ≡ given id to) ⊎ (may_push c ≡ false)
+IsDelivered id from to here = (l : Line) → stream_fault id here.engine.session ≡ None → line_of id here.lines ≡ Some l → (taken id from ≡ given id to) ⊎ (may_push l.ways l.seen.marks ≡ false)
 
--- Two tunnels of new sessions, a client's and a server's, over two pipes: whatever they did, in whatever order, once both
--- are at rest and the pipes are empty they are quiet, and each stream is delivered, both ways; and no stream takes bytes whose
--- device may have some.
+-- What two tunnels at rest have come to, over empty pipes. If both sessions run nothing is under way, and each stream is delivered,
+-- both ways. No stream takes bytes whose device may have some; and of a session that is over no connection's way to the peer is
+-- open, unless it is still being made.
+pub record HaveDelivered (at_a at_b : List (Event × Reply)) (q : TunnelPair) (a b : Tunnel) : Type 0 where
+  pub quiet : is_running a.engine.session.status ≡ true → is_running b.engine.session.status ≡ true → AreQuiet q
+  pub to_b : is_running a.engine.session.status ≡ true → is_running b.engine.session.status ≡ true → (id : ℕ) → IsDelivered id at_a at_b b
+  pub to_a : is_running a.engine.session.status ≡ true → is_running b.engine.session.status ≡ true → (id : ℕ) → IsDelivered id at_b at_a a
+  pub gives_a : NoneGives a
+  pub gives_b : NoneGives b
+  pub hears_a : NoneHangs a
+  pub hears_b : NoneHangs b
+
+-- Whatever two tunnels did, in whatever order, so it is once both are at rest.
 abbrev pub AllIsDelivered : List Turn → Type 0
 AllIsDelivered ts =
-    (window_a first_a window_b first_b : ℕ) (q : TunnelPair) (a b : Tunnel) → AreGood window_a first_a window_b first_b →
-    BothWork ts (tunnels_of (new_session Client window_a first_a) (new_session Server window_b first_b)) q → a.engine ≡ q.a → b.engine ≡ q.b →
-    IsAtRest a → IsAtRest b → q.ab ≡ [] → q.ba ≡ [] →
-    AreQuiet q × ((id : ℕ) → IsDelivered id (events_at_a ts) (events_at_b ts) b × IsDelivered id (events_at_b ts) (events_at_a ts) a)
-    × NoneGives (view_of a) × NoneGives (view_of b)
+    (window_a first_a window_b first_b : ℕ) (q : TunnelPair) (a b : Tunnel) → HaveCome ts window_a first_a window_b first_b q → AreOf q a b →
+    IsAtRest a → IsAtRest b → q.ab ≡ [] → q.ba ≡ [] → HaveDelivered (events_at_a ts) (events_at_b ts) q a b

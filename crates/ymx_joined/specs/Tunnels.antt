@@ -11,38 +11,34 @@ use Rattle.ymx_model.specs.session.Sessions.{Session, new_session}
 use Rattle.ymx_model.specs.session.Emissions.{in_turn}
 use Rattle.ymx_headline.specs.Laws.{AreGood}
 use Rattle.ymx_headline.specs.audit.Told.{IsOneRun}
-use Rattle.ymx_engine.specs.Devices.{Seen}
 use Rattle.ymx_engine.specs.Engines.{Engine}
 use Rattle.ymx_engine.specs.Runs.{Runs}
 use Rattle.ymx_engine.specs.Tunnels.{Tunnel}
+use Rattle.ymx_engine.specs.Turns.{Lines}
 
--- The engines of two tunnels, the bytes that A's wire took and B's has not given, those of the other way, and what is seen
--- of the device of each stream at both.
+-- The sessions of two tunnels with the bytes that each has under way, their connections, the bytes that A's wire took and B's has
+-- not given, and those of the other way.
 pub record TunnelPair : Type 0 where
   pub a : Engine
   pub b : Engine
+  pub lines_a : Lines
+  pub lines_b : Lines
   pub ab : List ℕ
   pub ba : List ℕ
-  pub lines_a : List (ℕ × Seen)
-  pub lines_b : List (ℕ × Seen)
 
--- an engine of this session, for whose wire no byte waits
+-- a session, and no byte under way between it and its wire
 abbrev pub engine_of : Session → Engine
 engine_of s = record { session = s; outgoing = []; incoming = [] }
-
--- two tunnels of these sessions, with no connection, and empty pipes
-abbrev pub tunnels_of : Session → Session → TunnelPair
-tunnels_of s t = record { a = engine_of s; b = engine_of t; ab = []; ba = []; lines_a = []; lines_b = [] }
 
 -- ---- a turn of one side, at which these events happened; it reads the pipe `from`, and writes to the pipe `to`
 
 -- A tunnel made any number of calls. Its wire gave the front of the pipe `from`, and put what it took behind the bytes of the
 -- pipe `to`. It may also have failed, or said that no more bytes come.
-pub record Works (es : List (Event × Reply)) (old new : Engine) (lines lines_new : List (ℕ × Seen)) (to from to_new from_new : List ℕ) : Type 0 where
+pub record Works (es : List (Event × Reply)) (old new : Engine) (lines lines_new : Lines) (to from to_new from_new : List ℕ) : Type 0 where
   pub before : Tunnel
   pub after : Tunnel
   pub runs : Runs before after
-  pub events : es ≡ runs.events
+  pub events : es ≡ runs.moves.events
   pub engine : before.engine ≡ old
   pub engine_new : after.engine ≡ new
   pub begins : before.lines ≡ lines
@@ -86,6 +82,19 @@ abbrev pub events_at_b : List Turn → List (Event × Reply)
 events_at_b [] = []
 events_at_b (t ∷ ts) = at_b t.side t.events ++ events_at_b ts
 
+-- Two tunnels of sessions that had done nothing, a client's and a server's, of good windows and first ids, with no connection and
+-- over empty pipes, took these turns, and have come to q.
+pub record HaveCome (ts : List Turn) (window_a first_a window_b first_b : ℕ) (q : TunnelPair) : Type 0 where
+  pub good : AreGood window_a first_a window_b first_b
+  pub new : TunnelPair
+  pub a : new.a ≡ engine_of (new_session Client window_a first_a)
+  pub b : new.b ≡ engine_of (new_session Server window_b first_b)
+  pub none_a : new.lines_a.by_id ≡ []
+  pub none_b : new.lines_b.by_id ≡ []
+  pub ab : new.ab ≡ []
+  pub ba : new.ba ≡ []
+  pub work : BothWork ts new q
+
 -- ---- both as one run
 
 -- the events of a tunnel as entries, whose positions go up by one; one caller made them all
@@ -96,10 +105,8 @@ entries_from at (e ∷ es) = record { position = at; seat = 0; event = e.0; repl
 abbrev pub entries : List (Event × Reply) → List Entry
 entries events = entries_from 0 events
 
--- All that happened at two tunnels of new sessions, a client's and a server's, over two pipes is one run of the world and of
--- the queue machine, whatever they did, in whatever order.
+-- All that happened at two tunnels is one run of the world and of the queue machine, whatever they did, in whatever order.
 abbrev pub AreOneTunnelRun : List Turn → Type 0
 AreOneTunnelRun ts =
-    (window_a first_a window_b first_b : ℕ) (q : TunnelPair) → AreGood window_a first_a window_b first_b →
-    BothWork ts (tunnels_of (new_session Client window_a first_a) (new_session Server window_b first_b)) q →
+    (window_a first_a window_b first_b : ℕ) (q : TunnelPair) → HaveCome ts window_a first_a window_b first_b q →
     (steps : List Step) × IsOneRun in_turn (entries (events_at_a ts)) (entries (events_at_b ts)) steps window_a first_a window_b first_b q.a.session q.b.session

@@ -13,7 +13,7 @@ ghost use Rattle.ymx_engine.specs.Devices.{Seen};
 ghost use Rattle.ymx_engine.specs.Events.{lacks_memory};
 ghost use Rattle.ymx_engine.specs.Runs.{Runs};
 ghost use Rattle.ymx_engine.specs.Tunnels.{Tunnel};
-ghost use Rattle.ymx_engine.specs.Lines.{Trades, Change, Lives, sinces};
+ghost use Rattle.ymx_engine.specs.Lives.{Trades, Change, Lives, sinces};
 ghost use Rattle.ymx_joined.specs.Tunnels.{Turn, entries, AreOneTunnelRun};
 ghost use Rattle.ymx_joined.specs.Carried.{Carries, HadOne, IsPassedOn, TunnelsCarry};
 ghost use Rattle.ymx_joined.specs.Quiet.{HasCome, NextRead, AllHasCome, IsAllPassedOn, AllIsDelivered};
@@ -25,7 +25,7 @@ ghost use Rattle.ymx_joined.specs.Quiet.{HasCome, NextRead, AllHasCome, IsAllPas
 /// the audit reads one.
 pub fn tunnels_are_one_run()
     ensures one_run { (turns : List Turn) → AreOneTunnelRun turns }
-    ensures history { (old new : Tunnel) → (runs : Runs old new) → Replays in_turn (entries runs.events) old.engine.session new.engine.session }
+    ensures history { (old new : Tunnel) → (runs : Runs old new) → Replays in_turn (entries runs.moves.events) old.engine.session new.engine.session }
 {}
 
 /// Two tunnels, a client's and a server's, over two pipes in memory. They make any calls, in any order; their devices and
@@ -75,10 +75,11 @@ pub fn quiet_devices_have_all_but_what_waits()
 {}
 
 /// Two tunnels that have no work have delivered all. They are a client's and a server's, over two pipes in memory; they made
-/// any calls, in any order. Now neither has work, though its wire may take bytes; the pipes are empty, and both sessions run.
-/// Then they are quiet; and where an end has a stream, and knows its connection, all that the stream took at the other end
-/// was given here, or the device here may take none now. Nor does a stream take bytes then that its device may have. (A
-/// tunnel forgets nobody: clause `serves` of `Tunnel::new`, and the record `Attends` of `Runs`, which each of its calls has.)
+/// any calls, in any order. Now neither has work, though its wire may take bytes, and the pipes are empty. If both sessions run
+/// the tunnels are quiet; and where an end has a stream, and its connection is there, all that the stream took at the other end
+/// was given here, or the device here may take none now, as it says itself. Nor does a stream take bytes then that its device
+/// may have. Of a session that is over no connection waits for word of it: none's way to the peer is open, unless it is still
+/// being made. (Nobody is forgotten: what each call says, `Runs`, has it.)
 pub fn tunnels_at_rest_have_delivered()
     ensures { (turns : List Turn) → AllIsDelivered turns }
 {}

@@ -1,37 +1,55 @@
-use Rattle.std.proofs.Common.{refl, sym, ◌∙◌, ◌<◌, length, arith}
+use Rattle.std.proofs.Common.{◌<◌, ◌∙◌, sym, subst, length, refl, arith}
+use Rattle.ymx_model.specs.session.Sessions.{Session}
 use Rattle.ymx_session.specs.Streams.{waiting}
-use Rattle.ymx_engine.proofs.Exchanging.{exchange_same, exchange_then}
-use Rattle.ymx_engine.proofs.Following.{grow_same, follows_same, follows_then, offered_next, offered_before}
+use Rattle.ymx_engine.proofs.Parts.{part_same, delivers_more, delivers_last, delivers_off, delivers_all, first_or_more, waits_not, hears_from, may_before, may_after}
 use Rattle.ymx_engine.proofs.exchange.deliver.Goals as goal
 
 pub push-init : goal.push-init
-push-init g c = (exchange_same _ _ _, omega arith, follows_same _ _ _ (grow_same _), λ h. (refl, refl, refl), λ h. absurd (omega arith))
+push-init g c = (part_same, λ h. absurd (omega arith), λ h. (refl, refl, refl), λ h. absurd (omega arith), λ h. absurd (omega arith), λ h. absurd (omega arith))
 
 pub push-preserved : goal.push-preserved
 push-preserved g c =
     let i = c.push.invariant in
-    let e = c.push_once.ensures in (
-      exchange_then _ _ _ _ _ _ _ i.0 e.moved,
-      omega (arith, i.1, e.calls),
-      follows_then _ _ _ _ _ _ i.2 e.follows,
-      λ h. absurd (omega arith),
-      λ h. offered_next _ (λ s. 0 < length (waiting c.args.id s)) _ _ _ _ _ _ _ _ i.3 i.4 e.delivers e.follows,
-    )
+    let e = c.push_once.ensures in
+    let on = e.goes_on c.if-not-push_once.false in
+    let some = e.some c.if-not-push_once.false in
+    let may = sym c.may_push.ensures ∙ c.if-not-may_push.false in
+    let more = delivers_more c.push.turn i.0 e.delivered may some on in
+    (more.0, more.1, λ h. absurd (omega (arith, h)), λ h. on, λ h. first_or_more c.push.turn (λ z. subst (λ (v : Session). 0 < length (waiting c.args.id v)) (i.2 z).0 some) i.4, λ h. first_or_more c.push.turn (λ z. may_before (i.2 z).1 (i.2 z).2 may) i.5)
 
-pub returns-then-not-push_once-clause-moved : goal.returns-then-not-push_once-clause-moved
-returns-then-not-push_once-clause-moved g c = exchange_then _ _ _ _ _ _ _ c.push.invariant.0 c.push_once.ensures.moved
+pub returns-then-not-may_push-clause-delivered : goal.returns-then-not-may_push-clause-delivered
+returns-then-not-may_push-clause-delivered g c = delivers_off (omega arith) c.push.invariant.0 (sym c.may_push.ensures ∙ c.if-not-may_push.true)
 
-pub returns-then-not-push_once-clause-follows : goal.returns-then-not-push_once-clause-follows
-returns-then-not-push_once-clause-follows g c = follows_then _ _ _ _ _ _ c.push.invariant.2 c.push_once.ensures.follows
+pub returns-then-not-push_once-clause-delivered : goal.returns-then-not-push_once-clause-delivered
+returns-then-not-push_once-clause-delivered g c = let i = c.push.invariant in delivers_last c.push.turn (omega arith) i.0 i.1 (λ z. (i.2 z).0) c.push_once.ensures.delivered (sym c.may_push.ensures ∙ c.if-not-may_push.false)
 
-pub returns-then-not-push_once-clause-delivers : goal.returns-then-not-push_once-clause-delivers
-returns-then-not-push_once-clause-delivers g c = offered_next _ (λ s. 0 < length (waiting c.args.id s)) _ _ _ _ _ _ _ _ c.push.invariant.3 c.push.invariant.4 c.push_once.ensures.delivers c.push_once.ensures.follows
+pub returns-clause-delivered : goal.returns-clause-delivered
+returns-clause-delivered g c = let i = c.push.invariant in delivers_all (omega arith) i.0 (i.1 (omega arith))
 
-pub returns-then-not-may_push-clause-delivers : goal.returns-then-not-may_push-clause-delivers
-returns-then-not-may_push-clause-delivers g c = offered_before _ (λ s. 0 < length (waiting c.args.id s)) _ _ _ _ _ _ c.push.invariant.3 c.push.invariant.4 (sym c.may_push.ensures ∙ c.if-not-may_push.true)
+pub returns-clause-goes_on : goal.returns-clause-goes_on
+returns-clause-goes_on g c = λ h. c.push.invariant.3 (omega arith)
 
-pub returns-then-not-may_push-clause-stays : goal.returns-then-not-may_push-clause-stays
-returns-then-not-may_push-clause-stays g c = λ may waits. absurd (let e = sym may ∙ sym c.may_push.ensures ∙ c.if-not-may_push.true in cc)
+pub returns-then-not-may_push-clause-hears_end : goal.returns-then-not-may_push-clause-hears_end
+returns-then-not-may_push-clause-hears_end g c = λ may none.
+    let i = c.push.invariant in
+    first_or_more c.push.turn (λ z. let on = may_after (i.2 z).1 (i.2 z).2 may in let off = sym c.may_push.ensures ∙ c.if-not-may_push.true in absurd cc) (λ z. waits_not _ none (i.4 z))
 
-pub returns-then-not-push_once-clause-stays : goal.returns-then-not-push_once-clause-stays
-returns-then-not-push_once-clause-stays g c = λ may waits. absurd (let e = sym (c.push_once.ensures.stays may waits) ∙ c.if-not-push_once.true in cc)
+pub returns-then-not-push_once-clause-hears_end : goal.returns-then-not-push_once-clause-hears_end
+returns-then-not-push_once-clause-hears_end g c = λ may none.
+    let i = c.push.invariant in
+    first_or_more c.push.turn (λ z. hears_from c.args.id (i.2 z).0 none c.push_once.ensures.hears_end) (λ z. waits_not _ none (i.4 z))
+
+pub returns-clause-hears_end : goal.returns-clause-hears_end
+returns-clause-hears_end g c = λ may none. waits_not _ none (c.push.invariant.4 (omega arith))
+
+pub returns-then-not-may_push-clause-idle : goal.returns-then-not-may_push-clause-idle
+returns-then-not-may_push-clause-idle g c = λ off. let i = c.push.invariant in first_or_more c.push.turn i.2 (λ z. let on = i.5 z in absurd cc)
+
+pub returns-then-not-push_once-clause-idle : goal.returns-then-not-push_once-clause-idle
+returns-then-not-push_once-clause-idle g c = λ off.
+    let i = c.push.invariant in
+    let may = sym c.may_push.ensures ∙ c.if-not-may_push.false in
+    first_or_more c.push.turn (λ z. let on = may_before (i.2 z).1 (i.2 z).2 may in absurd cc) (λ z. let on = i.5 z in absurd cc)
+
+pub returns-clause-idle : goal.returns-clause-idle
+returns-clause-idle g c = λ off. let on = c.push.invariant.5 (omega arith) in absurd cc

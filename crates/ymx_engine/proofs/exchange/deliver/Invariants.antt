@@ -1,14 +1,16 @@
-use Rattle.std.proofs.Common.{◌≡◌, ◌≤◌, ◌<◌, ◌+◌, ◌*◌, true, length}
+use Rattle.std.proofs.Common.{◌≡◌, ◌<◌, ◌*◌, [], length, true}
 use Rattle.ymx_session.specs.Streams.{waiting}
-use Rattle.ymx_engine.specs.Exchanges.{Exchange}
-use Rattle.ymx_engine.specs.Known.{may_push}
-use Rattle.ymx_engine.specs.Follows.{FollowsDevice, IsOffered}
+use Rattle.ymx_engine.specs.Events.{given}
+use Rattle.ymx_engine.specs.Exchanges.{has_bytes}
+use Rattle.ymx_engine.specs.Serves.{Part}
+use Rattle.ymx_engine.specs.Ways.{may_push}
 use Rattle.ymx_engine.proofs.exchange.deliver.Given as goal
 
 abbrev pub invariant-push : goal.invariant-push
 invariant-push g l =
-    Exchange l.id l.initial.session l.session (g.D.Device.seen l.initial.device) (g.D.Device.seen l.device)
-    × ((g.D.Device.seen l.device).calls ≤ (g.D.Device.seen l.initial.device).calls + 2 * l.turn)
-    × FollowsDevice l.initial.connection l.connection (g.D.Device.seen l.initial.device).counts (g.D.Device.seen l.device).counts
-    × (l.turn ≡ 0 → (l.session ≡ l.initial.session) × (l.connection ≡ l.initial.connection) × ((g.D.Device.seen l.device).counts ≡ (g.D.Device.seen l.initial.device).counts))
-    × (0 < l.turn → may_push l.initial.connection ≡ true → 0 < length (waiting l.id l.initial.session) → IsOffered l.connection (g.D.Device.seen l.initial.device).counts (g.D.Device.seen l.device).counts)
+    (part : Part l.id l.initial.session l.session [] [] (g.D.Device.seen l.initial.device) (g.D.Device.seen l.device) l.initial.ways l.ways (2 * l.turn) 0)
+    × (0 < l.turn → has_bytes (given l.id part.moved.events) ≡ true)
+    × (l.turn ≡ 0 → (l.session ≡ l.initial.session) × (l.ways ≡ l.initial.ways) × (g.D.Device.seen l.device ≡ g.D.Device.seen l.initial.device))
+    × (0 < l.turn → may_push l.ways (g.D.Device.seen l.device).marks ≡ true)
+    × (0 < l.turn → 0 < length (waiting l.id l.initial.session))
+    × (0 < l.turn → may_push l.initial.ways (g.D.Device.seen l.initial.device).marks ≡ true)

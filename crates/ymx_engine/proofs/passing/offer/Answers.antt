@@ -1,13 +1,27 @@
-use Rattle.ymx_engine.proofs.Advancing.{offered_failed}
-use Rattle.ymx_engine.proofs.Feeding.{takes_payload, reset_goes_on}
+use Rattle.std.proofs.Common.{◌<◌, refl}
+use Rattle.ymx_engine.specs.Passes.{payload_of}
+use Rattle.ymx_engine.proofs.Advancing.{offered_none, offered_some, offered_failed}
 use Rattle.ymx_engine.proofs.Coming.{reset_gives}
+use Rattle.ymx_engine.proofs.Rows.{row_some}
+use Rattle.ymx_engine.proofs.Steady.{reset_stays}
 use Rattle.ymx_engine.proofs.passing.offer.Goals as goal
 
-pub returns-in-Failed-clause-offered : goal.returns-in-Failed-clause-offered
-returns-in-Failed-clause-offered g c = let h = c.reset_and_shut.ensures.reset in offered_failed _ h.0 _ _ _ _ _ _ _ c.in-Failed.ensures h.1 c.reset_and_shut.ensures.shut
+pub returns-in-Took-clause-offered : goal.returns-in-Took-clause-offered
+returns-in-Took-clause-offered g c =
+    let x = c.settle.ensures in
+    let some : 0 < c.in-Took.count = c.in-Took.ensures.some refl (row_some c.args.row c.args.waits.now c.args.session.now c.requires.row c.requires.some) in
+    offered_some c.args.row.id c.in-Took.count c.settle.result _ _ (payload_of c.args.row c.args.waits.now) c.args.waits.now _ _ _ c.in-Took.ensures some x.within x.settled
 
-pub returns-in-Failed-clause-goes_on : goal.returns-in-Failed-clause-goes_on
-returns-in-Failed-clause-goes_on g c none = let h = c.reset_and_shut.ensures.reset in reset_goes_on _ h.0 _ _ h.1 (takes_payload c.args.session.now c.requires.0 c.requires.1)
+pub returns-in-NotNow-clause-offered : goal.returns-in-NotNow-clause-offered
+returns-in-NotNow-clause-offered g c = offered_none c.args.row.id _ (payload_of c.args.row c.args.waits.now) c.args.waits.now _ _ _ c.in-NotNow.ensures
+
+pub returns-in-Failed-clause-offered : goal.returns-in-Failed-clause-offered
+returns-in-Failed-clause-offered g c =
+    let h = c.reset_and_shut.ensures in
+    offered_failed c.args.row.id h.reset.0 _ _ (payload_of c.args.row c.args.waits.now) c.args.waits.now _ _ _ _ _ c.in-Failed.ensures h.reset.1 h.shut h.broken
 
 pub returns-in-Failed-clause-others : goal.returns-in-Failed-clause-others
-returns-in-Failed-clause-others g c = let h = c.reset_and_shut.ensures.reset in λ other ne. reset_gives c.args.id h.0 _ _ h.1 other
+returns-in-Failed-clause-others g c = let h = c.reset_and_shut.ensures.reset in λ other ne. reset_gives c.args.row.id h.0 _ _ h.1 other
+
+pub returns-in-Failed-clause-status : goal.returns-in-Failed-clause-status
+returns-in-Failed-clause-status g c = let h = c.reset_and_shut.ensures.reset in reset_stays c.args.row.id h.0 _ _ h.1

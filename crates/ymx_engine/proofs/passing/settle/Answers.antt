@@ -1,42 +1,44 @@
-use Rattle.std.proofs.Common.{◌≡◌, ◌<◌, min, ap, ◌∙◌, arith}
-use Rattle.ymx_engine.proofs.Rows.{going_piece, going_header, going_ends, going_on, ends_beside}
+use Rattle.std.proofs.Common.{◌<◌, arith}
+use Rattle.ymx_engine.specs.Passes.{payload_of}
+use Rattle.ymx_engine.proofs.Rows.{going_row, going_at, going_header, going_ends, going_on, piece_some, ends_beside, ends_status}
 use Rattle.ymx_engine.proofs.passing.settle.Goals as goal
 
-pub overflow_add-at : goal.overflow_add-at
-overflow_add-at c =
-    let x = c.piece.invariant in
-    let least : c.min-count.result ≡ min c.piece.left (x.row).missing = c.min-count.ensures ∙ ap (min c.piece.left) (c.missing.ensures (record { id = c.args.id; missing = (x.row).missing }) ((x.row).passes).passes) in
-    let waits = (going_piece c.args.id c.piece.turn c.piece.at c.piece.left c.args.taken c.min-count.result c.args.gathered.now c.args.waits.now c.args.session.now c.piece.session x least).0 in omega arith
+pub piece-init : goal.piece-init
+piece-init c = record {
+  going = going_row c.args.row c.args.taken c.counts.result c.args.waits.now c.args.session.now c.counts.ensures c.requires.row c.requires.first c.requires.some c.requires.within;
+  counts = c.counts.ensures;
+}
 
-pub slice_bounds-pass-end : goal.slice_bounds-pass-end
-slice_bounds-pass-end c =
-    let x = c.piece.invariant in
-    let least : c.min-count.result ≡ min c.piece.left (x.row).missing = c.min-count.ensures ∙ ap (min c.piece.left) (c.missing.ensures (record { id = c.args.id; missing = (x.row).missing }) ((x.row).passes).passes) in
-    (going_piece c.args.id c.piece.turn c.piece.at c.piece.left c.args.taken c.min-count.result c.args.gathered.now c.args.waits.now c.args.session.now c.piece.session x least).0
+pub pass-requires-clause-some : goal.pass-requires-clause-some
+pass-requires-clause-some c =
+    let x = going_at c.args.row c.args.row.id c.piece.at c.piece.left c.args.taken c.piece.piece-index c.counts.result (payload_of c.args.row c.args.waits.now) c.args.waits.now c.args.session.now c.piece.session c.counts.ensures c.piece.invariant.going c.piece-test.true in
+    piece_some c.args.row.id c.piece.at c.piece.left c.args.taken _ c.min-count.result _ (payload_of c.args.row c.args.waits.now) c.args.waits.now c.args.session.now c.piece.session x c.min-count.ensures
 
 pub returns-then-left-eq0-clause-settled : goal.returns-then-left-eq0-clause-settled
 returns-then-left-eq0-clause-settled c =
-    let x = c.piece.invariant in
-    let least : c.min-count.result ≡ min c.piece.left (x.row).missing = c.min-count.ensures ∙ ap (min c.piece.left) (c.missing.ensures (record { id = c.args.id; missing = (x.row).missing }) ((x.row).passes).passes) in
-    going_ends c.args.id c.piece.turn c.piece.at c.piece.left c.args.taken c.min-count.result c.args.gathered.now c.args.waits.now c.args.session.now c.piece.session _ x least c.if-left-eq0.true c.pass.ensures
-
-pub slice_bounds-feed-end : goal.slice_bounds-feed-end
-slice_bounds-feed-end c =
-    let x = c.piece.invariant in
-    let least : c.min-count.result ≡ min c.piece.left (x.row).missing = c.min-count.ensures ∙ ap (min c.piece.left) (c.missing.ensures (record { id = c.args.id; missing = (x.row).missing }) ((x.row).passes).passes) in
-    let more : c.min-count.result < c.piece.left = omega (arith, c.if-left-eq0.false) in
-    going_header c.args.id c.piece.turn c.piece.at c.piece.left c.args.taken c.min-count.result c.args.gathered.now c.args.waits.now c.args.session.now c.piece.session x least more
-
-pub piece-preserved : goal.piece-preserved
-piece-preserved c =
-    let x = c.piece.invariant in
-    let least : c.min-count.result ≡ min c.piece.left (x.row).missing = c.min-count.ensures ∙ ap (min c.piece.left) (c.missing.ensures (record { id = c.args.id; missing = (x.row).missing }) ((x.row).passes).passes) in
-    let more : c.min-count.result < c.piece.left = omega (arith, c.if-left-eq0.false) in
-    going_on c.payload_follows.ensures.follows c.args.id c.piece.turn c.piece.at c.piece.left c.args.taken c.min-count.result c.args.gathered.now c.args.waits.now _ c.args.session.now c.piece.session _ _ x least more c.pass.ensures
-    c.feed-fed.ensures.event c.piece-test.true
+    let x = going_at c.args.row c.args.row.id c.piece.at c.piece.left c.args.taken c.piece.piece-index c.counts.result (payload_of c.args.row c.args.waits.now) c.args.waits.now c.args.session.now c.piece.session c.counts.ensures c.piece.invariant.going c.piece-test.true in
+    going_ends c.args.row.id c.piece.at c.piece.left c.args.taken _ c.min-count.result _ (payload_of c.args.row c.args.waits.now) c.args.waits.now c.args.session.now c.piece.session _ x c.min-count.ensures c.if-left-eq0.true c.pass.ensures
 
 pub returns-then-left-eq0-clause-others : goal.returns-then-left-eq0-clause-others
 returns-then-left-eq0-clause-others c =
-    let x = c.piece.invariant in
-    let least : c.min-count.result ≡ min c.piece.left (x.row).missing = c.min-count.ensures ∙ ap (min c.piece.left) (c.missing.ensures (record { id = c.args.id; missing = (x.row).missing }) ((x.row).passes).passes) in
-    ends_beside c.args.id c.piece.turn c.piece.at c.piece.left c.args.taken c.min-count.result c.args.gathered.now c.args.waits.now c.args.session.now c.piece.session _ x least c.pass.ensures
+    let x = going_at c.args.row c.args.row.id c.piece.at c.piece.left c.args.taken c.piece.piece-index c.counts.result (payload_of c.args.row c.args.waits.now) c.args.waits.now c.args.session.now c.piece.session c.counts.ensures c.piece.invariant.going c.piece-test.true in
+    ends_beside c.args.row.id c.piece.at c.piece.left c.args.taken _ c.min-count.result _ (payload_of c.args.row c.args.waits.now) c.args.waits.now c.args.session.now c.piece.session _ x c.min-count.ensures c.pass.ensures
+
+pub returns-then-left-eq0-clause-status : goal.returns-then-left-eq0-clause-status
+returns-then-left-eq0-clause-status c =
+    let x = going_at c.args.row c.args.row.id c.piece.at c.piece.left c.args.taken c.piece.piece-index c.counts.result (payload_of c.args.row c.args.waits.now) c.args.waits.now c.args.session.now c.piece.session c.counts.ensures c.piece.invariant.going c.piece-test.true in
+    ends_status c.args.row.id c.piece.at c.piece.left c.args.taken _ c.min-count.result _ (payload_of c.args.row c.args.waits.now) c.args.waits.now c.args.session.now c.piece.session _ x c.min-count.ensures c.pass.ensures
+
+pub slice_bounds-feed-end : goal.slice_bounds-feed-end
+slice_bounds-feed-end c =
+    let x = going_at c.args.row c.args.row.id c.piece.at c.piece.left c.args.taken c.piece.piece-index c.counts.result (payload_of c.args.row c.args.waits.now) c.args.waits.now c.args.session.now c.piece.session c.counts.ensures c.piece.invariant.going c.piece-test.true in
+    let less : c.min-count.result < c.piece.left = omega (arith, c.if-left-eq0.false) in
+    going_header c.args.row.id c.piece.at c.piece.left c.args.taken _ c.min-count.result _ (payload_of c.args.row c.args.waits.now) c.args.waits.now c.args.session.now c.piece.session x c.min-count.ensures less
+
+pub piece-preserved : goal.piece-preserved
+piece-preserved c =
+    let x = going_at c.args.row c.args.row.id c.piece.at c.piece.left c.args.taken c.piece.piece-index c.counts.result (payload_of c.args.row c.args.waits.now) c.args.waits.now c.args.session.now c.piece.session c.counts.ensures c.piece.invariant.going c.piece-test.true in
+    let less : c.min-count.result < c.piece.left = omega (arith, c.if-left-eq0.false) in record {
+      going = going_on c.payload_follows.ensures.follows c.args.row.id c.piece.at c.piece.left c.args.taken _ c.min-count.result _ (payload_of c.args.row c.args.waits.now) c.args.waits.now _ c.args.session.now c.piece.session _ _ x c.min-count.ensures less c.pass.ensures c.feed-fed.ensures.event;
+      counts = c.counts.ensures;
+    }

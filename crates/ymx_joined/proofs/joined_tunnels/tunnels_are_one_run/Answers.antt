@@ -6,4 +6,4 @@ pub returns-clause-one_run : goal.returns-clause-one_run
 returns-clause-one_run c = are_one_tunnel_run
 
 pub returns-clause-history : goal.returns-clause-history
-returns-clause-history c = λ old new runs. replays 0 runs.events old.engine.session new.engine.session runs.happen
+returns-clause-history c = λ old new runs. replays 0 runs.moves.events old.engine.session new.engine.session runs.moves.happen

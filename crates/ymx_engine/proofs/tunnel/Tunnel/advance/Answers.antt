@@ -1,12 +1,31 @@
-use Rattle.std.proofs.Common.{refl}
-use Rattle.ymx_engine.proofs.Running.{runs_handled, from_view}
-use Rattle.ymx_engine.proofs.Tending.{serving_same}
-use Rattle.ymx_engine.proofs.Staying.{stays_alike, stays_from}
-use Rattle.ymx_engine.proofs.Working.{attends_on}
+use Rattle.std.proofs.Common.{◌≡◌, ◌∙◌, ◌+◌, ◌<◌, ◌≤◌, length, false, ap, sym, arith}
+use Rattle.ymx_model.specs.session.Feeds.{is_stuck}
+use Rattle.ymx_engine.specs.Tunnels.{Tunnel}
+use Rattle.ymx_engine.proofs.Attending.{keeps_none, keeps_on}
+use Rattle.ymx_engine.proofs.Feeding.{takes_payload}
 use Rattle.ymx_engine.proofs.tunnel.Tunnel.advance.Goals as goal
 
-pub returns-clause-runs : goal.returns-clause-runs
-returns-clause-runs g c = from_view _ _ _ c.self.view_is (runs_handled _ _ c.advance.ensures.fed refl refl (attends_on _ _ (serving_same _ _ c.advance.ensures.served c.advance.ensures.turns.known refl) c.advance.ensures.turns.turns refl))
+pub payload-init : goal.payload-init
+payload-init g c = record { keeps = keeps_none _; few = omega arith }
 
-pub returns-clause-stays : goal.returns-clause-stays
-returns-clause-stays g c = stays_from _ _ _ c.self.view_is (stays_alike _ _ refl refl)
+pub payload-preserved : goal.payload-preserved
+payload-preserved g c =
+    let view = c.self-in-payload.view_is in
+    let row = c.in-Some.ensures.some in
+    let least = c.max.ensures in
+    let free : is_stuck c.feed_to_payload.new.self.engine.session ≡ false = sym (ap (λ (t : Tunnel). is_stuck t.engine.session) view) ∙ takes_payload c.self-in-payload.inside.session _ (row.passes).passes in
+    let waits : length c.waiting-in-payload.result.now ≡ length c.feed_to_payload.new.self.engine.incoming = ap length (c.waiting-in-payload.ensures ∙ ap (λ (t : Tunnel). t.engine.incoming) view) in
+    let some : 0 < length c.waiting-in-payload.result.now = c.in-Some.ensures.waits in
+    let fewer : length c.feed_front.new.self.engine.incoming < length c.feed_to_payload.new.self.engine.incoming = c.feed_front.ensures.some free (omega arith) (omega arith) in
+    let same : length c.feed_to_payload.new.self.engine.incoming ≤ length c.payload.self.engine.incoming = c.feed_to_payload.ensures.few in
+    let before : length c.payload.self.engine.incoming + c.payload.turn ≤ length c.args.self.now.engine.incoming = c.payload.invariant.few in
+    record { keeps = keeps_on _ _ _ c.payload.invariant.keeps (keeps_on _ _ _ c.feed_to_payload.ensures.keeps c.feed_front.ensures.keeps); few = omega arith }
+
+pub returns-in_default-clause-keeps : goal.returns-in_default-clause-keeps
+returns-in_default-clause-keeps g c = keeps_on _ _ _ c.payload.invariant.keeps c.feed_to_payload.ensures.keeps
+
+pub returns-then-is_worth_a_call-clause-keeps : goal.returns-then-is_worth_a_call-clause-keeps
+returns-then-is_worth_a_call-clause-keeps g c = keeps_on _ _ _ c.payload.invariant.keeps c.feed_to_payload.ensures.keeps
+
+pub returns-clause-keeps : goal.returns-clause-keeps
+returns-clause-keeps g c = c.payload.invariant.keeps

@@ -1,12 +1,34 @@
-use Rattle.std.proofs.Common.{refl}
-use Rattle.ymx_engine.proofs.Running.{runs_flushed, from_view}
-use Rattle.ymx_engine.proofs.Tending.{serving_same}
-use Rattle.ymx_engine.proofs.Staying.{stays_kept, stays_from}
-use Rattle.ymx_engine.proofs.Working.{attends_by, grows_write}
+use Rattle.std.proofs.Common.{inl, refl, arith}
+use Rattle.ymx_engine.proofs.Attending.{runs_written}
+use Rattle.ymx_engine.proofs.Flushing.{writes_on, goes_on, went_on, stays_written, rests_written}
 use Rattle.ymx_engine.proofs.tunnel.Tunnel.flush.Goals as goal
 
+pub write-init : goal.write-init
+write-init g c = inl (refl, refl)
+
+pub returns-then-not-write_once-clause-runs : goal.returns-then-not-write_once-clause-runs
+returns-then-not-write_once-clause-runs g c = runs_written _ _ _ (writes_on c.write.turn _ _ _ _ c.write.invariant c.write_once.ensures)
+
+pub returns-then-not-write_once-clause-stays : goal.returns-then-not-write_once-clause-stays
+returns-then-not-write_once-clause-stays g c = stays_written _ _ _ (writes_on c.write.turn _ _ _ _ c.write.invariant c.write_once.ensures)
+
+pub returns-then-not-write_once-clause-rests : goal.returns-then-not-write_once-clause-rests
+returns-then-not-write_once-clause-rests g c = rests_written _ _ _ (writes_on c.write.turn _ _ _ _ c.write.invariant c.write_once.ensures)
+
+pub returns-then-not-write_once-clause-writes : goal.returns-then-not-write_once-clause-writes
+returns-then-not-write_once-clause-writes g c = (writes_on c.write.turn _ _ _ _ c.write.invariant c.write_once.ensures).writes
+
+pub write-preserved : goal.write-preserved
+write-preserved g c = goes_on c.write.turn c.write_once.result _ _ _ c.if-not-write_once.false c.write.invariant c.write_once.ensures
+
 pub returns-clause-runs : goal.returns-clause-runs
-returns-clause-runs g c = from_view _ _ _ c.self.view_is (runs_flushed _ _ 4 c.flush.ensures.moved refl (attends_by _ _ (serving_same _ _ c.flush.ensures.served c.flush.ensures.turns.known refl) c.flush.ensures.turns.turns (grows_write _ _ c.add_one-self-inside.ensures refl refl)))
+returns-clause-runs g c = runs_written _ _ _ (went_on c.write.turn _ _ c.write.invariant (omega (arith, c.write-test.false)))
 
 pub returns-clause-stays : goal.returns-clause-stays
-returns-clause-stays g c = stays_from _ _ _ c.self.view_is (stays_kept _ _ refl c.flush.ensures.moved.ended c.flush.ensures.moved.shut)
+returns-clause-stays g c = stays_written _ _ _ (went_on c.write.turn _ _ c.write.invariant (omega (arith, c.write-test.false)))
+
+pub returns-clause-rests : goal.returns-clause-rests
+returns-clause-rests g c = rests_written _ _ _ (went_on c.write.turn _ _ c.write.invariant (omega (arith, c.write-test.false)))
+
+pub returns-clause-writes : goal.returns-clause-writes
+returns-clause-writes g c = (went_on c.write.turn _ _ c.write.invariant (omega (arith, c.write-test.false))).writes

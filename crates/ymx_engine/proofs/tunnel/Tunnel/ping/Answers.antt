@@ -1,18 +1,8 @@
 use Rattle.std.proofs.Common.{refl}
-use Rattle.ymx_machine.specs.declared.types.Call.TheVariants as call
-use Rattle.ymx_model.specs.declared.types.Event.TheVariants as event
 use Rattle.ymx_session.specs.Replies.{pinged_or}
-use Rattle.ymx_engine.proofs.Running.{runs_pinged, from_view, given_from}
-use Rattle.ymx_engine.proofs.Tending.{same_turns, serving_kept}
-use Rattle.ymx_engine.proofs.Staying.{stays_alike, stays_from}
-use Rattle.ymx_engine.proofs.Working.{attends_turns}
+use Rattle.ymx_engine.proofs.Attending.{runs_from}
+use Rattle.ymx_engine.proofs.Entering.{runs_pinged}
 use Rattle.ymx_engine.proofs.tunnel.Tunnel.ping.Goals as goal
 
 pub returns-clause-runs : goal.returns-clause-runs
-returns-clause-runs g c = from_view _ _ _ c.self.view_is (runs_pinged _ _ call.Ping (pinged_or c.ping.result) (λ id. (refl, refl, refl, refl, refl, refl)) refl c.ping.ensures.event c.ping.ensures.wire refl refl (attends_turns _ _ (serving_kept _ _ c.ping.ensures.served (same_turns _ _ c.ping.ensures.turns) refl) c.ping.ensures.turns refl))
-
-pub returns-clause-event : goal.returns-clause-event
-returns-clause-event g c = given_from (event.Call call.Ping) (pinged_or c.ping.result) _ _ _ c.self.view_is c.ping.ensures.event
-
-pub returns-clause-stays : goal.returns-clause-stays
-returns-clause-stays g c = stays_from _ _ _ c.self.view_is (stays_alike _ _ refl refl)
+returns-clause-runs g c = runs_from _ _ _ c.self.view_is (runs_pinged _ _ (pinged_or c.ping.result) c.ping.ensures.event (record { outgoing = refl; incoming = refl }) refl refl)

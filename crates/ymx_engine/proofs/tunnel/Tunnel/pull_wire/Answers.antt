@@ -1,9 +1,58 @@
-use Rattle.ymx_engine.proofs.Running.{runs_then}
-use Rattle.ymx_engine.proofs.Staying.{stays_then}
+use Rattle.std.proofs.Common.{◌≡◌, ◌==◌, ℕ, List, [], length, true, false, refl, sym, ap, ◌∙◌}
+use Rattle.ymx_engine.specs.Tunnels.{Tunnel}
+use Rattle.ymx_engine.proofs.Attending.{runs_same, runs_from}
+use Rattle.ymx_engine.proofs.Carrying.{empty_of}
+use Rattle.ymx_engine.proofs.Readings.{reads_none, reads_from, rests_from, reads_gave, reads_lost, none_to_read, over_to_read}
 use Rattle.ymx_engine.proofs.tunnel.Tunnel.pull_wire.Goals as goal
+use Rattle.ymx_engine.proofs.tunnel.Tunnel.pull_wire.Goals.{then-not-is_empty-via-then-not-is_empty, then-not-is_empty-via-else-not-is_empty+then-not-may_pull, then-not-is_empty-via-else-not-is_empty+else-not-may_pull+then-self}
 
-pub returns-clause-runs : goal.returns-clause-runs
-returns-clause-runs g c = runs_then _ _ _ c.pull_once.ensures.runs c.note_more.ensures.runs
+pub returns-then-not-is_empty-clause-runs : goal.returns-then-not-is_empty-clause-runs
+returns-then-not-is_empty-clause-runs g c = runs_same _
 
-pub returns-clause-stays : goal.returns-clause-stays
-returns-clause-stays g c = stays_then _ _ _ c.pull_once.ensures.stays c.note_more.ensures.stays
+pub returns-then-not-is_empty-clause-reads : goal.returns-then-not-is_empty-clause-reads
+returns-then-not-is_empty-clause-reads g c =
+    reads_none c.args.self.now (λ fed may. elim c.then-not-is_empty.branch [
+      | then-not-is_empty-via-then-not-is_empty w ↦
+          let all : c.waiting.result.now ≡ [] = c.waiting.ensures ∙ ap (λ (t : Tunnel). t.engine.incoming) c.self.view_is ∙ fed in
+          let yes : c.is_empty.result ≡ true = c.is_empty.ensures ∙ ap (λ (xs : List ℕ). length xs == 0) all in
+          let no : true ≡ false = sym yes ∙ w.if-not-is_empty.true in absurd cc
+      | then-not-is_empty-via-else-not-is_empty+then-not-may_pull w ↦
+          let off = sym (w.may_pull.ensures ∙ ap (λ (t : Tunnel). t.wire.marks.may_pull) c.self.view_is) ∙ w.if-not-may_pull.true in
+          let no : true ≡ false = sym may ∙ none_to_read c.args.self.now off in absurd cc
+      | then-not-is_empty-via-else-not-is_empty+else-not-may_pull+then-self w ↦
+          let over = sym (ap (λ (t : Tunnel). t.is_wire_over) c.self.view_is) ∙ w.if-self.true in
+          let no : true ≡ false = sym may ∙ over_to_read c.args.self.now over in absurd cc
+    ])
+
+pub returns-in-Gave-clause-runs : goal.returns-in-Gave-clause-runs
+returns-in-Gave-clause-runs g c =
+    let none = empty_of c.waiting.result.now c.self.inside.incoming c.is_empty.result c.is_empty.ensures c.waiting.ensures c.if-not-is_empty.false in
+    let x = c.pull_from.ensures in
+    runs_from _ _ _ c.self.view_is (reads_gave c.pull_from.result x.0 _ _ none x.2 x.1 refl refl x.3 c.in-Gave.is refl).1
+
+pub returns-in-Gave-clause-reads : goal.returns-in-Gave-clause-reads
+returns-in-Gave-clause-reads g c =
+    let none = empty_of c.waiting.result.now c.self.inside.incoming c.is_empty.result c.is_empty.ensures c.waiting.ensures c.if-not-is_empty.false in
+    let x = c.pull_from.ensures in
+    reads_from _ _ _ c.self.view_is (reads_gave c.pull_from.result x.0 _ _ none x.2 x.1 refl refl x.3 c.in-Gave.is refl).0
+
+pub returns-in-Ended-clause-runs : goal.returns-in-Ended-clause-runs
+returns-in-Ended-clause-runs g c =
+    let none = empty_of c.waiting.result.now c.self.inside.incoming c.is_empty.result c.is_empty.ensures c.waiting.ensures c.if-not-is_empty.false in
+    let x = c.pull_from.ensures in
+    let l = c.lose.ensures in
+    runs_from _ _ _ c.self.view_is (reads_lost c.pull_from.result x.0 _ _ _ none x.2 x.1 refl refl x.3 c.in-Ended.is refl l.wire l.over l.event l.bytes l.lines l.serves).1.0
+
+pub returns-in-Ended-clause-rests : goal.returns-in-Ended-clause-rests
+returns-in-Ended-clause-rests g c =
+    let none = empty_of c.waiting.result.now c.self.inside.incoming c.is_empty.result c.is_empty.ensures c.waiting.ensures c.if-not-is_empty.false in
+    let x = c.pull_from.ensures in
+    let l = c.lose.ensures in
+    rests_from _ _ _ c.self.view_is (reads_lost c.pull_from.result x.0 _ _ _ none x.2 x.1 refl refl x.3 c.in-Ended.is refl l.wire l.over l.event l.bytes l.lines l.serves).1.1
+
+pub returns-in-Ended-clause-reads : goal.returns-in-Ended-clause-reads
+returns-in-Ended-clause-reads g c =
+    let none = empty_of c.waiting.result.now c.self.inside.incoming c.is_empty.result c.is_empty.ensures c.waiting.ensures c.if-not-is_empty.false in
+    let x = c.pull_from.ensures in
+    let l = c.lose.ensures in
+    reads_from _ _ _ c.self.view_is (reads_lost c.pull_from.result x.0 _ _ _ none x.2 x.1 refl refl x.3 c.in-Ended.is refl l.wire l.over l.event l.bytes l.lines l.serves).0

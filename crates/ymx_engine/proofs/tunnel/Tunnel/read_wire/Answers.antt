@@ -1,35 +1,35 @@
-use Rattle.std.proofs.Common.{sym, ◌∙◌, subst}
-use Rattle.ymx_engine.specs.Devices.{Seen, CountsSome}
-use Rattle.ymx_engine.proofs.Running.{runs_then}
-use Rattle.ymx_engine.proofs.Staying.{stays_then}
-use Rattle.ymx_engine.proofs.Working.{one_is_some, some_then}
+use Rattle.std.proofs.Common.{◌∙◌}
+use Rattle.ymx_engine.proofs.Attending.{runs_then, runs_keep, reads_then}
+use Rattle.ymx_engine.proofs.Readings.{rests_on, rests_past, stays_then, stays_kept}
+use Rattle.ymx_engine.proofs.Running.{moves_then}
 use Rattle.ymx_engine.proofs.tunnel.Tunnel.read_wire.Goals as goal
 
 pub payload-init : goal.payload-init
-payload-init g c = record { runs = c.pull_wire.ensures.runs; stays = c.pull_wire.ensures.stays; reads = one_is_some _ _ c.pull_wire.ensures.reads; asks = c.pull_wire.ensures.asks }
+payload-init g c = let x = c.pull_wire.ensures in record { runs = x.runs; stays = x.stays; rests = x.rests; reads = x.reads }
 
 pub payload-preserved : goal.payload-preserved
 payload-preserved g c =
     let i = c.payload.invariant in
-    let more = runs_then _ _ _ c.advance.ensures.runs c.pass.ensures.runs in
+    let k = c.advance.ensures.keeps in
+    let p = c.pass.ensures in
     record {
-      runs = runs_then _ _ _ i.runs more;
-      stays = stays_then _ _ _ i.stays (stays_then _ _ _ c.advance.ensures.stays c.pass.ensures.stays);
-      reads = some_then _ _ _ i.reads more.attends.grows.reads;
-      asks = λ fed may. subst (λ (s : Seen). CountsSome c.args.self.now.wire.counts.pulls s.counts.pulls) (sym (c.pass.ensures.wire ∙ c.advance.ensures.wire)) (i.asks fed may);
+      runs = runs_then _ _ _ i.runs (runs_then _ _ _ (runs_keep _ _ k) p.runs);
+      stays = stays_then _ _ _ i.stays (stays_then _ _ _ (stays_kept _ _ k.wire k.lines.lines) p.stays);
+      rests = rests_past _ _ _ _ i.rests k.wire k.lines.lines p.rests p.closed;
+      reads = reads_then _ _ _ i.reads (moves_then _ _ _ k.moves p.runs.moves) (p.wire ∙ k.wire) (p.over ∙ k.over);
     }
 
 pub returns-in-None-clause-runs : goal.returns-in-None-clause-runs
-returns-in-None-clause-runs g c = runs_then _ _ _ c.payload.invariant.runs c.advance.ensures.runs
+returns-in-None-clause-runs g c = runs_then _ _ _ c.payload.invariant.runs (runs_keep _ _ c.advance.ensures.keeps)
 
 pub returns-in-None-clause-stays : goal.returns-in-None-clause-stays
-returns-in-None-clause-stays g c = stays_then _ _ _ c.payload.invariant.stays c.advance.ensures.stays
+returns-in-None-clause-stays g c = let k = c.advance.ensures.keeps in stays_then _ _ _ c.payload.invariant.stays (stays_kept _ _ k.wire k.lines.lines)
+
+pub returns-in-None-clause-rests : goal.returns-in-None-clause-rests
+returns-in-None-clause-rests g c = let k = c.advance.ensures.keeps in rests_on _ _ _ c.payload.invariant.rests k.wire k.lines.lines
 
 pub returns-in-None-clause-reads : goal.returns-in-None-clause-reads
-returns-in-None-clause-reads g c = some_then _ _ _ c.payload.invariant.reads c.advance.ensures.runs.attends.grows.reads
-
-pub returns-in-None-clause-asks : goal.returns-in-None-clause-asks
-returns-in-None-clause-asks g c = λ fed may. subst (λ (s : Seen). CountsSome c.args.self.now.wire.counts.pulls s.counts.pulls) (sym c.advance.ensures.wire) (c.payload.invariant.asks fed may)
+returns-in-None-clause-reads g c = let k = c.advance.ensures.keeps in reads_then _ _ _ c.payload.invariant.reads k.moves k.wire k.over
 
 pub returns-clause-runs : goal.returns-clause-runs
 returns-clause-runs g c = c.payload.invariant.runs
@@ -37,8 +37,8 @@ returns-clause-runs g c = c.payload.invariant.runs
 pub returns-clause-stays : goal.returns-clause-stays
 returns-clause-stays g c = c.payload.invariant.stays
 
+pub returns-clause-rests : goal.returns-clause-rests
+returns-clause-rests g c = c.payload.invariant.rests
+
 pub returns-clause-reads : goal.returns-clause-reads
 returns-clause-reads g c = c.payload.invariant.reads
-
-pub returns-clause-asks : goal.returns-clause-asks
-returns-clause-asks g c = c.payload.invariant.asks

@@ -1,20 +1,16 @@
-use Rattle.std.proofs.Common.{refl, sym, ◌∙◌}
-use Rattle.ymx_engine.proofs.Running.{runs_offers_none, runs_rejected, runs_accepted_forgot, from_view, look_none}
-use Rattle.ymx_engine.proofs.Tending.{same_turns, serving_kept, serving_refused}
-use Rattle.ymx_engine.proofs.Working.{attends_turns, attends_refused}
+use Rattle.ymx_engine.proofs.Entering.{comes_taken, runs_dropped, runs_left, runs_offers_none, only_session, drops_out, leaves_out, is_free}
 use Rattle.ymx_engine.proofs.tunnel.Tunnel.reject.Goals as goal
 
 pub returns-in_default-clause-runs : goal.returns-in_default-clause-runs
-returns-in_default-clause-runs g c = from_view _ _ _ c.self.view_is (runs_offers_none _ _ c.in_default.ensures.none c.in_default.ensures.wire refl refl (attends_turns _ _ (serving_kept _ _ c.in_default.ensures.served_none (same_turns _ _ c.in_default.ensures.turns) refl) c.in_default.ensures.turns refl))
+returns-in_default-clause-runs g c = runs_offers_none _ _ c.in_default.ensures.none (only_session _ _ c.take_offered.ensures.same)
 
-pub returns-then-not-contains_key-clause-runs : goal.returns-then-not-contains_key-clause-runs
-returns-then-not-contains_key-clause-runs g c =
-    from_view _ _ _ c.self.view_is (runs_rejected _ _ _ c.in-Some.offered c.in-Some.ensures.accepted c.in-Some.ensures.wire
-    (look_none g.D.Device.seen c.self.inside.lines.entries c.in-Some.offered (sym c.contains_key.ensures ∙ c.if-not-contains_key.true))
-    c.refuse.ensures.given_up c.refuse.ensures.lets_go.wire c.refuse.ensures.lets_go.gone c.refuse.ensures.lets_go.queues c.refuse.ensures.lets_go.served refl refl refl
-    (attends_refused _ _ _ (serving_refused _ _ _ c.in-Some.offered c.in-Some.ensures.served c.in-Some.ensures.turns c.refuse.ensures.lets_go.gone c.refuse.ensures.lets_go.served refl) c.in-Some.ensures.turns c.refuse.ensures.lets_go.queues refl))
+pub returns-then-contains-clause-runs : goal.returns-then-contains-clause-runs
+returns-then-contains-clause-runs g c =
+    let id = c.in-Some.id in
+    runs_left id c.args.self.now c.take_offered.new.self c.leave.new.self (comes_taken _ _ id c.in-Some.ensures.accepted (only_session _ _ c.take_offered.ensures.same)) (leaves_out id _ _ c.leave.ensures.forgotten (only_session _ _ c.leave.ensures.same))
 
-pub returns-else-not-contains_key-clause-runs : goal.returns-else-not-contains_key-clause-runs
-returns-else-not-contains_key-clause-runs g c =
-    from_view _ _ _ c.self.view_is (runs_accepted_forgot _ _ _ c.in-Some.offered _ c.in-Some.ensures.accepted c.in-Some.ensures.wire c.forget.ensures.forgotten.1 c.forget.ensures.lets_go.wire refl refl
-    (attends_refused _ _ _ (serving_refused _ _ _ c.in-Some.offered c.in-Some.ensures.served c.in-Some.ensures.turns c.forget.ensures.lets_go.gone c.forget.ensures.lets_go.served refl) c.in-Some.ensures.turns c.forget.ensures.lets_go.queues refl))
+pub returns-else-contains-clause-runs : goal.returns-else-contains-clause-runs
+returns-else-contains-clause-runs g c =
+    let id = c.in-Some.id in
+    runs_dropped id c.args.self.now c.take_offered.new.self c.drop_stream.new.self (comes_taken _ _ id c.in-Some.ensures.accepted (only_session _ _ c.take_offered.ensures.same))
+    (drops_out id _ _ (is_free id _ _ c.contains.result c.self.view_is c.contains.ensures c.if-contains.false) c.drop_stream.ensures.given_up (only_session _ _ c.drop_stream.ensures.same))

@@ -1,23 +1,28 @@
-use Rattle.std.proofs.Common.{refl}
-use Rattle.ymx_engine.proofs.Running.{runs_alike, from_view, runs_behind}
-use Rattle.ymx_engine.proofs.Tending.{serving_same, serving_turn}
-use Rattle.ymx_engine.proofs.Staying.{stays_alike, stays_then, stays_from}
-use Rattle.ymx_engine.proofs.Working.{attends_idle, attends_turn, serves_first_by, serves_first_from}
+use Rattle.ymx_engine.proofs.Turned.{FirstHasTurn, first_has_turn, none_runs}
 use Rattle.ymx_engine.proofs.tunnel.Tunnel.serve_next.Goals as goal
 
 pub returns-in_err-id-clause-runs : goal.returns-in_err-id-clause-runs
-returns-in_err-id-clause-runs g c = from_view _ _ _ c.self.view_is (runs_alike _ _ c.next.ensures.engine refl refl (attends_idle _ _ (serving_same _ _ c.in_err-id.ensures.served_none c.next.ensures.known refl) c.in_err-id.ensures.none refl))
+returns-in_err-id-clause-runs g c = let n = c.in_err-id.ensures in none_runs _ c.args.self.now c.next.new.self c.self.view_is c.next.ensures.lines n.none.2
+
+served : (g : _) (c : goal.After-serve-gave g) → FirstHasTurn c.in_ok-id.id c.args.self.now c.serve-gave.new.self
+served g c =
+    let s = c.serve-gave.ensures in
+    first_has_turn c.in_ok-id.id _ c.args.self.now c.serve-gave.new.self c.next.new.self c.self.view_is (record {
+      lines = c.next.ensures.lines;
+      first = c.in_ok-id.ensures.some;
+      missed = c.next.ensures.missed;
+      held = c.next.ensures.held;
+      turned = record { served = s.served; none = s.none; others = s.others; incoming = s.incoming; wire = s.wire; serves = s.serves };
+    })
 
 pub returns-clause-runs : goal.returns-clause-runs
-returns-clause-runs g c = from_view _ _ _ c.self.view_is (runs_behind _ _ _ c.serve.ensures.runs c.next.ensures.engine refl refl (attends_turn _ _ _ (λ s. c.serve.ensures.serves (serving_turn _ _ c.in_ok-id.id c.in_ok-id.ensures.served c.next.ensures.known refl s)) c.add_one-self-inside.ensures refl refl c.serve.ensures.runs.attends.grows))
-
-pub returns-in_err-id-clause-stays : goal.returns-in_err-id-clause-stays
-returns-in_err-id-clause-stays g c = stays_from _ _ _ c.self.view_is (stays_alike _ _ refl refl)
+returns-clause-runs g c = (served g c).runs
 
 pub returns-clause-stays : goal.returns-clause-stays
-returns-clause-stays g c = stays_from _ _ _ c.self.view_is (stays_then _ _ _ (stays_alike _ _ refl refl) c.serve.ensures.stays)
+returns-clause-stays g c = (served g c).stays
+
+pub returns-clause-rests : goal.returns-clause-rests
+returns-clause-rests g c = (served g c).rests
 
 pub returns-clause-turn : goal.returns-clause-turn
-returns-clause-turn g c =
-    serves_first_from _ _ _ c.in_ok-id.id c.self.view_is
-    (serves_first_by _ _ _ c.in_ok-id.id c.in_ok-id.ensures.some c.next.ensures.known c.next.ensures.engine c.next.ensures.marks refl c.add_one-self-inside.ensures c.serve.ensures.delivers c.serve.ensures.collects c.serve.ensures.work)
+returns-clause-turn g c = (served g c).turn

@@ -1,4 +1,4 @@
-use Rattle.ymx_engine.proofs.Running.{runs_same, runs_then}
+use Rattle.ymx_engine.proofs.Attending.{runs_same, runs_then}
 use Rattle.ymx_forward.proofs.tunnel.TunnelLoop.accept_streams.Goals as goal
 
 pub returns-in_default : goal.returns-in_default

@@ -1,4 +1,4 @@
-use Rattle.ymx_engine.proofs.Running.{runs_then}
+use Rattle.ymx_engine.proofs.Attending.{runs_then}
 use Rattle.ymx_forward.proofs.tunnel.TunnelLoop.ask_behind.Goals as goal
 
 pub returns-else-is_pending : goal.returns-else-is_pending

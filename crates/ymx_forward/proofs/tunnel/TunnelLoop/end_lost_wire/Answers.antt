@@ -1,4 +1,4 @@
-use Rattle.ymx_engine.proofs.Running.{runs_same}
+use Rattle.ymx_engine.proofs.Attending.{runs_same}
 use Rattle.ymx_forward.proofs.tunnel.TunnelLoop.end_lost_wire.Goals as goal
 
 pub returns-else-is_lost : goal.returns-else-is_lost

@@ -1,4 +1,4 @@
-use Rattle.ymx_engine.proofs.Running.{runs_same}
+use Rattle.ymx_engine.proofs.Attending.{runs_same}
 use Rattle.ymx_forward.proofs.tunnel.TunnelLoop.hear_silence.Goals as goal
 
 pub returns-in_default : goal.returns-in_default

@@ -1,5 +1,10 @@
+use Rattle.std.specs.Prelude.{◌≡◌, false}
 use Rattle.ymx_engine.specs.Runs.{Runs}
+use Rattle.ymx_model.specs.session.Sessions.{is_running}
 use Rattle.ymx_forward.proofs.tunnel.TunnelLoop.leave_all.Given as goal
 
 abbrev pub invariant-left : goal.invariant-left
-invariant-left g l = Runs l.initial.self.tunnel l.self.tunnel
+invariant-left g l = record {
+  runs : Runs l.initial.self.tunnel l.self.tunnel;
+  over : is_running l.self.tunnel.engine.session.status ≡ false;
+}

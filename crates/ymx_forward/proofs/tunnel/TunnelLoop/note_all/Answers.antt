@@ -1,4 +1,4 @@
-use Rattle.ymx_engine.proofs.Running.{runs_same, runs_then}
+use Rattle.ymx_engine.proofs.Attending.{runs_same, runs_then}
 use Rattle.ymx_forward.proofs.tunnel.TunnelLoop.note_all.Goals as goal
 
 pub event-init : goal.event-init

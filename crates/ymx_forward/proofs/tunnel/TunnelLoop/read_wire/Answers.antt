@@ -1,13 +1,13 @@
 use Rattle.std.proofs.Common.{arith}
-use Rattle.ymx_engine.proofs.Running.{runs_same, runs_then}
-use Rattle.ymx_engine.proofs.Working.{then_some}
+use Rattle.ymx_engine.proofs.Attending.{runs_same, runs_then}
+use Rattle.ymx_forward.proofs.Going.{read_again}
 use Rattle.ymx_forward.proofs.tunnel.TunnelLoop.read_wire.Goals as goal
 
 pub read-init : goal.read-init
 read-init c = (runs_same _, λ some. absurd (omega (arith, some)))
 
 pub read-preserved : goal.read-preserved
-read-preserved c = (runs_then _ _ _ c.read.invariant.0 c.read_wire.ensures.runs, λ some. then_some _ _ _ c.read.invariant.0.attends.grows.reads c.read_wire.ensures.reads)
+read-preserved c = (runs_then _ _ _ c.read.invariant.0 c.read_wire.ensures.runs, λ some. read_again _ _ _ c.read.invariant.0 c.read_wire.ensures.reads)
 
 pub returns-clause-runs : goal.returns-clause-runs
 returns-clause-runs c = c.read.invariant.0

@@ -1,5 +1,5 @@
 use Rattle.std.proofs.Common.{refl}
-use Rattle.ymx_engine.proofs.Running.{runs_then}
+use Rattle.ymx_engine.proofs.Attending.{runs_then}
 use Rattle.ymx_forward.proofs.Waiting.{waits_never, waits_behind, waits_before}
 use Rattle.ymx_forward.proofs.tunnel.TunnelLoop.run.Goals as goal
 
@@ -14,10 +14,10 @@ loop-preserved g c = record {
 }
 
 pub returns-then-is_err-clause-runs : goal.returns-then-is_err-clause-runs
-returns-then-is_err-clause-runs g c = runs_then _ _ _ c.loop.invariant.runs (runs_then _ _ _ c.hear_silence-limit.ensures (runs_then _ _ _ c.await_events.ensures.runs c.leave_all.ensures))
+returns-then-is_err-clause-runs g c = runs_then _ _ _ c.loop.invariant.runs (runs_then _ _ _ c.hear_silence-limit.ensures (runs_then _ _ _ c.await_events.ensures.runs (runs_then _ _ _ c.give_up_wire.ensures.runs c.leave_all.ensures)))
 
 pub returns-then-is_err-clause-waits : goal.returns-then-is_err-clause-waits
-returns-then-is_err-clause-waits g c = λ serving. waits_before _ _ _ _ _ (waits_behind _ _ _ _ _ _ _ serving (c.loop.invariant.waits serving) (runs_then _ _ _ c.loop.invariant.runs c.hear_silence-limit.ensures) c.hear_silence-limit.ensures c.await_events.ensures.runs c.await_events.ensures.waits) c.leave_all.ensures
+returns-then-is_err-clause-waits g c = λ serving. waits_before _ _ _ _ _ (waits_behind _ _ _ _ _ _ _ serving (c.loop.invariant.waits serving) (runs_then _ _ _ c.loop.invariant.runs c.hear_silence-limit.ensures) c.hear_silence-limit.ensures c.await_events.ensures.runs c.await_events.ensures.waits) (runs_then _ _ _ c.give_up_wire.ensures.runs c.leave_all.ensures)
 
 pub returns-then-is_to_be_left-clause-runs : goal.returns-then-is_to_be_left-clause-runs
 returns-then-is_to_be_left-clause-runs g c = runs_then _ _ _ c.loop.invariant.runs (runs_then _ _ _ c.hear_silence-limit.ensures (runs_then _ _ _ c.await_events.ensures.runs c.leave_all-then-is_to_be_left.ensures))

@@ -1,5 +1,5 @@
 use Rattle.ymx_engine.specs.Runs.{Runs}
-use Rattle.ymx_engine.specs.Tunnels.{Serving}
+use Rattle.ymx_engine.specs.Served.{Serving}
 use Rattle.ymx_forward.specs.Loops.{WaitsInNeed}
 use Rattle.ymx_forward.proofs.tunnel.TunnelLoop.run.Given as goal
 

@@ -1,22 +1,22 @@
 use Rattle.std.proofs.Common.{arith}
-use Rattle.ymx_engine.proofs.Running.{runs_same, runs_then}
-use Rattle.ymx_engine.proofs.Working.{turns_then, some_queued}
+use Rattle.ymx_engine.proofs.Attending.{runs_same, runs_then, then_one}
+use Rattle.ymx_forward.proofs.Going.{some_queued}
 use Rattle.ymx_forward.proofs.tunnel.TunnelLoop.serve_queued.Goals as goal
 
 pub queued-init : goal.queued-init
 queued-init g c = (runs_same _, λ some. absurd (omega (arith, some)))
 
 pub queued-preserved : goal.queued-preserved
-queued-preserved g c = (runs_then _ _ _ c.queued.invariant.0 c.serve_next.ensures.runs, λ some. turns_then c.args.self.now.tunnel c.queued.self.tunnel c.serve_next.new.self.tunnel c.queued.invariant.0.attends c.serve_next.ensures.turns c.serve_next.ensures.runs.attends.grows)
+queued-preserved g c = (runs_then _ _ _ c.queued.invariant.0 c.serve_next.ensures.runs, λ some. then_one _ _ _ c.queued.invariant.0 c.serve_next.ensures.runs c.serve_next.ensures.turns)
 
 pub returns-then-not-serve_next-clause-runs : goal.returns-then-not-serve_next-clause-runs
 returns-then-not-serve_next-clause-runs g c = runs_then _ _ _ c.queued.invariant.0 c.serve_next.ensures.runs
 
 pub returns-then-not-serve_next-clause-turns : goal.returns-then-not-serve_next-clause-turns
-returns-then-not-serve_next-clause-turns g c = turns_then c.args.self.now.tunnel c.queued.self.tunnel c.serve_next.new.self.tunnel c.queued.invariant.0.attends c.serve_next.ensures.turns c.serve_next.ensures.runs.attends.grows
+returns-then-not-serve_next-clause-turns g c = then_one _ _ _ c.queued.invariant.0 c.serve_next.ensures.runs c.serve_next.ensures.turns
 
 pub returns-clause-runs : goal.returns-clause-runs
 returns-clause-runs g c = c.queued.invariant.0
 
 pub returns-clause-turns : goal.returns-clause-turns
-returns-clause-turns g c = λ waits. let some = some_queued c.args.self.now.tunnel.turns 18446744073709551615 (omega arith) waits in c.queued.invariant.1 (omega (arith, some, c.queued_count-end.ensures, c.queued-test.false)) waits
+returns-clause-turns g c = λ waits. let some = some_queued c.args.self.now.tunnel.lines 18446744073709551615 (omega arith) waits in c.queued.invariant.1 (omega (arith, some, c.queued_count-end.ensures, c.queued-test.false)) waits

@@ -1,0 +1,159 @@
+-- How a tunnel goes on: who is served, and whose turn comes.
+use Rattle.std.proofs.Common.{◌≡◌, ◌⊎◌, inl, inr, ◌++◌, ℕ, List, [], ◌∷◌, Bool, true, false, refl, ap, ◌∙◌, subst}
+use Rattle.ymx_engine.specs.Exchanges.{has_bytes}
+use Rattle.ymx_engine.specs.Moves.{Moves}
+use Rattle.ymx_engine.specs.Runs.{Runs}
+use Rattle.ymx_engine.specs.Served.{Serving}
+use Rattle.ymx_engine.specs.Steps.{Keeps, WritesOnce}
+use Rattle.ymx_engine.specs.Tunnels.{Tunnel}
+use Rattle.ymx_engine.specs.Turns.{Lines, Extends, KeepsLines, is_idle}
+use Rattle.ymx_engine.specs.Work.{Attends, FirstTurn, ServesOne, ServesFirst, Reads, Writes, HasRead, HasWritten, WorksOnce, may_have_bytes}
+use Rattle.ymx_engine.proofs.Queueing.{extends_same, extends_then, extends_idle, keeps_same, keeps_then}
+use Rattle.ymx_engine.proofs.Running.{moves_same, moves_then, moves_then_so}
+
+-- ---- one call behind another
+
+first_then : (a b c : Tunnel) → FirstTurn a b → Moves b c → FirstTurn a c
+first_then a b c x m = record { id = x.id; before = x.before; after = x.after; to = x.to; waits = x.waits; turn = x.turn; behind = moves_then x.after b c x.behind m }
+
+first_behind : (a b c : Tunnel) → Moves a b → Extends a.lines b.lines → FirstTurn b c → FirstTurn a c
+first_behind a b c m e x = record { id = x.id; before = x.before; after = x.after; to = moves_then a b x.before m x.to; waits = extends_then a.lines b.lines x.before.lines e x.waits; turn = x.turn; behind = x.behind }
+
+pub attends_same : (a : Tunnel) → Attends a a
+attends_same a = record { serves = λ s. s; turns = inl (extends_same a.lines) }
+
+pub attends_on : (a b : Tunnel) → (Serving a → Serving b) → Extends a.lines b.lines → Attends a b
+attends_on a b serves e = record { serves = serves; turns = inl e }
+
+turns_then : (a b c : Tunnel) → Moves a b → Moves b c → Extends a.lines b.lines ⊎ FirstTurn a b → Extends b.lines c.lines ⊎ FirstTurn b c → Extends a.lines c.lines ⊎ FirstTurn a c
+turns_then a b c m n (inl e) (inl f) = inl (extends_then a.lines b.lines c.lines e f)
+turns_then a b c m n (inl e) (inr y) = inr (first_behind a b c m e y)
+turns_then a b c m n (inr x) y = inr (first_then a b c x n)
+
+pub attends_then : (a b c : Tunnel) → Moves a b → Moves b c → Attends a b → Attends b c → Attends a c
+attends_then a b c m n x y = record { serves = λ s. y.serves (x.serves s); turns = turns_then a b c m n x.turns y.turns }
+
+pub runs_same : (a : Tunnel) → Runs a a
+runs_same a = record { moves = moves_same a; attends = attends_same a }
+
+pub runs_then : (a b c : Tunnel) → Runs a b → Runs b c → Runs a c
+runs_then a b c x y = record { moves = moves_then a b c x.moves y.moves; attends = attends_then a b c x.moves y.moves x.attends y.attends }
+
+-- nobody's turn came
+pub runs_on : (a b : Tunnel) → Moves a b → (Serving a → Serving b) → Extends a.lines b.lines → Runs a b
+runs_on a b m serves e = record { moves = m; attends = attends_on a b serves e }
+
+pub runs_keep : (a b : Tunnel) → Keeps a b → Runs a b
+runs_keep a b x = runs_on a b x.moves x.serves x.lines.queues
+
+-- the first had its turn
+pub runs_turn : (a b : Tunnel) (id : ℕ) → Moves a b → (Serving a → Serving b) → ServesFirst id a b → Runs a b
+runs_turn a b id m serves turn = record {
+  moves = m;
+  attends = record { serves = serves; turns = inr (record { id = id; before = a; after = b; to = moves_same a; waits = extends_same a.lines; turn = turn; behind = moves_same b }) };
+}
+
+pub runs_from : (a b c : Tunnel) → a ≡ b → Runs a c → Runs b c
+runs_from a b c e x = subst (λ (v : Tunnel). Runs v c) e x
+
+-- ---- one that waits
+
+pub serves_first : (a b : Tunnel) (id : ℕ) → ServesFirst id a b → FirstTurn a b
+serves_first a b id turn = record { id = id; before = a; after = b; to = moves_same a; waits = extends_same a.lines; turn = turn; behind = moves_same b }
+
+pub one_then : (a b c : Tunnel) → ServesOne a b → Moves b c → ServesOne a c
+one_then a b c x m h = first_then a b c (x h) m
+
+pub then_one : (a b c : Tunnel) → Runs a b → Runs b c → ServesOne b c → ServesOne a c
+then_one a b c x y one h = by x.attends.turns
+  where
+    by : Extends a.lines b.lines ⊎ FirstTurn a b → FirstTurn a c
+    by (inl e) = first_behind a b c x.moves e (one (extends_idle a.lines b.lines e h))
+    by (inr f) = first_then a b c f y.moves
+
+-- ---- the steps of a tunnel
+
+pub keeps_none : (a : Tunnel) → Keeps a a
+keeps_none a = record { moves = moves_same a; wire = refl; over = refl; lines = keeps_same a.lines; serves = λ s. s }
+
+pub keeps_on : (a b c : Tunnel) → Keeps a b → Keeps b c → Keeps a c
+keeps_on a b c x y = record {
+  moves = moves_then a b c x.moves y.moves;
+  wire = y.wire ∙ x.wire;
+  over = y.over ∙ x.over;
+  lines = keeps_then a.lines b.lines c.lines x.lines y.lines;
+  serves = λ s. y.serves (x.serves s);
+}
+
+pub keeps_from : (a b c : Tunnel) → a ≡ b → Keeps a c → Keeps b c
+keeps_from a b c e x = subst (λ (v : Tunnel). Keeps v c) e x
+
+-- ---- what the wire gave and took
+
+some_before : (xs ys : List ℕ) → has_bytes xs ≡ true → has_bytes (xs ++ ys) ≡ true
+some_before [] ys h = let no : ⊥ = cc in absurd no
+some_before (x ∷ xs) ys h = refl
+
+same_may : (b c : Tunnel) → c.wire ≡ b.wire → c.is_wire_over ≡ b.is_wire_over → may_have_bytes c ≡ may_have_bytes b
+same_may b c wire over = rw (wire, over) refl
+
+-- what was done behind a read left the wire alone
+pub reads_then : (a b c : Tunnel) → Reads a b → Moves b c → c.wire ≡ b.wire → c.is_wire_over ≡ b.is_wire_over → Reads a c
+reads_then a b c x m wire over =
+    let both = moves_then_so a b c x.moves m in
+    record {
+      moves = both.0;
+      asks = λ fed may. by both.1 (x.asks fed may);
+    }
+  where
+    by : {came : List ℕ} → came ≡ x.moves.came ++ m.came → (has_bytes x.moves.came ≡ true) ⊎ (may_have_bytes b ≡ false) → (has_bytes came ≡ true) ⊎ (may_have_bytes c ≡ false)
+    by e (inl some) = inl (ap has_bytes e ∙ some_before x.moves.came m.came some)
+    by e (inr none) = inr (same_may b c wire over ∙ none)
+
+-- one write behind another that goes on
+pub writes_then : (on : Bool) (a b c : Tunnel) → WritesOnce true a b → WritesOnce on b c → WritesOnce on a c
+writes_then on a b c x y =
+    let both = moves_then_so a b c x.writes.moves y.writes.moves in
+    let goes = x.going refl in
+    let some : has_bytes both.0.sent ≡ true = ap has_bytes both.2 ∙ some_before x.writes.moves.sent y.writes.moves.sent goes.2 in
+    record {
+      writes = record {
+        moves = both.0;
+        offers = λ may due. inl some;
+        all = λ may. y.writes.all goes.1;
+        releases = λ may none. y.writes.releases goes.1 none;
+      };
+      going = λ h. (goes.0, (y.going h).1, some);
+      lines = keeps_then a.lines b.lines c.lines x.lines y.lines;
+      serves = λ s. y.serves (x.serves s);
+      pull = y.pull ∙ x.pull;
+      push = λ h. x.push (y.push h);
+      ended = y.ended ∙ x.ended;
+      shut = y.shut ∙ x.shut;
+    }
+
+pub runs_written : (on : Bool) (a b : Tunnel) → WritesOnce on a b → Runs a b
+runs_written on a b x = runs_on a b x.writes.moves x.serves x.lines.queues
+
+-- ---- rounds
+
+pub has_read : (a b c d : Tunnel) → Moves a b → Reads b c → Moves c d → HasRead a d
+has_read a b c d m reads n = record { before = b; after = c; to = m; reads = reads; behind = n }
+
+pub has_read_then : (a b c : Tunnel) → HasRead a b → Moves b c → HasRead a c
+has_read_then a b c x m = record { before = x.before; after = x.after; to = x.to; reads = x.reads; behind = moves_then x.after b c x.behind m }
+
+pub then_has_read : (a b c : Tunnel) → Moves a b → HasRead b c → HasRead a c
+then_has_read a b c m x = record { before = x.before; after = x.after; to = moves_then a b x.before m x.to; reads = x.reads; behind = x.behind }
+
+pub has_written_then : (a b c : Tunnel) → HasWritten a b → Moves b c → HasWritten a c
+has_written_then a b c x m = record { before = x.before; after = x.after; to = x.to; writes = x.writes; behind = moves_then x.after b c x.behind m }
+
+pub then_has_written : (a b c : Tunnel) → Moves a b → HasWritten b c → HasWritten a c
+then_has_written a b c m x = record { before = x.before; after = x.after; to = moves_then a b x.before m x.to; writes = x.writes; behind = x.behind }
+
+pub read_once : (a b : Tunnel) → Reads a b → HasRead a b
+read_once a b x = record { before = a; after = b; to = moves_same a; reads = x; behind = moves_same b }
+
+pub written_once : (a b : Tunnel) → Writes a b → HasWritten a b
+written_once a b x = record { before = a; after = b; to = moves_same a; writes = x; behind = moves_same b }

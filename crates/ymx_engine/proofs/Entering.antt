@@ -1,0 +1,381 @@
+-- How connections come to a tunnel and leave it, and what events and signs of life change in it.
+use Rattle.std.proofs.Common.{◌≡◌, inl, inr, ℕ, ◌<◌, List, [], ◌∷◌, length, Bool, true, false, not, ◌||◌, ◌&&◌, if◌then◌else◌, Result, Ok, Err, Option, None, Some, refl, sym, ap, ◌∙◌, subst, cond, arith}
+use Rattle.std.specs.Prelude.{is_some, IfErr, IfNone, OnOk, IsSome, nat_eq, option_map}
+use Rattle.std.specs.Map.{lookup}
+use Rattle.ymx_machine.specs.declared.types.Call.TheVariants as call
+use Rattle.ymx_machine.specs.declared.types.CallFault.{CallFault}
+use Rattle.ymx_machine.specs.declared.types.CallFault.TheVariants.{Lost, Closed, NoStream, Reset}
+use Rattle.ymx_machine.specs.declared.types.Reply.TheVariants as reply
+use Rattle.ymx_machine.specs.shared.Events.{Reply}
+use Rattle.ymx_machine.specs.shared.Lists.{look as look_up, Distinct}
+use Rattle.ymx_machine.specs.shared.Phases.{is_live, is_reset}
+use Rattle.ymx_machine.specs.shared.Phases.Phase.{Lingering}
+use Rattle.ymx_machine.specs.shared.Replies.{forget_reply, is_done}
+use Rattle.ymx_machine.proofs.Lists.{look-change_there, look-without_same, distinct-change}
+use Rattle.ymx_machine.proofs.Tests.{split}
+use Rattle.ymx_model.specs.declared.types.Event.TheVariants as event
+use Rattle.ymx_model.specs.session.Calls.{accept, accept_of, answers, refused, forget, forget_outcome, at_record}
+use Rattle.ymx_model.specs.session.Emissions.{in_turn}
+use Rattle.ymx_model.specs.session.Events.{Event}
+use Rattle.ymx_model.specs.session.Histories.{Gives}
+use Rattle.ymx_model.specs.session.Records.{End, end_forget}
+use Rattle.ymx_model.specs.session.Sessions.{Session, is_closed, is_lost, is_spent, on_stream, settle}
+use Rattle.ymx_model.specs.session.Tables.{remove_record}
+use Rattle.ymx_law_session.specs.Limits.{IsWithin}
+use Rattle.ymx_session.specs.Replies.{end_fault, stream_fault}
+use Rattle.ymx_session.specs.Streams.{waiting, room_of, unread_of, open_credit}
+use Rattle.ymx_session.proofs.Sounds.{called}
+use Rattle.ymx_engine.specs.declared.device.Readiness.{Readiness}
+use Rattle.ymx_engine.specs.declared.joining.NotJoined.{NotJoined}
+use Rattle.ymx_engine.specs.declared.joining.NotJoined.TheVariants as unjoined
+use Rattle.ymx_engine.specs.Devices.{Seen, IsNoted, IsEnded, IsShut}
+use Rattle.ymx_engine.specs.Engines.{Engine, KeepsWire}
+use Rattle.ymx_engine.specs.Joins.{Joins, DropsOut, LeavesOut, IsUnjoined, IsRefused}
+use Rattle.ymx_engine.specs.Lives.{Life}
+use Rattle.ymx_engine.specs.Moves.{Moves}
+use Rattle.ymx_engine.specs.Refusals.{GivesUp, IsForgotten, OffersNone, OpensNone}
+use Rattle.ymx_engine.specs.Runs.{Runs, Stays}
+use Rattle.ymx_engine.specs.Served.{Serving, GainsNone}
+use Rattle.ymx_engine.specs.Tunnels.{Tunnel}
+use Rattle.ymx_engine.specs.Turns.{Line, Entry, Lines, line_of, look, Awaits, Puts, SameLines, SameQueues, Extends, KeepsLines, Notes}
+use Rattle.ymx_engine.proofs.Attending.{runs_on}
+use Rattle.ymx_engine.proofs.Carrying.{gives_from, loses_in}
+use Rattle.ymx_engine.proofs.Coming.{gains_then}
+use Rattle.ymx_engine.proofs.Entries.{eq_ids}
+use Rattle.ymx_engine.proofs.Listing.{LeavesWire}
+use Rattle.ymx_engine.proofs.Quiet.{IsQuiet}
+use Rattle.ymx_engine.proofs.Queueing.{extends_same, extends_then, extends_added, extends_queues, keeps_same}
+use Rattle.ymx_engine.proofs.Running.{SameSeen, puts_look, moves_idle, moves_called, moves_opened, moves_accepted, moves_not_opened, moves_not_accepted, moves_forgot, moves_noted, moves_wire_noted, moves_ended, moves_shut, moves_pinged}
+use Rattle.ymx_engine.proofs.Tending.{Calms, CalmsBut, calms_same, serving_kept, serving_session, serving_lines, serving_all, served_none, serving_but, but_of, serving_joined, serving_dropped, serving_gone, serving_noted, opened_calm, accepted_calm, forgotten_calm, pinged_calm, ponged_calm, ends_within}
+use Rattle.ymx_engine.proofs.Trading.{life_quiet}
+
+-- ---- where the connections stay
+
+extends_alike : (a b : Lines) → b ≡ a → Extends a b
+extends_alike a b e = subst (Extends a) (sym e) (extends_same a)
+
+seen_alike : (a b : Tunnel) → b.lines ≡ a.lines → SameSeen a b
+seen_alike a b e id = ap (look id) e
+
+keeps_wire : (a b : Engine) → b ≡ a → KeepsWire a b
+keeps_wire a b e = record { outgoing = ap (λ (v : Engine). v.outgoing) e; incoming = ap (λ (v : Engine). v.incoming) e }
+
+runs_beside : (a b : Tunnel) → Moves a b → (IsWithin a.engine.session → Calms a.engine.session b.engine.session) → b.lines ≡ a.lines → Runs a b
+runs_beside a b m calm same = runs_on a b m (serving_session a b calm same) (extends_alike a.lines b.lines same)
+
+still_calm : (a b : Tunnel) → b.engine ≡ a.engine → IsWithin a.engine.session → Calms a.engine.session b.engine.session
+still_calm a b e = calms_same a.engine.session b.engine.session (ap (λ (v : Engine). v.session) e)
+
+-- an event said something of the wire
+pub runs_wire_noted : (a b : Tunnel) (ready : Readiness) → b.engine ≡ a.engine → IsNoted ready a.wire b.wire → b.lines ≡ a.lines → Runs a b
+runs_wire_noted a b ready engine x same = runs_beside a b (moves_wire_noted a b ready engine x (seen_alike a b same)) (still_calm a b engine) same
+
+-- nothing more goes over the wire
+pub runs_ended : (a b : Tunnel) → b.engine ≡ a.engine → IsEnded a.wire b.wire → b.lines ≡ a.lines → Runs a b
+runs_ended a b engine x same = runs_beside a b (moves_ended a b engine x (seen_alike a b same)) (still_calm a b engine) same
+
+-- a ping was asked
+pub runs_pinged : (a b : Tunnel) (told : Reply) → Gives in_turn a.engine.session (event.Call call.Ping) told b.engine.session → KeepsWire a.engine b.engine → b.wire ≡ a.wire → b.lines ≡ a.lines → Runs a b
+runs_pinged a b told g keeps wire same =
+    runs_beside a b (moves_pinged a b call.Ping told (λ id. (refl, refl, refl, refl, refl, refl)) refl g keeps wire (seen_alike a b same)) (pinged_calm told a.engine.session b.engine.session g) same
+
+-- its answer was asked for
+pub runs_ponged : (a b : Tunnel) (n : ℕ) (told : Reply) → Gives in_turn a.engine.session (event.Call (call.Ponged n)) told b.engine.session → KeepsWire a.engine b.engine → b.wire ≡ a.wire → b.lines ≡ a.lines → Runs a b
+runs_ponged a b n told g keeps wire same =
+    runs_beside a b (moves_pinged a b (call.Ponged n) told (λ id. (refl, refl, refl, refl, refl, refl)) refl g keeps wire (seen_alike a b same)) (ponged_calm n told a.engine.session b.engine.session g) same
+
+-- ---- the wire's end
+
+-- all connections have a turn
+pub serving_lost : (a b : Tunnel) → Gives in_turn a.engine.session event.FeedEnd reply.Done b.engine.session → KeepsLines a.lines b.lines → ((id : ℕ) → IsSome (line_of id a.lines) → Awaits id b.lines) → Serving a → Serving b
+serving_lost a b g keeps all h =
+    serving_all b (ends_within a.engine.session b.engine.session g h.within) (λ id some. all id (subst (λ (o : Option Line). IsSome o) (keeps.lines id) some))
+
+-- the wire was shut, and then the session heard of its end
+pub runs_shut : (a b c : Tunnel) → b.engine ≡ a.engine → b.lines ≡ a.lines → IsShut a.wire b.wire → Gives in_turn b.engine.session event.FeedEnd reply.Done c.engine.session → KeepsWire b.engine c.engine → c.wire ≡ b.wire →
+    KeepsLines b.lines c.lines → (Serving b → Serving c) → Runs a c
+runs_shut a b c engine same x g keeps wire lines serves =
+    let kept : KeepsLines a.lines c.lines = subst (λ (l : Lines). KeepsLines l c.lines) same lines in
+    let closed : IsShut a.wire c.wire = subst (λ (w : Seen). IsShut a.wire w) (sym wire) x in
+    let first : KeepsWire a.engine b.engine = keeps_wire a.engine b.engine engine in
+    runs_on a c
+    (moves_shut a c (loses_in a.engine c.engine b.engine.session (ap (λ (v : Engine). v.session) engine) g (keeps.incoming ∙ first.incoming) (keeps.outgoing ∙ first.outgoing)) closed (λ id. ap (option_map (λ (l : Line). l.seen)) (kept.lines id)))
+    (λ h. serves (serving_session a b (still_calm a b engine) same h)) kept.queues
+
+-- ---- what an event said of a device
+
+pub runs_line_noted : (a b : Tunnel) (id : ℕ) (ready : Readiness) → b.engine ≡ a.engine → b.wire ≡ a.wire → ((was : Line) → line_of id a.lines ≡ Some was → Notes id ready was a.lines b.lines) → (line_of id a.lines ≡ None → b.lines ≡ a.lines) → Runs a b
+runs_line_noted a b id ready engine wire noted none = by (line_of id a.lines) refl
+  where
+    by : (o : Option Line) → line_of id a.lines ≡ o → Runs a b
+    by None e =
+        runs_beside a b (moves_called a b [] (ap (λ (v : Engine). v.session) engine) ((refl, λ w. tt), refl, refl, refl) (keeps_wire a.engine b.engine engine) wire
+        (λ other. subst (λ (l : Lines). Life other [] (look other a.lines) (look other l)) (sym (none e)) (life_quiet other [] (look other a.lines) (refl, refl, refl, refl, refl, refl)))) (still_calm a b engine) (none e)
+    by (Some was) e =
+        let x = noted was e in
+        runs_on a b (moves_noted a b id ready was.seen x.now engine wire x.noted (ap (option_map (λ (l : Line). l.seen)) e) (λ other. puts_look id other (Some (record { seen = x.now; ways = was.ways })) a.lines b.lines x.lines))
+        (serving_noted id ready was a b engine x) (extends_added id a.lines b.lines x.turn)
+
+-- no device joined or left
+there_on : (id other : ℕ) (o p : Option Seen) (e : Seen) (t : Bool) → nat_eq id other ≡ t → IsSome o → (nat_eq id other ≡ true → p ≡ o) → is_some (cond t (Some e) p) ≡ is_some p
+there_on id other o p e true t some same = sym (ap is_some (same t) ∙ some)
+there_on id other o p e false t some same = refl
+
+pub stays_line_noted : (a b : Tunnel) (id : ℕ) (ready : Readiness) → b.wire ≡ a.wire → ((was : Line) → line_of id a.lines ≡ Some was → Notes id ready was a.lines b.lines) → (line_of id a.lines ≡ None → b.lines ≡ a.lines) → Stays a b
+stays_line_noted a b id ready wire noted none = record { joined = λ other. by other (line_of id a.lines) refl; ended = ap (λ (s : Seen). s.ended) wire; shut = ap (λ (s : Seen). s.shut) wire }
+  where
+    by : (other : ℕ) (o : Option Line) → line_of id a.lines ≡ o → is_some (look other b.lines) ≡ is_some (look other a.lines)
+    by other None e = ap (λ (l : Lines). is_some (look other l)) (none e)
+    by other (Some was) e =
+        let x = noted was e in
+        let at : look id a.lines ≡ Some was.seen = ap (option_map (λ (l : Line). l.seen)) e in
+        ap is_some (puts_look id other (Some (record { seen = x.now; ways = was.ways })) a.lines b.lines x.lines)
+        ∙ there_on id other (Some was.seen) (look other a.lines) x.now (nat_eq id other) refl refl (λ t. ap (λ (n : ℕ). look n a.lines) (eq_ids id other t) ∙ at)
+
+pub stays_from : (a b c : Tunnel) → a ≡ b → Stays a c → Stays b c
+stays_from a b c e x = subst (λ (v : Tunnel). Stays v c) e x
+
+-- ---- a connection leaves
+
+pub runs_forgot : (a b : Tunnel) (id : ℕ) (told : Reply) → Gives in_turn a.engine.session (event.Call (call.Forget id)) told b.engine.session → KeepsWire a.engine b.engine → b.wire ≡ a.wire → Puts id None a.lines b.lines → SameQueues a.lines b.lines → Runs a b
+runs_forgot a b id told g keeps wire puts q =
+    runs_on a b (moves_forgot a b id told g keeps wire (λ other. puts_look id other None a.lines b.lines puts))
+    (λ h. serving_gone id a b (forgotten_calm id told a.engine.session b.engine.session g) puts q (but_of id a h)) (extends_queues a.lines b.lines q)
+
+-- a stream that was forgotten takes no bytes, and none wait on it
+lingers : (lost : Bool) (e : End) → (end_forget lost e).phase ≡ Lingering
+lingers lost e =
+    split (λ (x : End). x.phase ≡ Lingering) lost _ _ (λ a. refl) (λ a.
+    split (λ (x : End). x.phase ≡ Lingering) (is_reset e.phase) _ _ (λ b. refl) (λ b.
+    split (λ (x : End). x.phase ≡ Lingering) (e.writer.finished && e.reader.ended) _ _ (λ d. refl) (λ d. refl)))
+
+abbrev Gone : ℕ → Session → Type 0
+Gone id s = is_some (stream_fault id s) ≡ true
+
+abbrev Faulty : Option End → Type 0
+Faulty o = is_some (end_fault o) ≡ true
+
+faulty_gone : (id : ℕ) (s : Session) → Faulty (look_up id s.table.entries) → Gone id s
+faulty_gone id s h = split (λ (f : Option CallFault). is_some f ≡ true) (is_closed s.status) (Some Closed) (end_fault (look_up id s.table.entries)) (λ e. refl) (λ e. h)
+
+not_live : (e : End) → e.phase ≡ Lingering → Faulty (Some e)
+not_live e l = rw l refl
+
+settled_gone : (id : ℕ) (t : Session) → Distinct t.table.entries → Faulty (look_up id t.table.entries) → Faulty (look_up id (settle id t).table.entries)
+settled_gone id t d none =
+    split (λ (u : Session). Faulty (look_up id u.table.entries)) (is_spent t.table.window t.outgoing id (look_up id t.table.entries)) (record t { table = remove_record id t.table }) t
+    (λ e. rw (look-without_same id t.table.entries d) refl) (λ e. none)
+
+refused_faulty : (e : End) → is_done (forget_reply e.phase) ≡ false → Faulty (Some e)
+refused_faulty e = by (is_live e.phase) (is_reset e.phase)
+  where
+    by : (live reset : Bool) → is_done (if live || reset then reply.Done else reply.Refused NoStream) ≡ false → is_some (if reset then Some Reset else if not live then Some NoStream else None) ≡ true
+    by true reset h = let no : true ≡ false = h in absurd cc
+    by false true h = refl
+    by false false h = refl
+
+forget_gone : (id : ℕ) (s : Session) → Distinct s.table.entries → Gone id (forget id s).next
+forget_gone id s d = by (is_closed s.status) refl
+  where
+    of : (o : Option End) → look_up id s.table.entries ≡ o → Faulty (look_up id (at_record (forget_outcome id s) s o).next.table.entries)
+    of None l = rw l refl
+    of (Some e) l =
+        split (λ (u : Session). Faulty (look_up id u.table.entries)) (is_done (forget_reply e.phase)) (settle id (on_stream id (end_forget (is_lost s.status)) s)) s
+        (λ t.
+        let f = end_forget (is_lost s.status) in
+        let there : look_up id (on_stream id f s).table.entries ≡ Some (f e) = look-change_there id f s.table.entries e l in
+        settled_gone id (on_stream id f s) (distinct-change id f s.table.entries d) (subst Faulty (sym there) (not_live (f e) (lingers (is_lost s.status) e))))
+        (λ n. subst Faulty (sym l) (refused_faulty e n))
+
+    by : (closed : Bool) → is_closed s.status ≡ closed → Gone id (if closed then refused Closed s else at_record (forget_outcome id s) s (look_up id s.table.entries)).next
+    by true e = rw e refl
+    by false e = faulty_gone id (at_record (forget_outcome id s) s (look_up id s.table.entries)).next (of (look_up id s.table.entries) refl)
+
+none_waiting : (gone : Bool) (xs : List ℕ) → gone ≡ true → (if gone then [] else xs) ≡ []
+none_waiting true xs e = refl
+none_waiting false xs e = cc
+
+no_room : (gone lost : Bool) (n : ℕ) → gone ≡ true → (if gone || lost then 0 else n) ≡ 0
+no_room true lost n e = refl
+no_room false lost n e = cc
+
+gone_gains : (id : ℕ) (s t : Session) → Gone id t → GainsNone id s t
+gone_gains id s t e =
+    let none : waiting id t ≡ [] = none_waiting (is_some (stream_fault id t)) (unread_of (look_up id t.table.entries)) e in
+    let full : room_of id t ≡ 0 = no_room (is_some (stream_fault id t)) (is_lost t.status) (open_credit (look_up id t.table.entries)) e in
+    record { bytes = λ some. let no : 0 < 0 = subst (λ (xs : List ℕ). 0 < length xs) none some in absurd (omega arith); room = λ some. let no : 0 < 0 = subst (λ (n : ℕ). 0 < n) full some in absurd (omega arith) }
+
+-- ---- a stream comes
+
+-- A stream was opened or accepted, and no device has joined it yet. Each connection is what it was, and no other stream gained
+-- anything.
+pub record Comes (id : ℕ) (a b : Tunnel) : Type 0 where
+  pub joins : (d : Seen) (c : Tunnel) → Joins id d b c → Moves a c
+  pub drops : (c : Tunnel) → DropsOut id b c → Moves a c
+  pub leaves : (c : Tunnel) → LeavesOut id b c → Moves a c
+  pub calm : IsWithin a.engine.session → CalmsBut id a.engine.session b.engine.session
+  pub lines : KeepsLines a.lines b.lines
+
+same_seen : (a b : Tunnel) → KeepsLines a.lines b.lines → SameSeen a b
+same_seen a b keeps id = ap (option_map (λ (l : Line). l.seen)) (keeps.lines id)
+
+-- it came, and was forgotten while another device had its id
+moves_left : (a b c : Tunnel) (id : ℕ) (k : Event × Reply) → Gives in_turn a.engine.session k.0 k.1 b.engine.session → KeepsWire a.engine b.engine → b.wire ≡ a.wire → SameSeen a b → (j : LeavesOut id b c) →
+    LeavesWire (k ∷ (event.Call (call.Forget id), j.left.told) ∷ []) → ((other : ℕ) → IsQuiet other (k ∷ (event.Call (call.Forget id), j.left.told) ∷ [])) → Moves a c
+moves_left a b c id k g keeps wire same j leaves quiet =
+    let es : List (Event × Reply) = k ∷ (event.Call (call.Forget id), j.left.told) ∷ [] in
+    moves_idle a c es (b.engine.session, g, (c.engine.session, j.left.forgotten, refl)) leaves (record { outgoing = j.keeps.outgoing ∙ keeps.outgoing; incoming = j.keeps.incoming ∙ keeps.incoming }) (j.wire ∙ wire)
+    (λ other. ap (look other) j.lines ∙ same other) (λ other. life_quiet other es (look other a.lines) (quiet other))
+
+pub comes_opened : (a b : Tunnel) (id : ℕ) → Gives in_turn a.engine.session (event.Call call.Open) (reply.Opened id) b.engine.session → KeepsWire a.engine b.engine → b.wire ≡ a.wire → KeepsLines a.lines b.lines → Comes id a b
+comes_opened a b id g keeps wire lines =
+    let same = same_seen a b lines in
+    record {
+      joins = λ d c j. moves_opened a b c id d g keeps wire same j;
+      drops = λ c j. moves_not_opened a b c id g keeps wire same j;
+      leaves = λ c j. moves_left a b c id (event.Call call.Open, reply.Opened id) g keeps wire same j ((refl, λ w. (tt, (tt, tt))), refl, refl, refl) (λ other. (refl, refl, refl, refl, refl, refl));
+      calm = opened_calm id a.engine.session b.engine.session g;
+      lines = lines;
+    }
+
+pub comes_accepted : (a b : Tunnel) (id : ℕ) → Gives in_turn a.engine.session (event.Call call.Accept) (reply.Accepted (Some id)) b.engine.session → KeepsWire a.engine b.engine → b.wire ≡ a.wire → KeepsLines a.lines b.lines → Comes id a b
+comes_accepted a b id g keeps wire lines =
+    let same = same_seen a b lines in
+    record {
+      joins = λ d c j. moves_accepted a b c id d g keeps wire same j;
+      drops = λ c j. moves_not_accepted a b c id g keeps wire same j;
+      leaves = λ c j. moves_left a b c id (event.Call call.Accept, reply.Accepted (Some id)) g keeps wire same j ((refl, λ w. (tt, (tt, tt))), refl, refl, refl) (λ other. (refl, refl, refl, refl, refl, refl));
+      calm = accepted_calm id a.engine.session b.engine.session g;
+      lines = lines;
+    }
+
+-- a device joined it
+pub runs_joined : (id : ℕ) (d : Seen) (a b c : Tunnel) → Comes id a b → Joins id d b c → Runs a c
+runs_joined id d a b c x j =
+    runs_on a c (x.joins d c j) (λ h. serving_joined id d b c j (serving_but id a b x.calm x.lines h)) (extends_then a.lines b.lines c.lines x.lines.queues (extends_added id b.lines c.lines j.lines.turn))
+
+extends_on : (a b c : Lines) → KeepsLines a b → c ≡ b → Extends a c
+extends_on a b c keeps e = subst (Extends a) (sym e) keeps.queues
+
+-- it was reset and forgotten
+pub runs_dropped : (id : ℕ) (a b c : Tunnel) → Comes id a b → DropsOut id b c → Runs a c
+runs_dropped id a b c x j = runs_on a c (x.drops c j) (λ h. serving_dropped id b c j (serving_but id a b x.calm x.lines h)) (extends_on a.lines b.lines c.lines x.lines j.lines)
+
+-- no other stream gained anything, and this one has nothing
+calm_left : (id : ℕ) (s t u : Session) → CalmsBut id s t → IsForgotten id t u → Calms s u
+calm_left id s t u x left =
+    let y = forgotten_calm id left.told t u left.forgotten x.within in
+    record { within = y.within; came = λ other. by other y.came (nat_eq id other) refl; runs = λ h. x.runs (y.runs h) }
+  where
+    k : (left.told ≡ (forget id t).reply) × (u ≡ (forget id t).next)
+    k = called (call.Forget id) t u left.told refl left.forgotten
+
+    by : (other : ℕ) → ((o : ℕ) → nat_eq id o ≡ false → GainsNone o t u) → (test : Bool) → nat_eq id other ≡ test → GainsNone other s u
+    by other came false e = gains_then other s t u (x.came other e) (came other e)
+    by other came true e = subst (λ (n : ℕ). GainsNone n s u) (sym (eq_ids id other e)) (gone_gains id s u (subst (Gone id) (sym k.1) (forget_gone id t x.within.table.distinct)))
+
+-- it was forgotten while another device had its id
+pub runs_left : (id : ℕ) (a b c : Tunnel) → Comes id a b → LeavesOut id b c → Runs a c
+runs_left id a b c x j =
+    runs_on a c (x.leaves c j) (serving_kept a c (λ w. calm_left id a.engine.session b.engine.session c.engine.session (x.calm w) j.left) (subst (KeepsLines a.lines) (sym j.lines) x.lines)) (extends_on a.lines b.lines c.lines x.lines j.lines)
+
+-- a device joined it, or none did
+pub runs_come : (r : Result ℕ NotJoined) (id : ℕ) (d : Seen) (a b c : Tunnel) (told told_new : Option (List (ℕ × Bool))) → Comes id a b → OnOk r (Joins id d b c) → IfErr r (λ why. IsUnjoined id why b c told told_new) → Runs a c
+runs_come (Ok joined) id d a b c told told_new x ok err = runs_joined id d a b c x ok
+runs_come (Err unjoined.Unregistered) id d a b c told told_new x ok err = runs_dropped id a b c x err.0
+runs_come (Err unjoined.Twice) id d a b c told told_new x ok err = runs_left id a b c x err.0
+runs_come (Err (unjoined.BySession fault)) id d a b c told told_new x ok err = absurd err
+runs_come (Err (unjoined.OutOfMemory refused)) id d a b c told told_new x ok err = absurd err
+
+-- ---- none comes
+
+-- the session is as it was, and so is each connection
+pub runs_still : (a b : Tunnel) → b.engine.session ≡ a.engine.session → KeepsWire a.engine b.engine → b.wire ≡ a.wire → KeepsLines a.lines b.lines → Runs a b
+runs_still a b still keeps wire lines =
+    runs_on a b (moves_idle a b [] still ((refl, λ w. tt), refl, refl, refl) keeps wire (same_seen a b lines) (λ id. life_quiet id [] (look id a.lines) (refl, refl, refl, refl, refl, refl)))
+    (serving_lines a b still lines) lines.queues
+
+-- an accept that gives no stream changes nothing
+empty_keeps : (is_over : Bool) (s : Session) → (if is_over then refused Lost s else answers (reply.Accepted None) s).next ≡ s
+empty_keeps true s = refl
+empty_keeps false s = refl
+
+none_keeps : (is_over : Bool) (ids : List ℕ) (s : Session) → reply.Accepted None ≡ (if is_over then refused Closed s else accept_of ids s).reply →
+    (if is_over then refused Closed s else accept_of ids s).next ≡ s
+none_keeps true ids s r = refl
+none_keeps false [] s r = empty_keeps (is_lost s.status) s
+none_keeps false (id ∷ ids) s r = cc
+
+offers_none : (s t u : Session) → s ≡ u → Gives in_turn s (event.Call call.Accept) (reply.Accepted None) t → OffersNone u t
+offers_none s t u same g =
+    let k : (reply.Accepted None ≡ (accept s).reply) × (t ≡ (accept s).next) = called call.Accept s t (reply.Accepted None) refl g in
+    (k.1 ∙ none_keeps (is_closed s.status) s.offered s k.0 ∙ same, inl (gives_from (event.Call call.Accept) (reply.Accepted None) s t u same g))
+
+pub offer_is : (offered : Option ℕ) (s t u : Session) → s ≡ u → Gives in_turn s (event.Call call.Accept) (reply.Accepted offered) t → IfNone offered (OffersNone u t)
+offer_is None s t u same g = offers_none s t u same g
+offer_is (Some id) s t u same g = tt
+
+pub refuses_all : (fault : CallFault) (s t u : Session) → s ≡ u → Gives in_turn s (event.Call call.Accept) (reply.Refused fault) t → t ≡ s → OffersNone u t
+refuses_all fault s t u same g still = (still ∙ same, inr (fault, gives_from (event.Call call.Accept) (reply.Refused fault) s t u same g))
+
+-- ---- what stays where the session alone changed
+
+pub record OnlySession (a b : Tunnel) : Type 0 where
+  pub keeps : KeepsWire a.engine b.engine
+  pub wire : b.wire ≡ a.wire
+  pub over : b.is_wire_over ≡ a.is_wire_over
+  pub lines : b.lines ≡ a.lines
+
+pub only_session : (a b : Tunnel) → b ≡ record a { engine = record a.engine { session = b.engine.session } } → OnlySession a b
+only_session a b e = record {
+  keeps = record { outgoing = ap (λ (t : Tunnel). t.engine.outgoing) e; incoming = ap (λ (t : Tunnel). t.engine.incoming) e };
+  wire = ap (λ (t : Tunnel). t.wire) e;
+  over = ap (λ (t : Tunnel). t.is_wire_over) e;
+  lines = ap (λ (t : Tunnel). t.lines) e;
+}
+
+lines_kept : (a b : Lines) → b ≡ a → KeepsLines a b
+lines_kept a b e = subst (KeepsLines a) (sym e) (keeps_same a)
+
+pub drops_out : (id : ℕ) (a b : Tunnel) → line_of id a.lines ≡ None → GivesUp id a.engine.session b.engine.session → OnlySession a b → DropsOut id a b
+drops_out id a b free up only = record { free = free; up = up; keeps = only.keeps; wire = only.wire; over = only.over; lines = only.lines }
+
+pub leaves_out : (id : ℕ) (a b : Tunnel) → IsForgotten id a.engine.session b.engine.session → OnlySession a b → LeavesOut id a b
+leaves_out id a b left only = record { left = left; keeps = only.keeps; wire = only.wire; over = only.over; lines = only.lines }
+
+-- one was accepted
+pub comes_taken : (a b : Tunnel) (id : ℕ) → Gives in_turn a.engine.session (event.Call call.Accept) (reply.Accepted (Some id)) b.engine.session → OnlySession a b → Comes id a b
+comes_taken a b id g only = comes_accepted a b id g only.keeps only.wire (lines_kept a.lines b.lines only.lines)
+
+-- none was
+pub runs_offers_none : (a b : Tunnel) → OffersNone a.engine.session b.engine.session → OnlySession a b → Runs a b
+runs_offers_none a b none only = runs_still a b none.0 only.keeps only.wire (lines_kept a.lines b.lines only.lines)
+
+-- the session refused to open a stream
+pub opens_none : (fault : CallFault) (a b c : Tunnel) (told : Option (List (ℕ × Bool))) → a ≡ b → Gives in_turn a.engine.session (event.Call call.Open) (reply.Refused fault) c.engine.session → c.engine.session ≡ a.engine.session →
+    SameLines a.lines c.lines → c.wire ≡ a.wire → IsRefused (unjoined.BySession fault) b c told told
+opens_none fault a b c told same g still lines wire =
+    subst (λ (t : Tunnel). IsRefused (unjoined.BySession fault) t c told told) same (record {
+      lines = lines;
+      wire = wire;
+      asked = refl;
+      session = λ other is. subst (λ (f : CallFault). OpensNone f a.engine.session c.engine.session) (one_fault fault other is) (still, inl g);
+    })
+  where
+    one_fault : (f g : CallFault) → unjoined.BySession f ≡ unjoined.BySession g → f ≡ g
+    one_fault f g e = cc
+
+none_there : (o : Option Line) (b : Bool) → b ≡ is_some o → b ≡ false → o ≡ None
+none_there None b e f = refl
+none_there (Some l) b e f = let no : true ≡ false = sym e ∙ f in absurd cc
+
+-- a stream that has no device
+pub is_free : (id : ℕ) (a b : Tunnel) (found : Bool) → a ≡ b → found ≡ is_some (line_of id a.lines) → found ≡ false → line_of id b.lines ≡ None
+is_free id a b found same e none = subst (λ (t : Tunnel). line_of id t.lines ≡ None) same (none_there (line_of id a.lines) found e none)
+
+no_line : (id : ℕ) (t : Lines) → t.by_id ≡ [] → line_of id t ≡ None
+no_line id t e = ap (λ (es : List (ℕ × Entry)). option_map (λ (x : Entry). x.line) (lookup (nat_eq id) es)) e
+
+-- one that has no connection
+pub serving_new : (a : Tunnel) → IsWithin a.engine.session → a.lines.by_id ≡ [] → Serving a
+serving_new a w none = record { within = w; each = λ id. served_none id a (no_line id a.lines none) }

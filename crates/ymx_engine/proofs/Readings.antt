@@ -1,0 +1,328 @@
+-- What a tunnel does with what its wire gives.
+use Rattle.std.proofs.Common.{◌≡◌, ◌⊎◌, inl, inr, ℕ, ◌+◌, ◌<◌, ◌≤◌, List, [], ◌∷◌, length, take, drop, Bool, true, false, not, ◌||◌, ◌&&◌, Option, None, Some, refl, sym, ap, ◌∙◌, subst, cond, arith}
+use Rattle.std.specs.Prelude.{nat_eq, nat_lt, IsSome, is_some, Contains, option_map}
+use Rattle.std.specs.Option.{option_map_or}
+use Rattle.std.proofs.lemmas.Bool.Decides.{nat_tests}
+use Rattle.std.proofs.lemmas.List.{length-take-le, length-drop}
+use Rattle.std.proofs.lemmas.Grind.{common_steps}
+use Rattle.ymx_machine.specs.declared.types.Fed.{Fed}
+use Rattle.ymx_machine.specs.declared.types.Reply.TheVariants as reply
+use Rattle.ymx_machine.specs.shared.Events.{Reply}
+use Rattle.ymx_model.specs.declared.types.Event.TheVariants as event
+use Rattle.ymx_model.specs.session.Emissions.{in_turn}
+use Rattle.ymx_model.specs.session.Events.{Event}
+use Rattle.ymx_model.specs.session.Feeds.{is_stuck}
+use Rattle.ymx_model.specs.session.Histories.{Gives}
+use Rattle.ymx_model.specs.session.Sessions.{Session, is_running}
+use Rattle.ymx_session.specs.Passing.{passing, FeedsSome}
+use Rattle.ymx_session.specs.Touched.{Noted, is_noted, NotesChanges}
+use Rattle.ymx_engine.specs.declared.device.Pulled.{Pulled}
+use Rattle.ymx_engine.specs.declared.device.Pulled.TheVariants as pulled
+use Rattle.ymx_engine.specs.declared.ways.Ways.{Ways}
+use Rattle.ymx_engine.specs.Devices.{Seen, Marks, IsPulled, pulled_count, gives, is_end, is_pull_failure}
+use Rattle.ymx_engine.specs.Engines.{Engine, KeepsWire}
+use Rattle.ymx_engine.specs.Events.{has_stop}
+use Rattle.ymx_engine.specs.Exchanges.{has_bytes}
+use Rattle.ymx_engine.specs.Passes.{OffersOnce}
+use Rattle.ymx_engine.specs.Runs.{Runs, Stays, Rests}
+use Rattle.ymx_engine.specs.Served.{Serving, GainsNone}
+use Rattle.ymx_engine.specs.Steps.{Keeps, OffersPart, PassesPart, StaysOver}
+use Rattle.ymx_engine.specs.Tunnels.{Tunnel}
+use Rattle.ymx_engine.specs.Turns.{Line, Lines, line_of, Awaits, Extends, SameLines, SameQueues, Puts, AddsTurn, KeepsLines}
+use Rattle.ymx_engine.specs.Ways.{is_over, is_open, may_push, ways_after}
+use Rattle.ymx_engine.specs.Wires.{HandlesIn, TakesIn}
+use Rattle.ymx_engine.specs.Work.{Reads, may_have_bytes}
+use Rattle.ymx_engine.proofs.Advancing.{feeds_some, offers_front}
+use Rattle.ymx_engine.proofs.Attending.{runs_on}
+use Rattle.ymx_engine.proofs.Carrying.{pulled_so, handles_in_none, loses_in}
+use Rattle.ymx_engine.proofs.Coming.{happen_within}
+use Rattle.ymx_engine.proofs.Entries.{eq_ids, some_is}
+use Rattle.ymx_engine.proofs.Queueing.{adds_behind_same, line_put_there, puts_then_same, extends_same, extends_added, keeps_then, others_put}
+use Rattle.ymx_engine.proofs.Quiet.{both}
+use Rattle.ymx_engine.proofs.Running.{SameSeen, moves_read_so, moves_handled, moves_passed, puts_look}
+use Rattle.ymx_engine.proofs.Tending.{serving_fed, serving_alike, serving_with, served_waits, but_of}
+use Rattle.ymx_engine.proofs.WaysAfter.{to_peer_was, from_peer_was, stop_breaks_to, stop_breaks_from}
+
+-- the device of each is what it was
+pub same_seen : (a b : Tunnel) → KeepsLines a.lines b.lines → SameSeen a b
+same_seen a b keeps id = ap (option_map (λ (l : Line). l.seen)) (keeps.lines id)
+
+-- ---- what waits is fed
+
+pub keeps_fed : (n : Noted) (f : Fed) (a b : Tunnel) (t : Session) (rest : List ℕ) (q : Lines) → FeedsSome a.engine.session a.engine.incoming f t → rest ≡ drop f.taken a.engine.incoming → NotesChanges a.engine.session t n → KeepsLines a.lines q →
+    ((id : ℕ) → is_noted id n ≡ true → IsSome (line_of id a.lines) → Awaits id q) → b.engine ≡ record { session = t; outgoing = a.engine.outgoing; incoming = rest } → b.wire ≡ a.wire → b.is_wire_over ≡ a.is_wire_over → KeepsLines q b.lines →
+    (is_running b.engine.session.status ≡ false → (id : ℕ) → IsSome (line_of id b.lines) → Awaits id b.lines) → Keeps a b
+keeps_fed n f a b t rest q x left notes keeps all engine wire over later stopped =
+    let lines = keeps_then a.lines q b.lines keeps later in
+    let now : Engine = record { session = t; outgoing = a.engine.outgoing; incoming = rest } in
+    let handled : HandlesIn false a.engine b.engine = subst (HandlesIn false a.engine) (sym engine) (feeds_some a.engine now f a.engine.session a.engine.incoming refl refl x left refl) in
+    record {
+      moves = moves_handled a b handled wire (same_seen a b lines);
+      wire = wire;
+      over = over;
+      lines = lines;
+      serves = serving_fed n a.engine.incoming f a b t q x notes keeps all (ap (λ (e : Engine). e.session) engine) later stopped;
+    }
+
+none_dropped : (n : ℕ) (xs : List ℕ) → nat_lt n (length xs) ≡ false → drop n xs ≡ []
+none_dropped n xs h = grind (arith, common_steps, nat_tests)
+
+is_less : (n m : ℕ) → nat_lt n m ≡ true → n < m
+is_less n m h = grind (arith, nat_tests)
+
+-- a feed goes on up to where it stops
+pub fed_or_stopped : (n : ℕ) (waits rest : List ℕ) (t : Session) (e : Engine) → rest ≡ drop n waits → (n < length waits → (is_stuck t ≡ true) ⊎ IsSome (passing t)) → e.session ≡ t → e.incoming ≡ rest → (e.incoming ≡ []) ⊎ ((is_stuck e.session ≡ true) ⊎ IsSome (passing e.session))
+fed_or_stopped n waits rest t e left stops session incoming = by (nat_lt n (length waits)) refl
+  where
+    by : (x : Bool) → nat_lt n (length waits) ≡ x → (e.incoming ≡ []) ⊎ ((is_stuck e.session ≡ true) ⊎ IsSome (passing e.session))
+    by true x = inr (subst (λ (v : Session). (is_stuck v ≡ true) ⊎ IsSome (passing v)) (sym session) (stops (is_less n (length waits) x)))
+    by false x = inl (incoming ∙ left ∙ none_dropped n waits x)
+
+-- ---- the wire is read
+
+some_there : (xs : List ℕ) → 0 < length xs → has_bytes xs ≡ true
+some_there [] h = let no : ⊥ = omega arith in absurd no
+some_there (x ∷ xs) h = refl
+
+-- what a device gives is some bytes
+some_given : (r : Pulled) (buffer : List ℕ) (d e : Seen) → IsPulled r buffer d e → 0 < length buffer → gives r ≡ true → has_bytes (take (pulled_count r) buffer) ≡ true
+some_given r buffer d e x room given =
+    let some : 0 < pulled_count r = x.some given room in
+    let all : length (take (pulled_count r) buffer) ≡ pulled_count r = length-take-le (pulled_count r) buffer x.within in
+    some_there (take (pulled_count r) buffer) (omega arith)
+
+-- the wire was called for bytes, and what it said was heard
+reads_pulled : (r : Pulled) (buffer : List ℕ) (a m b : Tunnel) → a.engine.incoming ≡ [] → IsPulled r buffer a.wire m.wire → 0 < length buffer → m.engine.session ≡ a.engine.session → m.engine.outgoing ≡ a.engine.outgoing →
+    m.engine.incoming ≡ take (pulled_count r) buffer → HandlesIn (is_end r || is_pull_failure r) m.engine b.engine → b.wire ≡ m.wire → SameSeen a b → (gives r ≡ false → may_have_bytes b ≡ false) → Reads a b
+reads_pulled r buffer a m b none x room session outgoing incoming heard wire same off =
+    let y : IsPulled r buffer a.wire b.wire = subst (IsPulled r buffer a.wire) (sym wire) x in
+    let t : TakesIn r a.engine m.engine a.wire b.wire = record { buffer = buffer; pulled = y; incoming = incoming; outgoing = outgoing; session = session } in
+    let moved = pulled_so r a.engine m.engine b.engine a.wire b.wire none t heard in
+    let moves = moves_read_so a b 1 moved.0 same in
+    record { moves = moves.0; asks = λ fed may. by (moves.0).came (moves.1 ∙ moved.1) (gives r) refl }
+  where
+    by : (came : List ℕ) → came ≡ take (pulled_count r) buffer → (g : Bool) → gives r ≡ g → (has_bytes came ≡ true) ⊎ (may_have_bytes b ≡ false)
+    by came is true g = inl (ap has_bytes is ∙ some_given r buffer a.wire m.wire x room g)
+    by came is false g = inr (off g)
+
+and_off : (x : Bool) → (x && false) ≡ false
+and_off true = refl
+and_off false = refl
+
+-- one that gave none may have none now
+pulled_off : (r : Pulled) (buffer : List ℕ) (d e : Seen) → IsPulled r buffer d e → gives r ≡ false → e.marks.may_pull ≡ false
+pulled_off (pulled.Gave n) buffer d e x h = let no : ⊥ = cc in absurd no
+pulled_off pulled.NotNow buffer d e x h = ap (λ (m : Marks). m.may_pull) x.marks ∙ and_off d.marks.may_pull
+pulled_off pulled.Ended buffer d e x h = ap (λ (m : Marks). m.may_pull) x.marks ∙ and_off d.marks.may_pull
+pulled_off pulled.Failed buffer d e x h = ap (λ (m : Marks). m.may_pull) x.marks ∙ and_off d.marks.may_pull
+
+pub none_to_read : (t : Tunnel) → t.wire.marks.may_pull ≡ false → may_have_bytes t ≡ false
+none_to_read t h = rw h refl
+
+pub over_to_read : (t : Tunnel) → t.is_wire_over ≡ true → may_have_bytes t ≡ false
+over_to_read t h = rw h (and_off t.wire.marks.may_pull)
+
+goes_on : (r : Pulled) → ((n : ℕ) × (r ≡ pulled.Gave n)) ⊎ (r ≡ pulled.NotNow) → (is_end r || is_pull_failure r) ≡ false
+goes_on r (inl (n, e)) = rw e refl
+goes_on r (inr e) = rw e refl
+
+ends : (r : Pulled) → (r ≡ pulled.Ended) ⊎ (r ≡ pulled.Failed) → (is_end r || is_pull_failure r) ≡ true
+ends r (inl e) = rw e refl
+ends r (inr e) = rw e refl
+
+runs_gave : (a b : Tunnel) → Reads a b → b.engine.session ≡ a.engine.session → b.lines ≡ a.lines → Reads a b × Runs a b
+runs_gave a b x session lines = (x, runs_on a b x.moves (serving_alike a b session lines) (subst (Extends a.lines) (sym lines) (extends_same a.lines)))
+
+rests_pulled : (r : Pulled) (buffer : List ℕ) (a b : Tunnel) → IsPulled r buffer a.wire b.wire → SameLines a.lines b.lines → Rests a b
+rests_pulled r buffer a b x same = record {
+  wire_pull = λ h. (both a.wire.marks.may_pull _ (sym (ap (λ (m : Marks). m.may_pull) x.marks) ∙ h)).0;
+  wire_push = λ h. sym (ap (λ (m : Marks). m.may_push) x.marks) ∙ h;
+  pull = λ id l there may. inr (l, sym (same id) ∙ there, may);
+  push = λ id l there may. inr (l, sym (same id) ∙ there, may);
+}
+
+-- it gave some, or has none yet
+pub reads_gave : (r : Pulled) (buffer : List ℕ) (a b : Tunnel) → a.engine.incoming ≡ [] → IsPulled r buffer a.wire b.wire → 0 < length buffer → b.engine.session ≡ a.engine.session → b.engine.outgoing ≡ a.engine.outgoing →
+    b.engine.incoming ≡ take (pulled_count r) buffer → ((n : ℕ) × (r ≡ pulled.Gave n)) ⊎ (r ≡ pulled.NotNow) → b.lines ≡ a.lines → Reads a b × Runs a b
+reads_gave r buffer a b none x room session outgoing incoming is lines =
+    runs_gave a b (reads_pulled r buffer a b b none x room session outgoing incoming (subst (λ (v : Bool). HandlesIn v b.engine b.engine) (sym (goes_on r is)) (handles_in_none b.engine)) refl
+    (λ id. ap (λ (v : Lines). option_map (λ (l : Line). l.seen) (line_of id v)) lines) (λ h. none_to_read b (pulled_off r buffer a.wire b.wire x h))) session lines
+
+-- it ended or failed, and the session heard of it
+pub reads_lost : (r : Pulled) (buffer : List ℕ) (a m b : Tunnel) → a.engine.incoming ≡ [] → IsPulled r buffer a.wire m.wire → 0 < length buffer → m.engine.session ≡ a.engine.session → m.engine.outgoing ≡ a.engine.outgoing →
+    m.engine.incoming ≡ take (pulled_count r) buffer → (r ≡ pulled.Ended) ⊎ (r ≡ pulled.Failed) → m.lines ≡ a.lines → b.wire ≡ m.wire → b.is_wire_over ≡ true → Gives in_turn m.engine.session event.FeedEnd reply.Done b.engine.session → KeepsWire m.engine b.engine →
+    KeepsLines m.lines b.lines → (Serving m → Serving b) → Reads a b × (Runs a b × Rests a b)
+reads_lost r buffer a m b none x room session outgoing incoming is lines wire over g keeps later serves =
+    let heard : HandlesIn true m.engine b.engine = loses_in m.engine b.engine m.engine.session refl g keeps.incoming keeps.outgoing in
+    let reads = reads_pulled r buffer a m b none x room session outgoing incoming (subst (λ (v : Bool). HandlesIn v m.engine b.engine) (sym (ends r is)) heard) wire (λ id. same_seen m b later id ∙ ap (λ (v : Lines). option_map (λ (l : Line). l.seen) (line_of id v)) lines) (λ h. over_to_read b over) in
+    let kept : KeepsLines a.lines b.lines = subst (λ (v : Lines). KeepsLines v b.lines) lines later in (
+      reads,
+      (runs_on a b reads.moves (λ h. serves (serving_alike a m session lines h)) kept.queues, rests_pulled r buffer a b (subst (IsPulled r buffer a.wire) (sym wire) x) kept.lines),
+    )
+
+-- it was not called
+pub reads_none : (a : Tunnel) → (a.engine.incoming ≡ [] → may_have_bytes a ≡ true → ⊥) → Reads a a
+reads_none a h = record { moves = moves_handled a a (handles_in_none a.engine) refl (λ id. refl); asks = λ fed may. absurd (h fed may) }
+
+pub reads_from : (a b c : Tunnel) → a ≡ b → Reads a c → Reads b c
+reads_from a b c e x = subst (λ (v : Tunnel). Reads v c) e x
+
+-- ---- connections that are over
+
+-- neither way is open
+over_of : (x y : Bool) → (x ≡ true → ⊥) → (y ≡ true → ⊥) → (not x && not y) ≡ true
+over_of true y p q = absurd (p refl)
+over_of false true p q = absurd (q refl)
+over_of false false p q = refl
+
+not_first : (x y : Bool) → (not x && not y) ≡ true → x ≡ true → ⊥
+not_first true y h k = cc
+not_first false y h k = cc
+
+not_second : (x y : Bool) → (not x && not y) ≡ true → y ≡ true → ⊥
+not_second true y h k = cc
+not_second false true h k = cc
+not_second false false h k = cc
+
+pub over_stays : (id : ℕ) (es : List (Event × Reply)) (w : Ways) → is_over w ≡ true → is_over (ways_after id es w) ≡ true
+over_stays id es w h =
+    over_of (is_open (ways_after id es w).to_peer) (is_open (ways_after id es w).from_peer) (λ k. not_first (is_open w.to_peer) (is_open w.from_peer) h (to_peer_was id es w k)) (λ k. not_second (is_open w.to_peer) (is_open w.from_peer) h (from_peer_was id es w k))
+
+pub stop_is_over : (id : ℕ) (es : List (Event × Reply)) (w : Ways) → has_stop id es ≡ true → is_over (ways_after id es w) ≡ true
+stop_is_over id es w h = over_of (is_open (ways_after id es w).to_peer) (is_open (ways_after id es w).from_peer) (stop_breaks_to id es w h) (stop_breaks_from id es w h)
+
+pub closed_same : (a b : Lines) → SameLines a b → StaysOver a b
+closed_same a b same id now there = (now, sym (same id) ∙ there, λ h. h)
+
+pub closed_put : (id : ℕ) (was now : Line) (a b : Lines) → line_of id a ≡ Some was → Puts id (Some now) a b → (is_over was.ways ≡ true → is_over now.ways ≡ true) → StaysOver a b
+closed_put id was now a b at puts on other l there = by (nat_eq id other) refl
+  where
+    by : (t : Bool) → nat_eq id other ≡ t → (w : Line) × (line_of other a ≡ Some w) × (is_over w.ways ≡ true → is_over l.ways ≡ true)
+    by true t =
+        let same : now ≡ l = some_is (sym (puts other ∙ ap (λ (v : Bool). cond v (Some now) (line_of other a)) t) ∙ there) in
+        (was, subst (λ (n : ℕ). line_of n a ≡ Some was) (sym (eq_ids id other t)) at, λ h. subst (λ (v : Line). is_over v.ways ≡ true) same (on h))
+    by false t = (l, sym (puts other ∙ ap (λ (v : Bool). cond v (Some now) (line_of other a)) t) ∙ there, λ h. h)
+
+-- ---- marks that don't go on
+
+-- this mark went on at no connection's device, unless it is over
+abbrev pub MarkRests : (Marks → Bool) → Lines → Lines → Type 0
+MarkRests mark a b = (id : ℕ) (l : Line) → line_of id b ≡ Some l → mark l.seen.marks ≡ true → (is_over l.ways ≡ true) ⊎ ((was : Line) × (line_of id a ≡ Some was) × (mark was.seen.marks ≡ true))
+
+mark_then : (mark : Marks → Bool) (a b c : Lines) → MarkRests mark a b → MarkRests mark b c → StaysOver b c → MarkRests mark a c
+mark_then mark a b c x y over id l there may = on (y id l there may)
+  where
+    back : (was : Line) → line_of id b ≡ Some was → (is_over was.ways ≡ true) ⊎ ((w : Line) × (line_of id a ≡ Some w) × (mark w.seen.marks ≡ true)) → (is_over l.ways ≡ true) ⊎ ((w : Line) × (line_of id a ≡ Some w) × (mark w.seen.marks ≡ true))
+    back was at (inl h) =
+        let p = over id l there in
+        let same : was ≡ p.0 = some_is (sym at ∙ p.1) in inl (p.2 (subst (λ (v : Line). is_over v.ways ≡ true) same h))
+    back was at (inr h) = inr h
+
+    on : (is_over l.ways ≡ true) ⊎ ((w : Line) × (line_of id b ≡ Some w) × (mark w.seen.marks ≡ true)) → (is_over l.ways ≡ true) ⊎ ((w : Line) × (line_of id a ≡ Some w) × (mark w.seen.marks ≡ true))
+    on (inl h) = inl h
+    on (inr (was, at, m)) = back was at (x id was at m)
+
+mark_put : (mark : Marks → Bool) (id : ℕ) (was now : Line) (a b : Lines) → line_of id a ≡ Some was → Puts id (Some now) a b → (mark now.seen.marks ≡ true → (is_over now.ways ≡ true) ⊎ (mark was.seen.marks ≡ true)) → MarkRests mark a b
+mark_put mark id was now a b at puts on other l there may = by (nat_eq id other) refl
+  where
+    own : (same : now ≡ l) → line_of other a ≡ Some was → (is_over now.ways ≡ true) ⊎ (mark was.seen.marks ≡ true) → (is_over l.ways ≡ true) ⊎ ((w : Line) × (line_of other a ≡ Some w) × (mark w.seen.marks ≡ true))
+    own same here (inl h) = inl (subst (λ (v : Line). is_over v.ways ≡ true) same h)
+    own same here (inr m) = inr (was, here, m)
+
+    by : (t : Bool) → nat_eq id other ≡ t → (is_over l.ways ≡ true) ⊎ ((w : Line) × (line_of other a ≡ Some w) × (mark w.seen.marks ≡ true))
+    by true t =
+        let same : now ≡ l = some_is (sym (puts other ∙ ap (λ (v : Bool). cond v (Some now) (line_of other a)) t) ∙ there) in
+        own same (subst (λ (n : ℕ). line_of n a ≡ Some was) (sym (eq_ids id other t)) at) (on (subst (λ (v : Line). mark v.seen.marks ≡ true) (sym same) may))
+    by false t = inr (l, sym (puts other ∙ ap (λ (v : Bool). cond v (Some now) (line_of other a)) t) ∙ there, may)
+
+pub rests_kept : (a b : Tunnel) → b.wire ≡ a.wire → SameLines a.lines b.lines → Rests a b
+rests_kept a b wire same = record {
+  wire_pull = λ h. sym (ap (λ (w : Seen). w.marks.may_pull) wire) ∙ h;
+  wire_push = λ h. sym (ap (λ (w : Seen). w.marks.may_push) wire) ∙ h;
+  pull = λ id l there may. inr (l, sym (same id) ∙ there, may);
+  push = λ id l there may. inr (l, sym (same id) ∙ there, may);
+}
+
+pub rests_then : (a b c : Tunnel) → Rests a b → Rests b c → StaysOver b.lines c.lines → Rests a c
+rests_then a b c x y over = record {
+  wire_pull = λ h. x.wire_pull (y.wire_pull h);
+  wire_push = λ h. x.wire_push (y.wire_push h);
+  pull = mark_then (λ (m : Marks). m.may_pull) a.lines b.lines c.lines x.pull y.pull over;
+  push = mark_then (λ (m : Marks). m.may_push) a.lines b.lines c.lines x.push y.push over;
+}
+
+-- behind it the wire and the connections were left alone
+pub rests_on : (a b c : Tunnel) → Rests a b → c.wire ≡ b.wire → SameLines b.lines c.lines → Rests a c
+rests_on a b c x wire same = rests_then a b c x (rests_kept b c wire same) (closed_same b.lines c.lines same)
+
+-- they were, and then one was passed on to
+pub rests_past : (a b c d : Tunnel) → Rests a b → c.wire ≡ b.wire → SameLines b.lines c.lines → Rests c d → StaysOver c.lines d.lines → Rests a d
+rests_past a b c d x wire same y over = rests_then a c d (rests_on a b c x wire same) y over
+
+pub rests_from : (a b c : Tunnel) → a ≡ b → Rests a c → Rests b c
+rests_from a b c e x = subst (λ (v : Tunnel). Rests v c) e x
+
+pub stays_kept : (a b : Tunnel) → b.wire ≡ a.wire → SameLines a.lines b.lines → Stays a b
+stays_kept a b wire same = record { joined = λ id. ap (λ (o : Option Line). is_some (option_map (λ l. l.seen) o)) (same id); ended = ap (λ (w : Seen). w.ended) wire; shut = ap (λ (w : Seen). w.shut) wire }
+
+pub stays_then : (a b c : Tunnel) → Stays a b → Stays b c → Stays a c
+stays_then a b c x y = record { joined = λ id. y.joined id ∙ x.joined id; ended = y.ended ∙ x.ended; shut = y.shut ∙ x.shut }
+
+-- ---- payload is offered to a device
+
+pub offers_part : (id count : ℕ) (waits : List ℕ) (s t : Session) (old before new : Lines) (x was now : Line) → before ≡ old → line_of id before ≡ Some x → Puts id (Some now) before new → OffersOnce id waits count s t x.seen now.seen x.ways now.ways → line_of id old ≡ Some was →
+    OffersPart id was waits s t old new count
+offers_part id count waits s t old before new x was now at there puts once is =
+    let same : x ≡ was = some_is (sym there ∙ ap (line_of id) at ∙ is) in
+    subst (λ (v : Line). OffersPart id v waits s t old new count) same (subst (λ (o : Lines). OffersPart id x waits s t o new count) at (record { now = now; lines = puts; offered = once }))
+
+-- the connection is there, and its device may take bytes
+pub passes_part : (id count : ℕ) (waits : List ℕ) (s t : Session) (a m b : Lines) → option_map_or (λ l. may_push l.ways l.seen.marks) (line_of id a) false ≡ true → ((was : Line) → line_of id a ≡ Some was → OffersPart id was waits s t a m count) →
+    SameQueues a m → SameLines m b → AddsTurn id m b → (IsSome (line_of id m) → Awaits id b) → PassesPart id waits s t a b count
+passes_part id count waits s t a m b may offers queues same turn awaits = by (line_of id a) refl
+  where
+    by : (o : Option Line) → line_of id a ≡ o → PassesPart id waits s t a b count
+    by None at = let no : false ≡ true = sym (ap (λ (o : Option Line). option_map_or (λ l. may_push l.ways l.seen.marks) o false) at) ∙ may in absurd cc
+    by (Some was) at =
+        let x = offers was at in
+        inl (was, at, record { now = x.now; lines = puts_then_same id (Some x.now) a m b x.lines same; offered = x.offered }, adds_behind_same id a m b queues turn, awaits (line_put_there id x.now a m x.lines))
+
+stopped_or : (id : ℕ) (es : List (Event × Reply)) (w now : Ways) (mark : Bool) → now ≡ ways_after id es w → (mark ≡ true) ⊎ (has_stop id es ≡ true) → (is_over now ≡ true) ⊎ (mark ≡ true)
+stopped_or id es w now mark is (inl h) = inr h
+stopped_or id es w now mark is (inr h) = inl (ap is_over is ∙ stop_is_over id es w h)
+
+drop_none : (n : ℕ) (xs ys : List ℕ) → n ≡ 0 → ys ≡ drop n xs → ys ≡ xs
+drop_none n xs ys e h = grind (arith, common_steps)
+
+-- nothing was offered
+still_there : (a b : Tunnel) → b.lines ≡ a.lines → b.engine.session ≡ a.engine.session → b.engine.outgoing ≡ a.engine.outgoing → b.engine.incoming ≡ a.engine.incoming → b.wire ≡ a.wire → Runs a b
+still_there a b lines session outgoing incoming wire =
+    let handled : HandlesIn false a.engine b.engine = record { events = []; happen = session; own = refl; fronts = tt; from_wire = sym incoming; outgoing = outgoing; heard = refl } in
+    runs_on a b (moves_handled a b handled wire (λ id. ap (λ (v : Lines). option_map (λ (l : Line). l.seen) (line_of id v)) lines)) (serving_alike a b session lines) (subst (Extends a.lines) (sym lines) (extends_same a.lines))
+
+offered_runs : (id count : ℕ) (waits : List ℕ) (a b : Tunnel) (was : Line) → waits ≡ a.engine.incoming → line_of id a.lines ≡ Some was → (x : OffersPart id was waits a.engine.session b.engine.session a.lines b.lines count) → AddsTurn id a.lines b.lines → Awaits id b.lines →
+    ((other : ℕ) → nat_eq id other ≡ false → GainsNone other a.engine.session b.engine.session) → b.engine.session.status ≡ a.engine.session.status → b.engine.incoming ≡ drop count a.engine.incoming → b.engine.outgoing ≡ a.engine.outgoing → b.wire ≡ a.wire → Runs a b
+offered_runs id count waits a b was is there x turn awaits others status incoming outgoing wire =
+    let passed = offers_front id count waits a.engine b.engine a.engine.session was.seen x.now.seen was.ways x.now.ways refl is x.offered incoming outgoing in
+    let grown = extends_added id a.lines b.lines turn in
+    runs_on a b (moves_passed a b id was.seen x.now.seen 2 was.ways x.now.ways passed wire (ap (option_map (λ (l : Line). l.seen)) there) (λ other. puts_look id other (Some x.now) a.lines b.lines x.lines))
+    (λ h. serving_with id a b (λ w. record { within = happen_within (x.offered).events a.engine.session b.engine.session (x.offered).happen w; came = others; runs = λ over. sym (ap is_running status) ∙ over })
+    (others_put id (Some x.now) a.lines b.lines x.lines grown turn.missed (λ other held. subst (λ (v : List ℕ). Contains v other) (sym turn.held) held)) (λ w. served_waits id b awaits) (but_of id a h)) grown
+
+pub runs_offered : (id count : ℕ) (waits : List ℕ) (a b : Tunnel) → waits ≡ a.engine.incoming → PassesPart id waits a.engine.session b.engine.session a.lines b.lines count →
+    ((other : ℕ) → nat_eq id other ≡ false → GainsNone other a.engine.session b.engine.session) → b.engine.session.status ≡ a.engine.session.status → b.engine.incoming ≡ drop count a.engine.incoming → b.engine.outgoing ≡ a.engine.outgoing → b.wire ≡ a.wire → Runs a b
+runs_offered id count waits a b is (inl (was, there, x, turn, awaits)) others status incoming outgoing wire = offered_runs id count waits a b was is there x turn awaits others status incoming outgoing wire
+runs_offered id count waits a b is (inr (lines, session, none)) others status incoming outgoing wire = still_there a b lines session outgoing (drop_none count a.engine.incoming b.engine.incoming none incoming) wire
+
+pub rests_offered : (id count : ℕ) (waits : List ℕ) (s t : Session) (a b : Tunnel) → PassesPart id waits s t a.lines b.lines count → b.wire ≡ a.wire → Rests a b
+rests_offered id count waits s t a b (inl (was, there, x, turn, awaits)) wire = record {
+  wire_pull = λ h. sym (ap (λ (w : Seen). w.marks.may_pull) wire) ∙ h;
+  wire_push = λ h. sym (ap (λ (w : Seen). w.marks.may_push) wire) ∙ h;
+  pull = mark_put (λ (m : Marks). m.may_pull) id was x.now a.lines b.lines there x.lines (λ h. stopped_or id (x.offered).events was.ways x.now.ways was.seen.marks.may_pull (x.offered).ways ((x.offered).pull_on h));
+  push = mark_put (λ (m : Marks). m.may_push) id was x.now a.lines b.lines there x.lines (λ h. stopped_or id (x.offered).events was.ways x.now.ways was.seen.marks.may_push (x.offered).ways ((x.offered).push_on h));
+}
+rests_offered id count waits s t a b (inr (lines, session, none)) wire = rests_kept a b wire (λ other. ap (line_of other) lines)
+
+pub closed_offered : (id count : ℕ) (waits : List ℕ) (s t : Session) (a b : Lines) → PassesPart id waits s t a b count → StaysOver a b
+closed_offered id count waits s t a b (inl (was, there, x, turn, awaits)) = closed_put id was x.now a b there x.lines (λ h. ap is_over (x.offered).ways ∙ over_stays id (x.offered).events was.ways h)
+closed_offered id count waits s t a b (inr (lines, session, none)) = closed_same a b (λ other. ap (line_of other) lines)

@@ -1,0 +1,118 @@
+-- Whose turn it is, and that each that waits comes nearer to its own.
+use Rattle.std.proofs.Common.{◌≡◌, ◌⊎◌, inl, inr, ℕ, zero, suc, ◌+◌, ◌*◌, ◌<◌, ◌==◌, List, [], ◌∷◌, ◌++◌, length, Bool, true, false, ◌&&◌, ◌||◌, not, Some, refl, sym, ap, ◌∙◌, subst, arith}
+use Rattle.std.specs.Prelude.{nat_eq, slice_get, Contains, if◌then◌else◌}
+use Rattle.std.proofs.lemmas.Option.{slice_get_within}
+use Rattle.std.proofs.lemmas.Bool.Decides.{nat_tests}
+use Rattle.ymx_engine.specs.Turns.{Lines, IsBehind, IsFirst, TakesTurn, takes_busy, Extends}
+use Rattle.ymx_engine.proofs.Entries.{some_is}
+use Rattle.ymx_engine.proofs.Marking.{Stands, popped}
+
+-- it stands so far behind in two queues that take turns
+abbrev Behind : (for_busy : Bool) (fresh busy : List ℕ) (id others : ℕ) → Type 0
+Behind flag f g id n = (place : ℕ) × (((slice_get f place ≡ Some id) × (n ≡ 2 * place + (if flag then 1 else 0))) ⊎ ((slice_get g place ≡ Some id) × (n ≡ 2 * place + (if flag then 0 else 1))))
+
+-- it is this one, or has fewer before it
+abbrev Sooner : (for_busy : Bool) (fresh busy : List ℕ) (id other others : ℕ) → Type 0
+Sooner flag f g id other n = (other ≡ id) ⊎ ((m : ℕ) × (m < n) × Behind flag f g other m)
+
+-- one that has an item is not empty
+holds_some : (xs : List ℕ) (place x : ℕ) → slice_get xs place ≡ Some x → (length xs == 0) ≡ false
+holds_some xs place x at = let within : place < length xs = slice_get_within xs place x at in grind (arith, nat_tests)
+
+is_for_busy : (flag empty none : Bool) → none ≡ false → ((flag && not empty) || none) ≡ true → flag ≡ true
+is_for_busy true empty none h turn = refl
+is_for_busy false empty none h turn = sym h ∙ turn
+
+is_for_fresh : (flag empty none : Bool) → empty ≡ false → ((flag && not empty) || none) ≡ false → flag ≡ false
+is_for_fresh true true none h turn = h
+is_for_fresh true false none h turn = turn
+is_for_fresh false empty none h turn = refl
+
+-- the first of those that have more to move had its turn
+busy_taken : (flag : Bool) (f g rest : List ℕ) (id other n : ℕ) → ((flag && not (length g == 0)) || (length f == 0)) ≡ true → g ≡ id ∷ rest → Behind flag f g other n → Sooner false f rest id other n
+busy_taken flag f g rest id other n turn first (place, inl (at, is)) =
+    let on : flag ≡ true = is_for_busy flag (length g == 0) (length f == 0) (holds_some f place other at) turn in
+    let far : n ≡ 2 * place + 1 = is ∙ ap (λ (b : Bool). 2 * place + (if b then 1 else 0)) on in
+    inr (2 * place + 0, omega (arith, far), (place, inl (at, refl)))
+busy_taken flag f g rest id other n turn first (zero, inr (at, is)) = inl (sym (some_is (ap (λ (v : List ℕ). slice_get v zero) (sym first) ∙ at)))
+busy_taken flag f g rest id other n turn first (suc place, inr (at, is)) =
+    inr (2 * place + 1, omega (arith, is), (place, inr (ap (λ (v : List ℕ). slice_get v (suc place)) (sym first) ∙ at, refl)))
+
+-- the first of the others had its turn
+fresh_taken : (flag : Bool) (f g rest : List ℕ) (id other n : ℕ) → ((flag && not (length g == 0)) || (length f == 0)) ≡ false → f ≡ id ∷ rest → Behind flag f g other n → Sooner true rest g id other n
+fresh_taken flag f g rest id other n turn first (place, inr (at, is)) =
+    let off : flag ≡ false = is_for_fresh flag (length g == 0) (length f == 0) (holds_some g place other at) turn in
+    let far : n ≡ 2 * place + 1 = is ∙ ap (λ (b : Bool). 2 * place + (if b then 0 else 1)) off in
+    inr (2 * place + 0, omega (arith, far), (place, inr (at, refl)))
+fresh_taken flag f g rest id other n turn first (zero, inl (at, is)) = inl (sym (some_is (ap (λ (v : List ℕ). slice_get v zero) (sym first) ∙ at)))
+fresh_taken flag f g rest id other n turn first (suc place, inl (at, is)) =
+    inr (2 * place + 1, omega (arith, is), (place, inl (ap (λ (v : List ℕ). slice_get v (suc place)) (sym first) ∙ at, refl)))
+
+-- the queue whose turn it is was said, and its first was taken
+pub takes_turn : (id : ℕ) (old new : Lines) → (takes_busy old ≡ true → (old.busy ≡ id ∷ new.busy) × (new.fresh ≡ old.fresh) × (new.is_for_busy ≡ false)) →
+    (takes_busy old ≡ false → (old.fresh ≡ id ∷ new.fresh) × (new.busy ≡ old.busy) × (new.is_for_busy ≡ true)) → TakesTurn id old new
+takes_turn id old new busy fresh = by (takes_busy old) refl
+  where
+    by : (b : Bool) → takes_busy old ≡ b → TakesTurn id old new
+    by true t =
+        let took = busy t in
+        record {
+          first = subst (λ (b : Bool). IsFirst b id old new) (sym t) (took.0, took.1);
+          comes = λ other n far. subst (λ (b : Bool). Sooner b new.fresh new.busy id other n) (sym took.2) (subst (λ (v : List ℕ). Sooner false v new.busy id other n) (sym took.1)
+              (busy_taken old.is_for_busy old.fresh old.busy new.busy id other n t took.0 far));
+        }
+    by false t =
+        let took = fresh t in
+        record {
+          first = subst (λ (b : Bool). IsFirst b id old new) (sym t) (took.0, took.1);
+          comes = λ other n far. subst (λ (b : Bool). Sooner b new.fresh new.busy id other n) (sym took.2) (subst (λ (v : List ℕ). Sooner true new.fresh v id other n) (sym took.1)
+              (fresh_taken old.is_for_busy old.fresh old.busy new.fresh id other n t took.0 far));
+        }
+
+pub turn_from : (id : ℕ) (a b c : Lines) → a ≡ b → TakesTurn id a c → TakesTurn id b c
+turn_from id a b c e x = subst (λ (t : Lines). TakesTurn id t c) e x
+
+both_ways : (b : Bool) → (b ≡ true) ⊎ (b ≡ false)
+both_ways true = inl refl
+both_ways false = inr refl
+
+-- each other that stood in a queue stands there still
+pub turned_stands : (id : ℕ) (b : Bool) (f g f2 g2 : List ℕ) {P Q : Type 0} → (b ≡ true → (g ≡ id ∷ g2) × (f2 ≡ f) × P) → (b ≡ false → (f ≡ id ∷ f2) × (g2 ≡ g) × Q) →
+    (other : ℕ) → nat_eq id other ≡ false → Stands f g other → Stands f2 g2 other
+turned_stands id b f g f2 g2 busy fresh other ne stands = by (both_ways b) stands
+  where
+    by : (b ≡ true) ⊎ (b ≡ false) → Stands f g other → Stands f2 g2 other
+    by (inl t) (inl h) = inl (subst (λ (v : List ℕ). Contains v other) (sym (busy t).1) h)
+    by (inl t) (inr h) = inr (popped g g2 id other (busy t).0 ne h)
+    by (inr t) (inl h) = inl (popped f f2 id other (fresh t).0 ne h)
+    by (inr t) (inr h) = inr (subst (λ (v : List ℕ). Contains v other) (sym (fresh t).1) h)
+
+-- ---- how far one is behind
+
+slice_get_on : (xs more : List ℕ) (place x : ℕ) → slice_get xs place ≡ Some x → slice_get (xs ++ more) place ≡ Some x
+slice_get_on [] more place x at = let no : ⊥ = cc in absurd no
+slice_get_on (y ∷ xs) more zero x at = at
+slice_get_on (y ∷ xs) more (suc place) x at = slice_get_on xs more place x at
+
+-- others that came to wait stand behind it
+pub extends_behind : (id n : ℕ) (a b : Lines) → Extends a b → IsBehind id n a → IsBehind id n b
+extends_behind id n a b x far =
+    subst (λ (f : Bool). Behind f b.fresh b.busy id n) (sym x.flag)
+    (subst (λ (v : List ℕ). Behind a.is_for_busy v b.busy id n) (sym x.fresh)
+    (subst (λ (v : List ℕ). Behind a.is_for_busy (a.fresh ++ x.more_fresh) v id n) (sym x.busy) (at far.0 far.1)))
+  where
+    at : (place : ℕ) → (((slice_get a.fresh place ≡ Some id) × (n ≡ 2 * place + (if a.is_for_busy then 1 else 0))) ⊎ ((slice_get a.busy place ≡ Some id) × (n ≡ 2 * place + (if a.is_for_busy then 0 else 1)))) →
+        Behind a.is_for_busy (a.fresh ++ x.more_fresh) (a.busy ++ x.more_busy) id n
+    at place (inl (there, is)) = (place, inl (slice_get_on a.fresh x.more_fresh place id there, is))
+    at place (inr (there, is)) = (place, inr (slice_get_on a.busy x.more_busy place id there, is))
+
+at_most_one : (b : Bool) → ((if b then 1 else 0) < 2) × ((if b then 0 else 1) < 2)
+at_most_one true = (omega arith, omega arith)
+at_most_one false = (omega arith, omega arith)
+
+-- it has its turn within so many turns as there stand in both queues, each counted twice
+pub behind_few : (id n : ℕ) (t : Lines) → IsBehind id n t → n < 2 * (length t.fresh + length t.busy)
+behind_few id n t (place, inl (at, is)) =
+    let within : place < length t.fresh = slice_get_within t.fresh place id at in omega (arith, within, is, (at_most_one t.is_for_busy).0)
+behind_few id n t (place, inr (at, is)) =
+    let within : place < length t.busy = slice_get_within t.busy place id at in omega (arith, within, is, (at_most_one t.is_for_busy).1)

@@ -1,0 +1,11 @@
+use Rattle.std.proofs.Common.{ap, sym}
+use Rattle.std.specs.Prelude.{option_map}
+use Rattle.ymx_engine.specs.Turns.{Line, Lines}
+use Rattle.ymx_engine.proofs.Entries.{line_found, line_none}
+use Rattle.ymx_engine.proofs.lines.Lines.device.Goals as goal
+
+pub returns-in-Some : goal.returns-in-Some
+returns-in-Some g c = sym (ap (option_map (λ (l : Line). l.seen)) (line_found g.D.Device.seen c.self.inside.by_id.entries c.args.id c.in-Some.found.now c.args.self.now (ap (λ (t : Lines). t.by_id) c.self.view_is) (sym c.in-Some.ensures.value)))
+
+pub returns-in-None : goal.returns-in-None
+returns-in-None g c = sym (ap (option_map (λ (l : Line). l.seen)) (line_none g.D.Device.seen c.self.inside.by_id.entries c.args.id c.args.self.now (ap (λ (t : Lines). t.by_id) c.self.view_is) (sym c.in-None.ensures.value)))

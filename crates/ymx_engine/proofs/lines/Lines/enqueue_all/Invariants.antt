@@ -1,0 +1,13 @@
+use Rattle.std.proofs.Common.{◌≡◌}
+use Rattle.std.specs.Prelude.{IsSome}
+use Rattle.std.specs.Map.{keys_of}
+use Rattle.ymx_engine.specs.Turns.{KeepsLines, Awaits, line_of}
+use Rattle.ymx_engine.proofs.Calling.{FirstAll}
+use Rattle.ymx_engine.proofs.lines.Lines.enqueue_all.Given as goal
+
+abbrev pub invariant-place : goal.invariant-place
+invariant-place g l =
+    KeepsLines l.initial.self l.self
+    × (l.self.held ≡ l.initial.self.held)
+    × (keys_of l.self.by_id ≡ keys_of l.initial.self.by_id)
+    × FirstAll (λ id. IsSome (line_of id l.initial.self) → Awaits id l.self) l.place (keys_of l.initial.self.by_id)

@@ -1,0 +1,22 @@
+use Rattle.std.proofs.Common.{sym, ap, ◌∙◌, subst}
+use Rattle.std.specs.Prelude.{IsSome, nat_eq}
+use Rattle.std.specs.List.{list_any}
+use Rattle.ymx_engine.specs.Turns.{Lines, KeepsLines, Awaits}
+use Rattle.ymx_engine.proofs.Queueing.{keeps_then}
+use Rattle.ymx_engine.proofs.Calling.{second_true}
+use Rattle.ymx_engine.proofs.lines.Lines.enqueue_touched.Goals as goal
+use Rattle.ymx_engine.proofs.lines.Lines.enqueue_touched.Goals.{then-is_all, else-is_all}
+
+pub returns-clause-keeps : goal.returns-clause-keeps
+returns-clause-keeps g c =
+    elim c.if-is_all.branch [
+      | then-is_all w ↦ subst (λ (t : Lines). KeepsLines c.args.self.now t) (sym w.self-is) (keeps_then _ _ _ c.enqueue_some.ensures.keeps w.enqueue_all.ensures.keeps)
+      | else-is_all w ↦ subst (λ (t : Lines). KeepsLines c.args.self.now t) (sym w.self-is) c.enqueue_some.ensures.keeps
+    ]
+
+pub returns-clause-all : goal.returns-clause-all
+returns-clause-all g c = λ id noted some.
+    elim c.if-is_all.branch [
+      | then-is_all w ↦ subst (λ (t : Lines). Awaits id t) (sym w.self-is) (w.enqueue_all.ensures.all id (subst (λ o. IsSome o) (sym (c.enqueue_some.ensures.keeps.lines id)) some))
+      | else-is_all w ↦ subst (λ (t : Lines). Awaits id t) (sym w.self-is) (c.enqueue_some.ensures.all id (ap (list_any (nat_eq id)) c.ids.ensures.value ∙ second_true _ _ (sym c.is_all.ensures ∙ w.if-is_all.false) noted) some)
+    ]

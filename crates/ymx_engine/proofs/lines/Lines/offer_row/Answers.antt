@@ -1,0 +1,25 @@
+use Rattle.std.proofs.Common.{ap, ◌∙◌, refl, sym}
+use Rattle.ymx_engine.specs.Turns.{Lines}
+use Rattle.ymx_engine.proofs.Entries.{is_some_at, no_some, line_found, line_none}
+use Rattle.ymx_engine.proofs.Marking.{in_place}
+use Rattle.ymx_engine.proofs.Readings.{offers_part}
+use Rattle.ymx_engine.proofs.lines.Lines.offer_row.Goals as goal
+
+pub invariant_of-self-2 : goal.invariant_of-self-2
+invariant_of-self-2 g c =
+    let found = sym c.in-Some.ensures.value in
+    let w = record c.in-Some.found.now { line = record { device = c.offer.new.device; ways = c.offer.new.ways } } in
+    let p = in_place g.D.Device.seen c.args.row.id c.in-Some.found.now w _ _ _ _ _ found (λ other. ((c.get_mut.follows.holds w).3 (is_some_at found)).0 other) refl refl c.self.invariant in (p.are_listed, p.are_held)
+
+pub returns-clause-offered : goal.returns-clause-offered
+returns-clause-offered g c = λ was is.
+    let found = sym c.in-Some.ensures.value in
+    let w = record c.in-Some.found.now { line = record { device = c.offer.new.device; ways = c.offer.new.ways } } in
+    let p = in_place g.D.Device.seen c.args.row.id c.in-Some.found.now w _ _ _ _ _ found (λ other. ((c.get_mut.follows.holds w).3 (is_some_at found)).0 other) refl refl c.self.invariant in
+    offers_part c.args.row.id c.offer.result c.args.waits.now _ _ _ _ _ _ was _ c.self.view_is p.there p.puts c.offer.ensures.offered is
+
+pub returns-clause-none : goal.returns-clause-none
+returns-clause-none g c = λ none. no_some (sym (line_found g.D.Device.seen c.self.inside.by_id.entries c.args.row.id c.in-Some.found.now c.args.self.now (ap (λ (t : Lines). t.by_id) c.self.view_is) (sym c.in-Some.ensures.value)) ∙ none)
+
+pub returns-in_default-clause-offered : goal.returns-in_default-clause-offered
+returns-in_default-clause-offered g c = λ was is. no_some (sym is ∙ line_none g.D.Device.seen c.self.inside.by_id.entries c.args.row.id c.args.self.now (ap (λ (t : Lines). t.by_id) c.self.view_is) (sym c.in_default.ensures.value))

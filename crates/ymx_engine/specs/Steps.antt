@@ -1,0 +1,64 @@
+-- The steps that a tunnel's calls are made of (this project's own).
+use Rattle.std.specs.Prelude.{ℕ, ◌≡◌, ◌⊎◌, ◌+◌, ◌<◌, ◌≤◌, List, [], length, drop, Bool, true, false, Some}
+use Rattle.ymx_model.specs.session.Sessions.{Session}
+use Rattle.ymx_engine.specs.Exchanges.{has_bytes}
+use Rattle.ymx_engine.specs.Moves.{Moves}
+use Rattle.ymx_engine.specs.Passes.{OffersOnce}
+use Rattle.ymx_engine.specs.Served.{Serving}
+use Rattle.ymx_engine.specs.Serves.{Turn}
+use Rattle.ymx_engine.specs.Tunnels.{Tunnel}
+use Rattle.ymx_engine.specs.Turns.{Line, Lines, line_of, Puts, Extends, AddsTurn, KeepsLines, StaysMissed, StaysOrAdds, Awaits, Attended}
+use Rattle.ymx_engine.specs.Ways.{is_over, may_pull}
+use Rattle.ymx_engine.specs.Work.{Writes}
+
+-- ---- a connection's part
+
+-- The connection of this stream had a turn. It waits for a further one where it has more to move, or is held back where it was
+-- not to be read and may have bytes. Nobody else is touched.
+pub record TakesPart (id : ℕ) (reads : Bool) (was : Line) (s t : Session) (out out_new : List ℕ) (old new : Lines) (gave : ℕ) : Type 0 where
+  pub now : Line
+  pub lines : Puts id (Some now) old new
+  pub more : Bool
+  pub turn : Turn id reads s t out out_new was.seen now.seen was.ways now.ways more gave
+  pub queues : Extends old new
+  pub missed : StaysMissed old new
+  pub held : StaysOrAdds id old.held new.held
+  pub again : more ≡ true → Awaits id new
+  pub put_off : reads ≡ false → may_pull now.ways now.seen.marks ≡ true → Attended id new
+
+-- Payload of this stream that waits was offered to its connection's device in one call.
+pub record OffersPart (id : ℕ) (was : Line) (waits : List ℕ) (s t : Session) (old new : Lines) (count : ℕ) : Type 0 where
+  pub now : Line
+  pub lines : Puts id (Some now) old new
+  pub offered : OffersOnce id waits count s t was.seen now.seen was.ways now.ways
+
+-- It was, if the connection was there and its device might take bytes, and the connection waits for a turn then; or nothing happened.
+abbrev pub PassesPart : (id : ℕ) → (waits : List ℕ) → (s t : Session) → (old new : Lines) → (count : ℕ) → Type 0
+PassesPart id waits s t old new count =
+    ((was : Line) × (line_of id old ≡ Some was) × OffersPart id was waits s t old new count × AddsTurn id old new × Awaits id new)
+    ⊎ ((new ≡ old) × (t ≡ s) × (count ≡ 0))
+
+-- a connection that is over stays so
+abbrev pub StaysOver : Lines → Lines → Type 0
+StaysOver old new = (id : ℕ) (now : Line) → line_of id new ≡ Some now → (was : Line) × (line_of id old ≡ Some was) × (is_over was.ways ≡ true → is_over now.ways ≡ true)
+
+-- ---- a tunnel's
+
+-- The wire was left alone, and so was each connection. Nobody who can be served was forgotten, or left his place.
+pub record Keeps (old new : Tunnel) : Type 0 where
+  pub moves : Moves old new
+  pub wire : new.wire ≡ old.wire
+  pub over : new.is_wire_over ≡ old.is_wire_over
+  pub lines : KeepsLines old.lines new.lines
+  pub serves : Serving old → Serving new
+
+-- It was written to once. Where it goes on, the wire took some bytes, all that waited, and may take more.
+pub record WritesOnce (goes_on : Bool) (old new : Tunnel) : Type 0 where
+  pub writes : Writes old new
+  pub going : goes_on ≡ true → (old.wire.marks.may_push ≡ true) × (new.wire.marks.may_push ≡ true) × (has_bytes writes.moves.sent ≡ true)
+  pub lines : KeepsLines old.lines new.lines
+  pub serves : Serving old → Serving new
+  pub pull : new.wire.marks.may_pull ≡ old.wire.marks.may_pull
+  pub push : new.wire.marks.may_push ≡ true → old.wire.marks.may_push ≡ true
+  pub ended : new.wire.ended ≡ old.wire.ended
+  pub shut : new.wire.shut ≡ old.wire.shut

@@ -1,0 +1,471 @@
+//! The connections of a tunnel by stream id, each with its device, and whose turn comes.
+
+ghost use Rattle.std.specs.Prelude.{ℕ, ◌≡◌, ◌<◌, ◌⊎◌, ◌+◌, ◌∷◌, ◌==◌, ◌&&◌, ◌||◌, if◌then◌else◌, not, [], length, nat_eq, min, slice_get, is_some, option_map, true, false, None, Some, Contains, OnOk, OnErr, IsOk, IfSome, IfNone, IsSome, MatchOption};
+ghost use Rattle.std.specs.List.{list_any};
+ghost use Rattle.std.specs.Map.{lookup, keys_of};
+ghost use Rattle.std.specs.VecDeque.{deque_len, deque_capacity};
+ghost use Rattle.ymx_session.specs.Touched.{is_noted, nothing_noted};
+ghost use Rattle.ymx_engine.specs.Entries.{Rewrites};
+ghost use Rattle.ymx_engine.specs.Ways.{is_over, new_ways};
+ghost use Rattle.ymx_engine.specs.Turns.{Line as LineValue, line_of, look, ways_of, held_mark, queue_mark, is_idle, Puts, SameLines, SameQueues, KeepsLines, Adds, Notes, Waits, Awaits, Attended, IsIdle, StaysOrAdds, AddsTurn, TakesTurn, Extends, StaysMissed};
+
+use crate::device::{Device, Readiness};
+use crate::ways::Ways;
+use indexmap::IndexMap;
+use std::alloc::Global;
+use std::collections::VecDeque;
+use std::marker::Model;
+use ymx_memory::RefusedAllocation;
+use ymx_session::Touched;
+
+/// A connection's device, and how its ways stand.
+#[derive(Drop)]
+pub(crate) struct Line<D> {
+    pub(crate) device: D,
+    pub(crate) ways: Ways,
+}
+
+/// A connection, and in which queues it stands.
+#[derive(Drop)]
+pub(crate) struct Entry<D> {
+    pub(crate) line: Line<D>,
+    /// It waits for its turn.
+    is_queued: bool,
+    /// It waits until nothing waits for the wire.
+    is_held: bool,
+}
+
+/// The queues in which one waits for a turn.
+#[derive(Clone, Copy)]
+pub(crate) enum Queue {
+    /// Of those that came to have something to move.
+    Fresh,
+    /// Of those that had a turn, and have more to move.
+    Busy,
+}
+
+/// Connections by stream id, those that may have something to move, each once, and those that are held back while
+/// bytes wait for the wire.
+///
+/// Those that had a turn and have more to move stand in a queue of their own, and the two queues take turns: so one
+/// that moves few bytes now and then does not wait behind all that move as many as they can.
+#[derive(Drop)]
+pub(crate) struct Lines<D: Device + Drop> {
+    pub(crate) by_id: IndexMap<u32, Entry<D>>,
+    /// Those that came to have something to move.
+    fresh: VecDeque<u32>,
+    /// Those that have more to move.
+    busy: VecDeque<u32>,
+    held: VecDeque<u32>,
+    /// The next turn is one of the busy ones'.
+    is_for_busy: bool,
+    /// A queue had no room for one that was to wait for a turn, and memory for it was refused. Memory for a turn of each
+    /// is taken before it is added, so this never is.
+    missed: Option<RefusedAllocation>,
+}
+
+impl<D: Device + Drop> Model for Lines<D> {
+    ghost use Rattle.std.specs.Prelude.{◌&&◌, nat_lt, is_some};
+    ghost use Rattle.std.specs.VecDeque.{deque_len, deque_capacity};
+    ghost use Rattle.indexmap.specs.IndexMap.{spare};
+    ghost use Rattle.ymx_engine.specs.Turns.{Lines as LinesValue, AreListed, AreHeld};
+
+    ghost Value = { LinesValue };
+
+    ghost use Rattle.ymx_engine.specs.Entries.{entries_seen};
+
+    ghost view = { λ l. record { by_id = entries_seen D.seen l.by_id.entries; fresh = l.fresh.items; busy = l.busy.items; held = l.held.items; is_for_busy = l.is_for_busy; has_room = nat_lt (deque_len l.fresh) (deque_capacity l.fresh) && nat_lt (deque_len l.busy) (deque_capacity l.busy); has_place = nat_lt 0 (spare l.by_id); missed = is_some l.missed } };
+
+    ghost invariant = { λ l. AreListed (entries_seen D.seen l.by_id.entries) l.fresh.items l.busy.items × AreHeld (entries_seen D.seen l.by_id.entries) l.held.items };
+}
+
+impl<D: Device + Drop> Lines<D> {
+    /// There are none.
+    pub(crate) fn new(alloc: Global) -> Lines<D>
+        ensures none { result.by_id ≡ [] }
+        ensures idle { IsIdle result }
+        ensures held { result.held ≡ [] }
+        ensures missed { result.missed ≡ false }
+    {
+        Lines {
+            by_id: IndexMap::new(alloc),
+            fresh: VecDeque::new(alloc),
+            busy: VecDeque::new(alloc),
+            held: VecDeque::new(alloc),
+            is_for_busy: false,
+            missed: None,
+        }
+    }
+
+    // ---- who is there
+
+    /// How many there are.
+    pub(crate) fn len(&self) -> usize
+        ensures { result ≡ length self.now.by_id }
+    {
+        self.by_id.len()
+    }
+
+    /// Whether there is none.
+    pub(crate) fn is_empty(&self) -> bool
+        ensures { result ≡ (length self.now.by_id == 0) }
+    {
+        self.len() == 0
+    }
+
+    /// The stream of some connection. `None` where there is none.
+    pub(crate) fn first(&self) -> Option<u32>
+        ensures value { result ≡ slice_get (keys_of self.now.by_id) 0 }
+        ensures some { IfSome result (λ id. IsSome (line_of id self.now)) }
+        ensures none { IfNone result (self.now.by_id ≡ []) }
+    {
+        self.id_at(0)
+    }
+
+    /// The stream of the connection at this place.
+    fn id_at(&self, place: usize) -> Option<u32>
+        ensures { result ≡ slice_get (keys_of self.now.by_id) place }
+    {
+        match self.by_id.get_index(place) {
+            Some((id, _)) => Some(*id),
+            None => None,
+        }
+    }
+
+    /// Whether this connection is there.
+    pub(crate) fn contains(&self, id: u32) -> bool
+        ensures { result ≡ is_some (line_of id self.now) }
+    {
+        self.by_id.contains_key(&id)
+    }
+
+    /// Its device.
+    pub(crate) fn device(&self, id: u32) -> Option<&D>
+        ensures { option_map (λ d. D.seen d.now) result ≡ look id self.now }
+    {
+        match self.by_id.get(&id) {
+            Some(found) => Some(&found.line.device),
+            None => None,
+        }
+    }
+
+    /// How its ways stand.
+    pub(crate) fn ways(&self, id: u32) -> Option<Ways>
+        ensures { result ≡ ways_of id self.now }
+    {
+        match self.by_id.get(&id) {
+            Some(found) => Some(found.line.ways),
+            None => None,
+        }
+    }
+
+    /// Whether neither of its ways is open. So it is of one that is not there.
+    pub(crate) fn is_over(&self, id: u32) -> bool
+        ensures { MatchOption (ways_of id self.now) (result ≡ true) (λ w. result ≡ is_over w) }
+    {
+        match self.by_id.get(&id) {
+            Some(found) => found.line.ways.is_over(),
+            None => true,
+        }
+    }
+
+    // ---- who comes and goes
+
+    /// Memory for one more, and for its turns.
+    pub(crate) fn reserve(&mut self) -> Result<(), RefusedAllocation>
+        ensures lines { SameLines self.old self.new }
+        ensures queues { SameQueues self.old self.new }
+        ensures room { OnOk result ((self.new.has_room ≡ true) × (self.new.has_place ≡ true)) }
+    {
+        let all = self.by_id.len().saturating_add(1);
+        ymx_memory::reserve_queue(&mut self.fresh, all, &self.by_id)?;
+        ymx_memory::reserve_queue(&mut self.busy, all, &self.by_id)?;
+        ymx_memory::reserve_queue(&mut self.held, all, &self.by_id)?;
+        ymx_memory::reserve_map(&mut self.by_id)
+    }
+
+    /// Adds one, for which there is memory. It waits for a turn.
+    pub(crate) fn add(&mut self, id: u32, device: D)
+        requires room { self.old.has_room ≡ true }
+        requires place { self.old.has_place ≡ true }
+        ensures added { Adds id (record { seen = D.seen device; ways = new_ways }) self.old self.new }
+    {
+        let line = Line {
+            device,
+            ways: Ways::new(),
+        };
+        let entry = Entry {
+            line,
+            is_queued: false,
+            is_held: false,
+        };
+        let _ = ymx_memory::insert(&mut self.by_id, id, entry);
+        self.enqueue(id, Queue::Fresh);
+    }
+
+    /// It is there no more. Gives its device.
+    pub(crate) fn remove(&mut self, id: u32) -> Option<D>
+        ensures given { option_map D.seen result ≡ look id self.old }
+        ensures gone { Puts id None self.old self.new }
+        ensures queues { SameQueues self.old self.new }
+        ensures len { length self.new.by_id + (if is_some result then 1 else 0) ≡ length self.old.by_id }
+    {
+        let Some(entry) = self.by_id.swap_remove(&id) else {
+            return None;
+        };
+        Some(entry.line.device)
+    }
+
+    /// An event says this of the device of a connection, if it is there. It waits for a turn then.
+    pub(crate) fn note(&mut self, id: u32, ready: Readiness)
+        ensures noted { (was : LineValue) → line_of id self.old ≡ Some was → Notes id ready was self.old self.new }
+        ensures waits { IsSome (line_of id self.old) → self.old.has_room ≡ true → Waits id self.new }
+        ensures none { line_of id self.old ≡ None → self.new ≡ self.old }
+        ensures turn { AddsTurn id self.old self.new }
+    {
+        if let Some(found) = self.by_id.get_mut(&id) {
+            found.line.device.note_event(ready);
+            self.enqueue(id, Queue::Fresh);
+        }
+    }
+
+    // ---- whose turn comes
+
+    /// How many wait for a turn.
+    pub(crate) fn queued_count(&self) -> usize
+        ensures { result ≡ min (length self.now.fresh + length self.now.busy) usize.MAX }
+    {
+        self.fresh.len().saturating_add(self.busy.len())
+    }
+
+    /// Whether none waits for a turn.
+    pub(crate) fn is_idle(&self) -> bool
+        ensures { result ≡ is_idle self.now }
+    {
+        self.fresh.is_empty() && self.busy.is_empty()
+    }
+
+    /// Whether one that was to wait for a turn does not.
+    pub(crate) fn has_missed(&self) -> bool
+        ensures { result ≡ self.now.missed }
+    {
+        self.missed.is_some()
+    }
+
+    /// Whether one is held back.
+    pub(crate) fn has_held(&self) -> bool
+        ensures { result ≡ not (length self.now.held == 0) }
+    {
+        !self.held.is_empty()
+    }
+
+    /// It waits for a turn, in this queue unless it waits already.
+    pub(crate) fn enqueue(&mut self, id: u32, queue: Queue)
+        ensures lines { SameLines self.old self.new }
+        ensures turn { AddsTurn id self.old self.new }
+        ensures waits { IsSome (line_of id self.old) → self.old.has_room ≡ true → Waits id self.new }
+        ensures awaits { IsSome (line_of id self.old) → Awaits id self.new }
+        ensures missed { self.old.has_room ≡ true → self.new.missed ≡ self.old.missed }
+        ensures keys { keys_of self.new.by_id ≡ keys_of self.old.by_id }
+        // It is marked then, and one that was marked stands in no queue a second time.
+        ensures marked { IsSome (line_of id self.old) → (queue_mark id self.new ≡ Some true) ⊎ (self.new.missed ≡ true) }
+        ensures once { queue_mark id self.old ≡ Some true → (self.new.fresh ≡ self.old.fresh) × (self.new.busy ≡ self.old.busy) }
+        // The other queue stays.
+        ensures in_fresh { queue ≡ Queue.Fresh → self.new.busy ≡ self.old.busy }
+        ensures in_busy { queue ≡ Queue.Busy → self.new.fresh ≡ self.old.fresh }
+    {
+        if let Some(found) = self.by_id.get_mut(&id) {
+            if !found.is_queued {
+                match stand(&mut self.fresh, &mut self.busy, id, queue) {
+                    Ok(()) => found.is_queued = true,
+                    Err(refused) => self.missed = Some(refused),
+                }
+            }
+        }
+    }
+
+    /// It may have something to move once nothing waits for the wire.
+    pub(crate) fn hold(&mut self, id: u32)
+        ensures lines { SameLines self.old self.new }
+        ensures turns { (self.new.fresh ≡ self.old.fresh) × (self.new.busy ≡ self.old.busy) × (self.new.is_for_busy ≡ self.old.is_for_busy) × StaysMissed self.old self.new }
+        ensures held { StaysOrAdds id self.old.held self.new.held }
+        ensures attended { IsSome (line_of id self.old) → Attended id self.new }
+        // It is marked then, and one that was marked is not held back a second time.
+        ensures marked { IsSome (line_of id self.old) → (held_mark id self.new ≡ Some true) ⊎ (self.new.missed ≡ true) }
+        ensures once { held_mark id self.old ≡ Some true → self.new.held ≡ self.old.held }
+    {
+        if let Some(found) = self.by_id.get_mut(&id) {
+            if !found.is_held {
+                match ymx_memory::push_back(&mut self.held, id) {
+                    Ok(()) => found.is_held = true,
+                    Err(refused) => self.missed = Some(refused),
+                }
+            }
+        }
+    }
+
+    /// One had a turn. It waits for a further turn where it has `more` to move, or until nothing waits for the wire where
+    /// it `holds`.
+    pub(crate) fn end_turn(&mut self, id: u32, more: bool, holds: bool)
+        ensures lines { SameLines self.old self.new }
+        ensures queues { Extends self.old self.new }
+        ensures again { more ≡ true → IsSome (line_of id self.old) → self.old.has_room ≡ true → Waits id self.new }
+        ensures awaits { more ≡ true → IsSome (line_of id self.old) → Awaits id self.new }
+        ensures missed { StaysMissed self.old self.new }
+        ensures held { StaysOrAdds id self.old.held self.new.held }
+        ensures attended { holds ≡ true → IsSome (line_of id self.old) → Attended id self.new }
+        // Where it has no more to move it waits for no turn anew, and it is held back only where it holds.
+        ensures rests { more ≡ false → (self.new.fresh ≡ self.old.fresh) × (self.new.busy ≡ self.old.busy) }
+        ensures free { holds ≡ false → self.new.held ≡ self.old.held }
+    {
+        if more {
+            self.enqueue(id, Queue::Busy);
+        } else if holds {
+            self.hold(id);
+        }
+    }
+
+    /// Whose turn it is.
+    pub(crate) fn next(&mut self) -> Option<u32>
+        ensures lines { SameLines self.old self.new }
+        ensures some { IfSome result (λ id. TakesTurn id self.old self.new) }
+        // It is marked as queued no more.
+        ensures unmarked { IfSome result (λ id. IfSome (queue_mark id self.new) (λ b. b ≡ false)) }
+        ensures none { IfNone result (IsIdle self.old × IsIdle self.new × SameQueues self.old self.new) }
+        ensures missed { self.new.missed ≡ self.old.missed }
+        ensures held { self.new.held ≡ self.old.held }
+    {
+        let id = pop(&mut self.fresh, &mut self.busy, &mut self.is_for_busy)?;
+        note_turn(&mut self.by_id, id);
+        Some(id)
+    }
+
+    /// Nothing waits for the wire: those that were held back have their turns.
+    pub(crate) fn release(&mut self)
+        ensures keeps { KeepsLines self.old self.new }
+        ensures none { self.new.held ≡ [] }
+    {
+        'held: for _ in 0..self.held.len() {
+            let Some(id) = self.let_go() else {
+                return;
+            };
+            self.enqueue(id, Queue::Busy);
+        }
+    }
+
+    /// The first of those that are held back is so no more.
+    fn let_go(&mut self) -> Option<u32>
+        ensures lines { SameLines self.old self.new }
+        ensures turns { (self.new.fresh ≡ self.old.fresh) × (self.new.busy ≡ self.old.busy) × (self.new.is_for_busy ≡ self.old.is_for_busy) × (self.new.missed ≡ self.old.missed) }
+        ensures some { IfSome result (λ id. self.old.held ≡ id ∷ self.new.held) }
+        ensures none { IfNone result ((self.old.held ≡ []) × (self.new.held ≡ [])) }
+    {
+        let id = self.held.pop_front()?;
+        note_let_go(&mut self.by_id, id);
+        Some(id)
+    }
+
+    /// Those that missed a turn have something to move.
+    pub(crate) fn enqueue_missed(&mut self)
+        ensures { KeepsLines self.old self.new }
+    {
+        if self.missed.is_some() {
+            self.missed = None;
+            self.enqueue_all();
+        }
+    }
+
+    /// All have something to move.
+    pub(crate) fn enqueue_all(&mut self)
+        ensures keeps { KeepsLines self.old self.new }
+        ensures held { self.new.held ≡ self.old.held }
+        ensures all { (id : ℕ) → IsSome (line_of id self.old) → Awaits id self.new }
+    {
+        'place: for place in 0..self.by_id.len() {
+            let Some(id) = self.id_at(place) else {
+                return;
+            };
+            self.enqueue(id, Queue::Fresh);
+        }
+    }
+
+    /// Those that bytes of the peer touched have something to move.
+    pub(crate) fn enqueue_touched(&mut self, touched: &mut Touched)
+        ensures keeps { KeepsLines self.old self.new }
+        ensures all { (id : ℕ) → is_noted id touched.old ≡ true → IsSome (line_of id self.old) → Awaits id self.new }
+        ensures cleared { touched.new ≡ nothing_noted touched.old.blind }
+    {
+        self.enqueue_some(touched.ids());
+        if touched.is_all() {
+            self.enqueue_all();
+        }
+        touched.clear();
+    }
+
+    /// These have something to move.
+    fn enqueue_some(&mut self, ids: &[u32])
+        ensures keeps { KeepsLines self.old self.new }
+        ensures all { (id : ℕ) → list_any (nat_eq id) ids.now ≡ true → IsSome (line_of id self.old) → Awaits id self.new }
+    {
+        'id: for id in ids {
+            self.enqueue(*id, Queue::Fresh);
+        }
+    }
+}
+
+/// This one stands behind all others in this queue. A refusal leaves both queues, and comes only where one is full.
+fn stand(
+    fresh: &mut VecDeque<u32>,
+    busy: &mut VecDeque<u32>,
+    id: u32,
+    queue: Queue,
+) -> Result<(), RefusedAllocation>
+    ensures fresh { StaysOrAdds id fresh.old.items fresh.new.items }
+    ensures busy { StaysOrAdds id busy.old.items busy.new.items }
+    ensures in_fresh { queue ≡ Queue.Fresh → busy.new.items ≡ busy.old.items }
+    ensures in_busy { queue ≡ Queue.Busy → fresh.new.items ≡ fresh.old.items }
+    ensures stands { OnOk result (Contains fresh.new.items id ⊎ Contains busy.new.items id) }
+    ensures refused { OnErr result ((fresh.new.items ≡ fresh.old.items) × (busy.new.items ≡ busy.old.items)) }
+    ensures succeeds { deque_len fresh.old < deque_capacity fresh.old → deque_len busy.old < deque_capacity busy.old → IsOk result }
+{
+    match queue {
+        Queue::Fresh => ymx_memory::push_back(fresh, id),
+        Queue::Busy => ymx_memory::push_back(busy, id),
+    }
+}
+
+/// This one waits for no turn.
+fn note_turn<D: Drop>(by_id: &mut IndexMap<u32, Entry<D>>, id: u32)
+    ensures { Rewrites id (λ e. record e { is_queued = false }) by_id.old.entries by_id.new.entries }
+{
+    if let Some(found) = by_id.get_mut(&id) {
+        found.is_queued = false;
+    }
+}
+
+/// This one is held back no more.
+fn note_let_go<D: Drop>(by_id: &mut IndexMap<u32, Entry<D>>, id: u32)
+    ensures { Rewrites id (λ e. record e { is_held = false }) by_id.old.entries by_id.new.entries }
+{
+    if let Some(found) = by_id.get_mut(&id) {
+        found.is_held = false;
+    }
+}
+
+/// Takes the first out of the queue whose turn it is, and if that is empty, out of the other. Then the other's turn comes.
+fn pop(fresh: &mut VecDeque<u32>, busy: &mut VecDeque<u32>, is_for_busy: &mut bool) -> Option<u32>
+    ensures busy { IfSome result (λ id. (is_for_busy.old && not (length busy.old.items == 0) || (length fresh.old.items == 0)) ≡ true → (busy.old.items ≡ id ∷ busy.new.items) × (fresh.new.items ≡ fresh.old.items) × (is_for_busy.new ≡ false)) }
+    ensures fresh { IfSome result (λ id. (is_for_busy.old && not (length busy.old.items == 0) || (length fresh.old.items == 0)) ≡ false → (fresh.old.items ≡ id ∷ fresh.new.items) × (busy.new.items ≡ busy.old.items) × (is_for_busy.new ≡ true)) }
+    ensures none { IfNone result ((fresh.old.items ≡ []) × (busy.old.items ≡ []) × (fresh.new.items ≡ []) × (busy.new.items ≡ []) × (is_for_busy.new ≡ is_for_busy.old)) }
+{
+    if fresh.is_empty() && busy.is_empty() {
+        return None;
+    }
+    let takes_busy = *is_for_busy && !busy.is_empty() || fresh.is_empty();
+    *is_for_busy = !takes_busy;
+    if takes_busy {
+        busy.pop_front()
+    } else {
+        fresh.pop_front()
+    }
+}

@@ -1,0 +1,198 @@
+//! What comes over the wire of a tunnel: it is fed to the session, or goes straight to the devices that take it.
+
+ghost use Rattle.std.specs.Prelude.{ℕ, ◌≡◌, ◌+◌, ◌⊎◌, ◌<◌, ◌≤◌, [], length, true, false, IfSome, IfNone, IsSome};
+ghost use Rattle.ymx_machine.specs.declared.types.Reply.TheVariants as reply;
+ghost use Rattle.ymx_model.specs.declared.types.Event.TheVariants as event;
+ghost use Rattle.ymx_model.specs.session.Emissions.{in_turn};
+ghost use Rattle.ymx_model.specs.session.Feeds.{is_stuck};
+ghost use Rattle.ymx_model.specs.session.Histories.{Gives};
+ghost use Rattle.ymx_model.specs.session.Sessions.{is_running};
+ghost use Rattle.ymx_session.specs.Passing.{passing};
+ghost use Rattle.ymx_engine.specs.Engines.{IsFedOrStuck, KeepsWire};
+ghost use Rattle.ymx_engine.specs.Moves.{Moves};
+ghost use Rattle.ymx_engine.specs.Passes.{IsRow};
+ghost use Rattle.ymx_engine.specs.Runs.{Runs, Stays, Rests};
+ghost use Rattle.ymx_engine.specs.Served.{Serving};
+ghost use Rattle.ymx_engine.specs.Steps.{Keeps, StaysOver};
+ghost use Rattle.ymx_engine.specs.Turns.{line_of, Awaits, KeepsLines};
+ghost use Rattle.ymx_engine.specs.Work.{Reads};
+
+use crate::device::{Device, Pulled};
+use crate::row::{Row, row_of};
+use crate::tunnel::Tunnel;
+use ymx_model::Status;
+
+/// No read of the wire has so many payloads: each has a byte at least, and a header of 12.
+const PAYLOADS: u32 = 131_072;
+
+impl<D: Device + Drop, W: Device + Drop> Tunnel<D, W> {
+    /// Reads from the wire once, where all that it gave before was fed, and feeds what waits. Payload of which `least` bytes
+    /// of one frame wait, or a row of whole frames that fills a call, goes straight to the device that takes it. Once the wire
+    /// has ended or failed the session is lost.
+    pub fn read_wire(&mut self, least: usize)
+        ensures runs { Runs self.old self.new }
+        ensures stays { Stays self.old self.new }
+        ensures rests { Rests self.old self.new }
+        // Where nothing waits to be fed and the wire may have bytes, it gives some, or may have none now.
+        ensures reads { Reads self.old self.new }
+    {
+        self.pull_wire();
+        'payload: for _ in 0..PAYLOADS {
+            match self.advance(least) {
+                Some(row) => self.pass(row),
+                None => return,
+            }
+        }
+    }
+
+    /// Reads from the wire once, where all that it gave before was fed. What it gives waits to be fed.
+    fn pull_wire(&mut self)
+        ensures runs { Runs self.old self.new }
+        ensures stays { Stays self.old self.new }
+        ensures rests { Rests self.old self.new }
+        ensures reads { Reads self.old self.new }
+    {
+        if !self.incoming.waiting().is_empty() || !self.wire.may_pull() || self.is_wire_over {
+            return;
+        }
+        match self.incoming.pull_from(&mut self.wire) {
+            Pulled::Gave(_) | Pulled::NotNow => {}
+            Pulled::Ended | Pulled::Failed => self.lose(),
+        }
+    }
+
+    /// The session hears that no more bytes come from the wire. All connections have a turn.
+    pub(crate) fn lose(&mut self)
+        ensures lost { is_running self.new.engine.session.status ≡ false }
+        ensures over { self.new.is_wire_over ≡ true }
+        ensures wire { self.new.wire ≡ self.old.wire }
+        ensures lines { KeepsLines self.old.lines self.new.lines }
+        ensures event { Gives in_turn self.old.engine.session event.FeedEnd reply.Done self.new.engine.session }
+        ensures bytes { KeepsWire self.old.engine self.new.engine }
+        ensures serves { Serving self.old → Serving self.new }
+    {
+        self.is_wire_over = true;
+        self.session.feed_end();
+        self.lines.enqueue_all();
+    }
+
+    /// Feeds what waits up to a row of payload that is worth a call of its device, which may take some. `None` where all that
+    /// can be fed now was fed.
+    ///
+    /// Payload goes into its stream's ring where its device may not take bytes now, or where a call of it is not worth
+    /// making. It is worth one where `least` bytes of the frame wait, or where a row fills a call.
+    fn advance(&mut self, least: usize) -> Option<Row>
+        ensures keeps { Keeps self.old self.new }
+        // It stops where a row may be passed on, or where the session takes no more now.
+        ensures row { IfSome result (λ row. IsRow row self.new.engine.incoming self.new.engine.session × (0 < row.first)) }
+        ensures rest { IfNone result (IsFedOrStuck self.new.engine) }
+    {
+        // each turn that goes on feeds a byte at least
+        let turns = self.incoming.waiting().len().max(1);
+        'payload: for turn in 0..turns {
+            self.feed_to_payload();
+            let Some(row) = row_of(&self.session, self.incoming.waiting()) else {
+                return None;
+            };
+            if self.is_worth_a_call(&row, least) {
+                return Some(row);
+            }
+            self.feed_front(row.count().max(1));
+        }
+        None
+    }
+
+    /// Whether the device of this row may take bytes, and there are so many in its first frame, one at least, or the row fills a
+    /// call.
+    fn is_worth_a_call(&self, row: &Row, least: usize) -> bool
+        ensures { result ≡ true → 0 < row.now.first }
+    {
+        row.count() > 0
+            && (row.count() >= least || row.fills_a_call())
+            && self.lines.may_push(row.id)
+    }
+
+    /// Feeds what waits up to a payload that may be passed on.
+    fn feed_to_payload(&mut self)
+        ensures keeps { Keeps self.old self.new }
+        ensures rest { (self.new.engine.incoming ≡ []) ⊎ ((is_stuck self.new.engine.session ≡ true) ⊎ IsSome (passing self.new.engine.session)) }
+        ensures few { length self.new.engine.incoming ≤ length self.old.engine.incoming }
+    {
+        let fed = self
+            .incoming
+            .feed_to_payload(&mut self.session, &mut self.touched);
+        self.lines.enqueue_touched(&mut self.touched);
+        self.hear_fed(fed.no_memory.get() > 0);
+    }
+
+    /// Feeds the first of the bytes that wait, so many at most.
+    fn feed_front(&mut self, count: usize)
+        ensures keeps { Keeps self.old self.new }
+        ensures some { is_stuck self.old.engine.session ≡ false → 0 < count → 0 < length self.old.engine.incoming → length self.new.engine.incoming < length self.old.engine.incoming }
+        ensures few { length self.new.engine.incoming ≤ length self.old.engine.incoming }
+    {
+        let fed = self
+            .incoming
+            .feed_some(&mut self.session, count, &mut self.touched);
+        self.lines.enqueue_touched(&mut self.touched);
+        self.hear_fed(fed.no_memory.get() > 0);
+    }
+
+    /// A feed was made, for a part of which there may have been no memory. Those that missed a turn have one, and where the
+    /// session runs no more all have.
+    fn hear_fed(&mut self, lacks_memory: bool)
+        ensures engine { self.new.engine ≡ self.old.engine }
+        ensures wire { self.new.wire ≡ self.old.wire }
+        ensures over { self.new.is_wire_over ≡ self.old.is_wire_over }
+        ensures lines { KeepsLines self.old.lines self.new.lines }
+        ensures all { is_running self.new.engine.session.status ≡ false → (id : ℕ) → IsSome (line_of id self.new.lines) → Awaits id self.new.lines }
+    {
+        self.has_lacked_memory |= lacks_memory;
+        self.lines.enqueue_missed();
+        if self.session.status() != Status::Running {
+            self.lines.enqueue_all();
+        }
+    }
+
+    /// Offers a row of payload that waits to its connection's device, in one call. What the device takes came and was read on
+    /// the stream at once, with no stay in its ring. What it doesn't take of the first frame goes into the ring, and what it
+    /// doesn't take of the others at the next `advance`. Where the device fails, its stream is reset and the device shut.
+    fn pass(&mut self, row: Row)
+        requires row { IsRow row self.old.engine.incoming self.old.engine.session }
+        requires some { 0 < row.first }
+        ensures runs { Runs self.old self.new }
+        ensures stays { Stays self.old self.new }
+        ensures rests { Rests self.old self.new }
+        ensures wire { self.new.wire ≡ self.old.wire }
+        ensures over { self.new.is_wire_over ≡ self.old.is_wire_over }
+        ensures closed { StaysOver self.old.lines self.new.lines }
+        // Less of it waits behind the call.
+        ensures some { length self.new.engine.incoming < length self.old.engine.incoming }
+    {
+        let taken = self.offer(row);
+        if taken < row.count() {
+            self.feed_front(row.count() - taken);
+        }
+    }
+
+    /// Offers a row to its connection's device, if it may take bytes. How many of the bytes that wait came then. The connection
+    /// has a turn then, as the end of the stream may have come with them, and a device that failed is let go of.
+    fn offer(&mut self, row: Row) -> usize
+        requires row { IsRow row self.old.engine.incoming self.old.engine.session }
+        requires some { 0 < row.first }
+        ensures runs { Runs self.old self.new }
+        ensures stays { Stays self.old self.new }
+        ensures rests { Rests self.old self.new }
+        ensures wire { self.new.wire ≡ self.old.wire }
+        ensures over { self.new.is_wire_over ≡ self.old.is_wire_over }
+        ensures closed { StaysOver self.old.lines self.new.lines }
+        ensures taken { length self.new.engine.incoming + result ≡ length self.old.engine.incoming }
+        ensures goes_on { result ≡ 0 → is_stuck self.new.engine.session ≡ false }
+    {
+        let taken = self
+            .lines
+            .offer(row, &mut self.session, self.incoming.waiting());
+        self.incoming.drop_front(taken);
+        taken
+    }
+}

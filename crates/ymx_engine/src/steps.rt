@@ -1,0 +1,147 @@
+//! What the connection of a stream does in its turn, and with payload that is passed on.
+
+ghost use Rattle.std.specs.Prelude.{ℕ, ◌≡◌, ◌<◌, ◌&&◌, not, length, nat_eq, false, None, Some, IfSome, IfNone};
+ghost use Rattle.std.specs.Option.{option_map_or};
+ghost use Rattle.ymx_model.specs.session.Feeds.{is_stuck};
+ghost use Rattle.ymx_engine.specs.Passes.{IsRow};
+ghost use Rattle.ymx_engine.specs.Served.{GainsNone};
+ghost use Rattle.ymx_engine.specs.Serves.{Turn};
+ghost use Rattle.ymx_engine.specs.Steps.{TakesPart, PassesPart, OffersPart};
+ghost use Rattle.ymx_engine.specs.Turns.{Line as LineValue, line_of, Puts, SameQueues};
+ghost use Rattle.ymx_engine.specs.Ways.{may_push, may_pull};
+
+use crate::block::Block;
+use crate::device::Device;
+use crate::exchange::serve;
+use crate::lines::{Lines, Queue};
+use crate::passing::offer;
+use crate::row::Row;
+use ymx_session::Session;
+
+/// What a turn of a connection came to.
+#[derive(Clone, Copy)]
+pub(crate) struct Part {
+    /// It has more to move at once.
+    more: bool,
+    /// Its device may have bytes.
+    may_give: bool,
+    /// How many bytes its device gave.
+    gave: usize,
+}
+
+impl Part {
+    /// Whether it waits until nothing waits for the wire: it was not to be read, and its device may have bytes.
+    fn is_put_off(&self, reads: bool) -> bool
+        ensures { result ≡ (not reads && self.now.may_give) }
+    {
+        !reads && self.may_give
+    }
+}
+
+impl<D: Device + Drop> Lines<D> {
+    /// The connection of this stream has its turn, if it is there: it is read where this says so. It waits for a further turn
+    /// where it has more to move, or until nothing waits for the wire where it was not to be read and may have bytes. How
+    /// many bytes its device gave.
+    pub(crate) fn serve(
+        &mut self,
+        id: u32,
+        session: &mut Session,
+        buffer: &mut [u8],
+        outgoing: &mut Block,
+        reads: bool,
+    ) -> usize
+        requires { 0 < length buffer.old }
+        ensures served { (was : LineValue) → line_of id self.old ≡ Some was → TakesPart id reads was session.old session.new outgoing.old outgoing.new self.old self.new result }
+        ensures none { line_of id self.old ≡ None → (self.new ≡ self.old) × (session.new ≡ session.old) × (outgoing.new ≡ outgoing.old) }
+    {
+        match self.take_part(id, session, buffer, outgoing, reads) {
+            Some(part) => {
+                self.end_turn(id, part.more, part.is_put_off(reads));
+                part.gave
+            }
+            None => 0,
+        }
+    }
+
+    /// The connection of this stream has its turn, if it is there.
+    fn take_part(
+        &mut self,
+        id: u32,
+        session: &mut Session,
+        buffer: &mut [u8],
+        outgoing: &mut Block,
+        reads: bool,
+    ) -> Option<Part>
+        requires { 0 < length buffer.old }
+        ensures some { IfSome result (λ part. (was : LineValue) × (line_of id self.old ≡ Some was) × (now : LineValue) × Puts id (Some now) self.old self.new × Turn id reads session.old session.new outgoing.old outgoing.new was.seen now.seen was.ways now.ways part.more part.gave × (part.may_give ≡ may_pull now.ways now.seen.marks)) }
+        ensures none { IfNone result (line_of id self.old ≡ None) }
+        ensures same { IfNone result (self.new ≡ self.old) }
+        ensures idle { IfNone result ((session.new ≡ session.old) × (outgoing.new ≡ outgoing.old)) }
+        ensures queues { SameQueues self.old self.new }
+    {
+        let Some(found) = self.by_id.get_mut(&id) else {
+            return None;
+        };
+        let line = &mut found.line;
+        let turn = serve(
+            session,
+            id,
+            &mut line.ways,
+            &mut line.device,
+            buffer,
+            outgoing,
+            reads,
+        );
+        Some(Part {
+            more: turn.more,
+            may_give: line.ways.may_pull(&line.device),
+            gave: turn.gave,
+        })
+    }
+
+    /// Whether bytes may go to the device of this stream now.
+    pub(crate) fn may_push(&self, id: u32) -> bool
+        ensures { result ≡ option_map_or (λ l. may_push l.ways l.seen.marks) (line_of id self.now) false }
+    {
+        match self.by_id.get(&id) {
+            Some(found) => found.line.ways.may_push(&found.line.device),
+            None => false,
+        }
+    }
+
+    /// Offers a row of payload that waits to its connection's device, if that is there and may take bytes. How many of the
+    /// bytes that wait came then. The connection waits for a turn then.
+    pub(crate) fn offer(&mut self, row: Row, session: &mut Session, waits: &[u8]) -> usize
+        requires row { IsRow row waits.now session.old }
+        requires some { 0 < row.first }
+        ensures passed { PassesPart row.id waits.now session.old session.new self.old self.new result }
+        ensures goes_on { result ≡ 0 → is_stuck session.new ≡ false }
+        ensures others { (other : ℕ) → nat_eq row.id other ≡ false → GainsNone other session.old session.new }
+        ensures status { session.new.status ≡ session.old.status }
+    {
+        if !self.may_push(row.id) {
+            return 0;
+        }
+        let taken = self.offer_row(row, session, waits);
+        self.enqueue(row.id, Queue::Fresh);
+        taken
+    }
+
+    /// Offers a row of payload that waits to its connection's device, if that is there.
+    fn offer_row(&mut self, row: Row, session: &mut Session, waits: &[u8]) -> usize
+        requires row { IsRow row waits.now session.old }
+        requires some { 0 < row.first }
+        ensures offered { (was : LineValue) → line_of row.id self.old ≡ Some was → OffersPart row.id was waits.now session.old session.new self.old self.new result }
+        ensures none { line_of row.id self.old ≡ None → (self.new ≡ self.old) × (session.new ≡ session.old) × (result ≡ 0) }
+        ensures queues { SameQueues self.old self.new }
+        ensures goes_on { result ≡ 0 → is_stuck session.new ≡ false }
+        ensures others { (other : ℕ) → nat_eq row.id other ≡ false → GainsNone other session.old session.new }
+        ensures status { session.new.status ≡ session.old.status }
+    {
+        let Some(found) = self.by_id.get_mut(&row.id) else {
+            return 0;
+        };
+        let line = &mut found.line;
+        offer(session, row, &mut line.ways, &mut line.device, waits)
+    }
+}

@@ -1,0 +1,73 @@
+-- How the tunnel of a loop goes on.
+use Rattle.std.proofs.Common.{◌≡◌, ◌⊎◌, inl, inr, ◌==◌, ◌&&◌, ◌<◌, ◌+◌, ℕ, List, [], length, Bool, true, false, Option, Some, refl, sym, ap, ◌∙◌, subst, arith}
+use Rattle.std.specs.Prelude.{min, option_map}
+use Rattle.std.specs.Option.{option_map_or}
+use Rattle.ymx_model.specs.session.Sessions.{is_running}
+use Rattle.ymx_engine.specs.Moves.{Moves}
+use Rattle.ymx_engine.specs.Runs.{Runs}
+use Rattle.ymx_engine.specs.Tunnels.{Tunnel}
+use Rattle.ymx_engine.specs.Turns.{Line, Lines, line_of, is_idle, is_over_at, IsIdle}
+use Rattle.ymx_engine.specs.Ways.{is_over}
+use Rattle.ymx_engine.specs.Work.{FirstTurn, HasRead, HasWritten, Reads, ServesFirst, ServesOne, WorksOnce, Writes}
+use Rattle.ymx_engine.proofs.Attending.{has_read_then, has_written_then, one_then, read_once, runs_from, serves_first, then_has_read, then_has_written, then_one, runs_then, written_once}
+
+-- what went on behind, where nothing was done before
+pub runs_behind : (a b c : Tunnel) → a ≡ b → Runs a c → Runs b c
+runs_behind a b c e x = runs_from a b c e x
+
+-- what went on before, where nothing was done behind
+pub runs_before : (a b c : Tunnel) → c ≡ b → Runs a b → Runs a c
+runs_before a b c e x = subst (λ (v : Tunnel). Runs a v) (sym e) x
+
+-- ---- who waits
+
+idle_is : (t : Lines) → IsIdle t → is_idle t ≡ true
+idle_is t i = rw (i.0, i.1) refl
+
+-- none waited
+pub none_served : (a b : Tunnel) → IsIdle a.lines → ServesOne a b
+none_served a b i h = let no : true ≡ false = sym (idle_is a.lines i) ∙ h in absurd (cc no)
+
+-- the first had its turn
+pub one_served : (a b c : Tunnel) (id : ℕ) → ServesFirst id a b → Runs b c → ServesOne a c
+one_served a b c id turn on = one_then a b c (λ h. serves_first a b id turn) on.moves
+
+not_both : (x y : Bool) → (x && y) ≡ false → (x ≡ false) ⊎ (y ≡ false)
+not_both true y h = inr h
+not_both false y h = inl refl
+
+-- there are some where one waits
+pub some_queued : (t : Lines) (most : ℕ) → 0 < most → is_idle t ≡ false → 0 < min (length t.fresh + length t.busy) most
+some_queued t most many h = by (length t.fresh) (length t.busy) (not_both (length t.fresh == 0) (length t.busy == 0) h)
+  where
+    by : (m n : ℕ) → ((m == 0) ≡ false) ⊎ ((n == 0) ≡ false) → 0 < min (m + n) most
+    by m n (inl e) = grind (arith, many)
+    by m n (inr e) = grind (arith, many)
+
+-- ---- who is over
+
+over_way : (o : Option Line) (l : Line) → o ≡ Some l → option_map_or is_over (option_map (λ (v : Line). v.ways) o) true ≡ true → is_over l.ways ≡ true
+over_way o l e h = sym (ap (λ (v : Option Line). option_map_or is_over (option_map (λ (w : Line). w.ways) v) true) e) ∙ h
+
+-- a connection that is over may be let go of
+pub over_there : (id : ℕ) (t : Tunnel) → is_over_at id t.lines ≡ true → (l : Line) → line_of id t.lines ≡ Some l → (is_over l.ways ≡ true) ⊎ (is_running t.engine.session.status ≡ false)
+over_there id t h l e = inl (over_way (line_of id t.lines) l e h)
+
+-- ---- rounds
+
+-- the wire was read once more
+pub read_again : (a b c : Tunnel) → Runs a b → Reads b c → HasRead a c
+read_again a b c x reads = then_has_read a b c x.moves (read_once b c reads)
+
+-- one round: what comes before the wire is read, and behind it, until one has its turn and the wire is written to
+pub works_once : (a b c d e f g : Tunnel) → Runs a b → Runs b c → HasRead b c → Runs c d → Runs d e → ServesOne d e → Runs e f → Writes e f → Runs f g → WorksOnce a g
+works_once a b c d e f g x y reads z u turns v writes w =
+    let to_d = runs_then a b d x (runs_then b c d y z) in
+    let to_e = runs_then a d e to_d u in
+    let from_e = runs_then e f g v w in
+    let from_c = runs_then c d g z (runs_then d e g u from_e) in
+    record {
+      reads = then_has_read a b g x.moves (has_read_then b c g reads from_c.moves);
+      turns = one_then a e g (then_one a d e to_d u turns) from_e.moves;
+      writes = then_has_written a e g to_e.moves (has_written_then e f g (written_once e f writes) w.moves);
+    }
