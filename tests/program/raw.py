@@ -327,14 +327,14 @@ def an_accept_fails():
     assert has_ended(peer)
     peer.close()
     assert program.end() == (1, f"{FULL}ymx: cannot listen at {ANY}\n")
-    program = Program("remote", "--bind", ANY, "--target", ANY, files=4)
-    assert program.end() == (1, f"ymx: cannot listen at {ANY}\n")
+    # A fault where peers come in names the port that the system chose.
+    status, said = Program("remote", "--bind", ANY, "--target", ANY, files=4).end()
+    assert status == 1 and re.fullmatch(r"ymx: cannot listen at 127\.0\.0\.1:[1-9][0-9]*\n", said), (status, said)
 
 
 def no_set_to_wait_for():
-    """Without a descriptor for it nothing is done."""
+    """Without a descriptor for it nothing is done, and nothing is said of listening."""
     program, peer = local(files=5)
-    program.place()
     assert has_ended(peer)
     peer.close()
     assert program.end() == (1, f"{FULL}ymx: cannot listen at {ANY}\n")
