@@ -309,7 +309,7 @@ moves_joined a b c id d k opens quiet leaves g keeps wire same j =
     let keeps2 : KeepsWire a.engine c.engine = subst (λ (v : Engine). KeepsWire a.engine v) (sym j.engine) keeps in
     moves_called a c es (c.engine.session, g2, refl) leaves keeps2 (j.wire ∙ wire)
     (λ other. changed_line id other a.lines c.lines (Some d) es (nat_eq id other) refl
-      (puts_look id other (Some (record { seen = d; ways = new_ways })) b.lines c.lines j.lines.lines ∙ ap (λ (v : Option Seen). cond (nat_eq id other) (Some d) v) (same other)) life (quiet other))
+    (puts_look id other (Some (record { seen = d; ways = new_ways })) b.lines c.lines j.lines.lines ∙ ap (λ (v : Option Seen). cond (nat_eq id other) (Some d) v) (same other)) life (quiet other))
 
 pub moves_opened : (a b c : Tunnel) (id : ℕ) (d : Seen) → Gives in_turn a.engine.session (event.Call call.Open) (reply.Opened id) b.engine.session → KeepsWire a.engine b.engine → b.wire ≡ a.wire → SameSeen a b → Joins id d b c → Moves a c
 moves_opened a b c id d g keeps wire same j =
@@ -472,4 +472,3 @@ moves_shut a b x w same = record {
 pub moves_pinged : (a b : Tunnel) (c : Call) (told : Reply) → ((id : ℕ) → IsQuiet id ((event.Call c, told) ∷ [])) → opens_with (event.Call c) ≡ false → Gives in_turn a.engine.session (event.Call c) told b.engine.session → KeepsWire a.engine b.engine → b.wire ≡ a.wire → SameSeen a b → Moves a b
 moves_pinged a b c told quiet plain g keeps wire same =
     moves_alone a b (event.Call c, told) quiet ((refl, λ w. (tt, tt)), refl, refl, ap (λ (v : Bool). v || false) plain) g keeps wire same
-

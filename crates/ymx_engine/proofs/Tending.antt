@@ -340,7 +340,7 @@ serving_but id a b calm keeps h =
 pub serving_joined : (id : ℕ) (seen : Seen) (a b : Tunnel) → Joins id seen a b → ServingBut id a → Serving b
 serving_joined id seen a b x =
     serving_with id a b (λ w. but_same id a.engine.session b.engine.session (ap (λ e. e.session) x.engine) w) (others_put id _ a.lines b.lines x.lines.lines (extends_added id a.lines b.lines x.lines.turn) x.lines.turn.missed
-      (λ other h. subst (λ (v : List ℕ). Contains v other) (sym x.lines.turn.held) h)) (λ w. served_waits id b (inl x.lines.waits))
+    (λ other h. subst (λ (v : List ℕ). Contains v other) (sym x.lines.turn.held) h)) (λ w. served_waits id b (inl x.lines.waits))
 
 -- it has one already, which is what it was
 pub serving_there : (id : ℕ) (a b : Tunnel) → (IsWithin a.engine.session → CalmsBut id a.engine.session b.engine.session) → KeepsLines a.lines b.lines → IsServed id b → Serving a → Serving b
@@ -412,7 +412,7 @@ serving_part id reads was a b gave x others =
 pub serving_noted : (id : ℕ) (ready : Readiness) (was : Line) (a b : Tunnel) → b.engine ≡ a.engine → Notes id ready was a.lines b.lines → Serving a → Serving b
 serving_noted id ready was a b e x h =
     serving_with id a b (λ w. but_same id a.engine.session b.engine.session (ap (λ v. v.session) e) w) (others_put id _ a.lines b.lines x.lines (extends_added id a.lines b.lines x.turn) x.turn.missed
-      (λ other h. subst (λ (v : List ℕ). Contains v other) (sym x.turn.held) h)) (λ w. served_waits id b x.awaits) (but_of id a h)
+    (λ other h. subst (λ (v : List ℕ). Contains v other) (sym x.turn.held) h)) (λ w. served_waits id b x.awaits) (but_of id a h)
 
 -- ---- pings
 

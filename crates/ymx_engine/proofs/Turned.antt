@@ -74,7 +74,7 @@ turned_on mark id other a b x on = λ l there is. by (nat_eq id other) refl l th
         let t = x.served was e in
         let same : t.now ≡ l = let s : Some t.now ≡ Some l = sym t.there ∙ there in cc in
         subst (λ (v : Line). (is_over v.ways ≡ true) ⊎ ((w : Line) × (line_of id a.lines ≡ Some w) × (mark w.seen ≡ true))) same
-            (elim (on was t (subst (λ (v : Line). mark v.seen ≡ true) (sym same) is)) [ inl h ↦ inr (was, e, h) | inr h ↦ inl (stop_is_over id was a b t h) ])
+        (elim (on was t (subst (λ (v : Line). mark v.seen ≡ true) (sym same) is)) [ inl h ↦ inr (was, e, h) | inr h ↦ inl (stop_is_over id was a b t h) ])
     own None e = λ l there is. let no : None ≡ Some l = sym e ∙ ap (λ (v : Tunnel). line_of id v.lines) (sym (x.none e)) ∙ there in absurd cc
 
     by : (test : Bool) → nat_eq id other ≡ test → WasOn mark other a b
@@ -111,7 +111,7 @@ first_runs : (id : ℕ) (a b : Tunnel) (taken : Lines) → IsFirstServed id a b 
 first_runs id a b taken x =
     let m : Tunnel = record a { lines = taken } in
     runs_turn a b id (moves_then a m b (moves_still a m refl (record { outgoing = refl; incoming = refl }) refl (λ other. ap (option_map (λ (l : Line). l.seen)) (x.lines other))) (turned_moves id m b x.turned))
-        (λ h. x.turned.serves (serving_turn id a m refl x.lines x.first x.missed x.held h)) (first_serves id a b taken x)
+    (λ h. x.turned.serves (serving_turn id a m refl x.lines x.first x.missed x.held h)) (first_serves id a b taken x)
 
 first_stays : (id : ℕ) (a b : Tunnel) (taken : Lines) → IsFirstServed id a b taken → Stays a b
 first_stays id a b taken x = record {
@@ -135,7 +135,7 @@ pub none_runs : (before a : Tunnel) (q : Lines) → before ≡ a → SameLines b
 none_runs before a q view same queues =
     let b : Tunnel = record before { lines = q } in
     runs_from before a b view (runs_on before b (moves_still before b refl (record { outgoing = refl; incoming = refl }) refl (λ other. ap (option_map (λ (l : Line). l.seen)) (same other)))
-        (serving_lines before b refl (keeps_queues before.lines q same queues)) (extends_queues before.lines q queues))
+    (serving_lines before b refl (keeps_queues before.lines q same queues)) (extends_queues before.lines q queues))
 
 -- all that a turn says, where the tunnel is seen from outside
 pub record FirstHasTurn (id : ℕ) (a b : Tunnel) : Type 0 where

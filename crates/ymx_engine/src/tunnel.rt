@@ -72,11 +72,7 @@ impl<D: Device + Drop, W: Device + Drop> Model for Tunnel<D, W> {
 impl<D: Device + Drop, W: Device + Drop> Tunnel<D, W> {
     /// A tunnel of this session over this wire, which has moved nothing and has no connection. There may be no memory for its
     /// buffers: then the session and the wire are let go.
-    pub fn new(
-        alloc: Global,
-        session: Session,
-        wire: W,
-    ) -> Result<Tunnel<D, W>, RefusedAllocation>
+    pub fn new(alloc: Global, session: Session, wire: W) -> Result<Tunnel<D, W>, RefusedAllocation>
         ensures engine { IfOk result (λ made. made.engine ≡ record { session = session; outgoing = []; incoming = [] }) }
         ensures wire { IfOk result (λ made. (made.wire ≡ W.seen wire) × (made.is_wire_over ≡ false)) }
         ensures none { IfOk result (λ made. (made.lines.by_id ≡ []) × IsIdle made.lines × (made.lines.held ≡ []) × (made.lines.missed ≡ false)) }
@@ -157,13 +153,8 @@ impl<D: Device + Drop, W: Device + Drop> Tunnel<D, W> {
     {
         let reads = self.takes_more();
         let buffer = self.buffer.as_mut_slice();
-        self.lines.serve(
-            id,
-            &mut self.session,
-            buffer,
-            &mut self.outgoing,
-            reads,
-        )
+        self.lines
+            .serve(id, &mut self.session, buffer, &mut self.outgoing, reads)
     }
 
     /// Whether connections may be read: not while bytes wait that the wire doesn't take, nor while many wait.

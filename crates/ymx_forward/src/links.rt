@@ -37,6 +37,9 @@ const REPORTS: usize = 1;
 /// How many links may wait for their threads.
 const LINKS: usize = 64;
 
+/// How many seconds it is waited for the thread that starts those of links. Where the system makes none it never begins.
+const BEGINNING: u64 = 10;
+
 /// How many reports may wait to be heard.
 const WAITING_REPORTS: usize = 1_024;
 
@@ -45,6 +48,10 @@ const WAITING_REPORTS: usize = 1_024;
 struct Starter {
     /// Takes links, each to run in a thread of its own. None once no more are started.
     jobs: Option<Sender<LinkJob, Global>>,
+    /// Tells that somebody starts them.
+    attended: Receiver<bool, Global>,
+    /// Somebody does.
+    is_attended: bool,
     /// Whether the thread for the last one could be made.
     started: Receiver<bool, Global>,
     /// What links report.
@@ -53,7 +60,16 @@ struct Starter {
 
 impl Starter {
     /// Has a link started. Whether a thread could be made for it.
-    fn start<R: Wait>(&self, rt: &R, job: LinkJob) -> bool {
+    fn start<R: Host>(&mut self, rt: &R, job: LinkJob) -> bool {
+        if !self.is_attended {
+            self.is_attended = self
+                .attended
+                .recv_timeout(rt, Duration::from_secs(BEGINNING))
+                .is_ok();
+        }
+        if !self.is_attended {
+            return false;
+        }
         let Some(jobs) = &self.jobs else {
             return false;
         };
@@ -71,6 +87,7 @@ impl Starter {
 #[derive(Drop)]
 pub(crate) struct LinkThreads {
     jobs: Receiver<LinkJob, Global>,
+    attends: Sender<bool, Global>,
     started: Sender<bool, Global>,
     reports: Sender<Report, Global>,
 }
@@ -84,6 +101,7 @@ impl LinkThreads {
         watcher: &Mutex<V>,
     ) {
         let reports = &self.reports;
+        let _ = self.attends.send(rt, true);
         thread::scope(
             thread::scope_env(),
             rt,
@@ -112,16 +130,20 @@ pub(crate) fn new_links<'a, R: Host>(
     options: LocalOptions,
 ) -> Result<(LinkSockets<'a, R>, LinkThreads), StartFault> {
     let (give, jobs) = bounded::<LinkJob, Global>(alloc, LINKS)?;
+    let (attends, attended) = bounded::<bool, Global>(alloc, 1)?;
     let (answer, started) = bounded::<bool, Global>(alloc, LINKS)?;
     let (reports, heard) = bounded::<Report, Global>(alloc, WAITING_REPORTS)?;
     let starter = Starter {
         jobs: Some(give),
+        attended,
+        is_attended: false,
         started,
         reports: heard,
     };
     let sockets = LinkSockets::new(rt, alloc, options, starter)?;
     let threads = LinkThreads {
         jobs,
+        attends,
         started: answer,
         reports,
     };

@@ -195,7 +195,7 @@ fn run_links<R: Host + Threads + Sync, V: ProgramWatcher + Send + Drop, E: Outle
     }
 }
 
-/// Runs the pool of links in this thread, and in another one starts theirs.
+/// Runs the pool of links in this thread, and in another one starts theirs: where there is no such thread, no link is started.
 fn run_both<R: Host + Threads + Sync, V: ProgramWatcher + Send + Drop, E: Outlet + Send>(
     options: LocalOptions,
     sockets: LinkSockets<'_, R>,
@@ -208,10 +208,10 @@ fn run_both<R: Host + Threads + Sync, V: ProgramWatcher + Send + Drop, E: Outlet
 {
     let (rt, alloc) = sockets.runtime();
     let mut sockets = sockets;
-    let (status, ()) = join_mut(
+    let ((), status) = join_mut(
         rt,
-        &mut || run_link_pool(rt, options, &mut sockets, watcher, errors),
         &mut || threads.run(rt, alloc, watcher),
+        &mut || run_link_pool(rt, options, &mut sockets, watcher, errors),
     );
     status
 }

@@ -85,7 +85,13 @@ impl<R: Net + Clock + Wait> Site<'_, R> {
         let _ = tunnel.run(self.rt, &mut self.poll, watcher, is_kept);
         let how = tunnel.end();
         let mut wire = tunnel.into_wire();
-        close(self.rt, &mut self.poll, &mut wire, how.broken.is_some(), limit);
+        close(
+            self.rt,
+            &mut self.poll,
+            &mut wire,
+            how.broken.is_some(),
+            limit,
+        );
         how
     }
 

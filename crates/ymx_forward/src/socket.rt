@@ -458,7 +458,8 @@ impl<S: Stream + Drop> Device for Socket<S> {
     {
         self.count_call();
         let pushed = self.take(bytes);
-        self.marks.note_pushed(pushed, pushed.count() >= bytes.len());
+        self.marks
+            .note_pushed(pushed, pushed.count() >= bytes.len());
         pushed
     }
 

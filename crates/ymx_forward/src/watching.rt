@@ -124,11 +124,7 @@ impl EndedConnection {
 
     /// How the connection of this socket ended, whose ways stand so. `is_lost` says whether the session was lost.
     pub(crate) fn of(socket: &Socket, ways: Ways, is_lost: bool) -> EndedConnection {
-        let (to_peer, from_peer) = broken_endings(
-            socket.fault(),
-            ways.lacked_memory,
-            is_lost,
-        );
+        let (to_peer, from_peer) = broken_endings(socket.fault(), ways.lacked_memory, is_lost);
         EndedConnection {
             to_peer: Passed {
                 bytes: socket.pulled(),
