@@ -108,6 +108,17 @@ impl Sending {
         }
     }
 
+    /// Gives memory back that isn't needed.
+    pub(crate) fn shrink(&mut self) -> bool
+        ensures { self.new ≡ self.old }
+    {
+        match self {
+            Sending::Open(half) => half.shrink(),
+            Sending::Done(half) => half.shrink(),
+            Sending::Dead(_) => false,
+        }
+    }
+
     /// The stream is reset.
     pub(crate) fn reset(self, warm: &mut Warm) -> DeadHalf {
         match self {
@@ -271,6 +282,17 @@ impl Receiving {
     {
         if let Receiving::Ended(half) = self {
             half.empty(warm);
+        }
+    }
+
+    /// Gives memory back that isn't needed.
+    pub(crate) fn shrink(&mut self) -> bool
+        ensures { self.new ≡ self.old }
+    {
+        match self {
+            Receiving::Open(half) => half.shrink(),
+            Receiving::Ended(half) => half.shrink(),
+            Receiving::Dead(_) => false,
         }
     }
 

@@ -160,6 +160,15 @@ impl<K: Kind> ReceivingHalf<K> {
         self.granted += announced;
     }
 
+    /// Gives a block back of which more memory is in use than the unread bytes need, for a fresh one. The half stays as it
+    /// was. True where it did; it doesn't without memory for the fresh one.
+    pub fn shrink(&mut self) -> bool
+        ensures { self.new ≡ self.old }
+    {
+        let capacity = self.unread.capacity();
+        self.unread.renew(capacity)
+    }
+
     /// The stream is reset: the unread bytes are dropped, and `warm` has their block for the next stream.
     pub fn reset(self, warm: &mut Warm) -> DeadHalf {
         let ReceivingHalf { unread, .. } = self;

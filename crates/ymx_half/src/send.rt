@@ -151,6 +151,16 @@ impl<K: Kind> SendingHalf<K> {
         self.unsent.take_warm(warm, buffer)
     }
 
+    /// Gives a block back of which more memory is in use than the unsent bytes need, or which is wider than the first
+    /// credit and they, for a fresh one. The half stays as it was. True where it did; it doesn't without memory for the
+    /// fresh one.
+    pub fn shrink(&mut self) -> bool
+        ensures { self.new ≡ self.old }
+    {
+        let capacity = self.unsent.len().max(FIRST_CREDIT as usize);
+        self.unsent.renew(capacity)
+    }
+
     /// The stream is reset: the unsent bytes and the end are dropped, and `warm` has their block for the next
     /// stream.
     pub fn reset(self, warm: &mut Warm) -> DeadHalf {

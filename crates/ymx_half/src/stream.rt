@@ -406,6 +406,17 @@ impl StreamRec {
         self.stage = stage;
     }
 
+    /// Gives memory back: the blocks of its rings of which more is in use than their bytes need, and unsent bytes' block
+    /// that grew, for fresh ones. The stream stays as it was. True where it gave one back; for want of memory it keeps
+    /// what it has.
+    pub fn shrink(&mut self) -> bool
+        ensures { self.new ≡ self.old }
+    {
+        let sending = self.writer.shrink();
+        let receiving = self.reader.shrink();
+        sending || receiving
+    }
+
     /// The record goes: the blocks of its rings are kept for the next stream.
     pub fn end(self, warm: &mut Warm) {
         let StreamRec { writer, reader, .. } = self;

@@ -3,7 +3,7 @@
 //! Memory is taken when a ring is made and when it grows, and never while bytes move.
 #![tactic(auto)]
 
-ghost use Rattle.std.specs.Prelude.{◌≡◌, ◌+◌, ◌*◌, ◌^◌, ◌<◌, ◌≤◌, ◌↔◌, [], ◌++◌, length, take, drop, min, IsTrue, IfOk, OnOk, OnErr};
+ghost use Rattle.std.specs.Prelude.{◌≡◌, ◌+◌, ◌*◌, ◌^◌, ◌<◌, ◌≤◌, ◌↔◌, [], ◌++◌, length, take, drop, min, IsTrue, MatchBool, IfOk, OnOk, OnErr};
 ghost use Rattle.ymx_memory.specs.Bounds.{widest_ring, most_written};
 
 mod warm;
@@ -14,6 +14,9 @@ use std::marker::Model;
 pub use warm::Warm;
 use ymx_memory::RefusedAllocation;
 
+/// A block through which at most so many bytes went is not worn. Its memory is in use for so many at most.
+const MOST_UNWORN: usize = 16_384;
+
 /// A queue of bytes in one block of memory. Its capacity is set when it is made, and only `grow` changes it.
 ///
 /// A contract sees the list of its bytes, `items`, the next to be taken first, and its `capacity` in bytes.
@@ -22,6 +25,8 @@ use ymx_memory::RefusedAllocation;
 #[derive(Drop)]
 pub struct Ring {
     bytes: HeapCircularBuffer<u8>,
+    /// How many bytes were put into the block since it was taken. So much of its memory is in use, or all of it.
+    worn: usize,
 }
 
 impl Model for Ring {
@@ -47,7 +52,7 @@ impl Ring {
         ensures of_capacity { IfOk result (λ ring. ring.capacity ≡ capacity) }
     {
         let bytes = ymx_memory::ring(alloc, capacity)?;
-        Ok(Ring { bytes })
+        Ok(Ring { bytes, worn: 0 })
     }
 
     /// Puts all of `bytes` in at the back. They have to fit: at most `room` of them. Takes no memory.
@@ -59,6 +64,7 @@ impl Ring {
         ensures same_capacity { self.new.capacity ≡ self.old.capacity }
     {
         self.bytes.fill_from_slice(bytes);
+        self.worn = self.worn.saturating_add(bytes.len());
     }
 
     /// Moves the first bytes out into `buffer`, as many as are there and fit, and returns their number.
@@ -82,7 +88,7 @@ impl Ring {
         ensures same_capacity { self.new.capacity ≡ self.old.capacity }
     {
         if !bytes.is_empty() {
-            warm.lend(&mut self.bytes);
+            warm.lend(self);
         }
         self.put(bytes);
     }
@@ -126,7 +132,7 @@ impl Ring {
         ensures same_capacity { self.new.capacity ≡ self.old.capacity }
     {
         self.clear();
-        warm.give_back(&mut self.bytes);
+        warm.give_back(self);
     }
 
     /// As `new`, but with a block of this capacity that `warm` kept of a ring that is gone, where it has one.
@@ -140,15 +146,14 @@ impl Ring {
         ensures of_capacity { IfOk result (λ ring. ring.capacity ≡ capacity) }
     {
         match warm.kept(capacity) {
-            Some(bytes) => Ok(Ring { bytes }),
+            Some(ring) => Ok(ring),
             None => Ring::new(alloc, capacity),
         }
     }
 
     /// Ends the ring. Its block is kept for the next one, if there is room for it in `warm`.
     pub fn end(self, warm: &mut Warm) {
-        let Ring { bytes } = self;
-        warm.keep(bytes);
+        warm.keep(self);
     }
 
     /// Returns the first bytes, as they lie in the ring's block. None is taken out.
@@ -259,6 +264,27 @@ impl Ring {
         wider.fill_from_slice(front);
         wider.fill_from_slice(wrapped);
         self.bytes = wider;
+        self.worn = self.len();
         Ok(())
+    }
+
+    /// Whether enough bytes went through the ring's block, since it was taken, that a fresh one would take less memory:
+    /// more than 16,384.
+    pub(crate) fn is_worn(&self) -> bool {
+        self.worn > MOST_UNWORN
+    }
+
+    /// Exchanges a block that is worn, or has another capacity, for a fresh one of this capacity, of which no memory is
+    /// in use but for the bytes that are there. It has to hold them, and it is at most twice what it was, and
+    /// 4,294,967,295 more.
+    ///
+    /// True where it did; else nothing has changed: the block isn't worn, or there was no memory for another.
+    pub fn renew(&mut self, capacity: usize) -> bool
+        requires holds_all { length self.old.items ≤ capacity }
+        requires at_most { capacity ≤ 2 * self.old.capacity + most_written }
+        ensures { MatchBool result (self.new ≡ record { items = self.old.items; capacity = capacity }) (self.new ≡ self.old) }
+    {
+        let is_worth_it = self.is_worn() || self.capacity() != capacity;
+        is_worth_it && self.grow(capacity).is_ok()
     }
 }

@@ -1,10 +1,9 @@
 //! Blocks of memory that rings take turns with.
 
-ghost use Rattle.std.specs.Prelude.{◌≡◌, ◌≤◌, [], Some, IfSome};
-ghost use Rattle.circular_buffer.specs.Buffer.{buffer};
+ghost use Rattle.std.specs.Prelude.{◌≡◌, ◌≤◌, [], IfSome};
 ghost use Rattle.ymx_memory.specs.Bounds.{widest_ring};
 
-use circular_buffer::HeapCircularBuffer;
+use crate::Ring;
 use std::alloc::Global;
 use std::mem;
 
@@ -14,18 +13,21 @@ const MOST_LENT: usize = 16;
 /// How many blocks of rings that are gone are kept at most.
 const MOST_KEPT: usize = 32;
 
+/// How many bytes such a block holds at most: a stream's first credit. A wider one is given back at once.
+const WIDEST_KEPT: usize = 262_144;
+
 /// Blocks that rings use one after another, so that few of them are in use at a time and the processor's caches hold
 /// them. A ring always has a block of its own: one that is put into while it is empty exchanges it for the block that
 /// was given back last, and gives that one back as soon as it is empty again. Only empty blocks of one capacity are
 /// exchanged, so no contract of a ring sees it.
 ///
-/// Beside these it keeps the blocks of rings that are gone for the rings of later streams.
+/// Beside these it keeps the blocks of rings that are gone for the rings of later streams. Its blocks are rings too.
 #[derive(Drop)]
 pub struct Warm {
     /// The blocks that are lent: the first `given` were given back, the last of them last.
-    lent: Vec<HeapCircularBuffer<u8>>,
+    lent: Vec<Ring>,
     given: usize,
-    kept: Vec<HeapCircularBuffer<u8>>,
+    kept: Vec<Ring>,
 }
 
 impl Warm {
@@ -38,19 +40,36 @@ impl Warm {
         }
     }
 
-    /// Has one more block of this capacity to lend, unless 16 are there. Without memory for it nothing changes.
-    pub fn stock(&mut self, alloc: Global, capacity: usize)
+    /// Has one more block of this capacity to lend, unless it has more than there are other streams, or 16. Without
+    /// memory for it nothing changes.
+    pub fn stock(&mut self, alloc: Global, others: usize, capacity: usize)
         requires at_most { capacity ≤ widest_ring }
     {
-        if self.lent.len() < MOST_LENT {
-            if let Ok(block) = ymx_memory::ring(alloc, capacity) {
+        if self.lent.len() <= others && self.lent.len() < MOST_LENT {
+            if let Ok(block) = Ring::new(alloc, capacity) {
                 let _stocked = ymx_memory::push(&mut self.lent, block);
             }
         }
     }
 
+    /// Gives the blocks back that are worn: the last stream has gone.
+    pub fn rest(&mut self) {
+        self.lent.retain(|block| !block.is_worn());
+        self.kept.retain(|block| !block.is_worn());
+        self.given = self.given.min(self.lent.len());
+    }
+
+    /// Gives all blocks back, and says whether there were any. Rings then exchange theirs for none.
+    pub fn clear(&mut self) -> bool {
+        let had_some = !self.lent.is_empty() || !self.kept.is_empty();
+        self.lent.clear();
+        self.kept.clear();
+        self.given = 0;
+        had_some
+    }
+
     /// Exchanges the block of a ring that is about to be put into for the one that was given back last, if it is empty.
-    pub(crate) fn lend(&mut self, block: &mut HeapCircularBuffer<u8>)
+    pub(crate) fn lend(&mut self, block: &mut Ring)
         ensures { block.new ≡ block.old }
     {
         if self.given > 0 && self.given <= self.lent.len() && block.is_empty() {
@@ -60,7 +79,7 @@ impl Warm {
     }
 
     /// Takes the block of a ring that got empty, for one that was given back longer ago, if it is empty.
-    pub(crate) fn give_back(&mut self, block: &mut HeapCircularBuffer<u8>)
+    pub(crate) fn give_back(&mut self, block: &mut Ring)
         ensures { block.new ≡ block.old }
     {
         let count = self.lent.len();
@@ -72,8 +91,8 @@ impl Warm {
     }
 
     /// A block of this capacity that was kept, the last one.
-    pub(crate) fn kept(&mut self, capacity: usize) -> Option<HeapCircularBuffer<u8>>
-        ensures { IfSome result (λ block. block ≡ buffer [] capacity) }
+    pub(crate) fn kept(&mut self, capacity: usize) -> Option<Ring>
+        ensures { IfSome result (λ block. block ≡ record { items = []; capacity = capacity }) }
     {
         let last = self.kept.len().checked_sub(1)?;
         // A stream's two rings are kept one after the other, and may have two capacities.
@@ -91,16 +110,17 @@ impl Warm {
         Some(block)
     }
 
-    /// Keeps the block of a ring that is gone, unless 32 are kept or there is no memory to note it.
-    pub(crate) fn keep(&mut self, block: HeapCircularBuffer<u8>) {
-        if self.kept.len() < MOST_KEPT {
+    /// Keeps the block of a ring that is gone, unless 32 are kept, it is wider than a stream's first credit, or there is
+    /// no memory to note it.
+    pub(crate) fn keep(&mut self, block: Ring) {
+        if self.kept.len() < MOST_KEPT && block.capacity() <= WIDEST_KEPT {
             let _kept = ymx_memory::push(&mut self.kept, block);
         }
     }
 }
 
 /// Swaps two empty blocks of one capacity. Others stay where they are.
-fn exchange(block: &mut HeapCircularBuffer<u8>, other: &mut HeapCircularBuffer<u8>)
+fn exchange(block: &mut Ring, other: &mut Ring)
     requires { block.old.items ≡ [] }
     ensures { block.new ≡ block.old }
 {

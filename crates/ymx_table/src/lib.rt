@@ -176,7 +176,12 @@ impl Table {
     {
         let place = self.place_of(id);
         let unsent = self.records[place].unsent_len();
-        end_of(self.records.shift_remove_index(place), &mut self.warm);
+        let is_last = self.records.len() == 1;
+        end_of(
+            self.records.shift_remove_index(place),
+            is_last,
+            &mut self.warm,
+        );
         self.due.remove(place);
         self.unsent = retotal(self.unsent, unsent, 0);
         if place < self.turn {
@@ -229,9 +234,13 @@ impl Table {
     }
 }
 
-/// The record that was removed ends. Its memory is kept for the next stream.
-fn end_of(removed: Option<(u32, StreamRec)>, warm: &mut Warm) {
+/// The record that was removed ends. Its memory is kept for the next stream; with the last one memory goes back that was
+/// in use.
+fn end_of(removed: Option<(u32, StreamRec)>, is_last: bool, warm: &mut Warm) {
     if let Some((_, stream)) = removed {
         stream.end(warm);
+    }
+    if is_last {
+        warm.rest();
     }
 }

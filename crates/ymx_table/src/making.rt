@@ -25,7 +25,8 @@ impl Table {
         ensures same { self.new ≡ self.old }
     {
         let window = self.window();
-        self.warm.stock(alloc, FIRST_CREDIT as usize);
+        self.warm
+            .stock(alloc, self.records.len(), FIRST_CREDIT as usize);
         let mut stream = StreamRec::opened(alloc, &mut self.warm, window, with_data)?;
         let count = stream.write(&mut self.warm, bytes).unwrap();
         Ok((stream, count))
@@ -39,7 +40,8 @@ impl Table {
         ensures narrowest { first_credit ≤ self.old.window }
     {
         let window = self.window();
-        self.warm.stock(alloc, FIRST_CREDIT as usize);
+        self.warm
+            .stock(alloc, self.records.len(), FIRST_CREDIT as usize);
         StreamRec::offered(alloc, &mut self.warm, window)
     }
 }

@@ -145,6 +145,23 @@ impl Table {
         self.change(id, |stream, warm| stream.forget(warm, lost));
     }
 
+    /// Gives memory back that the stream doesn't need: see `StreamRec::shrink`. The table stays as it was. True where it
+    /// gave some back; false too where there is no such stream.
+    pub fn shrink(&mut self, id: u32) -> bool
+        ensures { self.new ≡ self.old }
+    {
+        self.change(id, |stream, _| stream.shrink())
+            .unwrap_or(false)
+    }
+
+    /// Gives the memory back that is kept for the streams to come, and that with which streams take turns. The table
+    /// stays as it was. True where it gave some back.
+    pub fn shrink_spare(&mut self) -> bool
+        ensures { self.new ≡ self.old }
+    {
+        self.warm.clear()
+    }
+
     // ---- frames that come
 
     /// A piece of a payload comes, and behind it the peer's end if `fin` (flow control). A stream that takes
