@@ -1,17 +1,20 @@
-//! Laws over definitions alone: of turns, and of payload that follows what is passed on. (The functions themselves do
-//! nothing.)
+//! Laws over definitions alone: of turns, of payload that follows what is passed on, and of streams that may be opened.
+//! (The functions themselves do nothing.)
 
-ghost use Rattle.std.specs.Prelude.{◌≡◌, ◌+◌, ◌-◌, ◌<◌, ◌≤◌, ℕ, List, length, true, false, Some};
+ghost use Rattle.std.specs.Prelude.{◌≡◌, ◌+◌, ◌-◌, ◌<◌, ◌≤◌, ℕ, List, length, min, true, false, Some};
+ghost use Rattle.ymx_machine.specs.declared.types.CallFault.{CallFault};
 ghost use Rattle.ymx_machine.specs.declared.types.Fed.{Fed};
 ghost use Rattle.ymx_machine.specs.declared.types.Reply.TheVariants as reply;
 ghost use Rattle.ymx_model.specs.declared.types.Event.TheVariants as event;
+ghost use Rattle.ymx_model.specs.session.Calls.{open_stream, open_with, refused};
 ghost use Rattle.ymx_model.specs.session.Histories.{Gives};
 ghost use Rattle.ymx_model.specs.session.Tables.{due_count};
 ghost use Rattle.ymx_model.specs.session.Sessions.{Session};
 ghost use Rattle.ymx_model.specs.session.Emissions.{Choice, begin, moves_on, in_turn};
-ghost use Rattle.ymx_machine.specs.shared.Limits.{data_limit};
+ghost use Rattle.ymx_machine.specs.shared.Limits.{data_limit, first_credit};
 ghost use Rattle.ymx_model.specs.session.Emissions.Choice.{AStream};
 ghost use Rattle.ymx_law_session.specs.Limits.{IsWithin};
+ghost use Rattle.ymx_session.specs.Opens.{opens_left};
 ghost use Rattle.ymx_session.specs.Passing.{all_fed, Passes, IsPlainHeader, PassesBehind};
 ghost use Rattle.ymx_session.specs.Turns.{turn, own_frames, HasDue, is_of_stream, FlowsPast, IsNearerBy};
 
@@ -35,4 +38,15 @@ pub fn turns_are_bounded()
 pub fn payload_follows()
     ensures part { (id missing behind : ℕ) (bytes : List ℕ) (s t : Session) → PassesBehind id missing behind s → 0 < length bytes → length bytes < missing → Passes id bytes s t → PassesBehind id (missing - length bytes) behind t }
     ensures follows { (id missing behind count : ℕ) (bytes header : List ℕ) (fed : Fed) (s t u : Session) → PassesBehind id missing behind s → 0 < missing → length bytes ≡ missing → Passes id bytes s t → IsPlainHeader id count header → count ≤ behind → Gives in_turn t (event.Feed header) (reply.Fed fed) u → (fed ≡ all_fed header) × PassesBehind id count (behind - count) u }
+{}
+
+/// `opens_left` is just how many streams may be opened one behind another. At 0 an opening is refused, and changes
+/// nothing. Above 0 it opens the next stream, if it finds memory, and then one less is left; with first bytes or without.
+pub fn opens_count_down()
+    ensures none { (s : Session) → opens_left s ≡ 0 → (fault : CallFault) × (open_stream s ≡ refused fault s) }
+    ensures some { (s : Session) → 0 < opens_left s → (open_stream s).reply ≡ reply.Opened s.next }
+    ensures less { (s : Session) → IsWithin s → 0 < opens_left s → opens_left (open_stream s).next + 1 ≡ opens_left s }
+    ensures none_with { (bytes : List ℕ) (s : Session) → opens_left s ≡ 0 → (fault : CallFault) × (open_with bytes s ≡ refused fault s) }
+    ensures some_with { (bytes : List ℕ) (s : Session) → 0 < opens_left s → (open_with bytes s).reply ≡ reply.OpenedWith s.next (min (length bytes) first_credit) }
+    ensures less_with { (bytes : List ℕ) (s : Session) → IsWithin s → 0 < opens_left s → opens_left (open_with bytes s).next + 1 ≡ opens_left s }
 {}

@@ -221,6 +221,16 @@ impl State {
         matches!(self.stream(id), Err(CallFault::Reset))
     }
 
+    /// Gives memory of a stream back that it doesn't need.
+    pub(crate) fn shrink(&mut self, id: u32) -> Result<bool, CallFault>
+        ensures same { self.new ≡ self.old }
+        ensures may { IfOk result (λ shrunk. stream_fault id self.old ≡ None) }
+        ensures refused { IfErr result (λ fault. stream_fault id self.old ≡ Some fault) }
+    {
+        self.stream(id)?;
+        Ok(self.table.shrink(id))
+    }
+
     /// Whether the caller has the stream: it was opened or accepted, and not forgotten.
     pub(crate) fn has_stream(&self, id: u32) -> bool
         ensures { result ≡ has_stream id self.now }
