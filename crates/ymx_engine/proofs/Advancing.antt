@@ -9,7 +9,7 @@ use Rattle.std.proofs.Math.Seq.{take-append_seam}
 use Rattle.std.proofs.lemmas.List.{length-take-le, length-drop, drop-append-le}
 use Rattle.std.proofs.lemmas.List.Folds.{list_all-append}
 use Rattle.ymx_machine.specs.declared.types.Call.TheVariants as call
-use Rattle.ymx_machine.specs.shared.Events.{Reply, Call}
+use Rattle.ymx_machine.specs.shared.Events.{Reply}
 use Rattle.ymx_model.specs.session.Events.{Event}
 use Rattle.ymx_model.specs.declared.types.Event.TheVariants as event
 use Rattle.ymx_model.specs.session.Sessions.{Session}
@@ -17,13 +17,13 @@ use Rattle.ymx_model.specs.session.Emissions.{in_turn}
 use Rattle.ymx_model.specs.session.Histories.{Gives}
 use Rattle.ymx_engine.specs.declared.ways.Ways.{Ways}
 use Rattle.ymx_engine.specs.declared.device.Pushed.TheVariants as pushed
-use Rattle.ymx_engine.specs.Devices.{Seen, Marks, may_take_more, IsPushed, IsShut, pushed_count, is_push_failure}
+use Rattle.ymx_engine.specs.Devices.{Seen, Marks, may_take_more, IsPushed, IsShut}
 use Rattle.ymx_engine.specs.declared.device.Pushed.{Pushed}
-use Rattle.ymx_engine.specs.Events.{Happen, given, has_end, has_reset, has_stop, has_finish, taken}
+use Rattle.ymx_engine.specs.Events.{Happen, given, has_end, has_reset, has_stop}
 use Rattle.ymx_engine.specs.Engines.{Engine}
 use Rattle.ymx_engine.specs.Wires.{fed_at, fed, is_of_read, ends_feed, has_feed_end, FeedsFront, HandlesIn, OffersFront, ReadsWire}
 use Rattle.ymx_engine.specs.Passes.{is_of_pass, PassesOn, OffersOnce, Settles}
-use Rattle.ymx_engine.proofs.Exchanging.{happen_then, given_then, end_then, reset_then, stop_then, or_same, or_none, or_true, same_id, none_pushed, some_bytes, take_both, still}
+use Rattle.ymx_engine.proofs.Exchanging.{happen_then, given_then, end_then, reset_then, stop_then, or_same, or_none, or_true, same_id, none_pushed, some_bytes, take_both}
 use Rattle.ymx_engine.proofs.Following.{ways_then, ways_fed, ways_passed, ways_reset, breaks}
 use Rattle.ymx_engine.specs.Ways.{ways_after, break_if, may_push, is_open}
 use Rattle.ymx_engine.proofs.Quiet.{both, or_neither, quiet}

@@ -19,7 +19,7 @@ use Rattle.ymx_machine.specs.declared.types.Call.TheVariants as call
 use Rattle.ymx_model.specs.session.Histories.{CallGives}
 use Rattle.ymx_model.specs.session.Histories.CallGives.{Outcome as HasOutcome, NoMemory}
 use Rattle.ymx_session.specs.Replies.{is_out_of_memory}
-use Rattle.ymx_engine.specs.Events.{is_memory_refusal}
+use Rattle.ymx_engine.specs.Events.{is_memory_refusal, is_stop}
 use Rattle.std.proofs.lemmas.Bool.Decides.{nat_tests}
 
 moved_none : (a b c d : Bool) → bytes_moved (if a then Refused Reset else if b then Refused NoStream else if c then Refused Finished else if d then Refused Lost else WroteReply (Took 0)) ≡ 0
@@ -102,3 +102,23 @@ over_lost ClosedStatus h k = cc
 -- in a session that is over no stream says 'wait'
 pub over_never_waits : (id : ℕ) (s : Session) → is_running s.status ≡ false → (read_from id 1 s).reply ≡ ReadWait → ⊥
 over_never_waits id s over h = over_at (is_closed s.status) (look id s.table.entries) id s (over_lost s.status over) h
+
+-- ---- what a stream that says 'wait' takes
+
+wait_takes : (reset dead ended lost finished : Bool) (here : List ℕ) →
+    (if reset then Refused Reset else if dead then Refused NoStream else if not (length here == 0) then ReadReply (take 1 here) else if ended then ReadEnd else if lost then Refused Lost else ReadWait) ≡ ReadWait →
+    is_stop (if reset then Refused Reset else if dead then Refused NoStream else if true && finished then Refused Finished else if lost then Refused Lost else WroteReply (Took 0)) ≡ false
+wait_takes true dead ended lost finished here h = cc
+wait_takes false true ended lost finished here h = cc
+wait_takes false false ended lost true here h = refl
+wait_takes false false ended true false here h = absurd (over_end false false ended true here refl h)
+wait_takes false false ended false false here h = refl
+
+wait_at : (closed : Bool) (o : Option End) (id : ℕ) (s : Session) → (if closed then refused Closed s else at_record (read_outcome id 1 s) s o).reply ≡ ReadWait → is_stop (if closed then refused Closed s else at_record (write_outcome id [] s) s o).reply ≡ false
+wait_at true o id s h = cc
+wait_at false None id s h = cc
+wait_at false (Some e) id s h = wait_takes (is_reset e.phase) (not (is_live e.phase)) e.reader.ended (is_lost s.status) e.writer.finished e.reader.unread h
+
+-- a stream that says 'wait' takes bytes, or was finished here
+pub wait_goes : (id : ℕ) (s : Session) → (read_from id 1 s).reply ≡ ReadWait → is_stop (write_to id [] s).reply ≡ false
+wait_goes id s h = wait_at (is_closed s.status) (look id s.table.entries) id s h

@@ -1,23 +1,29 @@
 -- How a tunnel goes on: who is served, and whose turn comes.
 use Rattle.std.proofs.Common.{◌≡◌, ◌⊎◌, inl, inr, ◌++◌, ℕ, List, [], ◌∷◌, Bool, true, false, refl, ap, ◌∙◌, subst}
+use Rattle.std.specs.List.{list_all}
+use Rattle.std.proofs.lemmas.List.Folds.{list_all-append}
+use Rattle.ymx_machine.specs.shared.Events.{Reply}
+use Rattle.ymx_model.specs.session.Events.{Event}
 use Rattle.ymx_engine.specs.Exchanges.{has_bytes}
 use Rattle.ymx_engine.specs.Moves.{Moves}
 use Rattle.ymx_engine.specs.Runs.{Runs}
 use Rattle.ymx_engine.specs.Served.{Serving}
-use Rattle.ymx_engine.specs.Steps.{Keeps, WritesOnce}
+use Rattle.ymx_engine.specs.Passes.{is_of_reading}
+use Rattle.ymx_engine.specs.Steps.{Keeps, ReadsOn, WritesOnce}
 use Rattle.ymx_engine.specs.Tunnels.{Tunnel}
-use Rattle.ymx_engine.specs.Turns.{Lines, Extends, KeepsLines, is_idle}
-use Rattle.ymx_engine.specs.Work.{Attends, FirstTurn, ServesOne, ServesFirst, Reads, Writes, HasRead, HasWritten, WorksOnce, may_have_bytes}
+use Rattle.ymx_engine.specs.Turns.{Extends}
+use Rattle.ymx_engine.specs.Wires.{is_of_flush}
+use Rattle.ymx_engine.specs.Work.{Attends, FirstTurn, ServesOne, ServesFirst, Reads, Writes, HasRead, HasWritten, may_have_bytes}
 use Rattle.ymx_engine.proofs.Queueing.{extends_same, extends_then, extends_idle, keeps_same, keeps_then}
-use Rattle.ymx_engine.proofs.Running.{moves_same, moves_then, moves_then_so}
+use Rattle.ymx_engine.proofs.Running.{moves_same, moves_same_so, moves_then, moves_then_so}
 
 -- ---- one call behind another
 
 first_then : (a b c : Tunnel) → FirstTurn a b → Moves b c → FirstTurn a c
-first_then a b c x m = record { id = x.id; before = x.before; after = x.after; to = x.to; waits = x.waits; turn = x.turn; behind = moves_then x.after b c x.behind m }
+first_then a b c x m = record { id = x.id; gave = x.gave; before = x.before; after = x.after; to = x.to; waits = x.waits; turn = x.turn; behind = moves_then x.after b c x.behind m }
 
 first_behind : (a b c : Tunnel) → Moves a b → Extends a.lines b.lines → FirstTurn b c → FirstTurn a c
-first_behind a b c m e x = record { id = x.id; before = x.before; after = x.after; to = moves_then a b x.before m x.to; waits = extends_then a.lines b.lines x.before.lines e x.waits; turn = x.turn; behind = x.behind }
+first_behind a b c m e x = record { id = x.id; gave = x.gave; before = x.before; after = x.after; to = moves_then a b x.before m x.to; waits = extends_then a.lines b.lines x.before.lines e x.waits; turn = x.turn; behind = x.behind }
 
 pub attends_same : (a : Tunnel) → Attends a a
 attends_same a = record { serves = λ s. s; turns = inl (extends_same a.lines) }
@@ -47,10 +53,10 @@ pub runs_keep : (a b : Tunnel) → Keeps a b → Runs a b
 runs_keep a b x = runs_on a b x.moves x.serves x.lines.queues
 
 -- the first had its turn
-pub runs_turn : (a b : Tunnel) (id : ℕ) → Moves a b → (Serving a → Serving b) → ServesFirst id a b → Runs a b
-runs_turn a b id m serves turn = record {
+pub runs_turn : (a b : Tunnel) (id gave : ℕ) → Moves a b → (Serving a → Serving b) → ServesFirst id gave a b → Runs a b
+runs_turn a b id gave m serves turn = record {
   moves = m;
-  attends = record { serves = serves; turns = inr (record { id = id; before = a; after = b; to = moves_same a; waits = extends_same a.lines; turn = turn; behind = moves_same b }) };
+  attends = record { serves = serves; turns = inr (record { id = id; gave = gave; before = a; after = b; to = moves_same a; waits = extends_same a.lines; turn = turn; behind = moves_same b }) };
 }
 
 pub runs_from : (a b c : Tunnel) → a ≡ b → Runs a c → Runs b c
@@ -58,8 +64,8 @@ runs_from a b c e x = subst (λ (v : Tunnel). Runs v c) e x
 
 -- ---- one that waits
 
-pub serves_first : (a b : Tunnel) (id : ℕ) → ServesFirst id a b → FirstTurn a b
-serves_first a b id turn = record { id = id; before = a; after = b; to = moves_same a; waits = extends_same a.lines; turn = turn; behind = moves_same b }
+pub serves_first : (a b : Tunnel) (id gave : ℕ) → ServesFirst id gave a b → FirstTurn a b
+serves_first a b id gave turn = record { id = id; gave = gave; before = a; after = b; to = moves_same a; waits = extends_same a.lines; turn = turn; behind = moves_same b }
 
 pub one_then : (a b c : Tunnel) → ServesOne a b → Moves b c → ServesOne a c
 one_then a b c x m h = first_then a b c (x h) m
@@ -73,17 +79,34 @@ then_one a b c x y one h = by x.attends.turns
 
 -- ---- the steps of a tunnel
 
+-- events of one kind, one behind another
+pub all_then : (p : Event → Bool) (es fs all : List (Event × Reply)) → all ≡ es ++ fs → list_all (λ e. p e.0) es ≡ true → list_all (λ e. p e.0) fs ≡ true → list_all (λ e. p e.0) all ≡ true
+all_then p es fs all e x y = ap (list_all (λ (k : Event × Reply). p k.0)) e ∙ rw (list_all-append (λ (k : Event × Reply). p k.0) es fs, x, y) refl
+
 pub keeps_none : (a : Tunnel) → Keeps a a
-keeps_none a = record { moves = moves_same a; wire = refl; over = refl; lines = keeps_same a.lines; serves = λ s. s }
+keeps_none a = record { moves = (moves_same_so a).0; own = ap (list_all (λ (e : Event × Reply). is_of_reading e.0)) (moves_same_so a).1; wire = refl; over = refl; lines = keeps_same a.lines; serves = λ s. s }
 
 pub keeps_on : (a b c : Tunnel) → Keeps a b → Keeps b c → Keeps a c
-keeps_on a b c x y = record {
-  moves = moves_then a b c x.moves y.moves;
+keeps_on a b c x y = let both = moves_then_so a b c x.moves y.moves in record {
+  moves = both.0;
+  own = all_then is_of_reading x.moves.events y.moves.events both.0.events both.3 x.own y.own;
   wire = y.wire ∙ x.wire;
   over = y.over ∙ x.over;
   lines = keeps_then a.lines b.lines c.lines x.lines y.lines;
   serves = λ s. y.serves (x.serves s);
 }
+
+-- it read on, and then what waited was fed
+pub reads_on_then : (a b c : Tunnel) → ReadsOn a b → Keeps b c → ReadsOn a c
+reads_on_then a b c x k =
+    let both = moves_then_so a b c x.runs.moves k.moves in
+    record {
+      runs = record { moves = both.0; attends = attends_then a b c x.runs.moves k.moves x.runs.attends (attends_on b c k.serves k.lines.queues) };
+      own = all_then is_of_reading x.runs.moves.events k.moves.events both.0.events both.3 x.own k.own;
+    }
+
+pub reads_on_from : (a b c : Tunnel) → a ≡ b → ReadsOn a c → ReadsOn b c
+reads_on_from a b c e x = subst (λ (v : Tunnel). ReadsOn v c) e x
 
 pub keeps_from : (a b c : Tunnel) → a ≡ b → Keeps a c → Keeps b c
 keeps_from a b c e x = subst (λ (v : Tunnel). Keeps v c) e x
@@ -98,11 +121,12 @@ same_may : (b c : Tunnel) → c.wire ≡ b.wire → c.is_wire_over ≡ b.is_wire
 same_may b c wire over = rw (wire, over) refl
 
 -- what was done behind a read left the wire alone
-pub reads_then : (a b c : Tunnel) → Reads a b → Moves b c → c.wire ≡ b.wire → c.is_wire_over ≡ b.is_wire_over → Reads a c
-reads_then a b c x m wire over =
+pub reads_then : (a b c : Tunnel) → Reads a b → (m : Moves b c) → list_all (λ e. is_of_reading e.0) m.events ≡ true → c.wire ≡ b.wire → c.is_wire_over ≡ b.is_wire_over → Reads a c
+reads_then a b c x m own wire over =
     let both = moves_then_so a b c x.moves m in
     record {
       moves = both.0;
+      own = all_then is_of_reading x.moves.events m.events both.0.events both.3 x.own own;
       asks = λ fed may. by both.1 (x.asks fed may);
     }
   where
@@ -119,6 +143,7 @@ writes_then on a b c x y =
     record {
       writes = record {
         moves = both.0;
+        own = all_then is_of_flush x.writes.moves.events y.writes.moves.events both.0.events both.3 x.writes.own y.writes.own;
         offers = λ may due. inl some;
         all = λ may. y.writes.all goes.1;
         releases = λ may none. y.writes.releases goes.1 none;

@@ -18,7 +18,7 @@ use Rattle.ymx_model.specs.session.Feeds.{Takes, byte_comes, byte_in}
 use Rattle.ymx_model.specs.session.Histories.{Gives, CallGives}
 use Rattle.ymx_model.specs.session.Histories.CallGives.{Outcome as HasOutcome, NoMemory}
 use Rattle.ymx_model.specs.session.Tables.{remove_record}
-use Rattle.ymx_model.specs.session.Sessions.{Session, Incoming, is_closed, is_running, is_spent, on_stream, settle}
+use Rattle.ymx_model.specs.session.Sessions.{Session, Incoming, is_spent, on_stream, settle}
 use Rattle.ymx_model.specs.session.Sessions.Incoming.{Head, Payload}
 use Rattle.ymx_law_session.proofs.nothing_else.Others.{head-others, piece-others, read-others}
 use Rattle.ymx_law_session.proofs.nothing_else.StreamCalls.{read-stays}
@@ -26,8 +26,7 @@ use Rattle.ymx_session.specs.Passing.{Passes, PassesBehind, IsPlainHeader, all_f
 use Rattle.ymx_session.proofs.Passes.{passing-is}
 use Rattle.ymx_engine.proofs.Advancing.{take_all}
 use Rattle.ymx_engine.specs.Served.{GainsNone}
-use Rattle.ymx_engine.proofs.Coming.{came_same}
-use Rattle.ymx_engine.proofs.Forgetting.{fed_goes}
+use Rattle.ymx_engine.proofs.Gaining.{gains_same}
 
 -- a session that runs takes a byte
 takes_in : (no_memory : Bool) (b : ℕ) (s : Session) (i : Incoming) → s.status ≡ Running → s.incoming ≡ i → byte_comes no_memory b s ≡ byte_in no_memory b s i
@@ -126,18 +125,18 @@ differ : (id other : ℕ) → nat_eq id other ≡ false → other ≢ id
 differ id other ne = grind (arith, nat_tests)
 
 pub piece_came : (id other : ℕ) (last : Bool) (s t : Session) → IsPiece id last s t → nat_eq id other ≡ false → GainsNone other s t
-piece_came id other last s t x ne = came_same other s t (λ c. sym (ap is_closed x.status) ∙ c, λ c. sym (ap is_running x.status) ∙ c) (x.others other (differ id other ne))
+piece_came id other last s t x ne = gains_same other s t x.status (x.others other (differ id other ne))
 
 -- and the header behind it
-pub header_came : (id count other : ℕ) (header : List ℕ) (told : Fed) (t u : Session) → t.status ≡ Running → t.incoming ≡ Head [] → IsPlainHeader id count header → told ≡ all_fed header → Gives in_turn t (event.Feed header) (reply.Fed told) u →
+pub header_came : (id count other : ℕ) (header : List ℕ) (told : Fed) (t u : Session) → t.status ≡ Running → u.status ≡ Running → t.incoming ≡ Head [] → IsPlainHeader id count header → told ≡ all_fed header → Gives in_turn t (event.Feed header) (reply.Fed told) u →
     nat_eq id other ≡ false → GainsNone other t u
-header_came id count other header told t u run inc plain all g ne =
+header_came id count other header told t u run runs inc plain all g ne =
     let f : g.0 ≡ all_fed header = sym (one_fed told g.0 g.1) ∙ all in
     let took = ((g.2).took).1 in
     let long : length header ≡ 12 = plain.whole in
     let whole : Takes header t u ((g.2).took).0 = subst (λ (v : List ℕ). Takes v t u ((g.2).took).0) (ap (λ (x : Fed). take x.taken header) f ∙ take_all header) took in
     let own : (header_of header).id ≡ id = ap (λ (h : Header). h.id) plain.spells in
-    came_same other t u (fed_goes header told t u g) (head_by header [] t u ((g.2).took).0 run inc (omega (arith, long)) (omega (arith, long)) whole other (λ e. differ id other ne (e ∙ own)))
+    gains_same other t u (runs ∙ sym run) (head_by header [] t u ((g.2).took).0 run inc (omega (arith, long)) (omega (arith, long)) whole other (λ e. differ id other ne (e ∙ own)))
 
 -- how many a part of a list has
 pub whole_piece : (count missing : ℕ) (waits : List ℕ) → count ≤ length waits → count ≡ missing → (length (take count waits) == missing) ≡ true

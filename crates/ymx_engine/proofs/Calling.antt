@@ -6,8 +6,8 @@ use Rattle.std.specs.Map.{lookup, keys_of}
 use Rattle.std.proofs.lemmas.List.{take_more}
 use Rattle.std.proofs.lemmas.List.Folds.{list_any-append}
 use Rattle.std.proofs.lemmas.Option.{slice_get_within, slice_get-get_or}
-use Rattle.ymx_engine.specs.Turns.{Entry, Lines, Awaits}
-use Rattle.ymx_engine.proofs.Entries.{eq_ids}
+use Rattle.ymx_engine.specs.Turns.{Entry, Lines, Waits, Awaits}
+use Rattle.ymx_engine.proofs.Entries.{eq_ids, same_id}
 
 -- it holds of the first so many of a list
 abbrev pub FirstAll : (ℕ → Type 0) → ℕ → List ℕ → Type 0
@@ -67,6 +67,26 @@ called_more There t u xs n within on own before id among there =
     by true b p q h = on id (before id p there)
     by false true p q h = let same : get_or xs n 0 ≡ id = eq_ids id (get_or xs n 0) q in subst (λ (k : ℕ). Awaits k u) same (own (subst There (sym same) there))
     by false false p q h = let no : ⊥ = cc in absurd no
+
+pub first_or : (a b : Bool) → a ≡ true → (a || b) ≡ true
+first_or true b h = refl
+first_or false b h = let no : false ≡ true = h in absurd cc
+
+pub second_or : (a b : Bool) → b ≡ true → (a || b) ≡ true
+second_or true b h = refl
+second_or false b h = h
+
+-- each that waits now waited before, or was called
+pub called_only : (s t u : Lines) (xs : List ℕ) (n : ℕ) → n < length xs → ((id : ℕ) → Waits id u → Waits id t ⊎ (get_or xs n 0 ≡ id)) → ((id : ℕ) → Waits id t → Waits id s ⊎ (list_any (nat_eq id) (take n xs) ≡ true)) →
+    (id : ℕ) → Waits id u → Waits id s ⊎ (list_any (nat_eq id) (take (n + 1) xs) ≡ true)
+called_only s t u xs n within one before id waits = by (one id waits)
+  where
+    parts : list_any (nat_eq id) (take (n + 1) xs) ≡ (list_any (nat_eq id) (take n xs) || list_any (nat_eq id) (get_or xs n 0 ∷ []))
+    parts = ap (list_any (nat_eq id)) (take_more xs n 0 within) ∙ list_any-append (nat_eq id) (take n xs) (get_or xs n 0 ∷ [])
+
+    by : Waits id t ⊎ (get_or xs n 0 ≡ id) → Waits id s ⊎ (list_any (nat_eq id) (take (n + 1) xs) ≡ true)
+    by (inl w) = elim (before id w) [ inl v ↦ inl v | inr among ↦ inr (parts ∙ first_or _ _ among) ]
+    by (inr is) = inr (parts ∙ second_or _ _ (first_or _ _ (ap (nat_eq id) is ∙ same_id id)))
 
 pub second_true : (a b : Bool) → a ≡ false → (a || b) ≡ true → b ≡ true
 second_true true b e h = let no : true ≡ false = e in absurd cc

@@ -34,16 +34,20 @@ use Rattle.ymx_law_session.proofs.limits.CallsKeep.{with-keeps}
 use Rattle.ymx_law_session.proofs.limits.EmissionsKeep.{some_if, if_some, none_if, ready-keeps, moves-keep}
 use Rattle.ymx_law_session.proofs.limits.HistoriesKeep.{gives-keep}
 use Rattle.ymx_session.specs.Replies.{end_fault}
-use Rattle.ymx_session.specs.Streams.{unread_of, open_credit}
+use Rattle.ymx_session.specs.Streams.{unread_of, open_credit, waiting, room_of}
 use Rattle.ymx_engine.specs.Devices.{Seen}
 use Rattle.ymx_engine.specs.Events.{Happen}
-use Rattle.ymx_engine.specs.Served.{GainsNone}
 use Rattle.ymx_engine.specs.Serves.{is_of_turn, Exchanges}
 use Rattle.ymx_engine.specs.Wires.{is_of_flush}
 
--- no stream gains anything
+-- where bytes of this stream wait, some waited before; and where it takes some, it took some before
+pub record ComesNone (id : ℕ) (s t : Session) : Type 0 where
+  pub bytes : 0 < length (waiting id t) → 0 < length (waiting id s)
+  pub room : 0 < room_of id t → 0 < room_of id s
+
+-- no bytes and no room come
 abbrev pub NoneCame : Session → Session → Type 0
-NoneCame s t = (id : ℕ) → GainsNone id s t
+NoneCame s t = (id : ℕ) → ComesNone id s t
 
 -- one that isn't closed was not, and one that runs did
 abbrev pub Goes : Session → Session → Type 0
@@ -90,21 +94,21 @@ room_at a Lost o p e h w = absurd (room_lost (is_some (end_fault p)) (open_credi
 room_at a (Broken f) o p e h w = absurd (room_lost (is_some (end_fault p)) (open_credit p) w)
 room_at a Closed o p e h w = absurd (omega (arith, w))
 
-pub came_by : (id : ℕ) (s t : Session) → Goes s t → Less (look id s.table.entries) (look id t.table.entries) → GainsNone id s t
+pub came_by : (id : ℕ) (s t : Session) → Goes s t → Less (look id s.table.entries) (look id t.table.entries) → ComesNone id s t
 came_by id s t (open_, runs) (h, r) = record {
   bytes = λ w. came_at (is_closed s.status) (is_closed t.status) (look id s.table.entries) (look id t.table.entries) open_ h w;
   room = λ w. room_at s.status t.status (look id s.table.entries) (look id t.table.entries) runs r w;
 }
 
 -- where the record stays none came
-pub came_same : (id : ℕ) (s t : Session) → Goes s t → look id t.table.entries ≡ look id s.table.entries → GainsNone id s t
+pub came_same : (id : ℕ) (s t : Session) → Goes s t → look id t.table.entries ≡ look id s.table.entries → ComesNone id s t
 came_same id s t e same = came_by id s t e (λ w. subst (λ (o : Option End). 0 < length (had o)) same w, λ w. subst (λ (o : Option End). 0 < credit_had o) same w)
 
-pub gains_then : (id : ℕ) (s t u : Session) → GainsNone id s t → GainsNone id t u → GainsNone id s u
-gains_then id s t u x y = record { bytes = λ w. x.bytes (y.bytes w); room = λ r. x.room (y.room r) }
+pub comes_then : (id : ℕ) (s t u : Session) → ComesNone id s t → ComesNone id t u → ComesNone id s u
+comes_then id s t u x y = record { bytes = λ w. x.bytes (y.bytes w); room = λ r. x.room (y.room r) }
 
 pub came_then : (s t u : Session) → NoneCame s t → NoneCame t u → NoneCame s u
-came_then s t u x y id = gains_then id s t u (x id) (y id)
+came_then s t u x y id = comes_then id s t u (x id) (y id)
 
 pub none_came : (s : Session) → NoneCame s s
 none_came s id = record { bytes = λ w. w; room = λ r. r }
@@ -224,7 +228,7 @@ settles_came (Some id) s distinct = settled_came id s distinct
 moves_came : (n : ℕ) (s : Session) → Distinct s.table.entries → NoneCame s (moves_on n s)
 moves_came n s distinct =
     split (NoneCame s) (nat_lt n (length s.outgoing.bytes)) _ (settles s.outgoing.of (record s { outgoing = nothing_outgoing }))
-    (λ t j. record { bytes = λ w. w; room = λ r. r }) (λ f j. gains_then j s (record s { outgoing = nothing_outgoing }) (settles s.outgoing.of (record s { outgoing = nothing_outgoing })) (record { bytes = λ w. w; room = λ r. r }) (settles_came s.outgoing.of (record s { outgoing = nothing_outgoing }) distinct j))
+    (λ t j. record { bytes = λ w. w; room = λ r. r }) (λ f j. comes_then j s (record s { outgoing = nothing_outgoing }) (settles s.outgoing.of (record s { outgoing = nothing_outgoing })) (record { bytes = λ w. w; room = λ r. r }) (settles_came s.outgoing.of (record s { outgoing = nothing_outgoing }) distinct j))
 
 flows_came : (may : Choice → Session → Bool) (bytes : List ℕ) (s t : Session) → Flows may bytes s t → IsWithin s → NoneCame s t
 flows_came may [] s t e w = subst (NoneCame s) (sym e) (none_came s)
@@ -319,9 +323,6 @@ flush_is_calm = happen_calm is_of_flush flush_calm
 
 pub exchanges_calm : (id : ℕ) (s t : Session) (out out_new : List ℕ) (before after : Seen) → Exchanges id s t out out_new before after → IsWithin s → IsCalm s t
 exchanges_calm id s t out out_new before after x = turn_is_calm id x.events s t x.happen x.own
-
-pub read_gives : (id max : ℕ) (told : Reply) (s t : Session) → Gives in_turn s (event.Call (call.Read id max)) told t → NoneCame s t
-read_gives id max told s t g = called_came (call.Read id max) s t told (read_came id max s) g
 
 pub reset_gives : (id : ℕ) (told : Reply) (s t : Session) → Gives in_turn s (event.Call (call.Reset id)) told t → NoneCame s t
 reset_gives id told s t g = called_came (call.Reset id) s t told (reset_came id s) g

@@ -1,6 +1,6 @@
 -- How connections come to a tunnel and leave it, and what events and signs of life change in it.
 use Rattle.std.proofs.Common.{◌≡◌, inl, inr, ℕ, ◌<◌, List, [], ◌∷◌, length, Bool, true, false, not, ◌||◌, ◌&&◌, if◌then◌else◌, Result, Ok, Err, Option, None, Some, refl, sym, ap, ◌∙◌, subst, cond, arith}
-use Rattle.std.specs.Prelude.{is_some, IfErr, IfNone, OnOk, IsSome, nat_eq, option_map}
+use Rattle.std.specs.Prelude.{◌⊎◌, is_some, IfOk, IfErr, IfNone, OnOk, IsSome, nat_eq, option_map}
 use Rattle.std.specs.Map.{lookup}
 use Rattle.ymx_machine.specs.declared.types.Call.TheVariants as call
 use Rattle.ymx_machine.specs.declared.types.CallFault.{CallFault}
@@ -30,23 +30,24 @@ use Rattle.ymx_engine.specs.declared.joining.NotJoined.{NotJoined}
 use Rattle.ymx_engine.specs.declared.joining.NotJoined.TheVariants as unjoined
 use Rattle.ymx_engine.specs.Devices.{Seen, IsNoted, IsEnded, IsShut}
 use Rattle.ymx_engine.specs.Engines.{Engine, KeepsWire}
-use Rattle.ymx_engine.specs.Joins.{Joins, DropsOut, LeavesOut, IsUnjoined, IsRefused}
+use Rattle.ymx_engine.specs.Joins.{Joins, Told, DropsOut, LeavesOut, IsUnjoined, Coming, IsOpened, IsAccepted, IsJoined, Rejects, Unregisters, ComesTwice, JoinsNone, IsNotOpened, IsNotAccepted}
 use Rattle.ymx_engine.specs.Lives.{Life}
 use Rattle.ymx_engine.specs.Moves.{Moves}
 use Rattle.ymx_engine.specs.Refusals.{GivesUp, IsForgotten, OffersNone, OpensNone}
 use Rattle.ymx_engine.specs.Runs.{Runs, Stays}
 use Rattle.ymx_engine.specs.Served.{Serving, GainsNone}
 use Rattle.ymx_engine.specs.Tunnels.{Tunnel}
+use Rattle.ymx_engine.specs.Ways.{new_ways}
 use Rattle.ymx_engine.specs.Turns.{Line, Entry, Lines, line_of, look, Awaits, Puts, SameLines, SameQueues, Extends, KeepsLines, Notes}
 use Rattle.ymx_engine.proofs.Attending.{runs_on}
 use Rattle.ymx_engine.proofs.Carrying.{gives_from, loses_in}
-use Rattle.ymx_engine.proofs.Coming.{gains_then}
+use Rattle.ymx_engine.proofs.Gaining.{gains_then}
 use Rattle.ymx_engine.proofs.Entries.{eq_ids}
 use Rattle.ymx_engine.proofs.Listing.{LeavesWire}
 use Rattle.ymx_engine.proofs.Quiet.{IsQuiet}
-use Rattle.ymx_engine.proofs.Queueing.{extends_same, extends_then, extends_added, extends_queues, keeps_same}
+use Rattle.ymx_engine.proofs.Queueing.{extends_same, extends_then, extends_added, extends_queues, keeps_same, puts_behind_same}
 use Rattle.ymx_engine.proofs.Running.{SameSeen, puts_look, moves_idle, moves_called, moves_opened, moves_accepted, moves_not_opened, moves_not_accepted, moves_forgot, moves_noted, moves_wire_noted, moves_ended, moves_shut, moves_pinged}
-use Rattle.ymx_engine.proofs.Tending.{Calms, CalmsBut, calms_same, serving_kept, serving_session, serving_lines, serving_all, served_none, serving_but, but_of, serving_joined, serving_dropped, serving_gone, serving_noted, opened_calm, accepted_calm, forgotten_calm, pinged_calm, ponged_calm, ends_within}
+use Rattle.ymx_engine.proofs.Tending.{Calms, CalmsBut, calms_same, serving_kept, serving_session, serving_lines, serving_all, served_none, serving_but, but_of, serving_joined, serving_dropped, serving_gone, serving_noted, opened_calm, opened_fresh, accepted_calm, accepted_fresh, forgotten_calm, IsMute, pinged_calm, ponged_calm, ends_within}
 use Rattle.ymx_engine.proofs.Trading.{life_quiet}
 
 -- ---- where the connections stay
@@ -199,11 +200,11 @@ no_room : (gone lost : Bool) (n : ℕ) → gone ≡ true → (if gone || lost th
 no_room true lost n e = refl
 no_room false lost n e = cc
 
-gone_gains : (id : ℕ) (s t : Session) → Gone id t → GainsNone id s t
-gone_gains id s t e =
+gone_gains : (id : ℕ) (s t : Session) → IsMute id s → Gone id t → GainsNone id s t
+gone_gains id s t fresh e =
     let none : waiting id t ≡ [] = none_waiting (is_some (stream_fault id t)) (unread_of (look_up id t.table.entries)) e in
     let full : room_of id t ≡ 0 = no_room (is_some (stream_fault id t)) (is_lost t.status) (open_credit (look_up id t.table.entries)) e in
-    record { bytes = λ some. let no : 0 < 0 = subst (λ (xs : List ℕ). 0 < length xs) none some in absurd (omega arith); room = λ some. let no : 0 < 0 = subst (λ (n : ℕ). 0 < n) full some in absurd (omega arith) }
+    record { bytes = λ some. let no : 0 < 0 = subst (λ (xs : List ℕ). 0 < length xs) none some in absurd (omega arith); room = λ some. let no : 0 < 0 = subst (λ (n : ℕ). 0 < n) full some in absurd (omega arith); silence = λ h. fresh.0; stop = λ h. fresh.1 }
 
 -- ---- a stream comes
 
@@ -214,6 +215,7 @@ pub record Comes (id : ℕ) (a b : Tunnel) : Type 0 where
   pub drops : (c : Tunnel) → DropsOut id b c → Moves a c
   pub leaves : (c : Tunnel) → LeavesOut id b c → Moves a c
   pub calm : IsWithin a.engine.session → CalmsBut id a.engine.session b.engine.session
+  pub fresh : IsWithin a.engine.session → IsMute id a.engine.session
   pub lines : KeepsLines a.lines b.lines
 
 same_seen : (a b : Tunnel) → KeepsLines a.lines b.lines → SameSeen a b
@@ -235,6 +237,7 @@ comes_opened a b id g keeps wire lines =
       drops = λ c j. moves_not_opened a b c id g keeps wire same j;
       leaves = λ c j. moves_left a b c id (event.Call call.Open, reply.Opened id) g keeps wire same j ((refl, λ w. (tt, (tt, tt))), refl, refl, refl) (λ other. (refl, refl, refl, refl, refl, refl));
       calm = opened_calm id a.engine.session b.engine.session g;
+      fresh = opened_fresh id a.engine.session b.engine.session g;
       lines = lines;
     }
 
@@ -246,6 +249,7 @@ comes_accepted a b id g keeps wire lines =
       drops = λ c j. moves_not_accepted a b c id g keeps wire same j;
       leaves = λ c j. moves_left a b c id (event.Call call.Accept, reply.Accepted (Some id)) g keeps wire same j ((refl, λ w. (tt, (tt, tt))), refl, refl, refl) (λ other. (refl, refl, refl, refl, refl, refl));
       calm = accepted_calm id a.engine.session b.engine.session g;
+      fresh = accepted_fresh id a.engine.session b.engine.session g;
       lines = lines;
     }
 
@@ -262,8 +266,8 @@ pub runs_dropped : (id : ℕ) (a b c : Tunnel) → Comes id a b → DropsOut id 
 runs_dropped id a b c x j = runs_on a c (x.drops c j) (λ h. serving_dropped id b c j (serving_but id a b x.calm x.lines h)) (extends_on a.lines b.lines c.lines x.lines j.lines)
 
 -- no other stream gained anything, and this one has nothing
-calm_left : (id : ℕ) (s t u : Session) → CalmsBut id s t → IsForgotten id t u → Calms s u
-calm_left id s t u x left =
+calm_left : (id : ℕ) (s t u : Session) → CalmsBut id s t → IsMute id s → IsForgotten id t u → Calms s u
+calm_left id s t u x fresh left =
     let y = forgotten_calm id left.told t u left.forgotten x.within in
     record { within = y.within; came = λ other. by other y.came (nat_eq id other) refl; runs = λ h. x.runs (y.runs h) }
   where
@@ -272,12 +276,12 @@ calm_left id s t u x left =
 
     by : (other : ℕ) → ((o : ℕ) → nat_eq id o ≡ false → GainsNone o t u) → (test : Bool) → nat_eq id other ≡ test → GainsNone other s u
     by other came false e = gains_then other s t u (x.came other e) (came other e)
-    by other came true e = subst (λ (n : ℕ). GainsNone n s u) (sym (eq_ids id other e)) (gone_gains id s u (subst (Gone id) (sym k.1) (forget_gone id t x.within.table.distinct)))
+    by other came true e = subst (λ (n : ℕ). GainsNone n s u) (sym (eq_ids id other e)) (gone_gains id s u fresh (subst (Gone id) (sym k.1) (forget_gone id t x.within.table.distinct)))
 
 -- it was forgotten while another device had its id
 pub runs_left : (id : ℕ) (a b c : Tunnel) → Comes id a b → LeavesOut id b c → Runs a c
 runs_left id a b c x j =
-    runs_on a c (x.leaves c j) (serving_kept a c (λ w. calm_left id a.engine.session b.engine.session c.engine.session (x.calm w) j.left) (subst (KeepsLines a.lines) (sym j.lines) x.lines)) (extends_on a.lines b.lines c.lines x.lines j.lines)
+    runs_on a c (x.leaves c j) (serving_kept a c (λ w. calm_left id a.engine.session b.engine.session c.engine.session (x.calm w) (x.fresh w) j.left) (subst (KeepsLines a.lines) (sym j.lines) x.lines)) (extends_on a.lines b.lines c.lines x.lines j.lines)
 
 -- a device joined it, or none did
 pub runs_come : (r : Result ℕ NotJoined) (id : ℕ) (d : Seen) (a b c : Tunnel) (told told_new : Option (List (ℕ × Bool))) → Comes id a b → OnOk r (Joins id d b c) → IfErr r (λ why. IsUnjoined id why b c told told_new) → Runs a c
@@ -340,8 +344,8 @@ lines_kept a b e = subst (KeepsLines a) (sym e) (keeps_same a)
 pub drops_out : (id : ℕ) (a b : Tunnel) → line_of id a.lines ≡ None → GivesUp id a.engine.session b.engine.session → OnlySession a b → DropsOut id a b
 drops_out id a b free up only = record { free = free; up = up; keeps = only.keeps; wire = only.wire; over = only.over; lines = only.lines }
 
-pub leaves_out : (id : ℕ) (a b : Tunnel) → IsForgotten id a.engine.session b.engine.session → OnlySession a b → LeavesOut id a b
-leaves_out id a b left only = record { left = left; keeps = only.keeps; wire = only.wire; over = only.over; lines = only.lines }
+pub leaves_out : (id : ℕ) (a b : Tunnel) → IsSome (line_of id a.lines) → IsForgotten id a.engine.session b.engine.session → OnlySession a b → LeavesOut id a b
+leaves_out id a b there left only = record { there = there; left = left; keeps = only.keeps; wire = only.wire; over = only.over; lines = only.lines }
 
 -- one was accepted
 pub comes_taken : (a b : Tunnel) (id : ℕ) → Gives in_turn a.engine.session (event.Call call.Accept) (reply.Accepted (Some id)) b.engine.session → OnlySession a b → Comes id a b
@@ -351,25 +355,113 @@ comes_taken a b id g only = comes_accepted a b id g only.keeps only.wire (lines_
 pub runs_offers_none : (a b : Tunnel) → OffersNone a.engine.session b.engine.session → OnlySession a b → Runs a b
 runs_offers_none a b none only = runs_still a b none.0 only.keeps only.wire (lines_kept a.lines b.lines only.lines)
 
--- the session refused to open a stream
-pub opens_none : (fault : CallFault) (a b c : Tunnel) (told : Option (List (ℕ × Bool))) → a ≡ b → Gives in_turn a.engine.session (event.Call call.Open) (reply.Refused fault) c.engine.session → c.engine.session ≡ a.engine.session →
-    SameLines a.lines c.lines → c.wire ≡ a.wire → IsRefused (unjoined.BySession fault) b c told told
-opens_none fault a b c told same g still lines wire =
-    subst (λ (t : Tunnel). IsRefused (unjoined.BySession fault) t c told told) same (record {
-      lines = lines;
-      wire = wire;
-      asked = refl;
-      session = λ other is. subst (λ (f : CallFault). OpensNone f a.engine.session c.engine.session) (one_fault fault other is) (still, inl g);
-    })
+-- ---- what a caller is told where a stream was to come
+
+-- the session gave no stream, or there was no memory to keep one
+pub not_opened_by : (fault : CallFault) (a b c : Tunnel) (told : Option (List (ℕ × Bool))) → a ≡ b → OpensNone fault a.engine.session c.engine.session → KeepsWire a.engine c.engine → c.wire ≡ a.wire → c.is_wire_over ≡ a.is_wire_over →
+    SameLines a.lines c.lines → IsNotOpened (unjoined.BySession fault) b c told told
+not_opened_by fault a b c told same none keeps wire over lines =
+    subst (λ (t : Tunnel). IsNotOpened (unjoined.BySession fault) t c told told) same (record { lines = lines; keeps = keeps; wire = wire; over = over; happened = (none, refl) })
+
+-- a stream came, and nothing changed but that
+pub record Came (comes : Coming) (id : ℕ) (a b : Tunnel) : Type 0 where
+  pub came : comes id a.engine.session b.engine.session
+  pub keeps : KeepsWire a.engine b.engine
+  pub wire : b.wire ≡ a.wire
+  pub over : b.is_wire_over ≡ a.is_wire_over
+  pub lines : SameLines a.lines b.lines
+
+pub came_taken : (a b : Tunnel) (q : Lines) (id : ℕ) → IsAccepted id a.engine.session b.engine.session → OnlySession (record a { lines = q }) b → SameLines a.lines q → Came IsAccepted id a b
+came_taken a b q id accepted only same = record { came = accepted; keeps = only.keeps; wire = only.wire; over = only.over; lines = λ other. ap (line_of other) only.lines ∙ same other }
+
+is_joined : (comes : Coming) (id : ℕ) (d : Seen) (a b c : Tunnel) (told told_new : Option (List (ℕ × Bool))) → Came comes id a b → Joins id d b c → Told id true told told_new → IsJoined comes id d a c told told_new
+is_joined comes id d a b c told told_new x j t = record {
+  free = sym (x.lines id) ∙ j.free;
+  came = subst (λ (v : Engine). comes id a.engine.session v.session) (sym j.engine) x.came;
+  keeps = subst (λ (v : Engine). KeepsWire a.engine v) (sym j.engine) x.keeps;
+  wire = j.wire ∙ x.wire;
+  over = j.over ∙ x.over;
+  lines = puts_behind_same id (Some (record { seen = d; ways = new_ways })) a.lines b.lines c.lines x.lines j.lines.lines;
+  waits = j.lines.waits;
+  registered = t;
+}
+
+-- a device joined it
+pub joined_so : (r : Result ℕ NotJoined) (comes : Coming) (id : ℕ) (d : Seen) (before a b c : Tunnel) (told told_new : Option (List (ℕ × Bool))) → before ≡ a → Came comes id before b → IfOk r (λ joined. joined ≡ id) → OnOk r (Joins id d b c) →
+    OnOk r (Told id true told told_new) → IfOk r (λ joined. IsJoined comes joined d a c told told_new)
+joined_so (Ok joined) comes id d before a b c told told_new view x is j t =
+    subst (λ (v : Tunnel). IsJoined comes joined d v c told told_new) view (subst (λ (n : ℕ). IsJoined comes n d before c told told_new) (sym is) (is_joined comes id d before b c told told_new x j t))
+joined_so (Err why) comes id d before a b c told told_new view x is j t = tt
+
+joins_none : (happens : Session → Session → Lines → Type 0) (comes : Coming) (id : ℕ) (a b c : Tunnel) → Came comes id a b → KeepsWire b.engine c.engine → c.wire ≡ b.wire → c.is_wire_over ≡ b.is_wire_over → c.lines ≡ b.lines →
+    happens a.engine.session c.engine.session a.lines → JoinsNone happens a c
+joins_none happens comes id a b c x keeps wire over same h = record {
+  lines = λ other. ap (line_of other) same ∙ x.lines other;
+  keeps = record { outgoing = keeps.outgoing ∙ x.keeps.outgoing; incoming = keeps.incoming ∙ x.keeps.incoming };
+  wire = wire ∙ x.wire;
+  over = over ∙ x.over;
+  happened = h;
+}
+
+-- the registry said no
+unregistered : (comes : Coming) (id : ℕ) (a b c : Tunnel) (told told_new : Option (List (ℕ × Bool))) → Came comes id a b → DropsOut id b c → Told id false told told_new →
+    JoinsNone (λ s t lines. Unregisters comes s t lines told told_new) a c
+unregistered comes id a b c told told_new x j t =
+    joins_none (λ s t lines. Unregisters comes s t lines told told_new) comes id a b c x j.keeps j.wire j.over j.lines (id, b.engine.session, sym (x.lines id) ∙ j.free, x.came, j.up, t)
+
+-- it had a device
+came_twice : (comes : Coming) (id : ℕ) (a b c : Tunnel) (told told_new : Option (List (ℕ × Bool))) → Came comes id a b → LeavesOut id b c → told_new ≡ told →
+    JoinsNone (λ s t lines. ComesTwice comes s t lines told told_new) a c
+came_twice comes id a b c told told_new x j t =
+    joins_none (λ s t lines. ComesTwice comes s t lines told told_new) comes id a b c x j.keeps j.wire j.over j.lines (id, b.engine.session, subst (λ (o : Option Line). IsSome o) (x.lines id) j.there, x.came, j.left, t)
+
+not_opened : (why : NotJoined) (id : ℕ) (a b c : Tunnel) (told told_new : Option (List (ℕ × Bool))) → Came IsOpened id a b → IsUnjoined id why b c told told_new → IsNotOpened why a c told told_new
+not_opened unjoined.Unregistered id a b c told told_new x u = unregistered IsOpened id a b c told told_new x u.0 u.1
+not_opened unjoined.Twice id a b c told told_new x u = came_twice IsOpened id a b c told told_new x u.0 u.1
+not_opened (unjoined.BySession fault) id a b c told told_new x u = absurd u
+not_opened (unjoined.OutOfMemory lacked) id a b c told told_new x u = absurd u
+
+not_accepted : (why : NotJoined) (id : ℕ) (a b c : Tunnel) (told told_new : Option (List (ℕ × Bool))) → Came IsAccepted id a b → IsUnjoined id why b c told told_new → IsNotAccepted why a c told told_new
+not_accepted unjoined.Unregistered id a b c told told_new x u = unregistered IsAccepted id a b c told told_new x u.0 u.1
+not_accepted unjoined.Twice id a b c told told_new x u = came_twice IsAccepted id a b c told told_new x u.0 u.1
+not_accepted (unjoined.BySession fault) id a b c told told_new x u = absurd u
+not_accepted (unjoined.OutOfMemory lacked) id a b c told told_new x u = absurd u
+
+-- no device joined the stream that was opened, or that was accepted
+pub not_opened_so : (r : Result ℕ NotJoined) (id : ℕ) (before a b c : Tunnel) (told told_new : Option (List (ℕ × Bool))) → before ≡ a → Came IsOpened id before b → IfErr r (λ why. IsUnjoined id why b c told told_new) → IfErr r (λ why. IsNotOpened why a c told told_new)
+not_opened_so (Ok joined) id before a b c told told_new view x u = tt
+not_opened_so (Err why) id before a b c told told_new view x u = subst (λ (v : Tunnel). IsNotOpened why v c told told_new) view (not_opened why id before b c told told_new x u)
+
+pub not_accepted_so : (r : Result ℕ NotJoined) (id : ℕ) (before a b c : Tunnel) (told told_new : Option (List (ℕ × Bool))) → before ≡ a → Came IsAccepted id before b → IfErr r (λ why. IsUnjoined id why b c told told_new) → IfErr r (λ why. IsNotAccepted why a c told told_new)
+not_accepted_so (Ok joined) id before a b c told told_new view x u = tt
+not_accepted_so (Err why) id before a b c told told_new view x u = subst (λ (v : Tunnel). IsNotAccepted why v c told told_new) view (not_accepted why id before b c told told_new x u)
+
+-- none was offered
+pub none_accepted : (before a b : Tunnel) (q : Lines) (told : Option (List (ℕ × Bool))) → before ≡ a → OffersNone before.engine.session b.engine.session → OnlySession (record before { lines = q }) b → SameLines before.lines q →
+    OffersNone a.engine.session b.engine.session × SameLines a.lines b.lines × (told ≡ told)
+none_accepted before a b q told view none only same =
+    subst (λ (v : Tunnel). OffersNone v.engine.session b.engine.session × SameLines v.lines b.lines × (told ≡ told)) view (none, (λ other. ap (line_of other) only.lines ∙ same other), refl)
+
+-- there was no memory to keep one
+pub none_kept : (found : Bool) (before a b : Tunnel) (q : Lines) (told : Option (List (ℕ × Bool))) → before ≡ a → SameLines before.lines q → b.lines ≡ q → KeepsWire before.engine b.engine → b.wire ≡ before.wire → b.is_wire_over ≡ before.is_wire_over →
+    (found ≡ false → OffersNone before.engine.session b.engine.session) → (found ≡ true → Rejects before.engine.session b.engine.session) →
+    JoinsNone (λ s t lines. (Rejects s t ⊎ OffersNone s t) × (told ≡ told)) a b
+none_kept found before a b q told view same lines keeps wire over none some =
+    subst (λ (v : Tunnel). JoinsNone (λ s t lines. (Rejects s t ⊎ OffersNone s t) × (told ≡ told)) v b) view (record { lines = λ other. ap (line_of other) lines ∙ same other; keeps = keeps; wire = wire; over = over; happened = (by found none some, refl) })
   where
-    one_fault : (f g : CallFault) → unjoined.BySession f ≡ unjoined.BySession g → f ≡ g
-    one_fault f g e = cc
+    by : (found : Bool) → (found ≡ false → OffersNone before.engine.session b.engine.session) → (found ≡ true → Rejects before.engine.session b.engine.session) → Rejects before.engine.session b.engine.session ⊎ OffersNone before.engine.session b.engine.session
+    by true none some = inl (some refl)
+    by false none some = inr (none refl)
 
 none_there : (o : Option Line) (b : Bool) → b ≡ is_some o → b ≡ false → o ≡ None
 none_there None b e f = refl
 none_there (Some l) b e f = let no : true ≡ false = sym e ∙ f in absurd cc
 
--- a stream that has no device
+-- a stream that has a device
+pub is_there : (id : ℕ) (a b : Tunnel) (found : Bool) → a ≡ b → found ≡ is_some (line_of id a.lines) → found ≡ true → IsSome (line_of id b.lines)
+is_there id a b found same e some = subst (λ (t : Tunnel). IsSome (line_of id t.lines)) same (sym e ∙ some)
+
+-- one that has none
 pub is_free : (id : ℕ) (a b : Tunnel) (found : Bool) → a ≡ b → found ≡ is_some (line_of id a.lines) → found ≡ false → line_of id b.lines ≡ None
 is_free id a b found same e none = subst (λ (t : Tunnel). line_of id t.lines ≡ None) same (none_there (line_of id a.lines) found e none)
 

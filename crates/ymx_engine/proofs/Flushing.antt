@@ -25,11 +25,12 @@ use Rattle.ymx_engine.specs.Steps.{WritesOnce}
 use Rattle.ymx_engine.specs.Tunnels.{Tunnel}
 use Rattle.ymx_engine.specs.Turns.{Line, KeepsLines}
 use Rattle.ymx_engine.specs.Wires.{is_of_flush, has_feed_end, FlushesWire, HandlesOut, GivesOut}
-use Rattle.ymx_engine.proofs.Attending.{writes_then}
+use Rattle.ymx_engine.proofs.Attending.{all_then, writes_then}
 use Rattle.ymx_engine.proofs.Carrying.{flushes_handled, handles_out_none, loses_out, pushed_heard_so}
 use Rattle.ymx_engine.proofs.Coming.{flush_is_calm}
+use Rattle.ymx_engine.proofs.Gaining.{emissions_gain}
 use Rattle.ymx_engine.proofs.Queueing.{keeps_same, keeps_then}
-use Rattle.ymx_engine.proofs.Running.{SameSeen, moves_same, moves_then_so, moves_flushed, moves_flushed_so}
+use Rattle.ymx_engine.proofs.Running.{SameSeen, moves_same_so, moves_then_so, moves_flushed_so}
 use Rattle.ymx_engine.proofs.Steady.{is_steady, steady_all}
 use Rattle.ymx_engine.proofs.Tending.{Calms, serving_kept, serving_lines}
 
@@ -88,7 +89,7 @@ same_runs s t e h = sym (ap is_running e) ∙ h
 puts_calm : (s t : Session) (out out_new : List ℕ) → PutsDue s t out out_new → IsWithin s → Calms s t
 puts_calm s t out out_new x w =
     let calm = flush_is_calm x.events s t x.happen (emissions_flush x.events x.own) w in
-    record { within = calm.within; came = calm.came; runs = same_runs s t (steady_all is_emission emission_steady x.events s t x.happen x.own) }
+    record { within = calm.within; came = emissions_gain x.events s t x.happen (emissions_flush x.events x.own) x.own w; runs = same_runs s t (steady_all is_emission emission_steady x.events s t x.happen x.own) }
 
 -- ---- one call of the wire
 
@@ -148,6 +149,7 @@ pushes_once r on a b c d gave still heard waits wire keeps serves engine beside 
     record {
       writes = record {
         moves = moved.0;
+        own = ap (list_all (λ (e : Event × Reply). is_of_flush e.0)) moved.2 ∙ flushed.0.own;
         offers = λ m due. by moved.0.sent sent (pushed_some r a.engine.outgoing a.wire d.wire g.pushed some);
         all = λ m. rest left (pushed_all r a.engine.outgoing a.wire d.wire g.pushed);
         releases = λ m none. free none;
@@ -192,7 +194,7 @@ hears_lost r a b is heard keeps = subst (λ (v : Bool). HandlesOut v a b) (sym (
 -- the wire may take no bytes
 writes_off : (a : Tunnel) → a.wire.marks.may_push ≡ false → WritesOnce false a a
 writes_off a off = record {
-  writes = record { moves = moves_same a; offers = λ on due. absurd (no on); all = λ on. absurd (no on); releases = λ on none. absurd (no on) };
+  writes = record { moves = (moves_same_so a).0; own = ap (list_all (λ (e : Event × Reply). is_of_flush e.0)) (moves_same_so a).1; offers = λ on due. absurd (no on); all = λ on. absurd (no on); releases = λ on none. absurd (no on) };
   going = λ (h : false ≡ true). absurd cc;
   lines = keeps_same a.lines;
   serves = λ s. s;
@@ -213,9 +215,12 @@ pub not_empty : (xs ys : List ℕ) (b : Bool) → b ≡ (length xs == 0) → xs 
 not_empty xs ys b e s h = let n = ap (λ (v : List ℕ). length v) s in grind (arith, nat_tests)
 
 -- what was due waits for the wire, and the connections stay, but for those that are let go of
-puts_moves : (a b : Tunnel) → PutsDue a.engine.session b.engine.session a.engine.outgoing b.engine.outgoing → b.engine.incoming ≡ a.engine.incoming → b.wire ≡ a.wire → KeepsLines a.lines b.lines → Moves a b
+puts_moves : (a b : Tunnel) → PutsDue a.engine.session b.engine.session a.engine.outgoing b.engine.outgoing → b.engine.incoming ≡ a.engine.incoming → b.wire ≡ a.wire → KeepsLines a.lines b.lines →
+    (m : Moves a b) × (list_all (λ e. is_of_flush e.0) m.events ≡ true)
 puts_moves a b x incoming wire keeps =
-    moves_flushed a b 0 (subst (λ (w : Seen). FlushesWire a.engine b.engine a.wire w 0) (sym wire) (flushes_handled a.engine b.engine a.wire 0 (puts_handled a.engine b.engine x incoming))) (seen_lines a b keeps)
+    let flushes : FlushesWire a.engine b.engine a.wire b.wire 0 = subst (λ (w : Seen). FlushesWire a.engine b.engine a.wire w 0) (sym wire) (flushes_handled a.engine b.engine a.wire 0 (puts_handled a.engine b.engine x incoming)) in
+    let moved = moves_flushed_so a b 0 flushes (seen_lines a b keeps) in
+    (moved.0, ap (list_all (λ (e : Event × Reply). is_of_flush e.0)) moved.2 ∙ flushes.own)
 
 puts_serves : (a b : Tunnel) → PutsDue a.engine.session b.engine.session a.engine.outgoing b.engine.outgoing → KeepsLines a.lines b.lines → Serving a → Serving b
 puts_serves a b x keeps = serving_kept a b (puts_calm a.engine.session b.engine.session a.engine.outgoing b.engine.outgoing x) keeps
@@ -230,7 +235,8 @@ pub writes_none : (a b : Tunnel) → PutsDue a.engine.session b.engine.session a
     b.engine.outgoing ≡ [] → b.engine.incoming ≡ a.engine.incoming → b.wire ≡ a.wire → KeepsLines a.lines b.lines → b.lines.held ≡ [] → WritesOnce false a b
 writes_none a b x due more none incoming wire keeps free = record {
   writes = record {
-    moves = puts_moves a b x incoming wire keeps;
+    moves = (puts_moves a b x incoming wire keeps).0;
+    own = (puts_moves a b x incoming wire keeps).1;
     offers = λ on h. absurd (nothing_due a.engine.outgoing b.engine.outgoing (is_ready a.engine.session) due more none h);
     all = λ on. inl none;
     releases = λ on out. free;
@@ -256,17 +262,19 @@ some_waits (x ∷ xs) some ready = refl
 pub writes_put : (on : Bool) (a b c : Tunnel) → PutsDue a.engine.session b.engine.session a.engine.outgoing b.engine.outgoing → b.engine.incoming ≡ a.engine.incoming → b.wire ≡ a.wire → b.lines ≡ a.lines → 0 < length b.engine.outgoing → WritesOnce on b c → WritesOnce on a c
 writes_put on a b c x incoming wire still some y =
     let keeps : KeepsLines a.lines b.lines = subst (KeepsLines a.lines) (sym still) (keeps_same a.lines) in
-    let both = moves_then_so a b c (puts_moves a b x incoming wire keeps) y.writes.moves in
+    let put = puts_moves a b x incoming wire keeps in
+    let both = moves_then_so a b c put.0 y.writes.moves in
     let may : a.wire.marks.may_push ≡ true → b.wire.marks.may_push ≡ true = λ h. ap (λ (w : Seen). w.marks.may_push) wire ∙ h in
     let back : b.wire.marks.may_push ≡ true → a.wire.marks.may_push ≡ true = λ h. sym (ap (λ (w : Seen). w.marks.may_push) wire) ∙ h in
     record {
       writes = record {
         moves = both.0;
-        offers = λ on due. by (puts_moves a b x incoming wire keeps).sent both.0.sent both.2 (y.writes.offers (may on) (some_waits b.engine.outgoing some (is_ready b.engine.session)));
+        own = all_then is_of_flush put.0.events y.writes.moves.events both.0.events both.3 put.1 y.writes.own;
+        offers = λ on due. by put.0.sent both.0.sent both.2 (y.writes.offers (may on) (some_waits b.engine.outgoing some (is_ready b.engine.session)));
         all = λ on. y.writes.all (may on);
         releases = λ on none. y.writes.releases (may on) none;
       };
-      going = λ h. let goes = y.going h in (back goes.0, goes.1, ap has_bytes both.2 ∙ some_behind (puts_moves a b x incoming wire keeps).sent y.writes.moves.sent goes.2);
+      going = λ h. let goes = y.going h in (back goes.0, goes.1, ap has_bytes both.2 ∙ some_behind put.0.sent y.writes.moves.sent goes.2);
       lines = keeps_then a.lines b.lines c.lines keeps y.lines;
       serves = λ s. y.serves (puts_serves a b x keeps s);
       pull = y.pull ∙ ap (λ (w : Seen). w.marks.may_pull) wire;

@@ -8,6 +8,9 @@ pub mod Serving
 pub mod Parts
 pub mod Blocks
 pub mod Coming
+pub mod Ending
+pub mod Gaining
+pub mod Hearing
 pub mod Asking
 pub mod Steady
 pub mod Entries

@@ -7,7 +7,7 @@ use Rattle.ymx_model.specs.session.Events.{Event}
 use Rattle.ymx_model.specs.declared.types.Event.TheVariants as event
 use Rattle.ymx_engine.specs.Events.{is_on, taken_at, taken, given_at, given, ends_at, has_end, finishes_at, has_finish, resets_at, has_reset, stops_at, has_stop, opens_with, has_open_with}
 use Rattle.ymx_engine.specs.Wires.{emitted_at, emitted, fed_at, fed, is_of_read, is_of_flush, has_feed_end, OffersFront, FeedsFront}
-use Rattle.ymx_engine.specs.Passes.{is_of_pass}
+use Rattle.ymx_engine.specs.Passes.{is_of_pass, is_of_reading}
 use Rattle.ymx_engine.specs.Serves.{is_of_turn}
 use Rattle.ymx_engine.proofs.Quiet.{both, or_neither, IsQuiet}
 
@@ -144,6 +144,31 @@ pass_emits_at id (event.Emit room) told es h x = let no : ⊥ = cc in absurd no
 pub pass_emits : (id : ℕ) (es : List (Event × Reply)) → list_all (λ e. is_of_pass id e.0) es ≡ true → PassEmits es
 pass_emits id [] h = (refl, refl, refl)
 pass_emits id (e ∷ es) h = let two = both (is_of_pass id e.0) (list_all (λ e. is_of_pass id e.0) es) h in pass_emits_at id e.0 e.1 es two.0 (pass_emits id es two.1)
+
+-- ---- events of reading
+
+-- events of one kind are of another that has each of them
+of_kind : (p q : Event → Bool) → ((e : Event) → p e ≡ true → q e ≡ true) → (es : List (Event × Reply)) → list_all (λ e. p e.0) es ≡ true → list_all (λ e. q e.0) es ≡ true
+of_kind p q on [] h = refl
+of_kind p q on (e ∷ es) h = let two = both (p e.0) (list_all (λ k. p k.0) es) h in rw (on e.0 two.0) (of_kind p q on es two.1)
+
+read_reading : (e : Event) → is_of_read e ≡ true → is_of_reading e ≡ true
+read_reading (event.Call c) h = let no : ⊥ = cc in absurd no
+read_reading (event.Feed bytes) h = refl
+read_reading event.FeedEnd h = refl
+read_reading (event.Emit room) h = let no : ⊥ = cc in absurd no
+
+pass_reading : (id : ℕ) (e : Event) → is_of_pass id e ≡ true → is_of_reading e ≡ true
+pass_reading id (event.Call (call.Read other room)) h = refl
+pass_reading id (event.Call (call.Reset other)) h = refl
+pass_reading id (event.Feed bytes) h = refl
+pass_reading id e h = let no : ⊥ = cc in absurd no
+
+pub reads_reading : (es : List (Event × Reply)) → list_all (λ e. is_of_read e.0) es ≡ true → list_all (λ e. is_of_reading e.0) es ≡ true
+reads_reading es h = of_kind is_of_read is_of_reading read_reading es h
+
+pub passes_reading : (id : ℕ) (es : List (Event × Reply)) → list_all (λ e. is_of_pass id e.0) es ≡ true → list_all (λ e. is_of_reading e.0) es ≡ true
+passes_reading id es h = of_kind (is_of_pass id) is_of_reading (pass_reading id) es h
 
 -- nothing is written or finished
 abbrev pub TakesNone : ℕ → List (Event × Reply) → Type 0

@@ -27,14 +27,16 @@ use Rattle.ymx_engine.specs.Devices.{Seen, Marks, may_have_more, may_take_more, 
 use Rattle.ymx_engine.specs.Events.{is_on, took_count, taken_at, taken, bytes_of, given_at, given, is_read_end, ends_at, has_end, finishes_at, has_finish, resets_at, has_reset, is_refusal, is_stop, stops_at, has_stop, is_memory_refusal, lacks_memory_at, lacks_memory}
 use Rattle.ymx_engine.specs.Exchanges.{has_bytes}
 use Rattle.ymx_engine.specs.Lives.{all_of}
-use Rattle.ymx_engine.specs.Serves.{is_of_turn, is_emission, Exchanges, Turn, Part, Delivers, Sends, PutsDue}
+use Rattle.ymx_engine.specs.Serves.{is_of_turn, is_emission, is_silent, is_stopped, Exchanges, Turn, Part, Delivers, Sends, PutsDue}
 use Rattle.ymx_engine.specs.Ways.{is_open, break_if, broken_off, ways_at, ways_after, may_push, may_pull}
 use Rattle.ymx_engine.specs.Wires.{emitted}
 use Rattle.ymx_engine.proofs.Quiet.{both, quiet}
 use Rattle.ymx_engine.proofs.Asking.{empty_never_lacks}
 use Rattle.ymx_engine.proofs.Coming.{IsCalm, turn_is_calm}
 use Rattle.ymx_engine.proofs.Exchanging.{happen_then, taken_then, given_then, end_then, finish_then, reset_then, stop_then, lacks_then, or_second, or_none, or_same, same_id, or_off, or_on, refused_goes, same_consumes, same_appends, at_end, still, none_pulled, none_pushed, take_both, end_granted, some_bytes}
+use Rattle.ymx_engine.proofs.Hearing.{never}
 use Rattle.ymx_engine.proofs.Serving.{puts_then}
+use Rattle.ymx_engine.proofs.Steady.{steady_all, turn_steady}
 use Rattle.ymx_engine.proofs.Trading.{trades_quiet, trades_then, all_then}
 use Rattle.ymx_engine.proofs.WaysAfter.{ways_then, to_peer_was, from_peer_was, stop_breaks_to, stop_breaks_from, ways_same, ways_kept, ways_broken, ways_finished, ways_ended, ways_lacked}
 
@@ -606,6 +608,24 @@ tells_from {s} {t} {a} {b} {w} {x} id y same e f h off there on =
 
 -- ---- a turn
 
+-- What the writes and the reads of a turn tell of the stream's end: one that may take bytes still heard it, unless more may be
+-- written; and no read of the device ends it.
+pub record TellsEnd (id : ℕ) (s t u : Session) (b : Seen) (x z : Ways) (pushes : Bool) : Type 0 where
+  pub heard : may_push x b.marks ≡ true → is_silent id s ≡ true → pushes ≡ true
+  pub ends : is_open z.from_peer ≡ true → is_silent id u ≡ true → is_silent id t ≡ true
+
+-- What they tell where the stream takes no bytes any more: behind the writes it takes some where the device may take some; else
+-- this was asked; and no read of the device stops it.
+pub record TellsStop (id : ℕ) (s t u : Session) (b c d : Seen) (x y z : Ways) : Type 0 where
+  pub takes : may_push x b.marks ≡ true → is_running s.status ≡ true → is_stopped id s ≡ false
+  pub told : may_push x b.marks ≡ false → b.marks.is_connecting ≡ false → is_open y.to_peer ≡ true → is_stopped id s ≡ false
+  pub connects : d.marks.is_connecting ≡ b.marks.is_connecting
+  pub stops : is_open z.to_peer ≡ true → is_stopped id u ≡ true → is_stopped id t ≡ true
+
+-- the session runs on
+part_status : {id : ℕ} {s t : Session} {out new : List ℕ} {a b : Seen} {w x : Ways} {m g : ℕ} → Part id s t out new a b w x m g → t.status ≡ s.status
+part_status {id} {s} {t} {out} {new} {a} {b} {w} {x} {m} {g} p = steady_all (is_of_turn id) (turn_steady id) p.moved.events s t p.moved.happen p.moved.own
+
 -- Writes, then the question whether the stream takes bytes still, then reads. `more` is on where one of these says so, and where
 -- a session that is over was not told.
 pub turn_of : {id g : ℕ} {reads : Bool} {r s t u : Session} {out new : List ℕ} {a b c d : Seen} {w x y z : Ways} → (pushes pulls more : Bool) → (p : Delivers id r s a b w x 8) → (q : Part id s t [] [] b c x y 1 0) → t ≡ s → (v : Part id t u out new c d y z 4 g) →
@@ -613,16 +633,22 @@ pub turn_of : {id g : ℕ} {reads : Bool} {r s t u : Session} {out new : List �
     (reads ≡ true → may_pull y c.marks ≡ true → (0 < g) ⊎ ((may_pull z d.marks ≡ false) ⊎ (room_of id u ≡ 0))) →
     (reads ≡ true → may_pull z d.marks ≡ true → 0 < room_of id u → pulls ≡ true) →
     (pushes ≡ true → may_push z d.marks ≡ true → more ≡ true) → (pulls ≡ true → more ≡ true) → (is_running u.status ≡ false → d.marks.is_connecting ≡ false → is_open z.to_peer ≡ true → more ≡ true) →
+    (reads ≡ false → g ≡ 0) → TellsEnd id s t u b x z pushes → TellsStop id s t u b c d x y z →
+    (more ≡ true → (may_push z d.marks ≡ true) ⊎ ((may_pull z d.marks ≡ true) ⊎ ((is_running u.status ≡ false) × (is_open z.to_peer ≡ true)))) →
     Turn id reads r u out new a d w z more g
 unfolding part_beside
-turn_of {id} {g} {reads} {r} {s} {t} {u} {out} {new} {a} {b} {c} {d} {w} {x} {y} {z} pushes pulls more p q same v stays collects asks_on by-pushes by-pulls hears =
+turn_of {id} {g} {reads} {r} {s} {t} {u} {out} {new} {a} {b} {c} {d} {w} {x} {y} {z} pushes pulls more p q same v stays collects asks_on by-pushes by-pulls hears unread tells stops rests =
     let first = part_beside out (part_then p.part q) in
     let all = part_then first v in
+    let silent : may_push z d.marks ≡ true → is_silent id u ≡ true → pushes ≡ true = λ may h.
+    let on = tells.ends (both d.marks.may_push (is_open z.from_peer) may).1 h in
+    tells.heard (could_push q (could_push v may)) (ap (is_silent id) (sym same) ∙ on) in
     record {
       moved = all.moved;
       few = all.few;
       ways = all.ways;
       gives = let e = all.gives in omega arith;
+      unread = unread;
       delivers = λ may some. elim (p.delivers may some) [
         | inl went ↦ inl (went_first first v (went_first p.part q went))
         | inr off ↦ inr (push_off v (push_off q off))
@@ -637,8 +663,23 @@ turn_of {id} {g} {reads} {r} {s} {t} {u} {out} {new} {a} {b} {c} {d} {w} {x} {y}
           by-pushes (stays (could_push q (could_push v may)) (subst (λ (e : Session). 0 < length (waiting id e)) same ((after.came id).bytes some))) may;
       asks_on = λ on may some. by-pulls (asks_on on may some);
       hears = hears;
+      ends_on = λ may h. by-pushes (silent may h) may;
+      stops_on = λ there open_ h. by-status (is_running u.status) refl there open_ h;
+      rests = rests;
     }
   where
     by : (m : Bool) → may_pull y c.marks ≡ m → (may_pull y c.marks ≡ true → (0 < g) ⊎ ((may_pull z d.marks ≡ false) ⊎ (room_of id u ≡ 0))) → (0 < g) ⊎ ((may_pull z d.marks ≡ false) ⊎ (room_of id u ≡ 0))
     by true e f = f e
     by false e f = inr (inl (pull_off v e))
+
+    -- the stream takes no bytes behind the writes
+    stopped_by : (may : Bool) → may_push x b.marks ≡ may → is_running s.status ≡ true → d.marks.is_connecting ≡ false → is_open z.to_peer ≡ true → is_stopped id t ≡ true → ⊥
+    stopped_by true on runs there open_ h = never (is_stopped id s) (ap (is_stopped id) (sym same) ∙ h) (stops.takes on runs)
+    stopped_by false off runs there open_ h = never (is_stopped id t) h (ap (is_stopped id) same ∙ stops.told off (sym (stops.connects) ∙ there) (was_open_to v open_))
+
+    by-status : (runs : Bool) → is_running u.status ≡ runs → d.marks.is_connecting ≡ false → is_open z.to_peer ≡ true → is_stopped id u ≡ true → more ≡ true
+    by-status false over there open_ h = hears over there open_
+    by-status true runs there open_ h =
+        let was : is_running t.status ≡ true = sym (ap is_running (part_status v)) ∙ runs in
+        let before : is_running s.status ≡ true = ap (λ (e : Session). is_running e.status) (sym same) ∙ was in
+        absurd (stopped_by (may_push x b.marks) refl before there open_ (stops.stops open_ h))

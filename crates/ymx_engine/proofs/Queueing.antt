@@ -1,7 +1,7 @@
 -- How the queues of connections go on, and who waits in them then.
-use Rattle.std.proofs.Common.{◌≡◌, inl, inr, ℕ, List, [], ◌∷◌, ◌++◌, length, Bool, true, false, ◌&&◌, ◌==◌, Option, Some, refl, sym, ap, ◌∙◌, subst, cond, append-nil, append_assoc, length-append, arith}
+use Rattle.std.proofs.Common.{◌≡◌, ◌⊎◌, inl, inr, ℕ, List, [], ◌∷◌, ◌++◌, length, Bool, true, false, ◌&&◌, ◌==◌, Option, Some, refl, sym, ap, ◌∙◌, subst, cond, append-nil, append_assoc, length-append, arith}
 use Rattle.std.specs.Prelude.{nat_eq, Contains, IsSome}
-use Rattle.std.proofs.lemmas.List.Elements.{Contains-append_left}
+use Rattle.std.proofs.lemmas.List.Elements.{Contains-append_left, Contains-push_cases}
 use Rattle.std.proofs.lemmas.Bool.Decides.{nat_tests}
 use Rattle.ymx_engine.specs.declared.device.Readiness.{Readiness}
 use Rattle.ymx_engine.specs.Devices.{Seen, IsNoted}
@@ -123,6 +123,15 @@ extends_awaits id a b x missed = await_on id a b (extends_waits id a b x) missed
 
 pub awaits_added : (id other : ℕ) (a b : Lines) → AddsTurn id a b → Awaits other a → Awaits other b
 awaits_added id other a b x = extends_awaits other a b (extends_added id a b x) x.missed
+
+-- one that stands in a queue now stood there before, or is this one
+stood : (id other : ℕ) (old new : List ℕ) → StaysOrAdds id old new → Contains new other → Contains old other ⊎ (id ≡ other)
+stood id other old new (inl e) h = inl (subst (λ (v : List ℕ). Contains v other) e h)
+stood id other old new (inr e) h = Contains-push_cases old id other (subst (λ (v : List ℕ). Contains v other) e h)
+
+pub waited : (id other : ℕ) (a b : Lines) → AddsTurn id a b → Waits other b → Waits other a ⊎ (id ≡ other)
+waited id other a b x (inl h) = elim (stood id other a.fresh b.fresh x.fresh h) [ inl w ↦ inl (inl w) | inr e ↦ inr e ]
+waited id other a b x (inr h) = elim (stood id other a.busy b.busy x.busy h) [ inl w ↦ inl (inr w) | inr e ↦ inr e ]
 
 -- ---- what is kept
 

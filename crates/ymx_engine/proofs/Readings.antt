@@ -1,9 +1,10 @@
 -- What a tunnel does with what its wire gives.
-use Rattle.std.proofs.Common.{◌≡◌, ◌⊎◌, inl, inr, ℕ, ◌+◌, ◌<◌, ◌≤◌, List, [], ◌∷◌, length, take, drop, Bool, true, false, not, ◌||◌, ◌&&◌, Option, None, Some, refl, sym, ap, ◌∙◌, subst, cond, arith}
+use Rattle.std.proofs.Common.{◌≡◌, ◌⊎◌, inl, inr, ℕ, ◌<◌, List, [], ◌∷◌, length, take, drop, Bool, true, false, not, ◌||◌, ◌&&◌, Option, None, Some, refl, sym, ap, ◌∙◌, subst, cond, arith}
 use Rattle.std.specs.Prelude.{nat_eq, nat_lt, IsSome, is_some, Contains, option_map}
 use Rattle.std.specs.Option.{option_map_or}
+use Rattle.std.specs.List.{list_all}
 use Rattle.std.proofs.lemmas.Bool.Decides.{nat_tests}
-use Rattle.std.proofs.lemmas.List.{length-take-le, length-drop}
+use Rattle.std.proofs.lemmas.List.{length-take-le}
 use Rattle.std.proofs.lemmas.Grind.{common_steps}
 use Rattle.ymx_machine.specs.declared.types.Fed.{Fed}
 use Rattle.ymx_machine.specs.declared.types.Reply.TheVariants as reply
@@ -23,23 +24,24 @@ use Rattle.ymx_engine.specs.Devices.{Seen, Marks, IsPulled, pulled_count, gives,
 use Rattle.ymx_engine.specs.Engines.{Engine, KeepsWire}
 use Rattle.ymx_engine.specs.Events.{has_stop}
 use Rattle.ymx_engine.specs.Exchanges.{has_bytes}
-use Rattle.ymx_engine.specs.Passes.{OffersOnce}
+use Rattle.ymx_engine.specs.Passes.{OffersOnce, is_of_reading}
 use Rattle.ymx_engine.specs.Runs.{Runs, Stays, Rests}
 use Rattle.ymx_engine.specs.Served.{Serving, GainsNone}
-use Rattle.ymx_engine.specs.Steps.{Keeps, OffersPart, PassesPart, StaysOver}
+use Rattle.ymx_engine.specs.Steps.{Keeps, ReadsOn, OffersPart, PassesPart, StaysOver}
 use Rattle.ymx_engine.specs.Tunnels.{Tunnel}
 use Rattle.ymx_engine.specs.Turns.{Line, Lines, line_of, Awaits, Extends, SameLines, SameQueues, Puts, AddsTurn, KeepsLines}
 use Rattle.ymx_engine.specs.Ways.{is_over, is_open, may_push, ways_after}
 use Rattle.ymx_engine.specs.Wires.{HandlesIn, TakesIn}
 use Rattle.ymx_engine.specs.Work.{Reads, may_have_bytes}
 use Rattle.ymx_engine.proofs.Advancing.{feeds_some, offers_front}
-use Rattle.ymx_engine.proofs.Attending.{runs_on}
+use Rattle.ymx_engine.proofs.Attending.{attends_on, runs_on}
 use Rattle.ymx_engine.proofs.Carrying.{pulled_so, handles_in_none, loses_in}
 use Rattle.ymx_engine.proofs.Coming.{happen_within}
 use Rattle.ymx_engine.proofs.Entries.{eq_ids, some_is}
 use Rattle.ymx_engine.proofs.Queueing.{adds_behind_same, line_put_there, puts_then_same, extends_same, extends_added, keeps_then, others_put}
+use Rattle.ymx_engine.proofs.Listing.{reads_reading}
 use Rattle.ymx_engine.proofs.Quiet.{both}
-use Rattle.ymx_engine.proofs.Running.{SameSeen, moves_read_so, moves_handled, moves_passed, puts_look}
+use Rattle.ymx_engine.proofs.Running.{SameSeen, moves_read_so, moves_handled, moves_passed_so, puts_look}
 use Rattle.ymx_engine.proofs.Tending.{serving_fed, serving_alike, serving_with, served_waits, but_of}
 use Rattle.ymx_engine.proofs.WaysAfter.{to_peer_was, from_peer_was, stop_breaks_to, stop_breaks_from}
 
@@ -56,8 +58,10 @@ keeps_fed n f a b t rest q x left notes keeps all engine wire over later stopped
     let lines = keeps_then a.lines q b.lines keeps later in
     let now : Engine = record { session = t; outgoing = a.engine.outgoing; incoming = rest } in
     let handled : HandlesIn false a.engine b.engine = subst (HandlesIn false a.engine) (sym engine) (feeds_some a.engine now f a.engine.session a.engine.incoming refl refl x left refl) in
+    let moved = moves_handled a b handled wire (same_seen a b lines) in
     record {
-      moves = moves_handled a b handled wire (same_seen a b lines);
+      moves = moved.0;
+      own = moved.1;
       wire = wire;
       over = over;
       lines = lines;
@@ -99,7 +103,7 @@ reads_pulled r buffer a m b none x room session outgoing incoming heard wire sam
     let t : TakesIn r a.engine m.engine a.wire b.wire = record { buffer = buffer; pulled = y; incoming = incoming; outgoing = outgoing; session = session } in
     let moved = pulled_so r a.engine m.engine b.engine a.wire b.wire none t heard in
     let moves = moves_read_so a b 1 moved.0 same in
-    record { moves = moves.0; asks = λ fed may. by (moves.0).came (moves.1 ∙ moved.1) (gives r) refl }
+    record { moves = moves.0; own = ap (list_all (λ (e : Event × Reply). is_of_reading e.0)) moves.2 ∙ reads_reading (moved.0).events (moved.0).own; asks = λ fed may. by (moves.0).came (moves.1 ∙ moved.1) (gives r) refl }
   where
     by : (came : List ℕ) → came ≡ take (pulled_count r) buffer → (g : Bool) → gives r ≡ g → (has_bytes came ≡ true) ⊎ (may_have_bytes b ≡ false)
     by came is true g = inl (ap has_bytes is ∙ some_given r buffer a.wire m.wire x room g)
@@ -162,7 +166,7 @@ reads_lost r buffer a m b none x room session outgoing incoming is lines wire ov
 
 -- it was not called
 pub reads_none : (a : Tunnel) → (a.engine.incoming ≡ [] → may_have_bytes a ≡ true → ⊥) → Reads a a
-reads_none a h = record { moves = moves_handled a a (handles_in_none a.engine) refl (λ id. refl); asks = λ fed may. absurd (h fed may) }
+reads_none a h = let moved = moves_handled a a (handles_in_none a.engine) refl (λ id. refl) in record { moves = moved.0; own = moved.1; asks = λ fed may. absurd (h fed may) }
 
 pub reads_from : (a b c : Tunnel) → a ≡ b → Reads a c → Reads b c
 reads_from a b c e x = subst (λ (v : Tunnel). Reads v c) e x
@@ -295,22 +299,25 @@ drop_none : (n : ℕ) (xs ys : List ℕ) → n ≡ 0 → ys ≡ drop n xs → ys
 drop_none n xs ys e h = grind (arith, common_steps)
 
 -- nothing was offered
-still_there : (a b : Tunnel) → b.lines ≡ a.lines → b.engine.session ≡ a.engine.session → b.engine.outgoing ≡ a.engine.outgoing → b.engine.incoming ≡ a.engine.incoming → b.wire ≡ a.wire → Runs a b
+still_there : (a b : Tunnel) → b.lines ≡ a.lines → b.engine.session ≡ a.engine.session → b.engine.outgoing ≡ a.engine.outgoing → b.engine.incoming ≡ a.engine.incoming → b.wire ≡ a.wire → ReadsOn a b
 still_there a b lines session outgoing incoming wire =
     let handled : HandlesIn false a.engine b.engine = record { events = []; happen = session; own = refl; fronts = tt; from_wire = sym incoming; outgoing = outgoing; heard = refl } in
-    runs_on a b (moves_handled a b handled wire (λ id. ap (λ (v : Lines). option_map (λ (l : Line). l.seen) (line_of id v)) lines)) (serving_alike a b session lines) (subst (Extends a.lines) (sym lines) (extends_same a.lines))
+    let moved = moves_handled a b handled wire (λ id. ap (λ (v : Lines). option_map (λ (l : Line). l.seen) (line_of id v)) lines) in
+    record { runs = record { moves = moved.0; attends = attends_on a b (serving_alike a b session lines) (subst (Extends a.lines) (sym lines) (extends_same a.lines)) }; own = moved.1 }
 
 offered_runs : (id count : ℕ) (waits : List ℕ) (a b : Tunnel) (was : Line) → waits ≡ a.engine.incoming → line_of id a.lines ≡ Some was → (x : OffersPart id was waits a.engine.session b.engine.session a.lines b.lines count) → AddsTurn id a.lines b.lines → Awaits id b.lines →
-    ((other : ℕ) → nat_eq id other ≡ false → GainsNone other a.engine.session b.engine.session) → b.engine.session.status ≡ a.engine.session.status → b.engine.incoming ≡ drop count a.engine.incoming → b.engine.outgoing ≡ a.engine.outgoing → b.wire ≡ a.wire → Runs a b
+    ((other : ℕ) → nat_eq id other ≡ false → GainsNone other a.engine.session b.engine.session) → b.engine.session.status ≡ a.engine.session.status → b.engine.incoming ≡ drop count a.engine.incoming → b.engine.outgoing ≡ a.engine.outgoing → b.wire ≡ a.wire → ReadsOn a b
 offered_runs id count waits a b was is there x turn awaits others status incoming outgoing wire =
     let passed = offers_front id count waits a.engine b.engine a.engine.session was.seen x.now.seen was.ways x.now.ways refl is x.offered incoming outgoing in
     let grown = extends_added id a.lines b.lines turn in
-    runs_on a b (moves_passed a b id was.seen x.now.seen 2 was.ways x.now.ways passed wire (ap (option_map (λ (l : Line). l.seen)) there) (λ other. puts_look id other (Some x.now) a.lines b.lines x.lines))
+    let moved = moves_passed_so a b id was.seen x.now.seen 2 was.ways x.now.ways passed wire (ap (option_map (λ (l : Line). l.seen)) there) (λ other. puts_look id other (Some x.now) a.lines b.lines x.lines) in
+    let attends = attends_on a b
     (λ h. serving_with id a b (λ w. record { within = happen_within (x.offered).events a.engine.session b.engine.session (x.offered).happen w; came = others; runs = λ over. sym (ap is_running status) ∙ over })
-    (others_put id (Some x.now) a.lines b.lines x.lines grown turn.missed (λ other held. subst (λ (v : List ℕ). Contains v other) (sym turn.held) held)) (λ w. served_waits id b awaits) (but_of id a h)) grown
+    (others_put id (Some x.now) a.lines b.lines x.lines grown turn.missed (λ other held. subst (λ (v : List ℕ). Contains v other) (sym turn.held) held)) (λ w. served_waits id b awaits) (but_of id a h)) grown in
+    record { runs = record { moves = moved.0; attends = attends }; own = moved.1 }
 
 pub runs_offered : (id count : ℕ) (waits : List ℕ) (a b : Tunnel) → waits ≡ a.engine.incoming → PassesPart id waits a.engine.session b.engine.session a.lines b.lines count →
-    ((other : ℕ) → nat_eq id other ≡ false → GainsNone other a.engine.session b.engine.session) → b.engine.session.status ≡ a.engine.session.status → b.engine.incoming ≡ drop count a.engine.incoming → b.engine.outgoing ≡ a.engine.outgoing → b.wire ≡ a.wire → Runs a b
+    ((other : ℕ) → nat_eq id other ≡ false → GainsNone other a.engine.session b.engine.session) → b.engine.session.status ≡ a.engine.session.status → b.engine.incoming ≡ drop count a.engine.incoming → b.engine.outgoing ≡ a.engine.outgoing → b.wire ≡ a.wire → ReadsOn a b
 runs_offered id count waits a b is (inl (was, there, x, turn, awaits)) others status incoming outgoing wire = offered_runs id count waits a b was is there x turn awaits others status incoming outgoing wire
 runs_offered id count waits a b is (inr (lines, session, none)) others status incoming outgoing wire = still_there a b lines session outgoing (drop_none count a.engine.incoming b.engine.incoming none incoming) wire
 

@@ -1,5 +1,5 @@
 -- A tunnel that has no work: what may still wait.
-use Rattle.std.proofs.Common.{◌≡◌, ◌⊎◌, ◌==◌, ◌<◌, inl, inr, ℕ, zero, suc, List, [], ◌∷◌, length, Bool, true, false, ◌&&◌, ◌||◌, not, if◌then◌else◌, Some, refl, sym, ◌∙◌, arith}
+use Rattle.std.proofs.Common.{◌≡◌, ◌⊎◌, ◌==◌, ◌<◌, inl, inr, ℕ, zero, suc, List, [], ◌∷◌, length, Bool, true, false, ◌&&◌, ◌||◌, not, if◌then◌else◌, refl, sym, ◌∙◌, arith}
 use Rattle.std.specs.Prelude.{Contains}
 use Rattle.ymx_model.specs.session.Emissions.{is_ready}
 use Rattle.ymx_model.specs.session.Sessions.{is_running}
@@ -7,9 +7,10 @@ use Rattle.ymx_session.specs.Streams.{waiting, room_of}
 use Rattle.ymx_engine.specs.Engines.{IsFlushed}
 use Rattle.ymx_engine.specs.Exchanges.{has_bytes}
 use Rattle.ymx_engine.specs.Ways.{is_open, may_push, may_pull}
-use Rattle.ymx_engine.specs.Served.{Serving, NoneWaits, NoneGives, NoneHangs}
+use Rattle.ymx_engine.specs.Served.{Serving, NoneWaits, NoneGives, NoneEnds, NoneStops, NoneHangs}
+use Rattle.ymx_engine.specs.Serves.{is_silent, is_stopped}
 use Rattle.ymx_engine.specs.Tunnels.{Tunnel}
-use Rattle.ymx_engine.specs.Turns.{Line, Lines, line_of, is_idle, Awaits, Attended}
+use Rattle.ymx_engine.specs.Turns.{Lines, is_idle, Awaits, Attended}
 use Rattle.ymx_engine.specs.Work.{has_work, has_to_send, has_to_write, may_read_wire, may_have_bytes}
 
 nothing_left : (idle missed reads sends : Bool) → (not idle || missed || reads || sends) ≡ false → (idle ≡ true) × (missed ≡ false) × (reads ≡ false) × (sends ≡ false)
@@ -117,3 +118,26 @@ pub rest_hears : (t : Tunnel) → Serving t → has_work t ≡ false → NoneHan
 rest_hears t s h =
     let left = left_of t h in
     λ over id l there. hangs_none l.seen.marks.is_connecting (is_open l.ways.to_peer) (λ still opens. none_awaits t.lines id left.0 left.1 ((s.each id).hears l there over still opens))
+
+ends_none : (silent may : Bool) → (may ≡ true → silent ≡ true → ⊥) → (silent ≡ false) ⊎ (may ≡ false)
+ends_none false may h = inl refl
+ends_none true false h = inr refl
+ends_none true true h = absurd (h refl refl)
+
+stops_none : (stopped connects opens : Bool) → (connects ≡ false → opens ≡ true → stopped ≡ true → ⊥) → (stopped ≡ false) ⊎ ((opens ≡ false) ⊎ (connects ≡ true))
+stops_none false connects opens h = inl refl
+stops_none true true opens h = inr (inr refl)
+stops_none true false false h = inr (inl refl)
+stops_none true false true h = absurd (h refl refl refl)
+
+-- more may come on each stream whose connection's device may take bytes now
+pub rest_ends : (t : Tunnel) → Serving t → has_work t ≡ false → NoneEnds t
+rest_ends t s h =
+    let left = left_of t h in
+    λ id l there. ends_none (is_silent id t.engine.session) (may_push l.ways l.seen.marks) (λ may silent. none_awaits t.lines id left.0 left.1 ((s.each id).ends l there may silent))
+
+-- each stream takes bytes, or was finished here, whose connection's way to the peer is open, unless it is still being made
+pub rest_stops : (t : Tunnel) → Serving t → has_work t ≡ false → NoneStops t
+rest_stops t s h =
+    let left = left_of t h in
+    λ id l there. stops_none (is_stopped id t.engine.session) l.seen.marks.is_connecting (is_open l.ways.to_peer) (λ still opens stopped. none_awaits t.lines id left.0 left.1 ((s.each id).stops l there still opens stopped))

@@ -27,7 +27,7 @@ use Rattle.ymx_engine.specs.Passes.{is_of_pass, IsPayload, counts_of, payload_in
 use Rattle.ymx_engine.specs.Served.{GainsNone}
 use Rattle.ymx_engine.proofs.Advancing.{fed_then, fronts_then, rest_of, fed_on, take_all}
 use Rattle.ymx_engine.proofs.Beside.{IsPiece, passes_beside, piece_came, header_came, whole_piece}
-use Rattle.ymx_engine.proofs.Coming.{gains_then}
+use Rattle.ymx_engine.proofs.Gaining.{gains_then, gains_none}
 use Rattle.ymx_engine.proofs.Exchanging.{happen_then, given_then, end_then, reset_then, stop_then, same_id, take_both}
 
 first_and : (n : ℕ) (ns : List ℕ) → sum (n ∷ ns) ≡ n + sum ns
@@ -341,7 +341,7 @@ going_starts id missing said taken counts waits s row passes positive some fits 
   done = settles_none id waits s;
   row = row;
   passes = passes;
-  others = λ other ne. record { bytes = λ w. w; room = λ r. r };
+  others = λ other ne. gains_none other s;
   status = refl;
 }
 
@@ -471,7 +471,8 @@ going_on law id at left taken n count ns payload waits told s t u v x least less
           let last = whole_piece count x.missing waiting piece.within (more.0 ∙ h.0) in
           let beside = next_piece id at left taken n count ns payload waits s t u x least y in
           let running = (passing-is (record { id = id; missing = x.missing }) t (x.passes).passes).running in
-          gains_then other s t v (x.others other ne) (gains_then other t u v (piece_came id other _ t u beside ne) (header_came id next other header told u v (beside.status ∙ running) (beside.whole last) plain behind.0 g ne));
+          let runs = (passing-is (record { id = id; missing = next }) v (behind.1).passes).running in
+          gains_then other s t v (x.others other ne) (gains_then other t u v (piece_came id other _ t u beside ne) (header_came id next other header told u v (beside.status ∙ running) runs (beside.whole last) plain behind.0 g ne));
       status =
           let was = (passing-is (record { id = id; missing = x.missing }) t (x.passes).passes).running in
           let is = (passing-is (record { id = id; missing = next }) v (behind.1).passes).running in

@@ -1,7 +1,7 @@
 -- How a tunnel moves bytes, step by step.
-use Rattle.std.proofs.Common.{◌≡◌, ℕ, List, [], length, ◌∷◌, ◌++◌, Bool, true, false, ◌||◌, Option, None, Some, refl, sym, ap, ◌∙◌, subst, append-nil, append_assoc, cond, ◌==◌, arith}
-use Rattle.std.specs.Prelude.{option_map, nat_eq, IsSome}
-use Rattle.std.proofs.lemmas.Bool.Decides.{nat_tests}
+use Rattle.std.proofs.Common.{◌≡◌, ℕ, List, [], ◌∷◌, ◌++◌, Bool, true, false, ◌||◌, Option, None, Some, refl, sym, ap, ◌∙◌, subst, append-nil, append_assoc, cond, ◌==◌, arith}
+use Rattle.std.specs.Prelude.{option_map, nat_eq}
+use Rattle.std.specs.List.{list_all}
 use Rattle.std.proofs.KnownBytes.{Appends-nil, Appends-trans, Consumes-nil, Consumes-trans}
 use Rattle.ymx_machine.specs.shared.Events.{Call, Reply}
 use Rattle.ymx_machine.specs.declared.types.Call.TheVariants as call
@@ -19,7 +19,7 @@ use Rattle.ymx_engine.specs.Events.{Happen, opens_with, has_open_with}
 use Rattle.ymx_engine.specs.Joins.{Joins, DropsOut}
 use Rattle.ymx_engine.specs.Lives.{IsIdle, Life, Trades, opens_at}
 use Rattle.ymx_engine.specs.Moves.{Moves}
-use Rattle.ymx_engine.specs.Passes.{PassesOn}
+use Rattle.ymx_engine.specs.Passes.{PassesOn, is_of_reading}
 use Rattle.ymx_engine.specs.declared.ways.Ways.{Ways}
 use Rattle.ymx_engine.specs.Refusals.{OpensNone, OffersNone, GivesUp}
 use Rattle.ymx_engine.specs.Serves.{Exchanges}
@@ -31,7 +31,7 @@ use Rattle.ymx_engine.proofs.Advancing.{rest_of, fed_then, fronts_then, fronts_m
 use Rattle.ymx_engine.proofs.Quiet.{quiet, IsQuiet}
 use Rattle.ymx_engine.proofs.Carrying.{feed_end_then, reads_handled, emitted_then, waits_on}
 use Rattle.ymx_engine.proofs.Exchanging.{happen_then, or_none, or_same, or_true, or_twice, same_id, same_appends, same_consumes}
-use Rattle.ymx_engine.proofs.Listing.{FeedsNone, flush_feeds, read_emits, LeavesWire, PassEmits, pass_emits, other_id, others_quiet_passed, IsCalm, turn_calm, others_quiet_turned, plain_list, plain_then, read_plain, flush_plain}
+use Rattle.ymx_engine.proofs.Listing.{reads_reading, passes_reading, FeedsNone, flush_feeds, read_emits, LeavesWire, PassEmits, pass_emits, other_id, others_quiet_passed, IsCalm, turn_calm, others_quiet_turned, plain_list, plain_then, read_plain, flush_plain}
 use Rattle.ymx_engine.proofs.Trading.{life_quiet, life_then, life_trades, life_leaves, life_joins, life_idle, trades_passed}
 
 -- the device of each stream is what it was
@@ -77,6 +77,11 @@ moves_same a = record {
   lines = λ id. life_quiet id [] (look id a.lines) (refl, refl, refl, refl, refl, refl);
 }
 
+-- and that is no event
+pub moves_same_so : (a : Tunnel) → (m : Moves a a) × (m.events ≡ [])
+unfolding moves_same
+moves_same_so a = (moves_same a, refl)
+
 -- one run behind another
 pub moves_then : (a b c : Tunnel) → Moves a b → Moves b c → Moves a c
 moves_then a b c x y =
@@ -108,10 +113,10 @@ moves_then a b c x y =
       lines = λ id. life_then id es fs (look id a.lines) (look id b.lines) (look id c.lines) (x.lines id) (y.lines id);
     }
 
--- and what the wire gave and took is that of both
-pub moves_then_so : (a b c : Tunnel) (x : Moves a b) (y : Moves b c) → (m : Moves a c) × (m.came ≡ x.came ++ y.came) × (m.sent ≡ x.sent ++ y.sent)
+-- and what happened, and what the wire gave and took, is that of both
+pub moves_then_so : (a b c : Tunnel) (x : Moves a b) (y : Moves b c) → (m : Moves a c) × (m.came ≡ x.came ++ y.came) × (m.sent ≡ x.sent ++ y.sent) × (m.events ≡ x.events ++ y.events)
 unfolding moves_then
-moves_then_so a b c x y = (moves_then a b c x y, refl, refl)
+moves_then_so a b c x y = (moves_then a b c x y, refl, refl, refl)
 
 -- lines that stay as they are
 still_lines : (a b : Tunnel) (es : List (Event × Reply)) → SameSeen a b → ((id : ℕ) → IsQuiet id es) → (id : ℕ) → Life id es (look id a.lines) (look id b.lines)
@@ -142,14 +147,17 @@ moves_read a b n x same = record {
   lines = still_lines a b x.events same (λ id. quiet is_of_read (λ c. refl) id x.events x.own);
 }
 
--- and what came is what the wire gave
-pub moves_read_so : (a b : Tunnel) (n : ℕ) (x : ReadsWire a.engine b.engine a.wire b.wire n) → SameSeen a b → (m : Moves a b) × (m.came ≡ x.came)
+-- and what came is what the wire gave, and just that happened
+pub moves_read_so : (a b : Tunnel) (n : ℕ) (x : ReadsWire a.engine b.engine a.wire b.wire n) → SameSeen a b → (m : Moves a b) × (m.came ≡ x.came) × (m.events ≡ x.events)
 unfolding moves_read
-moves_read_so a b n x same = (moves_read a b n x same, refl)
+moves_read_so a b n x same = (moves_read a b n x same, refl, refl)
 
--- what waited was fed
-pub moves_handled : (a b : Tunnel) → HandlesIn false a.engine b.engine → b.wire ≡ a.wire → SameSeen a b → Moves a b
-moves_handled a b x wire same = moves_read a b 0 (subst (λ (v : Seen). ReadsWire a.engine b.engine a.wire v 0) (sym wire) (reads_handled a.engine b.engine a.wire 0 x)) same
+-- what waited was fed, and nothing else happened
+pub moves_handled : (a b : Tunnel) → HandlesIn false a.engine b.engine → b.wire ≡ a.wire → SameSeen a b → (m : Moves a b) × (list_all (λ e. is_of_reading e.0) m.events ≡ true)
+moves_handled a b x wire same =
+    let reads : ReadsWire a.engine b.engine a.wire b.wire 0 = subst (λ (v : Seen). ReadsWire a.engine b.engine a.wire v 0) (sym wire) (reads_handled a.engine b.engine a.wire 0 x) in
+    let moved = moves_read_so a b 0 reads same in
+    (moved.0, ap (list_all (λ (e : Event × Reply). is_of_reading e.0)) moved.2 ∙ reads_reading reads.events reads.own)
 
 -- the wire was written to
 pub moves_flushed : (a b : Tunnel) (n : ℕ) → FlushesWire a.engine b.engine a.wire b.wire n → SameSeen a b → Moves a b
@@ -178,10 +186,10 @@ moves_flushed a b n x same =
       lines = still_lines a b x.events same (λ id. quiet is_of_flush (λ c. refl) id x.events x.own);
     }
 
--- and just that went
-pub moves_flushed_so : (a b : Tunnel) (n : ℕ) (x : FlushesWire a.engine b.engine a.wire b.wire n) → SameSeen a b → (m : Moves a b) × (m.sent ≡ x.sent)
+-- and just that happened and went
+pub moves_flushed_so : (a b : Tunnel) (n : ℕ) (x : FlushesWire a.engine b.engine a.wire b.wire n) → SameSeen a b → (m : Moves a b) × (m.sent ≡ x.sent) × (m.events ≡ x.events)
 unfolding moves_flushed
-moves_flushed_so a b n x same = (moves_flushed a b n x same, refl)
+moves_flushed_so a b n x same = (moves_flushed a b n x same, refl, refl)
 
 -- ---- one line's turn
 
@@ -274,6 +282,12 @@ moves_passed a b id d e n v w x wire at now =
       shut = ap (λ (s : Seen). s.shut) wire ∙ or_same a.wire.shut;
       lines = λ other. served_line id other a.lines b.lines d e x.events (nat_eq id other) refl at (now other) (life_trades id x.events d e (trades_passed id n a.engine b.engine d e v w x)) (others_quiet_passed id other x.events x.own);
     }
+
+-- and nothing else happened
+pub moves_passed_so : (a b : Tunnel) (id : ℕ) (d e : Seen) (n : ℕ) (v w : Ways) → PassesOn id a.engine b.engine d e n v w → b.wire ≡ a.wire → look id a.lines ≡ Some d →
+    ((other : ℕ) → look other b.lines ≡ cond (nat_eq id other) (Some e) (look other a.lines)) → (m : Moves a b) × (list_all (λ e. is_of_reading e.0) m.events ≡ true)
+unfolding moves_passed
+moves_passed_so a b id d e n v w x wire at now = (moves_passed a b id d e n v w x wire at now, passes_reading id x.events x.own)
 
 -- one call that moves no byte happened, and the device of a stream joined or left
 changed_line : (id other : ℕ) (a b : Lines) (to : Option Seen) (es : List (Event × Reply)) (test : Bool) → nat_eq id other ≡ test → look other b ≡ cond test to (look other a) →

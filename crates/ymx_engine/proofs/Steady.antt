@@ -1,5 +1,5 @@
 -- The events at which the state of a session as a whole stays.
-use Rattle.std.proofs.Common.{◌≡◌, ℕ, ◌<◌, List, [], ◌∷◌, length, Bool, true, false, ◌==◌, ◌&&◌, ◌||◌, nat_lt, Option, None, Some, refl, sym, ap, ◌∙◌, subst, inl, inr}
+use Rattle.std.proofs.Common.{◌≡◌, ℕ, List, [], ◌∷◌, length, Bool, true, false, ◌==◌, ◌&&◌, ◌||◌, nat_lt, Option, None, Some, refl, sym, ap, ◌∙◌, subst, inl, inr}
 use Rattle.std.specs.List.{list_all}
 use Rattle.ymx_machine.specs.declared.types.Call.TheVariants as call
 use Rattle.ymx_machine.specs.shared.Events.{Reply, Call}
@@ -11,7 +11,7 @@ use Rattle.ymx_machine.proofs.Tests.{split, one_some, both_of}
 use Rattle.ymx_model.specs.declared.types.FrameKind.{FrameKind}
 use Rattle.ymx_model.specs.declared.types.Event.TheVariants as event
 use Rattle.ymx_model.specs.declared.types.Response.{Response}
-use Rattle.ymx_model.specs.session.Records.{End, end_write, end_read, end_finish, end_reset}
+use Rattle.ymx_model.specs.session.Records.{End, end_finish, end_reset}
 use Rattle.ymx_model.specs.session.FramesDue.{next_kind}
 use Rattle.ymx_model.specs.session.Tables.{remove_record}
 use Rattle.ymx_model.specs.session.Sessions.{Session, is_lost, is_running, is_broken, is_spent, on_stream, settle, nothing_outgoing}
@@ -26,6 +26,7 @@ use Rattle.ymx_model.specs.session.Histories.CallGives.{Outcome as HasOutcome, N
 use Rattle.ymx_law_session.proofs.limits.CallsKeep.{with-keeps}
 use Rattle.ymx_law_session.proofs.limits.EmissionsKeep.{some_if, if_some, none_if}
 use Rattle.ymx_engine.specs.Events.{Happen}
+use Rattle.ymx_engine.specs.Serves.{is_of_turn}
 
 -- its state is what it was
 abbrev pub SameStatus : Session → Session → Type 0
@@ -134,3 +135,21 @@ steady_all f steady [] s t h own = ap (λ (x : Session). x.status) h
 steady_all f steady (e ∷ es) s t h own =
     let two = both_of (f e.0) (list_all (λ (x : Event × Reply). f x.0) es) own in
     steady_all f steady es h.0 t h.2 two.1 ∙ steady_status e.0 e.1 s h.0 (steady e.0 two.0) h.1
+
+-- each event of a turn is so
+pub turn_steady : (id : ℕ) (e : Event) → is_of_turn id e ≡ true → is_steady e ≡ true
+turn_steady id (event.Call (call.Write other bytes)) h = refl
+turn_steady id (event.Call (call.Read other max)) h = refl
+turn_steady id (event.Call (call.Finish other)) h = refl
+turn_steady id (event.Call (call.Reset other)) h = refl
+turn_steady id (event.Call call.Open) h = cc
+turn_steady id (event.Call (call.OpenWith bytes)) h = cc
+turn_steady id (event.Call call.Accept) h = cc
+turn_steady id (event.Call (call.Forget other)) h = cc
+turn_steady id (event.Call call.Ping) h = cc
+turn_steady id (event.Call (call.Ponged n)) h = cc
+turn_steady id (event.Call call.GoAway) h = cc
+turn_steady id (event.Call call.Close) h = cc
+turn_steady id (event.Feed bytes) h = cc
+turn_steady id event.FeedEnd h = cc
+turn_steady id (event.Emit room) h = refl

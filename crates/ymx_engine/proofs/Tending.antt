@@ -1,7 +1,6 @@
 -- Nobody who can be served is forgotten.
-use Rattle.std.proofs.Common.{◌≡◌, ◌≢◌, ◌⊎◌, inl, inr, ℕ, ◌<◌, List, [], ◌∷◌, length, take, Bool, true, false, not, ◌||◌, Option, None, Some, refl, sym, ap, ◌∙◌, subst, cond, arith}
+use Rattle.std.proofs.Common.{◌==◌, if◌then◌else◌, ◌≡◌, ◌≢◌, inl, inr, ℕ, ◌<◌, List, [], ◌∷◌, length, take, Bool, true, false, not, ◌||◌, Option, None, Some, refl, sym, ap, ◌∙◌, subst, cond, arith}
 use Rattle.std.specs.Prelude.{nat_eq, nat_le, IsSome, count_by, Contains}
-use Rattle.std.specs.List.{list_all}
 use Rattle.std.proofs.lemmas.Bool.Decides.{nat_tests}
 use Rattle.ymx_machine.specs.declared.types.Call.TheVariants as call
 use Rattle.ymx_machine.specs.declared.types.CallFault.TheVariants as fault
@@ -14,44 +13,45 @@ use Rattle.ymx_machine.proofs.Tests.{split}
 use Rattle.ymx_model.specs.declared.types.Event.TheVariants as event
 use Rattle.ymx_model.specs.declared.types.Status.{Status}
 use Rattle.ymx_model.specs.declared.types.Status.TheVariants.{Running, Lost, Broken, Closed}
-use Rattle.ymx_model.specs.session.Calls.{Outcome, outcome, answers, refused, session_opened, open_stream, accept, accept_of, ping, ponged, is_unacknowledged, status_input_ends, feed_end}
-use Rattle.ymx_model.specs.session.Events.{Event}
+use Rattle.ymx_model.specs.session.Calls.{Outcome, outcome, answers, refused, session_opened, open_stream, accept, accept_of, ping, ponged, is_unacknowledged, status_input_ends}
 use Rattle.ymx_model.specs.session.Pings.{next_number, ask, has_back, collect}
 use Rattle.ymx_model.specs.session.Emissions.{in_turn}
 use Rattle.ymx_model.specs.session.Feeds.{Takes, byte_comes, byte_in}
 use Rattle.ymx_model.specs.session.Histories.{Gives, CallGives}
 use Rattle.ymx_model.specs.session.Histories.CallGives.{Outcome as HasOutcome, NoMemory}
-use Rattle.ymx_model.specs.session.Sessions.{Session, is_closed, is_running, is_broken, is_deaf, is_lost, on_stream, settle}
-use Rattle.ymx_law_session.specs.Limits.{IsWithin}
+use Rattle.ymx_model.specs.session.Records.{End}
+use Rattle.ymx_model.specs.session.Sessions.{Session, is_closed, is_running, is_broken, is_deaf, is_lost, is_own, on_stream}
+use Rattle.ymx_law_session.specs.Limits.{IsWithin, is_listed}
 use Rattle.ymx_law_session.proofs.limits.HistoriesKeep.{gives-keep}
 use Rattle.ymx_law_session.proofs.nothing_else.Others.{forget-others}
 use Rattle.ymx_law_session.proofs.nothing_else.OthersOut.{open-others, accept-others}
 use Rattle.ymx_law_session.proofs.nothing_else.StreamCalls.{forget-stays}
 use Rattle.ymx_session.specs.Passing.{FeedsSome}
-use Rattle.ymx_session.specs.Streams.{waiting, room_of}
+use Rattle.ymx_session.specs.Streams.{room_of}
 use Rattle.ymx_session.specs.Touched.{Noted, is_noted, NotesChanges}
 use Rattle.ymx_engine.specs.declared.device.Readiness.{Readiness}
 use Rattle.ymx_engine.specs.declared.ways.Ways.{Ways}
 use Rattle.ymx_engine.specs.Devices.{Seen}
-use Rattle.ymx_engine.specs.Events.{Happen}
 use Rattle.ymx_engine.specs.Joins.{Joins, DropsOut}
 use Rattle.ymx_engine.specs.Refusals.{GivesUp}
 use Rattle.ymx_engine.specs.Served.{IsServed, Serving, ServingBut, GainsNone}
-use Rattle.ymx_engine.specs.Serves.{is_of_turn, Turn}
+use Rattle.ymx_engine.specs.Serves.{is_of_turn, is_silent, is_stopped, Turn}
 use Rattle.ymx_engine.specs.Steps.{TakesPart}
 use Rattle.ymx_engine.specs.Tunnels.{Tunnel}
-use Rattle.ymx_engine.specs.Turns.{Line, Lines, line_of, Waits, Awaits, Attended, SameLines, SameQueues, Puts, Adds, AddsTurn, KeepsLines, KeepsOthers, TakesTurn, IsFirst, takes_busy, StaysOrAdds, Notes}
+use Rattle.ymx_engine.specs.Turns.{Line, Lines, line_of, Awaits, Attended, SameLines, SameQueues, Puts, KeepsLines, KeepsOthers, TakesTurn, IsFirst, takes_busy, Notes}
 use Rattle.ymx_engine.specs.Ways.{is_open, may_push, may_pull}
-use Rattle.ymx_engine.proofs.Coming.{NoneCame, Goes, none_came, gains_then, came_same, calm_came, happen_calm, exchanges_calm, still_runs}
-use Rattle.ymx_engine.proofs.Entries.{eq_ids, same_id, is_some_at}
-use Rattle.ymx_engine.proofs.Marking.{popped, stays_or_adds}
-use Rattle.ymx_engine.proofs.Queueing.{keeps_same, keeps_then, awaits_added, attended_on, attended_held, line_put_at, line_put_other, extends_queues, extends_added, others_put}
-use Rattle.ymx_engine.proofs.Steady.{is_steady, steady_all, settled_status, called_status, reset_stays}
+use Rattle.ymx_engine.proofs.Coming.{Goes, exchanges_calm}
+use Rattle.ymx_engine.proofs.Ending.{none_there, offered_there}
+use Rattle.ymx_engine.proofs.Gaining.{NoneGain, gains_then, gains_none, gains_still, gains_same, turn_gains, reset_gains}
+use Rattle.ymx_engine.proofs.Entries.{eq_ids, is_some_at}
+use Rattle.ymx_engine.proofs.Marking.{popped}
+use Rattle.ymx_engine.proofs.Queueing.{keeps_same, keeps_then, attended_on, attended_held, line_put_at, extends_queues, extends_added, others_put}
+use Rattle.ymx_engine.proofs.Steady.{steady_all, turn_steady, settled_status, called_status, reset_stays}
 
 -- the session keeps its limits, no stream gained anything, and it runs on if it ran
 pub record Calms (s t : Session) : Type 0 where
   pub within : IsWithin t
-  pub came : NoneCame s t
+  pub came : NoneGain s t
   pub runs : is_running t.status ≡ false → is_running s.status ≡ false
 
 -- the same, but of this stream
@@ -64,7 +64,7 @@ same_runs : (s t : Session) → t.status ≡ s.status → is_running t.status �
 same_runs s t e h = sym (ap is_running e) ∙ h
 
 pub calms_same : (s t : Session) → t ≡ s → IsWithin s → Calms s t
-calms_same s t e w = subst (Calms s) (sym e) (record { within = w; came = none_came s; runs = λ h. h })
+calms_same s t e w = subst (Calms s) (sym e) (record { within = w; came = λ id. gains_none id s; runs = λ h. h })
 
 pub calms_but : (id : ℕ) (s t : Session) → Calms s t → CalmsBut id s t
 calms_but id s t x = record { within = x.within; came = λ other ne. x.came other; runs = x.runs }
@@ -80,6 +80,8 @@ served_at id a b came runs same on holds before = record {
   gets = λ l there may some. let was = sym same ∙ there in on (is_some_at was) (before.gets l was may (came.bytes some));
   gives = λ l there may some. let was = sym same ∙ there in attended_on id a.lines b.lines (on (is_some_at was)) (holds (is_some_at was)) (before.gives l was may (came.room some));
   hears = λ l there over connected opened. let was = sym same ∙ there in on (is_some_at was) (before.hears l was (runs over) connected opened);
+  ends = λ l there may silent. let was = sym same ∙ there in on (is_some_at was) (before.ends l was may (came.silence silent));
+  stops = λ l there connected opened stopped. let was = sym same ∙ there in on (is_some_at was) (before.stops l was connected opened (came.stop stopped));
 }
 
 pub serving_kept : (a b : Tunnel) → (IsWithin a.engine.session → Calms a.engine.session b.engine.session) → KeepsLines a.lines b.lines → Serving a → Serving b
@@ -115,12 +117,14 @@ serving_all b w all = record {
     gets = λ l there may some. all id (is_some_at there);
     gives = λ l there may some. inl (all id (is_some_at there));
     hears = λ l there over connected opened. all id (is_some_at there);
+    ends = λ l there may silent. all id (is_some_at there);
+    stops = λ l there connected opened stopped. all id (is_some_at there);
   };
 }
 
 -- a connection that waits for its turn
 pub served_waits : (id : ℕ) (b : Tunnel) → Awaits id b.lines → IsServed id b
-served_waits id b waits = record { gets = λ l there may some. waits; gives = λ l there may some. inl waits; hears = λ l there over connected opened. waits }
+served_waits id b waits = record { gets = λ l there may some. waits; gives = λ l there may some. inl waits; hears = λ l there over connected opened. waits; ends = λ l there may silent. waits; stops = λ l there connected opened stopped. waits }
 
 -- one that is served with the others
 pub serving_with : (id : ℕ) (a b : Tunnel) → (IsWithin a.engine.session → CalmsBut id a.engine.session b.engine.session) → KeepsOthers id a.lines b.lines → (IsWithin a.engine.session → IsServed id b) → ServingBut id a → Serving b
@@ -137,6 +141,8 @@ served_none id b none = record {
   gets = λ l there may some. let no : None ≡ Some l = sym none ∙ there in absurd cc;
   gives = λ l there may some. let no : None ≡ Some l = sym none ∙ there in absurd cc;
   hears = λ l there over connected opened. let no : None ≡ Some l = sym none ∙ there in absurd cc;
+  ends = λ l there may silent. let no : None ≡ Some l = sym none ∙ there in absurd cc;
+  stops = λ l there connected opened stopped. let no : None ≡ Some l = sym none ∙ there in absurd cc;
 }
 
 pub serving_unserved : (id : ℕ) (a b : Tunnel) → b ≡ a → line_of id a.lines ≡ None → ServingBut id a → Serving b
@@ -188,6 +194,16 @@ fed_goes bytes f s t g =
     let took = (g.2).took in
     (back (is_closed s.status) (is_closed t.status) true (takes_closed _ s t took.0 took.1), back (is_running s.status) (is_running t.status) false (takes_stopped _ s t took.0 took.1))
 
+-- two sessions that run
+pub both_run : (a b : Status) → is_running a ≡ true → is_running b ≡ true → a ≡ b
+both_run Running Running h k = refl
+both_run Running Lost h k = cc
+both_run Running (Broken f) h k = cc
+both_run Running Closed h k = cc
+both_run Lost b h k = cc
+both_run (Broken f) b h k = cc
+both_run Closed b h k = cc
+
 -- Those whom a feed touched were called, and of the others no bytes came; where the session is over then, all were called.
 pub serving_fed : (n : Noted) (input : List ℕ) (f : Fed) (a b : Tunnel) (t : Session) (q : Lines) → FeedsSome a.engine.session input f t → NotesChanges a.engine.session t n → KeepsLines a.lines q →
     ((id : ℕ) → is_noted id n ≡ true → IsSome (line_of id a.lines) → Awaits id q) → b.engine.session ≡ t → KeepsLines q b.lines →
@@ -208,9 +224,11 @@ serving_fed n input f a b t q x notes keeps all same later over h = by (is_runni
         later.awaits id (is_some_at was) (all id is (is_some_at first))
 
     each : is_running b.engine.session.status ≡ true → (id : ℕ) (noted : Bool) → is_noted id n ≡ noted → IsServed id b
-    each runs id true is = record { gets = λ l there may some. called id is l there; gives = λ l there may some. inl (called id is l there); hears = λ l there stops connected opened. called id is l there }
+    each runs id true is = record { gets = λ l there may some. called id is l there; gives = λ l there may some. inl (called id is l there); hears = λ l there over connected opened. called id is l there; ends = λ l there may silent. called id is l there; stops = λ l there connected opened stopped. called id is l there }
     each runs id false is =
-        let came : GainsNone id a.engine.session t = came_same id a.engine.session t (fed_goes (take x.count input) f a.engine.session t x.feeds) (notes.streams id is) in
+        let goes = ap (λ (v : Session). is_running v.status) (sym same) ∙ runs in
+        let status : t.status ≡ a.engine.session.status = both_run t.status a.engine.session.status goes ((fed_goes (take x.count input) f a.engine.session t x.feeds).1 goes) in
+        let came : GainsNone id a.engine.session t = gains_same id a.engine.session t status (notes.streams id is) in
         let both = keeps_then a.lines q b.lines keeps later in
         served_at id a b (subst (GainsNone id a.engine.session) (sym same) came) (λ stops. absurd (runs_no_more (is_running b.engine.session.status) runs stops)) (both.lines id) (both.awaits id) (both.holds id) (h.each id)
 
@@ -243,7 +261,7 @@ forget_status id s = forget-stays (λ (t : Session). t.status ≡ s.status) id s
 others_calm : (id : ℕ) (s t : Session) → t.status ≡ s.status → ((j : ℕ) → j ≢ id → look_up j t.table.entries ≡ look_up j s.table.entries) → IsWithin t → CalmsBut id s t
 others_calm id s t status same w = record {
   within = w;
-  came = λ other ne. came_same other s t (λ c. sym (ap is_closed status) ∙ c, λ c. sym (ap is_running status) ∙ c) (same other (differ id other ne));
+  came = λ other ne. gains_same other s t status (same other (differ id other ne));
   runs = same_runs s t status;
 }
 
@@ -256,10 +274,10 @@ forgotten_calm id told s t (HasOutcome answer state) w =
     others_calm id s t (ap (λ (x : Session). x.status) state ∙ forget_status id s) (λ j n. ap (λ (x : Session). look_up j x.table.entries) state ∙ forget-others id s j n) within
 forgotten_calm id told s t (NoMemory needs answer state) w = but_same id s t state w
 
-reset_calm : (id : ℕ) (told : Reply) (s t : Session) → Gives in_turn s (event.Call (call.Reset id)) told t → IsWithin s → Calms s t
+reset_calm : (id : ℕ) (told : Reply) (s t : Session) → Gives in_turn s (event.Call (call.Reset id)) told t → IsWithin s → CalmsBut id s t
 reset_calm id told s t g w = record {
   within = gives-keep in_turn s t (event.Call (call.Reset id)) told g w;
-  came = calm_came (event.Call (call.Reset id)) told s t refl g w;
+  came = λ other ne. reset_gains id other told s t g ne;
   runs = same_runs s t (reset_stays id told s t g);
 }
 
@@ -268,7 +286,7 @@ but_then id s t u x y = record { within = y.within; came = λ other ne. gains_th
 
 pub given_up_calm : (id : ℕ) (s t : Session) → GivesUp id s t → IsWithin s → CalmsBut id s t
 given_up_calm id s t x w =
-    let r = calms_but id s x.between (reset_calm id x.told_reset s x.between x.reset w) in
+    let r = reset_calm id x.told_reset s x.between x.reset w in
     but_then id s x.between t r (forgotten_calm id x.told_forget x.between t x.forgotten r.within)
 
 -- its connection is there no more
@@ -317,6 +335,23 @@ opened_calm id s t (HasOutcome answer state) w =
     others_calm id s t (ap (λ (x : Session). x.status) state ∙ opened_status s) (λ j n. ap (λ (x : Session). look_up j x.table.entries) state ∙ open-others s j (λ e. n (e ∙ sym is))) within
 opened_calm id s t (NoMemory needs answer state) w = cc
 
+-- a stream that says no more and takes no bytes, as one that isn't there
+abbrev pub IsMute : ℕ → Session → Type 0
+IsMute id s = (is_silent id s ≡ true) × (is_stopped id s ≡ true)
+
+-- nor was it there before
+pub opened_fresh : (id : ℕ) (s t : Session) → Gives in_turn s (event.Call call.Open) (reply.Opened id) t → IsWithin s → IsMute id s
+opened_fresh id s t (HasOutcome answer state) w = none_there id s (by (look_up id s.table.entries) refl)
+  where
+    by : (o : Option End) → look_up id s.table.entries ≡ o → look_up id s.table.entries ≡ None
+    by None e = e
+    by (Some e) there =
+        let is : id ≡ s.next = opened_id id s answer in
+        let own : is_own s.role id ≡ true = ap (is_own s.role) is ∙ w.next.parity in
+        let less = w.next.above id e there own in
+        absurd (omega (arith, is, less))
+opened_fresh id s t (NoMemory needs answer state) w = cc
+
 accepted_status : (s : Session) → (accept s).next.status ≡ s.status
 accepted_status s = let P : Outcome → Type 0 = λ o. o.next.status ≡ s.status in split P (is_closed s.status) (refused fault.Closed s) (accept_of s.offered s) (λ e. refl) (λ e. of s.offered)
   where
@@ -329,6 +364,23 @@ accepted_calm id s t (HasOutcome answer state) w =
     let within = gives-keep in_turn s t (event.Call call.Accept) (reply.Accepted (Some id)) (HasOutcome answer state) w in
     others_calm id s t (ap (λ (x : Session). x.status) state ∙ accepted_status s) (λ j n. ap (λ (x : Session). look_up j x.table.entries) state ∙ accept-others id s (sym answer) j n) within
 accepted_calm id s t (NoMemory needs answer state) w = cc
+
+listed_first : (id : ℕ) (closed : Bool) (ids : List ℕ) (s : Session) → reply.Accepted (Some id) ≡ (if closed then refused fault.Closed s else accept_of ids s).reply → is_listed id ids ≡ true
+listed_first id true ids s h = cc
+listed_first id false [] s h = by (is_lost s.status) h
+  where
+    by : (lost : Bool) → reply.Accepted (Some id) ≡ (if lost then refused fault.Lost s else answers (reply.Accepted None) s).reply → is_listed id [] ≡ true
+    by true k = cc
+    by false k = cc
+listed_first id false (x ∷ ids) s h = let e : x ≡ id = cc in ap (λ (b : Bool). b || is_listed id ids) (same_one x id e)
+  where
+    same_one : (m n : ℕ) → m ≡ n → (m == n) ≡ true
+    same_one m n e = grind (arith, nat_tests)
+
+-- one that is accepted was offered until then
+pub accepted_fresh : (id : ℕ) (s t : Session) → Gives in_turn s (event.Call call.Accept) (reply.Accepted (Some id)) t → IsWithin s → IsMute id s
+accepted_fresh id s t (HasOutcome answer state) w = offered_there id s (sym (w.offered.listed id) ∙ listed_first id (is_closed s.status) s.offered s answer)
+accepted_fresh id s t (NoMemory needs answer state) w = cc
 
 -- the others are served where one stream changed
 pub serving_but : (id : ℕ) (a b : Tunnel) → (IsWithin a.engine.session → CalmsBut id a.engine.session b.engine.session) → KeepsLines a.lines b.lines → Serving a → ServingBut id b
@@ -367,33 +419,18 @@ serving_turn id a b e same takes m held h =
 
 -- ---- a turn
 
-turn_steady : (id : ℕ) (e : Event) → is_of_turn id e ≡ true → is_steady e ≡ true
-turn_steady id (event.Call (call.Write other bytes)) h = refl
-turn_steady id (event.Call (call.Read other max)) h = refl
-turn_steady id (event.Call (call.Finish other)) h = refl
-turn_steady id (event.Call (call.Reset other)) h = refl
-turn_steady id (event.Call call.Open) h = cc
-turn_steady id (event.Call (call.OpenWith bytes)) h = cc
-turn_steady id (event.Call call.Accept) h = cc
-turn_steady id (event.Call (call.Forget other)) h = cc
-turn_steady id (event.Call call.Ping) h = cc
-turn_steady id (event.Call (call.Ponged n)) h = cc
-turn_steady id (event.Call call.GoAway) h = cc
-turn_steady id (event.Call call.Close) h = cc
-turn_steady id (event.Feed bytes) h = cc
-turn_steady id event.FeedEnd h = cc
-turn_steady id (event.Emit room) h = refl
-
-pub turn_calm : (id : ℕ) (reads : Bool) (s t : Session) (out out_new : List ℕ) (before after : Seen) (was now : Ways) (more : Bool) (gave : ℕ) → Turn id reads s t out out_new before after was now more gave → IsWithin s → Calms s t
+pub turn_calm : (id : ℕ) (reads : Bool) (s t : Session) (out out_new : List ℕ) (before after : Seen) (was now : Ways) (more : Bool) (gave : ℕ) → Turn id reads s t out out_new before after was now more gave → IsWithin s → CalmsBut id s t
 turn_calm id reads s t out out_new before after was now more gave x w =
     let calm = exchanges_calm id s t out out_new before after x.moved w in
-    record { within = calm.within; came = calm.came; runs = same_runs s t (steady_all (is_of_turn id) (turn_steady id) x.moved.events s t x.moved.happen x.moved.own) }
+    record { within = calm.within; came = turn_gains id x.moved.events s t x.moved.happen x.moved.own w; runs = same_runs s t (steady_all (is_of_turn id) (turn_steady id) x.moved.events s t x.moved.happen x.moved.own) }
 
 part_served : (id : ℕ) (reads : Bool) (was : Line) (a b : Tunnel) (gave : ℕ) → TakesPart id reads was a.engine.session b.engine.session a.engine.outgoing b.engine.outgoing a.lines b.lines gave → IsWithin a.engine.session → IsServed id b
 part_served id reads was a b gave x w = record {
   gets = λ l there may some. x.again (x.turn.stays w (subst (λ (v : Line). may_push v.ways v.seen.marks ≡ true) (is_now l there) may) some);
   gives = λ l there may some. by reads refl (subst (λ (v : Line). may_pull v.ways v.seen.marks ≡ true) (is_now l there) may) some;
   hears = λ l there over connected opened. x.again (x.turn.hears over (subst (λ (v : Line). v.seen.marks.is_connecting ≡ false) (is_now l there) connected) (subst (λ (v : Line). is_open v.ways.to_peer ≡ true) (is_now l there) opened));
+  ends = λ l there may silent. x.again (x.turn.ends_on (subst (λ (v : Line). may_push v.ways v.seen.marks ≡ true) (is_now l there) may) silent);
+  stops = λ l there connected opened stopped. x.again (x.turn.stops_on (subst (λ (v : Line). v.seen.marks.is_connecting ≡ false) (is_now l there) connected) (subst (λ (v : Line). is_open v.ways.to_peer ≡ true) (is_now l there) opened) stopped);
 }
   where
     is_now : (l : Line) → line_of id b.lines ≡ Some l → l ≡ x.now
@@ -405,7 +442,7 @@ part_served id reads was a b gave x w = record {
 
 pub serving_part : (id : ℕ) (reads : Bool) (was : Line) (a b : Tunnel) (gave : ℕ) → TakesPart id reads was a.engine.session b.engine.session a.engine.outgoing b.engine.outgoing a.lines b.lines gave → KeepsOthers id a.lines b.lines → ServingBut id a → Serving b
 serving_part id reads was a b gave x others =
-    serving_with id a b (λ w. calms_but id a.engine.session b.engine.session (turn_calm id reads a.engine.session b.engine.session a.engine.outgoing b.engine.outgoing was.seen x.now.seen was.ways x.now.ways x.more gave x.turn w)) others (λ w. part_served id reads was a b gave x w)
+    serving_with id a b (turn_calm id reads a.engine.session b.engine.session a.engine.outgoing b.engine.outgoing was.seen x.now.seen was.ways x.now.ways x.more gave x.turn) others (λ w. part_served id reads was a b gave x w)
 
 -- ---- what an event said of a device
 
@@ -416,10 +453,9 @@ serving_noted id ready was a b e x h =
 
 -- ---- pings
 
-kept_calls : (c : Call) (s t : Session) (told : Reply) → ((outcome c s).next.table ≡ s.table) → ((outcome c s).next.status ≡ s.status) → CallGives s c told t → NoneCame s t
-kept_calls c s t told table status (HasOutcome answer state) =
-    subst (NoneCame s) (sym state) (λ id. came_same id s (outcome c s).next (λ k. sym (ap is_closed status) ∙ k, λ k. sym (ap is_running status) ∙ k) (ap (λ x. look_up id x.entries) table))
-kept_calls c s t told table status (NoMemory needs answer state) = subst (NoneCame s) (sym state) (none_came s)
+kept_calls : (c : Call) (s t : Session) (told : Reply) → ((outcome c s).next.table ≡ s.table) → ((outcome c s).next.status ≡ s.status) → CallGives s c told t → NoneGain s t
+kept_calls c s t told table status (HasOutcome answer state) = subst (NoneGain s) (sym state) (λ id. gains_same id s (outcome c s).next status (ap (λ x. look_up id x.entries) table))
+kept_calls c s t told table status (NoMemory needs answer state) = λ id. gains_still id s t state
 
 ping_same : (s : Session) → ((ping s).next.table ≡ s.table) × ((ping s).next.status ≡ s.status)
 ping_same s =

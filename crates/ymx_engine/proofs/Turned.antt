@@ -9,7 +9,7 @@ use Rattle.ymx_engine.specs.Served.{Serving, ServingBut}
 use Rattle.ymx_engine.specs.Tunnels.{Tunnel}
 use Rattle.ymx_engine.specs.Turns.{Line, Lines, line_of, look, SameLines, SameQueues, TakesTurn, KeepsOthers}
 use Rattle.ymx_engine.specs.declared.ways.Ways.{Ways}
-use Rattle.ymx_engine.specs.Ways.{is_open, is_over, ways_after}
+use Rattle.ymx_engine.specs.Ways.{is_over}
 use Rattle.ymx_engine.specs.Work.{HasItsTurn, ServesFirst}
 use Rattle.ymx_engine.proofs.Attending.{runs_on, runs_turn, runs_from}
 use Rattle.ymx_engine.proofs.Queueing.{keeps_queues, extends_queues}
@@ -20,35 +20,35 @@ use Rattle.ymx_engine.proofs.WaysAfter.{stop_breaks_to, stop_breaks_from}
 -- ---- one that was served
 
 -- the connection of this stream had its turn, or is not there
-pub record IsTurned (id : ℕ) (a b : Tunnel) : Type 0 where
-  pub served : (was : Line) → line_of id a.lines ≡ Some was → HasItsTurn id was a b
-  pub none : line_of id a.lines ≡ None → b ≡ a
+pub record IsTurned (id gave : ℕ) (a b : Tunnel) : Type 0 where
+  pub served : (was : Line) → line_of id a.lines ≡ Some was → HasItsTurn id gave was a.lines a b
+  pub none : line_of id a.lines ≡ None → (b ≡ a) × (gave ≡ 0)
   pub others : KeepsOthers id a.lines b.lines
   pub incoming : b.engine.incoming ≡ a.engine.incoming
   pub wire : b.wire ≡ a.wire
   pub serves : ServingBut id a → Serving b
 
-looks : (id other : ℕ) (was : Line) (a b : Tunnel) → IsTurned id a b → (t : HasItsTurn id was a b) → (test : Bool) → nat_eq id other ≡ test → look other b.lines ≡ cond test (Some t.now.seen) (look other a.lines)
-looks id other was a b x t true e = ap (option_map (λ (l : Line). l.seen)) (ap (λ (n : ℕ). line_of n b.lines) (eq_ids id other e) ∙ t.there)
-looks id other was a b x t false e = ap (option_map (λ (l : Line). l.seen)) (x.others.lines other e)
+looks : (id gave other : ℕ) (was : Line) (a b : Tunnel) → IsTurned id gave a b → (t : HasItsTurn id gave was a.lines a b) → (test : Bool) → nat_eq id other ≡ test → look other b.lines ≡ cond test (Some t.now.seen) (look other a.lines)
+looks id gave other was a b x t true e = ap (option_map (λ (l : Line). l.seen)) (ap (λ (n : ℕ). line_of n b.lines) (eq_ids id other e) ∙ t.there)
+looks id gave other was a b x t false e = ap (option_map (λ (l : Line). l.seen)) (x.others.lines other e)
 
-turned_moves : (id : ℕ) (a b : Tunnel) → IsTurned id a b → Moves a b
-turned_moves id a b x = by (line_of id a.lines) refl
+turned_moves : (id gave : ℕ) (a b : Tunnel) → IsTurned id gave a b → Moves a b
+turned_moves id gave a b x = by (line_of id a.lines) refl
   where
     by : (o : Option Line) → line_of id a.lines ≡ o → Moves a b
-    by (Some was) e = let t = x.served was e in moves_served a b id was.seen t.now.seen t.turn.moved x.incoming x.wire (ap (option_map (λ (l : Line). l.seen)) e) (λ other. looks id other was a b x t (nat_eq id other) refl)
-    by None e = subst (λ (v : Tunnel). Moves a v) (sym (x.none e)) (moves_same a)
+    by (Some was) e = let t = x.served was e in moves_served a b id was.seen t.now.seen t.turn.moved x.incoming x.wire (ap (option_map (λ (l : Line). l.seen)) e) (λ other. looks id gave other was a b x t (nat_eq id other) refl)
+    by None e = subst (λ (v : Tunnel). Moves a v) (sym (x.none e).0) (moves_same a)
 
-turned_joined : (id other : ℕ) (a b : Tunnel) → IsTurned id a b → is_some (look other b.lines) ≡ is_some (look other a.lines)
-turned_joined id other a b x = by (line_of id a.lines) refl
+turned_joined : (id gave other : ℕ) (a b : Tunnel) → IsTurned id gave a b → is_some (look other b.lines) ≡ is_some (look other a.lines)
+turned_joined id gave other a b x = by (line_of id a.lines) refl
   where
-    there : (was : Line) (t : HasItsTurn id was a b) → line_of id a.lines ≡ Some was → (test : Bool) → nat_eq id other ≡ test → is_some (look other b.lines) ≡ is_some (look other a.lines)
-    there was t e true same = ap is_some (looks id other was a b x t true same) ∙ sym (ap is_some (ap (option_map (λ (l : Line). l.seen)) (ap (λ (n : ℕ). line_of n a.lines) (eq_ids id other same) ∙ e)))
-    there was t e false same = ap is_some (looks id other was a b x t false same)
+    there : (was : Line) (t : HasItsTurn id gave was a.lines a b) → line_of id a.lines ≡ Some was → (test : Bool) → nat_eq id other ≡ test → is_some (look other b.lines) ≡ is_some (look other a.lines)
+    there was t e true same = ap is_some (looks id gave other was a b x t true same) ∙ sym (ap is_some (ap (option_map (λ (l : Line). l.seen)) (ap (λ (n : ℕ). line_of n a.lines) (eq_ids id other same) ∙ e)))
+    there was t e false same = ap is_some (looks id gave other was a b x t false same)
 
     by : (o : Option Line) → line_of id a.lines ≡ o → is_some (look other b.lines) ≡ is_some (look other a.lines)
     by (Some was) e = there was (x.served was e) e (nat_eq id other) refl
-    by None e = ap (λ (v : Tunnel). is_some (look other v.lines)) (x.none e)
+    by None e = ap (λ (v : Tunnel). is_some (look other v.lines)) (x.none e).0
 
 -- ---- marks
 
@@ -57,72 +57,73 @@ both_off true b x y = absurd (x refl)
 both_off false true x y = absurd (y refl)
 both_off false false x y = refl
 
-stop_is_over : (id : ℕ) (was : Line) (a b : Tunnel) (t : HasItsTurn id was a b) → has_stop id t.turn.moved.events ≡ true → is_over t.now.ways ≡ true
-stop_is_over id was a b t h =
+stop_is_over : (id gave : ℕ) (was : Line) (a b : Tunnel) (t : HasItsTurn id gave was a.lines a b) → has_stop id t.turn.moved.events ≡ true → is_over t.now.ways ≡ true
+stop_is_over id gave was a b t h =
     subst (λ (w : Ways). is_over w ≡ true) (sym t.turn.ways) (both_off _ _ (stop_breaks_to id t.turn.moved.events was.ways h) (stop_breaks_from id t.turn.moved.events was.ways h))
 
 -- such a mark of this connection's device was on before, or the connection is over
 abbrev WasOn : (Seen → Bool) → ℕ → Tunnel → Tunnel → Type 0
 WasOn mark id a b = (l : Line) → line_of id b.lines ≡ Some l → mark l.seen ≡ true → (is_over l.ways ≡ true) ⊎ ((was : Line) × (line_of id a.lines ≡ Some was) × (mark was.seen ≡ true))
 
-turned_on : (mark : Seen → Bool) (id other : ℕ) (a b : Tunnel) → IsTurned id a b →
-    ((was : Line) (t : HasItsTurn id was a b) → mark t.now.seen ≡ true → (mark was.seen ≡ true) ⊎ (has_stop id t.turn.moved.events ≡ true)) → WasOn mark other a b
-turned_on mark id other a b x on = λ l there is. by (nat_eq id other) refl l there is
+turned_on : (mark : Seen → Bool) (id gave other : ℕ) (a b : Tunnel) → IsTurned id gave a b →
+    ((was : Line) (t : HasItsTurn id gave was a.lines a b) → mark t.now.seen ≡ true → (mark was.seen ≡ true) ⊎ (has_stop id t.turn.moved.events ≡ true)) → WasOn mark other a b
+turned_on mark id gave other a b x on = λ l there is. by (nat_eq id other) refl l there is
   where
     own : (o : Option Line) → line_of id a.lines ≡ o → WasOn mark id a b
     own (Some was) e = λ l there is.
         let t = x.served was e in
         let same : t.now ≡ l = let s : Some t.now ≡ Some l = sym t.there ∙ there in cc in
         subst (λ (v : Line). (is_over v.ways ≡ true) ⊎ ((w : Line) × (line_of id a.lines ≡ Some w) × (mark w.seen ≡ true))) same
-        (elim (on was t (subst (λ (v : Line). mark v.seen ≡ true) (sym same) is)) [ inl h ↦ inr (was, e, h) | inr h ↦ inl (stop_is_over id was a b t h) ])
-    own None e = λ l there is. let no : None ≡ Some l = sym e ∙ ap (λ (v : Tunnel). line_of id v.lines) (sym (x.none e)) ∙ there in absurd cc
+        (elim (on was t (subst (λ (v : Line). mark v.seen ≡ true) (sym same) is)) [ inl h ↦ inr (was, e, h) | inr h ↦ inl (stop_is_over id gave was a b t h) ])
+    own None e = λ l there is. let no : None ≡ Some l = sym e ∙ ap (λ (v : Tunnel). line_of id v.lines) (sym (x.none e).0) ∙ there in absurd cc
 
     by : (test : Bool) → nat_eq id other ≡ test → WasOn mark other a b
     by true e = subst (λ (n : ℕ). WasOn mark n a b) (sym (eq_ids id other e)) (own (line_of id a.lines) refl)
     by false e = λ l there is. inr (l, sym (x.others.lines other e) ∙ there, is)
 
-turned_rests : (id : ℕ) (a b : Tunnel) → IsTurned id a b → Rests a b
-turned_rests id a b x = record {
+turned_rests : (id gave : ℕ) (a b : Tunnel) → IsTurned id gave a b → Rests a b
+turned_rests id gave a b x = record {
   wire_pull = λ h. ap (λ (s : Seen). s.marks.may_pull) (sym x.wire) ∙ h;
   wire_push = λ h. ap (λ (s : Seen). s.marks.may_push) (sym x.wire) ∙ h;
-  pull = λ other. turned_on (λ s. s.marks.may_pull) id other a b x (λ was t. t.turn.pull_on);
-  push = λ other. turned_on (λ s. s.marks.may_push) id other a b x (λ was t. t.turn.push_on);
+  pull = λ other. turned_on (λ s. s.marks.may_pull) id gave other a b x (λ was t. t.turn.pull_on);
+  push = λ other. turned_on (λ s. s.marks.may_push) id gave other a b x (λ was t. t.turn.push_on);
 }
 
 -- ---- the first that waits
 
 -- this one was taken out of the queues, and then served
-pub record IsFirstServed (id : ℕ) (a b : Tunnel) (taken : Lines) : Type 0 where
+pub record IsFirstServed (id gave : ℕ) (a b : Tunnel) (taken : Lines) : Type 0 where
   pub lines : SameLines a.lines taken
   pub first : TakesTurn id a.lines taken
   pub missed : taken.missed ≡ a.lines.missed
   pub held : taken.held ≡ a.lines.held
-  pub turned : IsTurned id (record a { lines = taken }) b
+  pub turned : IsTurned id gave (record a { lines = taken }) b
 
-first_serves : (id : ℕ) (a b : Tunnel) (taken : Lines) → IsFirstServed id a b taken → ServesFirst id a b
-first_serves id a b taken x = record {
+first_serves : (id gave : ℕ) (a b : Tunnel) (taken : Lines) → IsFirstServed id gave a b taken → ServesFirst id gave a b
+first_serves id gave a b taken x = record {
   taken = taken;
   first = x.first;
   waits = x.turned.others.queues;
-  served = λ was there. let y = x.turned.served was (x.lines id ∙ there) in record { now = y.now; there = y.there; more = y.more; gave = y.gave; turn = y.turn };
+  served = λ was there. let y = x.turned.served was (x.lines id ∙ there) in record { now = y.now; there = y.there; more = y.more; turn = y.turn; rests = y.rests; alone = y.alone };
+  none = λ h. let n = x.turned.none (x.lines id ∙ h) in (n.1, (ap (λ (v : Tunnel). v.lines.fresh) n.0, ap (λ (v : Tunnel). v.lines.busy) n.0));
 }
 
-first_runs : (id : ℕ) (a b : Tunnel) (taken : Lines) → IsFirstServed id a b taken → Runs a b
-first_runs id a b taken x =
+first_runs : (id gave : ℕ) (a b : Tunnel) (taken : Lines) → IsFirstServed id gave a b taken → Runs a b
+first_runs id gave a b taken x =
     let m : Tunnel = record a { lines = taken } in
-    runs_turn a b id (moves_then a m b (moves_still a m refl (record { outgoing = refl; incoming = refl }) refl (λ other. ap (option_map (λ (l : Line). l.seen)) (x.lines other))) (turned_moves id m b x.turned))
-    (λ h. x.turned.serves (serving_turn id a m refl x.lines x.first x.missed x.held h)) (first_serves id a b taken x)
+    runs_turn a b id gave (moves_then a m b (moves_still a m refl (record { outgoing = refl; incoming = refl }) refl (λ other. ap (option_map (λ (l : Line). l.seen)) (x.lines other))) (turned_moves id gave m b x.turned))
+    (λ h. x.turned.serves (serving_turn id a m refl x.lines x.first x.missed x.held h)) (first_serves id gave a b taken x)
 
-first_stays : (id : ℕ) (a b : Tunnel) (taken : Lines) → IsFirstServed id a b taken → Stays a b
-first_stays id a b taken x = record {
-  joined = λ other. turned_joined id other (record a { lines = taken }) b x.turned ∙ ap (λ (o : Option Line). is_some (option_map (λ (l : Line). l.seen) o)) (x.lines other);
+first_stays : (id gave : ℕ) (a b : Tunnel) (taken : Lines) → IsFirstServed id gave a b taken → Stays a b
+first_stays id gave a b taken x = record {
+  joined = λ other. turned_joined id gave other (record a { lines = taken }) b x.turned ∙ ap (λ (o : Option Line). is_some (option_map (λ (l : Line). l.seen) o)) (x.lines other);
   ended = ap (λ (s : Seen). s.ended) x.turned.wire;
   shut = ap (λ (s : Seen). s.shut) x.turned.wire;
 }
 
-first_rests : (id : ℕ) (a b : Tunnel) (taken : Lines) → IsFirstServed id a b taken → Rests a b
-first_rests id a b taken x =
-    let r = turned_rests id (record a { lines = taken }) b x.turned in
+first_rests : (id gave : ℕ) (a b : Tunnel) (taken : Lines) → IsFirstServed id gave a b taken → Rests a b
+first_rests id gave a b taken x =
+    let r = turned_rests id gave (record a { lines = taken }) b x.turned in
     record {
       wire_pull = r.wire_pull;
       wire_push = r.wire_push;
@@ -138,12 +139,12 @@ none_runs before a q view same queues =
     (serving_lines before b refl (keeps_queues before.lines q same queues)) (extends_queues before.lines q queues))
 
 -- all that a turn says, where the tunnel is seen from outside
-pub record FirstHasTurn (id : ℕ) (a b : Tunnel) : Type 0 where
+pub record FirstHasTurn (id gave : ℕ) (a b : Tunnel) : Type 0 where
   pub runs : Runs a b
   pub stays : Stays a b
   pub rests : Rests a b
-  pub turn : ServesFirst id a b
+  pub turn : ServesFirst id gave a b
 
-pub first_has_turn : (id : ℕ) (before a b : Tunnel) (taken : Lines) → before ≡ a → IsFirstServed id before b taken → FirstHasTurn id a b
-first_has_turn id before a b taken view x =
-    subst (λ (v : Tunnel). FirstHasTurn id v b) view (record { runs = first_runs id before b taken x; stays = first_stays id before b taken x; rests = first_rests id before b taken x; turn = first_serves id before b taken x })
+pub first_has_turn : (id gave : ℕ) (before a b : Tunnel) (taken : Lines) → before ≡ a → IsFirstServed id gave before b taken → FirstHasTurn id gave a b
+first_has_turn id gave before a b taken view x =
+    subst (λ (v : Tunnel). FirstHasTurn id gave v b) view (record { runs = first_runs id gave before b taken x; stays = first_stays id gave before b taken x; rests = first_rests id gave before b taken x; turn = first_serves id gave before b taken x })

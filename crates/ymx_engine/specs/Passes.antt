@@ -33,6 +33,14 @@ is_of_pass id (event.Call (call.Reset other)) = other == id
 is_of_pass id (event.Feed bytes) = true
 is_of_pass id _ = false
 
+-- a feed, that the peer's bytes have ended, or a read or a reset of a stream
+abbrev pub is_of_reading : Event → Bool
+is_of_reading (event.Call (call.Read id room)) = true
+is_of_reading (event.Call (call.Reset id)) = true
+is_of_reading (event.Feed bytes) = true
+is_of_reading event.FeedEnd = true
+is_of_reading _ = false
+
 -- Nothing happened but feeds of what waited, and reads and a reset of this stream. Each feed offers the front of what
 -- waits; the session took a beginning, and the rest waits. The device took just what the stream gave, in order, and gave
 -- nothing. It was ended exactly if the stream's end was read, and the stream was reset exactly if the device failed. The

@@ -1,6 +1,5 @@
 -- How a tunnel goes on, call by call (this project's own).
-use Rattle.std.specs.Prelude.{ℕ, ◌≡◌, ◌⊎◌, Option, is_some, nat_eq, cond, true, Some}
-use Rattle.ymx_engine.specs.Devices.{Seen}
+use Rattle.std.specs.Prelude.{ℕ, ◌≡◌, ◌⊎◌, is_some, true, Some}
 use Rattle.ymx_engine.specs.Engines.{IsFlushed}
 use Rattle.ymx_engine.specs.Moves.{Moves}
 use Rattle.ymx_engine.specs.Tunnels.{Tunnel, HasFailed}
@@ -30,8 +29,3 @@ pub record Rests (old new : Tunnel) : Type 0 where
   pub wire_push : new.wire.marks.may_push ≡ true → old.wire.marks.may_push ≡ true
   pub pull : (id : ℕ) (l : Line) → line_of id new.lines ≡ Some l → l.seen.marks.may_pull ≡ true → (is_over l.ways ≡ true) ⊎ ((was : Line) × (line_of id old.lines ≡ Some was) × (was.seen.marks.may_pull ≡ true))
   pub push : (id : ℕ) (l : Line) → line_of id new.lines ≡ Some l → l.seen.marks.may_push ≡ true → (is_over l.ways ≡ true) ⊎ ((was : Line) × (line_of id old.lines ≡ Some was) × (was.seen.marks.may_push ≡ true))
-
--- The device of this stream came or left, as `there` says, and those of all others stayed as they were, and so did the wire.
-pub record Changes (id : ℕ) (there : Option Seen) (old new : Tunnel) : Type 0 where
-  pub lines : (other : ℕ) → look other new.lines ≡ cond (nat_eq id other) there (look other old.lines)
-  pub wire : new.wire ≡ old.wire

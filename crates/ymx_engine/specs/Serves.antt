@@ -41,17 +41,33 @@ pub record Exchanges (id : ℕ) (s t : Session) (out out_new : List ℕ) (before
   pub trades : Trades id events before after
   pub to_wire : out ++ emitted events ≡ out_new
 
--- One turn of a connection, in which it is read as well where this says so. Nothing happened but what `Exchanges` says, in at most
+-- no more comes, as the end was read, or a read was refused
+abbrev pub tells_end : Reply → Bool
+tells_end reply.ReadEnd = true
+tells_end (reply.Refused fault) = true
+tells_end _ = false
+
+-- a read of the stream would say that no more comes
+abbrev pub is_silent : ℕ → Session → Bool
+is_silent id s = tells_end (read_from id 1 s).reply
+
+-- the stream takes no bytes any more, though it was not finished here
+abbrev pub is_stopped : ℕ → Session → Bool
+is_stopped id s = is_stop (write_to id [] s).reply
+
+-- One turn of a connection, in which it is read only where this says so. Nothing happened but what `Exchanges` says, in at most
 -- thirteen calls of the device, and its ways follow that. Where bytes waited that the device might take, it took some, or may take
 -- none now. Where it might have bytes and was to be read, it gave some, or may have none now, or the stream takes none. No mark
--- went on, unless the device was shut. It has more to do at least where bytes wait still that the device may take; where it may
--- have bytes that the stream takes, and was to be read; and where the session is over, its way to the peer is open, and its
--- connection is not still being made.
+-- went on, unless the device was shut. It has more to do at least where bytes wait still that the device may take, or no
+-- more come; where it may have bytes that the stream takes, and was to be read; where the stream takes none any more, though it was not
+-- finished here, and where the session is over, while its way to the peer is open and its connection is not still being made. It
+-- has more to do only where the device may take bytes or have some, or where the session is over and its way to the peer open.
 pub record Turn (id : ℕ) (reads : Bool) (s t : Session) (out out_new : List ℕ) (before after : Seen) (was now : Ways) (more : Bool) (gave : ℕ) : Type 0 where
   pub moved : Exchanges id s t out out_new before after
   pub few : after.calls ≤ before.calls + 13
   pub ways : now ≡ ways_after id moved.events was
   pub gives : gave ≡ length (all_of moved.trades.pieces)
+  pub unread : reads ≡ false → gave ≡ 0
   pub delivers : may_push was before.marks ≡ true → 0 < length (waiting id s) → (has_bytes (given id moved.events) ≡ true) ⊎ (may_push now after.marks ≡ false)
   pub collects : reads ≡ true → may_pull was before.marks ≡ true → (0 < gave) ⊎ ((may_pull now after.marks ≡ false) ⊎ (room_of id t ≡ 0))
   pub pull_on : after.marks.may_pull ≡ true → (before.marks.may_pull ≡ true) ⊎ (has_stop id moved.events ≡ true)
@@ -59,6 +75,9 @@ pub record Turn (id : ℕ) (reads : Bool) (s t : Session) (out out_new : List �
   pub stays : IsWithin s → may_push now after.marks ≡ true → 0 < length (waiting id t) → more ≡ true
   pub asks_on : reads ≡ true → may_pull now after.marks ≡ true → 0 < room_of id t → more ≡ true
   pub hears : is_running t.status ≡ false → after.marks.is_connecting ≡ false → is_open now.to_peer ≡ true → more ≡ true
+  pub ends_on : may_push now after.marks ≡ true → is_silent id t ≡ true → more ≡ true
+  pub stops_on : after.marks.is_connecting ≡ false → is_open now.to_peer ≡ true → is_stopped id t ≡ true → more ≡ true
+  pub rests : more ≡ true → (may_push now after.marks ≡ true) ⊎ ((may_pull now after.marks ≡ true) ⊎ ((is_running t.status ≡ false) × (is_open now.to_peer ≡ true)))
 
 -- ---- a part of it
 
@@ -106,4 +125,4 @@ HearsEnd id s now = (is_open now.from_peer ≡ false) ⊎ ((read_from id 1 s).re
 
 -- where the way from it is open, its stream takes bytes still, or was finished here
 abbrev pub HearsStop : ℕ → Session → Ways → Type 0
-HearsStop id s now = is_open now.to_peer ≡ true → is_stop (write_to id [] s).reply ≡ false
+HearsStop id s now = is_open now.to_peer ≡ true → is_stopped id s ≡ false

@@ -1,20 +1,22 @@
 -- The steps that a tunnel's calls are made of (this project's own).
-use Rattle.std.specs.Prelude.{ℕ, ◌≡◌, ◌⊎◌, ◌+◌, ◌<◌, ◌≤◌, List, [], length, drop, Bool, true, false, Some}
+use Rattle.std.specs.Prelude.{ℕ, ◌≡◌, ◌⊎◌, List, Bool, true, false, Some}
 use Rattle.ymx_model.specs.session.Sessions.{Session}
 use Rattle.ymx_engine.specs.Exchanges.{has_bytes}
 use Rattle.ymx_engine.specs.Moves.{Moves}
-use Rattle.ymx_engine.specs.Passes.{OffersOnce}
+use Rattle.std.specs.List.{list_all}
+use Rattle.ymx_engine.specs.Passes.{OffersOnce, is_of_reading}
+use Rattle.ymx_engine.specs.Runs.{Runs}
 use Rattle.ymx_engine.specs.Served.{Serving}
 use Rattle.ymx_engine.specs.Serves.{Turn}
 use Rattle.ymx_engine.specs.Tunnels.{Tunnel}
-use Rattle.ymx_engine.specs.Turns.{Line, Lines, line_of, Puts, Extends, AddsTurn, KeepsLines, StaysMissed, StaysOrAdds, Awaits, Attended}
+use Rattle.ymx_engine.specs.Turns.{Line, Lines, line_of, Puts, Extends, AddsTurn, KeepsLines, SameTurns, WaitsAlone, StaysMissed, StaysOrAdds, Awaits, Attended}
 use Rattle.ymx_engine.specs.Ways.{is_over, may_pull}
 use Rattle.ymx_engine.specs.Work.{Writes}
 
 -- ---- a connection's part
 
--- The connection of this stream had a turn. It waits for a further one where it has more to move, or is held back where it was
--- not to be read and may have bytes. Nobody else is touched.
+-- The connection of this stream had a turn. It waits for a further one exactly where it has more to move, or is held back where it
+-- was not to be read and may have bytes. Nobody else is touched.
 pub record TakesPart (id : ℕ) (reads : Bool) (was : Line) (s t : Session) (out out_new : List ℕ) (old new : Lines) (gave : ℕ) : Type 0 where
   pub now : Line
   pub lines : Puts id (Some now) old new
@@ -24,6 +26,8 @@ pub record TakesPart (id : ℕ) (reads : Bool) (was : Line) (s t : Session) (out
   pub missed : StaysMissed old new
   pub held : StaysOrAdds id old.held new.held
   pub again : more ≡ true → Awaits id new
+  pub rests : more ≡ false → SameTurns old new
+  pub alone : WaitsAlone id old new
   pub put_off : reads ≡ false → may_pull now.ways now.seen.marks ≡ true → Attended id new
 
 -- Payload of this stream that waits was offered to its connection's device in one call.
@@ -44,9 +48,15 @@ StaysOver old new = (id : ℕ) (now : Line) → line_of id new ≡ Some now → 
 
 -- ---- a tunnel's
 
--- The wire was left alone, and so was each connection. Nobody who can be served was forgotten, or left his place.
+-- It ran on, and nothing happened but feeds, and reads and resets of streams.
+pub record ReadsOn (old new : Tunnel) : Type 0 where
+  pub runs : Runs old new
+  pub own : list_all (λ e. is_of_reading e.0) runs.moves.events ≡ true
+
+-- The same, where the wire was left alone, and so was each connection. Nobody who can be served was forgotten, or left his place.
 pub record Keeps (old new : Tunnel) : Type 0 where
   pub moves : Moves old new
+  pub own : list_all (λ e. is_of_reading e.0) moves.events ≡ true
   pub wire : new.wire ≡ old.wire
   pub over : new.is_wire_over ≡ old.is_wire_over
   pub lines : KeepsLines old.lines new.lines

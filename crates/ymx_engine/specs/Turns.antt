@@ -103,6 +103,10 @@ pub record Extends (old new : Lines) : Type 0 where
   pub busy : new.busy ≡ old.busy ++ more_busy
   pub flag : new.is_for_busy ≡ old.is_for_busy
 
+-- nobody waits for a turn anew
+abbrev pub SameTurns : Lines → Lines → Type 0
+SameTurns old new = (new.fresh ≡ old.fresh) × (new.busy ≡ old.busy)
+
 -- a turn that was missed stays so
 abbrev pub StaysMissed : Lines → Lines → Type 0
 StaysMissed old new = old.missed ≡ true → new.missed ≡ true
@@ -118,6 +122,10 @@ pub record SameQueues (old new : Lines) : Type 0 where
 -- a queue stays, or this id stands behind the others
 abbrev pub StaysOrAdds : ℕ → List ℕ → List ℕ → Type 0
 StaysOrAdds id old new = (new ≡ old) ⊎ (new ≡ old ++ id ∷ [])
+
+-- nobody waits for a turn anew but this one
+abbrev pub WaitsAlone : ℕ → Lines → Lines → Type 0
+WaitsAlone id old new = StaysOrAdds id old.fresh new.fresh × StaysOrAdds id old.busy new.busy
 
 -- each that waited waits on at its place, and none other waits but this
 pub record AddsTurn (id : ℕ) (old new : Lines) : Type 0 where

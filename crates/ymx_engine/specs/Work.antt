@@ -1,8 +1,6 @@
 -- What a tunnel has to do, and that each round does some of it (this project's own).
-use Rattle.std.specs.Prelude.{ℕ, ◌≡◌, ◌⊎◌, ◌||◌, ◌&&◌, ◌==◌, if◌then◌else◌, nat_lt, not, length, List, [], Bool, Some, true, false, is_some, option_map}
-use Rattle.std.specs.Io.KnownBytes.{Appends, Consumes}
-use Rattle.ymx_model.specs.session.Events.{Event}
-use Rattle.ymx_machine.specs.shared.Events.{Reply}
+use Rattle.std.specs.Prelude.{ℕ, ◌≡◌, ◌⊎◌, ◌||◌, ◌&&◌, ◌==◌, if◌then◌else◌, nat_lt, not, length, [], Bool, None, Some, true, false}
+use Rattle.std.specs.List.{list_all}
 use Rattle.ymx_model.specs.session.Sessions.{is_running}
 use Rattle.ymx_model.specs.session.Emissions.{is_ready}
 use Rattle.ymx_engine.specs.Engines.{Engine}
@@ -11,7 +9,9 @@ use Rattle.ymx_engine.specs.Moves.{Moves}
 use Rattle.ymx_engine.specs.Served.{Serving}
 use Rattle.ymx_engine.specs.Serves.{Turn}
 use Rattle.ymx_engine.specs.Tunnels.{Tunnel}
-use Rattle.ymx_engine.specs.Turns.{Line, Lines, line_of, is_idle, Extends, TakesTurn}
+use Rattle.ymx_engine.specs.Passes.{is_of_reading}
+use Rattle.ymx_engine.specs.Wires.{is_of_flush}
+use Rattle.ymx_engine.specs.Turns.{Line, Lines, line_of, is_idle, Extends, SameTurns, WaitsAlone, TakesTurn}
 
 -- bytes wait for the wire, or something is due
 abbrev pub has_to_send : Engine → Bool
@@ -45,44 +45,52 @@ takes_more t = t.is_wire_over || (length t.engine.outgoing == 0) || t.wire.marks
 
 -- ---- one step
 
--- The wire was read. Where nothing waited to be fed and it might have bytes, some came, or it may have none now.
+-- The wire was read, and nothing else happened: what it gave was fed, or went to the devices of its streams, of which one that failed
+-- had its stream reset. Where nothing waited to be fed and the wire might have bytes, some came, or it may have none now.
 pub record Reads (old new : Tunnel) : Type 0 where
   pub moves : Moves old new
+  pub own : list_all (λ e. is_of_reading e.0) moves.events ≡ true
   pub asks : old.engine.incoming ≡ [] → may_have_bytes old ≡ true → (has_bytes moves.came ≡ true) ⊎ (may_have_bytes new ≡ false)
 
--- What was due was written to the wire. Where it might take bytes and some waited or were due, it took some, or may take none
--- now; it took all, or may take none now; and then nobody is held back any more.
+-- What was due was written to the wire, and nothing else happened. Where it might take bytes and some waited or were due, it took
+-- some, or may take none now; it took all, or may take none now; and then nobody is held back any more.
 pub record Writes (old new : Tunnel) : Type 0 where
   pub moves : Moves old new
+  pub own : list_all (λ e. is_of_flush e.0) moves.events ≡ true
   pub offers : old.wire.marks.may_push ≡ true → has_to_send old.engine ≡ true → (has_bytes moves.sent ≡ true) ⊎ (new.wire.marks.may_push ≡ false)
   pub all : old.wire.marks.may_push ≡ true → (new.engine.outgoing ≡ []) ⊎ (new.wire.marks.may_push ≡ false)
   pub releases : old.wire.marks.may_push ≡ true → new.engine.outgoing ≡ [] → new.lines.held ≡ []
 
--- What a connection does in its turn, if it is still there: it is read where connections may be.
-pub record HasItsTurn (id : ℕ) (was : Line) (old new : Tunnel) : Type 0 where
+-- What a connection does in its turn, if it is still there: it is read where connections may be. Behind those that waited it waits
+-- for a further turn only where it has more to move, and nobody else does.
+pub record HasItsTurn (id gave : ℕ) (was : Line) (waits : Lines) (old new : Tunnel) : Type 0 where
   pub now : Line
   pub there : line_of id new.lines ≡ Some now
   pub more : Bool
-  pub gave : ℕ
   pub turn : Turn id (takes_more old) old.engine.session new.engine.session old.engine.outgoing new.engine.outgoing was.seen now.seen was.ways now.ways more gave
+  pub rests : more ≡ false → SameTurns waits new.lines
+  pub alone : WaitsAlone id waits new.lines
 
--- The first of the queue whose turn it was had its turn: each other that waited has fewer before it now.
-pub record ServesFirst (id : ℕ) (old new : Tunnel) : Type 0 where
+-- The first of the queue whose turn it was had its turn, in which its device gave so many bytes: each other that waited has fewer
+-- before it now.
+pub record ServesFirst (id gave : ℕ) (old new : Tunnel) : Type 0 where
   pub taken : Lines
   pub first : TakesTurn id old.lines taken
   pub waits : Extends taken new.lines
-  pub served : (was : Line) → line_of id old.lines ≡ Some was → HasItsTurn id was old new
+  pub served : (was : Line) → line_of id old.lines ≡ Some was → HasItsTurn id gave was taken old new
+  pub none : line_of id old.lines ≡ None → (gave ≡ 0) × SameTurns taken new.lines
 
 -- ---- many steps
 
 -- The first that waited had its turn: until then none left its place.
 pub record FirstTurn (old new : Tunnel) : Type 0 where
   pub id : ℕ
+  pub gave : ℕ
   pub before : Tunnel
   pub after : Tunnel
   pub to : Moves old before
   pub waits : Extends old.lines before.lines
-  pub turn : ServesFirst id before after
+  pub turn : ServesFirst id gave before after
   pub behind : Moves after new
 
 -- Nobody who can be served is forgotten; and nobody who waited for a turn left its place, or the first had its turn.

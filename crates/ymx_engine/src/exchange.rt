@@ -10,7 +10,7 @@ ghost use Rattle.ymx_model.specs.session.Histories.{Gives};
 ghost use Rattle.ymx_session.specs.Streams.{waiting, room_of};
 ghost use Rattle.ymx_engine.specs.Devices.{IsShut};
 ghost use Rattle.ymx_engine.specs.Served.{GainsNone};
-ghost use Rattle.ymx_engine.specs.Serves.{Turn, Part, Delivers, HearsEnd, HearsStop};
+ghost use Rattle.ymx_engine.specs.Serves.{Turn, Part, Delivers, HearsEnd, HearsStop, is_silent, is_stopped};
 ghost use Rattle.ymx_engine.specs.Ways.{is_open, may_push, may_pull, broken_off};
 
 use crate::block::Block;
@@ -84,6 +84,10 @@ fn deliver<D: Device>(session: &mut Session, id: u32, ways: &mut Ways, device: &
     ensures hears_end { may_push ways.old (D.seen device.old).marks ≡ true → waiting id session.old ≡ [] → HearsEnd id session.old ways.new }
     ensures idle { may_push ways.old (D.seen device.old).marks ≡ false → (session.new ≡ session.old) × (ways.new ≡ ways.old) × (D.seen device.new ≡ D.seen device.old) }
     ensures stays { may_push ways.new (D.seen device.new).marks ≡ true → 0 < length (waiting id session.new) → result ≡ true }
+    // It was told where no more come, unless more is to be written.
+    ensures ends { may_push ways.new (D.seen device.new).marks ≡ true → is_silent id session.new ≡ true → result ≡ true }
+    // One that may take bytes still has a stream that takes some, unless the session is over.
+    ensures takes { may_push ways.new (D.seen device.new).marks ≡ true → is_running session.new.status ≡ true → is_stopped id session.new ≡ false }
 {
     'push: for turn in 0..4u64 {
         if !ways.may_push(device) {
@@ -104,6 +108,8 @@ fn push_once<D: Device>(session: &mut Session, id: u32, ways: &mut Ways, device:
     ensures some { result ≡ true → 0 < length (waiting id session.old) }
     ensures hears_end { waiting id session.old ≡ [] → HearsEnd id session.old ways.new }
     ensures stays { may_push ways.new (D.seen device.new).marks ≡ true → 0 < length (waiting id session.new) → result ≡ true }
+    ensures ends { may_push ways.new (D.seen device.new).marks ≡ true → is_silent id session.new ≡ true → result ≡ true }
+    ensures takes { may_push ways.new (D.seen device.new).marks ≡ true → is_running session.new.status ≡ true → is_stopped id session.new ≡ false }
 {
     let bytes = session.unread(id);
     if bytes.is_empty() {
@@ -150,6 +156,7 @@ fn hear_stop<D: Device>(session: &mut Session, id: u32, ways: &mut Ways, device:
     ensures part { Part id session.old session.new [] [] (D.seen device.old) (D.seen device.new) ways.old ways.new 1 0 }
     ensures tells { may_push ways.old (D.seen device.old).marks ≡ false → (D.seen device.old).marks.is_connecting ≡ false → HearsStop id session.old ways.new }
     ensures same { session.new ≡ session.old }
+    ensures connects { (D.seen device.new).marks.is_connecting ≡ (D.seen device.old).marks.is_connecting }
 {
     if !ways.to_peer.is_open() || ways.may_push(device) || device.is_connecting() {
         return;
@@ -162,6 +169,7 @@ fn shut_if_stopped<D: Device>(session: &mut Session, id: u32, ways: &mut Ways, d
     ensures part { Part id session.old session.new [] [] (D.seen device.old) (D.seen device.new) ways.old ways.new 1 0 }
     ensures tells { HearsStop id session.old ways.new }
     ensures same { session.new ≡ session.old }
+    ensures connects { (D.seen device.new).marks.is_connecting ≡ (D.seen device.old).marks.is_connecting }
 {
     if is_stopped(session, id) {
         ways.break_off();
@@ -200,6 +208,11 @@ fn collect<D: Device>(
     ensures collects { reads ≡ true → may_pull ways.old (D.seen device.old).marks ≡ true → (0 < result.gave) ⊎ ((may_pull ways.new (D.seen device.new).marks ≡ false) ⊎ (room_of id session.new ≡ 0)) }
     ensures goes_on { result.more ≡ true → may_pull ways.new (D.seen device.new).marks ≡ true }
     ensures asks_on { reads ≡ true → may_pull ways.new (D.seen device.new).marks ≡ true → 0 < room_of id session.new → result.more ≡ true }
+    ensures unread { reads ≡ false → result.gave ≡ 0 }
+    // The stream says no more of its end than it did, unless it was reset.
+    ensures ends { is_open ways.new.from_peer ≡ true → is_silent id session.new ≡ true → is_silent id session.old ≡ true }
+    ensures stops { is_open ways.new.to_peer ≡ true → is_stopped id session.new ≡ true → is_stopped id session.old ≡ true }
+    ensures connects { (D.seen device.new).marks.is_connecting ≡ (D.seen device.old).marks.is_connecting }
 {
     if !reads || !ways.may_pull(device) {
         return TurnEnd::NOTHING;
@@ -233,6 +246,9 @@ fn pull_once<D: Device>(
     ensures goes_on { result.more ≡ true → 0 < result.gave }
     ensures on { result.more ≡ true → may_pull ways.new (D.seen device.new).marks ≡ true }
     ensures asks_on { may_pull ways.new (D.seen device.new).marks ≡ true → 0 < room_of id session.new → result.more ≡ true }
+    ensures ends { is_open ways.new.from_peer ≡ true → is_silent id session.new ≡ true → is_silent id session.old ≡ true }
+    ensures stops { is_open ways.new.to_peer ≡ true → is_stopped id session.new ≡ true → is_stopped id session.old ≡ true }
+    ensures connects { (D.seen device.new).marks.is_connecting ≡ (D.seen device.old).marks.is_connecting }
 {
     put_due(session, outgoing);
     let room = session.room(id).min(buffer.len()).min(BLOCK);

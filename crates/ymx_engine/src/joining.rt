@@ -7,10 +7,11 @@ ghost use Rattle.ymx_model.specs.declared.types.Event.TheVariants as event;
 ghost use Rattle.ymx_model.specs.session.Emissions.{in_turn};
 ghost use Rattle.ymx_model.specs.session.Histories.{Gives};
 ghost use Rattle.ymx_model.specs.session.Sessions.{is_running};
-ghost use Rattle.ymx_engine.specs.Joins.{Told, Joins, IsUnjoined, IsRefused, Rejects};
+ghost use Rattle.ymx_engine.specs.Joins.{Told, Joins, IsJoined, IsOpened, IsAccepted, IsUnjoined, IsNotOpened, IsNotAccepted, Leaves, Rejects};
+ghost use Rattle.ymx_engine.specs.Engines.{KeepsWire};
 ghost use Rattle.ymx_engine.specs.Refusals.{GivesUp, IsForgotten, OffersNone};
-ghost use Rattle.ymx_engine.specs.Runs.{Runs, Changes};
-ghost use Rattle.ymx_engine.specs.Turns.{Line as LineValue, line_of, look};
+ghost use Rattle.ymx_engine.specs.Runs.{Runs};
+ghost use Rattle.ymx_engine.specs.Turns.{Line as LineValue, line_of, look, SameLines};
 ghost use Rattle.ymx_engine.specs.Ways.{is_over};
 
 use crate::device::Device;
@@ -48,9 +49,9 @@ impl<D: Device + Drop, W: Device + Drop> Tunnel<D, W> {
     /// and forgotten; where there is no memory to keep it none is opened.
     pub fn open<G: Registry<D>>(&mut self, device: D, registry: &mut G) -> Result<u32, NotJoined>
         ensures runs { Runs self.old self.new }
-        ensures joined { IfOk result (λ id. Changes id (Some (D.seen device)) self.old self.new) }
-        ensures registered { IfOk result (λ id. Told id true (G.told registry.old) (G.told registry.new)) }
-        ensures refused { IfErr result (λ why. IsRefused why self.old self.new (G.told registry.old) (G.told registry.new)) }
+        // A stream was opened, and the device joined it, of which the registry was told.
+        ensures joined { IfOk result (λ id. IsJoined IsOpened id (D.seen device) self.old self.new (G.told registry.old) (G.told registry.new)) }
+        ensures refused { IfErr result (λ why. IsNotOpened why self.old self.new (G.told registry.old) (G.told registry.new)) }
     {
         if let Err(refused) = self.lines.reserve() {
             return Err(NotJoined::BySession(CallFault::OutOfMemory(refused)));
@@ -70,9 +71,10 @@ impl<D: Device + Drop, W: Device + Drop> Tunnel<D, W> {
         registry: &mut G,
     ) -> Result<Option<u32>, NotJoined>
         ensures runs { Runs self.old self.new }
-        ensures joined { IfOk result (λ offered. IfSome offered (λ id. Changes id (Some (D.seen device)) self.old self.new × Told id true (G.told registry.old) (G.told registry.new))) }
-        ensures none { IfOk result (λ offered. IfNone offered (OffersNone self.old.engine.session self.new.engine.session × (G.told registry.new ≡ G.told registry.old))) }
-        ensures refused { IfErr result (λ why. IsRefused why self.old self.new (G.told registry.old) (G.told registry.new)) }
+        // The stream that was offered first was accepted, and the device joined it, of which the registry was told.
+        ensures joined { IfOk result (λ offered. IfSome offered (λ id. IsJoined IsAccepted id (D.seen device) self.old self.new (G.told registry.old) (G.told registry.new))) }
+        ensures none { IfOk result (λ offered. IfNone offered (OffersNone self.old.engine.session self.new.engine.session × SameLines self.old.lines self.new.lines × (G.told registry.new ≡ G.told registry.old))) }
+        ensures refused { IfErr result (λ why. IsNotAccepted why self.old self.new (G.told registry.old) (G.told registry.new)) }
     {
         if let Err(refused) = self.lines.reserve() {
             self.reject();
@@ -90,6 +92,8 @@ impl<D: Device + Drop, W: Device + Drop> Tunnel<D, W> {
         ensures runs { Runs self.old self.new }
         ensures lines { self.new.lines ≡ self.old.lines }
         ensures wire { self.new.wire ≡ self.old.wire }
+        ensures over { self.new.is_wire_over ≡ self.old.is_wire_over }
+        ensures bytes { KeepsWire self.old.engine self.new.engine }
         ensures none { result ≡ false → OffersNone self.old.engine.session self.new.engine.session }
         ensures some { result ≡ true → Rejects self.old.engine.session self.new.engine.session }
     {
@@ -111,7 +115,7 @@ impl<D: Device + Drop, W: Device + Drop> Tunnel<D, W> {
         requires over { (l : LineValue) → line_of id self.old.lines ≡ Some l → (is_over l.ways ≡ true) ⊎ (is_running self.old.engine.session.status ≡ false) }
         ensures runs { Runs self.old self.new }
         ensures given { option_map D.seen result ≡ look id self.old.lines }
-        ensures gone { Changes id None self.old self.new }
+        ensures gone { Leaves id self.old self.new }
         ensures status { self.new.engine.session.status ≡ self.old.engine.session.status }
     {
         let device = self.lines.remove(id);
@@ -150,7 +154,7 @@ impl<D: Device + Drop, W: Device + Drop> Tunnel<D, W> {
     /// Takes the offered stream that came first. `None` where the session offers none, or refuses.
     fn take_offered(&mut self) -> Option<u32>
         ensures same { self.new ≡ record self.old { engine = record self.old.engine { session = self.new.engine.session } } }
-        ensures accepted { IfSome result (λ id. Gives in_turn self.old.engine.session (event.Call call.Accept) (reply.Accepted (Some id)) self.new.engine.session) }
+        ensures accepted { IfSome result (λ id. IsAccepted id self.old.engine.session self.new.engine.session) }
         ensures none { IfNone result (OffersNone self.old.engine.session self.new.engine.session) }
     {
         match self.session.accept() {

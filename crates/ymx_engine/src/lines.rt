@@ -7,7 +7,7 @@ ghost use Rattle.std.specs.VecDeque.{deque_len, deque_capacity};
 ghost use Rattle.ymx_session.specs.Touched.{is_noted, nothing_noted};
 ghost use Rattle.ymx_engine.specs.Entries.{Rewrites};
 ghost use Rattle.ymx_engine.specs.Ways.{is_over, new_ways};
-ghost use Rattle.ymx_engine.specs.Turns.{Line as LineValue, line_of, look, ways_of, held_mark, queue_mark, is_idle, Puts, SameLines, SameQueues, KeepsLines, Adds, Notes, Waits, Awaits, Attended, IsIdle, StaysOrAdds, AddsTurn, TakesTurn, Extends, StaysMissed};
+ghost use Rattle.ymx_engine.specs.Turns.{Line as LineValue, line_of, look, ways_of, held_mark, queue_mark, is_idle, Puts, SameLines, SameQueues, KeepsLines, Adds, Notes, Waits, Awaits, Attended, IsIdle, StaysOrAdds, WaitsAlone, AddsTurn, TakesTurn, Extends, StaysMissed};
 
 use crate::device::{Device, Readiness};
 use crate::ways::Ways;
@@ -316,6 +316,7 @@ impl<D: Device + Drop> Lines<D> {
         ensures attended { holds ≡ true → IsSome (line_of id self.old) → Attended id self.new }
         // Where it has no more to move it waits for no turn anew, and it is held back only where it holds.
         ensures rests { more ≡ false → (self.new.fresh ≡ self.old.fresh) × (self.new.busy ≡ self.old.busy) }
+        ensures alone { WaitsAlone id self.old self.new }
         ensures free { holds ≡ false → self.new.held ≡ self.old.held }
     {
         if more {
@@ -393,6 +394,8 @@ impl<D: Device + Drop> Lines<D> {
     pub(crate) fn enqueue_touched(&mut self, touched: &mut Touched)
         ensures keeps { KeepsLines self.old self.new }
         ensures all { (id : ℕ) → is_noted id touched.old ≡ true → IsSome (line_of id self.old) → Awaits id self.new }
+        // No other comes to wait for a turn.
+        ensures only { (id : ℕ) → Waits id self.new → Waits id self.old ⊎ (is_noted id touched.old ≡ true) }
         ensures cleared { touched.new ≡ nothing_noted touched.old.blind }
     {
         self.enqueue_some(touched.ids());
@@ -406,6 +409,7 @@ impl<D: Device + Drop> Lines<D> {
     fn enqueue_some(&mut self, ids: &[u32])
         ensures keeps { KeepsLines self.old self.new }
         ensures all { (id : ℕ) → list_any (nat_eq id) ids.now ≡ true → IsSome (line_of id self.old) → Awaits id self.new }
+        ensures only { (id : ℕ) → Waits id self.new → Waits id self.old ⊎ (list_any (nat_eq id) ids.now ≡ true) }
     {
         'id: for id in ids {
             self.enqueue(*id, Queue::Fresh);

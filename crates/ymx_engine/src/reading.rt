@@ -1,6 +1,7 @@
 //! What comes over the wire of a tunnel: it is fed to the session, or goes straight to the devices that take it.
 
-ghost use Rattle.std.specs.Prelude.{ℕ, ◌≡◌, ◌+◌, ◌⊎◌, ◌<◌, ◌≤◌, [], length, true, false, IfSome, IfNone, IsSome};
+ghost use Rattle.std.specs.Prelude.{ℕ, ◌≡◌, ◌+◌, ◌⊎◌, ◌<◌, ◌≤◌, ◌&&◌, ◌||◌, nat_lt, nat_le, [], length, true, false, IfSome, IfNone, IsSome};
+ghost use Rattle.std.specs.Option.{option_map_or};
 ghost use Rattle.ymx_machine.specs.declared.types.Reply.TheVariants as reply;
 ghost use Rattle.ymx_model.specs.declared.types.Event.TheVariants as event;
 ghost use Rattle.ymx_model.specs.session.Emissions.{in_turn};
@@ -10,20 +11,18 @@ ghost use Rattle.ymx_model.specs.session.Sessions.{is_running};
 ghost use Rattle.ymx_session.specs.Passing.{passing};
 ghost use Rattle.ymx_engine.specs.Engines.{IsFedOrStuck, KeepsWire};
 ghost use Rattle.ymx_engine.specs.Moves.{Moves};
-ghost use Rattle.ymx_engine.specs.Passes.{IsRow};
+ghost use Rattle.ymx_engine.specs.Passes.{IsRow, row_len};
 ghost use Rattle.ymx_engine.specs.Runs.{Runs, Stays, Rests};
 ghost use Rattle.ymx_engine.specs.Served.{Serving};
-ghost use Rattle.ymx_engine.specs.Steps.{Keeps, StaysOver};
+ghost use Rattle.ymx_engine.specs.Steps.{Keeps, ReadsOn, StaysOver};
 ghost use Rattle.ymx_engine.specs.Turns.{line_of, Awaits, KeepsLines};
+ghost use Rattle.ymx_engine.specs.Ways.{may_push};
 ghost use Rattle.ymx_engine.specs.Work.{Reads};
 
 use crate::device::{Device, Pulled};
 use crate::row::{Row, row_of};
 use crate::tunnel::Tunnel;
 use ymx_model::Status;
-
-/// No read of the wire has so many payloads: each has a byte at least, and a header of 12.
-const PAYLOADS: u32 = 131_072;
 
 impl<D: Device + Drop, W: Device + Drop> Tunnel<D, W> {
     /// Reads from the wire once, where all that it gave before was fed, and feeds what waits. Payload of which `least` bytes
@@ -35,9 +34,13 @@ impl<D: Device + Drop, W: Device + Drop> Tunnel<D, W> {
         ensures rests { Rests self.old self.new }
         // Where nothing waits to be fed and the wire may have bytes, it gives some, or may have none now.
         ensures reads { Reads self.old self.new }
+        // All that waits is fed, as far as the session takes it now.
+        ensures fed { IsFedOrStuck self.new.engine }
     {
         self.pull_wire();
-        'payload: for _ in 0..PAYLOADS {
+        // each row that is passed on has a byte at least
+        let rows = self.incoming.waiting().len().max(1);
+        'payload: for turn in 0..rows {
             match self.advance(least) {
                 Some(row) => self.pass(row),
                 None => return,
@@ -86,6 +89,7 @@ impl<D: Device + Drop, W: Device + Drop> Tunnel<D, W> {
         // It stops where a row may be passed on, or where the session takes no more now.
         ensures row { IfSome result (λ row. IsRow row self.new.engine.incoming self.new.engine.session × (0 < row.first)) }
         ensures rest { IfNone result (IsFedOrStuck self.new.engine) }
+        ensures few { length self.new.engine.incoming ≤ length self.old.engine.incoming }
     {
         // each turn that goes on feeds a byte at least
         let turns = self.incoming.waiting().len().max(1);
@@ -105,7 +109,7 @@ impl<D: Device + Drop, W: Device + Drop> Tunnel<D, W> {
     /// Whether the device of this row may take bytes, and there are so many in its first frame, one at least, or the row fills a
     /// call.
     fn is_worth_a_call(&self, row: &Row, least: usize) -> bool
-        ensures { result ≡ true → 0 < row.now.first }
+        ensures { result ≡ (nat_lt 0 row.now.first && (nat_le least row.now.first || (nat_le 4096 (row_len row.now) && row.now.is_whole)) && option_map_or (λ l. may_push l.ways l.seen.marks) (line_of row.now.id self.now.lines) false) }
     {
         row.count() > 0
             && (row.count() >= least || row.fills_a_call())
@@ -160,7 +164,7 @@ impl<D: Device + Drop, W: Device + Drop> Tunnel<D, W> {
     fn pass(&mut self, row: Row)
         requires row { IsRow row self.old.engine.incoming self.old.engine.session }
         requires some { 0 < row.first }
-        ensures runs { Runs self.old self.new }
+        ensures runs { ReadsOn self.old self.new }
         ensures stays { Stays self.old self.new }
         ensures rests { Rests self.old self.new }
         ensures wire { self.new.wire ≡ self.old.wire }
@@ -180,7 +184,7 @@ impl<D: Device + Drop, W: Device + Drop> Tunnel<D, W> {
     fn offer(&mut self, row: Row) -> usize
         requires row { IsRow row self.old.engine.incoming self.old.engine.session }
         requires some { 0 < row.first }
-        ensures runs { Runs self.old self.new }
+        ensures runs { ReadsOn self.old self.new }
         ensures stays { Stays self.old self.new }
         ensures rests { Rests self.old self.new }
         ensures wire { self.new.wire ≡ self.old.wire }

@@ -1,10 +1,12 @@
 //! How a tunnel stands: whether it has work, and what its session and its connections say.
 
-ghost use Rattle.std.specs.Prelude.{ℕ, ◌≡◌, ◌+◌, [], length, min, true, false, option_map, IfNone, IfSome, is_none, Option};
+ghost use Rattle.std.specs.Prelude.{ℕ, ◌≡◌, ◌+◌, ◌==◌, ◌||◌, length, min, slice_get, true, false, option_map, IfSome, Option};
+ghost use Rattle.std.specs.Map.{keys_of};
 ghost use Rattle.ymx_model.specs.session.Sessions.{is_running};
+ghost use Rattle.ymx_session.specs.Opens.{opens_left};
 ghost use Rattle.ymx_engine.specs.Engines.{is_flushed};
 ghost use Rattle.ymx_engine.specs.Runs.{IsOver};
-ghost use Rattle.ymx_engine.specs.Served.{Serving, NoneWaits, NoneGives, NoneHangs};
+ghost use Rattle.ymx_engine.specs.Served.{Serving, NoneWaits, NoneGives, NoneEnds, NoneStops, NoneHangs};
 ghost use Rattle.ymx_engine.specs.Turns.{look, ways_of, is_over_at};
 ghost use Rattle.ymx_engine.specs.Work.{has_work, has_to_write, may_read_wire};
 
@@ -25,6 +27,10 @@ impl<D: Device + Drop, W: Device + Drop> Tunnel<D, W> {
         ensures gives { Serving self.now → result ≡ false → self.now.wire.marks.may_push ≡ true → NoneGives self.now }
         // In a session that is over no way to the peer is open then, unless its connection is still being made.
         ensures hears { Serving self.now → result ≡ false → NoneHangs self.now }
+        // So more may come on each stream whose device may take bytes now: where none may, the device was told.
+        ensures ends { Serving self.now → result ≡ false → NoneEnds self.now }
+        // And each stream takes bytes, or was finished here, whose way to the peer is open, unless it is still being made.
+        ensures stops { Serving self.now → result ≡ false → NoneStops self.now }
     {
         self.may_move()
     }
@@ -69,7 +75,8 @@ impl<D: Device + Drop, W: Device + Drop> Tunnel<D, W> {
 
     /// Whether the wire has failed, or has taken all that was due.
     pub fn is_over(&self) -> bool
-        ensures { result ≡ true → IsOver self.now }
+        ensures exact { IfSome self.now.wire.failed (λ failed. result ≡ (failed || is_flushed self.now.engine)) }
+        ensures over { result ≡ true → IsOver self.now }
     {
         self.wire.has_failed() || self.is_flushed()
     }
@@ -104,7 +111,7 @@ impl<D: Device + Drop, W: Device + Drop> Tunnel<D, W> {
 
     /// The stream of some connection. `None` where there is none.
     pub fn first(&self) -> Option<u32>
-        ensures none { IfNone result (self.now.lines.by_id ≡ []) }
+        ensures { result ≡ slice_get (keys_of self.now.lines.by_id) 0 }
     {
         self.lines.first()
     }
@@ -118,7 +125,7 @@ impl<D: Device + Drop, W: Device + Drop> Tunnel<D, W> {
 
     /// Whether there is no connection.
     pub fn is_empty(&self) -> bool
-        ensures { result ≡ true → self.now.lines.by_id ≡ [] }
+        ensures { result ≡ (length self.now.lines.by_id == 0) }
     {
         self.lines.len() == 0
     }
@@ -147,6 +154,27 @@ impl<D: Device + Drop, W: Device + Drop> Tunnel<D, W> {
         ensures { result ≡ length self.now.engine.session.offered }
     {
         self.session.offered_count()
+    }
+
+    /// How many streams may be opened now, one behind another. At 0 an opening is refused.
+    pub fn opens_left(&self) -> usize
+        ensures { result ≡ opens_left self.now.engine.session }
+    {
+        self.session.opens_left()
+    }
+
+    /// Whether the peer has said that it takes no more streams. It stays so.
+    pub fn is_peer_away(&self) -> bool
+        ensures { result ≡ self.now.engine.session.away.there }
+    {
+        self.session.is_peer_away()
+    }
+
+    /// The id of the next stream that is opened.
+    pub fn next_id(&self) -> u32
+        ensures { result ≡ self.now.engine.session.next }
+    {
+        self.session.next_id()
     }
 
     /// The state of the session.

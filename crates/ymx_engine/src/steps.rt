@@ -52,7 +52,7 @@ impl<D: Device + Drop> Lines<D> {
     ) -> usize
         requires { 0 < length buffer.old }
         ensures served { (was : LineValue) → line_of id self.old ≡ Some was → TakesPart id reads was session.old session.new outgoing.old outgoing.new self.old self.new result }
-        ensures none { line_of id self.old ≡ None → (self.new ≡ self.old) × (session.new ≡ session.old) × (outgoing.new ≡ outgoing.old) }
+        ensures none { line_of id self.old ≡ None → (self.new ≡ self.old) × (session.new ≡ session.old) × (outgoing.new ≡ outgoing.old) × (result ≡ 0) }
     {
         match self.take_part(id, session, buffer, outgoing, reads) {
             Some(part) => {

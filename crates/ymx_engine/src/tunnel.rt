@@ -2,6 +2,7 @@
 
 ghost use Rattle.std.specs.Prelude.{[], ◌≡◌, ◌⊎◌, ◌≤◌, ◌<◌, true, false, length, IfOk, IfSome, IfNone, None, Some};
 ghost use Rattle.ymx_machine.specs.declared.types.Call.TheVariants as call;
+ghost use Rattle.ymx_machine.specs.declared.types.Reply.TheVariants as reply;
 ghost use Rattle.ymx_model.specs.declared.types.Event.TheVariants as event;
 ghost use Rattle.ymx_model.specs.session.Emissions.{in_turn};
 ghost use Rattle.ymx_model.specs.session.Histories.{Gives};
@@ -9,9 +10,10 @@ ghost use Rattle.ymx_model.specs.session.Sessions.{is_running};
 ghost use Rattle.ymx_law_session.specs.Limits.{IsWithin};
 ghost use Rattle.ymx_session.specs.Replies.{pinged_or, ponged_or};
 ghost use Rattle.ymx_engine.specs.Devices.{IsNoted, IsEnded, IsShut};
+ghost use Rattle.ymx_engine.specs.Engines.{KeepsWire};
 ghost use Rattle.ymx_engine.specs.Runs.{Runs, Stays, Rests};
 ghost use Rattle.ymx_engine.specs.Served.{Serving, ServingBut};
-ghost use Rattle.ymx_engine.specs.Turns.{Line as LineValue, line_of, IsIdle, Notes, KeepsOthers};
+ghost use Rattle.ymx_engine.specs.Turns.{Line as LineValue, line_of, IsIdle, Notes, KeepsLines, KeepsOthers};
 ghost use Rattle.ymx_engine.specs.Work.{ServesFirst, HasItsTurn, takes_more};
 
 use crate::block::Block;
@@ -94,7 +96,9 @@ impl<D: Device + Drop, W: Device + Drop> Tunnel<D, W> {
     }
 
     /// Lets go of the connections, and gives the wire back.
-    pub fn into_wire(self) -> W {
+    pub fn into_wire(self) -> W
+        ensures { W.seen result ≡ self.wire }
+    {
         self.wire
     }
 
@@ -134,7 +138,7 @@ impl<D: Device + Drop, W: Device + Drop> Tunnel<D, W> {
         ensures rests { Rests self.old self.new }
         ensures none { IfNone result (IsIdle self.old.lines) }
         // The first of the queue whose turn it is has its turn, and each other that waits comes nearer.
-        ensures turn { IfSome result (λ served. ServesFirst served.id self.old self.new) }
+        ensures turn { IfSome result (λ served. ServesFirst served.id served.gave self.old self.new) }
     {
         let id = self.lines.next()?;
         let gave = self.serve(id);
@@ -143,8 +147,8 @@ impl<D: Device + Drop, W: Device + Drop> Tunnel<D, W> {
 
     /// The connection of this stream has its turn. How many bytes its device gave.
     fn serve(&mut self, id: u32) -> usize
-        ensures served { (was : LineValue) → line_of id self.old.lines ≡ Some was → HasItsTurn id was self.old self.new }
-        ensures none { line_of id self.old.lines ≡ None → self.new ≡ self.old }
+        ensures served { (was : LineValue) → line_of id self.old.lines ≡ Some was → HasItsTurn id result was self.old.lines self.old self.new }
+        ensures none { line_of id self.old.lines ≡ None → (self.new ≡ self.old) × (result ≡ 0) }
         ensures others { KeepsOthers id self.old.lines self.new.lines }
         ensures incoming { self.new.engine.incoming ≡ self.old.engine.incoming }
         ensures wire { self.new.wire ≡ self.old.wire }
@@ -174,6 +178,7 @@ impl<D: Device + Drop, W: Device + Drop> Tunnel<D, W> {
         ensures stays { Stays self.old self.new }
         ensures rests { Rests self.old self.new }
         ensures event { Gives in_turn self.old.engine.session (event.Call call.Ping) (pinged_or result) self.new.engine.session }
+        ensures rest { self.new ≡ record self.old { engine = record self.old.engine { session = self.new.engine.session } } }
     {
         self.session.ping()
     }
@@ -185,6 +190,7 @@ impl<D: Device + Drop, W: Device + Drop> Tunnel<D, W> {
         ensures stays { Stays self.old self.new }
         ensures rests { Rests self.old self.new }
         ensures event { Gives in_turn self.old.engine.session (event.Call (call.Ponged number)) (ponged_or result) self.new.engine.session }
+        ensures rest { self.new ≡ record self.old { engine = record self.old.engine { session = self.new.engine.session } } }
     {
         self.session.ponged(number)
     }
@@ -193,7 +199,11 @@ impl<D: Device + Drop, W: Device + Drop> Tunnel<D, W> {
     pub fn give_up_wire(&mut self)
         ensures runs { Runs self.old self.new }
         ensures shut { IsShut self.old.wire self.new.wire }
+        ensures event { Gives in_turn self.old.engine.session event.FeedEnd reply.Done self.new.engine.session }
         ensures lost { is_running self.new.engine.session.status ≡ false }
+        ensures over { self.new.is_wire_over ≡ true }
+        ensures bytes { KeepsWire self.old.engine self.new.engine }
+        ensures lines { KeepsLines self.old.lines self.new.lines }
     {
         self.wire.shut();
         self.lose();
@@ -205,6 +215,7 @@ impl<D: Device + Drop, W: Device + Drop> Tunnel<D, W> {
         ensures rests { Rests self.old self.new }
         ensures ended { IsEnded self.old.wire self.new.wire }
         ensures engine { self.new.engine ≡ self.old.engine }
+        ensures over { self.new.is_wire_over ≡ self.old.is_wire_over }
         ensures lines { self.new.lines ≡ self.old.lines }
     {
         self.wire.end();

@@ -5,7 +5,7 @@ use Rattle.ymx_engine.proofs.Parts.{part_same, delivers_more, delivers_last, del
 use Rattle.ymx_engine.proofs.exchange.deliver.Goals as goal
 
 pub push-init : goal.push-init
-push-init g c = (part_same, λ h. absurd (omega arith), λ h. (refl, refl, refl), λ h. absurd (omega arith), λ h. absurd (omega arith), λ h. absurd (omega arith))
+push-init g c = (part_same, λ h. absurd (omega arith), λ h. (refl, refl, refl), λ h. absurd (omega arith), λ h. absurd (omega arith), λ h. absurd (omega arith), λ h. absurd (omega arith))
 
 pub push-preserved : goal.push-preserved
 push-preserved g c =
@@ -15,7 +15,7 @@ push-preserved g c =
     let some = e.some c.if-not-push_once.false in
     let may = sym c.may_push.ensures ∙ c.if-not-may_push.false in
     let more = delivers_more c.push.turn i.0 e.delivered may some on in
-    (more.0, more.1, λ h. absurd (omega (arith, h)), λ h. on, λ h. first_or_more c.push.turn (λ z. subst (λ (v : Session). 0 < length (waiting c.args.id v)) (i.2 z).0 some) i.4, λ h. first_or_more c.push.turn (λ z. may_before (i.2 z).1 (i.2 z).2 may) i.5)
+    (more.0, more.1, λ h. absurd (omega (arith, h)), λ h. on, λ h. first_or_more c.push.turn (λ z. subst (λ (v : Session). 0 < length (waiting c.args.id v)) (i.2 z).0 some) i.4, λ h. first_or_more c.push.turn (λ z. may_before (i.2 z).1 (i.2 z).2 may) i.5, λ h runs. e.takes on runs)
 
 pub returns-then-not-may_push-clause-delivered : goal.returns-then-not-may_push-clause-delivered
 returns-then-not-may_push-clause-delivered g c = delivers_off (omega arith) c.push.invariant.0 (sym c.may_push.ensures ∙ c.if-not-may_push.true)
@@ -53,3 +53,6 @@ returns-then-not-push_once-clause-idle g c = λ off.
 
 pub returns-clause-idle : goal.returns-clause-idle
 returns-clause-idle g c = λ off. let on = c.push.invariant.5 (omega arith) in absurd cc
+
+pub returns-clause-takes : goal.returns-clause-takes
+returns-clause-takes g c = λ may runs. c.push.invariant.6 (omega arith) runs

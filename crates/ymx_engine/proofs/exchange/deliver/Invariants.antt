@@ -1,8 +1,9 @@
-use Rattle.std.proofs.Common.{◌≡◌, ◌<◌, ◌*◌, [], length, true}
+use Rattle.std.proofs.Common.{◌≡◌, ◌<◌, ◌*◌, [], length, true, false}
+use Rattle.ymx_model.specs.session.Sessions.{is_running}
 use Rattle.ymx_session.specs.Streams.{waiting}
 use Rattle.ymx_engine.specs.Events.{given}
 use Rattle.ymx_engine.specs.Exchanges.{has_bytes}
-use Rattle.ymx_engine.specs.Serves.{Part}
+use Rattle.ymx_engine.specs.Serves.{Part, is_stopped}
 use Rattle.ymx_engine.specs.Ways.{may_push}
 use Rattle.ymx_engine.proofs.exchange.deliver.Given as goal
 
@@ -14,3 +15,4 @@ invariant-push g l =
     × (0 < l.turn → may_push l.ways (g.D.Device.seen l.device).marks ≡ true)
     × (0 < l.turn → 0 < length (waiting l.id l.initial.session))
     × (0 < l.turn → may_push l.initial.ways (g.D.Device.seen l.initial.device).marks ≡ true)
+    × (0 < l.turn → is_running l.session.status ≡ true → is_stopped l.id l.session ≡ false)

@@ -1,4 +1,4 @@
-use Rattle.ymx_engine.proofs.Coming.{read_gives}
+use Rattle.ymx_engine.proofs.Gaining.{read_gains}
 use Rattle.ymx_engine.proofs.Exchanging.{not_true}
 use Rattle.ymx_engine.proofs.Parts.{silent, ended, gone, broken_from}
 use Rattle.std.proofs.Common.{refl, inl, inr}
@@ -20,13 +20,13 @@ returns-in-Stopped-clause-part g c =
     gone 1 h.0 c.shut.ensures c.break_off.ensures h.1 h.2 (h.6 refl)
 
 pub returns-in-Wait-clause-none_came : goal.returns-in-Wait-clause-none_came
-returns-in-Wait-clause-none_came g c = let h = c.in-Wait.ensures.happened in read_gives c.args.id 1 h.0 _ _ h.1 c.args.id
+returns-in-Wait-clause-none_came g c = let h = c.in-Wait.ensures.happened in read_gains c.args.id 1 c.args.id h.0 _ _ h.1 h.2
 
 pub returns-in-End-clause-none_came : goal.returns-in-End-clause-none_came
-returns-in-End-clause-none_came g c = let h = c.in-End.ensures.happened in read_gives c.args.id 1 h.0 _ _ h.1 c.args.id
+returns-in-End-clause-none_came g c = let h = c.in-End.ensures.happened in read_gains c.args.id 1 c.args.id h.0 _ _ h.1 h.2
 
 pub returns-in-Stopped-clause-none_came : goal.returns-in-Stopped-clause-none_came
-returns-in-Stopped-clause-none_came g c = let h = c.in-Stopped.ensures.happened in read_gives c.args.id 1 h.0 _ _ h.1 c.args.id
+returns-in-Stopped-clause-none_came g c = let h = c.in-Stopped.ensures.happened in read_gains c.args.id 1 c.args.id h.0 _ _ h.1 h.2
 
 pub returns-in-Wait-clause-hears_end : goal.returns-in-Wait-clause-hears_end
 returns-in-Wait-clause-hears_end g c = inr (c.in-Wait.ensures.waits refl)

@@ -2,6 +2,7 @@ use Rattle.std.proofs.Common.{◌≡◌, ◌==◌, ◌<◌, ◌∙◌, sym, leng
 use Rattle.std.proofs.lemmas.Bool.Decides.{nat_tests}
 use Rattle.ymx_engine.proofs.Parts.{none_first, part_within, pushed_some, pushed_none, pushed_failed}
 use Rattle.ymx_machine.proofs.Tests.{both_of}
+use Rattle.ymx_engine.proofs.Hearing.{heard_push, took_goes, waits_some, status_was, never}
 use Rattle.ymx_engine.proofs.exchange.push_once.Goals as goal
 
 pub hear_silence-requires-clause-open : goal.hear_silence-requires-clause-open
@@ -36,3 +37,15 @@ returns-in-NotNow-clause-hears_end g c = λ none. none_first c.unread-bytes.resu
 
 pub returns-in-Failed-clause-hears_end : goal.returns-in-Failed-clause-hears_end
 returns-in-Failed-clause-hears_end g c = λ none. none_first c.unread-bytes.result.now _ c.unread-bytes.ensures.first none (grind (arith, nat_tests))
+
+pub returns-then-is_empty-clause-ends : goal.returns-then-is_empty-clause-ends
+returns-then-is_empty-clause-ends g c = λ may silent. let k = heard_push c.args.id c.args.session.now c.hear_silence.new.session c.hear_silence.new.ways (g.D.Device.seen c.hear_silence.new.device).marks c.hear_silence.ensures.hears_end may c.hear_silence.ensures.none_came in absurd (never _ silent k.0)
+
+pub returns-then-is_empty-clause-takes : goal.returns-then-is_empty-clause-takes
+returns-then-is_empty-clause-takes g c = λ may runs. (heard_push c.args.id c.args.session.now c.hear_silence.new.session c.hear_silence.new.ways (g.D.Device.seen c.hear_silence.new.device).marks c.hear_silence.ensures.hears_end may c.hear_silence.ensures.none_came).1
+
+pub returns-in-Took-clause-takes : goal.returns-in-Took-clause-takes
+returns-in-Took-clause-takes g c = λ may runs.
+    let h = c.take_out.ensures in
+    let some : 0 < length c.unread-bytes.result.now = grind (arith, nat_tests) in
+    took_goes c.args.id _ h.0 _ _ h.1 (waits_some _ _ c.unread-bytes.ensures.first some) (status_was c.args.id _ h.0 _ _ h.1 runs)

@@ -1,5 +1,6 @@
 use Rattle.std.proofs.Common.{◌∙◌, refl, inl, inr}
 use Rattle.ymx_engine.proofs.Parts.{turn_of, stays_shut, was_open_to, tells_from}
+use Rattle.ymx_engine.proofs.Hearing.{untold}
 use Rattle.ymx_engine.proofs.exchange.serve.Goals as goal
 use Rattle.ymx_engine.proofs.exchange.serve.Goals.{then-writes, else-writes, then-may_push, else-may_push}
 
@@ -8,7 +9,14 @@ returns-then-read-clause-turn g c =
     let p = c.deliver-writes.ensures in
     let q = c.hear_stop.ensures in
     let v = c.collect-read.ensures in
-    turn_of c.deliver-writes.result c.collect-read.result.more _ p.delivered q.part q.same v.part p.stays v.collects v.asks_on (λ h may. c.if-read.true) (λ h. c.if-read.true) (λ over there open_. c.if-read.true)
+    turn_of c.deliver-writes.result c.collect-read.result.more _ p.delivered q.part q.same v.part p.stays v.collects v.asks_on (λ h may. c.if-read.true) (λ h. c.if-read.true) (λ over there open_. c.if-read.true) v.unread (record { heard = p.ends; ends = v.ends }) (record { takes = p.takes; told = q.tells; connects = v.connects ∙ q.connects; stops = v.stops })
+    (λ h. elim c.if-may_push.branch [
+      | then-may_push w ↦ elim c.if-writes.branch [
+        | then-writes k ↦ inl (let e = w.if-may_push.true in let f = k.value-is in let m = k.may_push.ensures in cc)
+        | else-writes k ↦ absurd (let e = w.if-may_push.true in let f = k.value-is in cc)
+      ]
+      | else-may_push w ↦ inr (inl (v.goes_on (let e = w.value-is in let f = c.if-read.true in cc)))
+    ])
 
 pub returns-else-read-clause-turn : goal.returns-else-read-clause-turn
 returns-else-read-clause-turn g c =
@@ -25,7 +33,8 @@ returns-else-read-clause-turn g c =
       ]
     ])
     (λ h. elim c.if-may_push.branch [ then-may_push w ↦ absurd (let e = w.value-is in cc) | else-may_push w ↦ absurd (let e = w.value-is in cc) ])
-    (λ over there open_. c.is_untold.ensures ∙ rw (over, open_, there) refl)
+    (λ over there open_. c.is_untold.ensures ∙ rw (over, open_, there) refl) v.unread (record { heard = p.ends; ends = v.ends }) (record { takes = p.takes; told = q.tells; connects = v.connects ∙ q.connects; stops = v.stops })
+    (λ h. inr (inr (untold _ _ _ _ c.is_untold.ensures h)))
 
 pub returns-then-read-clause-hears_end : goal.returns-then-read-clause-hears_end
 returns-then-read-clause-hears_end g c = λ may none. elim (c.deliver-writes.ensures.hears_end may none) [ inl shut ↦ inl (stays_shut c.collect-read.ensures.part (stays_shut c.hear_stop.ensures.part shut)) | inr waits ↦ inr waits ]

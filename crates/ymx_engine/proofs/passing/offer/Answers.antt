@@ -1,7 +1,7 @@
 use Rattle.std.proofs.Common.{◌<◌, refl}
 use Rattle.ymx_engine.specs.Passes.{payload_of}
 use Rattle.ymx_engine.proofs.Advancing.{offered_none, offered_some, offered_failed}
-use Rattle.ymx_engine.proofs.Coming.{reset_gives}
+use Rattle.ymx_engine.proofs.Gaining.{reset_gains}
 use Rattle.ymx_engine.proofs.Rows.{row_some}
 use Rattle.ymx_engine.proofs.Steady.{reset_stays}
 use Rattle.ymx_engine.proofs.passing.offer.Goals as goal
@@ -21,7 +21,7 @@ returns-in-Failed-clause-offered g c =
     offered_failed c.args.row.id h.reset.0 _ _ (payload_of c.args.row c.args.waits.now) c.args.waits.now _ _ _ _ _ c.in-Failed.ensures h.reset.1 h.shut h.broken
 
 pub returns-in-Failed-clause-others : goal.returns-in-Failed-clause-others
-returns-in-Failed-clause-others g c = let h = c.reset_and_shut.ensures.reset in λ other ne. reset_gives c.args.row.id h.0 _ _ h.1 other
+returns-in-Failed-clause-others g c = let h = c.reset_and_shut.ensures.reset in λ other ne. reset_gains c.args.row.id other h.0 _ _ h.1 ne
 
 pub returns-in-Failed-clause-status : goal.returns-in-Failed-clause-status
 returns-in-Failed-clause-status g c = let h = c.reset_and_shut.ensures.reset in reset_stays c.args.row.id h.0 _ _ h.1

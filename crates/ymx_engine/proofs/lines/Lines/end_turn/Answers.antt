@@ -1,3 +1,4 @@
+use Rattle.std.proofs.Common.{inl, refl}
 use Rattle.ymx_engine.proofs.Queueing.{extends_same, extends_stay, extends_added}
 use Rattle.ymx_engine.proofs.lines.Lines.end_turn.Goals as goal
 
@@ -9,3 +10,12 @@ returns-then-holds-clause-queues g c = extends_stay _ _ c.hold.ensures.turns.0 c
 
 pub returns-else-holds-clause-queues : goal.returns-else-holds-clause-queues
 returns-else-holds-clause-queues g c = extends_same _
+
+pub returns-then-more-clause-alone : goal.returns-then-more-clause-alone
+returns-then-more-clause-alone g c = (c.enqueue.ensures.turn.fresh, c.enqueue.ensures.turn.busy)
+
+pub returns-then-holds-clause-alone : goal.returns-then-holds-clause-alone
+returns-then-holds-clause-alone g c = (inl c.hold.ensures.turns.0, inl c.hold.ensures.turns.1)
+
+pub returns-else-holds-clause-alone : goal.returns-else-holds-clause-alone
+returns-else-holds-clause-alone g c = (inl refl, inl refl)

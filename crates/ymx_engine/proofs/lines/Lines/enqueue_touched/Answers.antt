@@ -1,9 +1,9 @@
-use Rattle.std.proofs.Common.{sym, ap, ◌∙◌, subst}
+use Rattle.std.proofs.Common.{inl, inr, sym, ap, ◌∙◌, subst}
 use Rattle.std.specs.Prelude.{IsSome, nat_eq}
 use Rattle.std.specs.List.{list_any}
-use Rattle.ymx_engine.specs.Turns.{Lines, KeepsLines, Awaits}
+use Rattle.ymx_engine.specs.Turns.{Lines, KeepsLines, Waits, Awaits}
 use Rattle.ymx_engine.proofs.Queueing.{keeps_then}
-use Rattle.ymx_engine.proofs.Calling.{second_true}
+use Rattle.ymx_engine.proofs.Calling.{second_true, first_or, second_or}
 use Rattle.ymx_engine.proofs.lines.Lines.enqueue_touched.Goals as goal
 use Rattle.ymx_engine.proofs.lines.Lines.enqueue_touched.Goals.{then-is_all, else-is_all}
 
@@ -19,4 +19,11 @@ returns-clause-all g c = λ id noted some.
     elim c.if-is_all.branch [
       | then-is_all w ↦ subst (λ (t : Lines). Awaits id t) (sym w.self-is) (w.enqueue_all.ensures.all id (subst (λ o. IsSome o) (sym (c.enqueue_some.ensures.keeps.lines id)) some))
       | else-is_all w ↦ subst (λ (t : Lines). Awaits id t) (sym w.self-is) (c.enqueue_some.ensures.all id (ap (list_any (nat_eq id)) c.ids.ensures.value ∙ second_true _ _ (sym c.is_all.ensures ∙ w.if-is_all.false) noted) some)
+    ]
+
+pub returns-clause-only : goal.returns-clause-only
+returns-clause-only g c = λ id waits.
+    elim c.if-is_all.branch [
+      | then-is_all w ↦ inr (first_or _ _ (sym c.is_all.ensures ∙ w.if-is_all.true))
+      | else-is_all w ↦ elim (c.enqueue_some.ensures.only id (subst (λ (t : Lines). Waits id t) w.self-is waits)) [ inl before ↦ inl before | inr among ↦ inr (second_or _ _ (sym (ap (list_any (nat_eq id)) c.ids.ensures.value) ∙ among)) ]
     ]

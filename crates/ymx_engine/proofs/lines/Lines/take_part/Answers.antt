@@ -1,8 +1,6 @@
-use Rattle.std.proofs.Common.{ℕ, ◌≡◌, Some, ap, ◌∙◌, refl, sym, subst}
+use Rattle.std.proofs.Common.{Some, ap, ◌∙◌, refl, sym}
 use Rattle.std.specs.Prelude.{nat_eq, cond}
-use Rattle.ymx_engine.specs.Serves.{Turn}
-use Rattle.ymx_engine.specs.Turns.{Line, Lines, line_of, Puts}
-use Rattle.ymx_engine.specs.Ways.{may_pull}
+use Rattle.ymx_engine.specs.Turns.{Lines, line_of}
 use Rattle.ymx_engine.proofs.Entries.{is_some_at, line_none}
 use Rattle.ymx_engine.proofs.Marking.{in_place}
 use Rattle.ymx_engine.proofs.lines.Lines.take_part.Goals as goal

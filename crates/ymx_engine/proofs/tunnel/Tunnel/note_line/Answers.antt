@@ -1,4 +1,4 @@
-use Rattle.std.proofs.Common.{refl, subst}
+use Rattle.std.proofs.Common.{refl}
 use Rattle.ymx_engine.proofs.Attending.{runs_from}
 use Rattle.ymx_engine.proofs.Entering.{runs_line_noted, stays_line_noted, stays_from}
 use Rattle.ymx_engine.proofs.tunnel.Tunnel.note_line.Goals as goal

@@ -1,3 +1,4 @@
+use Rattle.std.proofs.Common.{◌+◌, ◌≤◌, length}
 use Rattle.ymx_engine.specs.Runs.{Runs, Stays, Rests}
 use Rattle.ymx_engine.specs.Work.{Reads}
 use Rattle.ymx_engine.proofs.tunnel.Tunnel.read_wire.Given as goal
@@ -8,4 +9,5 @@ invariant-payload g l = record {
   stays : Stays l.fn.self l.self;
   rests : Rests l.fn.self l.self;
   reads : Reads l.fn.self l.self;
+  few : length l.self.engine.incoming + l.turn ≤ l.rows;
 }
