@@ -16,4 +16,5 @@ pub mod Keeping
 pub mod Holding
 pub mod Quiet
 pub mod Serving
+pub mod Ending
 pub mod Resting

@@ -25,10 +25,10 @@ abbrev pub Serves : Engine → Lines → Type 0
 Serves e ls = (wire : Seen) → Serving (over_any wire e ls)
 
 any_wire : (t : Tunnel) → Serving t → Serves t.engine t.lines
-any_wire t s = λ wire. record { within = s.within; each = λ id. record { gets = (s.each id).gets; gives = (s.each id).gives; hears = (s.each id).hears } }
+any_wire t s = λ wire. record { within = s.within; each = λ id. record { gets = (s.each id).gets; gives = (s.each id).gives; hears = (s.each id).hears; ends = (s.each id).ends; stops = (s.each id).stops } }
 
 own_wire : (t : Tunnel) → Serves t.engine t.lines → Serving t
-own_wire t s = let x = s t.wire in record { within = x.within; each = λ id. record { gets = (x.each id).gets; gives = (x.each id).gives; hears = (x.each id).hears } }
+own_wire t s = let x = s t.wire in record { within = x.within; each = λ id. record { gets = (x.each id).gets; gives = (x.each id).gives; hears = (x.each id).hears; ends = (x.each id).ends; stops = (x.each id).stops } }
 
 same_serves : (e f : Engine) (ls ms : Lines) → e ≡ f → ls ≡ ms → Serves e ls → Serves f ms
 same_serves e f ls ms p r s = subst (λ (v : Lines). Serves f v) r (subst (λ (v : Engine). Serves v ls) p s)
@@ -72,6 +72,8 @@ none_forgotten t e id = record {
   gets = λ l there may some. absurd (not_there (line_of id t.lines) l (none_there id t.lines e) there);
   gives = λ l there may some. absurd (not_there (line_of id t.lines) l (none_there id t.lines e) there);
   hears = λ l there over still opens. absurd (not_there (line_of id t.lines) l (none_there id t.lines e) there);
+  ends = λ l there may silent. absurd (not_there (line_of id t.lines) l (none_there id t.lines e) there);
+  stops = λ l there still opens stopped. absurd (not_there (line_of id t.lines) l (none_there id t.lines e) there);
 }
 
 new_serves : (e : Engine) (ls : Lines) (s : Session) → e ≡ engine_of s → ls.by_id ≡ [] → IsWithin s → Serves e ls

@@ -1,5 +1,5 @@
 -- When nothing is under way between two tunnels, and what has come then (this project's own).
-use Rattle.std.specs.Prelude.{ℕ, ◌≡◌, ◌⊎◌, ◌==◌, ◌||◌, ◌&&◌, ◌++◌, ◌∷◌, List, [], Bool, true, false, not, None, Some}
+use Rattle.std.specs.Prelude.{ℕ, ◌≡◌, ◌⊎◌, ◌==◌, ◌||◌, ◌&&◌, ◌++◌, ◌∷◌, List, [], Bool, true, false, not, None, Some, IsSome}
 use Rattle.std.specs.Io.KnownBytes.{Appends, Consumes}
 use Rattle.ymx_machine.specs.declared.types.Call.TheVariants as call
 use Rattle.ymx_machine.specs.declared.types.Reply.TheVariants as reply
@@ -17,10 +17,10 @@ use Rattle.ymx_engine.specs.Devices.{Seen}
 use Rattle.ymx_engine.specs.Engines.{Engine, IsFlushed}
 use Rattle.ymx_engine.specs.Events.{taken, given}
 use Rattle.ymx_engine.specs.Lives.{opens_at}
-use Rattle.ymx_engine.specs.Served.{NoneGives, NoneHangs}
+use Rattle.ymx_engine.specs.Served.{NoneGives, NoneEnds, NoneStops, NoneHangs}
 use Rattle.ymx_engine.specs.Tunnels.{Tunnel}
 use Rattle.ymx_engine.specs.Turns.{Line, line_of}
-use Rattle.ymx_engine.specs.Ways.{may_push}
+use Rattle.ymx_engine.specs.Ways.{is_open, may_push}
 use Rattle.ymx_engine.specs.Work.{has_work}
 use Rattle.ymx_joined.specs.Tunnels.{TunnelPair, Turn, HaveCome, events_at_a, events_at_b}
 
@@ -117,22 +117,33 @@ pub record AreOf (q : TunnelPair) (a b : Tunnel) : Type 0 where
   pub engine_b : b.engine ≡ q.b
   pub lines_b : b.lines ≡ q.lines_b
 
--- Where this end has the stream, and its connection is there: all that the stream took at the other end was given here, or the
--- device here may take none now.
+-- Where this end has the stream, and its connection is there: all that the stream took at the other end was given here, and it was
+-- not finished there; or the device here may take none now, as it says itself, or as it was told of the end.
 abbrev pub IsDelivered : ℕ → (from to : List (Event × Reply)) → Tunnel → Type 0
-IsDelivered id from to here = (l : Line) → stream_fault id here.engine.session ≡ None → line_of id here.lines ≡ Some l → (taken id from ≡ given id to) ⊎ (may_push l.ways l.seen.marks ≡ false)
+IsDelivered id from to here = (l : Line) → stream_fault id here.engine.session ≡ None → line_of id here.lines ≡ Some l → ((taken id from ≡ given id to) × (is_finished id from ≡ false)) ⊎ (may_push l.ways l.seen.marks ≡ false)
+
+-- Where this end has the stream no more, as it was reset or the session is closed, and its connection is there: the device may take
+-- none now, as it says itself, or as it was told; and its way to the peer isn't open, unless it is still being made.
+abbrev pub IsLetGo : ℕ → Tunnel → Type 0
+IsLetGo id here = (l : Line) → IsSome (stream_fault id here.engine.session) → line_of id here.lines ≡ Some l → (may_push l.ways l.seen.marks ≡ false) × ((is_open l.ways.to_peer ≡ false) ⊎ (l.seen.marks.is_connecting ≡ true))
+
+-- What a tunnel at rest leaves to no device: no stream takes bytes that its device may have; where no more come on a stream, and where
+-- it takes none any more, its device was told, as far as it may be; and so it is of a session that is over.
+pub record LeavesNone (t : Tunnel) : Type 0 where
+  pub gives : NoneGives t
+  pub hears : NoneHangs t
+  pub ends : NoneEnds t
+  pub stops : NoneStops t
+  pub let_go : (id : ℕ) → IsLetGo id t
 
 -- What two tunnels at rest have come to, over empty pipes. If both sessions run nothing is under way, and each stream is delivered,
--- both ways. No stream takes bytes whose device may have some; and of a session that is over no connection's way to the peer is
--- open, unless it is still being made.
+-- both ways. Neither leaves anything to a device.
 pub record HaveDelivered (at_a at_b : List (Event × Reply)) (q : TunnelPair) (a b : Tunnel) : Type 0 where
   pub quiet : is_running a.engine.session.status ≡ true → is_running b.engine.session.status ≡ true → AreQuiet q
   pub to_b : is_running a.engine.session.status ≡ true → is_running b.engine.session.status ≡ true → (id : ℕ) → IsDelivered id at_a at_b b
   pub to_a : is_running a.engine.session.status ≡ true → is_running b.engine.session.status ≡ true → (id : ℕ) → IsDelivered id at_b at_a a
-  pub gives_a : NoneGives a
-  pub gives_b : NoneGives b
-  pub hears_a : NoneHangs a
-  pub hears_b : NoneHangs b
+  pub rests_a : LeavesNone a
+  pub rests_b : LeavesNone b
 
 -- Whatever two tunnels did, in whatever order, so it is once both are at rest.
 abbrev pub AllIsDelivered : List Turn → Type 0

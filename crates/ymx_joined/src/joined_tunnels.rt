@@ -76,10 +76,11 @@ pub fn quiet_devices_have_all_but_what_waits()
 
 /// Two tunnels that have no work have delivered all. They are a client's and a server's, over two pipes in memory; they made
 /// any calls, in any order. Now neither has work, though its wire may take bytes, and the pipes are empty. If both sessions run
-/// the tunnels are quiet; and where an end has a stream, and its connection is there, all that the stream took at the other end
-/// was given here, or the device here may take none now, as it says itself. Nor does a stream take bytes then that its device
-/// may have. Of a session that is over no connection waits for word of it: none's way to the peer is open, unless it is still
-/// being made. (Nobody is forgotten: what each call says, `Runs`, has it.)
+/// the tunnels are quiet. Where an end has a stream, and its connection is there, all that the stream took at the other end was
+/// given here, and it was not finished there; or the device here may take none now, as it says itself, or as it was told of the
+/// end. Nor does a stream take bytes then that its device may have. Where an end has a stream no more, as it was reset, its
+/// device may take none now, and gives none either: its way to the peer isn't open, unless its connection is still being made.
+/// So it is of each connection of a session that is over. (Nobody is forgotten: what each call says, `Runs`, has it.)
 pub fn tunnels_at_rest_have_delivered()
     ensures { (turns : List Turn) → AllIsDelivered turns }
 {}
