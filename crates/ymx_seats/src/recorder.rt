@@ -19,7 +19,7 @@ impl RecorderKey {
 /// Whether each event becomes an entry at run time, as contracts see by `KEEPS`, and whether it becomes one in proofs, by
 /// `WITNESSED`. All recorders share all bodies: only the keeping differs. Whoever holds a session can't ask which one it
 /// has, so nothing else depends on it.
-pub trait Recorder: Naming + Drop + Send + Sync {
+pub trait Recorder: Naming + Drop {
     ghost use Rattle.std.specs.Prelude.{Bool, ◌≡◌};
 
     ghost KEEPS: { Bool };
@@ -100,7 +100,7 @@ impl<J: Naming> Naming for Witnessed<J> {
     ghost config = { J.config };
 }
 
-impl<J: Naming + Send + Sync> Recorder for Witnessed<J> {
+impl<J: Naming> Recorder for Witnessed<J> {
     ghost use Rattle.std.specs.Prelude.{true, false};
 
     ghost KEEPS = { false };

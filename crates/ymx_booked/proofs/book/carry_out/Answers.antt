@@ -7,7 +7,7 @@ use Rattle.ymx_booked.proofs.Shown.{history_more, witnessed_of}
 use Rattle.ymx_booked.proofs.book.carry_out.Goals as goal
 
 pub add-requires-clause-history : goal.add-requires-clause-history
-add-requires-clause-history g c = λ κs free.
+add-requires-clause-history g c =
     witnessed_of g.R.Recorder.WITNESSED g.R.Naming.role g.R.Naming.config _ c.apply-told.new.self
     (subst (λ (told : Reply). IsHistoryOf g.R.Recorder.WITNESSED g.R.Naming.role g.R.Naming.config (whole_of (journal_after c.args.seat.now.number c.args.event.now told c.args.log.now.journal)) c.apply-told.new.self) (sym c.with_bytes.ensures.reply)
     (history_more g.R.Recorder.WITNESSED g.R.Naming.role g.R.Naming.config c.args.log.now.journal c.args.session.now c.apply-told.new.self c.args.seat.now.number c.args.event.now _ c.requires.history c.apply-told.ensures.event))

@@ -8,7 +8,7 @@ use Rattle.ymx_booked.proofs.Journals.{witnessed_by}
 use Rattle.ymx_booked.proofs.booked.Booked.feed.Goals as goal
 
 pub add-requires-clause-history : goal.add-requires-clause-history
-add-requires-clause-history g c = λ κs free.
+add-requires-clause-history g c =
     witnessed_by g.R.Recorder.WITNESSED g.R.Naming.role g.R.Naming.config c.self.inside.role c.self.inside.config c.self.inside.log.journal _ c.self.inside.session _ c.self.inside.given _ _ (event.Feed c.args.bytes.now) _ (reply.Fed c.feed_touching-fed.result)
     c.prepare.ensures.journal (ap event.Feed c.new.ensures) c.told.ensures.reply c.self.invariant.4 c.feed_touching-fed.ensures.event
 

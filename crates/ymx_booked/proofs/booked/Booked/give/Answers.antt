@@ -13,7 +13,7 @@ use Rattle.ymx_booked.proofs.Shown.{witnessed_of}
 use Rattle.ymx_booked.proofs.booked.Booked.give.Goals as goal
 
 pub hand_out-first-requires-clause-history : goal.hand_out-first-requires-clause-history
-hand_out-first-requires-clause-history g c = λ κs free. witnessed_of g.R.Recorder.WITNESSED g.R.Naming.role g.R.Naming.config _ c.carry_out-told.new.session c.carry_out-told.ensures.history
+hand_out-first-requires-clause-history g c = witnessed_of g.R.Recorder.WITNESSED g.R.Naming.role g.R.Naming.config _ c.carry_out-told.new.session c.carry_out-told.ensures.history
 
 pub invariant_of-self-in-Ok-Some : goal.invariant_of-self-in-Ok-Some
 invariant_of-self-in-Ok-Some g c = (
