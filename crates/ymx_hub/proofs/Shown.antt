@@ -15,7 +15,7 @@ grown n None (Some j) b = b
 grown n (Some v) None b = b
 grown n (Some v) (Some j) b = b
 
-shown_none : (seat : SeatView) → IsShown seat seat
+pub shown_none : (seat : SeatView) → IsShown seat seat
 shown_none seat = record { rest = refl; grown = same seat.seen }
   where
     same : (v : Option (List Entry)) → HasGrown seat.number v v
@@ -30,7 +30,7 @@ grown_on n (Some v) None x g h = absurd g
 grown_on n (Some v) (Some w) None g h = h
 grown_on n (Some v) (Some w) (Some x) g h = ((g.0.0 ++ h.0.0, sym (append_assoc v g.0.0 h.0.0) ∙ ap (λ es. es ++ h.0.0) g.0.1 ∙ h.0.1), h.1 ∙ g.1)
 
-shown_on : (one two three : SeatView) → IsShown one two → IsShown two three → IsShown one three
+pub shown_on : (one two three : SeatView) → IsShown one two → IsShown two three → IsShown one three
 shown_on one two three s t = record {
   rest = t.rest ∙ ap (λ (v : SeatView). record v { seen = three.seen }) s.rest;
   grown = grown_on one.number one.seen two.seen three.seen s.grown (subst (λ (n : ℕ). HasGrown n two.seen three.seen) (ap (λ (v : SeatView). v.number) s.rest) t.grown);

@@ -1,5 +1,5 @@
 -- What a turn of a write pump does with its seat (this project's own).
-use Rattle.std.specs.Prelude.{◌≡◌, ℕ, List, [], take, Bool, true, false, Option, Result, Ok, Err}
+use Rattle.std.specs.Prelude.{◌≡◌, ℕ, ◌⊎◌, List, [], take, Bool, true, false, Option, Result, Ok, Err}
 use Rattle.ymx_memory.specs.declared.refused.RefusedAllocation.{RefusedAllocation}
 use Rattle.ymx_model.specs.declared.types.Role.{Role}
 use Rattle.ymx_model.specs.declared.types.Config.{Config}
@@ -37,6 +37,11 @@ IsUndue witnessed role config seen running =
 -- nothing is due, and nothing will be: the history leads to a session that is closed, lost or broken
 abbrev pub EmitsNoMore : (witnessed : Bool) → Role → Config → Option (List Entry) → Type 0
 EmitsNoMore witnessed role config seen = IsUndue witnessed role config seen false
+
+-- something is due, or nothing will be: the history leads to a session of which something is due, or which runs no more
+abbrev pub IsAwake : (witnessed : Bool) → Role → Config → Option (List Entry) → Type 0
+IsAwake witnessed role config seen =
+    (s : Session) × IsHistoryOf witnessed role config seen s × ((is_ready s ≡ true) ⊎ (is_running s.status ≡ false))
 
 -- what a turn that emits nothing says of the history
 abbrev pub SeesTurn : (witnessed : Bool) → Role → Config → Option (List Entry) → Turn → Type 0

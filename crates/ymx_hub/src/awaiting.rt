@@ -7,6 +7,7 @@
 //! Where waits are long, looking is in vain, and takes the processor from those who work. So each purpose has its
 //! `SpinBudget`: few threads look at once, and after some looks in vain the next waits go to sleep at once.
 
+use std::hint::spin_loop;
 use std::sync::atomic::{AtomicU64, Ordering};
 use std::sync::{Condvar, Mutex, MutexGuard, Wait};
 use std::thread;
@@ -16,10 +17,16 @@ use std::time::Duration;
 const LOOKS: u32 = 200;
 
 /// How often a thread tries a lock, before it sleeps.
-const TRIES: u32 = 10;
+const TRIES: u32 = 1_000;
+
+/// How often a pump tries a lock with no other thread let run between two tries: at most some 15 microseconds.
+const SPINS: u32 = 3_000;
 
 /// How many threads look at once, of those who wait for one purpose.
 const MOST_LOOKERS: u64 = 2;
+
+/// How many threads of a hub look at once.
+const MOST_LOOKERS_OF_ALL: u64 = 2;
 
 /// How many looks may end in vain, one after another, before waits do without.
 const IN_VAIN: u64 = 4;
@@ -68,13 +75,15 @@ impl SpinBudget {
     }
 
     /// Looks for a while: whether there was a notification behind the first `before` ones.
-    fn look(&self, condition: &Condvar, before: u64) -> bool {
-        if !self.lets_look() {
+    fn look(&self, all: &AtomicU64, condition: &Condvar, before: u64) -> bool {
+        if all.load(Ordering::SeqCst) >= MOST_LOOKERS_OF_ALL || !self.lets_look() {
             return false;
         }
         self.lookers.fetch_add(1, Ordering::SeqCst);
+        all.fetch_add(1, Ordering::SeqCst);
         let is_notified = is_notified_soon(condition, before);
         self.lookers.fetch_sub(1, Ordering::SeqCst);
+        all.fetch_sub(1, Ordering::SeqCst);
         if is_notified {
             self.in_vain.store(0, Ordering::SeqCst);
         } else {
@@ -100,12 +109,13 @@ pub(crate) fn await_wakeup<'a, W: Wait, T>(
     rt: &W,
     condition: &Condvar,
     budget: &SpinBudget,
+    all: &AtomicU64,
     guard: MutexGuard<'a, T>,
 ) -> MutexGuard<'a, T> {
     // Who notifies has taken the waiters under the lock, so its notification comes behind this line.
     let before = condition.notifications();
     let mutex = MutexGuard::unlock(guard);
-    if !budget.look(condition, before) {
+    if !budget.look(all, condition, before) {
         condition.sleep(rt, before, Duration::from_secs(NAP_SECONDS));
     }
     take_lock(rt, mutex)
@@ -117,6 +127,17 @@ pub(crate) fn take_lock<'a, W: Wait, T>(rt: &W, mutex: &'a Mutex<T>) -> MutexGua
         Some(guard) => guard,
         None => mutex.lock(rt),
     }
+}
+
+/// Takes a lock, as a pump does: all streams wait for it, and to let others run would put it behind all who try.
+pub(crate) fn take_lock_at_once<'a, W: Wait, T>(rt: &W, mutex: &'a Mutex<T>) -> MutexGuard<'a, T> {
+    for _ in 0..SPINS {
+        if let Some(guard) = mutex.try_lock() {
+            return guard;
+        }
+        spin_loop();
+    }
+    take_lock(rt, mutex)
 }
 
 /// Tries a lock for a moment.

@@ -2,6 +2,7 @@
 
 ghost use Rattle.std.specs.Prelude.{◌≡◌, ◌<◌, ◌≤◌, length, drop, false, IfOk, IfErr, MatchResult};
 ghost use Rattle.ymx_machine.specs.declared.types.Reply.TheVariants as reply;
+ghost use Rattle.ymx_seats.specs.Views.{IsWitnessed};
 ghost use Rattle.ymx_booked.specs.Answers.{IsNotMemory};
 ghost use Rattle.ymx_booked.specs.Books.{Books, Spends, Closes, to_finish, to_reset};
 ghost use Rattle.ymx_hub.specs.Releasing.{Tends};
@@ -86,6 +87,14 @@ impl<R: Recorder> WriteHalf<R> {
         WriteHalf { hub, seat, id }
     }
 
+    /// What the seat of this half has seen, where the recorder witnesses, is the history of a session of the role and the
+    /// config that the recorder names. It does nothing at run time.
+    pub fn history(&self)
+        ensures { IsWitnessed R.WITNESSED R.role R.config self.now.seat.seen }
+    {
+        self.seat.history();
+    }
+
     /// Writes all bytes, and waits for credit (flow control). At a fault the first `taken` of them were written.
     ///
     /// Refused with `Closed`, with `Reset` where the peer has reset the stream, and with `Lost`, before it waits or
@@ -139,6 +148,14 @@ impl<R: Recorder> ReadHalf<R> {
         ensures { (result.id ≡ id) × (result.seat ≡ seat) }
     {
         ReadHalf { hub, seat, id }
+    }
+
+    /// What the seat of this half has seen, where the recorder witnesses, is the history of a session of the role and the
+    /// config that the recorder names. It does nothing at run time.
+    pub fn history(&self)
+        ensures { IsWitnessed R.WITNESSED R.role R.config self.now.seat.seen }
+    {
+        self.seat.history();
     }
 
     /// Waits for bytes, and moves those that are there and fit to the front of the buffer. 0 is the end: the peer

@@ -64,6 +64,30 @@ impl<R: Recorder> Hub<R> {
         Hub::over(alloc, Booked::witnessed(alloc, session, opened))
     }
 
+    /// `witnessed`, with the first two seats of this hub.
+    pub fn witnessed_with_seats(
+        alloc: Global,
+        session: Session,
+        opened: NewJournal,
+    ) -> Result<(Arc<Hub<R>>, Seat<R>, Seat<R>), RefusedAllocation>
+        requires new { IsNew session }
+        requires witnessed { R.WITNESSED ≡ true }
+        requires named { opened ≡ R.table }
+        requires role { session.role ≡ R.role }
+        requires config { config_of session ≡ R.config }
+    {
+        let mut booked = Booked::witnessed(alloc, session, opened);
+        let (one, other) = first_seats(&mut booked);
+        match Hub::over(alloc, booked) {
+            Ok(hub) => Ok((hub, one, other)),
+            Err(refused) => {
+                let _ = one.into_entries();
+                let _ = other.into_entries();
+                Err(refused)
+            }
+        }
+    }
+
     /// A hub over what is booked, at which nobody waits.
     fn over(alloc: Global, booked: Booked<R>) -> Result<Arc<Hub<R>>, RefusedAllocation> {
         let (touched, released) = match lists(alloc) {
@@ -251,6 +275,19 @@ impl<R: Recorder> Hub<R> {
     {
         take_lock(rt, &self.shared).booked.end(seats)
     }
+}
+
+/// The first two seats of what is booked.
+fn first_seats<R: Recorder>(booked: &mut Booked<R>) -> (Seat<R>, Seat<R>)
+    requires { (booked.old.given ≡ 0) × (booked.old.ended ≡ false) }
+{
+    let Ok(one) = booked.seat() else {
+        unreachable!()
+    };
+    let Ok(other) = booked.seat() else {
+        unreachable!()
+    };
+    (one, other)
 }
 
 /// Room for the streams that a feed touches, and for those that are released.

@@ -4,9 +4,10 @@ ghost use Rattle.std.specs.Prelude.{◌≡◌, ◌≤◌, length, drop, false, I
 ghost use Rattle.ymx_model.specs.declared.types.Event.TheVariants as event;
 ghost use Rattle.ymx_machine.specs.declared.types.Reply.TheVariants as reply;
 ghost use Rattle.ymx_booked.specs.Books.{Books, Does};
-ghost use Rattle.ymx_hub.specs.Pumped.{EmitsOnce, SeesTurn, emitted_count};
+ghost use Rattle.ymx_hub.specs.Pumped.{EmitsOnce, SeesTurn, IsAwake, emitted_count};
+ghost use Rattle.ymx_hub.specs.Shown.{IsShown};
 
-use crate::awaiting::{await_wakeup, take_lock};
+use crate::awaiting::{await_wakeup, take_lock, take_lock_at_once};
 use crate::hub::Hub;
 use crate::shared::Shared;
 use std::sync::{MutexGuard, Wait};
@@ -41,7 +42,7 @@ impl<R: Recorder> Hub<R> {
         // Where no entries are kept, it is not refused for want of memory.
         ensures off { R.KEEPS ≡ false → IsOk result }
     {
-        let mut shared = take_lock(rt, &self.shared);
+        let mut shared = take_lock_at_once(rt, &self.shared);
         let was_due = shared.booked.due();
         let offered = shared.booked.offered_count();
         match shared.feed(seat, bytes) {
@@ -82,7 +83,7 @@ impl<R: Recorder> Hub<R> {
         // Where no entries are kept, it is not refused for want of memory.
         ensures off { R.KEEPS ≡ false → IsOk result }
     {
-        let mut shared = take_lock(rt, &self.shared);
+        let mut shared = take_lock_at_once(rt, &self.shared);
         let ended = shared.booked.feed_end(seat);
         self.note_released(&*shared);
         self.wake_all(shared);
@@ -92,7 +93,7 @@ impl<R: Recorder> Hub<R> {
     /// Waits once, unless a feed may take more than the last one did: 1,024 answers were unsent then, and nothing
     /// was emitted since.
     pub fn wait_for_room<W: Wait>(&self, rt: &W) {
-        let mut shared = take_lock(rt, &self.shared);
+        let mut shared = take_lock_at_once(rt, &self.shared);
         if shared.is_full && shared.booked.status() == Status::Running {
             shared.waiters.drainers = true;
             drop(self.wakeups.drained.wait(rt, shared));
@@ -120,7 +121,7 @@ impl<R: Recorder> Hub<R> {
         // Where no entries are kept, it is not refused for want of memory.
         ensures off { R.KEEPS ≡ false → IsOk result }
     {
-        let mut shared = take_lock(rt, &self.shared);
+        let mut shared = take_lock_at_once(rt, &self.shared);
         if !shared.booked.due() {
             shared.booked.show(seat);
             if shared.booked.status() == Status::Running {
@@ -138,18 +139,37 @@ impl<R: Recorder> Hub<R> {
         Ok(Turn::Emitted(count))
     }
 
-    /// Waits once, unless something is due or nothing will be.
-    pub fn wait_until_due<W: Wait>(&self, rt: &W) {
-        let shared = take_lock(rt, &self.shared);
-        if !shared.booked.due() && shared.booked.status() == Status::Running {
-            drop(await_wakeup(rt, &self.wakeups.due, &self.wakeups.budgets.pumping, shared));
+    /// Waits until something is due, or nothing will be. It is no event of the session. Where there is a journal, it shows
+    /// the whole history to the seat in the hold of the lock in which it last looked, so that what it found is of the
+    /// session that this history leads to.
+    #[tactic(auto, using(crate::proofs::Shown::grown))]
+    pub fn wait_until_due<W: Wait>(&self, rt: &W, seat: &mut Seat<R>)
+        // The list of the seat stays, and it has seen all that it had seen before.
+        ensures shown { IsShown seat.old seat.new }
+        // By the history in its sight something is due, or nothing will be.
+        ensures due { IsAwake R.WITNESSED R.role R.config seat.new.seen }
+    {
+        let mut shared = take_lock(rt, &self.shared);
+        for _ in rt.forever() {
+            if shared.booked.due() || shared.booked.status() != Status::Running {
+                shared.booked.show(seat);
+                return;
+            }
+            shared = await_wakeup(
+                rt,
+                &self.wakeups.due,
+                &self.wakeups.budgets.pumping,
+                &self.wakeups.budgets.all,
+                shared,
+            );
         }
+        unreachable!()
     }
 
     /// Notes that no write pump goes on, so that nothing goes out any more, and wakes those who drain: `drain` answers
     /// `Undrained` from then on where something is due. It is no event of the session.
     pub fn mute<W: Wait>(&self, rt: &W) {
-        let mut shared = take_lock(rt, &self.shared);
+        let mut shared = take_lock_at_once(rt, &self.shared);
         shared.is_mute = true;
         let has_drainers = shared.waiters.take_drainers();
         drop(shared);

@@ -86,6 +86,7 @@ impl<R: Recorder> Hub<R> {
                         rt,
                         self.wakeups.reader(id),
                         &self.wakeups.budgets.reading,
+                        &self.wakeups.budgets.all,
                         shared,
                     );
                 }
@@ -124,6 +125,7 @@ impl<R: Recorder> Hub<R> {
                         rt,
                         self.wakeups.writer(id),
                         &self.wakeups.budgets.writing,
+                        &self.wakeups.budgets.all,
                         shared,
                     );
                 }
@@ -159,6 +161,7 @@ impl<R: Recorder> Hub<R> {
                         rt,
                         &self.wakeups.ponged,
                         &self.wakeups.budgets.pinging,
+                        &self.wakeups.budgets.all,
                         shared,
                     );
                 }

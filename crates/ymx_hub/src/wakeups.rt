@@ -23,6 +23,7 @@ ghost use Rattle.std.specs.Prelude.{◌<◌};
 use crate::awaiting::SpinBudget;
 use crate::slot_set::{SlotSet, take_lowest};
 use std::sync::Condvar;
+use std::sync::atomic::AtomicU64;
 use std::{array, mem};
 
 /// How many slots the streams share, for reading and for writing each.
@@ -169,6 +170,8 @@ pub(crate) struct Budgets {
     pub(crate) pinging: SpinBudget,
     /// That of write pumps, which wait until something is due.
     pub(crate) pumping: SpinBudget,
+    /// How many threads of the hub look now.
+    pub(crate) all: AtomicU64,
 }
 
 impl Budgets {
@@ -178,6 +181,7 @@ impl Budgets {
             writing: SpinBudget::new(),
             pinging: SpinBudget::new(),
             pumping: SpinBudget::new(),
+            all: AtomicU64::new(0),
         }
     }
 }

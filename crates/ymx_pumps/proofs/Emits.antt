@@ -14,9 +14,9 @@ use Rattle.ymx_memory.specs.declared.refused.RefusedAllocation.{RefusedAllocatio
 use Rattle.ymx_booked.specs.Books.{Books, One}
 use Rattle.ymx_hub.specs.declared.moving.Turn.TheVariants.{Emitted, Idle, Over}
 use Rattle.ymx_hub.specs.Pumped.{EmitsOnce}
-use Rattle.ymx_hub.specs.Shown.{BooksShown}
+use Rattle.ymx_hub.specs.Shown.{IsShown, BooksShown}
 use Rattle.ymx_hub.proofs.Booked.{books_same, books_at, books_weaker}
-use Rattle.ymx_hub.proofs.Shown.{shown_booked, shown_alone, shown_before, shown_at, shown_weaker}
+use Rattle.ymx_hub.proofs.Shown.{shown_on, shown_booked, shown_alone, shown_before, shown_at, shown_weaker}
 use Rattle.ymx_pumps.specs.declared.pump_end.PumpWhy.{PumpWhy}
 use Rattle.ymx_pumps.specs.declared.pump_end.PumpWhy.TheVariants.{Device, Memory, Gate, NoThread}
 use Rattle.ymx_pumps.specs.declared.pump_end.Stop.{Stop}
@@ -91,11 +91,11 @@ pub turn_wrote : (keeps : Bool) (size n fails failed : ℕ) (buffer : List ℕ) 
 turn_wrote keeps size n fails failed buffer before after old new l f a g =
     (f, take n buffer, grind (arith, common_steps), a, shown_booked keeps old new _ (books_weaker keeps old new _ (AreEmits size old.number (take n buffer)) (λ es o. one_emit size old.number (take n buffer) es o) g))
 
--- nothing was due
-pub turn_idle : (keeps : Bool) (size fails failed : ℕ) (buffer : List ℕ) (before after : Option (List ℕ)) (old new : SeatView) → failed ≡ fails →
-    before ≡ after → EmitsOnce keeps size buffer old new (Ok Idle) → TurnWrote keeps size fails failed before after old new (Ok 0)
-turn_idle keeps size fails failed buffer before after old new f k g =
-    (f, [], refl, subst (λ (v : Option (List ℕ)). Appends before v []) k (Appends-nil before), shown_alone keeps old new (AreEmits size old.number []) refl g)
+-- nothing was due, and then the pump waited
+pub turn_idle : (keeps : Bool) (size fails failed : ℕ) (buffer : List ℕ) (before after : Option (List ℕ)) (old mid new : SeatView) → failed ≡ fails →
+    before ≡ after → EmitsOnce keeps size buffer old mid (Ok Idle) → IsShown mid new → TurnWrote keeps size fails failed before after old new (Ok 0)
+turn_idle keeps size fails failed buffer before after old mid new f k g h =
+    (f, [], refl, subst (λ (v : Option (List ℕ)). Appends before v []) k (Appends-nil before), shown_alone keeps old new (AreEmits size old.number []) refl (shown_on old mid new g h))
 
 -- the pump's end, with nothing emitted
 pub turn_ends : (keeps : Bool) (size fails failed : ℕ) (why : PumpWhy) (before after : Option (List ℕ)) (old new : SeatView) → Keeps before after →

@@ -9,7 +9,11 @@ use Rattle.ymx_machine.specs.declared.types.Reply.TheVariants as reply
 use Rattle.ymx_model.specs.declared.types.Entry.{Entry}
 use Rattle.ymx_seats.specs.Views.{SeatView}
 use Rattle.ymx_booked.specs.Books.{Books, One}
-use Rattle.ymx_hub.specs.Shown.{BooksShown}
+use Rattle.ymx_model.specs.declared.types.Role.{Role}
+use Rattle.ymx_model.specs.declared.types.Config.{Config}
+use Rattle.ymx_hub.specs.declared.moving.Turn.TheVariants.{Emitted}
+use Rattle.ymx_hub.specs.Pumped.{EmitsOnce, IsAwake}
+use Rattle.ymx_hub.specs.Shown.{IsShown, BooksShown}
 use Rattle.ymx_pumps.specs.declared.pump_end.PumpWhy.{PumpWhy}
 use Rattle.ymx_pumps.specs.declared.pump_end.PumpWhy.TheVariants.{End, Device, Memory, NoThread, NoSeat}
 use Rattle.ymx_pumps.specs.declared.pump_end.Stop.{Stop}
@@ -36,6 +40,12 @@ TurnWrote keeps size fails failed before after old new (Ok n) =
     (failed ≡ fails) × (written : List ℕ) × (length written ≡ n) × Appends before after written × BooksShown keeps old new (AreEmits size old.number written)
 TurnWrote keeps size fails failed before after old new (Err stop) =
     (written : List ℕ) × (length written ≡ stop.moved) × Appends before after written × BooksShown keeps old new (WriteAdds size old.number (has_failed fails failed) written stop.why)
+
+-- an emission into a buffer of this size gave so many bytes, which stand at its front; or nothing was due, and something is now,
+-- or nothing will be
+abbrev pub EmitsOrWakes : (keeps witnessed : Bool) → Role → Config → (size : ℕ) → (buffer : List ℕ) → (old new : SeatView) → ℕ → Type 0
+EmitsOrWakes keeps witnessed role config size buffer old new count =
+    EmitsOnce keeps size buffer old new (Ok (Emitted count)) ⊎ (IsShown old new × IsAwake witnessed role config new.seen)
 
 -- ---- the read pump
 

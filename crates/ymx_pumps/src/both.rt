@@ -45,7 +45,7 @@ fn write_if_begun<R: Recorder, W: Wait, O: Outlet, G: Gate>(
 /// Both pumps, over what is lent.
 fn run_lent<
     'x,
-    R: Recorder,
+    R: Recorder + Send + Sync,
     W: Wait + Threads + Sync,
     I: Inlet,
     O: Outlet + Send,
@@ -92,7 +92,7 @@ fn run_lent<
 ///
 /// The write pump ends with `NoThread`, and has done no event and written no byte, where no thread can be made for it.
 pub fn run_pumps<
-    R: Recorder,
+    R: Recorder + Send + Sync,
     W: Wait + Threads + Sync,
     I: Inlet,
     O: Outlet + Send,

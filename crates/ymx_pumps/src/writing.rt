@@ -1,6 +1,6 @@
 //! The write pump.
 
-ghost use Rattle.std.specs.Prelude.{◌≡◌, ◌<◌, ◌⊎◌, length, Bool, true, IfErr};
+ghost use Rattle.std.specs.Prelude.{◌≡◌, ◌<◌, ◌⊎◌, length, Bool, true, IfOk, IfErr};
 ghost use Rattle.std.specs.Io.KnownBytes.{Keeps};
 ghost use Rattle.ymx_model.specs.devices.Devices.{has_failed};
 ghost use Rattle.ymx_booked.specs.Books.{Books};
@@ -8,7 +8,7 @@ ghost use Rattle.ymx_hub.specs.Pumped.{EmitsNoMore};
 ghost use Rattle.ymx_machine.specs.shared.Evidence.{evidence};
 ghost use Rattle.ymx_pumps.specs.Ends.{WriteEnd};
 ghost use Rattle.ymx_pumps.specs.Pumps.{PumpWrote, EndsWrite};
-ghost use Rattle.ymx_pumps.specs.Turns.{SaysEnd, TurnWrote};
+ghost use Rattle.ymx_pumps.specs.Turns.{SaysEnd, TurnWrote, EmitsOrWakes};
 
 use crate::gate::Gate;
 use crate::pump_end::{PumpEnd, PumpWhy, Stop};
@@ -47,7 +47,8 @@ fn end_writer<R: Recorder, W: Wait, O: Outlet>(
     }
 }
 
-/// One turn: emits, and writes all of it; or waits once. At the pump's end it says how many bytes were written.
+/// One turn: emits, and writes all of it; or waits until something is due, or nothing will be. At the pump's end it says
+/// how many bytes were written.
 fn write_turn<R: Recorder, W: Wait, O: Outlet, G: Gate>(
     rt: &W,
     hub: &Hub<R>,
@@ -60,6 +61,7 @@ fn write_turn<R: Recorder, W: Wait, O: Outlet, G: Gate>(
     ensures turned { TurnWrote R.KEEPS (length buffer.old) (O.failures writer.old) (O.failures writer.new) (O.contents writer.old) (O.contents writer.new) seat.old seat.new result }
     ensures ended { IfErr result (λ stop. WriteEnd R.KEEPS (O.failures writer.old) (O.failures writer.new) (O.is_ended writer.new) (G.has_refused gate.new) stop.why) }
     ensures out { IfErr result (λ stop. stop.why ≡ PumpWhy.End → EmitsNoMore R.WITNESSED R.role R.config seat.new.seen) }
+    ensures awake { IfOk result (λ count. EmitsOrWakes R.KEEPS R.WITNESSED R.role R.config (length buffer.old) buffer.new seat.old seat.new count) }
 {
     match hub.emit_turn(rt, seat, buffer) {
         Ok(Turn::Emitted(count)) => {
@@ -77,7 +79,7 @@ fn write_turn<R: Recorder, W: Wait, O: Outlet, G: Gate>(
             if !gate.before_wait() {
                 return Err(Stop::at_once(PumpWhy::Gate));
             }
-            hub.wait_until_due(rt);
+            hub.wait_until_due(rt, seat);
             Ok(0)
         }
         Ok(Turn::Over) => Err(Stop::at_once(end_writer(rt, hub, seat, writer))),

@@ -1,4 +1,5 @@
-use Rattle.std.proofs.Common.{length, rules, refl}
+use Rattle.std.proofs.Common.{length, rules, refl, inl, inr}
+use Rattle.ymx_hub.proofs.Shown.{shown_on}
 use Rattle.ymx_pumps.proofs.Emits.{turn_wrote, turn_failed, turn_idle, turn_gated, turn_lacked, turn_over}
 use Rattle.ymx_pumps.proofs.writing.write_turn.Goals as goal
 
@@ -24,7 +25,15 @@ returns-in-Err-clause-turned g c =
 
 pub returns-else-not-before_wait-clause-turned : goal.returns-else-not-before_wait-clause-turned
 returns-else-not-before_wait-clause-turned g c =
-    turn_idle g.R.Recorder.KEEPS (length c.args.buffer.now) (g.O.Outlet.failures c.args.writer.now) (g.O.Outlet.failures c.args.writer.now) c.emit_turn.new.buffer (g.O.Outlet.contents c.args.writer.now) (g.O.Outlet.contents c.args.writer.now) c.args.seat.now c.emit_turn.new.seat refl refl (rw c.in-Ok-Idle.field-0-is at c.in-Ok-Idle.ensures.booked)
+    turn_idle g.R.Recorder.KEEPS (length c.args.buffer.now) (g.O.Outlet.failures c.args.writer.now) (g.O.Outlet.failures c.args.writer.now) c.emit_turn.new.buffer (g.O.Outlet.contents c.args.writer.now) (g.O.Outlet.contents c.args.writer.now)
+    c.args.seat.now c.emit_turn.new.seat c.wait_until_due.new.seat refl refl (rw c.in-Ok-Idle.field-0-is at c.in-Ok-Idle.ensures.booked) c.wait_until_due.ensures.shown
+
+pub returns-else-not-before_wait-clause-awake : goal.returns-else-not-before_wait-clause-awake
+returns-else-not-before_wait-clause-awake g c =
+    inr (shown_on c.args.seat.now c.emit_turn.new.seat c.wait_until_due.new.seat (rw c.in-Ok-Idle.field-0-is at c.in-Ok-Idle.ensures.booked) c.wait_until_due.ensures.shown, c.wait_until_due.ensures.due)
+
+pub returns-in_default-clause-awake : goal.returns-in_default-clause-awake
+returns-in_default-clause-awake g c = inl (rw c.in-Ok-Emitted.field-0-is at c.in-Ok-Emitted.ensures.booked)
 
 pub returns-in-Ok-Over-clause-ended : goal.returns-in-Ok-Over-clause-ended
 returns-in-Ok-Over-clause-ended g c = rw c.at_once-in-Ok-Over.ensures (c.end_writer.ensures.reason (g.G.Gate.has_refused c.args.gate.now))
