@@ -65,6 +65,10 @@ KNOWN = {
         ("ymx_connect/src/off.rt", "impl Writer<Off> {"),
         ("ymx_connect/src/off.rt", "impl Reader<Off> {"),
     ],
+    "the ends of halves with no seat, of a history in proofs: their clauses say what each books": [
+        ("ymx_connect/src/spending.rt", "impl<J: Naming> Writer<Witnessed<J>> {"),
+        ("ymx_connect/src/spending.rt", "impl<J: Naming> Reader<Witnessed<J>> {"),
+    ],
     "the kit proves a thread's closure of one recorder at a time: the same lines stand for both": [
         ("ymx_tunnel/src/halves.rt", f"impl {it}<{recorder}> {{")
         for it in ("Sink for WriteHalf", "Source for ReadHalf")

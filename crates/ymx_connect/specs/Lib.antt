@@ -2,3 +2,4 @@ pub mod Connecting
 pub mod Pumping
 pub mod Settings
 pub mod Streams
+pub mod Told

@@ -1,12 +1,20 @@
 -- What the pumps behind the front door did with their devices (this project's own).
-use Rattle.std.specs.Prelude.{◌≡◌, ℕ, List, Bool, true, false, Option}
+use Rattle.std.specs.Prelude.{◌≡◌, ℕ, List, Bool, true, false, Option, Result, MatchResult}
 use Rattle.ymx_model.specs.declared.types.Role.{Role}
 use Rattle.ymx_model.specs.declared.types.Role.TheVariants.{Client}
 use Rattle.ymx_model.specs.declared.types.Config.{Config}
 use Rattle.ymx_model.specs.devices.Devices.{has_failed}
+use Rattle.ymx_model.specs.session.Sessions.{Session}
+use Rattle.ymx_model.specs.session.Emissions.{is_ready}
+use Rattle.ymx_session.specs.Replies.{done_or}
 use Rattle.ymx_seats.specs.Journals.{no_config}
 use Rattle.ymx_seats.specs.Views.{SeatView}
+use Rattle.ymx_booked.specs.Books.{Books, Asks, to_close}
+use Rattle.ymx_booked.specs.Shown.{IsHistoryOf}
+use Rattle.ymx_booked.specs.declared.faults.HubFault.{HubFault}
 use Rattle.ymx_hub.specs.Pumped.{EmitsNoMore}
+use Rattle.ymx_hub.specs.Shown.{IsShown}
+use Rattle.ymx_hub.specs.declared.undrained.Undrained.{Undrained}
 use Rattle.ymx_pumps.specs.declared.pump_end.PumpWhy.{PumpWhy}
 use Rattle.ymx_pumps.specs.declared.pump_end.PumpWhy.TheVariants.{End, NoSeat}
 use Rattle.ymx_pumps.specs.Ends.{ReadEnd, WriteEnd}
@@ -43,6 +51,19 @@ pub record HasWritten (witnessed : Bool) (role : Role) (config : Config) (fails 
   pub wrote : PumpWrote false size (has_failed fails failed) before after first last moved why
   pub out : why ≡ End → EmitsNoMore witnessed role config last.seen
 
--- the same of a session with the recorder Off, whose history nobody sees
+-- The session was closed by the seat of some caller, which had then seen the history of a session of which nothing was due; or
+-- of which something was due, where it waited in vain.
+pub record HasClosed (witnessed : Bool) (role : Role) (config : Config) (drained : Result (Unit {0}) Undrained) : Type 0 where
+  pub first : SeatView
+  pub between : SeatView
+  pub last : SeatView
+  pub session : Session
+  pub shown : IsShown first between
+  pub history : IsHistoryOf witnessed role config between.seen session
+  pub due : MatchResult drained (λ _. is_ready session ≡ false) (λ _. is_ready session ≡ true)
+  pub told : Result (Unit {0}) HubFault
+  pub closed : Books false between last (Asks to_close done_or between.number told)
+
+-- how the write pump ended of a session with the recorder Off, whose history nobody sees
 abbrev pub HasWrittenUnseen : (fails failed : ℕ) (before after : Option (List ℕ)) (is_ended : Bool) (moved : ℕ) (why : PumpWhy) → Type 0
 HasWrittenUnseen fails failed before after is_ended moved why = HasWritten false Client no_config fails failed before after is_ended moved why

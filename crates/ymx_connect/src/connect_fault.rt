@@ -20,8 +20,7 @@ pub enum ConnectFault {
     /// No thread could be made for one of the pumps. It holds the evidence.
     #[error("NoThread")]
     NoThread(RefusedThread),
-    /// The hub gives no seat: it has given all 4,294,967,295, or has handed its transcript out. Of `pumped` and
-    /// `pumped_tcp` alone.
+    /// The hub gives no seat: it has given all 4,294,967,295, or has handed its transcript out. Of `pumped` alone.
     #[error("NoSeat")]
     NoSeat,
 }

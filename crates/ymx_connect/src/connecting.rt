@@ -1,4 +1,4 @@
-//! One call that runs a session over a connection.
+//! One call that runs a session over a connection while a closure works with it. No history is kept.
 
 ghost use Rattle.std.specs.Prelude.{◌≡◌, None, IfOk, IfErr};
 ghost use Rattle.ymx_session.specs.NewSessions.{new_fault};
@@ -34,9 +34,9 @@ struct Prepared {
     buffers: Buffers,
 }
 
-/// Runs a session over a TCP connection. It is `connect` with this connection as reader and writer, and what is
+/// Runs a session over a TCP connection, of which no history is kept. It is `connect_with` with this connection as reader and writer, and what is
 /// written goes out at once.
-pub fn connect_tcp<W: Threads + Wait + Sync, T: Drop, F: FnOnce(&Handle) -> T>(
+pub fn connect_tcp_with<W: Threads + Wait + Sync, T: Drop, F: FnOnce(&Handle) -> T>(
     rt: &W,
     alloc: Global,
     socket: &TcpStream,
@@ -53,13 +53,13 @@ pub fn connect_tcp<W: Threads + Wait + Sync, T: Drop, F: FnOnce(&Handle) -> T>(
     let _ = socket.set_nodelay(true);
     let reader = ConnectionReader::new(socket);
     let writer = ConnectionWriter::new(socket);
-    match connect(rt, alloc, reader, writer, role, config, work) {
+    match connect_with(rt, alloc, reader, writer, role, config, work) {
         Ok(connected) => Ok(connected.without_devices()),
         Err(fault) => Err(fault),
     }
 }
 
-/// Runs a session over a reader and a writer, at whose other end is one peer.
+/// Runs a session over a reader and a writer, at whose other end is one peer. No history of it is kept.
 ///
 /// It makes the session and its hub, runs both pumps in threads, and calls `work` in this thread. Once `work` has
 /// answered it waits until nothing is due, closes the session, and waits for both pumps: until the writer is ended,
@@ -70,7 +70,7 @@ pub fn connect_tcp<W: Threads + Wait + Sync, T: Drop, F: FnOnce(&Handle) -> T>(
 /// `Memory` comes where there is none for the hub or the buffers, and `NoThread` where a thread can't be made. In each
 /// case `work` was not called, and no byte was written; the writer may have been ended.
 #[tactic(auto, using(crate::proofs::PumpEnds::spared_by))]
-pub fn connect<
+pub fn connect_with<
     W: Threads + Wait + Sync,
     I: Inlet + Send + Drop,
     O: Outlet + Send + Drop,

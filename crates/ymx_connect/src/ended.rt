@@ -2,9 +2,10 @@
 
 ghost use Rattle.std.specs.Prelude.{◌≡◌};
 
+use ymx_hub::Undrained;
 use ymx_pumps::PumpWhy;
 
-/// How both pumps ended.
+/// How both pumps ended, and whether all had gone out before.
 #[derive(Clone, Copy, Debug, PartialEq, Eq)]
 pub struct Ended {
     /// Why the read pump ended: with `End`, `Device`, `Broken` or `NoSeat`.
@@ -15,6 +16,9 @@ pub struct Ended {
     pub read_bytes: u64,
     /// How many bytes the writer took. The count stays at the greatest `u64`.
     pub written_bytes: u64,
+    /// Whether nothing was due before the session was closed, so that all that was written to streams and had credit went
+    /// out. `Undrained` where something was due, and nothing went out any more.
+    pub drained: Result<(), Undrained>,
 }
 
 /// What the caller's function answered, how the session ended behind it, and the devices, which come back. They are `()`

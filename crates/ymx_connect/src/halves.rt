@@ -6,11 +6,13 @@
 
 ghost use Rattle.std.specs.Prelude.{◌≡◌, ◌<◌, ◌≤◌, List, ℕ, length, drop, false, IfOk, IfErr, MatchResult};
 ghost use Rattle.ymx_machine.specs.declared.types.Reply.TheVariants as reply;
+ghost use Rattle.ymx_seats.specs.Views.{IsWitnessed};
 ghost use Rattle.ymx_booked.specs.Answers.{IsNotMemory};
 ghost use Rattle.ymx_booked.specs.Books.{Books, Spends, Closes, to_finish, to_reset};
 ghost use Rattle.ymx_hub.specs.Releasing.{Tends};
 ghost use Rattle.ymx_hub.specs.Turns.{ReadTurns, WriteTurns};
 ghost use Rattle.ymx_connect.specs.Streams.{ReadsUpTo, ReadsUntil, Copies};
+ghost use Rattle.ymx_connect.specs.Told.{ReadsToEnd};
 
 use std::alloc::Global;
 use std::marker::Model;
@@ -64,6 +66,14 @@ impl<R: Recorder> Writer<R> {
         half
     }
 
+    /// What the seat of this half has seen, where the recorder witnesses, is the history of a session of the role and the
+    /// config that the recorder names. It does nothing at run time.
+    pub fn history(&self)
+        ensures { IsWitnessed R.WITNESSED R.role R.config self.now.seat.seen }
+    {
+        self.half.history();
+    }
+
     /// Writes all bytes, and waits for credit (flow control). At a fault the first `taken` of them were written.
     ///
     /// Refused with `Closed`, with `Reset` where the peer has reset the stream, and with `Lost`, before it waits or
@@ -115,6 +125,14 @@ impl<R: Recorder> Reader<R> {
         half
     }
 
+    /// What the seat of this half has seen, where the recorder witnesses, is the history of a session of the role and the
+    /// config that the recorder names. It does nothing at run time.
+    pub fn history(&self)
+        ensures { IsWitnessed R.WITNESSED R.role R.config self.now.seat.seen }
+    {
+        self.half.history();
+    }
+
     /// Waits for bytes, and moves those that are there and fit to the front of the buffer. 0 is the end: the peer has
     /// finished, and all was read. The rest of the buffer stays as it was, and all of it where the call is refused.
     ///
@@ -134,7 +152,24 @@ impl<R: Recorder> Reader<R> {
 
     /// Reads up to the end, and gives all bytes that were read, in order. `Memory` comes where there is none for the
     /// bytes, and any fault of the half when it comes; what was read before is gone then.
+    #[tactic(auto, using(crate::proofs::Told::reads_to_end))]
     pub fn read_all<W: Wait>(&mut self, rt: &W, alloc: Global) -> Result<Vec<u8>, StreamFault>
+        ensures same { self.new.id ≡ self.old.id }
+        ensures all { IfOk result (λ bytes. Books R.KEEPS self.old.seat self.new.seat (ReadsUpTo reply.ReadEnd self.old.id self.old.seat.number bytes.items)) }
+        ensures stopped { IfErr result (λ fault. (bytes : List ℕ) × Books R.KEEPS self.old.seat self.new.seat (ReadsUntil fault self.old.id self.old.seat.number bytes)) }
+        ensures history { IsWitnessed R.WITNESSED R.role R.config self.new.seat.seen }
+        ensures told { IfOk result (λ bytes. ReadsToEnd R.KEEPS R.WITNESSED R.role R.config bytes.items) }
+    {
+        let read = self.read_up(rt, alloc);
+        self.half.history();
+        match read {
+            Ok(bytes) => Ok(bytes),
+            Err(fault) => Err(fault),
+        }
+    }
+
+    /// The bytes up to the end.
+    fn read_up<W: Wait>(&mut self, rt: &W, alloc: Global) -> Result<Vec<u8>, StreamFault>
         ensures same { self.new.id ≡ self.old.id }
         ensures all { IfOk result (λ bytes. Books R.KEEPS self.old.seat self.new.seat (ReadsUpTo reply.ReadEnd self.old.id self.old.seat.number bytes.items)) }
         ensures stopped { IfErr result (λ fault. (bytes : List ℕ) × Books R.KEEPS self.old.seat self.new.seat (ReadsUntil fault self.old.id self.old.seat.number bytes)) }

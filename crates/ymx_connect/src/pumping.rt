@@ -15,10 +15,10 @@ use ymx_model::{Inlet, Outlet};
 use ymx_pumps::{Gate, PumpEnd, PumpWhy, read_and_settle, write_pump};
 
 /// Bytes that the read pump reads at once.
-const READ_BUFFER: usize = 65_536;
+const READ_BUFFER: usize = 262_144;
 
-/// Bytes that the write pump writes at once: eight whole frames of the longest that are sent.
-const WRITE_BUFFER: usize = 8 * (12 + 16_384);
+/// Bytes that the write pump writes at once: 16 whole frames of the longest that are sent.
+const WRITE_BUFFER: usize = 16 * (12 + 16_384);
 
 /// What a pump moves bytes through.
 #[derive(Drop)]

@@ -2,7 +2,7 @@
 
 ghost use Rattle.std.specs.Prelude.{◌≡◌, false, IfOk};
 ghost use Rattle.std.specs.Fn.{FnOnceReturns};
-ghost use Rattle.ymx_connect.specs.Pumping.{HasRead, HasWritten};
+ghost use Rattle.ymx_connect.specs.Pumping.{HasRead, HasWritten, HasClosed};
 
 use crate::ended::{Connected, Ended};
 use crate::pumping::{
@@ -13,7 +13,7 @@ use std::alloc::Global;
 use std::sync::Wait;
 use std::thread;
 use std::thread::Threads;
-use ymx_hub::Hub;
+use ymx_hub::{Hub, Undrained};
 use ymx_memory::RefusedAllocation;
 use ymx_model::{Inlet, Outlet};
 use ymx_seats::{Recorder, Seat};
@@ -39,7 +39,7 @@ impl Buffers {
 ///
 /// `RefusedThread`, and the function was not called, where a thread can't be made.
 pub(crate) fn run_beside<
-    R: Recorder,
+    R: Recorder + Send + Sync,
     W: Threads + Wait + Sync,
     I: Inlet + Send + Drop,
     O: Outlet + Send + Drop,
@@ -57,6 +57,7 @@ pub(crate) fn run_beside<
     requires off { R.KEEPS ≡ false }
     requires callable { F.IsAlwaysCallable work }
     ensures answered { IfOk result (λ connected. FnOnceReturns F.FnOnce work tt connected.answer) }
+    ensures drained { IfOk result (λ connected. HasClosed R.WITNESSED R.role R.config connected.ended.drained) }
     ensures read { IfOk result (λ connected. HasRead (I.failures reader) (I.failures connected.reader) (I.remaining reader) (I.remaining connected.reader) connected.ended.read_bytes connected.ended.read) }
     ensures wrote { IfOk result (λ connected. HasWritten R.WITNESSED R.role R.config (O.failures writer) (O.failures connected.writer) (O.contents writer) (O.contents connected.writer) (O.is_ended connected.writer) connected.ended.written_bytes connected.ended.written) }
 {
@@ -67,6 +68,7 @@ pub(crate) fn run_beside<
         |scope| -> Result<Connected<T, I, O>, RefusedThread>
             requires { (R.KEEPS ≡ false) × F.IsAlwaysCallable work }
             ensures answered { IfOk result (λ connected. FnOnceReturns F.FnOnce work tt connected.answer) }
+            ensures drained { IfOk result (λ connected. HasClosed R.WITNESSED R.role R.config connected.ended.drained) }
             ensures read { IfOk result (λ connected. HasRead (I.failures reader) (I.failures connected.reader) (I.remaining reader) (I.remaining connected.reader) connected.ended.read_bytes connected.ended.read) }
             ensures wrote { IfOk result (λ connected. HasWritten R.WITNESSED R.role R.config (O.failures writer) (O.failures connected.writer) (O.contents writer) (O.contents connected.writer) (O.is_ended connected.writer) connected.ended.written_bytes connected.ended.written) }
         {
@@ -91,22 +93,38 @@ pub(crate) fn run_beside<
             }
             let reading = reading?;
             let answer = work();
-            let _ = hub.drain(rt, seat);
-            let _ = hub.close(rt, seat);
+            let drained = drain_and_close(rt, hub, seat);
             let written = writing.join(rt);
             let read = reading.join(rt);
-            Ok(connected_by(answer, read, written))
+            Ok(connected_by(answer, drained, read, written))
         },
     )
 }
 
-/// What the function answered, how both pumps ended, and their devices.
+/// Waits until nothing is due, and then closes the session by this seat. `Undrained` where something was due, and nothing
+/// goes out any more.
+fn drain_and_close<R: Recorder, W: Wait>(
+    rt: &W,
+    hub: &Hub<R>,
+    seat: &mut Seat<R>,
+) -> Result<(), Undrained>
+    requires { R.KEEPS ≡ false }
+    ensures { HasClosed R.WITNESSED R.role R.config result }
+{
+    let drained = hub.drain(rt, seat);
+    let _ = hub.close(rt, seat);
+    drained
+}
+
+/// What the function answered, whether nothing was due then, how both pumps ended, and their devices.
 fn connected_by<T: Drop, I: Drop, O: Drop>(
     answer: T,
+    drained: Result<(), Undrained>,
     read: PumpedIn<I>,
     written: PumpedOut<O>,
 ) -> Connected<T, I, O>
     ensures answer { result.answer ≡ answer }
+    ensures drained { result.ended.drained ≡ drained }
     ensures devices { (result.reader ≡ read.reader) × (result.writer ≡ written.writer) }
     ensures read { (result.ended.read ≡ read.why) × (result.ended.read_bytes ≡ read.moved) }
     ensures written { (result.ended.written ≡ written.why) × (result.ended.written_bytes ≡ written.moved) }
@@ -122,6 +140,7 @@ fn connected_by<T: Drop, I: Drop, O: Drop>(
             written: why,
             read_bytes,
             written_bytes: moved,
+            drained,
         },
         reader,
         writer,

@@ -12,8 +12,15 @@ use std::sync::Arc;
 use ymx_hub::Hub;
 use ymx_memory::RefusedAllocation;
 use ymx_model::{Config, Role};
-use ymx_seats::{Naming, NewJournal, Witnessed};
+use ymx_seats::{Naming, NewJournal, Seat, Witnessed};
 use ymx_session::Session;
+
+/// A hub whose history stands in proofs, and two seats of it.
+pub(crate) type HubWithSeats<J> = (
+    Arc<Hub<Witnessed<J>>, Global>,
+    Seat<Witnessed<J>>,
+    Seat<Witnessed<J>>,
+);
 
 /// A session that has done nothing, and its journal, which has no name yet. A contract sees the role and the config of the
 /// session, where 0 as the first own id stands for 1 at a client and 2 at a server, and the journal.
@@ -58,7 +65,7 @@ impl UnnamedSession {
     }
 
     /// The hub of this session, by the name that its journal has. `RefusedAllocation` where there is no memory for it.
-    pub fn hub<J: Naming + Send + Sync>(
+    pub fn hub<J: Naming>(
         self,
         alloc: Global,
     ) -> Result<Arc<Hub<Witnessed<J>>, Global>, RefusedAllocation>
@@ -66,5 +73,16 @@ impl UnnamedSession {
     {
         let UnnamedSession { session, opened } = self;
         Hub::<Witnessed<J>>::witnessed(alloc, session, opened)
+    }
+
+    /// `hub`, with its first two seats.
+    pub(crate) fn hub_with_seats<J: Naming>(
+        self,
+        alloc: Global,
+    ) -> Result<HubWithSeats<J>, RefusedAllocation>
+        requires { self ≡ record { role = J.role; config = J.config; table = J.table } }
+    {
+        let UnnamedSession { session, opened } = self;
+        Hub::<Witnessed<J>>::witnessed_with_seats(alloc, session, opened)
     }
 }

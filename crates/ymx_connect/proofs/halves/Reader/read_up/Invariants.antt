@@ -1,7 +1,7 @@
 use Rattle.std.proofs.Common.{◌≡◌}
 use Rattle.ymx_booked.specs.Books.{Books}
 use Rattle.ymx_connect.specs.Streams.{ReadsOn}
-use Rattle.ymx_connect.proofs.halves.Reader.read_all.Given as goal
+use Rattle.ymx_connect.proofs.halves.Reader.read_up.Given as goal
 
 abbrev pub invariant-loop : goal.invariant-loop
 invariant-loop g l = record {

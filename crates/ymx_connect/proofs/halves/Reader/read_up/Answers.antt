@@ -2,7 +2,7 @@ use Rattle.std.proofs.Common.{◌<◌, List, ℕ, ◌++◌, ◌∙◌, take, sym
 use Rattle.ymx_booked.specs.Books.{Books}
 use Rattle.ymx_connect.specs.Streams.{ReadsOn}
 use Rattle.ymx_connect.proofs.Streams.{reads_more, reads_end, reads_stop, reads_lack}
-use Rattle.ymx_connect.proofs.halves.Reader.read_all.Goals as goal
+use Rattle.ymx_connect.proofs.halves.Reader.read_up.Goals as goal
 
 pub returns-in-Err-clause-stopped : goal.returns-in-Err-clause-stopped
 returns-in-Err-clause-stopped g c =

@@ -1,0 +1,57 @@
+-- What the door says whose session has its history in proofs (this project's own).
+use Rattle.std.specs.Prelude.{ℕ, List, Bool, true, false, Ok}
+use Rattle.ymx_machine.specs.declared.types.Reply.TheVariants as reply
+use Rattle.ymx_model.specs.declared.types.Role.{Role}
+use Rattle.ymx_model.specs.declared.types.Config.{Config}
+use Rattle.ymx_model.specs.declared.types.Entry.{Entry}
+use Rattle.ymx_seats.specs.Views.{SeatView, IsWitnessed}
+use Rattle.ymx_booked.specs.Books.{Books, Spends, to_finish}
+use Rattle.ymx_hub.specs.Halves.{HalfView, OpensHalves}
+use Rattle.ymx_hub.specs.Turns.{WriteTurns}
+use Rattle.ymx_connect.specs.Streams.{ReadsUpTo, Copies}
+
+-- ---- what the calls do
+
+-- A half made its last call, whose entries are such. Its seat had seen what stands in `old`, and has seen `last` behind the
+-- call: the history of a session of this role and config, which replays.
+pub record BooksLast (role : Role) (config : Config) (old : SeatView) (Such : List Entry → Type 0) : Type 0 where
+  pub last : SeatView
+  pub booked : Books false old last Such
+  pub history : IsWitnessed true role config last.seen
+
+-- The reads of one stream at one seat gave these bytes, and then the end, as a recorder has it that keeps, or that witnesses.
+-- What the seat has seen then is the history of a session of this role and config, which replays.
+pub record ReadsToEnd (keeps witnessed : Bool) (role : Role) (config : Config) (bytes : List ℕ) : Type 0 where
+  pub id : ℕ
+  pub before : SeatView
+  pub after : SeatView
+  pub reads : Books keeps before after (ReadsUpTo reply.ReadEnd id before.number bytes)
+  pub history : IsWitnessed witnessed role config after.seen
+
+-- the same where the history stands in proofs alone
+abbrev pub IsReadToEnd : Role → Config → List ℕ → Type 0
+IsReadToEnd role config bytes = ReadsToEnd false true role config bytes
+
+-- ---- what programs do with one stream
+
+-- One caller opened a stream, the text was written to it, and reads of it gave these bytes, up to the end, in the history of a
+-- session of this role and config, which replays. Writer and reader had seen how the stream was opened.
+pub record Exchanges (role : Role) (config : Config) (text bytes : List ℕ) : Type 0 where
+  pub caller : SeatView
+  pub opened : SeatView
+  pub writer : HalfView
+  pub reader : HalfView
+  pub wrote : SeatView
+  pub read : SeatView
+  pub opens : Books false caller opened (OpensHalves caller.number (Ok (writer, reader)))
+  pub writes : Books false writer.seat wrote (WriteTurns writer.id text writer.seat.number (Ok tt))
+  pub reads : Books false reader.seat read (ReadsUpTo reply.ReadEnd reader.id reader.seat.number bytes)
+  pub history : IsWitnessed true role config read.seen
+
+-- All that the reads of one half gave, up to the end, was written to the other, so many bytes as far as 64 bits go, and then that
+-- half was finished, in the history of a session of this role and config, which replays.
+pub record Echoes (role : Role) (config : Config) (reader writer : HalfView) (count : ℕ) : Type 0 where
+  pub read : SeatView
+  pub wrote : SeatView
+  pub copied : Copies false false reader writer read wrote (Ok count)
+  pub finished : BooksLast role config wrote (Spends (to_finish writer.id) writer.id wrote.number (Ok tt))

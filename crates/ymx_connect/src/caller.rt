@@ -1,0 +1,155 @@
+//! A caller of a session whose history stands in proofs.
+
+ghost use Rattle.std.specs.Prelude.{◌≡◌, true, false, IfSome, IfOk, MatchResult};
+ghost use Rattle.ymx_model.specs.session.Sessions.{Session, is_running};
+ghost use Rattle.ymx_model.specs.session.Emissions.{is_ready};
+ghost use Rattle.ymx_session.specs.Replies.{done_or};
+ghost use Rattle.ymx_seats.specs.Views.{IsWitnessed};
+ghost use Rattle.ymx_booked.specs.Answers.{IsNotMemory};
+ghost use Rattle.ymx_booked.specs.Books.{Books, Asks, to_go_away, to_close};
+ghost use Rattle.ymx_booked.specs.Shown.{IsHistoryOf};
+ghost use Rattle.ymx_hub.specs.Shown.{IsShown};
+ghost use Rattle.ymx_hub.specs.Halves.{OpensHalves, OpensHalvesWith, AcceptsHalves};
+ghost use Rattle.ymx_hub.specs.Turns.{PingTurns};
+
+use crate::halves::{Reader, Writer};
+use crate::handle::Handle;
+use crate::off::discard;
+use std::marker::Model;
+use std::sync::Wait;
+use ymx_hub::{HubFault as StreamFault, Seat, Undrained};
+use ymx_seats::{Naming, Witnessed};
+
+/// A running session, as one caller sees it: its history stands in proofs. A contract sees the caller's seat, with the history
+/// as it was at its last call. Each half of a stream is a caller of its own.
+pub struct Caller<J: Naming> {
+    handle: Handle<Witnessed<J>>,
+    seat: Seat<Witnessed<J>>,
+}
+
+impl<J: Naming> Model for Caller<J> {
+    ghost use Rattle.ymx_seats.specs.Views.{SeatView};
+
+    ghost Value = { SeatView };
+
+    ghost view = { λ caller. caller.seat };
+}
+
+impl<J: Naming> Caller<J> {
+    /// The caller who has this seat.
+    pub(crate) fn new(handle: Handle<Witnessed<J>>, seat: Seat<Witnessed<J>>) -> Caller<J>
+        ensures { result ≡ seat }
+    {
+        Caller { handle, seat }
+    }
+
+    /// Lets the caller go, who makes no more calls.
+    pub(crate) fn leave(self) {
+        let Caller { handle: _, seat } = self;
+        discard(seat);
+    }
+
+    /// What the caller has seen is the history of a session of this role and config, which replays. It does nothing at run
+    /// time.
+    pub fn history(&self)
+        ensures { IsWitnessed true J.role J.config self.now.seen }
+    {
+        self.seat.history();
+    }
+
+    /// Opens a stream (stream identifiers). It doesn't wait for the peer, and bytes may be written at once.
+    ///
+    /// Refused, in this order, with `Closed`, `Lost`, `PeerAway` after the peer's Go Away, `Exhausted` where the ids
+    /// are used up, `OpensPending` while 256 own streams are neither acknowledged, reset nor given up, and `TooMany`
+    /// while 1,024 streams are there. `Seats` where no two of 4,294,967,295 callers are left, and `Memory` where there is none
+    /// for the stream: no stream is opened then.
+    pub fn open<W: Wait>(
+        &mut self,
+        rt: &W,
+    ) -> Result<(Writer<Witnessed<J>>, Reader<Witnessed<J>>), StreamFault>
+        ensures booked { Books false self.old self.new (OpensHalves self.old.number result) }
+        ensures paired { IfOk result (λ made. made.1.id ≡ made.0.id) }
+    {
+        self.handle.open_at_seat(rt, &mut self.seat)
+    }
+
+    /// Opens a stream with these first bytes, and says how many of them were taken: the first 262,144 at most. It is
+    /// refused as `open` is.
+    pub fn open_with<W: Wait>(
+        &mut self,
+        rt: &W,
+        bytes: &[u8],
+    ) -> Result<(Writer<Witnessed<J>>, Reader<Witnessed<J>>, usize), StreamFault>
+        ensures booked { Books false self.old self.new (OpensHalvesWith bytes.now self.old.number result) }
+        ensures paired { IfOk result (λ made. made.1.id ≡ made.0.id) }
+    {
+        self.handle.open_with_at_seat(rt, &mut self.seat, bytes)
+    }
+
+    /// Waits for a stream that the peer opens, and acknowledges it. `None` once the session is closed, or lost with
+    /// none left.
+    ///
+    /// `Seats` where no two of 4,294,967,295 callers are left, and `Memory` where there is none for its halves: no stream is
+    /// taken then, and the same call may be made again.
+    pub fn accept<W: Wait>(
+        &mut self,
+        rt: &W,
+    ) -> Result<Option<(Writer<Witnessed<J>>, Reader<Witnessed<J>>)>, StreamFault>
+        ensures booked { Books false self.old self.new (AcceptsHalves self.old.number result) }
+        ensures paired { IfOk result (λ offer. IfSome offer (λ made. made.1.id ≡ made.0.id)) }
+    {
+        self.handle.accept_at_seat(rt, &mut self.seat)
+    }
+
+    /// Asks the peer for a sign of life, waits for it, and returns the ping's number (ping).
+    ///
+    /// Refused with `Closed`, `Lost`, and `PingsPending` while 16 pings wait; while it waits with `Closed` or `Lost`.
+    pub fn ping<W: Wait>(&mut self, rt: &W) -> Result<u32, StreamFault>
+        ensures booked { Books false self.old self.new (PingTurns self.old.number result) }
+        ensures spares { IsNotMemory result }
+    {
+        self.handle.ping_at_seat(rt, &mut self.seat)
+    }
+
+    /// Takes no more streams of the peer's (go away). Refused, in this order, with `Closed` and `Lost`.
+    pub fn go_away<W: Wait>(&mut self, rt: &W) -> Result<(), StreamFault>
+        ensures booked { Books false self.old self.new (Asks to_go_away done_or self.old.number result) }
+        ensures spares { IsNotMemory result }
+    {
+        self.handle.go_away_at_seat(rt, &mut self.seat)
+    }
+
+    /// Waits until nothing is due: all that was due was emitted. It is no event of the session. It shows the whole history
+    /// to the caller, and the answer is of the session that this history leads to.
+    ///
+    /// `Undrained`: something is due, and the write pump has ended with `Device`, so that nothing goes out any more.
+    pub fn drain<W: Wait>(&mut self, rt: &W) -> Result<(), Undrained>
+        ensures shown { IsShown self.old self.new }
+        ensures due { (s : Session) × IsHistoryOf true J.role J.config self.new.seen s × MatchResult result (λ _. is_ready s ≡ false) (λ _. is_ready s ≡ true) }
+    {
+        self.handle.drain_at_seat(rt, &mut self.seat)
+    }
+
+    /// Closes the session at once, and wakes all who wait: they answer `Closed`. What is not sent is dropped. It is
+    /// refused in no case; a second close changes nothing.
+    pub fn close<W: Wait>(&mut self, rt: &W) -> Result<(), StreamFault>
+        ensures booked { Books false self.old self.new (Asks to_close done_or self.old.number result) }
+        ensures spares { IsNotMemory result }
+    {
+        self.handle.close_at_seat(rt, &mut self.seat)
+    }
+
+    /// Whether the session goes on: it is neither lost, broken nor closed. It is no event of the session. It shows the whole
+    /// history to the caller, and the answer is of the session that this history leads to.
+    pub fn is_running<W: Wait>(&mut self, rt: &W) -> bool
+        ensures shown { IsShown self.old self.new }
+        ensures status { (s : Session) × IsHistoryOf true J.role J.config self.new.seen s × (result ≡ is_running s.status) }
+    {
+        self.handle.is_running_at_seat(rt, &mut self.seat)
+    }
+
+    /// Whether a stream of the peer's was rejected here for want of memory.
+    pub fn has_lacked_memory<W: Wait>(&self, rt: &W) -> bool {
+        self.handle.has_lacked_memory(rt)
+    }
+}

@@ -1,0 +1,19 @@
+//! What a program does with a session whose history stands in proofs.
+
+use crate::caller::Caller;
+use std::sync::Wait;
+use ymx_seats::Naming;
+
+/// What a program does with a session, whatever the name of the session's journal: a function that is generic, which no
+/// closure can be. `T` is what it answers.
+pub trait Work<W: Wait, T> {
+    ghost use Rattle.ymx_model.specs.declared.types.Role.{Role};
+    ghost use Rattle.ymx_model.specs.declared.types.Config.{Config};
+
+    /// What its answer promises, of a session of this role and config. `connect` promises the same.
+    ghost Keeps: { Self → Role → Config → T → Type 0 };
+
+    /// Works with this session. It can start no thread that works with it too: `connect_with` is for that.
+    fn run<J: Naming>(self, rt: &W, session: &mut Caller<J>) -> T
+        ensures { Keeps self J.role J.config result };
+}
