@@ -106,7 +106,7 @@ local_mistakes rows (inr h) = absurd (differ (codes "local") (codes "remote") h.
 pub remote_mistakes : (rows : List Row) → IsBadEnd (codes "remote") rows →
     IsBad 262144 16777216 (first_of (codes "window") rows) ⊎ (IsBad 1 1024 (first_of (codes "workers") rows)
     ⊎ (IsBad 1 3600 (first_of (codes "ping") rows) ⊎ (IsBad 1 256 (first_of (codes "peers") rows)
-    ⊎ IsUndecided (first_of (codes "peer") rows) (first_of (codes "bind") rows))))
+    ⊎ (IsUndecided (first_of (codes "peer") rows) (first_of (codes "bind") rows) ⊎ AreBothGiven (first_of (codes "peers") rows) (first_of (codes "peer") rows)))))
 remote_mistakes rows (inl h) = absurd (differ (codes "remote") (codes "local") h.0 (λ e. omega arith))
 remote_mistakes rows (inr h) = h.1
 

@@ -176,11 +176,11 @@ remote_shape = (with_rule (with_rule (with_rule remote_lasting window_rule) work
 abbrev pub bare_shape : List ℕ → Shape
 bare_shape name = (new_app name).top
 
--- the program by itself, which has a version and wants a subcommand
+-- the program by itself, which has a version, as its subcommands have, and wants a subcommand
 abbrev pub top_app : App
 top_app =
     let app = new_app (codes "ymx") in
-    record app { top = record app.top { has_version = true; subcommand_required = true } }
+    record app { top = record app.top { has_version = true; propagate_version = true; subcommand_required = true } }
 
 -- the program
 abbrev pub ymx_app : App
@@ -229,7 +229,7 @@ AreBothGiven (Some text) None = ⊥
 AreBothGiven (Some text) (Some other) = ⊤
 
 -- of an end of a tunnel: a text was given to one of its options that is no number of its range, or no way to meet its peer, or two,
--- or links to a peer that is awaited
+-- or links to a peer that is awaited, or many peers beside one that is called
 abbrev pub IsBadEnd : Text → List Row → Type 0
 IsBadEnd name rows =
     ((name ≡ codes "local") × (IsBad 0 4294967295 (first_of (codes "count") rows) ⊎ (IsBad 262144 16777216 (first_of (codes "window") rows)
@@ -237,14 +237,14 @@ IsBadEnd name rows =
     ⊎ (IsUndecided (first_of (codes "peer") rows) (first_of (codes "bind") rows) ⊎ AreBothGiven (first_of (codes "links") rows) (first_of (codes "bind") rows)))))))
     ⊎ ((name ≡ codes "remote") × (IsBad 262144 16777216 (first_of (codes "window") rows) ⊎ (IsBad 1 1024 (first_of (codes "workers") rows)
     ⊎ (IsBad 1 3600 (first_of (codes "ping") rows) ⊎ (IsBad 1 256 (first_of (codes "peers") rows)
-    ⊎ IsUndecided (first_of (codes "peer") rows) (first_of (codes "bind") rows))))))
+    ⊎ (IsUndecided (first_of (codes "peer") rows) (first_of (codes "bind") rows) ⊎ AreBothGiven (first_of (codes "peers") rows) (first_of (codes "peer") rows)))))))
 
 -- of a subcommand that was met: the same
 abbrev pub HasBadOption : Text × List Row → Type 0
 HasBadOption (name, rows) = ((name ≡ codes "frames") × IsBad 262144 16777216 (first_of (codes "limit") rows)) ⊎ IsBadEnd name rows
 
 -- The words name a subcommand, and give one of its options a text that is no number of its range, or an end of a tunnel no way to
--- meet its peer, or two, or links to a peer that is awaited.
+-- meet its peer, or two, or links to a peer that is awaited, or many peers beside one that is called.
 abbrev pub GivesBadOption : List Text → Type 0
 GivesBadOption words = IsSomeAnd (subcommand_of ymx_app words) HasBadOption
 
@@ -301,7 +301,7 @@ AsksNoLines words = IfSome (subcommand_of ymx_app words) (λ p. IsNotSaid (one_o
 -- clap has something of this kind to say
 abbrev pub IsClap : ErrorKind → CommandFault → Type 0
 IsClap kind (Clap error) = kind_of error ≡ kind
-IsClap kind (BadAddress text) = ⊥
+IsClap kind (BadAddress option text) = ⊥
 
 -- there was no memory to read the words
 abbrev pub LacksMemory : CommandFault → Type 0
@@ -310,7 +310,7 @@ LacksMemory = IsClap OutOfMemory
 -- the words have a mistake: neither the help nor the version was asked for
 abbrev pub SaysMistake : CommandFault → Type 0
 SaysMistake (Clap error) = IsMistake (kind_of error)
-SaysMistake (BadAddress text) = ⊤
+SaysMistake (BadAddress option text) = ⊤
 
 -- such a mistake of the options is said so
 abbrev pub IsFaultFor : BadOption → CommandFault → Type 0
@@ -318,8 +318,9 @@ IsFaultFor (bad.Number name text) fault = IsClap ValueValidation fault
 IsFaultFor bad.NoPeer fault = IsClap MissingRequiredArgument fault
 IsFaultFor bad.TwoPeers fault = IsClap ArgumentConflict fault
 IsFaultFor bad.AwaitedLinks fault = IsClap ArgumentConflict fault
-IsFaultFor (bad.Address text) (BadAddress said) = said.now ≡ text.now
-IsFaultFor (bad.Address text) (Clap error) = ⊥
+IsFaultFor bad.CalledPeers fault = IsClap ArgumentConflict fault
+IsFaultFor (bad.Address name text) (BadAddress option said) = (option.now ≡ name.now) × (said.now ≡ text.now)
+IsFaultFor (bad.Address name text) (Clap error) = ⊥
 
 -- ---- the options of an end of a tunnel
 
@@ -332,13 +333,14 @@ abbrev pub IsAddressOf : Option Text → SocketAddrV4 → Type 0
 IsAddressOf None address = ⊥
 IsAddressOf (Some text) address = IsSocketV4Text text address
 
--- what was given to an option spells no address, and the mistake shows it
-abbrev pub IsNoAddress : Option Text → BadOption → Type 0
-IsNoAddress given (bad.Address text) = (text.now ≡ unwrap_or given []) × ((address : SocketAddrV4) → IsAddressOf given address → ⊥)
-IsNoAddress given (bad.Number name text) = ⊥
-IsNoAddress given bad.NoPeer = ⊥
-IsNoAddress given bad.TwoPeers = ⊥
-IsNoAddress given bad.AwaitedLinks = ⊥
+-- what was given to the option of this name spells no address, and the mistake shows both
+abbrev pub IsNoAddress : (name : Text) → Option Text → BadOption → Type 0
+IsNoAddress name given (bad.Address option text) = (option.now ≡ name) × (text.now ≡ unwrap_or given []) × ((address : SocketAddrV4) → IsAddressOf given address → ⊥)
+IsNoAddress name given (bad.Number option text) = ⊥
+IsNoAddress name given bad.NoPeer = ⊥
+IsNoAddress name given bad.TwoPeers = ⊥
+IsNoAddress name given bad.AwaitedLinks = ⊥
+IsNoAddress name given bad.CalledPeers = ⊥
 
 -- The peer is met there, where each option was given this text, or none: it is connected to at the address of `--peer`, or awaited
 -- at that of `--bind`. Just one of them was given.
@@ -352,9 +354,10 @@ IsBadPeer given (bad.Number name text) = ⊥
 IsBadPeer given bad.NoPeer = (given (codes "peer") ≡ None) × (given (codes "bind") ≡ None)
 IsBadPeer given bad.TwoPeers = (given (codes "peer") ≢ None) × (given (codes "bind") ≢ None)
 IsBadPeer given bad.AwaitedLinks = ⊥
-IsBadPeer given (bad.Address text) =
-    (IsNoAddress (given (codes "peer")) (bad.Address text) × (given (codes "bind") ≡ None))
-    ⊎ ((given (codes "peer") ≡ None) × IsNoAddress (given (codes "bind")) (bad.Address text))
+IsBadPeer given bad.CalledPeers = ⊥
+IsBadPeer given (bad.Address name text) =
+    (IsNoAddress (codes "peer") (given (codes "peer")) (bad.Address name text) × (given (codes "bind") ≡ None))
+    ⊎ ((given (codes "peer") ≡ None) × IsNoAddress (codes "bind") (given (codes "bind")) (bad.Address name text))
 
 -- the mistake says that links were asked for, to a peer that is awaited
 abbrev pub IsBadLinks : (given : Text → Option Text) → BadOption → Type 0
@@ -362,20 +365,30 @@ IsBadLinks given bad.AwaitedLinks = AreBothGiven (given (codes "links")) (given 
 IsBadLinks given (bad.Number name text) = ⊥
 IsBadLinks given bad.NoPeer = ⊥
 IsBadLinks given bad.TwoPeers = ⊥
-IsBadLinks given (bad.Address text) = ⊥
+IsBadLinks given bad.CalledPeers = ⊥
+IsBadLinks given (bad.Address name text) = ⊥
+
+-- the mistake says that many peers were asked for, and one to be called
+abbrev pub IsBadCalled : (given : Text → Option Text) → BadOption → Type 0
+IsBadCalled given bad.CalledPeers = AreBothGiven (given (codes "peers")) (given (codes "peer"))
+IsBadCalled given (bad.Number name text) = ⊥
+IsBadCalled given bad.NoPeer = ⊥
+IsBadCalled given bad.TwoPeers = ⊥
+IsBadCalled given bad.AwaitedLinks = ⊥
+IsBadCalled given (bad.Address name text) = ⊥
 
 -- the options of `local` can't be taken: a number isn't in its range, or this mistake says what is wrong with an address, or with links
 abbrev pub IsBadLocal : (given : Text → Option Text) → BadOption → Type 0
 IsBadLocal given mistake =
     IsBad 0 4294967295 (given (codes "count")) ⊎ (IsBad 262144 16777216 (given (codes "window")) ⊎ (IsBad 1 3600 (given (codes "ping"))
-    ⊎ (IsBad 1 64 (given (codes "links")) ⊎ (IsBadPeer given mistake ⊎ (IsBadLinks given mistake ⊎ IsNoAddress (given (codes "listen")) mistake)))))
+    ⊎ (IsBad 1 64 (given (codes "links")) ⊎ (IsBadPeer given mistake ⊎ (IsBadLinks given mistake ⊎ IsNoAddress (codes "listen") (given (codes "listen")) mistake)))))
 
 -- the same of `remote`
 abbrev pub IsBadRemote : (given : Text → Option Text) → BadOption → Type 0
 IsBadRemote given mistake =
     IsBad 262144 16777216 (given (codes "window")) ⊎ (IsBad 1 1024 (given (codes "workers"))
     ⊎ (IsBad 1 3600 (given (codes "ping")) ⊎ (IsBad 1 256 (given (codes "peers"))
-    ⊎ (IsBadPeer given mistake ⊎ IsNoAddress (given (codes "target")) mistake))))
+    ⊎ (IsBadPeer given mistake ⊎ (IsBadCalled given mistake ⊎ IsNoAddress (codes "target") (given (codes "target")) mistake)))))
 
 -- `local` is told what its options say, of which each was given this text, or none: addresses and numbers as they are spelled, one
 -- way to meet its peer, links only to one that it calls, and defaults where nothing was given.
@@ -396,6 +409,7 @@ IsRemoteOf given flag (tunnel.Remote remote) =
     × ReadsOr 262144 16777216 262144 (given (codes "window")) remote.window
     × ReadsOr 1 1024 1024 (given (codes "workers")) remote.workers
     × ReadsAs 1 3600 (given (codes "ping")) remote.ping × ReadsAs 1 256 (given (codes "peers")) remote.peers
+    × (AreBothGiven (given (codes "peers")) (given (codes "peer")) → ⊥)
     × ReadsFlag (flag (codes "keep")) remote.is_kept × ReadsFlag (flag (codes "verbose")) remote.is_verbose
 IsRemoteOf given flag (tunnel.Local local) = ⊥
 IsRemoteOf given flag tunnel.Selftest = ⊥

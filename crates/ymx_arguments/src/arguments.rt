@@ -56,8 +56,10 @@ pub(crate) enum BadOption<'a> {
     TwoPeers,
     /// Both `--links` and `--bind` were given, though only a peer that is called has links.
     AwaitedLinks,
-    /// This text is no IPv4 address with a port.
-    Address { text: &'a str },
+    /// Both `--peers` and `--peer` were given, though only peers that are awaited are many.
+    CalledPeers,
+    /// This text, which the option of this name was given, is no IPv4 address with a port.
+    Address { name: &'a str, text: &'a str },
 }
 
 /// The number that `--NAME` was given, if it was given one: decimal digits alone, with a value from `least` to `most`.

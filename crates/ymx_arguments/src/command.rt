@@ -36,6 +36,7 @@ fn top_command<'a>(alloc: Global) -> Command<'a>
         HELP,
     )
     .version(VERSION)
+    .propagate_version(true)
     .subcommand_required(true)
 }
 

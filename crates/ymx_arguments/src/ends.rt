@@ -39,6 +39,7 @@ fn local_addresses<'a>(alloc: Global) -> Result<Command<'a>, AllocError>
         "Forward local connections through a session",
         LOCAL_HELP,
     )
+    .override_usage(LOCAL_USAGE)
     .arg(needed_address(
         alloc,
         "listen",
@@ -87,6 +88,7 @@ fn remote_addresses<'a>(alloc: Global) -> Result<Command<'a>, AllocError>
         "Connect the streams of a session to a target",
         REMOTE_HELP,
     )
+    .override_usage(REMOTE_USAGE)
     .arg(address(alloc, "bind", "Where to listen for `ymx local`"))?
     .arg(renamed_address(
         alloc,
@@ -229,6 +231,14 @@ fn verbose_argument<'a>(alloc: Global) -> Arg<'a>
         .action(ArgAction::SetTrue)
         .help("Say on standard error where it listens, and how each connection ended")
 }
+
+/// How `local` is called.
+const LOCAL_USAGE: &str =
+    "ymx local [OPTIONS] --listen <ADDRESS> <--peer <ADDRESS>|--bind <ADDRESS>>";
+
+/// How `remote` is called.
+const REMOTE_USAGE: &str =
+    "ymx remote [OPTIONS] --target <ADDRESS> <--peer <ADDRESS>|--bind <ADDRESS>>";
 
 /// What the help of `local` says at its end.
 const LOCAL_HELP: &str =

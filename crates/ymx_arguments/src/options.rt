@@ -2,7 +2,7 @@
 
 ghost use Rattle.std.specs.Prelude.{◌≡◌, ◌⊎◌, codes, IfErr, IfOk, IsErr, MatchResult};
 ghost use Rattle.clap.specs.Words.{first_value, found_of, one_text, rows_of};
-ghost use Rattle.ymx_arguments.specs.CommandLine.{AreBothGiven, HasOptions, IsAddressOf, IsBad, IsBadEnd, IsBadLinks, IsBadLocal, IsBadPeer, IsBadRemote, IsEnd, IsLocalOf, IsNoAddress, IsNotSaid, IsNotVerbose, IsPeerOf, IsRemoteOf, IsUndecided, ReadsOr};
+ghost use Rattle.ymx_arguments.specs.CommandLine.{AreBothGiven, HasOptions, IsAddressOf, IsBad, IsBadCalled, IsBadEnd, IsBadLinks, IsBadLocal, IsBadPeer, IsBadRemote, IsEnd, IsLocalOf, IsNoAddress, IsNotSaid, IsNotVerbose, IsPeerOf, IsRemoteOf, IsUndecided, ReadsOr};
 
 use crate::arguments::{BadOption, number_of};
 use clap::ArgMatches;
@@ -88,6 +88,7 @@ fn remote_options<'a>(found: &ArgMatches<'a>) -> Result<TunnelCommand, BadOption
     ensures ping { IsBad 1 3600 (first_value (found_of found.now) (codes "ping")) → IsErr result }
     ensures peers { IsBad 1 256 (first_value (found_of found.now) (codes "peers")) → IsErr result }
     ensures peer { IsUndecided (first_value (found_of found.now) (codes "peer")) (first_value (found_of found.now) (codes "bind")) → IsErr result }
+    ensures called { AreBothGiven (first_value (found_of found.now) (codes "peers")) (first_value (found_of found.now) (codes "peer")) → IsErr result }
     ensures read { MatchResult result (IsRemoteOf (first_value (found_of found.now)) (one_text (found_of found.now)))
         (IsBadRemote (first_value (found_of found.now))) }
 {
@@ -96,6 +97,7 @@ fn remote_options<'a>(found: &ArgMatches<'a>) -> Result<TunnelCommand, BadOption
     let ping = number_of(found, "ping", 1, 3600)?;
     let peers = number_of(found, "peers", 1, 256)?;
     check_peer(found)?;
+    check_called(found)?;
     let peer = peer_of(found)?;
     let target = address_of(found, "target")?;
     Ok(TunnelCommand::Remote(RemoteOptions {
@@ -134,6 +136,18 @@ fn check_links<'a>(found: &ArgMatches<'a>) -> Result<(), BadOption<'a>>
     }
 }
 
+/// Whether `--peers` and `--peer` weren't both given.
+fn check_called<'a>(found: &ArgMatches<'a>) -> Result<(), BadOption<'a>>
+    ensures both { AreBothGiven (first_value (found_of found.now) (codes "peers")) (first_value (found_of found.now) (codes "peer")) → IsErr result }
+    ensures mistake { MatchResult result (λ _. AreBothGiven (first_value (found_of found.now) (codes "peers")) (first_value (found_of found.now) (codes "peer")) → ⊥)
+        (IsBadCalled (first_value (found_of found.now))) }
+{
+    match (found.get_str("peers"), found.get_str("peer")) {
+        (Some(_), Some(_)) => Err(BadOption::CalledPeers),
+        (_, None) | (None, _) => Ok(()),
+    }
+}
+
 /// Where the peer is met: it is connected to at the address of `--peer`, or awaited at that of `--bind`, just one of
 /// which must be given.
 fn peer_of<'a>(found: &ArgMatches<'a>) -> Result<PeerAddress, BadOption<'a>>
@@ -148,15 +162,15 @@ fn peer_of<'a>(found: &ArgMatches<'a>) -> Result<PeerAddress, BadOption<'a>>
 }
 
 /// The IPv4 address with its port that `--NAME` was given.
-fn address_of<'a>(found: &ArgMatches<'a>, name: &str) -> Result<SocketAddrV4, BadOption<'a>>
-    ensures { MatchResult result (IsAddressOf (first_value (found_of found.now) name.now)) (IsNoAddress (first_value (found_of found.now) name.now)) }
+fn address_of<'a>(found: &ArgMatches<'a>, name: &'a str) -> Result<SocketAddrV4, BadOption<'a>>
+    ensures { MatchResult result (IsAddressOf (first_value (found_of found.now) name.now)) (IsNoAddress name.now (first_value (found_of found.now) name.now)) }
 {
     let Some(text) = found.get_str(name) else {
-        return Err(BadOption::Address { text: "" });
+        return Err(BadOption::Address { name, text: "" });
     };
     match text.parse::<SocketAddrV4>() {
         Ok(address) => Ok(address),
-        Err(_) => Err(BadOption::Address { text }),
+        Err(_) => Err(BadOption::Address { name, text }),
     }
 }
 

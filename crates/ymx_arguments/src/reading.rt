@@ -26,6 +26,9 @@ const TWO_PEERS: &str = "the argument '--peer <ADDRESS>' cannot be used with '--
 /// What is said where links to a peer were asked for that is awaited.
 const AWAITED_LINKS: &str = "the argument '--links <N>' cannot be used with '--bind <ADDRESS>'";
 
+/// What is said where many peers were asked for, and one is called.
+const CALLED_PEERS: &str = "the argument '--peers <N>' cannot be used with '--peer <ADDRESS>'";
+
 /// What a command line asks for.
 #[derive(Clone, Copy)]
 pub enum Task<'a> {
@@ -44,8 +47,8 @@ pub enum CommandFault<'a> {
     /// They ask for the help or the version, they have a mistake, or there was no memory to read them: its kind says
     /// which, and its text is what to print.
     Clap(Error),
-    /// This text is no IPv4 address with a port.
-    BadAddress(&'a str),
+    /// The option of this name was given this text, which is no IPv4 address with a port.
+    BadAddress(&'a str, &'a str),
 }
 
 impl From<AllocError> for CommandFault<'_> {
@@ -122,7 +125,10 @@ fn fault_for<'a>(
         BadOption::AwaitedLinks => {
             clap_fault(alloc, name, ErrorKind::ArgumentConflict, AWAITED_LINKS)
         }
-        BadOption::Address { text } => Ok(CommandFault::BadAddress(text)),
+        BadOption::CalledPeers => {
+            clap_fault(alloc, name, ErrorKind::ArgumentConflict, CALLED_PEERS)
+        }
+        BadOption::Address { name: option, text } => Ok(CommandFault::BadAddress(option, text)),
     }
 }
 

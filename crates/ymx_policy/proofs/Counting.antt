@@ -6,6 +6,7 @@ use Rattle.ymx_policy.specs.declared.plan.Terms.{Terms}
 use Rattle.ymx_policy.specs.declared.reason.Reason.{Reason}
 use Rattle.ymx_policy.specs.declared.asks.Fault.{Fault}
 use Rattle.ymx_policy.specs.declared.asks.Words.{Words}
+use Rattle.ymx_policy.specs.declared.asks.Notice.{Notice}
 use Rattle.ymx_policy.specs.declared.asks.SessionEnd.{SessionEnd}
 use Rattle.ymx_policy.specs.declared.asks.PoolDeed.{PoolDeed}
 use Rattle.ymx_policy.specs.declared.asks.PoolDeed.TheVariants as deed
@@ -47,23 +48,23 @@ no_some f e = grind arith
 settles_fine : (at : PoolStage) (t : Terms) (p : Pool) → IsFine (settles_at at t p) → IsFine p
 settles_fine at t p (c, f) = (c, (either p.has_faulted _ f).0)
 
-heeds_fine : (kept : Bool) (t : Terms) (p : Pool) (words : Words) (how : SessionEnd) → IsFine (heeds kept t p words how) → IsFine p × (is_clean how ≡ true)
-heeds_fine true t p words how (c, f) =
+heeds_fine : (kept : Bool) (t : Terms) (p : Pool) (words : Words) (why : Option Notice) (how : SessionEnd) → IsFine (heeds kept t p words why how) → IsFine p × (is_clean how ≡ true)
+heeds_fine true t p words why how (c, f) =
     let e = either p.has_faulted _ f in
     ((c, e.0), no_fault t.users.address (cannot_meet t.role p.peers) how (no_some (first_fault t.users.address (cannot_meet t.role p.peers) how) e.1))
-heeds_fine false t p words how (c, f) = let e = both_true (is_clean p.all) (is_clean how) (sym (clean_both p.all how) ∙ c) in ((e.0, f), e.1)
+heeds_fine false t p words why how (c, f) = let e = both_true (is_clean p.all) (is_clean how) (sym (clean_both p.all how) ∙ c) in ((e.0, f), e.1)
 
 shuts_fine : (links : Bool) (t : Terms) (p : Pool) → IsFine (shuts links t p) → IsFine p
 shuts_fine true t p f = f
 shuts_fine false t p f = settles_fine _ t (record p { is_shut = true }) f
 
-rests_fine : (goes_on : Bool) (t : Terms) (p : Pool) → IsFine (rests goes_on t p) → IsFine p
-rests_fine true t p f = f
-rests_fine false t p f = shuts_fine false t p f
+rests_fine : (goes_on : Bool) (t : Terms) (p : Pool) (refused : Option Notice) → IsFine (rests goes_on t p refused) → IsFine p
+rests_fine true t p refused f = f
+rests_fine false t p refused f = shuts_fine false t (record p { words = silence; why = refused }) f
 
-meets_bad : (kept : Bool) (p : Pool) (f : Fault) → IsFine (meets kept p f) → ⊥
-meets_bad true p f (c, e) = cc
-meets_bad false p f (c, e) = let b = both_true (is_clean p.all) (is_clean unlinked) (sym (clean_both p.all unlinked) ∙ c) in cc
+meets_bad : (kept : Bool) (p : Pool) (f : Fault) (why : Option Notice) → IsFine (meets kept p f why) → ⊥
+meets_bad true p f why (c, e) = cc
+meets_bad false p f why (c, e) = let b = both_true (is_clean p.all) (is_clean unlinked) (sym (clean_both p.all unlinked) ∙ c) in cc
 
 calling_fine : (t : Terms) (p : Pool) (h : PoolHappened) → IsFine (after_calling t p h) → IsFine p
 calling_fine t p Came f = f
@@ -78,8 +79,8 @@ opening_fine links t p (Failed why) (c, f) = cc
 opening_fine links t p other (c, f) = cc
 
 no_thread_fine : (links : Bool) (t : Terms) (p : Pool) (why : Option Reason) → IsFine (after_no_thread links t p why) → IsFine p
-no_thread_fine true t p why f = (heeds_fine t.goes_on t p _ unlinked f).0
-no_thread_fine false t p why f = rests_fine (t.goes_on || p.has_served) t (record p { words = record silence { first = refusal option.Peers why } }) f
+no_thread_fine true t p why f = (heeds_fine t.goes_on t p silence (refusal option.Links why) unlinked f).0
+no_thread_fine false t p why f = rests_fine (t.goes_on || p.has_served) t p (refusal option.Peers why) f
 
 starting_fine : (links : Bool) (t : Terms) (p : Pool) (h : PoolHappened) → IsFine (after_starting links t p h) → IsFine p
 starting_fine links t p Started f = f
@@ -88,13 +89,13 @@ starting_fine links t p other f = no_thread_fine links t p None f
 
 users_fine : (t : Terms) (p : Pool) (h : PoolHappened) → IsFine (after_users t p h) → IsFine p
 users_fine t p AllCame f = f
-users_fine t p NoLinks f = (heeds_fine t.goes_on t p _ _ f).0
-users_fine t p (NobodyComes why) f = (heeds_fine t.goes_on t p _ _ f).0
-users_fine t p other f = (heeds_fine t.goes_on t p _ _ f).0
+users_fine t p NoLinks f = (heeds_fine t.goes_on t p silence None _ f).0
+users_fine t p (NobodyComes why) f = (heeds_fine t.goes_on t p silence None _ f).0
+users_fine t p other f = (heeds_fine t.goes_on t p silence None _ f).0
 
 peers_fine : (t : Terms) (p : Pool) (h : PoolHappened) → IsFine (after_peers t p h) → IsFine p
-peers_fine t p (NobodyComes why) f = shuts_fine false t (record p { words = record silence { first = refusal option.Bind why } }) f
-peers_fine t p other f = shuts_fine false t (record p { words = silence }) f
+peers_fine t p (NobodyComes why) f = shuts_fine false t (record p { words = silence; why = refusal (option.Bind p.peers) why }) f
+peers_fine t p other f = shuts_fine false t (record p { words = silence; why = None }) f
 
 last_fine : (links : Bool) (t : Terms) (p : Pool) (h : PoolHappened) → IsFine (after_last links t p h) → IsFine p
 last_fine true t p h f = users_fine t p h f
@@ -103,27 +104,27 @@ last_fine false t p h f = peers_fine t p h f
 -- what was heard was well
 abbrev is_heard_well : PoolHappened → Bool
 is_heard_well (Left how) = is_clean how
-is_heard_well (Met f) = false
+is_heard_well (Met f why) = false
 is_heard_well other = true
 
 waiting_fine : (links : Bool) (t : Terms) (p : Pool) (h : PoolHappened) → IsFine (after_waiting links t p h) → IsFine p × (is_heard_well h ≡ true)
 waiting_fine links t p Came f = (f, refl)
 waiting_fine links t p (Delayed why) f = (f, refl)
 waiting_fine links t p (Left how) f =
-    heeds_fine t.goes_on t (record p { running = p.running - 1 }) (leaving links t.goes_on) how (settles_fine _ t (heeds t.goes_on t (record p { running = p.running - 1 }) (leaving links t.goes_on) how) f)
-waiting_fine links t p (Met m) f = absurd (meets_bad t.goes_on p m f)
+    heeds_fine t.goes_on t (record p { running = p.running - 1 }) (leaving links t.goes_on) None how (settles_fine _ t (heeds t.goes_on t (record p { running = p.running - 1 }) (leaving links t.goes_on) None how) f)
+waiting_fine links t p (Met m why) f = absurd (meets_bad t.goes_on p m why f)
 waiting_fine links t p other f = (last_fine links t p other f, refl)
 
 placing_fine : (t : Terms) (p : Pool) (h : PoolHappened) → IsFine (after_placing t p h) → IsFine p
-placing_fine t p LackedMemory f = (heeds_fine t.goes_on t p silence (record clean { lacked_memory = true }) f).0
+placing_fine t p LackedMemory f = (heeds_fine t.goes_on t p silence None (record clean { lacked_memory = true }) f).0
 placing_fine t p other f = f
 
 waiting_clean : (room : Bool) (t : Terms) (peers : SocketAddrV4) (bad : Bool) (h : PoolHappened) (before : Bool) → before ≡ true → is_heard_well h ≡ true → clean_after (deed_at stage.Waiting t room peers bad) h before ≡ true
 waiting_clean true t peers bad (Left how) before e w = rw (e, w) refl
-waiting_clean true t peers bad (Met f) before e w = cc
+waiting_clean true t peers bad (Met f why) before e w = cc
 waiting_clean true t peers bad other before e w = e
 waiting_clean false t peers bad (Left how) before e w = rw (e, w) refl
-waiting_clean false t peers bad (Met f) before e w = cc
+waiting_clean false t peers bad (Met f why) before e w = cc
 waiting_clean false t peers bad other before e w = e
 
 opening_clean : (links : Bool) (t : Terms) (peers : SocketAddrV4) (h : PoolHappened) (before : Bool) → clean_after (listening links t peers) h before ≡ before
@@ -158,9 +159,9 @@ shuts_ends : (links : Bool) (t : Terms) (p : Pool) → EndsFine (shuts links t p
 shuts_ends true t p o f = cc
 shuts_ends false t p o f = settles_ends _ t (record p { is_shut = true }) o f
 
-rests_ends : (goes_on : Bool) (t : Terms) (p : Pool) → EndsFine (rests goes_on t p)
-rests_ends true t p o f = cc
-rests_ends false t p o f = shuts_ends false t p o f
+rests_ends : (goes_on : Bool) (t : Terms) (p : Pool) (refused : Option Notice) → EndsFine (rests goes_on t p refused)
+rests_ends true t p refused o f = cc
+rests_ends false t p refused o f = shuts_ends false t (record p { words = silence; why = refused }) o f
 
 calling_ends : (t : Terms) (p : Pool) (h : PoolHappened) → EndsFine (after_calling t p h)
 calling_ends t p h o f = grind arith
@@ -169,8 +170,8 @@ opening_ends : (links : Bool) (t : Terms) (p : Pool) (h : PoolHappened) → Ends
 opening_ends links t p h o f = grind arith
 
 no_thread_ends : (links : Bool) (t : Terms) (p : Pool) (why : Option Reason) → EndsFine (after_no_thread links t p why)
-no_thread_ends true t p why o f = shuts_ends true t (heeds t.goes_on t p (record silence { first = refusal option.Links why }) unlinked) o f
-no_thread_ends false t p why o f = rests_ends (t.goes_on || p.has_served) t (record p { words = record silence { first = refusal option.Peers why } }) o f
+no_thread_ends true t p why o f = shuts_ends true t (heeds t.goes_on t p silence (refusal option.Links why) unlinked) o f
+no_thread_ends false t p why o f = rests_ends (t.goes_on || p.has_served) t p (refusal option.Peers why) o f
 
 start_goes_on : (links : Bool) (running places : ℕ) → behind_start links running places ≡ stage.Over → ⊥
 start_goes_on links running places e = grind arith
@@ -185,21 +186,21 @@ last_ends true t p AllCame o f = cc
 last_ends true t p NoLinks o f = cc
 last_ends true t p (NobodyComes why) o f = cc
 last_ends true t p other o f = cc
-last_ends false t p (NobodyComes why) o f = shuts_ends false t (record p { words = record silence { first = refusal option.Bind why } }) o f
-last_ends false t p other o f = shuts_ends false t (record p { words = silence }) o f
+last_ends false t p (NobodyComes why) o f = shuts_ends false t (record p { words = silence; why = refusal (option.Bind p.peers) why }) o f
+last_ends false t p other o f = shuts_ends false t (record p { words = silence; why = None }) o f
 
 comes_in : (links room : Bool) → let_in links room ≡ stage.Over → ⊥
 comes_in links room e = grind arith
 
-meets_ends : (kept : Bool) (p : Pool) (m : Fault) → p.stage ≡ stage.Waiting → EndsFine (meets kept p m)
-meets_ends true p m w o f = cc
-meets_ends false p m w o f = cc
+meets_ends : (kept : Bool) (p : Pool) (m : Fault) (why : Option Notice) → p.stage ≡ stage.Waiting → EndsFine (meets kept p m why)
+meets_ends true p m why w o f = cc
+meets_ends false p m why w o f = cc
 
 waiting_ends : (links : Bool) (t : Terms) (p : Pool) (h : PoolHappened) → p.stage ≡ stage.Waiting → EndsFine (after_waiting links t p h)
 waiting_ends links t p Came w o f = absurd (comes_in links _ o)
 waiting_ends links t p (Delayed why) w o f = cc
-waiting_ends links t p (Left how) w o f = settles_ends _ t (heeds t.goes_on t (record p { running = p.running - 1 }) (leaving links t.goes_on) how) o f
-waiting_ends links t p (Met m) w o f = meets_ends t.goes_on p m w o f
+waiting_ends links t p (Left how) w o f = settles_ends _ t (heeds t.goes_on t (record p { running = p.running - 1 }) (leaving links t.goes_on) None how) o f
+waiting_ends links t p (Met m why) w o f = meets_ends t.goes_on p m why w o f
 waiting_ends links t p other w o f = last_ends links t p other o f
 
 placing_ends : (t : Terms) (p : Pool) (h : PoolHappened) → EndsFine (after_placing t p h)

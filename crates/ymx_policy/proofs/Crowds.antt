@@ -6,6 +6,7 @@ use Rattle.ymx_policy.specs.declared.plan.Role.TheVariants.{LocalCalls, RemoteAw
 use Rattle.ymx_policy.specs.declared.plan.Terms.{Terms}
 use Rattle.ymx_policy.specs.declared.asks.Fault.{Fault}
 use Rattle.ymx_policy.specs.declared.asks.Words.{Words}
+use Rattle.ymx_policy.specs.declared.asks.Notice.{Notice}
 use Rattle.ymx_policy.specs.declared.asks.Users.{Users}
 use Rattle.ymx_policy.specs.declared.asks.SessionEnd.{SessionEnd}
 use Rattle.ymx_policy.specs.declared.asks.PoolDeed.{PoolDeed}
@@ -41,17 +42,17 @@ place_step t p h some e = grind arith
 place_first : (t : Terms) → has_place (fresh t).stage (fresh t).running t.places
 place_first t = grind arith
 
-heeds_running : (kept : Bool) (t : Terms) (p : Pool) (words : Words) (how : SessionEnd) → (heeds kept t p words how).running ≡ p.running
-heeds_running true t p words how = refl
-heeds_running false t p words how = refl
+heeds_running : (kept : Bool) (t : Terms) (p : Pool) (words : Words) (why : Option Notice) (how : SessionEnd) → (heeds kept t p words why how).running ≡ p.running
+heeds_running true t p words why how = refl
+heeds_running false t p words why how = refl
 
 shuts_running : (links : Bool) (t : Terms) (p : Pool) → (shuts links t p).running ≡ p.running
 shuts_running true t p = refl
 shuts_running false t p = refl
 
-rests_running : (goes_on : Bool) (t : Terms) (p : Pool) → (rests goes_on t p).running ≡ p.running
-rests_running true t p = refl
-rests_running false t p = refl
+rests_running : (goes_on : Bool) (t : Terms) (p : Pool) (refused : Option Notice) → (rests goes_on t p refused).running ≡ p.running
+rests_running true t p refused = refl
+rests_running false t p refused = refl
 
 calling_running : (t : Terms) (p : Pool) (h : PoolHappened) → (after_calling t p h).running ≡ p.running
 calling_running t p h = grind arith
@@ -64,8 +65,8 @@ opening_count true t peers h n = refl
 opening_count false t peers h n = refl
 
 no_thread_running : (links : Bool) (t : Terms) (p : Pool) (why : Option Reason) → (after_no_thread links t p why).running ≡ p.running
-no_thread_running true t p why = heeds_running t.goes_on t p _ unlinked
-no_thread_running false t p why = rests_running (t.goes_on || p.has_served) t (record p { words = record silence { first = refusal option.Peers why } })
+no_thread_running true t p why = heeds_running t.goes_on t p silence (refusal option.Links why) unlinked
+no_thread_running false t p why = rests_running (t.goes_on || p.has_served) t p (refusal option.Peers why)
 
 one_more_is : (count places : ℕ) → count < places → one_more count places ≡ suc count
 one_more_is count places e = grind arith
@@ -77,9 +78,9 @@ starting_running links t p other e = no_thread_running links t p None
 
 users_running : (t : Terms) (p : Pool) (h : PoolHappened) → (after_users t p h).running ≡ p.running
 users_running t p AllCame = refl
-users_running t p NoLinks = heeds_running t.goes_on t p _ _
-users_running t p (NobodyComes why) = heeds_running t.goes_on t p _ _
-users_running t p other = heeds_running t.goes_on t p _ _
+users_running t p NoLinks = heeds_running t.goes_on t p silence None _
+users_running t p (NobodyComes why) = heeds_running t.goes_on t p silence None _
+users_running t p other = heeds_running t.goes_on t p silence None _
 
 peers_running : (t : Terms) (p : Pool) (h : PoolHappened) → (after_peers t p h).running ≡ p.running
 peers_running t p (NobodyComes why) = refl
@@ -89,9 +90,9 @@ last_running : (links : Bool) (t : Terms) (p : Pool) (h : PoolHappened) → (aft
 last_running true t p h = users_running t p h
 last_running false t p h = peers_running t p h
 
-meets_running : (kept : Bool) (p : Pool) (f : Fault) → (meets kept p f).running ≡ p.running
-meets_running true p f = refl
-meets_running false p f = refl
+meets_running : (kept : Bool) (p : Pool) (f : Fault) (why : Option Notice) → (meets kept p f why).running ≡ p.running
+meets_running true p f why = refl
+meets_running false p f why = refl
 
 -- one fewer runs behind one that has left, and as many behind all else
 left_one : PoolHappened → ℕ → ℕ
@@ -102,8 +103,8 @@ waiting_running : (links : Bool) (t : Terms) (p : Pool) (h : PoolHappened) → (
 unfolding left_one
 waiting_running links t p Came = refl
 waiting_running links t p (Delayed why) = refl
-waiting_running links t p (Left how) = heeds_running t.goes_on t (record p { running = p.running - 1 }) (leaving links t.goes_on) how
-waiting_running links t p (Met f) = meets_running t.goes_on p f
+waiting_running links t p (Left how) = heeds_running t.goes_on t (record p { running = p.running - 1 }) (leaving links t.goes_on) None how
+waiting_running links t p (Met f why) = meets_running t.goes_on p f why
 waiting_running links t p other = last_running links t p other
 
 waiting_count : (room : Bool) (t : Terms) (peers : SocketAddrV4) (bad : Bool) (h : PoolHappened) (n : ℕ) → running_after (deed_at stage.Waiting t room peers bad) h n ≡ left_one h n
@@ -114,7 +115,7 @@ waiting_count false t peers bad (Left how) n = refl
 waiting_count false t peers bad other n = refl
 
 placing_running : (t : Terms) (p : Pool) (h : PoolHappened) → (after_placing t p h).running ≡ p.running
-placing_running t p LackedMemory = heeds_running t.goes_on t p silence (record clean { lacked_memory = true })
+placing_running t p LackedMemory = heeds_running t.goes_on t p silence None (record clean { lacked_memory = true })
 placing_running t p other = refl
 
 running_at : (at : PoolStage) (t : Terms) (p : Pool) (h : PoolHappened) (room bad : Bool) → has_place at p.running t.places → (after_at at t p h).running ≡ running_after (deed_at at t room p.peers bad) h p.running

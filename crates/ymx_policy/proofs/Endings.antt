@@ -6,19 +6,24 @@ use Rattle.ymx_policy.specs.declared.plan.Plan.{Plan}
 use Rattle.ymx_policy.specs.declared.plan.Role.TheVariants.{RemoteAwaits}
 use Rattle.ymx_policy.specs.declared.plan.Terms.{Terms}
 use Rattle.ymx_policy.specs.declared.asks.Fault.{Fault}
+use Rattle.ymx_policy.specs.declared.asks.Notice.{Notice}
 use Rattle.ymx_policy.specs.declared.asks.Words.{Words}
 use Rattle.ymx_policy.specs.declared.asks.Deed.{Deed}
 use Rattle.ymx_policy.specs.declared.asks.Happened.{Happened}
 use Rattle.ymx_policy.specs.declared.asks.PoolDeed.{PoolDeed}
 use Rattle.ymx_policy.specs.declared.asks.PoolHappened.{PoolHappened}
-use Rattle.ymx_policy.specs.Texts.{fault_text}
+use Rattle.ymx_policy.specs.Texts.{fault_text, notice_text}
 use Rattle.ymx_policy.specs.Voices.{AreSaid}
 use Rattle.ymx_policy.specs.Laws.{status_of}
-use Rattle.ymx_policy.specs.Past.{HasEnded, Seen, then_said}
-use Rattle.ymx_policy.specs.PoolPast.{ComesToEnd, HasEnded as PoolHasEnded, faults}
+use Rattle.ymx_policy.specs.Past.{HasEnded, Seen, asks, faults as said_faults, notices, then_said, then_told}
+use Rattle.ymx_policy.specs.PoolPast.{ComesToEnd, HasEnded as PoolHasEnded, asks as pool_asks, faults, notices as pool_notices}
 use Rattle.ymx_policy.specs.Endings.{EndsAlone, EndsAt, EndsTogether}
 use Rattle.ymx_policy.proofs.Keeping.{said}
-use Rattle.ymx_policy.proofs.PoolKeeping.{never_well, quiet, said as pool_said}
+use Rattle.ymx_policy.proofs.ReasonsTold.{none}
+use Rattle.ymx_policy.proofs.PoolReasons.{none as pool_none}
+use Rattle.ymx_policy.specs.declared.asks.Deed.TheVariants as deed
+use Rattle.ymx_policy.specs.declared.asks.PoolDeed.TheVariants as pool_deed
+use Rattle.ymx_policy.proofs.PoolKeeping.{never_well, quiet, said as pool_said, unreasoned}
 
 -- what a device took stays where nothing was said
 stays : (fs : List Fault) (taken taken_new : Option (List ℕ)) (failures failures_new : ℕ) → 0 ≡ status_of fs → AreSaid taken taken_new failures failures_new (map fault_text fs) → Keeps taken taken_new
@@ -29,19 +34,46 @@ stays (f ∷ fs) taken taken_new failures failures_new e said = cc
 -- ---- an end
 
 -- it ended so
-pub ends_alone : (t : Terms) (status : ℕ) (before now : Seen Deed Happened) → HasEnded t status before now → EndsAlone t status before.taken now.taken before.failures now.failures
-ends_alone t status before now ended = record { past = ended.past; valid = ended.valid; ends = ended.ends; says = ended.shown.says }
+pub ends_alone : (t : Terms) (status : ℕ) (before now : Seen Deed Happened) → HasEnded t status before now → EndsAlone t status before.taken now.taken before.failures now.failures before.lines now.lines before.line_failures now.line_failures
+ends_alone t status before now ended = record {
+  past = ended.past;
+  valid = ended.valid;
+  ends = ended.ends;
+  says = ended.shown.says;
+  tells = λ silent.
+      let P : Bool → Type 0 = λ v. AreSaid before.lines now.lines before.line_failures now.line_failures (map notice_text (then_told v (asks t ended.past).words (notices v ended.past))) in
+      subst P silent ended.shown.writes;
+}
 
 -- a good end says nothing
-pub alone_well : (t : Terms) (status : ℕ) (taken taken_new : Option (List ℕ)) (failures failures_new : ℕ) → EndsAlone t status taken taken_new failures failures_new → status ≡ 0 → Keeps taken taken_new
-alone_well t status taken taken_new failures failures_new ended e =
+pub alone_well : (t : Terms) (status : ℕ) (taken taken_new : Option (List ℕ)) (failures failures_new : ℕ) (lines lines_new : Option (List ℕ)) (unwritten unwritten_new : ℕ) → EndsAlone t status taken taken_new failures failures_new lines lines_new unwritten unwritten_new → status ≡ 0 → Keeps taken taken_new
+alone_well t status taken taken_new failures failures_new lines lines_new unwritten unwritten_new ended e =
     stays _ taken taken_new failures failures_new (sym e ∙ said t ended.past status ended.valid ended.ends) ended.says
+
+-- what a device for lines took stays where nothing was told
+unchanged : (ns : List Notice) (lines lines_new : Option (List ℕ)) (failures failures_new : ℕ) → ns ≡ [] → AreSaid lines lines_new failures failures_new (map notice_text ns) → Keeps lines lines_new
+unchanged [] None lines_new failures failures_new e said = tt
+unchanged [] (Some xs) lines_new failures failures_new e said = let P : Option (List ℕ) → Type 0 = λ o. Keeps (Some xs) o in subst P (sym said.0) refl
+unchanged (n ∷ ns) lines lines_new failures failures_new e said = cc
+
+-- a good end tells nothing, where no lines were asked for
+pub alone_silent : (t : Terms) (status : ℕ) (taken taken_new : Option (List ℕ)) (failures failures_new : ℕ) (lines lines_new : Option (List ℕ)) (unwritten unwritten_new : ℕ) → EndsAlone t status taken taken_new failures failures_new lines lines_new unwritten unwritten_new → t.is_verbose ≡ false → status ≡ 0 → Keeps lines lines_new
+alone_silent t status taken taken_new failures failures_new lines lines_new unwritten unwritten_new ended silent e =
+    unchanged _ lines lines_new unwritten unwritten_new (none t ended.past ended.valid (ended.ends ∙ ap deed.End e)) (ended.tells silent)
 
 -- ---- a pool
 
 -- it ended so
-pub ends_together : (t : Terms) (status : ℕ) (before now : Seen PoolDeed PoolHappened) → PoolHasEnded t status before now → EndsTogether t status before.taken now.taken before.failures now.failures
-ends_together t status before now ended = record { past = ended.past; valid = ended.valid; ends = ended.ends; says = λ k. ended.shown.says }
+pub ends_together : (t : Terms) (status : ℕ) (before now : Seen PoolDeed PoolHappened) → PoolHasEnded t status before now → EndsTogether t status before.taken now.taken before.failures now.failures before.lines now.lines before.line_failures now.line_failures
+ends_together t status before now ended = record {
+  past = ended.past;
+  valid = ended.valid;
+  ends = ended.ends;
+  says = λ k. ended.shown.says;
+  tells = λ k silent.
+      let P : Bool → Type 0 = λ v. AreSaid before.lines now.lines before.line_failures now.line_failures (map notice_text (then_told v (pool_asks t ended.past).words (pool_notices v ended.past))) in
+      subst P silent ended.shown.writes;
+}
 
 -- a good end of one that has said all itself says nothing
 pub together_well : (t : Terms) (status : ℕ) (before now : Seen PoolDeed PoolHappened) → PoolHasEnded t status before now → status ≡ 0 → Keeps before.taken now.taken
@@ -56,10 +88,16 @@ ends_at t status words before now comes = record { past = comes.past; valid = co
 last_faults : (words : Words) (fs : List Fault) → fs ≡ [] → then_said words [] ≡ then_said words fs
 last_faults words fs e = ap (then_said words) (sym e)
 
+-- so are the reasons
+last_reasons : (words : Words) (ns : List Notice) → ns ≡ [] → then_told false words [] ≡ then_told false words ns
+last_reasons words ns e = ap (then_told false words) (sym e)
+
 -- and then said its last words
-pub ends_behind : (t : Terms) (status : ℕ) (words : Words) (taken taken_new : Option (List ℕ)) (failures failures_new : ℕ) → EndsAt t status words
-    → (t.goes_on ≡ false → AreSaid taken taken_new failures failures_new (map fault_text (then_said words []))) → EndsTogether t status taken taken_new failures failures_new
-ends_behind t status words taken taken_new failures failures_new comes says = record {
+pub ends_behind : (t : Terms) (status : ℕ) (words : Words) (taken taken_new : Option (List ℕ)) (failures failures_new : ℕ) (lines lines_new : Option (List ℕ)) (unwritten unwritten_new : ℕ) → EndsAt t status words
+    → (t.goes_on ≡ false → AreSaid taken taken_new failures failures_new (map fault_text (then_said words [])))
+    → (t.goes_on ≡ false → t.is_verbose ≡ false → AreSaid lines lines_new unwritten unwritten_new (map notice_text (then_told false words [])))
+    → EndsTogether t status taken taken_new failures failures_new lines lines_new unwritten unwritten_new
+ends_behind t status words taken taken_new failures failures_new lines lines_new unwritten unwritten_new comes says tells = record {
   past = comes.past;
   valid = comes.valid;
   ends = comes.ends;
@@ -67,15 +105,33 @@ ends_behind t status words taken taken_new failures failures_new comes says = re
       let P : List Fault → Type 0 = λ fs. AreSaid taken taken_new failures failures_new (map fault_text fs) in
       let Q : Words → Type 0 = λ w. AreSaid taken taken_new failures failures_new (map fault_text (then_said w (faults comes.past))) in
       subst Q (sym comes.last) (subst P (last_faults words (faults comes.past) (quiet t comes.past k comes.valid)) (says k));
+  tells = λ k silent.
+      let P : List Notice → Type 0 = λ ns. AreSaid lines lines_new unwritten unwritten_new (map notice_text ns) in
+      let Q : Words → Type 0 = λ w. AreSaid lines lines_new unwritten unwritten_new (map notice_text (then_told false w (pool_notices false comes.past))) in
+      subst Q (sym comes.last) (subst P (last_reasons words (pool_notices false comes.past) (unreasoned t comes.past k comes.valid)) (tells k silent));
 }
 
 not_both : (n : ℕ) → n ≡ 0 → n ≡ 1 → ⊥
 not_both n e f = cc
 
 -- a good end of a pool of peers says nothing: there is none with --keep
-pub peers_well : (t : Terms) (status : ℕ) (taken taken_new : Option (List ℕ)) (failures failures_new : ℕ) → t.role ≡ RemoteAwaits → EndsTogether t status taken taken_new failures failures_new → status ≡ 0 → Keeps taken taken_new
-peers_well t status taken taken_new failures failures_new r ended e = by_keep t.goes_on refl
+pub peers_well : (t : Terms) (status : ℕ) (taken taken_new : Option (List ℕ)) (failures failures_new : ℕ) (lines lines_new : Option (List ℕ)) (unwritten unwritten_new : ℕ) → t.role ≡ RemoteAwaits → EndsTogether t status taken taken_new failures failures_new lines lines_new unwritten unwritten_new → status ≡ 0 → Keeps taken taken_new
+peers_well t status taken taken_new failures failures_new lines lines_new unwritten unwritten_new r ended e = by_keep t.goes_on refl
   where
     by_keep : (kept : Bool) → t.goes_on ≡ kept → Keeps taken taken_new
     by_keep true k = absurd (not_both status e (never_well t ended.past status r k ended.valid ended.ends))
     by_keep false k = stays _ taken taken_new failures failures_new (sym e ∙ pool_said t ended.past status ended.valid ended.ends) (ended.says k)
+
+-- a good end of a pool tells nothing, where no lines were asked for
+pub pool_silent : (t : Terms) (status : ℕ) (before now : Seen PoolDeed PoolHappened) → PoolHasEnded t status before now → t.is_verbose ≡ false → status ≡ 0 → Keeps before.lines now.lines
+pool_silent t status before now ended silent e =
+    let P : Bool → Type 0 = λ v. AreSaid before.lines now.lines before.line_failures now.line_failures (map notice_text (then_told v (pool_asks t ended.past).words (pool_notices v ended.past))) in
+    unchanged _ before.lines now.lines before.line_failures now.line_failures (pool_none t ended.past ended.valid (ended.ends ∙ ap pool_deed.End e)) (subst P silent ended.shown.writes)
+
+-- nor does that of a pool of peers
+pub peers_silent : (t : Terms) (status : ℕ) (taken taken_new : Option (List ℕ)) (failures failures_new : ℕ) (lines lines_new : Option (List ℕ)) (unwritten unwritten_new : ℕ) → t.role ≡ RemoteAwaits → EndsTogether t status taken taken_new failures failures_new lines lines_new unwritten unwritten_new → t.is_verbose ≡ false → status ≡ 0 → Keeps lines lines_new
+peers_silent t status taken taken_new failures failures_new lines lines_new unwritten unwritten_new r ended silent e = by_keep t.goes_on refl
+  where
+    by_keep : (kept : Bool) → t.goes_on ≡ kept → Keeps lines lines_new
+    by_keep true k = absurd (not_both status e (never_well t ended.past status r k ended.valid ended.ends))
+    by_keep false k = unchanged _ lines lines_new unwritten unwritten_new (pool_none t ended.past ended.valid (ended.ends ∙ ap pool_deed.End e)) (ended.tells k silent)

@@ -9,3 +9,5 @@ pub mod Visits
 pub mod Waits
 pub mod Counting
 pub mod Crowds
+pub mod ReasonsTold
+pub mod PoolReasons

@@ -11,9 +11,9 @@ use Rattle.ymx_policy.specs.declared.pool.Pool.{Pool}
 use Rattle.ymx_policy.specs.Texts.{fault_text, notice_text}
 use Rattle.ymx_policy.specs.Voices.{AreSaid}
 use Rattle.ymx_policy.specs.PoolTable.{fresh, asked, after}
-use Rattle.ymx_policy.specs.Past.{Adds, Seen, Shows, heeded, then_said, then_told}
+use Rattle.ymx_policy.specs.Past.{Adds, Seen, Shows, then_said, then_told}
 use Rattle.ymx_policy.specs.PoolPast.{ComesToEnd, HasCome, HasEnded, asks, deeds, faults, is_end, notices, pool_of}
-use Rattle.ymx_policy.proofs.Coming.{shows_none, shows_words, shows_deed}
+use Rattle.ymx_policy.proofs.Coming.{Said, Speaks, shows_none, shows_words, shows_deed, with_said}
 
 -- what is not its end doesn't end it
 pub no_end : (d : PoolDeed) → ((status : ℕ) → d ≡ deed.End status → ⊥) → is_end d ≡ false
@@ -22,23 +22,22 @@ no_end other h = refl
 
 -- nothing was asked for yet
 pub comes_first : (t : Terms) (seen : Seen PoolDeed PoolHappened) → HasCome t (fresh t) seen seen
-comes_first t seen = record { past = []; valid = tt; pool = refl; shown = shows_none t.is_verbose seen }
+comes_first t seen = record { past = []; valid = tt; pool = refl; shown = shows_none seen }
 
 -- and then this was asked for and heard
 pub comes_then : (t : Terms) (here there : Pool) (before now : Seen PoolDeed PoolHappened) → HasCome t here before now
     → (a : PoolAsk) → a ≡ asked t here → is_end a.deed ≡ false → (h : PoolHappened) → there ≡ after t here h
-    → (told1 told2 : Option (List (List ℕ))) → (taken1 : Option (List ℕ)) → (failures1 : ℕ) → (log2 : Option (List (PoolDeed × PoolHappened)))
-    → Adds (map notice_text (heeded t.is_verbose (then_told a.words []))) now.told told1
-    → AreSaid now.taken taken1 now.failures failures1 (map fault_text (then_said a.words []))
-    → Adds ((a.deed, h) ∷ []) now.log log2 → Adds [] told1 told2
-    → HasCome t there before (record { log = log2; told = told2; taken = taken1; failures = failures1 })
-comes_then t here there before now came a is_asked goes_on h leads told1 told2 taken1 failures1 log2 tells says does untold = record {
+    → (s : Said) → Speaks t.is_verbose a.words now s
+    → (log2 : Option (List (PoolDeed × PoolHappened))) → (told2 : Option (List (List ℕ))) → (lines2 : Option (List ℕ)) → (line_failures2 : ℕ)
+    → Adds ((a.deed, h) ∷ []) now.log log2 → Adds [] s.told told2 → (lines2 ≡ s.lines) × (line_failures2 ≡ s.line_failures)
+    → HasCome t there before (record { log = log2; told = told2; taken = s.taken; failures = s.failures; lines = lines2; line_failures = line_failures2 })
+comes_then t here there before now came a is_asked goes_on h leads s speaks log2 told2 lines2 line_failures2 does untold unwritten = record {
   past = (a, h) ∷ came.past;
   valid = (is_asked ∙ ap (asked t) came.pool, goes_on, came.valid);
   pool = leads ∙ ap (λ s. after t s h) came.pool;
-  shown = shows_deed before _ (deeds came.past) _ _
-      (shows_words t.is_verbose before now (deeds came.past) (notices came.past) (faults came.past) came.shown a.words told1 taken1 failures1 tells says)
-      (a.deed, h) log2 told2 does untold;
+  shown = shows_deed before (with_said now s) (deeds came.past) _ _
+      (shows_words t.is_verbose before now (deeds came.past) (notices t.is_verbose came.past) (faults came.past) came.shown a.words s speaks)
+      (a.deed, h) log2 told2 lines2 line_failures2 does untold unwritten;
 }
 
 -- and then it ended
@@ -50,14 +49,12 @@ ends_now t here before now came a is_asked status ends =
 
 -- and said its last words
 pub concludes : (t : Terms) (status : ℕ) (words : Words) (before now : Seen PoolDeed PoolHappened) → ComesToEnd t status words before now
-    → (told1 : Option (List (List ℕ))) → (taken1 : Option (List ℕ)) → (failures1 : ℕ)
-    → Adds (map notice_text (heeded t.is_verbose (then_told words []))) now.told told1
-    → AreSaid now.taken taken1 now.failures failures1 (map fault_text (then_said words []))
-    → HasEnded t status before (record { log = now.log; told = told1; taken = taken1; failures = failures1 })
-concludes t status words before now comes told1 taken1 failures1 tells says = record {
+    → (s : Said) → Speaks t.is_verbose words now s
+    → HasEnded t status before (with_said now s)
+concludes t status words before now comes s speaks = record {
   past = comes.past;
   valid = comes.valid;
   ends = comes.ends;
-  shown = let P : Words → Type 0 = λ w. Shows before (record { log = now.log; told = told1; taken = taken1; failures = failures1 }) (deeds comes.past) (heeded t.is_verbose (then_told w (notices comes.past))) (then_said w (faults comes.past)) in
-      subst P (sym comes.last) (shows_words t.is_verbose before now (deeds comes.past) (notices comes.past) (faults comes.past) comes.shown words told1 taken1 failures1 tells says);
+  shown = let P : Words → Type 0 = λ w. Shows before (with_said now s) (deeds comes.past) (then_told t.is_verbose w (notices t.is_verbose comes.past)) (then_said w (faults comes.past)) in
+      subst P (sym comes.last) (shows_words t.is_verbose before now (deeds comes.past) (notices t.is_verbose comes.past) (faults comes.past) comes.shown words s speaks);
 }

@@ -16,10 +16,11 @@ use Rattle.ymx_policy.specs.declared.pool.Pool.{Pool}
 use Rattle.ymx_policy.specs.declared.reason.Reason.{Reason}
 use Rattle.ymx_policy.specs.declared.asks.Named.TheVariants as option
 use Rattle.ymx_policy.specs.declared.asks.PoolHappened.TheVariants.{Listening, Failed, LackedMemory, Came, Delayed, AllCame, NobodyComes, NoLinks, Started, Left, Met, Done}
+use Rattle.ymx_policy.specs.declared.asks.Notice.{Notice}
 use Rattle.ymx_policy.specs.Table.{refusal, silence}
 use Rattle.ymx_policy.specs.PoolTable.{after_at, after_calling, after_last, after_no_thread, after_opening, after_peers, after_placing, after_starting, after_users, after_waiting, clean, deed_at, fresh, asked, after, has_links, heeds, leaving, left, meets, rests, settles, settles_at, shuts, unlinked, waits}
-use Rattle.ymx_policy.specs.Past.{then_said, with}
-use Rattle.ymx_policy.specs.PoolPast.{IsPast, asks, faults, is_end, pool_of}
+use Rattle.ymx_policy.specs.Past.{then_said, then_told, with}
+use Rattle.ymx_policy.specs.PoolPast.{IsPast, asks, faults, is_end, notices, pool_of}
 use Rattle.ymx_policy.specs.Laws.{is_some_fault, status_of}
 
 -- what holds at first and is kept by each step holds at each moment
@@ -55,14 +56,14 @@ settled_marks at t p fs e = marked_more p.has_faulted p.words.fault _ fs e
 settles_marks : (t : Terms) (p : Pool) (fs : List Fault) → p.has_faulted ≡ is_some_fault (with p.words.fault fs) → IsMarked (settles t p) fs
 settles_marks t p fs e = settled_marks _ t p fs e
 
-heeds_marks : (kept : Bool) (t : Terms) (p : Pool) (words : Words) (how : SessionEnd) (fs : List Fault) → words.fault ≡ None → p.has_faulted ≡ is_some_fault fs
-    → (heeds kept t p words how).has_faulted ≡ is_some_fault (with (heeds kept t p words how).words.fault fs)
-heeds_marks true t p words how fs w e = marked_first p.has_faulted _ fs e
-heeds_marks false t p words how fs w e = rw w e
+heeds_marks : (kept : Bool) (t : Terms) (p : Pool) (words : Words) (why : Option Notice) (how : SessionEnd) (fs : List Fault) → words.fault ≡ None → p.has_faulted ≡ is_some_fault fs
+    → (heeds kept t p words why how).has_faulted ≡ is_some_fault (with (heeds kept t p words why how).words.fault fs)
+heeds_marks true t p words why how fs w e = marked_first p.has_faulted _ fs e
+heeds_marks false t p words why how fs w e = rw w e
 
-heeds_end : (kept : Bool) (t : Terms) (p : Pool) (words : Words) (how : SessionEnd) → words.ending ≡ None → (heeds kept t p words how).words.ending ≡ None
-heeds_end true t p words how w = w
-heeds_end false t p words how w = w
+heeds_end : (kept : Bool) (t : Terms) (p : Pool) (words : Words) (why : Option Notice) (how : SessionEnd) → words.ending ≡ None → (heeds kept t p words why how).words.ending ≡ None
+heeds_end true t p words why how w = w
+heeds_end false t p words why how w = w
 
 -- marked, with nothing that ends it
 marks : (p : Pool) (fs : List Fault) → p.words.ending ≡ None → p.has_faulted ≡ is_some_fault (with p.words.fault fs) → IsMarked p fs
@@ -72,9 +73,9 @@ shuts_marks : (links : Bool) (t : Terms) (p : Pool) (fs : List Fault) → p.word
 shuts_marks true t p fs w e = marks (shuts true t p) fs w e
 shuts_marks false t p fs w e = settles_marks t (record p { is_shut = true }) fs e
 
-heeds_all : (kept : Bool) (t : Terms) (p : Pool) (words : Words) (how : SessionEnd) (fs : List Fault) → words.fault ≡ None → words.ending ≡ None → p.has_faulted ≡ is_some_fault fs
-    → IsMarked (shuts true t (heeds kept t p words how)) fs
-heeds_all kept t p words how fs f w e = shuts_marks true t (heeds kept t p words how) fs (heeds_end kept t p words how w) (heeds_marks kept t p words how fs f e)
+heeds_all : (kept : Bool) (t : Terms) (p : Pool) (words : Words) (why : Option Notice) (how : SessionEnd) (fs : List Fault) → words.fault ≡ None → words.ending ≡ None → p.has_faulted ≡ is_some_fault fs
+    → IsMarked (shuts true t (heeds kept t p words why how)) fs
+heeds_all kept t p words why how fs f w e = shuts_marks true t (heeds kept t p words why how) fs (heeds_end kept t p words why how w) (heeds_marks kept t p words why how fs f e)
 
 calling_marks : (t : Terms) (p : Pool) (h : PoolHappened) (fs : List Fault) → p.has_faulted ≡ is_some_fault fs → IsMarked (after_calling t p h) fs
 calling_marks t p h fs e = grind arith
@@ -82,13 +83,13 @@ calling_marks t p h fs e = grind arith
 opening_marks : (links : Bool) (t : Terms) (p : Pool) (h : PoolHappened) (fs : List Fault) → p.has_faulted ≡ is_some_fault fs → IsMarked (after_opening links t p h) fs
 opening_marks links t p h fs e = grind arith
 
-rests_marks : (goes_on : Bool) (t : Terms) (p : Pool) (fs : List Fault) → p.words.ending ≡ None → p.has_faulted ≡ is_some_fault (with p.words.fault fs) → IsMarked (rests goes_on t p) fs
-rests_marks true t p fs w e = marks (rests true t p) fs w e
-rests_marks false t p fs w e = shuts_marks false t p fs w e
+rests_marks : (goes_on : Bool) (t : Terms) (p : Pool) (refused : Option Notice) (fs : List Fault) → p.has_faulted ≡ is_some_fault fs → IsMarked (rests goes_on t p refused) fs
+rests_marks true t p refused fs e = e
+rests_marks false t p refused fs e = shuts_marks false t (record p { words = silence; why = refused }) fs refl e
 
 no_thread_marks : (links : Bool) (t : Terms) (p : Pool) (why : Option Reason) (fs : List Fault) → p.has_faulted ≡ is_some_fault fs → IsMarked (after_no_thread links t p why) fs
-no_thread_marks true t p why fs e = heeds_all t.goes_on t p _ unlinked fs refl refl e
-no_thread_marks false t p why fs e = rests_marks (t.goes_on || p.has_served) t (record p { words = record silence { first = refusal option.Peers why } }) fs refl e
+no_thread_marks true t p why fs e = heeds_all t.goes_on t p silence (refusal option.Links why) unlinked fs refl refl e
+no_thread_marks false t p why fs e = rests_marks (t.goes_on || p.has_served) t p (refusal option.Peers why) fs e
 
 starting_marks : (links : Bool) (t : Terms) (p : Pool) (h : PoolHappened) (fs : List Fault) → p.has_faulted ≡ is_some_fault fs → IsMarked (after_starting links t p h) fs
 starting_marks true t p Started fs e = e
@@ -101,21 +102,21 @@ leaving_fault links kept = grind arith
 
 left_marks : (links : Bool) (t : Terms) (p : Pool) (how : SessionEnd) (fs : List Fault) → p.has_faulted ≡ is_some_fault fs → IsMarked (left links t p how) fs
 left_marks links t p how fs e =
-    settles_marks t (heeds t.goes_on t (record p { running = p.running - 1 }) (leaving links t.goes_on) how) fs (heeds_marks t.goes_on t (record p { running = p.running - 1 }) (leaving links t.goes_on) how fs (leaving_fault links t.goes_on) e)
+    settles_marks t (heeds t.goes_on t (record p { running = p.running - 1 }) (leaving links t.goes_on) None how) fs (heeds_marks t.goes_on t (record p { running = p.running - 1 }) (leaving links t.goes_on) None how fs (leaving_fault links t.goes_on) e)
 
-meets_marks : (kept : Bool) (p : Pool) (f : Fault) (fs : List Fault) → p.has_faulted ≡ is_some_fault fs → IsMarked (meets kept p f) fs
-meets_marks true p f fs e = refl
-meets_marks false p f fs e = e
+meets_marks : (kept : Bool) (p : Pool) (f : Fault) (why : Option Notice) (fs : List Fault) → p.has_faulted ≡ is_some_fault fs → IsMarked (meets kept p f why) fs
+meets_marks true p f why fs e = refl
+meets_marks false p f why fs e = e
 
 users_marks : (t : Terms) (p : Pool) (h : PoolHappened) (fs : List Fault) → p.has_faulted ≡ is_some_fault fs → IsMarked (after_users t p h) fs
 users_marks t p AllCame fs e = e
-users_marks t p NoLinks fs e = heeds_all t.goes_on t p _ _ fs refl refl e
-users_marks t p (NobodyComes why) fs e = heeds_all t.goes_on t p _ _ fs refl refl e
-users_marks t p other fs e = heeds_all t.goes_on t p _ _ fs refl refl e
+users_marks t p NoLinks fs e = heeds_all t.goes_on t p silence None _ fs refl refl e
+users_marks t p (NobodyComes why) fs e = heeds_all t.goes_on t p silence None _ fs refl refl e
+users_marks t p other fs e = heeds_all t.goes_on t p silence None _ fs refl refl e
 
 peers_marks : (t : Terms) (p : Pool) (h : PoolHappened) (fs : List Fault) → p.has_faulted ≡ is_some_fault fs → IsMarked (after_peers t p h) fs
-peers_marks t p (NobodyComes why) fs e = shuts_marks false t (record p { words = record silence { first = refusal option.Bind why } }) fs refl e
-peers_marks t p other fs e = shuts_marks false t (record p { words = silence }) fs refl e
+peers_marks t p (NobodyComes why) fs e = shuts_marks false t (record p { words = silence; why = refusal (option.Bind p.peers) why }) fs refl e
+peers_marks t p other fs e = shuts_marks false t (record p { words = silence; why = None }) fs refl e
 
 last_marks : (links : Bool) (t : Terms) (p : Pool) (h : PoolHappened) (fs : List Fault) → p.has_faulted ≡ is_some_fault fs → IsMarked (after_last links t p h) fs
 last_marks true t p h fs e = users_marks t p h fs e
@@ -125,12 +126,12 @@ waiting_marks : (links : Bool) (t : Terms) (p : Pool) (h : PoolHappened) (fs : L
 waiting_marks links t p Came fs e = e
 waiting_marks links t p (Delayed why) fs e = e
 waiting_marks links t p (Left how) fs e = left_marks links t p how fs e
-waiting_marks links t p (Met f) fs e = meets_marks t.goes_on p f fs e
+waiting_marks links t p (Met f why) fs e = meets_marks t.goes_on p f why fs e
 waiting_marks links t p other fs e = last_marks links t p other fs e
 
 placing_marks : (t : Terms) (p : Pool) (h : PoolHappened) (fs : List Fault) → p.has_faulted ≡ is_some_fault fs → IsMarked (after_placing t p h) fs
 placing_marks t p LackedMemory fs e =
-    marks (waits (heeds t.goes_on t p silence (record clean { lacked_memory = true }))) fs (heeds_end t.goes_on t p silence (record clean { lacked_memory = true }) refl) (heeds_marks t.goes_on t p silence (record clean { lacked_memory = true }) fs refl e)
+    marks (waits (heeds t.goes_on t p silence None (record clean { lacked_memory = true }))) fs (heeds_end t.goes_on t p silence None (record clean { lacked_memory = true }) refl) (heeds_marks t.goes_on t p silence None (record clean { lacked_memory = true }) fs refl e)
 placing_marks t p other fs e = e
 
 marked_at : (at : PoolStage) (t : Terms) (p : Pool) (h : PoolHappened) (room bad : Bool) (fs : List Fault) → is_end (deed_at at t room p.peers bad) ≡ false → p.has_faulted ≡ is_some_fault fs → IsMarked (after_at at t p h) fs
@@ -178,6 +179,29 @@ record IsQuiet (past : List (PoolAsk × PoolHappened)) (p : Pool) : Type 0 where
 pub quiet : (t : Terms) (past : List (PoolAsk × PoolHappened)) → t.goes_on ≡ false → IsPast t past → faults past ≡ []
 quiet t past k valid = (keeps t IsQuiet (record { before = refl; now = quiet_first t })
     (λ past p h goes q. record { before = quiet_list t p (faults past) goes q.now q.before; now = quiet_step t p h k goes q.now }) past valid).before
+
+-- no reason is told now, or it ends
+abbrev is_still : PoolStage → Words → Type 0
+is_still stage.Over words = Unit {0}
+is_still at words = (words.reason ≡ None) × (words.cause ≡ None)
+
+still_step : (t : Terms) (p : Pool) (h : PoolHappened) → t.goes_on ≡ false → is_end (asked t p).deed ≡ false → is_still p.stage p.words → is_still (after t p h).stage (after t p h).words
+still_step t p h k goes q = grind arith
+
+still_first : (t : Terms) → is_still (fresh t).stage (fresh t).words
+still_first t = grind arith
+
+still_list : (t : Terms) (p : Pool) (ns : List Notice) → is_end (asked t p).deed ≡ false → is_still p.stage p.words → ns ≡ [] → then_told false p.words ns ≡ []
+still_list t p ns goes q e = grind arith
+
+record IsStill (past : List (PoolAsk × PoolHappened)) (p : Pool) : Type 0 where
+  before : notices false past ≡ []
+  now : is_still p.stage p.words
+
+-- without --keep no reason is told before the end, where no lines were asked for
+pub unreasoned : (t : Terms) (past : List (PoolAsk × PoolHappened)) → t.goes_on ≡ false → IsPast t past → notices false past ≡ []
+unreasoned t past k valid = (keeps t IsStill (record { before = refl; now = still_first t })
+    (λ past p h goes q. record { before = still_list t p (notices false past) goes q.now q.before; now = still_step t p h k goes q.now }) past valid).before
 
 -- ---- a pool of peers never ends well with --keep
 

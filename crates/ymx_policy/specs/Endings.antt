@@ -10,17 +10,19 @@ use Rattle.ymx_policy.specs.declared.asks.PoolDeed.TheVariants as pool_deed
 use Rattle.ymx_policy.specs.declared.asks.PoolAsk.{PoolAsk}
 use Rattle.ymx_policy.specs.declared.asks.PoolHappened.{PoolHappened}
 use Rattle.ymx_policy.specs.Plans.{has_pool, terms_of}
-use Rattle.ymx_policy.specs.Texts.{fault_text}
+use Rattle.ymx_policy.specs.Texts.{fault_text, notice_text}
 use Rattle.ymx_policy.specs.Voices.{AreSaid}
-use Rattle.ymx_policy.specs.Past.{IsPast, asks, faults, then_said}
-use Rattle.ymx_policy.specs.PoolPast.{IsPast as IsPoolPast, asks as pool_asks, faults as pool_faults}
+use Rattle.ymx_policy.specs.Past.{IsPast, asks, faults, notices, then_said, then_told}
+use Rattle.ymx_policy.specs.PoolPast.{IsPast as IsPoolPast, asks as pool_asks, faults as pool_faults, notices as pool_notices}
 
--- An end with these terms has ended with this status, by its tables alone, and the error device took the texts of its faults.
-pub record EndsAlone (t : Terms) (status : ℕ) (taken taken_new : Option (List ℕ)) (failures failures_new : ℕ) : Type 0 where
+-- An end with these terms has ended with this status, by its tables alone, and the error device took the texts of its faults. Where no
+-- lines were asked for, the device for lines took the texts of their reasons.
+pub record EndsAlone (t : Terms) (status : ℕ) (taken taken_new : Option (List ℕ)) (failures failures_new : ℕ) (lines lines_new : Option (List ℕ)) (unwritten unwritten_new : ℕ) : Type 0 where
   pub past : List (Ask × Happened)
   pub valid : IsPast t past
   pub ends : (asks t past).deed ≡ deed.End status
   pub says : AreSaid taken taken_new failures failures_new (map fault_text (then_said (asks t past).words (faults past)))
+  pub tells : t.is_verbose ≡ false → AreSaid lines lines_new unwritten unwritten_new (map notice_text (then_told false (asks t past).words (notices false past)))
 
 -- A pool with these terms has come to its end with this status, by its tables alone, and these are its last words.
 pub record EndsAt (t : Terms) (status : ℕ) (words : Words) : Type 0 where
@@ -29,19 +31,24 @@ pub record EndsAt (t : Terms) (status : ℕ) (words : Words) : Type 0 where
   pub last : (pool_asks t past).words ≡ words
   pub ends : (pool_asks t past).deed ≡ pool_deed.End status
 
--- A pool with these terms has ended with this status, by its tables alone. Without --keep the error device took the texts of its faults.
-pub record EndsTogether (t : Terms) (status : ℕ) (taken taken_new : Option (List ℕ)) (failures failures_new : ℕ) : Type 0 where
+-- A pool with these terms has ended with this status, by its tables alone. Without --keep the error device took the texts of its faults
+-- and, where no lines were asked for, the device for lines those of their reasons.
+pub record EndsTogether (t : Terms) (status : ℕ) (taken taken_new : Option (List ℕ)) (failures failures_new : ℕ) (lines lines_new : Option (List ℕ)) (unwritten unwritten_new : ℕ) : Type 0 where
   pub past : List (PoolAsk × PoolHappened)
   pub valid : IsPoolPast t past
   pub ends : (pool_asks t past).deed ≡ pool_deed.End status
   pub says : t.goes_on ≡ false → AreSaid taken taken_new failures failures_new (map fault_text (then_said (pool_asks t past).words (pool_faults past)))
+  pub tells : t.goes_on ≡ false → t.is_verbose ≡ false → AreSaid lines lines_new unwritten unwritten_new (map notice_text (then_told false (pool_asks t past).words (pool_notices false past)))
 
 -- an end, or a pool
-abbrev pub EndsSo : (pool : Bool) → Terms → (status : ℕ) → (taken taken_new : Option (List ℕ)) → (failures failures_new : ℕ) → Type 0
-EndsSo false t status taken taken_new failures failures_new = EndsAlone t status taken taken_new failures failures_new
-EndsSo true t status taken taken_new failures failures_new = EndsTogether t status taken taken_new failures failures_new
+abbrev pub EndsSo : (pool : Bool) → Terms → (status : ℕ) → (taken taken_new : Option (List ℕ)) → (failures failures_new : ℕ) → (lines lines_new : Option (List ℕ)) → (unwritten unwritten_new : ℕ) → Type 0
+EndsSo false t status taken taken_new failures failures_new lines lines_new unwritten unwritten_new =
+    EndsAlone t status taken taken_new failures failures_new lines lines_new unwritten unwritten_new
+EndsSo true t status taken taken_new failures failures_new lines lines_new unwritten unwritten_new =
+    EndsTogether t status taken taken_new failures failures_new lines lines_new unwritten unwritten_new
 
 -- A program with this plan has ended with this status, by the tables of its end or of its pool alone, and what its error device took are
--- the texts of the faults that they asked to say.
-abbrev pub EndsBy : Plan → (status : ℕ) → (taken taken_new : Option (List ℕ)) → (failures failures_new : ℕ) → Type 0
-EndsBy p status taken taken_new failures failures_new = EndsSo (has_pool p) (terms_of p) status taken taken_new failures failures_new
+-- the texts of the faults that they asked to say. Where no lines were asked for, the device for lines took the texts of their reasons.
+abbrev pub EndsBy : Plan → (status : ℕ) → (taken taken_new : Option (List ℕ)) → (failures failures_new : ℕ) → (lines lines_new : Option (List ℕ)) → (unwritten unwritten_new : ℕ) → Type 0
+EndsBy p status taken taken_new failures failures_new lines lines_new unwritten unwritten_new =
+    EndsSo (has_pool p) (terms_of p) status taken taken_new failures failures_new lines lines_new unwritten unwritten_new

@@ -178,7 +178,7 @@ told_there other before = before
 
 -- the same behind these words
 abbrev pub told_by : Words → Bool → Bool
-told_by words before = told_there words.last (told_there words.second (told_there words.first before))
+told_by words before = told_there words.last (told_there words.reason (told_there words.first before))
 
 -- whether a peer was told to have come, and not to have gone since
 abbrev pub is_told_there : List (Ask × Happened) → Bool

@@ -19,7 +19,7 @@ use Rattle.ymx_policy.specs.declared.asks.Happened.TheVariants.{Listening, Faile
 use Rattle.ymx_policy.specs.declared.state.Stage.{Stage}
 use Rattle.ymx_policy.specs.declared.state.Stage.TheVariants as stage
 use Rattle.ymx_policy.specs.declared.state.State.{State}
-use Rattle.ymx_policy.specs.Table.{begins, begins_with_users, behind_peers, behind_users, behind_call, behind_session, behind_user, longer, silence, tells, refusal, opened, gone_if, owes_gone, came, parting, serving, cannot_meet, first_fault}
+use Rattle.ymx_policy.specs.Table.{begins, begins_with_users, behind_peers, behind_users, behind_call, behind_session, behind_user, longer, silence, tells, refusal, opened, gone_if, owes_gone, came, parting, serving, cannot_meet, first_fault, first_reason}
 
 -- an end that has done nothing yet
 abbrev pub fresh : Terms → State
@@ -52,18 +52,18 @@ asked t s = record { words = s.words; deed = deed_at s.stage t s.pause s.peers s
 abbrev pub goes : State → Stage → Words → State
 goes s next words = record s { stage = next; words = words }
 
--- it says these two, and this fault, and ends
-abbrev pub ends : State → (first second : Option Notice) → Fault → State
-ends s first second f =
-    record s { stage = stage.Over; words = record { first = first; second = second; fault = Some f; last = None; ending = None }; has_faulted = true }
+-- it says this, and this fault with its reason, and ends
+abbrev pub ends : State → (first why : Option Notice) → Fault → State
+ends s first why f =
+    record s { stage = stage.Over; words = record { first = first; reason = why; fault = Some f; last = None; cause = None; ending = None }; has_faulted = true }
 
 -- nobody can be accepted where users come in
 abbrev pub no_users : Terms → State → (gone : Option Notice) → Option Reason → State
-no_users t s gone why = ends s gone (refusal option.Listen why) (fault.CannotListen t.users.address)
+no_users t s gone why = ends s gone (refusal (option.Listen t.users.address) why) (fault.CannotListen t.users.address)
 
 -- nobody can be accepted where peers come in
 abbrev pub no_peers : State → (gone : Option Notice) → Option Reason → State
-no_peers s gone why = ends s gone (refusal option.Bind why) (fault.CannotListen s.peers)
+no_peers s gone why = ends s gone (refusal (option.Bind s.peers) why) (fault.CannotListen s.peers)
 
 -- it listens for its peer, or can't
 abbrev pub after_opening_peers : Terms → State → Happened → State
@@ -83,15 +83,15 @@ after_opening_users t s other = no_users t s None None
 
 -- a call that failed ends all but with --keep: there `local` closes its user, and `remote` pauses
 abbrev pub after_no_call : Role → (kept : Bool) → (peer : SocketAddrV4) → (refused : Option Notice) → State → State
-after_no_call role false peer refused s = ends s refused None (fault.CannotReach peer)
+after_no_call role false peer refused s = ends s None refused (fault.CannotReach peer)
 after_no_call RemoteCalls true peer refused s =
-    record s { stage = stage.Pausing; words = record { first = refused; second = Some (notice.Unreached peer); fault = None; last = None; ending = None }; pause = longer s.pause }
+    record s { stage = stage.Pausing; words = record silence { first = refused; last = Some (notice.Unreached peer) }; pause = longer s.pause }
 after_no_call role true peer refused s = goes s stage.Closing (record silence { first = refused })
 
 -- the peer that it called is there, or can't be reached
 abbrev pub after_calling : Terms → State → Happened → State
 after_calling t s PeerCame = goes s (behind_call t.role s.has_users) (came t.goes_on)
-after_calling t s (Failed why) = after_no_call t.role t.goes_on t.peer (refusal option.Peer why) s
+after_calling t s (Failed why) = after_no_call t.role t.goes_on t.peer (refusal (option.Peer t.peer) why) s
 after_calling t s other = after_no_call t.role t.goes_on t.peer None s
 
 -- the peer that it awaited is there, or none comes
@@ -115,11 +115,11 @@ after_closing t s AllCame = goes s stage.Over (record silence { first = gone_if 
 after_closing t s (NoUsers why) = no_users t s (gone_if (owes_gone t.role)) why
 after_closing t s other = goes s (behind_user t.role) silence
 
--- behind a session with this fault, and this refusal before it: this pause is due before the next call
-abbrev pub parted : Terms → State → (refused : Option Notice) → Option Fault → (pause : ℕ) → State
-parted t s refused f pause = record s {
+-- behind a session with this fault, for this reason: this pause is due before the next call
+abbrev pub parted : Terms → State → (why : Option Notice) → Option Fault → (pause : ℕ) → State
+parted t s why f pause = record s {
   stage = behind_session t.role t.goes_on pause;
-  words = parting t.role t.goes_on refused f;
+  words = parting t.role t.goes_on why f;
   pause = pause;
   has_faulted = s.has_faulted || is_some f;
 }
@@ -127,9 +127,9 @@ parted t s refused f pause = record s {
 -- the session has ended, or could not begin
 abbrev pub after_serving : Terms → State → Happened → State
 after_serving t s (SessionEnded how) =
-    parted t s None (first_fault t.users.address (cannot_meet t.role s.peers) how) (if how.has_lasted then 0 else longer s.pause)
+    parted t s (first_reason t.users.address None how) (first_fault t.users.address (cannot_meet t.role s.peers) how) (if how.has_lasted then 0 else longer s.pause)
 after_serving t s LackedMemory = parted t s None (Some fault.OutOfMemory) (longer s.pause)
-after_serving t s (Failed why) = parted t s (refusal (serving t.role) why) (Some (cannot_meet t.role s.peers)) (longer s.pause)
+after_serving t s (Failed why) = parted t s (refusal (serving t.role t.users.address s.peers) why) (Some (cannot_meet t.role s.peers)) (longer s.pause)
 after_serving t s other = parted t s None (Some (cannot_meet t.role s.peers)) (longer s.pause)
 
 -- what happened at this stage leads here

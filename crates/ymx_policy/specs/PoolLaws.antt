@@ -29,8 +29,8 @@ running (entry ∷ past) = running_after entry.0.deed entry.1 (running past)
 abbrev pub clean_after : PoolDeed → PoolHappened → Bool → Bool
 clean_after deed.Await (Left how) before = before && is_clean how
 clean_after deed.AwaitLeaving (Left how) before = before && is_clean how
-clean_after deed.Await (Met f) before = false
-clean_after deed.AwaitLeaving (Met f) before = false
+clean_after deed.Await (Met f why) before = false
+clean_after deed.AwaitLeaving (Met f why) before = false
 clean_after other happened before = before
 
 -- nothing went wrong in any session

@@ -10,7 +10,7 @@ use Rattle.ymx_policy.specs.declared.asks.PoolAsk.{PoolAsk}
 use Rattle.ymx_policy.specs.declared.asks.PoolHappened.{PoolHappened}
 use Rattle.ymx_policy.specs.declared.pool.Pool.{Pool}
 use Rattle.ymx_policy.specs.PoolTable.{fresh, asked, after}
-use Rattle.ymx_policy.specs.Past.{Adds, Seen, Shows, heeded, then_said, then_told}
+use Rattle.ymx_policy.specs.Past.{Adds, Seen, Shows, then_said, then_told}
 
 -- it has ended
 abbrev pub is_end : PoolDeed → Bool
@@ -36,10 +36,10 @@ abbrev pub faults : List (PoolAsk × PoolHappened) → List Fault
 faults [] = []
 faults (entry ∷ past) = then_said entry.0.words (faults past)
 
--- the notices that were to be told, the newest first
-abbrev pub notices : List (PoolAsk × PoolHappened) → List Notice
-notices [] = []
-notices (entry ∷ past) = then_told entry.0.words (notices past)
+-- the notices that were told, the newest first
+abbrev pub notices : (is_verbose : Bool) → List (PoolAsk × PoolHappened) → List Notice
+notices is_verbose [] = []
+notices is_verbose (entry ∷ past) = then_told is_verbose entry.0.words (notices is_verbose past)
 
 -- what the world did
 abbrev pub deeds : List (PoolAsk × PoolHappened) → List (PoolDeed × PoolHappened)
@@ -50,7 +50,7 @@ pub record HasCome (t : Terms) (here : Pool) (before now : Seen PoolDeed PoolHap
   pub past : List (PoolAsk × PoolHappened)
   pub valid : IsPast t past
   pub pool : here ≡ pool_of t past
-  pub shown : Shows before now (deeds past) (heeded t.is_verbose (notices past)) (faults past)
+  pub shown : Shows before now (deeds past) (notices t.is_verbose past) (faults past)
 
 -- A pool with these terms has come to its end with this status, and these words are still to be said: it asked and heard this by its
 -- tables alone, and what it asked for was done and said.
@@ -59,11 +59,11 @@ pub record ComesToEnd (t : Terms) (status : ℕ) (words : Words) (before now : S
   pub valid : IsPast t past
   pub last : (asks t past).words ≡ words
   pub ends : (asks t past).deed ≡ deed.End status
-  pub shown : Shows before now (deeds past) (heeded t.is_verbose (notices past)) (faults past)
+  pub shown : Shows before now (deeds past) (notices t.is_verbose past) (faults past)
 
 -- A pool with these terms has ended with this status: by its tables alone, and what it asked for was done and said.
 pub record HasEnded (t : Terms) (status : ℕ) (before now : Seen PoolDeed PoolHappened) : Type 0 where
   pub past : List (PoolAsk × PoolHappened)
   pub valid : IsPast t past
   pub ends : (asks t past).deed ≡ deed.End status
-  pub shown : Shows before now (deeds past) (heeded t.is_verbose (then_told (asks t past).words (notices past))) (then_said (asks t past).words (faults past))
+  pub shown : Shows before now (deeds past) (then_told t.is_verbose (asks t past).words (notices t.is_verbose past)) (then_said (asks t past).words (faults past))

@@ -22,7 +22,7 @@ use Rattle.ymx_policy.specs.declared.asks.PoolHappened.TheVariants.{Listening, F
 use Rattle.ymx_policy.specs.declared.pool.PoolStage.{PoolStage}
 use Rattle.ymx_policy.specs.declared.pool.PoolStage.TheVariants as stage
 use Rattle.ymx_policy.specs.declared.pool.Pool.{Pool}
-use Rattle.ymx_policy.specs.Table.{silence, tells, refusal, cannot_meet, first_fault}
+use Rattle.ymx_policy.specs.Table.{silence, tells, refusal, cannot_meet, first_fault, first_reason}
 
 -- its sessions are links to the peer of a `local`, and not the peers of a `remote`
 abbrev pub has_links : Role → Bool
@@ -31,18 +31,25 @@ has_links role = false
 
 -- a session in which nothing went wrong
 abbrev pub clean : SessionEnd
-clean = record { accept_failed = false; broken = None; lacked_memory = false; is_unwatched = false; has_lasted = false }
+clean = record { accept_failed = false; accept_reason = None; broken = None; peer = None; lacked_memory = false; is_unwatched = false; has_lasted = false }
 
 -- the first rule that was broken
 abbrev pub first_rule : Option ℕ → Option ℕ → Option ℕ
 first_rule None other = other
 first_rule (Some rule) other = Some rule
 
+-- the first notice
+abbrev pub first_notice : Option Notice → Option Notice → Option Notice
+first_notice None other = other
+first_notice (Some n) other = Some n
+
 -- what went wrong here, or there
 abbrev pub both : SessionEnd → SessionEnd → SessionEnd
 both a b = record {
   accept_failed = a.accept_failed || b.accept_failed;
+  accept_reason = if a.accept_failed then a.accept_reason else b.accept_reason;
   broken = first_rule a.broken b.broken;
+  peer = if is_some a.broken then a.peer else b.peer;
   lacked_memory = a.lacked_memory || b.lacked_memory;
   is_unwatched = a.is_unwatched || b.is_unwatched;
   has_lasted = a.has_lasted || b.has_lasted;
@@ -90,6 +97,12 @@ ending_at stage.Over false true unmet gathered = Some unmet
 ending_at stage.Over links shut unmet gathered = gathered
 ending_at at links shut unmet gathered = None
 
+-- Why it ends there: why no peers come in any more, else the reason of that fault of all sessions.
+abbrev pub cause_at : PoolStage → (links shut : Bool) → (why gathered : Option Notice) → Option Notice
+cause_at stage.Over false true why gathered = why
+cause_at stage.Over links shut why gathered = gathered
+cause_at at links shut why gathered = None
+
 -- ---- what it asks for
 
 -- a pool that has done nothing yet
@@ -102,6 +115,7 @@ fresh t = record {
   has_served = false;
   is_shut = false;
   all = clean;
+  why = None;
   peers = t.peer;
   has_faulted = false;
 }
@@ -138,26 +152,28 @@ asked t p = record { words = p.words; deed = deed_at p.stage t (has_room (has_li
 abbrev pub goes : Pool → PoolStage → Words → Pool
 goes p next words = record p { stage = next; words = words }
 
--- it tells this refusal, if one is known, says this fault, and ends
-abbrev pub ends : Pool → Option Notice → Fault → Pool
-ends p refused f = record p { stage = stage.Over; words = record silence { first = refused; fault = Some f }; has_faulted = true }
+-- it tells this reason, if one is known, says this fault, and ends
+abbrev pub ends : Pool → (why : Option Notice) → Fault → Pool
+ends p why f = record p { stage = stage.Over; words = record silence { reason = why; fault = Some f }; has_faulted = true }
 
 -- it goes on here, or says what ends it, and ends
 abbrev pub settles_at : PoolStage → Terms → Pool → Pool
 settles_at next t p =
     let ending = ending_at next (has_links t.role) p.is_shut (cannot_meet t.role p.peers) (first_fault t.users.address (cannot_meet t.role p.peers) p.all) in
-    record p { stage = next; words = record p.words { ending = ending }; has_faulted = p.has_faulted || is_some ending }
+    let cause = cause_at next (has_links t.role) p.is_shut p.why (first_reason t.users.address p.why p.all) in
+    record p { stage = next; words = record p.words { cause = cause; ending = ending }; has_faulted = p.has_faulted || is_some ending }
 
 -- it goes on where it is due
 abbrev pub settles : Terms → Pool → Pool
 settles t p = settles_at (settled (has_links t.role) p.running p.is_shut (p.has_served && not t.goes_on)) t p
 
--- this went wrong: with --keep its fault is said at once, behind these words, and without it all faults are gathered
-abbrev pub heeds : (kept : Bool) → Terms → Pool → Words → SessionEnd → Pool
-heeds true t p words how =
+-- This went wrong, for this reason where no thread could be made: with --keep its fault is said at once, behind these words, and without
+-- it all faults are gathered.
+abbrev pub heeds : (kept : Bool) → Terms → Pool → Words → (why : Option Notice) → SessionEnd → Pool
+heeds true t p words why how =
     let f = first_fault t.users.address (cannot_meet t.role p.peers) how in
-    record p { words = record words { fault = f }; has_faulted = p.has_faulted || is_some f }
-heeds false t p words how = record p { words = words; all = both p.all how }
+    record p { words = record words { reason = first_reason t.users.address why how; fault = f }; has_faulted = p.has_faulted || is_some f }
+heeds false t p words why how = record p { words = words; all = both p.all how; why = first_notice p.why why }
 
 -- nobody comes in any more: the links take no more users, or the peers that are there are the last
 abbrev pub shuts : (links : Bool) → Terms → Pool → Pool
@@ -168,13 +184,13 @@ shuts false t p = settles t (record p { is_shut = true })
 abbrev pub after_calling : Terms → Pool → PoolHappened → Pool
 after_calling t p Came = record p { stage = behind_call (one_more p.made t.places) t.places; words = silence; made = one_more p.made t.places }
 after_calling t p LackedMemory = ends p None fault.OutOfMemory
-after_calling t p (Failed why) = ends p (refusal option.Peer why) (fault.CannotReach t.peer)
+after_calling t p (Failed why) = ends p (refusal (option.Peer t.peer) why) (fault.CannotReach t.peer)
 after_calling t p other = ends p None (fault.CannotReach t.peer)
 
 -- the option that says where it listens
-abbrev pub opening : (links : Bool) → Named
-opening true = option.Listen
-opening false = option.Bind
+abbrev pub opening : (links : Bool) → Terms → (peers : SocketAddrV4) → Named
+opening true t peers = option.Listen t.users.address
+opening false t peers = option.Bind peers
 
 -- nobody can come in where it listens
 abbrev pub cannot_open : (links : Bool) → Terms → (peers : SocketAddrV4) → Fault
@@ -191,7 +207,7 @@ abbrev pub after_opening : (links : Bool) → Terms → Pool → PoolHappened �
 after_opening links t p (Listening address) =
     record p { stage = behind_opening links; words = tells (notice.Listening address); peers = peers_at links address p.peers }
 after_opening links t p LackedMemory = ends p None fault.OutOfMemory
-after_opening links t p (Failed why) = ends p (refusal (opening links) why) (cannot_open links t p.peers)
+after_opening links t p (Failed why) = ends p (refusal (opening links t p.peers) why) (cannot_open links t p.peers)
 after_opening links t p other = ends p None (cannot_open links t p.peers)
 
 -- what is told once a thread runs: that a peer has come, but nothing of links
@@ -203,15 +219,19 @@ begun false = tells notice.PeerCame
 abbrev pub unlinked : SessionEnd
 unlinked = record clean { is_unwatched = true }
 
--- it goes on after a second, or nobody comes in any more
-abbrev pub rests : (goes_on : Bool) → Terms → Pool → Pool
-rests true t p = record p { stage = stage.Resting }
-rests false t p = shuts false t p
+-- no peers come in any more, for this reason if one is known
+abbrev pub shuts_for : Terms → Pool → (why : Option Notice) → Pool
+shuts_for t p why = shuts false t (record p { words = silence; why = why })
+
+-- it goes on after a second, or nobody comes in any more, as this was refused
+abbrev pub rests : (goes_on : Bool) → Terms → Pool → (refused : Option Notice) → Pool
+rests true t p refused = goes p stage.Resting (record silence { first = refused })
+rests false t p refused = shuts_for t p refused
 
 -- No thread could be made. A pool of links ends; for a peer it goes on after a second, unless none was served, and none else is awaited.
 abbrev pub after_no_thread : (links : Bool) → Terms → Pool → Option Reason → Pool
-after_no_thread true t p why = shuts true t (heeds t.goes_on t p (record silence { first = refusal option.Links why }) unlinked)
-after_no_thread false t p why = rests (t.goes_on || p.has_served) t (record p { words = record silence { first = refusal option.Peers why } })
+after_no_thread true t p why = shuts true t (heeds t.goes_on t p silence (refusal option.Links why) unlinked)
+after_no_thread false t p why = rests (t.goes_on || p.has_served) t p (refusal option.Peers why)
 
 -- the thread runs, or none could be made
 abbrev pub after_starting : (links : Bool) → Terms → Pool → PoolHappened → Pool
@@ -232,7 +252,7 @@ leaving false true = record silence { last = Some notice.PeerGone }
 
 -- a session has ended so
 abbrev pub left : (links : Bool) → Terms → Pool → SessionEnd → Pool
-left links t p how = settles t (heeds t.goes_on t (record p { running = p.running - 1 }) (leaving links t.goes_on) how)
+left links t p how = settles t (heeds t.goes_on t (record p { running = p.running - 1 }) (leaving links t.goes_on) None how)
 
 -- links take no more users though some were to come: the peer can't be reached
 abbrev pub lost_links : (count : Option ℕ) → SessionEnd
@@ -249,22 +269,23 @@ abbrev pub let_in : (links room : Bool) → PoolStage
 let_in links true = serving links
 let_in links false = stage.Waiting
 
--- A link that goes on has met this fault, which is said at once. Without --keep none goes on: it counts as one that can't be watched.
-abbrev pub meets : (kept : Bool) → Pool → Fault → Pool
-meets true p f = record p { words = record silence { fault = Some f }; has_faulted = true }
-meets false p f = record p { words = silence; all = both p.all unlinked }
+-- A link that goes on has met this fault, which is said at once, for this reason. Without --keep none goes on: it counts as one that
+-- can't be watched.
+abbrev pub meets : (kept : Bool) → Pool → Fault → (why : Option Notice) → Pool
+meets true p f why = record p { words = record silence { reason = why; fault = Some f }; has_faulted = true }
+meets false p f why = record p { words = silence; all = both p.all unlinked }
 
 -- no users come any more: all have come, no link takes any, or none can be accepted
 abbrev pub after_users : Terms → Pool → PoolHappened → Pool
 after_users t p AllCame = shuts true t (record p { words = silence })
-after_users t p NoLinks = shuts true t (heeds t.goes_on t p silence (lost_links t.users.count))
-after_users t p (NobodyComes why) = shuts true t (heeds t.goes_on t p (record silence { first = refusal option.Listen why }) (record clean { accept_failed = true }))
-after_users t p other = shuts true t (heeds t.goes_on t p silence (record clean { accept_failed = true }))
+after_users t p NoLinks = shuts true t (heeds t.goes_on t p silence None (lost_links t.users.count))
+after_users t p (NobodyComes why) = shuts true t (heeds t.goes_on t p silence None (record clean { accept_failed = true; accept_reason = why }))
+after_users t p other = shuts true t (heeds t.goes_on t p silence None (record clean { accept_failed = true }))
 
 -- no peers come any more
 abbrev pub after_peers : Terms → Pool → PoolHappened → Pool
-after_peers t p (NobodyComes why) = shuts false t (record p { words = record silence { first = refusal option.Bind why } })
-after_peers t p other = shuts false t (record p { words = silence })
+after_peers t p (NobodyComes why) = shuts_for t p (refusal (option.Bind p.peers) why)
+after_peers t p other = shuts_for t p None
 
 -- nobody comes any more
 abbrev pub after_last : (links : Bool) → Terms → Pool → PoolHappened → Pool
@@ -274,9 +295,9 @@ after_last false t p h = after_peers t p h
 -- somebody came or left, or nobody comes any more
 abbrev pub after_waiting : (links : Bool) → Terms → Pool → PoolHappened → Pool
 after_waiting links t p Came = goes p (let_in links (has_room links p.running t.places p.is_shut)) silence
-after_waiting links t p (Delayed why) = goes p stage.Waiting (record silence { first = refusal (opening links) (Some why) })
+after_waiting links t p (Delayed why) = goes p stage.Waiting (record silence { first = refusal (opening links t p.peers) (Some why) })
 after_waiting links t p (Left how) = left links t p how
-after_waiting links t p (Met f) = meets t.goes_on p f
+after_waiting links t p (Met f why) = meets t.goes_on p f why
 after_waiting links t p other = after_last links t p other
 
 -- it waits
@@ -285,7 +306,7 @@ waits p = record p { stage = stage.Waiting }
 
 -- the user is with a link, or there was no memory for that
 abbrev pub after_placing : Terms → Pool → PoolHappened → Pool
-after_placing t p LackedMemory = waits (heeds t.goes_on t p silence (record clean { lacked_memory = true }))
+after_placing t p LackedMemory = waits (heeds t.goes_on t p silence None (record clean { lacked_memory = true }))
 after_placing t p other = goes p stage.Waiting silence
 
 -- what happened at this stage leads here

@@ -1,5 +1,5 @@
 -- Where an end begins, and what follows what: the tables that it goes by (this project's own).
-use Rattle.std.specs.Prelude.{◌*◌, ◌==◌, ℕ, Bool, true, false, if◌then◌else◌, min, Option, Some, None}
+use Rattle.std.specs.Prelude.{◌*◌, ◌==◌, ◌&&◌, ℕ, Bool, true, false, not, if◌then◌else◌, is_some, min, Option, Some, None}
 use Rattle.std.specs.declared.net.socket_addr.SocketAddrV4.{SocketAddrV4}
 use Rattle.ymx_policy.specs.declared.plan.Role.{Role}
 use Rattle.ymx_policy.specs.declared.plan.Role.TheVariants.{LocalCalls, LocalAwaits, Link, RemoteCalls, RemoteAwaits}
@@ -70,7 +70,7 @@ longer seconds = if seconds == 0 then 1 else min 30 (2 * seconds)
 
 -- nothing
 abbrev pub silence : Words
-silence = record { first = None; second = None; fault = None; last = None; ending = None }
+silence = record { first = None; reason = None; fault = None; last = None; cause = None; ending = None }
 
 -- this alone
 abbrev pub tells : Notice → Words
@@ -80,6 +80,11 @@ tells n = record silence { first = Some n }
 abbrev pub refusal : Named → Option Reason → Option Notice
 refusal named (Some reason) = Some (notice.Refused named reason)
 refusal named None = None
+
+-- that this rule was broken, if one was, in a session with the peer at this address
+abbrev pub broken_rule : Option ℕ → (peer : Option SocketAddrV4) → Option Notice
+broken_rule (Some rule) peer = Some (notice.Broke rule peer)
+broken_rule None peer = None
 
 -- Once it listens for its peer it tells where. Where it listens again for the next one, it tells that the last one has gone.
 abbrev pub opened : (has_users : Bool) → SocketAddrV4 → Words
@@ -101,31 +106,22 @@ abbrev pub came : (kept : Bool) → Words
 came true = tells notice.PeerCame
 came false = silence
 
--- What is said behind a session with this fault, before which the system may have refused something: without --keep the fault. With
--- it also that the peer has gone: by `local` at first, by `remote` at last, and by one that awaits its peers not yet.
-abbrev pub parting : Role → (kept : Bool) → (refused : Option Notice) → Option Fault → Words
-parting role false refused f = record { first = refused; second = None; fault = f; last = None; ending = None }
-parting LocalCalls true refused f = record { first = Some notice.PeerGone; second = refused; fault = f; last = None; ending = None }
-parting Link true refused f = record { first = Some notice.PeerGone; second = refused; fault = f; last = None; ending = None }
-parting LocalAwaits true refused f = record { first = refused; second = None; fault = f; last = None; ending = None }
-parting RemoteCalls true refused f = record { first = refused; second = None; fault = f; last = Some notice.PeerGone; ending = None }
-parting RemoteAwaits true refused f = record { first = refused; second = None; fault = f; last = None; ending = None }
+-- What is said behind a session with this fault, for this reason: without --keep no more. With it also that the peer has gone: by
+-- `local` at first, by `remote` at last, and by one that awaits its peers not yet.
+abbrev pub parting : Role → (kept : Bool) → (why : Option Notice) → Option Fault → Words
+parting LocalCalls true why f = record { first = Some notice.PeerGone; reason = why; fault = f; last = None; cause = None; ending = None }
+parting Link true why f = record { first = Some notice.PeerGone; reason = why; fault = f; last = None; cause = None; ending = None }
+parting RemoteCalls true why f = record { first = None; reason = why; fault = f; last = Some notice.PeerGone; cause = None; ending = None }
+parting role kept why f = record { first = None; reason = why; fault = f; last = None; cause = None; ending = None }
 
 -- ---- which fault it is
 
--- the option that says where the peer is met
-abbrev pub meeting : Role → Named
-meeting LocalCalls = option.Peer
-meeting Link = option.Peer
-meeting RemoteCalls = option.Peer
-meeting LocalAwaits = option.Bind
-meeting RemoteAwaits = option.Bind
-
--- where the poll of a session can't be had, that option is named, but by `local` the one where its users come from
-abbrev pub serving : Role → Named
-serving RemoteCalls = option.Peer
-serving RemoteAwaits = option.Bind
-serving role = option.Listen
+-- where the poll of a session can't be had, the option is named that says where the peer is met, but by `local` the one where its
+-- users come from
+abbrev pub serving : Role → (users peers : SocketAddrV4) → Named
+serving RemoteCalls users peers = option.Peer peers
+serving RemoteAwaits users peers = option.Bind peers
+serving role users peers = option.Listen users
 
 -- the peer at this address can't be had: it is called there, or calls
 abbrev pub cannot_meet : Role → SocketAddrV4 → Fault
@@ -156,3 +152,11 @@ abbrev pub first_fault : (users : SocketAddrV4) → (unmet : Fault) → SessionE
 first_fault users unmet s =
     or_else (fault_if s.accept_failed (fault.CannotListen users)) (or_else (broken_by s.broken)
     (or_else (fault_if s.lacked_memory fault.OutOfMemory) (fault_if s.is_unwatched unmet)))
+
+-- The reason of that fault, where one is known: why the accept failed, which rule was broken, and from where, or why the peer can't be
+-- watched.
+abbrev pub first_reason : (users : SocketAddrV4) → (unwatched : Option Notice) → SessionEnd → Option Notice
+first_reason users unwatched s =
+    if s.accept_failed then refusal (option.Listen users) s.accept_reason
+    else if is_some s.broken then broken_rule s.broken s.peer
+    else if s.is_unwatched && not s.lacked_memory then unwatched else None

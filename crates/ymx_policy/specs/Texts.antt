@@ -1,6 +1,7 @@
 -- The texts of faults and notices, each a line (this project's own).
-use Rattle.std.specs.Prelude.{◌++◌, ℕ, List, codes, decimal}
+use Rattle.std.specs.Prelude.{◌++◌, ◌==◌, ℕ, List, [], Option, Some, None, codes, decimal, if◌then◌else◌}
 use Rattle.std.specs.Fmt.{signed_decimal}
+use Rattle.std.specs.declared.net.socket_addr.SocketAddrV4.{SocketAddrV4}
 use Rattle.std.specs.Net.Text.{socket_v4_text}
 use Rattle.ymx_policy.specs.declared.reason.Reason.{Reason}
 use Rattle.ymx_policy.specs.declared.reason.Reason.TheVariants as reason
@@ -37,13 +38,32 @@ abbrev pub reason_text : Reason → List ℕ
 reason_text (reason.Other number) = codes "error " ++ signed_decimal number
 reason_text other = reason_words other
 
--- how an option is written
+-- how an option is written, with its address
 abbrev pub option_text : Named → List ℕ
-option_text option.Listen = codes "--listen"
-option_text option.Peer = codes "--peer"
-option_text option.Bind = codes "--bind"
+option_text (option.Listen address) = codes "--listen " ++ socket_v4_text address
+option_text (option.Peer address) = codes "--peer " ++ socket_v4_text address
+option_text (option.Bind address) = codes "--bind " ++ socket_v4_text address
 option_text option.Peers = codes "--peers"
 option_text option.Links = codes "--links"
+
+-- what was done against a rule of yamux: 1 for B1
+abbrev pub rule_words : ℕ → List ℕ
+rule_words rule =
+    if rule == 1 then codes "the version of a frame is not 0"
+    else if rule == 2 then codes "the type of a frame is above 3"
+    else if rule == 3 then codes "a stream was opened by an id that is not the opener's"
+    else if rule == 4 then codes "a stream was opened that is there already"
+    else if rule == 5 then codes "more bytes came than a frame or a window may have"
+    else if rule == 6 then codes "a window was lifted above 4294967295 bytes"
+    else if rule == 7 then codes "the code of a Go Away is above 2"
+    else if rule == 8 then codes "the peer said that a rule was broken here"
+    else if rule == 9 then codes "the peer said that it has failed"
+    else codes "a rule was broken"
+
+-- from where it came, if that is known
+abbrev pub source_text : Option SocketAddrV4 → List ℕ
+source_text (Some address) = codes " from " ++ socket_v4_text address
+source_text None = []
 
 -- the text of a notice
 abbrev pub notice_text : Notice → List ℕ
@@ -52,3 +72,4 @@ notice_text notice.PeerCame = codes "ymx: the peer has come\n"
 notice_text notice.PeerGone = codes "ymx: the peer has gone\n"
 notice_text (notice.Unreached address) = codes "ymx: cannot reach " ++ socket_v4_text address ++ codes "\n"
 notice_text (notice.Refused option why) = codes "ymx: " ++ option_text option ++ codes ": " ++ reason_text why ++ codes "\n"
+notice_text (notice.Broke rule peer) = codes "ymx: B" ++ decimal rule ++ source_text peer ++ codes ": " ++ rule_words rule ++ codes "\n"

@@ -41,22 +41,22 @@ pub struct Session {
     pub is_followed: bool,
 }
 
-/// An option of the command line, as it is named where the system refuses what it asks for.
+/// An option of the command line, and its address, as they are named where the system refuses what it asks for.
 #[derive(Clone, Copy)]
 pub enum Named {
     /// `--listen`
-    Listen,
+    Listen(SocketAddrV4),
     /// `--peer`
-    Peer,
+    Peer(SocketAddrV4),
     /// `--bind`
-    Bind,
+    Bind(SocketAddrV4),
     /// `--peers`
     Peers,
     /// `--links`
     Links,
 }
 
-/// What `-v` tells.
+/// What is told on a line of its own: where `-v` asks for it or, where it is the reason of a fault, always.
 #[derive(Clone, Copy)]
 pub enum Notice {
     /// It listens here.
@@ -69,6 +69,8 @@ pub enum Notice {
     Unreached(SocketAddrV4),
     /// The system refused, for this reason, what this option asks for.
     Refused(Named, Reason),
+    /// In a session with the peer at this address, if it is known, this rule of yamux was broken: 1 for B1.
+    Broke(u8, Option<SocketAddrV4>),
 }
 
 /// What went wrong, which is said.
@@ -84,17 +86,20 @@ pub enum Fault {
     OutOfMemory,
 }
 
-/// What is told and said before something is done: the notices where `-v` asks for them, the fault always, in this order.
+/// What is told and said before something is done, in this order: notices where `-v` asks for them, reasons and faults
+/// always.
 #[derive(Clone, Copy)]
 pub struct Words {
-    /// Told at first.
+    /// Told at first, where `-v` asks for it.
     pub first: Option<Notice>,
-    /// Told behind that.
-    pub second: Option<Notice>,
+    /// Told behind that, always: why the fault came that is said then.
+    pub reason: Option<Notice>,
     /// Said behind both.
     pub fault: Option<Fault>,
-    /// Told behind that.
+    /// Told behind that, where `-v` asks for it.
     pub last: Option<Notice>,
+    /// Told behind that, always: why it ends, where that is a fault of its own.
+    pub cause: Option<Notice>,
     /// Said at last: what ends it, where that is a fault of its own.
     pub ending: Option<Fault>,
 }
@@ -104,8 +109,12 @@ pub struct Words {
 pub struct SessionEnd {
     /// A user could not be accepted, and none will be.
     pub accept_failed: bool,
+    /// Why not, if the system says so.
+    pub accept_reason: Option<Reason>,
     /// A side broke this rule: 1 for B1.
     pub broken: Option<u8>,
+    /// Where the peer was, if that is known.
+    pub peer: Option<SocketAddrV4>,
     /// Somewhere there was no memory.
     pub lacked_memory: bool,
     /// The system refused to watch the peer.
@@ -228,8 +237,8 @@ pub enum PoolHappened {
     Started,
     /// A session has ended so, and its thread with it.
     Left(SessionEnd),
-    /// A link, which goes on, has met this fault.
-    Met(Fault),
+    /// A link, which goes on, has met this fault, for this reason if one is known.
+    Met(Fault, Option<Notice>),
     /// It is done.
     Done,
 }

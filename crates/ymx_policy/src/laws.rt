@@ -2,9 +2,9 @@
 
 ghost use Rattle.std.specs.Prelude.{◌≡◌, ◌≢◌, ◌⊎◌, ◌<◌, ◌≤◌, ℕ, List, [], ◌∷◌, Bool, true, false, Some, None, length, map};
 ghost use Rattle.std.specs.declared.net.socket_addr.SocketAddrV4.{SocketAddrV4 as Address};
-ghost use Rattle.ymx_policy.specs.Past.{IsPast, asks, faults, then_said};
+ghost use Rattle.ymx_policy.specs.Past.{IsPast, asks, faults, notices, then_said, then_told};
 ghost use Rattle.ymx_policy.specs.Plans.{terms_of, address_of, has_pool, is_called};
-ghost use Rattle.ymx_policy.specs.PoolPast.{IsPast as IsPoolPast, asks as pool_asks, faults as pool_faults};
+ghost use Rattle.ymx_policy.specs.PoolPast.{IsPast as IsPoolPast, asks as pool_asks, faults as pool_faults, notices as pool_notices};
 ghost use Rattle.ymx_policy.specs.PoolLaws.{all_clean, called, running};
 ghost use Rattle.ymx_policy.specs.PoolTable.{has_links};
 ghost use Rattle.ymx_policy.specs.Laws.{NamesPlace, ends_well, failed_tries, has_opened, has_peer, is_clean, is_explained, is_local, is_port_last, is_told_there, last_deed, pause_of, peers_of, says_fault, status_of, told_by};
@@ -17,10 +17,11 @@ ghost use Rattle.ymx_policy.specs.declared.asks.Fault.{Fault as Faulted};
 ghost use Rattle.ymx_policy.specs.declared.asks.Session.{Session as Served};
 ghost use Rattle.ymx_policy.specs.declared.asks.Users.{Users as Awaited};
 ghost use Rattle.ymx_policy.specs.declared.asks.SessionEnd.{SessionEnd as Ended};
+ghost use Rattle.ymx_policy.specs.declared.reason.Reason.{Reason as System};
 ghost use Rattle.ymx_policy.specs.declared.asks.PoolAsk.{PoolAsk as PoolAsked};
 ghost use Rattle.ymx_policy.specs.declared.asks.PoolHappened.{PoolHappened as PoolHeard};
 
-use crate::asks::{Deed, Fault, Happened, Notice, PoolDeed, Side};
+use crate::asks::{Deed, Fault, Happened, Named, Notice, PoolDeed, PoolHappened, Side};
 use crate::plan::{Plan, Role};
 
 /// The exit status is 0 exactly where no fault was said, and else 1. It is 0 only behind a session in which nothing went
@@ -66,6 +67,18 @@ pub fn faults_have_reasons()
     ensures alone { (t : Told) (past : List (Asked × Heard)) → IsPast t past → (asks t past).words.ending ≡ None }
     ensures users { (t : Told) (past : List (Asked × Heard)) (users : Awaited) (address : Address) → IsPast t past → (asks t past).deed ≡ Deed.ListenForUsers users → (asks t ((asks t past, Happened.Failed None) ∷ past)).words.fault ≡ Some (Fault.CannotListen t.users.address) }
     ensures place { (t : Told) (past : List (Asked × Heard)) → IsPast t past → NamesPlace t.peer (peers_of t past) t.users.address (asks t past).words.fault }
+{}
+
+/// Just before a fault its reason is told, with or without `-v`: why the system refuses the port, the call or the user, at
+/// the place that the option names, or which rule was broken, and from where. No other reason is told, so a good end tells
+/// none where no lines were asked for.
+pub fn reasons_are_told()
+    ensures users { (t : Told) (past : List (Asked × Heard)) (users : Awaited) (why : System) → IsPast t past → (asks t past).deed ≡ Deed.ListenForUsers users → (asks t ((asks t past, Happened.Failed (Some why)) ∷ past)).words.reason ≡ Some (Notice.Refused (Named.Listen t.users.address) why) }
+    ensures called { (t : Told) (past : List (Asked × Heard)) (peer : Address) (why : System) → t.goes_on ≡ false → IsPast t past → (asks t past).deed ≡ Deed.Call peer → (asks t ((asks t past, Happened.Failed (Some why)) ∷ past)).words.reason ≡ Some (Notice.Refused (Named.Peer t.peer) why) }
+    ensures accepted { (t : Told) (past : List (Asked × Heard)) (session : Served) (how : Ended) (why : System) → IsPast t past → (asks t past).deed ≡ Deed.Serve session → how.accept_failed ≡ true → how.accept_reason ≡ Some why → (asks t ((asks t past, Happened.SessionEnded how) ∷ past)).words.reason ≡ Some (Notice.Refused (Named.Listen t.users.address) why) }
+    ensures broke { (t : Told) (past : List (Asked × Heard)) (session : Served) (how : Ended) (rule : ℕ) → IsPast t past → (asks t past).deed ≡ Deed.Serve session → how.accept_failed ≡ false → how.broken ≡ Some rule → (asks t ((asks t past, Happened.SessionEnded how) ∷ past)).words.reason ≡ Some (Notice.Broke rule how.peer) }
+    ensures alone { (t : Told) (past : List (Asked × Heard)) → IsPast t past → (asks t past).words.fault ≡ None → (asks t past).words.reason ≡ None }
+    ensures none { (t : Told) (past : List (Asked × Heard)) → IsPast t past → (asks t past).deed ≡ Deed.End 0 → then_told false (asks t past).words (notices false past) ≡ [] }
 {}
 
 /// A `remote` that calls with `--keep` pauses for 1 second, and then for 2, 4, 8, 16 and 30, as many tries have failed in a
@@ -146,6 +159,15 @@ pub fn pool_statuses()
 /// Without `--keep` nothing is said before the end.
 pub fn pool_says_late()
     ensures { (t : Told) (past : List (PoolAsked × PoolHeard)) → t.goes_on ≡ false → IsPoolPast t past → pool_faults past ≡ [] }
+{}
+
+/// The reasons of its faults are told just before them, with or without `-v`, and no others: a good end tells none where
+/// no lines were asked for.
+pub fn pool_reasons_are_told()
+    ensures users { (t : Told) (past : List (PoolAsked × PoolHeard)) (users : Awaited) (why : System) → IsPoolPast t past → (pool_asks t past).deed ≡ PoolDeed.ListenForUsers users → (pool_asks t ((pool_asks t past, PoolHappened.Failed (Some why)) ∷ past)).words.reason ≡ Some (Notice.Refused (Named.Listen t.users.address) why) }
+    ensures broke { (t : Told) (past : List (PoolAsked × PoolHeard)) (how : Ended) (rule : ℕ) → t.goes_on ≡ true → IsPoolPast t past → (pool_asks t past).deed ≡ PoolDeed.Await → how.accept_failed ≡ false → how.broken ≡ Some rule → (pool_asks t ((pool_asks t past, PoolHappened.Left how) ∷ past)).words.reason ≡ Some (Notice.Broke rule how.peer) }
+    ensures late { (t : Told) (past : List (PoolAsked × PoolHeard)) → t.goes_on ≡ false → IsPoolPast t past → pool_notices false past ≡ [] }
+    ensures none { (t : Told) (past : List (PoolAsked × PoolHeard)) → IsPoolPast t past → (pool_asks t past).deed ≡ PoolDeed.End 0 → then_told false (pool_asks t past).words (pool_notices false past) ≡ [] }
 {}
 
 /// It ends well only where nothing went wrong in any session.

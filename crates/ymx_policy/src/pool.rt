@@ -1,12 +1,12 @@
 //! Several sessions at once, each in a thread of its own: where such a pool has come to, and where what happens leads it.
 
 ghost use Rattle.std.specs.Prelude.{◌≡◌};
-ghost use Rattle.ymx_policy.specs.PoolTable.{fresh, asked, deed_at, listening, after, goes, ends, settles, settles_at, has_links, heeds, shuts, rests, left, meets, after_users, after_peers, after_last, after_calling, after_opening, after_no_thread, after_starting, after_waiting, after_placing, clean, first_rule, both, begins, behind_opening, one_more, behind_call, behind_start, settled, ending_at, has_room, opening, cannot_open, peers_at, begun, unlinked, leaving, lost_links, serving, let_in};
+ghost use Rattle.ymx_policy.specs.PoolTable.{fresh, asked, deed_at, listening, after, goes, ends, settles, settles_at, has_links, heeds, shuts, shuts_for, rests, left, meets, after_users, after_peers, after_last, after_calling, after_opening, after_no_thread, after_starting, after_waiting, after_placing, clean, first_rule, first_notice, both, begins, behind_opening, one_more, behind_call, behind_start, settled, ending_at, cause_at, has_room, opening, cannot_open, peers_at, begun, unlinked, leaving, lost_links, serving, let_in};
 
 use crate::asks::{Fault, Named, Notice, PoolAsk, PoolDeed, PoolHappened, SessionEnd, Words};
 use crate::plan::{Role, Terms};
 use crate::reason::Reason;
-use crate::table::{cannot_meet, first_fault, refusal, silence, tells};
+use crate::table::{cannot_meet, first_fault, first_reason, refusal, silence, tells};
 use std::net::SocketAddrV4;
 
 /// What a pool waits for.
@@ -47,6 +47,8 @@ pub struct Pool {
     pub is_shut: bool,
     /// What went wrong in any session, where that is said at the end.
     pub all: SessionEnd,
+    /// Why no thread could be made for a link, or no peers come in any more, if that is known.
+    pub why: Option<Notice>,
     /// Where its peers call, or are called: at port 0 the port that the system chose.
     pub peers: SocketAddrV4,
     /// It has said a fault, or does so now.
@@ -66,6 +68,7 @@ impl Pool {
             has_served: false,
             is_shut: false,
             all: clean(),
+            why: None,
             peers: terms.peer,
             has_faulted: false,
         }
@@ -143,12 +146,12 @@ impl Pool {
         self.words = words;
     }
 
-    /// Tells this refusal, if one is known, says this fault, and ends.
-    fn end(&mut self, refused: Option<Notice>, fault: Fault)
-        ensures { self.new ≡ ends self.old refused fault }
+    /// Tells this reason, if one is known, says this fault, and ends.
+    fn end(&mut self, reason: Option<Notice>, fault: Fault)
+        ensures { self.new ≡ ends self.old reason fault }
     {
         let mut words = silence();
-        words.first = refused;
+        words.reason = reason;
         words.fault = Some(fault);
         self.go(PoolStage::Over, words);
         self.has_faulted = true;
@@ -171,26 +174,31 @@ impl Pool {
         ensures { self.new ≡ settles_at next terms.now self.old }
     {
         let unmet = cannot_meet(terms.role, self.peers);
+        let links = has_links(terms.role);
         let gathered = first_fault(terms.users.address, unmet, self.all);
-        let ending = ending_at(next, has_links(terms.role), self.is_shut, unmet, gathered);
+        let ending = ending_at(next, links, self.is_shut, unmet, gathered);
+        let reason = first_reason(terms.users.address, self.why, self.all);
+        self.words.cause = cause_at(next, links, self.is_shut, self.why, reason);
         self.stage = next;
         self.words.ending = ending;
         self.has_faulted = self.has_faulted || ending.is_some();
     }
 
-    /// This went wrong: with `--keep` its fault is said at once, behind these words, and without it all faults are
-    /// gathered.
-    fn heed(&mut self, terms: &Terms, words: Words, how: SessionEnd)
-        ensures { self.new ≡ heeds terms.now.goes_on terms.now self.old words how }
+    /// This went wrong, for this reason where no thread could be made: with `--keep` its fault is said at once, behind
+    /// these words, and without it all faults are gathered.
+    fn heed(&mut self, terms: &Terms, words: Words, why: Option<Notice>, how: SessionEnd)
+        ensures { self.new ≡ heeds terms.now.goes_on terms.now self.old words why how }
     {
         self.words = words;
         if terms.goes_on {
             let unmet = cannot_meet(terms.role, self.peers);
             let fault = first_fault(terms.users.address, unmet, how);
+            self.words.reason = first_reason(terms.users.address, why, how);
             self.words.fault = fault;
             self.has_faulted = self.has_faulted || fault.is_some();
         } else {
             self.all = both(self.all, how);
+            self.why = first_notice(self.why, why);
         }
     }
 
@@ -218,7 +226,10 @@ impl Pool {
             }
             PoolHappened::LackedMemory => self.end(None, Fault::OutOfMemory),
             PoolHappened::Failed(why) => {
-                self.end(refusal(Named::Peer, why), Fault::CannotReach(terms.peer));
+                self.end(
+                    refusal(Named::Peer(terms.peer), why),
+                    Fault::CannotReach(terms.peer),
+                );
             }
             _ => self.end(None, Fault::CannotReach(terms.peer)),
         }
@@ -236,7 +247,7 @@ impl Pool {
             PoolHappened::LackedMemory => self.end(None, Fault::OutOfMemory),
             PoolHappened::Failed(why) => {
                 let fault = cannot_open(links, terms, self.peers);
-                self.end(refusal(opening(links), why), fault);
+                self.end(refusal(opening(links, terms, self.peers), why), fault);
             }
             _ => self.end(None, cannot_open(links, terms, self.peers)),
         }
@@ -264,27 +275,35 @@ impl Pool {
     fn hear_no_thread(&mut self, links: bool, terms: &Terms, why: Option<Reason>)
         ensures { self.new ≡ after_no_thread links terms.now self.old why }
     {
-        let mut words = silence();
         if links {
-            words.first = refusal(Named::Links, why);
-            self.heed(terms, words, unlinked());
+            self.heed(terms, silence(), refusal(Named::Links, why), unlinked());
             self.shut(links, terms);
         } else {
-            words.first = refusal(Named::Peers, why);
-            self.words = words;
-            self.rest(terms.goes_on || self.has_served, terms);
+            let goes_on = terms.goes_on || self.has_served;
+            self.rest(goes_on, terms, refusal(Named::Peers, why));
         }
     }
 
-    /// Goes on after a second, or nobody comes in any more.
-    fn rest(&mut self, goes_on: bool, terms: &Terms)
-        ensures { self.new ≡ rests goes_on terms.now self.old }
+    /// Goes on after a second, or nobody comes in any more, as this was refused.
+    fn rest(&mut self, goes_on: bool, terms: &Terms, refused: Option<Notice>)
+        ensures { self.new ≡ rests goes_on terms.now self.old refused }
     {
         if goes_on {
-            self.stage = PoolStage::Resting;
+            let mut words = silence();
+            words.first = refused;
+            self.go(PoolStage::Resting, words);
         } else {
-            self.shut(false, terms);
+            self.shut_for(terms, refused);
         }
+    }
+
+    /// No peers come in any more, for this reason if one is known.
+    fn shut_for(&mut self, terms: &Terms, why: Option<Notice>)
+        ensures { self.new ≡ shuts_for terms.now self.old why }
+    {
+        self.words = silence();
+        self.why = why;
+        self.shut(false, terms);
     }
 
     /// Somebody came or left, or nobody comes any more.
@@ -298,21 +317,22 @@ impl Pool {
             }
             PoolHappened::Delayed(why) => {
                 let mut words = silence();
-                words.first = refusal(opening(links), Some(why));
+                words.first = refusal(opening(links, terms, self.peers), Some(why));
                 self.go(PoolStage::Waiting, words);
             }
             PoolHappened::Left(how) => self.leave(links, terms, how),
-            PoolHappened::Met(fault) => self.meet(terms.goes_on, fault),
+            PoolHappened::Met(fault, reason) => self.meet(terms.goes_on, fault, reason),
             _ => self.hear_last(links, terms, happened),
         }
     }
 
-    /// A link that goes on has met this fault.
-    fn meet(&mut self, is_kept: bool, fault: Fault)
-        ensures { self.new ≡ meets is_kept self.old fault }
+    /// A link that goes on has met this fault, for this reason.
+    fn meet(&mut self, is_kept: bool, fault: Fault, reason: Option<Notice>)
+        ensures { self.new ≡ meets is_kept self.old fault reason }
     {
         self.words = silence();
         if is_kept {
+            self.words.reason = reason;
             self.words.fault = Some(fault);
             self.has_faulted = true;
         } else {
@@ -325,7 +345,7 @@ impl Pool {
         ensures { self.new ≡ left links terms.now self.old how }
     {
         self.running = self.running.saturating_sub(1);
-        self.heed(terms, leaving(links, terms.goes_on), how);
+        self.heed(terms, leaving(links, terms.goes_on), None, how);
         self.settle(terms);
     }
 
@@ -344,17 +364,18 @@ impl Pool {
     fn hear_last_user(&mut self, terms: &Terms, happened: PoolHappened)
         ensures { self.new ≡ after_users terms.now self.old happened }
     {
-        let mut words = silence();
         let mut failed = clean();
         failed.accept_failed = true;
         match happened {
-            PoolHappened::AllCame => self.words = words,
-            PoolHappened::NoLinks => self.heed(terms, words, lost_links(terms.users.count)),
-            PoolHappened::NobodyComes(why) => {
-                words.first = refusal(Named::Listen, why);
-                self.heed(terms, words, failed);
+            PoolHappened::AllCame => self.words = silence(),
+            PoolHappened::NoLinks => {
+                self.heed(terms, silence(), None, lost_links(terms.users.count));
             }
-            _ => self.heed(terms, words, failed),
+            PoolHappened::NobodyComes(why) => {
+                failed.accept_reason = why;
+                self.heed(terms, silence(), None, failed);
+            }
+            _ => self.heed(terms, silence(), None, failed),
         }
         self.shut(true, terms);
     }
@@ -363,11 +384,12 @@ impl Pool {
     fn hear_last_peer(&mut self, terms: &Terms, happened: PoolHappened)
         ensures { self.new ≡ after_peers terms.now self.old happened }
     {
-        self.words = silence();
-        if let PoolHappened::NobodyComes(why) = happened {
-            self.words.first = refusal(Named::Bind, why);
+        match happened {
+            PoolHappened::NobodyComes(why) => {
+                self.shut_for(terms, refusal(Named::Bind(self.peers), why));
+            }
+            _ => self.shut_for(terms, None),
         }
-        self.shut(false, terms);
     }
 
     /// The user is with a link, or there was no memory for that.
@@ -378,7 +400,7 @@ impl Pool {
             PoolHappened::LackedMemory => {
                 let mut lacked = clean();
                 lacked.lacked_memory = true;
-                self.heed(terms, silence(), lacked);
+                self.heed(terms, silence(), None, lacked);
                 self.stage = PoolStage::Waiting;
             }
             _ => self.go(PoolStage::Waiting, silence()),
@@ -404,7 +426,9 @@ fn clean() -> SessionEnd
 {
     SessionEnd {
         accept_failed: false,
+        accept_reason: None,
         broken: None,
+        peer: None,
         lacked_memory: false,
         is_unwatched: false,
         has_lasted: false,
@@ -421,13 +445,29 @@ fn first_rule(rule: Option<u8>, other: Option<u8>) -> Option<u8>
     }
 }
 
+/// The first notice.
+fn first_notice(one: Option<Notice>, other: Option<Notice>) -> Option<Notice>
+    ensures { result ≡ first_notice one other }
+{
+    match one {
+        Some(notice) => Some(notice),
+        None => other,
+    }
+}
+
 /// What went wrong here, or there.
 fn both(a: SessionEnd, b: SessionEnd) -> SessionEnd
     ensures { result ≡ both a b }
 {
     SessionEnd {
         accept_failed: a.accept_failed || b.accept_failed,
+        accept_reason: if a.accept_failed {
+            a.accept_reason
+        } else {
+            b.accept_reason
+        },
         broken: first_rule(a.broken, b.broken),
+        peer: if a.broken.is_some() { a.peer } else { b.peer },
         lacked_memory: a.lacked_memory || b.lacked_memory,
         is_unwatched: a.is_unwatched || b.is_unwatched,
         has_lasted: a.has_lasted || b.has_lasted,
@@ -515,6 +555,23 @@ fn ending_at(
     }
 }
 
+/// Why it ends there, if it ends: why no peers come in any more, or the reason of all.
+fn cause_at(
+    stage: PoolStage,
+    links: bool,
+    is_shut: bool,
+    why: Option<Notice>,
+    gathered: Option<Notice>,
+) -> Option<Notice>
+    ensures { result ≡ cause_at stage links is_shut why gathered }
+{
+    match stage {
+        PoolStage::Over if !links && is_shut => why,
+        PoolStage::Over => gathered,
+        _ => None,
+    }
+}
+
 // ---- what it asks for, and says
 
 /// Whether somebody may come in.
@@ -525,10 +582,14 @@ fn has_room(links: bool, running: u32, places: u32, is_shut: bool) -> bool
 }
 
 /// The option that says where it listens.
-fn opening(links: bool) -> Named
-    ensures { result ≡ opening links }
+fn opening(links: bool, terms: &Terms, peers: SocketAddrV4) -> Named
+    ensures { result ≡ opening links terms.now peers }
 {
-    if links { Named::Listen } else { Named::Bind }
+    if links {
+        Named::Listen(terms.users.address)
+    } else {
+        Named::Bind(peers)
+    }
 }
 
 /// Nobody can come in where it listens.

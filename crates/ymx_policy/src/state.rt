@@ -8,8 +8,8 @@ use crate::plan::{Role, Terms};
 use crate::reason::Reason;
 use crate::table::{
     begins, begins_with_users, behind_call, behind_peers, behind_session, behind_user,
-    behind_users, came, cannot_meet, first_fault, gone_if, longer, opened, owes_gone, parting,
-    refusal, serving, silence, tells,
+    behind_users, came, cannot_meet, first_fault, first_reason, gone_if, longer, opened, owes_gone,
+    parting, refusal, serving, silence, tells,
 };
 use std::net::SocketAddrV4;
 
@@ -120,16 +120,17 @@ impl State {
         self.words = words;
     }
 
-    /// Says these two and this fault, and ends.
-    fn end(&mut self, first: Option<Notice>, second: Option<Notice>, fault: Fault)
-        ensures { self.new ≡ ends self.old first second fault }
+    /// Says this, and this fault with its reason, and ends.
+    fn end(&mut self, first: Option<Notice>, reason: Option<Notice>, fault: Fault)
+        ensures { self.new ≡ ends self.old first reason fault }
     {
         self.stage = Stage::Over;
         self.words = Words {
             first,
-            second,
+            reason,
             fault: Some(fault),
             last: None,
+            cause: None,
             ending: None,
         };
         self.has_faulted = true;
@@ -140,7 +141,11 @@ impl State {
         ensures { self.new ≡ no_users terms.now self.old gone why }
     {
         let fault = Fault::CannotListen(terms.users.address);
-        self.end(gone, refusal(Named::Listen, why), fault);
+        self.end(
+            gone,
+            refusal(Named::Listen(terms.users.address), why),
+            fault,
+        );
     }
 
     /// Nobody can be accepted where peers come in.
@@ -148,7 +153,7 @@ impl State {
         ensures { self.new ≡ no_peers self.old gone why }
     {
         let fault = Fault::CannotListen(self.peers);
-        self.end(gone, refusal(Named::Bind, why), fault);
+        self.end(gone, refusal(Named::Bind(self.peers), why), fault);
     }
 
     /// It listens for its peer, or can't.
@@ -192,7 +197,10 @@ impl State {
             Happened::PeerCame => {
                 self.go(behind_call(terms.role, self.has_users), came(terms.goes_on));
             }
-            Happened::Failed(why) => self.hear_no_call(terms, refusal(Named::Peer, why)),
+            Happened::Failed(why) => self.hear_no_call(
+                terms,
+                refusal(Named::Peer(terms.peer), why),
+            ),
             _ => self.hear_no_call(terms, None),
         }
     }
@@ -202,14 +210,14 @@ impl State {
         ensures { self.new ≡ after_no_call terms.now.role terms.now.goes_on terms.now.peer refused self.old }
     {
         if !terms.goes_on {
-            self.end(refused, None, Fault::CannotReach(terms.peer));
+            self.end(None, refused, Fault::CannotReach(terms.peer));
             return;
         }
         let mut words = silence();
         words.first = refused;
         match terms.role {
             Role::RemoteCalls => {
-                words.second = Some(Notice::Unreached(terms.peer));
+                words.last = Some(Notice::Unreached(terms.peer));
                 self.go(Stage::Pausing, words);
                 self.pause = longer(self.pause);
             }
@@ -271,8 +279,8 @@ impl State {
                 self.part(terms, None, Some(Fault::OutOfMemory), longer(self.pause));
             }
             Happened::Failed(why) => {
-                let refused = refusal(serving(terms.role), why);
-                self.part(terms, refused, Some(unmet), longer(self.pause));
+                let named = serving(terms.role, terms.users.address, self.peers);
+                self.part(terms, refusal(named, why), Some(unmet), longer(self.pause));
             }
             _ => self.part(terms, None, Some(unmet), longer(self.pause)),
         }
@@ -284,20 +292,21 @@ impl State {
     {
         let unmet = cannot_meet(terms.role, self.peers);
         let fault = first_fault(terms.users.address, unmet, how);
+        let reason = first_reason(terms.users.address, None, how);
         let pause = if how.has_lasted {
             0
         } else {
             longer(self.pause)
         };
-        self.part(terms, None, fault, pause);
+        self.part(terms, reason, fault, pause);
     }
 
-    /// Goes on behind a session with this fault, where this pause is due before the next call.
-    fn part(&mut self, terms: &Terms, refused: Option<Notice>, fault: Option<Fault>, pause: u64)
-        ensures { self.new ≡ parted terms.now self.old refused fault pause }
+    /// Goes on behind a session with this fault, for this reason, where this pause is due before the next call.
+    fn part(&mut self, terms: &Terms, reason: Option<Notice>, fault: Option<Fault>, pause: u64)
+        ensures { self.new ≡ parted terms.now self.old reason fault pause }
     {
         self.stage = behind_session(terms.role, terms.goes_on, pause);
-        self.words = parting(terms.role, terms.goes_on, refused, fault);
+        self.words = parting(terms.role, terms.goes_on, reason, fault);
         self.pause = pause;
         self.has_faulted = self.has_faulted || fault.is_some();
     }

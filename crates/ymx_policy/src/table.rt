@@ -1,7 +1,7 @@
 //! The tables that an end goes by: where it goes, what it says, and which fault it is.
 
 ghost use Rattle.std.specs.Prelude.{◌≡◌};
-ghost use Rattle.ymx_policy.specs.Table.{begins, begins_with_users, behind_peers, behind_users, behind_call, behind_session, behind_user, longer, silence, tells, refusal, opened, gone_if, owes_gone, came, parting, serving, cannot_meet, first_fault};
+ghost use Rattle.ymx_policy.specs.Table.{begins, begins_with_users, behind_peers, behind_users, behind_call, behind_session, behind_user, longer, silence, tells, refusal, broken_rule, opened, gone_if, owes_gone, came, parting, serving, cannot_meet, first_fault, first_reason};
 
 use crate::asks::{Fault, Named, Notice, SessionEnd, Words};
 use crate::plan::Role;
@@ -108,9 +108,10 @@ pub(crate) fn silence() -> Words
 {
     Words {
         first: None,
-        second: None,
+        reason: None,
         fault: None,
         last: None,
+        cause: None,
         ending: None,
     }
 }
@@ -121,9 +122,10 @@ pub(crate) fn tells(notice: Notice) -> Words
 {
     Words {
         first: Some(notice),
-        second: None,
+        reason: None,
         fault: None,
         last: None,
+        cause: None,
         ending: None,
     }
 }
@@ -134,6 +136,16 @@ pub(crate) fn refusal(named: Named, why: Option<Reason>) -> Option<Notice>
 {
     match why {
         Some(reason) => Some(Notice::Refused(named, reason)),
+        None => None,
+    }
+}
+
+/// That this rule was broken, if one was, in a session with the peer at this address.
+pub(crate) fn broken_rule(rule: Option<u8>, peer: Option<SocketAddrV4>) -> Option<Notice>
+    ensures { result ≡ broken_rule rule peer }
+{
+    match rule {
+        Some(rule) => Some(Notice::Broke(rule, peer)),
         None => None,
     }
 }
@@ -177,28 +189,26 @@ pub(crate) fn came(is_kept: bool) -> Words
     }
 }
 
-/// What it says behind a session with this fault.
+/// What it says behind a session with this fault, for this reason.
 pub(crate) fn parting(
     role: Role,
     is_kept: bool,
-    refused: Option<Notice>,
+    reason: Option<Notice>,
     fault: Option<Fault>,
 ) -> Words
-    ensures { result ≡ parting role is_kept refused fault }
+    ensures { result ≡ parting role is_kept reason fault }
 {
     let mut words = Words {
-        first: refused,
-        second: None,
+        first: None,
+        reason,
         fault,
         last: None,
+        cause: None,
         ending: None,
     };
     if is_kept {
         match role {
-            Role::LocalCalls | Role::Link => {
-                words.first = Some(Notice::PeerGone);
-                words.second = refused;
-            }
+            Role::LocalCalls | Role::Link => words.first = Some(Notice::PeerGone),
             Role::RemoteCalls => words.last = Some(Notice::PeerGone),
             Role::LocalAwaits | Role::RemoteAwaits => {}
         }
@@ -209,13 +219,13 @@ pub(crate) fn parting(
 // ---- which fault it is
 
 /// The option that is named where the poll of a session can't be had.
-pub(crate) fn serving(role: Role) -> Named
-    ensures { result ≡ serving role }
+pub(crate) fn serving(role: Role, users: SocketAddrV4, peers: SocketAddrV4) -> Named
+    ensures { result ≡ serving role users peers }
 {
     match role {
-        Role::RemoteCalls => Named::Peer,
-        Role::RemoteAwaits => Named::Bind,
-        Role::LocalCalls | Role::LocalAwaits | Role::Link => Named::Listen,
+        Role::RemoteCalls => Named::Peer(peers),
+        Role::RemoteAwaits => Named::Bind(peers),
+        Role::LocalCalls | Role::LocalAwaits | Role::Link => Named::Listen(users),
     }
 }
 
@@ -246,4 +256,26 @@ pub(crate) fn first_fault(users: SocketAddrV4, unmet: Fault, how: SessionEnd) ->
         return Some(unmet);
     }
     None
+}
+
+/// The reason of that fault, where one is known: why the accept failed, which rule was broken, and from where, or why the
+/// peer can't be watched.
+pub(crate) fn first_reason(
+    users: SocketAddrV4,
+    unwatched: Option<Notice>,
+    how: SessionEnd,
+) -> Option<Notice>
+    ensures { result ≡ first_reason users unwatched how }
+{
+    if how.accept_failed {
+        return refusal(Named::Listen(users), how.accept_reason);
+    }
+    if how.broken.is_some() {
+        return broken_rule(how.broken, how.peer);
+    }
+    if how.is_unwatched && !how.lacked_memory {
+        unwatched
+    } else {
+        None
+    }
 }

@@ -4,16 +4,17 @@ ghost use Rattle.std.specs.Prelude.{ℕ, ◌≡◌, ◌+◌, ◌≤◌, ◌++◌
 ghost use Rattle.std.specs.Fmt.{signed_decimal};
 ghost use Rattle.std.specs.Net.Text.{socket_v4_text};
 ghost use Rattle.arrayvec.specs.ArrayString.{array_string_len};
-ghost use Rattle.ymx_policy.specs.Texts.{fault_text, notice_text, option_text, reason_text};
+ghost use Rattle.ymx_policy.specs.Texts.{fault_text, notice_text, option_text, reason_text, source_text};
 
 use crate::asks::{Fault, Named, Notice};
 use crate::reason::Reason;
+use crate::rules::rule_words;
 use arrayvec::ArrayString;
 use itoa::Buffer;
 use std::net::SocketAddrV4;
 
 /// Room for the longest text, in bytes, and more.
-const ROOM: usize = 320;
+const ROOM: usize = 400;
 
 /// The text of a fault or a notice.
 pub type Text = ArrayString<ROOM>;
@@ -60,34 +61,61 @@ pub fn notice_text(notice: Notice) -> Text
         }
         Notice::Refused(option, reason) => {
             text.push_str("ymx: ");
-            text.push_str(option.text());
+            push_option(&mut text, option);
             text.push_str(": ");
             push_reason(&mut text, reason);
+        }
+        Notice::Broke(rule, peer) => {
+            text.push_str("ymx: B");
+            push_number(&mut text, rule as u64);
+            push_source(&mut text, peer);
+            text.push_str(": ");
+            text.push_str(rule_words(rule));
         }
     }
     text.push_str("\n");
     text
 }
 
-impl Named {
-    /// How it is written.
-    fn text(self) -> &'static str
-        ensures text { result.now ≡ option_text self }
-        ensures short { length result.now ≤ 8 }
-    {
-        match self {
-            Named::Listen => "--listen",
-            Named::Peer => "--peer",
-            Named::Bind => "--bind",
-            Named::Peers => "--peers",
-            Named::Links => "--links",
+/// Adds an option as it is written, with its address.
+fn push_option(text: &mut Text, option: Named)
+    requires { array_string_len text.old ≤ 5 }
+    ensures added { text.new.bytes ≡ text.old.bytes ++ option_text option }
+    ensures short { array_string_len text.new ≤ array_string_len text.old + 229 }
+{
+    match option {
+        Named::Listen(address) => {
+            text.push_str("--listen ");
+            push_address(text, address);
         }
+        Named::Peer(address) => {
+            text.push_str("--peer ");
+            push_address(text, address);
+        }
+        Named::Bind(address) => {
+            text.push_str("--bind ");
+            push_address(text, address);
+        }
+        Named::Peers => text.push_str("--peers"),
+        Named::Links => text.push_str("--links"),
+    }
+}
+
+/// Adds from where it came, if that is known.
+fn push_source(text: &mut Text, peer: Option<SocketAddrV4>)
+    requires { array_string_len text.old ≤ 50 }
+    ensures added { text.new.bytes ≡ text.old.bytes ++ source_text peer }
+    ensures short { array_string_len text.new ≤ array_string_len text.old + 226 }
+{
+    if let Some(address) = peer {
+        text.push_str(" from ");
+        push_address(text, address);
     }
 }
 
 /// Adds the words for this reason of the system.
 fn push_reason(text: &mut Text, reason: Reason)
-    requires { array_string_len text.old ≤ 20 }
+    requires { array_string_len text.old ≤ 240 }
     ensures added { text.new.bytes ≡ text.old.bytes ++ reason_text reason }
     ensures short { array_string_len text.new ≤ array_string_len text.old + 60 }
 {
@@ -101,7 +129,7 @@ fn push_reason(text: &mut Text, reason: Reason)
 
 /// Adds an address.
 fn push_address(text: &mut Text, address: SocketAddrV4)
-    requires { array_string_len text.old ≤ 40 }
+    requires { array_string_len text.old ≤ 60 }
     ensures added { text.new.bytes ≡ text.old.bytes ++ socket_v4_text address }
     ensures short { array_string_len text.new ≤ array_string_len text.old + 220 }
 {

@@ -1,6 +1,6 @@
 //! What an end needs of the world: who does what it asks for, and where faults and notices are told.
 
-ghost use Rattle.std.specs.Prelude.{ℕ, List, [], ◌∷◌, Option};
+ghost use Rattle.std.specs.Prelude.{ℕ, List, [], ◌≡◌, ◌∷◌, Option};
 ghost use Rattle.ymx_policy.specs.Past.{Adds};
 ghost use Rattle.ymx_policy.specs.Voices.{IsSaid};
 ghost use Rattle.ymx_policy.specs.Texts.{fault_text, notice_text};
@@ -11,14 +11,21 @@ ghost use Rattle.ymx_policy.specs.declared.asks.PoolHappened.{PoolHappened as Po
 
 use crate::asks::{Deed, Fault, Happened, Notice, PoolDeed, PoolHappened};
 
-/// Where notices are told.
-pub trait Lines {
+/// How notices are told on a device.
+pub trait Lines<T> {
     /// The texts that were told, the newest first, if it can tell.
-    ghost told: { Self → Option (List (List ℕ)) };
+    ghost told: { T → Option (List (List ℕ)) };
 
-    /// Tells this.
-    fn tell(&mut self, notice: Notice)
-        ensures { Adds (notice_text notice ∷ []) (told self.old) (told self.new) };
+    /// The bytes that the device has taken so far, if it can tell.
+    ghost contents: { T → Option (List ℕ) };
+
+    /// How many calls of the device have failed.
+    ghost failures: { T → ℕ };
+
+    /// Tells this on the device, or a beginning of its text where the device fails.
+    fn tell(lines: &mut T, notice: Notice)
+        ensures told { Adds (notice_text notice ∷ []) (told lines.old) (told lines.new) }
+        ensures written { IsSaid (contents lines.old) (contents lines.new) (failures lines.old) (failures lines.new) (notice_text notice) };
 }
 
 /// How faults are said on a device.
@@ -35,7 +42,7 @@ pub trait Errors<D> {
 }
 
 /// Who does what an end asks for. It may tell lines of its own where notices are told, as of connections that have ended.
-pub trait World<L: Lines> {
+pub trait World<T, L: Lines<T>> {
     /// What it was asked for and what happened then, the newest first, if it can tell.
     ghost log: { Self → Option (List (Asked × Heard)) };
 
@@ -43,15 +50,16 @@ pub trait World<L: Lines> {
     ghost may: { Self → Type 0 };
 
     /// Does this, and answers what happened. It tells no notice.
-    fn perform(&mut self, deed: Deed, lines: &mut L) -> Happened
+    fn perform(&mut self, deed: Deed, lines: &mut T) -> Happened
         requires { may self.old }
         ensures may { may self.new }
         ensures logged { Adds ((deed, result) ∷ []) (log self.old) (log self.new) }
-        ensures untold { Adds [] (L.told lines.old) (L.told lines.new) };
+        ensures untold { Adds [] (L.told lines.old) (L.told lines.new) }
+        ensures unwritten { (L.contents lines.new ≡ L.contents lines.old) × (L.failures lines.new ≡ L.failures lines.old) };
 }
 
 /// Who does what a pool asks for, as a [`World`] does for an end.
-pub trait PoolWorld<L: Lines> {
+pub trait PoolWorld<T, L: Lines<T>> {
     /// What it was asked for and what happened then, the newest first, if it can tell.
     ghost log: { Self → Option (List (PoolAsked × PoolHeard)) };
 
@@ -59,9 +67,10 @@ pub trait PoolWorld<L: Lines> {
     ghost may: { Self → Type 0 };
 
     /// Does this, and answers what happened. It tells no notice.
-    fn perform(&mut self, deed: PoolDeed, lines: &mut L) -> PoolHappened
+    fn perform(&mut self, deed: PoolDeed, lines: &mut T) -> PoolHappened
         requires { may self.old }
         ensures may { may self.new }
         ensures logged { Adds ((deed, result) ∷ []) (log self.old) (log self.new) }
-        ensures untold { Adds [] (L.told lines.old) (L.told lines.new) };
+        ensures untold { Adds [] (L.told lines.old) (L.told lines.new) }
+        ensures unwritten { (L.contents lines.new ≡ L.contents lines.old) × (L.failures lines.new ≡ L.failures lines.old) };
 }

@@ -9,4 +9,4 @@ pub returns-in-Err : goal.returns-in-Err
 returns-in-Err c =
     let text = c.in-Some.text.now in
     let is : Some text ≡ first_value (found_of c.args.found.now) c.args.name.now = search rules in
-    subst (λ given. (text ≡ unwrap_or given []) × ((address : SocketAddrV4) → IsAddressOf given address → ⊥)) is (refl, c.in-Err.ensures.value)
+    subst (λ given. (c.args.name.now ≡ c.args.name.now) × (text ≡ unwrap_or given []) × ((address : SocketAddrV4) → IsAddressOf given address → ⊥)) is (refl, refl, c.in-Err.ensures.value)

@@ -27,7 +27,8 @@ returns-in-remote-clause-options c = λ bad.
       | inr (inl h) ↦ c.remote_options.ensures.workers (subst (IsBad 1 1024) (sym (first_value-rows found (codes "workers"))) h)
       | inr (inr (inl h)) ↦ c.remote_options.ensures.ping (subst (IsBad 1 3600) (sym (first_value-rows found (codes "ping"))) h)
       | inr (inr (inr (inl h))) ↦ c.remote_options.ensures.peers (subst (IsBad 1 256) (sym (first_value-rows found (codes "peers"))) h)
-      | inr (inr (inr (inr h))) ↦ c.remote_options.ensures.peer (rw (first_value-rows found (codes "peer"), first_value-rows found (codes "bind")) h)
+      | inr (inr (inr (inr (inl h)))) ↦ c.remote_options.ensures.peer (rw (first_value-rows found (codes "peer"), first_value-rows found (codes "bind")) h)
+      | inr (inr (inr (inr (inr h)))) ↦ c.remote_options.ensures.called (rw (first_value-rows found (codes "peers"), first_value-rows found (codes "peer")) h)
     ]
 
 pub returns-in-local-clause-told : goal.returns-in-local-clause-told

@@ -10,6 +10,6 @@ invariant-loop g l = record {
   terms : l.terms ≡ terms_of l.fn.plan;
   may : g.W.World.may l.world;
   came : HasCome l.terms l.state
-      (record { log = g.W.World.log l.fn.world; told = g.L.Lines.told l.fn.lines; taken = g.E.Errors.contents l.fn.errors; failures = g.E.Errors.failures l.fn.errors })
-      (record { log = g.W.World.log l.world; told = g.L.Lines.told l.lines; taken = g.E.Errors.contents l.errors; failures = g.E.Errors.failures l.errors });
+      (record { log = g.W.World.log l.fn.world; told = g.L.Lines.told l.fn.lines; taken = g.E.Errors.contents l.fn.errors; failures = g.E.Errors.failures l.fn.errors; lines = g.L.Lines.contents l.fn.lines; line_failures = g.L.Lines.failures l.fn.lines })
+      (record { log = g.W.World.log l.world; told = g.L.Lines.told l.lines; taken = g.E.Errors.contents l.errors; failures = g.E.Errors.failures l.errors; lines = g.L.Lines.contents l.lines; line_failures = g.L.Lines.failures l.lines });
 }
