@@ -3,6 +3,10 @@
  * role they ask nothing: all but 0 is a server to them, so ymx_new refuses here what is no role. */
 #include "ymx.h"
 
+#ifdef __GLIBC__
+#include <malloc.h>
+#endif
+
 /* Two rather than one, so that YMX_VERSION_MAJOR is replaced by its number before it is made a text. */
 #define TEXT_OF(number) #number
 #define TEXT(number) TEXT_OF(number)
@@ -38,6 +42,11 @@ int64_t ymx_core_unsent_total(ymx_session *session);
 int64_t ymx_core_is_acknowledged(ymx_session *session, uint32_t id);
 int64_t ymx_core_is_reset(ymx_session *session, uint32_t id);
 int64_t ymx_core_streams(ymx_session *session, uint32_t *ids, size_t len);
+int64_t ymx_core_opens_left(ymx_session *session);
+int64_t ymx_core_is_peer_away(ymx_session *session);
+int64_t ymx_core_unread_count(ymx_session *session, uint32_t id);
+int64_t ymx_core_shrink(ymx_session *session, uint32_t id);
+int64_t ymx_core_shrink_spare(ymx_session *session);
 int64_t ymx_core_release(ymx_session *session, uint32_t id);
 int64_t ymx_core_write_through(ymx_session *session, uint32_t id, const void *bytes, size_t len, void *buffer,
                                size_t size);
@@ -176,6 +185,40 @@ int64_t ymx_is_acknowledged(const ymx_session *session, uint32_t id) {
 
 int64_t ymx_is_reset(const ymx_session *session, uint32_t id) {
     return session == NULL ? YMX_E_NULL : ymx_core_is_reset((ymx_session *)session, id);
+}
+
+int64_t ymx_opens_left(const ymx_session *session) {
+    return session == NULL ? YMX_E_NULL : ymx_core_opens_left((ymx_session *)session);
+}
+
+int64_t ymx_is_peer_away(const ymx_session *session) {
+    return session == NULL ? YMX_E_NULL : ymx_core_is_peer_away((ymx_session *)session);
+}
+
+int64_t ymx_unread_count(const ymx_session *session, uint32_t id) {
+    return session == NULL ? YMX_E_NULL : ymx_core_unread_count((ymx_session *)session, id);
+}
+
+/* What was freed lies with malloc. glibc's may keep it, dirty as it is, for the next block that is asked for: this has the
+ * system take it. */
+static void hand_back(void) {
+#ifdef __GLIBC__
+    malloc_trim(0);
+#endif
+}
+
+int64_t ymx_shrink(ymx_session *session, uint32_t id) {
+    if (session == NULL) return YMX_E_NULL;
+    int64_t answer = ymx_core_shrink(session, id);
+    if (answer == 1) hand_back();
+    return answer;
+}
+
+int64_t ymx_shrink_spare(ymx_session *session) {
+    if (session == NULL) return YMX_E_NULL;
+    int64_t answer = ymx_core_shrink_spare(session);
+    hand_back();
+    return answer;
 }
 
 int64_t ymx_streams(const ymx_session *session, uint32_t *ids, size_t len) {

@@ -12,7 +12,8 @@
  * nothing of the library's own is ever written. No call belongs into a signal handler.
  *
  * Memory. Sessions come from malloc and go by free. Only ymx_new, ymx_touched_new, ymx_open, ymx_feed (for streams
- * that the peer opens) and a ymx_write beyond 262,144 unsent bytes of one stream take memory. Bytes and buffers belong
+ * that the peer opens) and a ymx_write beyond 262,144 unsent bytes of one stream take memory; ymx_shrink exchanges some,
+ * and gives some back. Bytes and buffers belong
  * to the caller: nothing else touches them during a call, and the session keeps no pointer to them. They may be NULL
  * where the length is 0. A length is at most PTRDIFF_MAX. What ymx_unread lends is the session's.
  */
@@ -190,6 +191,13 @@ YMX_API int64_t ymx_due(const ymx_session *session);
  * YMX_E_NO_MEMORY: the first that applies. */
 YMX_API int64_t ymx_open(ymx_session *session);
 
+/* How many streams may be opened now, one behind another, while nothing is fed, emitted or forgotten in between: at most
+ * YMX_MOST_OPENS_PENDING. At 0 a ymx_open is refused. Else it opens, if it finds memory, and one less is left. */
+YMX_API int64_t ymx_opens_left(const ymx_session *session);
+
+/* 1 where the peer takes no more streams, and has said so (go away); else 0. */
+YMX_API int64_t ymx_is_peer_away(const ymx_session *session);
+
 /* Takes the stream of the peer's that came first, and answers its id, or 0 where none waits.
  *
  * Refused with YMX_E_CLOSED, and YMX_E_LOST once none waits. */
@@ -263,6 +271,10 @@ YMX_API int64_t ymx_streams(const ymx_session *session, uint32_t *ids, size_t le
  * are not given to a call on it. With `bytes` NULL it answers YMX_E_NULL. */
 YMX_API int64_t ymx_unread(const ymx_session *session, uint32_t id, const void **bytes);
 
+/* How many bytes wait to be read on a stream, at most 4,294,967,295: those that ymx_unread lends and those behind them. 0
+ * where a ymx_read would be refused with any error but YMX_E_LOST. */
+YMX_API int64_t ymx_unread_count(const ymx_session *session, uint32_t id);
+
 /* Takes out the first `count` bytes that wait on a stream, or as many as are there: a ymx_read of bytes that the caller
  * has seen by ymx_unread. The peer gets credit for them. Answers 0, also at the end; YMX_WAIT where `count` is above 0
  * and nothing is there yet.
@@ -300,6 +312,20 @@ YMX_API int64_t ymx_forget(ymx_session *session, uint32_t id);
  *
  * Refused with YMX_E_CLOSED, YMX_E_NO_STREAM. */
 YMX_API int64_t ymx_release(ymx_session *session, uint32_t id);
+
+/* ---- memory */
+
+/* Gives memory of a stream back that it doesn't need now: 1 where it did; 0 where there was none to give, or none for a
+ * fresh buffer. What was once used of a stream's two buffers stays in use until it ends, 524,288 bytes or more. So a host
+ * of many streams calls this of one that is to be quiet for long. What is unread or unsent of it stays.
+ *
+ * Refused with YMX_E_CLOSED, YMX_E_NO_STREAM, YMX_E_RESET. */
+YMX_API int64_t ymx_shrink(ymx_session *session, uint32_t id);
+
+/* Gives memory of the session back that is no stream's, where it did 1, else 0: buffers that are kept for streams to come,
+ * and what is in use of those with which streams take turns, at most 48 in all. With glibc, memory that was freed before
+ * goes to the system too. A host calls it of a session that is to be quiet for long, or has no more streams. */
+YMX_API int64_t ymx_shrink_spare(ymx_session *session);
 
 /* ---- the session as a whole */
 

@@ -190,6 +190,14 @@ func (core core) reset(id uint32) int64  { return int64(C.ymx_reset(core.c.sessi
 // forget renews isDue.
 func (core core) forget(id uint32) { C.core_forget(core.c, C.uint32_t(id)) }
 
+// shrink gives memory of a stream back that it doesn't need now, and if `all` what the session keeps beside its streams.
+func (core core) shrink(id uint32, all bool) {
+	C.ymx_shrink(core.c.session, C.uint32_t(id))
+	if all {
+		C.ymx_shrink_spare(core.c.session)
+	}
+}
+
 // take appends the bytes that wait on a stream to some, by at most `most` bytes. They are copied from where they lie.
 func (core core) take(id uint32, some []byte, most int) []byte {
 	for most > 0 {

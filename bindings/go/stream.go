@@ -68,8 +68,16 @@ func (st *Stream) Session() *Session { return st.session }
 // StreamID gives the stream's number on the wire.
 func (st *Stream) StreamID() uint32 { return st.id }
 
-// Shrink does nothing. It is here for programs that call it: the library keeps a stream's memory until its end.
-func (st *Stream) Shrink() {}
+// Shrink gives memory back that the stream doesn't need now, as a pool of connections wants of a stream that is idle. Of a
+// session's only stream that is what the session keeps beside it, too. What waits to be read stays.
+func (st *Stream) Shrink() {
+	s := st.session
+	s.lock.Lock()
+	defer s.lock.Unlock()
+	if st.end == nil && !s.over {
+		s.core.shrink(st.id, len(s.streams) == 1)
+	}
+}
 
 // ---- reading
 

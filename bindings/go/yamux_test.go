@@ -1039,6 +1039,33 @@ func TestAnIdleSessionIsSmall(t *testing.T) {
 	runtime.KeepAlive(all)
 }
 
+// A stream that has carried much gives the memory back, and loses none of its bytes.
+func TestShrinkGivesMemoryBack(t *testing.T) {
+	client, server := overTCP(t, quiet())
+	near, far := pair(t, client, server)
+	text := bytes.Repeat([]byte("0123456789abcdef"), leastWindow/16)
+	for round := 0; round < 3; round++ {
+		_, err := near.Write(text)
+		good(t, err)
+		half := make([]byte, leastWindow/2)
+		_, err = io.ReadFull(far, half)
+		good(t, err)
+		near.Shrink()
+		far.Shrink()
+		rest := make([]byte, leastWindow/2)
+		_, err = io.ReadFull(far, rest)
+		good(t, err)
+		if !bytes.Equal(append(half, rest...), text) {
+			t.Fatal("other bytes")
+		}
+		far.Shrink()
+	}
+	good(t, near.Close())
+	near.Shrink()
+	good(t, client.Close())
+	far.Shrink()
+}
+
 func TestConfigsAreVerified(t *testing.T) {
 	for _, spoil := range []func(*Config){
 		func(config *Config) { config.AcceptBacklog = 0 },

@@ -78,7 +78,36 @@ static int exchange(void) {
     return refusals;
 }
 
+/* A stream that is shrunk without memory for a fresh buffer keeps the one that it has, and its bytes. */
+static void shrinks(void) {
+    static unsigned char text[YMX_LEAST_WINDOW], wire[2 * YMX_LEAST_WINDOW], in[YMX_LEAST_WINDOW];
+    int refusals = 0;
+    ymx_session *client = make(YMX_CLIENT, &refusals), *server = make(YMX_SERVER, &refusals);
+    for (size_t i = 0; i < sizeof text; i++) text[i] = (unsigned char)(i % 251);
+    CHECK(ymx_open(client) == 1 && ymx_write(client, 1, text, sizeof text) == (int64_t)sizeof text);
+    for (int i = 0; i < 2; i++) {
+        asked = 0;
+        refused = i == 0 ? 0 : -1;
+        CHECK(ymx_shrink(client, 1) == i && asked == 1 && ymx_unsent(client, 1) == (int64_t)sizeof text);
+        refused = -1;
+    }
+    int64_t count = ymx_emit(client, wire, sizeof wire);
+    CHECK(ymx_feed(server, wire, (size_t)count) == count && ymx_accept(server) == 1);
+    for (int i = 0; i < 2; i++) {
+        asked = 0;
+        refused = i == 0 ? 0 : -1;
+        CHECK(ymx_shrink(server, 1) == i && ymx_unread_count(server, 1) == (int64_t)sizeof text);
+        refused = -1;
+    }
+    CHECK(ymx_read(server, 1, in, sizeof in) == (int64_t)sizeof in && memcmp(in, text, sizeof text) == 0);
+    ymx_free(client);
+    ymx_free(server);
+    CHECK(held == 0);
+}
+
 int main(void) {
+    shrinks();
+    asked = bytes = 0;
     CHECK(exchange() == 0);
     long all = asked, most = bytes, unsaid = 0;
     for (refused = 0; refused < all; refused++) {

@@ -2,7 +2,7 @@
 # Tries libymx as a C program gets it: ymx.h in C99 and C++11 without a warning, the libraries' names and their versions,
 # any flags, the way back from each instruction, each constant against the proved crate's, what ymx.h says in words, NULL
 # everywhere, bytes in pieces, touched streams and lent bytes, streams that are released, bytes without copies, each
-# allocation refused, every byte over a socketpair under the sanitizers, the manual, what is installed and found by
+# allocation refused, how much memory stays in use, every byte over a socketpair under the sanitizers, the manual, what is installed and found by
 # pkg-config and CMake, and a copy of the repository that builds it from the release with no toolchain but C's. It ends
 # with a line that says the count.
 # c/build.sh says what it is built from.
@@ -76,7 +76,7 @@ only_libc() {
     echo libc.so.6 | diff - needs
     nm -D --undefined-only "$library/libymx.so" | sed 's/^ *[Uw] //; s/@.*//' | grep -v '^_' | sort > asks
     cat asks
-    ! grep -qvE '^(malloc|realloc|free|memcpy|memmove|memset|memcmp)$' asks
+    ! grep -qvE '^(malloc|realloc|free|malloc_trim|memcpy|memmove|memset|memcmp)$' asks
 }
 
 # A way back to the caller from each function, and from each instruction that calls go through.
@@ -129,6 +129,7 @@ is "touched streams, lent bytes, room and the end" built_and_run touched "$here/
 is "what is asked of streams, and streams that are released" built_and_run streams "$here/streams.c" -O1 -fsanitize=address,undefined -fno-sanitize-recover=all
 is "bytes without copies" built_and_run through "$here/through.c" -O1 -fsanitize=address,undefined -fno-sanitize-recover=all
 is "each allocation refused" built_and_run refused_memory "$here/refused_memory.c" -Wl,--wrap=malloc,--wrap=realloc,--wrap=free
+is "how much memory stays in use" built_and_run memory "$here/memory.c"
 is "every byte over a socketpair, with no leak" built_and_run pair "$root/examples/c/pair.c" -O1 -fsanitize=address,undefined -fno-sanitize-recover=all
 is "the echo server" in_c echo_server "$root/examples/c/echo_server.c"
 is "the manual shows what ymx.h declares" same_manual

@@ -56,7 +56,8 @@ static void asks(void) {
     /* three bytes and the end: it has arrived, and isn't read yet */
     comes(s, DATA, FIN, 1, 3);
     CHECK(ymx_has_ended(s, 1) == 0 && ymx_feed(s, "abc", 3) == 3 && ymx_has_ended(s, 1) == 1 && ymx_is_at_end(s, 1) == 0);
-    CHECK(ymx_read(s, 1, bytes, 8) == 3 && ymx_is_at_end(s, 1) == 1 && ymx_has_ended(s, 1) == 1);
+    CHECK(ymx_unread_count(s, 1) == 3 && ymx_unread_count(s, 3) == 0 && ymx_shrink(s, 1) == 0 && ymx_shrink(s, 3) == YMX_E_NO_STREAM);
+    CHECK(ymx_read(s, 1, bytes, 8) == 3 && ymx_is_at_end(s, 1) == 1 && ymx_has_ended(s, 1) == 1 && ymx_unread_count(s, 1) == 0);
     /* a reset of the peer's, and one of ours */
     CHECK(ymx_open(s) == 3 && ymx_open(s) == 5);
     goes(s, WINDOW, SYN, 3, 0);
@@ -65,6 +66,10 @@ static void asks(void) {
     CHECK(ymx_is_reset(s, 3) == 1 && ymx_is_reset(s, 5) == 0 && ymx_write(s, 3, "x", 1) == YMX_E_RESET);
     CHECK(ymx_reset(s, 5) == 0 && ymx_is_reset(s, 5) == 1 && ymx_forget(s, 5) == 0 && ymx_is_reset(s, 5) == 0);
     goes(s, WINDOW, RST, 5, 0);
+    /* the peer takes no more */
+    CHECK(ymx_opens_left(s) == YMX_MOST_OPENS_PENDING && ymx_is_peer_away(s) == 0);
+    comes(s, 3, 0, 0, 0);
+    CHECK(ymx_opens_left(s) == 0 && ymx_is_peer_away(s) == 1 && ymx_open(s) == YMX_E_PEER_AWAY);
     /* a lost session still says what came; a closed one has no streams to ask */
     CHECK(ymx_feed_end(s) == 0 && ymx_has_ended(s, 1) == 1 && ymx_is_reset(s, 3) == 1);
     CHECK(ymx_close(s) == 0 && ymx_has_ended(s, 1) == 0 && ymx_is_reset(s, 3) == 0 && ymx_is_acknowledged(s, 1) == 0);

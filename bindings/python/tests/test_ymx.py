@@ -40,6 +40,23 @@ class SessionAlone(unittest.TestCase):
         self.assertTrue(self.client.touched()[1])
         self.assertEqual((self.client.ponged(number), self.client.ponged(number)), (True, False))
 
+    def test_memory_goes_back_and_no_byte_of_it(self):
+        stream, text = self.client.open(), os.urandom(ymx.LEAST_WINDOW)
+        self.assertEqual(self.client.opens_left(), 255)
+        self.client.write(stream, text)
+        exchange(self.client, self.server)
+        self.server.accept()
+        self.assertEqual(self.server.unread_count(stream), ymx.LEAST_WINDOW)
+        self.assertTrue(self.client.shrink(stream) or self.client.shrink_spare())
+        self.assertTrue(self.server.shrink(stream) or self.server.shrink_spare())
+        read = b""
+        while data := self.server.read(stream):
+            read += data
+        self.assertEqual((read, self.server.unread_count(stream)), (text, 0))
+        self.server.go_away()
+        exchange(self.server, self.client)
+        self.assertEqual((self.client.is_peer_away(), self.client.opens_left(), self.server.is_peer_away()), (True, 0, False))
+
     def test_refusals_have_names(self):
         for name, call in (
             ("BAD_WINDOW", lambda: ymx.Session(ymx.CLIENT, 1)),

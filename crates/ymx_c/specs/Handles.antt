@@ -92,6 +92,16 @@ ListsStreams h n old new =
     let ids = held_ids h.releases h.session.table.entries in
     (n ≡ at_most (length ids)) × (new ≡ take (length old) ids ++ drop (length ids) old)
 
+-- ---- memory
+
+-- 1 where memory was given back, 0 where none was
+abbrev pub SaysGiven : ℤ → Type 0
+SaysGiven n = (given : Bool) × (n ≡ flag given)
+
+-- The same of a stream that the caller has; or the refusal that says why the caller has none.
+abbrev pub SaysGivenOf : (id : ℕ) → Handle → ℤ → Type 0
+SaysGivenOf id h n = MatchBool (is_released id h) (n ≡ no_stream h.session) (MatchOption (stream_fault id h.session) (SaysGiven n) (λ fault. n ≡ refusal fault))
+
 -- ---- streams that are released
 
 -- It is released, or it isn't, and nothing changes.

@@ -7,9 +7,10 @@ ghost use Rattle.ymx_machine.specs.declared.types.Call.TheVariants as call;
 ghost use Rattle.ymx_model.specs.session.Emissions.{is_ready};
 ghost use Rattle.ymx_session.specs.NewSessions.{new_fault, IsNewFault};
 ghost use Rattle.ymx_session.specs.Touched.{nothing_noted};
-ghost use Rattle.ymx_session.specs.Streams.{room_of, has_ended, unsent_of, unsent_total, is_acknowledged};
+ghost use Rattle.ymx_session.specs.Opens.{opens_left};
+ghost use Rattle.ymx_session.specs.Streams.{waiting, room_of, has_ended, unsent_of, unsent_total, is_acknowledged};
 ghost use Rattle.ymx_c.specs.Answers.{refusal, status_number, flag, role_of};
-ghost use Rattle.ymx_c.specs.Handles.{new_handle, AnswersIn, AnswersOf, FillsIn, FillsOf, ConsumesOf, told, at_most, at_most_total, ShowsOf, TellsEnd, TellsReset, ListsStreams, ReleasesOne, AnswersThenSettles, TouchesThenSettles, ToPayloadThenSettles, passing_of, TellsPassing, PassesSome, WritesOn};
+ghost use Rattle.ymx_c.specs.Handles.{new_handle, AnswersIn, AnswersOf, FillsIn, FillsOf, ConsumesOf, told, at_most, at_most_total, ShowsOf, TellsEnd, TellsReset, ListsStreams, SaysGiven, SaysGivenOf, ReleasesOne, AnswersThenSettles, TouchesThenSettles, ToPayloadThenSettles, passing_of, TellsPassing, PassesSome, WritesOn};
 ghost use Rattle.ymx_c.specs.NewAnswers.{new_refusal, config_of, IsMade, IsRefused, IsNoteMade, IsNoNote};
 ghost use Rattle.ymx_c.specs.Readiness.{CountsOffered, ListsIds, IsCleared, IsPlaced, number_limit};
 
@@ -179,6 +180,20 @@ pub(crate) fn offered_count(handle: &mut Handle) -> i64
     limited(handle.session.offered_count())
 }
 
+/// How many streams may be opened now.
+pub(crate) fn opens_left(handle: &mut Handle) -> i64
+    ensures { (result ≡ pos (opens_left handle.old.session)) × (handle.new ≡ handle.old) }
+{
+    number(handle.session.opens_left())
+}
+
+/// 1 where the peer is away, else 0.
+pub(crate) fn is_peer_away(handle: &mut Handle) -> i64
+    ensures { (result ≡ flag handle.old.session.away.there) × (handle.new ≡ handle.old) }
+{
+    flag(handle.session.is_peer_away())
+}
+
 // ---- calls on a stream
 
 /// How many bytes were taken, `WAIT`, or the refusal.
@@ -346,6 +361,16 @@ pub(crate) fn unsent_total(handle: &mut Handle) -> i64
     limited_total(handle.session.unsent_total())
 }
 
+/// How many bytes wait to be read.
+pub(crate) fn unread_count(handle: &mut Handle, id: u32) -> i64
+    ensures { (result ≡ told id handle.old (at_most (length (waiting id handle.old.session)))) × (handle.new ≡ handle.old) }
+{
+    if handle.is_released(id) {
+        return 0;
+    }
+    limited(handle.session.unread_count(id))
+}
+
 /// 1 where the peer has acknowledged it, else 0.
 pub(crate) fn is_acknowledged(handle: &mut Handle, id: u32) -> i64
     ensures { (result ≡ told id handle.old (flag (is_acknowledged id handle.old.session))) × (handle.new ≡ handle.old) }
@@ -371,6 +396,28 @@ pub(crate) fn streams(handle: &mut Handle, ids: &mut [u32]) -> i64
     ensures { ListsStreams handle.old result ids.old ids.new × (handle.new ≡ handle.old) }
 {
     limited(handle.releases.streams(&handle.session, ids))
+}
+
+// ---- memory
+
+/// 1 where memory of a stream was given back, 0 where none was, or the refusal.
+pub(crate) fn shrink(handle: &mut Handle, id: u32) -> i64
+    ensures { SaysGivenOf id handle.old result × (handle.new ≡ handle.old) }
+{
+    if handle.is_released(id) {
+        return handle.no_stream();
+    }
+    match handle.session.shrink(id) {
+        Ok(given) => flag(given),
+        Err(fault) => refusal(fault),
+    }
+}
+
+/// 1 where memory of no stream's was given back, else 0.
+pub(crate) fn shrink_spare(handle: &mut Handle) -> i64
+    ensures { SaysGiven result × (handle.new ≡ handle.old) }
+{
+    flag(handle.session.shrink_spare())
 }
 
 // ---- what comes and goes

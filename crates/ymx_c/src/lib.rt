@@ -11,13 +11,14 @@ mod face;
 mod handle;
 mod made;
 
-ghost use Rattle.std.specs.Prelude.{◌≡◌, ◌⊎◌, false, length};
+ghost use Rattle.std.specs.Prelude.{◌≡◌, ◌⊎◌, pos, false, length};
 ghost use Rattle.std.specs.Borrow.{full_share, sem};
 ghost use Rattle.std.specs.Ptr.{lies_at, room_at};
 ghost use Rattle.ymx_model.specs.declared.types.Event.TheVariants as event;
 ghost use Rattle.ymx_machine.specs.declared.types.Call.TheVariants as call;
 ghost use Rattle.ymx_model.specs.session.Emissions.{is_ready};
-ghost use Rattle.ymx_session.specs.Streams.{room_of, has_ended, unsent_of, unsent_total, is_acknowledged};
+ghost use Rattle.ymx_session.specs.Opens.{opens_left};
+ghost use Rattle.ymx_session.specs.Streams.{waiting, room_of, has_ended, unsent_of, unsent_total, is_acknowledged};
 ghost use Rattle.ymx_session.specs.Touched.{Noted, nothing_noted};
 ghost use Rattle.ymx_session.specs.contracts.touched.Touched.{the_row as touched_row};
 ghost use Rattle.ymx_c.specs.Answers.{status_number, flag};
@@ -25,7 +26,7 @@ ghost use Rattle.ymx_c.specs.contracts.handle.Handle.{the_row};
 ghost use Rattle.ymx_c.specs.declared.handle.Handle.{Handle as HandleValue};
 ghost use Rattle.ymx_c.specs.Handed.{handed};
 ghost use Rattle.ymx_c.specs.NewAnswers.{IsMade, IsRefused, IsNoteMade, IsNoNote};
-ghost use Rattle.ymx_c.specs.Handles.{new_handle, AnswersIn, AnswersOf, FillsIn, FillsOf, ConsumesOf, told, at_most, at_most_total, ShowsOf, TellsEnd, TellsReset, ListsStreams, ReleasesOne, AnswersThenSettles, TouchesThenSettles, ToPayloadThenSettles, TellsPassing, PassesSome, WritesOn};
+ghost use Rattle.ymx_c.specs.Handles.{new_handle, AnswersIn, AnswersOf, FillsIn, FillsOf, ConsumesOf, told, at_most, at_most_total, ShowsOf, TellsEnd, TellsReset, ListsStreams, SaysGiven, SaysGivenOf, ReleasesOne, AnswersThenSettles, TouchesThenSettles, ToPayloadThenSettles, TellsPassing, PassesSome, WritesOn};
 ghost use Rattle.ymx_c.specs.Readiness.{CountsOffered, ListsIds, IsCleared, IsPlaced};
 
 use crate::handle::Handle;
@@ -93,6 +94,26 @@ pub unsafe extern "C" fn ymx_core_offered_count(at: *mut u8) -> i64
     ensures* { ∃ₛ (λ (now : HandleValue). sem 𝓛 (lies_at the_row full_share at now) ∗ ⌜ CountsOffered old.session result × (now ≡ old) ⌝) }
 {
     face::offered_count(unsafe { &mut *(at as *mut Handle) })
+}
+
+/// How many streams may be opened now, one behind another: at most 256.
+#[unsafe(no_mangle)]
+pub unsafe extern "C" fn ymx_core_opens_left(at: *mut u8) -> i64
+    ghost old: { HandleValue }
+    requires* { sem 𝓛 (lies_at the_row full_share at old) }
+    ensures* { ∃ₛ (λ (now : HandleValue). sem 𝓛 (lies_at the_row full_share at now) ∗ ⌜ (result ≡ pos (opens_left old.session)) × (now ≡ old) ⌝) }
+{
+    face::opens_left(unsafe { &mut *(at as *mut Handle) })
+}
+
+/// Whether the peer has said Go Away (go away): 1, or 0.
+#[unsafe(no_mangle)]
+pub unsafe extern "C" fn ymx_core_is_peer_away(at: *mut u8) -> i64
+    ghost old: { HandleValue }
+    requires* { sem 𝓛 (lies_at the_row full_share at old) }
+    ensures* { ∃ₛ (λ (now : HandleValue). sem 𝓛 (lies_at the_row full_share at now) ∗ ⌜ (result ≡ flag old.session.away.there) × (now ≡ old) ⌝) }
+{
+    face::is_peer_away(unsafe { &mut *(at as *mut Handle) })
 }
 
 /// Asks the peer for a sign of life (ping): the number of the ping, or a refusal.
@@ -228,6 +249,16 @@ pub unsafe extern "C" fn ymx_core_unsent_total(at: *mut u8) -> i64
     face::unsent_total(unsafe { &mut *(at as *mut Handle) })
 }
 
+/// How many bytes wait to be read on a stream.
+#[unsafe(no_mangle)]
+pub unsafe extern "C" fn ymx_core_unread_count(at: *mut u8, id: u32) -> i64
+    ghost old: { HandleValue }
+    requires* { sem 𝓛 (lies_at the_row full_share at old) }
+    ensures* { ∃ₛ (λ (now : HandleValue). sem 𝓛 (lies_at the_row full_share at now) ∗ ⌜ (result ≡ told id old (at_most (length (waiting id old.session)))) × (now ≡ old) ⌝) }
+{
+    face::unread_count(unsafe { &mut *(at as *mut Handle) }, id)
+}
+
 /// Whether the peer has acknowledged a stream (flags): 1, or 0.
 #[unsafe(no_mangle)]
 pub unsafe extern "C" fn ymx_core_is_acknowledged(at: *mut u8, id: u32) -> i64
@@ -256,6 +287,26 @@ pub unsafe extern "C" fn ymx_core_streams(at: *mut u8, ids: &mut [u32]) -> i64
     ensures* { ∃ₛ (λ (now : HandleValue). sem 𝓛 (lies_at the_row full_share at now) ∗ ⌜ ListsStreams old result ids.old ids.new × (now ≡ old) ⌝) }
 {
     face::streams(unsafe { &mut *(at as *mut Handle) }, ids)
+}
+
+/// Gives memory of a stream back that it doesn't need: 1, 0 where there was none to give, or a refusal.
+#[unsafe(no_mangle)]
+pub unsafe extern "C" fn ymx_core_shrink(at: *mut u8, id: u32) -> i64
+    ghost old: { HandleValue }
+    requires* { sem 𝓛 (lies_at the_row full_share at old) }
+    ensures* { ∃ₛ (λ (now : HandleValue). sem 𝓛 (lies_at the_row full_share at now) ∗ ⌜ SaysGivenOf id old result × (now ≡ old) ⌝) }
+{
+    face::shrink(unsafe { &mut *(at as *mut Handle) }, id)
+}
+
+/// Gives the memory back that is kept for streams to come: 1, or 0 where there was none.
+#[unsafe(no_mangle)]
+pub unsafe extern "C" fn ymx_core_shrink_spare(at: *mut u8) -> i64
+    ghost old: { HandleValue }
+    requires* { sem 𝓛 (lies_at the_row full_share at old) }
+    ensures* { ∃ₛ (λ (now : HandleValue). sem 𝓛 (lies_at the_row full_share at now) ∗ ⌜ SaysGiven result × (now ≡ old) ⌝) }
+{
+    face::shrink_spare(unsafe { &mut *(at as *mut Handle) })
 }
 
 /// Half-closes a stream (half-close): 0, or a refusal.

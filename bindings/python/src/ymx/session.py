@@ -60,6 +60,14 @@ class Session:
         """Opens a stream, and returns its id."""
         return good(_library.open_(self._at))
 
+    def opens_left(self) -> int:
+        """How many streams may be opened now, one behind another: at 0 `open` is refused."""
+        return good(_library.opens_left(self._at))
+
+    def is_peer_away(self) -> bool:
+        """Whether the peer takes no more streams, and has said so."""
+        return bool(_library.is_peer_away(self._at) == 1)
+
     def accept(self) -> Optional[int]:
         """The id of a stream of the peer's, or None."""
         return good(_library.accept(self._at)) or None
@@ -87,6 +95,10 @@ class Session:
             return data
         answer = _library.read(self._at, stream, self._buffer, _BLOCK)
         return None if answer == WAIT else ctypes.string_at(self._buffer, good(answer))
+
+    def unread_count(self, stream: int) -> int:
+        """How many bytes wait to be read on a stream."""
+        return good(_library.unread_count(self._at, stream))
 
     def is_at_end(self, stream: int) -> bool:
         """Whether the peer has finished the stream, and all was read."""
@@ -132,6 +144,14 @@ class Session:
         """Lets a stream go so that what was written still arrives. What comes of it is dropped, and it is forgotten by
         itself once the peer's end is there."""
         good(_library.release(self._at, stream))
+
+    def shrink(self, stream: int) -> bool:
+        """Gives memory of a stream back that it doesn't need now, and says whether there was some."""
+        return good(_library.shrink(self._at, stream)) == 1
+
+    def shrink_spare(self) -> bool:
+        """Gives memory back that is kept for streams to come, and says whether there was some."""
+        return good(_library.shrink_spare(self._at)) == 1
 
     def ping(self) -> int:
         """Asks the peer for a sign of life, and returns the ping's number."""

@@ -82,6 +82,8 @@ extern "C" {
     pub fn ymx_due(session: *const ymx_session) -> i64;
     pub fn ymx_open(session: *mut ymx_session) -> i64;
     pub fn ymx_accept(session: *mut ymx_session) -> i64;
+    pub fn ymx_opens_left(session: *const ymx_session) -> i64;
+    pub fn ymx_is_peer_away(session: *const ymx_session) -> i64;
     pub fn ymx_offered_count(session: *const ymx_session) -> i64;
     pub fn ymx_write(session: *mut ymx_session, id: u32, bytes: *const c_void, len: usize) -> i64;
     pub fn ymx_read(session: *mut ymx_session, id: u32, buffer: *mut c_void, len: usize) -> i64;
@@ -94,11 +96,14 @@ extern "C" {
     pub fn ymx_is_reset(session: *const ymx_session, id: u32) -> i64;
     pub fn ymx_streams(session: *const ymx_session, ids: *mut u32, len: usize) -> i64;
     pub fn ymx_unread(session: *const ymx_session, id: u32, bytes: *mut *const c_void) -> i64;
+    pub fn ymx_unread_count(session: *const ymx_session, id: u32) -> i64;
     pub fn ymx_consume(session: *mut ymx_session, id: u32, count: usize) -> i64;
     pub fn ymx_finish(session: *mut ymx_session, id: u32) -> i64;
     pub fn ymx_reset(session: *mut ymx_session, id: u32) -> i64;
     pub fn ymx_forget(session: *mut ymx_session, id: u32) -> i64;
     pub fn ymx_release(session: *mut ymx_session, id: u32) -> i64;
+    pub fn ymx_shrink(session: *mut ymx_session, id: u32) -> i64;
+    pub fn ymx_shrink_spare(session: *mut ymx_session) -> i64;
     pub fn ymx_write_through(
         session: *mut ymx_session,
         id: u32,

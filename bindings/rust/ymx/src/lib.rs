@@ -241,6 +241,16 @@ impl Session {
         good(unsafe { ymx_open(self.0.as_ptr()) }).map(|id| id as u32)
     }
 
+    /// How many streams may be opened now, one behind another: at 0 `open` is refused.
+    pub fn opens_left(&self) -> usize {
+        good(unsafe { ymx_opens_left(self.0.as_ptr()) }).unwrap_or(0)
+    }
+
+    /// Whether the peer takes no more streams, and has said so.
+    pub fn is_peer_away(&self) -> bool {
+        unsafe { ymx_is_peer_away(self.0.as_ptr()) == 1 }
+    }
+
     /// The id of a stream of the peer's.
     pub fn accept(&mut self) -> Result<Option<u32>, Refused> {
         good(unsafe { ymx_accept(self.0.as_ptr()) }).map(|id| (id > 0).then_some(id as u32))
@@ -294,6 +304,11 @@ impl Session {
         }
     }
 
+    /// How many bytes wait on a stream: those that `unread` gives, and those behind them.
+    pub fn unread_count(&self, id: u32) -> usize {
+        good(unsafe { ymx_unread_count(self.0.as_ptr(), id) }).unwrap_or(0)
+    }
+
     /// Takes out the first `count` bytes that wait on a stream, or as many as are there.
     pub fn consume(&mut self, id: u32, count: usize) -> Result<(), Refused> {
         unless_wait(unsafe { ymx_consume(self.0.as_ptr(), id, count) }).map(drop)
@@ -331,6 +346,16 @@ impl Session {
         let mut ids = vec![0; count];
         unsafe { ymx_streams(self.0.as_ptr(), ids.as_mut_ptr(), ids.len()) };
         ids
+    }
+
+    /// Gives memory of a stream back that it doesn't need now, and says whether there was some.
+    pub fn shrink(&mut self, id: u32) -> Result<bool, Refused> {
+        good(unsafe { ymx_shrink(self.0.as_ptr(), id) }).map(|given| given == 1)
+    }
+
+    /// Gives memory back that is kept for streams to come, and says whether there was some.
+    pub fn shrink_spare(&mut self) -> bool {
+        unsafe { ymx_shrink_spare(self.0.as_ptr()) == 1 }
     }
 
     /// Half-closes a stream.

@@ -36,6 +36,31 @@ fn refusals_have_names() {
 }
 
 #[test]
+fn memory_goes_back_and_no_byte_of_it() {
+    let mut client = Session::new(Role::Client, 262_144, 0).unwrap();
+    let mut server = Session::new(Role::Server, 262_144, 0).unwrap();
+    let mut wire = vec![0; 300_000];
+    let text: Vec<u8> = (0..262_144).map(|at| (at % 251) as u8).collect();
+    let id = client.open().unwrap();
+    assert_eq!((client.opens_left(), client.is_peer_away()), (255, false));
+    assert_eq!(client.write(id, &text).unwrap(), Some(262_144));
+    let count = client.emit(&mut wire).unwrap();
+    server.feed(&wire[..count]).unwrap();
+    assert_eq!(server.accept().unwrap(), Some(id));
+    assert_eq!(server.unread_count(id), 262_144);
+    assert!(client.shrink(id).unwrap() || client.shrink_spare());
+    assert!(server.shrink(id).unwrap() || server.shrink_spare());
+    let mut read = vec![0; 262_144];
+    assert_eq!(server.read(id, &mut read).unwrap(), Got::Bytes(262_144));
+    assert_eq!((read == text, server.unread_count(id)), (true, 0));
+    assert_eq!(server.shrink(9).unwrap_err().name(), "NO_STREAM");
+    server.go_away().unwrap();
+    let count = server.emit(&mut wire).unwrap();
+    client.feed(&wire[..count]).unwrap();
+    assert_eq!((client.opens_left(), client.is_peer_away()), (0, true));
+}
+
+#[test]
 fn touched_streams_are_named() {
     let mut client = Session::new(Role::Client, 262_144, 0).unwrap();
     let mut server = Session::new(Role::Server, 262_144, 0).unwrap();
