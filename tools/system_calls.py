@@ -1,7 +1,7 @@
 #!/usr/bin/env python3
 """system_calls.py: whether one short file makes all calls of the program's tunnel that reach the system's sockets.
 
-No contract says what such a call does, so `crates/ymx_forward/src/system.rt` is to be read, and it has at most 350 lines.
+No contract says what such a call does, so `crates/ymx_forward/src/system.rt` is to be read, and it has at most 425 lines.
 Sockets that never wait are private there. Those that wait are the standard library's, and other files may name their
 types, as bounds do. They make no call of them, and import nothing else of `std::net` or `std::io`, so that reads and
 writes of such a socket aren't in scope. And they name neither `mio` nor `libc`.
@@ -13,7 +13,7 @@ from pathlib import Path
 
 SOURCES = Path(__file__).resolve().parent.parent / "crates" / "ymx_forward" / "src"
 READ = "system.rt"
-MOST = 350
+MOST = 425
 # what others may import of `std::net` and of `std::io`
 MAY = {
     "net": {"Net", "Ipv4Addr", "SocketAddr", "SocketAddrV4", "TcpListener", "TcpStream"},

@@ -14,8 +14,8 @@ import raw
 from beside import Peer, swap
 from kept import BYTES, COME, GONE, LOST, SESSIONS, SETTLED, WHOLE
 from kept import connection, finish, is_refused, listen_again, rests, says, used
-from raw import ACK, ANY, FIN, NOWHERE, PING, REFUSED, SYN, Program
-from raw import accept, break_off, call, frame, free_place, free_places, has_ended, leave, listen, take
+from raw import ACK, ANY, FIN, NOT_HERE, NOWHERE, PING, SYN, Program, refused
+from raw import accept, break_off, call, frame, free_place, free_places, has_ended, is_cut, leave, listen, take
 
 # How much less than the pauses may have gone by, as the clocks of two processes count it.
 EARLY = 0.1
@@ -122,11 +122,11 @@ def both_programs():
 def no_meeting():
     """The peer can't be reached, or awaited."""
     place = free_place()
-    assert Program("remote", "--peer", place, "--target", place).end() == (1, f"ymx: cannot reach {place}\n")
-    said = f"ymx: cannot listen at {NOWHERE}\n"
-    assert Program("local", "--bind", NOWHERE, "--listen", ANY).end() == (1, said)
+    assert Program("remote", "--peer", place, "--target", place).end() == (1, f"{refused(place)}ymx: cannot reach {place}\n")
+    said = f"{NOWHERE}: {NOT_HERE}\nymx: cannot listen at {NOWHERE}\n"
+    assert Program("local", "--bind", NOWHERE, "--listen", ANY).end() == (1, f"ymx: --bind {said}")
     # it takes no peer where it can't listen for users
-    assert Program("local", "--bind", ANY, "--listen", NOWHERE).end() == (1, said)
+    assert Program("local", "--bind", ANY, "--listen", NOWHERE).end() == (1, f"ymx: --listen {said}")
 
 
 # ---- one session after another
@@ -138,12 +138,12 @@ def a_peer_that_is_called_again():
     place = free_place()
     program = Program("remote", "-v", "--keep", "--peer", place, "--target", address)
     unreached = f"ymx: cannot reach {place}\n"
-    says(program, REFUSED, unreached)
+    says(program, refused(place), unreached)
     listener = listen_again(place)
     for turn in 1, 2, 3:
         peer = accept(listener)
         # Calls may have failed until the listener was there.
-        while (line := program.line()) in (REFUSED, unreached):
+        while (line := program.line()) in (refused(place), unreached):
             pass
         assert line == COME, line
         peer = Peer(peer)
@@ -153,8 +153,8 @@ def a_peer_that_is_called_again():
         if turn == 2:
             listener.close()
             break_off(peer.connection)
-            assert has_ended(other)
-            says(program, connection(turn, LOST), GONE, REFUSED, unreached)
+            assert is_cut(other)
+            says(program, connection(turn, LOST), GONE, refused(place), unreached)
             listener = listen_again(place)
         else:
             finish(peer, 1, other)
@@ -170,7 +170,7 @@ def pauses():
     began = time.monotonic()
     program = Program("remote", "-v", "--keep", "--peer", place, "--target", place)
     for seconds in 0, 1, 3, 7:
-        says(program, REFUSED, f"ymx: cannot reach {place}\n")
+        says(program, refused(place), f"ymx: cannot reach {place}\n")
         passed = time.monotonic() - began
         assert passed >= seconds - EARLY, f"{passed} seconds, and not {seconds}"
 
@@ -203,9 +203,9 @@ def a_peer_that_calls_again():
     swap(peer, 1, user, BYTES)
     assert is_refused(place), "a second peer is connected"
     break_off(peer.connection)
-    assert has_ended(user)
+    assert is_cut(user)
     says(program, connection(1, LOST), GONE)
-    assert has_ended(call(users))
+    assert is_cut(call(users))
     says(program, connection(2, "no stream: Lost"))
     peer = Peer(call(place))
     says(program, COME)
@@ -226,7 +226,7 @@ def a_count_that_ends_without_a_peer():
     users = program.place()
     leave(peer.connection)
     says(program, COME, GONE)
-    assert has_ended(call(users))
+    assert is_cut(call(users))
     assert program.end() == (0, connection(1, "no stream: Lost"))
 
 
@@ -237,7 +237,7 @@ def a_place_that_is_taken():
     says(program, COME)
     with listen_again(place):
         leave(peer.connection)
-        assert program.end() == (1, f"{GONE}ymx: --bind: address in use\nymx: cannot listen at {place}\n")
+        assert program.end() == (1, f"{GONE}ymx: --bind {place}: address in use\nymx: cannot listen at {place}\n")
 
 
 def many_peers():
@@ -289,7 +289,7 @@ def killed_programs():
     user, other = ask()
     far.process.kill()
     far.process.wait()
-    assert has_ended(user)
+    assert is_cut(user)
     says(near, connection(1, "8 bytes to the peer (lost), 8 bytes from the peer (lost)"), GONE)
     far = far_side()
     says(near, COME)
@@ -297,7 +297,7 @@ def killed_programs():
     user, other = ask()
     near.process.kill()
     near.process.wait()
-    assert has_ended(other)
+    assert is_cut(other)
     near = near_side()
     says(near, f"ymx: listening at {users}\n", COME)
     ask()

@@ -4,7 +4,8 @@ killed, while none is there, where many have come and gone, and where the system
 
 It says which tests failed, and nothing where none did. No test follows one that hangs.
 
-usage: kept.py YMX REFUSING, where REFUSING is the library of tests/no_memory/failing_malloc.c
+usage: kept.py YMX [DYNAMIC REFUSING], where DYNAMIC is the same program, of which REFUSING, the library of
+tests/no_memory/failing_malloc.c, can refuse a thread. Tests of that are left out where there is none.
 """
 
 import os
@@ -15,8 +16,8 @@ import time
 
 import raw
 from beside import Peer, swap
-from raw import ACK, ANY, BAD, FIN, FULL, GONE, PING, REFUSED, SYN, WINDOW, Program
-from raw import accept, break_off, call, frame, free_place, has_ended, leave, listen, local, take
+from raw import ACK, ANY, BAD, FIN, FULL, GONE, PING, SYN, WINDOW, Program, broke, refused
+from raw import accept, break_off, call, frame, free_place, has_ended, is_cut, leave, listen, local, preloaded, preloads, take
 
 SESSIONS = 200
 # So many peers `remote --keep` serves at once.
@@ -28,7 +29,6 @@ ENDING = 60
 BYTES = random.Random(7).randbytes(300_000)
 COME = "ymx: the peer has come\n"
 NO_THREAD = "ymx: --peers: no thread\n"
-NO_DESCRIPTOR = "ymx: --bind: no descriptor left\n"
 WHOLE = f"{len(BYTES)} bytes to the peer (ended), {len(BYTES)} bytes from the peer (ended)"
 LOST = f"{len(BYTES)} bytes to the peer (lost), {len(BYTES)} bytes from the peer (lost)"
 
@@ -97,7 +97,7 @@ def three_peers():
         swap(peer, 1, other, BYTES)
         if turn == 2:
             break_off(peer.connection)
-            assert has_ended(other)
+            assert is_cut(other)
             says(program, connection(turn, LOST), GONE)
         else:
             finish(peer, 1, other)
@@ -139,7 +139,7 @@ def peers_at_once():
         if half is halves[0]:
             broken = peers.pop(7)
             break_off(broken.connection)
-            assert has_ended(broken.other)
+            assert is_cut(broken.other)
             half_lost = f"{len(half)} bytes to the peer (lost), {len(half)} bytes from the peer (lost)"
             says(program, connection(8, half_lost), GONE)
     numbers = [*range(1, 8), *range(9, AT_ONCE + 1)]
@@ -197,19 +197,20 @@ def a_fault_among_peers():
     peers[1].sendall(BAD)
     while peers[1].recv(4096):
         pass
+    why = broke(peers[1])
     peers[1].close()
     assert is_served(peers[0])
     leave(peers[0])
-    assert program.end() == (1, f"{COME}{COME}{GONE}{GONE}ymx: session broken: B1\n")
+    assert program.end() == (1, f"{COME}{COME}{GONE}{GONE}{why}ymx: session broken: B1\n")
 
 
 def remote_without_thread(number, *words):
     """`ymx remote`, for which the thread of this number can't be made, and where it listens."""
-    refused = {"LD_PRELOAD": sys.argv[2], "FAIL_THREAD_AT": str(number)}
-    program = Program("remote", "-v", "--bind", ANY, "--target", ANY, *words, variables=refused)
+    program = preloaded("remote", "-v", "--bind", ANY, "--target", ANY, *words, variables={"FAIL_THREAD_AT": str(number)})
     return program, program.place()
 
 
+@preloads
 def no_thread_for_a_peer():
     """With `--keep` it is closed, which is told and is no fault, and the next one is served."""
     program, place = remote_without_thread(1, "--keep")
@@ -222,6 +223,7 @@ def no_thread_for_a_peer():
     assert program.process.poll() is None, "it has ended"
 
 
+@preloads
 def no_thread_beside_a_peer():
     """So it is without `--keep`: the first peer and the third are served, and it ends well."""
     program, place = remote_without_thread(2, "--peers", "2")
@@ -237,6 +239,7 @@ def no_thread_beside_a_peer():
     assert program.end() == (0, "")
 
 
+@preloads
 def no_thread_at_all():
     """Without `--keep` it ends where it could serve nobody."""
     program, place = remote_without_thread(1, "--peers", "2")
@@ -253,7 +256,7 @@ def no_descriptor_for_a_peer():
     peer = call(place)
     assert is_served(peer)
     following = call(place)
-    says(program, COME, NO_DESCRIPTOR)
+    says(program, COME, f"ymx: --bind {place}: no descriptor left\n")
     leave(peer)
     assert is_served(following)
     says(program, GONE, COME)
@@ -289,8 +292,7 @@ def a_peer_that_breaks_the_rules():
     peer.sendall(BAD)
     while peer.recv(4096):
         pass
-    said = sorted(program.line() for _ in range(2))
-    assert said == sorted(["ymx: session broken: B1\n", GONE]), said
+    says(program, broke(peer), "ymx: session broken: B1\n", GONE)
     peer = call(place)
     says(program, COME)
     peer.sendall(frame(PING, SYN, 0, 7))
@@ -300,13 +302,15 @@ def a_peer_that_breaks_the_rules():
 def rests(program):
     """One thread of it is left: that of its peer has ended, so that the next one takes the same memory."""
     late = time.monotonic() + ENDING
-    while len(os.listdir(f"/proc/{program.process.pid}/task")) > 1:
+    while raw.COUNTS and len(os.listdir(f"/proc/{program.process.pid}/task")) > 1:
         assert time.monotonic() < late, "threads are left"
         time.sleep(0.001)
 
 
 def used(program):
     """How many files it has open, and how many kilobytes it has in memory."""
+    if not raw.COUNTS:
+        return 0, 0
     number = program.process.pid
     with open(f"/proc/{number}/status") as status:
         lines = dict(line.split(":", 1) for line in status)
@@ -342,12 +346,12 @@ def a_peer_that_comes_again():
     peer.accept(1)
     swap(peer, 1, user, BYTES)
     peer.connection.close()
-    assert has_ended(user)
+    assert is_cut(user)
     says(program, connection(1, LOST), GONE)
     address = "{}:{}".format(*listener.getsockname())
     listener.close()
-    assert has_ended(call(place))
-    says(program, REFUSED, connection(2, "no stream: Lost"))
+    assert is_cut(call(place))
+    says(program, refused(address), connection(2, "no stream: Lost"))
     with listen_again(address) as listener:
         users = [call(place)]
         peer = Peer(accept(listener))
@@ -369,7 +373,7 @@ def the_last_of_a_count():
     program, place, user, peer, listener = local_kept("--count", "2")
     peer.accept(1)
     peer.connection.close()
-    assert has_ended(user)
+    assert is_cut(user)
     says(program, connection(1, "0 bytes to the peer (lost), 0 bytes from the peer (lost)"), GONE)
     user = call(place)
     peer = Peer(accept(listener))
@@ -407,8 +411,8 @@ def no_peer_at_first():
     address = free_place()
     program = Program("local", "-v", "--keep", "--listen", ANY, "--peer", address)
     place = program.place()
-    assert has_ended(call(place))
-    says(program, REFUSED, connection(1, "no stream: Lost"))
+    assert is_cut(call(place))
+    says(program, refused(address), connection(1, "no stream: Lost"))
     with listen_again(address) as listener:
         user = call(place)
         peer = Peer(accept(listener))
@@ -423,7 +427,7 @@ def a_port_that_is_taken():
     with socket.create_server(("127.0.0.1", 0)) as taken:
         place = "{}:{}".format(*taken.getsockname())
         program = Program("local", "--keep", "--listen", place, "--peer", address)
-        assert program.end() == (1, f"ymx: cannot listen at {place}\n")
+        assert program.end() == (1, f"ymx: --listen {place}: address in use\nymx: cannot listen at {place}\n")
     listener.setblocking(False)
     try:
         listener.accept()
@@ -450,7 +454,7 @@ def a_killed_peer():
         if turn == 1:
             far.process.kill()
             far.process.wait()
-            assert has_ended(user)
+            assert is_cut(user)
             says(near, connection(1, "8 bytes to the peer (lost), 8 bytes from the peer (lost)"), GONE)
             far = Program("remote", "-v", "--bind", meeting, "--target", address)
             assert far.place() == meeting

@@ -3,7 +3,8 @@ that is lost; also that a link which breaks takes no other with it, and what is 
 
 It says which tests failed, and nothing where none did. No test follows one that hangs.
 
-usage: links.py YMX SLOW_ACCEPTOR
+usage: links.py YMX [DYNAMIC SLOW_ACCEPTOR], where DYNAMIC is the same program, into which SLOW_ACCEPTOR can be loaded. A
+test with that is left out where there is none.
 """
 
 import hashlib
@@ -18,8 +19,8 @@ import time
 import raw
 from beside import Peer, swap
 from kept import COME, LOST, WHOLE, connection, finish, is_refused, says
-from raw import ANY, BAD, GONE, NOT_HERE, REFUSED, SYN, WINDOW, Program
-from raw import accept, break_off, call, free_place, frame, has_ended, leave, listen, take
+from raw import ANY, BAD, GONE, NOT_HERE, SYN, WINDOW, Program, broke, refused
+from raw import accept, break_off, call, free_place, frame, has_ended, is_cut, leave, listen, preloaded, preloads, take
 
 BYTES = random.Random(11).randbytes(300_000)
 # What goes through both ends: so many connections, so many at once, over so many links.
@@ -27,11 +28,11 @@ CONNECTIONS, AT_ONCE, LINKS = 1_000, 20, 4
 FIRST = frame(WINDOW, SYN, 1, 0)
 
 
-def local_links(count, *words, listen_at=ANY, variables=None):
+def local_links(count, *words, listen_at=ANY, program=Program):
     """`ymx local --links`, where it listens, its links in the order in which it made them, and where its peer listens."""
     listener, address = listen()
     words = ("--links", str(count), "--listen", listen_at, "--peer", address, *words)
-    program = Program("local", "-v", *words, variables=variables)
+    program = program("local", "-v", *words)
     links = [Peer(accept(listener)) for _ in range(count)]
     return program, program.place(), links, listener
 
@@ -54,13 +55,13 @@ def which(links, stream):
 
 def is_threads(program, count):
     """How many threads it has, once it has so many."""
-    while len(os.listdir(f"/proc/{program.process.pid}/task")) != count:
+    while raw.COUNTS and len(os.listdir(f"/proc/{program.process.pid}/task")) != count:
         time.sleep(0.01)
     return True
 
 
 def files(program):
-    return len(os.listdir(f"/proc/{program.process.pid}/fd"))
+    return raw.COUNTS and len(os.listdir(f"/proc/{program.process.pid}/fd"))
 
 
 def fewest_first():
@@ -99,7 +100,7 @@ def a_lost_link():
     for home, user in zip(homes, users):
         swap(home, 1, user, BYTES)
     break_off(homes[1].connection)
-    assert has_ended(users[1])
+    assert is_cut(users[1])
     says(program, GONE, connection(2, LOST))
     served = []
     for stream in 3, 3, 5, 5:
@@ -127,13 +128,14 @@ def a_broken_link():
     links[0].connection.sendall(BAD)
     take(links[0].connection, 12)
     assert has_ended(links[0].connection)
+    why = broke(links[0].connection)
     links[0].connection.close()
     user = call(place)
     links[1].accept(1)
     swap(links[1], 1, user, BYTES)
     finish(links[1], 1, user)
     leave(links[1].connection)
-    assert program.end() == (1, GONE + connection(1, WHOLE) + GONE + "ymx: session broken: B1\n")
+    assert program.end() == (1, GONE + connection(1, WHOLE) + GONE + why + "ymx: session broken: B1\n")
 
 
 def lost_before_the_count():
@@ -149,9 +151,10 @@ def lost_before_the_count():
     assert program.end() == (1, f"{ended}{GONE}{GONE}ymx: cannot reach {address}\n")
 
 
+@preloads
 def lost_behind_the_last():
     """Where all have come it ends well, also if the links are gone before it has seen that all have."""
-    program, place, links, _ = local_links(2, "--count", "1", variables={"LD_PRELOAD": sys.argv[2]})
+    program, place, links, _ = local_links(2, "--count", "1", program=preloaded)
     user = call(place)
     finish(which(links, 1), 1, user)
     for link in links:
@@ -164,9 +167,9 @@ def no_links_at_first():
     """All are made, or none: a peer that can't be reached is told before anybody listens."""
     place, peer = free_place(), free_place()
     words = ("--links", "2", "--listen", place, "--peer", peer)
-    assert Program("local", *words).end() == (1, f"ymx: cannot reach {peer}\n")
+    assert Program("local", *words).end() == (1, f"{refused(peer)}ymx: cannot reach {peer}\n")
     assert Program("local", "--keep", "--links", "2", "--listen", raw.NOWHERE, "--peer", peer).end() == (
-        1, f"ymx: cannot listen at {raw.NOWHERE}\n")
+        1, f"ymx: --listen {raw.NOWHERE}: {NOT_HERE}\nymx: cannot listen at {raw.NOWHERE}\n")
 
 
 def links_are_called_again():
@@ -184,9 +187,10 @@ def links_are_called_again():
     swap(one, 1, first, BYTES)
     other.connection.sendall(BAD)
     take(other.connection, 12)
+    why = broke(other.connection)
     other.connection.close()
-    assert has_ended(second)
-    says(program, connection(2, "0 bytes to the peer (lost), 0 bytes from the peer (lost)"), GONE, "ymx: session broken: B1\n")
+    assert is_cut(second)
+    says(program, connection(2, "0 bytes to the peer (lost), 0 bytes from the peer (lost)"), GONE, why, "ymx: session broken: B1\n")
     third = call(place)
     again = Peer(accept(listener))
     says(program, COME)
@@ -211,9 +215,10 @@ def a_peer_that_is_away():
     one = Peer(accept(listener))
     says(program, COME)
     one.accept(1)
+    address = "{}:{}".format(*listener.getsockname())
     listener.close()
-    assert has_ended(call(place))
-    says(program, REFUSED, connection(2, "no stream: Lost"))
+    assert is_cut(call(place))
+    says(program, refused(address), connection(2, "no stream: Lost"))
     for stream in 3, 5:
         user = call(place)
         one.accept(stream)

@@ -6,6 +6,9 @@ set -eu
 here=$(cd "$(dirname "$0")" && pwd)
 . "$here/../over.sh"
 find_program
+find_dynamic
+no_dynamic='the program is static, and no kit is here to link another'
+alone
 cd "$scratch"
 : > nothing
 printf 'window flags=0001 id=1 len=0\ndata flags=0000 id=1 len=5 68656c6c6f\n' > lines
@@ -48,19 +51,26 @@ expect 1 nothing "$(says 'ymx: reading failed')" hello frames .
 printf 'connection %s bytes echoed\n' '1: 0' '2: 1' '3: 300000' > echoed
 expect 0 echoed nothing nothing selftest
 "${CC-cc}" -O2 -shared -fPIC -o held.so "$here/held_connect.c" -ldl
-if timeout 300 "$here/as_they_come.py" "$ymx" "$scratch/held.so" > log 2>&1; then
+if [ -z "$dynamic" ]; then
+    left_out "whether selftest prints its lines as they come" "$no_dynamic"
+elif timeout 300 "$here/as_they_come.py" "$dynamic" "$scratch/held.so" > log 2>&1; then
     good
 else
     bad "a line of selftest doesn't come with its connection:" log
 fi
-expect 2 nothing "$(says 'ymx: bad address localhost:1')" nothing local --listen localhost:1 --peer x
-expect 2 nothing "$(says 'ymx: bad address 127.0.0.1')" nothing local --listen 127.0.0.1:1 --peer 127.0.0.1
-expect 2 nothing "$(says 'ymx: bad address 127.0.0.1:65536')" nothing remote --bind 127.0.0.1:65536 --target x
-expect 2 nothing "$(says 'ymx: bad address x')" nothing local --listen 127.0.0.1:1 --bind x
-expect 2 nothing "$(says 'ymx: bad address x')" nothing local --listen 127.0.0.1:1 --await x
-expect 2 nothing "$(says 'ymx: bad address 1')" nothing local --listen 1 --peer x
-expect 2 nothing "$(says 'ymx: bad address x')" nothing remote --target 1 --peer x
-expect 2 nothing "$(says 'ymx: bad address ')" nothing remote --call '' --target x
+# wants OPTION TEXT: what is said where an option was given this text, which is no address
+wants() {
+    says "ymx: --$1: it wants an IPv4 address and a port, as 127.0.0.1:8080" "ymx: bad address $2"
+}
+
+expect 2 nothing "$(wants listen localhost:1)" nothing local --listen localhost:1 --peer x
+expect 2 nothing "$(wants peer 127.0.0.1)" nothing local --listen 127.0.0.1:1 --peer 127.0.0.1
+expect 2 nothing "$(wants bind 127.0.0.1:65536)" nothing remote --bind 127.0.0.1:65536 --target x
+expect 2 nothing "$(wants bind x)" nothing local --listen 127.0.0.1:1 --bind x
+expect 2 nothing "$(wants bind x)" nothing local --listen 127.0.0.1:1 --await x
+expect 2 nothing "$(wants listen 1)" nothing local --listen 1 --peer x
+expect 2 nothing "$(wants peer x)" nothing remote --target 1 --peer x
+expect 2 nothing "$(wants peer '')" nothing remote --call '' --target x
 
 # port_of FILE: the port that a program has said in this file, once it has. What an earlier one said there has to be gone
 # before the program begins: in the background the file may be emptied late.
@@ -146,11 +156,18 @@ holds 'what local -v says without a target' grep -q '^ymx: connection 1 from 127
 holds 'both ends, frame by frame' python3 "$here/raw.py" "$ymx"
 holds 'connections beside others' python3 -B "$here/beside.py" "$ymx"
 "${CC-cc}" -O2 -shared -fPIC -o refusing.so "$here/../no_memory/failing_malloc.c" -ldl
-holds 'one session after another' python3 -B "$here/kept.py" "$ymx" "$scratch/refusing.so"
 "${CC-cc}" -O2 -shared -fPIC -o slow_acceptor.so "$here/slow_acceptor.c" -ldl
-holds 'many links to one peer' python3 -B "$here/links.py" "$ymx" "$scratch/slow_acceptor.so"
+[ -n "$dynamic" ] || left_out 'threads that are refused, and an acceptor that is slow' "$no_dynamic"
+# shellcheck disable=SC2086
+holds 'one session after another' python3 -B "$here/kept.py" "$ymx" ${dynamic:+"$dynamic" "$scratch/refusing.so"}
+# shellcheck disable=SC2086
+holds 'many links to one peer' python3 -B "$here/links.py" "$ymx" ${dynamic:+"$dynamic" "$scratch/slow_acceptor.so"}
 holds 'the side that calls is the one that serves' python3 -B "$here/calling.py" "$ymx"
 holds 'a peer that is silent' python3 -B "$here/silence.py" "$ymx"
+holds 'what is cut off' python3 -B "$here/cuts.py" "$ymx"
+holds 'closed standard input, output and error' python3 -B "$here/standard.py" "$ymx"
+holds 'signs of life that the system asks for' python3 -B "$here/keepalive.py" "$ymx"
+holds 'a thousand users at once' python3 -B "$here/bursts.py" "$ymx" 1000
 
 expect 0 "$here/help" nothing hello --help
 expect 0 "$here/local_help" nothing hello local --help
@@ -207,6 +224,7 @@ for connects in --peer --call; do
 done
 refuses 'error: ' local --listen 127.0.0.1:0 --bind 127.0.0.1:0 --await 127.0.0.1:0
 refuses 'error: ' remote --target 127.0.0.1:1 --peer 127.0.0.1:1 --call 127.0.0.1:1
+refuses "error: the argument '--peers <N>' cannot be used with '--peer <ADDRESS>'" remote --target 127.0.0.1:1 --peer 127.0.0.1:1 --peers 2
 # a number is decimal digits alone: no sign, no blank, no empty text
 for limit in 262143 16777217 x -1 +262144 -262144 ' 262144' '262144 ' 262_144 0x40000 ''; do
     refuses 'error: ' frames "--limit=$limit"
@@ -232,22 +250,23 @@ for limit in 262143 -1; do
     refuses 'error: ' frames --limit $limit
 done
 expect 0 lines nothing hello frames --limit 16777216
-expect 1 nothing "$(says 'ymx: cannot reach 127.0.0.1:1')" nothing local --listen 127.0.0.1:0 --peer 127.0.0.1:1
-expect 1 nothing "$(says 'ymx: cannot reach 127.0.0.1:1')" nothing local --listen 127.0.0.1:0 --peer 127.0.0.1:1 --count 4294967295 --window 16777216
-expect 1 nothing "$(says 'ymx: cannot reach 127.0.0.1:1')" nothing local --listen 127.0.0.1:0 --peer 127.0.0.1:1 --count 005 --window=0262144
+expect 1 nothing "$(says 'ymx: --peer 127.0.0.1:1: refused' 'ymx: cannot reach 127.0.0.1:1')" nothing local --listen 127.0.0.1:0 --peer 127.0.0.1:1
+expect 1 nothing "$(says 'ymx: --peer 127.0.0.1:1: refused' 'ymx: cannot reach 127.0.0.1:1')" nothing local --listen 127.0.0.1:0 --peer 127.0.0.1:1 --count 4294967295 --window 16777216
+expect 1 nothing "$(says 'ymx: --peer 127.0.0.1:1: refused' 'ymx: cannot reach 127.0.0.1:1')" nothing local --listen 127.0.0.1:0 --peer 127.0.0.1:1 --count 005 --window=0262144
 # 192.0.2.7 is no address of this machine
-expect 1 nothing "$(says 'ymx: cannot listen at 192.0.2.7:1')" nothing remote --bind 192.0.2.7:1 --target 127.0.0.1:1
+expect 1 nothing "$(says 'ymx: --bind 192.0.2.7:1: no address of this machine' 'ymx: cannot listen at 192.0.2.7:1')" nothing remote --bind 192.0.2.7:1 --target 127.0.0.1:1
 for workers in 1 1024; do
-    expect 1 nothing "$(says 'ymx: cannot listen at 192.0.2.7:1')" nothing remote --bind 192.0.2.7:1 --target 127.0.0.1:1 --workers $workers --window 16777216
+    expect 1 nothing "$(says 'ymx: --bind 192.0.2.7:1: no address of this machine' 'ymx: cannot listen at 192.0.2.7:1')" nothing remote --bind 192.0.2.7:1 --target 127.0.0.1:1 --workers $workers --window 16777216
 done
 
-# a peer whose first header has version 1
+# a peer whose first header has version 1, and from where it comes
 port=$(free_ports 1)
-python3 - "$port" << 'END' &
+from=$(free_ports 1)
+python3 - "$port" "$from" << 'END' &
 import socket, sys, time
 while True:
     try:
-        peer = socket.create_connection(("127.0.0.1", int(sys.argv[1])))
+        peer = socket.create_connection(("127.0.0.1", int(sys.argv[1])), source_address=("127.0.0.1", int(sys.argv[2])))
         break
     except ConnectionRefusedError:
         time.sleep(0.05)
@@ -256,11 +275,12 @@ while peer.recv(4096):
     pass
 END
 jobs="$jobs $!"
-expect 1 nothing "$(says 'ymx: session broken: B1')" nothing remote --bind "127.0.0.1:$port" --target 127.0.0.1:1
+expect 1 nothing "$(says "ymx: B1 from 127.0.0.1:$from: the version of a frame is not 0" 'ymx: session broken: B1')" nothing remote --bind "127.0.0.1:$port" --target 127.0.0.1:1
 
 # scripts: of a file, of standard input, of a file that isn't there, and of one that can't be read
-script=$root/examples/stream.script
-answers=$root/examples/stream.out
+cp "$root/examples/stream.script" "$root/examples/stream.out" .
+script=stream.script
+answers=stream.out
 expect 0 "$answers" nothing nothing script "$script"
 expect 0 "$answers" nothing "$script" script
 expect 0 "$answers" nothing "$script" script -

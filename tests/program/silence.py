@@ -13,7 +13,7 @@ import raw
 from beside import Peer
 from kept import BYTES, COME, GONE, says
 from raw import ACK, ANY, DATA, PING, SYN, HEADER, Program
-from raw import accept, call, frame, has_ended, listen, take
+from raw import accept, call, frame, has_ended, is_cut, listen, take
 
 # How many seconds a peer may be silent before it is asked, and then as long again.
 PATIENCE = 1
@@ -62,7 +62,7 @@ def a_silent_peer(name):
         assert sides.program.end() == (0, GONE)
     else:
         # for this connection there is no session any more, or one that ends
-        assert has_ended(call(sides.place))
+        assert is_cut(call(sides.place))
 
 
 def a_peer_that_answers(name):

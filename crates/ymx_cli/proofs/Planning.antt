@@ -11,10 +11,10 @@ use Rattle.ymx_cli.specs.Messages.{Change}
 use Rattle.ymx_cli.specs.Plans.{ComesByPlan, ComesByTables}
 
 -- an end that has the options of the words comes to what their plan comes to
-pub planned : (met : Option (Text × List Row)) (asked : TunnelCommand) (outcome : Outcome) (errors : Change) → IsToldBy met (Tunnel asked) → IsEndTask (Tunnel asked) → ComesByTables asked outcome errors → ComesByPlan met outcome errors
-planned (Some p) (command.Local o) outcome errors told end ends = (Local o, told, ends)
-planned (Some p) (command.Remote o) outcome errors told end ends = (Remote o, told, ends)
-planned (Some p) command.Selftest outcome errors told end ends = absurd end
-planned None (command.Local o) outcome errors told end ends = cc
-planned None (command.Remote o) outcome errors told end ends = cc
-planned None command.Selftest outcome errors told end ends = absurd end
+pub planned : (met : Option (Text × List Row)) (asked : TunnelCommand) (outcome : Outcome) (errors lines : Change) → IsToldBy met (Tunnel asked) → IsEndTask (Tunnel asked) → ComesByTables asked outcome errors lines → ComesByPlan met outcome errors lines
+planned (Some p) (command.Local o) outcome errors lines told end ends = (Local o, told, ends)
+planned (Some p) (command.Remote o) outcome errors lines told end ends = (Remote o, told, ends)
+planned (Some p) command.Selftest outcome errors lines told end ends = absurd end
+planned None (command.Local o) outcome errors lines told end ends = cc
+planned None (command.Remote o) outcome errors lines told end ends = cc
+planned None command.Selftest outcome errors lines told end ends = absurd end

@@ -1,5 +1,7 @@
 -- What the program says on its error device (this project's own).
-use Rattle.std.specs.Prelude.{◌≡◌, ◌≤◌, ◌++◌, ◌↔◌, ℕ, List, [], Bool, true, false, Option, IfSome, IsTrue, ◌⊎◌, codes}
+use Rattle.std.specs.Prelude.{◌≡◌, ◌≤◌, ◌++◌, ◌↔◌, ⊤, ℕ, List, [], Bool, true, false, Option, IfSome, IsTrue, ◌⊎◌, codes}
+use Rattle.ymx_arguments.specs.declared.reading.CommandFault.{CommandFault}
+use Rattle.ymx_arguments.specs.declared.reading.CommandFault.TheVariants.{Clap, BadAddress}
 use Rattle.std.specs.Io.{StartsWith}
 use Rattle.std.specs.Io.KnownBytes.{Appends, Consumes, IsAtEnd, Keeps}
 use Rattle.ymx_model.specs.devices.Devices.{has_failed}
@@ -63,6 +65,15 @@ writing_failed = codes "ymx: writing failed\n"
 -- a word of the command line is no text
 abbrev pub not_text : List ℕ
 not_text = codes "error: a word of the command line is not UTF-8\n"
+
+-- what the option of this name wants
+abbrev pub address_wanted : List ℕ → List ℕ
+address_wanted option = codes "ymx: --" ++ (option ++ codes ": it wants an IPv4 address and a port, as 127.0.0.1:8080\n")
+
+-- where words have a bad address, the device for lines says what its option wants
+abbrev pub TellsWant : CommandFault → (lines : Change) → Type 0
+TellsWant (BadAddress option text) lines = SaysText lines (address_wanted option.now)
+TellsWant (Clap error) lines = ⊤
 
 -- why the printing of frames ended, where a device or memory failed
 abbrev pub reason : FramesEnd → List ℕ

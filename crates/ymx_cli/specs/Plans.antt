@@ -19,14 +19,18 @@ IsPlanOf (Some (name, rows)) (Remote o) = (name ≡ codes "remote") × IsRemoteO
 IsPlanOf (Some (name, rows)) (Link o) = ⊥
 IsPlanOf None plan = ⊥
 
--- It comes to what the tables come to with the options that the words gave: to their status, and what the error device took are the
--- texts of the faults that they asked to say.
-abbrev pub ComesByPlan : Option (Text × List Row) → Outcome → (errors : Change) → Type 0
-ComesByPlan met outcome errors =
-    (plan : Plan) × IsPlanOf met plan × EndsBy plan (status_of outcome) errors.before errors.after errors.failures_before errors.failures_after
+-- what the tables of this plan come to: the status, the texts of faults on the error device and, without -v, those of their reasons on
+-- the device for lines
+abbrev pub Ends : Plan → Outcome → (errors lines : Change) → Type 0
+Ends plan outcome errors lines =
+    EndsBy plan (status_of outcome) errors.before errors.after errors.failures_before errors.failures_after lines.before lines.after lines.failures_before lines.failures_after
+
+-- It comes to what the tables come to with the options that the words gave.
+abbrev pub ComesByPlan : Option (Text × List Row) → Outcome → (errors lines : Change) → Type 0
+ComesByPlan met outcome errors lines = (plan : Plan) × IsPlanOf met plan × Ends plan outcome errors lines
 
 -- an end of a tunnel comes to what its tables come to with its options
-abbrev pub ComesByTables : TunnelCommand → Outcome → (errors : Change) → Type 0
-ComesByTables (command.Local o) outcome errors = EndsBy (Local o) (status_of outcome) errors.before errors.after errors.failures_before errors.failures_after
-ComesByTables (command.Remote o) outcome errors = EndsBy (Remote o) (status_of outcome) errors.before errors.after errors.failures_before errors.failures_after
-ComesByTables command.Selftest outcome errors = ⊤
+abbrev pub ComesByTables : TunnelCommand → Outcome → (errors lines : Change) → Type 0
+ComesByTables (command.Local o) outcome errors lines = Ends (Local o) outcome errors lines
+ComesByTables (command.Remote o) outcome errors lines = Ends (Remote o) outcome errors lines
+ComesByTables command.Selftest outcome errors lines = ⊤

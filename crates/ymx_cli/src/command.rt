@@ -7,7 +7,7 @@ ghost use Rattle.std.specs.Io.KnownBytes.{Keeps};
 ghost use Rattle.clap.specs.Words.{kind_of, subcommand_of};
 ghost use Rattle.clap.specs.declared.error.kind.ErrorKind.TheVariants.{OutOfMemory};
 ghost use Rattle.ymx_arguments.specs.CommandLine.{AsksFrames, AsksNoHelp, AsksNoLines, AsksScript, GivesBadOption, IsMistake, LacksMemory, NamesAnother, SaysMistake, ymx_app};
-ghost use Rattle.ymx_cli.specs.Messages.{IsUntouched, PlaysFile, PlaysScript, PrintsFile, PrintsFrames, SaysNoMemory, SaysText, Shows, TakesText, TakesPart, change_of, fails, frames_lack, not_text, opening_failed, out_of_memory, reason, script_lacks, script_reason, writing_failed};
+ghost use Rattle.ymx_cli.specs.Messages.{IsUntouched, PlaysFile, PlaysScript, PrintsFile, PrintsFrames, SaysNoMemory, SaysText, Shows, TakesText, TakesPart, TellsWant, address_wanted, change_of, fails, frames_lack, not_text, opening_failed, out_of_memory, reason, script_lacks, script_reason, writing_failed};
 ghost use Rattle.ymx_cli.specs.Outcomes.{has_refusal, is_tunnel, status_of};
 ghost use Rattle.ymx_cli.specs.Plans.{ComesByPlan};
 
@@ -46,7 +46,7 @@ pub trait FileOpener {
 }
 
 /// Does what the words of a command line ask for, the first of which is the program's name. Faults are said on
-/// `errors`, and what `-v` asks for on `lines`. Answers what came of it: its exit status is 0 if all went well, 1 at a
+/// `errors`, and why they came, and what `-v` asks for, on `lines`. Answers what came of it: its exit status is 0 if all went well, 1 at a
 /// fault, 2 for a bad command line. That there was no memory for frames or a script is said only with what shows it.
 pub fn ymx_main<
     T: Net<Stream = TcpStream, Listener = TcpListener> + Threads + Clock + Wait + Sync,
@@ -108,13 +108,14 @@ pub fn ymx_main<
     ensures tunnel { NamesAnother (map S.text words.now) → AsksNoHelp (map S.text words.now) →
         let output = change_of W.contents W.failures writer.old writer.new in
         let says = change_of E.contents E.failures errors.old errors.new in
-        ((is_tunnel result ≡ true) × ComesByPlan (subcommand_of ymx_app (map S.text words.now)) result says) ⊎ ((status_of result ≡ 2) ⊎ SaysNoMemory result output says) }
+        let tells = change_of L.contents L.failures lines.old lines.new in
+        ((is_tunnel result ≡ true) × ComesByPlan (subcommand_of ymx_app (map S.text words.now)) result says tells) ⊎ ((status_of result ≡ 2) ⊎ SaysNoMemory result output says) }
     // A number that isn't decimal digits alone, or is out of its range, is a mistake. So is an end of a tunnel that is to
     // meet its peer in no way, or in two.
     ensures options { GivesBadOption (map S.text words.now) → AsksNoHelp (map S.text words.now) →
         (status_of result ≡ 2) ⊎ SaysNoMemory result (change_of W.contents W.failures writer.old writer.new) (change_of E.contents E.failures errors.old errors.new) }
-    // Without `-v` no lines are said.
-    ensures unsaid { AsksNoLines (map S.text words.now) → IsUntouched (change_of L.contents L.failures lines.old lines.new) }
+    // Without `-v` a good end says no lines.
+    ensures unsaid { AsksNoLines (map S.text words.now) → status_of result ≡ 0 → IsUntouched (change_of L.contents L.failures lines.old lines.new) }
     // At status 2 nothing is read, and nothing is written to the writer.
     ensures bad { status_of result ≡ 2 → IsUntouched (change_of R.remaining R.failures reader.old reader.new) × IsUntouched (change_of W.contents W.failures writer.old writer.new) }
 {
@@ -129,7 +130,7 @@ pub fn ymx_main<
         Ok(Task::Script { file: None }) => play(rt, alloc, reader, writer, errors),
         Ok(Task::Script { file: Some(name) }) => play_file(rt, alloc, files, name, writer, errors),
         Ok(Task::Tunnel(command)) => run_tunnel(rt, alloc, command, writer, errors, lines),
-        Err(fault) => explain(alloc, &fault, writer, errors),
+        Err(fault) => explain(alloc, &fault, writer, errors, lines),
     }
 }
 
@@ -257,7 +258,7 @@ fn finish_script<E: Outlet>(end: ScriptEnd, errors: &mut E) -> Outcome
 }
 
 /// Says that the file of this name can't be opened, and answers the status of a fault.
-fn cannot_open<E: Outlet>(errors: &mut E, name: &str) -> Outcome
+pub(crate) fn cannot_open<E: Outlet>(errors: &mut E, name: &str) -> Outcome
     ensures status { status_of result ≡ 1 }
     ensures said { SaysText (change_of E.contents E.failures errors.old errors.new) (opening_failed name.now) }
 {
@@ -313,13 +314,14 @@ fn say<E: Outlet>(errors: &mut E, text: &[u8])
     let _ = push_all(errors, text);
 }
 
-/// Says why the words of a command line name no task, and answers the status: 0 where they ask for the help or the
+/// Says why the words of a command line name no task, and what an option wants whose address is none. Answers the status: 0 where they ask for the help or the
 /// version, 1 where there was no memory, and else 2.
-fn explain<W: Outlet, E: Outlet>(
+fn explain<W: Outlet, E: Outlet, L: Outlet>(
     alloc: Global,
     fault: &CommandFault<'_>,
     writer: &mut W,
     errors: &mut E,
+    lines: &mut L,
 ) -> Outcome
     ensures status { status_of result ≤ 2 }
     ensures help { status_of result ≡ 0 → (SaysMistake fault.now → ⊥) × IsUntouched (change_of E.contents E.failures errors.old errors.new) }
@@ -330,17 +332,31 @@ fn explain<W: Outlet, E: Outlet>(
     ensures failed { let output = change_of W.contents W.failures writer.old writer.new in
         let says = change_of E.contents E.failures errors.old errors.new in
         status_of result ≡ 1 → SaysNoMemory result output says ⊎ ((SaysMistake fault.now → ⊥) × IsTrue (fails output) × SaysText says writing_failed) }
+    ensures unsaid { status_of result ≡ 0 → IsUntouched (change_of L.contents L.failures lines.old lines.new) }
+    ensures told { TellsWant fault.now (change_of L.contents L.failures lines.old lines.new) }
 {
     match fault {
         CommandFault::Clap(error) => show_clap(alloc, error, writer, errors),
-        CommandFault::BadAddress(text) => say_bad_address(text, errors),
+        CommandFault::BadAddress(option, text) => say_bad_address(option, text, errors, lines),
     }
 }
 
-/// Says that this text is no address, and answers the status of a bad command line.
-fn say_bad_address<E: Outlet>(text: &str, errors: &mut E) -> Outcome
-    ensures { status_of result ≡ 2 }
+/// Says what this option wants, and that this text is no address. Answers the status of a bad command line.
+fn say_bad_address<E: Outlet, L: Outlet>(
+    option: &str,
+    text: &str,
+    errors: &mut E,
+    lines: &mut L,
+) -> Outcome
+    ensures status { status_of result ≡ 2 }
+    ensures told { SaysText (change_of L.contents L.failures lines.old lines.new) (address_wanted option.now) }
 {
+    say_three(
+        lines,
+        b"ymx: --",
+        option.as_bytes(),
+        b": it wants an IPv4 address and a port, as 127.0.0.1:8080\n",
+    );
     let _ = push_all(errors, b"ymx: bad address ");
     let _ = push_all(errors, text.as_bytes());
     let _ = push_all(errors, b"\n");

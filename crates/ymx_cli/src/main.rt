@@ -6,10 +6,12 @@
 mod command;
 mod disk;
 mod outcome;
+mod standard;
 mod tunnel;
 
-use command::{no_words, ymx_main};
+use command::{cannot_open, no_words, ymx_main};
 use disk::Disk;
+use standard::{SystemDescriptors, hold_standard};
 use std::alloc::Global;
 use std::process::ExitCode;
 use std::rt::Env;
@@ -33,6 +35,9 @@ fn main(rt: HostRuntime) -> ExitCode {
         writer: rt.stderr(),
         failures: 0,
     };
+    if !hold_standard(&mut SystemDescriptors { rt: &rt }) {
+        return ExitCode::from(cannot_open(&mut errors, "/dev/null").status());
+    }
     let alloc = rt.alloc();
     let status = match words(&rt, alloc) {
         Ok(words) => ymx_main(

@@ -16,7 +16,7 @@ use ymx_arguments::TunnelCommand;
 use ymx_forward::{run_local, run_remote, run_selftest};
 use ymx_model::Outlet;
 
-/// Does what was asked. Faults are said on `errors`, and what `-v` asks for on `lines`.
+/// Does what was asked. Faults are said on `errors`, and why they came, and what `-v` asks for, on `lines`.
 pub(crate) fn run_tunnel<
     R: Net<Stream = TcpStream, Listener = TcpListener> + Threads + Clock + Wait + Sync,
     W: Outlet,
@@ -32,11 +32,12 @@ pub(crate) fn run_tunnel<
 ) -> Outcome
     // It ended as the tunnel did, an end of it by its tables alone, with the options that it has.
     ensures ran { is_tunnel result ≡ true }
-    ensures ended { ComesByTables command result (change_of E.contents E.failures errors.old errors.new) }
+    ensures ended { ComesByTables command result (change_of E.contents E.failures errors.old errors.new) (change_of L.contents L.failures lines.old lines.new) }
     ensures status { status_of result ≤ 1 }
     ensures good { status_of result ≡ 0 → IsUntouched (change_of E.contents E.failures errors.old errors.new) }
     ensures silent { IsEnd command → IsUntouched (change_of W.contents W.failures writer.old writer.new) }
-    ensures unsaid { IsNotVerbose command → IsUntouched (change_of L.contents L.failures lines.old lines.new) }
+    // Without `-v` a good end says no lines.
+    ensures unsaid { IsNotVerbose command → status_of result ≡ 0 → IsUntouched (change_of L.contents L.failures lines.old lines.new) }
 {
     match command {
         TunnelCommand::Local(options) => {

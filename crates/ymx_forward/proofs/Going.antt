@@ -29,8 +29,8 @@ pub none_served : (a b : Tunnel) → IsIdle a.lines → ServesOne a b
 none_served a b i h = let no : true ≡ false = sym (idle_is a.lines i) ∙ h in absurd (cc no)
 
 -- the first had its turn
-pub one_served : (a b c : Tunnel) (id : ℕ) → ServesFirst id a b → Runs b c → ServesOne a c
-one_served a b c id turn on = one_then a b c (λ h. serves_first a b id turn) on.moves
+pub one_served : (a b c : Tunnel) (id gave : ℕ) → ServesFirst id gave a b → Runs b c → ServesOne a c
+one_served a b c id gave turn on = one_then a b c (λ h. serves_first a b id gave turn) on.moves
 
 not_both : (x y : Bool) → (x && y) ≡ false → (x ≡ false) ⊎ (y ≡ false)
 not_both true y h = inr h

@@ -1,3 +1,5 @@
 pub mod Counts
 pub mod Loops
+pub mod Sides
 pub mod Sockets
+pub mod Users

@@ -1,8 +1,9 @@
 //! The connections that come to one side of a tunnel.
 
 ghost use Rattle.std.specs.Prelude.{◌≡◌, ◌-◌, Some, IfSome, IfNone, IsNone, option_map};
+ghost use Rattle.ymx_forward.specs.Users.{is_less, is_shut, may_come};
 
-use crate::inbox::{Inbox, Taken};
+use crate::inbox::{Inbox, Places, Taken};
 use crate::system::{Listener, Poll, TcpConnection};
 use std::alloc::Global;
 use std::io;
@@ -42,6 +43,8 @@ pub(crate) struct Listening {
     full_at: Option<usize>,
     /// Why the system last refused to accept one, until that is told.
     refusal: Option<Reason>,
+    /// Who brings connections is to be told how many places there are.
+    is_room_due: bool,
 }
 
 impl Listening {
@@ -62,6 +65,7 @@ impl Listening {
             is_patient,
             full_at: None,
             refusal: None,
+            is_room_due: false,
         };
         listening.stop_at_count();
         Ok(listening)
@@ -76,18 +80,44 @@ impl Listening {
             is_patient: true,
             full_at: None,
             refusal: None,
+            is_room_due: true,
         }
     }
 
     /// An event says that connections wait, or it is time to look whether one can be accepted.
     pub(crate) fn note_event(&mut self) {
         self.can_accept = true;
+        self.is_room_due = true;
     }
 
     /// Whether a connection may wait to be accepted, where so many are open.
-    pub(crate) fn may_accept(&self, open: usize) -> bool {
-        let has_room = self.full_at.is_some_and(|full| open < full);
-        (self.can_accept || has_room) && !self.is_over()
+    pub(crate) fn may_accept(&self, there: usize) -> bool
+        ensures { result ≡ may_come self.now there }
+    {
+        (self.can_accept || self.has_room(there)) && !self.is_over()
+    }
+
+    /// Whether there may be a descriptor or memory again, as fewer are open than where there was none.
+    fn has_room(&self, there: usize) -> bool
+        ensures { result ≡ is_less there self.now.full_at }
+    {
+        match self.full_at {
+            Some(full) => there < full,
+            None => false,
+        }
+    }
+
+    /// Whether another thread brings connections, and is to be told how many places there are: behind each that was taken,
+    /// and as long as there is none.
+    pub(crate) fn owes_room(&self) -> bool {
+        self.is_room_due && matches!(&self.source, Source::Inbox(_))
+    }
+
+    /// Tells who brings connections how many places there are.
+    pub(crate) fn show_room<R: Wait>(&mut self, rt: &R, places: Places) {
+        if let Source::Inbox(inbox) = &self.source {
+            self.is_room_due = !inbox.show(rt, places);
+        }
     }
 
     /// Whether one may wait for which there was no descriptor or no memory.
@@ -96,7 +126,9 @@ impl Listening {
     }
 
     /// Whether no more are accepted.
-    pub(crate) fn is_over(&self) -> bool {
+    pub(crate) fn is_over(&self) -> bool
+        ensures { result ≡ is_shut self.now.source }
+    {
         match self.source {
             Source::Listener(_) | Source::Inbox(_) => false,
             Source::Closed | Source::Failed => true,
@@ -193,6 +225,7 @@ impl Listening {
         match taken {
             Taken::Connection(socket) => {
                 self.can_accept = true;
+                self.is_room_due = true;
                 self.count_one();
                 Some(socket)
             }
@@ -247,6 +280,15 @@ impl Listening {
                 self.refusal = Some(reason);
                 self.source = Source::Failed;
             }
+        }
+    }
+
+    /// Why none can be accepted any more, if the system has said so.
+    pub(crate) fn failure(&self) -> Option<Reason> {
+        if self.has_failed() {
+            self.refusal
+        } else {
+            None
         }
     }
 

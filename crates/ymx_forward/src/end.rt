@@ -11,6 +11,7 @@ use crate::site::Site;
 use crate::sockets::{accept, listen_at};
 use crate::starting::{StartFault, failed};
 use crate::tunnel_end::{LISTENER, TunnelEnd};
+use crate::voices::WatcherLines;
 use std::alloc::Global;
 use std::net::{SocketAddrV4, TcpListener};
 use std::sync::Arc;
@@ -92,12 +93,12 @@ impl<'a, R: Host> EndSockets<'a, R> {
     fn open(&mut self, listener: TcpListener, users: Users) -> Result<(), StartFault> {
         let site = Site::new(self.rt, self.alloc)?;
         let Users {
+            address,
             count,
             is_patient,
-            ..
         } = users;
         let listening = Listening::new(listener, count, is_patient, &site.poll, LISTENER)?;
-        self.end = Some(TunnelEnd::local(listening, is_patient));
+        self.end = Some(TunnelEnd::local(listening, Some(address), is_patient));
         self.site = Some(site);
         Ok(())
     }
@@ -204,7 +205,7 @@ impl<'a, R: Host> EndSockets<'a, R> {
     }
 }
 
-impl<R: Host, V: ProgramWatcher> World<V> for EndSockets<'_, R> {
+impl<R: Host, V: ProgramWatcher> World<V, WatcherLines> for EndSockets<'_, R> {
     ghost log = { λ _. None };
 
     ghost may = { λ _. ⊤ };

@@ -7,20 +7,32 @@ use std::collections::VecDeque;
 use std::sync::atomic::{AtomicU64, Ordering};
 use std::sync::{Arc, Mutex, Wait};
 use std::time::{Clock, Duration};
+use ymx_policy::Notice;
 
 /// How many seconds a link gets no connection after its peer could not be reached or was lost, where another link is
 /// there.
 const REST: u64 = 10;
+
+/// How many connections a link takes whose session is still to begin: as many as that opens at once.
+const ROOM: usize = 256;
 
 /// What lies in an inbox.
 #[derive(Drop)]
 struct Content {
     /// The connections that wait, the first that came at the front.
     waiting: VecDeque<TcpConnection>,
+    /// How many more the link has a place for.
+    room: usize,
+    /// The thread that accepts found none, and is to be woken once there is one.
+    is_wanted: bool,
+    /// The link's peer takes no more streams.
+    is_away: bool,
     /// No more connections come.
     is_closed: bool,
     /// Since when its link rests.
     rest: Option<Stillness>,
+    /// Why the fault came that the link reports next.
+    reason: Option<Notice>,
 }
 
 /// Where the thread that accepts leaves connections for the loop of a link.
@@ -46,6 +58,47 @@ pub(crate) enum Taken {
     Closed,
 }
 
+/// How many connections the session of a link can still take.
+#[derive(Clone, Copy)]
+pub(crate) enum Places {
+    /// So many now, and more once others have ended or the peer has taken them.
+    Free(usize),
+    /// None any more.
+    Never,
+}
+
+/// Whether a link is to get the next connection: the first of these before the others.
+#[derive(Clone, Copy, PartialEq, Eq)]
+enum Standing {
+    /// It has a place.
+    Free,
+    /// It has none for now.
+    Full,
+    /// It has no peer, or one that takes no more streams: others are preferred.
+    Resting,
+}
+
+/// What speaks for a link, and against it.
+#[derive(Clone, Copy)]
+struct Weight {
+    standing: Standing,
+    /// How many connections it has.
+    load: u64,
+}
+
+/// Whether the next connection may be accepted.
+#[derive(Clone, Copy, PartialEq, Eq)]
+pub(crate) enum Room {
+    /// A link is there for it.
+    Found,
+    /// All links are full. One of them wakes the thread that accepts once it has a place.
+    Full,
+    /// All are full that don't rest. One of them does so, or a rest ends.
+    FullForNow,
+    /// No link takes connections any more.
+    Closed,
+}
+
 /// Why a connection could not be left.
 #[derive(Drop)]
 pub(crate) enum NotLeft {
@@ -60,8 +113,12 @@ impl Inbox {
     pub(crate) fn new(alloc: Global, waker: Waker, acceptor: Arc<Waker, Global>) -> Inbox {
         let content = Content {
             waiting: VecDeque::new(alloc),
+            room: ROOM,
+            is_wanted: false,
+            is_away: false,
             is_closed: false,
             rest: None,
+            reason: None,
         };
         Inbox {
             content: Mutex::new(content),
@@ -80,6 +137,7 @@ impl Inbox {
         if let Err(refused) = content.waiting.push_back(socket) {
             return Err(NotLeft::OutOfMemory(refused));
         }
+        content.room = content.room.saturating_sub(1);
         self.load.fetch_add(1, Ordering::SeqCst);
         drop(content);
         self.waker.wake();
@@ -115,50 +173,143 @@ impl Inbox {
         self.acceptor.wake();
     }
 
+    /// The session of the link has so many places, of which those who wait here take some. Where the thread that accepts
+    /// waits for one, it is woken. Whether one is left.
+    pub(crate) fn show<R: Wait>(&self, rt: &R, places: Places) -> bool {
+        let mut content = self.content.lock(rt);
+        match places {
+            Places::Free(count) => content.room = count.saturating_sub(content.waiting.len()),
+            Places::Never => {
+                content.room = 0;
+                content.is_away = true;
+            }
+        }
+        let has_room = content.room > 0;
+        let is_wanted = content.is_wanted && (has_room || content.is_away);
+        if is_wanted {
+            content.is_wanted = false;
+        }
+        drop(content);
+        if is_wanted {
+            self.acceptor.wake();
+        }
+        has_room
+    }
+
+    /// Keeps the reason of the fault that the link reports next.
+    pub(crate) fn keep_reason<R: Wait>(&self, rt: &R, reason: Notice) {
+        let mut content = self.content.lock(rt);
+        content.reason = Some(reason);
+    }
+
+    /// The reason that was kept, if one was.
+    pub(crate) fn take_reason<R: Wait>(&self, rt: &R) -> Option<Notice> {
+        let mut content = self.content.lock(rt);
+        content.reason.take()
+    }
+
     /// The link has no peer now: others are to be preferred for a while.
     pub(crate) fn rest<R: Clock + Wait>(&self, rt: &R) {
         let mut stillness = Stillness::new();
         stillness.go_on(rt);
-        let mut content = self.content.lock(rt);
-        content.rest = Some(stillness);
+        self.begin_anew(rt, Some(stillness));
     }
 
     /// The link can serve again.
     pub(crate) fn resume<R: Wait>(&self, rt: &R) {
-        let mut content = self.content.lock(rt);
-        content.rest = None;
+        self.begin_anew(rt, None);
     }
 
-    /// How much speaks against a further connection: how many the link has, and the greatest number while it rests. None
-    /// once the inbox is closed.
-    pub(crate) fn weight<R: Clock + Wait>(&self, rt: &R) -> Option<u64> {
-        let content = self.content.lock(rt);
+    /// The session of the link is over, and another one is to follow, before which it rests or doesn't.
+    fn begin_anew<R: Wait>(&self, rt: &R, rest: Option<Stillness>) {
+        let mut content = self.content.lock(rt);
+        content.rest = rest;
+        content.is_away = false;
+        content.room = ROOM.saturating_sub(content.waiting.len());
+        let is_wanted = content.is_wanted;
+        content.is_wanted = false;
+        drop(content);
+        if is_wanted {
+            self.acceptor.wake();
+        }
+    }
+
+    /// What speaks for a further connection, and against it. None once the inbox is closed. Where it is full it tells the
+    /// thread that accepts once it has a place.
+    fn weight<R: Clock + Wait>(&self, rt: &R) -> Option<Weight> {
+        let mut content = self.content.lock(rt);
         if content.is_closed {
             return None;
         }
-        match content.rest {
-            Some(rest) if !rest.has_lasted(rt, Duration::from_secs(REST)) => Some(u64::MAX),
-            _ => Some(self.load.load(Ordering::SeqCst)),
-        }
+        let is_resting = match content.rest {
+            Some(rest) => !rest.has_lasted(rt, Duration::from_secs(REST)),
+            None => content.is_away,
+        };
+        let standing = match content.room {
+            _ if is_resting => Standing::Resting,
+            0 => Standing::Full,
+            _ => Standing::Free,
+        };
+        content.is_wanted = content.is_wanted || standing == Standing::Full;
+        let load = self.load.load(Ordering::SeqCst);
+        Some(Weight { standing, load })
     }
 }
 
-/// The inbox of the link that is to get the next connection: of the one that has the fewest. None where all are closed.
+/// Whether the first of these links is to get a connection before the second.
+fn is_before(one: Weight, other: Weight) -> bool {
+    match (one.standing, other.standing) {
+        (Standing::Free, Standing::Free)
+        | (Standing::Full, Standing::Full)
+        | (Standing::Resting, Standing::Resting) => one.load < other.load,
+        (Standing::Free, _) => true,
+        (Standing::Resting, Standing::Full) => true,
+        _ => false,
+    }
+}
+
+/// The inbox of the link that is to get the next connection: of those that have a place the one that has the fewest, or
+/// else of those that rest. None where all are closed.
 fn lightest<'a, R: Clock + Wait>(
     rt: &R,
     inboxes: &'a [Arc<Inbox, Global>],
 ) -> Option<&'a Arc<Inbox, Global>> {
     let mut lightest = None;
-    let mut least = u64::MAX;
+    let mut least = None;
     for inbox in inboxes {
         if let Some(weight) = inbox.weight(rt) {
-            if lightest.is_none() || weight < least {
+            let is_lighter = match least {
+                Some(least) => is_before(weight, least),
+                None => true,
+            };
+            if is_lighter {
                 lightest = Some(inbox);
-                least = weight;
+                least = Some(weight);
             }
         }
     }
     lightest
+}
+
+/// Whether a link is there for one more connection: one that has a place or, where all rest, any.
+pub(crate) fn room_of<R: Clock + Wait>(rt: &R, inboxes: &[Arc<Inbox, Global>]) -> Room {
+    let mut has_resting = false;
+    let mut has_full = false;
+    for inbox in inboxes {
+        if let Some(weight) = inbox.weight(rt) {
+            match weight.standing {
+                Standing::Free => return Room::Found,
+                Standing::Full => has_full = true,
+                Standing::Resting => has_resting = true,
+            }
+        }
+    }
+    match (has_full, has_resting) {
+        (true, true) => Room::FullForNow,
+        (true, false) => Room::Full,
+        (false, true) => Room::Found,
+        (false, false) => Room::Closed,
+    }
 }
 
 /// Leaves a connection at the link that has the fewest. The connection comes back where all are closed.
@@ -178,11 +329,6 @@ pub(crate) fn leave_lightest<R: Clock + Wait>(
         }
     }
     Err(NotLeft::Closed(socket))
-}
-
-/// Whether no inbox takes a connection any more.
-pub(crate) fn are_closed<R: Clock + Wait>(rt: &R, inboxes: &[Arc<Inbox, Global>]) -> bool {
-    lightest(rt, inboxes).is_none()
 }
 
 /// No more connections come to any of these.

@@ -1,6 +1,6 @@
 //! One of several links to the peer of a `local`, which runs in a thread of its own.
 
-ghost use Rattle.std.specs.Prelude.{None, refl};
+ghost use Rattle.std.specs.Prelude.{None};
 
 use crate::end::EndSockets;
 use crate::host::Host;
@@ -11,13 +11,14 @@ use crate::shared::Shared;
 use crate::site::{Site, unwatched, well};
 use crate::system::{Poll, TcpConnection};
 use crate::tunnel_end::TunnelEnd;
+use crate::voices::WatcherLines;
 use crate::watching::{Declined, EndedConnection, Origin, Watcher};
 use crossbeam_channel::Sender;
 use std::alloc::Global;
 use std::sync::{Arc, Wait};
 use ymx_model::CallFault;
 use ymx_policy::{
-    Errors, Fault, Lines, LocalOptions, Notice, Plan, PoolHappened, Reason, Session, SessionEnd,
+    Errors, Fault, LocalOptions, Named, Notice, Plan, PoolHappened, Reason, Session, SessionEnd,
     run,
 };
 
@@ -47,8 +48,8 @@ pub(crate) struct LinkJob {
 /// What a link reports.
 #[derive(Clone, Copy)]
 pub(crate) enum Report {
-    /// It goes on, and has met this fault.
-    Met(Fault),
+    /// It goes on, and has met this fault, for this reason if one is known.
+    Met(Fault, Option<Notice>),
     /// It has ended so.
     Left(SessionEnd),
 }
@@ -57,7 +58,7 @@ impl Report {
     /// What happened.
     pub(crate) fn happened(self) -> PoolHappened {
         match self {
-            Report::Met(fault) => PoolHappened::Met(fault),
+            Report::Met(fault, reason) => PoolHappened::Met(fault, reason),
             Report::Left(how) => PoolHappened::Left(how),
         }
     }
@@ -89,7 +90,8 @@ impl<'a, R: Wait> Errors<Reports<'a, R>> for ReportedErrors {
     ghost failures = { λ _. 0 };
 
     fn say(device: &mut Reports<'a, R>, fault: Fault) {
-        device.send(Report::Met(fault));
+        let reason = device.inbox.take_reason(device.rt);
+        device.send(Report::Met(fault, reason));
     }
 }
 
@@ -119,21 +121,19 @@ impl<R: Wait, V: ProgramWatcher> Watcher for LinkWatcher<'_, R, V> {
         self.shared.lost();
     }
 
-    fn failed(&mut self, option: &'static str, reason: Reason) {
+    fn failed(&mut self, option: Named, reason: Reason) {
         self.shared.failed(option, reason);
     }
 }
 
-impl<R: Wait, V: ProgramWatcher> Lines for LinkWatcher<'_, R, V> {
-    ghost told = { λ _. None };
-
-    fn tell(&mut self, notice: Notice) {
-        self.shared.tell(notice);
-    }
-}
-
 impl<R: Wait, V: ProgramWatcher> ProgramWatcher for LinkWatcher<'_, R, V> {
-    ghost is_mute = { λ _. refl };
+    /// What rule was broken is told with the fault, by who hears of it.
+    fn tell(&mut self, notice: Notice) {
+        match notice {
+            Notice::Broke(..) => self.inbox.keep_reason(self.shared.rt, notice),
+            _ => self.shared.tell(notice),
+        }
+    }
 }
 
 impl<R: Wait, V: ProgramWatcher> LinkWatcher<'_, R, V> {
@@ -191,7 +191,7 @@ impl LinkJob {
             None => {
                 let mut sockets = EndSockets::of_link(site, end, inbox);
                 let plan = Plan::Link(options);
-                let _ = run::<_, _, _, _, ReportedErrors>(
+                let _ = run::<_, _, WatcherLines, _, _, ReportedErrors>(
                     rt,
                     plan,
                     &mut sockets,

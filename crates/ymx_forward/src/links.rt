@@ -6,7 +6,7 @@ ghost use Rattle.std.specs.Thread.{IsSend};
 
 use crate::accepting::Listening;
 use crate::host::Host;
-use crate::inbox::{Inbox, NotLeft, are_closed, close_all, leave_lightest};
+use crate::inbox::{Inbox, NotLeft, Room, close_all, leave_lightest, room_of};
 use crate::link::{Link, LinkJob, Report};
 use crate::notices::ProgramWatcher;
 use crate::peer::Peer;
@@ -17,6 +17,7 @@ use crate::sockets::listen_at;
 use crate::starting::StartFault;
 use crate::system::{Poll, TcpConnection, Waker};
 use crate::tunnel_end::{LISTENER, TunnelEnd};
+use crate::voices::WatcherLines;
 use crate::watching::{Declined, Watcher};
 use crossbeam_channel::{Receiver, Sender, bounded};
 use std::alloc::Global;
@@ -192,11 +193,6 @@ impl<'a, R: Host> LinkSockets<'a, R> {
         })
     }
 
-    /// Its runtime and its allocator.
-    pub(crate) fn runtime(&self) -> (&'a R, Global) {
-        (self.site.rt, self.site.alloc)
-    }
-
     /// Calls the peer for one more link.
     fn call(&mut self, address: SocketAddrV4) -> PoolHappened {
         match Peer::call(self.site.rt, address) {
@@ -277,7 +273,8 @@ impl<'a, R: Host> LinkSockets<'a, R> {
         self.starter.jobs = None;
     }
 
-    /// Waits until a user comes, or a link has something to report.
+    /// Waits until a user comes for whom a link has a place, or a link has something to report. Where all links are full,
+    /// users wait in the system.
     fn wait(&mut self) -> PoolHappened {
         let rt = self.site.rt;
         let Some(listening) = &mut self.listening else {
@@ -288,20 +285,24 @@ impl<'a, R: Host> LinkSockets<'a, R> {
             if listening.is_over() {
                 return last_of(listening);
             }
-            if are_closed(rt, self.inboxes.as_slice()) {
+            let room = room_of(rt, self.inboxes.as_slice());
+            if room == Room::Closed {
                 return PoolHappened::NoLinks;
             }
             if let Ok(report) = self.starter.reports.try_recv(rt) {
                 return report.happened();
             }
-            if let Some(socket) = listening.accept(rt, 0) {
-                self.user = Some(socket);
-                return PoolHappened::Came;
+            if room == Room::Found {
+                if let Some(socket) = listening.accept(rt, 0) {
+                    self.user = Some(socket);
+                    return PoolHappened::Came;
+                }
+                if let Some(happened) = refused(listening) {
+                    return happened;
+                }
             }
-            if let Some(happened) = refused(listening) {
-                return happened;
-            }
-            if self.site.wait(listening.is_full()).is_err() {
+            let is_brief = listening.is_full() || room == Room::FullForNow;
+            if self.site.wait(is_brief).is_err() {
                 return PoolHappened::NobodyComes(None);
             }
         }
@@ -359,7 +360,7 @@ fn last_of(listening: &mut Listening) -> PoolHappened {
     }
 }
 
-impl<R: Host, V: ProgramWatcher> PoolWorld<V> for LinkSockets<'_, R> {
+impl<R: Host, V: ProgramWatcher> PoolWorld<V, WatcherLines> for LinkSockets<'_, R> {
     ghost log = { λ _. None };
 
     ghost may = { λ _. ⊤ };

@@ -1,7 +1,5 @@
 //! What `-v` asks for: lines about a tunnel while it runs.
 
-ghost use Rattle.std.specs.Prelude.{◌≡◌, None};
-
 use crate::stream::Stream;
 use crate::system::TcpConnection;
 use crate::watching::{Declined, EndedConnection, Ending, Origin, Passed, Watcher};
@@ -9,7 +7,7 @@ use arrayvec::ArrayString;
 use std::fmt::Write;
 use ymx_devices::push_all;
 use ymx_model::{CallFault, Outlet};
-use ymx_policy::{Lines, Notice, Reason, notice_text};
+use ymx_policy::{Named, Notice, Reason, notice_text};
 
 /// Room for the longest line, in bytes: that of a connection with the greatest numbers and the longest reason has 242.
 const LINE: usize = 256;
@@ -21,9 +19,9 @@ const GONE: &str = "ymx: the peer has gone";
 type Line = ArrayString<LINE>;
 
 /// Who is told of connections, and of what a program does besides.
-pub(crate) trait ProgramWatcher: Watcher + Lines {
-    /// It can't tell a contract what it was told.
-    ghost is_mute: { (w : Self) → Self.told w ≡ None };
+pub(crate) trait ProgramWatcher: Watcher {
+    /// Tells this.
+    fn tell(&mut self, notice: Notice);
 }
 
 /// Says that a tunnel is ready, and how each of its connections ended, a line each. Where the device fails the line is
@@ -81,12 +79,8 @@ impl<L: Outlet> Watcher for Notices<'_, L> {
         self.say_text(GONE);
     }
 
-    fn failed(&mut self, option: &'static str, reason: Reason) {
-        let mut line = Line::new();
-        let _ = write!(line, "ymx: {option}: ");
-        write_reason(&mut line, reason);
-        let _ = writeln!(line, "");
-        self.say(&line);
+    fn failed(&mut self, option: Named, reason: Reason) {
+        self.say_notice(Notice::Refused(option, reason));
     }
 }
 

@@ -25,8 +25,8 @@ use std::thread::Threads;
 use std::time::Duration;
 use std::{io, thread};
 use ymx_policy::{
-    Errors, Lines, Plan, PoolDeed, PoolEnd, PoolHappened, PoolWorld, Reason, Session, SessionEnd,
-    run_pool_to_end,
+    Errors, Lines, Named, Plan, PoolDeed, PoolEnd, PoolHappened, PoolWorld, Reason, Session,
+    SessionEnd, run_pool_to_end,
 };
 
 /// The token of the listener.
@@ -42,6 +42,8 @@ const ROOM: usize = 256;
 #[derive(Drop)]
 pub(crate) struct Lobby {
     alloc: Global,
+    /// Where peers come in.
+    at: SocketAddrV4,
     /// Where a thread leaves how its session ended.
     ends: Sender<SessionEnd, Global>,
     /// Who is woken then.
@@ -84,14 +86,19 @@ struct PeerThreads<'a, R, F> {
     start: F,
 }
 
-/// A place where peers come in.
-pub(crate) fn new_lobby<R: Host>(rt: &R, alloc: Global) -> Result<PeerPool, StartFault> {
+/// A place where peers come in, at this address.
+pub(crate) fn new_lobby<R: Host>(
+    rt: &R,
+    alloc: Global,
+    at: SocketAddrV4,
+) -> Result<PeerPool, StartFault> {
     let poll = Poll::new(rt, alloc)?;
     let waker = Waker::new(&poll, LEAVINGS)?;
     let (leave, ends) = bounded::<SessionEnd, Global>(alloc, ROOM)?;
     let (begins, begun) = bounded::<(), Global>(alloc, ROOM)?;
     let lobby = Lobby {
         alloc,
+        at,
         ends: leave,
         waker,
         begun,
@@ -115,7 +122,7 @@ impl Lobby {
             Ok(site) => serve_peer(site, peer, session, &mut shared),
             Err(fault) => {
                 if let StartFault::Unwatched(error) = &fault {
-                    shared.failed("--bind", Reason::of(error));
+                    shared.failed(Named::Bind(self.at), Reason::of(error));
                 }
                 unstarted(fault)
             }
@@ -140,13 +147,14 @@ fn serve_peer<R: Host, V: Watcher>(
 }
 
 /// Runs the pool of peers of this plan, each in a thread of its own, up to its last words.
-pub(crate) fn run_peers<R: Host + Threads + Sync, V: ProgramWatcher + Send + Drop, D, E: Errors<D>>(
-    rt: &R,
-    pool: PeerPool,
-    plan: Plan,
-    watcher: &Mutex<V>,
-    errors: &mut D,
-) -> PoolEnd
+pub(crate) fn run_peers<
+    R: Host + Threads + Sync,
+    V: ProgramWatcher + Send + Drop,
+    T,
+    L: Lines<T>,
+    D,
+    E: Errors<D>,
+>(rt: &R, pool: PeerPool, plan: Plan, watcher: &Mutex<V>, lines: &mut T, errors: &mut D) -> PoolEnd
     // It has come to its end by its tables alone.
     ensures { EndsAt (terms_of plan) result.status result.words }
 {
@@ -174,24 +182,23 @@ pub(crate) fn run_peers<R: Host + Threads + Sync, V: ProgramWatcher + Send + Dro
                 is_begun: false,
             };
             let mut threads = PeerThreads { sockets, start };
-            run_threads::<_, _, _, D, E>(plan, &mut threads, watcher, errors)
+            run_threads::<_, _, T, L, D, E>(plan, &mut threads, lines, errors)
         },
     )
 }
 
 /// Runs the pool of peers over these sockets.
-fn run_threads<R: Host, V: ProgramWatcher, F: FnMut(Peer, Session) -> bool, D, E: Errors<D>>(
+fn run_threads<R: Host, F: FnMut(Peer, Session) -> bool, T, L: Lines<T>, D, E: Errors<D>>(
     plan: Plan,
     threads: &mut PeerThreads<'_, R, F>,
-    watcher: &Mutex<V>,
+    lines: &mut T,
     errors: &mut D,
 ) -> PoolEnd
     requires { F.IsAlwaysCallable threads.old.start }
     ensures { EndsAt (terms_of plan) result.status result.words }
 {
     let rt = threads.sockets.rt;
-    let mut lines = Shared { rt, watcher };
-    run_pool_to_end::<_, _, _, D, E>(rt, plan, threads, &mut lines, errors)
+    run_pool_to_end::<_, T, L, _, D, E>(rt, plan, threads, lines, errors)
 }
 
 impl<R: Host> PeerSockets<'_, R> {
@@ -284,12 +291,13 @@ pub(crate) fn refused(listening: &mut Listening) -> Option<PoolHappened> {
     }
 }
 
-impl<R: Host, L: Lines, F: FnMut(Peer, Session) -> bool> PoolWorld<L> for PeerThreads<'_, R, F> {
+impl<R: Host, T, L: Lines<T>, F: FnMut(Peer, Session) -> bool> PoolWorld<T, L>
+    for PeerThreads<'_, R, F> {
     ghost log = { λ _. None };
 
     ghost may = { λ w. F.IsAlwaysCallable w.start };
 
-    fn perform(&mut self, deed: PoolDeed, _lines: &mut L) -> PoolHappened {
+    fn perform(&mut self, deed: PoolDeed, _lines: &mut T) -> PoolHappened {
         self.sockets.release();
         match deed {
             PoolDeed::ListenForPeers(address) => self.sockets.listen(address),

@@ -1,27 +1,31 @@
 //! `ymx local` and `ymx remote`: each runs by the tables of its end, or of its pool of sessions.
+//!
+//! With `-v` who watches the connections tells lines too. Without it nobody watches, and only reasons are told.
 
-ghost use Rattle.std.specs.Prelude.{◌≡◌, false};
+ghost use Rattle.std.specs.Prelude.{ℕ, List, Option, ◌≡◌, false, true};
 ghost use Rattle.std.specs.Io.KnownBytes.{Keeps};
 ghost use Rattle.ymx_policy.specs.Endings.{EndsAlone, EndsAt, EndsBy, EndsTogether};
-ghost use Rattle.ymx_policy.specs.Plans.{is_called, terms_of};
+ghost use Rattle.ymx_policy.specs.Plans.{has_pool, is_called, terms_of};
 
 use crate::end::EndSockets;
 use crate::host::Host;
-use crate::links::{LinkSockets, LinkThreads, new_links};
+use crate::links::{LinkSockets, new_links};
 use crate::notices::{Notices, ProgramWatcher};
 use crate::peers::{new_lobby, run_peers};
 use crate::shared::Shared;
 use crate::starting::StartFault;
-use crate::voices::{Muted, OutletErrors, Unbegun};
+use crate::voices::{Muted, OutletErrors, OutletLines, Unbegun, Unheard, WatcherLines};
 use crate::watching::Unwatched;
 use std::alloc::Global;
+use std::net::SocketAddrV4;
 use std::sync::{Mutex, Wait};
 use std::thread::{Threads, join_mut};
 use ymx_model::Outlet;
-use ymx_policy::{LocalOptions, Plan, PoolEnd, RemoteOptions, run, run_pool};
+use ymx_policy::{Lines, LocalOptions, PeerAddress, Plan, PoolEnd, RemoteOptions, run, run_pool};
 
-/// Runs `ymx local`: forwards each connection that comes as a stream of a session with its peer. Says faults on `errors`,
-/// and the lines that `is_verbose` asks for on `lines`. Answers the exit status: 0 where no fault was said, else 1.
+/// Runs `ymx local`: forwards each connection that comes as a stream of a session with its peer. Says faults on `errors`.
+/// On `lines` it tells why they came, before each, and all that `is_verbose` asks for. Answers the exit status: 0 where no
+/// fault was said, else 1.
 pub fn run_local<R: Host + Threads + Sync, E: Outlet + Send, L: Outlet + Send>(
     rt: &R,
     alloc: Global,
@@ -29,38 +33,28 @@ pub fn run_local<R: Host + Threads + Sync, E: Outlet + Send, L: Outlet + Send>(
     errors: &mut E,
     lines: &mut L,
 ) -> u8
-    // It ends by the tables of these options alone, and the error device takes the texts of the faults that they ask to say.
-    ensures ended { EndsBy (Plan.Local options) result (E.contents errors.old) (E.contents errors.new) (E.failures errors.old) (E.failures errors.new) }
+    // It ends by the tables of these options alone: the error device takes the texts of the faults that they ask to say, and
+    // without `-v` the device for lines takes those of their reasons.
+    ensures ended { EndsBy (Plan.Local options) result (E.contents errors.old) (E.contents errors.new) (E.failures errors.old) (E.failures errors.new) (L.contents lines.old) (L.contents lines.new) (L.failures lines.old) (L.failures lines.new) }
     ensures good { result ≡ 0 → Keeps (E.contents errors.old) (E.contents errors.new) }
-    ensures silent { options.is_verbose ≡ false → Keeps (L.contents lines.old) (L.contents lines.new) }
-{
-    if options.is_verbose {
-        run_local_with(rt, alloc, options, Notices::new(lines), errors)
-    } else {
-        run_local_with(rt, alloc, options, Unwatched, errors)
-    }
-}
-
-/// Runs `ymx local`, with this watcher.
-fn run_local_with<R: Host + Threads + Sync, V: ProgramWatcher + Send + Drop, E: Outlet + Send>(
-    rt: &R,
-    alloc: Global,
-    options: LocalOptions,
-    watcher: V,
-    errors: &mut E,
-) -> u8
-    ensures ended { EndsBy (Plan.Local options) result (E.contents errors.old) (E.contents errors.new) (E.failures errors.old) (E.failures errors.new) }
-    ensures good { result ≡ 0 → Keeps (E.contents errors.old) (E.contents errors.new) }
+    ensures silent { options.is_verbose ≡ false → result ≡ 0 → Keeps (L.contents lines.old) (L.contents lines.new) }
 {
     let plan = Plan::Local(options);
     if plan.has_pool() {
-        return run_links(rt, alloc, options, watcher, errors);
+        if options.is_verbose {
+            return run_links_told(rt, alloc, options, Notices::new(lines), errors);
+        }
+        return run_links_untold(rt, alloc, options, lines, errors);
     }
-    run_end(rt, alloc, plan, watcher, errors)
+    if options.is_verbose {
+        return run_end_told(rt, alloc, plan, Notices::new(lines), errors);
+    }
+    run_end_untold(rt, alloc, plan, lines, errors)
 }
 
-/// Runs `ymx remote`: meets its peers, and connects each of their streams to the target. Says faults on `errors`, and the
-/// lines that `is_verbose` asks for on `lines`. Answers the exit status: 0 where no fault was said, else 1.
+/// Runs `ymx remote`: meets its peers, and connects each of their streams to the target. Says faults on `errors`. On
+/// `lines` it tells why they came, before each, and all that `is_verbose` asks for. Answers the exit status: 0 where no
+/// fault was said, else 1.
 pub fn run_remote<R: Host + Threads + Sync, E: Outlet + Send, L: Outlet + Send>(
     rt: &R,
     alloc: Global,
@@ -68,187 +62,284 @@ pub fn run_remote<R: Host + Threads + Sync, E: Outlet + Send, L: Outlet + Send>(
     errors: &mut E,
     lines: &mut L,
 ) -> u8
-    // It ends by the tables of these options alone, and the error device takes the texts of the faults that they ask to say.
-    ensures ended { EndsBy (Plan.Remote options) result (E.contents errors.old) (E.contents errors.new) (E.failures errors.old) (E.failures errors.new) }
+    // It ends by the tables of these options alone: the error device takes the texts of the faults that they ask to say, and
+    // without `-v` the device for lines takes those of their reasons.
+    ensures ended { EndsBy (Plan.Remote options) result (E.contents errors.old) (E.contents errors.new) (E.failures errors.old) (E.failures errors.new) (L.contents lines.old) (L.contents lines.new) (L.failures lines.old) (L.failures lines.new) }
     ensures good { result ≡ 0 → Keeps (E.contents errors.old) (E.contents errors.new) }
-    ensures silent { options.is_verbose ≡ false → Keeps (L.contents lines.old) (L.contents lines.new) }
-{
-    if options.is_verbose {
-        run_remote_with(rt, alloc, options, Notices::new(lines), errors)
-    } else {
-        run_remote_with(rt, alloc, options, Unwatched, errors)
-    }
-}
-
-/// Runs `ymx remote`, with this watcher.
-fn run_remote_with<R: Host + Threads + Sync, V: ProgramWatcher + Send + Drop, E: Outlet + Send>(
-    rt: &R,
-    alloc: Global,
-    options: RemoteOptions,
-    watcher: V,
-    errors: &mut E,
-) -> u8
-    ensures ended { EndsBy (Plan.Remote options) result (E.contents errors.old) (E.contents errors.new) (E.failures errors.old) (E.failures errors.new) }
-    ensures good { result ≡ 0 → Keeps (E.contents errors.old) (E.contents errors.new) }
+    ensures silent { options.is_verbose ≡ false → result ≡ 0 → Keeps (L.contents lines.old) (L.contents lines.new) }
 {
     let plan = Plan::Remote(options);
     if plan.has_pool() {
-        return run_peer_pool(rt, alloc, options, watcher, errors);
+        if options.is_verbose {
+            return run_peers_told(rt, alloc, options, Notices::new(lines), errors);
+        }
+        return run_peers_untold(rt, alloc, options, lines, errors);
     }
-    run_end(rt, alloc, plan, watcher, errors)
+    if options.is_verbose {
+        return run_end_told(rt, alloc, plan, Notices::new(lines), errors);
+    }
+    run_end_untold(rt, alloc, plan, lines, errors)
 }
 
-/// Runs an end with one session after another.
-fn run_end<R: Host, V: ProgramWatcher + Drop, E: Outlet>(
+// ---- one session after another
+
+/// Runs an end with one session after another, and tells this watcher.
+fn run_end_told<R: Host, V: ProgramWatcher + Drop, E: Outlet>(
     rt: &R,
     alloc: Global,
     plan: Plan,
     watcher: V,
     errors: &mut E,
 ) -> u8
-    ensures ended { EndsAlone (terms_of plan) result (E.contents errors.old) (E.contents errors.new) (E.failures errors.old) (E.failures errors.new) }
+    requires { (terms_of plan).is_verbose ≡ true }
+    ensures ended { (lines lines_new : Option (List ℕ)) (unwritten unwritten_new : ℕ) →
+        EndsAlone (terms_of plan) result (E.contents errors.old) (E.contents errors.new) (E.failures errors.old) (E.failures errors.new) lines lines_new unwritten unwritten_new }
     ensures good { result ≡ 0 → Keeps (E.contents errors.old) (E.contents errors.new) }
 {
     let mut watcher = watcher;
     let mut sockets = EndSockets::new(rt, alloc);
-    run::<_, _, _, _, OutletErrors>(rt, plan, &mut sockets, &mut watcher, errors)
+    run::<_, _, WatcherLines, _, _, OutletErrors>(rt, plan, &mut sockets, &mut watcher, errors)
 }
 
-/// Runs a `remote` that serves many peers at once. With `--keep` it says each fault as it comes, and without at its end.
-fn run_peer_pool<R: Host + Threads + Sync, V: ProgramWatcher + Send + Drop, E: Outlet>(
+/// Runs an end with one session after another, whose connections nobody watches.
+fn run_end_untold<R: Host, E: Outlet, L: Outlet>(
+    rt: &R,
+    alloc: Global,
+    plan: Plan,
+    lines: &mut L,
+    errors: &mut E,
+) -> u8
+    requires { (terms_of plan).is_verbose ≡ false }
+    ensures ended { EndsAlone (terms_of plan) result (E.contents errors.old) (E.contents errors.new) (E.failures errors.old) (E.failures errors.new) (L.contents lines.old) (L.contents lines.new) (L.failures lines.old) (L.failures lines.new) }
+    ensures good { result ≡ 0 → Keeps (E.contents errors.old) (E.contents errors.new) }
+    ensures silent { result ≡ 0 → Keeps (L.contents lines.old) (L.contents lines.new) }
+{
+    let mut sockets = Unheard {
+        world: EndSockets::new(rt, alloc),
+    };
+    run::<_, _, OutletLines, _, _, OutletErrors>(rt, plan, &mut sockets, lines, errors)
+}
+
+// ---- many peers
+
+/// Runs a `remote` that serves many peers at once, and tells this watcher.
+fn run_peers_told<R: Host + Threads + Sync, V: ProgramWatcher + Send + Drop, E: Outlet>(
     rt: &R,
     alloc: Global,
     options: RemoteOptions,
     watcher: V,
     errors: &mut E,
 ) -> u8
-    requires { is_called options.peer ≡ false }
-    ensures ended { EndsTogether (terms_of (Plan.Remote options)) result (E.contents errors.old) (E.contents errors.new) (E.failures errors.old) (E.failures errors.new) }
+    requires awaited { is_called options.peer ≡ false }
+    requires told { options.is_verbose ≡ true }
+    ensures ended { (lines lines_new : Option (List ℕ)) (unwritten unwritten_new : ℕ) →
+        EndsTogether (terms_of (Plan.Remote options)) result (E.contents errors.old) (E.contents errors.new) (E.failures errors.old) (E.failures errors.new) lines lines_new unwritten unwritten_new }
     ensures good { result ≡ 0 → Keeps (E.contents errors.old) (E.contents errors.new) }
 {
     let watcher = Mutex::new(watcher);
-    match new_lobby(rt, alloc) {
-        Ok(pool) => {
-            let plan = Plan::Remote(options);
-            if options.is_kept {
-                let end = run_peers::<_, _, _, OutletErrors>(rt, pool, plan, &watcher, errors);
-                return conclude(rt, options, end, &watcher, errors);
-            }
-            let end = run_peers::<_, _, _, Muted>(rt, pool, plan, &watcher, &mut Muted);
-            conclude(rt, options, end, &watcher, errors)
-        }
-        Err(fault) => run_unserved(rt, options, fault, &watcher, errors),
+    let mut lines = Shared {
+        rt,
+        watcher: &watcher,
+    };
+    run_peer_pool::<_, _, _, WatcherLines, _>(rt, alloc, options, &watcher, &mut lines, errors)
+}
+
+/// Runs a `remote` that serves many peers at once, whose connections nobody watches.
+fn run_peers_untold<R: Host + Threads + Sync, E: Outlet, L: Outlet>(
+    rt: &R,
+    alloc: Global,
+    options: RemoteOptions,
+    lines: &mut L,
+    errors: &mut E,
+) -> u8
+    requires awaited { is_called options.peer ≡ false }
+    requires untold { options.is_verbose ≡ false }
+    ensures ended { EndsTogether (terms_of (Plan.Remote options)) result (E.contents errors.old) (E.contents errors.new) (E.failures errors.old) (E.failures errors.new) (L.contents lines.old) (L.contents lines.new) (L.failures lines.old) (L.failures lines.new) }
+    ensures good { result ≡ 0 → Keeps (E.contents errors.old) (E.contents errors.new) }
+    ensures silent { result ≡ 0 → Keeps (L.contents lines.old) (L.contents lines.new) }
+{
+    let watcher = Mutex::new(Unwatched);
+    run_peer_pool::<_, _, _, OutletLines, _>(rt, alloc, options, &watcher, lines, errors)
+}
+
+/// Runs a `remote` that serves many peers at once. With `--keep` it says each fault as it comes, and without at its end; so
+/// it tells their reasons.
+fn run_peer_pool<
+    R: Host + Threads + Sync,
+    V: ProgramWatcher + Send + Drop,
+    T,
+    L: Lines<T>,
+    E: Outlet,
+>(
+    rt: &R,
+    alloc: Global,
+    options: RemoteOptions,
+    watcher: &Mutex<V>,
+    lines: &mut T,
+    errors: &mut E,
+) -> u8
+    requires { is_called options.peer ≡ false }
+    ensures { EndsTogether (terms_of (Plan.Remote options)) result (E.contents errors.old) (E.contents errors.new) (E.failures errors.old) (E.failures errors.new) (L.contents lines.old) (L.contents lines.new) (L.failures lines.old) (L.failures lines.new) }
+{
+    let plan = Plan::Remote(options);
+    let pool = match new_lobby(rt, alloc, address_of(options.peer)) {
+        Ok(pool) => pool,
+        Err(fault) => return run_unbegun::<_, _, L, _>(rt, plan, fault, lines, errors),
+    };
+    if options.is_kept {
+        let end = run_peers::<_, _, T, L, _, OutletErrors>(rt, pool, plan, watcher, lines, errors);
+        return conclude::<_, L, _>(plan, end, lines, errors);
+    }
+    if options.is_verbose {
+        let end = run_peers::<_, _, T, L, _, Muted>(rt, pool, plan, watcher, lines, &mut Muted);
+        return conclude::<_, L, _>(plan, end, lines, errors);
+    }
+    let end = run_peers::<_, _, Muted, Muted, _, Muted>(
+        rt, pool, plan, watcher, &mut Muted, &mut Muted,
+    );
+    conclude::<_, L, _>(plan, end, lines, errors)
+}
+
+/// The address itself.
+fn address_of(peer: PeerAddress) -> SocketAddrV4 {
+    match peer {
+        PeerAddress::Connect(address) | PeerAddress::Listen(address) => address,
     }
 }
 
 /// Says the last words of a pool of peers. Answers the exit status.
-fn conclude<R: Wait, V: ProgramWatcher, E: Outlet>(
-    rt: &R,
-    options: RemoteOptions,
+fn conclude<T, L: Lines<T>, E: Outlet>(
+    plan: Plan,
     end: PoolEnd,
-    watcher: &Mutex<V>,
+    lines: &mut T,
     errors: &mut E,
 ) -> u8
-    requires awaited { is_called options.peer ≡ false }
-    requires came { EndsAt (terms_of (Plan.Remote options)) end.status end.words }
-    ensures ended { EndsTogether (terms_of (Plan.Remote options)) result (E.contents errors.old) (E.contents errors.new) (E.failures errors.old) (E.failures errors.new) }
-    ensures good { result ≡ 0 → Keeps (E.contents errors.old) (E.contents errors.new) }
+    requires { EndsAt (terms_of plan) end.status end.words }
+    ensures { EndsTogether (terms_of plan) result (E.contents errors.old) (E.contents errors.new) (E.failures errors.old) (E.failures errors.new) (L.contents lines.old) (L.contents lines.new) (L.failures lines.old) (L.failures lines.new) }
 {
-    let mut lines = Shared { rt, watcher };
-    end.conclude::<_, _, OutletErrors>(Plan::Remote(options), &mut lines, errors)
+    end.conclude::<T, L, _, OutletErrors>(plan, lines, errors)
 }
 
-/// Runs a pool of peers that can't begin, for this.
-fn run_unserved<R: Host, V: ProgramWatcher, E: Outlet>(
+/// Runs a pool that can't begin, for this.
+fn run_unbegun<R: Wait, T, L: Lines<T>, E: Outlet>(
     rt: &R,
-    options: RemoteOptions,
+    plan: Plan,
     fault: StartFault,
-    watcher: &Mutex<V>,
+    lines: &mut T,
     errors: &mut E,
 ) -> u8
-    ensures ended { EndsTogether (terms_of (Plan.Remote options)) result (E.contents errors.old) (E.contents errors.new) (E.failures errors.old) (E.failures errors.new) }
+    ensures ended { EndsTogether (terms_of plan) result (E.contents errors.old) (E.contents errors.new) (E.failures errors.old) (E.failures errors.new) (L.contents lines.old) (L.contents lines.new) (L.failures lines.old) (L.failures lines.new) }
     ensures good { result ≡ 0 → Keeps (E.contents errors.old) (E.contents errors.new) }
+    ensures silent { (terms_of plan).is_verbose ≡ false → result ≡ 0 → Keeps (L.contents lines.old) (L.contents lines.new) }
 {
-    let plan = Plan::Remote(options);
-    let mut lines = Shared { rt, watcher };
     let mut unbegun = Unbegun {
         why: fault.happened_to_pool(),
     };
-    run_pool::<_, _, _, _, OutletErrors>(rt, plan, &mut unbegun, &mut lines, errors)
+    run_pool::<_, T, L, _, _, OutletErrors>(rt, plan, &mut unbegun, lines, errors)
 }
 
-/// Runs a `local` with several links to its peer, each in a thread of its own.
-fn run_links<R: Host + Threads + Sync, V: ProgramWatcher + Send + Drop, E: Outlet + Send>(
+// ---- many links
+
+/// Runs a `local` with several links to its peer, each in a thread of its own, and tells this watcher.
+fn run_links_told<R: Host + Threads + Sync, V: ProgramWatcher + Send + Drop, E: Outlet + Send>(
     rt: &R,
     alloc: Global,
     options: LocalOptions,
     watcher: V,
     errors: &mut E,
 ) -> u8
-    ensures ended { EndsTogether (terms_of (Plan.Local options)) result (E.contents errors.old) (E.contents errors.new) (E.failures errors.old) (E.failures errors.new) }
+    requires { options.is_verbose ≡ true }
+    ensures ended { (lines lines_new : Option (List ℕ)) (unwritten unwritten_new : ℕ) →
+        EndsTogether (terms_of (Plan.Local options)) result (E.contents errors.old) (E.contents errors.new) (E.failures errors.old) (E.failures errors.new) lines lines_new unwritten unwritten_new }
     ensures good { result ≡ 0 → Keeps (E.contents errors.old) (E.contents errors.new) }
 {
     let watcher = Mutex::new(watcher);
+    let watcher = &watcher;
+    let plan = Plan::Local(options);
     match new_links(rt, alloc, options) {
-        Ok((sockets, threads)) => run_both(options, sockets, &threads, &watcher, errors),
-        Err(fault) => run_unlinked(rt, options, fault, &watcher, errors),
+        Ok((sockets, threads)) => {
+            let mut sockets = sockets;
+            let ((), status) = join_mut(
+                rt,
+                &mut || threads.run(rt, alloc, watcher),
+                &mut || run_pool_told(rt, plan, &mut sockets, watcher, errors),
+            );
+            status
+        }
+        Err(fault) => {
+            let mut lines = Shared { rt, watcher };
+            run_unbegun::<_, _, WatcherLines, _>(rt, plan, fault, &mut lines, errors)
+        }
     }
 }
 
-/// Runs the pool of links in this thread, and in another one starts theirs: where there is no such thread, no link is started.
-fn run_both<R: Host + Threads + Sync, V: ProgramWatcher + Send + Drop, E: Outlet + Send>(
-    options: LocalOptions,
-    sockets: LinkSockets<'_, R>,
-    threads: &LinkThreads,
-    watcher: &Mutex<V>,
-    errors: &mut E,
-) -> u8
-    ensures ended { EndsTogether (terms_of (Plan.Local options)) result (E.contents errors.old) (E.contents errors.new) (E.failures errors.old) (E.failures errors.new) }
-    ensures good { result ≡ 0 → Keeps (E.contents errors.old) (E.contents errors.new) }
-{
-    let (rt, alloc) = sockets.runtime();
-    let mut sockets = sockets;
-    let ((), status) = join_mut(
-        rt,
-        &mut || threads.run(rt, alloc, watcher),
-        &mut || run_link_pool(rt, options, &mut sockets, watcher, errors),
-    );
-    status
-}
-
 /// Runs the pool of links, and lets the thread end that starts theirs.
-fn run_link_pool<R: Host, V: ProgramWatcher, E: Outlet>(
+fn run_pool_told<R: Host, V: ProgramWatcher, E: Outlet>(
     rt: &R,
-    options: LocalOptions,
+    plan: Plan,
     sockets: &mut LinkSockets<'_, R>,
     watcher: &Mutex<V>,
     errors: &mut E,
 ) -> u8
-    ensures ended { EndsTogether (terms_of (Plan.Local options)) result (E.contents errors.old) (E.contents errors.new) (E.failures errors.old) (E.failures errors.new) }
+    requires { (terms_of plan).is_verbose ≡ true }
+    ensures ended { (lines lines_new : Option (List ℕ)) (unwritten unwritten_new : ℕ) →
+        EndsTogether (terms_of plan) result (E.contents errors.old) (E.contents errors.new) (E.failures errors.old) (E.failures errors.new) lines lines_new unwritten unwritten_new }
     ensures good { result ≡ 0 → Keeps (E.contents errors.old) (E.contents errors.new) }
 {
-    let plan = Plan::Local(options);
     let mut lines = Shared { rt, watcher };
-    let status = run_pool::<_, _, _, _, OutletErrors>(rt, plan, sockets, &mut lines, errors);
+    let status = run_pool::<_, _, WatcherLines, _, _, OutletErrors>(
+        rt, plan, sockets, &mut lines, errors,
+    );
     sockets.finish();
     status
 }
 
-/// Runs a pool of links of which none can begin, for this.
-fn run_unlinked<R: Host, V: ProgramWatcher, E: Outlet>(
+/// Runs a `local` with several links to its peer, each in a thread of its own, whose connections nobody watches.
+fn run_links_untold<R: Host + Threads + Sync, E: Outlet + Send, L: Outlet + Send>(
     rt: &R,
+    alloc: Global,
     options: LocalOptions,
-    fault: StartFault,
-    watcher: &Mutex<V>,
+    lines: &mut L,
     errors: &mut E,
 ) -> u8
-    ensures ended { EndsTogether (terms_of (Plan.Local options)) result (E.contents errors.old) (E.contents errors.new) (E.failures errors.old) (E.failures errors.new) }
+    requires { options.is_verbose ≡ false }
+    ensures ended { EndsTogether (terms_of (Plan.Local options)) result (E.contents errors.old) (E.contents errors.new) (E.failures errors.old) (E.failures errors.new) (L.contents lines.old) (L.contents lines.new) (L.failures lines.old) (L.failures lines.new) }
     ensures good { result ≡ 0 → Keeps (E.contents errors.old) (E.contents errors.new) }
+    ensures silent { result ≡ 0 → Keeps (L.contents lines.old) (L.contents lines.new) }
 {
+    let watcher = Mutex::new(Unwatched);
+    let watcher = &watcher;
     let plan = Plan::Local(options);
-    let mut lines = Shared { rt, watcher };
-    let mut unbegun = Unbegun {
-        why: fault.happened_to_pool(),
-    };
-    run_pool::<_, _, _, _, OutletErrors>(rt, plan, &mut unbegun, &mut lines, errors)
+    match new_links(rt, alloc, options) {
+        Ok((sockets, threads)) => {
+            let mut sockets = Unheard { world: sockets };
+            let ((), status) = join_mut(
+                rt,
+                &mut || threads.run(rt, alloc, watcher),
+                &mut || run_pool_untold(rt, plan, &mut sockets, lines, errors),
+            );
+            status
+        }
+        Err(fault) => run_unbegun::<_, _, OutletLines, _>(rt, plan, fault, lines, errors),
+    }
+}
+
+/// Runs the pool of links, and lets the thread end that starts theirs.
+fn run_pool_untold<R: Host, E: Outlet, L: Outlet>(
+    rt: &R,
+    plan: Plan,
+    sockets: &mut Unheard<LinkSockets<'_, R>>,
+    lines: &mut L,
+    errors: &mut E,
+) -> u8
+    requires { (terms_of plan).is_verbose ≡ false }
+    ensures ended { EndsTogether (terms_of plan) result (E.contents errors.old) (E.contents errors.new) (E.failures errors.old) (E.failures errors.new) (L.contents lines.old) (L.contents lines.new) (L.failures lines.old) (L.failures lines.new) }
+    ensures good { result ≡ 0 → Keeps (E.contents errors.old) (E.contents errors.new) }
+    ensures silent { result ≡ 0 → Keeps (L.contents lines.old) (L.contents lines.new) }
+{
+    let status = run_pool::<_, _, OutletLines, _, _, OutletErrors>(
+        rt, plan, sockets, lines, errors,
+    );
+    sockets.world.finish();
+    status
 }

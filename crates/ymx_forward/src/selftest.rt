@@ -283,7 +283,7 @@ fn local_end<R: Host>(
 ) -> Result<(Site<'_, R>, TunnelEnd), StartFault> {
     let site = Site::new(rt, alloc)?;
     let listening = Listening::new(listener, Some(CONNECTIONS), false, &site.poll, LISTENER)?;
-    Ok((site, TunnelEnd::local(listening, false)))
+    Ok((site, TunnelEnd::local(listening, None, false)))
 }
 
 /// A session of this side, which is the only one.

@@ -4,7 +4,7 @@ use crate::notices::ProgramWatcher;
 use crate::system::TcpConnection;
 use crate::watching::{Declined, EndedConnection, Origin, Watcher};
 use std::sync::{Mutex, Wait};
-use ymx_policy::Reason;
+use ymx_policy::{Named, Reason};
 
 /// A watcher that threads share: each tells it under its lock. So connections are numbered through all threads.
 #[derive(Drop)]
@@ -34,7 +34,7 @@ impl<R: Wait, V: ProgramWatcher> Watcher for Shared<'_, R, V> {
         watcher.lost();
     }
 
-    fn failed(&mut self, option: &'static str, reason: Reason) {
+    fn failed(&mut self, option: Named, reason: Reason) {
         let mut watcher = self.watcher.lock(self.rt);
         watcher.failed(option, reason);
     }

@@ -59,12 +59,17 @@ impl<R: Net + Clock + Wait> Site<'_, R> {
         watcher: &mut V,
     ) -> SessionEnd {
         let began = Instant::now(self.rt);
+        let address = peer.address();
         end.note_all();
+        if let Some(patience) = end.limits.silence {
+            peer.limit_silence(patience);
+        }
         let mut how = match wire_of(peer, &self.poll) {
             Some(wire) => self.run(end, wire, session, watcher),
             None => unwatched(),
         };
         how.has_lasted = self.has_lasted(began);
+        how.peer = address;
         how
     }
 
@@ -118,7 +123,9 @@ fn unbegun(fault: NewFault) -> SessionEnd {
 pub(crate) fn well() -> SessionEnd {
     SessionEnd {
         accept_failed: false,
+        accept_reason: None,
         broken: None,
+        peer: None,
         lacked_memory: false,
         is_unwatched: false,
         has_lasted: false,

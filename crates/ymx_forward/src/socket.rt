@@ -121,6 +121,8 @@ pub(crate) struct Socket<S: Stream = TcpConnection> {
     /// Which connection it is.
     origin: Origin,
     socket: S,
+    /// It carries a session, and not a stream.
+    is_wire: bool,
     state: ConnectState,
     /// What was first the matter with a call of it.
     failure: Option<SocketFault>,
@@ -140,13 +142,26 @@ pub(crate) struct Socket<S: Stream = TcpConnection> {
 
 impl<S: Stream + Drop> Socket<S> {
     /// A connection that is there, and never waits. It may be used at once.
-    pub(crate) fn connected(socket: S, origin: Origin) -> Socket<S> {
+    pub(crate) fn connected(socket: S, origin: Origin) -> Socket<S>
+        ensures { result.is_wire ≡ false }
+    {
         Socket::new(socket, origin, ConnectState::Connected, true)
+    }
+
+    /// The connection of a session, which is there, and never waits. It may be used at once.
+    pub(crate) fn wire(socket: S) -> Socket<S>
+        ensures { result.is_wire ≡ true }
+    {
+        let mut wire = Socket::connected(socket, Origin::untold());
+        wire.is_wire = true;
+        wire
     }
 
     /// A connection that was begun, and never waits. It may be there at once, as on the same machine: then it may take
     /// bytes. So may one that can't be made, so that it fails.
-    pub(crate) fn begun(socket: S, origin: Origin) -> Socket<S> {
+    pub(crate) fn begun(socket: S, origin: Origin) -> Socket<S>
+        ensures { result.is_wire ≡ false }
+    {
         let mut begun = Socket::new(socket, origin, ConnectState::Connecting, false);
         begun.look();
         begun.marks.may_push = !begun.is_connecting();
@@ -154,10 +169,13 @@ impl<S: Stream + Drop> Socket<S> {
     }
 
     /// One of which nothing was moved. `is_ready` says whether it may be used at once.
-    fn new(socket: S, origin: Origin, state: ConnectState, is_ready: bool) -> Socket<S> {
+    fn new(socket: S, origin: Origin, state: ConnectState, is_ready: bool) -> Socket<S>
+        ensures { result.is_wire ≡ false }
+    {
         Socket {
             origin,
             socket,
+            is_wire: false,
             state,
             failure: None,
             reason: None,
@@ -185,6 +203,7 @@ impl<S: Stream + Drop> Socket<S> {
         ensures kept { ⟦<Socket<S> as Device>⟧.seen self.new ≡ ⟦<Socket<S> as Device>⟧.seen self.old }
         ensures once { result ≡ true → S.registered self.old.socket ≡ false }
         ensures asked { S.registered self.new.socket ≡ true }
+        ensures stays { self.new.is_wire ≡ self.old.is_wire }
     {
         !self.socket.is_registered() && self.socket.register(poll, token)
     }
@@ -254,7 +273,7 @@ impl<S: Stream + Drop> Socket<S> {
     /// A call of it failed, with this error if the system gave one.
     fn fail(&mut self, fault: SocketFault, error: Option<&io::Error>)
         ensures failed { is_some self.new.failure ≡ true }
-        ensures rest { (self.new.socket ≡ self.old.socket) × (self.new.has_ended ≡ self.old.has_ended) × (self.new.was_finished ≡ self.old.was_finished) × (self.new.was_shut ≡ self.old.was_shut) × (self.new.marks ≡ self.old.marks) × (self.new.state ≡ self.old.state) × (self.new.calls ≡ self.old.calls) }
+        ensures rest { (self.new.socket ≡ self.old.socket) × (self.new.has_ended ≡ self.old.has_ended) × (self.new.was_finished ≡ self.old.was_finished) × (self.new.was_shut ≡ self.old.was_shut) × (self.new.marks ≡ self.old.marks) × (self.new.state ≡ self.old.state) × (self.new.calls ≡ self.old.calls) × (self.new.is_wire ≡ self.old.is_wire) }
     {
         if self.failure.is_none() {
             self.failure = Some(fault);
@@ -272,10 +291,10 @@ impl<S: Stream + Drop> Socket<S> {
         ensures bytes { Consumes (S.left self.old.socket) (S.left self.new.socket) (take (pulled_count result) buffer.new) }
         ensures end { result ≡ Pulled.Ended → IsAtEnd (S.left self.new.socket) }
         ensures had { S.had self.new.socket ≡ S.had self.old.socket }
-        ensures open { (S.finished self.new.socket ≡ S.finished self.old.socket) × (S.closed self.new.socket ≡ S.closed self.old.socket) }
+        ensures open { (S.finished self.new.socket ≡ S.finished self.old.socket) × (S.closed self.new.socket ≡ S.closed self.old.socket) × (S.aborted self.new.socket ≡ S.aborted self.old.socket) }
         ensures ended { self.new.has_ended ≡ (self.old.has_ended || is_end result) }
         ensures failed { is_some self.new.failure ≡ (is_some self.old.failure || is_pull_failure result) }
-        ensures rest { (self.new.was_finished ≡ self.old.was_finished) × (self.new.was_shut ≡ self.old.was_shut) × (self.new.marks ≡ self.old.marks) × (self.new.state ≡ self.old.state) × (self.new.calls ≡ self.old.calls) }
+        ensures rest { (self.new.was_finished ≡ self.old.was_finished) × (self.new.was_shut ≡ self.old.was_shut) × (self.new.marks ≡ self.old.marks) × (self.new.state ≡ self.old.state) × (self.new.calls ≡ self.old.calls) × (self.new.is_wire ≡ self.old.is_wire) }
     {
         match self.state {
             ConnectState::Connecting => Pulled::NotNow,
@@ -295,10 +314,10 @@ impl<S: Stream + Drop> Socket<S> {
         ensures bytes { Consumes (S.left self.old.socket) (S.left self.new.socket) (take (pulled_count result) buffer.new) }
         ensures end { result ≡ Pulled.Ended → IsAtEnd (S.left self.new.socket) }
         ensures had { S.had self.new.socket ≡ S.had self.old.socket }
-        ensures open { (S.finished self.new.socket ≡ S.finished self.old.socket) × (S.closed self.new.socket ≡ S.closed self.old.socket) }
+        ensures open { (S.finished self.new.socket ≡ S.finished self.old.socket) × (S.closed self.new.socket ≡ S.closed self.old.socket) × (S.aborted self.new.socket ≡ S.aborted self.old.socket) }
         ensures ended { self.new.has_ended ≡ (self.old.has_ended || is_end result) }
         ensures failed { is_some self.new.failure ≡ (is_some self.old.failure || is_pull_failure result) }
-        ensures rest { (self.new.was_finished ≡ self.old.was_finished) × (self.new.was_shut ≡ self.old.was_shut) × (self.new.marks ≡ self.old.marks) × (self.new.state ≡ self.old.state) × (self.new.calls ≡ self.old.calls) }
+        ensures rest { (self.new.was_finished ≡ self.old.was_finished) × (self.new.was_shut ≡ self.old.was_shut) × (self.new.marks ≡ self.old.marks) × (self.new.state ≡ self.old.state) × (self.new.calls ≡ self.old.calls) × (self.new.is_wire ≡ self.old.is_wire) }
     {
         if buffer.is_empty() {
             return Pulled::NotNow;
@@ -318,7 +337,7 @@ impl<S: Stream + Drop> Socket<S> {
         ensures socket { self.new.socket ≡ self.old.socket }
         ensures failed { IfSome result (λ pushed. is_some self.new.failure ≡ (is_some self.old.failure || is_push_failure pushed)) }
         ensures goes_on { IfNone result (self.new ≡ self.old) }
-        ensures rest { (self.new.has_ended ≡ self.old.has_ended) × (self.new.was_finished ≡ self.old.was_finished) × (self.new.was_shut ≡ self.old.was_shut) × (self.new.marks ≡ self.old.marks) × (self.new.state ≡ self.old.state) × (self.new.calls ≡ self.old.calls) }
+        ensures rest { (self.new.has_ended ≡ self.old.has_ended) × (self.new.was_finished ≡ self.old.was_finished) × (self.new.was_shut ≡ self.old.was_shut) × (self.new.marks ≡ self.old.marks) × (self.new.state ≡ self.old.state) × (self.new.calls ≡ self.old.calls) × (self.new.is_wire ≡ self.old.is_wire) }
     {
         match self.state {
             ConnectState::Connecting => Some(Pushed::NotNow),
@@ -337,9 +356,9 @@ impl<S: Stream + Drop> Socket<S> {
         ensures some { takes result ≡ true → 0 < length bytes.now → 0 < pushed_count result }
         ensures bytes { Appends (S.had self.old.socket) (S.had self.new.socket) (take (pushed_count result) bytes.now) }
         ensures left { S.left self.new.socket ≡ S.left self.old.socket }
-        ensures open { (S.finished self.new.socket ≡ S.finished self.old.socket) × (S.closed self.new.socket ≡ S.closed self.old.socket) }
+        ensures open { (S.finished self.new.socket ≡ S.finished self.old.socket) × (S.closed self.new.socket ≡ S.closed self.old.socket) × (S.aborted self.new.socket ≡ S.aborted self.old.socket) }
         ensures failed { is_some self.new.failure ≡ (is_some self.old.failure || is_push_failure result) }
-        ensures rest { (self.new.has_ended ≡ self.old.has_ended) × (self.new.was_finished ≡ self.old.was_finished) × (self.new.was_shut ≡ self.old.was_shut) × (self.new.marks ≡ self.old.marks) × (self.new.state ≡ self.old.state) × (self.new.calls ≡ self.old.calls) }
+        ensures rest { (self.new.has_ended ≡ self.old.has_ended) × (self.new.was_finished ≡ self.old.was_finished) × (self.new.was_shut ≡ self.old.was_shut) × (self.new.marks ≡ self.old.marks) × (self.new.state ≡ self.old.state) × (self.new.calls ≡ self.old.calls) × (self.new.is_wire ≡ self.old.is_wire) }
     {
         if let Some(refused) = self.refuse_early() {
             return refused;
@@ -355,9 +374,9 @@ impl<S: Stream + Drop> Socket<S> {
         ensures some { takes result ≡ true → 0 < length (io_slices_bytes pieces.now) → 0 < pushed_count result }
         ensures bytes { Appends (S.had self.old.socket) (S.had self.new.socket) (take (pushed_count result) (io_slices_bytes pieces.now)) }
         ensures left { S.left self.new.socket ≡ S.left self.old.socket }
-        ensures open { (S.finished self.new.socket ≡ S.finished self.old.socket) × (S.closed self.new.socket ≡ S.closed self.old.socket) }
+        ensures open { (S.finished self.new.socket ≡ S.finished self.old.socket) × (S.closed self.new.socket ≡ S.closed self.old.socket) × (S.aborted self.new.socket ≡ S.aborted self.old.socket) }
         ensures failed { is_some self.new.failure ≡ (is_some self.old.failure || is_push_failure result) }
-        ensures rest { (self.new.has_ended ≡ self.old.has_ended) × (self.new.was_finished ≡ self.old.was_finished) × (self.new.was_shut ≡ self.old.was_shut) × (self.new.marks ≡ self.old.marks) × (self.new.state ≡ self.old.state) × (self.new.calls ≡ self.old.calls) }
+        ensures rest { (self.new.has_ended ≡ self.old.has_ended) × (self.new.was_finished ≡ self.old.was_finished) × (self.new.was_shut ≡ self.old.was_shut) × (self.new.marks ≡ self.old.marks) × (self.new.state ≡ self.old.state) × (self.new.calls ≡ self.old.calls) × (self.new.is_wire ≡ self.old.is_wire) }
     {
         if let Some(refused) = self.refuse_early() {
             return refused;
@@ -373,7 +392,7 @@ impl<S: Stream + Drop> Socket<S> {
         ensures socket { self.new.socket ≡ self.old.socket }
         ensures count { MatchResult written (λ count. pushed_count result ≡ count) (λ _. pushed_count result ≡ 0) }
         ensures failed { is_some self.new.failure ≡ (is_some self.old.failure || is_push_failure result) }
-        ensures rest { (self.new.has_ended ≡ self.old.has_ended) × (self.new.was_finished ≡ self.old.was_finished) × (self.new.was_shut ≡ self.old.was_shut) × (self.new.marks ≡ self.old.marks) × (self.new.state ≡ self.old.state) × (self.new.calls ≡ self.old.calls) }
+        ensures rest { (self.new.has_ended ≡ self.old.has_ended) × (self.new.was_finished ≡ self.old.was_finished) × (self.new.was_shut ≡ self.old.was_shut) × (self.new.marks ≡ self.old.marks) × (self.new.state ≡ self.old.state) × (self.new.calls ≡ self.old.calls) × (self.new.is_wire ≡ self.old.is_wire) }
     {
         match written {
             Ok(count) if count > 0 || is_empty => {
@@ -392,6 +411,20 @@ impl<S: Stream + Drop> Socket<S> {
         }
     }
 
+    /// Aborts its connection, or shuts it both ways where it is a wire.
+    fn end_abruptly(&mut self)
+        ensures bytes { (S.left self.new.socket ≡ S.left self.old.socket) × (S.had self.new.socket ≡ S.had self.old.socket) }
+        ensures aborted { self.old.is_wire ≡ false → (S.aborted self.new.socket ≡ option_map (λ _. true) (S.aborted self.old.socket)) × (S.closed self.new.socket ≡ S.closed self.old.socket) }
+        ensures closed { self.old.is_wire ≡ true → (S.closed self.new.socket ≡ option_map (λ _. true) (S.closed self.old.socket)) × (S.aborted self.new.socket ≡ S.aborted self.old.socket) }
+        ensures rest { self.new ≡ record self.old { socket = self.new.socket } }
+    {
+        if self.is_wire {
+            self.socket.shut();
+        } else {
+            self.socket.abort();
+        }
+    }
+
     /// What came of a read that found nothing or failed.
     fn give_nothing(&mut self, read: io::Result<usize>) -> Pulled
         ensures none { (pulled_count result ≡ 0) × (gives result ≡ false) }
@@ -399,7 +432,7 @@ impl<S: Stream + Drop> Socket<S> {
         ensures ok { result ≡ Pulled.Ended → IsOk read }
         ensures ended { self.new.has_ended ≡ (self.old.has_ended || is_end result) }
         ensures failed { is_some self.new.failure ≡ (is_some self.old.failure || is_pull_failure result) }
-        ensures rest { (self.new.was_finished ≡ self.old.was_finished) × (self.new.was_shut ≡ self.old.was_shut) × (self.new.marks ≡ self.old.marks) × (self.new.state ≡ self.old.state) × (self.new.calls ≡ self.old.calls) }
+        ensures rest { (self.new.was_finished ≡ self.old.was_finished) × (self.new.was_shut ≡ self.old.was_shut) × (self.new.marks ≡ self.old.marks) × (self.new.state ≡ self.old.state) × (self.new.calls ≡ self.old.calls) × (self.new.is_wire ≡ self.old.is_wire) }
     {
         match read {
             Ok(_) if !self.is_broken() => {
@@ -442,8 +475,9 @@ impl<S: Stream + Drop> Device for Socket<S> {
 
     fn pull(&mut self, buffer: &mut [u8]) -> Pulled
         ensures moved { IsPulled result buffer.new (⟦<Socket<S> as Device>⟧.seen self.old) (⟦<Socket<S> as Device>⟧.seen self.new) }
-        ensures open { (S.finished self.new.socket ≡ S.finished self.old.socket) × (S.closed self.new.socket ≡ S.closed self.old.socket) }
+        ensures open { (S.finished self.new.socket ≡ S.finished self.old.socket) × (S.closed self.new.socket ≡ S.closed self.old.socket) × (S.aborted self.new.socket ≡ S.aborted self.old.socket) }
         ensures counted { self.new.calls ≡ min (self.old.calls + 1) (2 ^ 64 - 1) }
+        ensures stays { self.new.is_wire ≡ self.old.is_wire }
     {
         self.count_call();
         let pulled = self.give_if_connected(buffer);
@@ -453,8 +487,9 @@ impl<S: Stream + Drop> Device for Socket<S> {
 
     fn push(&mut self, bytes: &[u8]) -> Pushed
         ensures moved { IsPushed result bytes.now (⟦<Socket<S> as Device>⟧.seen self.old) (⟦<Socket<S> as Device>⟧.seen self.new) }
-        ensures open { (S.finished self.new.socket ≡ S.finished self.old.socket) × (S.closed self.new.socket ≡ S.closed self.old.socket) }
+        ensures open { (S.finished self.new.socket ≡ S.finished self.old.socket) × (S.closed self.new.socket ≡ S.closed self.old.socket) × (S.aborted self.new.socket ≡ S.aborted self.old.socket) }
         ensures counted { self.new.calls ≡ min (self.old.calls + 1) (2 ^ 64 - 1) }
+        ensures stays { self.new.is_wire ≡ self.old.is_wire }
     {
         self.count_call();
         let pushed = self.take(bytes);
@@ -465,8 +500,9 @@ impl<S: Stream + Drop> Device for Socket<S> {
 
     fn push_pieces(&mut self, pieces: &[IoSlice<'_>]) -> Pushed
         ensures moved { IsPushed result (io_slices_bytes pieces.now) (⟦<Socket<S> as Device>⟧.seen self.old) (⟦<Socket<S> as Device>⟧.seen self.new) }
-        ensures open { (S.finished self.new.socket ≡ S.finished self.old.socket) × (S.closed self.new.socket ≡ S.closed self.old.socket) }
+        ensures open { (S.finished self.new.socket ≡ S.finished self.old.socket) × (S.closed self.new.socket ≡ S.closed self.old.socket) × (S.aborted self.new.socket ≡ S.aborted self.old.socket) }
         ensures counted { self.new.calls ≡ min (self.old.calls + 1) (2 ^ 64 - 1) }
+        ensures stays { self.new.is_wire ≡ self.old.is_wire }
     {
         self.count_call();
         let pushed = self.take_pieces(pieces);
@@ -478,8 +514,9 @@ impl<S: Stream + Drop> Device for Socket<S> {
     fn end(&mut self)
         ensures ended { IsEnded (⟦<Socket<S> as Device>⟧.seen self.old) (⟦<Socket<S> as Device>⟧.seen self.new) }
         ensures finished { self.old.state ≡ ConnectState.Connected → S.finished self.new.socket ≡ option_map (λ _. true) (S.finished self.old.socket) }
-        ensures half { S.closed self.new.socket ≡ S.closed self.old.socket }
+        ensures half { (S.closed self.new.socket ≡ S.closed self.old.socket) × (S.aborted self.new.socket ≡ S.aborted self.old.socket) }
         ensures counted { self.new.calls ≡ min (self.old.calls + 1) (2 ^ 64 - 1) }
+        ensures stays { self.new.is_wire ≡ self.old.is_wire }
     {
         self.count_call();
         self.was_finished = true;
@@ -488,23 +525,30 @@ impl<S: Stream + Drop> Device for Socket<S> {
         }
     }
 
-    /// Shuts it both ways. A call of it answers at once then.
+    /// Aborts it, so that its other end sees a reset, and no end; a wire is shut both ways. A call of it answers at once
+    /// then.
     fn shut(&mut self)
         ensures shut { IsShut (⟦<Socket<S> as Device>⟧.seen self.old) (⟦<Socket<S> as Device>⟧.seen self.new) }
-        ensures closed { self.old.state ≡ ConnectState.Connected → S.closed self.new.socket ≡ option_map (λ _. true) (S.closed self.old.socket) }
+        ensures aborted { self.old.state ≡ ConnectState.Connected → self.old.is_wire ≡ false → S.aborted self.new.socket ≡ option_map (λ _. true) (S.aborted self.old.socket) }
+        ensures closed { self.old.state ≡ ConnectState.Connected → self.old.is_wire ≡ true → S.closed self.new.socket ≡ option_map (λ _. true) (S.closed self.old.socket) }
+        // Only what carries a stream is aborted, and only a wire is shut both ways.
+        ensures wire { self.old.is_wire ≡ true → S.aborted self.new.socket ≡ S.aborted self.old.socket }
+        ensures stream { self.old.is_wire ≡ false → S.closed self.new.socket ≡ S.closed self.old.socket }
         ensures counted { self.new.calls ≡ min (self.old.calls + 1) (2 ^ 64 - 1) }
+        ensures stays { self.new.is_wire ≡ self.old.is_wire }
     {
         self.count_call();
         self.was_shut = true;
         self.marks.note_shut();
         if self.state == ConnectState::Connected {
-            self.socket.shut();
+            self.end_abruptly();
         }
     }
 
     /// An event came. A connection that was being made is there now, or can't be made.
     fn note_event(&mut self, ready: Readiness)
-        ensures { IsNoted ready (⟦<Socket<S> as Device>⟧.seen self.old) (⟦<Socket<S> as Device>⟧.seen self.new) }
+        ensures noted { IsNoted ready (⟦<Socket<S> as Device>⟧.seen self.old) (⟦<Socket<S> as Device>⟧.seen self.new) }
+        ensures stays { self.new.is_wire ≡ self.old.is_wire }
     {
         if self.state == ConnectState::Connecting {
             self.look();

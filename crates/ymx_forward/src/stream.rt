@@ -27,6 +27,9 @@ pub(crate) trait Stream {
     /// Whether it was shut both ways, where it can tell.
     ghost closed: { Self → Option Bool };
 
+    /// Whether it was aborted, where it can tell.
+    ghost aborted: { Self → Option Bool };
+
     /// Whether a poll was asked to tell of it.
     ghost registered: { Self → Bool };
 
@@ -40,39 +43,46 @@ pub(crate) trait Stream {
         requires once { registered self.old ≡ false }
         ensures registered { registered self.new ≡ true }
         ensures bytes { (left self.new ≡ left self.old) × (had self.new ≡ had self.old) }
-        ensures open { (finished self.new ≡ finished self.old) × (closed self.new ≡ closed self.old) };
+        ensures open { (finished self.new ≡ finished self.old) × (closed self.new ≡ closed self.old) × (aborted self.new ≡ aborted self.old) };
 
     /// Reads once into the front of this buffer, and says how many bytes. None, and no fault, where no more come.
     fn read(&mut self, buffer: &mut [u8]) -> io::Result<usize>
         ensures bound { ReadsAtMost result buffer.new }
         ensures bytes { ReadConsumes (left self.old) (left self.new) result buffer.new }
         ensures had { had self.new ≡ had self.old }
-        ensures open { (finished self.new ≡ finished self.old) × (closed self.new ≡ closed self.old) };
+        ensures open { (finished self.new ≡ finished self.old) × (closed self.new ≡ closed self.old) × (aborted self.new ≡ aborted self.old) };
 
     /// Writes the first of these bytes once, and says how many.
     fn write(&mut self, bytes: &[u8]) -> io::Result<usize>
         ensures bound { WritesAtMost result bytes.now }
         ensures bytes { WriteAppends (had self.old) (had self.new) result bytes.now }
         ensures left { left self.new ≡ left self.old }
-        ensures open { (finished self.new ≡ finished self.old) × (closed self.new ≡ closed self.old) };
+        ensures open { (finished self.new ≡ finished self.old) × (closed self.new ≡ closed self.old) × (aborted self.new ≡ aborted self.old) };
 
     /// Writes the first bytes of these pieces once, and says how many.
     fn write_pieces(&mut self, pieces: &[IoSlice<'_>]) -> io::Result<usize>
         ensures bound { WritesAtMost result (io_slices_bytes pieces.now) }
         ensures bytes { WriteAppends (had self.old) (had self.new) result (io_slices_bytes pieces.now) }
         ensures left { left self.new ≡ left self.old }
-        ensures open { (finished self.new ≡ finished self.old) × (closed self.new ≡ closed self.old) };
+        ensures open { (finished self.new ≡ finished self.old) × (closed self.new ≡ closed self.old) × (aborted self.new ≡ aborted self.old) };
 
     /// Shuts its writing side alone: the other end reads what was written, and then the end.
     fn finish(&mut self)
         ensures bytes { (left self.new ≡ left self.old) × (had self.new ≡ had self.old) }
         ensures finished { finished self.new ≡ option_map (λ _. true) (finished self.old) }
-        ensures closed { closed self.new ≡ closed self.old };
+        ensures open { (closed self.new ≡ closed self.old) × (aborted self.new ≡ aborted self.old) };
 
-    /// Shuts it both ways.
+    /// Shuts it both ways: the other end reads what was written, and then the end.
     fn shut(&mut self)
         ensures bytes { (left self.new ≡ left self.old) × (had self.new ≡ had self.old) }
-        ensures closed { closed self.new ≡ option_map (λ _. true) (closed self.old) };
+        ensures closed { closed self.new ≡ option_map (λ _. true) (closed self.old) }
+        ensures aborted { aborted self.new ≡ aborted self.old };
+
+    /// Aborts it: the other end sees a reset, and no end. What was written may be lost.
+    fn abort(&mut self)
+        ensures bytes { (left self.new ≡ left self.old) × (had self.new ≡ had self.old) }
+        ensures aborted { aborted self.new ≡ option_map (λ _. true) (aborted self.old) }
+        ensures open { (finished self.new ≡ finished self.old) × (closed self.new ≡ closed self.old) };
 
     /// Who is at its other end. None while nobody is.
     fn peer(&self) -> Option<SocketAddr>;

@@ -10,30 +10,70 @@ ghost use Rattle.std.specs.Iterator.Runs.{EveryRun, ItemsMapTo};
 ghost use Rattle.mio.specs.declared.event.event.Event.{Event as SystemEvent};
 ghost use Rattle.mio.specs.Event.{event_token, is_readable, is_writable, is_error, is_read_closed};
 ghost use Rattle.mio.specs.Events.{items};
+ghost use Rattle.libc.specs.Net.{SockOption};
 ghost use Rattle.ymx_forward.specs.Counts.{CountsOne};
 
 use crate::starting::StartFault;
 use crate::stream::Stream;
+use libc::net as c;
 use mio::event::Iter;
 use mio::{Interest, Token};
 use std::alloc::Global;
 use std::io::{ErrorKind, IoSlice, Read, Write};
 use std::net::{Net, Shutdown, SocketAddr, TcpListener, TcpStream};
+use std::os::fd::AsRawFd;
 use std::time::Duration;
 use std::{io, net};
 use ymx_devices::{read, write};
 
+/// After how many seconds in which nothing came over a connection the system asks the other side for a sign.
+const KEEPALIVE: u32 = 60;
+
+/// How many seconds go by until it asks again.
+const KEEPALIVE_INTERVAL: u32 = 15;
+
+/// How often it asks before the connection fails.
+const KEEPALIVE_PROBES: u32 = 4;
+
 /// How often a write of several pieces that a signal interrupted is made again before it counts as failed.
 const RETRIES: u32 = 1_000_000;
 
+/// How many connections may wait in the system to be accepted.
+const BACKLOG: i32 = 4_096;
+
 // ---- connections that never wait
 
-/// A connection whose calls never wait. It is closed when it is dropped.
-#[derive(Drop)]
+/// A connection whose calls never wait. It is closed when it is dropped, and aborted before, unless it has said that no
+/// more comes from it and was told that no more goes to it: so whatever cuts it, its other end sees a reset, and no end.
 pub(crate) struct TcpConnection {
     inner: mio::net::TcpStream,
     /// A poll was asked to tell of it.
     is_registered: bool,
+    /// It has not said that no more comes from it.
+    gives: bool,
+    /// It was not told that no more goes to it.
+    takes: bool,
+}
+
+impl Drop for TcpConnection {
+    fn drop(self) {
+        if self.gives || self.takes {
+            abort(&self.inner);
+        }
+        let TcpConnection {
+            inner: _,
+            is_registered: _,
+            gives: _,
+            takes: _,
+        } = self;
+    }
+}
+
+/// Aborts a connection, by connecting it to an address of the family AF_UNSPEC: its other end sees a reset, and what is
+/// unsent or unread is lost.
+fn abort(connection: &mio::net::TcpStream) {
+    let unspecified = [0u8; c::_SS_SIZE];
+    let _ = unsafe { c::connect(connection.as_raw_fd(), &unspecified, 16) };
 }
 
 impl TcpConnection {
@@ -58,12 +98,46 @@ impl TcpConnection {
         TcpConnection {
             inner,
             is_registered: false,
+            gives: true,
+            takes: true,
         }
+    }
+
+    /// One to a peer, which is closed and not aborted where it is dropped.
+    pub(crate) fn to_peer(self) -> TcpConnection
+        ensures { result.is_registered ≡ self.is_registered }
+    {
+        let mut connection = self;
+        connection.gives = false;
+        connection.takes = false;
+        connection
     }
 
     /// What is written goes out at once.
     pub(crate) fn send_at_once(&self) {
         let _ = self.inner.set_nodelay(true);
+    }
+
+    /// Where nothing comes for a while, the system asks the other side for a sign, and fails the connection where none comes.
+    pub(crate) fn keep_alive(&self) {
+        self.set(c::IPPROTO_TCP, c::TCP_KEEPIDLE, KEEPALIVE);
+        self.set(c::IPPROTO_TCP, c::TCP_KEEPINTVL, KEEPALIVE_INTERVAL);
+        self.set(c::IPPROTO_TCP, c::TCP_KEEPCNT, KEEPALIVE_PROBES);
+        self.set(c::SOL_SOCKET, c::SO_KEEPALIVE, 1);
+    }
+
+    /// The system fails the connection where what was sent isn't acknowledged for so many milliseconds.
+    pub(crate) fn limit_silence(&self, milliseconds: u32) {
+        self.set(c::IPPROTO_TCP, c::TCP_USER_TIMEOUT, milliseconds);
+    }
+
+    /// Sets this option of its socket.
+    fn set(&self, level: i32, option: i32, value: u32)
+        requires { SockOption level option }
+    {
+        let mut bytes = [0u8; 16];
+        bytes[..4].copy_from_slice(&value.to_ne_bytes());
+        let _ = unsafe { c::setsockopt(self.inner.as_raw_fd(), level, option, &bytes, 4) };
     }
 }
 
@@ -77,6 +151,8 @@ impl Stream for TcpConnection {
     ghost finished = { λ _. None };
 
     ghost closed = { λ _. None };
+
+    ghost aborted = { λ _. None };
 
     ghost registered = { λ s. s.is_registered };
 
@@ -102,7 +178,11 @@ impl Stream for TcpConnection {
     }
 
     fn read(&mut self, buffer: &mut [u8]) -> io::Result<usize> {
-        read(&mut &self.inner, buffer)
+        let read = read(&mut &self.inner, buffer);
+        if !buffer.is_empty() && matches!(read, Ok(0)) {
+            self.gives = false;
+        }
+        read
     }
 
     fn write(&mut self, bytes: &[u8]) -> io::Result<usize> {
@@ -122,10 +202,17 @@ impl Stream for TcpConnection {
 
     fn finish(&mut self) {
         let _ = self.inner.shutdown(Shutdown::Write);
+        self.takes = false;
     }
 
     fn shut(&mut self) {
         let _ = self.inner.shutdown(Shutdown::Both);
+    }
+
+    fn abort(&mut self) {
+        abort(&self.inner);
+        self.gives = false;
+        self.takes = false;
     }
 }
 
@@ -280,12 +367,14 @@ pub(crate) fn send_at_once(connection: &TcpStream) {
     let _ = connection.set_nodelay(true);
 }
 
-/// Listens at this address.
+/// Listens at this address. Where the system refuses so long a backlog, its own stays.
 pub(crate) fn listen<R: Net<Stream = TcpStream, Listener = TcpListener>>(
     rt: &R,
     address: SocketAddr,
 ) -> io::Result<TcpListener> {
-    TcpListener::bind(rt, address)
+    let listener = TcpListener::bind(rt, address)?;
+    let _ = libc::net::listen(listener.as_raw_fd(), BACKLOG);
+    Ok(listener)
 }
 
 /// Where this one listens.

@@ -3,17 +3,21 @@
 //! All that moves is moved by calls of [`ymx_engine::Tunnel`], which owns the wire and the connections. Each function
 //! here that makes such calls says that they are all it did: `Runs`.
 
-ghost use Rattle.std.specs.Prelude.{◌≡◌, ◌⊎◌, [], true, false, IfOk, IfSome, Some};
+ghost use Rattle.std.specs.Prelude.{◌≡◌, ◌⊎◌, [], true, false, not, length, IfErr, IfOk, IfSome, Some};
 ghost use Rattle.ymx_engine.specs.Runs.{Runs, IsOver};
-ghost use Rattle.ymx_engine.specs.Served.{Serving, NoneWaits, NoneGives, NoneHangs};
+ghost use Rattle.ymx_engine.specs.Served.{Serving, NoneWaits, NoneGives, NoneEnds, NoneStops, NoneHangs};
 ghost use Rattle.ymx_engine.specs.Turns.{Line as LineValue, line_of};
 ghost use Rattle.ymx_engine.specs.Ways.{is_over};
 ghost use Rattle.ymx_engine.specs.Work.{HasRead, ServesOne, WorksOnce, Writes, has_work};
 ghost use Rattle.ymx_forward.specs.Counts.{CountsOne};
 ghost use Rattle.ymx_forward.specs.Loops.{NeedsEvents, WaitsInNeed, WasLost};
+ghost use Rattle.ymx_forward.specs.Users.{IsStated, can_open_later, has_no_place, is_followed, must_wait, user_is_due};
 ghost use Rattle.ymx_law_session.specs.Limits.{IsWithin};
-ghost use Rattle.ymx_model.specs.session.Sessions.{is_running};
+ghost use Rattle.ymx_forward.specs.Sides.{role_at};
+ghost use Rattle.ymx_model.specs.session.Sessions.{is_running, new_session};
+ghost use Rattle.ymx_session.specs.NewSessions.{first_id};
 
+use crate::inbox::Places;
 use crate::peer::Peer;
 use crate::silence::{Due, Silence, shorter};
 use crate::socket::Socket;
@@ -41,6 +45,12 @@ const STREAMS: usize = 2;
 
 /// How many connections are accepted at most before bytes move again.
 const ACCEPTS: u32 = 64;
+
+/// How many streams there are at most.
+const STREAMS_AT_ONCE: usize = 1_024;
+
+/// From this id on no stream is opened.
+const EXHAUSTED: u32 = 4_294_967_294;
 
 /// How often the wire is read before connections have their turns. So about as many bytes are read of it as are written
 /// to it, and bytes wait at their own connections, and not in the wire before those of all others.
@@ -114,6 +124,8 @@ impl<'a> TunnelLoop<'a> {
         tunnel_end: &'a mut TunnelEnd,
         window: u32,
     ) -> Result<TunnelLoop<'a>, NewFault>
+        // Its session is a new one of this side and this window.
+        ensures session { IfOk result (λ made. made.tunnel.engine.session ≡ new_session (role_at tunnel_end.old.side) window (first_id (role_at tunnel_end.old.side) 0)) }
         // Its tunnel forgets nobody who can be served.
         ensures serves { IfOk result (λ made. Serving made.tunnel) }
     {
@@ -158,7 +170,6 @@ impl<'a> TunnelLoop<'a> {
         ensures lost { IfSome result (λ finished. finished.was_left ≡ true → WasLost self.old.tunnel self.new.tunnel) }
     {
         let mut silence = Silence::new(rt, self.tunnel_end.limits.silence);
-        self.begin_waiting(poll, watcher);
         for _ in rt.forever() {
             if self.is_over() {
                 return Some(Finished { was_left: false });
@@ -260,6 +271,8 @@ impl<'a> TunnelLoop<'a> {
     ) -> io::Result<()>
         ensures runs { Runs self.old.tunnel self.new.tunnel }
         ensures waits { Serving self.old.tunnel → (poll.new.waits ≡ poll.old.waits) ⊎ (NeedsEvents self.old.tunnel × CountsOne poll.old.waits poll.new.waits) }
+        // Where a user may wait whom it can give a stream, it doesn't wait.
+        ensures users { user_is_due self.old.tunnel_end.now self.old.tunnel ≡ true → poll.new.waits ≡ poll.old.waits }
     {
         let is_waiting = !self.has_work();
         self.note_waiting(rt, is_waiting);
@@ -329,6 +342,7 @@ impl<'a> TunnelLoop<'a> {
         self.serve_queued(watcher);
         self.flush();
         self.end_lost_wire();
+        self.show_room(rt);
     }
 
     /// Whether something can be done with no event.
@@ -341,16 +355,65 @@ impl<'a> TunnelLoop<'a> {
         ensures gives { Serving self.now.tunnel → result ≡ false → self.now.tunnel.wire.marks.may_push ≡ true → NoneGives self.now.tunnel }
         // In a session that is over no way to the peer is open then, unless its connection is still being made.
         ensures hears { Serving self.now.tunnel → result ≡ false → NoneHangs self.now.tunnel }
+        // Each connection that may take bytes was told then where no more come, and each whose stream takes none any more.
+        ensures ends { Serving self.now.tunnel → result ≡ false → NoneEnds self.now.tunnel }
+        ensures stops { Serving self.now.tunnel → result ≡ false → NoneStops self.now.tunnel }
+        // Nor does a user wait then whom it can give a stream.
+        ensures users { result ≡ false → user_is_due self.now.tunnel_end.now self.now.tunnel ≡ false }
     {
-        let accepts = match &self.tunnel_end.side {
-            Side::Local(listening) => {
-                listening.may_accept(self.tunnel.len()) && !self.is_to_be_followed()
-            }
+        self.has_user() || self.has_offer() || self.tunnel.has_work()
+    }
+
+    /// Whether a connection may wait that is to be accepted now: those that come for the next session are left to it, and
+    /// others to when there is a place.
+    fn has_user(&self) -> bool
+        ensures { result ≡ user_is_due self.now.tunnel_end.now self.now.tunnel }
+    {
+        self.tunnel_end.may_accept(self.tunnel.len())
+            && !self.is_to_be_followed()
+            && !self.must_wait()
+    }
+
+    /// Whether a stream waits that is to be accepted now.
+    fn has_offer(&self) -> bool {
+        match &self.tunnel_end.side {
+            Side::Local(_) => false,
             Side::Remote { limit, .. } => {
                 self.tunnel.len() < *limit && self.tunnel.offered_count() > 0
             }
-        };
-        accepts || self.tunnel.has_work()
+        }
+    }
+
+    /// Whether a connection that comes has to wait for a stream, which can be had only later.
+    fn must_wait(&self) -> bool
+        ensures { result ≡ must_wait self.now.tunnel }
+    {
+        self.can_open_later() && self.has_no_place()
+    }
+
+    /// Whether a stream can be opened now or later: the session runs, the peer takes streams, and there are ids.
+    fn can_open_later(&self) -> bool
+        ensures { result ≡ can_open_later self.now.tunnel.engine.session }
+    {
+        !self.is_lost() && !self.tunnel.is_peer_away() && self.tunnel.next_id() < EXHAUSTED
+    }
+
+    /// Whether no stream can be opened now.
+    fn has_no_place(&self) -> bool
+        ensures { result ≡ has_no_place self.now.tunnel }
+    {
+        self.tunnel.len() >= STREAMS_AT_ONCE || self.tunnel.opens_left() == 0
+    }
+
+    /// How many streams can be opened for connections that come.
+    fn places(&self) -> Places {
+        if !self.can_open_later() {
+            return Places::Never;
+        }
+        if self.has_no_place() {
+            return Places::Free(0);
+        }
+        Places::Free(self.tunnel.opens_left())
     }
 
     /// Whether this side and all its connections have ended, and nothing more goes over the wire.
@@ -359,7 +422,10 @@ impl<'a> TunnelLoop<'a> {
         ensures empty { result ≡ true → self.now.tunnel.lines.by_id ≡ [] }
     {
         let is_side_over = match &self.tunnel_end.side {
-            Side::Local(listening) => listening.is_over() || self.is_to_be_followed(),
+            Side::Local(listening) => {
+                (listening.is_over() && self.tunnel_end.waiting.is_none())
+                    || self.is_to_be_followed()
+            }
             Side::Remote { .. } => self.is_lost() && self.tunnel.offered_count() == 0,
         };
         is_side_over && self.tunnel.is_empty() && self.tunnel.is_over()
@@ -367,7 +433,8 @@ impl<'a> TunnelLoop<'a> {
 
     /// Whether the session is over.
     fn is_lost(&self) -> bool
-        ensures { result ≡ true → is_running self.now.tunnel.engine.session.status ≡ false }
+        ensures over { result ≡ true → is_running self.now.tunnel.engine.session.status ≡ false }
+        ensures exact { result ≡ not (is_running self.now.tunnel.engine.session.status) }
     {
         match self.tunnel.status() {
             Status::Running => false,
@@ -379,7 +446,8 @@ impl<'a> TunnelLoop<'a> {
 
     /// Whether the session is over, and another one follows.
     fn is_to_be_followed(&self) -> bool
-        ensures { result ≡ true → is_running self.now.tunnel.engine.session.status ≡ false }
+        ensures over { result ≡ true → is_running self.now.tunnel.engine.session.status ≡ false }
+        ensures exact { result ≡ is_followed self.now.tunnel_end.now self.now.tunnel }
     {
         self.tunnel_end.is_kept && self.is_lost()
     }
@@ -428,16 +496,8 @@ impl<'a> TunnelLoop<'a> {
 
     // ---- connections that come
 
-    /// Opens a stream for the connection that came while there was no session.
-    fn begin_waiting<V: Watcher>(&mut self, poll: &Poll, watcher: &mut V)
-        ensures { Runs self.old.tunnel self.new.tunnel }
-    {
-        if let Some(socket) = self.tunnel_end.waiting.take() {
-            self.begin_local(socket, poll, watcher);
-        }
-    }
-
-    /// Opens a stream for each connection that waits. Those that come for the next session are left to it.
+    /// Opens a stream for each connection that waits, as far as there is a place. Those that come for the next session are
+    /// left to it.
     fn accept_connections<R: Wait, V: Watcher>(&mut self, rt: &R, poll: &Poll, watcher: &mut V)
         ensures { Runs self.old.tunnel self.new.tunnel }
     {
@@ -453,44 +513,55 @@ impl<'a> TunnelLoop<'a> {
         }
     }
 
-    /// A connection that came, if one may be accepted.
+    /// A connection that came, if one may be accepted, and needn't wait for a stream. One that came while there was no
+    /// session is the first.
     fn next_connection<R: Wait>(&mut self, rt: &R) -> Option<TcpConnection>
-        ensures { self.new.tunnel ≡ self.old.tunnel }
+        ensures same { self.new.tunnel ≡ self.old.tunnel }
+        // One is accepted only where a stream can be opened for it, or never can.
+        ensures accepts_only { IfSome result (λ _. must_wait self.new.tunnel ≡ false) }
     {
         let open = self.tunnel.len();
-        let Side::Local(listening) = &mut self.tunnel_end.side else {
-            return None;
-        };
-        if !listening.may_accept(open) {
+        if !self.tunnel_end.may_accept(open) || self.must_wait() {
             return None;
         }
-        listening.accept(rt, open)
+        self.tunnel_end.next_user(rt, open)
     }
 
     /// Opens a stream for a connection. Once the session is lost the connection is closed, and it is the last one
     /// unless others are counted on.
     fn begin_local<V: Watcher>(&mut self, socket: TcpConnection, poll: &Poll, watcher: &mut V)
+        requires placed { must_wait self.old.tunnel ≡ false }
         ensures { Runs self.old.tunnel self.new.tunnel }
     {
         let origin = watcher.begins(&socket);
-        if self.is_lost() {
-            self.stop_endless();
-        }
+        self.stop_if_lost();
         socket.send_at_once();
+        socket.keep_alive();
         if let Err(why) = self.open(Socket::connected(socket, origin), poll) {
             self.decline(origin, why, watcher);
         }
     }
 
+    /// Once the session is lost no more are accepted, if as many are as come.
+    fn stop_if_lost(&mut self)
+        ensures { self.new.tunnel ≡ self.old.tunnel }
+    {
+        if self.is_lost() {
+            self.stop_endless();
+        }
+    }
+
     /// Opens a stream for a connection.
     fn open(&mut self, socket: Socket, poll: &Poll) -> Result<u32, NotJoined>
-        ensures { Runs self.old.tunnel self.new.tunnel }
+        ensures runs { Runs self.old.tunnel self.new.tunnel }
+        ensures stated { must_wait self.old.tunnel ≡ false → IfErr result IsStated }
     {
         self.tunnel.open(socket, &mut Tokens { poll })
     }
 
-    /// Says why a connection that came got no stream.
+    /// Says why a connection that came got no stream. It is never that it came too early.
     fn decline<V: Watcher>(&mut self, origin: Origin, why: NotJoined, watcher: &mut V)
+        requires stated { IsStated why }
         ensures { self.new.tunnel ≡ self.old.tunnel }
     {
         match why {
@@ -534,6 +605,16 @@ impl<'a> TunnelLoop<'a> {
         }
     }
 
+    /// Where another thread brings connections, it is told how many places there are, if that is due.
+    fn show_room<R: Wait>(&mut self, rt: &R)
+        ensures { self.new.tunnel ≡ self.old.tunnel }
+    {
+        if self.tunnel_end.owes_room() && !self.is_to_be_followed() {
+            let places = self.places();
+            self.tunnel_end.show_room(rt, places);
+        }
+    }
+
     // ---- streams that come
 
     /// Begins a connection to the target for each stream that waits, as far as the limit lets it.
@@ -565,6 +646,7 @@ impl<'a> TunnelLoop<'a> {
         match TcpConnection::begin(rt, target) {
             Ok(socket) => {
                 socket.send_at_once();
+                socket.keep_alive();
                 match self.accept(Socket::begun(socket, origin), poll) {
                     Ok(_) => {}
                     Err(why) => self.end_unjoined(origin, why, watcher),
@@ -726,6 +808,8 @@ impl<'a> TunnelLoop<'a> {
         SessionEnd {
             accept_failed: self.has_unwatched
                 || (!self.tunnel_end.is_kept && self.tunnel_end.accept_failed()),
+            accept_reason: self.tunnel_end.accept_reason(),
+            peer: None,
             broken: match self.tunnel.status() {
                 Status::Broken(fault) => Some(fault.number()),
                 _ => None,
@@ -738,7 +822,9 @@ impl<'a> TunnelLoop<'a> {
 }
 
 /// The role of a side in the session.
-fn role_of(side: &Side) -> Role {
+fn role_of(side: &Side) -> Role
+    ensures { result ≡ role_at side.now }
+{
     match side {
         Side::Local(_) => Role::Client,
         Side::Remote { .. } => Role::Server,
@@ -748,7 +834,8 @@ fn role_of(side: &Side) -> Role {
 /// A new session.
 #[tactic(auto, using(crate::proofs::Sessions::within))]
 fn new_session(alloc: Global, role: Role, window: u32) -> Result<Session, NewFault>
-    ensures { IfOk result IsWithin }
+    ensures new { IfOk result (λ session. session ≡ new_session role window (first_id role 0)) }
+    ensures within { IfOk result IsWithin }
 {
     Session::new(alloc, role, Config { window, first: 0 })
 }
@@ -764,7 +851,9 @@ fn readiness_of(event: Event) -> Readiness {
 }
 
 /// The connection to the peer, of whose events the poll tells. None where the system refuses.
-pub(crate) fn wire_of(peer: Peer, poll: &Poll) -> Option<Socket> {
-    let mut wire = Socket::connected(peer.into_socket(), Origin::untold());
+pub(crate) fn wire_of(peer: Peer, poll: &Poll) -> Option<Socket>
+    ensures { IfSome result (λ wire. wire.is_wire ≡ true) }
+{
+    let mut wire = Socket::wire(peer.into_socket());
     wire.register(poll, WIRE).then_some(wire)
 }

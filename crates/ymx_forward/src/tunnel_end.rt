@@ -1,7 +1,10 @@
 //! One end of a tunnel, through all its sessions.
 
+ghost use Rattle.std.specs.Prelude.{◌≡◌};
+ghost use Rattle.ymx_forward.specs.Users.{comes_to, may_wait};
+
 use crate::accepting::Listening;
-use crate::inbox::Inbox;
+use crate::inbox::{Inbox, Places};
 use crate::peer::Peer;
 use crate::site::Site;
 use crate::system::TcpConnection;
@@ -11,7 +14,7 @@ use std::net::{SocketAddr, SocketAddrV4, TcpListener};
 use std::sync::{Arc, Wait};
 use std::time::Duration;
 use ymx_model::CallFault;
-use ymx_policy::{Happened, Session, Side as SessionSide};
+use ymx_policy::{Happened, Named, Reason, Session, Side as SessionSide};
 
 /// How many seconds go by until it is tried again to accept a connection for which there was no descriptor or no memory.
 pub(crate) const RETRY: u64 = 1;
@@ -69,11 +72,17 @@ pub(crate) struct TunnelEnd {
     pub(crate) limits: Limits,
     /// A connection that came while there was no session.
     pub(crate) waiting: Option<TcpConnection>,
+    /// Where its users come from, if they come to it.
+    users: Option<SocketAddrV4>,
 }
 
 impl TunnelEnd {
     /// The yamux client: each connection that comes becomes a stream. `is_kept` says that it waits where there is no session.
-    pub(crate) fn local(listening: Listening, is_kept: bool) -> TunnelEnd {
+    pub(crate) fn local(
+        listening: Listening,
+        users: Option<SocketAddrV4>,
+        is_kept: bool,
+    ) -> TunnelEnd {
         TunnelEnd {
             side: Side::Local(listening),
             is_kept,
@@ -82,12 +91,13 @@ impl TunnelEnd {
                 close: None,
             },
             waiting: None,
+            users,
         }
     }
 
     /// The yamux client whose connections another thread leaves in this inbox.
     pub(crate) fn linked(inbox: Arc<Inbox, Global>, is_kept: bool) -> TunnelEnd {
-        TunnelEnd::local(Listening::of_inbox(inbox), is_kept)
+        TunnelEnd::local(Listening::of_inbox(inbox), None, is_kept)
     }
 
     /// The yamux server: each stream of the peer becomes a connection to the target, so many at once.
@@ -103,6 +113,7 @@ impl TunnelEnd {
                 close: None,
             },
             waiting: None,
+            users: None,
         }
     }
 
@@ -190,6 +201,49 @@ impl TunnelEnd {
         }
     }
 
+    /// Whether a connection may be there that waits for a stream, where so many have one.
+    pub(crate) fn may_accept(&self, there: usize) -> bool
+        ensures { result ≡ may_wait self.now there }
+    {
+        self.waiting.is_some() || self.may_come(there)
+    }
+
+    /// Whether one may wait to be accepted.
+    fn may_come(&self, there: usize) -> bool
+        ensures { result ≡ comes_to self.now.side there }
+    {
+        match &self.side {
+            Side::Local(listening) => listening.may_accept(there),
+            Side::Remote { .. } => false,
+        }
+    }
+
+    /// The next connection that waits for a stream, where so many have one. It never waits itself.
+    pub(crate) fn next_user<R: Wait>(&mut self, rt: &R, open: usize) -> Option<TcpConnection> {
+        if let Some(socket) = self.waiting.take() {
+            return Some(socket);
+        }
+        match &mut self.side {
+            Side::Local(listening) if listening.may_accept(open) => listening.accept(rt, open),
+            _ => None,
+        }
+    }
+
+    /// Whether who brings connections is to be told how many places there are.
+    pub(crate) fn owes_room(&self) -> bool {
+        match &self.side {
+            Side::Local(listening) => listening.owes_room(),
+            Side::Remote { .. } => false,
+        }
+    }
+
+    /// Tells who brings connections how many places there are.
+    pub(crate) fn show_room<R: Wait>(&mut self, rt: &R, places: Places) {
+        if let Side::Local(listening) = &mut self.side {
+            listening.show_room(rt, places);
+        }
+    }
+
     /// Accepts a connection that the next session is to serve. False if none waits.
     fn take_waiting<R: Wait>(&mut self, rt: &R) -> bool {
         if self.waiting.is_none() {
@@ -208,12 +262,25 @@ impl TunnelEnd {
         }
     }
 
-    /// Tells why the system has refused to accept a connection, if it has and that wasn't told.
+    /// Tells why the system has refused to accept a connection, if it has and that wasn't told. Why none can be accepted any
+    /// more is said with the fault.
     pub(crate) fn tell_refusal<V: Watcher>(&mut self, watcher: &mut V) {
-        if let Side::Local(listening) = &mut self.side {
-            if let Some(reason) = listening.take_refusal() {
-                watcher.failed("--listen", reason);
-            }
+        let Side::Local(listening) = &mut self.side else {
+            return;
+        };
+        if listening.is_over() {
+            return;
+        }
+        if let (Some(address), Some(reason)) = (self.users, listening.take_refusal()) {
+            watcher.failed(Named::Listen(address), reason);
+        }
+    }
+
+    /// Why no connection can be accepted any more, if that is so, and the system has said so.
+    pub(crate) fn accept_reason(&self) -> Option<Reason> {
+        match &self.side {
+            Side::Local(listening) => listening.failure(),
+            Side::Remote { .. } => None,
         }
     }
 

@@ -1,6 +1,6 @@
 //! Where faults are said, and where lines are told.
 
-ghost use Rattle.std.specs.Prelude.{None, ⊤, refl};
+ghost use Rattle.std.specs.Prelude.{None, ⊤};
 
 use crate::notices::{Notices, ProgramWatcher};
 use crate::shared::Shared;
@@ -8,7 +8,10 @@ use crate::watching::Unwatched;
 use std::sync::Wait;
 use ymx_devices::push_all;
 use ymx_model::Outlet;
-use ymx_policy::{Errors, Fault, Lines, Notice, PoolDeed, PoolHappened, PoolWorld, fault_text};
+use ymx_policy::{
+    Deed, Errors, Fault, Happened, Lines, Notice, PoolDeed, PoolHappened, PoolWorld, World,
+    fault_text, notice_text,
+};
 
 /// Says faults on an outlet. Where it fails too there is nobody left to tell.
 pub(crate) struct OutletErrors;
@@ -24,39 +27,78 @@ impl<E: Outlet> Errors<E> for OutletErrors {
     }
 }
 
-impl Lines for Unwatched {
+/// Tells notices to a watcher, which can't tell a contract what it was told.
+pub(crate) struct WatcherLines;
+
+impl<V: ProgramWatcher> Lines<V> for WatcherLines {
     ghost told = { λ _. None };
 
-    fn tell(&mut self, _notice: Notice) {}
+    ghost contents = { λ _. None };
+
+    ghost failures = { λ _. 0 };
+
+    fn tell(lines: &mut V, notice: Notice) {
+        lines.tell(notice);
+    }
+}
+
+/// Tells notices on an outlet. Where it fails too there is nobody left to tell.
+pub(crate) struct OutletLines;
+
+impl<L: Outlet> Lines<L> for OutletLines {
+    ghost told = { λ _. None };
+
+    ghost contents = { L.contents };
+
+    ghost failures = { L.failures };
+
+    fn tell(lines: &mut L, notice: Notice) {
+        let text = notice_text(notice);
+        let _ = push_all(lines, text.as_str().as_bytes());
+    }
 }
 
 impl ProgramWatcher for Unwatched {
-    ghost is_mute = { λ _. refl };
+    fn tell(&mut self, _notice: Notice) {}
 }
 
-impl<L: Outlet> Lines for Notices<'_, L> {
-    ghost told = { λ _. None };
-
+impl<L: Outlet> ProgramWatcher for Notices<'_, L> {
     fn tell(&mut self, notice: Notice) {
         self.say_notice(notice);
     }
 }
 
-impl<L: Outlet> ProgramWatcher for Notices<'_, L> {
-    ghost is_mute = { λ _. refl };
-}
-
-impl<R: Wait, V: ProgramWatcher> Lines for Shared<'_, R, V> {
-    ghost told = { λ _. None };
-
+impl<R: Wait, V: ProgramWatcher> ProgramWatcher for Shared<'_, R, V> {
     fn tell(&mut self, notice: Notice) {
         let mut watcher = self.watcher.lock(self.rt);
         watcher.tell(notice);
     }
 }
 
-impl<R: Wait, V: ProgramWatcher> ProgramWatcher for Shared<'_, R, V> {
-    ghost is_mute = { λ _. refl };
+/// A world of which nobody watches the connections: where notices are told it tells nothing.
+#[derive(Drop)]
+pub(crate) struct Unheard<W> {
+    pub(crate) world: W,
+}
+
+impl<W: World<Unwatched, WatcherLines>, T, L: Lines<T>> World<T, L> for Unheard<W> {
+    ghost log = { λ u. W.log u.world };
+
+    ghost may = { λ u. W.may u.world };
+
+    fn perform(&mut self, deed: Deed, _lines: &mut T) -> Happened {
+        self.world.perform(deed, &mut Unwatched)
+    }
+}
+
+impl<W: PoolWorld<Unwatched, WatcherLines>, T, L: Lines<T>> PoolWorld<T, L> for Unheard<W> {
+    ghost log = { λ u. W.log u.world };
+
+    ghost may = { λ u. W.may u.world };
+
+    fn perform(&mut self, deed: PoolDeed, _lines: &mut T) -> PoolHappened {
+        self.world.perform(deed, &mut Unwatched)
+    }
 }
 
 /// Says nothing: nothing is to be said yet.
@@ -71,18 +113,28 @@ impl Errors<Muted> for Muted {
     fn say(_device: &mut Muted, _fault: Fault) {}
 }
 
+impl Lines<Muted> for Muted {
+    ghost told = { λ _. None };
+
+    ghost contents = { λ _. None };
+
+    ghost failures = { λ _. 0 };
+
+    fn tell(_lines: &mut Muted, _notice: Notice) {}
+}
+
 /// Where a pool could not begin: whatever is asked for, this happened.
 #[derive(Drop)]
 pub(crate) struct Unbegun {
     pub(crate) why: PoolHappened,
 }
 
-impl<L: Lines> PoolWorld<L> for Unbegun {
+impl<T, L: Lines<T>> PoolWorld<T, L> for Unbegun {
     ghost log = { λ _. None };
 
     ghost may = { λ _. ⊤ };
 
-    fn perform(&mut self, _deed: PoolDeed, _lines: &mut L) -> PoolHappened {
+    fn perform(&mut self, _deed: PoolDeed, _lines: &mut T) -> PoolHappened {
         self.why
     }
 }

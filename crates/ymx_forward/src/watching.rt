@@ -5,7 +5,7 @@ use crate::system::TcpConnection;
 use std::net::SocketAddr;
 use ymx_engine::{Flow, Ways};
 use ymx_model::CallFault;
-use ymx_policy::Reason;
+use ymx_policy::{Named, Reason};
 
 /// Why one direction of a connection ended.
 #[derive(Clone, Copy, PartialEq, Eq)]
@@ -90,7 +90,7 @@ pub(crate) trait Watcher {
     fn lost(&mut self);
 
     /// The system refused, for this reason, what this option asks for.
-    fn failed(&mut self, option: &'static str, reason: Reason);
+    fn failed(&mut self, option: Named, reason: Reason);
 }
 
 /// Watches nothing.
@@ -108,7 +108,7 @@ impl Watcher for Unwatched {
 
     fn lost(&mut self) {}
 
-    fn failed(&mut self, _option: &'static str, _reason: Reason) {}
+    fn failed(&mut self, _option: Named, _reason: Reason) {}
 }
 
 impl EndedConnection {

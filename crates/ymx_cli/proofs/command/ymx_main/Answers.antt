@@ -216,7 +216,7 @@ returns-in-Ok-Tunnel-clause-tunnel g c = λ names no_help.
     let met = subcommand_of ymx_app (map g.S.AsStr.text c.args.words.now) in
     let told : IsToldBy met (Tunnel e.command) = subst (IsToldBy met) is e.ensures.told in
     let end : IsEndTask (Tunnel e.command) = subst IsEndTask is (e.ensures.other names) in
-    inl (c.run_tunnel.ensures.ran, planned met e.command _ _ told end c.run_tunnel.ensures.ended)
+    inl (c.run_tunnel.ensures.ran, planned met e.command _ _ _ told end c.run_tunnel.ensures.ended)
 
 pub returns-in-Err-clause-tunnel : goal.returns-in-Err-clause-tunnel
 returns-in-Err-clause-tunnel g c = λ names no_help.

@@ -9,7 +9,7 @@ pub accept-init : goal.accept-init
 accept-init g c = runs_same _
 
 pub accept-preserved : goal.accept-preserved
-accept-preserved g c = runs_then _ _ _ c.accept.invariant (runs_behind _ _ _ c.next_connection.ensures c.begin_local.ensures)
+accept-preserved g c = runs_then _ _ _ c.accept.invariant (runs_behind _ _ _ c.next_connection.ensures.same c.begin_local.ensures)
 
 pub returns-in_default : goal.returns-in_default
-returns-in_default g c = runs_before _ _ _ c.next_connection.ensures c.accept.invariant
+returns-in_default g c = runs_before _ _ _ c.next_connection.ensures.same c.accept.invariant

@@ -1,8 +1,0 @@
-use Rattle.ymx_policy.proofs.Endings.{ends_together, together_well}
-use Rattle.ymx_forward.proofs.programs.run_unserved.Goals as goal
-
-pub returns-clause-ended : goal.returns-clause-ended
-returns-clause-ended g c = ends_together _ _ _ _ c.run_pool.ensures
-
-pub returns-clause-good : goal.returns-clause-good
-returns-clause-good g c = together_well _ _ _ _ c.run_pool.ensures

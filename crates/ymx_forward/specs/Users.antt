@@ -1,0 +1,70 @@
+-- Which users wait to be accepted, and when one is given a stream (this project's own).
+use Rattle.std.specs.Prelude.{ℕ, ◌&&◌, ◌||◌, ◌==◌, Bool, true, false, not, is_some, length, nat_le, nat_lt, Option, Some, None}
+use Rattle.ymx_machine.specs.shared.Limits.{first_exhausted, most_records}
+use Rattle.ymx_machine.specs.declared.types.CallFault.TheVariants.{OpensPending, TooMany}
+use Rattle.ymx_model.specs.session.Sessions.{Session, is_running}
+use Rattle.ymx_session.specs.Opens.{opens_left}
+use Rattle.ymx_engine.specs.Tunnels.{Tunnel}
+use Rattle.ymx_engine.specs.declared.joining.NotJoined.{NotJoined}
+use Rattle.ymx_engine.specs.declared.joining.NotJoined.TheVariants.{BySession}
+use Rattle.ymx_forward.specs.declared.accepting.Source.{Source}
+use Rattle.ymx_forward.specs.declared.accepting.Source.TheVariants as source
+use Rattle.ymx_forward.specs.declared.accepting.Listening.{Listening}
+use Rattle.ymx_forward.specs.declared.tunnel_end.Side.{Side}
+use Rattle.ymx_forward.specs.declared.tunnel_end.Side.TheVariants as side
+use Rattle.ymx_forward.specs.declared.tunnel_end.TunnelEnd.{TunnelEnd}
+
+-- ---- who waits
+
+-- no more are accepted
+abbrev pub is_shut : Source → Bool
+is_shut (source.Listener listener) = false
+is_shut (source.Inbox inbox) = false
+is_shut source.Closed = true
+is_shut source.Failed = true
+
+-- fewer than so many, if it is known how many
+abbrev pub is_less : ℕ → Option ℕ → Bool
+is_less there (Some full) = nat_lt there full
+is_less there None = false
+
+-- A user may wait to be accepted, where so many have a stream: none said yet that nobody does, or there may be a descriptor again.
+abbrev pub may_come : Listening → (there : ℕ) → Bool
+may_come l there = (l.can_accept || is_less there l.full_at) && not (is_shut l.source)
+
+-- the same of a side; nobody comes to that of a `remote`
+abbrev pub comes_to : Side → (there : ℕ) → Bool
+comes_to (side.Local listening) there = may_come listening there
+comes_to other there = false
+
+-- the same, or one was accepted while there was no session
+abbrev pub may_wait : TunnelEnd → (there : ℕ) → Bool
+may_wait e there = is_some e.waiting || comes_to e.side there
+
+-- ---- who gets a stream
+
+-- A stream can be had later, if not now: the session runs, the peer takes streams, and there are ids.
+abbrev pub can_open_later : Session → Bool
+can_open_later s = is_running s.status && not s.away.there && nat_lt s.next first_exhausted
+
+-- No stream can be had now: 1,024 connections are there, or the session opens none.
+abbrev pub has_no_place : Tunnel → Bool
+has_no_place t = nat_le most_records (length t.lines.by_id) || (opens_left t.engine.session == 0)
+
+-- A user has to wait for a stream, which can be had only later. One who can never have one doesn't wait: he is told so.
+abbrev pub must_wait : Tunnel → Bool
+must_wait t = can_open_later t.engine.session && has_no_place t
+
+-- the session is over, and another one follows
+abbrev pub is_followed : TunnelEnd → Tunnel → Bool
+is_followed e t = e.is_kept && not (is_running t.engine.session.status)
+
+-- A user may wait who is to be accepted now: there is a place, or never will be one, and none is left to the next session.
+abbrev pub user_is_due : TunnelEnd → Tunnel → Bool
+user_is_due e t = may_wait e (length t.lines.by_id) && not (is_followed e t) && not (must_wait t)
+
+-- Not for this reason alone does a user get no stream: that 256 streams wait for the peer, or 1,024 are there.
+abbrev pub IsStated : NotJoined → Type 0
+IsStated (BySession OpensPending) = ⊥
+IsStated (BySession TooMany) = ⊥
+IsStated other = Unit {0}

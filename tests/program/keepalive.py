@@ -1,0 +1,91 @@
+"""Looks at the sockets of both ends of a tunnel: whether the system asks the other sides for signs of life.
+
+It says which tests failed, and nothing where none did. No test follows one that hangs.
+
+usage: keepalive.py YMX
+"""
+
+import ctypes
+import os
+import socket
+import sys
+
+import raw
+from raw import ANY, Program, accept, call, listen, take
+
+# the call of the system that makes a descriptor of another process one of this one
+PIDFD_GETFD = 438
+LIBC = ctypes.CDLL(None, use_errno=True)
+DEFAULT, INTERVAL, PROBES = 60, 15, 4
+
+
+def duplicate(process, number):
+    """A descriptor of this process that is the one of that number in another."""
+    pidfd = os.pidfd_open(process.pid)
+    try:
+        made = LIBC.syscall(PIDFD_GETFD, pidfd, number, 0)
+        if made < 0:
+            raise OSError(ctypes.get_errno(), f"the descriptor {number} of another process can't be had")
+        return made
+    finally:
+        os.close(pidfd)
+
+
+def connections(process):
+    """Its connections, by where their other sides are."""
+    found = {}
+    folder = f"/proc/{process.pid}/fd"
+    for number in os.listdir(folder):
+        if not os.readlink(f"{folder}/{number}").startswith("socket:"):
+            continue
+        one = socket.socket(fileno=duplicate(process, int(number)))
+        try:
+            found[one.getpeername()] = one
+        except OSError:
+            one.close()
+    return found
+
+
+def settings(connection):
+    """What it is told of signs: None where it asks for none, or after how long, how often and how many, in seconds; and how many
+    milliseconds may go by without an acknowledgement, 0 where any."""
+    given = [connection.getsockopt(socket.IPPROTO_TCP, option)
+             for option in (socket.TCP_KEEPIDLE, socket.TCP_KEEPINTVL, socket.TCP_KEEPCNT)]
+    asks = connection.getsockopt(socket.SOL_SOCKET, socket.SO_KEEPALIVE)
+    limit = connection.getsockopt(socket.IPPROTO_TCP, socket.TCP_USER_TIMEOUT)
+    return tuple(given) if asks else None, limit
+
+
+def tunnel(near, far):
+    """Both ends with these words, a user, and the target's side of his connection."""
+    target, address = listen()
+    remote = Program("remote", "-v", "--bind", ANY, "--target", address, *far)
+    local = Program("local", "-v", "--listen", ANY, "--peer", remote.place(), *near)
+    user = call(local.place())
+    user.sendall(b"?")
+    other = accept(target)
+    assert take(other, 1) == b"?"
+    return local, remote, user, other
+
+
+def told(near, far, wanted, limit):
+    """Each of the four sockets is told so, and those of the wire of this limit too."""
+    local, remote, user, other = tunnel(near, far)
+    for program, outside in (local, user), (remote, other):
+        found = connections(program.process)
+        assert len(found) == 2, f"{len(found)} connections, and not 2"
+        for place, connection in found.items():
+            is_wire = place != outside.getsockname()
+            got = settings(connection)
+            assert got == (wanted, limit if is_wire else 0), f"{got} of {'the wire' if is_wire else 'a connection'}"
+
+
+TESTS = (
+    ("by default", told, ((), (), (DEFAULT, INTERVAL, PROBES), 0)),
+    ("--ping 7", told, (("--ping", "7"), ("--ping", "7"), (DEFAULT, INTERVAL, PROBES), 14_000)),
+    ("--keep and --links", told, (("--keep", "--links", "2"), ("--keep",), (DEFAULT, INTERVAL, PROBES), 0)),
+)
+
+
+if __name__ == "__main__":
+    sys.exit(raw.main(TESTS))
