@@ -7,10 +7,10 @@
 # PREFIX says where to: /usr/local, if it is left out. LIBDIR is where the libraries lie, below PREFIX unless it begins
 # with a /: lib, if it is left out. With DESTDIR all is put below that folder, to be moved from there to PREFIX. Modes are
 # the same under any umask.
-# The proved part is that of release/, if it was made from these very sources: this needs no toolchain but C's. Where a
-# source has changed, `rt lib` in crates/ymx_c proves what isn't proved yet. --prove proves all crates of the library from
-# nothing with `rt`, and compares what it built with the release. Or YMX_ARCHIVE names the crate's archive. CC, CPPFLAGS and
-# CFLAGS are for the C part, ymx.c; CC, CFLAGS and LDFLAGS for libymx.so.
+# The proved part is that of release/, if it was made from these very sources: this needs no toolchain but C's. It is taken
+# for the processor that CC compiles for, x86-64 or arm64. Where a source has changed, the crates of the library that aren't
+# proved yet are proved with `rt`. --prove proves all of them from nothing, and compares what it built with the release. Or
+# YMX_ARCHIVE names the archive. CC, CPPFLAGS and CFLAGS are for the C part, ymx.c; CC, CFLAGS and LDFLAGS for libymx.so.
 set -eu
 here=$(cd "$(dirname "$0")" && pwd)
 root=$(cd "$here/.." && pwd)
@@ -35,6 +35,10 @@ destdir=${DESTDIR-}
 [ -z "$destdir" ] || destdir=$(absolute "$destdir")
 destdir=${destdir%/}
 compiler=${CC-cc}
+# what it compiles for, as `uname -m` names it
+# shellcheck disable=SC2086
+processor=$($compiler -dumpmachine 2> /dev/null || uname -m)
+processor=${processor%%-*}
 prove=no
 task=build
 [ "${1-}" != --prove ] || { prove=yes; shift; }
@@ -119,47 +123,64 @@ need_rt() {
 
 archive=${YMX_ARCHIVE-}
 if [ -n "$archive" ]; then
-    :
+    archive=$(absolute "$archive")
 elif [ $prove = yes ]; then
     need_rt 'the proofs are made by a checker'
+    "$root/release/prove.py" --target "$processor" --libraries "$scratch"
+    "$root/release/link.sh" --library "$processor" "$scratch/$processor.c.o" "$scratch/archive"
     archive=$scratch/archive
-    "$root/release/prove.py" --library "$archive"
-    if "$root/release/library.sh" "$scratch/released" >&2; then
+    if "$root/release/library.sh" "$scratch/released" "$processor" >&2; then
         cmp "$scratch/released" "$archive" || { echo 'proved, but the released library is another one than was built here' >&2; exit 1; }
         echo 'proved; it is the released library, byte for byte' >&2
     fi
-elif "$root/release/library.sh" "$scratch/released" > "$scratch/log"; then
+elif "$root/release/library.sh" "$scratch/released" "$processor" > "$scratch/log"; then
     archive=$scratch/released
 else
     need_rt "$(cat "$scratch/log")"
-    (cd "$root/crates/ymx_c" && rt lib) > "$scratch/log" 2>&1 || { cat "$scratch/log" >&2; exit 1; }
-    archive=$root/crates/ymx_c/out/libymx_c.a
+    "$root/release/prove.py" --kept --target "$processor" --libraries "$scratch" > "$scratch/log" 2>&1 || { cat "$scratch/log" >&2; exit 1; }
+    mv "$scratch/$processor.c.o" "$scratch/ymx_c.o"
 fi
-archive=$(absolute "$archive")
 
-# One object of all three parts: what is proved, the kit's malloc and free, and ymx.c. Only ymx.h's names stay visible.
-# The release has the kit's part with it.
+# tool NAME: the one that belongs to the compiler
+tool() {
+    # shellcheck disable=SC2086
+    $compiler "-print-prog-name=$1" 2> /dev/null || echo "$1"
+}
+ar=$(tool ar)
+as=$(tool as)
+ld=$(tool ld)
+nm=$(tool nm)
+objcopy=$(tool objcopy)
+objdump=$(tool objdump)
+
+# One object of all three parts: what is proved, its heap over malloc and free, and ymx.c. Only ymx.h's names stay visible.
+# The release has the heap with it.
 cd "$scratch"
-ar x "$archive"
-[ -f heap.pic.o ] || ar x "$(dirname "$(rt doc)")/c/liblibc_c.a" heap.pic.o
+[ -z "$archive" ] || "$ar" x "$archive"
+# shellcheck disable=SC2086
+[ -f heap.pic.o ] || $compiler -O2 -std=c11 -fPIC -fno-lto -fasynchronous-unwind-tables -DHEAP_ALONE -c "$root/release/parts.c" -o heap.pic.o
 # (ld -r can't read what -flto makes)
 # shellcheck disable=SC2086
 $compiler ${CPPFLAGS-} ${CFLAGS--O2} -std=c99 -fPIC -fno-lto -fasynchronous-unwind-tables -Wall -Wextra -pedantic \
     -I"$here" -c "$here/ymx.c" -o ymx.o
-# The compiler of the proved part writes no unwind tables. They are made of its code; where that can't be, awk says why, and
-# there are none.
-nm -S ymx_c.o > sizes
-objdump -dr --no-show-raw-insn ymx_c.o > code
-awk -f "$here/unwind.awk" sizes code > unwind.s || : > unwind.s
-nm ymx_c.o | sed -n 's/^[0-9a-f]* t /--globalize-symbol=/p' | tr '\n' '\0' | xargs -0 sh -c 'objcopy "$@" ymx_c.o' sh
-as -o unwind.o unwind.s
-ld -r -o core.o ymx_c.o unwind.o
-objcopy --rename-section .unwind=.eh_frame core.o
-ld -r -o libymx.o core.o heap.pic.o ymx.o
-nm ymx.o | sed -n 's/^[0-9a-f]* T //p' | grep '^ymx_' > names
-objcopy --keep-global-symbols=names libymx.o
+# The compiler of the proved part writes no unwind tables. They are made of its code, where that is for x86-64; where they
+# can't be made, awk says why, and there are none.
+"$nm" -S ymx_c.o > sizes
+"$objdump" -dr --no-show-raw-insn ymx_c.o > code
+if [ "$processor" != x86_64 ] || ! awk -f "$here/unwind.awk" sizes code > unwind.s; then
+    printf '.section .note.GNU-stack,"",%%progbits\n' > unwind.s
+fi
+# shellcheck disable=SC2016
+"$nm" ymx_c.o | sed -n 's/^[0-9a-f]* t /--globalize-symbol=/p' | tr '\n' '\0' |
+    xargs -0 sh -c 'objcopy=$1 && shift && "$objcopy" "$@" ymx_c.o' sh "$objcopy"
+"$as" -o unwind.o unwind.s
+"$ld" -r -o core.o ymx_c.o unwind.o
+"$objcopy" --rename-section .unwind=.eh_frame core.o
+"$ld" -r -o libymx.o core.o heap.pic.o ymx.o
+"$nm" ymx.o | sed -n 's/^[0-9a-f]* T //p' | grep '^ymx_' > names
+"$objcopy" --keep-global-symbols=names libymx.o
 rm -f "$target/lib/libymx.a"
-ar rcs "$target/lib/libymx.a" libymx.o
+"$ar" rcs "$target/lib/libymx.a" libymx.o
 # shellcheck disable=SC2086
 $compiler ${CFLAGS--O2} -fno-lto ${LDFLAGS-} -shared "-Wl,-soname,$soname" "-Wl,--version-script,$here/libymx.map" \
     -Wl,-z,relro,-z,now,-z,noexecstack -Wl,--no-undefined -o "$target/lib/libymx.so.$version" libymx.o

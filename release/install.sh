@@ -4,8 +4,9 @@
 #        release/install.sh --uninstall [PREFIX]   takes away what was installed there
 # With DESTDIR all is put below that folder, to be moved from there to PREFIX. Modes are the same under any umask. fish
 # finds its completions below PREFIX where XDG_DATA_DIRS names PREFIX/share; for /usr/local they lie in /etc too. The
-# program is that of ./ymx: the released one, where it was made from these very sources. The services' files of options,
-# in /etc/ymx, are the user's: none is made or taken away.
+# program is the one that lies beside this script, as in the archives of release/tar.sh, or that of ./ymx: the released one,
+# where it was made from these very sources. The services' files of options, in /etc/ymx, are the user's: none is made or
+# taken away.
 set -eu
 here=$(cd "$(dirname "$0")" && pwd)
 root=$(cd "$here/.." && pwd)
@@ -44,7 +45,8 @@ files='755 ymx bin/ymx
 644 ymx.fish share/fish/vendor_completions.d/ymx.fish
 644 ymx-local@.service lib/systemd/system/ymx-local@.service
 644 ymx-remote@.service lib/systemd/system/ymx-remote@.service
-644 LICENSE share/doc/ymx/LICENSE'
+644 LICENSE share/doc/ymx/LICENSE
+644 LICENSE.musl share/doc/ymx/LICENSE.musl'
 # fish looks below /usr, where XDG_DATA_DIRS says, and always in /etc
 [ "$prefix" != /usr/local ] || files="$files
 644 ymx.fish /etc/fish/completions/ymx.fish"
@@ -72,8 +74,13 @@ fi
 scratch=$(mktemp -d)
 trap 'rm -rf "$scratch"' EXIT
 trap 'exit 130' INT TERM
-"$root/ymx" --copy "$scratch/ymx"
-cp "$root/LICENSE" "$here/share"/* "$scratch/"
+if [ -x "$here/ymx" ]; then
+    cp "$here/ymx" "$here/LICENSE" "$scratch/"
+else
+    "$root/ymx" --copy "$scratch/ymx"
+    cp "$root/LICENSE" "$scratch/"
+fi
+cp "$here/LICENSE.musl" "$here/share"/* "$scratch/"
 # the services name the program by its place
 literal=$(printf '%s\n' "$prefix" | sed 's/[\\&|]/\\&/g')
 for end in local remote; do
@@ -84,6 +91,11 @@ umask 022
 printf '%s\n' "$files" | while read -r mode source file; do
     to=$(place_of "$file")
     mkdir -p "$(dirname "$to")"
-    install -m "$mode" "$scratch/$source" "$to"
+    # (a program that runs is not written to, and busybox may have no `install`)
+    rm -f "$to"
+    cp "$scratch/$source" "$to"
+    chmod "$mode" "$to"
 done
-echo "$("$scratch/ymx" --version) installed below $place"
+# (it may be for another machine)
+version=$("$scratch/ymx" --version 2> /dev/null || echo ymx)
+echo "$version installed below $place"

@@ -1,16 +1,20 @@
 #!/usr/bin/env python3
-"""Proves the crates of which the program ymx is made, from nothing, and builds it; or those of the library for C.
+"""Proves the crates of which the program ymx is made, from nothing, and compiles it; or those of the library for C.
 
-usage: release/prove.py [--kept] [--seconds FILE] [--library FILE] [PROGRAM]
+usage: release/prove.py [--kept | --gate] [--seconds FILE] [--target NAME].. [--objects FOLDER] [--libraries FOLDER] [PROGRAM]
 
-The program is written to the file PROGRAM. A crate begins as soon as those below it are proved, the one with the
-longest way to the program first, and takes processors that are left over. `rt` has to be on the PATH: the compiler
-is the one that belongs to it, and is called with the words that `rt ci` gives it.
+The program is written to the file PROGRAM, linked with this machine's C library, as `rt ci` links it. A crate begins as
+soon as those below it are proved, the one with the longest way to the program first, and takes processors that are left
+over. `rt` has to be on the PATH: the compiler is the one that belongs to it, and is called with the words that `rt ci`
+gives it.
 
---kept           takes over what `rt check` and earlier runs with --kept proved: only what has changed is proved again
---library FILE   proves and builds the library for C too, and writes its archive to FILE: the crate's code, and the
-                 kit's malloc and free. With no PROGRAM only the crates of the library are proved
---seconds FILE   writes how many seconds of processor time each crate took, for the estimate of later runs
+--kept              takes over what `rt check` and earlier runs with --kept proved: only what has changed is proved again
+--gate              takes the libraries as `rt ci` has just proved and built them here, and proves what stands on them
+--target NAME       x86_64 or aarch64: what is compiled for. Both, if none is named; PROGRAM is always for x86_64
+--objects FOLDER    writes the program's objects, FOLDER/NAME.o for each target
+--libraries FOLDER  proves and compiles the library for C too, and writes its objects, FOLDER/NAME.c.o for each target.
+                    With neither --objects nor PROGRAM only the crates of the library are proved
+--seconds FILE      writes how many seconds of processor time each crate took, for the estimate of later runs
 """
 import argparse
 import hashlib
@@ -18,7 +22,6 @@ import os
 import shutil
 import subprocess
 import sys
-import tempfile
 import threading
 import time
 
@@ -29,6 +32,8 @@ import kit
 
 LAST = "ymx_cli"
 LIBRARY = "ymx_c"
+# The target of a program that is linked with this machine's C library.
+MACHINE = "x86_64"
 KNOWN_SECONDS = f"{TOP}/release/seconds"
 MEMORY_OF_A_CHECK = 3_000_000_000
 
@@ -42,88 +47,116 @@ def sources(name):
 
 
 class Crate:
-    """One crate, and how it is proved."""
+    """One crate, and how it is proved; for a target, where machine code is wanted."""
 
-    def __init__(self, tools, room, crates, name):
-        self.tools, self.room, self.name, self.crates = tools, room, name, crates
+    def __init__(self, tools, room, crates, name, target=None):
+        self.tools, self.room, self.name, self.crates, self.target = tools, room, name, crates, target
+        self.label = f"{name}.{target}" if target else name
         self.uses = crates[name]
-        self.own = [it for it in self.uses if it in crates]
+        # the labels of those that have to be proved before
         self.below = kit.below(crates, name)
-        self.is_program, self.is_static = kit.is_program(name), kit.is_static(name)
-        self.ending = ".o" if self.is_program else ".a" if self.is_static else ".rlib"
+        self.ending = ".rlib" if not target else ".o" if kit.is_program(name) else ".a"
         self.seconds = 60.0
         self.took = 0.0
 
     def made(self, ending):
-        return f"{self.room}/{self.name}/{self.name}{ending}"
+        return f"{self.room.of(self.name)}/{self.label}{ending}"
 
-    def words(self, jobs, is_kept):
+    def words(self, jobs):
         """The compiler's words."""
-        words = self.tools.proving("build", self.name, self.crates, lambda it: f"{self.room}/{it}", jobs)
-        if self.is_program or self.is_static:
-            words += self.tools.compiling()
-        if self.is_static:
-            words += ["--crate-type", "staticlib", "--backend", "llvm"]
-        if is_kept:
-            words += ["--incremental", f"{TOP}/crates/{self.name}/out/incremental"]
-        elif not self.is_program and not self.is_static:
+        words = self.tools.proving("build", self.name, self.crates, self.room.library, jobs)
+        if self.target:
+            words += [*self.tools.compiling(), *self.tools.targeting(self.target)]
+            if self.ending == ".a":
+                words += ["--crate-type", "staticlib", "--backend", "llvm"]
+        elif not self.room.keeps:
             words += ["--statements"]
+        # what one target has proved serves the next
+        if self.target or self.room.keeps:
+            words += ["--incremental", self.room.proofs(self.name)]
         return [*words, "-o", self.made(self.ending)]
 
     def stamp(self, stamps):
         """A sum of all that the crate is made from."""
-        total = hashlib.sha256(repr((self.kit_line, self.uses, [stamps[it] for it in self.own])).encode())
+        below = [stamps[it] if it in stamps else self.room.sum_of(it) for it in kit.below(self.crates, self.name)]
+        total = hashlib.sha256(repr((self.kit_line, self.uses, self.target, below)).encode())
         for file in sources(self.name):
             with open(file, "rb") as it:
                 total.update(repr((os.path.relpath(file, TOP), it.read())).encode())
         return total.hexdigest()
 
-    def build(self, jobs, is_kept):
+    def build(self, jobs):
         """Proves and builds the crate, and returns whether that went well."""
-        os.makedirs(f"{self.room}/{self.name}", exist_ok=True)
+        os.makedirs(self.room.of(self.name), exist_ok=True)
         os.makedirs(f"{TOP}/crates/{self.name}/out", exist_ok=True)
         with open(self.made(".log"), "w", encoding="utf-8") as log:
             how = {"cwd": f"{TOP}/crates/{self.name}", "stdin": subprocess.DEVNULL, "stdout": log, "stderr": log}
-            ran = subprocess.Popen(self.words(jobs, is_kept), **how)
+            ran = subprocess.Popen(self.words(jobs), **how)
             status, used = os.wait4(ran.pid, 0)[1:]
+            if os.WIFSIGNALED(status):
+                log.write(f"it was stopped by signal {os.WTERMSIG(status)}\n")
         self.took = used.ru_utime + used.ru_stime
         return status == 0
+
+
+class Room:
+    """Where what is made stands, and what of earlier runs is taken over."""
+
+    def __init__(self, is_kept, is_gate):
+        self.keeps, self.is_gate = is_kept or is_gate, is_gate
+        self.folder = f"{TOP}/out/{'gate' if is_gate else 'kept' if is_kept else 'proved'}"
+
+    def of(self, name):
+        return f"{self.folder}/{name}"
+
+    def library(self, name):
+        """The folder of a crate's library."""
+        return f"{TOP}/crates/{name}/out/rlib" if self.is_gate else self.of(name)
+
+    def sum_of(self, name):
+        """A sum of a library that `rt ci` has built: its format names the sums of its files."""
+        with open(f"{self.library(name)}/{name}.rlib/format", "rb") as it:
+            return hashlib.sha256(it.read()).hexdigest()
+
+    def proofs(self, name):
+        """The folder of what checks of the crate keep."""
+        return f"{TOP}/crates/{name}/out/incremental" if self.keeps else f"{self.of(name)}/incremental"
 
 
 class Work:
     """All crates that are wanted: which are proved, which are under way, and which are left."""
 
-    def __init__(self, crates, is_kept, good):
-        self.crates, self.is_kept = crates, is_kept
-        self.left = [it for it in crates if it.name not in good]
+    def __init__(self, crates, good):
+        self.crates = crates
+        self.left = [it for it in crates if it.label not in good]
         self.under_way, self.done, self.failed = {}, set(good), None
         self.turn, self.began = threading.Condition(), time.time()
         self.way = {}
         for it in reversed(crates):
-            above = [self.way[other.name] for other in crates if it.name in other.own]
-            self.way[it.name] = it.seconds + max(above, default=0)
-        self.left.sort(key=lambda it: -self.way[it.name])
+            above = [self.way[other.label] for other in crates if it.label in other.below]
+            self.way[it.label] = it.seconds + max(above, default=0)
+        self.left.sort(key=lambda it: -self.way[it.label])
 
     def minutes_left(self, lanes):
         """About how long it still takes: as the crates that are proved took, beside what was known of them."""
-        proved = [it for it in self.crates if it.took and it.name in self.done]
+        proved = [it for it in self.crates if it.took and it.label in self.done]
         known, took = sum(it.seconds for it in proved), sum(it.took for it in proved)
         pace = took / known if known > 60 else 1
         rest = [*self.left, *self.under_way]
-        longest = max((self.way[it.name] for it in rest), default=0)
+        longest = max((self.way[it.label] for it in rest), default=0)
         return max(longest, sum(it.seconds for it in rest) / lanes) * pace / 60
 
     def say(self, lanes):
-        now = ", ".join(sorted(it.name for it in self.under_way))
+        now = ", ".join(sorted(it.label for it in self.under_way))
         text = f"{len(self.done)} of {len(self.crates)} crates, {time.time() - self.began:.0f} seconds"
         return f"{text}, about {self.minutes_left(lanes):.0f} minutes left; now {now}"
 
     def go(self, crate, jobs):
-        well = crate.build(jobs, self.is_kept)
+        well = crate.build(jobs)
         with self.turn:
             del self.under_way[crate]
             if well:
-                self.done.add(crate.name)
+                self.done.add(crate.label)
             else:
                 self.failed = crate
             self.turn.notify_all()
@@ -185,79 +218,102 @@ def take_over(crates):
     """Sorts out, of work that is kept, what has changed since; returns the crates that are still good."""
     stamps, good = {}, set()
     for it in crates:
-        stamps[it.name] = it.stamp(stamps)
+        stamps[it.label] = it.stamp(stamps)
         file = it.made(".stamp")
         try:
             with open(file, encoding="ascii") as kept:
-                is_same = kept.read() == stamps[it.name]
+                is_same = kept.read() == stamps[it.label]
         except OSError:
             is_same = False
         if is_same and os.path.exists(it.made(it.ending)):
-            good.add(it.name)
+            good.add(it.label)
     return stamps, good
 
 
-def link(crate, program):
-    """Links the program, as `rt ci` does."""
-    words = crate.tools.linking(crate.made(".o"), crate.made(""))
-    if subprocess.run(words, stdin=subprocess.DEVNULL).returncode:
-        return False
-    shutil.copyfile(crate.made(""), f"{program}.new")
-    os.chmod(f"{program}.new", 0o755)
-    os.replace(f"{program}.new", program)
+def crates_for(asked, room):
+    """The crates that are wanted, bottom up: the libraries, and then the last ones for each target, one behind the other."""
+    tools, crates = kit.Kit(), kit.listed()
+    lasts = [(LAST, it) for it in asked.targets if asked.objects] or [(LAST, MACHINE)] * bool(asked.program)
+    if asked.program and (LAST, MACHINE) not in lasts:
+        lasts.append((LAST, MACHINE))
+    lasts += [(LIBRARY, it) for it in asked.targets if asked.libraries]
+    below = [] if asked.gate else [it for name, _ in lasts for it in kit.below(crates, name)]
+    own = [Crate(tools, room, crates, it) for it in dict.fromkeys(below)]
+    for name, target in lasts:
+        last = Crate(tools, room, crates, name, target)
+        last.below = [it for it in last.below if not asked.gate] + [it.label for it in own if it.name == name]
+        own.append(last)
+    return own
+
+
+def replace(made, file, mode=0o644):
+    """Puts a copy of what was made at the place of this file, at once."""
+    shutil.copyfile(made, f"{file}.new")
+    os.chmod(f"{file}.new", mode)
+    os.replace(f"{file}.new", file)
+
+
+def hand_out(asked, own):
+    """Writes what was asked for, and returns whether that went well."""
+    for it in (it for it in own if it.target):
+        if it.name == LAST and asked.objects:
+            replace(it.made(".o"), f"{asked.objects}/{it.target}.o")
+        if it.name == LIBRARY:
+            with open(it.made(".o"), "wb") as file:
+                subprocess.run(["ar", "p", it.made(".a")], stdout=file, check=True)
+            replace(it.made(".o"), f"{asked.libraries}/{it.target}.c.o")
+        if it.name == LAST and it.target == MACHINE and asked.program:
+            words = it.tools.linking(it.made(".o"), it.made(""))
+            if subprocess.run(words, stdin=subprocess.DEVNULL).returncode:
+                return False
+            replace(it.made(""), asked.program, 0o755)
     return True
 
 
-def pack(crate, archive):
-    """Packs the library's archive: the crate's object and the kit's malloc and free, with no time in it."""
-    with tempfile.TemporaryDirectory() as folder:
-        for file, member in ((crate.made(".a"), f"{crate.name}.o"), (f"{crate.tools.folder}/c/liblibc_c.a", "heap.pic.o")):
-            with open(f"{folder}/{member}", "wb") as it:
-                subprocess.run(["ar", "p", file, member], stdout=it, check=True)
-        subprocess.run(["ar", "rcsD", "new.a", f"{crate.name}.o", "heap.pic.o"], cwd=folder, check=True)
-        shutil.copyfile(f"{folder}/new.a", f"{archive}.new")
-    os.replace(f"{archive}.new", archive)
+def words_of():
+    """What is asked for, or None where it can't be told."""
+    asked = argparse.ArgumentParser(add_help=False)
+    asked.add_argument("--kept", action="store_true")
+    asked.add_argument("--gate", action="store_true")
+    asked.add_argument("--seconds")
+    asked.add_argument("--target", action="append", choices=kit.TARGETS, dest="targets")
+    asked.add_argument("--objects")
+    asked.add_argument("--libraries")
+    asked.add_argument("program", nargs="?")
+    asked = asked.parse_args()
+    asked.targets = asked.targets or [*kit.TARGETS]
+    return asked if (asked.objects or asked.libraries or asked.program) and not (asked.kept and asked.gate) else None
 
 
 def main():
-    asked = argparse.ArgumentParser(add_help=False)
-    asked.add_argument("--kept", action="store_true")
-    asked.add_argument("--seconds")
-    asked.add_argument("--library")
-    asked.add_argument("program", nargs="?")
-    asked = asked.parse_args()
-    if not asked.library and not asked.program:
+    asked = words_of()
+    if not asked:
         print(__doc__, end="", file=sys.stderr)
         return 2
-    tools = kit.Kit()
-    Crate.kit_line = tools.version()
-    crates, seconds = kit.listed(), known_seconds()
-    room = f"{TOP}/out/{'kept' if asked.kept else 'proved'}"
-    wanted = [LAST] * bool(asked.program) + [LIBRARY] * bool(asked.library)
-    names = [it for last in wanted for it in [*kit.below(crates, last), last]]
-    own = [Crate(tools, room, crates, it) for it in dict.fromkeys(names)]
+    for folder in filter(None, (asked.objects, asked.libraries)):
+        os.makedirs(folder, exist_ok=True)
+    Crate.kit_line, seconds = kit.Kit().version(), known_seconds()
+    room = Room(asked.kept, asked.gate)
+    own = crates_for(asked, room)
     for it in own:
-        it.seconds = seconds.get(it.name, it.seconds)
-    if not asked.kept:
-        shutil.rmtree(room, ignore_errors=True)
-    os.makedirs(room, exist_ok=True)
+        it.seconds = seconds.get(it.label, it.seconds)
+    if not room.keeps:
+        shutil.rmtree(room.folder, ignore_errors=True)
+    os.makedirs(room.folder, exist_ok=True)
     stamps, good = take_over(own)
-    work = Work(own, asked.kept, good)
+    work = Work(own, good)
     well = work.run(lanes())
     for it in own:
-        if it.name in work.done:
+        if it.label in work.done:
             with open(it.made(".stamp"), "w", encoding="ascii") as kept:
-                kept.write(stamps[it.name])
+                kept.write(stamps[it.label])
     if not well:
-        print(f"ymx: {work.failed.name} isn't proved or can't be built:\n{tail_of(work.failed.made('.log'))}", end="", file=sys.stderr)
+        print(f"ymx: {work.failed.label} isn't proved or can't be built:\n{tail_of(work.failed.made('.log'))}", end="", file=sys.stderr)
         return 1
     if asked.seconds:
         with open(asked.seconds, "w", encoding="ascii") as it:
-            it.writelines(f"{crate.name} {crate.took:.0f}\n" for crate in own)
-    made = {it.name: it for it in own}
-    if asked.library:
-        pack(made[LIBRARY], asked.library)
-    if asked.program and not link(made[LAST], asked.program):
+            it.writelines(f"{crate.label} {crate.took:.0f}\n" for crate in own)
+    if not hand_out(asked, own):
         return 1
     spent, took = sum(it.took for it in own) / 60, (time.time() - work.began) / 60
     print(f"ymx: proved and built in {took:.1f} minutes, {spent:.1f} minutes of processor time", file=sys.stderr)

@@ -10,7 +10,7 @@ mkdir -p "$scratch/clone/out"
 cp "$ymx" "$scratch/clone/out/ymx"
 "$root/release/sources.sh" > "$scratch/clone/out/ymx.sources"
 if ! "$root/release/library.sh" "$scratch/libymx_c.a" > "$scratch/said" 2>&1; then
-    gzip -dc "$root/release/libymx_c.a.gz" > "$scratch/libymx_c.a"
+    gzip -dc "$root/release/$(uname -m)/libymx_c.a.gz" > "$scratch/libymx_c.a"
     export YMX_ARCHIVE="$scratch/libymx_c.a"
 fi
 python3 -B "$here/documents.py" "$scratch/clone"

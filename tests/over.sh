@@ -61,6 +61,45 @@ find_program() {
     fi
 }
 
+# find_dynamic: `dynamic` is the program that `ymx` is, linked with this machine's C library, so that a library can be
+# preloaded: itself, or what `cc` makes of the object of the release, where that was compiled here. It is empty where there
+# is none.
+find_dynamic() {
+    dynamic=${YMX_DYNAMIC-}
+    [ -z "$dynamic" ] || return 0
+    # (the place of its loader stands at its beginning)
+    if head -c 4096 "$ymx" | LC_ALL=C grep -qa '/ld-linux'; then
+        dynamic=$ymx
+        return
+    fi
+    wanted=$(sed -n "s/^object $(uname -m): //p" "$root/release/RELEASE")
+    for object in "$root"/out/gate/ymx_cli/ymx_cli."$(uname -m)".o "$root"/out/kept/ymx_cli/ymx_cli."$(uname -m)".o "$root/out/release/$(uname -m).o"; do
+        if [ -f "$object" ] && [ "$(sha256sum < "$object" | cut -d ' ' -f 1)" = "$wanted" ] &&
+            "${CC-cc}" -O2 -o "$scratch/dynamic" "$object" "$root/release/parts.c" -Wl,--wrap=main; then
+            dynamic=$scratch/dynamic
+            return
+        fi
+    done
+}
+
+# alone: from here on `ymx` runs in a root of its own, the folder `scratch`, in which nothing of this machine lies but what the
+# test puts there. That takes a static program and a superuser; `ymx` stays what it is where either is lacking.
+alone() {
+    cp "$ymx" "$scratch/ymx_alone"
+    mkdir -p "$scratch/alone"
+    "${CC-cc}" -O2 "-DROOT=\"$scratch\"" -o "$scratch/alone/ymx" "$root/tests/runs.c"
+    if "$scratch/alone/ymx" --version > "$scratch/said" 2>&1; then
+        ymx=$scratch/alone/ymx
+    else
+        left_out 'a root of its own' "$(head -n 1 "$scratch/said")"
+    fi
+}
+
+# left_out WHAT WHY: a test that can't be made here
+left_out() {
+    echo "--    $1: left out: $2"
+}
+
 # below CRATE: what it uses, as crates.txt has it
 below() {
     "$root/tools/kit.py" uses "$1"

@@ -47,12 +47,20 @@ try 'what the documents show is run' "$root/tests/documents.sh"
 try 'requests of memory are bounded' "$root/tools/requests.py"
 try 'the calls of sockets stand in one file' "$root/tools/system_calls.py"
 try 'the released program' "$root/tests/release/run.sh"
+try 'the released program, beside busybox alone' "$root/tests/release/busybox.sh"
+if [ "${YMX_FROM_GATE-}" = yes ]; then
+    # before those that preload a library: it compiles the object that they take
+    try 'the release is what is built here' "$root/tests/release/objects.sh"
+elif [ "${1-}" != --no-kit ]; then
+    echo "--    the release is what is built here: left out: no gate has built anything"
+fi
 try 'the program from outside' "$root/tests/program/run.sh"
 try 'the program, installed' "$root/tests/release/installed.sh"
 try '500 random connections' "$root/tests/kill/random.sh" 500
 try 'scripts and what they print' "$root/tests/script/run.sh"
 try 'the C interface' "$root/tests/capi/run.sh"
 if [ "${1-}" != --no-kit ]; then
+    try 'the release for arm64, under qemu' "$root/tests/release/arm.sh"
     try 'wrong bodies and the sources' "$root/tests/wrong_bodies.sh" --fit
     try 'each allocation fails once' "$root/tests/no_memory/run.sh"
     try 'programs that must not compile' "$root/tests/must_not_compile/run.sh"

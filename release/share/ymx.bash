@@ -5,10 +5,10 @@ _ymx() {
     [ "$COMP_CWORD" -lt 2 ] || command=${COMP_WORDS[1]}
     case $command in
     '') options='frames script local remote selftest help --help -h --version -V' ;;
-    frames) options='--limit --help -h' ;;
-    script | selftest) options='--help -h' ;;
-    local) options='--listen --peer --bind --keep --links --ping --count --window --verbose -v --help -h' ;;
-    remote) options='--bind --peer --target --keep --peers --ping --window --workers --verbose -v --help -h' ;;
+    frames) options='--limit --help -h --version -V' ;;
+    script | selftest) options='--help -h --version -V' ;;
+    local) options='--listen --peer --bind --keep --links --ping --count --window --verbose -v --help -h --version -V' ;;
+    remote) options='--bind --peer --target --keep --peers --ping --window --workers --verbose -v --help -h --version -V' ;;
     help) options='frames script local remote selftest help' ;;
     *) return ;;
     esac

@@ -2,7 +2,7 @@
 set -l commands frames script local remote selftest help
 
 complete -c ymx -f
-complete -c ymx -n "not __fish_seen_subcommand_from $commands" -s V -l version -d 'Print the version'
+complete -c ymx -s V -l version -d 'Print the version'
 complete -c ymx -s h -l help -d 'Print help'
 
 complete -c ymx -n "not __fish_seen_subcommand_from $commands" -a frames -d 'Print the yamux frames of a file'

@@ -24,9 +24,10 @@ PATH=$without_rt c/build.sh built || fail 'the library does not build without a 
 cc -o pair -Ibuilt/include examples/c/pair.c built/lib/libymx.a
 ./pair
 
-gzip -dc release/libymx_c.a.gz > off
+packed=release/$(uname -m)/libymx_c.a.gz
+gzip -dc "$packed" > off
 printf 'X' | dd of=off bs=1 seek=1000 conv=notrunc 2> dd_said
-gzip -9nc off > release/libymx_c.a.gz
+gzip -9nc off > "$packed"
 if release/library.sh off_too; then fail 'a library that is one byte off passes for the release'; fi
 
 echo '//' >> crates/ymx_header/src/lib.rt

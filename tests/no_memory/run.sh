@@ -8,6 +8,9 @@ here=$(cd "$(dirname "$0")" && pwd)
 . "$here/../over.sh"
 
 find_program
+find_dynamic
+# shellcheck disable=SC2016
+[ -n "$dynamic" ] || fail 'nothing can be preloaded into a static program, and the object that it was made of is not here: `release/prove.py --kept --target x86_64 --objects out/objects` compiles it'
 "${CC:-cc}" -O2 -Wall -shared -fPIC -o "$scratch/failing_malloc.so" "$here/failing_malloc.c"
 cd "$scratch"
 echo 'ymx: out of memory' > no_memory
@@ -20,7 +23,7 @@ run() {
     shift
     rm -f failed
     status=0
-    FAIL_AT=$number FAILED=failed LD_PRELOAD=./failing_malloc.so "$ymx" "$@" < input > out 2> err || status=$?
+    FAIL_AT=$number FAILED=failed LD_PRELOAD=./failing_malloc.so "$dynamic" "$@" < input > out 2> err || status=$?
 }
 
 # each STATUS INPUT WORDS..: the program ends so where no allocation fails; then each fails in turn
@@ -52,13 +55,13 @@ each 2 /dev/null frames --limit 5
 each 2 /dev/null local
 
 # Scripts of two sessions: what was refused changed nothing, and a stream without memory is rejected.
-python3 "$here/scripts.py" "$ymx" "$scratch/failing_malloc.so" "$root/tests/script/bytes_one_by_one.script" \
+python3 "$here/scripts.py" "$dynamic" "$scratch/failing_malloc.so" "$root/tests/script/bytes_one_by_one.script" \
     "$root/tests/script/window.script" "$root/tests/script/half_close.script" "$root/tests/script/reset.script" \
     "$root/tests/script/go_away.script" "$root/tests/script/open_with_data.script"
 
 # Both ends of the tunnel, and one connection through them: each that is refused memory, or a call about the readiness
 # of its descriptors, says so, and both end. And the selftest, which ends too.
-python3 "$here/tunnel.py" "$ymx" "$scratch/failing_malloc.so"
+python3 "$here/tunnel.py" "$dynamic" "$scratch/failing_malloc.so"
 
 # What a part of a session, a session and two running sessions do: each test holds whichever allocation fails. The gate
 # runs these among others (tests/run.sh).

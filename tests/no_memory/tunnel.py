@@ -30,6 +30,7 @@ import collections
 import functools
 import os
 import random
+import re
 import signal
 import socket
 import subprocess
@@ -47,6 +48,8 @@ ANSWER = random.Random(4).randbytes(30_000)
 PATIENCE = 60.0
 OUT_OF_MEMORY = "ymx: out of memory\n"
 CANNOT_LISTEN = "ymx: cannot listen at 127.0.0.1:0\n"
+# Why something can't be had, which is said before that.
+REASON = re.compile(r"^ymx: --[a-z]+(?: 127\.0\.0\.1:[0-9]+)?: .*\n(?=ymx: cannot )", re.MULTILINE)
 # What refuses a call about readiness.
 POLL = "FAIL_POLL_AT"
 # What refuses the start of a thread.
@@ -131,9 +134,9 @@ class Side:
         return False
 
     def end(self):
-        """Its status, and what it says, once it has ended."""
+        """Its status, and what it says, but for the reason of a fault, once it has ended."""
         out, said = self.process.communicate(timeout=PATIENCE)
-        return self.process.returncode, said if out == "" else f"on standard output {out!r}"
+        return self.process.returncode, REASON.sub("", said) if out == "" else f"on standard output {out!r}"
 
     def is_at_rest(self):
         """Whether one thread of it is left, which waits."""

@@ -30,6 +30,7 @@ drwxr-xr-x opt/share/bash-completion/completions
 drwxr-xr-x opt/share/doc
 drwxr-xr-x opt/share/doc/ymx
 -rw-r--r-- opt/share/doc/ymx/LICENSE
+-rw-r--r-- opt/share/doc/ymx/LICENSE.musl
 drwxr-xr-x opt/share/fish
 drwxr-xr-x opt/share/fish/vendor_completions.d
 -rw-r--r-- opt/share/fish/vendor_completions.d/ymx.fish

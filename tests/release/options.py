@@ -212,8 +212,8 @@ def main(place):
                     if "a value is required" not in said:
                         faults.append(f"{own}: the program doesn't take {old}: {said.splitlines()[:1]}")
         else:
-            # its --help stands under OPTIONS, for all
-            own_options = {option for option in options if option[1] != "--help"}
+            # its --help and its --version stand under OPTIONS, for all
+            own_options = {option for option in options if option[1] not in ("--help", "--version")}
             compare_page(f"ymx.1, of {command},", part(page, f"ymx {command}"), own_options, defaults)
         compare_bash(command, options)
         of = f", of {command}," if command else ""

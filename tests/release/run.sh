@@ -1,14 +1,14 @@
 #!/bin/sh
-# The released program. Behind the gate: it is, byte for byte, what the gate has just built, and a program that is one
-# byte off is refused. And a copy of the repository in which nothing was built runs it within three seconds, with no
-# toolchain on the PATH; also through a symlink, and where it can't be written. A machine that it isn't for is told so in
-# one line.
+# The released program. A copy of the repository in which nothing was built runs it within three seconds, with no toolchain
+# on the PATH; also through a symlink, and where it can't be written. A machine that it isn't for is told so in one line, and
+# a program that is one byte off is refused. objects.sh has the gate compare it with what is built here.
 set -eu
 here=$(cd "$(dirname "$0")" && pwd)
 . "$here/../over.sh"
 # the launcher that is tried is that of a copy, in which no gate has built anything
-from_gate=${YMX_FROM_GATE-}
 unset YMX_FROM_GATE
+target=$(uname -m)
+packed=release/$target/ymx.gz
 
 copy_repository ymx release examples
 cd "$scratch"
@@ -66,28 +66,21 @@ PATH=$scratch/bare ./ymx --copy copied > got 2>&1 || fail 'the program is not co
 ./copied frames examples/hello.yamux > got || fail 'the copied program does not run'
 cmp got wanted || fail 'the copied program prints something else'
 
-# Another processor, as `uname` says, and an old C library, as the program's loader says.
+# Another processor, as `uname` says, and a program that doesn't start.
 rm out
-mkdir other old
+mkdir other
 cp -P bare/* other/
 rm other/uname
-printf '#!/bin/sh\necho Linux aarch64\n' > other/uname
-cp -P bare/* old/
-printf '#!/bin/sh\necho glibc 2.31\n' > old/getconf
-chmod +x other/uname old/getconf
-only_says 'ymx: the released program is for x86_64 Linux, and this machine is Linux aarch64' env PATH="$scratch/other" ./ymx --version
+printf '#!/bin/sh\n[ "$1" = -m ] && echo riscv64 || echo Linux\n' > other/uname
+chmod +x other/uname
+only_says 'ymx: there is no released program for Linux riscv64, but for Linux on: x86_64 aarch64' env PATH="$scratch/other" ./ymx --version
 cp -r release kept_release
-cat > loaded << 'END_OF_PROGRAM'
-#!/bin/sh
-echo "$0: libc.so.6: version \`GLIBC_2.34' not found (required by $0)" >&2
-exit 1
-END_OF_PROGRAM
-gzip -9nc loaded > release/ymx.gz
-sed -i "s/^program: .*/program: $(sha256sum < loaded | cut -d ' ' -f 1)/" release/RELEASE
-only_says 'ymx: the released program needs x86_64 Linux with glibc 2.34 or later, and this machine has glibc 2.31' env PATH="$scratch/old" ./ymx --version
-only_says 'ymx: the released program needs x86_64 Linux with glibc 2.34 or later, and this machine has another C library' env PATH="$scratch/bare" ./ymx --version
-printf 'no program\n' | gzip -9nc > release/ymx.gz
-only_says "ymx: release/ymx.gz isn't the program of which release/RELEASE speaks" env PATH="$scratch/bare" ./ymx --version
+printf '#!/bin/sh\necho no such call >&2\nexit 1\n' > broken
+gzip -9nc broken > "$packed"
+sed -i "s/^program $target: .*/program $target: $(sha256sum < broken | cut -d ' ' -f 1)/" release/RELEASE
+only_says 'ymx: the released program does not start here: no such call' env PATH="$scratch/bare" ./ymx --version
+printf 'no program\n' | gzip -9nc > "$packed"
+only_says "ymx: $packed isn't the program of which release/RELEASE speaks" env PATH="$scratch/bare" ./ymx --version
 rm -rf release out
 mv kept_release release
 mv kept out
@@ -99,20 +92,14 @@ grep -q 'the sources have changed since the release' said || fail 'a changed sou
 [ "$(wc -l < said)" = 1 ] || fail 'a changed source is told in more than a line' said
 cp "$root/crates/ymx_header/src/lib.rt" crates/ymx_header/src/lib.rt
 
-program=$root/crates/ymx_cli/out/ymx_cli
-if [ "$from_gate" = yes ]; then
-    "$root/release/compare.sh" "$program" || fail 'the release'
-else
-    # there is no program of the gate: one byte off the released one is tried all the same
-    program=$scratch/out/ymx
-fi
-
 # One byte off, in a release that is whole in itself: only the comparison finds it.
-gzip -dc release/ymx.gz > off
+program=$scratch/out/ymx
+release/compare.sh "$target" "$program" > said || fail 'the released program is not itself' said
+gzip -dc "$packed" > off
 printf 'X' | dd of=off bs=1 seek=1000 conv=notrunc 2> dd_said
-gzip -9nc off > release/ymx.gz
-if release/compare.sh "$program" > said; then fail 'a program that is one byte off passes for the release'; fi
-sed -i "s/^program: .*/program: $(sha256sum < off | cut -d ' ' -f 1)/" release/RELEASE
-if release/compare.sh "$program" > said; then fail 'a program that is one byte off passes, with its own hash'; fi
+gzip -9nc off > "$packed"
+if release/compare.sh "$target" "$program" > said; then fail 'a program that is one byte off passes for the release'; fi
+sed -i "s/^program $target: .*/program $target: $(sha256sum < off | cut -d ' ' -f 1)/" release/RELEASE
+if release/compare.sh "$target" "$program" > said; then fail 'a program that is one byte off passes, with its own hash'; fi
 grep -q 'is another one than was built here' said || fail "the comparison says: $(cat said)"
 echo "the first use took $took ms; a program one byte off is refused"

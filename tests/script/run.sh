@@ -6,6 +6,7 @@ set -eu
 here=$(cd "$(dirname "$0")" && pwd)
 . "$here/../over.sh"
 find_program
+alone
 cd "$scratch"
 
 # plays NAME SCRIPT WANTED: the script prints what is wanted, with its status, and says nothing else

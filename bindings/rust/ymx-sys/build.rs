@@ -1,5 +1,6 @@
-//! Finds libymx, and says how it is linked. YMX_LIB_DIR is the folder in which it lies; otherwise pkg-config is asked,
-//! which PKG_CONFIG names and PKG_CONFIG_PATH leads. YMX_LINK is `static`, which is usual, or `shared`.
+//! Finds libymx, and says how it is linked. YMX_LIB_DIR is the folder in which it lies; otherwise, with the feature
+//! `bundled`, it is the one that this package has, and without it pkg-config is asked, which PKG_CONFIG names and
+//! PKG_CONFIG_PATH leads. YMX_LINK is `static`, which is usual, or `shared`.
 
 use std::env;
 use std::path::{Path, PathBuf};
@@ -23,7 +24,7 @@ fn main() {
     }
     let folder = env::var_os("YMX_LIB_DIR")
         .filter(|folder| !folder.is_empty())
-        .map_or_else(by_pkg_config, PathBuf::from);
+        .map_or_else(by_feature, PathBuf::from);
     let (kind, file) = match env::var("YMX_LINK").as_deref() {
         Ok("shared") => ("dylib", "libymx.so"),
         Ok("static") | Ok("") | Err(_) => ("static", "libymx.a"),
@@ -43,6 +44,24 @@ fn main() {
             println!("cargo:include={}", include.display());
         }
     }
+}
+
+/// The folder of the library that this package has, with the feature `bundled`, or else the one that pkg-config says.
+fn by_feature() -> PathBuf {
+    if env::var_os("CARGO_FEATURE_BUNDLED").is_none() {
+        return by_pkg_config();
+    }
+    let of = |name: &str| env::var(name).unwrap_or_default();
+    let place = Path::new(&of("CARGO_MANIFEST_DIR"))
+        .join("bundled")
+        .join(of("CARGO_CFG_TARGET_ARCH"));
+    if of("CARGO_CFG_TARGET_OS") != "linux" || !place.exists() {
+        fail(&format!(
+            "the feature `bundled` has none for {}",
+            of("TARGET")
+        ));
+    }
+    place
 }
 
 /// The folder of the library, as pkg-config says.

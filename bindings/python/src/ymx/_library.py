@@ -1,5 +1,6 @@
-"""The declarations of ymx.h, which says what each call does. The library is the file that YMX_LIBRARY names, or is looked
-for as the system does, by the name of the one major version that this package knows."""
+"""The declarations of ymx.h, which says what each call does. The library is the file that YMX_LIBRARY names, or the one that
+a wheel for this platform has brought, or is looked for as the system does, by the name of the one major version that this
+package knows."""
 import ctypes
 import os
 from typing import Any, Tuple, Union
@@ -16,8 +17,9 @@ Bytes = Union[bytes, bytearray, memoryview]
 
 def _loaded() -> ctypes.CDLL:
     named = os.environ.get("YMX_LIBRARY")
+    brought = os.path.join(os.path.dirname(__file__), _NAME)
     try:
-        return ctypes.CDLL(named or _NAME)
+        return ctypes.CDLL(named or (brought if os.path.exists(brought) else _NAME))
     except OSError as error:
         if named:
             raise ImportError(f"YMX_LIBRARY names {named}, which can't be loaded: {error}") from None
@@ -60,6 +62,8 @@ emit = _declared("emit", _pointer, _pointer, _size)
 due = _declared("due", _pointer)
 open_ = _declared("open", _pointer)
 accept = _declared("accept", _pointer)
+opens_left = _declared("opens_left", _pointer)
+is_peer_away = _declared("is_peer_away", _pointer)
 offered_count = _declared("offered_count", _pointer)
 write = _declared("write", _pointer, _id, _bytes, _size)
 room = _declared("room", _pointer, _id)
@@ -72,11 +76,14 @@ is_acknowledged = _declared("is_acknowledged", _pointer, _id)
 is_reset = _declared("is_reset", _pointer, _id)
 streams = _declared("streams", _pointer, ctypes.POINTER(_id), _size)
 unread = _declared("unread", _pointer, _id, _place)
+unread_count = _declared("unread_count", _pointer, _id)
 consume = _declared("consume", _pointer, _id, _size)
 finish = _declared("finish", _pointer, _id)
 reset = _declared("reset", _pointer, _id)
 forget = _declared("forget", _pointer, _id)
 release = _declared("release", _pointer, _id)
+shrink = _declared("shrink", _pointer, _id)
+shrink_spare = _declared("shrink_spare", _pointer)
 ping = _declared("ping", _pointer)
 ponged = _declared("ponged", _pointer, _id)
 go_away = _declared("go_away", _pointer)

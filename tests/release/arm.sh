@@ -1,0 +1,88 @@
+#!/bin/sh
+# What the release has for arm64, under qemu's emulation of that processor: the program's selftest, scripts, and the program
+# from outside; and the library for C with programs in C, linked with musl. What counts descriptors, threads or memory of the
+# program is left out, as qemu has some of its own. So is what no tool is here for: qemu and the libraries are fetched from
+# Debian's packages where they aren't installed, and the programs in C want the kit's clang.
+set -eu
+here=$(cd "$(dirname "$0")" && pwd)
+. "$here/../over.sh"
+
+# shut WHAT WHY: nothing of this can be tried here
+shut() {
+    left_out "$@"
+    counted
+    exit
+}
+
+[ "$(uname -m)" = x86_64 ] || shut 'arm64 under qemu' "this machine is $(uname -m)"
+[ "$(sed -n 's/^sources: //p' "$root/release/RELEASE")" = "$("$root/release/sources.sh")" ] || shut 'arm64 under qemu' 'the release was made from other sources'
+qemu=$(command -v qemu-aarch64-static || true)
+if [ -z "$qemu" ]; then
+    "$root/tools/debian.sh" qemu-user-static amd64 > "$scratch/said" 2>&1 || shut 'arm64 under qemu' "$(cat "$scratch/said")"
+    qemu=$root/out/debian/usr/bin/qemu-aarch64-static
+fi
+cd "$scratch"
+mkdir arm
+gzip -dc "$root/release/aarch64/ymx.gz" > arm/ymx
+chmod +x arm/ymx
+"${CC-cc}" -O2 "-DUNDER=\"$qemu\"" "-DPROGRAM=\"$scratch/arm/ymx\"" -o ymx "$root/tests/runs.c"
+
+# part NAME COMMAND..: what it counts is counted here
+part() {
+    name=$1
+    shift
+    status=0
+    "$@" > log 2>&1 || status=$?
+    last=$(tail -n 1 log)
+    case $last in
+    *' passed, '*' failed')
+        passed=$((passed + ${last%% *}))
+        last=${last#* passed, }
+        failed=$((failed + ${last%% *}))
+        [ $status = 0 ] || cat log
+        ;;
+    *) bad "$name under qemu: status $status" log ;;
+    esac
+}
+
+printf 'connection %s bytes echoed\n' '1: 0' '2: 1' '3: 300000' > echoed
+if ./ymx selftest > got 2>&1 && cmp got echoed; then good; else bad 'its selftest' got; fi
+part scripts env YMX="$scratch/ymx" YMX_UNDER_QEMU=yes "$root/tests/script/run.sh"
+part 'the program from outside' env YMX="$scratch/ymx" YMX_UNDER_QEMU=yes "$root/tests/program/run.sh"
+
+# ---- the library for C
+
+libgcc=/usr/lib/gcc-cross/aarch64-linux-gnu/12/libgcc.a
+[ -f $libgcc ] || libgcc=$root/out/debian$libgcc
+if ! command -v rt > said; then
+    left_out 'programs in C' 'there is no kit, so no compiler for arm64'
+elif ! musl=$("$root/release/musl.sh" aarch64 2> said) || ! { [ -f "$libgcc" ] || "$root/tools/debian.sh" libgcc-12-dev-arm64-cross amd64 2> said; }; then
+    left_out 'programs in C' "$(cat said)"
+else
+    tools=$(dirname "$(rt doc)")/toolchain/bin
+    libc=$musl/lib/aarch64-linux-musl
+    gzip -dc "$root/release/aarch64/libymx_c.a.gz" > libymx_c.a
+
+    # object SOURCE NAME: compiled as C99, without a warning
+    object() {
+        "$tools/clang" --target=aarch64-linux-musl -std=c99 -O1 -Wall -Wextra -pedantic -Werror -nostdinc -isystem "$musl/include/aarch64-linux-musl" \
+            -I"$root/c" -c "$1" -o "$2.o"
+    }
+
+    # in_c NAME SOURCE WORD..: the program is linked with the library, and ends well
+    in_c() {
+        name=$1 source=$2
+        shift 2
+        if object "$source" "$name" && "$tools/ld.lld" -static "$@" -o "$name" "$libc/crt1.o" "$libc/crti.o" "$name.o" ymx.o --whole-archive libymx_c.a \
+            --no-whole-archive "$libc/libc.a" "$libgcc" "$libc/crtn.o" && "$qemu" "./$name"; then good; else bad "$name in C"; fi > said 2>&1
+        grep -v '^ok' said || true
+    }
+
+    object "$root/c/ymx.c" ymx
+    for name in words nulls pieces touched streams through; do
+        in_c $name "$root/tests/capi/$name.c"
+    done
+    in_c refused_memory "$root/tests/capi/refused_memory.c" --wrap=malloc --wrap=realloc --wrap=free
+    in_c pair "$root/examples/c/pair.c"
+fi
+counted
