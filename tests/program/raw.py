@@ -49,12 +49,8 @@ def broke(connection):
     return "ymx: B1 from {}:{}: the version of a frame is not 0\n".format(*connection.getsockname())
 
 
-# Whether the descriptors, threads and memory of the program's process are the program's: qemu has some of its own.
+# Whether the threads and the memory of the program's process are the program's: qemu has some of its own.
 COUNTS = os.environ.get("YMX_UNDER_QEMU") != "yes"
-
-
-class LeftOut(Exception):
-    """A test that can't be made here."""
 
 
 # ---- the ends of connections
@@ -147,8 +143,6 @@ class Program:
     running = []
 
     def __init__(self, *words, files=None, variables=None, build=None):
-        if files is not None and not COUNTS:
-            raise LeftOut
         limit = [] if files is None else ["sh", "-c", f'ulimit -n {files} && exec "$@"', "sh"]
         # Without a buffer, as `readline` and `communicate` read the same pipe.
         self.process = subprocess.Popen([*limit, build or sys.argv[1], *words], stdin=subprocess.DEVNULL,
@@ -497,8 +491,6 @@ def main(tests):
         signal.alarm(SECONDS)
         try:
             test(*words)
-        except LeftOut:
-            pass
         except (AssertionError, OSError, struct.error) as fault:
             failed += 1
             print(f"FAIL  {name}: {fault!r}", flush=True)

@@ -1,7 +1,7 @@
 #!/bin/sh
 # What the release has for arm64, under qemu's emulation of that processor: the program's selftest, scripts, and the program
-# from outside; and the library for C with programs in C, linked with musl. What counts descriptors, threads or memory of the
-# program is left out, as qemu has some of its own. So is what no tool is here for: qemu and the libraries are fetched from
+# from outside; and the library for C with programs in C, linked with musl. What counts threads or memory of the program
+# is left out, as qemu has some of its own. So is what no tool is here for: qemu and the libraries are fetched from
 # Debian's packages where they aren't installed, and the programs in C want the kit's clang.
 set -eu
 here=$(cd "$(dirname "$0")" && pwd)
