@@ -66,7 +66,8 @@ find_program() {
 # is none.
 find_dynamic() {
     dynamic=${YMX_DYNAMIC-}
-    [ -z "$dynamic" ] || return 0
+    # (under qemu `ymx` is what starts it, and no build of the program)
+    if [ -n "$dynamic" ] || [ "${YMX_UNDER_QEMU-}" = yes ]; then return 0; fi
     # (the place of its loader stands at its beginning)
     if head -c 4096 "$ymx" | LC_ALL=C grep -qa '/ld-linux'; then
         dynamic=$ymx
