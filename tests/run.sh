@@ -1,8 +1,8 @@
 #!/bin/sh
 # Runs all tests that stand beside `rt ci`, a line each, and what a test that failed has to say. With --no-kit it runs
 # those that need no Rattle kit: of the released program, the library for C, and the documents. With --all it
-# proves and runs the programs of the guide too, tries the wrong bodies, talks to Go's yamux where that stands, makes
-# 10,000 random connections, and kills processes, which takes an hour or more.
+# proves and runs the programs of the guide too, runs the release for arm64 under qemu, tries the wrong bodies, talks to Go's
+# yamux where that stands, makes 10,000 random connections, and kills processes, which takes an hour or more.
 # Ends with 'N passed, M failed'.
 set -eu
 here=$(cd "$(dirname "$0")" && pwd)
@@ -60,7 +60,6 @@ try '500 random connections' "$root/tests/kill/random.sh" 500
 try 'scripts and what they print' "$root/tests/script/run.sh"
 try 'the C interface' "$root/tests/capi/run.sh"
 if [ "${1-}" != --no-kit ]; then
-    try 'the release for arm64, under qemu' "$root/tests/release/arm.sh"
     try 'wrong bodies and the sources' "$root/tests/wrong_bodies.sh" --fit
     try 'each allocation fails once' "$root/tests/no_memory/run.sh"
     try 'programs that must not compile' "$root/tests/must_not_compile/run.sh"
@@ -70,6 +69,7 @@ if [ "${1-}" != --no-kit ]; then
 fi
 if [ "${1-}" = --all ]; then
     try 'the programs of the guide' "$root/tests/examples/run.sh"
+    try 'the release for arm64, under qemu' "$root/tests/release/arm.sh"
     try 'wrong bodies' "$root/tests/wrong_bodies.sh"
     try 'wrong statements' "$root/tests/refused.sh"
     try 'real services' "$root/tests/services/run.sh"
