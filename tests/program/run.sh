@@ -8,6 +8,8 @@ here=$(cd "$(dirname "$0")" && pwd)
 find_program
 find_dynamic
 no_dynamic='the program is static, and no kit is here to link another'
+# where there is a /dev/null, which a root of its own lacks
+outside=$ymx
 alone
 cd "$scratch"
 : > nothing
@@ -165,7 +167,7 @@ holds 'many links to one peer' python3 -B "$here/links.py" "$ymx" ${dynamic:+"$d
 holds 'the side that calls is the one that serves' python3 -B "$here/calling.py" "$ymx"
 holds 'a peer that is silent' python3 -B "$here/silence.py" "$ymx"
 holds 'what is cut off' python3 -B "$here/cuts.py" "$ymx"
-holds 'closed standard input, output and error' python3 -B "$here/standard.py" "$ymx"
+holds 'closed standard input, output and error' python3 -B "$here/standard.py" "$outside"
 holds 'signs of life that the system asks for' python3 -B "$here/keepalive.py" "$ymx"
 holds 'a thousand users at once' python3 -B "$here/bursts.py" "$ymx" 1000
 
