@@ -22,6 +22,8 @@ BYTES = random.Random(58).randbytes(max(SIZES))
 LINKS = "--links", "4"
 # So many bytes can be sent though nobody reads them.
 FITS = 262_144
+# Connections of which a send was told of the reset: the system tells of it once, and what then reads finds an end.
+told = []
 
 
 def how_it_ends(connection):
@@ -113,6 +115,8 @@ def send_some(connection, data):
     def send():
         try:
             connection.sendall(data)
+        except (ConnectionResetError, BrokenPipeError):
+            told.append(connection)
         except OSError:
             pass
 
@@ -165,10 +169,14 @@ def is_cut_within(sender, getter, cut, size):
     """Whether both see a reset, where this cuts their connection in the middle of so many bytes, which the getter doesn't
     read before."""
     data = BYTES[:size]
-    send_some(sender, data)
+    sending = send_some(sender, data)
     first = take(getter, 1)
     cut()
-    return first == data[:1] and is_cut(getter, data[1:]) and is_cut(sender, b"")
+    if first != data[:1] or not is_cut(getter, data[1:]):
+        return False
+    came, is_reset = how_it_ends(sender)
+    sending.join(60)
+    return came == b"" and (is_reset or sender in told)
 
 
 def lost_link(words, is_upload):
