@@ -22,7 +22,8 @@ BYTES = random.Random(58).randbytes(max(SIZES))
 LINKS = "--links", "4"
 # So many bytes can be sent though nobody reads them.
 FITS = 262_144
-# Connections of which a send was told of the reset: the system tells of it once, and what then reads finds an end.
+# Connections of which a send was told of the reset: the system tells of it once, and what then reads finds an end. Where an
+# end came before the reset, a send is told of a broken pipe.
 told = []
 
 
@@ -89,9 +90,10 @@ class Tunnel:
             peer = self.relay.address
         self.near = Program("local", "-v", "--listen", ANY, "--peer", peer, *near)
         self.place = self.near.place()
-        for program in self.far, self.near:
-            # Nobody reads what else they say.
-            threading.Thread(target=program.process.stderr.read, daemon=True).start()
+        # Nobody looks at what else they say.
+        self.readers = [threading.Thread(target=it.process.stderr.read, daemon=True) for it in (self.far, self.near)]
+        for reader in self.readers:
+            reader.start()
 
     def connect(self):
         """A user and his connection at the target. A byte has gone each way."""
@@ -107,6 +109,8 @@ class Tunnel:
         for program in self.near, self.far:
             program.process.kill()
             program.process.wait()
+        for reader in self.readers:
+            reader.join()
 
 
 def send_some(connection, data):
@@ -115,7 +119,7 @@ def send_some(connection, data):
     def send():
         try:
             connection.sendall(data)
-        except (ConnectionResetError, BrokenPipeError):
+        except ConnectionResetError:
             told.append(connection)
         except OSError:
             pass
