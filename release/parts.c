@@ -4,6 +4,7 @@ what the library for C calls. The program is linked with --wrap=main, as musl te
 #define _GNU_SOURCE
 #include <stdbool.h>
 #include <stddef.h>
+#include <stdint.h>
 #include <stdlib.h>
 
 struct tried { bool ok; void *at; };
@@ -13,19 +14,23 @@ static max_align_t nothing;
 
 static struct tried tried(void *at) { return (struct tried){at != NULL, at != NULL ? at : &nothing}; }
 
-/* No bytes take as many as they are aligned to, since malloc(0) may answer NULL. No alignment is above 16. */
-struct tried rattle_alloc(size_t size, size_t align) { return tried(malloc(size != 0 ? size : align)); }
-
-struct tried rattle_realloc(void *at, size_t kept, size_t size, size_t align) {
-    (void)kept;
-    return tried(realloc(at, size != 0 ? size : align));
+/* No bytes take as many as they are aligned to, since malloc(0) may answer NULL. No alignment is above 16. At the end of a large
+block musl notes how much of its pages was not asked for, unless that is nothing. So the program asks for all, but for the 20
+bytes that musl takes, and the last page stays untouched. */
+static size_t wanted(size_t size, size_t align) {
+#ifndef HEAP_ALONE
+    enum { LARGE = 131072, PAGE = 4096, TAKEN = 20 };
+    if (size >= LARGE && size < SIZE_MAX / 2) return (size + TAKEN + PAGE - 1) / PAGE * PAGE - TAKEN;
+#endif
+    return size != 0 ? size : align;
 }
 
+struct tried rattle_alloc(size_t size, size_t align) { return tried(malloc(wanted(size, align))); }
+struct tried rattle_realloc(void *at, size_t kept, size_t size, size_t align) { return (void)kept, tried(realloc(at, wanted(size, align))); }
 void rattle_dealloc(void *at) { free(at); }
 
 #ifndef HEAP_ALONE
 #include <errno.h>
-#include <stdint.h>
 #include <string.h>
 #include <sys/epoll.h>
 #include <sys/ioctl.h>
@@ -54,13 +59,7 @@ unsigned __int128 __udivti3(unsigned __int128 left, unsigned __int128 by) {
 static size_t count;
 static char **words;
 int __real_main(int, char **);
-
-int __wrap_main(int argc, char **argv) {
-    count = (size_t)argc;
-    words = argv;
-    return __real_main(argc, argv);
-}
-
+int __wrap_main(int argc, char **argv) { return count = (size_t)argc, words = argv, __real_main(argc, argv); }
 size_t rattle_arg_count(void) { return count; }
 
 /* The length of that word, which is put into the buffer; -1 where there is none, -2 where it does not fit. */
