@@ -10,8 +10,12 @@ use std::mem;
 /// How many blocks are lent at most.
 const MOST_LENT: usize = 16;
 
-/// How many blocks of rings that are gone are kept at most.
+/// How many blocks of rings that are gone are kept at most, of which more than the first bytes are in use.
 const MOST_KEPT: usize = 32;
+
+/// How many are kept at most with those of which hardly any byte is in use: the rings of 64 streams. Each takes a few pages,
+/// and to get one from the system takes longer than to serve a short connection.
+const MOST_FRESH: usize = 128;
 
 /// How many bytes such a block holds at most: a stream's first credit. A wider one is given back at once.
 const WIDEST_KEPT: usize = 262_144;
@@ -110,10 +114,15 @@ impl Warm {
         Some(block)
     }
 
-    /// Keeps the block of a ring that is gone, unless 32 are kept, it is wider than a stream's first credit, or there is
-    /// no memory to note it.
+    /// Keeps the block of a ring that is gone, unless 32 are kept, or 128 where it isn't worn, it is wider than a stream's
+    /// first credit, or there is no memory to note it.
     pub(crate) fn keep(&mut self, block: Ring) {
-        if self.kept.len() < MOST_KEPT && block.capacity() <= WIDEST_KEPT {
+        let most = if block.is_worn() {
+            MOST_KEPT
+        } else {
+            MOST_FRESH
+        };
+        if self.kept.len() < most && block.capacity() <= WIDEST_KEPT {
             let _kept = ymx_memory::push(&mut self.kept, block);
         }
     }
