@@ -63,14 +63,16 @@ impl Warm {
     /// the others each that is worn is exchanged for a fresh one, so that rings go on taking turns with as many. Says
     /// whether any memory was given back: a block for which there is no fresh one stays.
     pub fn shrink(&mut self, streams: usize) -> bool {
-        let mut has_given = !self.kept.is_empty() || self.lent.len() > streams;
+        // The worn ones go behind all fresh ones: an allocator would hand them out again, with their memory in use.
+        for block in &mut self.lent {
+            if let Some(worn) = block.refresh() {
+                let _kept = ymx_memory::push(&mut self.kept, worn);
+            }
+        }
+        let has_given = !self.kept.is_empty() || self.lent.len() > streams;
         self.kept.clear();
         self.lent.truncate(streams);
         self.given = self.given.min(self.lent.len());
-        for block in &mut self.lent {
-            let capacity = block.capacity();
-            has_given |= block.renew(capacity);
-        }
         has_given
     }
 
