@@ -25,7 +25,7 @@
 
 /* The version of this header; ymx_version() has that of the library. */
 #define YMX_VERSION_MAJOR 0
-#define YMX_VERSION_MINOR 2
+#define YMX_VERSION_MINOR 3
 #define YMX_VERSION_PATCH 0
 
 /* The same as one number, for #if: 203 is 0.2.3, and 10203 is 1.2.3. */
