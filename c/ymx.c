@@ -39,6 +39,7 @@ int64_t ymx_core_consume(ymx_session *session, uint32_t id, uint32_t count);
 int64_t ymx_core_has_ended(ymx_session *session, uint32_t id);
 int64_t ymx_core_unsent(ymx_session *session, uint32_t id);
 int64_t ymx_core_unsent_total(ymx_session *session);
+int64_t ymx_core_next_of(ymx_session *session, uint32_t id);
 int64_t ymx_core_is_acknowledged(ymx_session *session, uint32_t id);
 int64_t ymx_core_is_reset(ymx_session *session, uint32_t id);
 int64_t ymx_core_streams(ymx_session *session, uint32_t *ids, size_t len);
@@ -177,6 +178,10 @@ int64_t ymx_unsent(const ymx_session *session, uint32_t id) {
 
 int64_t ymx_unsent_total(const ymx_session *session) {
     return session == NULL ? YMX_E_NULL : ymx_core_unsent_total((ymx_session *)session);
+}
+
+int64_t ymx_next_of(const ymx_session *session, uint32_t id) {
+    return session == NULL ? YMX_E_NULL : ymx_core_next_of((ymx_session *)session, id);
 }
 
 int64_t ymx_is_acknowledged(const ymx_session *session, uint32_t id) {

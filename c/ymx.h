@@ -25,7 +25,7 @@
 
 /* The version of this header; ymx_version() has that of the library. */
 #define YMX_VERSION_MAJOR 0
-#define YMX_VERSION_MINOR 2
+#define YMX_VERSION_MINOR 3
 #define YMX_VERSION_PATCH 0
 
 /* The same as one number, for #if: 203 is 0.2.3, and 10203 is 1.2.3. */
@@ -250,6 +250,25 @@ YMX_API int64_t ymx_unsent(const ymx_session *session, uint32_t id);
  * streams there are. Once it is 0, and ymx_due is, all that was ever written was emitted or dropped. 0 once the session
  * is closed, which drops what is unsent. */
 YMX_API int64_t ymx_unsent_total(const ymx_session *session);
+
+/* What ymx_next_of answers: what of a stream goes next, and YMX_NEXT_REST more where the rest of a frame goes before. */
+enum {
+    YMX_NEXT_FIRST = 1,  /* the frame that opens or accepts it (flags) */
+    YMX_NEXT_RESET = 2,  /* its reset (flags) */
+    YMX_NEXT_CREDIT = 3, /* credit for the peer (flow control) */
+    YMX_NEXT_DATA = 4,   /* bytes that were written */
+    YMX_NEXT_END = 5,    /* its end (half-close) */
+    YMX_NEXT_REST = 8    /* the rest of a frame that was emitted in part: the next ymx_emit begins with it */
+};
+
+/* What of a stream ymx_emit gives next: the first of YMX_NEXT_FIRST to YMX_NEXT_END, in this order, that is due; 0 where
+ * none is. So all that stands before the answer in this order was emitted, but for the rest of a frame, of which
+ * YMX_NEXT_REST tells: that is added where there is one, and it has fewer than 16,396 bytes. Whoever waits for bytes or an end
+ * to be on their way asks this behind each ymx_emit.
+ *
+ * It is told of streams too that were released or forgotten and have something to send. In a session that is lost, broken
+ * or closed no frame begins, so there it is 0 or YMX_NEXT_REST. */
+YMX_API int64_t ymx_next_of(const ymx_session *session, uint32_t id);
 
 /* 1 where the peer has acknowledged a stream that was opened here (flags); else 0, also where the stream is none of the
  * caller's, or was reset. */

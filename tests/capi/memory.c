@@ -104,8 +104,7 @@ int main(int count, char **words) {
     holds("with 1,000 idle streams", 20000000);
     for (int i = 0; i < 3; i++) {
         use(MANY);
-        // Behind a call for spare buffers these streams share none, and both ends' own are in use.
-        holds("each has had 262,144 bytes unread", i == 0 ? 300000000 : 600000000);
+        holds("each has had 262,144 bytes unread", 300000000);
         shrink(MANY);
         holds("each was shrunk", 40000000);
         CHECK(ymx_shrink_spare(client) >= 0 && ymx_shrink_spare(server) >= 0);

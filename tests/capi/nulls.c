@@ -33,6 +33,7 @@ int main(void) {
     CHECK(ymx_close(none) == YMX_E_NULL && ymx_status(none) == YMX_E_NULL && ymx_release(none, 1) == YMX_E_NULL);
     CHECK(ymx_has_ended(none, 1) == YMX_E_NULL && ymx_unsent(none, 1) == YMX_E_NULL && ymx_is_reset(none, 1) == YMX_E_NULL);
     CHECK(ymx_unsent_total(none) == YMX_E_NULL && ymx_unread_count(none, 1) == YMX_E_NULL);
+    CHECK(ymx_next_of(none, 1) == YMX_E_NULL && ymx_next_of(s, 0) == 0 && ymx_next_of(s, 9) == 0);
     CHECK(ymx_opens_left(none) == YMX_E_NULL && ymx_is_peer_away(none) == YMX_E_NULL);
     CHECK(ymx_shrink(none, 1) == YMX_E_NULL && ymx_shrink_spare(none) == YMX_E_NULL);
     CHECK(ymx_is_acknowledged(none, 1) == YMX_E_NULL && ymx_streams(none, NULL, 0) == YMX_E_NULL && ymx_streams(s, NULL, 1) == YMX_E_NULL);

@@ -93,6 +93,8 @@ numbers_of_crate() {
         sed 's/OutOfMemory/NoMemory/; s/\([a-z]\)\([A-Z]\)/\1_\2/g' | awk '{ print "YMX_E_" toupper($1), $2 }'
     sed -n 's/^const WAIT: i64 = \(.*\);/YMX_WAIT \1/p; s/^ *Status::\([A-Z][a-z]*\) => \([0-9]*\),/\1 \2/p; s/^ *Status::\(Broken\)(fault) => \([0-9]*\) +.*/\1 \2/p' "$root/crates/ymx_c/src/face.rt" |
         awk '{ print ($1 ~ /^YMX/ ? $1 : "YMX_" toupper($1)), $2 }'
+    sed -n 's/^ *Some(FrameKind::\(Reset\|Credit\|Data\|Fin\)) => \([0-9]*\),/\1 \2/p; s/^ *Some(FrameKind::Open .*) => \([0-9]*\),/First \1/p; s/^ *return kind + \([0-9]*\);/Rest \1/p' "$root/crates/ymx_c/src/face.rt" |
+        sed 's/Fin/End/' | awk '{ print "YMX_NEXT_" toupper($1), $2 }'
     sed -n 's/^ *if number == \(.*\) {$/YMX_CLIENT \1/p' "$root/crates/ymx_c/src/face.rt"
     sed -n 's/^pub const FIRST_CREDIT: u32 = \(.*\);/YMX_LEAST_WINDOW \1/p; s/^pub const WIDEST_WINDOW: u32 = \(.*\);/YMX_WIDEST_WINDOW \1/p' "$root/crates/ymx_header/src/wire.rt" | tr -d _ |
         sed 's/YMX\(LEAST\|WIDEST\)WINDOW/YMX_\1_WINDOW/'

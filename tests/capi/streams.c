@@ -110,6 +110,48 @@ static void sums(void) {
     ymx_free(s);
 }
 
+/* What of a stream goes next, to its last byte, also once it is none of the caller's. */
+static void goes_next(void) {
+    static unsigned char half[131072];
+    ymx_session *s;
+    CHECK(ymx_new(YMX_CLIENT, YMX_LEAST_WINDOW, 0, &s) == 0 && ymx_next_of(s, 1) == 0);
+    CHECK(ymx_open(s) == 1 && ymx_write(s, 1, "hello", 5) == 5 && ymx_next_of(s, 1) == YMX_NEXT_FIRST && ymx_next_of(s, 3) == 0);
+    /* one byte is out of the frame that opens it, then all of it */
+    goes_on(s, "\0", 1);
+    CHECK(ymx_next_of(s, 1) == YMX_NEXT_DATA + YMX_NEXT_REST && ymx_next_of(s, 3) == 0);
+    goes_on(s, "\1\0\1\0\0\0\1\0\0\0\0", 11);
+    CHECK(ymx_next_of(s, 1) == YMX_NEXT_DATA);
+    /* all but one byte of the data, and then that; the end goes behind it */
+    goes_on(s, "\0\0\0\0\0\0\0\1\0\0\0\5hell", 16);
+    CHECK(ymx_next_of(s, 1) == YMX_NEXT_REST && ymx_finish(s, 1) == 0 && ymx_next_of(s, 1) == YMX_NEXT_END + YMX_NEXT_REST);
+    goes_on(s, "o", 1);
+    CHECK(ymx_next_of(s, 1) == YMX_NEXT_END);
+    /* credit for half the window goes before the end */
+    comes(s, DATA, ACK, 1, 131072);
+    CHECK(ymx_feed(s, half, 131072) == 131072 && ymx_next_of(s, 1) == YMX_NEXT_END);
+    CHECK(ymx_read(s, 1, half, 131072) == 131072 && ymx_next_of(s, 1) == YMX_NEXT_CREDIT);
+    goes(s, WINDOW, 0, 1, 131072);
+    /* the peer ends it too, so that a forget leaves the end to be sent */
+    comes(s, WINDOW, FIN, 1, 0);
+    CHECK(ymx_forget(s, 1) == 0 && ymx_next_of(s, 1) == YMX_NEXT_END);
+    goes(s, WINDOW, FIN, 1, 0);
+    CHECK(ymx_next_of(s, 1) == 0 && ymx_due(s) == 0);
+    /* one that was released; one that is reset, of which nothing else goes */
+    CHECK(ymx_open(s) == 3 && ymx_open(s) == 5 && ymx_write(s, 3, "x", 1) == 1 && ymx_write(s, 5, "y", 1) == 1);
+    goes(s, WINDOW, SYN, 3, 0);
+    goes(s, WINDOW, SYN, 5, 0);
+    CHECK(ymx_release(s, 3) == 0 && ymx_next_of(s, 3) == YMX_NEXT_DATA);
+    CHECK(ymx_reset(s, 5) == 0 && ymx_next_of(s, 5) == YMX_NEXT_RESET && ymx_forget(s, 5) == 0 && ymx_next_of(s, 5) == YMX_NEXT_RESET);
+    goes_on(s, "\0\0\0\0\0\0\0\3\0\0\0\1x", 13);
+    CHECK(ymx_next_of(s, 3) == YMX_NEXT_END);
+    /* in a session that is lost only the rest of a frame goes */
+    goes_on(s, "\0", 1);
+    CHECK(ymx_next_of(s, 5) == YMX_NEXT_REST && ymx_next_of(s, 3) == YMX_NEXT_END);
+    CHECK(ymx_feed_end(s) == 0 && ymx_next_of(s, 5) == YMX_NEXT_REST && ymx_next_of(s, 3) == 0);
+    CHECK(ymx_close(s) == 0 && ymx_next_of(s, 5) == 0);
+    ymx_free(s);
+}
+
 /* Which streams there are. */
 static void lists(void) {
     ymx_session *s;
@@ -218,6 +260,7 @@ static void releases_more(void) {
 int main(void) {
     asks();
     sums();
+    goes_next();
     lists();
     releases();
     releases_more();

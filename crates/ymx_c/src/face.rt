@@ -5,11 +5,12 @@ ghost use Rattle.std.specs.Ptr.{as_ptr};
 ghost use Rattle.ymx_model.specs.declared.types.Event.TheVariants as event;
 ghost use Rattle.ymx_machine.specs.declared.types.Call.TheVariants as call;
 ghost use Rattle.ymx_model.specs.session.Emissions.{is_ready};
+ghost use Rattle.ymx_model.specs.session.Sessions.{belongs_to};
 ghost use Rattle.ymx_session.specs.NewSessions.{new_fault, IsNewFault};
 ghost use Rattle.ymx_session.specs.Touched.{nothing_noted};
 ghost use Rattle.ymx_session.specs.Opens.{opens_left};
-ghost use Rattle.ymx_session.specs.Streams.{waiting, room_of, has_ended, unsent_of, unsent_total, is_acknowledged};
-ghost use Rattle.ymx_c.specs.Answers.{refusal, status_number, flag, role_of};
+ghost use Rattle.ymx_session.specs.Streams.{waiting, room_of, has_ended, unsent_of, unsent_total, next_of, is_acknowledged};
+ghost use Rattle.ymx_c.specs.Answers.{refusal, status_number, flag, role_of, next_number};
 ghost use Rattle.ymx_c.specs.Handles.{new_handle, AnswersIn, AnswersOf, FillsIn, FillsOf, ConsumesOf, told, at_most, at_most_total, ShowsOf, TellsEnd, TellsReset, ListsStreams, SaysGiven, SaysGivenOf, ReleasesOne, AnswersThenSettles, TouchesThenSettles, ToPayloadThenSettles, passing_of, TellsPassing, PassesSome, WritesOn};
 ghost use Rattle.ymx_c.specs.NewAnswers.{new_refusal, config_of, IsMade, IsRefused, IsNoteMade, IsNoNote};
 ghost use Rattle.ymx_c.specs.Readiness.{CountsOffered, ListsIds, IsCleared, IsPlaced, number_limit};
@@ -18,7 +19,7 @@ use crate::handle::Handle;
 use crate::made::Made;
 use std::alloc::Global;
 use ymx_memory::RefusedAllocation;
-use ymx_model::{CallFault, Config, Got, Role, Status, Wrote};
+use ymx_model::{CallFault, Config, FrameKind, Got, Role, Status, Wrote};
 use ymx_session::{NewFault, Passing, Releases, Session, Touched};
 
 /// There is nothing to do yet: no credit, or no bytes.
@@ -359,6 +360,25 @@ pub(crate) fn unsent_total(handle: &mut Handle) -> i64
     ensures { (result ≡ at_most_total (unsent_total handle.old.session)) × (handle.new ≡ handle.old) }
 {
     limited_total(handle.session.unsent_total())
+}
+
+/// The number of the frame that begins next of a stream, also of one that was released or forgotten, and 8 more where the
+/// rest of a frame of it goes before.
+pub(crate) fn next_of(handle: &mut Handle, id: u32) -> i64
+    ensures { (result ≡ next_number (belongs_to handle.old.session.outgoing.of id) (next_of id handle.old.session)) × (handle.new ≡ handle.old) }
+{
+    let kind = match handle.session.next_of(id) {
+        None => 0,
+        Some(FrameKind::Open | FrameKind::OpenWith | FrameKind::Accept) => 1,
+        Some(FrameKind::Reset) => 2,
+        Some(FrameKind::Credit) => 3,
+        Some(FrameKind::Data) => 4,
+        Some(FrameKind::Fin) => 5,
+    };
+    if handle.session.has_rest(id) {
+        return kind + 8;
+    }
+    kind
 }
 
 /// How many bytes wait to be read.

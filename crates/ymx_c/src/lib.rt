@@ -17,11 +17,12 @@ ghost use Rattle.std.specs.Ptr.{lies_at, room_at};
 ghost use Rattle.ymx_model.specs.declared.types.Event.TheVariants as event;
 ghost use Rattle.ymx_machine.specs.declared.types.Call.TheVariants as call;
 ghost use Rattle.ymx_model.specs.session.Emissions.{is_ready};
+ghost use Rattle.ymx_model.specs.session.Sessions.{belongs_to};
 ghost use Rattle.ymx_session.specs.Opens.{opens_left};
-ghost use Rattle.ymx_session.specs.Streams.{waiting, room_of, has_ended, unsent_of, unsent_total, is_acknowledged};
+ghost use Rattle.ymx_session.specs.Streams.{waiting, room_of, has_ended, unsent_of, unsent_total, next_of, is_acknowledged};
 ghost use Rattle.ymx_session.specs.Touched.{Noted, nothing_noted};
 ghost use Rattle.ymx_session.specs.contracts.touched.Touched.{the_row as touched_row};
-ghost use Rattle.ymx_c.specs.Answers.{status_number, flag};
+ghost use Rattle.ymx_c.specs.Answers.{status_number, flag, next_number};
 ghost use Rattle.ymx_c.specs.contracts.handle.Handle.{the_row};
 ghost use Rattle.ymx_c.specs.declared.handle.Handle.{Handle as HandleValue};
 ghost use Rattle.ymx_c.specs.Handed.{handed};
@@ -237,6 +238,16 @@ pub unsafe extern "C" fn ymx_core_unsent(at: *mut u8, id: u32) -> i64
     ensures* { ∃ₛ (λ (now : HandleValue). sem 𝓛 (lies_at the_row full_share at now) ∗ ⌜ (result ≡ told id old (at_most (unsent_of id old.session))) × (now ≡ old) ⌝) }
 {
     face::unsent(unsafe { &mut *(at as *mut Handle) }, id)
+}
+
+/// Which frame begins next of a stream, and whether the rest of one goes before: see `next_number`.
+#[unsafe(no_mangle)]
+pub unsafe extern "C" fn ymx_core_next_of(at: *mut u8, id: u32) -> i64
+    ghost old: { HandleValue }
+    requires* { sem 𝓛 (lies_at the_row full_share at old) }
+    ensures* { ∃ₛ (λ (now : HandleValue). sem 𝓛 (lies_at the_row full_share at now) ∗ ⌜ (result ≡ next_number (belongs_to old.session.outgoing.of id) (next_of id old.session)) × (now ≡ old) ⌝) }
+{
+    face::next_of(unsafe { &mut *(at as *mut Handle) }, id)
 }
 
 /// How many bytes of all streams were written and stand in no frame begun yet, of those that are given up too.

@@ -11,6 +11,7 @@ mod warm;
 use circular_buffer::HeapCircularBuffer;
 use std::alloc::Global;
 use std::marker::Model;
+use std::mem;
 pub use warm::Warm;
 use ymx_memory::RefusedAllocation;
 
@@ -272,6 +273,18 @@ impl Ring {
     /// more than 16,384.
     pub(crate) fn is_worn(&self) -> bool {
         self.worn > MOST_UNWORN
+    }
+
+    /// Exchanges a block that is worn and empty for a fresh one of its capacity, and hands the worn one out. `None` where
+    /// it isn't, or there is no memory for another.
+    pub(crate) fn refresh(&mut self) -> Option<Ring>
+        ensures same { self.new ≡ self.old }
+    {
+        if !self.is_worn() || !self.is_empty() {
+            return None;
+        }
+        let bytes = ymx_memory::wider_ring(&self.bytes, self.capacity()).ok()?;
+        Some(mem::replace(self, Ring { bytes, worn: 0 }))
     }
 
     /// Exchanges a block that is worn, or has another capacity, for a fresh one of this capacity, of which no memory is

@@ -63,13 +63,21 @@ impl Warm {
         self.given = self.given.min(self.lent.len());
     }
 
-    /// Gives all blocks back, and says whether there were any. Rings then exchange theirs for none.
-    pub fn clear(&mut self) -> bool {
-        let had_some = !self.lent.is_empty() || !self.kept.is_empty();
-        self.lent.clear();
+    /// Gives back what is kept for rings to come, and the blocks that are lent beyond one for each of so many streams. Of
+    /// the others each that is worn is exchanged for a fresh one, so that rings go on taking turns with as many. Says
+    /// whether any memory was given back: a block for which there is no fresh one stays.
+    pub fn shrink(&mut self, streams: usize) -> bool {
+        // The worn ones go behind all fresh ones: an allocator would hand them out again, with their memory in use.
+        for block in &mut self.lent {
+            if let Some(worn) = block.refresh() {
+                let _kept = ymx_memory::push(&mut self.kept, worn);
+            }
+        }
+        let has_given = !self.kept.is_empty() || self.lent.len() > streams;
         self.kept.clear();
-        self.given = 0;
-        had_some
+        self.lent.truncate(streams);
+        self.given = self.given.min(self.lent.len());
+        has_given
     }
 
     /// Exchanges the block of a ring that is about to be put into for the one that was given back last, if it is empty.

@@ -2,8 +2,10 @@
 use Rattle.std.specs.Prelude.{ℕ, List, [], ◌||◌, is_some, if◌then◌else◌, Bool, false, Option, None, Some}
 use Rattle.ymx_model.specs.session.Records.{End}
 use Rattle.ymx_machine.specs.shared.Lists.{look}
-use Rattle.ymx_model.specs.session.Sessions.{Session, is_lost, is_closed}
+use Rattle.ymx_model.specs.declared.types.FrameKind.{FrameKind}
+use Rattle.ymx_model.specs.session.Sessions.{Session, is_running, is_lost, is_closed}
 use Rattle.ymx_model.specs.session.Calls.{unsent_count}
+use Rattle.ymx_model.specs.session.FramesDue.{next_kind}
 use Rattle.ymx_table.specs.Listing.{held_ids}
 use Rattle.ymx_table.specs.Unsent.{unsent_sum}
 use Rattle.ymx_session.specs.Replies.{stream_fault}
@@ -44,6 +46,16 @@ unsent_of id s = if is_some (stream_fault id s) then 0 else unsent_count (look i
 -- closed session, which drops them
 abbrev pub unsent_total : Session → ℕ
 unsent_total s = if is_closed s.status then 0 else unsent_sum s.table
+
+-- the frame of a stream that begins next, of those that are due
+abbrev pub kind_of : (window : ℕ) → Option End → Option FrameKind
+kind_of window None = None
+kind_of window (Some e) = next_kind window e
+
+-- the frame that begins next of the stream of this id, whether or not the caller still has it; none, where nothing of it
+-- is due, there is no such stream, or the session doesn't run
+abbrev pub next_of : ℕ → Session → Option FrameKind
+next_of id s = if is_running s.status then kind_of s.table.window (look id s.table.entries) else None
 
 -- the peer has acknowledged a stream
 abbrev pub acknowledged_of : Option End → Bool

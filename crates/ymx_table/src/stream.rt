@@ -154,12 +154,12 @@ impl Table {
             .unwrap_or(false)
     }
 
-    /// Gives the memory back that is kept for the streams to come, and that with which streams take turns. The table
-    /// stays as it was. True where it gave some back.
+    /// Gives the memory back that is kept for the streams to come, and what is in use of the blocks with which streams
+    /// take turns: they go on taking turns with fresh ones. The table stays as it was. True where it gave some back.
     pub fn shrink_spare(&mut self) -> bool
         ensures { self.new ≡ self.old }
     {
-        self.warm.clear()
+        self.warm.shrink(self.records.len())
     }
 
     // ---- frames that come
