@@ -6,7 +6,7 @@ use std::env;
 use std::path::{Path, PathBuf};
 use std::process::{exit, Command};
 
-const LEAST_VERSION: &str = "0.2.0";
+const LEAST_VERSION: &str = "0.3.0";
 
 fn main() {
     for name in [

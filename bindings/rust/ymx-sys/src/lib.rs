@@ -41,7 +41,7 @@ pub const YMX_E_BAD_FIRST: i64 = -14;
 pub const YMX_E_NULL: i64 = -15;
 pub const YMX_E_BAD_ROLE: i64 = -16;
 pub const YMX_VERSION_MAJOR: u32 = 0;
-pub const YMX_VERSION_MINOR: u32 = 2;
+pub const YMX_VERSION_MINOR: u32 = 3;
 pub const YMX_VERSION_PATCH: u32 = 0;
 pub const YMX_VERSION_NUM: u32 =
     YMX_VERSION_MAJOR * 10_000 + YMX_VERSION_MINOR * 100 + YMX_VERSION_PATCH;
@@ -57,6 +57,13 @@ pub const YMX_RUNNING: i64 = 0;
 pub const YMX_LOST: i64 = 1;
 pub const YMX_CLOSED: i64 = 2;
 pub const YMX_BROKEN: i64 = 100;
+pub const YMX_NEXT_FIRST: i64 = 1;
+pub const YMX_NEXT_RESET: i64 = 2;
+pub const YMX_NEXT_CREDIT: i64 = 3;
+pub const YMX_NEXT_DATA: i64 = 4;
+pub const YMX_NEXT_END: i64 = 5;
+pub const YMX_NEXT_REST: i64 = 8;
+
 pub const YMX_FAULT_BAD_VERSION: i64 = 1;
 pub const YMX_FAULT_UNKNOWN_TYPE: i64 = 2;
 pub const YMX_FAULT_BAD_SYN: i64 = 3;
@@ -92,6 +99,7 @@ extern "C" {
     pub fn ymx_has_ended(session: *const ymx_session, id: u32) -> i64;
     pub fn ymx_unsent(session: *const ymx_session, id: u32) -> i64;
     pub fn ymx_unsent_total(session: *const ymx_session) -> i64;
+    pub fn ymx_next_of(session: *const ymx_session, id: u32) -> i64;
     pub fn ymx_is_acknowledged(session: *const ymx_session, id: u32) -> i64;
     pub fn ymx_is_reset(session: *const ymx_session, id: u32) -> i64;
     pub fn ymx_streams(session: *const ymx_session, ids: *mut u32, len: usize) -> i64;
