@@ -71,9 +71,9 @@ none_forgotten : (t : Tunnel) → t.lines.by_id ≡ [] → (id : ℕ) → IsServ
 none_forgotten t e id = record {
   gets = λ l there may some. absurd (not_there (line_of id t.lines) l (none_there id t.lines e) there);
   gives = λ l there may some. absurd (not_there (line_of id t.lines) l (none_there id t.lines e) there);
-  hears = λ l there over still opens. absurd (not_there (line_of id t.lines) l (none_there id t.lines e) there);
+  hears = λ l there over opens. absurd (not_there (line_of id t.lines) l (none_there id t.lines e) there);
   ends = λ l there may silent. absurd (not_there (line_of id t.lines) l (none_there id t.lines e) there);
-  stops = λ l there still opens stopped. absurd (not_there (line_of id t.lines) l (none_there id t.lines e) there);
+  stops = λ l there opens stopped. absurd (not_there (line_of id t.lines) l (none_there id t.lines e) there);
 }
 
 new_serves : (e : Engine) (ls : Lines) (s : Session) → e ≡ engine_of s → ls.by_id ≡ [] → IsWithin s → Serves e ls
