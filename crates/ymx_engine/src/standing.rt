@@ -147,8 +147,10 @@ impl<D: Device + Drop, W: Device + Drop> Tunnel<D, W> {
         self.lines.queued_count()
     }
 
-    /// Whether a stream of the peer's was ever rejected for want of memory.
-    pub fn has_lacked_memory(&self) -> bool {
+    /// Whether a stream of the peer's was ever rejected for want of memory: a feed of `read_wire` said so.
+    pub fn has_lacked_memory(&self) -> bool
+        ensures { result ≡ self.now.has_lacked_memory }
+    {
         self.has_lacked_memory
     }
 
