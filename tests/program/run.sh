@@ -169,6 +169,8 @@ holds 'a peer that is silent' python3 -B "$here/silence.py" "$ymx"
 holds 'what is cut off' python3 -B "$here/cuts.py" "$ymx"
 holds 'closed standard input, output and error' python3 -B "$here/standard.py" "$outside"
 holds 'signs of life that the system asks for' python3 -B "$here/keepalive.py" "$ymx"
+holds 'a target that answers nobody' python3 -B "$here/unanswered.py" "$ymx"
+holds 'the calls of an idle tunnel' python3 -B "$here/idle.py" "$ymx"
 holds 'a thousand users at once' python3 -B "$here/bursts.py" "$ymx" 1000
 
 expect 0 "$here/help" nothing hello --help

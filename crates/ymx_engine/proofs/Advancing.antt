@@ -1,6 +1,6 @@
 -- How what waits is fed, and passed on.
 use Rattle.std.proofs.Common.{◌≡◌, ℕ, ◌+◌, ◌-◌, ◌≤◌, List, [], ◌∷◌, ◌++◌, length, take, drop, Bool, true, false, ◌||◌, ◌&&◌, Option, refl, sym, ap, ◌∙◌, subst, arith, append-nil, append_assoc, take-append-drop, length-append, drop-drop, ◌<◌, inl, inr, min}
-use Rattle.std.specs.Prelude.{option_map, ◌⊎◌}
+use Rattle.std.specs.Prelude.{option_map, nat_lt}
 use Rattle.std.specs.List.{list_all}
 use Rattle.std.specs.Io.KnownBytes.{Appends}
 use Rattle.std.proofs.KnownBytes.{Appends-nil}
@@ -21,7 +21,7 @@ use Rattle.ymx_engine.specs.Devices.{Seen, Marks, may_take_more, IsPushed, IsShu
 use Rattle.ymx_engine.specs.declared.device.Pushed.{Pushed}
 use Rattle.ymx_engine.specs.Events.{Happen, given, has_end, has_reset, has_stop}
 use Rattle.ymx_engine.specs.Engines.{Engine}
-use Rattle.ymx_engine.specs.Wires.{fed_at, fed, is_of_read, ends_feed, has_feed_end, FeedsFront, HandlesIn, OffersFront, ReadsWire}
+use Rattle.ymx_engine.specs.Wires.{fed_at, fed, is_of_read, ends_feed, has_feed_end, FeedsFront, HandlesIn, OffersFront, ReadsWire, has_starved}
 use Rattle.ymx_engine.specs.Passes.{is_of_pass, PassesOn, OffersOnce, Settles}
 use Rattle.ymx_engine.proofs.Exchanging.{happen_then, given_then, end_then, reset_then, stop_then, or_same, or_none, or_true, same_id, none_pushed, some_bytes, take_both}
 use Rattle.ymx_engine.proofs.Following.{ways_then, ways_fed, ways_passed, ways_reset, breaks}
@@ -136,6 +136,12 @@ feeds_some a b told s waits same all x incoming outgoing =
       heard = refl;
     }
 
+-- and memory was lacked as it says
+pub feeds_some_so : (a b : Engine) (told : Fed) (s : Session) (waits : List ℕ) → s ≡ a.session → waits ≡ a.incoming → FeedsSome s waits told b.session →
+    b.incoming ≡ drop told.taken a.incoming → b.outgoing ≡ a.outgoing → (h : HandlesIn false a b) × (has_starved h.events ≡ nat_lt 0 told.no_memory)
+unfolding feeds_some
+feeds_some_so a b told s waits same all x incoming outgoing = (feeds_some a b told s waits same all x incoming outgoing, or_none (nat_lt 0 told.no_memory))
+
 front_more : (waits more : List ℕ) (e : Event) → OffersFront waits e → OffersFront (waits ++ more) e
 front_more waits more (event.Feed bytes) h = (h.0 ++ more, ap (λ (v : List ℕ). v ++ more) h.1 ∙ append_assoc bytes h.0 more)
 front_more waits more (event.Call c) h = tt
@@ -158,80 +164,6 @@ fronts_more waits more (e ∷ es) h = (
   front_more waits more e.0 h.0,
   subst (λ (v : List ℕ). FeedsFront v es) (sym (drop-append-le (length (fed_at e.0 e.1)) waits more (fed_fits waits e.0 e.1 h.0))) (fronts_more (drop (length (fed_at e.0 e.1)) waits) more es h.1),
 )
-
--- ---- what is passed on
-
-pub passes_none : (id : ℕ) (a : Engine) (d : Seen) (n : ℕ) (w : Ways) → PassesOn id a a d d n w w
-passes_none id a d n w = record {
-  events = [];
-  happen = refl;
-  own = refl;
-  fronts = tt;
-  from_wire = refl;
-  from_peer = Appends-nil d.had;
-  fails = false;
-  failed = or_same d.failed;
-  reset = refl;
-  outgoing = refl;
-  left = refl;
-  over = refl;
-  ended = or_same d.ended;
-  shut = or_same d.shut;
-  few = omega arith;
-  ways = refl;
-  pull_on = λ on. inl on;
-  push_on = λ on. inl on;
-}
-
-and_both : (a b : Bool) → a ≡ true → b ≡ true → (a && b) ≡ true
-and_both true b h k = k
-and_both false b h k = h
-
-of_feed : (id : ℕ) (e : Event) → is_of_read e ≡ true → ends_feed e ≡ false → is_of_pass id e ≡ true
-of_feed id (event.Call c) h k = let no : ⊥ = cc in absurd no
-of_feed id (event.Feed bytes) h k = refl
-of_feed id event.FeedEnd h k = let no : ⊥ = cc in absurd no
-of_feed id (event.Emit room) h k = let no : ⊥ = cc in absurd no
-
-of_feeds : (id : ℕ) (es : List (Event × Reply)) → list_all (λ e. is_of_read e.0) es ≡ true → has_feed_end es ≡ false → list_all (λ e. is_of_pass id e.0) es ≡ true
-of_feeds id [] h k = refl
-of_feeds id (e ∷ es) h k =
-    let two = both (is_of_read e.0) (list_all (λ e. is_of_read e.0) es) h in
-    let none = or_neither (ends_feed e.0) (has_feed_end es) k in
-    and_both (is_of_pass id e.0) (list_all (λ e. is_of_pass id e.0) es) (of_feed id e.0 two.0 none.0) (of_feeds id es two.1 none.1)
-
--- one of two, of which the second is said otherwise
-or_else : {A : Type 0} {b c : Bool} → A ⊎ (b ≡ true) → c ≡ b → A ⊎ (c ≡ true)
-or_else (inl a) e = inl a
-or_else (inr h) e = inr (e ∙ h)
-
--- a piece was passed on, and then what waits was fed
-pub passes_then_handles : (id : ℕ) (a b c : Engine) (p q : Seen) (n : ℕ) (v w : Ways) → PassesOn id a b p q n v w → HandlesIn false b c → PassesOn id a c p q n v w
-passes_then_handles id a b c p q n v w x y =
-    let still_there = quiet is_of_read (λ k. refl) id y.events y.own in
-    let all : given id x.events ≡ given id (x.events ++ y.events) =
-    sym (append-nil (given id x.events)) ∙ ap (λ (v : List ℕ). given id x.events ++ v) (sym still_there.1) ∙ sym (given_then id x.events y.events) in
-    let stop : has_stop id (x.events ++ y.events) ≡ has_stop id x.events = stop_then id x.events y.events ∙ ap (λ (v : Bool). has_stop id x.events || v) still_there.5 ∙ or_none (has_stop id x.events) in
-    record {
-      events = x.events ++ y.events;
-      happen = happen_then x.events y.events _ _ _ x.happen y.happen;
-      own = rw (list_all-append (λ (e : Event × Reply). is_of_pass id e.0) x.events y.events, x.own, of_feeds id y.events y.own y.heard) refl;
-      fronts = fronts_then x.events y.events a.incoming b.incoming (rest_of x.events a.incoming b.incoming x.from_wire) x.fronts y.fronts;
-      from_wire = fed_on x.events y.events a.incoming b.incoming c.incoming x.from_wire y.from_wire;
-      from_peer = subst (Appends p.had q.had) all x.from_peer;
-      fails = x.fails;
-      failed = x.failed;
-      reset = reset_then id x.events y.events ∙ ap (λ (v : Bool). has_reset id x.events || v) still_there.4 ∙ or_none (has_reset id x.events) ∙ x.reset;
-      outgoing = y.outgoing ∙ x.outgoing;
-      left = x.left;
-      over = x.over;
-      ended = x.ended ∙ ap (λ (v : Bool). option_map (λ b. b || v) p.ended) (sym (end_then id x.events y.events ∙ ap (λ (v : Bool). has_end id x.events || v) still_there.2 ∙ or_none (has_end id x.events)));
-      shut = x.shut ∙ ap (λ (v : Bool). option_map (λ b. b || v) p.shut) (sym stop);
-      few = x.few;
-      ways = x.ways ∙ sym (ways_then id x.events y.events v ∙ ways_fed id y.events (ways_after id x.events v) y.own);
-      pull_on = λ on. or_else (x.pull_on on) stop;
-      push_on = λ on. or_else (x.push_on on) stop;
-    }
 
 -- ---- one offer
 
@@ -256,6 +188,7 @@ offered_none id s payload waits a b w p = record {
   happen = refl;
   own = refl;
   fronts = tt;
+  starves = refl;
   within = omega arith;
   took = refl;
   from_peer = none_pushed pushed.NotNow payload a b p refl;
@@ -290,6 +223,7 @@ offered_some id n count s t payload waits a b w p some within x = record {
   happen = x.happen;
   own = x.own;
   fronts = x.fronts;
+  starves = x.starves;
   within = within;
   took = front_is (fed x.events) waits count within x.took;
   from_peer = subst (Appends a.had b.had) (sym x.gave) p.took;
@@ -318,6 +252,7 @@ offered_failed id told s t payload waits a b c v w p g q broken =
       happen = (t, g, refl);
       own = rw i refl;
       fronts = (tt, tt);
+      starves = refl;
       within = omega arith;
       took = refl;
       from_peer = subst (λ (o : Option (List ℕ)). Appends a.had o []) (sym q.had) (none_pushed pushed.Failed payload a b p refl);
@@ -344,6 +279,7 @@ offers_front id count waits a b s d e v w same all x incoming outgoing =
       happen = subst (λ (v : Session). Happen y.events v b.session) same y.happen;
       own = y.own;
       fronts = y.fronts;
+      starves = y.starves;
       from_wire = sym (take-append-drop count a.incoming) ∙ ap (λ (v : List ℕ). v ++ drop count a.incoming) (sym y.took) ∙ ap (λ (v : List ℕ). fed y.events ++ v) (sym incoming);
       from_peer = y.from_peer;
       fails = y.fails;

@@ -1,5 +1,5 @@
 -- How a tunnel goes on: who is served, and whose turn comes.
-use Rattle.std.proofs.Common.{◌≡◌, ◌⊎◌, inl, inr, ◌++◌, ℕ, List, [], ◌∷◌, Bool, true, false, refl, ap, ◌∙◌, subst}
+use Rattle.std.proofs.Common.{◌≡◌, ◌⊎◌, inl, inr, ◌++◌, ℕ, List, [], ◌∷◌, Bool, true, false, ◌||◌, refl, ap, ◌∙◌, subst}
 use Rattle.std.specs.List.{list_all}
 use Rattle.std.proofs.lemmas.List.Folds.{list_all-append}
 use Rattle.ymx_machine.specs.shared.Events.{Reply}
@@ -12,8 +12,9 @@ use Rattle.ymx_engine.specs.Passes.{is_of_reading}
 use Rattle.ymx_engine.specs.Steps.{Keeps, ReadsOn, WritesOnce}
 use Rattle.ymx_engine.specs.Tunnels.{Tunnel}
 use Rattle.ymx_engine.specs.Turns.{Extends}
-use Rattle.ymx_engine.specs.Wires.{is_of_flush}
+use Rattle.ymx_engine.specs.Wires.{is_of_flush, has_starved}
 use Rattle.ymx_engine.specs.Work.{Attends, FirstTurn, ServesOne, ServesFirst, Reads, Writes, HasRead, HasWritten, may_have_bytes}
+use Rattle.ymx_engine.proofs.Carrying.{memory_then, memory_same}
 use Rattle.ymx_engine.proofs.Queueing.{extends_same, extends_then, extends_idle, keeps_same, keeps_then}
 use Rattle.ymx_engine.proofs.Running.{moves_same, moves_same_so, moves_then, moves_then_so}
 
@@ -84,7 +85,7 @@ pub all_then : (p : Event → Bool) (es fs all : List (Event × Reply)) → all 
 all_then p es fs all e x y = ap (list_all (λ (k : Event × Reply). p k.0)) e ∙ rw (list_all-append (λ (k : Event × Reply). p k.0) es fs, x, y) refl
 
 pub keeps_none : (a : Tunnel) → Keeps a a
-keeps_none a = record { moves = (moves_same_so a).0; own = ap (list_all (λ (e : Event × Reply). is_of_reading e.0)) (moves_same_so a).1; wire = refl; over = refl; lines = keeps_same a.lines; serves = λ s. s }
+keeps_none a = record { moves = (moves_same_so a).0; own = ap (list_all (λ (e : Event × Reply). is_of_reading e.0)) (moves_same_so a).1; wire = refl; over = refl; lines = keeps_same a.lines; serves = λ s. s; memory = memory_same a.has_lacked_memory a.has_lacked_memory (moves_same_so a).0.events refl (ap has_starved (moves_same_so a).1) }
 
 pub keeps_on : (a b c : Tunnel) → Keeps a b → Keeps b c → Keeps a c
 keeps_on a b c x y = let both = moves_then_so a b c x.moves y.moves in record {
@@ -94,6 +95,7 @@ keeps_on a b c x y = let both = moves_then_so a b c x.moves y.moves in record {
   over = y.over ∙ x.over;
   lines = keeps_then a.lines b.lines c.lines x.lines y.lines;
   serves = λ s. y.serves (x.serves s);
+  memory = memory_then a.has_lacked_memory b.has_lacked_memory c.has_lacked_memory x.moves.events y.moves.events both.0.events both.3 x.memory y.memory;
 }
 
 -- it read on, and then what waited was fed
@@ -103,6 +105,7 @@ reads_on_then a b c x k =
     record {
       runs = record { moves = both.0; attends = attends_then a b c x.runs.moves k.moves x.runs.attends (attends_on b c k.serves k.lines.queues) };
       own = all_then is_of_reading x.runs.moves.events k.moves.events both.0.events both.3 x.own k.own;
+      memory = memory_then a.has_lacked_memory b.has_lacked_memory c.has_lacked_memory x.runs.moves.events k.moves.events both.0.events both.3 x.memory k.memory;
     }
 
 pub reads_on_from : (a b c : Tunnel) → a ≡ b → ReadsOn a c → ReadsOn b c
@@ -121,13 +124,14 @@ same_may : (b c : Tunnel) → c.wire ≡ b.wire → c.is_wire_over ≡ b.is_wire
 same_may b c wire over = rw (wire, over) refl
 
 -- what was done behind a read left the wire alone
-pub reads_then : (a b c : Tunnel) → Reads a b → (m : Moves b c) → list_all (λ e. is_of_reading e.0) m.events ≡ true → c.wire ≡ b.wire → c.is_wire_over ≡ b.is_wire_over → Reads a c
-reads_then a b c x m own wire over =
+pub reads_then : (a b c : Tunnel) → Reads a b → (m : Moves b c) → list_all (λ e. is_of_reading e.0) m.events ≡ true → c.wire ≡ b.wire → c.is_wire_over ≡ b.is_wire_over → c.has_lacked_memory ≡ (b.has_lacked_memory || has_starved m.events) → Reads a c
+reads_then a b c x m own wire over memory =
     let both = moves_then_so a b c x.moves m in
     record {
       moves = both.0;
       own = all_then is_of_reading x.moves.events m.events both.0.events both.3 x.own own;
       asks = λ fed may. by both.1 (x.asks fed may);
+      memory = memory_then a.has_lacked_memory b.has_lacked_memory c.has_lacked_memory x.moves.events m.events both.0.events both.3 x.memory memory;
     }
   where
     by : {came : List ℕ} → came ≡ x.moves.came ++ m.came → (has_bytes x.moves.came ≡ true) ⊎ (may_have_bytes b ≡ false) → (has_bytes came ≡ true) ⊎ (may_have_bytes c ≡ false)
@@ -155,6 +159,7 @@ writes_then on a b c x y =
       push = λ h. x.push (y.push h);
       ended = y.ended ∙ x.ended;
       shut = y.shut ∙ x.shut;
+      memory = y.memory ∙ x.memory;
     }
 
 pub runs_written : (on : Bool) (a b : Tunnel) → WritesOnce on a b → Runs a b

@@ -18,8 +18,8 @@ use Rattle.std.specs.Prelude.{option_map}
 use Rattle.ymx_engine.specs.Devices.{Seen, pulled_count, pushed_count, is_end, is_pull_failure, is_push_failure}
 use Rattle.ymx_engine.specs.Events.{Happen}
 use Rattle.ymx_engine.specs.Engines.{Engine}
-use Rattle.ymx_engine.specs.Wires.{emitted_at, emitted, is_of_flush, ends_feed, has_feed_end, FeedsFront, ReadsWire, ReadsWireSo, FlushesWire, FlushesWireSo, HandlesIn, HandlesOut, TakesIn, GivesOut}
-use Rattle.ymx_engine.proofs.Exchanging.{happen_then, or_same, or_twice}
+use Rattle.ymx_engine.specs.Wires.{emitted_at, emitted, is_of_flush, ends_feed, has_feed_end, FeedsFront, ReadsWire, ReadsWireSo, FlushesWire, FlushesWireSo, HandlesIn, HandlesOut, TakesIn, GivesOut, starves_at, has_starved}
+use Rattle.ymx_engine.proofs.Exchanging.{happen_then, or_none, or_same, or_twice}
 
 pub emitted_then : (es fs : List (Event × Reply)) → emitted (es ++ fs) ≡ emitted es ++ emitted fs
 emitted_then [] fs = refl
@@ -28,6 +28,18 @@ emitted_then (e ∷ es) fs = ap (λ (xs : List ℕ). emitted_at e.0 e.1 ++ xs) (
 pub feed_end_then : (es fs : List (Event × Reply)) → has_feed_end (es ++ fs) ≡ (has_feed_end es || has_feed_end fs)
 feed_end_then [] fs = refl
 feed_end_then (e ∷ es) fs = ap (λ (b : Bool). ends_feed e.0 || b) (feed_end_then es fs) ∙ sym (or_assoc (ends_feed e.0) (has_feed_end es) (has_feed_end fs))
+
+pub starved_then : (es fs : List (Event × Reply)) → has_starved (es ++ fs) ≡ (has_starved es || has_starved fs)
+starved_then [] fs = refl
+starved_then (e ∷ es) fs = ap (λ (b : Bool). starves_at e.0 e.1 || b) (starved_then es fs) ∙ sym (or_assoc (starves_at e.0 e.1) (has_starved es) (has_starved fs))
+
+-- what was lacked before, and then at these events
+pub memory_then : (x y z : Bool) (es fs all : List (Event × Reply)) → all ≡ es ++ fs → y ≡ (x || has_starved es) → z ≡ (y || has_starved fs) → z ≡ (x || has_starved all)
+memory_then x y z es fs all e p q = q ∙ ap (λ (v : Bool). v || has_starved fs) p ∙ or_assoc x (has_starved es) (has_starved fs) ∙ ap (λ (v : Bool). x || v) (sym (starved_then es fs) ∙ ap has_starved (sym e))
+
+-- none was lacked at these events
+pub memory_same : (x y : Bool) (es : List (Event × Reply)) → y ≡ x → has_starved es ≡ false → y ≡ (x || has_starved es)
+memory_same x y es e none = e ∙ sym (ap (λ (v : Bool). x || v) none ∙ or_none x)
 
 -- what waited and came is what went and waits, twice
 pub waits_on : (a b c came went more gone : List ℕ) → a ++ came ≡ went ++ b → b ++ more ≡ gone ++ c → a ++ (came ++ more) ≡ (went ++ gone) ++ c
@@ -70,6 +82,10 @@ gives_from e told s t u same g = subst (λ (v : Session). Gives in_turn v e told
 pub handles_in_none : (a : Engine) → HandlesIn false a a
 handles_in_none a = record { events = []; happen = refl; own = refl; fronts = tt; from_wire = refl; outgoing = refl; heard = refl }
 
+pub handles_none_so : (a : Engine) → (h : HandlesIn false a a) × (has_starved h.events ≡ false)
+unfolding handles_in_none
+handles_none_so a = (handles_in_none a, refl)
+
 pub handles_out_none : (a : Engine) → HandlesOut false a a
 handles_out_none a = record {
   events = [];
@@ -83,6 +99,11 @@ handles_out_none a = record {
 -- no bytes were called for
 pub reads_handled : (a b : Engine) (d : Seen) (n : ℕ) → HandlesIn false a b → ReadsWire a b d d n
 reads_handled a b d n x = record { events = x.events; happen = x.happen; own = x.own; came = []; gave = Consumes-nil d.left; fronts = subst (λ (v : List ℕ). FeedsFront v x.events) (sym (append-nil a.incoming)) x.fronts; from_wire = append-nil a.incoming ∙ x.from_wire; said_end = false; over = or_same d.over; fails = false; failed = or_same d.failed; lost = x.heard; outgoing = x.outgoing; had = refl; ended = refl; shut = refl; few = omega arith }
+
+-- and just that happened
+pub reads_handled_so : (a b : Engine) (d e : Seen) (n : ℕ) (x : HandlesIn false a b) → e ≡ d → (r : ReadsWire a b d e n) × (r.events ≡ x.events)
+unfolding reads_handled
+reads_handled_so a b d e n x same = subst (λ (v : Seen). (r : ReadsWire a b d v n) × (r.events ≡ x.events)) (sym same) (reads_handled a b d n x, refl)
 
 pub flushes_to : (a b c : Engine) (d : Seen) (n : ℕ) → c ≡ b → FlushesWire a b d d n → FlushesWire a c d d n
 flushes_to a b c d n e x = subst (λ (v : Engine). FlushesWire a v d d n) (sym e) x
@@ -114,10 +135,11 @@ pulled_heard r a b c d e none t x =
       few = t.pulled.counted;
     } in (moved, refl, refl)
 
--- and what came is what it gave
-pub pulled_so : (r : Pulled) (a b c : Engine) (d e : Seen) (none : a.incoming ≡ []) (t : TakesIn r a b d e) (x : HandlesIn (is_end r || is_pull_failure r) b c) → (m : ReadsWire a c d e 1) × (m.came ≡ take (pulled_count r) t.buffer)
+-- and what came is what it gave, and just that happened
+pub pulled_so : (r : Pulled) (a b c : Engine) (d e : Seen) (none : a.incoming ≡ []) (t : TakesIn r a b d e) (x : HandlesIn (is_end r || is_pull_failure r) b c) →
+    (m : ReadsWire a c d e 1) × (m.came ≡ take (pulled_count r) t.buffer) × (m.events ≡ x.events)
 unfolding pulled_heard
-pulled_so r a b c d e none t x = ((pulled_heard r a b c d e none t x).0, refl)
+pulled_so r a b c d e none t x = ((pulled_heard r a b c d e none t x).0, refl, refl)
 
 -- the wire was called with bytes, and what it said was heard
 pub pushed_heard : (r : Pushed) (a b c : Engine) (d e : Seen) → GivesOut r a b d e → HandlesOut (is_push_failure r) b c → FlushesWireSo (is_push_failure r) a c d e 1
@@ -164,6 +186,10 @@ feeds_one a b told s bytes same waits h incoming outgoing =
 
 pub loses_in : (a b : Engine) (s : Session) → s ≡ a.session → Gives in_turn s event.FeedEnd reply.Done b.session → b.incoming ≡ a.incoming → b.outgoing ≡ a.outgoing → HandlesIn true a b
 loses_in a b s same h incoming outgoing = let g = gives_from event.FeedEnd reply.Done s b.session a.session same h in record { events = (event.FeedEnd, reply.Done) ∷ []; happen = (b.session, g, refl); own = refl; fronts = (tt, tt); from_wire = sym incoming; outgoing = outgoing; heard = refl }
+
+pub loses_in_so : (a b : Engine) (s : Session) → s ≡ a.session → Gives in_turn s event.FeedEnd reply.Done b.session → b.incoming ≡ a.incoming → b.outgoing ≡ a.outgoing → (h : HandlesIn true a b) × (has_starved h.events ≡ false)
+unfolding loses_in
+loses_in_so a b s same h incoming outgoing = (loses_in a b s same h incoming outgoing, refl)
 
 pub loses_out : (a b : Engine) (s : Session) → s ≡ a.session → Gives in_turn s event.FeedEnd reply.Done b.session → b.incoming ≡ a.incoming → b.outgoing ≡ a.outgoing → HandlesOut true a b
 loses_out a b s same h incoming outgoing = let g = gives_from event.FeedEnd reply.Done s b.session a.session same h in record { events = (event.FeedEnd, reply.Done) ∷ []; happen = (b.session, g, refl); own = refl; to_wire = append-nil a.outgoing ∙ sym outgoing; incoming = incoming; heard = refl }

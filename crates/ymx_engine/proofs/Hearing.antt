@@ -8,9 +8,8 @@ use Rattle.ymx_model.specs.session.Emissions.{in_turn}
 use Rattle.ymx_model.specs.session.Histories.{Gives}
 use Rattle.ymx_model.specs.session.Sessions.{Session, is_running}
 use Rattle.ymx_session.specs.Streams.{waiting}
-use Rattle.ymx_engine.specs.declared.device.Pulled.{Pulled}
 use Rattle.ymx_engine.specs.declared.ways.Ways.{Ways}
-use Rattle.ymx_engine.specs.Devices.{Seen, Marks, IsPulled, IsShut}
+use Rattle.ymx_engine.specs.Devices.{Seen, Marks}
 use Rattle.ymx_engine.specs.Served.{GainsNone}
 use Rattle.ymx_engine.specs.Serves.{HearsEnd, PutsDue, Sends, Part, tells_end, is_silent, is_stopped}
 use Rattle.ymx_engine.specs.Ways.{is_open, may_push}
@@ -74,14 +73,8 @@ due_same s t u out new x e = subst (NoneEnd s) (sym e) (due_ends s t out new x)
 pub was_open_from : {id : ℕ} {s t : Session} {out new : List ℕ} {a b : Seen} {w x : Ways} {m g : ℕ} → Part id s t out new a b w x m g → is_open x.from_peer ≡ true → is_open w.from_peer ≡ true
 was_open_from {id} {s} {t} {out} {new} {a} {b} {w} {x} {m} {g} p on = from_peer_was id p.moved.events w (ap (λ (v : Ways). is_open v.from_peer) (sym p.ways) ∙ on)
 
-pub pulled_connects : (r : Pulled) (buffer : List ℕ) (a b : Seen) → IsPulled r buffer a b → b.marks.is_connecting ≡ a.marks.is_connecting
-pulled_connects r buffer a b p = ap (λ (m : Marks). m.is_connecting) p.marks
-
-pub shut_connects : (a b : Seen) → IsShut a b → b.marks.is_connecting ≡ a.marks.is_connecting
-shut_connects a b p = ap (λ (m : Marks). m.is_connecting) p.marks
-
 -- a session that is over, of which it was not told
-pub untold : (runs opens connects result : Bool) → result ≡ (not runs && opens && not connects) → result ≡ true → (runs ≡ false) × (opens ≡ true)
-untold true opens connects result e h = let no : false ≡ true = sym e ∙ h in absurd cc
-untold false true connects result e h = (refl, refl)
-untold false false connects result e h = let no : false ≡ true = sym e ∙ h in absurd cc
+pub untold : (runs opens result : Bool) → result ≡ (not runs && opens) → result ≡ true → (runs ≡ false) × (opens ≡ true)
+untold true opens result e h = let no : false ≡ true = sym e ∙ h in absurd cc
+untold false true result e h = (refl, refl)
+untold false false result e h = let no : false ≡ true = sym e ∙ h in absurd cc

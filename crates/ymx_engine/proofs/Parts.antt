@@ -600,11 +600,11 @@ pub was_open_to : {id : ℕ} {s t : Session} {out new : List ℕ} {a b : Seen} {
 was_open_to {id} {s} {t} {out} {new} {a} {b} {w} {x} {m} {g} p on = to_peer_was id p.moved.events w (ap (λ (v : Ways). is_open v.to_peer) (sym p.ways) ∙ on)
 
 -- what is said of a device that was idle
-pub tells_from : {s t : Session} {a b : Seen} {w x : Ways} (id : ℕ) (y : Ways) → t ≡ s → x ≡ w → b ≡ a → (may_push x b.marks ≡ false → b.marks.is_connecting ≡ false → is_open y.to_peer ≡ true → is_stop (write_to id [] t).reply ≡ false) →
-    may_push w a.marks ≡ false → a.marks.is_connecting ≡ false → is_open y.to_peer ≡ true → is_stop (write_to id [] s).reply ≡ false
-tells_from {s} {t} {a} {b} {w} {x} id y same e f h off there on =
+pub tells_from : {s t : Session} {a b : Seen} {w x : Ways} (id : ℕ) (y : Ways) → t ≡ s → x ≡ w → b ≡ a → (may_push x b.marks ≡ false → is_open y.to_peer ≡ true → is_stop (write_to id [] t).reply ≡ false) →
+    may_push w a.marks ≡ false → is_open y.to_peer ≡ true → is_stop (write_to id [] s).reply ≡ false
+tells_from {s} {t} {a} {b} {w} {x} id y same e f h off on =
     ap (λ (v : Session). is_stop (write_to id [] v).reply) (sym same)
-    ∙ h (ap (λ (v : Ways). may_push v b.marks) e ∙ ap (λ (v : Seen). may_push w v.marks) f ∙ off) (ap (λ (v : Seen). v.marks.is_connecting) f ∙ there) on
+    ∙ h (ap (λ (v : Ways). may_push v b.marks) e ∙ ap (λ (v : Seen). may_push w v.marks) f ∙ off) on
 
 -- ---- a turn
 
@@ -616,10 +616,9 @@ pub record TellsEnd (id : ℕ) (s t u : Session) (b : Seen) (x z : Ways) (pushes
 
 -- What they tell where the stream takes no bytes any more: behind the writes it takes some where the device may take some; else
 -- this was asked; and no read of the device stops it.
-pub record TellsStop (id : ℕ) (s t u : Session) (b c d : Seen) (x y z : Ways) : Type 0 where
+pub record TellsStop (id : ℕ) (s t u : Session) (b : Seen) (x y z : Ways) : Type 0 where
   pub takes : may_push x b.marks ≡ true → is_running s.status ≡ true → is_stopped id s ≡ false
-  pub told : may_push x b.marks ≡ false → b.marks.is_connecting ≡ false → is_open y.to_peer ≡ true → is_stopped id s ≡ false
-  pub connects : d.marks.is_connecting ≡ b.marks.is_connecting
+  pub told : may_push x b.marks ≡ false → is_open y.to_peer ≡ true → is_stopped id s ≡ false
   pub stops : is_open z.to_peer ≡ true → is_stopped id u ≡ true → is_stopped id t ≡ true
 
 -- the session runs on
@@ -632,8 +631,8 @@ pub turn_of : {id g : ℕ} {reads : Bool} {r s t u : Session} {out new : List �
     (may_push x b.marks ≡ true → 0 < length (waiting id s) → pushes ≡ true) →
     (reads ≡ true → may_pull y c.marks ≡ true → (0 < g) ⊎ ((may_pull z d.marks ≡ false) ⊎ (room_of id u ≡ 0))) →
     (reads ≡ true → may_pull z d.marks ≡ true → 0 < room_of id u → pulls ≡ true) →
-    (pushes ≡ true → may_push z d.marks ≡ true → more ≡ true) → (pulls ≡ true → more ≡ true) → (is_running u.status ≡ false → d.marks.is_connecting ≡ false → is_open z.to_peer ≡ true → more ≡ true) →
-    (reads ≡ false → g ≡ 0) → TellsEnd id s t u b x z pushes → TellsStop id s t u b c d x y z →
+    (pushes ≡ true → may_push z d.marks ≡ true → more ≡ true) → (pulls ≡ true → more ≡ true) → (is_running u.status ≡ false → is_open z.to_peer ≡ true → more ≡ true) →
+    (reads ≡ false → g ≡ 0) → TellsEnd id s t u b x z pushes → TellsStop id s t u b x y z →
     (more ≡ true → (may_push z d.marks ≡ true) ⊎ ((may_pull z d.marks ≡ true) ⊎ ((is_running u.status ≡ false) × (is_open z.to_peer ≡ true)))) →
     Turn id reads r u out new a d w z more g
 unfolding part_beside
@@ -664,7 +663,7 @@ turn_of {id} {g} {reads} {r} {s} {t} {u} {out} {new} {a} {b} {c} {d} {w} {x} {y}
       asks_on = λ on may some. by-pulls (asks_on on may some);
       hears = hears;
       ends_on = λ may h. by-pushes (silent may h) may;
-      stops_on = λ there open_ h. by-status (is_running u.status) refl there open_ h;
+      stops_on = λ open_ h. by-status (is_running u.status) refl open_ h;
       rests = rests;
     }
   where
@@ -673,13 +672,13 @@ turn_of {id} {g} {reads} {r} {s} {t} {u} {out} {new} {a} {b} {c} {d} {w} {x} {y}
     by false e f = inr (inl (pull_off v e))
 
     -- the stream takes no bytes behind the writes
-    stopped_by : (may : Bool) → may_push x b.marks ≡ may → is_running s.status ≡ true → d.marks.is_connecting ≡ false → is_open z.to_peer ≡ true → is_stopped id t ≡ true → ⊥
-    stopped_by true on runs there open_ h = never (is_stopped id s) (ap (is_stopped id) (sym same) ∙ h) (stops.takes on runs)
-    stopped_by false off runs there open_ h = never (is_stopped id t) h (ap (is_stopped id) same ∙ stops.told off (sym (stops.connects) ∙ there) (was_open_to v open_))
+    stopped_by : (may : Bool) → may_push x b.marks ≡ may → is_running s.status ≡ true → is_open z.to_peer ≡ true → is_stopped id t ≡ true → ⊥
+    stopped_by true on runs open_ h = never (is_stopped id s) (ap (is_stopped id) (sym same) ∙ h) (stops.takes on runs)
+    stopped_by false off runs open_ h = never (is_stopped id t) h (ap (is_stopped id) same ∙ stops.told off (was_open_to v open_))
 
-    by-status : (runs : Bool) → is_running u.status ≡ runs → d.marks.is_connecting ≡ false → is_open z.to_peer ≡ true → is_stopped id u ≡ true → more ≡ true
-    by-status false over there open_ h = hears over there open_
-    by-status true runs there open_ h =
+    by-status : (runs : Bool) → is_running u.status ≡ runs → is_open z.to_peer ≡ true → is_stopped id u ≡ true → more ≡ true
+    by-status false over open_ h = hears over open_
+    by-status true runs open_ h =
         let was : is_running t.status ≡ true = sym (ap is_running (part_status v)) ∙ runs in
         let before : is_running s.status ≡ true = ap (λ (e : Session). is_running e.status) (sym same) ∙ was in
-        absurd (stopped_by (may_push x b.marks) refl before there open_ (stops.stops open_ h))
+        absurd (stopped_by (may_push x b.marks) refl before open_ (stops.stops open_ h))

@@ -108,27 +108,20 @@ rest_takes t s h takes =
     let none : t.lines.held ≡ [] = none_long t.lines.held (is_zero (length t.lines.held) (is_true (length t.lines.held == 0) (neither (has_to_send t.engine) (not (length t.lines.held == 0)) (takes_none t.wire.marks.may_push (has_to_write t) takes left.3)).1)) in
     λ id l there. takes_some (room_of id t.engine.session) (may_pull l.ways l.seen.marks) (λ may some. none_attends t.lines id left.0 left.1 none ((s.each id).gives l there may some))
 
-hangs_none : (connects opens : Bool) → (connects ≡ false → opens ≡ true → ⊥) → (opens ≡ false) ⊎ (connects ≡ true)
-hangs_none connects false h = inl refl
-hangs_none true true h = inr refl
-hangs_none false true h = absurd (h refl refl)
+hangs_none : (opens : Bool) → (opens ≡ true → ⊥) → opens ≡ false
+hangs_none false h = refl
+hangs_none true h = absurd (h refl)
 
--- where its session is over, no way to the peer is open, unless its connection is still being made
+-- where its session is over, no way to the peer is open
 pub rest_hears : (t : Tunnel) → Serving t → has_work t ≡ false → NoneHangs t
 rest_hears t s h =
     let left = left_of t h in
-    λ over id l there. hangs_none l.seen.marks.is_connecting (is_open l.ways.to_peer) (λ still opens. none_awaits t.lines id left.0 left.1 ((s.each id).hears l there over still opens))
+    λ over id l there. hangs_none (is_open l.ways.to_peer) (λ opens. none_awaits t.lines id left.0 left.1 ((s.each id).hears l there over opens))
 
 ends_none : (silent may : Bool) → (may ≡ true → silent ≡ true → ⊥) → (silent ≡ false) ⊎ (may ≡ false)
 ends_none false may h = inl refl
 ends_none true false h = inr refl
 ends_none true true h = absurd (h refl refl)
-
-stops_none : (stopped connects opens : Bool) → (connects ≡ false → opens ≡ true → stopped ≡ true → ⊥) → (stopped ≡ false) ⊎ ((opens ≡ false) ⊎ (connects ≡ true))
-stops_none false connects opens h = inl refl
-stops_none true true opens h = inr (inr refl)
-stops_none true false false h = inr (inl refl)
-stops_none true false true h = absurd (h refl refl refl)
 
 -- more may come on each stream whose connection's device may take bytes now
 pub rest_ends : (t : Tunnel) → Serving t → has_work t ≡ false → NoneEnds t
@@ -136,8 +129,8 @@ rest_ends t s h =
     let left = left_of t h in
     λ id l there. ends_none (is_silent id t.engine.session) (may_push l.ways l.seen.marks) (λ may silent. none_awaits t.lines id left.0 left.1 ((s.each id).ends l there may silent))
 
--- each stream takes bytes, or was finished here, whose connection's way to the peer is open, unless it is still being made
+-- each stream takes bytes, or was finished here, whose connection's way to the peer is open
 pub rest_stops : (t : Tunnel) → Serving t → has_work t ≡ false → NoneStops t
 rest_stops t s h =
     let left = left_of t h in
-    λ id l there. stops_none (is_stopped id t.engine.session) l.seen.marks.is_connecting (is_open l.ways.to_peer) (λ still opens stopped. none_awaits t.lines id left.0 left.1 ((s.each id).stops l there still opens stopped))
+    λ id l there. ends_none (is_stopped id t.engine.session) (is_open l.ways.to_peer) (λ opens stopped. none_awaits t.lines id left.0 left.1 ((s.each id).stops l there opens stopped))

@@ -29,7 +29,7 @@ use Rattle.ymx_engine.specs.Ways.{new_ways}
 use Rattle.ymx_engine.specs.Wires.{fed, emitted, is_of_read, is_of_flush, has_feed_end, FeedsFront, ReadsWire, FlushesWire, HandlesIn}
 use Rattle.ymx_engine.proofs.Advancing.{rest_of, fed_then, fronts_then, fronts_more}
 use Rattle.ymx_engine.proofs.Quiet.{quiet, IsQuiet}
-use Rattle.ymx_engine.proofs.Carrying.{feed_end_then, reads_handled, emitted_then, waits_on}
+use Rattle.ymx_engine.proofs.Carrying.{feed_end_then, reads_handled_so, emitted_then, waits_on}
 use Rattle.ymx_engine.proofs.Exchanging.{happen_then, or_none, or_same, or_true, or_twice, same_id, same_appends, same_consumes}
 use Rattle.ymx_engine.proofs.Listing.{reads_reading, passes_reading, FeedsNone, flush_feeds, read_emits, LeavesWire, PassEmits, pass_emits, other_id, others_quiet_passed, IsCalm, turn_calm, others_quiet_turned, plain_list, plain_then, read_plain, flush_plain}
 use Rattle.ymx_engine.proofs.Trading.{life_quiet, life_then, life_trades, life_leaves, life_joins, life_idle, trades_passed}
@@ -153,11 +153,11 @@ unfolding moves_read
 moves_read_so a b n x same = (moves_read a b n x same, refl, refl)
 
 -- what waited was fed, and nothing else happened
-pub moves_handled : (a b : Tunnel) → HandlesIn false a.engine b.engine → b.wire ≡ a.wire → SameSeen a b → (m : Moves a b) × (list_all (λ e. is_of_reading e.0) m.events ≡ true)
+pub moves_handled : (a b : Tunnel) (x : HandlesIn false a.engine b.engine) → b.wire ≡ a.wire → SameSeen a b → (m : Moves a b) × (list_all (λ e. is_of_reading e.0) m.events ≡ true) × (m.events ≡ x.events)
 moves_handled a b x wire same =
-    let reads : ReadsWire a.engine b.engine a.wire b.wire 0 = subst (λ (v : Seen). ReadsWire a.engine b.engine a.wire v 0) (sym wire) (reads_handled a.engine b.engine a.wire 0 x) in
-    let moved = moves_read_so a b 0 reads same in
-    (moved.0, ap (list_all (λ (e : Event × Reply). is_of_reading e.0)) moved.2 ∙ reads_reading reads.events reads.own)
+    let reads = reads_handled_so a.engine b.engine a.wire b.wire 0 x wire in
+    let moved = moves_read_so a b 0 reads.0 same in
+    (moved.0, ap (list_all (λ (e : Event × Reply). is_of_reading e.0)) moved.2 ∙ reads_reading (reads.0).events (reads.0).own, moved.2 ∙ reads.1)
 
 -- the wire was written to
 pub moves_flushed : (a b : Tunnel) (n : ℕ) → FlushesWire a.engine b.engine a.wire b.wire n → SameSeen a b → Moves a b
@@ -284,10 +284,10 @@ moves_passed a b id d e n v w x wire at now =
     }
 
 -- and nothing else happened
-pub moves_passed_so : (a b : Tunnel) (id : ℕ) (d e : Seen) (n : ℕ) (v w : Ways) → PassesOn id a.engine b.engine d e n v w → b.wire ≡ a.wire → look id a.lines ≡ Some d →
-    ((other : ℕ) → look other b.lines ≡ cond (nat_eq id other) (Some e) (look other a.lines)) → (m : Moves a b) × (list_all (λ e. is_of_reading e.0) m.events ≡ true)
+pub moves_passed_so : (a b : Tunnel) (id : ℕ) (d e : Seen) (n : ℕ) (v w : Ways) (x : PassesOn id a.engine b.engine d e n v w) → b.wire ≡ a.wire → look id a.lines ≡ Some d →
+    ((other : ℕ) → look other b.lines ≡ cond (nat_eq id other) (Some e) (look other a.lines)) → (m : Moves a b) × (list_all (λ e. is_of_reading e.0) m.events ≡ true) × (m.events ≡ x.events)
 unfolding moves_passed
-moves_passed_so a b id d e n v w x wire at now = (moves_passed a b id d e n v w x wire at now, passes_reading id x.events x.own)
+moves_passed_so a b id d e n v w x wire at now = (moves_passed a b id d e n v w x wire at now, passes_reading id x.events x.own, refl)
 
 -- one call that moves no byte happened, and the device of a stream joined or left
 changed_line : (id other : ℕ) (a b : Lines) (to : Option Seen) (es : List (Event × Reply)) (test : Bool) → nat_eq id other ≡ test → look other b ≡ cond test to (look other a) →

@@ -79,9 +79,9 @@ served_at : (id : ℕ) (a b : Tunnel) → GainsNone id a.engine.session b.engine
 served_at id a b came runs same on holds before = record {
   gets = λ l there may some. let was = sym same ∙ there in on (is_some_at was) (before.gets l was may (came.bytes some));
   gives = λ l there may some. let was = sym same ∙ there in attended_on id a.lines b.lines (on (is_some_at was)) (holds (is_some_at was)) (before.gives l was may (came.room some));
-  hears = λ l there over connected opened. let was = sym same ∙ there in on (is_some_at was) (before.hears l was (runs over) connected opened);
+  hears = λ l there over opened. let was = sym same ∙ there in on (is_some_at was) (before.hears l was (runs over) opened);
   ends = λ l there may silent. let was = sym same ∙ there in on (is_some_at was) (before.ends l was may (came.silence silent));
-  stops = λ l there connected opened stopped. let was = sym same ∙ there in on (is_some_at was) (before.stops l was connected opened (came.stop stopped));
+  stops = λ l there opened stopped. let was = sym same ∙ there in on (is_some_at was) (before.stops l was opened (came.stop stopped));
 }
 
 pub serving_kept : (a b : Tunnel) → (IsWithin a.engine.session → Calms a.engine.session b.engine.session) → KeepsLines a.lines b.lines → Serving a → Serving b
@@ -116,15 +116,15 @@ serving_all b w all = record {
   each = λ id. record {
     gets = λ l there may some. all id (is_some_at there);
     gives = λ l there may some. inl (all id (is_some_at there));
-    hears = λ l there over connected opened. all id (is_some_at there);
+    hears = λ l there over opened. all id (is_some_at there);
     ends = λ l there may silent. all id (is_some_at there);
-    stops = λ l there connected opened stopped. all id (is_some_at there);
+    stops = λ l there opened stopped. all id (is_some_at there);
   };
 }
 
 -- a connection that waits for its turn
 pub served_waits : (id : ℕ) (b : Tunnel) → Awaits id b.lines → IsServed id b
-served_waits id b waits = record { gets = λ l there may some. waits; gives = λ l there may some. inl waits; hears = λ l there over connected opened. waits; ends = λ l there may silent. waits; stops = λ l there connected opened stopped. waits }
+served_waits id b waits = record { gets = λ l there may some. waits; gives = λ l there may some. inl waits; hears = λ l there over opened. waits; ends = λ l there may silent. waits; stops = λ l there opened stopped. waits }
 
 -- one that is served with the others
 pub serving_with : (id : ℕ) (a b : Tunnel) → (IsWithin a.engine.session → CalmsBut id a.engine.session b.engine.session) → KeepsOthers id a.lines b.lines → (IsWithin a.engine.session → IsServed id b) → ServingBut id a → Serving b
@@ -140,9 +140,9 @@ pub served_none : (id : ℕ) (b : Tunnel) → line_of id b.lines ≡ None → Is
 served_none id b none = record {
   gets = λ l there may some. let no : None ≡ Some l = sym none ∙ there in absurd cc;
   gives = λ l there may some. let no : None ≡ Some l = sym none ∙ there in absurd cc;
-  hears = λ l there over connected opened. let no : None ≡ Some l = sym none ∙ there in absurd cc;
+  hears = λ l there over opened. let no : None ≡ Some l = sym none ∙ there in absurd cc;
   ends = λ l there may silent. let no : None ≡ Some l = sym none ∙ there in absurd cc;
-  stops = λ l there connected opened stopped. let no : None ≡ Some l = sym none ∙ there in absurd cc;
+  stops = λ l there opened stopped. let no : None ≡ Some l = sym none ∙ there in absurd cc;
 }
 
 pub serving_unserved : (id : ℕ) (a b : Tunnel) → b ≡ a → line_of id a.lines ≡ None → ServingBut id a → Serving b
@@ -224,7 +224,7 @@ serving_fed n input f a b t q x notes keeps all same later over h = by (is_runni
         later.awaits id (is_some_at was) (all id is (is_some_at first))
 
     each : is_running b.engine.session.status ≡ true → (id : ℕ) (noted : Bool) → is_noted id n ≡ noted → IsServed id b
-    each runs id true is = record { gets = λ l there may some. called id is l there; gives = λ l there may some. inl (called id is l there); hears = λ l there over connected opened. called id is l there; ends = λ l there may silent. called id is l there; stops = λ l there connected opened stopped. called id is l there }
+    each runs id true is = record { gets = λ l there may some. called id is l there; gives = λ l there may some. inl (called id is l there); hears = λ l there over opened. called id is l there; ends = λ l there may silent. called id is l there; stops = λ l there opened stopped. called id is l there }
     each runs id false is =
         let goes = ap (λ (v : Session). is_running v.status) (sym same) ∙ runs in
         let status : t.status ≡ a.engine.session.status = both_run t.status a.engine.session.status goes ((fed_goes (take x.count input) f a.engine.session t x.feeds).1 goes) in
@@ -428,9 +428,9 @@ part_served : (id : ℕ) (reads : Bool) (was : Line) (a b : Tunnel) (gave : ℕ)
 part_served id reads was a b gave x w = record {
   gets = λ l there may some. x.again (x.turn.stays w (subst (λ (v : Line). may_push v.ways v.seen.marks ≡ true) (is_now l there) may) some);
   gives = λ l there may some. by reads refl (subst (λ (v : Line). may_pull v.ways v.seen.marks ≡ true) (is_now l there) may) some;
-  hears = λ l there over connected opened. x.again (x.turn.hears over (subst (λ (v : Line). v.seen.marks.is_connecting ≡ false) (is_now l there) connected) (subst (λ (v : Line). is_open v.ways.to_peer ≡ true) (is_now l there) opened));
+  hears = λ l there over opened. x.again (x.turn.hears over (subst (λ (v : Line). is_open v.ways.to_peer ≡ true) (is_now l there) opened));
   ends = λ l there may silent. x.again (x.turn.ends_on (subst (λ (v : Line). may_push v.ways v.seen.marks ≡ true) (is_now l there) may) silent);
-  stops = λ l there connected opened stopped. x.again (x.turn.stops_on (subst (λ (v : Line). v.seen.marks.is_connecting ≡ false) (is_now l there) connected) (subst (λ (v : Line). is_open v.ways.to_peer ≡ true) (is_now l there) opened) stopped);
+  stops = λ l there opened stopped. x.again (x.turn.stops_on (subst (λ (v : Line). is_open v.ways.to_peer ≡ true) (is_now l there) opened) stopped);
 }
   where
     is_now : (l : Line) → line_of id b.lines ≡ Some l → l ≡ x.now

@@ -1,9 +1,9 @@
 -- Whose turn it is, and that each that waits comes nearer to its own.
 use Rattle.std.proofs.Common.{◌≡◌, ◌⊎◌, inl, inr, ℕ, zero, suc, ◌+◌, ◌*◌, ◌<◌, ◌==◌, List, [], ◌∷◌, ◌++◌, length, Bool, true, false, ◌&&◌, ◌||◌, not, Some, refl, sym, ap, ◌∙◌, subst, arith}
 use Rattle.std.specs.Prelude.{nat_eq, slice_get, Contains, if◌then◌else◌}
-use Rattle.std.proofs.lemmas.Option.{slice_get_within}
+use Rattle.std.proofs.lemmas.Option.{slice_get_within, slice_get-get_or}
 use Rattle.std.proofs.lemmas.Bool.Decides.{nat_tests}
-use Rattle.ymx_engine.specs.Turns.{Lines, IsBehind, IsFirst, TakesTurn, takes_busy, Extends}
+use Rattle.ymx_engine.specs.Turns.{Lines, Waits, IsBehind, HasTurnSoon, IsFirst, TakesTurn, takes_busy, Extends}
 use Rattle.ymx_engine.proofs.Entries.{some_is}
 use Rattle.ymx_engine.proofs.Marking.{Stands, popped}
 
@@ -116,3 +116,13 @@ behind_few id n t (place, inl (at, is)) =
     let within : place < length t.fresh = slice_get_within t.fresh place id at in omega (arith, within, is, (at_most_one t.is_for_busy).0)
 behind_few id n t (place, inr (at, is)) =
     let within : place < length t.busy = slice_get_within t.busy place id at in omega (arith, within, is, (at_most_one t.is_for_busy).1)
+
+stands_at : (xs : List ℕ) (id : ℕ) → Contains xs id → (place : ℕ) × (slice_get xs place ≡ Some id)
+stands_at xs id (place, within, same) = (place, slice_get-get_or xs place id within ∙ ap (λ (n : ℕ). Some n) same)
+
+soon_at : (id n : ℕ) (t : Lines) → IsBehind id n t → HasTurnSoon id t
+soon_at id n t far = (n, far, behind_few id n t far)
+
+pub waits_soon : (id : ℕ) (t : Lines) → Waits id t → HasTurnSoon id t
+waits_soon id t (inl h) = let at = stands_at t.fresh id h in soon_at id (2 * at.0 + (if t.is_for_busy then 1 else 0)) t (at.0, inl (at.1, refl))
+waits_soon id t (inr h) = let at = stands_at t.busy id h in soon_at id (2 * at.0 + (if t.is_for_busy then 0 else 1)) t (at.0, inr (at.1, refl))

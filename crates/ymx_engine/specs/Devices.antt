@@ -7,13 +7,12 @@ use Rattle.ymx_engine.specs.declared.device.Pushed.{Pushed}
 use Rattle.ymx_engine.specs.declared.device.Pushed.TheVariants as pushed
 use Rattle.ymx_engine.specs.declared.device.Readiness.{Readiness}
 
--- Whether a device may have bytes now, or its end; whether it may take some; whether its end is near, so that fewer bytes than
--- there was room for don't say that none are left; and whether its connection is still being made.
+-- Whether a device may have bytes now, or its end; whether it may take some; and whether its end is near, so that fewer bytes
+-- than there was room for don't say that none are left.
 pub record Marks : Type 0 where
   pub may_pull : Bool
   pub may_push : Bool
   pub is_closing : Bool
-  pub is_connecting : Bool
 
 -- The bytes that a device has still to give, those that it has taken, whether it said that no more come, whether it was
 -- ended, whether it has failed, and whether it was shut, each where the device can tell; its marks; and how many calls were
@@ -127,7 +126,7 @@ pub record IsShut (old new : Seen) : Type 0 where
   pub marks : new.marks ≡ record old.marks { may_pull = true; may_push = true }
   pub counted : new.calls ≤ old.calls + 1
 
--- An event said this of it. No byte moved, and each mark that the event speaks of is on; its connection may be there now.
+-- An event said this of it. No byte moved, and each mark that the event speaks of is on.
 pub record IsNoted (ready : Readiness) (old new : Seen) : Type 0 where
   pub left : new.left ≡ old.left
   pub had : new.had ≡ old.had
@@ -138,5 +137,4 @@ pub record IsNoted (ready : Readiness) (old new : Seen) : Type 0 where
   pub may_pull : new.marks.may_pull ≡ (old.marks.may_pull || ready.can_pull)
   pub may_push : new.marks.may_push ≡ (old.marks.may_push || ready.can_push)
   pub is_closing : new.marks.is_closing ≡ (old.marks.is_closing || ready.is_closing)
-  pub connects : new.marks.is_connecting ≡ true → old.marks.is_connecting ≡ true
   pub counted : new.calls ≡ old.calls

@@ -16,7 +16,7 @@ use Rattle.ymx_engine.specs.Events.{Happen, given, has_end, has_reset, has_stop}
 use Rattle.ymx_engine.specs.Engines.{Engine}
 use Rattle.ymx_engine.specs.Exchanges.{has_bytes}
 use Rattle.ymx_engine.specs.Ways.{ways_after, may_push}
-use Rattle.ymx_engine.specs.Wires.{fed, FeedsFront}
+use Rattle.ymx_engine.specs.Wires.{fed, has_starved, FeedsFront}
 
 -- the first so many of the bytes that wait are payload of this stream, and may be passed on
 pub record IsPayload (id count : ℕ) (e : Engine) : Type 0 where
@@ -44,13 +44,14 @@ is_of_reading _ = false
 -- Nothing happened but feeds of what waited, and reads and a reset of this stream. Each feed offers the front of what
 -- waits; the session took a beginning, and the rest waits. The device took just what the stream gave, in order, and gave
 -- nothing. It was ended exactly if the stream's end was read, and the stream was reset exactly if the device failed. The
--- device was shut exactly if the stream was reset, or refused a read. Nothing went to the wire. The ways of the connection
--- follow that, and no mark of the device went on, unless it was shut.
+-- device was shut exactly if the stream was reset, or refused a read. No feed lacked memory. Nothing went to the wire. The ways
+-- of the connection follow that, and no mark of the device went on, unless it was shut.
 pub record PassesOn (id : ℕ) (old new : Engine) (before after : Seen) (calls : ℕ) (was now : Ways) : Type 0 where
   pub events : List (Event × Reply)
   pub happen : Happen events old.session new.session
   pub own : list_all (λ e. is_of_pass id e.0) events ≡ true
   pub fronts : FeedsFront old.incoming events
+  pub starves : has_starved events ≡ false
   pub from_wire : old.incoming ≡ fed events ++ new.incoming
   pub from_peer : Appends before.had after.had (given id events)
   pub fails : Bool
@@ -70,12 +71,13 @@ pub record PassesOn (id : ℕ) (old new : Engine) (before after : Seen) (calls :
 
 -- Of these bytes the first `count` came, payload of this stream and headers between; the payload was read at once, and the
 -- device took just that: some, or it may take none now. Or the device failed, and the stream was reset. The ways of the
--- connection follow that, and no mark of the device went on, unless it was shut.
+-- connection follow that, no feed lacked memory, and no mark of the device went on, unless it was shut.
 pub record OffersOnce (id : ℕ) (bytes : List ℕ) (count : ℕ) (s t : Session) (before after : Seen) (was now : Ways) : Type 0 where
   pub events : List (Event × Reply)
   pub happen : Happen events s t
   pub own : list_all (λ e. is_of_pass id e.0) events ≡ true
   pub fronts : FeedsFront bytes events
+  pub starves : has_starved events ≡ false
   pub within : count ≤ length bytes
   pub took : fed events ≡ take count bytes
   pub from_peer : Appends before.had after.had (given id events)
@@ -149,13 +151,14 @@ abbrev pub MayFollow : (id missing : ℕ) → (ended : Bool) → (ahead : ℕ) �
 MayFollow id missing ended ahead waits count behind next ends s =
     ((count ≡ 0) × (next ≡ ahead) × (ends ≡ true) × (behind ≡ waits)) ⊎ ((ended ≡ false) × Follows id missing ahead count waits behind next s)
 
--- Nothing happened but feeds of the front of what waited and reads of this stream, which gave just these bytes. What was fed
--- waits no more.
+-- Nothing happened but feeds of the front of what waited, none of which lacked memory, and reads of this stream, which gave just
+-- these bytes. What was fed waits no more.
 pub record Settles (id : ℕ) (bytes waits rest : List ℕ) (s t : Session) : Type 0 where
   pub events : List (Event × Reply)
   pub happen : Happen events s t
   pub own : list_all (λ e. is_of_pass id e.0) events ≡ true
   pub fronts : FeedsFront waits events
+  pub starves : has_starved events ≡ false
   pub took : waits ≡ fed events ++ rest
   pub gave : given id events ≡ bytes
   pub some : length bytes ≤ length (fed events)

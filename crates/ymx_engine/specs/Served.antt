@@ -11,13 +11,13 @@ use Rattle.ymx_engine.specs.Turns.{Line, line_of, Awaits, Attended}
 -- Where bytes of this stream wait, or no more come, and its connection's device may take some, the connection waits for a turn, or some
 -- turn was missed. Where the stream takes bytes and the device may have some it does too, or is held back until nothing waits for
 -- the wire. Where the stream takes no bytes any more, though it was not finished here, and once the session is over, it waits for a
--- turn too, while its way to the peer is open, unless its connection is still being made.
+-- turn too, while its way to the peer is open.
 pub record IsServed (id : ℕ) (t : Tunnel) : Type 0 where
   pub gets : (l : Line) → line_of id t.lines ≡ Some l → may_push l.ways l.seen.marks ≡ true → 0 < length (waiting id t.engine.session) → Awaits id t.lines
   pub gives : (l : Line) → line_of id t.lines ≡ Some l → may_pull l.ways l.seen.marks ≡ true → 0 < room_of id t.engine.session → Attended id t.lines
-  pub hears : (l : Line) → line_of id t.lines ≡ Some l → is_running t.engine.session.status ≡ false → l.seen.marks.is_connecting ≡ false → is_open l.ways.to_peer ≡ true → Awaits id t.lines
+  pub hears : (l : Line) → line_of id t.lines ≡ Some l → is_running t.engine.session.status ≡ false → is_open l.ways.to_peer ≡ true → Awaits id t.lines
   pub ends : (l : Line) → line_of id t.lines ≡ Some l → may_push l.ways l.seen.marks ≡ true → is_silent id t.engine.session ≡ true → Awaits id t.lines
-  pub stops : (l : Line) → line_of id t.lines ≡ Some l → l.seen.marks.is_connecting ≡ false → is_open l.ways.to_peer ≡ true → is_stopped id t.engine.session ≡ true → Awaits id t.lines
+  pub stops : (l : Line) → line_of id t.lines ≡ Some l → is_open l.ways.to_peer ≡ true → is_stopped id t.engine.session ≡ true → Awaits id t.lines
 
 -- So it is with each stream. The session keeps its limits, as each does.
 pub record Serving (t : Tunnel) : Type 0 where
@@ -49,11 +49,11 @@ NoneWaits t = (id : ℕ) (l : Line) → line_of id t.lines ≡ Some l → (waiti
 abbrev pub NoneEnds : Tunnel → Type 0
 NoneEnds t = (id : ℕ) (l : Line) → line_of id t.lines ≡ Some l → (is_silent id t.engine.session ≡ false) ⊎ (may_push l.ways l.seen.marks ≡ false)
 
--- no stream takes no bytes any more, though it was not finished here, whose connection's way to the peer is open, unless it is still
--- being made
+-- No stream takes no bytes any more, though it was not finished here, whose connection's way to the peer is open. So none is left
+-- whose connection is still being made.
 abbrev pub NoneStops : Tunnel → Type 0
-NoneStops t = (id : ℕ) (l : Line) → line_of id t.lines ≡ Some l → (is_stopped id t.engine.session ≡ false) ⊎ ((is_open l.ways.to_peer ≡ false) ⊎ (l.seen.marks.is_connecting ≡ true))
+NoneStops t = (id : ℕ) (l : Line) → line_of id t.lines ≡ Some l → (is_stopped id t.engine.session ≡ false) ⊎ (is_open l.ways.to_peer ≡ false)
 
--- where the session is over, no connection's way to the peer is open, unless it is still being made
+-- where the session is over, no connection's way to the peer is open
 abbrev pub NoneHangs : Tunnel → Type 0
-NoneHangs t = is_running t.engine.session.status ≡ false → (id : ℕ) (l : Line) → line_of id t.lines ≡ Some l → (is_open l.ways.to_peer ≡ false) ⊎ (l.seen.marks.is_connecting ≡ true)
+NoneHangs t = is_running t.engine.session.status ≡ false → (id : ℕ) (l : Line) → line_of id t.lines ≡ Some l → is_open l.ways.to_peer ≡ false

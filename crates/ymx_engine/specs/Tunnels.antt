@@ -5,12 +5,13 @@ use Rattle.ymx_engine.specs.Engines.{Engine}
 use Rattle.ymx_engine.specs.Turns.{Lines}
 
 -- Its session and the bytes under way between that and its wire; what is seen of its wire, and whether the session heard of
--- the wire's end; and its connections.
+-- the wire's end; its connections; and whether a feed of it ever lacked memory.
 pub record Tunnel : Type 0 where
   pub engine : Engine
   pub wire : Seen
   pub is_wire_over : Bool
   pub lines : Lines
+  pub has_lacked_memory : Bool
 
 -- the device failed, as far as it can tell
 abbrev pub HasFailed : Seen → Type 0

@@ -75,6 +75,10 @@ abbrev pub IsBehind : (id others : ℕ) → Lines → Type 0
 IsBehind id n t = (place : ℕ) × (((slice_get t.fresh place ≡ Some id) × (n ≡ 2 * place + (if t.is_for_busy then 1 else 0)))
     ⊎ ((slice_get t.busy place ≡ Some id) × (n ≡ 2 * place + (if t.is_for_busy then 0 else 1))))
 
+-- It waits, and has its turn within twice as many turns as connections wait for one: fewer come before.
+abbrev pub HasTurnSoon : ℕ → Lines → Type 0
+HasTurnSoon id t = (n : ℕ) × IsBehind id n t × (n < 2 * (length t.fresh + length t.busy))
+
 -- this one was the first of those that had more to move, or else of the others
 abbrev pub IsFirst : (busy : Bool) → (id : ℕ) → (old new : Lines) → Type 0
 IsFirst true id old new = (old.busy ≡ id ∷ new.busy) × (new.fresh ≡ old.fresh)

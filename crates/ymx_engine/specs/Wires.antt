@@ -1,5 +1,5 @@
 -- What an engine and its wire move (this project's own).
-use Rattle.std.specs.Prelude.{ℕ, ⊤, ◌≡◌, ◌+◌, ◌≤◌, ◌++◌, ◌∷◌, ◌||◌, List, [], length, take, drop, Bool, true, false, option_map}
+use Rattle.std.specs.Prelude.{ℕ, ⊤, ◌≡◌, ◌+◌, ◌≤◌, ◌++◌, ◌∷◌, ◌||◌, List, [], length, take, drop, Bool, true, false, option_map, nat_lt}
 use Rattle.std.specs.List.{list_all}
 use Rattle.std.specs.Io.KnownBytes.{Appends, Consumes}
 use Rattle.ymx_model.specs.session.Events.{Event}
@@ -54,6 +54,15 @@ ends_feed (event.Emit room) = false
 abbrev pub has_feed_end : List (Event × Reply) → Bool
 has_feed_end [] = false
 has_feed_end (e ∷ es) = ends_feed e.0 || has_feed_end es
+
+-- a stream of the peer's was rejected at a feed, as there was no memory for it
+abbrev pub starves_at : Event → Reply → Bool
+starves_at (event.Feed bytes) (reply.Fed fed) = nat_lt 0 fed.no_memory
+starves_at _ told = false
+
+abbrev pub has_starved : List (Event × Reply) → Bool
+has_starved [] = false
+has_starved (e ∷ es) = starves_at e.0 e.1 || has_starved es
 
 -- a feed offers the front of what waits
 abbrev pub OffersFront : List ℕ → Event → Type 0

@@ -10,7 +10,7 @@ use Rattle.ymx_engine.specs.Served.{Serving}
 use Rattle.ymx_engine.specs.Serves.{Turn}
 use Rattle.ymx_engine.specs.Tunnels.{Tunnel}
 use Rattle.ymx_engine.specs.Passes.{is_of_reading}
-use Rattle.ymx_engine.specs.Wires.{is_of_flush}
+use Rattle.ymx_engine.specs.Wires.{is_of_flush, has_starved}
 use Rattle.ymx_engine.specs.Turns.{Line, Lines, line_of, is_idle, Extends, SameTurns, WaitsAlone, TakesTurn}
 
 -- bytes wait for the wire, or something is due
@@ -46,11 +46,13 @@ takes_more t = t.is_wire_over || (length t.engine.outgoing == 0) || t.wire.marks
 -- ---- one step
 
 -- The wire was read, and nothing else happened: what it gave was fed, or went to the devices of its streams, of which one that failed
--- had its stream reset. Where nothing waited to be fed and the wire might have bytes, some came, or it may have none now.
+-- had its stream reset. Where nothing waited to be fed and the wire might have bytes, some came, or it may have none now. It has
+-- lacked memory where it had, or where a feed did now.
 pub record Reads (old new : Tunnel) : Type 0 where
   pub moves : Moves old new
   pub own : list_all (λ e. is_of_reading e.0) moves.events ≡ true
   pub asks : old.engine.incoming ≡ [] → may_have_bytes old ≡ true → (has_bytes moves.came ≡ true) ⊎ (may_have_bytes new ≡ false)
+  pub memory : new.has_lacked_memory ≡ (old.has_lacked_memory || has_starved moves.events)
 
 -- What was due was written to the wire, and nothing else happened. Where it might take bytes and some waited or were due, it took
 -- some, or may take none now; it took all, or may take none now; and then nobody is held back any more.

@@ -108,10 +108,6 @@ pub trait Device {
     fn may_push(&self) -> bool
         ensures { result ≡ (seen self.now).marks.may_push };
 
-    /// Whether its connection is still being made.
-    fn is_connecting(&self) -> bool
-        ensures { result ≡ (seen self.now).marks.is_connecting };
-
     /// Whether it has failed.
     fn has_failed(&self) -> bool
         ensures { IfSome (seen self.now).failed (λ b. result ≡ b) };

@@ -54,8 +54,8 @@ pub(crate) fn serve<D: Device>(
     ensures turn { Turn id reads session.old session.new outgoing.old outgoing.new (D.seen device.old) (D.seen device.new) ways.old ways.new result.more result.gave }
     // A device that may take bytes, of which none wait, hears where the stream has ended, or is no more.
     ensures hears_end { may_push ways.old (D.seen device.old).marks ≡ true → waiting id session.old ≡ [] → HearsEnd id session.old ways.new }
-    // One that may take none hears where the stream takes none any more, once its connection is there.
-    ensures tells { may_push ways.old (D.seen device.old).marks ≡ false → (D.seen device.old).marks.is_connecting ≡ false → HearsStop id session.old ways.new }
+    // One that may take none, as where its connection is still being made, hears where the stream takes none any more.
+    ensures tells { may_push ways.old (D.seen device.old).marks ≡ false → HearsStop id session.old ways.new }
     // It has more to do only where its device may take bytes or have some, or is still to be told that the session is over.
     ensures rests { result.more ≡ true → (may_push ways.new (D.seen device.new).marks ≡ true) ⊎ ((may_pull ways.new (D.seen device.new).marks ≡ true) ⊎ ((is_running session.new.status ≡ false) × (is_open ways.new.to_peer ≡ true))) }
 {
@@ -63,18 +63,16 @@ pub(crate) fn serve<D: Device>(
     hear_stop(session, id, ways, device);
     let read = collect(session, id, ways, device, buffer, outgoing, reads);
     TurnEnd {
-        more: writes && ways.may_push(device) || read.more || is_untold(session, ways, device),
+        more: writes && ways.may_push(device) || read.more || is_untold(session, ways),
         gave: read.gave,
     }
 }
 
-/// Whether the session is over, and the way to the peer still open of a device whose connection is there.
-fn is_untold<D: Device>(session: &Session, ways: &Ways, device: &D) -> bool
-    ensures { result ≡ (not (is_running session.now.status) && is_open ways.now.to_peer && not (D.seen device.now).marks.is_connecting) }
+/// Whether the session is over, and the way to the peer still open.
+fn is_untold(session: &Session, ways: &Ways) -> bool
+    ensures { result ≡ (not (is_running session.now.status) && is_open ways.now.to_peer) }
 {
-    !matches!(session.status(), Status::Running)
-        && ways.to_peer.is_open()
-        && !device.is_connecting()
+    !matches!(session.status(), Status::Running) && ways.to_peer.is_open()
 }
 
 /// At most four writes to the device, out of the stream's ring. Whether more may be written at once.
@@ -150,15 +148,14 @@ fn hear_silence<D: Device>(session: &mut Session, id: u32, ways: &mut Ways, devi
     }
 }
 
-/// No byte goes to the device now, though some of it may come: it is shut once its stream takes none any more. As long as its
-/// connection is being made it isn't.
+/// No byte goes to the device now, though some of it may come: it is shut once its stream takes none any more. So is one whose
+/// connection is still being made, which may never be there.
 fn hear_stop<D: Device>(session: &mut Session, id: u32, ways: &mut Ways, device: &mut D)
     ensures part { Part id session.old session.new [] [] (D.seen device.old) (D.seen device.new) ways.old ways.new 1 0 }
-    ensures tells { may_push ways.old (D.seen device.old).marks ≡ false → (D.seen device.old).marks.is_connecting ≡ false → HearsStop id session.old ways.new }
+    ensures tells { may_push ways.old (D.seen device.old).marks ≡ false → HearsStop id session.old ways.new }
     ensures same { session.new ≡ session.old }
-    ensures connects { (D.seen device.new).marks.is_connecting ≡ (D.seen device.old).marks.is_connecting }
 {
-    if !ways.to_peer.is_open() || ways.may_push(device) || device.is_connecting() {
+    if !ways.to_peer.is_open() || ways.may_push(device) {
         return;
     }
     shut_if_stopped(session, id, ways, device);
@@ -169,7 +166,6 @@ fn shut_if_stopped<D: Device>(session: &mut Session, id: u32, ways: &mut Ways, d
     ensures part { Part id session.old session.new [] [] (D.seen device.old) (D.seen device.new) ways.old ways.new 1 0 }
     ensures tells { HearsStop id session.old ways.new }
     ensures same { session.new ≡ session.old }
-    ensures connects { (D.seen device.new).marks.is_connecting ≡ (D.seen device.old).marks.is_connecting }
 {
     if is_stopped(session, id) {
         ways.break_off();
@@ -212,7 +208,6 @@ fn collect<D: Device>(
     // The stream says no more of its end than it did, unless it was reset.
     ensures ends { is_open ways.new.from_peer ≡ true → is_silent id session.new ≡ true → is_silent id session.old ≡ true }
     ensures stops { is_open ways.new.to_peer ≡ true → is_stopped id session.new ≡ true → is_stopped id session.old ≡ true }
-    ensures connects { (D.seen device.new).marks.is_connecting ≡ (D.seen device.old).marks.is_connecting }
 {
     if !reads || !ways.may_pull(device) {
         return TurnEnd::NOTHING;
@@ -248,7 +243,6 @@ fn pull_once<D: Device>(
     ensures asks_on { may_pull ways.new (D.seen device.new).marks ≡ true → 0 < room_of id session.new → result.more ≡ true }
     ensures ends { is_open ways.new.from_peer ≡ true → is_silent id session.new ≡ true → is_silent id session.old ≡ true }
     ensures stops { is_open ways.new.to_peer ≡ true → is_stopped id session.new ≡ true → is_stopped id session.old ≡ true }
-    ensures connects { (D.seen device.new).marks.is_connecting ≡ (D.seen device.old).marks.is_connecting }
 {
     put_due(session, outgoing);
     let room = session.room(id).min(buffer.len()).min(BLOCK);

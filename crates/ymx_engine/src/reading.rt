@@ -27,7 +27,8 @@ use ymx_model::Status;
 impl<D: Device + Drop, W: Device + Drop> Tunnel<D, W> {
     /// Reads from the wire once, where all that it gave before was fed, and feeds what waits. Payload of which `least` bytes
     /// of one frame wait, or a row of whole frames that fills a call, goes straight to the device that takes it. Once the wire
-    /// has ended or failed the session is lost.
+    /// has ended or failed the session is lost. This call alone lacks memory, as `has_lacked_memory` tells: where a feed rejects
+    /// a stream of the peer's for want of it.
     pub fn read_wire(&mut self, least: usize)
         ensures runs { Runs self.old self.new }
         ensures stays { Stays self.old self.new }
@@ -70,6 +71,7 @@ impl<D: Device + Drop, W: Device + Drop> Tunnel<D, W> {
         ensures over { self.new.is_wire_over ≡ true }
         ensures wire { self.new.wire ≡ self.old.wire }
         ensures lines { KeepsLines self.old.lines self.new.lines }
+        ensures memory { self.new.has_lacked_memory ≡ self.old.has_lacked_memory }
         ensures event { Gives in_turn self.old.engine.session event.FeedEnd reply.Done self.new.engine.session }
         ensures bytes { KeepsWire self.old.engine self.new.engine }
         ensures serves { Serving self.old → Serving self.new }
@@ -149,6 +151,7 @@ impl<D: Device + Drop, W: Device + Drop> Tunnel<D, W> {
         ensures wire { self.new.wire ≡ self.old.wire }
         ensures over { self.new.is_wire_over ≡ self.old.is_wire_over }
         ensures lines { KeepsLines self.old.lines self.new.lines }
+        ensures memory { self.new.has_lacked_memory ≡ (self.old.has_lacked_memory || lacks_memory) }
         ensures all { is_running self.new.engine.session.status ≡ false → (id : ℕ) → IsSome (line_of id self.new.lines) → Awaits id self.new.lines }
     {
         self.has_lacked_memory |= lacks_memory;

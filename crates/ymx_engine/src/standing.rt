@@ -7,7 +7,7 @@ ghost use Rattle.ymx_session.specs.Opens.{opens_left};
 ghost use Rattle.ymx_engine.specs.Engines.{is_flushed};
 ghost use Rattle.ymx_engine.specs.Runs.{IsOver};
 ghost use Rattle.ymx_engine.specs.Served.{Serving, NoneWaits, NoneGives, NoneEnds, NoneStops, NoneHangs};
-ghost use Rattle.ymx_engine.specs.Turns.{look, ways_of, is_over_at};
+ghost use Rattle.ymx_engine.specs.Turns.{Waits, HasTurnSoon, look, ways_of, is_over_at};
 ghost use Rattle.ymx_engine.specs.Work.{has_work, has_to_write, may_read_wire};
 
 use crate::device::Device;
@@ -25,11 +25,11 @@ impl<D: Device + Drop, W: Device + Drop> Tunnel<D, W> {
         ensures rest { Serving self.now → result ≡ false → NoneWaits self.now }
         // Where the wire may take bytes too, no stream takes bytes that its device may have.
         ensures gives { Serving self.now → result ≡ false → self.now.wire.marks.may_push ≡ true → NoneGives self.now }
-        // In a session that is over no way to the peer is open then, unless its connection is still being made.
+        // In a session that is over no way to the peer is open then.
         ensures hears { Serving self.now → result ≡ false → NoneHangs self.now }
         // So more may come on each stream whose device may take bytes now: where none may, the device was told.
         ensures ends { Serving self.now → result ≡ false → NoneEnds self.now }
-        // And each stream takes bytes, or was finished here, whose way to the peer is open, unless it is still being made.
+        // And each stream takes bytes, or was finished here, whose way to the peer is open, also while its connection is being made.
         ensures stops { Serving self.now → result ≡ false → NoneStops self.now }
     {
         self.may_move()
@@ -137,15 +137,20 @@ impl<D: Device + Drop, W: Device + Drop> Tunnel<D, W> {
         &self.wire
     }
 
-    /// How many connections wait for a turn.
+    /// How many turns wait: one of each connection that waits, and those of connections that were forgotten while they waited,
+    /// which serve nobody.
     pub fn queued_count(&self) -> usize
-        ensures { result ≡ min (length self.now.lines.fresh + length self.now.lines.busy) usize.MAX }
+        ensures count { result ≡ min (length self.now.lines.fresh + length self.now.lines.busy) usize.MAX }
+        // Whoever waits has its turn within twice as many calls of `serve_next`: each leaves it fewer before it.
+        ensures soon { (id : ℕ) → Waits id self.now.lines → HasTurnSoon id self.now.lines }
     {
         self.lines.queued_count()
     }
 
-    /// Whether a stream of the peer's was ever rejected for want of memory.
-    pub fn has_lacked_memory(&self) -> bool {
+    /// Whether a stream of the peer's was ever rejected for want of memory: a feed of `read_wire` said so.
+    pub fn has_lacked_memory(&self) -> bool
+        ensures { result ≡ self.now.has_lacked_memory }
+    {
         self.has_lacked_memory
     }
 

@@ -164,7 +164,7 @@ impl<S: Stream + Drop> Socket<S> {
     {
         let mut begun = Socket::new(socket, origin, ConnectState::Connecting, false);
         begun.look();
-        begun.marks.may_push = !begun.is_connecting();
+        begun.marks.may_push = begun.state != ConnectState::Connecting;
         begun
     }
 
@@ -471,7 +471,7 @@ impl<S: Stream + Drop> Device for Socket<S> {
     ghost use Rattle.std.specs.Prelude.{None, Some, is_some};
     ghost use Rattle.ymx_forward.specs.Sockets.{marks_of};
 
-    ghost seen = { λ s. record { left = S.left s.socket; had = S.had s.socket; over = Some s.has_ended; ended = Some s.was_finished; failed = Some (is_some s.failure); shut = Some s.was_shut; marks = marks_of s.marks s.state; calls = s.calls } };
+    ghost seen = { λ s. record { left = S.left s.socket; had = S.had s.socket; over = Some s.has_ended; ended = Some s.was_finished; failed = Some (is_some s.failure); shut = Some s.was_shut; marks = marks_of s.marks; calls = s.calls } };
 
     fn pull(&mut self, buffer: &mut [u8]) -> Pulled
         ensures moved { IsPulled result buffer.new (⟦<Socket<S> as Device>⟧.seen self.old) (⟦<Socket<S> as Device>⟧.seen self.new) }
@@ -525,12 +525,12 @@ impl<S: Stream + Drop> Device for Socket<S> {
         }
     }
 
-    /// Aborts it, so that its other end sees a reset, and no end; a wire is shut both ways. A call of it answers at once
-    /// then.
+    /// Aborts it, so that its other end sees a reset, and no end; a wire is shut both ways. One that is still being made is made
+    /// no more. A call of it answers at once then.
     fn shut(&mut self)
         ensures shut { IsShut (⟦<Socket<S> as Device>⟧.seen self.old) (⟦<Socket<S> as Device>⟧.seen self.new) }
-        ensures aborted { self.old.state ≡ ConnectState.Connected → self.old.is_wire ≡ false → S.aborted self.new.socket ≡ option_map (λ _. true) (S.aborted self.old.socket) }
-        ensures closed { self.old.state ≡ ConnectState.Connected → self.old.is_wire ≡ true → S.closed self.new.socket ≡ option_map (λ _. true) (S.closed self.old.socket) }
+        ensures aborted { self.old.is_wire ≡ false → S.aborted self.new.socket ≡ option_map (λ _. true) (S.aborted self.old.socket) }
+        ensures closed { self.old.is_wire ≡ true → S.closed self.new.socket ≡ option_map (λ _. true) (S.closed self.old.socket) }
         // Only what carries a stream is aborted, and only a wire is shut both ways.
         ensures wire { self.old.is_wire ≡ true → S.aborted self.new.socket ≡ S.aborted self.old.socket }
         ensures stream { self.old.is_wire ≡ false → S.closed self.new.socket ≡ S.closed self.old.socket }
@@ -540,9 +540,7 @@ impl<S: Stream + Drop> Device for Socket<S> {
         self.count_call();
         self.was_shut = true;
         self.marks.note_shut();
-        if self.state == ConnectState::Connected {
-            self.end_abruptly();
-        }
+        self.end_abruptly();
     }
 
     /// An event came. A connection that was being made is there now, or can't be made.
@@ -562,10 +560,6 @@ impl<S: Stream + Drop> Device for Socket<S> {
 
     fn may_push(&self) -> bool {
         self.marks.may_push
-    }
-
-    fn is_connecting(&self) -> bool {
-        self.state == ConnectState::Connecting
     }
 
     fn has_failed(&self) -> bool {

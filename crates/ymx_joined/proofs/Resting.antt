@@ -48,7 +48,7 @@ let_go t ends stops id l gone there = (by (ends id l there), of (stops id l ther
     by (inl more) = absurd (not_both (is_silent id t.engine.session) says.0 more)
     by (inr full) = full
 
-    of : (is_stopped id t.engine.session ≡ false) ⊎ ((is_open l.ways.to_peer ≡ false) ⊎ (l.seen.marks.is_connecting ≡ true)) → (is_open l.ways.to_peer ≡ false) ⊎ (l.seen.marks.is_connecting ≡ true)
+    of : (is_stopped id t.engine.session ≡ false) ⊎ (is_open l.ways.to_peer ≡ false) → is_open l.ways.to_peer ≡ false
     of (inl takes) = absurd (not_both (is_stopped id t.engine.session) says.1 takes)
     of (inr off) = off
 

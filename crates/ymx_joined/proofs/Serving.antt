@@ -19,7 +19,7 @@ use Rattle.ymx_joined.specs.Tunnels.{TunnelPair, engine_of, Works, Turn, OneWork
 
 -- It turns on the session and the connections alone: so it is of a tunnel over any wire.
 abbrev pub over_any : Seen → Engine → Lines → Tunnel
-over_any wire e ls = record { engine = e; wire = wire; is_wire_over = false; lines = ls }
+over_any wire e ls = record { engine = e; wire = wire; is_wire_over = false; lines = ls; has_lacked_memory = false }
 
 abbrev pub Serves : Engine → Lines → Type 0
 Serves e ls = (wire : Seen) → Serving (over_any wire e ls)
@@ -71,9 +71,9 @@ none_forgotten : (t : Tunnel) → t.lines.by_id ≡ [] → (id : ℕ) → IsServ
 none_forgotten t e id = record {
   gets = λ l there may some. absurd (not_there (line_of id t.lines) l (none_there id t.lines e) there);
   gives = λ l there may some. absurd (not_there (line_of id t.lines) l (none_there id t.lines e) there);
-  hears = λ l there over still opens. absurd (not_there (line_of id t.lines) l (none_there id t.lines e) there);
+  hears = λ l there over opens. absurd (not_there (line_of id t.lines) l (none_there id t.lines e) there);
   ends = λ l there may silent. absurd (not_there (line_of id t.lines) l (none_there id t.lines e) there);
-  stops = λ l there still opens stopped. absurd (not_there (line_of id t.lines) l (none_there id t.lines e) there);
+  stops = λ l there opens stopped. absurd (not_there (line_of id t.lines) l (none_there id t.lines e) there);
 }
 
 new_serves : (e : Engine) (ls : Lines) (s : Session) → e ≡ engine_of s → ls.by_id ≡ [] → IsWithin s → Serves e ls

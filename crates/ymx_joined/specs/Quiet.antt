@@ -123,9 +123,9 @@ abbrev pub IsDelivered : ℕ → (from to : List (Event × Reply)) → Tunnel �
 IsDelivered id from to here = (l : Line) → stream_fault id here.engine.session ≡ None → line_of id here.lines ≡ Some l → ((taken id from ≡ given id to) × (is_finished id from ≡ false)) ⊎ (may_push l.ways l.seen.marks ≡ false)
 
 -- Where this end has the stream no more, as it was reset or the session is closed, and its connection is there: the device may take
--- none now, as it says itself, or as it was told; and its way to the peer isn't open, unless it is still being made.
+-- none now, as it says itself, or as it was told; and its way to the peer isn't open.
 abbrev pub IsLetGo : ℕ → Tunnel → Type 0
-IsLetGo id here = (l : Line) → IsSome (stream_fault id here.engine.session) → line_of id here.lines ≡ Some l → (may_push l.ways l.seen.marks ≡ false) × ((is_open l.ways.to_peer ≡ false) ⊎ (l.seen.marks.is_connecting ≡ true))
+IsLetGo id here = (l : Line) → IsSome (stream_fault id here.engine.session) → line_of id here.lines ≡ Some l → (may_push l.ways l.seen.marks ≡ false) × (is_open l.ways.to_peer ≡ false)
 
 -- What a tunnel at rest leaves to no device: no stream takes bytes that its device may have; where no more come on a stream, and where
 -- it takes none any more, its device was told, as far as it may be; and so it is of a session that is over.

@@ -79,8 +79,8 @@ pub fn quiet_devices_have_all_but_what_waits()
 /// the tunnels are quiet. Where an end has a stream, and its connection is there, all that the stream took at the other end was
 /// given here, and it was not finished there; or the device here may take none now, as it says itself, or as it was told of the
 /// end. Nor does a stream take bytes then that its device may have. Where an end has a stream no more, as it was reset, its
-/// device may take none now, and gives none either: its way to the peer isn't open, unless its connection is still being made.
-/// So it is of each connection of a session that is over. (Nobody is forgotten: what each call says, `Runs`, has it.)
+/// device may take none now, and gives none either: its way to the peer isn't open, also where its connection was still being
+/// made. So it is of each connection of a session that is over. (Nobody is forgotten: what each call says, `Runs`, has it.)
 pub fn tunnels_at_rest_have_delivered()
     ensures { (turns : List Turn) → AllIsDelivered turns }
 {}

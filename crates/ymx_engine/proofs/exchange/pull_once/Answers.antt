@@ -1,7 +1,7 @@
-use Rattle.std.proofs.Common.{◌∙◌, arith}
+use Rattle.std.proofs.Common.{arith}
 use Rattle.std.proofs.lemmas.Grind.{common_steps}
 use Rattle.ymx_engine.proofs.Parts.{part_within, part_beside, due_then, pulled_none, pull_failed, finished, gave_sent, gave_lost, broken_from, broken_to}
-use Rattle.ymx_engine.proofs.Hearing.{never, due_ends, due_sends, due_finish, due_same, pulled_connects, shut_connects}
+use Rattle.ymx_engine.proofs.Hearing.{never, due_ends, due_sends, due_finish, due_same}
 use Rattle.ymx_engine.proofs.exchange.pull_once.Goals as goal
 
 pub returns-then-room-eq0-clause-part : goal.returns-then-room-eq0-clause-part
@@ -62,18 +62,3 @@ returns-in-Failed-clause-ends g c = λ open_. absurd (never _ open_ (broken_from
 
 pub returns-in-Failed-clause-stops : goal.returns-in-Failed-clause-stops
 returns-in-Failed-clause-stops g c = λ open_. absurd (never _ open_ (broken_to _ _ c.reset_and_shut-in-Failed.ensures.broken))
-
-pub returns-then-send-clause-connects : goal.returns-then-send-clause-connects
-returns-then-send-clause-connects g c = pulled_connects _ _ _ _ c.in-Gave.ensures
-
-pub returns-in-NotNow-clause-connects : goal.returns-in-NotNow-clause-connects
-returns-in-NotNow-clause-connects g c = pulled_connects _ _ _ _ c.in-NotNow.ensures
-
-pub returns-in-Ended-clause-connects : goal.returns-in-Ended-clause-connects
-returns-in-Ended-clause-connects g c = pulled_connects _ _ _ _ c.in-Ended.ensures
-
-pub returns-in-Gave-clause-connects : goal.returns-in-Gave-clause-connects
-returns-in-Gave-clause-connects g c = shut_connects _ _ c.reset_and_shut.ensures.shut ∙ pulled_connects _ _ _ _ c.in-Gave.ensures
-
-pub returns-in-Failed-clause-connects : goal.returns-in-Failed-clause-connects
-returns-in-Failed-clause-connects g c = shut_connects _ _ c.reset_and_shut-in-Failed.ensures.shut ∙ pulled_connects _ _ _ _ c.in-Failed.ensures

@@ -9,7 +9,7 @@ returns-then-read-clause-turn g c =
     let p = c.deliver-writes.ensures in
     let q = c.hear_stop.ensures in
     let v = c.collect-read.ensures in
-    turn_of c.deliver-writes.result c.collect-read.result.more _ p.delivered q.part q.same v.part p.stays v.collects v.asks_on (λ h may. c.if-read.true) (λ h. c.if-read.true) (λ over there open_. c.if-read.true) v.unread (record { heard = p.ends; ends = v.ends }) (record { takes = p.takes; told = q.tells; connects = v.connects ∙ q.connects; stops = v.stops })
+    turn_of c.deliver-writes.result c.collect-read.result.more _ p.delivered q.part q.same v.part p.stays v.collects v.asks_on (λ h may. c.if-read.true) (λ h. c.if-read.true) (λ over open_. c.if-read.true) v.unread (record { heard = p.ends; ends = v.ends }) (record { takes = p.takes; told = q.tells; stops = v.stops })
     (λ h. elim c.if-may_push.branch [
       | then-may_push w ↦ elim c.if-writes.branch [
         | then-writes k ↦ inl (let e = w.if-may_push.true in let f = k.value-is in let m = k.may_push.ensures in cc)
@@ -33,8 +33,8 @@ returns-else-read-clause-turn g c =
       ]
     ])
     (λ h. elim c.if-may_push.branch [ then-may_push w ↦ absurd (let e = w.value-is in cc) | else-may_push w ↦ absurd (let e = w.value-is in cc) ])
-    (λ over there open_. c.is_untold.ensures ∙ rw (over, open_, there) refl) v.unread (record { heard = p.ends; ends = v.ends }) (record { takes = p.takes; told = q.tells; connects = v.connects ∙ q.connects; stops = v.stops })
-    (λ h. inr (inr (untold _ _ _ _ c.is_untold.ensures h)))
+    (λ over open_. c.is_untold.ensures ∙ rw (over, open_) refl) v.unread (record { heard = p.ends; ends = v.ends }) (record { takes = p.takes; told = q.tells; stops = v.stops })
+    (λ h. inr (inr (untold _ _ _ c.is_untold.ensures h)))
 
 pub returns-then-read-clause-hears_end : goal.returns-then-read-clause-hears_end
 returns-then-read-clause-hears_end g c = λ may none. elim (c.deliver-writes.ensures.hears_end may none) [ inl shut ↦ inl (stays_shut c.collect-read.ensures.part (stays_shut c.hear_stop.ensures.part shut)) | inr waits ↦ inr waits ]
@@ -43,7 +43,7 @@ pub returns-else-read-clause-hears_end : goal.returns-else-read-clause-hears_end
 returns-else-read-clause-hears_end g c = λ may none. elim (c.deliver-writes.ensures.hears_end may none) [ inl shut ↦ inl (stays_shut c.collect-read.ensures.part (stays_shut c.hear_stop.ensures.part shut)) | inr waits ↦ inr waits ]
 
 pub returns-then-read-clause-tells : goal.returns-then-read-clause-tells
-returns-then-read-clause-tells g c = λ off there on. let idle = c.deliver-writes.ensures.idle off in tells_from c.args.id c.hear_stop.new.ways idle.0 idle.1 idle.2 c.hear_stop.ensures.tells off there (was_open_to c.collect-read.ensures.part on)
+returns-then-read-clause-tells g c = λ off on. let idle = c.deliver-writes.ensures.idle off in tells_from c.args.id c.hear_stop.new.ways idle.0 idle.1 idle.2 c.hear_stop.ensures.tells off (was_open_to c.collect-read.ensures.part on)
 
 pub returns-else-read-clause-tells : goal.returns-else-read-clause-tells
-returns-else-read-clause-tells g c = λ off there on. let idle = c.deliver-writes.ensures.idle off in tells_from c.args.id c.hear_stop.new.ways idle.0 idle.1 idle.2 c.hear_stop.ensures.tells off there (was_open_to c.collect-read.ensures.part on)
+returns-else-read-clause-tells g c = λ off on. let idle = c.deliver-writes.ensures.idle off in tells_from c.args.id c.hear_stop.new.ways idle.0 idle.1 idle.2 c.hear_stop.ensures.tells off (was_open_to c.collect-read.ensures.part on)

@@ -2,7 +2,6 @@ use Rattle.std.proofs.Common.{◌∙◌, ap}
 use Rattle.ymx_engine.specs.Events.{is_stop}
 use Rattle.ymx_engine.proofs.Asking.{empty_told}
 use Rattle.ymx_engine.proofs.Parts.{stopped, goes, broken_to}
-use Rattle.ymx_engine.proofs.Hearing.{shut_connects}
 use Rattle.ymx_engine.proofs.exchange.shut_if_stopped.Goals as goal
 
 pub returns-then-is_stopped-clause-part : goal.returns-then-is_stopped-clause-part
@@ -16,6 +15,3 @@ returns-then-is_stopped-clause-tells g c = λ on. let off = broken_to _ _ c.brea
 
 pub returns-else-is_stopped-clause-tells : goal.returns-else-is_stopped-clause-tells
 returns-else-is_stopped-clause-tells g c = λ on. let h = c.is_stopped.ensures.happened in ap is_stop (empty_told c.args.id _ _ h.0 h.1) ∙ h.2 ∙ c.if-is_stopped.false
-
-pub returns-then-is_stopped-clause-connects : goal.returns-then-is_stopped-clause-connects
-returns-then-is_stopped-clause-connects g c = shut_connects _ _ c.shut.ensures

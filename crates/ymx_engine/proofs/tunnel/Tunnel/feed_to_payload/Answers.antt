@@ -1,4 +1,5 @@
-use Rattle.std.proofs.Common.{ap}
+use Rattle.std.proofs.Common.{ℕ, ap, ◌∙◌, ◌||◌}
+use Rattle.std.specs.Prelude.{nat_lt}
 use Rattle.ymx_engine.specs.Engines.{Engine}
 use Rattle.ymx_engine.proofs.Attending.{keeps_from}
 use Rattle.ymx_engine.proofs.Readings.{keeps_fed, fed_or_stopped}
@@ -8,7 +9,7 @@ pub returns-clause-keeps : goal.returns-clause-keeps
 returns-clause-keeps g c =
     keeps_from _ _ _ c.self.view_is
     (keeps_fed c.feed_to_payload-fed.new.touched c.feed_to_payload-fed.result _ _ c.feed_to_payload-fed.new.session c.feed_to_payload-fed.new.self c.enqueue_touched.new.self c.feed_to_payload-fed.ensures.fed c.feed_to_payload-fed.ensures.rest c.feed_to_payload-fed.ensures.notes c.enqueue_touched.ensures.keeps c.enqueue_touched.ensures.all c.hear_fed.ensures.engine c.hear_fed.ensures.wire c.hear_fed.ensures.over c.hear_fed.ensures.lines
-    c.hear_fed.ensures.all)
+    c.hear_fed.ensures.all (c.hear_fed.ensures.memory ∙ ap (λ (n : ℕ). c.self.inside.has_lacked_memory || nat_lt 0 n) c.get.ensures))
 
 pub returns-clause-rest : goal.returns-clause-rest
 returns-clause-rest g c =

@@ -32,3 +32,9 @@ returns-clause-rests g c = rests_written _ _ _ (went_on c.write.turn _ _ c.write
 
 pub returns-clause-writes : goal.returns-clause-writes
 returns-clause-writes g c = (went_on c.write.turn _ _ c.write.invariant (omega (arith, c.write-test.false))).writes
+
+pub returns-then-not-write_once-clause-memory : goal.returns-then-not-write_once-clause-memory
+returns-then-not-write_once-clause-memory g c = (writes_on c.write.turn _ _ _ _ c.write.invariant c.write_once.ensures).memory
+
+pub returns-clause-memory : goal.returns-clause-memory
+returns-clause-memory g c = (went_on c.write.turn _ _ c.write.invariant (omega (arith, c.write-test.false))).memory

@@ -8,7 +8,7 @@ use Rattle.ymx_engine.proofs.tunnel.Tunnel.offer.Goals as goal
 pub returns-clause-runs : goal.returns-clause-runs
 returns-clause-runs g c =
     let x = c.offer-taken.ensures in
-    reads_on_from _ _ _ c.self.view_is (runs_offered c.args.row.id c.offer-taken.result _ _ _ c.waiting.ensures x.passed x.others x.status c.drop_front.ensures refl refl)
+    reads_on_from _ _ _ c.self.view_is (runs_offered c.args.row.id c.offer-taken.result _ _ _ c.waiting.ensures x.passed x.others x.status c.drop_front.ensures refl refl refl)
 
 pub returns-clause-rests : goal.returns-clause-rests
 returns-clause-rests g c = rests_from _ _ _ c.self.view_is (rests_offered c.args.row.id c.offer-taken.result _ _ _ _ _ c.offer-taken.ensures.passed refl)

@@ -21,7 +21,7 @@ payload-preserved g c =
       runs = runs_then _ _ _ i.runs (runs_then _ _ _ (runs_keep _ _ k) p.runs.runs);
       stays = stays_then _ _ _ i.stays (stays_then _ _ _ (stays_kept _ _ k.wire k.lines.lines) p.stays);
       rests = rests_past _ _ _ _ i.rests k.wire k.lines.lines p.rests p.closed;
-      reads = reads_then _ _ _ (reads_then _ _ _ i.reads k.moves k.own k.wire k.over) p.runs.runs.moves p.runs.own p.wire p.over;
+      reads = reads_then _ _ _ (reads_then _ _ _ i.reads k.moves k.own k.wire k.over k.memory) p.runs.runs.moves p.runs.own p.wire p.over p.runs.memory;
       few = let less = p.some in let same = c.advance.ensures.few in let i_few = i.few in omega (arith, less, same, i_few);
     }
 
@@ -35,7 +35,7 @@ pub returns-in-None-clause-rests : goal.returns-in-None-clause-rests
 returns-in-None-clause-rests g c = let k = c.advance.ensures.keeps in rests_on _ _ _ c.payload.invariant.rests k.wire k.lines.lines
 
 pub returns-in-None-clause-reads : goal.returns-in-None-clause-reads
-returns-in-None-clause-reads g c = let k = c.advance.ensures.keeps in reads_then _ _ _ c.payload.invariant.reads k.moves k.own k.wire k.over
+returns-in-None-clause-reads g c = let k = c.advance.ensures.keeps in reads_then _ _ _ c.payload.invariant.reads k.moves k.own k.wire k.over k.memory
 
 pub returns-clause-runs : goal.returns-clause-runs
 returns-clause-runs g c = c.payload.invariant.runs

@@ -10,10 +10,10 @@ pub returns-then-is_empty : goal.returns-then-is_empty
 returns-then-is_empty g c =
     let put = c.put_due.ensures in
     writes_from _ _ _ _ c.self.view_is
-    (writes_none _ _ put.put put.due put.more (empty_of _ _ c.is_empty.result c.is_empty.ensures c.waiting.ensures c.if-is_empty.true) refl refl c.release.ensures.keeps c.release.ensures.none)
+    (writes_none _ _ put.put put.due put.more (empty_of _ _ c.is_empty.result c.is_empty.ensures c.waiting.ensures c.if-is_empty.true) refl refl c.release.ensures.keeps c.release.ensures.none refl)
 
 pub returns : goal.returns
 returns g c =
     let put = c.put_due.ensures in
     writes_from _ _ _ _ c.self.view_is
-    (writes_put _ _ _ _ put.put refl refl refl (not_empty _ _ c.is_empty.result c.is_empty.ensures c.waiting.ensures c.if-is_empty.false) c.push_wire.ensures)
+    (writes_put _ _ _ _ put.put refl refl refl (not_empty _ _ c.is_empty.result c.is_empty.ensures c.waiting.ensures c.if-is_empty.false) refl c.push_wire.ensures)
