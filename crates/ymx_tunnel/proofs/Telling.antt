@@ -177,8 +177,8 @@ part_grows n before [] after g = ap (part n) g ∙ sym (append-nil (part n befor
 part_grows n before (e ∷ es) after (between, none, p, g) =
     part_grows n ((before ++ between) ++ e ∷ []) es after g
     ∙ ap (λ (l : List Entry). l ++ part n es) (
-      part-append n (before ++ between) (e ∷ [])
-      ∙ ap (λ (l : List Entry). l ++ part n (e ∷ [])) (part-append n before between ∙ ap (λ (l : List Entry). part n before ++ l) none ∙ append-nil (part n before))
+    part-append n (before ++ between) (e ∷ [])
+    ∙ ap (λ (l : List Entry). l ++ part n (e ∷ [])) (part-append n before between ∙ ap (λ (l : List Entry). part n before ++ l) none ∙ append-nil (part n before))
     )
     ∙ append_assoc (part n before) (part n (e ∷ [])) (part n es)
     ∙ ap (λ (l : List Entry). part n before ++ l) (sym (part-append n (e ∷ []) es))

@@ -61,9 +61,7 @@ pub(crate) fn why_of_fault(fault: HubFault, own: CopyWhy) -> (CopyWhy, Option<Re
 }
 
 /// Why a copy ends whose sink answered its finish so.
-pub(crate) fn why_of_finish(
-    finished: Result<(), HubFault>,
-) -> (CopyWhy, Option<RefusedAllocation>)
+pub(crate) fn why_of_finish(finished: Result<(), HubFault>) -> (CopyWhy, Option<RefusedAllocation>)
     ensures { MatchResult finished (λ _. EndsWell result.0 result.1) (λ fault. StopsAt fault CopyWhy.Sink result.0 result.1) }
 {
     match finished {

@@ -56,12 +56,7 @@ pub fn copy_in<W: Wait, I: Inlet, S: Sink>(
 }
 
 /// Copies what the reader gives into the sink, up to the reader's end, and says how it stopped.
-fn fill<W: Wait, I: Inlet, S: Sink>(
-    rt: &W,
-    reader: &mut I,
-    sink: &mut S,
-    buffer: &mut [u8],
-) -> Stop
+fn fill<W: Wait, I: Inlet, S: Sink>(rt: &W, reader: &mut I, sink: &mut S, buffer: &mut [u8]) -> Stop
     requires { 0 < length buffer.old }
     ensures moved { CopiesIn (I.remaining reader.old) (I.remaining reader.new) (S.taken sink.old) (S.taken sink.new) result.bytes result.why }
     ensures why { EndsWell result.why result.lack ⊎ StopsFor (S.HasRefused sink.new) CopyWhy.Source CopyWhy.Sink result.why result.lack }
