@@ -9,6 +9,7 @@ use Rattle.ymx_model.specs.session.Emissions.{is_ready}
 use Rattle.ymx_session.specs.Replies.{done_or}
 use Rattle.ymx_seats.specs.Journals.{no_config}
 use Rattle.ymx_seats.specs.Views.{SeatView}
+use Rattle.ymx_booked.specs.Answers.{IsNotMemory}
 use Rattle.ymx_booked.specs.Books.{Books, Asks, to_close}
 use Rattle.ymx_booked.specs.Shown.{IsHistoryOf}
 use Rattle.ymx_booked.specs.declared.faults.HubFault.{HubFault}
@@ -52,7 +53,7 @@ pub record HasWritten (witnessed : Bool) (role : Role) (config : Config) (fails 
   pub out : why ≡ End → EmitsNoMore witnessed role config last.seen
 
 -- The session was closed by the seat of some caller, which had then seen the history of a session of which nothing was due; or
--- of which something was due, where it waited in vain.
+-- of which something was due, where it waited in vain. No want of memory kept it from closing.
 pub record HasClosed (witnessed : Bool) (role : Role) (config : Config) (drained : Result (Unit {0}) Undrained) : Type 0 where
   pub first : SeatView
   pub between : SeatView
@@ -63,6 +64,7 @@ pub record HasClosed (witnessed : Bool) (role : Role) (config : Config) (drained
   pub due : MatchResult drained (λ _. is_ready session ≡ false) (λ _. is_ready session ≡ true)
   pub told : Result (Unit {0}) HubFault
   pub closed : Books false between last (Asks to_close done_or between.number told)
+  pub spared : IsNotMemory told
 
 -- how the write pump ended of a session with the recorder Off, whose history nobody sees
 abbrev pub HasWrittenUnseen : (fails failed : ℕ) (before after : Option (List ℕ)) (is_ended : Bool) (moved : ℕ) (why : PumpWhy) → Type 0

@@ -57,6 +57,16 @@ impl<J: Naming> Caller<J> {
         self.seat.history();
     }
 
+    /// Shows the whole history so far to this caller and to another, as to the seat of a half that was spent: both have then
+    /// seen the same, so what either had seen before stands in one history. It is no event of the session.
+    pub fn meet<W: Wait>(&mut self, rt: &W, other: &mut Seat<Witnessed<J>>)
+        ensures mine { IsShown self.old self.new }
+        ensures theirs { IsShown other.old other.new }
+        ensures same { self.new.seen ≡ other.new.seen }
+    {
+        self.handle.meet(rt, &mut self.seat, other);
+    }
+
     /// Opens a stream (stream identifiers). It doesn't wait for the peer, and bytes may be written at once.
     ///
     /// Refused, in this order, with `Closed`, `Lost`, `PeerAway` after the peer's Go Away, `Exhausted` where the ids

@@ -46,6 +46,16 @@ impl<R: Recorder> Handle<R> {
         self.hub.seat(rt)
     }
 
+    /// Shows the whole history so far to two seats at once, where there is a journal: both have then seen the same. It is no
+    /// event of the session.
+    pub fn meet<W: Wait>(&self, rt: &W, one: &mut Seat<R>, other: &mut Seat<R>)
+        ensures one { IsShown one.old one.new }
+        ensures other { IsShown other.old other.new }
+        ensures same { one.new.seen ≡ other.new.seen }
+    {
+        self.hub.meet(rt, one, other);
+    }
+
     /// `open`, at this seat. `Seats` where no two seats are left, and `Memory` also where there is none for the entry: no
     /// stream is opened then.
     pub fn open_at_seat<W: Wait>(

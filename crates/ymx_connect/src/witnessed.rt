@@ -4,7 +4,7 @@ ghost use Rattle.std.specs.Prelude.{◌≡◌, true, None, IfOk, IfErr};
 ghost use Rattle.std.specs.Fn.{FnOnceReturns};
 ghost use Rattle.ymx_session.specs.NewSessions.{new_fault};
 ghost use Rattle.ymx_connect.specs.Connecting.{IsConnectFault, IsSpared};
-ghost use Rattle.ymx_connect.specs.Pumping.{HasRead, HasWritten};
+ghost use Rattle.ymx_connect.specs.Pumping.{HasRead, HasWritten, HasClosed};
 ghost use Rattle.ymx_connect.specs.Settings.{IsLack, IsPumpFault, with_first};
 
 use crate::caller::Caller;
@@ -37,6 +37,8 @@ pub fn connect_tcp<W: Threads + Wait + Sync, T: Drop, K: Work<W, T> + Drop>(
 ) -> Result<Connected<T>, ConnectFault>
     ensures may { IfOk result (λ connected. new_fault role config ≡ None) }
     ensures answered { IfOk result (λ connected. K.Keeps work role (with_first role config) connected.answer) }
+    // Before the session was closed nothing was due; or something was, where the wait for it was in vain.
+    ensures drained { IfOk result (λ connected. HasClosed true role (with_first role config) connected.ended.drained) }
     ensures spared { IfOk result (λ connected. IsSpared connected.ended) }
     ensures refused { IfErr result (λ fault. IsConnectFault role config fault) }
 {
@@ -77,6 +79,8 @@ pub fn connect<
 ) -> Result<Connected<T, I, O>, ConnectFault>
     ensures may { IfOk result (λ connected. new_fault role config ≡ None) }
     ensures answered { IfOk result (λ connected. K.Keeps work role (with_first role config) connected.answer) }
+    // Before the session was closed nothing was due; or something was, where the wait for it was in vain.
+    ensures drained { IfOk result (λ connected. HasClosed true role (with_first role config) connected.ended.drained) }
     ensures spared { IfOk result (λ connected. IsSpared connected.ended) }
     ensures read { IfOk result (λ connected. HasRead (I.failures reader) (I.failures connected.reader) (I.remaining reader) (I.remaining connected.reader) connected.ended.read_bytes connected.ended.read) }
     ensures wrote { IfOk result (λ connected. HasWritten true role (with_first role config) (O.failures writer) (O.failures connected.writer) (O.contents writer) (O.contents connected.writer) (O.is_ended connected.writer) connected.ended.written_bytes connected.ended.written) }
@@ -111,6 +115,7 @@ fn run_named<
 ) -> Result<Connected<T, I, O>, ConnectFault>
     requires { unnamed ≡ record { role = J.role; config = J.config; table = J.table } }
     ensures answered { IfOk result (λ connected. K.Keeps work J.role J.config connected.answer) }
+    ensures drained { IfOk result (λ connected. HasClosed true J.role J.config connected.ended.drained) }
     ensures spared { IfOk result (λ connected. IsSpared connected.ended) }
     ensures read { IfOk result (λ connected. HasRead (I.failures reader) (I.failures connected.reader) (I.remaining reader) (I.remaining connected.reader) connected.ended.read_bytes connected.ended.read) }
     ensures wrote { IfOk result (λ connected. HasWritten true J.role J.config (O.failures writer) (O.failures connected.writer) (O.contents writer) (O.contents connected.writer) (O.is_ended connected.writer) connected.ended.written_bytes connected.ended.written) }
@@ -171,6 +176,7 @@ pub fn pumped<
 ) -> Result<Connected<T, I, O>, ConnectFault>
     requires { F.IsAlwaysCallable work }
     ensures answered { IfOk result (λ connected. FnOnceReturns F.FnOnce work tt connected.answer) }
+    ensures drained { IfOk result (λ connected. HasClosed true J.role J.config connected.ended.drained) }
     ensures spared { IfOk result (λ connected. IsSpared connected.ended) }
     ensures read { IfOk result (λ connected. HasRead (I.failures reader) (I.failures connected.reader) (I.remaining reader) (I.remaining connected.reader) connected.ended.read_bytes connected.ended.read) }
     ensures wrote { IfOk result (λ connected. HasWritten true J.role J.config (O.failures writer) (O.failures connected.writer) (O.contents writer) (O.contents connected.writer) (O.is_ended connected.writer) connected.ended.written_bytes connected.ended.written) }

@@ -1,5 +1,5 @@
 -- What a copy has moved, round by round.
-use Rattle.std.proofs.Common.{◌≡◌, ℕ, ◌+◌, ◌-◌, ◌^◌, ◌≤◌, ◌<◌, ◌⊎◌, inl, inr, min, List, [], ◌++◌, length, take, drop, Option, None, Some, arith, refl, sym, ◌∙◌, ap, subst, append-nil, append_assoc, take-append-drop, IsTrue, Result, Ok}
+use Rattle.std.proofs.Common.{◌≡◌, ℕ, ◌+◌, ◌-◌, ◌^◌, ◌≤◌, ◌<◌, ◌⊎◌, inl, inr, min, List, [], ◌++◌, length, take, drop, Option, None, Some, arith, refl, sym, ◌∙◌, ap, subst, append-nil, append_assoc, take-append-drop, IsTrue, Result, Ok, Err, MatchResult}
 use Rattle.std.specs.Io.{StartsWith}
 use Rattle.std.specs.Io.KnownBytes.{Appends, Consumes, Keeps, IsAtEnd}
 use Rattle.std.proofs.KnownBytes.{Appends-nil, Appends-trans, Appends-kept, Consumes-nil, Consumes-trans, Consumes-kept}
@@ -9,11 +9,12 @@ use Rattle.std.proofs.Math.Seq.{take-append_seam}
 use Rattle.std.proofs.lemmas.Grind.{common_steps}
 use Rattle.ymx_model.specs.devices.Devices.{has_failed, most_failures}
 use Rattle.ymx_tunnel.specs.declared.copied.CopyWhy.{CopyWhy}
-use Rattle.ymx_tunnel.specs.declared.copied.CopyWhy.TheVariants.{End, Source, Sink, Reset, Lost, Memory}
-use Rattle.ymx_tunnel.specs.Copies.{CopiesIn, CopiesOut, StopsFor, copy_reason}
+use Rattle.ymx_tunnel.specs.declared.copied.CopyWhy.TheVariants.{End, Source, Sink, Reset, Lost}
+use Rattle.ymx_tunnel.specs.Copies.{CopiesIn, CopiesOut, EndsWell, StopsAt, StopsFor, copy_reason}
+use Rattle.ymx_memory.specs.declared.refused.RefusedAllocation.{RefusedAllocation}
 use Rattle.ymx_machine.specs.declared.types.CallFault.TheVariants as refusal
 use Rattle.ymx_booked.specs.declared.faults.HubFault.{HubFault}
-use Rattle.ymx_booked.specs.declared.faults.HubFault.TheVariants.{Call, Memory as NoMemory, Seats}
+use Rattle.ymx_booked.specs.declared.faults.HubFault.TheVariants.{Call, Memory, Seats}
 
 -- a call that fails is counted
 pub counted : (first old new : ℕ) → new ≡ min (old + 1) most_failures → old ≡ first → IsTrue (has_failed first new)
@@ -110,11 +111,13 @@ by_end Source = Unit {0}
 by_end Sink = Unit {0}
 by_end Reset = Unit {0}
 by_end Lost = Unit {0}
-by_end (Memory refused) = Unit {0}
 
 pub sink_is_no_end : Sink ≡ End → ⊥
 unfolding by_end
 sink_is_no_end e = subst by_end e tt
+
+end_is_no_source : End ≡ Source → ⊥
+end_is_no_source e = cc
 
 source_case : (fault : HubFault) → copy_reason fault Sink ≡ Source → ⊥
 source_case (Call refusal.Reset) e = cc
@@ -138,25 +141,42 @@ unless_ended Ended Stops Spent (inl e) f = inl e
 unless_ended Ended Stops Spent (inr s) f = inr (f s)
 
 -- what was refused before is refused still
-pub still_stops : (Refused Before : HubFault → Type 0) (device own why : CopyWhy) → ((fault : HubFault) → Refused fault → Before fault) →
-    (why ≡ End) ⊎ StopsFor Refused device own why → (why ≡ End) ⊎ StopsFor Before device own why
-still_stops Refused Before device own why f (inl e) = inl e
-still_stops Refused Before device own why f (inr (inl d)) = inr (inl d)
-still_stops Refused Before device own why f (inr (inr (fault, e, r))) = inr (inr (fault, e, f fault r))
-
--- it was finished so
-pub finished_by : (S : Type 0) (P : S → Result (Unit {0}) HubFault → Type 0) (s : S) (answer : Result (Unit {0}) HubFault) → P s answer → answer ≡ Ok tt → (last : S) × P last (Ok tt)
-finished_by S P s answer p e = (s, subst (P s) e p)
+pub still_stops : (Refused Before : HubFault → Type 0) (device own why : CopyWhy) (lack : Option RefusedAllocation) → ((fault : HubFault) → Refused fault → Before fault) →
+    EndsWell why lack ⊎ StopsFor Refused device own why lack → EndsWell why lack ⊎ StopsFor Before device own why lack
+still_stops Refused Before device own why lack f (inl e) = inl e
+still_stops Refused Before device own why lack f (inr (inl d)) = inr (inl d)
+still_stops Refused Before device own why lack f (inr (inr (fault, e, r))) = inr (inr (fault, e, f fault r))
 
 own_case : (fault : HubFault) (own : CopyWhy) → (own ≡ End → ⊥) → copy_reason fault own ≡ End → ⊥
 own_case (Call refusal.Reset) own f e = cc
 own_case (Call refusal.Lost) own f e = cc
 own_case (Call _) own f e = f e
-own_case (NoMemory _) own f e = cc
+own_case (Memory _) own f e = f e
 own_case (Seats _) own f e = f e
 
 pub no_end : (fault : HubFault) (why own : CopyWhy) → why ≡ copy_reason fault own → (own ≡ End → ⊥) → why ≡ End → ⊥
 no_end fault why own e f w = own_case fault own f (sym e ∙ w)
+
+-- ---- how the finish of a sink was answered
+
+-- a copy that came to its end was finished
+pub finishes : (S : Type 0) (P : S → Result (Unit {0}) HubFault → Type 0) (s : S) (answer : Result (Unit {0}) HubFault) (why : CopyWhy) (lack : Option RefusedAllocation) →
+    P s answer → MatchResult answer (λ _. EndsWell why lack) (λ fault. StopsAt fault Sink why lack) → why ≡ End → (last : S) × P last (Ok tt)
+finishes S P s (Ok u) why lack p told e = (s, p)
+finishes S P s (Err fault) why lack p told e = absurd (no_end fault why Sink told.0 sink_is_no_end e)
+
+-- it was finished, or its finish was refused
+pub finished_or : (S Other : Type 0) (P : S → Result (Unit {0}) HubFault → Type 0) (s : S) (answer : Result (Unit {0}) HubFault) (why : CopyWhy) (lack : Option RefusedAllocation) →
+    P s answer → MatchResult answer (λ _. EndsWell why lack) (λ fault. StopsAt fault Sink why lack) →
+    EndsWell why lack ⊎ Other ⊎ ((last : S) × (fault : HubFault) × StopsAt fault Sink why lack × P last (Err fault))
+finished_or S Other P s (Ok u) why lack p told = inl told
+finished_or S Other P s (Err fault) why lack p told = inr (inr (s, fault, told, p))
+
+-- no finish blames the reader
+pub no_source_finishes : (answer : Result (Unit {0}) HubFault) (why : CopyWhy) (lack : Option RefusedAllocation) →
+    MatchResult answer (λ _. EndsWell why lack) (λ fault. StopsAt fault Sink why lack) → why ≡ Source → ⊥
+no_source_finishes (Ok u) why lack told e = end_is_no_source (sym told.0 ∙ e)
+no_source_finishes (Err fault) why lack told e = no_source fault why told.0 e
 
 -- ---- out of a source
 

@@ -1,7 +1,7 @@
 //! How a copy ended.
 
-ghost use Rattle.std.specs.Prelude.{◌≡◌};
-ghost use Rattle.ymx_tunnel.specs.Copies.{copy_reason};
+ghost use Rattle.std.specs.Prelude.{MatchResult};
+ghost use Rattle.ymx_tunnel.specs.Copies.{EndsWell, StopsAt};
 
 use ymx_hub::HubFault;
 use ymx_memory::RefusedAllocation;
@@ -12,8 +12,8 @@ use ymx_model::CallFault;
 pub enum CopyWhy {
     /// All was copied, and the end was passed on.
     End,
-    /// What it was copied from failed: the reader, or the half of the stream for another reason than the three below,
-    /// as that the session was closed.
+    /// What it was copied from failed: the reader, or the half of the stream for another reason than the two below, as
+    /// that the session was closed, or that there was no memory.
     Source,
     /// What it was copied to failed: the writer, or the half of the stream for such a reason.
     Sink,
@@ -21,9 +21,6 @@ pub enum CopyWhy {
     Reset,
     /// The session was lost.
     Lost,
-    /// There was no memory for what the stream has to send, or for the buffer. It holds the evidence: an allocation was
-    /// refused.
-    Memory(RefusedAllocation),
 }
 
 /// The end of a copy.
@@ -33,19 +30,42 @@ pub struct Copied<L> {
     pub bytes: u64,
     /// Why it ended.
     pub why: CopyWhy,
+    /// The half of the stream refused for want of memory. It holds the evidence: an allocation was refused.
+    pub lack: Option<RefusedAllocation>,
     /// What is left of the half of the stream.
     pub left: L,
 }
 
-/// Why a copy ends at a fault of its half: of the stream, of the session, for want of memory, or else of the half
-/// itself.
-pub(crate) fn why_of_fault(fault: HubFault, own: CopyWhy) -> CopyWhy
-    ensures { result ≡ copy_reason fault own }
+/// How a copy stopped whose half is not spent yet.
+#[derive(Drop)]
+pub(crate) struct Stop {
+    /// How many bytes were copied.
+    pub(crate) bytes: u64,
+    /// Why it stopped.
+    pub(crate) why: CopyWhy,
+    /// The want of memory, if that was it.
+    pub(crate) lack: Option<RefusedAllocation>,
+}
+
+/// Why a copy ends at a fault of its half: of the stream, of the session, or else of the half itself. Beside it the want
+/// of memory, if that was the fault.
+pub(crate) fn why_of_fault(fault: HubFault, own: CopyWhy) -> (CopyWhy, Option<RefusedAllocation>)
+    ensures { StopsAt fault own result.0 result.1 }
 {
     match fault {
-        HubFault::Call(CallFault::Reset) => CopyWhy::Reset,
-        HubFault::Call(CallFault::Lost) => CopyWhy::Lost,
-        HubFault::Memory(refused) => CopyWhy::Memory(refused),
-        HubFault::Call(_) | HubFault::Seats(_) => own,
+        HubFault::Call(CallFault::Reset) => (CopyWhy::Reset, None),
+        HubFault::Call(CallFault::Lost) => (CopyWhy::Lost, None),
+        HubFault::Memory(refused) => (own, Some(refused)),
+        HubFault::Call(_) | HubFault::Seats(_) => (own, None),
+    }
+}
+
+/// Why a copy ends whose sink answered its finish so.
+pub(crate) fn why_of_finish(finished: Result<(), HubFault>) -> (CopyWhy, Option<RefusedAllocation>)
+    ensures { MatchResult finished (λ _. EndsWell result.0 result.1) (λ fault. StopsAt fault CopyWhy.Sink result.0 result.1) }
+{
+    match finished {
+        Ok(()) => (CopyWhy::End, None),
+        Err(fault) => why_of_fault(fault, CopyWhy::Sink),
     }
 }

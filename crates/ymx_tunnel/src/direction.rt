@@ -39,21 +39,24 @@ impl<H> Handover<H> {
     }
 }
 
-/// Copies from the connection into the stream by the half that is handed over, and spends it: why it ended.
+/// Copies from the connection into the stream by the half that is handed over, and spends it: the want of memory that
+/// ended it, if that was it.
 pub(crate) fn to_peer<R: Wait>(
     rt: &R,
     alloc: Global,
     connection: &Connection,
     handover: &Handover<Writer>,
-) -> CopyWhy {
+) -> Option<RefusedAllocation> {
     let Some(writer) = handover.take(rt) else {
-        return ended(connection, CopyWhy::Sink);
+        connection.break_off();
+        return None;
     };
     let mut buffer = match copy_buffer(alloc) {
         Ok(buffer) => buffer,
         Err(refused) => {
             let _ = writer.reset(rt);
-            return ended(connection, CopyWhy::Memory(refused));
+            connection.break_off();
+            return Some(refused);
         }
     };
     let mut inlet = TrackedReader::new(connection);
@@ -61,27 +64,32 @@ pub(crate) fn to_peer<R: Wait>(
     let Copied {
         bytes: _,
         why,
+        lack,
         left,
     } = copy_in(rt, &mut inlet, sink, buffer.as_mut_slice());
     discard(left);
-    ended(connection, why)
+    shut_unless_ended(connection, why);
+    lack
 }
 
-/// Copies from the stream out to the connection by the half that is handed over, and spends it: why it ended.
+/// Copies from the stream out to the connection by the half that is handed over, and spends it: the want of memory that
+/// ended it, if that was it.
 pub(crate) fn from_peer<R: Wait>(
     rt: &R,
     alloc: Global,
     connection: &Connection,
     handover: &Handover<Reader>,
-) -> CopyWhy {
+) -> Option<RefusedAllocation> {
     let Some(reader) = handover.take(rt) else {
-        return ended(connection, CopyWhy::Source);
+        connection.break_off();
+        return None;
     };
     let mut buffer = match copy_buffer(alloc) {
         Ok(buffer) => buffer,
         Err(refused) => {
             let _ = reader.close(rt);
-            return ended(connection, CopyWhy::Memory(refused));
+            connection.break_off();
+            return Some(refused);
         }
     };
     let mut outlet = TrackedWriter::new(connection);
@@ -89,10 +97,12 @@ pub(crate) fn from_peer<R: Wait>(
     let Copied {
         bytes: _,
         why,
+        lack,
         left,
     } = copy_out(rt, source, &mut outlet, buffer.as_mut_slice());
     discard(left);
-    ended(connection, why)
+    shut_unless_ended(connection, why);
+    lack
 }
 
 /// The buffer of one copy.
@@ -104,13 +114,12 @@ fn copy_buffer(alloc: Global) -> Result<Vec<u8>, RefusedAllocation>
 
 /// One direction has ended for this reason. At a fault the connection is shut both ways, so that the other direction ends too. It
 /// doesn't take that for an end: where the stream was reset or the session lost, its half of the stream says so.
-fn ended(connection: &Connection, why: CopyWhy) -> CopyWhy {
+fn shut_unless_ended(connection: &Connection, why: CopyWhy) {
     match why {
         CopyWhy::End => {}
         CopyWhy::Reset | CopyWhy::Lost => connection.shut_down(),
-        CopyWhy::Source | CopyWhy::Sink | CopyWhy::Memory(_) => connection.break_off(),
+        CopyWhy::Source | CopyWhy::Sink => connection.break_off(),
     }
-    why
 }
 
 /// Spends the halves that are left: resets the stream, and closes it.

@@ -1,7 +1,6 @@
 //! A connection joined to a stream: both ways at once, each in a thread of its own.
 
 use crate::connections::{Connection, Connections};
-use crate::copied::CopyWhy;
 use crate::direction::{Handover, from_peer, spend, to_peer};
 use std::alloc::Global;
 use std::net::TcpStream;
@@ -56,9 +55,9 @@ fn copy_both<'x, R: Threads + Wait + Sync>(
             connection.break_off();
             return Joining::Lacked;
         };
-        let to_peer = to_peer(rt, alloc, connection, writer);
-        let from_peer = other.join(rt);
-        if matches!(to_peer, CopyWhy::Memory(_)) || matches!(from_peer, CopyWhy::Memory(_)) {
+        let to_peer_lacked = to_peer(rt, alloc, connection, writer);
+        let from_peer_lacked = other.join(rt);
+        if to_peer_lacked.is_some() || from_peer_lacked.is_some() {
             return Joining::Lacked;
         }
         Joining::Ended

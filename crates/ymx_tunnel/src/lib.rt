@@ -14,12 +14,10 @@ mod direction;
 mod ends;
 mod halves;
 mod joining;
-mod network;
 mod serving;
 
 pub use connections::Connections;
 pub use copied::{Copied, CopyWhy};
 pub use copying::{copy_in, copy_out};
 pub use ends::{Sink, Source};
-pub use network::{Network, Sockets};
-pub use serving::{Served, serve_local, serve_remote};
+pub use serving::{Served, USUAL_WORKERS, serve_local, serve_remote};

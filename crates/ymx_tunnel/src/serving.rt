@@ -3,15 +3,17 @@
 use crate::connections::Connections;
 use crate::direction::spend;
 use crate::joining::{Joining, join_both};
-use crate::network::Network;
 use std::alloc::Global;
-use std::net::{SocketAddr, TcpListener, TcpStream};
+use std::net::{Net, SocketAddr, TcpListener, TcpStream};
 use std::sync::Wait;
 use std::sync::atomic::{AtomicBool, Ordering};
 use std::thread;
 use std::thread::Threads;
 use ymx_connect::starting::start;
 use ymx_connect::{Handle, Reader, StreamFault, Writer};
+
+/// How many streams `serve_remote` serves at once where nothing else is said.
+pub const USUAL_WORKERS: u32 = 16;
 
 /// How a server ended.
 #[derive(Clone, Copy, PartialEq, Eq)]
@@ -63,27 +65,27 @@ pub fn serve_local<R: Threads + Wait + Sync>(
     state.served(accept_failed)
 }
 
-/// Accepts streams in so many workers, at least one, each of which connects to the target and copies both ways, for one
-/// stream after the other. A stream for which no connection can be made is reset. Whoever sees that the session is over
+/// Accepts streams in so many workers, 16 where nothing is said, and at least one. Each connects to the target and copies
+/// both ways, for one stream after the other. A stream for which no connection can be made is reset. Whoever sees that the session is over
 /// shuts the connections. It returns once the session gives out no more streams and all workers have ended.
-pub fn serve_remote<R: Threads + Wait + Sync, N: Network>(
+pub fn serve_remote<R: Net<Stream = TcpStream, Listener = TcpListener> + Threads + Wait + Sync>(
     rt: &R,
     alloc: Global,
     handle: &Handle,
-    network: &N,
     target: SocketAddr,
-    workers: u32,
+    workers: Option<u32>,
     connections: &Connections,
 ) -> Served {
+    let workers = workers.unwrap_or(USUAL_WORKERS);
     let state = ServerState::new(alloc, handle, connections);
     let server = &state;
     thread::scope(thread::scope_env(), rt, |scope| {
         for _ in 1..workers {
-            if start(scope, move || serve_streams(rt, server, network, target)).is_err() {
+            if start(scope, move || serve_streams(rt, server, target)).is_err() {
                 server.lack_memory();
             }
         }
-        serve_streams(rt, server, network, target);
+        serve_streams(rt, server, target);
     });
     state.served(false)
 }
@@ -99,17 +101,16 @@ fn serve_connection<R: Threads + Wait + Sync>(rt: &R, server: &ServerState<'_>, 
 }
 
 /// Accepts streams, one after the other, and serves each, until the session gives out no more.
-fn serve_streams<R: Threads + Wait + Sync, N: Network>(
+fn serve_streams<R: Net<Stream = TcpStream, Listener = TcpListener> + Threads + Wait + Sync>(
     rt: &R,
     server: &ServerState<'_>,
-    network: &N,
     target: SocketAddr,
 ) {
     for _ in rt.forever() {
         let Some((writer, reader)) = next_stream(rt, server) else {
             return;
         };
-        serve_stream(rt, server, network, target, writer, reader);
+        serve_stream(rt, server, target, writer, reader);
     }
 }
 
@@ -129,17 +130,19 @@ fn next_stream<R: Wait>(rt: &R, server: &ServerState<'_>) -> Option<(Writer, Rea
 }
 
 /// Connects to the target for a stream, and copies both ways. If it can't connect the stream is reset.
-fn serve_stream<R: Threads + Wait + Sync, N: Network>(
+fn serve_stream<R: Net<Stream = TcpStream, Listener = TcpListener> + Threads + Wait + Sync>(
     rt: &R,
     server: &ServerState<'_>,
-    network: &N,
     target: SocketAddr,
     writer: Writer,
     reader: Reader,
 ) {
-    match network.connect(target) {
-        Some(socket) => server.join(rt, socket, writer, reader),
-        None => spend(rt, Some(writer), Some(reader)),
+    match TcpStream::connect(rt, target) {
+        Ok(socket) => {
+            let _ = socket.set_nodelay(true);
+            server.join(rt, socket, writer, reader);
+        }
+        Err(_) => spend(rt, Some(writer), Some(reader)),
     }
 }
 

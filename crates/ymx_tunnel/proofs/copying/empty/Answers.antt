@@ -17,7 +17,7 @@ pub returns-then-count-eq0-clause-ended : goal.returns-then-count-eq0-clause-end
 returns-then-count-eq0-clause-ended g c = λ e. c.in-Ok.ensures.ended c.if-count-eq0.true
 
 pub returns-then-count-eq0-clause-why : goal.returns-then-count-eq0-clause-why
-returns-then-count-eq0-clause-why g c = inl refl
+returns-then-count-eq0-clause-why g c = inl (refl, refl)
 
 pub returns-then-count-eq0-clause-sink : goal.returns-then-count-eq0-clause-sink
 returns-then-count-eq0-clause-sink g c = λ e. cc
@@ -29,10 +29,10 @@ pub returns-in-Err-clause-moved : goal.returns-in-Err-clause-moved
 returns-in-Err-clause-moved g c = empty_ends _ _ _ _ _ _ _ _ _ c.round.invariant c.in-Err.ensures.gave
 
 pub returns-in-Err-clause-why : goal.returns-in-Err-clause-why
-returns-in-Err-clause-why g c = inr (inr (_, c.why_of_fault.ensures, c.in-Err.ensures.refused))
+returns-in-Err-clause-why g c = inr (inr (_, c.why_of_fault-why.ensures, c.in-Err.ensures.refused))
 
 pub returns-in-Err-clause-sink : goal.returns-in-Err-clause-sink
-returns-in-Err-clause-sink g c = λ e. absurd (no_sink _ _ c.why_of_fault.ensures e)
+returns-in-Err-clause-sink g c = λ e. absurd (no_sink _ _ c.why_of_fault-why.ensures.0 e)
 
 pub returns-in-Err-clause-writer_kept : goal.returns-in-Err-clause-writer_kept
 returns-in-Err-clause-writer_kept g c = inr c.round.invariant.kept
@@ -46,7 +46,7 @@ pub returns-in-Err-push_all-clause-ended : goal.returns-in-Err-push_all-clause-e
 returns-in-Err-push_all-clause-ended g c = λ e. cc
 
 pub returns-in-Err-push_all-clause-why : goal.returns-in-Err-push_all-clause-why
-returns-in-Err-push_all-clause-why g c = inr (inl refl)
+returns-in-Err-push_all-clause-why g c = inr (inl (refl, refl))
 
 pub returns-in-Err-push_all-clause-writer_kept : goal.returns-in-Err-push_all-clause-writer_kept
 returns-in-Err-push_all-clause-writer_kept g c = inl refl
