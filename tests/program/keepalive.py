@@ -11,12 +11,13 @@ import socket
 import sys
 
 import raw
-from raw import ANY, Program, accept, call, listen, take
+from kept import COME, says
+from raw import ANY, Program, accept, call, free_place, listen, take
 
 # the call of the system that makes a descriptor of another process one of this one
 PIDFD_GETFD = 438
 LIBC = ctypes.CDLL(None, use_errno=True)
-DEFAULT, INTERVAL, PROBES = 60, 15, 4
+DEFAULT = (60, 15, 4)
 
 
 def duplicate(process, number):
@@ -80,10 +81,42 @@ def told(near, far, wanted, limit):
             assert got == (wanted, limit if is_wire else 0), f"{got} of {'the wire' if is_wire else 'a connection'}"
 
 
+def told_of_caller(wanted, *words):
+    """The same, where `remote` calls and `local` goes on with the next that calls."""
+    target, address = listen()
+    peers = free_place()
+    local = Program("local", "-v", "--keep", "--listen", ANY, "--bind", peers, *words)
+    places = {local.place(), local.place()} - {peers}
+    remote = Program("remote", "-v", "--peer", peers, "--target", address, *words)
+    says(local, COME)
+    user = call(places.pop())
+    user.sendall(b"?")
+    other = accept(target)
+    assert take(other, 1) == b"?"
+    for program in local, remote:
+        found = connections(program.process)
+        assert [settings(one) for one in found.values()] == [(wanted, 0)] * 2, found
+
+
+def both(*words):
+    """The same words for both ends."""
+    return words, words
+
+
 TESTS = (
-    ("by default", told, ((), (), (DEFAULT, INTERVAL, PROBES), 0)),
-    ("--ping 7", told, (("--ping", "7"), ("--ping", "7"), (DEFAULT, INTERVAL, PROBES), 14_000)),
-    ("--keep and --links", told, (("--keep", "--links", "2"), ("--keep",), (DEFAULT, INTERVAL, PROBES), 0)),
+    ("by default", told, (*both(), DEFAULT, 0)),
+    ("--ping 7", told, (*both("--ping", "7"), DEFAULT, 14_000)),
+    ("--keep and --links", told, (("--keep", "--links", "2"), ("--keep",), DEFAULT, 0)),
+    # It asks again after a quarter of the time, but not before a second.
+    ("--keepalive 60", told, (*both("--keepalive", "60"), DEFAULT, 0)),
+    ("--keepalive 8", told, (*both("--keepalive", "8"), (8, 2, 4), 0)),
+    ("--keepalive 11", told, (*both("--keepalive", "11"), (11, 2, 4), 0)),
+    ("--keepalive 1", told, (*both("--keepalive", "1"), (1, 1, 4), 0)),
+    ("--keepalive 3600", told, (*both("--keepalive", "3600"), (3600, 900, 4), 0)),
+    ("--keepalive 0", told, (*both("--keepalive", "0"), None, 0)),
+    ("--keepalive of links", told, (("--keepalive", "20", "--keep", "--links", "2"), ("--keepalive", "20", "--keep"), (20, 5, 4), 0)),
+    ("--keepalive with --keep", told, (("--keepalive", "20", "--keep"), ("--keepalive", "20", "--keep"), (20, 5, 4), 0)),
+    ("--keepalive of remote that calls", told_of_caller, ((20, 5, 4), "--keepalive", "20")),
 )
 
 

@@ -171,6 +171,7 @@ holds 'closed standard input, output and error' python3 -B "$here/standard.py" "
 holds 'signs of life that the system asks for' python3 -B "$here/keepalive.py" "$ymx"
 holds 'a target that answers nobody' python3 -B "$here/unanswered.py" "$ymx"
 holds 'the calls of an idle tunnel' python3 -B "$here/idle.py" "$ymx"
+holds 'peers that never answer a call' python3 -B "$here/timeouts.py" "$ymx"
 holds 'a thousand users at once' python3 -B "$here/bursts.py" "$ymx" 1000
 
 expect 0 "$here/help" nothing hello --help
@@ -228,6 +229,7 @@ for connects in --peer --call; do
 done
 refuses 'error: ' local --listen 127.0.0.1:0 --bind 127.0.0.1:0 --await 127.0.0.1:0
 refuses 'error: ' remote --target 127.0.0.1:1 --peer 127.0.0.1:1 --call 127.0.0.1:1
+refuses "error: the argument '--links <N>' cannot be used with '--bind <ADDRESS>'" local --listen 127.0.0.1:0 --bind 127.0.0.1:0 --links 2
 refuses "error: the argument '--peers <N>' cannot be used with '--peer <ADDRESS>'" remote --target 127.0.0.1:1 --peer 127.0.0.1:1 --peers 2
 # a number is decimal digits alone: no sign, no blank, no empty text
 for limit in 262143 16777217 x -1 +262144 -262144 ' 262144' '262144 ' 262_144 0x40000 ''; do
@@ -245,6 +247,17 @@ for seconds in 0 3601 x +5 -5 ' 5' ''; do
     refuses 'error: ' local --listen 127.0.0.1:0 --peer 127.0.0.1:1 "--ping=$seconds"
     refuses 'error: ' remote --bind 127.0.0.1:0 --target 127.0.0.1:1 "--ping=$seconds"
 done
+for seconds in 3601 x +5 -5 -0 ' 5' 5s ''; do
+    refuses 'error: ' local --listen 127.0.0.1:0 --peer 127.0.0.1:1 "--keepalive=$seconds"
+    refuses 'error: ' remote --bind 127.0.0.1:0 --target 127.0.0.1:1 "--keepalive=$seconds"
+done
+for seconds in 0 3601 x +5 -5 ' 5' 5s ''; do
+    refuses 'error: ' local --listen 127.0.0.1:0 --peer 127.0.0.1:1 "--timeout=$seconds"
+    refuses 'error: ' remote --peer 127.0.0.1:1 --target 127.0.0.1:1 "--timeout=$seconds"
+done
+uncalled="error: the argument '--timeout <SECONDS>' cannot be used with '--bind <ADDRESS>'"
+refuses "$uncalled" local --listen 127.0.0.1:0 --bind 127.0.0.1:0 --timeout 5
+refuses "$uncalled" remote --target 127.0.0.1:1 --bind 127.0.0.1:0 --timeout 5
 for peers in 0 257 x +5 -5 ' 5' ''; do
     refuses 'error: ' remote --bind 127.0.0.1:0 --target 127.0.0.1:1 "--peers=$peers"
 done

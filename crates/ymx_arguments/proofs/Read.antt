@@ -13,7 +13,7 @@ use Rattle.clap.specs.declared.parser.matches.Found.{Found}
 use Rattle.ymx_arguments.specs.declared.options.TunnelCommand.{TunnelCommand}
 use Rattle.ymx_arguments.specs.declared.options.TunnelCommand.TheVariants as tunnel
 use Rattle.ymx_arguments.specs.declared.reading.Task.TheVariants.{Tunnel as ATunnel}
-use Rattle.ymx_arguments.specs.CommandLine.{AreBothGiven, HasBadOption, HasOptions, IsBad, IsBadEnd, IsLocalOf, IsNotSaid, IsNumberIn, IsRemoteOf, IsToldBy, IsUndecided, ReadsAs, named_words}
+use Rattle.ymx_arguments.specs.CommandLine.{AreBothGiven, HasBadOption, HasOptions, HasBadTimes, IsBad, IsBadEnd, IsLocalOf, IsNotSaid, IsNumberIn, IsRemoteOf, IsToldBy, IsUndecided, ReadsAs, named_words}
 
 -- the rows of a subcommand that was met have its limit
 pub named_text : (rows : List Row) (met : Option (Text × List Row)) (name : Text) (text word : Option Text) → Some rows ≡ option_map (λ p. p.1) met →
@@ -98,7 +98,7 @@ frames_numbers rows (inr (inr h)) = absurd (differ (codes "frames") (codes "remo
 pub local_mistakes : (rows : List Row) → IsBadEnd (codes "local") rows →
     IsBad 0 4294967295 (first_of (codes "count") rows) ⊎ (IsBad 262144 16777216 (first_of (codes "window") rows)
     ⊎ (IsBad 1 3600 (first_of (codes "ping") rows) ⊎ (IsBad 1 64 (first_of (codes "links") rows)
-    ⊎ (IsUndecided (first_of (codes "peer") rows) (first_of (codes "bind") rows) ⊎ AreBothGiven (first_of (codes "links") rows) (first_of (codes "bind") rows)))))
+    ⊎ (IsUndecided (first_of (codes "peer") rows) (first_of (codes "bind") rows) ⊎ (AreBothGiven (first_of (codes "links") rows) (first_of (codes "bind") rows) ⊎ HasBadTimes rows)))))
 local_mistakes rows (inl h) = h.1
 local_mistakes rows (inr h) = absurd (differ (codes "local") (codes "remote") h.0 (λ e. omega arith))
 
@@ -106,7 +106,7 @@ local_mistakes rows (inr h) = absurd (differ (codes "local") (codes "remote") h.
 pub remote_mistakes : (rows : List Row) → IsBadEnd (codes "remote") rows →
     IsBad 262144 16777216 (first_of (codes "window") rows) ⊎ (IsBad 1 1024 (first_of (codes "workers") rows)
     ⊎ (IsBad 1 3600 (first_of (codes "ping") rows) ⊎ (IsBad 1 256 (first_of (codes "peers") rows)
-    ⊎ (IsUndecided (first_of (codes "peer") rows) (first_of (codes "bind") rows) ⊎ AreBothGiven (first_of (codes "peers") rows) (first_of (codes "peer") rows)))))
+    ⊎ (IsUndecided (first_of (codes "peer") rows) (first_of (codes "bind") rows) ⊎ (AreBothGiven (first_of (codes "peers") rows) (first_of (codes "peer") rows) ⊎ HasBadTimes rows)))))
 remote_mistakes rows (inl h) = absurd (differ (codes "remote") (codes "local") h.0 (λ e. omega arith))
 remote_mistakes rows (inr h) = h.1
 

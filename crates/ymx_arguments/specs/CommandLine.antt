@@ -123,6 +123,14 @@ workers_rule = record (number_rule (codes "workers") (pos 1) (pos 1024)) { defau
 abbrev pub ping_rule : Rule
 ping_rule = number_rule (codes "ping") (pos 1) (pos 3600)
 
+-- `--keepalive`, whose value is a number of seconds, 60 where none is given
+abbrev pub keepalive_rule : Rule
+keepalive_rule = record (number_rule (codes "keepalive") (pos 0) (pos 3600)) { defaults = codes "60" ∷ [] }
+
+-- `--timeout`, whose value is a number of seconds
+abbrev pub timeout_rule : Rule
+timeout_rule = number_rule (codes "timeout") (pos 1) (pos 3600)
+
 -- `--peers`, whose value is a number in its range
 abbrev pub peers_rule : Rule
 peers_rule = number_rule (codes "peers") (pos 1) (pos 256)
@@ -153,7 +161,8 @@ local_start = with_rule (with_rule (with_rule (new_app (codes "local")) (needed_
 
 -- `local` with what says how long it goes on
 abbrev pub local_lasting : App
-local_lasting = with_rule (with_rule (with_rule (with_rule local_start keep_rule) links_rule) ping_rule) count_rule
+local_lasting =
+    with_rule (with_rule (with_rule (with_rule (with_rule (with_rule local_start keep_rule) links_rule) ping_rule) keepalive_rule) timeout_rule) count_rule
 
 -- `local`
 abbrev pub local_shape : Shape
@@ -166,7 +175,7 @@ remote_start = with_rule (with_rule (with_rule (new_app (codes "remote")) (addre
 
 -- `remote` with what says how long it goes on, and with how many
 abbrev pub remote_lasting : App
-remote_lasting = with_rule (with_rule (with_rule remote_start keep_rule) peers_rule) ping_rule
+remote_lasting = with_rule (with_rule (with_rule (with_rule (with_rule remote_start keep_rule) peers_rule) ping_rule) keepalive_rule) timeout_rule
 
 -- `remote`
 abbrev pub remote_shape : Shape
@@ -228,23 +237,31 @@ AreBothGiven None given = ⊥
 AreBothGiven (Some text) None = ⊥
 AreBothGiven (Some text) (Some other) = ⊤
 
+-- of an end of a tunnel: `--keepalive` or `--timeout` was given a text that is no number of its range, or `--timeout` was given though
+-- the peer is awaited
+abbrev pub HasBadTimes : List Row → Type 0
+HasBadTimes rows =
+    IsBad 0 3600 (first_of (codes "keepalive") rows) ⊎ (IsBad 1 3600 (first_of (codes "timeout") rows) ⊎ AreBothGiven (first_of (codes "timeout") rows) (first_of (codes "bind") rows))
+
 -- of an end of a tunnel: a text was given to one of its options that is no number of its range, or no way to meet its peer, or two,
--- or links to a peer that is awaited, or many peers beside one that is called
+-- or an option that is not for a peer that is met so: links and a limit on calls to one that is awaited, many of one that is called
 abbrev pub IsBadEnd : Text → List Row → Type 0
 IsBadEnd name rows =
     ((name ≡ codes "local") × (IsBad 0 4294967295 (first_of (codes "count") rows) ⊎ (IsBad 262144 16777216 (first_of (codes "window") rows)
     ⊎ (IsBad 1 3600 (first_of (codes "ping") rows) ⊎ (IsBad 1 64 (first_of (codes "links") rows)
-    ⊎ (IsUndecided (first_of (codes "peer") rows) (first_of (codes "bind") rows) ⊎ AreBothGiven (first_of (codes "links") rows) (first_of (codes "bind") rows)))))))
+    ⊎ (IsUndecided (first_of (codes "peer") rows) (first_of (codes "bind") rows) ⊎ (AreBothGiven (first_of (codes "links") rows) (first_of (codes "bind") rows)
+    ⊎ HasBadTimes rows)))))))
     ⊎ ((name ≡ codes "remote") × (IsBad 262144 16777216 (first_of (codes "window") rows) ⊎ (IsBad 1 1024 (first_of (codes "workers") rows)
     ⊎ (IsBad 1 3600 (first_of (codes "ping") rows) ⊎ (IsBad 1 256 (first_of (codes "peers") rows)
-    ⊎ (IsUndecided (first_of (codes "peer") rows) (first_of (codes "bind") rows) ⊎ AreBothGiven (first_of (codes "peers") rows) (first_of (codes "peer") rows)))))))
+    ⊎ (IsUndecided (first_of (codes "peer") rows) (first_of (codes "bind") rows) ⊎ (AreBothGiven (first_of (codes "peers") rows) (first_of (codes "peer") rows)
+    ⊎ HasBadTimes rows)))))))
 
 -- of a subcommand that was met: the same
 abbrev pub HasBadOption : Text × List Row → Type 0
 HasBadOption (name, rows) = ((name ≡ codes "frames") × IsBad 262144 16777216 (first_of (codes "limit") rows)) ⊎ IsBadEnd name rows
 
 -- The words name a subcommand, and give one of its options a text that is no number of its range, or an end of a tunnel no way to
--- meet its peer, or two, or links to a peer that is awaited, or many peers beside one that is called.
+-- meet its peer, or two, or an option that is not for a peer that is met so.
 abbrev pub GivesBadOption : List Text → Type 0
 GivesBadOption words = IsSomeAnd (subcommand_of ymx_app words) HasBadOption
 
@@ -317,8 +334,7 @@ abbrev pub IsFaultFor : BadOption → CommandFault → Type 0
 IsFaultFor (bad.Number name text) fault = IsClap ValueValidation fault
 IsFaultFor bad.NoPeer fault = IsClap MissingRequiredArgument fault
 IsFaultFor bad.TwoPeers fault = IsClap ArgumentConflict fault
-IsFaultFor bad.AwaitedLinks fault = IsClap ArgumentConflict fault
-IsFaultFor bad.CalledPeers fault = IsClap ArgumentConflict fault
+IsFaultFor (bad.Clash name other) fault = IsClap ArgumentConflict fault
 IsFaultFor (bad.Address name text) (BadAddress option said) = (option.now ≡ name.now) × (said.now ≡ text.now)
 IsFaultFor (bad.Address name text) (Clap error) = ⊥
 
@@ -339,8 +355,7 @@ IsNoAddress name given (bad.Address option text) = (option.now ≡ name) × (tex
 IsNoAddress name given (bad.Number option text) = ⊥
 IsNoAddress name given bad.NoPeer = ⊥
 IsNoAddress name given bad.TwoPeers = ⊥
-IsNoAddress name given bad.AwaitedLinks = ⊥
-IsNoAddress name given bad.CalledPeers = ⊥
+IsNoAddress name given (bad.Clash option other) = ⊥
 
 -- The peer is met there, where each option was given this text, or none: it is connected to at the address of `--peer`, or awaited
 -- at that of `--bind`. Just one of them was given.
@@ -353,50 +368,54 @@ abbrev pub IsBadPeer : (given : Text → Option Text) → BadOption → Type 0
 IsBadPeer given (bad.Number name text) = ⊥
 IsBadPeer given bad.NoPeer = (given (codes "peer") ≡ None) × (given (codes "bind") ≡ None)
 IsBadPeer given bad.TwoPeers = (given (codes "peer") ≢ None) × (given (codes "bind") ≢ None)
-IsBadPeer given bad.AwaitedLinks = ⊥
-IsBadPeer given bad.CalledPeers = ⊥
+IsBadPeer given (bad.Clash name other) = ⊥
 IsBadPeer given (bad.Address name text) =
     (IsNoAddress (codes "peer") (given (codes "peer")) (bad.Address name text) × (given (codes "bind") ≡ None))
     ⊎ ((given (codes "peer") ≡ None) × IsNoAddress (codes "bind") (given (codes "bind")) (bad.Address name text))
 
--- the mistake says that links were asked for, to a peer that is awaited
-abbrev pub IsBadLinks : (given : Text → Option Text) → BadOption → Type 0
-IsBadLinks given bad.AwaitedLinks = AreBothGiven (given (codes "links")) (given (codes "bind"))
-IsBadLinks given (bad.Number name text) = ⊥
-IsBadLinks given bad.NoPeer = ⊥
-IsBadLinks given bad.TwoPeers = ⊥
-IsBadLinks given bad.CalledPeers = ⊥
-IsBadLinks given (bad.Address name text) = ⊥
+-- the mistake says that these two options were both given
+abbrev pub IsClash : (name other : Text) → (given : Text → Option Text) → BadOption → Type 0
+IsClash name other given (bad.Clash one two) = (one.now ≡ name) × (two.now ≡ other) × AreBothGiven (given name) (given other)
+IsClash name other given (bad.Number option text) = ⊥
+IsClash name other given bad.NoPeer = ⊥
+IsClash name other given bad.TwoPeers = ⊥
+IsClash name other given (bad.Address option text) = ⊥
 
--- the mistake says that many peers were asked for, and one to be called
-abbrev pub IsBadCalled : (given : Text → Option Text) → BadOption → Type 0
-IsBadCalled given bad.CalledPeers = AreBothGiven (given (codes "peers")) (given (codes "peer"))
-IsBadCalled given (bad.Number name text) = ⊥
-IsBadCalled given bad.NoPeer = ⊥
-IsBadCalled given bad.TwoPeers = ⊥
-IsBadCalled given bad.AwaitedLinks = ⊥
-IsBadCalled given (bad.Address name text) = ⊥
+-- the mistake is about `--keepalive` or `--timeout`
+abbrev pub AreBadTimes : (given : Text → Option Text) → BadOption → Type 0
+AreBadTimes given mistake =
+    IsBad 0 3600 (given (codes "keepalive")) ⊎ (IsBad 1 3600 (given (codes "timeout")) ⊎ IsClash (codes "timeout") (codes "bind") given mistake)
 
--- the options of `local` can't be taken: a number isn't in its range, or this mistake says what is wrong with an address, or with links
+-- the options of `local` can't be taken: a number isn't in its range, or this mistake says what is wrong with an address, or which
+-- option is not for such a peer
 abbrev pub IsBadLocal : (given : Text → Option Text) → BadOption → Type 0
 IsBadLocal given mistake =
     IsBad 0 4294967295 (given (codes "count")) ⊎ (IsBad 262144 16777216 (given (codes "window")) ⊎ (IsBad 1 3600 (given (codes "ping"))
-    ⊎ (IsBad 1 64 (given (codes "links")) ⊎ (IsBadPeer given mistake ⊎ (IsBadLinks given mistake ⊎ IsNoAddress (codes "listen") (given (codes "listen")) mistake)))))
+    ⊎ (IsBad 1 64 (given (codes "links")) ⊎ (IsBadPeer given mistake ⊎ (IsClash (codes "links") (codes "bind") given mistake
+    ⊎ (IsNoAddress (codes "listen") (given (codes "listen")) mistake ⊎ AreBadTimes given mistake))))))
 
 -- the same of `remote`
 abbrev pub IsBadRemote : (given : Text → Option Text) → BadOption → Type 0
 IsBadRemote given mistake =
     IsBad 262144 16777216 (given (codes "window")) ⊎ (IsBad 1 1024 (given (codes "workers"))
     ⊎ (IsBad 1 3600 (given (codes "ping")) ⊎ (IsBad 1 256 (given (codes "peers"))
-    ⊎ (IsBadPeer given mistake ⊎ (IsBadCalled given mistake ⊎ IsNoAddress (codes "target") (given (codes "target")) mistake)))))
+    ⊎ (IsBadPeer given mistake ⊎ (IsClash (codes "peers") (codes "peer") given mistake
+    ⊎ (IsNoAddress (codes "target") (given (codes "target")) mistake ⊎ AreBadTimes given mistake))))))
+
+-- these are the seconds of `--keepalive`, or 60, and those of `--timeout`, if any, which is only for a peer that is called
+abbrev pub AreTimesOf : (given : Text → Option Text) → (keepalive : ℕ) → (timeout : Option ℕ) → Type 0
+AreTimesOf given keepalive timeout =
+    ReadsOr 0 3600 60 (given (codes "keepalive")) keepalive
+    × ReadsAs 1 3600 (given (codes "timeout")) timeout × (AreBothGiven (given (codes "timeout")) (given (codes "bind")) → ⊥)
 
 -- `local` is told what its options say, of which each was given this text, or none: addresses and numbers as they are spelled, one
--- way to meet its peer, links only to one that it calls, and defaults where nothing was given.
+-- way to meet its peer, links and a limit on calls only to one that it calls, and defaults where nothing was given.
 abbrev pub IsLocalOf : (given : Text → Option Text) → (flag : Text → Option Text) → TunnelCommand → Type 0
 IsLocalOf given flag (tunnel.Local local) =
     IsAddressOf (given (codes "listen")) local.listen × IsPeerOf given local.peer
     × ReadsAs 0 4294967295 (given (codes "count")) local.count × ReadsOr 262144 16777216 262144 (given (codes "window")) local.window
     × ReadsAs 1 3600 (given (codes "ping")) local.ping
+    × AreTimesOf given local.keepalive local.timeout
     × ReadsOr 1 64 1 (given (codes "links")) local.links × (AreBothGiven (given (codes "links")) (given (codes "bind")) → ⊥)
     × ReadsFlag (flag (codes "keep")) local.is_kept × ReadsFlag (flag (codes "verbose")) local.is_verbose
 IsLocalOf given flag (tunnel.Remote remote) = ⊥
@@ -410,6 +429,7 @@ IsRemoteOf given flag (tunnel.Remote remote) =
     × ReadsOr 1 1024 1024 (given (codes "workers")) remote.workers
     × ReadsAs 1 3600 (given (codes "ping")) remote.ping × ReadsAs 1 256 (given (codes "peers")) remote.peers
     × (AreBothGiven (given (codes "peers")) (given (codes "peer")) → ⊥)
+    × AreTimesOf given remote.keepalive remote.timeout
     × ReadsFlag (flag (codes "keep")) remote.is_kept × ReadsFlag (flag (codes "verbose")) remote.is_verbose
 IsRemoteOf given flag (tunnel.Local local) = ⊥
 IsRemoteOf given flag tunnel.Selftest = ⊥

@@ -54,10 +54,8 @@ pub(crate) enum BadOption<'a> {
     NoPeer,
     /// Both `--peer` and `--bind` were given, of which one must be.
     TwoPeers,
-    /// Both `--links` and `--bind` were given, though only a peer that is called has links.
-    AwaitedLinks,
-    /// Both `--peers` and `--peer` were given, though only peers that are awaited are many.
-    CalledPeers,
+    /// The option of this name was given beside another that says how the peer is met: it is not for such a peer.
+    Clash { name: &'a str, other: &'a str },
     /// This text, which the option of this name was given, is no IPv4 address with a port.
     Address { name: &'a str, text: &'a str },
 }

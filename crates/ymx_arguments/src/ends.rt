@@ -3,7 +3,7 @@
 ghost use Rattle.std.specs.Prelude.{◌≡◌, false, IfOk};
 ghost use Rattle.clap.specs.Words.{app_of, rule_of, shape_of};
 ghost use Rattle.clap.specs.declared.builder.command.Command.TheViews.{out-Command as fields_of};
-ghost use Rattle.ymx_arguments.specs.CommandLine.{address_rule, count_rule, keep_rule, links_rule, local_lasting, local_shape, local_start, needed_address_rule, peers_rule, ping_rule, remote_lasting, remote_shape, remote_start, renamed_address_rule, verbose_rule, window_rule, workers_rule};
+ghost use Rattle.ymx_arguments.specs.CommandLine.{address_rule, count_rule, keep_rule, keepalive_rule, links_rule, local_lasting, local_shape, local_start, needed_address_rule, peers_rule, ping_rule, remote_lasting, remote_shape, remote_start, renamed_address_rule, timeout_rule, verbose_rule, window_rule, workers_rule};
 
 use crate::arguments::{bytes_argument, number_argument, titled};
 use clap::{Arg, ArgAction, Command};
@@ -26,6 +26,8 @@ fn local_lasting<'a>(alloc: Global) -> Result<Command<'a>, AllocError>
         .arg(keep_argument(alloc, "Meet the peer again, once it was lost"))?
         .arg(links_argument(alloc))?
         .arg(ping_argument(alloc))?
+        .arg(keepalive_argument(alloc))?
+        .arg(timeout_argument(alloc))?
         .arg(count_argument(alloc))
 }
 
@@ -75,7 +77,9 @@ fn remote_lasting<'a>(alloc: Global) -> Result<Command<'a>, AllocError>
     remote_addresses(alloc)?
         .arg(keep_argument(alloc, "Go on once a peer has gone"))?
         .arg(peers_argument(alloc))?
-        .arg(ping_argument(alloc))
+        .arg(ping_argument(alloc))?
+        .arg(keepalive_argument(alloc))?
+        .arg(timeout_argument(alloc))
 }
 
 /// The subcommand `remote` with its addresses.
@@ -178,6 +182,35 @@ fn ping_argument<'a>(alloc: Global) -> Arg<'a>
         1,
         3600,
         "Give up a peer that is silent for twice so long, from 1 to 3600",
+    )
+}
+
+/// The argument `--keepalive`.
+fn keepalive_argument<'a>(alloc: Global) -> Arg<'a>
+    ensures { (rule_of result ≡ keepalive_rule) × (result.global ≡ false) }
+{
+    number_argument(
+        alloc,
+        "keepalive",
+        "SECONDS",
+        0,
+        3600,
+        "After how long a silence the system looks for the other side, or 0 for never",
+    )
+    .default_value("60")
+}
+
+/// The argument `--timeout`.
+fn timeout_argument<'a>(alloc: Global) -> Arg<'a>
+    ensures { (rule_of result ≡ timeout_rule) × (result.global ≡ false) }
+{
+    number_argument(
+        alloc,
+        "timeout",
+        "SECONDS",
+        1,
+        3600,
+        "How long a call to the peer may take, from 1 to 3600",
     )
 }
 

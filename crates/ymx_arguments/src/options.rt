@@ -2,7 +2,7 @@
 
 ghost use Rattle.std.specs.Prelude.{◌≡◌, ◌⊎◌, codes, IfErr, IfOk, IsErr, MatchResult};
 ghost use Rattle.clap.specs.Words.{first_value, found_of, one_text, rows_of};
-ghost use Rattle.ymx_arguments.specs.CommandLine.{AreBothGiven, HasOptions, IsAddressOf, IsBad, IsBadCalled, IsBadEnd, IsBadLinks, IsBadLocal, IsBadPeer, IsBadRemote, IsEnd, IsLocalOf, IsNoAddress, IsNotSaid, IsNotVerbose, IsPeerOf, IsRemoteOf, IsUndecided, ReadsOr};
+ghost use Rattle.ymx_arguments.specs.CommandLine.{AreBadTimes, AreBothGiven, AreTimesOf, HasOptions, IsAddressOf, IsBad, IsBadEnd, IsBadLocal, IsBadPeer, IsBadRemote, IsClash, IsEnd, IsLocalOf, IsNoAddress, IsNotSaid, IsNotVerbose, IsPeerOf, IsRemoteOf, IsUndecided, ReadsOr};
 
 use crate::arguments::{BadOption, number_of};
 use clap::ArgMatches;
@@ -17,6 +17,10 @@ const DEFAULT_WORKERS: u32 = 1_024;
 
 /// How many connections to its peer `local` keeps where the command line says nothing.
 const DEFAULT_LINKS: u32 = 1;
+
+/// After how many seconds of silence the system looks for the other side of a connection where the command line says
+/// nothing.
+const DEFAULT_KEEPALIVE: u32 = 60;
 
 /// A subcommand of the tunnel.
 #[derive(Clone, Copy)]
@@ -53,9 +57,12 @@ fn local_options<'a>(found: &ArgMatches<'a>) -> Result<TunnelCommand, BadOption<
     ensures count { IsBad 0 4294967295 (first_value (found_of found.now) (codes "count")) → IsErr result }
     ensures window { IsBad 262144 16777216 (first_value (found_of found.now) (codes "window")) → IsErr result }
     ensures ping { IsBad 1 3600 (first_value (found_of found.now) (codes "ping")) → IsErr result }
+    ensures keepalive { IsBad 0 3600 (first_value (found_of found.now) (codes "keepalive")) → IsErr result }
+    ensures timeout { IsBad 1 3600 (first_value (found_of found.now) (codes "timeout")) → IsErr result }
     ensures links { IsBad 1 64 (first_value (found_of found.now) (codes "links")) → IsErr result }
     ensures peer { IsUndecided (first_value (found_of found.now) (codes "peer")) (first_value (found_of found.now) (codes "bind")) → IsErr result }
     ensures awaited { AreBothGiven (first_value (found_of found.now) (codes "links")) (first_value (found_of found.now) (codes "bind")) → IsErr result }
+    ensures uncalled { AreBothGiven (first_value (found_of found.now) (codes "timeout")) (first_value (found_of found.now) (codes "bind")) → IsErr result }
     ensures read { MatchResult result (IsLocalOf (first_value (found_of found.now)) (one_text (found_of found.now)))
         (IsBadLocal (first_value (found_of found.now))) }
 {
@@ -64,7 +71,8 @@ fn local_options<'a>(found: &ArgMatches<'a>) -> Result<TunnelCommand, BadOption<
     let ping = number_of(found, "ping", 1, 3600)?;
     let links = links_of(found)?;
     check_peer(found)?;
-    check_links(found)?;
+    check_apart(found, "links", "bind")?;
+    let times = times_of(found)?;
     let listen = address_of(found, "listen")?;
     let peer = peer_of(found)?;
     Ok(TunnelCommand::Local(LocalOptions {
@@ -75,6 +83,8 @@ fn local_options<'a>(found: &ArgMatches<'a>) -> Result<TunnelCommand, BadOption<
         is_kept: found.get_flag("keep"),
         links,
         ping,
+        keepalive: times.keepalive,
+        timeout: times.timeout,
         is_verbose: found.get_flag("verbose"),
     }))
 }
@@ -86,9 +96,12 @@ fn remote_options<'a>(found: &ArgMatches<'a>) -> Result<TunnelCommand, BadOption
     ensures window { IsBad 262144 16777216 (first_value (found_of found.now) (codes "window")) → IsErr result }
     ensures workers { IsBad 1 1024 (first_value (found_of found.now) (codes "workers")) → IsErr result }
     ensures ping { IsBad 1 3600 (first_value (found_of found.now) (codes "ping")) → IsErr result }
+    ensures keepalive { IsBad 0 3600 (first_value (found_of found.now) (codes "keepalive")) → IsErr result }
+    ensures timeout { IsBad 1 3600 (first_value (found_of found.now) (codes "timeout")) → IsErr result }
     ensures peers { IsBad 1 256 (first_value (found_of found.now) (codes "peers")) → IsErr result }
     ensures peer { IsUndecided (first_value (found_of found.now) (codes "peer")) (first_value (found_of found.now) (codes "bind")) → IsErr result }
     ensures called { AreBothGiven (first_value (found_of found.now) (codes "peers")) (first_value (found_of found.now) (codes "peer")) → IsErr result }
+    ensures uncalled { AreBothGiven (first_value (found_of found.now) (codes "timeout")) (first_value (found_of found.now) (codes "bind")) → IsErr result }
     ensures read { MatchResult result (IsRemoteOf (first_value (found_of found.now)) (one_text (found_of found.now)))
         (IsBadRemote (first_value (found_of found.now))) }
 {
@@ -97,7 +110,8 @@ fn remote_options<'a>(found: &ArgMatches<'a>) -> Result<TunnelCommand, BadOption
     let ping = number_of(found, "ping", 1, 3600)?;
     let peers = number_of(found, "peers", 1, 256)?;
     check_peer(found)?;
-    check_called(found)?;
+    check_apart(found, "peers", "peer")?;
+    let times = times_of(found)?;
     let peer = peer_of(found)?;
     let target = address_of(found, "target")?;
     Ok(TunnelCommand::Remote(RemoteOptions {
@@ -108,6 +122,8 @@ fn remote_options<'a>(found: &ArgMatches<'a>) -> Result<TunnelCommand, BadOption
         is_kept: found.get_flag("keep"),
         peers,
         ping,
+        keepalive: times.keepalive,
+        timeout: times.timeout,
         is_verbose: found.get_flag("verbose"),
     }))
 }
@@ -124,27 +140,45 @@ fn check_peer<'a>(found: &ArgMatches<'a>) -> Result<(), BadOption<'a>>
     }
 }
 
-/// Whether `--links` and `--bind` weren't both given.
-fn check_links<'a>(found: &ArgMatches<'a>) -> Result<(), BadOption<'a>>
-    ensures both { AreBothGiven (first_value (found_of found.now) (codes "links")) (first_value (found_of found.now) (codes "bind")) → IsErr result }
-    ensures mistake { MatchResult result (λ _. AreBothGiven (first_value (found_of found.now) (codes "links")) (first_value (found_of found.now) (codes "bind")) → ⊥)
-        (IsBadLinks (first_value (found_of found.now))) }
-{
-    match (found.get_str("links"), found.get_str("bind")) {
-        (Some(_), Some(_)) => Err(BadOption::AwaitedLinks),
-        (None, _) | (_, None) => Ok(()),
-    }
+/// How long the system is patient.
+#[derive(Clone, Copy)]
+struct Times {
+    /// After how many seconds of silence it looks for the other side of a connection, or 0.
+    keepalive: u32,
+    /// How many seconds a call may take, if that is said.
+    timeout: Option<u32>,
 }
 
-/// Whether `--peers` and `--peer` weren't both given.
-fn check_called<'a>(found: &ArgMatches<'a>) -> Result<(), BadOption<'a>>
-    ensures both { AreBothGiven (first_value (found_of found.now) (codes "peers")) (first_value (found_of found.now) (codes "peer")) → IsErr result }
-    ensures mistake { MatchResult result (λ _. AreBothGiven (first_value (found_of found.now) (codes "peers")) (first_value (found_of found.now) (codes "peer")) → ⊥)
-        (IsBadCalled (first_value (found_of found.now))) }
+/// The values of `--keepalive`, or the default one, and of `--timeout`, which is not for a peer that is awaited.
+fn times_of<'a>(found: &ArgMatches<'a>) -> Result<Times, BadOption<'a>>
+    ensures read { MatchResult result (λ times. AreTimesOf (first_value (found_of found.now)) times.keepalive times.timeout)
+        (AreBadTimes (first_value (found_of found.now))) }
+    ensures keepalive { IsBad 0 3600 (first_value (found_of found.now) (codes "keepalive")) → IsErr result }
+    ensures timeout { IsBad 1 3600 (first_value (found_of found.now) (codes "timeout")) → IsErr result }
+    ensures uncalled { AreBothGiven (first_value (found_of found.now) (codes "timeout")) (first_value (found_of found.now) (codes "bind")) → IsErr result }
 {
-    match (found.get_str("peers"), found.get_str("peer")) {
-        (Some(_), Some(_)) => Err(BadOption::CalledPeers),
-        (_, None) | (None, _) => Ok(()),
+    let keepalive = number_of(found, "keepalive", 0, 3600)?;
+    let timeout = number_of(found, "timeout", 1, 3600)?;
+    check_apart(found, "timeout", "bind")?;
+    Ok(Times {
+        keepalive: keepalive.unwrap_or(DEFAULT_KEEPALIVE),
+        timeout,
+    })
+}
+
+/// Whether the option of this name wasn't given beside the other, as it is not for a peer that is met so.
+fn check_apart<'a>(
+    found: &ArgMatches<'a>,
+    name: &'a str,
+    other: &'a str,
+) -> Result<(), BadOption<'a>>
+    ensures both { AreBothGiven (first_value (found_of found.now) name.now) (first_value (found_of found.now) other.now) → IsErr result }
+    ensures mistake { MatchResult result (λ _. AreBothGiven (first_value (found_of found.now) name.now) (first_value (found_of found.now) other.now) → ⊥)
+        (IsClash name.now other.now (first_value (found_of found.now))) }
+{
+    match (found.get_str(name), found.get_str(other)) {
+        (Some(_), Some(_)) => Err(BadOption::Clash { name, other }),
+        (None, _) | (_, None) => Ok(()),
     }
 }
 

@@ -23,12 +23,6 @@ const NO_PEER: &str =
 /// What is said where two ways to meet the peer were given.
 const TWO_PEERS: &str = "the argument '--peer <ADDRESS>' cannot be used with '--bind <ADDRESS>'";
 
-/// What is said where links to a peer were asked for that is awaited.
-const AWAITED_LINKS: &str = "the argument '--links <N>' cannot be used with '--bind <ADDRESS>'";
-
-/// What is said where many peers were asked for, and one is called.
-const CALLED_PEERS: &str = "the argument '--peers <N>' cannot be used with '--peer <ADDRESS>'";
-
 /// What a command line asks for.
 #[derive(Clone, Copy)]
 pub enum Task<'a> {
@@ -122,13 +116,25 @@ fn fault_for<'a>(
         }
         BadOption::NoPeer => clap_fault(alloc, name, ErrorKind::MissingRequiredArgument, NO_PEER),
         BadOption::TwoPeers => clap_fault(alloc, name, ErrorKind::ArgumentConflict, TWO_PEERS),
-        BadOption::AwaitedLinks => {
-            clap_fault(alloc, name, ErrorKind::ArgumentConflict, AWAITED_LINKS)
-        }
-        BadOption::CalledPeers => {
-            clap_fault(alloc, name, ErrorKind::ArgumentConflict, CALLED_PEERS)
+        BadOption::Clash {
+            name: option,
+            other,
+        } => {
+            let value = value_of(option);
+            let message = format!(in alloc;
+                "the argument '--{option} <{value}>' cannot be used with '--{other} <ADDRESS>'"
+            )?;
+            clap_fault(alloc, name, ErrorKind::ArgumentConflict, message.as_str())
         }
         BadOption::Address { name: option, text } => Ok(CommandFault::BadAddress(option, text)),
+    }
+}
+
+/// What is named as the value of this option, which is not for each peer.
+fn value_of(option: &str) -> &'static str {
+    match option {
+        "timeout" => "SECONDS",
+        _ => "N",
     }
 }
 

@@ -17,7 +17,7 @@ use std::net::{SocketAddrV4, TcpListener};
 use std::sync::Arc;
 use std::thread;
 use std::time::Duration;
-use ymx_policy::{Deed, Happened, Session, Users, World};
+use ymx_policy::{Callee, Deed, Happened, Session, Users, World};
 
 /// The sockets of an end.
 #[derive(Drop)]
@@ -104,8 +104,8 @@ impl<'a, R: Host> EndSockets<'a, R> {
     }
 
     /// Calls the peer. A link that has none is to be spared for a while.
-    fn call(&mut self, address: SocketAddrV4) -> Happened {
-        match Peer::call(self.rt, address) {
+    fn call(&mut self, callee: Callee) -> Happened {
+        match Peer::call(self.rt, callee) {
             Ok(peer) => {
                 self.resume();
                 self.peer = Some(peer);
@@ -191,6 +191,14 @@ impl<'a, R: Host> EndSockets<'a, R> {
         }
     }
 
+    /// Closes the user that waits, and all others that have come and wait.
+    fn close_users<V: ProgramWatcher>(&mut self, watcher: &mut V) -> Happened {
+        if let Some(end) = &mut self.end {
+            end.refuse_all_waiting(self.rt, watcher);
+        }
+        self.close_user(watcher)
+    }
+
     /// Lets so many seconds go by.
     fn pause(&self, seconds: u64) -> Happened {
         thread::sleep(self.rt, Duration::from_secs(seconds));
@@ -214,11 +222,12 @@ impl<R: Host, V: ProgramWatcher> World<V, WatcherLines> for EndSockets<'_, R> {
         match deed {
             Deed::ListenForPeer(address) => self.listen_for_peer(address),
             Deed::ListenForUsers(users) => self.listen_for_users(users),
-            Deed::Call(address) => self.call(address),
+            Deed::Call(callee) => self.call(callee),
             Deed::AwaitPeer => self.await_peer(watcher),
             Deed::AwaitUser => self.await_user(),
             Deed::Serve(session) => self.serve(session, watcher),
             Deed::CloseUser => self.close_user(watcher),
+            Deed::CloseUsers => self.close_users(watcher),
             Deed::Pause(seconds) => self.pause(seconds),
             Deed::End(_) => Happened::Done,
         }

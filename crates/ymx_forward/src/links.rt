@@ -27,7 +27,7 @@ use std::thread;
 use std::thread::Threads;
 use std::time::Duration;
 use ymx_model::CallFault;
-use ymx_policy::{LocalOptions, PoolDeed, PoolHappened, PoolWorld, Reason, Session, Users};
+use ymx_policy::{Callee, LocalOptions, PoolDeed, PoolHappened, PoolWorld, Reason, Session, Users};
 
 /// The token of the listener.
 const USERS: usize = 0;
@@ -194,8 +194,8 @@ impl<'a, R: Host> LinkSockets<'a, R> {
     }
 
     /// Calls the peer for one more link.
-    fn call(&mut self, address: SocketAddrV4) -> PoolHappened {
-        match Peer::call(self.site.rt, address) {
+    fn call(&mut self, callee: Callee) -> PoolHappened {
+        match Peer::call(self.site.rt, callee) {
             Ok(peer) => match self.peers.push(peer) {
                 Ok(()) => PoolHappened::Came,
                 Err(_) => PoolHappened::LackedMemory,
@@ -368,7 +368,7 @@ impl<R: Host, V: ProgramWatcher> PoolWorld<V, WatcherLines> for LinkSockets<'_, 
     fn perform(&mut self, deed: PoolDeed, watcher: &mut V) -> PoolHappened {
         match deed {
             PoolDeed::ListenForUsers(users) => self.listen(users),
-            PoolDeed::Call(address) => self.call(address),
+            PoolDeed::Call(callee) => self.call(callee),
             PoolDeed::Start(session) => self.begin(session),
             PoolDeed::Await => self.wait(),
             PoolDeed::AwaitLeaving => self.wait_for_report(),

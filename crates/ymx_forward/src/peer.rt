@@ -1,25 +1,27 @@
 //! The connection to a peer.
 
 use crate::stream::Stream;
-use crate::system::{TcpConnection, connect};
+use crate::system::{TcpConnection, connect, connect_within};
 use std::io;
 use std::net::{Net, SocketAddr, SocketAddrV4, TcpStream};
 use std::time::Duration;
+use ymx_policy::{Callee, Keepalive};
 
-/// A connection to a peer, which never waits, and whose bytes go out at once. Where nothing comes the system asks whether it is
-/// still there.
+/// A connection to a peer, which never waits, and whose bytes go out at once.
 #[derive(Drop)]
 pub(crate) struct Peer {
     socket: TcpConnection,
 }
 
 impl Peer {
-    /// Calls the peer at this address.
-    pub(crate) fn call<R: Net<Stream = TcpStream>>(
-        rt: &R,
-        address: SocketAddrV4,
-    ) -> io::Result<Peer> {
-        Peer::over(connect(rt, SocketAddr::V4(address))?)
+    /// Calls the peer. Behind its limit, if it has one, the fault is `TimedOut`.
+    pub(crate) fn call<R: Net<Stream = TcpStream>>(rt: &R, callee: Callee) -> io::Result<Peer> {
+        let address = SocketAddr::V4(callee.address);
+        let connection = match callee.limit {
+            Some(seconds) => connect_within(rt, address, Duration::from_secs(seconds as u64))?,
+            None => connect(rt, address)?,
+        };
+        Peer::over(connection)
     }
 
     /// A peer over this connection. The fault is that the system can't make it one that never waits.
@@ -30,7 +32,6 @@ impl Peer {
     /// A peer over this connection, which never waits.
     pub(crate) fn of(socket: TcpConnection) -> Peer {
         socket.send_at_once();
-        socket.keep_alive();
         Peer {
             socket: socket.to_peer(),
         }
@@ -42,6 +43,11 @@ impl Peer {
             Some(SocketAddr::V4(address)) => Some(address),
             _ => None,
         }
+    }
+
+    /// Where nothing comes of it for so long, the system asks whether it is still there.
+    pub(crate) fn keep_alive(&self, keepalive: Keepalive) {
+        self.socket.keep_alive(keepalive);
     }
 
     /// The peer counts as gone where it is silent for twice so long: the system too fails the connection where what was sent

@@ -292,6 +292,7 @@ fn session_of(side: Side) -> Session {
         side,
         window: WINDOW,
         ping: None,
+        keepalive: None,
         is_followed: false,
     }
 }

@@ -61,6 +61,9 @@ impl<R: Net + Clock + Wait> Site<'_, R> {
         let began = Instant::now(self.rt);
         let address = peer.address();
         end.note_all();
+        if let Some(keepalive) = end.limits.keepalive {
+            peer.keep_alive(keepalive);
+        }
         if let Some(patience) = end.limits.silence {
             peer.limit_silence(patience);
         }

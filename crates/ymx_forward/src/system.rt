@@ -25,15 +25,7 @@ use std::os::fd::AsRawFd;
 use std::time::Duration;
 use std::{io, net};
 use ymx_devices::{read, write};
-
-/// After how many seconds in which nothing came over a connection the system asks the other side for a sign.
-const KEEPALIVE: u32 = 60;
-
-/// How many seconds go by until it asks again.
-const KEEPALIVE_INTERVAL: u32 = 15;
-
-/// How often it asks before the connection fails.
-const KEEPALIVE_PROBES: u32 = 4;
+use ymx_policy::Keepalive;
 
 /// How often a write of several pieces that a signal interrupted is made again before it counts as failed.
 const RETRIES: u32 = 1_000_000;
@@ -118,11 +110,11 @@ impl TcpConnection {
         let _ = self.inner.set_nodelay(true);
     }
 
-    /// Where nothing comes for a while, the system asks the other side for a sign, and fails the connection where none comes.
-    pub(crate) fn keep_alive(&self) {
-        self.set(c::IPPROTO_TCP, c::TCP_KEEPIDLE, KEEPALIVE);
-        self.set(c::IPPROTO_TCP, c::TCP_KEEPINTVL, KEEPALIVE_INTERVAL);
-        self.set(c::IPPROTO_TCP, c::TCP_KEEPCNT, KEEPALIVE_PROBES);
+    /// Where nothing comes for so long, the system asks the other side for a sign, and fails the connection where none comes.
+    pub(crate) fn keep_alive(&self, keepalive: Keepalive) {
+        self.set(c::IPPROTO_TCP, c::TCP_KEEPIDLE, keepalive.idle);
+        self.set(c::IPPROTO_TCP, c::TCP_KEEPINTVL, keepalive.interval);
+        self.set(c::IPPROTO_TCP, c::TCP_KEEPCNT, keepalive.probes);
         self.set(c::SOL_SOCKET, c::SO_KEEPALIVE, 1);
     }
 
@@ -360,6 +352,15 @@ pub(crate) fn connect<R: Net<Stream = TcpStream>>(
     address: SocketAddr,
 ) -> io::Result<TcpStream> {
     TcpStream::connect(rt, address)
+}
+
+/// Connects to this address, and waits for so long at most.
+pub(crate) fn connect_within<R: Net<Stream = TcpStream>>(
+    rt: &R,
+    address: SocketAddr,
+    limit: Duration,
+) -> io::Result<TcpStream> {
+    TcpStream::connect_timeout(rt, &address, limit)
 }
 
 /// What is written to this connection goes out at once.

@@ -536,7 +536,7 @@ impl<'a> TunnelLoop<'a> {
         let origin = watcher.begins(&socket);
         self.stop_if_lost();
         socket.send_at_once();
-        socket.keep_alive();
+        self.keep_alive(&socket);
         if let Err(why) = self.open(Socket::connected(socket, origin), poll) {
             self.decline(origin, why, watcher);
         }
@@ -548,6 +548,13 @@ impl<'a> TunnelLoop<'a> {
     {
         if self.is_lost() {
             self.stop_endless();
+        }
+    }
+
+    /// The system asks whether the other side of this connection is still there, if it is to.
+    fn keep_alive(&self, socket: &TcpConnection) {
+        if let Some(keepalive) = self.tunnel_end.limits.keepalive {
+            socket.keep_alive(keepalive);
         }
     }
 
@@ -646,7 +653,7 @@ impl<'a> TunnelLoop<'a> {
         match TcpConnection::begin(rt, target) {
             Ok(socket) => {
                 socket.send_at_once();
-                socket.keep_alive();
+                self.keep_alive(&socket);
                 match self.accept(Socket::begun(socket, origin), poll) {
                     Ok(_) => {}
                     Err(why) => self.end_unjoined(origin, why, watcher),

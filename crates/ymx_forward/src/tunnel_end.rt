@@ -1,6 +1,6 @@
 //! One end of a tunnel, through all its sessions.
 
-ghost use Rattle.std.specs.Prelude.{◌≡◌};
+ghost use Rattle.std.specs.Prelude.{◌≡◌, IfSome};
 ghost use Rattle.ymx_forward.specs.Users.{comes_to, may_wait};
 
 use crate::accepting::Listening;
@@ -14,13 +14,16 @@ use std::net::{SocketAddr, SocketAddrV4, TcpListener};
 use std::sync::{Arc, Wait};
 use std::time::Duration;
 use ymx_model::CallFault;
-use ymx_policy::{Happened, Named, Reason, Session, Side as SessionSide};
+use ymx_policy::{Happened, Keepalive, Named, Reason, Session, Side as SessionSide};
 
 /// How many seconds go by until it is tried again to accept a connection for which there was no descriptor or no memory.
 pub(crate) const RETRY: u64 = 1;
 
 /// How many seconds a peer may be silent at the end before its connection is closed, where others may wait.
 const CLOSING: u64 = 10;
+
+/// How many connections are closed at once at most, behind a call that failed: as many as wait in the system.
+const WAITING: u32 = 4_096;
 
 /// The token of the listener for connections of users.
 pub(crate) const LISTENER: usize = 1;
@@ -37,19 +40,24 @@ pub(crate) enum Side {
     Remote { target: SocketAddr, limit: usize },
 }
 
-/// How long the other side of a connection to a peer is waited for.
+/// How long the other sides of connections are waited for.
 #[derive(Clone, Copy)]
 pub(crate) struct Limits {
     /// After how long a silence the peer is asked for a sign, and then after how long it counts as gone. None if never.
     pub(crate) silence: Option<Duration>,
     /// After how long a silence the connection is closed at the end, though the peer hasn't closed it. None if never.
     pub(crate) close: Option<Duration>,
+    /// How the system sees whether the other side of a connection is still there, the peer's and those of users and targets.
+    /// None if it doesn't look.
+    pub(crate) keepalive: Option<Keepalive>,
 }
 
 impl Limits {
     /// Those of a session that asks after so many seconds, if it does. Where others wait for its end, the peer isn't waited
     /// for without end.
-    fn of(session: Session) -> Limits {
+    fn of(session: Session) -> Limits
+        ensures { result.keepalive ≡ session.keepalive }
+    {
         let silence = session
             .ping
             .map(|seconds| Duration::from_secs(seconds as u64));
@@ -58,7 +66,11 @@ impl Limits {
         } else {
             silence
         };
-        Limits { silence, close }
+        Limits {
+            silence,
+            close,
+            keepalive: session.keepalive,
+        }
     }
 }
 
@@ -89,6 +101,7 @@ impl TunnelEnd {
             limits: Limits {
                 silence: None,
                 close: None,
+                keepalive: None,
             },
             waiting: None,
             users,
@@ -111,6 +124,7 @@ impl TunnelEnd {
             limits: Limits {
                 silence: None,
                 close: None,
+                keepalive: None,
             },
             waiting: None,
             users: None,
@@ -118,7 +132,9 @@ impl TunnelEnd {
     }
 
     /// The end that such a session is served at: the client's goes on, and a server's is new.
-    pub(crate) fn for_session(end: Option<TunnelEnd>, session: Session) -> Option<TunnelEnd> {
+    pub(crate) fn for_session(end: Option<TunnelEnd>, session: Session) -> Option<TunnelEnd>
+        ensures { IfSome result (λ end. end.limits.keepalive ≡ session.keepalive) }
+    {
         let mut end = match session.side {
             SessionSide::Client => end?,
             SessionSide::Server { target, workers } => TunnelEnd::remote(target, workers),
@@ -260,6 +276,18 @@ impl TunnelEnd {
             let origin = watcher.begins(&socket);
             watcher.refused(origin, Declined::BySession(CallFault::Lost));
         }
+    }
+
+    /// Closes the connection that waits for a session, and all others that have come and wait, as there is none to be had.
+    pub(crate) fn refuse_all_waiting<R: Wait, V: Watcher>(&mut self, rt: &R, watcher: &mut V) {
+        self.note_all();
+        'refused: for _ in 0..WAITING {
+            self.refuse_waiting(watcher);
+            if !self.take_waiting(rt) {
+                return;
+            }
+        }
+        self.refuse_waiting(watcher);
     }
 
     /// Tells why the system has refused to accept a connection, if it has and that wasn't told. Why none can be accepted any

@@ -6,6 +6,7 @@ use Rattle.ymx_policy.specs.declared.plan.Role.TheVariants.{LocalCalls, LocalAwa
 use Rattle.ymx_policy.specs.declared.plan.Terms.{Terms}
 use Rattle.ymx_policy.specs.declared.asks.Session.{Session}
 use Rattle.ymx_policy.specs.declared.asks.Users.{Users}
+use Rattle.ymx_policy.specs.declared.asks.Callee.{Callee}
 use Rattle.ymx_policy.specs.declared.asks.Deed.{Deed}
 use Rattle.ymx_policy.specs.declared.asks.Deed.TheVariants as deed
 use Rattle.ymx_policy.specs.declared.asks.Ask.{Ask}
@@ -102,8 +103,8 @@ calls_local t r = grind arith
 awaits_local : (t : Terms) → t.role ≡ LocalAwaits → is_local t.role ≡ true
 awaits_local t r = grind arith
 
-at_call : (t : Terms) (s : State) (peer : SocketAddrV4) (users : Bool) → t.goes_on ≡ true → s.has_users ≡ users → (asked t s).deed ≡ deed.Call peer → is_ready t.role t.goes_on s.stage s.has_users ≡ true → users ≡ true
-at_call t s peer users k e a r = grind arith
+at_call : (t : Terms) (s : State) (callee : Callee) (users : Bool) → t.goes_on ≡ true → s.has_users ≡ users → (asked t s).deed ≡ deed.Call callee → is_ready t.role t.goes_on s.stage s.has_users ≡ true → users ≡ true
+at_call t s callee users k e a r = grind arith
 
 at_wait : (t : Terms) (s : State) (users : Bool) → s.has_users ≡ users → (asked t s).deed ≡ deed.AwaitPeer → is_ready t.role t.goes_on s.stage s.has_users ≡ true → users ≡ true
 at_wait t s users e a r = grind arith
@@ -111,8 +112,8 @@ at_wait t s users e a r = grind arith
 at_session : (t : Terms) (s : State) (session : Session) (users : Bool) → s.has_users ≡ users → (asked t s).deed ≡ deed.Serve session → is_ready t.role t.goes_on s.stage s.has_users ≡ true → users ≡ true
 at_session t s session users e a r = grind arith
 
-pub opens_before_call : (t : Terms) (past : List (Ask × Happened)) (peer : SocketAddrV4) → t.role ≡ LocalCalls → t.goes_on ≡ true → IsPast t past → (asks t past).deed ≡ deed.Call peer → has_opened past ≡ true
-opens_before_call t past peer r k valid a = at_call t (state_of t past) peer (has_opened past) k (opened t (calls_local t r) past valid) a (ready t (calls_local t r) past valid)
+pub opens_before_call : (t : Terms) (past : List (Ask × Happened)) (callee : Callee) → t.role ≡ LocalCalls → t.goes_on ≡ true → IsPast t past → (asks t past).deed ≡ deed.Call callee → has_opened past ≡ true
+opens_before_call t past callee r k valid a = at_call t (state_of t past) callee (has_opened past) k (opened t (calls_local t r) past valid) a (ready t (calls_local t r) past valid)
 
 pub opens_before_peer : (t : Terms) (past : List (Ask × Happened)) → t.role ≡ LocalAwaits → IsPast t past → (asks t past).deed ≡ deed.AwaitPeer → has_opened past ≡ true
 opens_before_peer t past r valid a = at_wait t (state_of t past) (has_opened past) (opened t (awaits_local t r) past valid) a (ready t (awaits_local t r) past valid)

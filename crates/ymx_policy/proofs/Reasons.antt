@@ -44,10 +44,12 @@ abbrev pub fits : Role → Stage → Bool
 fits LocalAwaits stage.Calling = false
 fits LocalAwaits stage.AwaitingUser = false
 fits LocalAwaits stage.Pausing = false
+fits LocalAwaits stage.Refusing = false
 fits RemoteAwaits stage.Calling = false
 fits RemoteAwaits stage.AwaitingUser = false
 fits RemoteAwaits stage.Pausing = false
 fits RemoteAwaits stage.Closing = false
+fits RemoteAwaits stage.Refusing = false
 fits LocalCalls stage.OpeningPeers = false
 fits LocalCalls stage.AwaitingPeer = false
 fits Link stage.OpeningPeers = false

@@ -1,10 +1,10 @@
 -- The pauses of a `remote` that calls, with --keep.
 use Rattle.std.proofs.Common.{◌≡◌, ◌<◌, ◌⊎◌, ℕ, zero, suc, List, true, false, Option, Some, refl, ◌∙◌, inl, arith}
-use Rattle.std.specs.declared.net.socket_addr.SocketAddrV4.{SocketAddrV4}
 use Rattle.std.proofs.lemmas.Nat.{pow_pos}
 use Rattle.std.proofs.Math.Nat.{pow-suc}
 use Rattle.ymx_policy.specs.declared.plan.Role.TheVariants.{RemoteCalls}
 use Rattle.ymx_policy.specs.declared.plan.Terms.{Terms}
+use Rattle.ymx_policy.specs.declared.asks.Callee.{Callee}
 use Rattle.ymx_policy.specs.declared.asks.Deed.{Deed}
 use Rattle.ymx_policy.specs.declared.asks.Deed.TheVariants as deed
 use Rattle.ymx_policy.specs.declared.asks.Ask.{Ask}
@@ -55,8 +55,8 @@ positive (suc n) h = let p = pow_pos n in grind arith
 rested : (t : Terms) → t.role ≡ RemoteCalls → t.goes_on ≡ true → (past : List (Ask × Happened)) → IsPast t past → is_rested (state_of t past).stage (state_of t past).pause (last_deed past)
 rested t r k = keeps t (λ past s. is_rested s.stage s.pause (last_deed past)) (rest_first t _ r) (λ past s h goes e. rest_step t s h (last_deed past) r k e)
 
-at_call : (t : Terms) (s : State) (peer : SocketAddrV4) (last : Option Deed) (tries : ℕ) → (0 < tries → 0 < pause_of tries) → (asked t s).deed ≡ deed.Call peer → s.pause ≡ pause_of tries → is_rested s.stage s.pause last → 0 < tries → last ≡ Some (deed.Pause (pause_of tries))
-at_call t s peer last tries p a e r h = grind arith
+at_call : (t : Terms) (s : State) (callee : Callee) (last : Option Deed) (tries : ℕ) → (0 < tries → 0 < pause_of tries) → (asked t s).deed ≡ deed.Call callee → s.pause ≡ pause_of tries → is_rested s.stage s.pause last → 0 < tries → last ≡ Some (deed.Pause (pause_of tries))
+at_call t s callee last tries p a e r h = grind arith
 
-pub rests : (t : Terms) (past : List (Ask × Happened)) (peer : SocketAddrV4) → t.role ≡ RemoteCalls → t.goes_on ≡ true → IsPast t past → (asks t past).deed ≡ deed.Call peer → 0 < failed_tries past → last_deed past ≡ Some (deed.Pause (pause_of (failed_tries past)))
-rests t past peer r k valid a h = at_call t (state_of t past) peer (last_deed past) (failed_tries past) (positive (failed_tries past)) a (long t r k past valid) (rested t r k past valid) h
+pub rests : (t : Terms) (past : List (Ask × Happened)) (callee : Callee) → t.role ≡ RemoteCalls → t.goes_on ≡ true → IsPast t past → (asks t past).deed ≡ deed.Call callee → 0 < failed_tries past → last_deed past ≡ Some (deed.Pause (pause_of (failed_tries past)))
+rests t past callee r k valid a h = at_call t (state_of t past) callee (last_deed past) (failed_tries past) (positive (failed_tries past)) a (long t r k past valid) (rested t r k past valid) h

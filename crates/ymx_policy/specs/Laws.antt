@@ -146,6 +146,7 @@ explains (fault.CannotListen address) deed.AwaitPeer PeerCame = false
 explains (fault.CannotListen address) deed.AwaitPeer other = true
 explains (fault.CannotListen address) deed.AwaitUser other = true
 explains (fault.CannotListen address) deed.CloseUser (NoUsers why) = true
+explains (fault.CannotListen address) deed.CloseUsers (NoUsers why) = true
 explains (fault.CannotReach address) (deed.Call peer) PeerCame = false
 explains (fault.CannotReach address) (deed.Call peer) other = true
 explains (fault.CannotReach address) (deed.Serve session) (SessionEnded how) =

@@ -36,11 +36,12 @@ fresh t = record {
 abbrev pub deed_at : Stage → Terms → (pause : ℕ) → (peers : SocketAddrV4) → (has_faulted : Bool) → Deed
 deed_at stage.OpeningPeers t pause peers bad = deed.ListenForPeer peers
 deed_at stage.OpeningUsers t pause peers bad = deed.ListenForUsers t.users
-deed_at stage.Calling t pause peers bad = deed.Call t.peer
+deed_at stage.Calling t pause peers bad = deed.Call (record { address = t.peer; limit = t.limit })
 deed_at stage.AwaitingPeer t pause peers bad = deed.AwaitPeer
 deed_at stage.AwaitingUser t pause peers bad = deed.AwaitUser
 deed_at stage.Serving t pause peers bad = deed.Serve t.session
 deed_at stage.Closing t pause peers bad = deed.CloseUser
+deed_at stage.Refusing t pause peers bad = deed.CloseUsers
 deed_at stage.Pausing t pause peers bad = deed.Pause pause
 deed_at stage.Over t pause peers bad = deed.End (if bad then 1 else 0)
 
@@ -81,12 +82,12 @@ after_opening_users t s LackedMemory = ends s None None fault.OutOfMemory
 after_opening_users t s (Failed why) = no_users t s None why
 after_opening_users t s other = no_users t s None None
 
--- a call that failed ends all but with --keep: there `local` closes its user, and `remote` pauses
+-- a call that failed ends all but with --keep: there `local` closes its user and all others that wait, and `remote` pauses
 abbrev pub after_no_call : Role → (kept : Bool) → (peer : SocketAddrV4) → (refused : Option Notice) → State → State
 after_no_call role false peer refused s = ends s None refused (fault.CannotReach peer)
 after_no_call RemoteCalls true peer refused s =
     record s { stage = stage.Pausing; words = record silence { first = refused; last = Some (notice.Unreached peer) }; pause = longer s.pause }
-after_no_call role true peer refused s = goes s stage.Closing (record silence { first = refused })
+after_no_call role true peer refused s = goes s stage.Refusing (record silence { first = refused })
 
 -- the peer that it called is there, or can't be reached
 abbrev pub after_calling : Terms → State → Happened → State
@@ -109,7 +110,7 @@ after_awaiting_user t s AllCame = goes s stage.Over silence
 after_awaiting_user t s (NoUsers why) = no_users t s None why
 after_awaiting_user t s other = no_users t s None None
 
--- the user that waited is closed
+-- the user that waited is closed, or all are
 abbrev pub after_closing : Terms → State → Happened → State
 after_closing t s AllCame = goes s stage.Over (record silence { first = gone_if (owes_gone t.role) })
 after_closing t s (NoUsers why) = no_users t s (gone_if (owes_gone t.role)) why
@@ -141,6 +142,7 @@ after_at stage.AwaitingPeer t s h = after_awaiting_peer t s h
 after_at stage.AwaitingUser t s h = after_awaiting_user t s h
 after_at stage.Serving t s h = after_serving t s h
 after_at stage.Closing t s h = after_closing t s h
+after_at stage.Refusing t s h = after_closing t s h
 after_at stage.Pausing t s h = goes s stage.Calling silence
 after_at stage.Over t s h = s
 

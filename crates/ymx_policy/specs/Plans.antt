@@ -1,10 +1,11 @@
 -- What an end is told to do, and what follows of it (this project's own).
-use Rattle.std.specs.Prelude.{◌&&◌, ◌||◌, ℕ, Bool, true, false, not, nat_lt, Option, None, is_some, unwrap_or}
+use Rattle.std.specs.Prelude.{◌&&◌, ◌||◌, ◌==◌, ◌/◌, ℕ, Bool, true, false, not, nat_lt, max, if◌then◌else◌, Option, None, Some, is_some, unwrap_or}
 use Rattle.std.specs.declared.net.socket_addr.SocketAddrV4.{SocketAddrV4}
 use Rattle.ymx_policy.specs.declared.options.PeerAddress.{PeerAddress}
 use Rattle.ymx_policy.specs.declared.options.PeerAddress.TheVariants.{Connect, Listen}
 use Rattle.ymx_policy.specs.declared.options.LocalOptions.{LocalOptions}
 use Rattle.ymx_policy.specs.declared.options.RemoteOptions.{RemoteOptions}
+use Rattle.ymx_policy.specs.declared.asks.Keepalive.{Keepalive}
 use Rattle.ymx_policy.specs.declared.asks.Side.TheVariants.{Client, Server}
 use Rattle.ymx_policy.specs.declared.plan.Plan.{Plan}
 use Rattle.ymx_policy.specs.declared.plan.Plan.TheVariants.{Local, Link, Remote}
@@ -32,14 +33,27 @@ abbrev pub remote_role : PeerAddress → Role
 remote_role (Connect address) = role.RemoteCalls
 remote_role (Listen address) = role.RemoteAwaits
 
--- of `local`: users come to --listen, --count of them; the session has --window and --ping; with --keep it goes on
+-- After so many seconds of silence the system asks for a sign, and then after each quarter of them, but not before a second. Behind four
+-- in vain the connection fails. With 0 it never asks.
+abbrev pub keepalive_of : ℕ → Option Keepalive
+keepalive_of seconds = if seconds == 0 then None else Some (record { idle = seconds; interval = max (seconds / 4) 1; probes = 4 })
+
+-- A call may take so long: as --timeout says or, where others wait for its end, 10 seconds, and else as long as the system tries.
+abbrev pub call_limit : (is_awaited : Bool) → (timeout : Option ℕ) → Option ℕ
+call_limit is_awaited (Some seconds) = Some seconds
+call_limit true None = Some 10
+call_limit false None = None
+
+-- of `local`: users come to --listen, --count of them; the session has --window, --ping and --keepalive; with --keep it goes on, and with it or several
+-- --links users wait for the end of a call
 abbrev pub local_terms : LocalOptions → Role → Terms
 local_terms o which = record {
   role = which;
   goes_on = o.is_kept;
   peer = address_of o.peer;
+  limit = call_limit (o.is_kept || nat_lt 1 o.links) o.timeout;
   users = record { address = o.listen; count = o.count; is_patient = o.is_kept };
-  session = record { side = Client; window = o.window; ping = o.ping; is_followed = o.is_kept };
+  session = record { side = Client; window = o.window; ping = o.ping; keepalive = keepalive_of o.keepalive; is_followed = o.is_kept };
   places = o.links;
   is_verbose = o.is_verbose;
 }
@@ -50,8 +64,9 @@ remote_terms o = record {
   role = remote_role o.peer;
   goes_on = o.is_kept;
   peer = address_of o.peer;
+  limit = call_limit o.is_kept o.timeout;
   users = record { address = address_of o.peer; count = None; is_patient = o.is_kept };
-  session = record { side = Server o.target o.workers; window = o.window; ping = o.ping; is_followed = o.is_kept || is_some o.peers };
+  session = record { side = Server o.target o.workers; window = o.window; ping = o.ping; keepalive = keepalive_of o.keepalive; is_followed = o.is_kept || is_some o.peers };
   places = unwrap_or o.peers 16;
   is_verbose = o.is_verbose;
 }

@@ -127,7 +127,7 @@ listening false t peers = deed.ListenForPeers peers
 
 -- what each stage asks for; while it waits, whether there is room for one more
 abbrev pub deed_at : PoolStage → Terms → (room : Bool) → (peers : SocketAddrV4) → (has_faulted : Bool) → PoolDeed
-deed_at stage.Calling t room peers bad = deed.Call t.peer
+deed_at stage.Calling t room peers bad = deed.Call (record { address = t.peer; limit = t.limit })
 deed_at stage.Opening t room peers bad = listening (has_links t.role) t peers
 deed_at stage.Starting t room peers bad = deed.Start t.session
 deed_at stage.Waiting t true peers bad = deed.Await

@@ -28,6 +28,17 @@ pub enum Side {
     },
 }
 
+/// How the system sees whether the other side of a connection in which nothing comes is still there.
+#[derive(Clone, Copy)]
+pub struct Keepalive {
+    /// After how many seconds of silence it asks for a sign.
+    pub idle: u32,
+    /// How many seconds go by until it asks again.
+    pub interval: u32,
+    /// How often it asks before the connection fails.
+    pub probes: u32,
+}
+
 /// What a session is to be like.
 #[derive(Clone, Copy)]
 pub struct Session {
@@ -37,8 +48,19 @@ pub struct Session {
     pub window: u32,
     /// After how many seconds without a sign of the peer it is asked for one. None if never.
     pub ping: Option<u32>,
+    /// How it is seen whether the other sides of its connections, the peer's among them, are still there. None if it isn't.
+    pub keepalive: Option<Keepalive>,
     /// Others wait for its end: what lingers behind it is cut off after a while.
     pub is_followed: bool,
+}
+
+/// Whom it calls.
+#[derive(Clone, Copy)]
+pub struct Callee {
+    /// Where the peer listens.
+    pub address: SocketAddrV4,
+    /// How many seconds the call may take, behind which it has failed. None for as long as the system tries.
+    pub limit: Option<u32>,
 }
 
 /// An option of the command line, and its address, as they are named where the system refuses what it asks for.
@@ -131,7 +153,7 @@ pub enum Deed {
     /// Listen for users.
     ListenForUsers(Users),
     /// Call the peer there.
-    Call(SocketAddrV4),
+    Call(Callee),
     /// Wait until the peer calls, after which nobody listens for it. Users that come meanwhile and can't wait are closed.
     AwaitPeer,
     /// Wait until a user comes.
@@ -140,6 +162,8 @@ pub enum Deed {
     Serve(Session),
     /// Close the user that waits, if one does.
     CloseUser,
+    /// Close the user that waits, and all others that have come and wait now.
+    CloseUsers,
     /// Let so many seconds go by.
     Pause(u64),
     /// Nothing any more: end with this status.
@@ -188,7 +212,7 @@ pub enum PoolDeed {
     /// Listen for users.
     ListenForUsers(Users),
     /// Call the peer there once more, for one more link.
-    Call(SocketAddrV4),
+    Call(Callee),
     /// Make a thread that runs such a session, with the peer that came, or of the next link.
     Start(Session),
     /// Wait until somebody comes, or a session ends.

@@ -3,7 +3,7 @@
 ghost use Rattle.std.specs.Prelude.{◌≡◌, ◌≢◌, ◌⊎◌, ◌<◌, ◌≤◌, ℕ, List, [], ◌∷◌, Bool, true, false, Some, None, length, map};
 ghost use Rattle.std.specs.declared.net.socket_addr.SocketAddrV4.{SocketAddrV4 as Address};
 ghost use Rattle.ymx_policy.specs.Past.{IsPast, asks, faults, notices, then_said, then_told};
-ghost use Rattle.ymx_policy.specs.Plans.{terms_of, address_of, has_pool, is_called};
+ghost use Rattle.ymx_policy.specs.Plans.{terms_of, address_of, has_pool, is_called, keepalive_of};
 ghost use Rattle.ymx_policy.specs.PoolPast.{IsPast as IsPoolPast, asks as pool_asks, faults as pool_faults, notices as pool_notices};
 ghost use Rattle.ymx_policy.specs.PoolLaws.{all_clean, called, running};
 ghost use Rattle.ymx_policy.specs.PoolTable.{has_links};
@@ -14,6 +14,7 @@ ghost use Rattle.ymx_policy.specs.declared.plan.Terms.{Terms as Told};
 ghost use Rattle.ymx_policy.specs.declared.asks.Ask.{Ask as Asked};
 ghost use Rattle.ymx_policy.specs.declared.asks.Happened.{Happened as Heard};
 ghost use Rattle.ymx_policy.specs.declared.asks.Fault.{Fault as Faulted};
+ghost use Rattle.ymx_policy.specs.declared.asks.Callee.{Callee as Called};
 ghost use Rattle.ymx_policy.specs.declared.asks.Session.{Session as Served};
 ghost use Rattle.ymx_policy.specs.declared.asks.Users.{Users as Awaited};
 ghost use Rattle.ymx_policy.specs.declared.asks.SessionEnd.{SessionEnd as Ended};
@@ -49,7 +50,7 @@ pub fn serves_peers()
 /// A mistake at the port for users ends nobody else: with `--keep` or `--bind` a `local` listens there before it calls its
 /// peer, or awaits it. Without them it calls first.
 pub fn own_port_first()
-    ensures kept { (t : Told) (past : List (Asked × Heard)) (peer : Address) → t.role ≡ Role.LocalCalls → t.goes_on ≡ true → IsPast t past → (asks t past).deed ≡ Deed.Call peer → has_opened past ≡ true }
+    ensures kept { (t : Told) (past : List (Asked × Heard)) (callee : Called) → t.role ≡ Role.LocalCalls → t.goes_on ≡ true → IsPast t past → (asks t past).deed ≡ Deed.Call callee → has_opened past ≡ true }
     ensures bound { (t : Told) (past : List (Asked × Heard)) → t.role ≡ Role.LocalAwaits → IsPast t past → (asks t past).deed ≡ Deed.AwaitPeer → has_opened past ≡ true }
     ensures served { (t : Told) (past : List (Asked × Heard)) (session : Served) → is_local t.role ≡ true → IsPast t past → (asks t past).deed ≡ Deed.Serve session → has_opened past ≡ true }
     ensures called { (t : Told) (past : List (Asked × Heard)) (users : Awaited) → t.role ≡ Role.LocalCalls → t.goes_on ≡ false → IsPast t past → (asks t past).deed ≡ Deed.ListenForUsers users → has_peer past ≡ true }
@@ -74,7 +75,7 @@ pub fn faults_have_reasons()
 /// none where no lines were asked for.
 pub fn reasons_are_told()
     ensures users { (t : Told) (past : List (Asked × Heard)) (users : Awaited) (why : System) → IsPast t past → (asks t past).deed ≡ Deed.ListenForUsers users → (asks t ((asks t past, Happened.Failed (Some why)) ∷ past)).words.reason ≡ Some (Notice.Refused (Named.Listen t.users.address) why) }
-    ensures called { (t : Told) (past : List (Asked × Heard)) (peer : Address) (why : System) → t.goes_on ≡ false → IsPast t past → (asks t past).deed ≡ Deed.Call peer → (asks t ((asks t past, Happened.Failed (Some why)) ∷ past)).words.reason ≡ Some (Notice.Refused (Named.Peer t.peer) why) }
+    ensures called { (t : Told) (past : List (Asked × Heard)) (callee : Called) (why : System) → t.goes_on ≡ false → IsPast t past → (asks t past).deed ≡ Deed.Call callee → (asks t ((asks t past, Happened.Failed (Some why)) ∷ past)).words.reason ≡ Some (Notice.Refused (Named.Peer t.peer) why) }
     ensures accepted { (t : Told) (past : List (Asked × Heard)) (session : Served) (how : Ended) (why : System) → IsPast t past → (asks t past).deed ≡ Deed.Serve session → how.accept_failed ≡ true → how.accept_reason ≡ Some why → (asks t ((asks t past, Happened.SessionEnded how) ∷ past)).words.reason ≡ Some (Notice.Refused (Named.Listen t.users.address) why) }
     ensures broke { (t : Told) (past : List (Asked × Heard)) (session : Served) (how : Ended) (rule : ℕ) → IsPast t past → (asks t past).deed ≡ Deed.Serve session → how.accept_failed ≡ false → how.broken ≡ Some rule → (asks t ((asks t past, Happened.SessionEnded how) ∷ past)).words.reason ≡ Some (Notice.Broke rule how.peer) }
     ensures alone { (t : Told) (past : List (Asked × Heard)) → IsPast t past → (asks t past).words.fault ≡ None → (asks t past).words.reason ≡ None }
@@ -85,20 +86,23 @@ pub fn reasons_are_told()
 /// row.
 pub fn pauses()
     ensures long { (t : Told) (past : List (Asked × Heard)) (n : ℕ) → t.role ≡ Role.RemoteCalls → t.goes_on ≡ true → IsPast t past → (asks t past).deed ≡ Deed.Pause n → n ≡ pause_of (failed_tries past) }
-    ensures rests { (t : Told) (past : List (Asked × Heard)) (peer : Address) → t.role ≡ Role.RemoteCalls → t.goes_on ≡ true → IsPast t past → (asks t past).deed ≡ Deed.Call peer → 0 < failed_tries past → last_deed past ≡ Some (Deed.Pause (pause_of (failed_tries past))) }
+    ensures rests { (t : Told) (past : List (Asked × Heard)) (callee : Called) → t.role ≡ Role.RemoteCalls → t.goes_on ≡ true → IsPast t past → (asks t past).deed ≡ Deed.Call callee → 0 < failed_tries past → last_deed past ≡ Some (Deed.Pause (pause_of (failed_tries past))) }
     ensures row { map pause_of (1 ∷ 2 ∷ 3 ∷ 4 ∷ 5 ∷ 6 ∷ 7 ∷ []) ≡ 1 ∷ 2 ∷ 4 ∷ 8 ∷ 16 ∷ 30 ∷ 30 ∷ [] }
 {}
 
-/// Where something went wrong in a session, a fault is said at once. A user whose peer can't be reached is closed.
+/// Where something went wrong in a session, a fault is said at once. Where the peer can't be reached, for whatever reason,
+/// all users that wait are closed. Behind a session that is lost only the one is that came for it, as the next call may
+/// serve the others.
 pub fn each_fault_is_said()
     ensures said { (t : Told) (past : List (Asked × Heard)) (session : Served) (how : Ended) → IsPast t past → (asks t past).deed ≡ Deed.Serve session → is_clean how ≡ false → says_fault (asks t ((asks t past, Happened.SessionEnded how) ∷ past)).words ≡ true }
-    ensures closed { (t : Told) (past : List (Asked × Heard)) (peer : Address) → t.role ≡ Role.LocalCalls → t.goes_on ≡ true → IsPast t past → (asks t past).deed ≡ Deed.Call peer → (asks t ((asks t past, Happened.Failed None) ∷ past)).deed ≡ Deed.CloseUser }
+    ensures unreached { (t : Told) (past : List (Asked × Heard)) (callee : Called) (happened : Heard) → t.role ≢ Role.RemoteCalls → t.goes_on ≡ true → IsPast t past → (asks t past).deed ≡ Deed.Call callee → happened ≢ Happened.PeerCame → (asks t ((asks t past, happened) ∷ past)).deed ≡ Deed.CloseUsers }
+    ensures closed { (t : Told) (past : List (Asked × Heard)) (session : Served) (how : Ended) → is_local t.role ≡ true → t.goes_on ≡ true → IsPast t past → (asks t past).deed ≡ Deed.Serve session → (asks t ((asks t past, Happened.SessionEnded how) ∷ past)).deed ≡ Deed.CloseUser }
 {}
 
-/// What is done is what the plan says: the peer is called at its address, users come to theirs, each session is the plan's,
-/// and a peer is awaited at its address, or later where the first one was.
+/// What is done is what the plan says: the peer is called at its address, for as long as a call may take, users come to
+/// theirs, each session is the plan's, and a peer is awaited at its address, or later where the first one was.
 pub fn does_as_told()
-    ensures calls { (t : Told) (past : List (Asked × Heard)) (peer : Address) → IsPast t past → (asks t past).deed ≡ Deed.Call peer → peer ≡ t.peer }
+    ensures calls { (t : Told) (past : List (Asked × Heard)) (callee : Called) → IsPast t past → (asks t past).deed ≡ Deed.Call callee → (callee.address ≡ t.peer) × (callee.limit ≡ t.limit) }
     ensures listens { (t : Told) (past : List (Asked × Heard)) (users : Awaited) → IsPast t past → (asks t past).deed ≡ Deed.ListenForUsers users → users ≡ t.users }
     ensures serves { (t : Told) (past : List (Asked × Heard)) (session : Served) → IsPast t past → (asks t past).deed ≡ Deed.Serve session → session ≡ t.session }
     ensures awaits { (t : Told) (past : List (Asked × Heard)) (peers : Address) → IsPast t past → (asks t past).deed ≡ Deed.ListenForPeer peers → peers ≡ peers_of t past }
@@ -111,6 +115,10 @@ pub fn local_options()
     ensures peer { (o : LocalGiven) → (terms_of (Plan.Local o)).peer ≡ address_of o.peer }
     ensures window { (o : LocalGiven) → (terms_of (Plan.Local o)).session.window ≡ o.window }
     ensures ping { (o : LocalGiven) → (terms_of (Plan.Local o)).session.ping ≡ o.ping }
+    ensures keepalive { (o : LocalGiven) → (terms_of (Plan.Local o)).session.keepalive ≡ keepalive_of o.keepalive }
+    ensures timeout { (o : LocalGiven) (n : ℕ) → o.timeout ≡ Some n → (terms_of (Plan.Local o)).limit ≡ Some n }
+    ensures awaited { (o : LocalGiven) → o.timeout ≡ None → (o.is_kept ≡ true) ⊎ (1 < o.links) → (terms_of (Plan.Local o)).limit ≡ Some 10 }
+    ensures unlimited { (o : LocalGiven) → o.timeout ≡ None → o.is_kept ≡ false → o.links ≤ 1 → (terms_of (Plan.Local o)).limit ≡ None }
     ensures side { (o : LocalGiven) → (terms_of (Plan.Local o)).session.side ≡ Side.Client }
     ensures keep { (o : LocalGiven) → (terms_of (Plan.Local o)).goes_on ≡ o.is_kept }
     ensures links { (o : LocalGiven) → (terms_of (Plan.Local o)).places ≡ o.links }
@@ -123,10 +131,30 @@ pub fn remote_options()
     ensures side { (o : RemoteGiven) → (terms_of (Plan.Remote o)).session.side ≡ Side.Server o.target o.workers }
     ensures window { (o : RemoteGiven) → (terms_of (Plan.Remote o)).session.window ≡ o.window }
     ensures ping { (o : RemoteGiven) → (terms_of (Plan.Remote o)).session.ping ≡ o.ping }
+    ensures keepalive { (o : RemoteGiven) → (terms_of (Plan.Remote o)).session.keepalive ≡ keepalive_of o.keepalive }
+    ensures timeout { (o : RemoteGiven) (n : ℕ) → o.timeout ≡ Some n → (terms_of (Plan.Remote o)).limit ≡ Some n }
+    ensures awaited { (o : RemoteGiven) → o.timeout ≡ None → o.is_kept ≡ true → (terms_of (Plan.Remote o)).limit ≡ Some 10 }
+    ensures unlimited { (o : RemoteGiven) → o.timeout ≡ None → o.is_kept ≡ false → (terms_of (Plan.Remote o)).limit ≡ None }
     ensures keep { (o : RemoteGiven) → (terms_of (Plan.Remote o)).goes_on ≡ o.is_kept }
     ensures peers { (o : RemoteGiven) (n : ℕ) → o.peers ≡ Some n → (terms_of (Plan.Remote o)).places ≡ n }
     ensures unsaid { (o : RemoteGiven) → o.peers ≡ None → (terms_of (Plan.Remote o)).places ≡ 16 }
     ensures verbose { (o : RemoteGiven) → (terms_of (Plan.Remote o)).is_verbose ≡ o.is_verbose }
+{}
+
+/// A link is told what its `local` is.
+pub fn link_options()
+    ensures session { (o : LocalGiven) → (terms_of (Plan.Link o)).session ≡ (terms_of (Plan.Local o)).session }
+    ensures peer { (o : LocalGiven) → (terms_of (Plan.Link o)).peer ≡ address_of o.peer }
+    ensures limit { (o : LocalGiven) → (terms_of (Plan.Link o)).limit ≡ (terms_of (Plan.Local o)).limit }
+{}
+
+/// With `--keepalive 60` the system asks after 60 seconds of silence, and then every 15 seconds. It asks four times, and
+/// waits for a second at least. With 0 it never asks.
+pub fn keepalives()
+    ensures never { keepalive_of 0 ≡ None }
+    ensures asks { keepalive_of 60 ≡ Some (record { idle = 60; interval = 15; probes = 4 }) }
+    ensures least { keepalive_of 1 ≡ Some (record { idle = 1; interval = 1; probes = 4 }) }
+    ensures most { keepalive_of 3600 ≡ Some (record { idle = 3600; interval = 900; probes = 4 }) }
 {}
 
 /// A `local` has a pool where it keeps more than one link, and a `remote` where it awaits many peers, or goes on.
@@ -188,7 +216,7 @@ pub fn pool_links()
 
 /// What is done is what the plan says.
 pub fn pool_does_as_told()
-    ensures calls { (t : Told) (past : List (PoolAsked × PoolHeard)) (peer : Address) → IsPoolPast t past → (pool_asks t past).deed ≡ PoolDeed.Call peer → peer ≡ t.peer }
+    ensures calls { (t : Told) (past : List (PoolAsked × PoolHeard)) (callee : Called) → IsPoolPast t past → (pool_asks t past).deed ≡ PoolDeed.Call callee → (callee.address ≡ t.peer) × (callee.limit ≡ t.limit) }
     ensures listens { (t : Told) (past : List (PoolAsked × PoolHeard)) (users : Awaited) → IsPoolPast t past → (pool_asks t past).deed ≡ PoolDeed.ListenForUsers users → users ≡ t.users }
     ensures serves { (t : Told) (past : List (PoolAsked × PoolHeard)) (session : Served) → IsPoolPast t past → (pool_asks t past).deed ≡ PoolDeed.Start session → session ≡ t.session }
 {}

@@ -28,6 +28,11 @@ pub struct LocalOptions {
     pub links: u32,
     /// After how many seconds without a sign of the peer it asks for one, 1 to 3,600. None if it never does.
     pub ping: Option<u32>,
+    /// After how many seconds of silence the system asks the other side of each connection for a sign, 1 to 3,600. 0 if it
+    /// never does.
+    pub keepalive: u32,
+    /// How many seconds a call to the peer may take, 1 to 3,600. None if the command line doesn't say.
+    pub timeout: Option<u32>,
     /// Whether it says that it is ready, and how each connection ended.
     pub is_verbose: bool,
 }
@@ -49,6 +54,11 @@ pub struct RemoteOptions {
     pub peers: Option<u32>,
     /// After how many seconds without a sign of the peer it asks for one, 1 to 3,600. None if it never does.
     pub ping: Option<u32>,
+    /// After how many seconds of silence the system asks the other side of each connection for a sign, 1 to 3,600. 0 if it
+    /// never does.
+    pub keepalive: u32,
+    /// How many seconds a call to the peer may take, 1 to 3,600. None if the command line doesn't say.
+    pub timeout: Option<u32>,
     /// Whether it says that it is ready, and how each connection ended.
     pub is_verbose: bool,
 }

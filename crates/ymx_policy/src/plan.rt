@@ -1,14 +1,20 @@
 //! What an end is told to do, and what follows of it.
 
 ghost use Rattle.std.specs.Prelude.{◌≡◌};
-ghost use Rattle.ymx_policy.specs.Plans.{address_of, has_pool, is_called, local_role, local_terms, remote_role, remote_terms, terms_of};
+ghost use Rattle.ymx_policy.specs.Plans.{address_of, call_limit, has_pool, is_called, keepalive_of, local_role, local_terms, remote_role, remote_terms, terms_of};
 
-use crate::asks::{Session, Side, Users};
+use crate::asks::{Keepalive, Session, Side, Users};
 use crate::options::{LocalOptions, PeerAddress, RemoteOptions};
 use std::net::SocketAddrV4;
 
 /// How many peers a `remote` with `--keep` serves at once where the command line says nothing.
 const PEERS: u32 = 16;
+
+/// How many seconds a call may take where others wait for its end, and the command line says nothing.
+const TIMEOUT: u32 = 10;
+
+/// How often the system asks for a sign before a connection fails.
+const PROBES: u32 = 4;
 
 /// What an end is told to do: its options as they were read.
 #[derive(Clone, Copy)]
@@ -45,6 +51,8 @@ pub struct Terms {
     pub goes_on: bool,
     /// Where the peer is called, or calls.
     pub peer: SocketAddrV4,
+    /// How many seconds a call to it may take. None for as long as the system tries.
+    pub limit: Option<u32>,
     /// Where users come from.
     pub users: Users,
     /// What its sessions are like.
@@ -122,6 +130,31 @@ fn remote_role(peer: PeerAddress) -> Role
     }
 }
 
+/// How the system asks for signs after so many seconds of silence, and then after each quarter of them. None for 0.
+fn keepalive_of(seconds: u32) -> Option<Keepalive>
+    ensures { result ≡ keepalive_of seconds }
+{
+    if seconds == 0 {
+        return None;
+    }
+    Some(Keepalive {
+        idle: seconds,
+        interval: (seconds / 4).max(1),
+        probes: PROBES,
+    })
+}
+
+/// How long a call may take, where others wait for its end or not.
+fn call_limit(is_awaited: bool, timeout: Option<u32>) -> Option<u32>
+    ensures { result ≡ call_limit is_awaited timeout }
+{
+    match timeout {
+        Some(seconds) => Some(seconds),
+        None if is_awaited => Some(TIMEOUT),
+        None => None,
+    }
+}
+
 /// What follows of the options of `local`, or of a link.
 fn local_terms(options: LocalOptions, role: Role) -> Terms
     ensures { result ≡ local_terms options role }
@@ -130,6 +163,7 @@ fn local_terms(options: LocalOptions, role: Role) -> Terms
         role,
         goes_on: options.is_kept,
         peer: options.peer.address(),
+        limit: call_limit(options.is_kept || options.links > 1, options.timeout),
         users: Users {
             address: options.listen,
             count: options.count,
@@ -139,6 +173,7 @@ fn local_terms(options: LocalOptions, role: Role) -> Terms
             side: Side::Client,
             window: options.window,
             ping: options.ping,
+            keepalive: keepalive_of(options.keepalive),
             is_followed: options.is_kept,
         },
         places: options.links,
@@ -154,6 +189,7 @@ fn remote_terms(options: RemoteOptions) -> Terms
         role: remote_role(options.peer),
         goes_on: options.is_kept,
         peer: options.peer.address(),
+        limit: call_limit(options.is_kept, options.timeout),
         users: Users {
             address: options.peer.address(),
             count: None,
@@ -166,6 +202,7 @@ fn remote_terms(options: RemoteOptions) -> Terms
             },
             window: options.window,
             ping: options.ping,
+            keepalive: keepalive_of(options.keepalive),
             is_followed: options.is_kept || options.peers.is_some(),
         },
         places: options.peers.unwrap_or(PEERS),

@@ -3,7 +3,9 @@
 ghost use Rattle.std.specs.Prelude.{◌≡◌};
 ghost use Rattle.ymx_policy.specs.PoolTable.{fresh, asked, deed_at, listening, after, goes, ends, settles, settles_at, has_links, heeds, shuts, shuts_for, rests, left, meets, after_users, after_peers, after_last, after_calling, after_opening, after_no_thread, after_starting, after_waiting, after_placing, clean, first_rule, first_notice, both, begins, behind_opening, one_more, behind_call, behind_start, settled, ending_at, cause_at, has_room, opening, cannot_open, peers_at, begun, unlinked, leaving, lost_links, serving, let_in};
 
-use crate::asks::{Fault, Named, Notice, PoolAsk, PoolDeed, PoolHappened, SessionEnd, Words};
+use crate::asks::{
+    Callee, Fault, Named, Notice, PoolAsk, PoolDeed, PoolHappened, SessionEnd, Words,
+};
 use crate::plan::{Role, Terms};
 use crate::reason::Reason;
 use crate::table::{cannot_meet, first_fault, first_reason, refusal, silence, tells};
@@ -91,7 +93,10 @@ impl Pool {
         ensures { result ≡ deed_at self.now.stage terms.now room self.now.peers self.now.has_faulted }
     {
         match self.stage {
-            PoolStage::Calling => PoolDeed::Call(terms.peer),
+            PoolStage::Calling => PoolDeed::Call(Callee {
+                address: terms.peer,
+                limit: terms.limit,
+            }),
             PoolStage::Opening => self.listening(terms),
             PoolStage::Starting => PoolDeed::Start(terms.session),
             PoolStage::Waiting if room => PoolDeed::Await,

@@ -3,7 +3,7 @@
 ghost use Rattle.std.specs.Prelude.{◌≡◌};
 ghost use Rattle.ymx_policy.specs.Machine.{fresh, deed_at, asked, after, goes, ends, no_users, no_peers, parted, after_opening_peers, after_opening_users, after_no_call, after_calling, after_awaiting_peer, after_awaiting_user, after_closing, after_serving};
 
-use crate::asks::{Ask, Deed, Fault, Happened, Named, Notice, SessionEnd, Words};
+use crate::asks::{Ask, Callee, Deed, Fault, Happened, Named, Notice, SessionEnd, Words};
 use crate::plan::{Role, Terms};
 use crate::reason::Reason;
 use crate::table::{
@@ -28,8 +28,10 @@ pub enum Stage {
     AwaitingUser,
     /// A session runs.
     Serving,
-    /// A user that waits is closed.
+    /// A user that waits is closed, as its session has ended.
     Closing,
+    /// All users that wait are closed, as their peer can't be reached.
+    Refusing,
     /// It lets time go by.
     Pausing,
     /// It has ended.
@@ -85,11 +87,15 @@ impl State {
         match self.stage {
             Stage::OpeningPeers => Deed::ListenForPeer(self.peers),
             Stage::OpeningUsers => Deed::ListenForUsers(terms.users),
-            Stage::Calling => Deed::Call(terms.peer),
+            Stage::Calling => Deed::Call(Callee {
+                address: terms.peer,
+                limit: terms.limit,
+            }),
             Stage::AwaitingPeer => Deed::AwaitPeer,
             Stage::AwaitingUser => Deed::AwaitUser,
             Stage::Serving => Deed::Serve(terms.session),
             Stage::Closing => Deed::CloseUser,
+            Stage::Refusing => Deed::CloseUsers,
             Stage::Pausing => Deed::Pause(self.pause),
             Stage::Over => Deed::End(if self.has_faulted { 1 } else { 0 }),
         }
@@ -106,7 +112,7 @@ impl State {
             Stage::AwaitingPeer => self.hear_peer(terms, happened),
             Stage::AwaitingUser => self.hear_user(terms, happened),
             Stage::Serving => self.hear_session(terms, happened),
-            Stage::Closing => self.hear_closing(terms, happened),
+            Stage::Closing | Stage::Refusing => self.hear_closing(terms, happened),
             Stage::Pausing => self.go(Stage::Calling, silence()),
             Stage::Over => {}
         }
@@ -222,7 +228,7 @@ impl State {
                 self.pause = longer(self.pause);
             }
             Role::LocalCalls | Role::LocalAwaits | Role::Link | Role::RemoteAwaits => {
-                self.go(Stage::Closing, words);
+                self.go(Stage::Refusing, words);
             }
         }
     }
@@ -252,7 +258,7 @@ impl State {
         }
     }
 
-    /// The user that waited is closed.
+    /// The user that waited is closed, or all are.
     fn hear_closing(&mut self, terms: &Terms, happened: Happened)
         ensures { self.new ≡ after_closing terms.now self.old happened }
     {

@@ -14,4 +14,8 @@ returns c =
     let local_two = c.in_ok-arg-2.ensures.globals ∙ ap₂ either local_one c.links_argument.ensures.1 in
     let three = c.in_ok-arg-3.ensures.shape c.ping_argument.ensures.1 ∙ ap₂ with_rule two c.ping_argument.ensures.0 in
     let local_three = c.in_ok-arg-3.ensures.globals ∙ ap₂ either local_two c.ping_argument.ensures.1 in
-    IfOk-weaker c.arg-4.result _ _ (λ r added. (added.shape c.count_argument.ensures.1 ∙ ap₂ with_rule three c.count_argument.ensures.0, added.globals ∙ ap₂ either local_three c.count_argument.ensures.1)) c.arg-4.ensures
+    let four = c.in_ok-arg-4.ensures.shape c.keepalive_argument.ensures.1 ∙ ap₂ with_rule three c.keepalive_argument.ensures.0 in
+    let local_four = c.in_ok-arg-4.ensures.globals ∙ ap₂ either local_three c.keepalive_argument.ensures.1 in
+    let five = c.in_ok-arg-5.ensures.shape c.timeout_argument.ensures.1 ∙ ap₂ with_rule four c.timeout_argument.ensures.0 in
+    let local_five = c.in_ok-arg-5.ensures.globals ∙ ap₂ either local_four c.timeout_argument.ensures.1 in
+    IfOk-weaker c.arg-6.result _ _ (λ r added. (added.shape c.count_argument.ensures.1 ∙ ap₂ with_rule five c.count_argument.ensures.0, added.globals ∙ ap₂ either local_five c.count_argument.ensures.1)) c.arg-6.ensures

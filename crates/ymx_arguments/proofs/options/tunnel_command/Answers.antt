@@ -15,7 +15,10 @@ returns-in-local-clause-options c = λ bad.
       | inr (inr (inl h)) ↦ c.local_options.ensures.ping (subst (IsBad 1 3600) (sym (first_value-rows found (codes "ping"))) h)
       | inr (inr (inr (inl h))) ↦ c.local_options.ensures.links (subst (IsBad 1 64) (sym (first_value-rows found (codes "links"))) h)
       | inr (inr (inr (inr (inl h)))) ↦ c.local_options.ensures.peer (rw (first_value-rows found (codes "peer"), first_value-rows found (codes "bind")) h)
-      | inr (inr (inr (inr (inr h)))) ↦ c.local_options.ensures.awaited (rw (first_value-rows found (codes "links"), first_value-rows found (codes "bind")) h)
+      | inr (inr (inr (inr (inr (inl h))))) ↦ c.local_options.ensures.awaited (rw (first_value-rows found (codes "links"), first_value-rows found (codes "bind")) h)
+      | inr (inr (inr (inr (inr (inr (inl h)))))) ↦ c.local_options.ensures.keepalive (subst (IsBad 0 3600) (sym (first_value-rows found (codes "keepalive"))) h)
+      | inr (inr (inr (inr (inr (inr (inr (inl h))))))) ↦ c.local_options.ensures.timeout (subst (IsBad 1 3600) (sym (first_value-rows found (codes "timeout"))) h)
+      | inr (inr (inr (inr (inr (inr (inr (inr h))))))) ↦ c.local_options.ensures.uncalled (rw (first_value-rows found (codes "timeout"), first_value-rows found (codes "bind")) h)
     ]
 
 pub returns-in-remote-clause-options : goal.returns-in-remote-clause-options
@@ -28,7 +31,10 @@ returns-in-remote-clause-options c = λ bad.
       | inr (inr (inl h)) ↦ c.remote_options.ensures.ping (subst (IsBad 1 3600) (sym (first_value-rows found (codes "ping"))) h)
       | inr (inr (inr (inl h))) ↦ c.remote_options.ensures.peers (subst (IsBad 1 256) (sym (first_value-rows found (codes "peers"))) h)
       | inr (inr (inr (inr (inl h)))) ↦ c.remote_options.ensures.peer (rw (first_value-rows found (codes "peer"), first_value-rows found (codes "bind")) h)
-      | inr (inr (inr (inr (inr h)))) ↦ c.remote_options.ensures.called (rw (first_value-rows found (codes "peers"), first_value-rows found (codes "peer")) h)
+      | inr (inr (inr (inr (inr (inl h))))) ↦ c.remote_options.ensures.called (rw (first_value-rows found (codes "peers"), first_value-rows found (codes "peer")) h)
+      | inr (inr (inr (inr (inr (inr (inl h)))))) ↦ c.remote_options.ensures.keepalive (subst (IsBad 0 3600) (sym (first_value-rows found (codes "keepalive"))) h)
+      | inr (inr (inr (inr (inr (inr (inr (inl h))))))) ↦ c.remote_options.ensures.timeout (subst (IsBad 1 3600) (sym (first_value-rows found (codes "timeout"))) h)
+      | inr (inr (inr (inr (inr (inr (inr (inr h))))))) ↦ c.remote_options.ensures.uncalled (rw (first_value-rows found (codes "timeout"), first_value-rows found (codes "bind")) h)
     ]
 
 pub returns-in-local-clause-told : goal.returns-in-local-clause-told

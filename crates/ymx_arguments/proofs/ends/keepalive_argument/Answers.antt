@@ -1,0 +1,10 @@
+use Rattle.std.proofs.Common.{[], ◌∷◌, ◌∙◌, ap, codes}
+use Rattle.clap.specs.Words.{Rule, rule_of}
+use Rattle.clap.specs.declared.builder.arg.Arg.{Arg}
+use Rattle.ymx_arguments.proofs.ends.keepalive_argument.Goals as goal
+
+pub returns : goal.returns
+returns c = (
+  ap rule_of c.default_value.ensures ∙ ap (λ (r : Rule). record r { defaults = codes "60" ∷ [] }) c.number_argument.ensures.0,
+  ap (λ (a : Arg). a.global) c.default_value.ensures ∙ c.number_argument.ensures.1,
+)
