@@ -1,8 +1,9 @@
 -- What a contract sees of the tunnel of one end, and what its calls leave alone (this project's own).
-use Rattle.std.specs.Prelude.{ℕ, ◌≡◌, ◌⊎◌, ◌&&◌, not, List, [], Bool, true, false}
+use Rattle.std.specs.Prelude.{ℕ, ◌≡◌, ◌⊎◌, ◌+◌, ◌&&◌, not, List, [], length, Bool, true, false, Option, option_map}
 use Rattle.ymx_model.specs.session.Sessions.{Session}
 use Rattle.ymx_model.specs.session.Feeds.{is_stuck}
 use Rattle.ymx_model.specs.session.Emissions.{is_ready}
+use Rattle.ymx_session.specs.Streams.{header_begun}
 use Rattle.ymx_engine.specs.Exchanges.{has_bytes}
 
 -- The session, the bytes that it emitted and the wire has not taken, and those that the wire gave and the session
@@ -28,3 +29,8 @@ is_flushed e = not (has_bytes e.outgoing) && not (is_ready e.session)
 -- Nothing is due, and the wire has taken all that was emitted.
 abbrev pub IsFlushed : Engine → Type 0
 IsFlushed e = (e.outgoing ≡ []) × (is_ready e.session ≡ false)
+
+-- How many of the bytes that came stand behind the last whole frame: those of a header that isn't whole, and those that the session has
+-- not taken. None is said while the payload of a frame is under way.
+abbrev pub unframed : Engine → Option ℕ
+unframed e = option_map (λ n. n + length e.incoming) (header_begun e.session.incoming)

@@ -4,7 +4,7 @@ ghost use Rattle.std.specs.Prelude.{ℕ, ◌≡◌, ◌+◌, ◌==◌, ◌||◌,
 ghost use Rattle.std.specs.Map.{keys_of};
 ghost use Rattle.ymx_model.specs.session.Sessions.{is_running};
 ghost use Rattle.ymx_session.specs.Opens.{opens_left};
-ghost use Rattle.ymx_engine.specs.Engines.{is_flushed};
+ghost use Rattle.ymx_engine.specs.Engines.{is_flushed, unframed};
 ghost use Rattle.ymx_engine.specs.Runs.{IsOver};
 ghost use Rattle.ymx_engine.specs.Served.{Serving, NoneWaits, NoneGives, NoneEnds, NoneStops, NoneHangs};
 ghost use Rattle.ymx_engine.specs.Turns.{Waits, HasTurnSoon, look, ways_of, is_over_at};
@@ -166,6 +166,15 @@ impl<D: Device + Drop, W: Device + Drop> Tunnel<D, W> {
         ensures { result ≡ opens_left self.now.engine.session }
     {
         self.session.opens_left()
+    }
+
+    /// How many of the bytes that the wire gave stand behind the last whole frame: those of a header that isn't whole, and
+    /// those that the session hasn't taken. `None` while the payload of a frame is under way.
+    pub fn unframed(&self) -> Option<usize>
+        ensures { result ≡ unframed self.now.engine }
+    {
+        let begun = self.session.header_begun()?;
+        Some(begun + self.incoming.waiting().len())
     }
 
     /// Whether the peer has said that it takes no more streams. It stays so.

@@ -1,9 +1,10 @@
 -- What a caller can ask of its streams (flow control, half-close, flags).
-use Rattle.std.specs.Prelude.{ℕ, List, [], ◌||◌, is_some, if◌then◌else◌, Bool, false, Option, None, Some}
+use Rattle.std.specs.Prelude.{ℕ, List, [], length, ◌||◌, is_some, if◌then◌else◌, Bool, false, Option, None, Some}
 use Rattle.ymx_model.specs.session.Records.{End}
 use Rattle.ymx_machine.specs.shared.Lists.{look}
 use Rattle.ymx_model.specs.declared.types.FrameKind.{FrameKind}
-use Rattle.ymx_model.specs.session.Sessions.{Session, is_running, is_lost, is_closed}
+use Rattle.ymx_model.specs.session.Sessions.{Incoming, Session, is_running, is_lost, is_closed}
+use Rattle.ymx_model.specs.session.Sessions.Incoming.{Head, Payload}
 use Rattle.ymx_model.specs.session.Calls.{unsent_count}
 use Rattle.ymx_model.specs.session.FramesDue.{next_kind}
 use Rattle.ymx_table.specs.Listing.{held_ids}
@@ -69,3 +70,8 @@ is_acknowledged id s = if is_some (stream_fault id s) then false else acknowledg
 -- the streams that the caller has, in the order of the table
 abbrev pub stream_ids : Session → List ℕ
 stream_ids s = held_ids [] s.table.entries
+
+-- how many bytes have come of a header that isn't whole: 0 right behind a whole frame, and none is said while a payload is under way
+abbrev pub header_begun : Incoming → Option ℕ
+header_begun (Head bytes) = Some (length bytes)
+header_begun (Payload id missing fin stray) = None
