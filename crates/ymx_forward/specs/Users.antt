@@ -55,13 +55,18 @@ has_no_place t = nat_le most_records (length t.lines.by_id) || (opens_left t.eng
 abbrev pub must_wait : Tunnel → Bool
 must_wait t = can_open_later t.engine.session && has_no_place t
 
+-- The peer is still to give a sign of life: it was asked for one, and a stream can be had later.
+abbrev pub awaits_sign : (heard : Bool) → Tunnel → Bool
+awaits_sign heard t = not heard && can_open_later t.engine.session
+
 -- the session is over, and another one follows
 abbrev pub is_followed : TunnelEnd → Tunnel → Bool
 is_followed e t = e.is_kept && not (is_running t.engine.session.status)
 
--- A user may wait who is to be accepted now: there is a place, or never will be one, and none is left to the next session.
-abbrev pub user_is_due : TunnelEnd → Tunnel → Bool
-user_is_due e t = may_wait e (length t.lines.by_id) && not (is_followed e t) && not (must_wait t)
+-- A user may wait who is to be accepted now: there is a place, and the peer has given a sign of life where it is asked for one, or there
+-- never will be a place; and the user isn't left to the next session.
+abbrev pub user_is_due : (heard : Bool) → TunnelEnd → Tunnel → Bool
+user_is_due heard e t = may_wait e (length t.lines.by_id) && not (is_followed e t) && not (must_wait t) && not (awaits_sign heard t)
 
 -- Not for this reason alone does a user get no stream: that 256 streams wait for the peer, or 1,024 are there.
 abbrev pub IsStated : NotJoined → Type 0

@@ -1,6 +1,7 @@
 //! How long a peer has been silent.
 
-ghost use Rattle.std.specs.Prelude.{◌≡◌, true};
+ghost use Rattle.std.specs.Prelude.{◌≡◌, false, true};
+ghost use Rattle.ymx_forward.specs.Signs.{is_sign};
 
 use std::time::{Clock, Duration, Instant};
 
@@ -15,7 +16,11 @@ pub(crate) enum Due {
     Loss,
 }
 
-/// When the peer last gave a sign, and whether it was asked for one since. Any byte of it is a sign.
+/// How many bytes that come while a payload is under way are a sign: 4,096 of it, behind a header at most.
+const LONG_PART: u64 = 4_108;
+
+/// When the peer last gave a sign of life, and whether it was asked for one since. A whole frame is a sign, and so are 4,096
+/// bytes of the payload of one: who doesn't speak yamux gives none, and a slow line is not cut within a long frame.
 #[derive(Clone, Copy)]
 pub(crate) struct Silence {
     /// How long it may be silent before it is asked, and then before it counts as gone.
@@ -40,13 +45,20 @@ impl Silence {
         })
     }
 
-    /// So many bytes have come of the peer. If there are more than before it has given a sign.
-    pub(crate) fn hear<R: Clock>(&mut self, rt: &R, heard: u64) {
-        if heard != self.heard {
-            self.heard = heard;
-            self.was_asked = false;
-            self.begin(rt);
+    /// So many bytes have come of the peer, of which this many stand behind the last whole frame, or a payload is under way.
+    /// Whether it has given a sign since the last one: then the time begins anew.
+    pub(crate) fn hear<R: Clock>(&mut self, rt: &R, heard: u64, unframed: Option<usize>) -> bool
+        ensures sign { result ≡ is_sign self.old.heard heard unframed }
+        ensures heard { result ≡ true → (self.new.heard ≡ heard) × (self.new.was_asked ≡ false) }
+        ensures silent { result ≡ false → self.new ≡ self.old }
+    {
+        if !is_sign(self.heard, heard, unframed) {
+            return false;
         }
+        self.heard = heard;
+        self.was_asked = false;
+        self.begin(rt);
+        true
     }
 
     /// It was asked for a sign, and has as long again.
@@ -56,7 +68,9 @@ impl Silence {
     }
 
     /// The time begins anew.
-    fn begin<R: Clock>(&mut self, rt: &R) {
+    fn begin<R: Clock>(&mut self, rt: &R)
+        ensures { (self.new.heard ≡ self.old.heard) × (self.new.was_asked ≡ self.old.was_asked) }
+    {
         if let Ok(now) = Instant::now(rt) {
             self.since = now;
         }
@@ -68,6 +82,17 @@ impl Silence {
             Ok(passed) => due_after(self.patience, passed, self.was_asked),
             Err(_) => Due::In(self.patience),
         }
+    }
+}
+
+/// Whether the peer has given a sign of life since so many bytes of it had come: `bytes` have by now, of which this many stand
+/// behind the last whole frame, or a payload is under way.
+fn is_sign(before: u64, bytes: u64, unframed: Option<usize>) -> bool
+    ensures { result ≡ is_sign before bytes unframed }
+{
+    match unframed {
+        Some(behind) => before < bytes.saturating_sub(behind as u64),
+        None => bytes.saturating_sub(before) >= LONG_PART,
     }
 }
 

@@ -11,7 +11,7 @@ ghost use Rattle.ymx_engine.specs.Ways.{is_over};
 ghost use Rattle.ymx_engine.specs.Work.{HasRead, ServesOne, WorksOnce, Writes, has_work};
 ghost use Rattle.ymx_forward.specs.Counts.{CountsOne};
 ghost use Rattle.ymx_forward.specs.Loops.{NeedsEvents, WaitsInNeed, WasLost};
-ghost use Rattle.ymx_forward.specs.Users.{IsStated, can_open_later, has_no_place, is_followed, must_wait, user_is_due};
+ghost use Rattle.ymx_forward.specs.Users.{IsStated, awaits_sign, can_open_later, has_no_place, is_followed, must_wait, user_is_due};
 ghost use Rattle.ymx_law_session.specs.Limits.{IsWithin};
 ghost use Rattle.ymx_forward.specs.Sides.{role_at};
 ghost use Rattle.ymx_model.specs.session.Sessions.{is_running, new_session};
@@ -104,6 +104,8 @@ pub(crate) struct TunnelLoop<'a> {
     unwritten: u64,
     /// Those who watch were told that the session was lost.
     is_loss_told: bool,
+    /// The peer has given a sign of life, or isn't asked for one.
+    is_heard: bool,
     /// How long nothing has moved.
     stillness: Stillness,
     /// The system refused to wait for events.
@@ -135,6 +137,7 @@ impl<'a> TunnelLoop<'a> {
             tunnel_end,
             unwritten: 0,
             is_loss_told: false,
+            is_heard: false,
             stillness: Stillness::new(),
             is_unwatched: false,
             has_unwatched: false,
@@ -169,7 +172,7 @@ impl<'a> TunnelLoop<'a> {
         ensures left { IfSome result (λ finished. finished.was_left ≡ true → is_kept ≡ true) }
         ensures lost { IfSome result (λ finished. finished.was_left ≡ true → WasLost self.old.tunnel self.new.tunnel) }
     {
-        let mut silence = Silence::new(rt, self.tunnel_end.limits.silence);
+        let mut silence = self.begin_silence(rt);
         for _ in rt.forever() {
             if self.is_over() {
                 return Some(Finished { was_left: false });
@@ -197,6 +200,17 @@ impl<'a> TunnelLoop<'a> {
         self.is_to_be_followed() && self.stillness.has_lasted(rt, Duration::from_secs(PATIENCE))
     }
 
+    /// Asks the peer for its first sign of life, if it is to give any.
+    fn begin_silence<R: Clock>(&mut self, rt: &R) -> Option<Silence>
+        ensures { Runs self.old.tunnel self.new.tunnel }
+    {
+        let silence = Silence::new(rt, self.tunnel_end.limits.silence);
+        self.is_heard = silence.is_none();
+        let mut silence = silence?;
+        silence.pending = self.ping();
+        Some(silence)
+    }
+
     /// Hears whether the peer is silent: then it is asked for a sign, and given up where none comes. How long it may be
     /// silent yet, or None if for ever.
     fn hear_silence<R: Clock>(&mut self, rt: &R, silence: &mut Option<Silence>) -> Option<Duration>
@@ -208,7 +222,8 @@ impl<'a> TunnelLoop<'a> {
         if self.is_lost() {
             return None;
         }
-        silence.hear(rt, self.tunnel.wire().pulled());
+        let pulled = self.tunnel.wire().pulled();
+        self.is_heard |= silence.hear(rt, pulled, self.tunnel.unframed());
         match silence.due(rt) {
             Due::In(left) => Some(left),
             Due::Ping => {
@@ -272,7 +287,7 @@ impl<'a> TunnelLoop<'a> {
         ensures runs { Runs self.old.tunnel self.new.tunnel }
         ensures waits { Serving self.old.tunnel → (poll.new.waits ≡ poll.old.waits) ⊎ (NeedsEvents self.old.tunnel × CountsOne poll.old.waits poll.new.waits) }
         // Where a user may wait whom it can give a stream, it doesn't wait.
-        ensures users { user_is_due self.old.tunnel_end.now self.old.tunnel ≡ true → poll.new.waits ≡ poll.old.waits }
+        ensures users { user_is_due self.old.is_heard self.old.tunnel_end.now self.old.tunnel ≡ true → poll.new.waits ≡ poll.old.waits }
     {
         let is_waiting = !self.has_work();
         self.note_waiting(rt, is_waiting);
@@ -359,7 +374,7 @@ impl<'a> TunnelLoop<'a> {
         ensures ends { Serving self.now.tunnel → result ≡ false → NoneEnds self.now.tunnel }
         ensures stops { Serving self.now.tunnel → result ≡ false → NoneStops self.now.tunnel }
         // Nor does a user wait then whom it can give a stream.
-        ensures users { result ≡ false → user_is_due self.now.tunnel_end.now self.now.tunnel ≡ false }
+        ensures users { result ≡ false → user_is_due self.now.is_heard self.now.tunnel_end.now self.now.tunnel ≡ false }
     {
         self.has_user() || self.has_offer() || self.tunnel.has_work()
     }
@@ -367,11 +382,19 @@ impl<'a> TunnelLoop<'a> {
     /// Whether a connection may wait that is to be accepted now: those that come for the next session are left to it, and
     /// others to when there is a place.
     fn has_user(&self) -> bool
-        ensures { result ≡ user_is_due self.now.tunnel_end.now self.now.tunnel }
+        ensures { result ≡ user_is_due self.now.is_heard self.now.tunnel_end.now self.now.tunnel }
     {
         self.tunnel_end.may_accept(self.tunnel.len())
             && !self.is_to_be_followed()
             && !self.must_wait()
+            && !self.awaits_sign()
+    }
+
+    /// Whether the peer is still to give a sign of life, before which no user is given a stream.
+    fn awaits_sign(&self) -> bool
+        ensures { result ≡ awaits_sign self.now.is_heard self.now.tunnel }
+    {
+        !self.is_heard && self.can_open_later()
     }
 
     /// Whether a stream waits that is to be accepted now.
@@ -410,7 +433,7 @@ impl<'a> TunnelLoop<'a> {
         if !self.can_open_later() {
             return Places::Never;
         }
-        if self.has_no_place() {
+        if self.has_no_place() || self.awaits_sign() {
             return Places::Free(0);
         }
         Places::Free(self.tunnel.opens_left())
@@ -519,9 +542,11 @@ impl<'a> TunnelLoop<'a> {
         ensures same { self.new.tunnel ≡ self.old.tunnel }
         // One is accepted only where a stream can be opened for it, or never can.
         ensures accepts_only { IfSome result (λ _. must_wait self.new.tunnel ≡ false) }
+        // None is accepted before the peer has given a sign of life, where it is asked for one.
+        ensures accepts_heard { IfSome result (λ _. awaits_sign self.old.is_heard self.new.tunnel ≡ false) }
     {
         let open = self.tunnel.len();
-        if !self.tunnel_end.may_accept(open) || self.must_wait() {
+        if !self.tunnel_end.may_accept(open) || self.must_wait() || self.awaits_sign() {
             return None;
         }
         self.tunnel_end.next_user(rt, open)

@@ -1,10 +1,10 @@
 use Rattle.std.proofs.Common.{refl}
-use Rattle.ymx_engine.proofs.Attending.{runs_same, runs_then}
+use Rattle.ymx_engine.proofs.Attending.{runs_then}
 use Rattle.ymx_forward.proofs.Waiting.{waits_never, waits_behind, waits_before}
 use Rattle.ymx_forward.proofs.tunnel.TunnelLoop.run.Goals as goal
 
 pub loop-init : goal.loop-init
-loop-init g c = record { next = (tt, tt); runs = runs_same _; waits = λ serving. waits_never _ _ _ _ (runs_same _) refl }
+loop-init g c = record { next = (tt, tt); runs = c.begin_silence-silence.ensures; waits = λ serving. waits_never _ _ _ _ c.begin_silence-silence.ensures refl }
 
 pub loop-preserved : goal.loop-preserved
 loop-preserved g c = record {
