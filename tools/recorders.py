@@ -69,10 +69,20 @@ KNOWN = {
         ("ymx_connect/src/spending.rt", "impl<J: Naming> Writer<Witnessed<J>> {"),
         ("ymx_connect/src/spending.rt", "impl<J: Naming> Reader<Witnessed<J>> {"),
     ],
-    "the kit proves a thread's closure of one recorder at a time: the same lines stand for both": [
-        ("ymx_tunnel/src/halves.rt", f"impl {it}<{recorder}> {{")
-        for it in ("Sink for WriteHalf", "Source for ReadHalf")
-        for recorder in ("Full", "Off")
+    "what a half tells of its bytes and its end, where entries are kept: the body is one for all recorders": [
+        ("ymx_tunnel/src/halves.rt", text)
+        for text in (
+            "ghost taken = { λ half. carried bytes_written (own_entries R.KEEPS half.seat) };",
+            "ghost taken_in_all = { λ seat. carried bytes_written (own_entries R.KEEPS seat) };",
+            "ghost given = { λ half. carried read_bytes (own_entries R.KEEPS half.seat) };",
+            "ghost given_in_all = { λ seat. carried read_bytes (own_entries R.KEEPS seat) };",
+            "ghost HasEnded = { λ half. SaidEnd (own_entries R.KEEPS half.seat) };",
+            "ghost EndedBefore = { λ seat. SaidEnd (own_entries R.KEEPS seat) };",
+            "ghost HasRefused = { λ half fault. ToldRefusal fault (own_entries R.KEEPS half.seat) };",
+            "ghost RefusedBefore = { λ seat fault. ToldRefusal fault (own_entries R.KEEPS seat) };",
+            "ghost Finishes = { λ half seat answer. Books R.KEEPS half.seat seat",
+            "ghost Resets = { λ half seat answer. Books R.KEEPS half.seat seat",
+        )
     ],
 }
 
