@@ -56,8 +56,8 @@ cargo fmt --all --check > "$scratch/said" 2>&1 || fail 'cargo fmt would change s
 # the packages are built from what is in them; one cargo that is older than 1.90 can't have one need the other
 if cargo package --help 2> /dev/null | grep -q -- --workspace && cargo package --offline --workspace --allow-dirty > "$scratch/said" 2>&1; then
     for name in ymx-sys ymx; do
-        archive=$CARGO_TARGET_DIR/package/$name-0.2.0.crate
-        tar -xzOf "$archive" "$name-0.2.0/LICENSE" | cmp - "$here/../../LICENSE" || fail "the licence is not in the package of $name"
+        archive=$CARGO_TARGET_DIR/package/$name-0.3.0.crate
+        tar -xzOf "$archive" "$name-0.3.0/LICENSE" | cmp - "$here/../../LICENSE" || fail "the licence is not in the package of $name"
     done
     echo 'the packages of both crates are built from what is in them'
 else

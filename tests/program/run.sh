@@ -180,7 +180,7 @@ expect 0 "$here/remote_help" nothing hello remote --help
 expect 0 "$here/frames_help" nothing hello frames --help
 expect 0 "$here/script_help" nothing hello script --help
 expect 0 "$here/selftest_help" nothing hello selftest --help
-expect 0 "$(says 'ymx 0.2.0')" nothing hello --version
+expect 0 "$(says 'ymx 0.3.0')" nothing hello --version
 expect 2 nothing "$here/mistake" hello frames --limit 5
 expect 2 nothing "$(says 'error: a word of the command line is not UTF-8')" hello frames "$(printf '\377')"
 
