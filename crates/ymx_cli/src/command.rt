@@ -53,7 +53,7 @@ pub fn ymx_main<
     S: AsStr,
     F: FileOpener,
     R: Inlet,
-    W: Outlet,
+    W: Outlet + Send,
     E: Outlet + Send,
     L: Outlet + Send,
 >(

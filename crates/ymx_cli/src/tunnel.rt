@@ -2,7 +2,8 @@
 
 ghost use Rattle.std.specs.Prelude.{◌≡◌, ◌≤◌, true};
 ghost use Rattle.ymx_arguments.specs.CommandLine.{IsEnd, IsNotVerbose};
-ghost use Rattle.ymx_cli.specs.Messages.{IsUntouched, change_of};
+ghost use Rattle.ymx_cli.specs.Messages.{IsUntouched, TakesText, change_of};
+ghost use Rattle.ymx_forward.specs.Echoes.{echo_lines};
 ghost use Rattle.ymx_cli.specs.Outcomes.{is_tunnel, status_of};
 ghost use Rattle.ymx_cli.specs.Plans.{ComesByTables};
 
@@ -19,7 +20,7 @@ use ymx_model::Outlet;
 /// Does what was asked. Faults are said on `errors`, and why they came, and what `-v` asks for, on `lines`.
 pub(crate) fn run_tunnel<
     R: Net<Stream = TcpStream, Listener = TcpListener> + Threads + Clock + Wait + Sync,
-    W: Outlet,
+    W: Outlet + Send,
     E: Outlet + Send,
     L: Outlet + Send,
 >(
@@ -35,6 +36,8 @@ pub(crate) fn run_tunnel<
     ensures ended { ComesByTables command result (change_of E.contents E.failures errors.old errors.new) (change_of L.contents L.failures lines.old lines.new) }
     ensures status { status_of result ≤ 1 }
     ensures good { status_of result ≡ 0 → IsUntouched (change_of E.contents E.failures errors.old errors.new) }
+    // At a good end of the test its three lines stand on the writer.
+    ensures tested { command ≡ TunnelCommand.Selftest → status_of result ≡ 0 → TakesText (change_of W.contents W.failures writer.old writer.new) echo_lines }
     ensures silent { IsEnd command → IsUntouched (change_of W.contents W.failures writer.old writer.new) }
     // Without `-v` a good end says no lines.
     ensures unsaid { IsNotVerbose command → status_of result ≡ 0 → IsUntouched (change_of L.contents L.failures lines.old lines.new) }
@@ -46,6 +49,9 @@ pub(crate) fn run_tunnel<
         TunnelCommand::Remote(options) => {
             Outcome::Tunnel(run_remote(rt, alloc, options, errors, lines))
         }
-        TunnelCommand::Selftest => Outcome::Tunnel(run_selftest(rt, alloc, writer, errors)),
+        TunnelCommand::Selftest => match run_selftest(rt, alloc, writer, errors) {
+            Some(_) => Outcome::Tunnel(0),
+            None => Outcome::Tunnel(1),
+        },
     }
 }

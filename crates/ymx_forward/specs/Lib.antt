@@ -1,5 +1,8 @@
 pub mod Counts
+pub mod Echoes
 pub mod Loops
+pub mod Served
+pub mod Sessions
 pub mod Sides
 pub mod Signs
 pub mod Sockets

@@ -23,6 +23,11 @@ is_shut (source.Inbox inbox) = false
 is_shut source.Closed = true
 is_shut source.Failed = true
 
+-- none can be accepted any more
+abbrev pub is_failed : Source → Bool
+is_failed source.Failed = true
+is_failed other = false
+
 -- fewer than so many, if it is known how many
 abbrev pub is_less : ℕ → Option ℕ → Bool
 is_less there (Some full) = nat_lt there full

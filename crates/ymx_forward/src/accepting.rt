@@ -1,7 +1,7 @@
 //! The connections that come to one side of a tunnel.
 
 ghost use Rattle.std.specs.Prelude.{◌≡◌, ◌-◌, Some, IfSome, IfNone, IsNone, option_map};
-ghost use Rattle.ymx_forward.specs.Users.{is_less, is_shut, may_come};
+ghost use Rattle.ymx_forward.specs.Users.{is_failed, is_less, is_shut, may_come};
 
 use crate::inbox::{Inbox, Places, Taken};
 use crate::system::{Listener, Poll, TcpConnection};
@@ -136,7 +136,9 @@ impl Listening {
     }
 
     /// Whether no more are accepted as none can be.
-    pub(crate) fn has_failed(&self) -> bool {
+    pub(crate) fn has_failed(&self) -> bool
+        ensures { result ≡ is_failed self.now.source }
+    {
         matches!(&self.source, Source::Failed)
     }
 

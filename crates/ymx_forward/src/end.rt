@@ -1,6 +1,10 @@
 //! What an end with one session after another asks for, done over sockets.
 
-ghost use Rattle.std.specs.Prelude.{None, ⊤};
+ghost use Rattle.std.specs.Prelude.{ℕ, List, Option, [], ◌∷◌, ◌≡◌, None, ⊤};
+ghost use Rattle.ymx_policy.specs.Past.{Adds};
+ghost use Rattle.ymx_policy.specs.declared.asks.Deed.{Deed as Asked};
+ghost use Rattle.ymx_policy.specs.declared.asks.Happened.{Happened as Heard};
+ghost use Rattle.ymx_forward.specs.Served.{IsServed, ServesAsAsked};
 
 use crate::accepting::Listening;
 use crate::host::Host;
@@ -10,6 +14,7 @@ use crate::peer::Peer;
 use crate::site::Site;
 use crate::sockets::{accept, listen_at};
 use crate::starting::{StartFault, failed};
+use crate::tunnel::Served;
 use crate::tunnel_end::{LISTENER, TunnelEnd};
 use crate::voices::WatcherLines;
 use std::alloc::Global;
@@ -34,6 +39,8 @@ pub(crate) struct EndSockets<'a, R> {
     peer: Option<Peer>,
     /// Where users are brought to a link.
     inbox: Option<Arc<Inbox, Global>>,
+    /// The last session that was served.
+    served: Option<Served>,
 }
 
 impl<'a, R: Host> EndSockets<'a, R> {
@@ -47,6 +54,7 @@ impl<'a, R: Host> EndSockets<'a, R> {
             peers: None,
             peer: None,
             inbox: None,
+            served: None,
         }
     }
 
@@ -64,6 +72,7 @@ impl<'a, R: Host> EndSockets<'a, R> {
             peers: None,
             peer: None,
             inbox: Some(inbox),
+            served: None,
         }
     }
 
@@ -156,7 +165,10 @@ impl<'a, R: Host> EndSockets<'a, R> {
     }
 
     /// Runs a session with the peer that is there.
-    fn serve<V: ProgramWatcher>(&mut self, session: Session, watcher: &mut V) -> Happened {
+    fn serve<V: ProgramWatcher>(&mut self, session: Session, watcher: &mut V) -> Happened
+        // The session that ended is the one that was asked for.
+        ensures { IsServed session self.new.served result }
+    {
         let Some(peer) = self.peer.take() else {
             return Happened::Failed(None);
         };
@@ -164,10 +176,12 @@ impl<'a, R: Host> EndSockets<'a, R> {
             return fault.happened();
         }
         self.end = TunnelEnd::for_session(self.end.take(), session);
-        let how = match (&mut self.end, &mut self.site) {
+        let served = match (&mut self.end, &mut self.site) {
             (Some(end), Some(site)) => site.serve(end, peer, session, watcher),
             _ => return Happened::Failed(None),
         };
+        let how = served.end();
+        self.served = Some(served);
         self.resume();
         Happened::SessionEnded(how)
     }
@@ -218,7 +232,15 @@ impl<R: Host, V: ProgramWatcher> World<V, WatcherLines> for EndSockets<'_, R> {
 
     ghost may = { λ _. ⊤ };
 
-    fn perform(&mut self, deed: Deed, watcher: &mut V) -> Happened {
+    fn perform(&mut self, deed: Deed, watcher: &mut V) -> Happened
+        // It can tell neither what it does nor what it tells.
+        ensures may { ⊤ }
+        ensures logged { Adds {A = Asked × Heard} ((deed, result) ∷ []) None None }
+        ensures untold { Adds {A = List ℕ} [] None None }
+        ensures unwritten { let none : Option (List ℕ) = None in let zero : ℕ = 0 in (none ≡ none) × (zero ≡ zero) }
+        // A session that ended is the one that was asked for.
+        ensures served { ServesAsAsked deed self.new.served result }
+    {
         match deed {
             Deed::ListenForPeer(address) => self.listen_for_peer(address),
             Deed::ListenForUsers(users) => self.listen_for_users(users),

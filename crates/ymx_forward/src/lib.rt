@@ -9,6 +9,7 @@
 
 mod accepting;
 mod closing;
+mod echoing;
 mod end;
 mod host;
 mod inbox;
@@ -35,4 +36,4 @@ mod watching;
 
 pub use host::Host;
 pub use programs::{run_local, run_remote};
-pub use selftest::run_selftest;
+pub use selftest::{AllEchoed, run_selftest};

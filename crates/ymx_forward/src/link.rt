@@ -1,6 +1,6 @@
 //! One of several links to the peer of a `local`, which runs in a thread of its own.
 
-ghost use Rattle.std.specs.Prelude.{None};
+ghost use Rattle.std.specs.Prelude.{◌≡◌, None};
 
 use crate::end::EndSockets;
 use crate::host::Host;
@@ -10,6 +10,7 @@ use crate::peer::Peer;
 use crate::shared::Shared;
 use crate::site::{Site, unwatched, well};
 use crate::system::{Poll, TcpConnection};
+use crate::tunnel::Served;
 use crate::tunnel_end::TunnelEnd;
 use crate::voices::WatcherLines;
 use crate::watching::{Declined, EndedConnection, Origin, Watcher};
@@ -187,7 +188,7 @@ impl LinkJob {
             inbox: reported,
         };
         let how = match peer {
-            Some(peer) => serve(site, end, peer, session, &mut watcher),
+            Some(peer) => serve(site, end, peer, session, &mut watcher).end(),
             None => {
                 let mut sockets = EndSockets::of_link(site, end, inbox);
                 let plan = Plan::Link(options);
@@ -214,14 +215,17 @@ fn serve<R: Host, V: Watcher>(
     peer: Peer,
     session: Session,
     watcher: &mut V,
-) -> SessionEnd {
+) -> Served
+    // The session that ended is the one that was asked for.
+    ensures { result.session ≡ session }
+{
     let mut site = site;
     match TunnelEnd::for_session(Some(end), session) {
         Some(mut end) => {
-            let how = site.serve(&mut end, peer, session, watcher);
+            let served = site.serve(&mut end, peer, session, watcher);
             end.refuse_waiting(watcher);
-            how
+            served
         }
-        None => unwatched(),
+        None => Served::unbegun(session, unwatched()),
     }
 }

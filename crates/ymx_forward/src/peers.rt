@@ -1,7 +1,7 @@
 //! What an end with many peers at once asks for, done over sockets and threads: one thread lets peers in, and each session
 //! has one of its own, which leaves in a channel how it ended.
 
-ghost use Rattle.std.specs.Prelude.{None};
+ghost use Rattle.std.specs.Prelude.{◌≡◌, None};
 ghost use Rattle.std.specs.Thread.{IsSend, IsSync};
 ghost use Rattle.ymx_policy.specs.Endings.{EndsAt};
 ghost use Rattle.ymx_policy.specs.Plans.{terms_of};
@@ -15,6 +15,7 @@ use crate::site::{Site, unstarted, unwatched};
 use crate::sockets::listen_at;
 use crate::starting::StartFault;
 use crate::system::{Poll, Waker};
+use crate::tunnel::Served;
 use crate::tunnel_end::{RETRY, TunnelEnd};
 use crate::watching::Watcher;
 use crossbeam_channel::{Receiver, Sender, bounded};
@@ -119,7 +120,7 @@ impl Lobby {
         let mut shared = Shared { rt, watcher };
         let _ = self.begun.recv(rt);
         let how = match Site::new(rt, self.alloc) {
-            Ok(site) => serve_peer(site, peer, session, &mut shared),
+            Ok(site) => serve_peer(site, peer, session, &mut shared).end(),
             Err(fault) => {
                 if let StartFault::Unwatched(error) = &fault {
                     shared.failed(Named::Bind(self.at), Reason::of(error));
@@ -138,11 +139,14 @@ fn serve_peer<R: Host, V: Watcher>(
     peer: Peer,
     session: Session,
     watcher: &mut V,
-) -> SessionEnd {
+) -> Served
+    // The session that ended is the one that was asked for.
+    ensures { result.session ≡ session }
+{
     let mut site = site;
     match TunnelEnd::for_session(None, session) {
         Some(mut end) => site.serve(&mut end, peer, session, watcher),
-        None => unwatched(),
+        None => Served::unbegun(session, unwatched()),
     }
 }
 

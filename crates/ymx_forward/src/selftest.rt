@@ -5,16 +5,19 @@
 //! Then whoever waits there is told at once. Who could still wait for a connection that nobody makes is released at the
 //! end.
 
-ghost use Rattle.std.specs.Prelude.{◌≡◌, ◌≤◌};
-ghost use Rattle.std.specs.Io.KnownBytes.{Keeps};
+ghost use Rattle.std.specs.Prelude.{[], ◌≡◌, ◌⊎◌, IfOk, IfSome, IsSome, OnErr, OnOk};
+ghost use Rattle.std.specs.Io.KnownBytes.{Appends, Keeps};
+ghost use Rattle.ymx_forward.specs.Echoes.{FirstArePrinted, echo_lines, line_of};
+ghost use Rattle.ymx_policy.specs.Voices.{AreSaid, IsSaid};
 
 use crate::accepting::Listening;
+use crate::echoing::{Echoed, line_of, size_of};
 use crate::host::Host;
 use crate::peer::Peer;
 use crate::site::Site;
 use crate::sockets::{connect, listen_at};
 use crate::starting::StartFault;
-use crate::system::{accept, echo, finish, receive, send};
+use crate::system::{accept, echo, finish, send};
 use crate::tunnel_end::{LISTENER, TunnelEnd};
 use crate::watching::Unwatched;
 use arrayvec::ArrayString;
@@ -23,35 +26,28 @@ use std::alloc::{AllocError, Global};
 use std::fmt::Write;
 use std::net::{Ipv4Addr, Net, SocketAddr, SocketAddrV4, TcpListener, TcpStream};
 use std::sync::Wait;
-use std::thread::Threads;
-use std::{io, thread};
+use std::thread;
+use std::thread::{Threads, join_mut};
 use ymx_devices::push_all;
 use ymx_model::Outlet;
 use ymx_policy::{Fault, Session, Side, fault_text};
 
-/// How many bytes each connection sends.
-const SIZES: [u32; 3] = [0, 1, 300_000];
-
 /// How many connections there are.
-const CONNECTIONS: u32 = 3;
+const CONNECTIONS: u8 = 3;
 
 /// The window of both sessions, in bytes.
 const WINDOW: u32 = 262_144;
 
-/// Bytes that are written and read at once.
-const CHUNK: usize = 4_096;
-
-/// The same as a number of 32 bits.
-const CHUNK_SIZE: u32 = 4_096;
-
 /// How many results may wait to be printed.
 const WAITING_RESULTS: usize = 3;
 
-/// What became of a connection.
-#[derive(Clone, Copy)]
-struct Echoed {
-    number: u32,
-    is_whole: bool,
+/// What all three connections sent has come back, and their lines are printed. Only [`print_all`] makes one, of what
+/// [`Echoed::read`] has compared.
+#[derive(Drop)]
+pub struct AllEchoed {
+    first: Echoed,
+    second: Echoed,
+    third: Echoed,
 }
 
 /// Where two of the servers listen.
@@ -72,11 +68,19 @@ struct Owned {
     far: TcpStream,
 }
 
+/// What is to run beside the lines.
+#[derive(Drop)]
+struct Trial {
+    addresses: Addresses,
+    /// What the servers own, and where the client leaves each echo, until it runs.
+    parts: Option<(Owned, Sender<Echoed, Global>)>,
+}
+
 /// Why the lines of the test stop.
 #[derive(Clone, Copy)]
 enum Stop {
     /// This connection failed.
-    Connection(u32),
+    Connection(u8),
     /// The writer failed.
     Writing,
     /// There was no memory.
@@ -84,76 +88,93 @@ enum Stop {
 }
 
 /// Sends three connections through both ends of a tunnel to an echo server, all on 127.0.0.1, and prints a line for
-/// each. Answers the exit status.
-pub fn run_selftest<R: Host + Threads + Sync, W: Outlet, E: Outlet>(
+/// each. None where it fails: then it says why.
+pub fn run_selftest<R: Host + Threads + Sync, W: Outlet + Send, E: Outlet>(
     rt: &R,
     alloc: Global,
     writer: &mut W,
     errors: &mut E,
-) -> u8
-    ensures good { result ≡ 0 → Keeps (E.contents errors.old) (E.contents errors.new) }
-    ensures status { result ≤ 1 }
+) -> Option<AllEchoed>
+    // At a good end the writer took all three lines, and nothing is said.
+    ensures good { IsSome result → Keeps (E.contents errors.old) (E.contents errors.new) }
+    ensures done { IsSome result → Appends (W.contents writer.old) (W.contents writer.new) echo_lines }
 {
     let Some((addresses, owned)) = prepare(rt) else {
-        return say(errors, fault_text(Fault::CannotListen(any_port())).as_str());
+        say(errors, fault_text(Fault::CannotListen(any_port())).as_str());
+        return None;
     };
     match run_all(rt, alloc, addresses, owned, writer) {
-        Ok(()) => 0,
-        Err(Stop::Connection(number)) => failed(number, errors),
-        Err(Stop::Writing) => say(errors, "ymx: writing failed\n"),
-        Err(Stop::Memory(_)) => say(errors, fault_text(Fault::OutOfMemory).as_str()),
+        Ok(echoed) => Some(echoed),
+        Err(stop) => {
+            match stop {
+                Stop::Connection(number) => failed(number, errors),
+                Stop::Writing => say(errors, "ymx: writing failed\n"),
+                Stop::Memory(_) => say(errors, fault_text(Fault::OutOfMemory).as_str()),
+            }
+            None
+        }
     }
 }
 
 /// Says a fault. Where the error device fails too there is nobody left to tell.
-fn say<E: Outlet>(errors: &mut E, text: &str) -> u8
-    ensures { result ≡ 1 }
-{
+fn say<E: Outlet>(errors: &mut E, text: &str) {
     let _ = push_all(errors, text.as_bytes());
-    1
 }
 
-/// Runs the three servers and the client in threads, and prints a line for each connection as it ends. Where a thread
-/// can't be made the first connection has failed.
-fn run_all<R: Host + Threads + Sync, W: Outlet>(
+/// Runs the three servers and the client, and prints a line for each connection as it ends. Where a thread can't be made the
+/// first connection has failed.
+fn run_all<R: Host + Threads + Sync, W: Outlet + Send>(
     rt: &R,
     alloc: Global,
     addresses: Addresses,
     owned: Owned,
     writer: &mut W,
-) -> Result<(), Stop> {
+) -> Result<AllEchoed, Stop>
+    ensures done { OnOk result (Appends (W.contents writer.old) (W.contents writer.new) echo_lines) }
+{
     let (sender, receiver) = match bounded::<Echoed, Global>(alloc, WAITING_RESULTS) {
         Ok(ends) => ends,
         Err(refused) => return Err(Stop::Memory(refused)),
     };
-    let Owned {
-        echo,
-        local,
-        near,
-        far,
-    } = owned;
-    thread::scope(thread::scope_env(), rt, move |scope| {
-        let has_echo = scope.spawn(move || serve_echoes(echo)).is_ok();
-        let has_far = scope
-            .spawn(move || run_remote_end(rt, alloc, far, addresses.echo))
-            .is_ok();
-        let has_near = scope
-            .spawn(move || run_local_end(rt, alloc, near, local))
-            .is_ok();
-        let are_running = has_echo
-            && has_far
-            && has_near
-            && scope
-                .spawn(move || run_client(rt, addresses.local, sender))
-                .is_ok();
-        let printed = if are_running {
-            print_all(rt, alloc, &receiver, writer)
-        } else {
-            Err(Stop::Connection(1))
+    let mut trial = Trial {
+        addresses,
+        parts: Some((owned, sender)),
+    };
+    let (printed, ()) = join_mut(
+        rt,
+        &mut || print_all(rt, &receiver, writer),
+        &mut || trial.run(rt, alloc),
+    );
+    printed
+}
+
+impl Trial {
+    /// Runs the servers in threads and the client in this one, until all have ended.
+    fn run<R: Host + Threads + Sync>(&mut self, rt: &R, alloc: Global) {
+        let addresses = self.addresses;
+        let Some((owned, sender)) = self.parts.take() else {
+            return;
         };
-        release(rt, addresses);
-        printed
-    })
+        let Owned {
+            echo,
+            local,
+            near,
+            far,
+        } = owned;
+        thread::scope(thread::scope_env(), rt, move |scope| {
+            let has_echo = scope.spawn(move || serve_echoes(echo)).is_ok();
+            let has_far = scope
+                .spawn(move || run_remote_end(rt, alloc, far, addresses.echo))
+                .is_ok();
+            let has_near = scope
+                .spawn(move || run_local_end(rt, alloc, near, local))
+                .is_ok();
+            if has_echo && has_far && has_near {
+                run_client(rt, alloc, addresses.local, sender);
+            }
+            release(rt, addresses);
+        })
+    }
 }
 
 /// A port of 127.0.0.1 that the system chooses.
@@ -195,47 +216,49 @@ fn connect_session<R: Net<Stream = TcpStream, Listener = TcpListener>>(
 /// another connection, counts as a failure of the one awaited.
 fn print_all<R: Wait, W: Outlet>(
     rt: &R,
-    alloc: Global,
     receiver: &Receiver<Echoed, Global>,
     writer: &mut W,
-) -> Result<(), Stop> {
-    let mut number = 0u32;
-    for size in SIZES {
-        number = number.saturating_add(1);
-        match receiver.recv(rt) {
-            Ok(echoed) if echoed.number == number && echoed.is_whole => {
-                print_line(alloc, number, size, writer)?;
-            }
-            _ => return Err(Stop::Connection(number)),
-        }
-    }
-    Ok(())
+) -> Result<AllEchoed, Stop>
+    ensures done { OnOk result (Appends (W.contents writer.old) (W.contents writer.new) echo_lines) }
+    ensures lines { FirstArePrinted (W.contents writer.old) (W.contents writer.new) (W.failures writer.old) (W.failures writer.new) }
+    // Each line is that of a connection whose bytes came back.
+    ensures echoed { IfOk result (λ all. (all.first.number ≡ 1) × (all.second.number ≡ 2) × (all.third.number ≡ 3)) }
+{
+    let first = print_next(rt, receiver, 1, writer)?;
+    let second = print_next(rt, receiver, 2, writer)?;
+    let third = print_next(rt, receiver, 3, writer)?;
+    Ok(AllEchoed {
+        first,
+        second,
+        third,
+    })
 }
 
-/// Prints the line of a connection.
-fn print_line<W: Outlet>(
-    alloc: Global,
-    number: u32,
-    size: u32,
+/// Waits for what the connection of this number sent to come back, and prints its line.
+fn print_next<R: Wait, W: Outlet>(
+    rt: &R,
+    receiver: &Receiver<Echoed, Global>,
+    number: u8,
     writer: &mut W,
-) -> Result<(), Stop> {
-    let line = match format!(in alloc; "connection {number}: {size} bytes echoed\n") {
-        Ok(line) => line,
-        Err(refused) => return Err(Stop::Memory(refused)),
-    };
-    if push_all(writer, line.as_bytes()).is_err() {
-        return Err(Stop::Writing);
+) -> Result<Echoed, Stop>
+    ensures number { IfOk result (λ echoed. echoed.number ≡ number) }
+    ensures printed { OnOk result (Appends (W.contents writer.old) (W.contents writer.new) (line_of number)) }
+    ensures stopped { OnErr result (AreSaid (W.contents writer.old) (W.contents writer.new) (W.failures writer.old) (W.failures writer.new) [] ⊎ IsSaid (W.contents writer.old) (W.contents writer.new) (W.failures writer.old) (W.failures writer.new) (line_of number)) }
+{
+    match receiver.recv(rt) {
+        Ok(echoed) if echoed.number() == number => match push_all(writer, line_of(number)) {
+            Ok(()) => Ok(echoed),
+            Err(_) => Err(Stop::Writing),
+        },
+        _ => Err(Stop::Connection(number)),
     }
-    Ok(())
 }
 
 /// Says that a connection failed.
-fn failed<E: Outlet>(number: u32, errors: &mut E) -> u8
-    ensures { result ≡ 1 }
-{
+fn failed<E: Outlet>(number: u8, errors: &mut E) {
     let mut text = ArrayString::<64>::new();
     let _ = writeln!(text, "ymx: selftest failed: connection {number}");
-    say(errors, text.as_str())
+    say(errors, text.as_str());
 }
 
 /// Connects to each listener as often as its server accepts, so that none waits any longer. A listener that has closed
@@ -261,7 +284,7 @@ fn serve_echoes(listener: TcpListener) {
 fn run_remote_end<R: Host>(rt: &R, alloc: Global, connection: TcpStream, target: SocketAddrV4) {
     let session = session_of(Side::Server {
         target,
-        workers: CONNECTIONS,
+        workers: CONNECTIONS as u32,
     });
     if let Ok(site) = Site::new(rt, alloc) {
         run_session(site, None, connection, session);
@@ -282,7 +305,13 @@ fn local_end<R: Host>(
     listener: TcpListener,
 ) -> Result<(Site<'_, R>, TunnelEnd), StartFault> {
     let site = Site::new(rt, alloc)?;
-    let listening = Listening::new(listener, Some(CONNECTIONS), false, &site.poll, LISTENER)?;
+    let listening = Listening::new(
+        listener,
+        Some(CONNECTIONS as u32),
+        false,
+        &site.poll,
+        LISTENER,
+    )?;
     Ok((site, TunnelEnd::local(listening, None, false)))
 }
 
@@ -305,87 +334,53 @@ fn run_session<R: Host>(
     session: Session,
 ) {
     let mut site = site;
-    if let (Ok(peer), Some(mut end)) = (
-        Peer::over(connection),
-        TunnelEnd::for_session(end, session),
-    ) {
+    let Ok(peer) = Peer::over(connection) else {
+        return;
+    };
+    if let Some(mut end) = TunnelEnd::for_session(end, session) {
         let _ = site.serve(&mut end, peer, session, &mut Unwatched);
     }
 }
 
-/// Makes the three connections, one after the other, and sends what became of each.
+/// Makes the three connections, one after the other, and hands on what came back of each. Stops at the first that fails.
 fn run_client<R: Net<Stream = TcpStream> + Wait>(
     rt: &R,
+    alloc: Global,
     address: SocketAddrV4,
     sender: Sender<Echoed, Global>,
 ) {
-    let mut number = 0u32;
-    for size in SIZES {
-        number = number.saturating_add(1);
-        let is_whole = is_whole(rt, address, size);
-        if sender.send(rt, Echoed { number, is_whole }).is_err() {
+    for number in 1..=CONNECTIONS {
+        let Some(echoed) = exchange(rt, alloc, address, number) else {
+            return;
+        };
+        if sender.send(rt, echoed).is_err() {
             return;
         }
     }
 }
 
-/// Whether so many bytes come back from a connection to this address.
-fn is_whole<R: Net<Stream = TcpStream>>(rt: &R, address: SocketAddrV4, size: u32) -> bool {
-    match connect(rt, SocketAddr::V4(address)) {
-        Ok(socket) => is_echoed(&socket, size).unwrap_or(false),
-        Err(_) => false,
+/// Sends the bytes of the connection of this number to this address, ends it, and reads what comes back. None unless it is
+/// just that.
+fn exchange<R: Net<Stream = TcpStream>>(
+    rt: &R,
+    alloc: Global,
+    address: SocketAddrV4,
+    number: u8,
+) -> Option<Echoed>
+    ensures { IfSome result (λ echoed. echoed.number ≡ number) }
+{
+    let sent = pattern(alloc, size_of(number)).ok()?;
+    let socket = connect(rt, SocketAddr::V4(address)).ok()?;
+    send(&socket, sent.as_slice()).ok()?;
+    finish(&socket).ok()?;
+    Echoed::read(&mut &socket, alloc, number, sent).ok()?
+}
+
+/// So many bytes, each by its place.
+fn pattern(alloc: Global, size: usize) -> Result<Vec<u8>, AllocError> {
+    let mut bytes = Vec::new(alloc);
+    for place in 0..size {
+        bytes.push((place % 251) as u8)?;
     }
-}
-
-/// Sends so many bytes, closes the writing side, and reads: whether just these bytes came back.
-fn is_echoed(socket: &TcpStream, size: u32) -> io::Result<bool> {
-    write_pattern(socket, size)?;
-    finish(socket)?;
-    reads_pattern(socket, size)
-}
-
-/// The byte at this place of what is sent.
-fn pattern(place: u32) -> u8 {
-    (place % 251) as u8
-}
-
-/// Writes the first so many bytes of the pattern.
-fn write_pattern(socket: &TcpStream, size: u32) -> io::Result<()> {
-    for start in 0..size {
-        if start % CHUNK_SIZE == 0 {
-            let mut chunk = [0u8; CHUNK];
-            fill(&mut chunk, start);
-            let length = (size - start).min(CHUNK_SIZE);
-            send(socket, &chunk[..length as usize])?;
-        }
-    }
-    Ok(())
-}
-
-/// Fills the chunk with the bytes of the pattern from this place on.
-fn fill(chunk: &mut [u8], start: u32) {
-    let mut place = start;
-    for byte in chunk {
-        *byte = pattern(place);
-        place = place.wrapping_add(1);
-    }
-}
-
-/// Reads up to the end: whether it is the first so many bytes of the pattern.
-fn reads_pattern(socket: &TcpStream, size: u32) -> io::Result<bool> {
-    let mut chunk = [0u8; CHUNK];
-    let mut place = 0u32;
-    for _ in 0..=size {
-        let count = receive(socket, &mut chunk)?;
-        if count == 0 {
-            return Ok(place == size);
-        }
-        for byte in &chunk[..count] {
-            if place >= size || *byte != pattern(place) {
-                return Ok(false);
-            }
-            place += 1;
-        }
-    }
-    Ok(false)
+    Ok(bytes)
 }

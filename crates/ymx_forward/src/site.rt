@@ -1,11 +1,14 @@
 //! Where an end runs its sessions: its runtime, its allocator, and the poll that tells it of events.
 
+ghost use Rattle.std.specs.Prelude.{◌≡◌, ◌||◌, true};
+ghost use Rattle.ymx_forward.specs.Sessions.{Serves};
+
 use crate::closing::close;
 use crate::peer::Peer;
 use crate::socket::Socket;
 use crate::starting::StartFault;
 use crate::system::Poll;
-use crate::tunnel::{TunnelLoop, wire_of};
+use crate::tunnel::{Served, TunnelLoop, wire_of};
 use crate::tunnel_end::{RETRY, TunnelEnd};
 use crate::watching::Watcher;
 use std::alloc::Global;
@@ -57,7 +60,11 @@ impl<R: Net + Clock + Wait> Site<'_, R> {
         peer: Peer,
         session: Session,
         watcher: &mut V,
-    ) -> SessionEnd {
+    ) -> Served
+        // Its end was made for this session, and this session is the one that ended.
+        requires { Serves session end.old }
+        ensures { result.session ≡ session }
+    {
         let began = Instant::now(self.rt);
         let address = peer.address();
         end.note_all();
@@ -67,13 +74,12 @@ impl<R: Net + Clock + Wait> Site<'_, R> {
         if let Some(patience) = end.limits.silence {
             peer.limit_silence(patience);
         }
-        let mut how = match wire_of(peer, &self.poll) {
+        let mut served = match wire_of(peer, &self.poll) {
             Some(wire) => self.run(end, wire, session, watcher),
-            None => unwatched(),
+            None => Served::unbegun(session, unwatched()),
         };
-        how.has_lasted = self.has_lasted(began);
-        how.peer = address;
-        how
+        served.note(self.has_lasted(began), address);
+        served
     }
 
     /// Runs a session over this wire, and ends the wire.
@@ -83,24 +89,25 @@ impl<R: Net + Clock + Wait> Site<'_, R> {
         wire: Socket,
         session: Session,
         watcher: &mut V,
-    ) -> SessionEnd {
-        let is_kept = end.is_kept;
+    ) -> Served
+        requires { Serves session end.old }
+        ensures { result.session ≡ session }
+    {
         let limit = end.limits.close;
         let mut tunnel = match TunnelLoop::new(self.alloc, wire, end, session.window) {
             Ok(tunnel) => tunnel,
-            Err(fault) => return unbegun(fault),
+            Err(fault) => return Served::unbegun(session, unbegun(fault)),
         };
-        let _ = tunnel.run(self.rt, &mut self.poll, watcher, is_kept);
-        let how = tunnel.end();
+        let served = tunnel.serve(self.rt, &mut self.poll, watcher, session);
         let mut wire = tunnel.into_wire();
         close(
             self.rt,
             &mut self.poll,
             &mut wire,
-            how.broken.is_some(),
+            served.end().broken.is_some(),
             limit,
         );
-        how
+        served
     }
 
     /// Whether it is a while since then. Where the clock can't tell, it isn't.
@@ -115,7 +122,9 @@ impl<R: Net + Clock + Wait> Site<'_, R> {
 }
 
 /// How a session ended that could not begin.
-fn unbegun(fault: NewFault) -> SessionEnd {
+fn unbegun(fault: NewFault) -> SessionEnd
+    ensures { (result.is_unwatched || result.lacked_memory) ≡ true }
+{
     match fault {
         NewFault::OutOfMemory(_) => lacking(),
         _ => unwatched(),
@@ -136,14 +145,18 @@ pub(crate) fn well() -> SessionEnd {
 }
 
 /// How a session ended of which nothing was done, for want of memory.
-fn lacking() -> SessionEnd {
+fn lacking() -> SessionEnd
+    ensures { result.lacked_memory ≡ true }
+{
     let mut how = well();
     how.lacked_memory = true;
     how
 }
 
 /// How a session ended of which nothing was done, as the system refused to watch the peer.
-pub(crate) fn unwatched() -> SessionEnd {
+pub(crate) fn unwatched() -> SessionEnd
+    ensures { result.is_unwatched ≡ true }
+{
     let mut how = well();
     how.is_unwatched = true;
     how

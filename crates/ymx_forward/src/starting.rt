@@ -1,5 +1,7 @@
 //! Why something can't begin.
 
+ghost use Rattle.ymx_forward.specs.Served.{IsNoEnd};
+
 use std::alloc::{AllocError, AllocFailed};
 use std::io;
 use ymx_policy::{Happened, PoolHappened, Reason};
@@ -15,7 +17,9 @@ pub(crate) enum StartFault {
 
 impl StartFault {
     /// What happened to an end.
-    pub(crate) fn happened(self) -> Happened {
+    pub(crate) fn happened(self) -> Happened
+        ensures { IsNoEnd result }
+    {
         match self {
             StartFault::Unwatched(error) => failed(&error),
             StartFault::OutOfMemory(_) => Happened::LackedMemory,
@@ -32,7 +36,9 @@ impl StartFault {
 }
 
 /// The system refused, for this reason.
-pub(crate) fn failed(error: &io::Error) -> Happened {
+pub(crate) fn failed(error: &io::Error) -> Happened
+    ensures { IsNoEnd result }
+{
     Happened::Failed(Some(Reason::of(error)))
 }
 

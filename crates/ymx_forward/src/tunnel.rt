@@ -3,7 +3,7 @@
 //! All that moves is moved by calls of [`ymx_engine::Tunnel`], which owns the wire and the connections. Each function
 //! here that makes such calls says that they are all it did: `Runs`.
 
-ghost use Rattle.std.specs.Prelude.{◌≡◌, ◌⊎◌, [], true, false, not, length, IfErr, IfOk, IfSome, Some};
+ghost use Rattle.std.specs.Prelude.{◌≡◌, ◌⊎◌, ◌||◌, [], true, false, not, length, is_some, IfErr, IfOk, IfSome, IsSome, Some, None};
 ghost use Rattle.ymx_engine.specs.Runs.{Runs, IsOver};
 ghost use Rattle.ymx_engine.specs.Served.{Serving, NoneWaits, NoneGives, NoneEnds, NoneStops, NoneHangs};
 ghost use Rattle.ymx_engine.specs.Turns.{Line as LineValue, line_of};
@@ -12,6 +12,7 @@ ghost use Rattle.ymx_engine.specs.Work.{HasRead, ServesOne, WorksOnce, Writes, h
 ghost use Rattle.ymx_forward.specs.Counts.{CountsOne};
 ghost use Rattle.ymx_forward.specs.Loops.{NeedsEvents, WaitsInNeed, WasLost};
 ghost use Rattle.ymx_forward.specs.Users.{IsStated, awaits_sign, can_open_later, has_no_place, is_followed, must_wait, user_is_due};
+ghost use Rattle.ymx_forward.specs.Sessions.{IsBegunFor, free_target, has_failed, rule_of};
 ghost use Rattle.ymx_law_session.specs.Limits.{IsWithin};
 ghost use Rattle.ymx_forward.specs.Sides.{role_at};
 ghost use Rattle.ymx_model.specs.session.Sessions.{is_running, new_session};
@@ -28,12 +29,12 @@ use crate::tunnel_end::{LISTENER, RETRY, Side, TunnelEnd};
 use crate::watching::{Declined, EndedConnection, Ending, Origin, Watcher};
 use std::alloc::Global;
 use std::io;
-use std::net::{Net, SocketAddr};
+use std::net::{Net, SocketAddr, SocketAddrV4};
 use std::sync::Wait;
 use std::time::{Clock, Duration};
 use ymx_engine::{Device, NotJoined, Readiness, Registry, Tunnel};
 use ymx_model::{CallFault, Config, Role, Status};
-use ymx_policy::{Reason, SessionEnd};
+use ymx_policy::{Reason, Session as Asked, SessionEnd};
 use ymx_session::{NewFault, Session};
 
 /// The wire's token.
@@ -95,6 +96,46 @@ pub struct Finished {
     was_left: bool,
 }
 
+/// How a session ended that was asked for. [`TunnelLoop::serve`] makes one where the session ran, and nothing else does: so who
+/// has one of a session that ended well has run a loop that was begun for it.
+#[derive(Drop)]
+pub(crate) struct Served {
+    session: Asked,
+    how: SessionEnd,
+    /// How its loop came to its end. None where it didn't, or no loop could begin.
+    finished: Option<Finished>,
+    ghost ran: { finished ≡ None → (how.is_unwatched || how.lacked_memory) ≡ true },
+}
+
+impl Served {
+    /// This session could not begin.
+    pub(crate) fn unbegun(session: Asked, how: SessionEnd) -> Served
+        requires { (how.is_unwatched || how.lacked_memory) ≡ true }
+        ensures { result.session ≡ session }
+    {
+        Served {
+            session,
+            how,
+            finished: None,
+        }
+    }
+
+    /// Notes whether it went on for a while, and where its peer was.
+    pub(crate) fn note(&mut self, has_lasted: bool, peer: Option<SocketAddrV4>)
+        ensures { self.new.session ≡ self.old.session }
+    {
+        self.how.has_lasted = has_lasted;
+        self.how.peer = peer;
+    }
+
+    /// How it ended.
+    pub(crate) fn end(&self) -> SessionEnd
+        ensures { result ≡ self.now.how }
+    {
+        self.how
+    }
+}
+
 /// One session of a tunnel's end.
 #[derive(Drop)]
 pub(crate) struct TunnelLoop<'a> {
@@ -130,6 +171,7 @@ impl<'a> TunnelLoop<'a> {
         ensures session { IfOk result (λ made. made.tunnel.engine.session ≡ new_session (role_at tunnel_end.old.side) window (first_id (role_at tunnel_end.old.side) 0)) }
         // Its tunnel forgets nobody who can be served.
         ensures serves { IfOk result (λ made. Serving made.tunnel) }
+        ensures end { IfOk result (λ made. made.tunnel_end.now ≡ tunnel_end.old) }
     {
         let session = new_session(alloc, role_of(&tunnel_end.side), window)?;
         Ok(TunnelLoop {
@@ -151,6 +193,31 @@ impl<'a> TunnelLoop<'a> {
     }
 
     // ---- how it goes on
+
+    /// Runs the session that was asked for to its end, and says how it ended.
+    pub(crate) fn serve<R: Net + Clock + Wait, V: Watcher>(
+        &mut self,
+        rt: &R,
+        poll: &mut Poll,
+        watcher: &mut V,
+        session: Asked,
+    ) -> Served
+        // It was begun for this session.
+        requires begun { IsBegunFor session self.old.tunnel_end.now self.old.tunnel }
+        ensures session { result.session ≡ session }
+        ensures runs { Runs self.old.tunnel self.new.tunnel }
+        ensures over { IfSome result.finished (λ finished. finished.was_left ≡ false → IsOver self.new.tunnel) }
+        ensures lost { IfSome result.finished (λ finished. finished.was_left ≡ true → WasLost self.old.tunnel self.new.tunnel) }
+        ensures broken { result.how.broken ≡ rule_of self.new.tunnel.engine.session.status }
+    {
+        let finished = self.run(rt, poll, watcher, session.is_followed);
+        let how = self.end(finished.is_none());
+        Served {
+            session,
+            how,
+            finished,
+        }
+    }
 
     /// Runs until this side and all its connections have ended, and the wire has taken all that is due or has failed. Where
     /// another session follows, as `is_kept` says, it is also left once the session is lost and nothing has moved for too
@@ -399,11 +466,16 @@ impl<'a> TunnelLoop<'a> {
 
     /// Whether a stream waits that is to be accepted now.
     fn has_offer(&self) -> bool {
+        self.free_target().is_some() && self.tunnel.offered_count() > 0
+    }
+
+    /// Where a stream goes to that is accepted now. None where it has to wait, or none is accepted at all.
+    fn free_target(&self) -> Option<SocketAddr>
+        ensures { result ≡ free_target self.now.tunnel_end.now.side (length self.now.tunnel.lines.by_id) }
+    {
         match &self.tunnel_end.side {
-            Side::Local(_) => false,
-            Side::Remote { limit, .. } => {
-                self.tunnel.len() < *limit && self.tunnel.offered_count() > 0
-            }
+            Side::Remote { target, limit } if self.tunnel.len() < *limit => Some(*target),
+            _ => None,
         }
     }
 
@@ -653,13 +725,10 @@ impl<'a> TunnelLoop<'a> {
     fn accept_streams<R: Net, V: Watcher>(&mut self, rt: &R, poll: &Poll, watcher: &mut V)
         ensures { Runs self.old.tunnel self.new.tunnel }
     {
-        let Side::Remote { target, limit } = self.tunnel_end.side else {
-            return;
-        };
         'offered: for _ in 0..self.tunnel.offered_count() {
-            if self.tunnel.len() >= limit {
+            let Some(target) = self.free_target() else {
                 return;
-            }
+            };
             self.begin_remote(rt, target, poll, watcher);
         }
     }
@@ -672,6 +741,7 @@ impl<'a> TunnelLoop<'a> {
         poll: &Poll,
         watcher: &mut V,
     )
+        requires { free_target self.old.tunnel_end.now.side (length self.old.tunnel.lines.by_id) ≡ Some target }
         ensures { Runs self.old.tunnel self.new.tunnel }
     {
         let origin = watcher.begins(self.tunnel.wire().connection());
@@ -696,6 +766,8 @@ impl<'a> TunnelLoop<'a> {
 
     /// Accepts the stream that came first for this connection.
     fn accept(&mut self, socket: Socket, poll: &Poll) -> Result<Option<u32>, NotJoined>
+        // Fewer are served than may be at once.
+        requires { IsSome (free_target self.old.tunnel_end.now.side (length self.old.tunnel.lines.by_id)) }
         ensures { Runs self.old.tunnel self.new.tunnel }
     {
         self.tunnel.accept(socket, &mut Tokens { poll })
@@ -835,8 +907,12 @@ impl<'a> TunnelLoop<'a> {
 
     // ---- how it ends
 
-    /// How it has ended.
-    pub(crate) fn end(&self) -> SessionEnd {
+    /// How it has ended, where the system refused to wait for events or didn't.
+    fn end(&self, is_unwatched: bool) -> SessionEnd
+        ensures broken { result.broken ≡ rule_of self.now.tunnel.engine.session.status }
+        ensures unwatched { result.is_unwatched ≡ is_unwatched }
+        ensures accepted { self.now.tunnel_end.now.is_kept ≡ false → has_failed self.now.tunnel_end.now.side ≡ true → result.accept_failed ≡ true }
+    {
         SessionEnd {
             accept_failed: self.has_unwatched
                 || (!self.tunnel_end.is_kept && self.tunnel_end.accept_failed()),
@@ -847,7 +923,7 @@ impl<'a> TunnelLoop<'a> {
                 _ => None,
             },
             lacked_memory: self.lacked_memory || self.tunnel.has_lacked_memory(),
-            is_unwatched: self.is_unwatched,
+            is_unwatched,
             has_lasted: false,
         }
     }

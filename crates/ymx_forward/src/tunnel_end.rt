@@ -1,6 +1,8 @@
 //! One end of a tunnel, through all its sessions.
 
 ghost use Rattle.std.specs.Prelude.{◌≡◌, IfSome};
+ghost use Rattle.ymx_policy.specs.declared.asks.Session.{Session as Asked};
+ghost use Rattle.ymx_forward.specs.Sessions.{AreLimitsOf, Serves, asked_to_go, goes_to, has_failed};
 ghost use Rattle.ymx_forward.specs.Users.{comes_to, may_wait};
 
 use crate::accepting::Listening;
@@ -56,11 +58,12 @@ impl Limits {
     /// Those of a session that asks after so many seconds, if it does. Where others wait for its end, the peer isn't waited
     /// for without end.
     fn of(session: Session) -> Limits
-        ensures { result.keepalive ≡ session.keepalive }
+        ensures { AreLimitsOf session result }
     {
-        let silence = session
-            .ping
-            .map(|seconds| Duration::from_secs(seconds as u64));
+        let silence = match session.ping {
+            Some(seconds) => Some(Duration::from_secs(seconds as u64)),
+            None => None,
+        };
         let close = if session.is_followed {
             Some(Duration::from_secs(CLOSING))
         } else {
@@ -114,7 +117,9 @@ impl TunnelEnd {
     }
 
     /// The yamux server: each stream of the peer becomes a connection to the target, so many at once.
-    pub(crate) fn remote(target: SocketAddrV4, workers: u32) -> TunnelEnd {
+    pub(crate) fn remote(target: SocketAddrV4, workers: u32) -> TunnelEnd
+        ensures { goes_to result.side ≡ asked_to_go (SessionSide.Server target workers) }
+    {
         TunnelEnd {
             side: Side::Remote {
                 target: SocketAddr::V4(target),
@@ -133,10 +138,17 @@ impl TunnelEnd {
 
     /// The end that such a session is served at: the client's goes on, and a server's is new.
     pub(crate) fn for_session(end: Option<TunnelEnd>, session: Session) -> Option<TunnelEnd>
-        ensures { IfSome result (λ end. end.limits.keepalive ≡ session.keepalive) }
+        // Its side and its limits are those that were asked for.
+        ensures { IfSome result (Serves session) }
     {
         let mut end = match session.side {
-            SessionSide::Client => end?,
+            SessionSide::Client => {
+                let end = end?;
+                if let Side::Remote { .. } = &end.side {
+                    return None;
+                }
+                end
+            }
             SessionSide::Server { target, workers } => TunnelEnd::remote(target, workers),
         };
         end.is_kept = session.is_followed;
@@ -145,7 +157,9 @@ impl TunnelEnd {
     }
 
     /// Connections may wait, of which an event was told before.
-    pub(crate) fn note_all(&mut self) {
+    pub(crate) fn note_all(&mut self)
+        ensures { (session : Asked) → Serves session self.old → Serves session self.new }
+    {
         if let Side::Local(listening) = &mut self.side {
             listening.note_event();
         }
@@ -313,7 +327,9 @@ impl TunnelEnd {
     }
 
     /// Whether no connection can be accepted any more.
-    pub(crate) fn accept_failed(&self) -> bool {
+    pub(crate) fn accept_failed(&self) -> bool
+        ensures { result ≡ has_failed self.now.side }
+    {
         match &self.side {
             Side::Local(listening) => listening.has_failed(),
             Side::Remote { .. } => false,

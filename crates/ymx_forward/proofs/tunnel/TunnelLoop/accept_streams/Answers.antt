@@ -1,9 +1,6 @@
 use Rattle.ymx_engine.proofs.Attending.{runs_same, runs_then}
 use Rattle.ymx_forward.proofs.tunnel.TunnelLoop.accept_streams.Goals as goal
 
-pub returns-in_default : goal.returns-in_default
-returns-in_default g c = runs_same _
-
 pub offered-init : goal.offered-init
 offered-init g c = runs_same _
 

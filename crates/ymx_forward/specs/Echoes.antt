@@ -1,0 +1,25 @@
+-- What the test of the program sends through its three connections, and what it prints of each (this project's own).
+use Rattle.std.specs.Prelude.{◌⊎◌, ◌==◌, ◌++◌, ℕ, List, [], ◌∷◌, Option, codes, if◌then◌else◌}
+use Rattle.ymx_policy.specs.Voices.{AreSaid}
+
+-- how many bytes the connection of this number sends, of three
+abbrev pub size_of : ℕ → ℕ
+size_of number = if number == 1 then 0 else if number == 2 then 1 else 300_000
+
+-- the line of a connection whose bytes came back
+abbrev pub line_of : ℕ → List ℕ
+line_of number =
+    if number == 1 then codes "connection 1: 0 bytes echoed\n"
+    else if number == 2 then codes "connection 2: 1 bytes echoed\n"
+    else codes "connection 3: 300000 bytes echoed\n"
+
+-- all three
+abbrev pub echo_lines : List ℕ
+echo_lines = line_of 1 ++ (line_of 2 ++ line_of 3)
+
+-- The first of these lines were printed, and no others: each was taken, or of the last one a beginning as the device failed.
+pub record FirstArePrinted (taken taken_new : Option (List ℕ)) (failures failures_new : ℕ) : Type 0 where
+  pub lines : AreSaid taken taken_new failures failures_new []
+      ⊎ (AreSaid taken taken_new failures failures_new (line_of 1 ∷ [])
+      ⊎ (AreSaid taken taken_new failures failures_new (line_of 2 ∷ line_of 1 ∷ [])
+      ⊎ AreSaid taken taken_new failures failures_new (line_of 3 ∷ line_of 2 ∷ line_of 1 ∷ [])))
