@@ -1,7 +1,7 @@
 #!/usr/bin/env python3
 """links.py [--root FOLDER]: whether each link of the documents leads somewhere.
 
-The documents are README.md and CHANGELOG.md, those of docs/, bench/README.md and tests/README.md. A link with no scheme
+The documents are README.md and CHANGELOG.md, those of docs/, and each README.md of bench, tests and bindings. A link with no scheme
 must lead to a file or folder of the repository, from the folder of its document. What stands behind `#` must be a heading
 there, spelt as the usual pages of a repository spell it: in small letters, with `-` for each blank, and without all else
 but letters, digits, `-` and `_`; a second heading of the same words has `-1` behind it. Code is not read. It prints each
@@ -12,7 +12,7 @@ import sys
 from pathlib import Path
 
 ROOT = Path(__file__).resolve().parent.parent
-DOCUMENTS = ("README.md", "CHANGELOG.md", "docs/*.md", "bench/README.md", "tests/README.md")
+DOCUMENTS = ("README.md", "CHANGELOG.md", "docs/*.md", "bench/README.md", "tests/README.md", "bindings/README.md", "bindings/*/README.md")
 LINK = re.compile(r"!?\[(?:[^\[\]]|\[[^\]]*\])*\]\(\s*<?([^)\s>]+)>?(?:\s+\"[^\"]*\")?\s*\)|^\[[^\]]+\]:\s*(\S+)|<(?:a|img)\b[^>]*?\b(?:href|src)=\"([^\"]+)\"")
 
 

@@ -13,7 +13,8 @@ What it compares, layout aside:
 - everywhere in them and in docs/PROVED.md a formula between backticks: it must stand in a clause or a definition.
 - in docs/THEOREMS.md the table of the lines that a reader must believe: tools/lines_to_believe.py must count as
   many, and README.md must say the same.
-- in docs/PROVED.md the rows of crates: each crate of crates.txt must have one, in that order.
+- in docs/PROVED.md the rows of crates: each crate of crates.txt must have one, in that order. The map docs/crates.svg
+  must have just these.
 - in the documents of `OF_OURS` a name between backticks: it must stand in the repository.
 
 A quote may leave out words by `..`, the type of a variable, and the variables at its front. A formula that stands in a
@@ -296,12 +297,14 @@ def compare_promise():
 
 
 def compare_crates():
-    """The table of docs/PROVED.md has a row of each crate, in the order of crates.txt."""
+    """The table of docs/PROVED.md has a row of each crate, in the order of crates.txt, and the map has each."""
     crates = list(kit.listed(ROOT))
     rows = re.findall(r"^\| `(\w+)` \|", (ROOT / "docs/PROVED.md").read_text(), re.M)
     yield from (f"docs/PROVED.md: there is no row of {crate}" for crate in crates if crate not in rows)
     if set(rows) >= set(crates) and rows != crates:
         yield f"docs/PROVED.md: the rows aren't the crates in their order: {' '.join(rows)}"
+    drawn = re.findall(r">(ymx_\w+)</text>", (ROOT / "docs/crates.svg").read_text())
+    yield from (f"docs/crates.svg: it has {crate}, and crates.txt hasn't, or the other way round" for crate in set(crates) ^ set(drawn))
 
 
 def names_of_repository():
