@@ -5,6 +5,8 @@ No contract says what such a call does, so `crates/ymx_forward/src/system.rt` is
 Sockets that never wait are private there. Those that wait are the standard library's, and other files may name their
 types, as bounds do. They make no call of them, and import nothing else of `std::net` or `std::io`, so that reads and
 writes of such a socket aren't in scope. And they name neither `mio` nor `libc`.
+One file reads from what it is lent, whatever that is, by a bound on `Read`: it names no socket, and its contract says of any
+reader which bytes came.
 It prints each place that does, and ends with 'N lines to be read, M calls elsewhere'.
 """
 import re
@@ -19,6 +21,9 @@ MAY = {
     "net": {"Net", "Ipv4Addr", "SocketAddr", "SocketAddrV4", "TcpListener", "TcpStream"},
     "io": {"ErrorKind", "IoSlice"},
 }
+# who reads from what it is lent, and names no socket
+LENT = "echoing.rt"
+SOCKET = re.compile(r"\b(?:Tcp|Udp|Unix)\w+")
 IMPORT = re.compile(r"\buse std::(net|io)::(\{[^}]*\}|[\w*]+)")
 METHODS = "incoming|local_addr|peer_addr|take_error|set_\\w+|shutdown|try_clone|peek|write_vectored|as_\\w*fd"
 CALL = re.compile(
@@ -28,8 +33,11 @@ CALL = re.compile(
 )
 
 
-def places(code):
+def places(code, is_lent):
     """Where this code makes a call of the system's sockets, or imports one."""
+    if is_lent:
+        yield from (found.start() for found in SOCKET.finditer(code))
+        code = re.sub(r"\buse std::io::Read;", lambda found: " " * len(found[0]), code)
     for found in CALL.finditer(code):
         yield found.start()
     for found in IMPORT.finditer(code):
@@ -44,7 +52,7 @@ def main():
         if path.name == READ:
             continue
         code = re.sub("//.*", "", path.read_text(encoding="utf-8"))
-        for place in sorted(places(code)):
+        for place in sorted(places(code, path.name == LENT)):
             calls += 1
             number = code.count("\n", 0, place) + 1
             print(f"crates/ymx_forward/src/{path.name}:{number}: a call of sockets: {code.splitlines()[number - 1].strip()}")
