@@ -2,7 +2,8 @@
 # What the release has for arm64, under qemu's emulation of that processor: the program's selftest, scripts, and the program
 # from outside; and the library for C with programs in C, linked with musl. What counts threads or memory of the program
 # is left out, as qemu has some of its own. So is what no tool is here for: qemu and the libraries are fetched from
-# Debian's packages where they aren't installed, and the programs in C want the kit's clang.
+# Debian's packages where they aren't installed, and the programs in C want the kit's clang. With --quick only the program's
+# first run, selftest and scripts.
 set -eu
 here=$(cd "$(dirname "$0")" && pwd)
 . "$here/../over.sh"
@@ -47,7 +48,13 @@ part() {
 
 printf 'connection %s bytes echoed\n' '1: 0' '2: 1' '3: 300000' > echoed
 if ./ymx selftest > got 2>&1 && cmp got echoed; then good; else bad 'its selftest' got; fi
+printf 'window flags=0001 id=1 len=0\ndata flags=0000 id=1 len=5 68656c6c6f\n' > first
+if ./ymx frames "$root/examples/hello.yamux" > got 2>&1 && cmp got first; then good; else bad 'its first run' got; fi
 part scripts env YMX="$scratch/ymx" YMX_UNDER_QEMU=yes "$root/tests/script/run.sh"
+if [ "${1-}" = --quick ]; then
+    counted
+    exit
+fi
 part 'the program from outside' env YMX="$scratch/ymx" YMX_UNDER_QEMU=yes "$root/tests/program/run.sh"
 
 # ---- the library for C
