@@ -340,6 +340,11 @@ def many_peers():
 # ---- local
 
 
+def let_close():
+    """One call that failed answers all users who have come: who comes while they are closed is closed with them."""
+    time.sleep(0.5)
+
+
 def a_peer_that_comes_again():
     """It is called again at the next connection. Connections are closed while it isn't there."""
     program, place, user, peer, listener = local_kept("--count", "4")
@@ -352,6 +357,7 @@ def a_peer_that_comes_again():
     listener.close()
     assert is_cut(call(place))
     says(program, refused(address), connection(2, "no stream: Lost"))
+    let_close()
     with listen_again(address) as listener:
         users = [call(place)]
         peer = Peer(accept(listener))
@@ -413,6 +419,7 @@ def no_peer_at_first():
     place = program.place()
     assert is_cut(call(place))
     says(program, refused(address), connection(1, "no stream: Lost"))
+    let_close()
     with listen_again(address) as listener:
         user = call(place)
         peer = Peer(accept(listener))
